@@ -1,0 +1,5 @@
+pub mod DefinitionLaws
+pub mod KeptLemmas
+pub mod ProgramLaws
+pub mod Parting
+pub mod Outcomes
