@@ -3,3 +3,4 @@ pub mod KeptLemmas
 pub mod ProgramLaws
 pub mod Parting
 pub mod Outcomes
+pub mod GoesLaws

@@ -14,7 +14,6 @@ use Rattle.btree.specs.Reading.{Read, Got, Stop, first, definition}
 use Rattle.btree.specs.Program.{spell_all, AllFormed, IsProgram, Begins, IsViable, StopsAt, IsPart, Parts, Parted, fault_at}
 use Rattle.btree.proofs.DefinitionLaws.{AllKept, is_else, GoOn, ReadsOn, goes, halts, definition_on, read_spelled, spelled_again, open_longer, relined, spelled_name, spelled_go_on}
 use Rattle.btree.proofs.KeptLemmas.{bare-kept, map_bare-kept, map_bare-mark, kept-kept, kept-mark, AllKept-kept, AllKept-append, no_more, Split, split_map, Order, together, sooner, later, order}
-use Rattle.btree.specs.Compiled.{Names, Outcome, outcome_of, outcome_with, fault_of, text_of, Goes}
 use Rattle.btree.proofs.Parting.{kept-append, got_on, Halts, not_nothing, takes_some, first_there, parted_end, parted_stop}
 use Rattle.btree.proofs.ProgramLaws.{bare-append, all_relined, program_first, read_first, program_goes_on, begins_goes_on, viable_cases, viable_end, viable_next, one_before, begins_before, stops_begins, stops_there, GoOn-append, reads_first}
 
@@ -159,18 +158,18 @@ Ended [] = ⊥
 Ended (t ∷ []) = is_last t.token ≡ true
 Ended (t ∷ u ∷ ts) = Ended (u ∷ ts)
 
-ended_behind : (us ts : List Placed) → GoOn us → Ended (us ++ ts) → Ended ts
+pub ended_behind : (us ts : List Placed) → GoOn us → Ended (us ++ ts) → Ended ts
 ended_behind [] ts g e = e
 ended_behind (u ∷ []) [] g e = let no = g.0 in cc
 ended_behind (u ∷ []) (t ∷ ts) g e = e
 ended_behind (u ∷ v ∷ us) ts g e = ended_behind (v ∷ us) ts g.1 e
 
-go_on_kept : (us : List Placed) → GoOn (map kept us) → GoOn us
+pub go_on_kept : (us : List Placed) → GoOn (map kept us) → GoOn us
 go_on_kept [] g = tt
 go_on_kept (u ∷ us) g = (ap is_last (sym (bare-kept u)) ∙ g.0, go_on_kept us g.1)
 
 -- What begins a program ends no source.
-begun_goes_on : (us : List Placed) → Begins (map bare us) → GoOn us
+pub begun_goes_on : (us : List Placed) → Begins (map bare us) → GoOn us
 begun_goes_on [] b = tt
 begun_goes_on (u ∷ us) b = (program_goes_on [] (bare u) (map bare us ++ b.more) b.program, begun_tail us (bare u ∷ []) b)
   where
@@ -179,8 +178,3 @@ begun_goes_on (u ∷ us) b = (program_goes_on [] (bare u) (map bare us ++ b.more
     begun_tail (u ∷ us) front b =
         (program_goes_on front (bare u) (map bare us ++ b.more) (subst IsProgram (append_assoc front (bare u ∷ map bare us) b.more) b.program),
          begun_tail us (front ++ bare u ∷ []) (subst Begins (sym (append_assoc front (bare u ∷ []) (map bare us))) b))
-
-pub record SomeParting (tokens : List Placed) : Type 0 where
-  pub definitions : List Definition
-  pub stop : Option Diagnostic
-  pub parted : Parted tokens definitions stop

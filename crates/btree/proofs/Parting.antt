@@ -89,23 +89,28 @@ first_there tokens at rest wrong d ds p =
     ap definition (kept-append tokens (at ∷ rest) ∙ ap (λ l. l ++ map kept (at ∷ rest)) split ∙ append_assoc (spell d) (spell_all ds ++ p.part) (map kept (at ∷ rest)))
     ∙ reads_first d p.formed.0 ds p.part p.is_part at (map kept rest) no
 
--- Reading that stops, at a token that is no end in place of a definition.
-module _ (tokens : List Placed) (at : Placed) (rest : List Placed) (halting : Halts (map kept tokens) (map kept (at ∷ rest))) where
-  tree_spelled : map kept tokens ++ halting.completion ≡ spell halting.tree
-  tree_spelled = (read_spelled (map kept tokens ++ halting.completion) (AllKept-append (map kept tokens) halting.completion (AllKept-kept tokens) halting.kept_so) halting.tree [] halting.completed).0 ∙ no_more (spell halting.tree)
+-- Where reading stops, a program begins with what it took.
+module _ (tokens r : List Placed) (halting : Halts (map kept tokens) r) where
+  completed_spelled : (map kept tokens ++ halting.completion ≡ spell halting.tree ++ []) × IsFormed halting.tree
+  completed_spelled = read_spelled (map kept tokens ++ halting.completion) (AllKept-append (map kept tokens) halting.completion (AllKept-kept tokens) halting.kept_so) halting.tree [] halting.completed
 
-  tree_formed : IsFormed halting.tree
-  tree_formed = (read_spelled (map kept tokens ++ halting.completion) (AllKept-append (map kept tokens) halting.completion (AllKept-kept tokens) halting.kept_so) halting.tree [] halting.completed).1
+  pub tree_spelled : map kept tokens ++ halting.completion ≡ spell halting.tree
+  tree_spelled = completed_spelled.0 ∙ no_more (spell halting.tree)
 
-  bare_spelled : map bare (spell halting.tree) ≡ map bare tokens ++ map bare halting.completion
+  pub tree_formed : IsFormed halting.tree
+  tree_formed = completed_spelled.1
+
+  pub bare_spelled : map bare (spell halting.tree) ≡ map bare tokens ++ map bare halting.completion
   bare_spelled = ap (map bare) (sym tree_spelled) ∙ bare-append (map kept tokens) halting.completion ∙ ap (λ l. l ++ map bare halting.completion) (map_bare-kept tokens)
 
-  stop_begins : Begins (map bare tokens)
-  stop_begins = record {
+  pub halts_begins : Begins (map bare tokens)
+  halts_begins = record {
     more = map bare halting.completion;
     program = record { definitions = halting.tree ∷ []; formed = (tree_formed, tt); spelled = ap (map bare) (no_more (spell halting.tree)) ∙ bare_spelled };
   }
 
+-- Reading that stops, at a token that is no end in place of a definition.
+module _ (tokens : List Placed) (at : Placed) (rest : List Placed) (halting : Halts (map kept tokens) (map kept (at ∷ rest))) where
   -- no definitions have these tokens and then what begins so
   not_spelled : (ds : List Definition) → AllFormed ds → (ps : List Placed) → first (map kept ps) ≡ kept at → (tokens ++ ps ≡ [] → ⊥) → map bare (spell_all ds) ≡ map bare (tokens ++ ps) → ⊥
   not_spelled ds f ps n some e = go (all_relined ds f (tokens ++ ps) e)
@@ -139,14 +144,14 @@ module _ (tokens : List Placed) (at : Placed) (rest : List Placed) (halting : Ha
           some (x ∷ l) e = cc
 
   stops_so : (at.token ≡ token.End → tokens ≡ [] → ⊥) → StopsAt (map bare tokens) at (Some (fault_at at))
-  stops_so no_end = (stop_begins, not_viable no_end, refl)
+  stops_so no_end = (halts_begins tokens (map kept (at ∷ rest)) halting, not_viable no_end, refl)
 
   -- what was read before isn't all of a definition
   is_a_part : (no_end : at.token ≡ token.End → tokens ≡ [] → ⊥) → (c : List Placed) → halting.completion ≡ c → IsPart (map bare (map kept tokens))
-  is_a_part no_end (t ∷ c) e = inr (halting.tree, bare t, map bare c, tree_formed, bare_spelled ∙ ap (λ l. map bare tokens ++ map bare l) e ∙ ap (λ l. l ++ bare t ∷ map bare c) (sym (map_bare-kept tokens)))
+  is_a_part no_end (t ∷ c) e = inr (halting.tree, bare t, map bare c, tree_formed tokens (map kept (at ∷ rest)) halting, bare_spelled tokens (map kept (at ∷ rest)) halting ∙ ap (λ l. map bare tokens ++ map bare l) e ∙ ap (λ l. l ++ bare t ∷ map bare c) (sym (map_bare-kept tokens)))
   is_a_part no_end [] e =
-      let spelled : map kept tokens ≡ spell halting.tree ++ [] = sym (no_more (map kept tokens)) ∙ ap (λ l. map kept tokens ++ l) (sym e) ∙ tree_spelled ∙ sym (no_more (spell halting.tree)) in
-      let parts : Parts tokens (halting.tree ∷ []) = record { part = []; split = spelled ∙ ap (λ l. l ++ []) (sym (no_more (spell halting.tree))); formed = (tree_formed, tt); is_part = inl refl } in
+      let spelled : map kept tokens ≡ spell halting.tree ++ [] = sym (no_more (map kept tokens)) ∙ ap (λ l. map kept tokens ++ l) (sym e) ∙ tree_spelled tokens (map kept (at ∷ rest)) halting ∙ sym (no_more (spell halting.tree)) in
+      let parts : Parts tokens (halting.tree ∷ []) = record { part = []; split = spelled ∙ ap (λ l. l ++ []) (sym (no_more (spell halting.tree))); formed = (tree_formed tokens (map kept (at ∷ rest)) halting, tt); is_part = inl refl } in
       let read = first_there tokens at rest (stops_there (map bare tokens) at (Some (fault_at at)) (stops_so no_end)) halting.tree [] parts in
       let no : Got halting.tree (([] ++ []) ++ map kept (at ∷ rest)) ≡ Stop (map kept (at ∷ rest)) = sym read ∙ ap definition (kept-append tokens (at ∷ rest)) ∙ halting.stop (map kept (at ∷ rest)) refl in
       cc
