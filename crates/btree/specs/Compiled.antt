@@ -1,8 +1,12 @@
 -- What the compiler writes for a source.
-use Rattle.std.specs.Prelude.{◌≡◌, ℕ, Bool, List, [], ◌∷◌, ◌++◌, length, nat_lt, nat_eq, codes, decimal, fold, Option, Some, None, if◌then◌else◌}
-use Rattle.std.specs.List.{list_any, flat_map}
+use Rattle.std.specs.Prelude.{◌≡◌, ℕ, Bool, List, [], ◌∷◌, ◌++◌, length, nat_lt, nat_eq, codes, decimal, map, Option, Some, None, if◌then◌else◌}
+use Rattle.std.specs.List.{list_any}
 use Rattle.std.specs.Cmp.Lexicographic.{pointwise}
-use Rattle.bcode.specs.Text.{simple_header, number_line, end_text}
+use Rattle.bcode.specs.Text as text
+use Rattle.bcode.specs.Text.{end_text}
+use Rattle.bcode.specs.declared.definition.Definition.TheVariants as code
+use Rattle.bcode.specs.declared.instr.Ival.TheVariants as ival
+use Rattle.bcode.specs.declared.definition.Definition as coded
 use Rattle.blex.specs.declared.token.Letters.{Letters}
 use Rattle.blex.specs.declared.token.Letters.TheVariants as letters
 use Rattle.blex.specs.declared.token.Placed.{Placed}
@@ -31,9 +35,12 @@ fault_of names d =
     if is_among d.name.text names then Some (with_name letters.Redeclared d) else
     if nat_lt 1024 (length d.values) then Some (alone letters.TooLarge d) else None
 
--- the code text of a definition
+-- the code of a definition
+abbrev pub code_of : Definition → coded.Definition
+code_of d = code.Simple record { name = d.name.text; values = map ival.Number d.values; strings = [] }
+
 abbrev pub text_of : Definition → List ℕ
-text_of d = simple_header d.name.text (length d.values) ++ flat_map number_line d.values
+text_of d = text.text_of (code_of d)
 
 -- the texts of definitions, and the diagnostic, if there is one
 pub record Outcome : Type 0 where
