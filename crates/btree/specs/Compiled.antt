@@ -21,7 +21,7 @@ abbrev pub Names : Type 0
 Names = List (List ℕ)
 
 abbrev pub is_among : List ℕ → Names → Bool
-is_among name names = list_any (pointwise nat_eq name) names
+is_among name names = list_any (λ defined. pointwise nat_eq defined name) names
 
 abbrev pub with_name : Letters → Definition → Diagnostic
 with_name l d = record { letters = l; about = about.Name d.name.text; line = d.name.line }
