@@ -7,9 +7,9 @@ use Rattle.blex.specs.declared.diagnostic.Diagnostic.{Diagnostic}
 use Rattle.btree.specs.Definition.{Definition, Word}
 use Rattle.btree.specs.Lines.{kept}
 use Rattle.btree.specs.Program.{fault_at}
-use Rattle.btree.specs.Reading.{Read, Reader, Got, Stop, ◌>>=◌, first, value, values, more_values, definition}
+use Rattle.btree.specs.Reading.{Reader, Got, Stop as Halt, value, values, more_values, definition}
 use Rattle.b.specs.Tokens.{Tokens, IsOpen, Passed, Stops, Breaks}
-use Rattle.b.specs.Values.{Values, with_value, values_of}
+use Rattle.b.specs.Values.{Values, values_of}
 use Rattle.b.specs.declared.definition.Header.{Header}
 use Rattle.b.specs.declared.step.Stop.{Stop}
 use Rattle.b.specs.declared.step.Stop.TheVariants as stop
@@ -17,7 +17,7 @@ use Rattle.b.specs.declared.step.Stop.TheVariants as stop
 -- reading of some tokens stops at the next one
 abbrev pub StopsReading : {A : Type 0} → Reader A → List Placed → Placed → Type 0
 StopsReading reader tokens at =
-    (rest : List Placed) → reader (map kept tokens ++ kept at ∷ rest) ≡ Read.Stop (kept at ∷ rest)
+    (rest : List Placed) → reader (map kept tokens ++ kept at ∷ rest) ≡ Halt (kept at ∷ rest)
 
 -- The tokens behind some stop with this diagnostic.
 pub record Faults {A : Type 0} (reader : Reader A) (old : Tokens) (fault : Diagnostic) (new : Tokens) : Type 0 where

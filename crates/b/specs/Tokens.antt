@@ -7,10 +7,6 @@ use Rattle.blex.specs.Tokens.{token_first, tokens_from}
 use Rattle.blex.specs.declared.lexer.Progress.{Progress}
 use Rattle.blex.specs.declared.lexer.Progress.TheVariants as progress
 use Rattle.blex.specs.declared.token.Placed.{Placed}
-use Rattle.btree.specs.Definition.{Definition}
-use Rattle.btree.specs.Lines.{kept}
-use Rattle.btree.specs.Program.{fault_at}
-use Rattle.btree.specs.Reading.{Reader, Got, Stop, first}
 
 -- the source behind the token that is ahead, and what its lexer has come to
 pub record Tokens : Type 0 where
@@ -38,9 +34,13 @@ CanFollow end more = end.is_over ≡ true → more ≡ []
 abbrev pub IsOpen : Tokens → Type 0
 IsOpen t = (t.ahead ≡ None) × (t.progress ≡ progress.Open)
 
--- a token is ahead, or more can come
+-- more tokens can come, unless the one ahead is the last
+abbrev pub IsReadyWith : Option Placed → Progress → Type 0
+IsReadyWith None p = p ≡ progress.Open
+IsReadyWith (Some placed) p = is_last placed.token ≡ false → p ≡ progress.Open
+
 abbrev pub IsReady : Tokens → Type 0
-IsReady t = t.ahead ≡ None → t.progress ≡ progress.Open
+IsReady t = IsReadyWith t.ahead t.progress
 
 -- how many tokens can come at most, the last one aside
 abbrev pub work_with : Option Placed → Source → ℕ

@@ -53,7 +53,10 @@ impl<I: ByteIn> Tokens<I> {
         if let Some(placed) = self.ahead.take() {
             return Ok(placed);
         }
-        self.lexer.next().map_err(|_| Device)
+        let Ok(placed) = self.lexer.next() else {
+            return Err(Device);
+        };
+        Ok(placed)
     }
 
     /// Reads the next token ahead, unless it is.
