@@ -1,1 +1,2 @@
 pub mod TokenSteps
+pub mod DefinitionSteps
