@@ -1,2 +1,3 @@
 pub mod TokenSteps
 pub mod DefinitionSteps
+pub mod CompilerSteps

@@ -22,7 +22,7 @@ use Rattle.btree.proofs.ProgramLaws.{bare-append, all_relined, program_first, re
 
 
 -- The tokens of a source end.
-ended_cons : (t : Placed) (ts : List Placed) → Ended ts → Ended (t ∷ ts)
+pub ended_cons : (t : Placed) (ts : List Placed) → Ended ts → Ended (t ∷ ts)
 ended_cons t [] e = absurd e
 ended_cons t (u ∷ ts) e = e
 
