@@ -1,11 +1,13 @@
 -- What the compiler does with a whole source.
-use Rattle.std.specs.Prelude.{◌≡◌, ℕ, List, [], ◌++◌, Option, Some, None, ◌⊎◌}
+use Rattle.std.specs.Prelude.{◌≡◌, ℕ, List, [], ◌++◌, Option, Some, None, Result, Ok, Err, ◌⊎◌}
 use Rattle.bword.specs.ByteEnds.{Incoming, Outgoing, Grew, Writes}
 use Rattle.blex.specs.Sources.{Took}
 use Rattle.blex.specs.Tokens.{tokens_from}
 use Rattle.blex.specs.declared.diagnostic.Diagnostic.{Diagnostic}
 use Rattle.btree.specs.Compiled.{Outcome, Goes, code_text, line_of}
-use Rattle.b.specs.Compilers.{Began}
+use Rattle.b.specs.Compilers.{Compiler, Comes, Began}
+use Rattle.b.specs.declared.step.Stop.{Stop}
+use Rattle.b.specs.declared.step.Stop.TheVariants as stop
 use Rattle.b.specs.Tokens.{CanFollow}
 
 -- the bytes taken from the input, the two outputs before and after, and the status
@@ -67,3 +69,36 @@ pub record Compiles (run : Run) : Type 0 where
   pub refused : run.status ≡ 134 → Whatever taken run.source_behind (IsBroken run)
       × (AnyRefused run ⊎ Whatever taken run.source_behind (λ r. r.code ≡ [] → ⊥))
   pub no_other : (run.status ≡ 0) ⊎ (run.status ≡ 1) ⊎ (run.status ≡ 133) ⊎ (run.status ≡ 134)
+
+-- Several calls of the compiler took these bytes, and the ends are those of before.
+pub record KeepsAll (old : Compiler) (taken : List ℕ) (new : Compiler) : Type 0 where
+  pub took : Took old.tokens.source.end taken new.tokens.source.end
+  pub lender : new.tokens.source.lender ≡ old.tokens.source.lender
+  pub out_lender : new.out_lender ≡ old.out_lender
+
+-- each outcome of what comes, where these bytes were taken
+abbrev pub Each : Compiler → List ℕ → Compiler → (Outcome → Type 0) → Type 0
+Each old taken new P =
+    (more : List ℕ) → CanFollow new.tokens.source.end more → (r : Outcome) → Comes old taken more r → P r
+
+-- All comes to this, and is written.
+pub record AllWritten (old : Compiler) (stop : Option Diagnostic) (new : Compiler) : Type 0 where
+  pub taken : List ℕ
+  pub keeps : KeepsAll old taken new
+  pub written : Each old taken new (λ r. (r.stop ≡ stop) × Writes old.out (code_text r) new.out)
+
+-- A beginning of what comes is written.
+pub record AllBroke (old : Compiler) (why : List ℕ → Type 0) (new : Compiler) : Type 0 where
+  pub taken : List ℕ
+  pub keeps : KeepsAll old taken new
+  pub began : Each old taken new (λ r. Began old.out (code_text r) new.out)
+  pub reason : why taken
+
+-- what calls up to the last do
+abbrev pub AllGives : Compiler → Result (Unit {0}) Stop → Compiler → Type 0
+AllGives old (Ok u) new = AllWritten old None new
+AllGives old (Err (stop.Fault fault)) new = AllWritten old (Some fault) new
+AllGives old (Err stop.Device) new =
+    AllBroke old (λ taken. Grew old.tokens.source.end.failures new.tokens.source.end.failures ⊎ Grew old.out.failures new.out.failures) new
+AllGives old (Err stop.Memory) new =
+    AllBroke old (λ taken. Grew old.out.refusals new.out.refusals ⊎ Each old taken new (λ r. r.code ≡ [] → ⊥)) new
