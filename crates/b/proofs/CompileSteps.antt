@@ -4,15 +4,21 @@ use Rattle.std.proofs.KnownBytes.{Appends-trans}
 use Rattle.std.specs.Io.KnownBytes.{Appends}
 use Rattle.std.proofs.Math.Seq.{take-append-add}
 use Rattle.std.proofs.lemmas.List.{take-append-le}
-use Rattle.bword.specs.ByteEnds.{Incoming, Outgoing, Grew, Writes}
+use Rattle.bword.specs.ByteEnds.{Incoming, Outgoing, Grew, Writes, Refuses}
 use Rattle.bword.proofs.Putting.{Writes-none, Writes-append}
 use Rattle.blex.proofs.Passing.{Took-none, Took-append}
 use Rattle.blex.specs.declared.diagnostic.Diagnostic.{Diagnostic}
-use Rattle.btree.specs.Compiled.{Names, Outcome, Goes, ending, joined, code_text}
+use Rattle.btree.specs.Compiled.{Names, Outcome, Goes, ending, joined, code_text, line_of}
 use Rattle.btree.proofs.GoesLaws.{goes_once, goes_some}
 use Rattle.b.specs.Tokens.{Tokens, tokens_of, CanFollow, work}
 use Rattle.b.specs.Compilers.{Compiler, Comes, next_text, Began, Keeps, Wrote, Stopped, Broke, DeviceFailed, MemoryRefused, SomeTextComes}
-use Rattle.b.specs.Compiles.{KeepsAll, Each, AllWritten, AllBroke}
+use Rattle.b.specs.Compilers.{new}
+use Rattle.b.specs.Compiles.{KeepsAll, Each, AllWritten, AllBroke, AllGives, CodeGives, Whatever, Run, IsBroken, AnyFailed, AnyRefused, Compiles}
+use Rattle.b.specs.Statuses.{status_of}
+use Rattle.bword.specs.declared.byte_out.EndFault.{EndFault}
+use Rattle.bword.specs.declared.byte_out.EndFault.TheVariants as end_fault
+use Rattle.b.specs.declared.step.Stop.{Stop}
+use Rattle.b.specs.declared.step.Stop.TheVariants as why
 use Rattle.b.proofs.TokenSteps.{CanFollow-append}
 use Rattle.b.proofs.CompilerSteps.{tokens_of-ended}
 
@@ -102,8 +108,8 @@ began_all : {a b : Outgoing} (texts : List (List ℕ)) (stop : Option Diagnostic
 began_all [] stop h = h
 began_all (t ∷ ts) stop h = rw append_assoc (began_longer (joined ts ++ ending stop) h)
 
-pub all_broke : {old now new : Compiler} (why why' : List ℕ → Type 0) (h : Compiling old now) → (b : Broke now why new) → (why b.taken → why' (h.taken ++ b.taken)) → AllBroke old why' new
-all_broke {old} {now} {new} why why' h b reasons = record {
+pub all_broke : {old now new : Compiler} (first then : List ℕ → Type 0) (h : Compiling old now) → (b : Broke now first new) → (first b.taken → then (h.taken ++ b.taken)) → AllBroke old then new
+all_broke {old} {now} {new} first then h b reasons = record {
   taken = h.taken ++ b.taken;
   keeps = keeps_then h.keeps b.keeps;
   began = λ more f r a.
@@ -147,3 +153,102 @@ memory_broke {old} {now} {new} h b = all_broke (λ taken. MemoryRefused now take
 
 pub closed_never : {old now : Compiler} → Compiling old now → now.is_closed ≡ true → ⊥
 closed_never h e = let o = h.open_now in cc
+
+-- from the first byte on
+abbrev start : Incoming → ℕ → Outgoing → ℕ → Compiler
+start i lender o out_lender = new i lender o out_lender
+
+pub code_gives : (i : Incoming) (lender : ℕ) (o : Outgoing) (out_lender : ℕ) (old : Compiler) (r : Result (Unit {0}) Stop) (fin : Compiler) (j : Incoming) (p : Outgoing) → old ≡ start i lender o out_lender → AllGives old r fin → j ≡ fin.tokens.source.end → p ≡ fin.out → CodeGives i o r j p
+code_gives i lender o out_lender old r fin j p e h ej ep = rw (ej, ep) (go r (subst (λ c. AllGives c r fin) e h))
+  where
+    go : (r : Result (Unit {0}) Stop) → AllGives (start i lender o out_lender) r fin → CodeGives i o r fin.tokens.source.end fin.out
+    go (Ok u) h = record { taken = h.taken; took = h.keeps.took; written = h.written }
+    go (Err (why.Fault f)) h = record { taken = h.taken; took = h.keeps.took; written = h.written }
+    go (Err why.Device) h = record { taken = h.taken; took = h.keeps.took; began = h.began; reason = h.reason }
+    go (Err why.Memory) h = record { taken = h.taken; took = h.keeps.took; began = h.began; reason = h.reason }
+
+-- the ends stay
+pub Compiling-keeps : {old now : Compiler} → Compiling old now → (now.tokens.source.lender ≡ old.tokens.source.lender) × (now.out_lender ≡ old.out_lender)
+Compiling-keeps h = (h.keeps.lender, h.keeps.out_lender)
+
+-- What compiling comes to, with its line.
+module _ (i j : Incoming) (o p d e : Outgoing) where
+  abbrev run : ℕ → Run
+  run status = record { source = i; source_behind = j; code = o; code_behind = p; line = d; line_behind = e; status = status }
+
+  pub compiles_all : CodeGives i o (Ok tt) j p → e ≡ d → Compiles (run 0)
+  compiles_all h same = record {
+    taken = h.taken;
+    took = h.took;
+    compiled = λ s more f r g. let w = h.written more f r g in record { clean = w.0; code = w.1; silent = same };
+    faulty = λ s. absurd (omega arith);
+    failed = λ s. absurd (omega arith);
+    refused = λ s. absurd (omega arith);
+    no_other = inl refl;
+  }
+
+  pub compiles_fault : (fault : Diagnostic) → CodeGives i o (Err (why.Fault fault)) j p → Writes d (line_of fault) e → Compiles (run 1)
+  compiles_fault fault h line = record {
+    taken = h.taken;
+    took = h.took;
+    compiled = λ s. absurd (omega arith);
+    faulty = λ s more f r g. let w = h.written more f r g in record { fault = fault; stop = w.0; code = w.1; line = line };
+    failed = λ s. absurd (omega arith);
+    refused = λ s. absurd (omega arith);
+    no_other = inr (inl refl);
+  }
+
+  line_began : (fault : Diagnostic) (end : EndFault) → CodeGives i o (Err (why.Fault fault)) j p → Refuses d (line_of fault) end e → (h : CodeGives i o (Err (why.Fault fault)) j p) → (status : ℕ) → Whatever h.taken j (IsBroken (run status))
+  line_began fault end k w h status more f r g =
+      let written = h.written more f r g in
+      inr (record { fault = fault; stop = written.0; code = written.1; line = record { count = w.count; within = w.within; appended = w.appended } })
+
+  pub compiles_line : (fault : Diagnostic) (end : EndFault) → CodeGives i o (Err (why.Fault fault)) j p → Refuses d (line_of fault) end e → Compiles (run (status_of end))
+  compiles_line fault end_fault.Device h w = record {
+    taken = h.taken;
+    took = h.took;
+    compiled = λ s. absurd (omega arith);
+    faulty = λ s. absurd (omega arith);
+    failed = λ s. (inr (inr w.counted.0), line_began fault end_fault.Device h w h 133);
+    refused = λ s. absurd (omega arith);
+    no_other = inr (inr (inl refl));
+  }
+  compiles_line fault end_fault.Memory h w = record {
+    taken = h.taken;
+    took = h.took;
+    compiled = λ s. absurd (omega arith);
+    faulty = λ s. absurd (omega arith);
+    failed = λ s. absurd (omega arith);
+    refused = λ s. (line_began fault end_fault.Memory h w h 134, inl (inr w.counted.0));
+    no_other = inr (inr (inr refl));
+  }
+
+  any_failed : Grew i.failures j.failures ⊎ Grew o.failures p.failures → AnyFailed (run 133)
+  any_failed (inl g) = inl g
+  any_failed (inr g) = inr (inl g)
+
+  pub compiles_device : CodeGives i o (Err why.Device) j p → e ≡ d → Compiles (run 133)
+  compiles_device h same = record {
+    taken = h.taken;
+    took = h.took;
+    compiled = λ s. absurd (omega arith);
+    faulty = λ s. absurd (omega arith);
+    failed = λ s. (any_failed h.reason, λ more f r g. inl (h.began more f r g, same));
+    refused = λ s. absurd (omega arith);
+    no_other = inr (inr (inl refl));
+  }
+
+  pub compiles_memory : CodeGives i o (Err why.Memory) j p → e ≡ d → Compiles (run 134)
+  compiles_memory h same = record {
+    taken = h.taken;
+    took = h.took;
+    compiled = λ s. absurd (omega arith);
+    faulty = λ s. absurd (omega arith);
+    failed = λ s. absurd (omega arith);
+    refused = λ s. (λ more f r g. inl (h.began more f r g, same), refused_by h.reason);
+    no_other = inr (inr (inr refl));
+  }
+    where
+      refused_by : Grew o.refusals p.refusals ⊎ Whatever h.taken j (λ r. r.code ≡ [] → ⊥) → AnyRefused (run 134) ⊎ Whatever h.taken j (λ r. r.code ≡ [] → ⊥)
+      refused_by (inl g) = inl (inl g)
+      refused_by (inr g) = inr g

@@ -70,6 +70,26 @@ pub record Compiles (run : Run) : Type 0 where
       × (AnyRefused run ⊎ Whatever taken run.source_behind (λ r. r.code ≡ [] → ⊥))
   pub no_other : (run.status ≡ 0) ⊎ (run.status ≡ 1) ⊎ (run.status ≡ 133) ⊎ (run.status ≡ 134)
 
+-- All of the code was written, which stops so.
+pub record CodeWritten (i : Incoming) (o : Outgoing) (stop : Option Diagnostic) (j : Incoming) (p : Outgoing) : Type 0 where
+  pub taken : List ℕ
+  pub took : Took i taken j
+  pub written : Whatever taken j (λ r. (r.stop ≡ stop) × Writes o (code_text r) p)
+
+-- A beginning of the code was written.
+pub record CodeBroke (i : Incoming) (o : Outgoing) (why : List ℕ → Type 0) (j : Incoming) (p : Outgoing) : Type 0 where
+  pub taken : List ℕ
+  pub took : Took i taken j
+  pub began : Whatever taken j (λ r. Began o (code_text r) p)
+  pub reason : why taken
+
+-- what compiling does to the source and the code
+abbrev pub CodeGives : Incoming → Outgoing → Result (Unit {0}) Stop → Incoming → Outgoing → Type 0
+CodeGives i o (Ok u) j p = CodeWritten i o None j p
+CodeGives i o (Err (stop.Fault fault)) j p = CodeWritten i o (Some fault) j p
+CodeGives i o (Err stop.Device) j p = CodeBroke i o (λ taken. Grew i.failures j.failures ⊎ Grew o.failures p.failures) j p
+CodeGives i o (Err stop.Memory) j p = CodeBroke i o (λ taken. Grew o.refusals p.refusals ⊎ Whatever taken j (λ r. r.code ≡ [] → ⊥)) j p
+
 -- Several calls of the compiler took these bytes, and the ends are those of before.
 pub record KeepsAll (old : Compiler) (taken : List ℕ) (new : Compiler) : Type 0 where
   pub took : Took old.tokens.source.end taken new.tokens.source.end
