@@ -13,7 +13,7 @@ use Rattle.btree.proofs.GoesLaws.{goes_once, goes_some}
 use Rattle.b.specs.Tokens.{Tokens, tokens_of, CanFollow, work}
 use Rattle.b.specs.Compilers.{Compiler, Comes, next_text, Began, Keeps, Wrote, Stopped, Broke, DeviceFailed, MemoryRefused, SomeTextComes}
 use Rattle.b.specs.Compilers.{new}
-use Rattle.b.specs.Compiles.{KeepsAll, Each, AllWritten, AllBroke, AllGives, CodeGives, Whatever, Run, IsBroken, AnyFailed, AnyRefused, Compiles}
+use Rattle.b.specs.Compiles.{KeepsAll, Each, AllWritten, AllBroke, AllGives, CodeComes, CodeGives, Whatever, Run, IsBroken, AnyFailed, AnyRefused, Compiles}
 use Rattle.b.specs.Statuses.{status_of}
 use Rattle.bword.specs.declared.byte_out.EndFault.{EndFault}
 use Rattle.bword.specs.declared.byte_out.EndFault.TheVariants as end_fault
@@ -159,9 +159,9 @@ abbrev start : Incoming → ℕ → Outgoing → ℕ → Compiler
 start i lender o out_lender = new i lender o out_lender
 
 pub code_gives : (i : Incoming) (lender : ℕ) (o : Outgoing) (out_lender : ℕ) (old : Compiler) (r : Result (Unit {0}) Stop) (fin : Compiler) (j : Incoming) (p : Outgoing) → old ≡ start i lender o out_lender → AllGives old r fin → j ≡ fin.tokens.source.end → p ≡ fin.out → CodeGives i o r j p
-code_gives i lender o out_lender old r fin j p e h ej ep = rw (ej, ep) (go r (subst (λ c. AllGives c r fin) e h))
+code_gives i lender o out_lender old r fin j p e h ej ep = rw (ej, ep) (record { comes = go r (subst (λ c. AllGives c r fin) e h) })
   where
-    go : (r : Result (Unit {0}) Stop) → AllGives (start i lender o out_lender) r fin → CodeGives i o r fin.tokens.source.end fin.out
+    go : (r : Result (Unit {0}) Stop) → AllGives (start i lender o out_lender) r fin → CodeComes i o r fin.tokens.source.end fin.out
     go (Ok u) h = record { taken = h.taken; took = h.keeps.took; written = h.written }
     go (Err (why.Fault f)) h = record { taken = h.taken; took = h.keeps.took; written = h.written }
     go (Err why.Device) h = record { taken = h.taken; took = h.keeps.took; began = h.began; reason = h.reason }
@@ -176,7 +176,7 @@ module _ (i j : Incoming) (o p d e : Outgoing) where
   abbrev run : ℕ → Run
   run status = record { source = i; source_behind = j; code = o; code_behind = p; line = d; line_behind = e; status = status }
 
-  pub compiles_all : CodeGives i o (Ok tt) j p → e ≡ d → Compiles (run 0)
+  pub compiles_all : CodeComes i o (Ok tt) j p → e ≡ d → Compiles (run 0)
   compiles_all h same = record {
     taken = h.taken;
     took = h.took;
@@ -187,7 +187,7 @@ module _ (i j : Incoming) (o p d e : Outgoing) where
     no_other = inl refl;
   }
 
-  pub compiles_fault : (fault : Diagnostic) → CodeGives i o (Err (why.Fault fault)) j p → Writes d (line_of fault) e → Compiles (run 1)
+  pub compiles_fault : (fault : Diagnostic) → CodeComes i o (Err (why.Fault fault)) j p → Writes d (line_of fault) e → Compiles (run 1)
   compiles_fault fault h line = record {
     taken = h.taken;
     took = h.took;
@@ -198,12 +198,12 @@ module _ (i j : Incoming) (o p d e : Outgoing) where
     no_other = inr (inl refl);
   }
 
-  line_began : (fault : Diagnostic) (end : EndFault) → CodeGives i o (Err (why.Fault fault)) j p → Refuses d (line_of fault) end e → (h : CodeGives i o (Err (why.Fault fault)) j p) → (status : ℕ) → Whatever h.taken j (IsBroken (run status))
+  line_began : (fault : Diagnostic) (end : EndFault) → CodeComes i o (Err (why.Fault fault)) j p → Refuses d (line_of fault) end e → (h : CodeComes i o (Err (why.Fault fault)) j p) → (status : ℕ) → Whatever h.taken j (IsBroken (run status))
   line_began fault end k w h status more f r g =
       let written = h.written more f r g in
       inr (record { fault = fault; stop = written.0; code = written.1; line = record { count = w.count; within = w.within; appended = w.appended } })
 
-  pub compiles_line : (fault : Diagnostic) (end : EndFault) → CodeGives i o (Err (why.Fault fault)) j p → Refuses d (line_of fault) end e → Compiles (run (status_of end))
+  pub compiles_line : (fault : Diagnostic) (end : EndFault) → CodeComes i o (Err (why.Fault fault)) j p → Refuses d (line_of fault) end e → Compiles (run (status_of end))
   compiles_line fault end_fault.Device h w = record {
     taken = h.taken;
     took = h.took;
@@ -227,7 +227,7 @@ module _ (i j : Incoming) (o p d e : Outgoing) where
   any_failed (inl g) = inl g
   any_failed (inr g) = inr (inl g)
 
-  pub compiles_device : CodeGives i o (Err why.Device) j p → e ≡ d → Compiles (run 133)
+  pub compiles_device : CodeComes i o (Err why.Device) j p → e ≡ d → Compiles (run 133)
   compiles_device h same = record {
     taken = h.taken;
     took = h.took;
@@ -238,7 +238,7 @@ module _ (i j : Incoming) (o p d e : Outgoing) where
     no_other = inr (inr (inl refl));
   }
 
-  pub compiles_memory : CodeGives i o (Err why.Memory) j p → e ≡ d → Compiles (run 134)
+  pub compiles_memory : CodeComes i o (Err why.Memory) j p → e ≡ d → Compiles (run 134)
   compiles_memory h same = record {
     taken = h.taken;
     took = h.took;
@@ -252,3 +252,9 @@ module _ (i j : Incoming) (o p d e : Outgoing) where
       refused_by : Grew o.refusals p.refusals ⊎ Whatever h.taken j (λ r. r.code ≡ [] → ⊥) → AnyRefused (run 134) ⊎ Whatever h.taken j (λ r. r.code ≡ [] → ⊥)
       refused_by (inl g) = inl (inl g)
       refused_by (inr g) = inr g
+
+  pub compiles_ok : (r : Result (Unit {0}) Stop) (u : Unit {0}) → CodeGives i o r j p → r ≡ Ok u → e ≡ d → Compiles (run 0)
+  compiles_ok r u h is same = compiles_all (subst (λ x. CodeComes i o x j p) is h.comes) same
+
+  pub compiles_err : (r : Result (Unit {0}) Stop) (s : Stop) → CodeGives i o r j p → r ≡ Err s → CodeComes i o (Err s) j p
+  compiles_err r s h is = subst (λ x. CodeComes i o x j p) is h.comes

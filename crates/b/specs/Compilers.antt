@@ -26,6 +26,15 @@ abbrev pub compiler_of : Tokens → Names → Outgoing → ℕ → Bool → Comp
 compiler_of tokens names out out_lender is_closed =
     record { tokens = tokens; names = names; out = out; out_lender = out_lender; is_closed = is_closed }
 
+-- what can be seen of a compiler without its output
+pub record Progress : Type 0 where
+  pub tokens : Tokens
+  pub names : Names
+  pub is_closed : Bool
+
+abbrev pub compiler_at : Progress → Outgoing → ℕ → Compiler
+compiler_at p out out_lender = compiler_of p.tokens p.names out out_lender p.is_closed
+
 -- a compiler that has read and written nothing
 abbrev pub new : Incoming → ℕ → Outgoing → ℕ → Compiler
 new input lender out out_lender = compiler_of (all_tokens input lender) [] out out_lender false

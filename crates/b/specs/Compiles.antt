@@ -83,12 +83,16 @@ pub record CodeBroke (i : Incoming) (o : Outgoing) (why : List ℕ → Type 0) (
   pub began : Whatever taken j (λ r. Began o (code_text r) p)
   pub reason : why taken
 
+-- what compiling comes to, by its answer
+abbrev pub CodeComes : Incoming → Outgoing → Result (Unit {0}) Stop → Incoming → Outgoing → Type 0
+CodeComes i o (Ok u) j p = CodeWritten i o None j p
+CodeComes i o (Err (stop.Fault fault)) j p = CodeWritten i o (Some fault) j p
+CodeComes i o (Err stop.Device) j p = CodeBroke i o (λ taken. Grew i.failures j.failures ⊎ Grew o.failures p.failures) j p
+CodeComes i o (Err stop.Memory) j p = CodeBroke i o (λ taken. Grew o.refusals p.refusals ⊎ Whatever taken j (λ r. r.code ≡ [] → ⊥)) j p
+
 -- what compiling does to the source and the code
-abbrev pub CodeGives : Incoming → Outgoing → Result (Unit {0}) Stop → Incoming → Outgoing → Type 0
-CodeGives i o (Ok u) j p = CodeWritten i o None j p
-CodeGives i o (Err (stop.Fault fault)) j p = CodeWritten i o (Some fault) j p
-CodeGives i o (Err stop.Device) j p = CodeBroke i o (λ taken. Grew i.failures j.failures ⊎ Grew o.failures p.failures) j p
-CodeGives i o (Err stop.Memory) j p = CodeBroke i o (λ taken. Grew o.refusals p.refusals ⊎ Whatever taken j (λ r. r.code ≡ [] → ⊥)) j p
+pub record CodeGives (i : Incoming) (o : Outgoing) (r : Result (Unit {0}) Stop) (j : Incoming) (p : Outgoing) : Type 0 where
+  pub comes : CodeComes i o r j p
 
 -- Several calls of the compiler took these bytes, and the ends are those of before.
 pub record KeepsAll (old : Compiler) (taken : List ℕ) (new : Compiler) : Type 0 where

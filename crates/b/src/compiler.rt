@@ -1,8 +1,7 @@
 //! The compiler, which writes one definition a call.
-ghost use Rattle.std.specs.Prelude.{◌≡◌, IfOk, Some, false, true};
-ghost use Rattle.b.specs.Compilers.{compiler_of, StepGives, DefinitionGives, Defines, is_over, stop_in};
-ghost use Rattle.b.specs.Tokens.{IsReady};
-ghost use Rattle.b.specs.Compilers as compilers;
+ghost use Rattle.std.specs.Prelude.{◌≡◌, IfOk, Some, [], false, true};
+ghost use Rattle.b.specs.Compilers.{compiler_of, compiler_at, StepGives, DefinitionGives, Defines, is_over, stop_in};
+ghost use Rattle.b.specs.Tokens.{IsReady, all_tokens};
 
 use crate::definition::{Header, read_definition};
 use crate::names::Names;
@@ -19,70 +18,63 @@ use std::marker::Model;
 ///
 /// It holds one definition, one token behind it and the names that are defined.
 #[derive(Drop)]
-pub(crate) struct Compiler<I: ByteIn, O: ByteOut> {
+pub(crate) struct Compiler<I: ByteIn> {
     tokens: Tokens<I>,
     values: Values,
     names: Names,
-    out: O,
     is_closed: bool,
 }
 
-impl<I: ByteIn, O: ByteOut> Model for Compiler<I, O> {
+impl<I: ByteIn> Model for Compiler<I> {
     ghost use Rattle.std.specs.Prelude.{◌≡◌, false};
     ghost use Rattle.b.specs.Tokens.{IsReady};
-    ghost use Rattle.b.specs.Compilers.{Compiler, compiler_of};
+    ghost use Rattle.b.specs.Compilers.{Progress};
 
-    ghost Value = { Compiler };
+    ghost Value = { Progress };
 
-    ghost view = { λ c. compiler_of c.tokens c.names (O.outgoing c.out) (O.lender c.out) c.is_closed };
+    ghost view = { λ c. record { tokens = c.tokens; names = c.names; is_closed = c.is_closed } };
 
     ghost invariant = { λ c. c.is_closed ≡ false → IsReady c.tokens };
 }
 
-impl<I: ByteIn, O: ByteOut> Compiler<I, O> {
-    /// A compiler that has read and written nothing.
-    pub fn new(alloc: Global, input: I, out: O) -> Self
-        ensures { result ≡ compilers.new (I.incoming input) (I.lender input) (O.outgoing out) (O.lender out) }
+impl<I: ByteIn> Compiler<I> {
+    /// A compiler that has read nothing.
+    pub fn new(alloc: Global, input: I) -> Self
+        ensures { result ≡ record { tokens = all_tokens (I.incoming input) (I.lender input); names = []; is_closed = false } }
     {
         Compiler {
             tokens: Tokens::new(input),
             values: Values::new(),
             names: Names::new(alloc),
-            out,
             is_closed: false,
         }
     }
 
-    /// Its ends, without what was read ahead.
-    pub fn into_ends(self) -> (I, O)
-        ensures input { I.incoming result.0 ≡ self.tokens.source.end }
-        ensures lender { I.lender result.0 ≡ self.tokens.source.lender }
-        ensures out { O.outgoing result.1 ≡ self.out }
-        ensures out_lender { O.lender result.1 ≡ self.out_lender }
+    /// The end, without what was read ahead.
+    pub fn into_input(self) -> I
+        ensures end { I.incoming result ≡ self.tokens.source.end }
+        ensures lender { I.lender result ≡ self.tokens.source.lender }
     {
         let Compiler {
             tokens,
             values: _,
             names: _,
-            out,
             is_closed: _,
         } = self;
-        (tokens.into_input(), out)
+        tokens.into_input()
     }
 
     /// Compiles the next definition.
-    pub fn next_definition(&mut self) -> Step
-        ensures { StepGives self.old result self.new }
+    ///
+    /// After the first answer that isn't `Written`, each call answers `Closed` and does nothing.
+    pub fn next_definition<O: ByteOut>(&mut self, out: &mut O) -> Step
+        ensures { StepGives (compiler_at self.old (O.outgoing out.old) (O.lender out.old)) result
+            (compiler_at self.new (O.outgoing out.new) (O.lender out.new)) }
     {
         if self.is_closed {
             return Step::Closed;
         }
-        let compiled = compile_definition(
-            &mut self.tokens,
-            &mut self.values,
-            &mut self.names,
-            &mut self.out,
-        );
+        let compiled = compile_definition(&mut self.tokens, &mut self.values, &mut self.names, out);
         self.is_closed = !matches!(compiled, Ok(true));
         match compiled {
             Ok(true) => Step::Written,

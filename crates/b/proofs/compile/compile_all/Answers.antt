@@ -1,9 +1,10 @@
 use Rattle.std.proofs.Common.{Some, None}
+use Rattle.b.specs.Compilers.{compiler_at}
 use Rattle.b.proofs.CompileSteps.{compiling_none, compiling_more, all_written, device_broke, memory_broke}
 use Rattle.b.proofs.compile.compile_all.Goals as goal
 
 pub definitions-init : goal.definitions-init
-definitions-init g c = compiling_none c.args.compiler.now c.requires
+definitions-init g c = compiling_none (compiler_at c.args.compiler.now (g.O.ByteOut.outgoing c.args.code.now) (g.O.ByteOut.lender c.args.code.now)) c.requires
 
 pub definitions-preserved : goal.definitions-preserved
 definitions-preserved g c = compiling_more c.definitions.invariant c.in-Written.ensures
