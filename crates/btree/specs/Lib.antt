@@ -3,3 +3,4 @@ pub mod Definition
 pub mod Reading
 pub mod Program
 pub mod Compiled
+pub mod Laws

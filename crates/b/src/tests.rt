@@ -1,0 +1,175 @@
+//! Sources with the code, the diagnostic and the status that they have.
+use crate::compile::compile;
+use crate::serve::serve;
+use crate::status::Status;
+use bword::{MemIn, MemOut, Reading, Writing};
+use std::io::{self, Read, Write};
+use std::process::Abort;
+use std::test::Fail;
+
+fn compiles(
+    rt: &(impl AllocGlobal + Abort),
+    source: &str,
+    code: &str,
+    line: &str,
+    status: Status,
+) {
+    let mut out = MemOut::new(rt.alloc());
+    let mut diag = MemOut::new(rt.alloc());
+    let answer = compile(
+        rt.alloc(),
+        &mut MemIn::new(source.as_bytes()),
+        &mut out,
+        &mut diag,
+    );
+    assert_eq!(rt; out.bytes(), code.as_bytes(), "the code of {source}");
+    assert_eq!(rt; diag.bytes(), line.as_bytes(), "the line of {source}");
+    assert_eq!(rt; answer, status, "the status of {source}");
+}
+
+#[test]
+fn sources_without_fault(rt: HostRuntime) {
+    compiles(&rt, "", "E\n", "", 0);
+    compiles(&rt, "n 2000;", "X n 1 0\nc 2000\nE\n", "", 0);
+    compiles(&rt, "n/*x*/017;", "X n 1 0\nc 15\nE\n", "", 0);
+}
+
+#[test]
+fn faulty_sources(rt: HostRuntime) {
+    compiles(&rt, "a;a;", "X a 0 0\n", "rd a 1\n", 1);
+    compiles(&rt, "a; /* x", "X a 0 0\n", "*/ 1\n", 1);
+    compiles(&rt, "abcdefghi;", "", "nm 1\n", 1);
+    compiles(&rt, "n 08;", "", "ct 1\n", 1);
+    compiles(&rt, "n 65536;", "", "ct 1\n", 1);
+    compiles(&rt, "n #;", "", "ch 1\n", 1);
+    compiles(&rt, "n 5", "", "sx 1\n", 1);
+}
+
+#[test]
+fn too_many_values(rt: HostRuntime) -> Result<(), Fail> {
+    let mut source = String::from_str(rt.alloc(), "a;\nv 1")?;
+    for _ in 0..1024 {
+        source.push_str(",1")?;
+    }
+    source.push_str(";")?;
+    compiles(&rt, source.as_str(), "X a 0 0\n", ">e 2\n", 1);
+    Ok(())
+}
+
+fn serves(
+    rt: &(impl AllocGlobal + Abort),
+    words: &[&str],
+    status: Status,
+) -> Result<(MemOut, MemOut), Fail> {
+    let mut strings = Vec::new(rt.alloc());
+    for word in words {
+        strings.push(String::from_str(rt.alloc(), *word)?)?;
+    }
+    let mut out = MemOut::new(rt.alloc());
+    let mut diag = MemOut::new(rt.alloc());
+    let answer = serve(
+        rt,
+        strings.as_slice(),
+        &mut MemIn::new(b"a;"),
+        &mut out,
+        &mut diag,
+    );
+    assert_eq!(rt; answer, status);
+    Ok((out, diag))
+}
+
+#[test]
+fn the_command_compile(rt: HostRuntime) -> Result<(), Fail> {
+    let (out, diag) = serves(&rt, &["b", "compile"], 0)?;
+    assert_eq!(rt; out.bytes(), b"X a 0 0\nE\n".as_slice());
+    assert_eq!(rt; diag.bytes().len(), 0);
+    Ok(())
+}
+
+#[test]
+fn wrong_command_lines(rt: HostRuntime) -> Result<(), Fail> {
+    for words in [["b", "run"].as_slice(), ["b"].as_slice(), ["b", "compile", "x"].as_slice()] {
+        let (out, diag) = serves(&rt, words, 135)?;
+        assert_eq!(rt; out.bytes().len(), 0);
+        assert!(rt; !diag.bytes().is_empty());
+    }
+    Ok(())
+}
+
+#[test]
+fn help(rt: HostRuntime) -> Result<(), Fail> {
+    let (out, diag) = serves(&rt, &["b", "--help"], 0)?;
+    assert!(rt; !out.bytes().is_empty());
+    assert_eq!(rt; diag.bytes().len(), 0);
+    Ok(())
+}
+
+// A reader that gives some bytes and then fails.
+#[derive(Drop)]
+struct Cut {
+    left: u8,
+}
+
+impl Read for Cut {
+    fn read(&mut self, buf: &mut [u8]) -> io::Result<usize> {
+        if self.left == 0 {
+            return Err(io::Error::from(io::ErrorKind::Other));
+        }
+        self.left -= 1;
+        let Some(first) = buf.first_mut() else {
+            return Ok(0);
+        };
+        *first = if self.left % 2 == 0 { b';' } else { b'a' + self.left };
+        Ok(1)
+    }
+}
+
+#[test]
+fn a_read_that_fails_in_mid_stream(rt: HostRuntime) {
+    let mut out = MemOut::new(rt.alloc());
+    let mut diag = MemOut::new(rt.alloc());
+    let mut source = Reading::new(Cut { left: 6 });
+    let answer = compile(rt.alloc(), &mut source, &mut out, &mut diag);
+    assert_eq!(rt; answer, 133);
+    assert_eq!(rt; out.bytes(), b"X f 0 0\nX d 0 0\n".as_slice());
+    assert_eq!(rt; diag.bytes().len(), 0);
+}
+
+// A writer that takes some bytes and then fails.
+#[derive(Drop)]
+struct Full {
+    room: usize,
+}
+
+impl Write for Full {
+    fn write(&mut self, buf: &[u8]) -> io::Result<usize> {
+        if self.room == 0 {
+            return Err(io::Error::from(io::ErrorKind::Other));
+        }
+        let count = buf.len().min(self.room);
+        self.room -= count;
+        Ok(count)
+    }
+
+    fn flush(&mut self) -> io::Result<()> {
+        Ok(())
+    }
+}
+
+#[test]
+fn a_write_that_fails_in_mid_stream(rt: HostRuntime) {
+    let mut diag = MemOut::new(rt.alloc());
+    let mut out = Writing::new(Full { room: 10 });
+    let answer = compile(rt.alloc(), &mut MemIn::new(b"a;b;"), &mut out, &mut diag);
+    assert_eq!(rt; answer, 133);
+    assert_eq!(rt; diag.bytes().len(), 0);
+}
+
+#[test]
+fn a_line_that_can_not_be_written(rt: HostRuntime) {
+    let mut out = MemOut::new(rt.alloc());
+    let mut diag = Writing::new(Full { room: 3 });
+    let answer = compile(rt.alloc(), &mut MemIn::new(b"a;a;"), &mut out, &mut diag);
+    assert_eq!(rt; answer, 133);
+    assert_eq!(rt; out.bytes(), b"X a 0 0\n".as_slice());
+}

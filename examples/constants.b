@@ -1,0 +1,4 @@
+/* Externals with initial values: the compiler writes their code text. */
+width 64;
+masks 1, 2, 4, 010, 020;
+empty;
