@@ -1,4 +1,4 @@
-use Rattle.blex.proofs.Lexed.{token_falls}
+use Rattle.blex.proofs.TokenSteps.{token_falls}
 use Rattle.blex.proofs.lexer.Lexer.next.Goals as goal
 use Rattle.blex.proofs.lexer.Lexer.next.Goals.{in-Some, in_default-last}
 
