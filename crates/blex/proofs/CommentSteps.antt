@@ -5,6 +5,11 @@ use Rattle.std.specs.Prelude.{option_to_list, is_some}
 use Rattle.blex.specs.declared.token.Token.{Token}
 use Rattle.blex.specs.declared.token.Token.TheVariants as token
 use Rattle.blex.specs.declared.token.Letters.TheVariants as letters
+use Rattle.std.specs.Prelude.{IfOk}
+use Rattle.std.specs.Option.{option_map}
+use Rattle.bword.specs.declared.byte_in.Device.{Device}
+use Rattle.blex.specs.declared.lexeme.Lexeme.{Lexeme}
+use Rattle.blex.specs.Lexemes.{token_of_lexeme}
 use Rattle.blex.specs.Pieces.{is_blank, is_digit, after_close}
 use Rattle.blex.specs.Sources.{Source, Passes, Breaks, Ends, CanCome}
 use Rattle.blex.specs.Lexing.{PassesPiece, PassesComment, TakesIf, Stops, BeginsFixed}
@@ -122,3 +127,10 @@ comment_endless {a} {b} {c} {s} None n h k = record {
   ends = λ f. absurd (differ (sym f));
   endless = λ _. (sym (ap after_close (append-nil h.body)) ∙ h.rest [] ∙ sym (nothing s), λ xs m. CanCome-none c xs k.1 m);
 }
+
+-- what a slash gives, for one list of characters
+pub slash_found : (a b : Source) (first : ℕ) (r : Result (Option Lexeme) Device) (xs : List ℕ) → first ≡ 47
+    → IfOk r (λ found. (characters : List ℕ) → PassesPiece 47 a (option_map (λ l. token_of_lexeme l characters) found) b)
+    → IfOk r (λ found. PassesPiece first a (option_map (λ l. token_of_lexeme l xs) found) b)
+slash_found a b first (Ok found) xs e h = rw e (h xs)
+slash_found a b first (Err fault) xs e h = tt

@@ -2,7 +2,6 @@
 use Rattle.std.proofs.Common.{◌≡◌, ℕ, ◌<◌, Bool, true, false, ◌==◌, ◌≢◌, List, [], ◌∷◌, ◌++◌, length, fold, Option, Some, None, refl, sym, ap, ◌∙◌, arith, if◌then◌else◌}
 use Rattle.std.proofs.lemmas.Bool.Decides.{nat_tests}
 use Rattle.std.specs.Prelude.{option_to_list}
-use Rattle.arrayvec.specs.ArrayVec.{ArrayVec}
 use Rattle.blex.specs.declared.token.Token.{Token}
 use Rattle.blex.specs.declared.token.Token.TheVariants as token
 use Rattle.blex.specs.declared.token.Letters.TheVariants as letters
@@ -89,16 +88,16 @@ more_quoted {quote} {room} {a} {b} {characters} h xs now e = quoted-append quote
 equal : (a b : ℕ) → a ≡ b → (a == b) ≡ true
 equal a b e = grind (arith, nat_tests)
 
-pub quoted_closes : {quote room : ℕ} {a b c : Source} (characters : ArrayVec ℕ) (byte : ℕ) (o : Option ℕ) → o ≡ Some byte → byte ≡ quote
-    → InQuoted quote room a characters.items b → Passes b (option_to_list o) c × Ends o c → PassesQuoted quote room a (Some characters) c
+pub quoted_closes : {quote room : ℕ} {a b c : Source} (characters : List ℕ) (byte : ℕ) (o : Option ℕ) → o ≡ Some byte → byte ≡ quote
+    → InQuoted quote room a characters b → Passes b (option_to_list o) c × Ends o c → PassesQuoted quote room a true characters c
 quoted_closes {quote} {room} {a} {b} {c} characters byte o e f h k = record {
   run = h.run ++ byte ∷ [];
   passes = Passes-append h.passes (byte_passed o byte b c e k);
-  ends = more_quoted h (byte ∷ []) (Closed characters.items) (at_quote quote room characters.items byte (equal byte quote f));
+  ends = more_quoted h (byte ∷ []) (Closed characters) (at_quote quote room characters byte (equal byte quote f));
 }
 
 pub quoted_full : {quote room : ℕ} {a b c : Source} (characters : List ℕ) (byte : ℕ) (o : Option ℕ) → o ≡ Some byte → byte ≢ quote → length characters ≡ room
-    → InQuoted quote room a characters b → Passes b (option_to_list o) c × Ends o c → PassesQuoted quote room a None c
+    → InQuoted quote room a characters b → Passes b (option_to_list o) c × Ends o c → PassesQuoted quote room a false characters c
 quoted_full {quote} {room} {a} {b} {c} characters byte o e f full h k =
     let wrong = more_quoted h (byte ∷ []) Wrong (at_full quote room characters byte (not_equal byte quote f) (equal (length characters) room full)) in
     record {
@@ -127,13 +126,13 @@ module _ {quote room : ℕ} {a b m c : Source} (characters : List ℕ) (byte : �
       let opened = rw s at reads in
       record { run = h.run ++ byte ∷ p.rest; passes = passed; is = is_now ∙ opened ∙ ap Open (sym n) }
 
-  pub quoted_wrong : character ≡ None → PassesQuoted quote room a None c
+  pub quoted_wrong : character ≡ None → PassesQuoted quote room a false characters c
   quoted_wrong s =
       let wrong = rw s at reads in
       record { run = h.run ++ byte ∷ p.rest; passes = passed; ends = rw is_now wrong }
 
 pub quoted_endless : {quote room : ℕ} {a b c : Source} {characters : List ℕ} (o : Option ℕ) → o ≡ None → InQuoted quote room a characters b
-    → Passes b (option_to_list o) c × Ends o c → PassesQuoted quote room a None c
+    → Passes b (option_to_list o) c × Ends o c → PassesQuoted quote room a false characters c
 quoted_endless {quote} {room} {a} {b} {c} {characters} o e h k =
     let none = none_passed o b c e k in
     record { run = h.run; passes = Passes-then h.passes none.0; ends = rw h.is none.1 }
@@ -159,11 +158,12 @@ module _ (quote room : ℕ) (constant : List ℕ → Token) (whole_is : (bs : Li
   wrong_piece {a} {b} run Wrong p e h = record { rest = run; passes = p; is = whole_is run ∙ ap (constant_of constant) e; stops = λ xs m. quoted-stops quote room constant whole_is run xs (rw e tt) }
   wrong_piece {a} {b} run Past p e h = absurd h
 
-  pub constant_closed : {a b : Source} (o : Option (ArrayVec ℕ)) (characters : ArrayVec ℕ) → o ≡ Some characters → PassesQuoted quote room a o b
-      → PassesPiece quote a (Some (constant characters.items)) b
-  constant_closed {a} {b} None characters e h = cc
-  constant_closed {a} {b} (Some v) characters e h = let same : v ≡ characters = cc in rw same at (closed_piece v.items h.run h.passes h.ends)
+  pub constant_closed : {a b : Source} (fits : Bool) (characters : List ℕ) → fits ≡ true → PassesQuoted quote room a fits characters b
+      → PassesPiece quote a (Some (constant characters)) b
+  constant_closed {a} {b} false characters e h = cc
+  constant_closed {a} {b} true characters e h = closed_piece characters h.run h.passes h.ends
 
-  pub constant_wrong : {a b : Source} (o : Option (ArrayVec ℕ)) → o ≡ None → PassesQuoted quote room a o b → PassesPiece quote a (Some (token.Bad letters.Constant)) b
-  constant_wrong {a} {b} (Some v) e h = cc
-  constant_wrong {a} {b} None e h = wrong_piece h.run (quoted quote room h.run) h.passes refl h.ends
+  pub constant_wrong : {a b : Source} (fits : Bool) (characters : List ℕ) → fits ≡ false → PassesQuoted quote room a fits characters b
+      → PassesPiece quote a (Some (token.Bad letters.Constant)) b
+  constant_wrong {a} {b} true characters e h = cc
+  constant_wrong {a} {b} false characters e h = wrong_piece h.run (quoted quote room h.run) h.passes refl h.ends

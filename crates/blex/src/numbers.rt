@@ -1,17 +1,19 @@
 //! Numbers.
-ghost use Rattle.std.specs.Prelude.{◌≡◌, IfOk, OnErr, true, Some};
+ghost use Rattle.std.specs.Prelude.{◌≡◌, IfOk, OnErr, true};
 ghost use Rattle.blex.specs.Pieces.{is_digit, base_of, number_when};
 ghost use Rattle.blex.specs.Sources.{Breaks};
-ghost use Rattle.blex.specs.Lexing.{PassesPiece, TakesIf};
+ghost use Rattle.blex.specs.Lexing.{PassesLexeme, TakesIf};
+ghost use Rattle.blex.specs.Lexemes.{StandsFor};
 
+use crate::lexeme::Lexeme;
 use crate::source::Source;
-use crate::token::{Letters, Token};
+use crate::token::Letters;
 use bword::{ByteIn, Device};
 
 /// The rest of the number that begins with this digit.
-pub(crate) fn number<I: ByteIn>(source: &mut Source<I>, first: u8) -> Result<Token, Device>
+pub(crate) fn number<I: ByteIn>(source: &mut Source<I>, first: u8) -> Result<Lexeme, Device>
     requires { is_digit first ≡ true }
-    ensures ok { IfOk result (λ token. PassesPiece first source.old (Some token) source.new) }
+    ensures ok { IfOk result (λ lexeme. PassesLexeme first source.old lexeme source.new) }
     ensures err { OnErr result (Breaks source.old source.new) }
 {
     let base = base_of(first);
@@ -48,12 +50,12 @@ fn base_of(first: u8) -> u32
 }
 
 // The number of this value, unless its digits or its value are too great.
-fn number_when(is_of_base: bool, value: u32) -> Token
-    ensures { result ≡ number_when is_of_base value }
+fn number_when(is_of_base: bool, value: u32) -> Lexeme
+    ensures { StandsFor result (number_when is_of_base value) }
 {
     if is_of_base && value <= 65535 {
-        Token::Number(value as u16)
+        Lexeme::Number(value as u16)
     } else {
-        Token::Bad(Letters::Constant)
+        Lexeme::Bad(Letters::Constant)
     }
 }

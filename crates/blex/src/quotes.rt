@@ -1,69 +1,78 @@
 //! Constants in quotes.
-ghost use Rattle.std.specs.Prelude.{◌≡◌, IfOk, OnErr, Some};
+ghost use Rattle.std.specs.Prelude.{◌≡◌, [], IfOk, OnErr, Some};
 ghost use Rattle.blex.specs.Pieces.{plain_of, escape_of, character_token};
 ghost use Rattle.blex.specs.Sources.{Breaks};
-ghost use Rattle.blex.specs.Lexing.{PassesPiece, PassesCharacter, PassesQuoted};
+ghost use Rattle.blex.specs.Lexemes.{StandsFor, token_of_lexeme};
+ghost use Rattle.blex.specs.Lexing.{PassesPiece, PassesLexeme, PassesCharacter, PassesQuoted};
 
+use crate::lexeme::Lexeme;
 use crate::source::Source;
-use crate::token::{Letters, STRING_LEN, Token};
+use crate::token::{Letters, STRING_LEN};
 use arrayvec::ArrayVec;
 use bword::{ByteIn, Device};
 
 /// The rest of the character constant whose opening quote was read.
-pub(crate) fn character_constant<I: ByteIn>(source: &mut Source<I>) -> Result<Token, Device>
-    ensures ok { IfOk result (λ token. PassesPiece 39 source.old (Some token) source.new) }
+pub(crate) fn character_constant<I: ByteIn>(source: &mut Source<I>) -> Result<Lexeme, Device>
+    ensures ok { IfOk result (λ lexeme. PassesLexeme 39 source.old lexeme source.new) }
     ensures err { OnErr result (Breaks source.old source.new) }
 {
-    let Some(characters) = quoted::<I, 2>(source, b'\'')? else {
-        return Ok(Token::Bad(Letters::Constant));
-    };
+    let mut characters = ArrayVec::<u8, 2>::new();
+    if !quoted(source, b'\'', &mut characters)? {
+        return Ok(Lexeme::Bad(Letters::Constant));
+    }
     Ok(character_token(&characters))
 }
 
-/// The rest of the string whose opening quote was read.
-pub(crate) fn string<I: ByteIn>(source: &mut Source<I>) -> Result<Token, Device>
-    ensures ok { IfOk result (λ token. PassesPiece 34 source.old (Some token) source.new) }
+/// The rest of the string whose opening quote was read, and its characters.
+pub(crate) fn string<I: ByteIn>(
+    source: &mut Source<I>,
+    characters: &mut ArrayVec<u8, STRING_LEN>,
+) -> Result<Lexeme, Device>
+    ensures ok { IfOk result (λ lexeme. PassesPiece 34 source.old
+        (Some (token_of_lexeme lexeme characters.new.items)) source.new) }
     ensures err { OnErr result (Breaks source.old source.new) }
 {
-    let Some(characters) = quoted::<I, STRING_LEN>(source, b'"')? else {
-        return Ok(Token::Bad(Letters::Constant));
-    };
-    Ok(Token::String(characters))
+    characters.clear();
+    if !quoted(source, b'"', characters)? {
+        return Ok(Lexeme::Bad(Letters::Constant));
+    }
+    Ok(Lexeme::String)
 }
 
 // The one or two characters of a constant, of which the first is the high byte.
-fn character_token(characters: &[u8]) -> Token
-    ensures { result ≡ character_token characters.now }
+fn character_token(characters: &[u8]) -> Lexeme
+    ensures { StandsFor result (character_token characters.now) }
 {
     match characters {
-        [low] => Token::Character(u16::from(*low)),
-        [high, low] => Token::Character(u16::from(*high) * 256 + u16::from(*low)),
-        _ => Token::Bad(Letters::Constant),
+        [low] => Lexeme::Character(u16::from(*low)),
+        [high, low] => Lexeme::Character(u16::from(*high) * 256 + u16::from(*low)),
+        _ => Lexeme::Bad(Letters::Constant),
     }
 }
 
-// The characters up to the closing quote, unless something before it doesn't fit.
+// Appends the characters up to the closing quote, and says whether all before it fits.
 fn quoted<I: ByteIn, const ROOM: usize>(
     source: &mut Source<I>,
     quote: u8,
-) -> Result<Option<ArrayVec<u8, ROOM>>, Device>
-    ensures ok { IfOk result (λ characters. PassesQuoted quote ROOM source.old characters source.new) }
+    characters: &mut ArrayVec<u8, ROOM>,
+) -> Result<bool, Device>
+    requires { characters.old.items ≡ [] }
+    ensures ok { IfOk result (λ fits. PassesQuoted quote ROOM source.old fits characters.new.items source.new) }
     ensures err { OnErr result (Breaks source.old source.new) }
 {
-    let mut characters = ArrayVec::<u8, ROOM>::new();
     while let Some(byte) = source.next()? {
         if byte == quote {
-            return Ok(Some(characters));
+            return Ok(true);
         }
         if characters.is_full() {
-            return Ok(None);
+            return Ok(false);
         }
         let Some(character) = character(source, byte)? else {
-            return Ok(None);
+            return Ok(false);
         };
         characters.push(character);
     }
-    Ok(None)
+    Ok(false)
 }
 
 // The rest of the character that begins with this byte, which is not the quote.

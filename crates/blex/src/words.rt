@@ -3,17 +3,19 @@ ghost use Rattle.std.specs.Prelude.{◌≡◌, IfOk, OnErr, IsTrue, true, Some, 
 ghost use Rattle.bword.specs.Names.{is_name, is_name_start, is_name_byte};
 ghost use Rattle.blex.specs.Pieces.{word_of, keyword_of, is_text};
 ghost use Rattle.blex.specs.Sources.{Breaks};
-ghost use Rattle.blex.specs.Lexing.{PassesPiece, TakesIf};
+ghost use Rattle.blex.specs.Lexing.{PassesLexeme, TakesIf};
+ghost use Rattle.blex.specs.Lexemes.{StandsFor};
 
+use crate::lexeme::Lexeme;
 use crate::source::Source;
-use crate::token::{Keyword, Letters, Token};
+use crate::token::{Keyword, Letters};
 use arrayvec::ArrayVec;
 use bword::{ByteIn, Device, NAME_LEN, Name, is_name_byte};
 
 /// The rest of the word that begins with this byte.
-pub(crate) fn word<I: ByteIn>(source: &mut Source<I>, first: u8) -> Result<Token, Device>
+pub(crate) fn word<I: ByteIn>(source: &mut Source<I>, first: u8) -> Result<Lexeme, Device>
     requires { is_name_start first ≡ true }
-    ensures ok { IfOk result (λ token. PassesPiece first source.old (Some token) source.new) }
+    ensures ok { IfOk result (λ lexeme. PassesLexeme first source.old lexeme source.new) }
     ensures err { OnErr result (Breaks source.old source.new) }
 {
     let mut text = ArrayVec::<u8, NAME_LEN>::new();
@@ -27,7 +29,7 @@ pub(crate) fn word<I: ByteIn>(source: &mut Source<I>, first: u8) -> Result<Token
         }
     }
     if is_long {
-        return Ok(Token::Bad(Letters::LongName));
+        return Ok(Lexeme::Bad(Letters::LongName));
     }
     Ok(keyword_or_name(&text))
 }
@@ -49,13 +51,13 @@ fn name_byte<I: ByteIn>(source: &mut Source<I>) -> Result<Option<u8>, Device>
 
 // The keyword or the name that this is.
 #[tactic(auto, unfolding(crate::specs::Pieces::word_of))]
-fn keyword_or_name(text: &[u8]) -> Token
+fn keyword_or_name(text: &[u8]) -> Lexeme
     requires { IsTrue (is_name text.now) }
-    ensures { result ≡ word_of text.now }
+    ensures { StandsFor result (word_of text.now) }
 {
     match keyword(text) {
-        Some(keyword) => Token::Keyword(keyword),
-        None => Token::Name(Name::from_bytes(text).unwrap()),
+        Some(keyword) => Lexeme::Keyword(keyword),
+        None => Lexeme::Name(Name::from_bytes(text).unwrap()),
     }
 }
 

@@ -4,4 +4,4 @@ use Rattle.blex.proofs.operators.fixed_of_one.Goals as goal
 
 pub returns-in-None : goal.returns-in-None
 unfolding fixed_of
-returns-in-None c = rw (← c.in-None.ensures, assignment_of-one c.args.byte) c.other_of_one.ensures
+returns-in-None c = λ characters. rw (← c.in-None.ensures, assignment_of-one c.args.byte) (c.other_of_one.ensures characters)

@@ -5,7 +5,7 @@ use Rattle.blex.proofs.QuoteSteps.{quoted_start, quoted_closes, quoted_full, quo
 use Rattle.blex.proofs.quotes.quoted.Goals as goal
 
 pub loop-byte-init : goal.loop-byte-init
-loop-byte-init g c = quoted_start _ _ _ _ (search rules)
+loop-byte-init g c = quoted_start _ _ _ _ c.requires
 
 pub returns-in_err-byte-clause-err : goal.returns-in_err-byte-clause-err
 returns-in_err-byte-clause-err g c = on_err _ (Breaks-after c.loop-byte.invariant.passes c.in_err-byte.ensures.err)
