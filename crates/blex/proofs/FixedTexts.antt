@@ -24,9 +24,21 @@ find-none p (x ∷ xs) h = rw (h x) (find-none p xs h)
 
 operator_short : (o : BinOp) → length (operator_text o) ≤ 2
 operator_short o = elim o as (λ o. length (operator_text o) ≤ 2) [
-  | op.Or ↦ omega arith | op.And ↦ omega arith | op.Eq ↦ omega arith | op.Ne ↦ omega arith | op.Lt ↦ omega arith
-  | op.Le ↦ omega arith | op.Gt ↦ omega arith | op.Ge ↦ omega arith | op.Shl ↦ omega arith | op.Shr ↦ omega arith
-  | op.Sub ↦ omega arith | op.Add ↦ omega arith | op.Rem ↦ omega arith | op.Mul ↦ omega arith | op.Div ↦ omega arith
+  | op.Or ↦ omega arith
+  | op.And ↦ omega arith
+  | op.Eq ↦ omega arith
+  | op.Ne ↦ omega arith
+  | op.Lt ↦ omega arith
+  | op.Le ↦ omega arith
+  | op.Gt ↦ omega arith
+  | op.Ge ↦ omega arith
+  | op.Shl ↦ omega arith
+  | op.Shr ↦ omega arith
+  | op.Sub ↦ omega arith
+  | op.Add ↦ omega arith
+  | op.Rem ↦ omega arith
+  | op.Mul ↦ omega arith
+  | op.Div ↦ omega arith
 ]
 
 pub operator_of-long : (text : List ℕ) → 2 < length text → operator_of text ≡ None
