@@ -1,5 +1,5 @@
 -- What the loop over a comment keeps, and what a slash gives.
-use Rattle.std.proofs.Common.{◌≡◌, ℕ, ◌+◌, ◌-◌, ◌*◌, ◌<◌, ◌≤◌, min, Bool, true, false, ◌&&◌, ◌==◌, ◌≢◌, List, [], ◌∷◌, ◌++◌, length, take, fold, Option, Some, None, Result, Ok, Err, OnErr, refl, sym, ap, ◌∙◌, arith, append_assoc, append-nil, length-append, if◌then◌else◌, ◌⊎◌, inl, inr}
+use Rattle.std.proofs.Common.{◌≡◌, ℕ, Bool, true, false, ◌&&◌, ◌==◌, ◌≢◌, List, [], ◌∷◌, ◌++◌, take, Option, Some, None, Result, Ok, Err, refl, sym, ap, ◌∙◌, arith, append_assoc, append-nil, if◌then◌else◌, ◌⊎◌, inl, inr}
 use Rattle.std.proofs.lemmas.Bool.Decides.{nat_tests}
 use Rattle.std.specs.Prelude.{option_to_list, is_some}
 use Rattle.blex.specs.declared.token.Token.{Token}
@@ -11,7 +11,7 @@ use Rattle.bword.specs.declared.byte_in.Device.{Device}
 use Rattle.blex.specs.declared.lexeme.Lexeme.{Lexeme}
 use Rattle.blex.specs.Lexemes.{token_of_lexeme}
 use Rattle.blex.specs.Pieces.{is_blank, is_digit, after_close}
-use Rattle.blex.specs.Sources.{Source, Passes, Breaks, Ends, CanCome}
+use Rattle.blex.specs.Sources.{Source, Passes, Breaks, Ends}
 use Rattle.blex.specs.Lexing.{PassesPiece, PassesComment, TakesIf, Stops, BeginsFixed}
 use Rattle.bword.specs.Names.{is_name_start}
 use Rattle.blex.proofs.Passing.{Passes-refl, Passes-append, Breaks-after, CanCome-none}

@@ -1,5 +1,5 @@
 -- What the loop over a number keeps, and what it gives.
-use Rattle.std.proofs.Common.{◌≡◌, ℕ, ◌+◌, ◌-◌, ◌*◌, ◌<◌, ◌≤◌, min, Bool, true, false, ◌&&◌, ◌==◌, ◌≢◌, List, [], ◌∷◌, ◌++◌, length, take, fold, Option, Some, None, Result, Ok, Err, OnErr, refl, sym, ap, ◌∙◌, arith, append_assoc, append-nil, length-append, if◌then◌else◌, ◌⊎◌, inl, inr}
+use Rattle.std.proofs.Common.{◌≡◌, ℕ, ◌+◌, ◌-◌, ◌*◌, ◌<◌, ◌≤◌, min, Bool, true, false, ◌&&◌, ◌==◌, List, [], ◌∷◌, ◌++◌, Option, Some, None, refl, sym, ap, ◌∙◌, arith, if◌then◌else◌, ◌⊎◌, inl, inr}
 use Rattle.std.proofs.lemmas.Bool.Decides.{nat_tests}
 use Rattle.std.specs.Prelude.{nat_lt, nat_le}
 use Rattle.std.specs.List.{list_all}
@@ -9,7 +9,7 @@ use Rattle.std.proofs.lemmas.List.Sums.{fold-append}
 use Rattle.std.proofs.Math.Bool.{and-true}
 use Rattle.std.proofs.Math.Nat.{zero-mul, mul-le-mul_left, mul-le-mul_right}
 use Rattle.blex.specs.declared.token.Token.{Token}
-use Rattle.blex.specs.Pieces.{Word, is_digit, is_digit_of, value_of, base_of, number_of, number_in, number_when}
+use Rattle.blex.specs.Pieces.{Word, is_digit, is_digit_of, value_of, base_of, number_in, number_when}
 use Rattle.blex.specs.Sources.{Source, Passes}
 use Rattle.blex.specs.Lexing.{PassesPiece, TakesIf}
 use Rattle.blex.proofs.Passing.{Passes-refl, Passes-append}

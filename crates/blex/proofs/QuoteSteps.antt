@@ -1,16 +1,16 @@
 -- What the loop over a constant in quotes keeps, and what it gives.
-use Rattle.std.proofs.Common.{◌≡◌, ℕ, ◌<◌, Bool, true, false, ◌==◌, ◌≢◌, List, [], ◌∷◌, ◌++◌, length, fold, Option, Some, None, refl, sym, ap, ◌∙◌, arith, if◌then◌else◌}
+use Rattle.std.proofs.Common.{◌≡◌, ℕ, ◌<◌, Bool, true, false, ◌==◌, ◌≢◌, List, [], ◌∷◌, ◌++◌, length, fold, Option, Some, None, refl, sym, ap, ◌∙◌, arith}
 use Rattle.std.proofs.lemmas.Bool.Decides.{nat_tests}
 use Rattle.std.specs.Prelude.{option_to_list}
 use Rattle.blex.specs.declared.token.Token.{Token}
 use Rattle.blex.specs.declared.token.Token.TheVariants as token
 use Rattle.blex.specs.declared.token.Letters.TheVariants as letters
-use Rattle.blex.specs.Pieces.{Piece, Word, whole, Quoted, Open, Starred, Closed, Wrong, Past, quoted, with_byte, with_character, plain_of, escape_of, constant_of, character_token, string_token}
-use Rattle.blex.specs.Sources.{Source, Passes, Ends, CanCome}
-use Rattle.blex.specs.Lexing.{PassesPiece, PassesCharacter, PassesQuoted, ReadsCharacter, EndsQuoted, IsCutOff, Stops}
+use Rattle.blex.specs.Pieces.{whole, Quoted, Open, Starred, Closed, Wrong, Past, quoted, with_byte, with_character, plain_of, escape_of, constant_of}
+use Rattle.blex.specs.Sources.{Source, Passes, Ends}
+use Rattle.blex.specs.Lexing.{PassesPiece, PassesCharacter, PassesQuoted, ReadsCharacter, IsCutOff, Stops}
 use Rattle.blex.proofs.Passing.{Passes-refl, Passes-append}
 use Rattle.blex.proofs.ByteSteps.{Passes-then, byte_passed, none_passed}
-use Rattle.blex.proofs.EachPiece.{whole-character, whole-string, quoted-append, quoted-stops}
+use Rattle.blex.proofs.EachPiece.{quoted-append, quoted-stops}
 
 not_equal : (a b : ℕ) → a ≢ b → (a == b) ≡ false
 not_equal a b e = grind (arith, nat_tests)

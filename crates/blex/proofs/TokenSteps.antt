@@ -1,14 +1,14 @@
 -- Space, and then a token.
-use Rattle.std.proofs.Common.{◌≡◌, ℕ, ◌+◌, ◌<◌, Bool, true, false, List, [], ◌∷◌, ◌++◌, length, Option, Some, None, refl, sym, ap, ◌∙◌, arith, append_assoc, append-nil, length-append}
+use Rattle.std.proofs.Common.{◌≡◌, ℕ, ◌<◌, true, false, List, [], ◌∷◌, ◌++◌, length, Option, Some, None, refl, sym, ap, ◌∙◌, arith, append_assoc, append-nil, length-append}
 use Rattle.std.specs.Prelude.{option_to_list}
 use Rattle.blex.specs.declared.token.Token.{Token}
 use Rattle.blex.specs.declared.token.Token.TheVariants as token
 use Rattle.blex.specs.declared.token.Placed.{Placed}
-use Rattle.blex.specs.Pieces.{Piece, Space, Word, whole}
-use Rattle.blex.specs.Sources.{Source, Passes, Breaks, Ends, CanCome, room}
-use Rattle.blex.specs.Tokens.{is_last, line_after, placed, token_first, piece_first, tokens_from}
+use Rattle.blex.specs.Pieces.{Word, whole}
+use Rattle.blex.specs.Sources.{Source, Passes, Breaks, Ends, room}
+use Rattle.blex.specs.Tokens.{is_last, placed, piece_first, tokens_from}
 use Rattle.blex.specs.Lexing.{PassesPiece, PassesToken, piece_of, ComesBehind}
-use Rattle.blex.proofs.Passing.{Passes-refl, Passes-append, Breaks-after, CanCome-behind, CanCome-none}
+use Rattle.blex.proofs.Passing.{Passes-refl, Passes-append, Breaks-after}
 use Rattle.blex.proofs.ByteSteps.{Passes-then, room-falls, none_passed}
 use Rattle.blex.proofs.Cutting.{tokens_from-piece, tokens_from-nil, whole-nil}
 
