@@ -1,9 +1,11 @@
 //! What calls of the compiler answer.
 ghost use Rattle.std.specs.Prelude.{◌≡◌};
-ghost use Rattle.b.specs.declared.step.Stop.TheVariants.{Device};
+ghost use Rattle.b.specs.declared.step.Stop.TheVariants.{Device, Memory};
+ghost use Rattle.b.specs.Stops.{stop_of};
 
 use blex::Diagnostic;
-use bword::Device;
+use bword::{Device, EndFault};
+use std::alloc::AllocError;
 
 /// What became of the next definition.
 #[derive(Clone, Copy, Debug, PartialEq, Eq)]
@@ -35,5 +37,24 @@ impl From<Device> for Stop {
 
     fn from(_: Device) -> Self {
         Stop::Device
+    }
+}
+
+impl From<AllocError> for Stop {
+    ghost from_gives = { λ _ stop. stop ≡ Memory };
+
+    fn from(_: AllocError) -> Self {
+        Stop::Memory
+    }
+}
+
+impl From<EndFault> for Stop {
+    ghost from_gives = { λ fault stop. stop ≡ stop_of fault };
+
+    fn from(fault: EndFault) -> Self {
+        match fault {
+            EndFault::Device => Stop::Device,
+            EndFault::Memory => Stop::Memory,
+        }
     }
 }

@@ -14,15 +14,15 @@ use Rattle.btree.specs.Definition.{Definition, spell, IsFormed, is_open, word}
 use Rattle.btree.specs.Reading.{Read, Got, Stop, first, definition}
 use Rattle.btree.specs.Program.{spell_all, AllFormed, IsProgram, Begins, IsViable, StopsAt, IsPart, Parts, Parted, fault_at}
 use Rattle.btree.proofs.DefinitionLaws.{AllKept, is_else, GoOn, ReadsOn, goes, halts, definition_on, read_spelled, spelled_again, open_longer, relined, spelled_name, spelled_go_on}
-use Rattle.btree.proofs.KeptLemmas.{bare-kept, map_bare-kept, map_bare-mark, kept-kept, kept-mark, AllKept-kept, AllKept-append, no_more, Split, split_map, Order, together, sooner, later, order}
-use Rattle.btree.proofs.Parting.{kept-append, got_on, Halts, halts_begins, not_nothing, takes_some, first_there, parted_end, parted_stop}
+use Rattle.btree.proofs.KeptLemmas.{bare-kept, map_bare-kept, map_bare-mark, kept-kept, kept-mark, AllKept-kept, AllKept-append, kept-append, no_more, Split, split_map, Order, together, sooner, later, order}
+use Rattle.btree.proofs.Parting.{got_on, Halts, halts_begins, not_nothing, takes_some, first_there, parted_end, parted_stop}
 use Rattle.btree.specs.Compiled.{Names, Outcome, outcome_of, outcome_with, fault_of, text_of, Goes}
 use Rattle.btree.proofs.Outcomes.{parted_behind, parted_once, Ended, ended_behind, go_on_kept, begun_goes_on}
 use Rattle.btree.proofs.ProgramLaws.{bare-append, all_relined, program_first, read_first, program_goes_on, begins_goes_on, viable_cases, viable_end, viable_next, one_before, begins_before, stops_begins, stops_there, GoOn-append, reads_first}
 
 
 -- The tokens of a source end.
-ended_cons : (t : Placed) (ts : List Placed) → Ended ts → Ended (t ∷ ts)
+pub ended_cons : (t : Placed) (ts : List Placed) → Ended ts → Ended (t ∷ ts)
 ended_cons t [] e = absurd e
 ended_cons t (u ∷ ts) e = e
 

@@ -1,5 +1,6 @@
 -- Tokens with what trees keep of them, and lists that are split.
 use Rattle.std.proofs.Common.{◌≡◌, ℕ, ◌<◌, Bool, true, false, List, [], ◌∷◌, ◌++◌, map, sym, ap, ◌∙◌, refl, if◌then◌else◌}
+use Rattle.std.proofs.lemmas.List.{map-append}
 use Rattle.blex.specs.declared.token.Token.{Token}
 use Rattle.blex.specs.declared.token.Placed.{Placed}
 use Rattle.btree.specs.Lines.{mark, kept, bare, keeps_line}
@@ -30,6 +31,9 @@ mark_if false t = refl
 
 pub kept-mark : (t : Token) → kept (mark t) ≡ mark t
 kept-mark t = mark_if (keeps_line t) t
+
+pub kept-append : (us vs : List Placed) → map kept (us ++ vs) ≡ map kept us ++ map kept vs
+kept-append us vs = map-append kept us vs
 
 pub AllKept-kept : (ts : List Placed) → AllKept (map kept ts)
 AllKept-kept [] = tt

@@ -13,11 +13,8 @@ use Rattle.btree.specs.Definition.{Definition, spell, IsFormed, is_open, word}
 use Rattle.btree.specs.Reading.{Read, Got, Stop, first, definition}
 use Rattle.btree.specs.Program.{spell_all, AllFormed, IsProgram, Begins, IsViable, StopsAt, IsPart, Parts, Parted, fault_at}
 use Rattle.btree.proofs.DefinitionLaws.{AllKept, is_else, GoOn, ReadsOn, goes, halts, definition_on, read_spelled, spelled_again, open_longer, relined, spelled_name, spelled_go_on}
-use Rattle.btree.proofs.KeptLemmas.{bare-kept, map_bare-kept, map_bare-mark, kept-kept, kept-mark, AllKept-kept, AllKept-append, no_more, Split, split_map, Order, together, sooner, later, order}
+use Rattle.btree.proofs.KeptLemmas.{bare-kept, map_bare-kept, map_bare-mark, kept-kept, kept-mark, AllKept-kept, AllKept-append, kept-append, no_more, Split, split_map, Order, together, sooner, later, order}
 use Rattle.btree.proofs.ProgramLaws.{bare-append, all_relined, program_first, read_first, program_goes_on, begins_goes_on, viable_cases, viable_end, viable_next, one_before, begins_before, stops_begins, stops_there, GoOn-append, reads_first}
-
-pub kept-append : (us vs : List Placed) → map kept (us ++ vs) ≡ map kept us ++ map kept vs
-kept-append us vs = map-append kept us vs
 
 -- What reading does where the next token is the same.
 pub got_on : (us r : List Placed) (d : Definition) → definition (us ++ r) ≡ Got d r → (new : List Placed) → first new ≡ first r → definition (us ++ new) ≡ Got d new
