@@ -1,0 +1,136 @@
+-- What the loop over a comment keeps, and what a slash gives.
+use Rattle.std.proofs.Common.{◌≡◌, ℕ, Bool, true, false, ◌&&◌, ◌==◌, ◌≢◌, List, [], ◌∷◌, ◌++◌, take, Option, Some, None, Result, Ok, Err, refl, sym, ap, ◌∙◌, arith, append_assoc, append-nil, if◌then◌else◌, ◌⊎◌, inl, inr}
+use Rattle.std.proofs.lemmas.Bool.Decides.{nat_tests}
+use Rattle.std.specs.Prelude.{option_to_list, is_some}
+use Rattle.blex.specs.declared.token.Token.{Token}
+use Rattle.blex.specs.declared.token.Token.TheVariants as token
+use Rattle.blex.specs.declared.token.Letters.TheVariants as letters
+use Rattle.std.specs.Prelude.{IfOk}
+use Rattle.std.specs.Option.{option_map}
+use Rattle.bword.specs.declared.byte_in.Device.{Device}
+use Rattle.blex.specs.declared.lexeme.Lexeme.{Lexeme}
+use Rattle.blex.specs.Lexemes.{token_of_lexeme}
+use Rattle.blex.specs.Pieces.{is_blank, is_digit, after_close}
+use Rattle.blex.specs.Sources.{Source, Passes, Breaks, Ends}
+use Rattle.blex.specs.Lexing.{PassesPiece, PassesComment, TakesIf, Stops, BeginsFixed}
+use Rattle.bword.specs.Names.{is_name_start}
+use Rattle.blex.proofs.Passing.{Passes-refl, Passes-append, Breaks-after, CanCome-none}
+use Rattle.blex.proofs.ByteSteps.{Passes-then}
+use Rattle.blex.proofs.EachPiece.{whole-blank, blank-stops, comment-is, comment-stops, open_comment-is, whole-fixed, whole-slash}
+
+-- what a comment's body does to its rest: a star may begin its end
+abbrev pub behind_star : Bool → List ℕ → List ℕ
+behind_star b more = if b then 42 ∷ more else more
+
+-- a comment so far
+pub record InComment (old : Source) (after_star : Bool) (new : Source) : Type 0 where
+  pub body : List ℕ
+  pub passes : Passes old body new
+  pub rest : (more : List ℕ) → after_close (body ++ more) ≡ after_close (behind_star after_star more)
+
+-- one blank
+pub piece_blank : (b : ℕ) (s : Source) → is_blank b ≡ true → PassesPiece b s None s
+piece_blank b s e = record { rest = []; passes = Passes-refl s; is = whole-blank b [] e; stops = λ xs k. blank-stops b xs e }
+
+-- what begins no other kind of piece
+pub fixed_begins : (b : ℕ) (s : Source) → is_blank b ≡ false → is_name_start b ≡ false → is_digit b ≡ false → b ≢ 39 → b ≢ 34 → b ≢ 47 → BeginsFixed b s
+fixed_begins b s e f g h i j = record { whole_is = λ xs m n. whole-fixed b (take n xs) e f g h i j }
+
+pub slash_begins : (a b : Source) (o : Option ℕ) → is_some o ≡ false → TakesIf (λ b. b == 42) a o b → BeginsFixed 47 b
+slash_begins a b (Some x) e h = cc
+slash_begins a b None e h = record { whole_is = λ xs m n. whole-slash n xs (h.1 xs m) }
+
+pub no_star : (a b : Source) (o : Option ℕ) → is_some o ≡ false → TakesIf (λ b. b == 42) a o b → Passes a [] b
+no_star a b (Some x) e h = cc
+no_star a b None e h = h.0
+
+-- a piece behind a look at no byte
+pub piece_behind : {a b c : Source} {first : ℕ} {piece : Option Token} → Passes a [] b → PassesPiece first b piece c → PassesPiece first a piece c
+piece_behind {a} {b} {c} {first} {piece} h k = record { rest = k.rest; passes = Passes-append h k.passes; is = k.is; stops = k.stops }
+
+equal : (b : ℕ) → (b == 42) ≡ true → b ≡ 42
+equal b h = grind (arith, nat_tests)
+
+star_passed : (a b : Source) (o : Option ℕ) → is_some o ≡ true → TakesIf (λ b. b == 42) a o b → Passes a (42 ∷ []) b
+star_passed a b None e h = cc
+star_passed a b (Some x) e h = let star : x ≡ 42 = equal x h.1 in rw star at h.0
+
+pub star_breaks : (a b c : Source) (o : Option ℕ) → is_some o ≡ true → TakesIf (λ b. b == 42) a o b → Breaks b c → Breaks a c
+star_breaks a b c o e h k = Breaks-after (star_passed a b o e h) k
+
+pub piece_comment : (a b c : Source) (o : Option ℕ) (ended : Bool) → is_some o ≡ true → TakesIf (λ b. b == 42) a o b → PassesComment b ended c → ended ≡ true → PassesPiece 47 a None c
+piece_comment a b c o ended e h k t =
+    record { rest = 42 ∷ k.body; passes = Passes-append (star_passed a b o e h) k.passes; is = comment-is k.body (k.ends t); stops = λ xs m. comment-stops k.body xs (k.ends t) }
+
+stops-nil : (text xs : List ℕ) → xs ≡ [] → Stops text xs
+stops-nil text [] e = tt
+stops-nil text (x ∷ xs) e = cc
+
+pub piece_open : (a b c : Source) (o : Option ℕ) (ended : Bool) → is_some o ≡ true → TakesIf (λ b. b == 42) a o b → PassesComment b ended c → ended ≡ false → PassesPiece 47 a (Some (token.Bad letters.OpenComment)) c
+piece_open a b c o ended e h k t =
+    let endless = k.endless t in
+    record { rest = 42 ∷ k.body; passes = Passes-append (star_passed a b o e h) k.passes; is = open_comment-is k.body endless.0; stops = λ xs m. stops-nil (47 ∷ 42 ∷ k.body) xs (endless.1 xs m) }
+
+-- a comment's body
+nothing : (s : Bool) → None ≡ after_close (behind_star s [])
+nothing true = refl
+nothing false = refl
+
+plain_cases : (s : Bool) (b c : ℕ) (cs : List ℕ) → (b == 42) ≡ s → (if (b == 42) && (c == 47) then Some cs else after_close (c ∷ cs)) ≡ after_close (behind_star s (c ∷ cs))
+plain_cases true b c cs e = rw e refl
+plain_cases false b c cs e = rw e refl
+
+plain_step : (b : ℕ) (more : List ℕ) → after_close (b ∷ more) ≡ after_close (behind_star (b == 42) more)
+plain_step b [] = nothing (b == 42)
+plain_step b (c ∷ cs) = plain_cases (b == 42) b c cs refl
+
+not_slash : (b : ℕ) → (b ≡ 47 → ⊥) → (b == 47) ≡ false
+not_slash b h = grind (arith, nat_tests)
+
+comment_step : (s : Bool) (b : ℕ) (more : List ℕ) → (s ≡ true → b ≡ 47 → ⊥) → after_close (behind_star s (b ∷ more)) ≡ after_close (behind_star (b == 42) more)
+comment_step true b more h = rw (not_slash b (h refl)) (plain_step b more)
+comment_step false b more h = plain_step b more
+
+pub comment_none : (s : Source) → InComment s false s
+comment_none s = record { body = []; passes = Passes-refl s; rest = λ more. refl }
+
+pub comment_more : {a b c : Source} {s : Bool} (byte : ℕ) → InComment a s b → Passes b (byte ∷ []) c → (s ≡ true → byte ≡ 47 → ⊥) → InComment a (byte == 42) c
+comment_more {a} {b} {c} {s} byte h k n = record {
+  body = h.body ++ byte ∷ [];
+  passes = Passes-append h.passes k;
+  rest = λ more. rw (append_assoc h.body (byte ∷ []) more) (h.rest (byte ∷ more) ∙ comment_step s byte more n);
+}
+
+differ : true ≡ false → ⊥
+differ e = cc
+
+slash_ends : (byte : ℕ) → byte ≡ 47 → after_close (42 ∷ byte ∷ []) ≡ Some []
+slash_ends byte e = rw e refl
+
+pub comment_ends : {a b c : Source} (byte : ℕ) → InComment a true b → Passes b (byte ∷ []) c → byte ≡ 47 → PassesComment a true c
+comment_ends {a} {b} {c} byte h k e = record {
+  body = h.body ++ byte ∷ [];
+  passes = Passes-append h.passes k;
+  ends = λ _. h.rest (byte ∷ []) ∙ slash_ends byte e;
+  endless = λ f. absurd (differ f);
+}
+
+pub not_both : (s : Bool) (byte : ℕ) → ((s ≡ true) × (byte ≢ 47)) ⊎ (s ≡ false) → s ≡ true → byte ≡ 47 → ⊥
+not_both s byte (inl h) e f = h.1 f
+not_both s byte (inr h) e f = cc
+
+pub comment_endless : {a b c : Source} {s : Bool} (o : Option ℕ) → o ≡ None → InComment a s b → Passes b (option_to_list o) c × Ends o c → PassesComment a false c
+comment_endless {a} {b} {c} {s} (Some x) n h k = cc
+comment_endless {a} {b} {c} {s} None n h k = record {
+  body = h.body;
+  passes = Passes-then h.passes k.0;
+  ends = λ f. absurd (differ (sym f));
+  endless = λ _. (sym (ap after_close (append-nil h.body)) ∙ h.rest [] ∙ sym (nothing s), λ xs m. CanCome-none c xs k.1 m);
+}
+
+-- what a slash gives, for one list of characters
+pub slash_found : (a b : Source) (first : ℕ) (r : Result (Option Lexeme) Device) (xs : List ℕ) → first ≡ 47
+    → IfOk r (λ found. (characters : List ℕ) → PassesPiece 47 a (option_map (λ l. token_of_lexeme l characters) found) b)
+    → IfOk r (λ found. PassesPiece first a (option_map (λ l. token_of_lexeme l xs) found) b)
+slash_found a b first (Ok found) xs e h = rw e (h xs)
+slash_found a b first (Err fault) xs e h = tt

@@ -1,0 +1,105 @@
+-- Space, and then a token.
+use Rattle.std.proofs.Common.{◌≡◌, ℕ, ◌<◌, true, false, List, [], ◌∷◌, ◌++◌, length, Option, Some, None, refl, sym, ap, ◌∙◌, arith, append_assoc, append-nil, length-append}
+use Rattle.std.specs.Prelude.{option_to_list}
+use Rattle.blex.specs.declared.token.Token.{Token}
+use Rattle.blex.specs.declared.token.Token.TheVariants as token
+use Rattle.blex.specs.declared.token.Placed.{Placed}
+use Rattle.blex.specs.Pieces.{Word, whole}
+use Rattle.blex.specs.Sources.{Source, Passes, Breaks, Ends, room}
+use Rattle.blex.specs.Tokens.{is_last, placed, piece_first, tokens_from}
+use Rattle.blex.specs.Lexing.{PassesPiece, PassesToken, piece_of, ComesBehind}
+use Rattle.blex.proofs.Passing.{Passes-refl, Passes-append, Breaks-after}
+use Rattle.blex.proofs.ByteSteps.{Passes-then, room-falls, none_passed}
+use Rattle.blex.proofs.Cutting.{tokens_from-piece, tokens_from-nil, whole-nil}
+
+-- space so far
+pub record InSpace (old : Source) (line : ℕ) (new : Source) : Type 0 where
+  pub bytes : List ℕ
+  pub passes : Passes old bytes new
+  pub line_is : line ≡ new.line
+  pub cut : (xs : List ℕ) → tokens_from old.line (bytes ++ xs) ≡ tokens_from new.line xs
+
+pub space_none : (s : Source) (line : ℕ) → line ≡ s.line → InSpace s line s
+space_none s line e = record { bytes = []; passes = Passes-refl s; line_is = e; cut = λ xs. refl }
+
+-- space alone is followed by the end
+space_end : {a b : Source} {line : ℕ} (h : InSpace a line b) → tokens_from a.line h.bytes ≡ placed token.End line ∷ []
+space_end {a} {b} {line} h =
+    ap (tokens_from a.line) (sym (append-nil h.bytes)) ∙ h.cut [] ∙ tokens_from-nil b.line ∙ ap (λ l. placed token.End l ∷ []) (sym h.line_is)
+
+pub space_breaks : {a b m c : Source} {line first : ℕ} → InSpace a line b → Passes b (first ∷ []) m → Breaks m c → Breaks a c
+space_breaks {a} {b} {m} {c} {line} {first} h n k = Breaks-after h.passes (Breaks-after n k)
+
+module _ {a b m c : Source} {line : ℕ} (first : ℕ) (piece : Option Token) (h : InSpace a line b) (n : Passes b (first ∷ []) m) (k : PassesPiece first m piece c) where
+  abbrev text : List ℕ
+  text = first ∷ k.rest
+
+  here : Passes b text c
+  here = Passes-append n k.passes
+
+  passed : Passes a (h.bytes ++ text) c
+  passed = Passes-append h.passes here
+
+  -- the tokens from the piece on
+  piece_cut : (xs : List ℕ) → ComesBehind piece c xs → tokens_from a.line ((h.bytes ++ text) ++ xs) ≡ piece_first (Some (piece_of piece)) line (tokens_from c.line xs)
+  piece_cut xs m =
+      let some : 0 < length text = omega arith in
+      ap (tokens_from a.line) (append_assoc h.bytes text xs) ∙ h.cut (text ++ xs)
+      ∙ tokens_from-piece b.line text xs (piece_of piece) some k.is (k.stops xs m)
+      ∙ ap (λ l. piece_first (Some (piece_of piece)) b.line (tokens_from l xs)) (sym here.line)
+      ∙ ap (λ l. piece_first (Some (piece_of piece)) l (tokens_from c.line xs)) (sym h.line_is)
+
+token_here : {a b m c : Source} {line : ℕ} (first : ℕ) (t : Token) → InSpace a line b → Passes b (first ∷ []) m → PassesPiece first m (Some t) c → PassesToken a (placed t line) c
+token_here {a} {b} {m} {c} {line} first t h n k = record {
+  bytes = h.bytes ++ text first (Some t) h n k;
+  passes = passed first (Some t) h n k;
+  space = h.bytes;
+  text = first ∷ k.rest;
+  split = refl;
+  before = space_end h;
+  is = k.is;
+  cut = piece_cut first (Some t) h n k;
+}
+
+pub space_more : {a b m c : Source} {line : ℕ} (first line' : ℕ) (piece : Option Token) → InSpace a line b → Passes b (first ∷ []) m → PassesPiece first m piece c
+    → line' ≡ c.line → piece ≡ None → InSpace a line' c
+space_more {a} {b} {m} {c} {line} first line' (Some t) h n k e f = cc
+space_more {a} {b} {m} {c} {line} first line' None h n k e f = record {
+  bytes = h.bytes ++ text first None h n k;
+  passes = passed first None h n k;
+  line_is = e;
+  cut = λ xs. piece_cut first None h n k xs tt;
+}
+
+pub token_passed : {a b m c : Source} {line : ℕ} (first : ℕ) (piece : Option Token) → InSpace a line b → Passes b (first ∷ []) m → PassesPiece first m piece c
+    → (t : Token) → piece ≡ Some t → PassesToken a (placed t line) c
+token_passed {a} {b} {m} {c} {line} first None h n k t f = cc
+token_passed {a} {b} {m} {c} {line} first (Some u) h n k t f =
+    let same : u ≡ t = cc in
+    rw same at (token_here first u h n k)
+
+pub end_passed : {a b c : Source} {line : ℕ} (o : Option ℕ) → o ≡ None → InSpace a line b → Passes b (option_to_list o) c × Ends o c → PassesToken a (placed token.End line) c
+end_passed {a} {b} {c} {line} o e h k =
+    let none = none_passed o b c e k in
+    record {
+      bytes = h.bytes;
+      passes = Passes-then h.passes none.0;
+      space = h.bytes;
+      text = [];
+      split = sym (append-nil h.bytes);
+      before = space_end h;
+      is = whole-nil;
+      cut = λ xs m. ap (λ l. tokens_from a.line (h.bytes ++ l)) (none.1 xs m) ∙ h.cut [] ∙ tokens_from-nil b.line ∙ ap (λ l. placed token.End l ∷ []) (sym h.line_is);
+    }
+
+pub piece_falls : {b m c : Source} {first : ℕ} {piece : Option Token} → Passes b (first ∷ []) m → PassesPiece first m piece c → room c < room b
+piece_falls {b} {m} {c} {first} {piece} n k = omega (arith, room-falls n, room-falls k.passes)
+
+-- a token that is not the last has a byte
+some_text : (t : Token) (text : List ℕ) → whole text ≡ Some (Word t) → is_last t ≡ false → 0 < length text
+some_text t [] e more = let end : Some (Word token.End) ≡ Some (Word t) = sym whole-nil ∙ e in let same : token.End ≡ t = cc in let last : true ≡ false = rw (← same) at more in cc
+some_text t (b ∷ bs) e more = omega arith
+
+pub token_falls : {a b : Source} {t : Placed} → PassesToken a t b → is_last t.token ≡ false → room b < room a
+token_falls {a} {b} {t} h more =
+    omega (arith, room-falls h.passes, some_text t.token h.text h.is more, ap length h.split, length-append h.space h.text)

@@ -1,0 +1,41 @@
+-- What a lexeme stands for.
+use Rattle.std.specs.Prelude.{◌≡◌, ℕ, List, Option}
+use Rattle.std.specs.Option.{option_map}
+use Rattle.blex.specs.declared.lexeme.Lexeme.{Lexeme}
+use Rattle.blex.specs.declared.lexeme.Lexeme.TheVariants as lexeme
+use Rattle.blex.specs.declared.token.Token.{Token}
+use Rattle.blex.specs.declared.token.Token.TheVariants as token
+use Rattle.blex.specs.Pieces.{string_token}
+
+-- the token of a lexeme, and of the characters where it is a string
+abbrev pub token_of_lexeme : Lexeme → List ℕ → Token
+token_of_lexeme (lexeme.Name name) characters = token.Name name
+token_of_lexeme (lexeme.Keyword keyword) characters = token.Keyword keyword
+token_of_lexeme (lexeme.Number value) characters = token.Number value
+token_of_lexeme (lexeme.Character value) characters = token.Character value
+token_of_lexeme lexeme.String characters = string_token characters
+token_of_lexeme (lexeme.Operator op) characters = token.Operator op
+token_of_lexeme (lexeme.Assign op) characters = token.Assign op
+token_of_lexeme lexeme.Not characters = token.Not
+token_of_lexeme lexeme.Increment characters = token.Increment
+token_of_lexeme lexeme.Decrement characters = token.Decrement
+token_of_lexeme lexeme.Question characters = token.Question
+token_of_lexeme lexeme.Colon characters = token.Colon
+token_of_lexeme lexeme.Comma characters = token.Comma
+token_of_lexeme lexeme.Semicolon characters = token.Semicolon
+token_of_lexeme lexeme.OpenParen characters = token.OpenParen
+token_of_lexeme lexeme.CloseParen characters = token.CloseParen
+token_of_lexeme lexeme.OpenBracket characters = token.OpenBracket
+token_of_lexeme lexeme.CloseBracket characters = token.CloseBracket
+token_of_lexeme lexeme.OpenBrace characters = token.OpenBrace
+token_of_lexeme lexeme.CloseBrace characters = token.CloseBrace
+token_of_lexeme (lexeme.Bad letters) characters = token.Bad letters
+token_of_lexeme lexeme.End characters = token.End
+
+-- the lexeme stands for the token, whatever the characters: it is no string
+abbrev pub StandsFor : Lexeme → Token → Type 0
+StandsFor l t = (characters : List ℕ) → token_of_lexeme l characters ≡ t
+
+-- the same where there may be none
+abbrev pub MayStandFor : Option Lexeme → Option Token → Type 0
+MayStandFor l t = (characters : List ℕ) → option_map (λ x. token_of_lexeme x characters) l ≡ t

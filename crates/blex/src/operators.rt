@@ -1,0 +1,126 @@
+//! Tokens whose text is always the same.
+ghost use Rattle.std.specs.Prelude.{◌≡◌, [], ◌∷◌, IfOk, OnErr};
+ghost use Rattle.blex.specs.Pieces.{operator_of, other_of, fixed_of};
+ghost use Rattle.blex.specs.Sources.{Breaks};
+ghost use Rattle.blex.specs.Lexing.{PassesLexeme, BeginsFixed, fixed_of_two, fixed_of_three};
+ghost use Rattle.blex.specs.Lexemes.{MayStandFor};
+
+use crate::lexeme::Lexeme;
+use crate::source::Source;
+use crate::token::Letters;
+use bword::{BinOp, ByteIn, Device};
+
+/// The rest of the operator or the punctuation that begins with this byte, or none of it where nothing fits.
+pub(crate) fn operator<I: ByteIn>(source: &mut Source<I>, first: u8) -> Result<Lexeme, Device>
+    requires { BeginsFixed first source.old }
+    ensures ok { IfOk result (λ lexeme. PassesLexeme first source.old lexeme source.new) }
+    ensures err { OnErr result (Breaks source.old source.new) }
+{
+    let (second, third) = source.peek_two()?;
+    if let Some(lexeme) = fixed_of_three(first, second, third) {
+        source.skip();
+        source.skip();
+        return Ok(lexeme);
+    }
+    if let Some(lexeme) = fixed_of_two(first, second) {
+        source.skip();
+        return Ok(lexeme);
+    }
+    match fixed_of_one(first) {
+        Some(lexeme) => Ok(lexeme),
+        None => Ok(Lexeme::Bad(Letters::Character)),
+    }
+}
+
+// The binary operator of this one byte.
+#[tactic(auto, unfolding(crate::specs::Pieces::operator_of))]
+fn operator_of_one(byte: u8) -> Option<BinOp>
+    ensures { result ≡ operator_of (byte ∷ []) }
+{
+    match byte {
+        b'|' => Some(BinOp::Or),
+        b'&' => Some(BinOp::And),
+        b'<' => Some(BinOp::Lt),
+        b'>' => Some(BinOp::Gt),
+        b'-' => Some(BinOp::Sub),
+        b'+' => Some(BinOp::Add),
+        b'%' => Some(BinOp::Rem),
+        b'*' => Some(BinOp::Mul),
+        b'/' => Some(BinOp::Div),
+        _ => None,
+    }
+}
+
+// The binary operator of these two bytes.
+#[tactic(auto, unfolding(crate::specs::Pieces::operator_of))]
+fn operator_of_two(first: u8, second: u8) -> Option<BinOp>
+    ensures { result ≡ operator_of (first ∷ second ∷ []) }
+{
+    match (first, second) {
+        (b'=', b'=') => Some(BinOp::Eq),
+        (b'!', b'=') => Some(BinOp::Ne),
+        (b'<', b'=') => Some(BinOp::Le),
+        (b'>', b'=') => Some(BinOp::Ge),
+        (b'<', b'<') => Some(BinOp::Shl),
+        (b'>', b'>') => Some(BinOp::Shr),
+        _ => None,
+    }
+}
+
+#[tactic(auto, unfolding(crate::specs::Pieces::other_of))]
+fn other_of_one(byte: u8) -> Option<Lexeme>
+    ensures { MayStandFor result (other_of (byte ∷ [])) }
+{
+    match byte {
+        b'=' => Some(Lexeme::Assign(None)),
+        b'!' => Some(Lexeme::Not),
+        b'?' => Some(Lexeme::Question),
+        b':' => Some(Lexeme::Colon),
+        b',' => Some(Lexeme::Comma),
+        b';' => Some(Lexeme::Semicolon),
+        b'(' => Some(Lexeme::OpenParen),
+        b')' => Some(Lexeme::CloseParen),
+        b'[' => Some(Lexeme::OpenBracket),
+        b']' => Some(Lexeme::CloseBracket),
+        b'{' => Some(Lexeme::OpenBrace),
+        b'}' => Some(Lexeme::CloseBrace),
+        _ => None,
+    }
+}
+
+#[tactic(auto, unfolding(crate::specs::Pieces::fixed_of))]
+fn fixed_of_one(byte: u8) -> Option<Lexeme>
+    ensures { MayStandFor result (fixed_of (byte ∷ [])) }
+{
+    match operator_of_one(byte) {
+        Some(op) => Some(Lexeme::Operator(op)),
+        None => other_of_one(byte),
+    }
+}
+
+#[tactic(auto, unfolding(crate::specs::Pieces::fixed_of, crate::specs::Pieces::other_of))]
+fn fixed_of_two(first: u8, second: Option<u8>) -> Option<Lexeme>
+    ensures { MayStandFor result (fixed_of_two first second) }
+{
+    let second = second?;
+    if let Some(op) = operator_of_two(first, second) {
+        return Some(Lexeme::Operator(op));
+    }
+    match (first, second) {
+        (b'=', _) => operator_of_one(second).map(|op| Lexeme::Assign(Some(op))),
+        (b'+', b'+') => Some(Lexeme::Increment),
+        (b'-', b'-') => Some(Lexeme::Decrement),
+        _ => None,
+    }
+}
+
+fn fixed_of_three(first: u8, second: Option<u8>, third: Option<u8>) -> Option<Lexeme>
+    ensures { MayStandFor result (fixed_of_three first second third) }
+{
+    let second = second?;
+    let third = third?;
+    if first != b'=' {
+        return None;
+    }
+    operator_of_two(second, third).map(|op| Lexeme::Assign(Some(op)))
+}
