@@ -8,8 +8,8 @@ use Rattle.bword.specs.ByteEnds.{Incoming, Outgoing, Grew, Writes, Refuses}
 use Rattle.bword.proofs.Putting.{Writes-none, Writes-append}
 use Rattle.blex.proofs.Passing.{Took-none, Took-append}
 use Rattle.blex.specs.declared.diagnostic.Diagnostic.{Diagnostic}
-use Rattle.btree.specs.Compiled.{Names, Outcome, Goes, ending, joined, code_text, line_of}
-use Rattle.btree.proofs.GoesLaws.{goes_once, goes_some}
+use Rattle.bsimple.specs.Compiled.{Names, Outcome, Goes, ending, joined, code_text, line_of}
+use Rattle.bsimple.proofs.GoesLaws.{goes_once, goes_some}
 use Rattle.b.specs.Tokens.{Tokens, tokens_of, CanFollow, work}
 use Rattle.b.specs.Compilers.{Compiler, Comes, next_text, Began, Keeps, Wrote, Stopped, Broke, DeviceFailed, MemoryRefused, SomeTextComes}
 use Rattle.b.specs.Compilers.{new}

@@ -16,15 +16,15 @@ use Rattle.blex.specs.Tokens.{placed, token_first, tokens_from}
 use Rattle.blex.specs.declared.token.Token.TheVariants as token
 use Rattle.blex.specs.declared.token.Placed.{Placed}
 use Rattle.blex.specs.declared.diagnostic.Diagnostic.{Diagnostic}
-use Rattle.btree.specs.Compiled.{Names, Outcome, Goes, ending, fault_of, text_of, code_of}
-use Rattle.btree.specs.Definition.{Definition, spell, spell_values}
-use Rattle.btree.specs.Lines.{kept}
-use Rattle.btree.specs.Program.{fault_at}
-use Rattle.btree.specs.Reading.{Got, Stop, definition}
-use Rattle.btree.proofs.DefinitionLaws.{read_spelled}
-use Rattle.btree.proofs.KeptLemmas.{AllKept-kept, AllKept-append, no_more}
-use Rattle.btree.proofs.Outcomes.{Ended}
-use Rattle.btree.proofs.GoesLaws.{tokens_from-ended, ended_cons, goes_once, goes_some, goes_end, goes_stop, goes_behind, goes_fault}
+use Rattle.bsimple.specs.Compiled.{Names, Outcome, Goes, ending, fault_of, text_of, code_of}
+use Rattle.bsimple.specs.Definition.{Definition, spell, spell_values}
+use Rattle.bsimple.specs.Lines.{kept}
+use Rattle.bsimple.specs.Program.{fault_at}
+use Rattle.bsimple.specs.Reading.{Got, Stop, definition}
+use Rattle.bsimple.proofs.DefinitionLaws.{read_spelled}
+use Rattle.bsimple.proofs.KeptLemmas.{AllKept-kept, AllKept-append, no_more}
+use Rattle.bsimple.proofs.Outcomes.{Ended}
+use Rattle.bsimple.proofs.GoesLaws.{tokens_from-ended, ended_cons, goes_once, goes_some, goes_end, goes_stop, goes_behind, goes_fault}
 use Rattle.b.specs.Tokens.{Tokens, tokens_of, tokens_with, CanFollow, IsReady, work, Reads, Passed, Stops, Breaks, Looks}
 use Rattle.b.specs.Values.{Values, values_of}
 use Rattle.b.specs.Reading.{Faults, FaultsWithin, ReadsDefinition, RefusesDefinition, Ends}

@@ -11,11 +11,11 @@ use Rattle.blex.specs.Lexers.{is_last}
 use Rattle.blex.specs.Tokens.{placed}
 use Rattle.bcode.specs.declared.instr.Ival.{Ival}
 use Rattle.bcode.specs.declared.instr.Ival.TheVariants as ival
-use Rattle.btree.specs.Lines.{kept, bare}
-use Rattle.btree.specs.Program.{fault_at}
-use Rattle.btree.specs.Definition.{Definition}
-use Rattle.btree.specs.Reading.{Read, Reader, Got, Stop, ◌>>=◌, behind_value, at_value, at_values, behind_name, value, values, more_values, definition}
-use Rattle.btree.proofs.KeptLemmas.{bare-kept, kept-append}
+use Rattle.bsimple.specs.Lines.{kept, bare}
+use Rattle.bsimple.specs.Program.{fault_at}
+use Rattle.bsimple.specs.Definition.{Definition}
+use Rattle.bsimple.specs.Reading.{Read, Reader, Got, Stop, ◌>>=◌, behind_value, at_value, at_values, behind_name, value, values, more_values, definition}
+use Rattle.bsimple.proofs.KeptLemmas.{bare-kept, kept-append}
 use Rattle.b.specs.Tokens.{Tokens, IsOpen, work, Passed, Takes, Stops, Breaks}
 use Rattle.b.specs.Values.{Values, fitting, values_of, with_value}
 use Rattle.b.specs.Reading.{Faults, FaultsWithin, Found, Refused, RefusesDefinition, ReadsValues, ReadsDefinition, FindsValues, FindsDefinition}

@@ -4,8 +4,8 @@ use Rattle.std.specs.Io.KnownBytes.{Appends}
 use Rattle.bcode.specs.declared.instr.Ival.{Ival}
 use Rattle.bword.specs.ByteEnds.{Incoming, Outgoing, Grew, Writes}
 use Rattle.blex.specs.declared.diagnostic.Diagnostic.{Diagnostic}
-use Rattle.btree.specs.Compiled.{Names, Outcome, Goes, ending, fault_of}
-use Rattle.btree.specs.Definition.{Definition}
+use Rattle.bsimple.specs.Compiled.{Names, Outcome, Goes, ending, fault_of}
+use Rattle.bsimple.specs.Definition.{Definition}
 use Rattle.b.specs.Tokens.{Tokens, all_tokens, tokens_of, CanFollow, Reads, work}
 use Rattle.b.specs.Values.{Values, values_of}
 use Rattle.b.specs.declared.definition.Header.{Header}

@@ -4,7 +4,7 @@ use Rattle.bword.specs.ByteEnds.{Incoming, Outgoing, Grew, Writes}
 use Rattle.blex.specs.Sources.{Took}
 use Rattle.blex.specs.Tokens.{tokens_from}
 use Rattle.blex.specs.declared.diagnostic.Diagnostic.{Diagnostic}
-use Rattle.btree.specs.Compiled.{Outcome, Goes, code_text, line_of}
+use Rattle.bsimple.specs.Compiled.{Outcome, Goes, code_text, line_of}
 use Rattle.b.specs.Compilers.{Compiler, Comes, Began}
 use Rattle.b.specs.declared.step.Stop.{Stop}
 use Rattle.b.specs.declared.step.Stop.TheVariants as stop

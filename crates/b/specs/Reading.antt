@@ -4,10 +4,10 @@ use Rattle.blex.specs.declared.token.Placed.{Placed}
 use Rattle.blex.specs.declared.token.Token.{Token}
 use Rattle.blex.specs.declared.token.Token.TheVariants as token
 use Rattle.blex.specs.declared.diagnostic.Diagnostic.{Diagnostic}
-use Rattle.btree.specs.Definition.{Definition, Word}
-use Rattle.btree.specs.Lines.{kept}
-use Rattle.btree.specs.Program.{fault_at}
-use Rattle.btree.specs.Reading.{Reader, Got, Stop as Halt, value, values, more_values, definition}
+use Rattle.bsimple.specs.Definition.{Definition, Word}
+use Rattle.bsimple.specs.Lines.{kept}
+use Rattle.bsimple.specs.Program.{fault_at}
+use Rattle.bsimple.specs.Reading.{Reader, Got, Stop as Halt, value, values, more_values, definition}
 use Rattle.b.specs.Tokens.{Tokens, IsOpen, Passed, Stops, Breaks}
 use Rattle.b.specs.Values.{Values, values_of}
 use Rattle.b.specs.declared.definition.Header.{Header}

@@ -1,6 +1,6 @@
 //! The names that are defined.
 ghost use Rattle.std.specs.Prelude.{◌≡◌, [], ◌∷◌, ◌++◌, OnOk, OnErr};
-ghost use Rattle.btree.specs.Compiled.{is_among};
+ghost use Rattle.bsimple.specs.Compiled.{is_among};
 
 use bword::Name;
 use std::alloc::{AllocError, Global};
@@ -13,7 +13,7 @@ pub(crate) struct Names {
 }
 
 impl Model for Names {
-    ghost use Rattle.btree.specs.Compiled.{Names};
+    ghost use Rattle.bsimple.specs.Compiled.{Names};
 
     ghost Value = { Names };
 

@@ -13,8 +13,8 @@ use Rattle.blex.specs.declared.token.Placed.{Placed}
 use Rattle.blex.specs.declared.diagnostic.About.{About}
 use Rattle.blex.specs.declared.diagnostic.About.TheVariants as about
 use Rattle.blex.specs.declared.diagnostic.Diagnostic.{Diagnostic}
-use Rattle.btree.specs.Definition.{Definition}
-use Rattle.btree.specs.Program.{Parted}
+use Rattle.bsimple.specs.Definition.{Definition}
+use Rattle.bsimple.specs.Program.{Parted}
 
 -- the names defined so far
 abbrev pub Names : Type 0

@@ -3,9 +3,9 @@ use Rattle.std.proofs.Common.{◌≡◌, ℕ, ◌<◌, Bool, true, false, List, 
 use Rattle.std.proofs.lemmas.List.{map-append}
 use Rattle.blex.specs.declared.token.Token.{Token}
 use Rattle.blex.specs.declared.token.Placed.{Placed}
-use Rattle.btree.specs.Lines.{mark, kept, bare, keeps_line}
-use Rattle.btree.specs.Reading.{first}
-use Rattle.btree.proofs.DefinitionLaws.{AllKept}
+use Rattle.bsimple.specs.Lines.{mark, kept, bare, keeps_line}
+use Rattle.bsimple.specs.Reading.{first}
+use Rattle.bsimple.proofs.DefinitionLaws.{AllKept}
 
 bare_if : (b : Bool) (p : Placed) → bare (if b then p else mark p.token) ≡ bare p
 bare_if true p = refl

@@ -8,12 +8,12 @@ use Rattle.blex.specs.declared.token.Token.TheVariants as token
 use Rattle.blex.specs.declared.token.Placed.{Placed}
 use Rattle.blex.specs.declared.diagnostic.Diagnostic.{Diagnostic}
 use Rattle.blex.specs.Tokens.{is_last}
-use Rattle.btree.specs.Lines.{mark, kept, bare}
-use Rattle.btree.specs.Definition.{Definition, spell, IsFormed, is_open, word}
-use Rattle.btree.specs.Reading.{Read, Got, Stop, first, definition}
-use Rattle.btree.specs.Program.{spell_all, AllFormed, IsProgram, Begins, IsViable, StopsAt, IsPart}
-use Rattle.btree.proofs.DefinitionLaws.{AllKept, is_else, GoOn, spelled_again, open_longer, relined, spelled_name, spelled_go_on}
-use Rattle.btree.proofs.KeptLemmas.{bare-kept, map_bare-kept, map_bare-mark, no_more, Split, split_map}
+use Rattle.bsimple.specs.Lines.{mark, kept, bare}
+use Rattle.bsimple.specs.Definition.{Definition, spell, IsFormed, is_open, word}
+use Rattle.bsimple.specs.Reading.{Read, Got, Stop, first, definition}
+use Rattle.bsimple.specs.Program.{spell_all, AllFormed, IsProgram, Begins, IsViable, StopsAt, IsPart}
+use Rattle.bsimple.proofs.DefinitionLaws.{AllKept, is_else, GoOn, spelled_again, open_longer, relined, spelled_name, spelled_go_on}
+use Rattle.bsimple.proofs.KeptLemmas.{bare-kept, map_bare-kept, map_bare-mark, no_more, Split, split_map}
 
 pub bare-append : (us vs : List Placed) → map bare (us ++ vs) ≡ map bare us ++ map bare vs
 bare-append us vs = map-append bare us vs

@@ -9,16 +9,16 @@ use Rattle.blex.specs.declared.token.Placed.{Placed}
 use Rattle.blex.specs.declared.diagnostic.Diagnostic.{Diagnostic}
 use Rattle.blex.specs.Pieces.{Piece, Space, Word, whole}
 use Rattle.blex.specs.Tokens.{placed, is_last, piece_first, cut, tokens_from, line_after, longest}
-use Rattle.btree.specs.Lines.{mark, kept, bare}
-use Rattle.btree.specs.Definition.{Definition, spell, IsFormed, is_open, word}
-use Rattle.btree.specs.Reading.{Read, Got, Stop, first, definition}
-use Rattle.btree.specs.Program.{spell_all, AllFormed, IsProgram, Begins, IsViable, StopsAt, IsPart, Parts, Parted, fault_at}
-use Rattle.btree.proofs.DefinitionLaws.{AllKept, is_else, GoOn, ReadsOn, goes, halts, definition_on, read_spelled, spelled_again, open_longer, relined, spelled_name, spelled_go_on}
-use Rattle.btree.proofs.KeptLemmas.{bare-kept, map_bare-kept, map_bare-mark, kept-kept, kept-mark, AllKept-kept, AllKept-append, kept-append, no_more, Split, split_map, Order, together, sooner, later, order}
-use Rattle.btree.proofs.Parting.{got_on, Halts, halts_begins, not_nothing, takes_some, first_there, parted_end, parted_stop}
-use Rattle.btree.specs.Compiled.{Names, Outcome, outcome_of, outcome_with, fault_of, text_of, Goes}
-use Rattle.btree.proofs.Outcomes.{parted_behind, parted_once, Ended, ended_behind, go_on_kept, begun_goes_on}
-use Rattle.btree.proofs.ProgramLaws.{bare-append, all_relined, program_first, read_first, program_goes_on, begins_goes_on, viable_cases, viable_end, viable_next, one_before, begins_before, stops_begins, stops_there, GoOn-append, reads_first}
+use Rattle.bsimple.specs.Lines.{mark, kept, bare}
+use Rattle.bsimple.specs.Definition.{Definition, spell, IsFormed, is_open, word}
+use Rattle.bsimple.specs.Reading.{Read, Got, Stop, first, definition}
+use Rattle.bsimple.specs.Program.{spell_all, AllFormed, IsProgram, Begins, IsViable, StopsAt, IsPart, Parts, Parted, fault_at}
+use Rattle.bsimple.proofs.DefinitionLaws.{AllKept, is_else, GoOn, ReadsOn, goes, halts, definition_on, read_spelled, spelled_again, open_longer, relined, spelled_name, spelled_go_on}
+use Rattle.bsimple.proofs.KeptLemmas.{bare-kept, map_bare-kept, map_bare-mark, kept-kept, kept-mark, AllKept-kept, AllKept-append, kept-append, no_more, Split, split_map, Order, together, sooner, later, order}
+use Rattle.bsimple.proofs.Parting.{got_on, Halts, halts_begins, not_nothing, takes_some, first_there, parted_end, parted_stop}
+use Rattle.bsimple.specs.Compiled.{Names, Outcome, outcome_of, outcome_with, fault_of, text_of, Goes}
+use Rattle.bsimple.proofs.Outcomes.{parted_behind, parted_once, Ended, ended_behind, go_on_kept, begun_goes_on}
+use Rattle.bsimple.proofs.ProgramLaws.{bare-append, all_relined, program_first, read_first, program_goes_on, begins_goes_on, viable_cases, viable_end, viable_next, one_before, begins_before, stops_begins, stops_there, GoOn-append, reads_first}
 
 
 -- The tokens of a source end.

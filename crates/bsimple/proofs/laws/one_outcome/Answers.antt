@@ -1,6 +1,6 @@
 use Rattle.blex.specs.Tokens.{tokens_from}
-use Rattle.btree.proofs.GoesLaws.{goes_once, goes_some, tokens_from-ended}
-use Rattle.btree.proofs.laws.one_outcome.Goals as goal
+use Rattle.bsimple.proofs.GoesLaws.{goes_once, goes_some, tokens_from-ended}
+use Rattle.bsimple.proofs.laws.one_outcome.Goals as goal
 
 pub returns-clause-comes : goal.returns-clause-comes
 returns-clause-comes c = λ names line bytes. let some = goes_some names (tokens_from line bytes) (tokens_from-ended line bytes) in (some.outcome, some.goes)

@@ -8,8 +8,8 @@ use Rattle.blex.specs.declared.token.Placed.{Placed}
 use Rattle.blex.specs.declared.diagnostic.About.{About}
 use Rattle.blex.specs.declared.diagnostic.About.TheVariants as about
 use Rattle.blex.specs.declared.diagnostic.Diagnostic.{Diagnostic}
-use Rattle.btree.specs.Lines.{kept, bare}
-use Rattle.btree.specs.Definition.{Definition, spell, IsFormed}
+use Rattle.bsimple.specs.Lines.{kept, bare}
+use Rattle.bsimple.specs.Definition.{Definition, spell, IsFormed}
 
 -- the tokens of definitions, one behind another
 abbrev pub spell_all : List Definition → List Placed

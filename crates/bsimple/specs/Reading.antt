@@ -3,8 +3,8 @@ use Rattle.std.specs.Prelude.{ℕ, List, [], ◌∷◌}
 use Rattle.blex.specs.declared.token.Token.{Token}
 use Rattle.blex.specs.declared.token.Token.TheVariants as token
 use Rattle.blex.specs.declared.token.Placed.{Placed}
-use Rattle.btree.specs.Lines.{mark}
-use Rattle.btree.specs.Definition.{Definition}
+use Rattle.bsimple.specs.Lines.{mark}
+use Rattle.bsimple.specs.Definition.{Definition}
 
 -- something, with the tokens behind it; or the tokens from the first wrong one
 pub data Read (A : Type 0) : Type 0 where

@@ -7,9 +7,9 @@ use Rattle.blex.specs.declared.token.Token.{Token}
 use Rattle.blex.specs.declared.token.Token.TheVariants as token
 use Rattle.blex.specs.declared.token.Placed.{Placed}
 use Rattle.blex.specs.Tokens.{placed, is_last}
-use Rattle.btree.specs.Lines.{mark, kept, bare}
-use Rattle.btree.specs.Definition.{Word, Definition, word, spell, spell_more, spell_values, IsFormed, is_open}
-use Rattle.btree.specs.Reading.{Read, Got, Stop, Reader, ◌>>=◌, first, more_values, value, values, definition, behind_value, at_value, at_values, behind_name}
+use Rattle.bsimple.specs.Lines.{mark, kept, bare}
+use Rattle.bsimple.specs.Definition.{Word, Definition, word, spell, spell_more, spell_values, IsFormed, is_open}
+use Rattle.bsimple.specs.Reading.{Read, Got, Stop, Reader, ◌>>=◌, first, more_values, value, values, definition, behind_value, at_value, at_values, behind_name}
 
 -- each token is as a tree keeps it
 abbrev pub AllKept : List Placed → Type 0

@@ -3,7 +3,7 @@ use Rattle.std.specs.Prelude.{ℕ, Bool, false, List, [], ◌∷◌}
 use Rattle.blex.specs.declared.token.Token.TheVariants as token
 use Rattle.blex.specs.declared.token.Placed.{Placed}
 use Rattle.blex.specs.Tokens.{placed}
-use Rattle.btree.specs.Lines.{mark}
+use Rattle.bsimple.specs.Lines.{mark}
 
 -- a name, and the line that it stands on
 pub record Word : Type 0 where

@@ -2,7 +2,7 @@
 use Rattle.std.specs.Prelude.{◌≡◌, ℕ, List}
 use Rattle.blex.specs.Tokens.{tokens_from}
 use Rattle.blex.specs.declared.token.Placed.{Placed}
-use Rattle.btree.specs.Compiled.{Names, Outcome, Goes}
+use Rattle.bsimple.specs.Compiled.{Names, Outcome, Goes}
 
 -- each source comes to something
 abbrev pub EachSourceComes : Type 0
