@@ -1,0 +1,4 @@
+pub mod Lines
+pub mod Expression
+pub mod Reading
+pub mod ExpressionReader
