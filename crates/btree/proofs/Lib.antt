@@ -1,2 +1,3 @@
 pub mod Fine
 pub mod ExpressionFine
+pub mod ExpressionSound
