@@ -1,14 +1,13 @@
 -- Each reader of expressions reads on from what it has, and can be ended from wherever it stops.
 use Rattle.std.proofs.Common.{◌≡◌, ℕ, zero, suc, ◌+◌, ◌≤◌, List, [], ◌∷◌, ◌++◌, length, Bool, true, false, sym, ap, ◌∙◌, refl, ◌⊎◌, inl, inr, Option, Some, None, arith}
-use Rattle.std.specs.Prelude.{if◌then◌else◌}
 use Rattle.bword.specs.declared.operators.BinOp.{BinOp}
 use Rattle.blex.specs.declared.token.Token.{Token}
 use Rattle.blex.specs.declared.token.Token.TheVariants as token
 use Rattle.blex.specs.declared.token.Placed.{Placed}
 use Rattle.btree.specs.Lines.{mark}
-use Rattle.btree.specs.Expression.{Expr, Arguments, PrefixOp, PostfixOp, Number, Character, Named, Literal, Text, Grouped, Indexed, Called, Postfixed, Prefixed, Binary, Conditional, Assigned, No_arguments, Another, words, argument_words, or_rank, is_operand}
+use Rattle.btree.specs.Expression.{Expr, Arguments, PrefixOp, PostfixOp, Number, Character, Named, Literal, Text, Grouped, Indexed, Called, Postfixed, Prefixed, Binary, Conditional, Assigned, No_arguments, Another, words, argument_words, or_rank}
 use Rattle.btree.specs.Reading.{Read, Got, Stop, Reader, ◌>>=◌, first, line_of, after, expect, many}
-use Rattle.btree.specs.ExpressionReader.{is_close_paren, is_close_bracket, is_question, is_colon, prefix_op, op_at, assign_op, Suffix, Index, Call, Step, suffix, comma, always, Kind, Operand, Choice, Rvalue, Inner, group, primary, primary_at, another, arguments, call, postfix_with, postfix, prefixed, operand, operation, chain, choices, conditional, assigns, assigned, rvalue_from, read_at, inner, reader}
+use Rattle.btree.specs.ExpressionReader.{is_close_paren, is_close_bracket, is_question, is_colon, prefix_op, op_at, Suffix, Index, Call, Step, suffix, comma, always, Kind, Operand, Choice, Rvalue, Inner, group, primary, primary_at, another, arguments, call, postfix_with, postfix, prefixed, operand, operation, chain, choices, conditional, assigns, assigned, rvalue_from, read_at, inner, reader}
 use Rattle.btree.proofs.Fine.{Near, Any, Fine, goes, halts, Closing, Start, startable, bind_fine, then_fine, shift, idle, stuck, same, same_eats, got_fine, got_start, map_fine, map_start, expect_then, expect_start, closed_fine, closed_eats, Opened, stops, enters, opened_fine, Loop, opened_loop, many_none, many_start, many_fine}
 
 -- a token that ends each expression, whatever came before
@@ -193,12 +192,9 @@ module _ (inner : Inner) (room : Room inner) where
       near new (inl n) = rw (ap is_question n ∙ h) refl
       near new (inr n) = rw (no_question (first new) n) refl
 
-  no_assign_at : (t : Token) → Closer t → assign_op t ≡ None
-  no_assign_at (token.Assign op) h = cc
-  no_assign_at _ h = refl
-
   no_assign : (e : Expr) (t : Token) → Closer t → assigns e t ≡ None
-  no_assign e t h = rw (no_assign_at t h) (elim (is_operand e) as (λ b. ◌≡◌ {A = Option (Option BinOp)} (if b then None else None) None) [ true ↦ refl | false ↦ refl ])
+  no_assign e (token.Assign op) h = cc
+  no_assign e _ h = refl
 
   abbrev rvalue_from_start : (off : ℕ) (e : Expr) → Start closing Closer (rvalue_from inner off e)
   rvalue_from_start off e = record { with_ = []; value = e; done = λ k h. rw (no_assign e (first k) h) ((conditional_start off e).done k h); front = λ k h. h }

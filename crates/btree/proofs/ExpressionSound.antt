@@ -10,7 +10,7 @@ use Rattle.blex.specs.declared.token.Placed.{Placed}
 use Rattle.btree.specs.Lines.{mark, placed, kept, kept_tokens}
 use Rattle.btree.specs.Expression.{Expr, Arguments, PrefixOp, Negate, Not, Indirection, Address, PreIncrement, PreDecrement, PostfixOp, PostIncrement, PostDecrement, Number, Character, Named, Literal, Text, Grouped, Indexed, Called, Postfixed, Prefixed, Binary, Conditional, Assigned, No_arguments, Another, prefix_token, postfix_token, comma_behind, spell, spell_arguments, words, argument_words, rank, or_rank, conditional_rank, rvalue_rank, IsPostfix, Deeper, Fits, ArgumentsFit, is_operand}
 use Rattle.btree.specs.Reading.{Read, Got, Stop, Reader, ◌>>=◌, first, line_of, after, expect, turns, many}
-use Rattle.btree.specs.ExpressionReader.{is_close_paren, is_close_bracket, is_question, is_colon, prefix_op, having_rank, op_at, assign_op, Suffix, Index, Call, Step, suffix, comma, always, Kind, Operand, Choice, Rvalue, Inner, group, primary, primary_at, another, arguments, call, postfix_with, postfix, prefixed, operand, operation, chain, choices, conditional, assigns, assigned, rvalue_from, read_at, inner, reader}
+use Rattle.btree.specs.ExpressionReader.{is_close_paren, is_close_bracket, is_question, is_colon, prefix_op, having_rank, op_at, Suffix, Index, Call, Step, suffix, comma, always, Kind, Operand, Choice, Rvalue, Inner, group, primary, primary_at, another, arguments, call, postfix_with, postfix, prefixed, operand, operation, chain, choices, conditional, assigns, assigned, rvalue_from, read_at, inner, reader}
 
 -- the tokens are the spelling of what was read, and what is left
 abbrev pub Sound : {A : Type 0} → (A → List Placed) → (A → Type 0) → List Placed → Read A → Type 0
@@ -90,10 +90,6 @@ prefix_kept Indirection line = refl
 prefix_kept Address line = refl
 prefix_kept PreIncrement line = refl
 prefix_kept PreDecrement line = refl
-
-assign_is : (t : Token) (o : Option BinOp) → assign_op t ≡ Some o → t ≡ token.Assign o
-assign_is (token.Assign a) o h = let n : a ≡ o = cc in ap (λ x. token.Assign x) n
-assign_is _ o h = cc
 
 pub both_deeper : (P Q : ℕ → Type 0) (room : ℕ) → Deeper P room → Deeper Q room → Deeper (λ k. P k × Q k) room
 both_deeper P Q zero p q = p
@@ -285,11 +281,12 @@ module _ (room : ℕ) (inner : Inner) (sound : SoundInner room inner) where
 
   -- what is assigned to stands alone
   assigns_is : (e : Expr) (t : Token) (o : Option BinOp) → assigns e t ≡ Some o → (is_operand e ≡ true) × (t ≡ token.Assign o)
-  assigns_is e t o h = go (is_operand e) refl
+  assigns_is e (token.Assign a) o h = go (is_operand e) refl
     where
-      go : (b : Bool) → is_operand e ≡ b → (is_operand e ≡ true) × (t ≡ token.Assign o)
-      go true q = (q, assign_is t o (rw q at h))
-      go false q = let n = rw q at h in cc
+      go : (b : Bool) → is_operand e ≡ b → (is_operand e ≡ true) × (token.Assign a ≡ token.Assign o)
+      go true q = (q, let m = rw q at h in let n : a ≡ o = cc in ap (λ x. token.Assign x) n)
+      go false q = let m = rw q at h in cc
+  assigns_is e _ o h = cc
 
   made_assigned : (off : ℕ) (op : Option BinOp) (line : ℕ) (e : Expr) (tail : List Placed) → Fits e 0 room off → (x : Read Expr) → Sound spell (Below room Rvalue (off + words e)) tail x → Sound spell (Loose rvalue_rank off) (spell e ++ (placed (token.Assign op) line ∷ tail)) (x >>= λ f. Got (Assigned op line e f))
   made_assigned off op line e tail q (Got f r) s =

@@ -1,3 +1,4 @@
 pub mod Fine
 pub mod ExpressionFine
 pub mod ExpressionSound
+pub mod ExpressionAgain

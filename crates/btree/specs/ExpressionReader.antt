@@ -45,10 +45,6 @@ abbrev pub op_at : ℕ → Token → Option BinOp
 op_at r (token.Operator op) = having_rank r op
 op_at r _ = None
 
-abbrev pub assign_op : Token → Option (Option BinOp)
-assign_op (token.Assign op) = Some op
-assign_op _ = None
-
 -- what goes on behind a postfix expression
 pub data Suffix : Type 0 where
   Index : Suffix
@@ -139,7 +135,8 @@ conditional inner off e ts = if is_question (first ts) then inner.enter ts >>= (
 
 -- only an operand is assigned to
 abbrev pub assigns : Expr → Token → Option (Option BinOp)
-assigns e t = if is_operand e then assign_op t else None
+assigns e (token.Assign op) = if is_operand e then Some op else None
+assigns e _ = None
 
 abbrev pub assigned : Inner → ℕ → Expr → Option BinOp → Reader Expr
 assigned inner off e op ts = inner.enter ts >>= λ o r. inner.read Rvalue (off + words e) r >>= λ f. Got (Assigned op (line_of ts) e f)
