@@ -5,7 +5,7 @@ use Rattle.blex.specs.declared.token.Token.{Token}
 use Rattle.blex.specs.declared.token.Token.TheVariants as token
 use Rattle.blex.specs.declared.token.Placed.{Placed}
 use Rattle.btree.specs.Lines.{mark}
-use Rattle.btree.specs.Expression.{Expr, Arguments, PrefixOp, PostfixOp, Number, Character, Named, Literal, Text, Grouped, Indexed, Called, Postfixed, Prefixed, Binary, Conditional, Assigned, No_arguments, Another, words, argument_words, or_rank}
+use Rattle.btree.specs.Expression.{Word, name_token, Expr, Arguments, PrefixOp, PostfixOp, Number, Character, Named, Literal, Text, Grouped, Indexed, Called, Postfixed, Prefixed, Binary, Conditional, Assigned, No_arguments, Another, words, argument_words, or_rank}
 use Rattle.btree.specs.Reading.{Read, Got, Stop, Reader, ◌>>=◌, first, line_of, after, expect, many}
 use Rattle.btree.specs.ExpressionReader.{is_close_paren, is_close_bracket, is_question, is_colon, prefix_op, op_at, Suffix, Index, Call, Step, suffix, comma, always, Kind, Operand, Choice, Rvalue, Inner, group, primary, primary_at, another, arguments, call, postfix_with, postfix, prefixed, operand, operation, chain, choices, conditional, assigns, assigned, rvalue_from, read_at, inner, reader}
 use Rattle.btree.proofs.Fine.{Near, Any, Fine, goes, halts, Closing, Start, startable, bind_fine, then_fine, shift, idle, stuck, same, same_eats, got_fine, got_start, map_fine, map_start, expect_then, expect_start, closed_fine, closed_eats, Opened, stops, enters, opened_fine, Loop, opened_loop, many_none, many_start, many_fine}
@@ -233,3 +233,22 @@ reader_fine k kind off ts = read_good (inner k) (has_room k) kind off ts
 
 pub reader_one : (k : ℕ) (kind : Kind) (off : ℕ) (ts : List Placed) → Closer (first ts) → reader k kind off (one ∷ ts) ≡ Got one_tree ts
 reader_one k kind off ts h = read_one (inner k) (has_room k) kind off ts h
+
+module _ (k off : ℕ) (w : Word) where
+  chain_from_name : (r : ℕ) (ts : List Placed) → Fine Closer (λ x. chain (inner k) r off (name_token w ∷ x)) ts
+  chain_from_name zero ts = many_fine closing (always suffix) (postfix_with (inner k) off) (suffix_loop (inner k) (has_room k) off) (Named w) ts
+  chain_from_name (suc r) ts =
+      let loop : Loop closing (always (op_at (suc r))) (operation (chain (inner k) r) off) = op_loop (inner k) (has_room k) r off in
+      then_fine closing (λ x. chain (inner k) r off (name_token w ∷ x)) (many (always (op_at (suc r))) (operation (chain (inner k) r) off)) (many_start closing _ _ loop) ts (chain_from_name r ts) (λ a rest. many_fine closing _ _ loop a rest)
+
+  -- an expression that begins with a name already taken
+  pub from_name_fine : (ts : List Placed) → Fine Closer (λ x. reader k Rvalue off (name_token w ∷ x)) ts
+  from_name_fine ts = then_fine closing (λ x. chain (inner k) or_rank off (name_token w ∷ x)) (rvalue_from (inner k) off) (rvalue_from_start (inner k) (has_room k) off) ts (chain_from_name or_rank ts) (λ a r. rvalue_from_fine_at (inner k) (has_room k) off a r (assigns a (first r)) refl)
+
+  chain_name_one : (r : ℕ) (ts : List Placed) → Closer (first ts) → chain (inner k) r off (name_token w ∷ ts) ≡ Got (Named w) ts
+  chain_name_one zero ts h = many_none (always suffix) (postfix_with (inner k) off) (Named w) ts (no_suffix (inner k) (has_room k) (Named w) (first ts) h)
+  chain_name_one (suc r) ts h = ap (λ x. x >>= many (always (op_at (suc r))) (operation (chain (inner k) r) off)) (chain_name_one r ts h) ∙ many_none (always (op_at (suc r))) (operation (chain (inner k) r) off) (Named w) ts (no_operator (inner k) (has_room k) (suc r) (Named w) (first ts) h)
+
+  -- that name alone
+  pub from_name_one : (ts : List Placed) → Closer (first ts) → reader k Rvalue off (name_token w ∷ ts) ≡ Got (Named w) ts
+  from_name_one ts h = ap (λ x. x >>= rvalue_from (inner k) off) (chain_name_one or_rank ts h) ∙ (rvalue_from_start (inner k) (has_room k) off (Named w)).done ts h

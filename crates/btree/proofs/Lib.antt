@@ -2,3 +2,4 @@ pub mod Fine
 pub mod ExpressionFine
 pub mod ExpressionSound
 pub mod ExpressionAgain
+pub mod CommaLaws
