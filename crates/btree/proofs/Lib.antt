@@ -3,3 +3,4 @@ pub mod ExpressionFine
 pub mod ExpressionSound
 pub mod ExpressionAgain
 pub mod CommaLaws
+pub mod StatementSound
