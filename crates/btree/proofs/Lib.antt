@@ -4,3 +4,4 @@ pub mod ExpressionSound
 pub mod ExpressionAgain
 pub mod CommaLaws
 pub mod StatementSound
+pub mod StatementFine
