@@ -5,3 +5,4 @@ pub mod ExpressionAgain
 pub mod CommaLaws
 pub mod StatementSound
 pub mod StatementFine
+pub mod StatementAgain

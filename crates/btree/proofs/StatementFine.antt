@@ -32,16 +32,16 @@ abbrev pub closing : Closing
 closing = record { Is = Closer; at_end = refl }
 
 -- a token that ends what stands before a statement
-abbrev begins_last : Token → Bool
+abbrev pub begins_last : Token → Bool
 begins_last token.Semicolon = true
 begins_last token.CloseBrace = true
 begins_last token.End = true
 begins_last _ = false
 
-abbrev Last : Token → Type 0
+abbrev pub Last : Token → Type 0
 Last t = begins_last t ≡ true
 
-abbrev lasting : Closing
+abbrev pub lasting : Closing
 lasting = record { Is = Last; at_end = refl }
 
 last_is_safe : (t : Token) → Last t → E.Closer t
@@ -92,7 +92,7 @@ size_fine_at t ts e = idle E.closing size ts None near
     near new (inl n) = rw (n ∙ e) refl
     near new (inr n) = no_size (first new) n new
 
-declared_fine : (ts : List Placed) → Fine E.Closer declared ts
+pub declared_fine : (ts : List Placed) → Fine E.Closer declared ts
 declared_fine ts = then_fine E.closing name (λ w r. size r >>= λ n. Got (record { word = w; size = n })) (λ w. record { with_ = []; value = record { word = w; size = None }; done = λ k h. ap (λ x. x >>= λ n. Got (record { word = w; size = n })) (no_size (first k) h k); front = λ k h. h }) ts (name_fine ts) (λ w r. map_fine E.closing size (λ n. record { word = w; size = n }) r (size_fine_at (first r) r refl))
 
 -- what stands before a statement
