@@ -6,3 +6,6 @@ pub mod CommaLaws
 pub mod StatementSound
 pub mod StatementFine
 pub mod StatementAgain
+pub mod DefinitionSound
+pub mod DefinitionFine
+pub mod DefinitionAgain

@@ -83,7 +83,7 @@ pub no_size : (t : Token) → E.Closer t → (ts : List Placed) → size_at t ts
 no_size (token.Number n) h ts = cc
 no_size _ h ts = refl
 
-size_fine_at : (t : Token) (ts : List Placed) → first ts ≡ t → Fine E.Closer size ts
+pub size_fine_at : (t : Token) (ts : List Placed) → first ts ≡ t → Fine E.Closer size ts
 size_fine_at (token.Number x) (t ∷ ts) e = shift E.closing size (λ y. Got (Some x) y) t (λ y. rw e refl) ts (got_fine E.closing (Some x) ts)
 size_fine_at (token.Number x) [] e = cc
 size_fine_at t ts e = idle E.closing size ts None near

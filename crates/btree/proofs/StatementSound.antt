@@ -57,7 +57,7 @@ size_sound_at : (t : Token) (line : ℕ) (ts : List Placed) → Sound size_spell
 size_sound_at (token.Number n) line ts = (refl, tt)
 size_sound_at _ line ts = (refl, tt)
 
-size_sound : (ts : List Placed) → Sound size_spelling (λ n. Unit {0}) (kept_tokens ts) (size ts)
+pub size_sound : (ts : List Placed) → Sound size_spelling (λ n. Unit {0}) (kept_tokens ts) (size ts)
 size_sound ts = by_first (λ ts. Sound size_spelling (λ n. Unit {0}) (kept_tokens ts) (size ts)) (refl, tt) size_sound_at ts
 
 declared_sound : (ts : List Placed) → Sound declared_spelling (λ d. Unit {0}) (kept_tokens ts) (declared ts)

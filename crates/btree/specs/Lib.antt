@@ -5,3 +5,5 @@ pub mod ExpressionReader
 pub mod Commas
 pub mod Statement
 pub mod StatementReader
+pub mod Definition
+pub mod DefinitionReader
