@@ -9,3 +9,5 @@ pub mod StatementAgain
 pub mod DefinitionSound
 pub mod DefinitionFine
 pub mod DefinitionAgain
+pub mod Relined
+pub mod ExpressionRelined
