@@ -11,3 +11,5 @@ pub mod DefinitionFine
 pub mod DefinitionAgain
 pub mod Relined
 pub mod ExpressionRelined
+pub mod StatementRelined
+pub mod DefinitionRelined
