@@ -4,15 +4,8 @@ use Rattle.blex.specs.declared.token.Token.{Token}
 use Rattle.blex.specs.declared.token.Token.TheVariants as token
 use Rattle.blex.specs.declared.token.Placed.{Placed}
 use Rattle.btree.specs.Lines.{mark}
+pub use Rattle.btree.specs.ReadingOn.{Near, Fine, goes, halts}
 use Rattle.btree.specs.Reading.{Read, Got, Stop, Reader, ◌>>=◌, first, after, expect, turns, many}
-
--- the same next token, or a safe one
-abbrev pub Near : (Token → Type 0) → List Placed → List Placed → Type 0
-Near Safe old new = (first new ≡ first old) ⊎ Safe (first new)
-
-pub data Fine {A : Type 0} (Safe : Token → Type 0) (p : Reader A) (ts : List Placed) : Type 0 where
-  goes : (u r : List Placed) (a : A) → ts ≡ u ++ r → ((new : List Placed) → Near Safe r new → p (u ++ new) ≡ Got a new) → Fine Safe p ts
-  halts : (u r : List Placed) → ts ≡ u ++ r → ((new : List Placed) → first new ≡ first r → p (u ++ new) ≡ Stop new) → (c : List Placed) (a : A) → ((k : List Placed) → Safe (first k) → p (u ++ (c ++ k)) ≡ Got a k) → Fine Safe p ts
 
 abbrev pub Any : Token → Type 0
 Any t = Unit {0}

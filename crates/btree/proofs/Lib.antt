@@ -13,3 +13,4 @@ pub mod Relined
 pub mod ExpressionRelined
 pub mod StatementRelined
 pub mod DefinitionRelined
+pub mod LawProofs

@@ -9,6 +9,7 @@ use Rattle.btree.specs.Lines.{mark, kept, kept_tokens}
 use Rattle.btree.specs.Expression.{Word, Constant, Number, Character, Expr, Named, name_token, spell, words}
 use Rattle.btree.specs.Reading.{Read, Got, Stop, Reader, ◌>>=◌, first, line_of, after, expect, many}
 use Rattle.btree.specs.ExpressionReader.{is_close_paren, is_colon, always, Rvalue, reader}
+pub use Rattle.btree.specs.ReadingOn.{closes, Closer}
 use Rattle.btree.specs.Commas.{list_reader}
 use Rattle.btree.specs.Statement.{Declared, Heading, Auto, Extrn, Label, Case, Stmt, Headed, Compound, If, IfElse, While, Switch, Goto, Return, ReturnValue, Evaluate, Empty, Stmts, Nothing, More, spell_statement, statement_words, body_words, Sits}
 use Rattle.btree.specs.StatementReader.{is_open_paren, is_open_brace, is_close_brace, is_semicolon, is_else, name_at, name, constant_at, constant, size_at, size, declared, Headings, headed, Lead, no_lead, with_heading, Step, Declares, Imports, Selects, Mentions, Labels, step_at, lead_step, lead_turn, lead, goes_on, Level, tested, else_part, chosen, looped, one_more, body, compound, switched, ended, returned, stmt_at, stmt_behind, stmt_with, level, statement}
@@ -18,15 +19,6 @@ use Rattle.btree.proofs.ExpressionFine as E
 use Rattle.btree.proofs.ExpressionAgain.{expr_opens, opens}
 use Rattle.btree.proofs.CommaLaws.{list_fine}
 use Rattle.btree.proofs.StatementSound.{Spelled, statement_sound}
-
--- a token that may follow each statement
-abbrev pub closes : Token → Bool
-closes token.CloseBrace = true
-closes token.End = true
-closes _ = false
-
-abbrev pub Closer : Token → Type 0
-Closer t = closes t ≡ true
 
 abbrev pub closing : Closing
 closing = record { Is = Closer; at_end = refl }

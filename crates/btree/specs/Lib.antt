@@ -1,9 +1,12 @@
 pub mod Lines
 pub mod Expression
 pub mod Reading
+pub mod ReadingOn
 pub mod ExpressionReader
 pub mod Commas
 pub mod Statement
 pub mod StatementReader
 pub mod Definition
 pub mod DefinitionReader
+pub mod Laws
+pub mod Rows
