@@ -96,18 +96,23 @@ ival_at strings bytes = by_first (ival_readers strings) bytes
 unfoldable pub number_line_at : ℕ → ℕ → Reader ℕ
 number_line_at letter below bytes = expect letter bytes >>= operand_at below
 
+unfoldable pub sizes_at : Reader Sizes
+sizes_at bytes = do
+  frame ← number_at 32 32768 bytes
+  labels ← number_at 32 129 frame.1
+  strings ← number_at 32 1025 labels.1
+  code ← number_at 10 4097 strings.1
+  if labels.0 == 0 || not (code.0 == 0) then
+    Some (record { frame = frame.0; labels = labels.0; strings = strings.0; code = code.0 }, code.1)
+    else None
+
 unfoldable pub function_header_at : Reader Header
 function_header_at bytes = do
   rest ← expect 32 bytes
   name ← name_at 32 rest
   parameters ← number_at 32 129 name.1
-  frame ← number_at 32 32768 parameters.1
-  labels ← number_at 32 129 frame.1
-  strings ← number_at 32 1025 labels.1
-  code ← number_at 10 4097 strings.1
-  if nat_le parameters.0 frame.0 && (labels.0 == 0 || not (code.0 == 0)) then
-    Some (header.Function name.0 parameters.0 record { frame = frame.0; labels = labels.0; strings = strings.0; code = code.0 }, code.1)
-    else None
+  sizes ← sizes_at parameters.1
+  if nat_le parameters.0 sizes.0.frame then Some (header.Function name.0 parameters.0 sizes.0, sizes.1) else None
 
 unfoldable pub simple_header_at : Reader Header
 simple_header_at bytes = do

@@ -2,7 +2,7 @@
 ghost use Rattle.std.specs.Prelude.{◌≡◌, ◌≤◌};
 ghost use Rattle.bcode.specs.LineReading.{
     ended, operand_at, name_operand_at, less_at, greater_at, operator_at, increment_at, case_at, instr_at, ival_at, number_line_at,
-    function_header_at, simple_header_at, vector_header_at, header_at
+    sizes_at, function_header_at, simple_header_at, vector_header_at, header_at
 };
 ghost use Rattle.bcode.specs.Reading.{Gives};
 
@@ -172,6 +172,26 @@ pub fn number_line(text: &[u8], letter: u8, below: u32) -> Option<(u16, &[u8])>
     operand(rest, below)
 }
 
+#[tactic(auto, unfolding(crate::specs::LineReading::sizes_at))]
+fn sizes(text: &[u8]) -> Option<(Sizes, &[u8])>
+    ensures { Gives (λ r. (r.0, r.1.now)) result (sizes_at text.now) }
+{
+    let (frame, rest) = number(text, b' ', 32768)?;
+    let (labels, rest) = number(rest, b' ', 129)?;
+    let (strings, rest) = number(rest, b' ', 1025)?;
+    let (code, rest) = number(rest, b'\n', 4097)?;
+    if labels != 0 && code == 0 {
+        return None;
+    }
+    let sizes = Sizes {
+        frame,
+        labels,
+        strings,
+        code,
+    };
+    Some((sizes, rest))
+}
+
 #[tactic(auto, unfolding(crate::specs::LineReading::function_header_at))]
 fn function_header(text: &[u8]) -> Option<(Header, &[u8])>
     ensures { Gives (λ r. (r.0, r.1.now)) result (function_header_at text.now) }
@@ -181,28 +201,18 @@ fn function_header(text: &[u8]) -> Option<(Header, &[u8])>
         return None;
     };
     let (parameters, rest) = number(rest, b' ', 129)?;
-    let (frame, rest) = number(rest, b' ', 32768)?;
-    let (labels, rest) = number(rest, b' ', 129)?;
-    let (strings, rest) = number(rest, b' ', 1025)?;
-    let (code, rest) = number(rest, b'\n', 4097)?;
-    if parameters <= frame && (labels == 0 || code != 0) {
-        let sizes = Sizes {
-            frame,
-            labels,
-            strings,
-            code,
-        };
-        Some((
-            Header::Function {
-                name,
-                parameters,
-                sizes,
-            },
-            rest,
-        ))
-    } else {
-        None
+    let (sizes, rest) = sizes(rest)?;
+    if parameters > sizes.frame {
+        return None;
     }
+    Some((
+        Header::Function {
+            name,
+            parameters,
+            sizes,
+        },
+        rest,
+    ))
 }
 
 #[tactic(auto, unfolding(crate::specs::LineReading::simple_header_at))]
@@ -236,19 +246,18 @@ fn vector_header(text: &[u8]) -> Option<(Header, &[u8])>
     let (words, rest) = number(rest, b' ', 32768)?;
     let (values, rest) = number(rest, b' ', 1025)?;
     let (strings, rest) = number(rest, b'\n', 1025)?;
-    if words >= 1 && values <= words {
-        Some((
-            Header::Vector {
-                name,
-                words,
-                values,
-                strings,
-            },
-            rest,
-        ))
-    } else {
-        None
+    if words == 0 || values > words {
+        return None;
     }
+    Some((
+        Header::Vector {
+            name,
+            words,
+            values,
+            strings,
+        },
+        rest,
+    ))
 }
 
 /// The first line of a definition, or the last one of a code text.
