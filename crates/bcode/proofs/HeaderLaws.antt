@@ -1,5 +1,5 @@
 -- What is read as the first line of a definition is its text, and its text is read as it.
-use Rattle.std.proofs.Common.{subst, ◌≡◌, ℕ, ◌+◌, ◌^◌, ◌<◌, ◌≤◌, ◌⊎◌, inl, inr, Bool, true, false, ◌&&◌, ◌||◌, eqb, leb, List, [], ◌∷◌, ◌++◌, codes, decimal, Option, Some, None, refl, sym, ap, ◌∙◌, arith, append_assoc, lit<, IsTrue}
+use Rattle.std.proofs.Common.{subst, length, ◌≡◌, ℕ, ◌+◌, ◌^◌, ◌<◌, ◌≤◌, ◌⊎◌, inl, inr, Bool, true, false, ◌&&◌, ◌||◌, eqb, leb, List, [], ◌∷◌, ◌++◌, codes, decimal, Option, Some, None, refl, sym, ap, ◌∙◌, arith, append_assoc, lit<, IsTrue}
 use Rattle.std.specs.Prelude.{not}
 use Rattle.std.specs.Char.{is_ascii_digit}
 use Rattle.std.proofs.lemmas.Bool.Decides.{nat_tests}
@@ -205,5 +205,9 @@ header_at-again (header.Simple name v s) rest h = ap header_at (sym (simple_text
 header_at-again (header.Vector name w v s) rest h = ap header_at (sym (vector_text name w v s rest)) ∙ vector_header_at-again name w v s rest h
 header_at-again header.End rest h = refl
 
+header_text-filled : (x : Header) → 0 < length (header_text x)
+header_text-filled header.End = omega arith
+header_text-filled _ = omega arith
+
 pub header_at-exact : IsExact header_text IsHeaderWithin header_at
-header_at-exact = record { sound = header_at-sound; again = header_at-again }
+header_at-exact = record { sound = header_at-sound; again = header_at-again; filled = header_text-filled }

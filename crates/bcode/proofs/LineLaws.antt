@@ -1,5 +1,5 @@
 -- What is read as a line is its text, and its text is read as it.
-use Rattle.std.proofs.Common.{subst, drop, ◌≡◌, ℕ, ◌+◌, ◌^◌, ◌<◌, ◌≤◌, Bool, true, false, cond, eqb, List, [], ◌∷◌, ◌++◌, codes, decimal, Option, Some, None, refl, sym, ap, ◌∙◌, arith, append_assoc, IsTrue}
+use Rattle.std.proofs.Common.{subst, length, drop, ◌≡◌, ℕ, ◌+◌, ◌^◌, ◌<◌, ◌≤◌, Bool, true, false, cond, eqb, List, [], ◌∷◌, ◌++◌, codes, decimal, Option, Some, None, refl, sym, ap, ◌∙◌, arith, append_assoc, IsTrue}
 use Rattle.bword.specs.Names.{is_name}
 use Rattle.bword.specs.declared.operators.BinOp.{BinOp}
 use Rattle.bword.specs.declared.operators.BinOp.TheVariants as op
@@ -20,6 +20,7 @@ use Rattle.bcode.proofs.PartLaws.{bind_some, only_if, same_read, is_same, expect
 pub record IsExact {X : Type 0} (text : X → List ℕ) (within : X → Type 0) (read : Reader X) : Type 0 where
   pub sound : (bytes : List ℕ) (x : X) (rest : List ℕ) → read bytes ≡ Some (x, rest) → within x × (bytes ≡ text x ++ rest)
   pub again : (x : X) (rest : List ℕ) → within x → read (text x ++ rest) ≡ Some (x, rest)
+  pub filled : (x : X) → 0 < length (text x)
 
 mapped_some : {X Y : Type 0} (f : X → Y) (o : Option (X × List ℕ)) (y : Y) (rest : List ℕ) → mapped f o ≡ Some (y, rest)
     → (x : X) × (o ≡ Some (x, rest)) × (f x ≡ y)
@@ -122,6 +123,10 @@ ival_at-again strings few (ival.Number n) rest inside = ap (mapped ival.Number) 
 ival_at-again strings few (ival.Name name) rest inside = ap (mapped ival.Name) (name_operand_at-again name rest inside)
 ival_at-again strings few (ival.Text offset) rest inside = ap (mapped ival.Text) (operand_at-again strings offset rest few inside)
 
+ival_line-filled : (x : Ival) → 0 < length (ival_line x)
+ival_line-filled (ival.Number n) = omega arith
+ival_line-filled _ = omega arith
+
 pub ival_at-exact : (strings : ℕ) → strings ≤ 2 ^ 16 → IsExact ival_line (IsIvalWithin strings) (ival_at strings)
 unfolding ival_at
 ival_at-exact strings few = record {
@@ -131,6 +136,7 @@ ival_at-exact strings few = record {
       (number_entry ival_line (IsIvalWithin strings) 115 ival.Text strings (λ n h. h) (λ n. refl), tt)),
   );
   again = ival_at-again strings few;
+  filled = ival_line-filled;
 }
 
 pub number_line_at-exact : (letter below : ℕ) → below ≤ 2 ^ 16 → IsExact (λ n. line ((letter ∷ []) ∷ decimal n ∷ [])) (λ n. n < below) (number_line_at letter below)
@@ -142,6 +148,7 @@ number_line_at-exact letter below fits = record {
       (read.0, expect-sound letter bytes found.0 found.1 ∙ ap (λ l. letter ∷ l) read.1);
   again = λ n rest less.
       rw (expect-again letter (32 ∷ (decimal n ++ 10 ∷ [] ++ rest))) (operand_at-again below n rest fits less);
+  filled = λ n. omega arith;
 }
 
 -- operators
@@ -315,5 +322,9 @@ module _ (sizes : Sizes) where
   instr_at-again fit (instr.Call n) rest inside = ap (mapped instr.Call) (operand_at-again (2 ^ 16) n rest (omega arith) inside)
   instr_at-again fit _ rest inside = refl
 
+  instr_line-filled : (x : Instr) → 0 < length (instr_line x)
+  instr_line-filled (instr.Constant n) = omega arith
+  instr_line-filled _ = omega arith
+
   pub instr_at-exact : FitSizes sizes → IsExact instr_line (IsInstrWithin sizes) (instr_at sizes)
-  instr_at-exact fit = record { sound = instr_at-sound; again = instr_at-again fit }
+  instr_at-exact fit = record { sound = instr_at-sound; again = instr_at-again fit; filled = instr_line-filled }
