@@ -19,11 +19,11 @@ record IvalTwin (v : Ival) (ps : List Placed) : Type 0 where
   fits : (before before2 : List Ival) → values_words before ≡ values_words before2 → IvalFits before v → IvalFits before2 tree
   same_words : ival_words tree ≡ ival_words v
 
-constant_twin : (c : Constant) (ps : List Placed) → bare (ival_spelling (Ival_constant c)) ≡ bare ps → ival_spelling (Ival_constant c) ≡ kept_tokens ps
+constant_twin : (c : Constant) (ps : List Placed) → map bare (ival_spelling (Ival_constant c)) ≡ map bare ps → ival_spelling (Ival_constant c) ≡ kept_tokens ps
 constant_twin (Number m) ps h = cut_token (token.Number m) 0 [] ps h (λ line r hr k. let n : kept_tokens r ≡ [] = nothing_kept r hr in let e : mark (token.Number m) ∷ [] ≡ kept_tokens ps = cc in e)
 constant_twin (Character m) ps h = cut_token (token.Character m) 0 [] ps h (λ line r hr k. let n : kept_tokens r ≡ [] = nothing_kept r hr in let e : mark (token.Character m) ∷ [] ≡ kept_tokens ps = cc in e)
 
-ival_twin : (v : Ival) (ps : List Placed) → bare (ival_spelling v) ≡ bare ps → IvalTwin v ps
+ival_twin : (v : Ival) (ps : List Placed) → map bare (ival_spelling v) ≡ map bare ps → IvalTwin v ps
 ival_twin (Ival_constant c) ps h = record { tree = Ival_constant c; spelled = constant_twin c ps h; fits = λ before before2 e f. tt; same_words = refl }
 ival_twin (Ival_text bytes offset) ps h = cut_token (string_token bytes) 0 [] ps h (λ line r hr k.
     let n : kept_tokens r ≡ [] = nothing_kept r hr in
@@ -45,11 +45,11 @@ values_words-append before v =
 more_fits : (v : Ival) (values : List Ival) (l r : List Placed) (say : List Ival → List Placed) (i : IvalTwin v l) (is : ValuesTwin say values r) (before before2 : List Ival) → values_words before ≡ values_words before2 → EachBehind IvalFits before (v ∷ values) → EachBehind IvalFits before2 (i.tree ∷ is.trees)
 more_fits v values l r say i is before before2 e f = (i.fits before before2 e f.0, is.fits (before ++ v ∷ []) (before2 ++ i.tree ∷ []) (values_words-append before v ∙ (let a : ival_words i.tree ≡ ival_words v = i.same_words in let q : values_words before + ival_words v ≡ values_words before2 + ival_words i.tree = cc in q) ∙ sym (values_words-append before2 i.tree)) f.1)
 
-behind_twin : (values : List Ival) (ps : List Placed) → bare (comma_spelling ival_spelling values) ≡ bare ps → ValuesTwin (comma_spelling ival_spelling) values ps
+behind_twin : (values : List Ival) (ps : List Placed) → map bare (comma_spelling ival_spelling values) ≡ map bare ps → ValuesTwin (comma_spelling ival_spelling) values ps
 behind_twin [] ps h = record { trees = []; spelled = sym (nothing_kept ps h); fits = λ before before2 e f. tt }
 behind_twin (v ∷ values) ps h = more (behind_twin values)
   where
-    more : ((ps : List Placed) → bare (comma_spelling ival_spelling values) ≡ bare ps → ValuesTwin (comma_spelling ival_spelling) values ps) → ValuesTwin (comma_spelling ival_spelling) (v ∷ values) ps
+    more : ((ps : List Placed) → map bare (comma_spelling ival_spelling values) ≡ map bare ps → ValuesTwin (comma_spelling ival_spelling) values ps) → ValuesTwin (comma_spelling ival_spelling) (v ∷ values) ps
     more ih = cut_token token.Comma 0 (ival_spelling v ++ comma_spelling ival_spelling values) ps h (λ line r hr k. cut_append (ival_spelling v) (comma_spelling ival_spelling values) r hr (λ l r2 hl h2 k2.
         let i : IvalTwin v l = ival_twin v l hl in
         let is : ValuesTwin (comma_spelling ival_spelling) values r2 = ih r2 h2 in
@@ -57,7 +57,7 @@ behind_twin (v ∷ values) ps h = more (behind_twin values)
         let b : comma_spelling ival_spelling is.trees ≡ kept_tokens r2 = is.spelled in
         record { trees = i.tree ∷ is.trees; spelled = let e : mark token.Comma ∷ (ival_spelling i.tree ++ comma_spelling ival_spelling is.trees) ≡ kept_tokens ps = cc in e; fits = more_fits v values l r2 (comma_spelling ival_spelling) i is }))
 
-list_of_twins : (values : List Ival) (ps : List Placed) → bare (list_spelling ival_spelling values) ≡ bare ps → ValuesTwin (list_spelling ival_spelling) values ps
+list_of_twins : (values : List Ival) (ps : List Placed) → map bare (list_spelling ival_spelling values) ≡ map bare ps → ValuesTwin (list_spelling ival_spelling) values ps
 list_of_twins [] ps h = record { trees = []; spelled = sym (nothing_kept ps h); fits = λ before before2 e f. tt }
 list_of_twins (v ∷ values) ps h = cut_append (ival_spelling v) (comma_spelling ival_spelling values) ps h (λ l r2 hl h2 k2.
     let i : IvalTwin v l = ival_twin v l hl in
@@ -66,7 +66,7 @@ list_of_twins (v ∷ values) ps h = cut_append (ival_spelling v) (comma_spelling
     let b : comma_spelling ival_spelling is.trees ≡ kept_tokens r2 = is.spelled in
     record { trees = i.tree ∷ is.trees; spelled = let e : ival_spelling i.tree ++ comma_spelling ival_spelling is.trees ≡ kept_tokens ps = cc in e; fits = more_fits v values l r2 (comma_spelling ival_spelling) i is })
 
-values_twin : (values : List Ival) (ps : List Placed) → bare (spell_values values) ≡ bare ps → ValuesTwin spell_values values ps
+values_twin : (values : List Ival) (ps : List Placed) → map bare (spell_values values) ≡ map bare ps → ValuesTwin spell_values values ps
 values_twin values ps h = cut_append (list_spelling ival_spelling values) (mark token.Semicolon ∷ []) ps h (λ l r hl hr k. cut_token token.Semicolon 0 [] r hr (λ line r2 h2 k2.
     let n : kept_tokens r2 ≡ [] = nothing_kept r2 h2 in
     let t : ValuesTwin (list_spelling ival_spelling) values l = list_of_twins values l hl in
@@ -80,7 +80,7 @@ pub record DefinitionTwin (d : Definition) (ps : List Placed) : Type 0 where
   pub formed : IsFormed d → IsFormed tree
   pub same_open : is_open tree ≡ is_open d
 
-pub definition_twin : (d : Definition) (ps : List Placed) → bare (spell_definition d) ≡ bare ps → DefinitionTwin d ps
+pub definition_twin : (d : Definition) (ps : List Placed) → map bare (spell_definition d) ≡ map bare ps → DefinitionTwin d ps
 definition_twin (Simple w values) ps h = cut_token (token.Name w.text) w.line (spell_values values) ps h (λ line r hr k.
     let t : ValuesTwin spell_values values r = values_twin values r hr in
     let s : spell_values t.trees ≡ kept_tokens r = t.spelled in

@@ -29,10 +29,10 @@ pub record ArgumentsTwin (args : Arguments) (ps : List Placed) : Type 0 where
   pub commas : comma_behind tree ≡ comma_behind args
 
 abbrev pub HasTwin : Expr → Type 0
-HasTwin e = (ps : List Placed) → bare (spell e) ≡ bare ps → Twin e ps
+HasTwin e = (ps : List Placed) → map bare (spell e) ≡ map bare ps → Twin e ps
 
 abbrev HaveTwin : Arguments → Type 0
-HaveTwin args = (ps : List Placed) → bare (spell_arguments args) ≡ bare ps → ArgumentsTwin args ps
+HaveTwin args = (ps : List Placed) → map bare (spell_arguments args) ≡ map bare ps → ArgumentsTwin args ps
 
 pub same_off : {e e2 : Expr} → Alike e e2 → (off : ℕ) → off + words e ≡ off + words e2
 same_off a off = ap (λ n. off + n) (sym a.same_words)
@@ -166,7 +166,7 @@ another_twin before e tb te ps h = cut_append (spell_arguments before) (comma_be
     let w2 : words u.tree ≡ words e = u.alike.same_words in
     record { tree = Another t.tree u.tree; spelled = let e : spell_arguments t.tree ++ (comma_behind t.tree ++ spell u.tree) ≡ kept_tokens ps = cc in e; fits = λ room off f. (t.fits room off f.0, fits_at u.alike rvalue_rank room _ _ (ap (λ n. off + n) (sym w1)) f.1); same_words = let e : argument_words t.tree + words u.tree ≡ argument_words before + words e = cc in e; commas = refl }))
   where
-    comma_kept : (before : Arguments) (ps : List Placed) → bare (comma_behind before) ≡ bare ps → comma_behind before ≡ kept_tokens ps
+    comma_kept : (before : Arguments) (ps : List Placed) → map bare (comma_behind before) ≡ map bare ps → comma_behind before ≡ kept_tokens ps
     comma_kept No_arguments ps h = sym (nothing_kept ps h)
     comma_kept (Another b e) ps h = cut_token token.Comma 0 [] ps h (λ line r hr k. let n : kept_tokens r ≡ [] = nothing_kept r hr in let q : mark token.Comma ∷ [] ≡ kept_tokens ps = cc in q)
 

@@ -13,16 +13,16 @@ use Rattle.btree.specs.Statement.{Declared, Heading, Auto, Extrn, Label, Case, S
 use Rattle.btree.proofs.Relined.{cut_token, cut_append, nothing_kept, Item, Items, list_twin}
 use Rattle.btree.proofs.ExpressionRelined.{Alike, Twin, HasTwin, same_off, fits_at, deeper_at, expr_twin}
 
-pub name_twin : (w : Word) (ps : List Placed) → bare (name_spelling w) ≡ bare ps → Item name_spelling w ps
+pub name_twin : (w : Word) (ps : List Placed) → map bare (name_spelling w) ≡ map bare ps → Item name_spelling w ps
 name_twin w ps h = cut_token (token.Name w.text) w.line [] ps h (λ line r hr k.
     let n : kept_tokens r ≡ [] = nothing_kept r hr in
     record { tree = record { text = w.text; line = line }; spelled = let e : placed (token.Name w.text) line ∷ [] ≡ kept_tokens ps = cc in e })
 
-pub size_kept : (o : Option ℕ) (ps : List Placed) → bare (size_spelling o) ≡ bare ps → size_spelling o ≡ kept_tokens ps
+pub size_kept : (o : Option ℕ) (ps : List Placed) → map bare (size_spelling o) ≡ map bare ps → size_spelling o ≡ kept_tokens ps
 size_kept None ps h = sym (nothing_kept ps h)
 size_kept (Some m) ps h = cut_token (token.Number m) 0 [] ps h (λ line r hr k. let n : kept_tokens r ≡ [] = nothing_kept r hr in let e : mark (token.Number m) ∷ [] ≡ kept_tokens ps = cc in e)
 
-declared_twin : (d : Declared) (ps : List Placed) → bare (declared_spelling d) ≡ bare ps → Item declared_spelling d ps
+declared_twin : (d : Declared) (ps : List Placed) → map bare (declared_spelling d) ≡ map bare ps → Item declared_spelling d ps
 declared_twin d ps h = cut_token (token.Name d.word.text) d.word.line (size_spelling d.size) ps h (λ line r hr k.
     let n : size_spelling d.size ≡ kept_tokens r = size_kept d.size r hr in
     record { tree = record { word = record { text = d.word.text; line = line }; size = d.size }; spelled = let e : placed (token.Name d.word.text) line ∷ size_spelling d.size ≡ kept_tokens ps = cc in e })
@@ -36,7 +36,7 @@ constant_kept : (c : Constant) (line : ℕ) → kept (placed (constant_token c) 
 constant_kept (Number n) line = refl
 constant_kept (Character n) line = refl
 
-declaration_twin : {A : Type 0} (say : A → List Placed) → ((a : A) (ps : List Placed) → bare (say a) ≡ bare ps → Item say a ps) → (made : List A → Heading) (k : Keyword) → ((line : ℕ) → kept (placed (token.Keyword k) line) ≡ keyword_mark k) → ((xs : List A) → spell_heading (made xs) ≡ keyword_mark k ∷ (list_spelling say xs ++ (mark token.Semicolon ∷ []))) → ((xs ys : List A) → (IsNonempty xs → IsNonempty ys) → IsHeading (made xs) → IsHeading (made ys)) → (xs : List A) (ps : List Placed) → bare (keyword_mark k ∷ (list_spelling say xs ++ (mark token.Semicolon ∷ []))) ≡ bare ps → HeadingTwin (made xs) ps
+declaration_twin : {A : Type 0} (say : A → List Placed) → ((a : A) (ps : List Placed) → map bare (say a) ≡ map bare ps → Item say a ps) → (made : List A → Heading) (k : Keyword) → ((line : ℕ) → kept (placed (token.Keyword k) line) ≡ keyword_mark k) → ((xs : List A) → spell_heading (made xs) ≡ keyword_mark k ∷ (list_spelling say xs ++ (mark token.Semicolon ∷ []))) → ((xs ys : List A) → (IsNonempty xs → IsNonempty ys) → IsHeading (made xs) → IsHeading (made ys)) → (xs : List A) (ps : List Placed) → map bare (keyword_mark k ∷ (list_spelling say xs ++ (mark token.Semicolon ∷ []))) ≡ map bare ps → HeadingTwin (made xs) ps
 declaration_twin say twin made k unkept shape formed xs ps h = cut_token (token.Keyword k) 0 (list_spelling say xs ++ (mark token.Semicolon ∷ [])) ps h (λ line r hr e1. cut_append (list_spelling say xs) (mark token.Semicolon ∷ []) r hr (λ l r2 hl h2 e2. cut_token token.Semicolon 0 [] r2 h2 (λ line2 r3 h3 e3.
     let n : kept_tokens r3 ≡ [] = nothing_kept r3 h3 in
     let t : Items say xs l = list_twin say twin xs l hl in
@@ -45,7 +45,7 @@ declaration_twin say twin made k unkept shape formed xs ps h = cut_token (token.
     let e : keyword_mark k ∷ (list_spelling say t.trees ++ (mark token.Semicolon ∷ [])) ≡ kept_tokens ps = cc in
     record { tree = made t.trees; spelled = shape t.trees ∙ e; formed = formed xs t.trees t.nonempty })))
 
-heading_twin : (h : Heading) (ps : List Placed) → bare (spell_heading h) ≡ bare ps → HeadingTwin h ps
+heading_twin : (h : Heading) (ps : List Placed) → map bare (spell_heading h) ≡ map bare ps → HeadingTwin h ps
 heading_twin (Auto ds) ps h = declaration_twin declared_spelling declared_twin Auto keyword.Auto (λ line. refl) (λ xs. refl) (λ xs ys n. n) ds ps h
 heading_twin (Extrn ws) ps h = declaration_twin name_spelling name_twin Extrn keyword.Extrn (λ line. refl) (λ xs. refl) (λ xs ys n. n) ws ps h
 heading_twin (Label w) ps h = cut_token (token.Name w.text) w.line (mark token.Colon ∷ []) ps h (λ line r hr k. cut_token token.Colon 0 [] r hr (λ line2 r2 h2 k2.
@@ -74,10 +74,10 @@ record BodyTwin (ss : Stmts) (ps : List Placed) : Type 0 where
   same_words : body_words tree ≡ body_words ss
 
 abbrev pub HasStatementTwin : Stmt → Type 0
-HasStatementTwin s = (ps : List Placed) → bare (spell_statement s) ≡ bare ps → StatementTwin s ps
+HasStatementTwin s = (ps : List Placed) → map bare (spell_statement s) ≡ map bare ps → StatementTwin s ps
 
 abbrev HasBodyTwin : Stmts → Type 0
-HasBodyTwin ss = (ps : List Placed) → bare (spell_body ss) ≡ bare ps → BodyTwin ss ps
+HasBodyTwin ss = (ps : List Placed) → map bare (spell_body ss) ≡ map bare ps → BodyTwin ss ps
 
 sits_at : {s s2 : Stmt} → StatementAlike s s2 → (room off off2 : ℕ) → off ≡ off2 → Sits s room off → Sits s2 room off2
 sits_at {s} {s2} a room off off2 h f = subst (λ o. Sits s2 room o) h (a.sits room off f)
@@ -90,7 +90,7 @@ record ConditionTwin (e : Expr) (ps : List Placed) : Type 0 where
   spelled : spell_condition tree ≡ kept_tokens ps
   alike : Alike e tree
 
-condition_twin : (e : Expr) (ps : List Placed) → bare (spell_condition e) ≡ bare ps → ConditionTwin e ps
+condition_twin : (e : Expr) (ps : List Placed) → map bare (spell_condition e) ≡ map bare ps → ConditionTwin e ps
 condition_twin e ps h = cut_token token.OpenParen 0 (spell e ++ (mark token.CloseParen ∷ [])) ps h (λ line r hr k. cut_append (spell e) (mark token.CloseParen ∷ []) r hr (λ l r2 hl h2 k2. cut_token token.CloseParen 0 [] r2 h2 (λ line2 r3 h3 k3.
     let n : kept_tokens r3 ≡ [] = nothing_kept r3 h3 in
     let t : Twin e l = expr_twin e l hl in
@@ -124,7 +124,7 @@ record TestedTwin (e : Expr) (s : Stmt) (ps : List Placed) : Type 0 where
   test_alike : Alike e test
   alike : StatementAlike s tree
 
-tested_twin : (e : Expr) (s : Stmt) → HasStatementTwin s → (ps : List Placed) → bare (spell_condition e ++ spell_statement s) ≡ bare ps → TestedTwin e s ps
+tested_twin : (e : Expr) (s : Stmt) → HasStatementTwin s → (ps : List Placed) → map bare (spell_condition e ++ spell_statement s) ≡ map bare ps → TestedTwin e s ps
 tested_twin e s ts ps h = cut_append (spell_condition e) (spell_statement s) ps h (λ l r hl hr k.
     let t : ConditionTwin e l = condition_twin e l hl in
     let u : StatementTwin s r = ts r hr in

@@ -1,5 +1,5 @@
 -- The laws of reading a definition.
-use Rattle.std.specs.Prelude.{◌≡◌, ℕ, List, [], ◌∷◌, ◌++◌, Bool, true, false}
+use Rattle.std.specs.Prelude.{◌≡◌, ℕ, map, List, [], ◌∷◌, ◌++◌, Bool, true, false}
 use Rattle.blex.specs.declared.token.Token.TheVariants as token
 use Rattle.blex.specs.declared.token.Keyword.TheVariants as keyword
 use Rattle.blex.specs.declared.token.Placed.{Placed}
@@ -26,7 +26,7 @@ GoesOnWithElse = (d : Definition) → IsFormed d → is_open d ≡ true → (d2 
 
 -- A definition that is spelled by tokens but for their lines has a twin with those lines.
 abbrev pub HasTwin : Type 0
-HasTwin = (d : Definition) (tokens : List Placed) → IsFormed d → bare (spell_definition d) ≡ bare tokens → (d2 : Definition) × IsFormed d2 × (is_open d2 ≡ is_open d) × (spell_definition d2 ≡ kept_tokens tokens)
+HasTwin = (d : Definition) (tokens : List Placed) → IsFormed d → map bare (spell_definition d) ≡ map bare tokens → (d2 : Definition) × IsFormed d2 × (is_open d2 ≡ is_open d) × (spell_definition d2 ≡ kept_tokens tokens)
 
 -- Reading a definition depends on the tokens taken and one more, and can be ended wherever it stops.
 abbrev pub ReadsOn : Type 0

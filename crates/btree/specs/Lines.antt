@@ -5,6 +5,7 @@ use Rattle.blex.specs.declared.token.Keyword.TheVariants as keyword
 use Rattle.blex.specs.declared.token.Token.{Token}
 use Rattle.blex.specs.declared.token.Token.TheVariants as token
 use Rattle.blex.specs.declared.token.Placed.{Placed}
+pub use Rattle.blex.specs.Tokens.{placed}
 
 abbrev pub is_case : Keyword → Bool
 is_case keyword.Case = true
@@ -21,9 +22,6 @@ keeps_line token.Increment = true
 keeps_line token.Decrement = true
 keeps_line _ = false
 
-abbrev pub placed : Token → ℕ → Placed
-placed t line = record { token = t; line = line }
-
 -- a token without its line
 abbrev pub mark : Token → Placed
 mark t = placed t 0
@@ -35,9 +33,9 @@ kept p = if keeps_line p.token then p else mark p.token
 abbrev pub kept_tokens : List Placed → List Placed
 kept_tokens tokens = map kept tokens
 
--- the tokens alone
-abbrev pub bare : List Placed → List Token
-bare tokens = map (λ p. p.token) tokens
+-- a token alone
+abbrev pub bare : Placed → Token
+bare p = p.token
 
 abbrev pub string_token : List ℕ → Token
 string_token bytes = token.String (record { items = bytes })
