@@ -10,3 +10,6 @@ pub mod Definition
 pub mod DefinitionReader
 pub mod Laws
 pub mod Rows
+pub mod Scope
+pub mod Scan
+pub mod Code
