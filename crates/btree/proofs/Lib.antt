@@ -14,3 +14,4 @@ pub mod ExpressionRelined
 pub mod StatementRelined
 pub mod DefinitionRelined
 pub mod LawProofs
+pub mod CodeLaws

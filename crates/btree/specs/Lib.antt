@@ -13,3 +13,4 @@ pub mod Rows
 pub mod Scope
 pub mod Scan
 pub mod Code
+pub mod CodeRows

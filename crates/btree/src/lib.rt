@@ -3,6 +3,7 @@
 #![tactic(auto)]
 
 ghost use Rattle.btree.specs.Laws.{BeginsWithName, GoesOnWithElse, HasTwin, OneDefinition, OneExpression, OneStatement, ReadsAgain, ReadsOn, ReadsSpelling};
+ghost use Rattle.btree.specs.CodeRows.{CodeRows, CountsWords, FaultRows, ScansOn};
 ghost use Rattle.btree.specs.Rows.{DefinitionRows, ExpressionRows, LevelRows};
 
 /// What is read is spelled by the tokens that were taken, and well formed.
@@ -54,4 +55,24 @@ pub fn rows_of_levels()
 /// Statements and definitions, where they could be read otherwise.
 pub fn rows_of_definitions()
     ensures { DefinitionRows }
+{}
+
+/// Definitions and their code.
+pub fn rows_of_code()
+    ensures { CodeRows }
+{}
+
+/// Definitions and their first fault beside the syntax.
+pub fn rows_of_faults()
+    ensures { FaultRows }
+{}
+
+/// A scan goes on from where another ended.
+pub fn a_scan_goes_on()
+    ensures { ScansOn }
+{}
+
+/// The offsets of strings count the words that they take.
+pub fn offsets_count_string_words()
+    ensures { CountsWords }
 {}
