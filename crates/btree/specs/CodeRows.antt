@@ -1,5 +1,5 @@
 -- Definitions with their code, or their fault.
-use Rattle.std.specs.Prelude.{◌≡◌, ℕ, List, [], ◌∷◌, ◌++◌, length, Option, Some, None, Result, Ok}
+use Rattle.std.specs.Prelude.{◌≡◌, ℕ, zero, suc, List, [], ◌∷◌, ◌++◌, length, Option, Some, None, Result, Ok}
 use Rattle.bword.specs.declared.operators.BinOp.TheVariants as op
 use Rattle.blex.specs.declared.token.Letters.{Letters}
 use Rattle.blex.specs.declared.token.Letters.TheVariants as letters
@@ -71,6 +71,17 @@ case_fault l line = Some (record { letters = l; about = about.Case; line = line 
 abbrev pub case_token : ℕ → Placed
 case_token line = placed (token.Keyword keyword.Case) line
 
+-- different names, one for each number below n, with commas between them
+abbrev pub names_below : ℕ → List Placed
+names_below zero = []
+names_below (suc zero) = name 0 ∷ []
+names_below (suc (suc n)) = name (suc n) ∷ mark token.Comma ∷ names_below (suc n)
+
+-- a case for each number below n
+abbrev pub cases_below : ℕ → List Placed
+cases_below zero = []
+cases_below (suc n) = case_token 2 ∷ number n ∷ mark token.Colon ∷ cases_below n
+
 pub record CodeRows : Type 0 where
   -- `f(a) a=!a;`
   pub assigned : code_at (function_f (name 97 ∷ []) (name 97 ∷ assign ∷ placed token.Not 1 ∷ name 97 ∷ semicolon ∷ [])) ≡ of_f 1 1 [] [] (instr.Automatic 0 ∷ instr.Automatic 0 ∷ instr.Load ∷ instr.Not ∷ instr.Store ∷ instr.Pop ∷ instr.Constant 0 ∷ instr.Return ∷ [])
@@ -107,6 +118,15 @@ pub record FaultRows : Type 0 where
   pub no_switch : fault_in [] (function_f [] (case_token 4 ∷ number 1 ∷ mark token.Colon ∷ semicolon ∷ [])) ≡ case_fault letters.Syntax 4
   pub same_case : fault_in [] (function_f [] (keyword_mark keyword.Switch ∷ number 1 ∷ (braced (case_token 1 ∷ number 97 ∷ mark token.Colon ∷ semicolon ∷ case_token 2 ∷ mark (token.Character 97) ∷ mark token.Colon ∷ semicolon ∷ [])))) ≡ case_fault letters.Redeclared 2
   pub inner_case : fault_in [] (function_f [] (keyword_mark keyword.Switch ∷ number 1 ∷ (braced (case_token 1 ∷ number 2 ∷ mark token.Colon ∷ keyword_mark keyword.Switch ∷ number 1 ∷ (braced (case_token 1 ∷ number 2 ∷ mark token.Colon ∷ semicolon ∷ []) ++ (case_token 1 ∷ number 3 ∷ mark token.Colon ∷ semicolon ∷ []))))) ) ≡ None
+  -- 128 parameters, 129 parameters, and 128 with another name; the names come from the greatest number down
+  pub most_names : fault_in [] (function_f (names_below 128) (semicolon ∷ [])) ≡ None
+  pub too_many_names : fault_in [] (function_f (names_below 129) (semicolon ∷ [])) ≡ lone_fault letters.TooManyNames 1
+  pub one_more_name : fault_in [] (function_f (names_below 128) (placed (token.Name (200 ∷ [])) 2 ∷ placed (token.Assign None) 3 ∷ number 1 ∷ semicolon ∷ [])) ≡ lone_fault letters.TooManyNames 2
+  -- 256 cases, and 257
+  pub most_cases : fault_in [] (function_f [] (keyword_mark keyword.Switch ∷ number 1 ∷ braced (cases_below 256 ++ semicolon ∷ []))) ≡ None
+  pub too_many_cases : fault_in [] (function_f [] (keyword_mark keyword.Switch ∷ number 1 ∷ braced (cases_below 257 ++ semicolon ∷ []))) ≡ lone_fault letters.TooManyCases 2
+  -- `f() { extrn x; (x)=1; x[0]++; *x=1; }`
+  pub lvalues : fault_in [] (function_f [] (keyword_mark keyword.Extrn ∷ name 120 ∷ semicolon ∷ (braced (mark token.OpenParen ∷ name 120 ∷ mark token.CloseParen ∷ assign ∷ number 1 ∷ semicolon ∷ name 120 ∷ mark token.OpenBracket ∷ number 0 ∷ mark token.CloseBracket ∷ placed token.Increment 1 ∷ semicolon ∷ operator op.Mul ∷ name 120 ∷ assign ∷ number 1 ∷ semicolon ∷ [])))) ≡ None
   -- `v[32766];` and `v[32767];`
   pub largest : fault_in [] (name 118 ∷ mark token.OpenBracket ∷ number 32766 ∷ mark token.CloseBracket ∷ semicolon ∷ []) ≡ None
   pub too_large : fault_in [] (name 118 ∷ mark token.OpenBracket ∷ number 32767 ∷ mark token.CloseBracket ∷ semicolon ∷ []) ≡ lone_fault letters.TooLarge 1
