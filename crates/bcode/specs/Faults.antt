@@ -1,0 +1,37 @@
+-- Where a text stops being the beginning of a code text.
+use Rattle.std.specs.Prelude.{◌≡◌, ℕ, suc, ◌≤◌, List, ◌++◌, length, take, All}
+use Rattle.std.specs.List.{flat_map}
+use Rattle.bcode.specs.Text.{joined, code_lines, text_of, header_line}
+use Rattle.bcode.specs.Views.{IsWithinRanges}
+use Rattle.bcode.specs.declared.definition.Definition.{Definition}
+use Rattle.bcode.specs.declared.fault.CodeFault.{CodeFault}
+use Rattle.bcode.specs.declared.fault.CodeFault.TheVariants as fault
+
+-- The text begins with the first m lines of some code text.
+pub record Begins (text : List ℕ) (m : ℕ) : Type 0 where
+  pub definitions : List Definition
+  pub within : All IsWithinRanges definitions
+  pub enough : m ≤ length (code_lines definitions)
+  pub rest : List ℕ
+  pub same : text ≡ joined (take m (code_lines definitions)) ++ rest
+
+-- n is one more than the greatest number of first lines of the text that begin a code text.
+pub record IsFaultLine (text : List ℕ) (n : ℕ) : Type 0 where
+  pub good : ℕ
+  pub next : n ≡ suc good
+  pub begins : Begins text good
+  pub greatest : (m : ℕ) → Begins text m → m ≤ good
+
+-- Behind some definitions the first line of another one stands.
+pub record HasHeader (text : List ℕ) : Type 0 where
+  pub definitions : List Definition
+  pub next : Definition
+  pub within : All IsWithinRanges definitions
+  pub next_within : IsWithinRanges next
+  pub rest : List ℕ
+  pub same : text ≡ flat_map text_of definitions ++ (header_line next ++ rest)
+
+-- why a text was refused
+abbrev pub IsFaultOf : List ℕ → CodeFault → Type 0
+IsFaultOf text (fault.Line n) = IsFaultLine text n
+IsFaultOf text fault.Memory = HasHeader text

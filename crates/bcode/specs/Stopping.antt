@@ -1,0 +1,57 @@
+-- A text as lines, each of which a state expects or not.
+use Rattle.std.specs.Prelude.{◌≡◌, ℕ, zero, suc, ◌+◌, ◌<◌, ◌≤◌, List, [], ◌∷◌, ◌++◌, length, replicate, All, codes, decimal, Result, Ok, Err}
+use Rattle.std.specs.List.{flat_map}
+use Rattle.bcode.specs.Definitions.{IsWord, IsInstrWithin, IsIvalWithin}
+use Rattle.bcode.specs.Headers.{header_of, header_text, IsHeaderWithin}
+use Rattle.bcode.specs.Text.{joined, body_lines, target_line, string_line, instr_line, ival_line}
+use Rattle.bcode.specs.Views.{IsWithinRanges}
+use Rattle.bcode.specs.declared.definition.Definition.{Definition}
+use Rattle.bcode.specs.declared.fault.CodeFault.{CodeFault}
+use Rattle.bcode.specs.declared.fault.CodeFault.TheVariants as fault
+use Rattle.bcode.specs.declared.header.Header.{Header}
+use Rattle.bcode.specs.declared.header.Header.TheVariants as header
+use Rattle.bcode.specs.declared.header.Sizes.{Sizes}
+use Rattle.bcode.specs.declared.instr.Instr.{Instr}
+use Rattle.bcode.specs.declared.instr.Ival.{Ival}
+
+-- what a line inside a definition can be
+pub data Kind : Type 0 where
+  value : ℕ → Kind
+  target : ℕ → Kind
+  string : Kind
+  instruction : Sizes → Kind
+
+-- the line is one of these
+abbrev pub IsOfKind : Kind → List ℕ → Type 0
+IsOfKind (value strings) l = (x : Ival) × IsIvalWithin strings x × (l ≡ ival_line x)
+IsOfKind (target code) l = (n : ℕ) × (n < code) × (l ≡ target_line n)
+IsOfKind string l = (n : ℕ) × IsWord n × (l ≡ string_line n)
+IsOfKind (instruction sizes) l = (i : Instr) × IsInstrWithin sizes i × (l ≡ instr_line i)
+
+-- the lines that have to come before the next definition; or nothing comes any more
+pub data State : Type 0 where
+  expects : List Kind → State
+  finished : State
+
+abbrev pub state_after : Header → State
+state_after (header.Function name parameters s) =
+    expects (replicate s.labels (target s.code) ++ (replicate s.strings string ++ replicate s.code (instruction s)))
+state_after (header.Simple name values strings) = expects (replicate values (value strings) ++ replicate strings string)
+state_after (header.Vector name words values strings) = expects (replicate values (value strings) ++ replicate strings string)
+state_after header.End = finished
+
+-- a line leads from one state to the next
+abbrev pub Leads : State → List ℕ → State → Type 0
+Leads (expects []) l to = (h : Header) × IsHeaderWithin h × (l ≡ header_text h) × (to ≡ state_after h)
+Leads (expects (k ∷ ks)) l to = IsOfKind k l × (to ≡ expects ks)
+Leads finished l to = ⊥
+
+-- The first line of the text leads nowhere.
+pub record Stuck (from : State) (text : List ℕ) : Type 0 where
+  pub refused : (l : List ℕ) (to : State) (rest : List ℕ) → Leads from l to → text ≡ l ++ rest → ⊥
+  pub not_finished : from ≡ finished → text ≡ [] → ⊥
+
+-- after n lines the text is stuck
+abbrev pub Stops : ℕ → State → List ℕ → Type 0
+Stops zero from text = Stuck from text
+Stops (suc n) from text = (l : List ℕ) × (to : State) × (rest : List ℕ) × Leads from l to × (text ≡ l ++ rest) × Stops n to rest

@@ -1,0 +1,98 @@
+-- A definition has a twin with the lines of any tokens that are bare alike.
+use Rattle.std.proofs.Common.{◌≡◌, ℕ, ◌+◌, List, [], ◌∷◌, ◌++◌, Bool, sym, ap, ◌∙◌, refl, subst, Option}
+use Rattle.std.specs.Prelude.{map, sum_by}
+use Rattle.std.proofs.lemmas.List.Sums.{sum_by-append}
+use Rattle.std.proofs.Common.{arith}
+use Rattle.blex.specs.declared.token.Token.TheVariants as token
+use Rattle.blex.specs.declared.token.Placed.{Placed}
+use Rattle.btree.specs.Lines.{mark, placed, kept, kept_tokens, bare, string_token}
+use Rattle.btree.specs.Expression.{Word, Constant, Number, Character, constant_token}
+use Rattle.btree.specs.Commas.{comma_spelling, list_spelling, EachBehind}
+use Rattle.btree.specs.Statement.{Stmt, size_spelling, name_spelling, spell_statement}
+use Rattle.btree.specs.Definition.{Ival, Ival_constant, Ival_text, Ival_name, Definition, Simple, Vector, Function, ival_spelling, ival_words, spell_values, spell_definition, values_words, IvalFits, nesting_limit, IsFormed, is_open}
+use Rattle.btree.proofs.Relined.{cut_token, cut_append, nothing_kept, Items, list_twin}
+use Rattle.btree.proofs.StatementRelined.{name_twin, size_kept, StatementTwin, statement_twin}
+
+record IvalTwin (v : Ival) (ps : List Placed) : Type 0 where
+  tree : Ival
+  spelled : ival_spelling tree ≡ kept_tokens ps
+  fits : (before before2 : List Ival) → values_words before ≡ values_words before2 → IvalFits before v → IvalFits before2 tree
+  same_words : ival_words tree ≡ ival_words v
+
+constant_twin : (c : Constant) (ps : List Placed) → map bare (ival_spelling (Ival_constant c)) ≡ map bare ps → ival_spelling (Ival_constant c) ≡ kept_tokens ps
+constant_twin (Number m) ps h = cut_token (token.Number m) 0 [] ps h (λ line r hr k. let n : kept_tokens r ≡ [] = nothing_kept r hr in let e : mark (token.Number m) ∷ [] ≡ kept_tokens ps = cc in e)
+constant_twin (Character m) ps h = cut_token (token.Character m) 0 [] ps h (λ line r hr k. let n : kept_tokens r ≡ [] = nothing_kept r hr in let e : mark (token.Character m) ∷ [] ≡ kept_tokens ps = cc in e)
+
+ival_twin : (v : Ival) (ps : List Placed) → map bare (ival_spelling v) ≡ map bare ps → IvalTwin v ps
+ival_twin (Ival_constant c) ps h = record { tree = Ival_constant c; spelled = constant_twin c ps h; fits = λ before before2 e f. tt; same_words = refl }
+ival_twin (Ival_text bytes offset) ps h = cut_token (string_token bytes) 0 [] ps h (λ line r hr k.
+    let n : kept_tokens r ≡ [] = nothing_kept r hr in
+    record { tree = Ival_text bytes offset; spelled = let e : mark (string_token bytes) ∷ [] ≡ kept_tokens ps = cc in e; fits = λ before before2 e f. f ∙ e; same_words = refl })
+ival_twin (Ival_name w) ps h = cut_token (token.Name w.text) w.line [] ps h (λ line r hr k.
+    let n : kept_tokens r ≡ [] = nothing_kept r hr in
+    record { tree = Ival_name (record { text = w.text; line = line }); spelled = let e : placed (token.Name w.text) line ∷ [] ≡ kept_tokens ps = cc in e; fits = λ before before2 e f. tt; same_words = refl })
+
+record ValuesTwin (say : List Ival → List Placed) (values : List Ival) (ps : List Placed) : Type 0 where
+  trees : List Ival
+  spelled : say trees ≡ kept_tokens ps
+  fits : (before before2 : List Ival) → values_words before ≡ values_words before2 → EachBehind IvalFits before values → EachBehind IvalFits before2 trees
+
+values_words-append : (before : List Ival) (v : Ival) → values_words (before ++ v ∷ []) ≡ values_words before + ival_words v
+values_words-append before v =
+    let one : values_words (v ∷ []) ≡ ival_words v = omega arith in
+    sum_by-append ival_words before (v ∷ []) ∙ ap (λ n. values_words before + n) one
+
+more_fits : (v : Ival) (values : List Ival) (l r : List Placed) (say : List Ival → List Placed) (i : IvalTwin v l) (is : ValuesTwin say values r) (before before2 : List Ival) → values_words before ≡ values_words before2 → EachBehind IvalFits before (v ∷ values) → EachBehind IvalFits before2 (i.tree ∷ is.trees)
+more_fits v values l r say i is before before2 e f = (i.fits before before2 e f.0, is.fits (before ++ v ∷ []) (before2 ++ i.tree ∷ []) (values_words-append before v ∙ (let a : ival_words i.tree ≡ ival_words v = i.same_words in let q : values_words before + ival_words v ≡ values_words before2 + ival_words i.tree = cc in q) ∙ sym (values_words-append before2 i.tree)) f.1)
+
+behind_twin : (values : List Ival) (ps : List Placed) → map bare (comma_spelling ival_spelling values) ≡ map bare ps → ValuesTwin (comma_spelling ival_spelling) values ps
+behind_twin [] ps h = record { trees = []; spelled = sym (nothing_kept ps h); fits = λ before before2 e f. tt }
+behind_twin (v ∷ values) ps h = more (behind_twin values)
+  where
+    more : ((ps : List Placed) → map bare (comma_spelling ival_spelling values) ≡ map bare ps → ValuesTwin (comma_spelling ival_spelling) values ps) → ValuesTwin (comma_spelling ival_spelling) (v ∷ values) ps
+    more ih = cut_token token.Comma 0 (ival_spelling v ++ comma_spelling ival_spelling values) ps h (λ line r hr k. cut_append (ival_spelling v) (comma_spelling ival_spelling values) r hr (λ l r2 hl h2 k2.
+        let i : IvalTwin v l = ival_twin v l hl in
+        let is : ValuesTwin (comma_spelling ival_spelling) values r2 = ih r2 h2 in
+        let a : ival_spelling i.tree ≡ kept_tokens l = i.spelled in
+        let b : comma_spelling ival_spelling is.trees ≡ kept_tokens r2 = is.spelled in
+        record { trees = i.tree ∷ is.trees; spelled = let e : mark token.Comma ∷ (ival_spelling i.tree ++ comma_spelling ival_spelling is.trees) ≡ kept_tokens ps = cc in e; fits = more_fits v values l r2 (comma_spelling ival_spelling) i is }))
+
+list_of_twins : (values : List Ival) (ps : List Placed) → map bare (list_spelling ival_spelling values) ≡ map bare ps → ValuesTwin (list_spelling ival_spelling) values ps
+list_of_twins [] ps h = record { trees = []; spelled = sym (nothing_kept ps h); fits = λ before before2 e f. tt }
+list_of_twins (v ∷ values) ps h = cut_append (ival_spelling v) (comma_spelling ival_spelling values) ps h (λ l r2 hl h2 k2.
+    let i : IvalTwin v l = ival_twin v l hl in
+    let is : ValuesTwin (comma_spelling ival_spelling) values r2 = behind_twin values r2 h2 in
+    let a : ival_spelling i.tree ≡ kept_tokens l = i.spelled in
+    let b : comma_spelling ival_spelling is.trees ≡ kept_tokens r2 = is.spelled in
+    record { trees = i.tree ∷ is.trees; spelled = let e : ival_spelling i.tree ++ comma_spelling ival_spelling is.trees ≡ kept_tokens ps = cc in e; fits = more_fits v values l r2 (comma_spelling ival_spelling) i is })
+
+values_twin : (values : List Ival) (ps : List Placed) → map bare (spell_values values) ≡ map bare ps → ValuesTwin spell_values values ps
+values_twin values ps h = cut_append (list_spelling ival_spelling values) (mark token.Semicolon ∷ []) ps h (λ l r hl hr k. cut_token token.Semicolon 0 [] r hr (λ line r2 h2 k2.
+    let n : kept_tokens r2 ≡ [] = nothing_kept r2 h2 in
+    let t : ValuesTwin (list_spelling ival_spelling) values l = list_of_twins values l hl in
+    let s : list_spelling ival_spelling t.trees ≡ kept_tokens l = t.spelled in
+    record { trees = t.trees; spelled = let e : list_spelling ival_spelling t.trees ++ (mark token.Semicolon ∷ []) ≡ kept_tokens ps = cc in e; fits = t.fits }))
+
+-- the twin is well formed where the definition is, and as open
+pub record DefinitionTwin (d : Definition) (ps : List Placed) : Type 0 where
+  pub tree : Definition
+  pub spelled : spell_definition tree ≡ kept_tokens ps
+  pub formed : IsFormed d → IsFormed tree
+  pub same_open : is_open tree ≡ is_open d
+
+pub definition_twin : (d : Definition) (ps : List Placed) → map bare (spell_definition d) ≡ map bare ps → DefinitionTwin d ps
+definition_twin (Simple w values) ps h = cut_token (token.Name w.text) w.line (spell_values values) ps h (λ line r hr k.
+    let t : ValuesTwin spell_values values r = values_twin values r hr in
+    let s : spell_values t.trees ≡ kept_tokens r = t.spelled in
+    record { tree = Simple (record { text = w.text; line = line }) t.trees; spelled = let e : placed (token.Name w.text) line ∷ spell_values t.trees ≡ kept_tokens ps = cc in e; formed = λ f. t.fits [] [] refl f; same_open = refl })
+definition_twin (Vector w size values) ps h = cut_token (token.Name w.text) w.line (mark token.OpenBracket ∷ (size_spelling size ++ (mark token.CloseBracket ∷ spell_values values))) ps h (λ line r hr k. cut_token token.OpenBracket 0 (size_spelling size ++ (mark token.CloseBracket ∷ spell_values values)) r hr (λ line2 r2 h2 k2. cut_append (size_spelling size) (mark token.CloseBracket ∷ spell_values values) r2 h2 (λ l3 r3 hl3 h3 k3. cut_token token.CloseBracket 0 (spell_values values) r3 h3 (λ line4 r4 h4 k4.
+    let n : size_spelling size ≡ kept_tokens l3 = size_kept size l3 hl3 in
+    let t : ValuesTwin spell_values values r4 = values_twin values r4 h4 in
+    let s : spell_values t.trees ≡ kept_tokens r4 = t.spelled in
+    record { tree = Vector (record { text = w.text; line = line }) size t.trees; spelled = let e : placed (token.Name w.text) line ∷ mark token.OpenBracket ∷ (size_spelling size ++ (mark token.CloseBracket ∷ spell_values t.trees)) ≡ kept_tokens ps = cc in e; formed = λ f. t.fits [] [] refl f; same_open = refl }))))
+definition_twin (Function w parameters body) ps h = cut_token (token.Name w.text) w.line (mark token.OpenParen ∷ (list_spelling name_spelling parameters ++ (mark token.CloseParen ∷ spell_statement body))) ps h (λ line r hr k. cut_token token.OpenParen 0 (list_spelling name_spelling parameters ++ (mark token.CloseParen ∷ spell_statement body)) r hr (λ line2 r2 h2 k2. cut_append (list_spelling name_spelling parameters) (mark token.CloseParen ∷ spell_statement body) r2 h2 (λ l3 r3 hl3 h3 k3. cut_token token.CloseParen 0 (spell_statement body) r3 h3 (λ line4 r4 h4 k4.
+    let p : Items name_spelling parameters l3 = list_twin name_spelling name_twin parameters l3 hl3 in
+    let t : StatementTwin body r4 = statement_twin body r4 h4 in
+    let s1 : list_spelling name_spelling p.trees ≡ kept_tokens l3 = p.spelled in
+    let s2 : spell_statement t.tree ≡ kept_tokens r4 = t.spelled in
+    record { tree = Function (record { text = w.text; line = line }) p.trees t.tree; spelled = let e : placed (token.Name w.text) line ∷ mark token.OpenParen ∷ (list_spelling name_spelling p.trees ++ (mark token.CloseParen ∷ spell_statement t.tree)) ≡ kept_tokens ps = cc in e; formed = λ f. t.alike.sits nesting_limit 0 f; same_open = t.alike.same_open }))))

@@ -1,0 +1,89 @@
+-- The laws of reading a definition, from those of its readers.
+use Rattle.std.proofs.Common.{◌≡◌, ℕ, List, [], ◌∷◌, ◌++◌, Bool, true, false, sym, ap, ◌∙◌, refl, subst, inl}
+use Rattle.std.specs.Prelude.{map, if◌then◌else◌}
+use Rattle.blex.specs.declared.token.Token.{Token}
+use Rattle.blex.specs.declared.token.Token.TheVariants as token
+use Rattle.blex.specs.declared.token.Placed.{Placed}
+use Rattle.btree.specs.Lines.{keeps_line, mark, placed, kept, kept_tokens, bare}
+use Rattle.btree.specs.Expression.{Word, Expr, spell}
+use Rattle.btree.specs.Reading.{Read, Got, Stop, first}
+use Rattle.btree.specs.ReadingOn.{Fine, goes, halts, Closer}
+use Rattle.btree.specs.ExpressionReader.{Rvalue, reader}
+use Rattle.btree.specs.Statement.{Stmt, spell_statement}
+use Rattle.btree.specs.StatementReader.{statement}
+use Rattle.btree.specs.Definition.{Definition, Simple, Vector, Function, spell_definition, IsFormed, is_open}
+use Rattle.btree.specs.DefinitionReader.{definition}
+use Rattle.btree.specs.Laws.{ReadsSpelling, ReadsAgain, GoesOnWithElse, HasTwin, ReadsOn, BeginsWithName, OneExpression, OneStatement, OneDefinition}
+use Rattle.btree.proofs.CommaLaws.{append-nil}
+use Rattle.btree.proofs.ExpressionAgain.{Ends, reader_again}
+use Rattle.btree.proofs.StatementAgain.{statement_again}
+use Rattle.btree.proofs.DefinitionSound.{SpelledDefinition, definition_sound}
+use Rattle.btree.proofs.DefinitionFine.{definition_fine}
+use Rattle.btree.proofs.DefinitionAgain.{definition_again, definition_longer}
+use Rattle.btree.proofs.DefinitionRelined.{definition_twin}
+
+kept-kept : (p : Placed) → kept (kept p) ≡ kept p
+kept-kept p = go (keeps_line p.token) refl
+  where
+    go : (b : Bool) → keeps_line p.token ≡ b → kept (kept p) ≡ kept p
+    go true h = let e : kept p ≡ p = rw h refl in ap kept e
+    go false h = let e : kept p ≡ mark p.token = rw h refl in ap kept e ∙ (let f : kept (mark p.token) ≡ mark p.token = rw h refl in f) ∙ sym e
+
+pub kept-twice : (ts : List Placed) → kept_tokens (kept_tokens ts) ≡ kept_tokens ts
+kept-twice [] = refl
+kept-twice (p ∷ ts) = let a : kept (kept p) ≡ kept p = kept-kept p in let b : kept_tokens (kept_tokens ts) ≡ kept_tokens ts = kept-twice ts in cc
+
+-- what is left of kept tokens is kept
+kept-behind : (u r : List Placed) → kept_tokens (u ++ r) ≡ u ++ r → kept_tokens r ≡ r
+kept-behind [] r h = h
+kept-behind (p ∷ u) r h = kept-behind u r (let e : kept_tokens (u ++ r) ≡ u ++ r = cc in e)
+
+rest_kept : (ts rest : List Placed) (d : Definition) → kept_tokens ts ≡ ts → definition ts ≡ Got d rest → kept_tokens rest ≡ rest
+rest_kept ts rest d k h = go (definition_fine ts)
+  where
+    go : Fine Closer definition ts → kept_tokens rest ≡ rest
+    go (goes u r a e g) = let b : Got a r ≡ Got d rest = sym (g r (inl refl)) ∙ ap definition (sym e) ∙ h in let q : r ≡ rest = cc in subst (λ x. kept_tokens x ≡ x) q (kept-behind u r (subst (λ x. kept_tokens x ≡ x) e k))
+    go (halts u r e stop c a fin) = let b : Stop r ≡ Got d rest = sym (stop r refl) ∙ ap definition (sym e) ∙ h in cc
+
+pub reads_spelling : ReadsSpelling
+reads_spelling tokens rest d h =
+    let s : SpelledDefinition (kept_tokens (kept_tokens tokens)) (Got d rest) = subst (λ x. SpelledDefinition (kept_tokens (kept_tokens tokens)) x) h (definition_sound (kept_tokens tokens)) in
+    (sym (kept-twice tokens) ∙ s.0 ∙ ap (λ l. spell_definition d ++ l) (rest_kept (kept_tokens tokens) rest d (kept-twice tokens) h), s.1)
+
+pub reads_again : ReadsAgain
+reads_again d rest f n = definition_again d f rest n
+
+pub goes_on_with_else : GoesOnWithElse
+goes_on_with_else d f o = definition_longer d f o
+
+pub has_twin : HasTwin
+has_twin d tokens f h = let t = definition_twin d tokens h in (t.tree, t.formed f, t.same_open, t.spelled)
+
+pub reads_on : ReadsOn
+reads_on tokens = definition_fine tokens
+
+pub begins_with_name : BeginsWithName
+begins_with_name (Simple w values) = (w, _, refl)
+begins_with_name (Vector w size values) = (w, _, refl)
+begins_with_name (Function w parameters body) = (w, _, refl)
+
+ends_end : Ends token.End
+ends_end = record { below = record { no_suffix = refl; no_operator = λ i le. refl }; no_question = refl; no_assign = λ e. refl }
+
+pub one_expression : OneExpression
+one_expression e f room off he hf same =
+    let a : reader room Rvalue off (spell e ++ []) ≡ Got e [] = reader_again e room off he [] ends_end in
+    let b : reader room Rvalue off (spell f ++ []) ≡ Got f [] = reader_again f room off hf [] ends_end in
+    let c : Got e [] ≡ Got f [] = sym a ∙ ap (λ l. reader room Rvalue off (l ++ [])) same ∙ b in cc
+
+pub one_statement : OneStatement
+one_statement s t room off hs ht same =
+    let a : statement room off (spell_statement s ++ []) ≡ Got s [] = statement_again s room off hs [] (λ o. refl) in
+    let b : statement room off (spell_statement t ++ []) ≡ Got t [] = statement_again t room off ht [] (λ o. refl) in
+    let c : Got s [] ≡ Got t [] = sym a ∙ ap (λ l. statement room off (l ++ [])) same ∙ b in cc
+
+pub one_definition : OneDefinition
+one_definition d e hd he same =
+    let a : definition (spell_definition d ++ []) ≡ Got d [] = definition_again d hd [] (λ o. refl) in
+    let b : definition (spell_definition e ++ []) ≡ Got e [] = definition_again e he [] (λ o. refl) in
+    let c : Got d [] ≡ Got e [] = sym a ∙ ap (λ l. definition (l ++ [])) same ∙ b in cc

@@ -1,0 +1,17 @@
+pub mod Fine
+pub mod ExpressionFine
+pub mod ExpressionSound
+pub mod ExpressionAgain
+pub mod CommaLaws
+pub mod StatementSound
+pub mod StatementFine
+pub mod StatementAgain
+pub mod DefinitionSound
+pub mod DefinitionFine
+pub mod DefinitionAgain
+pub mod Relined
+pub mod ExpressionRelined
+pub mod StatementRelined
+pub mod DefinitionRelined
+pub mod LawProofs
+pub mod CodeLaws

@@ -1,0 +1,67 @@
+-- A tree whose bare spelling is that of some placed tokens has a twin with the lines of those tokens.
+use Rattle.std.proofs.Common.{◌≡◌, ℕ, zero, suc, ◌+◌, List, [], ◌∷◌, ◌++◌, Bool, sym, ap, ◌∙◌, refl, subst, Option, Some, None}
+use Rattle.std.specs.Prelude.{map}
+use Rattle.blex.specs.declared.token.Token.{Token}
+use Rattle.blex.specs.declared.token.Placed.{Placed}
+use Rattle.blex.specs.declared.token.Token.TheVariants as token
+use Rattle.btree.specs.Lines.{mark, placed, kept, kept_tokens, bare}
+use Rattle.btree.specs.Commas.{comma_spelling, list_spelling, IsNonempty}
+
+pub kept-append : (a b : List Placed) → kept_tokens (a ++ b) ≡ kept_tokens a ++ kept_tokens b
+kept-append [] b = refl
+kept-append (p ∷ a) b = ap (λ l. kept p ∷ l) (kept-append a b)
+
+-- tokens that are bare alike are cut alike
+module _ {R : Type 0} where
+  pub cut_token : (t : Token) (l : ℕ) (b ps : List Placed) → map bare (placed t l ∷ b) ≡ map bare ps → ((line : ℕ) (rest : List Placed) → map bare b ≡ map bare rest → kept_tokens ps ≡ kept (placed t line) ∷ kept_tokens rest → R) → R
+  cut_token t l b [] h go = cc
+  cut_token t l b (p ∷ ps) h go = let same : t ≡ p.token = cc in let rest : map bare b ≡ map bare ps = cc in go p.line ps rest (ap (λ x. kept (placed x p.line) ∷ kept_tokens ps) (sym same))
+
+  pub cut_append : (a b ps : List Placed) → map bare (a ++ b) ≡ map bare ps → ((left right : List Placed) → map bare a ≡ map bare left → map bare b ≡ map bare right → kept_tokens ps ≡ kept_tokens left ++ kept_tokens right → R) → R
+  cut_append [] b ps h go = go [] ps refl h refl
+  cut_append (t ∷ a) b [] h go = cc
+  cut_append (t ∷ a) b (p ∷ ps) h go =
+      let same : t.token ≡ p.token = cc in
+      let rest : map bare (a ++ b) ≡ map bare ps = cc in
+      cut_append a b ps rest (λ left right hl hr k. go (p ∷ left) right (let e : t.token ∷ map bare a ≡ p.token ∷ map bare left = cc in e) hr (ap (λ l. kept p ∷ l) k))
+
+pub nothing_kept : (ps : List Placed) → map bare [] ≡ map bare ps → kept_tokens ps ≡ []
+nothing_kept [] h = refl
+nothing_kept (p ∷ ps) h = cc
+
+-- things with commas between them
+module _ {A : Type 0} (say : A → List Placed) where
+  pub record Item (a : A) (ps : List Placed) : Type 0 where
+    pub tree : A
+    pub spelled : say tree ≡ kept_tokens ps
+
+  pub record Items (xs : List A) (ps : List Placed) : Type 0 where
+    pub trees : List A
+    pub spelled : list_spelling say trees ≡ kept_tokens ps
+    pub nonempty : IsNonempty xs → IsNonempty trees
+
+  record Behind (xs : List A) (ps : List Placed) : Type 0 where
+    trees : List A
+    spelled : comma_spelling say trees ≡ kept_tokens ps
+
+  module _ (twin : (a : A) (ps : List Placed) → map bare (say a) ≡ map bare ps → Item a ps) where
+    behind_twin : (xs : List A) (ps : List Placed) → map bare (comma_spelling say xs) ≡ map bare ps → Behind xs ps
+    behind_twin [] ps h = record { trees = []; spelled = sym (nothing_kept ps h) }
+    behind_twin (x ∷ xs) ps h = more (behind_twin xs)
+      where
+        more : ((ps : List Placed) → map bare (comma_spelling say xs) ≡ map bare ps → Behind xs ps) → Behind (x ∷ xs) ps
+        more ih = cut_token token.Comma 0 (say x ++ comma_spelling say xs) ps h (λ line r hr k. cut_append (say x) (comma_spelling say xs) r hr (λ l r2 hl h2 k2.
+            let i : Item x l = twin x l hl in
+            let is : Behind xs r2 = ih r2 h2 in
+            let a : say i.tree ≡ kept_tokens l = i.spelled in
+            let b : comma_spelling say is.trees ≡ kept_tokens r2 = is.spelled in
+            record { trees = i.tree ∷ is.trees; spelled = let e : mark token.Comma ∷ (say i.tree ++ comma_spelling say is.trees) ≡ kept_tokens ps = cc in e }))
+
+    pub list_twin : (xs : List A) (ps : List Placed) → map bare (list_spelling say xs) ≡ map bare ps → Items xs ps
+    list_twin [] ps h = record { trees = []; spelled = sym (nothing_kept ps h); nonempty = λ n. n }
+    list_twin (x ∷ xs) ps h = cut_append (say x) (comma_spelling say xs) ps h (λ l r2 hl h2 k2.
+        let i : Item x l = twin x l hl in
+        let is : Behind xs r2 = behind_twin xs r2 h2 in
+        let a : say i.tree ≡ kept_tokens l = i.spelled in
+        let b : comma_spelling say is.trees ≡ kept_tokens r2 = is.spelled in
+        record { trees = i.tree ∷ is.trees; spelled = let e : say i.tree ++ comma_spelling say is.trees ≡ kept_tokens ps = cc in e; nonempty = λ n. tt })

@@ -1,0 +1,46 @@
+-- The laws of reading a definition.
+use Rattle.std.specs.Prelude.{◌≡◌, ℕ, map, List, [], ◌∷◌, ◌++◌, Bool, true, false}
+use Rattle.blex.specs.declared.token.Token.TheVariants as token
+use Rattle.blex.specs.declared.token.Keyword.TheVariants as keyword
+use Rattle.blex.specs.declared.token.Placed.{Placed}
+use Rattle.btree.specs.Lines.{mark, kept_tokens, bare}
+use Rattle.btree.specs.Expression.{Word, Expr, name_token, spell, rvalue_rank, Fits}
+use Rattle.btree.specs.Reading.{Got, first}
+use Rattle.btree.specs.ReadingOn.{Fine, Closer}
+use Rattle.btree.specs.Statement.{Stmt, spell_statement, Sits, keyword_mark}
+use Rattle.btree.specs.StatementReader.{is_else}
+use Rattle.btree.specs.Definition.{Definition, spell_definition, IsFormed, is_open}
+use Rattle.btree.specs.DefinitionReader.{definition}
+
+-- What a definition is read as is spelled by the tokens that were taken, and well formed.
+abbrev pub ReadsSpelling : Type 0
+ReadsSpelling = (tokens rest : List Placed) (d : Definition) → definition (kept_tokens tokens) ≡ Got d rest → (kept_tokens tokens ≡ spell_definition d ++ rest) × IsFormed d
+
+-- The spelling of a well-formed definition is read as that definition, whatever stands behind it but for an else of its own.
+abbrev pub ReadsAgain : Type 0
+ReadsAgain = (d : Definition) (rest : List Placed) → IsFormed d → (is_open d ≡ true → is_else (first rest) ≡ false) → definition (spell_definition d ++ rest) ≡ Got d rest
+
+-- An else behind an open definition goes on with it.
+abbrev pub GoesOnWithElse : Type 0
+GoesOnWithElse = (d : Definition) → IsFormed d → is_open d ≡ true → (d2 : Definition) × IsFormed d2 × (spell_definition d2 ≡ spell_definition d ++ (keyword_mark keyword.Else ∷ mark token.Semicolon ∷ []))
+
+-- A definition that is spelled by tokens but for their lines has a twin with those lines.
+abbrev pub HasTwin : Type 0
+HasTwin = (d : Definition) (tokens : List Placed) → IsFormed d → map bare (spell_definition d) ≡ map bare tokens → (d2 : Definition) × IsFormed d2 × (is_open d2 ≡ is_open d) × (spell_definition d2 ≡ kept_tokens tokens)
+
+-- Reading a definition depends on the tokens taken and one more, and can be ended wherever it stops.
+abbrev pub ReadsOn : Type 0
+ReadsOn = (tokens : List Placed) → Fine Closer definition tokens
+
+abbrev pub BeginsWithName : Type 0
+BeginsWithName = (d : Definition) → (w : Word) × (rest : List Placed) × (spell_definition d ≡ name_token w ∷ rest)
+
+-- no two well-formed trees have the same spelling
+abbrev pub OneExpression : Type 0
+OneExpression = (e f : Expr) (room off : ℕ) → Fits e rvalue_rank room off → Fits f rvalue_rank room off → spell e ≡ spell f → e ≡ f
+
+abbrev pub OneStatement : Type 0
+OneStatement = (s t : Stmt) (room off : ℕ) → Sits s room off → Sits t room off → spell_statement s ≡ spell_statement t → s ≡ t
+
+abbrev pub OneDefinition : Type 0
+OneDefinition = (d e : Definition) → IsFormed d → IsFormed e → spell_definition d ≡ spell_definition e → d ≡ e

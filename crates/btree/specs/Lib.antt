@@ -1,0 +1,16 @@
+pub mod Lines
+pub mod Expression
+pub mod Reading
+pub mod ReadingOn
+pub mod ExpressionReader
+pub mod Commas
+pub mod Statement
+pub mod StatementReader
+pub mod Definition
+pub mod DefinitionReader
+pub mod Laws
+pub mod Rows
+pub mod Scope
+pub mod Scan
+pub mod Code
+pub mod CodeRows
