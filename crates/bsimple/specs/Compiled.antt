@@ -13,7 +13,8 @@ use Rattle.blex.specs.declared.token.Placed.{Placed}
 use Rattle.blex.specs.declared.diagnostic.About.{About}
 use Rattle.blex.specs.declared.diagnostic.About.TheVariants as about
 use Rattle.blex.specs.declared.diagnostic.Diagnostic.{Diagnostic}
-use Rattle.bsimple.specs.Definition.{Definition}
+use Rattle.bcode.specs.declared.instr.Ival.{Ival}
+use Rattle.bsimple.specs.Definition.{Definition, Value, Number, Character, Named}
 use Rattle.bsimple.specs.Program.{Parted}
 
 -- the names defined so far
@@ -35,9 +36,14 @@ fault_of names d =
     if is_among d.name.text names then Some (with_name letters.Redeclared d) else
     if nat_lt 1024 (length d.values) then Some (alone letters.TooLarge d) else None
 
+abbrev pub ival_of : Value → Ival
+ival_of (Number n) = ival.Number n
+ival_of (Character n) = ival.Number n
+ival_of (Named w) = ival.Name w.text
+
 -- the code of a definition
 abbrev pub code_of : Definition → coded.Definition
-code_of d = code.Simple record { name = d.name.text; values = map ival.Number d.values; strings = [] }
+code_of d = code.Simple record { name = d.name.text; values = map ival_of d.values; strings = [] }
 
 abbrev pub text_of : Definition → List ℕ
 text_of d = text.text_of (code_of d)

@@ -10,22 +10,33 @@ pub record Word : Type 0 where
   pub text : List ℕ
   pub line : ℕ
 
+-- an initial value
+pub data Value : Type 0 where
+  Number : (n : ℕ) → Value
+  Character : (n : ℕ) → Value
+  Named : (w : Word) → Value
+
 -- an external with its initial values
 pub record Definition : Type 0 where
   pub name : Word
-  pub values : List ℕ
+  pub values : List Value
 
 abbrev pub word : Word → Placed
 word w = placed (token.Name w.text) w.line
 
--- what stands behind a value
-abbrev pub spell_more : List ℕ → List Placed
-spell_more [] = mark token.Semicolon ∷ []
-spell_more (v ∷ vs) = mark token.Comma ∷ mark (token.Number v) ∷ spell_more vs
+abbrev pub spell_value : Value → Placed
+spell_value (Number n) = mark (token.Number n)
+spell_value (Character n) = mark (token.Character n)
+spell_value (Named w) = word w
 
-abbrev pub spell_values : List ℕ → List Placed
+-- what stands behind a value
+abbrev pub spell_more : List Value → List Placed
+spell_more [] = mark token.Semicolon ∷ []
+spell_more (v ∷ vs) = mark token.Comma ∷ spell_value v ∷ spell_more vs
+
+abbrev pub spell_values : List Value → List Placed
 spell_values [] = mark token.Semicolon ∷ []
-spell_values (v ∷ vs) = mark (token.Number v) ∷ spell_more vs
+spell_values (v ∷ vs) = spell_value v ∷ spell_more vs
 
 -- the tokens of a definition, with the lines that the tree keeps
 abbrev pub spell : Definition → List Placed

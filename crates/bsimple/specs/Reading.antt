@@ -1,10 +1,10 @@
 -- Reading a definition from the left, with one token ahead. Only private contracts cite this.
-use Rattle.std.specs.Prelude.{ℕ, List, [], ◌∷◌}
+use Rattle.std.specs.Prelude.{ℕ, List, [], ◌∷◌, Option, Some, None}
 use Rattle.blex.specs.declared.token.Token.{Token}
 use Rattle.blex.specs.declared.token.Token.TheVariants as token
 use Rattle.blex.specs.declared.token.Placed.{Placed}
 use Rattle.bsimple.specs.Lines.{mark}
-use Rattle.bsimple.specs.Definition.{Definition}
+use Rattle.bsimple.specs.Definition.{Definition, Value, Number, Character, Named}
 
 -- something, with the tokens behind it; or the tokens from the first wrong one
 pub data Read (A : Type 0) : Type 0 where
@@ -25,36 +25,45 @@ first [] = mark token.End
 first (t ∷ ts) = t
 
 -- behind a value: the end of the definition, or a comma and what comes then
-abbrev pub behind_value : Token → List Placed → List Placed → Read (List ℕ) → Read (List ℕ)
+abbrev pub behind_value : Token → List Placed → List Placed → Read (List Value) → Read (List Value)
 behind_value token.Semicolon here rest next = Got [] rest
 behind_value token.Comma here rest next = next
 behind_value _ here rest next = Stop here
 
+-- the value that a token is
+abbrev pub value_of : Token → ℕ → Option Value
+value_of (token.Number n) line = Some (Number n)
+value_of (token.Character n) line = Some (Character n)
+value_of (token.Name x) line = Some (Named (record { text = x; line = line }))
+value_of _ line = None
+
+abbrev pub value_at : Placed → Option Value
+value_at p = value_of p.token p.line
+
 -- a value, and what comes then
-abbrev pub at_value : Token → List Placed → Read (List ℕ) → Read (List ℕ)
-at_value (token.Number v) here next = next >>= λ vs. Got (v ∷ vs)
-at_value _ here next = Stop here
+abbrev pub with_value : Option Value → List Placed → Read (List Value) → Read (List Value)
+with_value (Some v) here next = next >>= λ vs. Got (v ∷ vs)
+with_value None here next = Stop here
 
 abbrev mutual
   -- what stands behind a value
-  pub more_values : Reader (List ℕ)
+  pub more_values : Reader (List Value)
   more_values [] = Stop []
   more_values (t ∷ ts) = behind_value t.token (t ∷ ts) ts (value ts)
 
   -- a value, and those behind it
-  pub value : Reader (List ℕ)
+  pub value : Reader (List Value)
   value [] = Stop []
-  value (t ∷ ts) = at_value t.token (t ∷ ts) (more_values ts)
+  value (t ∷ ts) = with_value (value_at t) (t ∷ ts) (more_values ts)
 
 -- the values of a definition, if it has any
-abbrev pub at_values : Token → List Placed → List Placed → Read (List ℕ)
-at_values token.Semicolon here rest = Got [] rest
-at_values (token.Number v) here rest = more_values rest >>= λ vs. Got (v ∷ vs)
-at_values _ here rest = Stop here
+abbrev pub at_values : Token → Option Value → List Placed → List Placed → Read (List Value)
+at_values token.Semicolon first here rest = Got [] rest
+at_values _ first here rest = with_value first here (more_values rest)
 
-abbrev pub values : Reader (List ℕ)
+abbrev pub values : Reader (List Value)
 values [] = Stop []
-values (t ∷ ts) = at_values t.token (t ∷ ts) ts
+values (t ∷ ts) = at_values t.token (value_at t) (t ∷ ts) ts
 
 abbrev pub behind_name : Token → ℕ → List Placed → List Placed → Read Definition
 behind_name (token.Name x) line here rest =
