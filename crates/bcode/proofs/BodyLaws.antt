@@ -13,7 +13,8 @@ use Rattle.bcode.specs.declared.fault.CodeFault.{CodeFault}
 use Rattle.bcode.specs.declared.fault.CodeFault.TheVariants as fault
 use Rattle.bcode.specs.declared.header.Header.{Header}
 use Rattle.bcode.specs.declared.header.Header.TheVariants as header
-use Rattle.bcode.proofs.CodeLaws.{stops_behind, stops_last, stops_among, stops_among_last, header_of-text}
+use Rattle.bcode.proofs.StoppingLaws.{AreGoodKinds, IsGoodState, good_after, sample}
+use Rattle.bcode.proofs.CodeLaws.{Made, made, OfKinds, OfState, stops_behind, stops_last, stops_among, stops_among_last, header_of-text}
 
 pub GoesOn-trans : {a b c : Ahead} {s t u : State} → GoesOn a s b t → GoesOn b t c u → GoesOn a s c u
 GoesOn-trans {a} {b} {c} {s} {t} {u} h k = record {
@@ -131,3 +132,36 @@ reads_definition {old} {mid} {new} h d r b = record {
       r.spelled ∙ ap (λ l. l ++ mid.text) first ∙ ap (λ l. header_line d ++ l) b.spelled ∙ sym (append_assoc (header_line d) (joined (body_lines d)) new.text);
   onward = GoesOn-trans (header_goes h r) b.onward;
 }
+
+some_lines : (ks : List Kind) → AreGoodKinds ks → (bs : List (List ℕ)) × OfKinds ks bs
+some_lines [] good = ([], refl)
+some_lines (k ∷ ks) good =
+    let first = sample k good.0 in
+    let others = some_lines ks good.1 in
+    (first.0 ∷ others.0, (first.1, others.1))
+
+next_from : {old mid : Ahead} (h : Header) (ks : List Kind) → state_after h ≡ expects ks → ReadsLine header_text IsHeaderWithin old h mid → HasNext old.text
+next_from {old} {mid} h ks state r =
+    let lines = some_lines ks (subst IsGoodState state (good_after h r.inside)) in
+    let m = made h lines.0 r.inside (subst (λ (z : State). OfState z lines.0) (sym state) lines.1) in
+    record {
+      next = m.definition;
+      inside = m.inside;
+      rest = mid.text;
+      spelled = r.spelled ∙ ap (λ t. header_text t ++ mid.text) (sym m.header) ∙ ap (λ t. t ++ mid.text) (header_of-text m.definition);
+    }
+
+pub has_next : {old mid : Ahead} (h : Header) → (h ≡ header.End → ⊥) → ReadsLine header_text IsHeaderWithin old h mid → HasNext old.text
+has_next (header.Function name parameters s) more r = next_from (header.Function name parameters s) _ refl r
+has_next (header.Simple name values strings) more r = next_from (header.Simple name values strings) _ refl r
+has_next (header.Vector name words values strings) more r = next_from (header.Vector name words values strings) _ refl r
+has_next header.End more r = absurd (more refl)
+
+-- the exit of a `?` behind a header
+pub next_exit : {old mid : Ahead} (h : Header) (now new : Ahead) (r : Result (Option Definition) CodeFault) (e : CodeFault) → (h ≡ header.End → ⊥)
+    → ReadsLine header_text IsHeaderWithin old h mid → IsErrAnd r (λ f. f ≡ e) → BodyGives h mid (Err e) now → DefinitionGives old r new
+next_exit h now new (Ok o) e more read same gives = absurd same
+next_exit h now new (Err (fault.Line n)) (fault.Line k) more read same gives =
+    let n_is : n ≡ k = cc in rw n_is (StopsAhead-behind k (header_goes h read) gives)
+next_exit h now new (Err (fault.Line n)) fault.Memory more read same gives = absurd (cc)
+next_exit h now new (Err fault.Memory) e more read same gives = has_next h more read

@@ -153,12 +153,12 @@ code_path (d ∷ ds) all =
 
 -- paths are code texts
 
-abbrev OfKinds : List Kind → List (List ℕ) → Type 0
+abbrev pub OfKinds : List Kind → List (List ℕ) → Type 0
 OfKinds [] bs = bs ≡ []
 OfKinds (k ∷ ks) [] = ⊥
 OfKinds (k ∷ ks) (l ∷ ls) = IsOfKind k l × OfKinds ks ls
 
-abbrev OfState : State → List (List ℕ) → Type 0
+abbrev pub OfState : State → List (List ℕ) → Type 0
 OfState (expects ks) bs = OfKinds ks bs
 OfState finished bs = ⊥
 
@@ -193,16 +193,16 @@ module _ {X : Type 0} (spell : X → List ℕ) (within : X → Type 0) (kind : K
       let all = items_of n [] bs same in
       (all.values, all.count, all.inside, all.lines ∙ ap (λ m. map spell all.values ++ m) all.others ∙ append-nil (map spell all.values))
 
-same_sizes : (s : Sizes) (labels strings code : ℕ) → labels ≡ s.labels → strings ≡ s.strings → code ≡ s.code
+pub same_sizes : (s : Sizes) (labels strings code : ℕ) → labels ≡ s.labels → strings ≡ s.strings → code ≡ s.code
     → let sizes : Sizes = record { frame = s.frame; labels = labels; strings = strings; code = code } in sizes ≡ s
 same_sizes s labels strings code l w c = rw (l, w, c) refl
 
 -- a definition with this header and these lines
-record Made (h : Header) (bs : List (List ℕ)) : Type 0 where
-  definition : Definition
-  header : header_of definition ≡ h
-  inside : IsWithinRanges definition
-  lines : bs ≡ body_lines definition
+pub record Made (h : Header) (bs : List (List ℕ)) : Type 0 where
+  pub definition : Definition
+  pub header : header_of definition ≡ h
+  pub inside : IsWithinRanges definition
+  pub lines : bs ≡ body_lines definition
 
 made_function : (name : List ℕ) (parameters : ℕ) (s : Sizes) (bs : List (List ℕ)) → IsFunctionHeader name parameters s.frame s.labels s.strings s.code
     → OfKinds (replicate s.labels (target s.code) ++ (replicate s.strings string ++ replicate s.code (instruction s))) bs
@@ -241,7 +241,7 @@ made_values values strings bs of =
     (v.values, w.0, v.count, w.1, subst (λ (n : ℕ). All (IsIvalWithin n) v.values) (sym w.1) v.inside, w.2,
       v.lines ∙ ap (λ m. map ival_line v.values ++ m) w.3)
 
-made : (h : Header) (bs : List (List ℕ)) → IsHeaderWithin h → OfState (state_after h) bs → Made h bs
+pub made : (h : Header) (bs : List (List ℕ)) → IsHeaderWithin h → OfState (state_after h) bs → Made h bs
 made (header.Function name parameters s) bs h of = made_function name parameters s bs h of
 made (header.Simple name values strings) bs h of =
     let m = made_values values strings bs of in

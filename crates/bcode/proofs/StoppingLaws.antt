@@ -104,7 +104,7 @@ abbrev pub Path : State → List (List ℕ) → Type 0
 Path from [] = from ≡ finished
 Path from (l ∷ ls) = (to : State) × Leads from l to × Path to ls
 
-sample : (k : Kind) → IsGoodKind k → (l : List ℕ) × IsOfKind k l
+pub sample : (k : Kind) → IsGoodKind k → (l : List ℕ) × IsOfKind k l
 sample (value strings) good = (ival_line (ival.Number 0), (ival.Number 0, omega arith, refl))
 sample (target code) good = (target_line 0, (0, good.0, refl))
 sample string good = (string_line 0, (0, omega arith, refl))
