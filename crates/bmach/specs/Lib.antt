@@ -1,2 +1,4 @@
 pub mod World
 pub mod Rows
+pub mod Layout
+pub mod LayoutRows
