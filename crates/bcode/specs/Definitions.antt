@@ -1,0 +1,90 @@
+-- What the code of a definition is made of, and the ranges that a code text keeps.
+use Rattle.std.specs.Prelude.{◌≡◌, ℕ, ◌<◌, ◌≤◌, ◌^◌, List, length, All, IsTrue, max}
+use Rattle.bword.specs.Names.{is_name}
+use Rattle.bcode.specs.declared.instr.Instr.{Instr}
+use Rattle.bcode.specs.declared.instr.Instr.TheVariants as instr
+use Rattle.bcode.specs.declared.instr.Ival.{Ival}
+use Rattle.bcode.specs.declared.instr.Ival.TheVariants as ival
+
+-- a function, with the places of its labels and the words of its strings
+pub record Function : Type 0 where
+  pub name : List ℕ
+  pub parameters : ℕ
+  pub frame : ℕ
+  pub targets : List ℕ
+  pub strings : List ℕ
+  pub code : List Instr
+
+-- an external of consecutive words
+pub record Simple : Type 0 where
+  pub name : List ℕ
+  pub values : List Ival
+  pub strings : List ℕ
+
+-- an external vector of this many words
+pub record Vector : Type 0 where
+  pub name : List ℕ
+  pub words : ℕ
+  pub values : List Ival
+  pub strings : List ℕ
+
+abbrev pub IsWord : ℕ → Type 0
+IsWord n = n < 2 ^ 16
+
+-- an initial value, in a definition with this many string words
+abbrev pub IsIvalWithin : ℕ → Ival → Type 0
+IsIvalWithin strings (ival.Number n) = IsWord n
+IsIvalWithin strings (ival.Name name) = IsTrue (is_name name)
+IsIvalWithin strings (ival.Text offset) = offset < strings
+
+-- how many frame words, labels, string words and instructions a function has
+pub record Sizes : Type 0 where
+  pub frame : ℕ
+  pub labels : ℕ
+  pub strings : ℕ
+  pub code : ℕ
+
+abbrev pub sizes_of : Function → Sizes
+sizes_of f = record { frame = f.frame; labels = length f.targets; strings = length f.strings; code = length f.code }
+
+-- an instruction, in a function of these sizes
+abbrev pub IsInstrWithin : Sizes → Instr → Type 0
+IsInstrWithin sizes (instr.Constant n) = IsWord n
+IsInstrWithin sizes (instr.External name) = IsTrue (is_name name)
+IsInstrWithin sizes (instr.Automatic k) = k < sizes.frame
+IsInstrWithin sizes (instr.Text offset) = offset < sizes.strings
+IsInstrWithin sizes (instr.Label k) = k < sizes.labels
+IsInstrWithin sizes (instr.Jump place) = place < sizes.code
+IsInstrWithin sizes (instr.JumpIfZero place) = place < sizes.code
+IsInstrWithin sizes (instr.JumpIfCase value target) = IsWord value × (target < sizes.code)
+IsInstrWithin sizes (instr.Call arguments) = IsWord arguments
+IsInstrWithin sizes _ = Unit {0}
+
+pub record IsFunctionWithinRanges (f : Function) : Type 0 where
+  pub named : IsTrue (is_name f.name)
+  pub few_parameters : f.parameters ≤ 128
+  pub parameters_in_frame : f.parameters ≤ f.frame
+  pub frame : f.frame ≤ 32767
+  pub few_labels : length f.targets ≤ 128
+  pub few_strings : length f.strings ≤ 1024
+  pub few_instrs : length f.code ≤ 4096
+  pub targets : All (λ t. t < length f.code) f.targets
+  pub strings : All IsWord f.strings
+  pub code : All (IsInstrWithin (sizes_of f)) f.code
+
+pub record IsSimpleWithinRanges (s : Simple) : Type 0 where
+  pub named : IsTrue (is_name s.name)
+  pub few_values : length s.values ≤ 1024
+  pub few_strings : length s.strings ≤ 1024
+  pub values : All (IsIvalWithin (length s.strings)) s.values
+  pub strings : All IsWord s.strings
+
+pub record IsVectorWithinRanges (v : Vector) : Type 0 where
+  pub named : IsTrue (is_name v.name)
+  pub some_word : 1 ≤ v.words
+  pub values_in_words : length v.values ≤ v.words
+  pub few_words : v.words ≤ 32767
+  pub few_values : length v.values ≤ 1024
+  pub few_strings : length v.strings ≤ 1024
+  pub values : All (IsIvalWithin (length v.strings)) v.values
+  pub strings : All IsWord v.strings
