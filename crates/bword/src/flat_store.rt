@@ -1,0 +1,65 @@
+//! A store in one piece.
+ghost use Rattle.std.specs.Prelude.{◌≡◌, IfOk, replicate};
+ghost use Rattle.bword.specs.Stores.{IsStore};
+
+use crate::store::STORE_LEN;
+use crate::{NoMemory, Store};
+use std::alloc::{AllocError, Global};
+
+/// All words in one piece of memory, which is taken when the store is made.
+#[derive(Drop)]
+pub struct FlatStore {
+    words: Vec<u16>,
+    ghost whole: { IsStore words.items },
+}
+
+impl FlatStore {
+    ghost use Rattle.std.specs.Prelude.{◌≡◌, IfOk};
+    ghost use Rattle.bword.specs.Stores.{zeros};
+    ghost use Rattle.bword.specs.FlatStores.{words_of};
+
+    /// A store whose words are all 0.
+    ///
+    /// # Errors
+    ///
+    /// `NoMemory` where the words were refused memory.
+    pub fn new(alloc: Global) -> Result<FlatStore, NoMemory>
+        ensures { IfOk result (λ store. words_of store ≡ zeros) }
+    {
+        match zero_words(alloc, STORE_LEN) {
+            Ok(words) => Ok(FlatStore { words }),
+            Err(_) => Err(NoMemory),
+        }
+    }
+}
+
+impl Store for FlatStore {
+    ghost use Rattle.std.specs.Prelude.{◌≡◌, IsOk, OnOk, OnErr, slice_set};
+    ghost use Rattle.bword.specs.FlatStores.{words_of};
+
+    ghost words = { words_of };
+
+    #[inline]
+    fn get(&self, a: u16) -> u16 {
+        self.words[usize::from(a)]
+    }
+
+    /// Puts a word at an address, which always succeeds.
+    #[inline]
+    fn set(&mut self, a: u16, w: u16) -> Result<(), NoMemory>
+        ensures stored { OnOk result (words_of self.new ≡ slice_set (words_of self.old) a w) }
+        ensures unchanged { OnErr result (words_of self.new ≡ words_of self.old) }
+        ensures succeeds { IsOk result }
+    {
+        self.words[usize::from(a)] = w;
+        Ok(())
+    }
+
+    ghost whole = { λ store. store.whole };
+}
+
+fn zero_words(alloc: Global, count: usize) -> Result<Vec<u16>, AllocError>
+    ensures { IfOk result (λ words. words.items ≡ replicate count 0) }
+{
+    vec![in alloc; 0; count]
+}
