@@ -1,5 +1,5 @@
 -- Closed facts: small programs, where they lie and why they don't load.
-use Rattle.std.specs.Prelude.{◌≡◌, ℕ, List, [], ◌∷◌, ◌++◌, map, take, drop, codes, Some, None, refl}
+use Rattle.std.specs.Prelude.{◌≡◌, ℕ, List, [], ◌∷◌, ◌++◌, map, take, drop, replicate, codes, Some, None, refl}
 use Rattle.bcode.specs.declared.definition.Definition.{Definition}
 use Rattle.bcode.specs.declared.definition.Definition.TheVariants as definition
 use Rattle.bcode.specs.declared.instr.Instr.{Instr}
@@ -7,7 +7,7 @@ use Rattle.bcode.specs.declared.instr.Instr.TheVariants.{Constant, External, Cal
 use Rattle.bcode.specs.declared.instr.Ival.{Ival}
 use Rattle.bcode.specs.declared.instr.Ival.TheVariants as ival
 use Rattle.bmach.specs.declared.fault.LoadFault.TheVariants as fault
-use Rattle.bmach.specs.Layout.{shape_of, data_end, spots, Spot, addresses, address_of, first_words, load_fault}
+use Rattle.bmach.specs.Layout.{shape_of, data_end, spots, Spot, addresses, address_in, first_words, load_fault}
 
 -- a function with this name, these labels' targets, string words and instructions
 abbrev function : List ℕ → List ℕ → List ℕ → List Instr → Definition
@@ -68,13 +68,13 @@ vector_strings = refl
 abbrev hidden : List Definition
 hidden = simple (codes "exit") (ival.Number 5 ∷ []) [] ∷ main ∷ []
 
-hidden_address : address_of (codes "exit") (addresses (map shape_of hidden)) ≡ Some 7
+hidden_address : address_in (addresses (map shape_of hidden)) (codes "exit") ≡ Some 7
 hidden_address = refl
 
-library_address : map (λ x. address_of x (addresses (map shape_of hidden))) (codes "char" ∷ codes "lchar" ∷ codes "getchar" ∷ codes "putchar" ∷ codes "printn" ∷ codes "main" ∷ codes "none" ∷ []) ≡ Some 1 ∷ Some 2 ∷ Some 3 ∷ Some 4 ∷ Some 5 ∷ Some 8 ∷ None ∷ []
+library_address : map (address_in (addresses (map shape_of hidden))) (codes "char" ∷ codes "lchar" ∷ codes "getchar" ∷ codes "putchar" ∷ codes "printn" ∷ codes "main" ∷ codes "none" ∷ []) ≡ Some 1 ∷ Some 2 ∷ Some 3 ∷ Some 4 ∷ Some 5 ∷ Some 8 ∷ None ∷ []
 library_address = refl
 
-not_hidden : address_of (codes "exit") (addresses (map shape_of (main ∷ []))) ≡ Some 6
+not_hidden : address_in (addresses (map shape_of (main ∷ []))) (codes "exit") ≡ Some 6
 not_hidden = refl
 
 hidden_words : first_words (map shape_of hidden) ≡ 0 ∷ 1 ∷ 2 ∷ 3 ∷ 4 ∷ 5 ∷ 6 ∷ 5 ∷ 7 ∷ []
@@ -119,6 +119,16 @@ largest = refl
 
 one_too_large : load_fault (vector (codes "v") 32767 [] [] ∷ vector (codes "w") 32760 [] [] ∷ main ∷ []) ≡ Some fault.TooLarge
 one_too_large = refl
+
+-- Labels may count to 65535; the first label of a function behind them is 65536.
+many_labels : load_fault (function (codes "f") (replicate 65535 0) [] [] ∷ main ∷ []) ≡ None
+many_labels = refl
+
+too_many_labels : load_fault (function (codes "f") (replicate 65535 0) [] [] ∷ function (codes "main") (0 ∷ []) [] [] ∷ []) ≡ Some fault.TooLarge
+too_many_labels = refl
+
+label_behind_many : map (λ (s : Spot). s.first_label) (spots (map shape_of (function (codes "f") (replicate 65535 0) [] [] ∷ main ∷ []))) ≡ 1 ∷ 65536 ∷ []
+label_behind_many = refl
 
 -- main() g();
 undefined : load_fault (function (codes "main") [] [] (External (codes "g") ∷ Call 0 ∷ Pop ∷ []) ∷ []) ≡ Some (fault.Undefined (codes "g"))
