@@ -3,3 +3,5 @@ pub mod Rows
 pub mod Layout
 pub mod LayoutRows
 pub mod Machine
+pub mod Resolved
+pub mod Images

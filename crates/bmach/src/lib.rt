@@ -2,9 +2,11 @@
 #![tactic(auto)]
 
 mod fault;
+mod image;
 mod library;
 mod outcome;
 
 pub use fault::LoadFault;
+pub use image::Image;
 pub use library::Library;
 pub use outcome::Trap;
