@@ -5,3 +5,4 @@ pub mod LayoutRows
 pub mod Machine
 pub mod Resolved
 pub mod Images
+pub mod Loading

@@ -5,6 +5,7 @@ mod fault;
 mod image;
 mod library;
 mod outcome;
+mod parts;
 
 pub use fault::LoadFault;
 pub use image::Image;
