@@ -1,1 +1,4 @@
 pub mod Lookups
+pub mod Spots
+pub mod Naming
+pub mod Undefined

@@ -5,7 +5,7 @@ use Rattle.bcode.specs.declared.definition.Definition.TheVariants as definition
 use Rattle.bmach.specs.declared.fault.LoadFault.{LoadFault}
 use Rattle.bmach.specs.declared.fault.LoadFault.TheVariants as fault
 use Rattle.bmach.specs.World.{words}
-use Rattle.bmach.specs.Layout.{Shape, Spot, shape_of, words_before_strings, functions_in, labels_in, data_end, label_count, definition_words, is_main, first_undefined}
+use Rattle.bmach.specs.Layout.{Shape, Spot, shape_of, words_before_strings, functions_in, labels_in, data_end, label_count, definition_words, is_main, first_undefined, Addresses, address_in, library_addresses}
 use Rattle.bmach.specs.Machine.{Loaded, loaded_at}
 use Rattle.bmach.specs.Resolved.{resolved_function}
 
@@ -13,6 +13,10 @@ use Rattle.bmach.specs.Resolved.{resolved_function}
 abbrev pub IsFault : LoadFault → Option LoadFault → Type 0
 IsFault fault.Memory first = Unit {0}
 IsFault f first = first ≡ Some f
+
+-- the address of a name among the definitions' and the library's
+abbrev pub known_in : Addresses → List ℕ → Option ℕ
+known_in entries x = address_in (entries ++ library_addresses) x
 
 -- the fault of names of which one has no address
 abbrev pub undefined_fault : (address_of : List ℕ → Option ℕ) → List (List ℕ) → Option LoadFault

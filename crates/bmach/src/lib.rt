@@ -1,11 +1,13 @@
 //! The loader and the machine.
 #![tactic(auto)]
 
+mod addresses;
 mod fault;
 mod image;
 mod library;
 mod outcome;
 mod parts;
+mod resolve;
 
 pub use fault::LoadFault;
 pub use image::Image;
