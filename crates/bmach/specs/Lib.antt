@@ -6,3 +6,4 @@ pub mod Machine
 pub mod Resolved
 pub mod Images
 pub mod Loading
+pub mod Parts

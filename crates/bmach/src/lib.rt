@@ -6,6 +6,7 @@ mod fault;
 mod image;
 mod library;
 mod outcome;
+mod part;
 mod parts;
 mod resolve;
 
