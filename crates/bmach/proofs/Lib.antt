@@ -3,3 +3,7 @@ pub mod Spots
 pub mod Naming
 pub mod Undefined
 pub mod Padding
+pub mod Whole
+pub mod Fitting
+pub mod Faults
+pub mod Loads

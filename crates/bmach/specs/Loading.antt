@@ -31,6 +31,9 @@ pub record Part : Type 0 where
   pub functions : List Loaded
   pub first_label : ℕ
 
+abbrev pub first_part : Part
+first_part = record { words = 0 ∷ 1 ∷ 2 ∷ 3 ∷ 4 ∷ 5 ∷ 6 ∷ []; functions = []; first_label = 1 }
+
 -- where the next definition lies
 abbrev pub next_spot : Part → Shape → Spot
 next_spot p d = record {

@@ -1,5 +1,5 @@
 //! What the loader asks of one definition.
-ghost use Rattle.std.specs.Prelude.{◌≡◌, ◌≤◌, if◌then◌else◌};
+ghost use Rattle.std.specs.Prelude.{◌≡◌, ◌≤◌};
 ghost use Rattle.bmach.specs.Layout.{functions_in, is_main, labels_in, shape_of, size_of};
 
 use bcode::Definition;
@@ -45,10 +45,15 @@ pub fn labels_in(definition: &Definition) -> u16
     }
 }
 
-pub fn is_function(definition: &Definition) -> bool
-    ensures { functions_in (shape_of definition.now).kind ≡ (if result then 1 else 0) }
+/// How many functions it is.
+pub fn functions_in(definition: &Definition) -> usize
+    ensures value { result ≡ functions_in (shape_of definition.now).kind }
+    ensures small { result ≤ 1 }
 {
-    matches!(definition, Definition::Function(_))
+    match definition {
+        Definition::Function(_) => 1,
+        Definition::Simple(_) | Definition::Vector(_) => 0,
+    }
 }
 
 /// Whether it is the main function.
