@@ -1,0 +1,4 @@
+pub mod TokenSteps
+pub mod DefinitionSteps
+pub mod CompilerSteps
+pub mod CompileSteps

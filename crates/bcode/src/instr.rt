@@ -11,7 +11,7 @@ pub enum Increment {
 }
 
 /// An instruction of the stack machine. Places count from 0 in each function.
-#[derive(Clone, Copy, Debug, PartialEq, Eq)]
+#[derive(Clone, Copy, Debug, Default, PartialEq, Eq)]
 pub enum Instr {
     /// `c`: puts the word.
     Constant(u16),
@@ -50,6 +50,7 @@ pub enum Instr {
     /// `r`: takes a word and returns it.
     Return,
     /// `p`: takes a word.
+    #[default]
     Pop,
 }
 
@@ -61,4 +62,10 @@ pub enum Ival {
     Name(Name),
     /// The address of the string word with this offset among those of the definition.
     Text(u16),
+}
+
+impl Default for Ival {
+    fn default() -> Self {
+        Ival::Number(0)
+    }
 }

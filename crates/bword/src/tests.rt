@@ -1,6 +1,6 @@
 use crate::{
-    BinOp, ByteIn, ByteOut, Device, DivZero, EndFault, FlatStore, MemIn, MemOut, Name, Reading, Store, Writing, binary,
-    char_at, negate, not, set_char,
+    BinOp, ByteIn, ByteOut, Device, DivZero, EndFault, FlatStore, MemIn, MemOut, Name, Reading,
+    Store, Writing, binary, char_at, negate, not, set_char,
 };
 use std::io;
 use std::io::ErrorKind;
@@ -40,7 +40,7 @@ fn operators_on_words(rt: HostRuntime) {
 }
 
 // Stores `c` as a byte of a string and gives back the byte that stands there then.
-fn char_behind<S: Store>(mut store: S, s: u16, i: u16, c: u16) -> Option<u16> {
+fn char_behind<S: Store + Drop>(mut store: S, s: u16, i: u16, c: u16) -> Option<u16> {
     set_char(&mut store, s, i, c).ok()?;
     Some(char_at(&store, s, i))
 }
@@ -61,7 +61,7 @@ fn strings_in_a_store(rt: HostRuntime) -> Result<(), Fail> {
 }
 
 // Takes all that an end gives to another one.
-fn copy<I: ByteIn, O: ByteOut>(mut from: I, mut to: O) -> Result<(), EndFault> {
+fn copy<I: ByteIn + Drop, O: ByteOut + Drop>(mut from: I, mut to: O) -> Result<(), EndFault> {
     for _ in 0..u64::MAX {
         match from.next() {
             Ok(Some(byte)) => to.put(&[byte])?,
@@ -108,7 +108,15 @@ impl io::Read for Script {
 fn a_read_that_fails_and_a_read_of_no_byte(rt: HostRuntime) {
     let mut script = Script { calls: 0 };
     let mut end = Reading::new(&mut script);
-    for want in [Ok(Some(b'a')), Ok(Some(b'b')), Err(Device), Ok(Some(b'c')), Ok(None), Ok(None), Ok(None)] {
+    for want in [
+        Ok(Some(b'a')),
+        Ok(Some(b'b')),
+        Err(Device),
+        Ok(Some(b'c')),
+        Ok(None),
+        Ok(None),
+        Ok(None),
+    ] {
         assert_eq!(rt; end.next(), want);
     }
     assert_eq!(rt; script.calls, 4);
