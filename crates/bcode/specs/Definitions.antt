@@ -1,6 +1,7 @@
 -- What the code of a definition is made of, and the ranges that a code text keeps.
 use Rattle.std.specs.Prelude.{ℕ, ◌<◌, ◌≤◌, ◌^◌, List, length, All, IsTrue}
 use Rattle.bword.specs.Names.{is_name}
+use Rattle.bcode.specs.declared.header.Sizes.{Sizes}
 use Rattle.bcode.specs.declared.instr.Instr.{Instr}
 use Rattle.bcode.specs.declared.instr.Instr.TheVariants as instr
 use Rattle.bcode.specs.declared.instr.Ival.{Ival}
@@ -36,13 +37,6 @@ abbrev pub IsIvalWithin : ℕ → Ival → Type 0
 IsIvalWithin strings (ival.Number n) = IsWord n
 IsIvalWithin strings (ival.Name name) = IsTrue (is_name name)
 IsIvalWithin strings (ival.Text offset) = offset < strings
-
--- how many frame words, labels, string words and instructions a function has
-pub record Sizes : Type 0 where
-  pub frame : ℕ
-  pub labels : ℕ
-  pub strings : ℕ
-  pub code : ℕ
 
 abbrev pub sizes_of : Function → Sizes
 sizes_of f = record { frame = f.frame; labels = length f.targets; strings = length f.strings; code = length f.code }

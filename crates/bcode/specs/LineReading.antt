@@ -1,0 +1,138 @@
+-- Reading a line from the front of a text.
+use Rattle.std.specs.Prelude.{◌≡◌, ℕ, ◌^◌, Bool, ◌&&◌, ◌||◌, not, ◌==◌, nat_le, if◌then◌else◌, List, [], ◌∷◌, Option, Some, None}
+use Rattle.bword.specs.declared.operators.BinOp.{BinOp}
+use Rattle.bword.specs.declared.operators.BinOp.TheVariants as op
+use Rattle.bcode.specs.Reading.{◌>>=◌, expect, number_at, name_at}
+use Rattle.bcode.specs.declared.header.Header.{Header}
+use Rattle.bcode.specs.declared.header.Header.TheVariants as header
+use Rattle.bcode.specs.declared.header.Sizes.{Sizes}
+use Rattle.bcode.specs.declared.instr.Increment.{Increment}
+use Rattle.bcode.specs.declared.instr.Increment.TheVariants as increment
+use Rattle.bcode.specs.declared.instr.Instr.{Instr}
+use Rattle.bcode.specs.declared.instr.Instr.TheVariants as instr
+use Rattle.bcode.specs.declared.instr.Ival.{Ival}
+use Rattle.bcode.specs.declared.instr.Ival.TheVariants as ival
+
+abbrev pub Reader : Type 0 → Type 0
+Reader X = List ℕ → Option (X × List ℕ)
+
+abbrev pub mapped : {X Y : Type 0} → (X → Y) → Option (X × List ℕ) → Option (Y × List ℕ)
+mapped f (Some x) = Some (f x.0, x.1)
+mapped f None = None
+
+-- one of several readers, by the first byte
+abbrev pub choose : {X : Type 0} → List (ℕ × Reader X) → ℕ → Reader X
+choose [] byte rest = None
+choose (r ∷ rs) byte rest = if byte == r.0 then r.1 rest else choose rs byte rest
+
+abbrev pub by_first : {X : Type 0} → List (ℕ × Reader X) → Reader X
+by_first readers [] = None
+by_first readers (byte ∷ rest) = choose readers byte rest
+
+-- the end of a line
+unfoldable pub ended : {X : Type 0} → X → Reader X
+ended x bytes = expect 10 bytes >>= λ rest. Some (x, rest)
+
+-- the last number of a line
+unfoldable pub operand_at : ℕ → Reader ℕ
+operand_at below bytes = expect 32 bytes >>= number_at 10 below
+
+unfoldable pub name_operand_at : Reader (List ℕ)
+name_operand_at bytes = expect 32 bytes >>= name_at 10
+
+unfoldable pub less_at : Reader BinOp
+less_at bytes = by_first ((10, λ rest. Some (op.Lt, rest)) ∷ (61, ended op.Le) ∷ (60, ended op.Shl) ∷ []) bytes
+
+unfoldable pub greater_at : Reader BinOp
+greater_at bytes = by_first ((10, λ rest. Some (op.Gt, rest)) ∷ (61, ended op.Ge) ∷ (62, ended op.Shr) ∷ []) bytes
+
+abbrev pub operator_readers : List (ℕ × Reader BinOp)
+operator_readers =
+    (124, ended op.Or) ∷ (38, ended op.And) ∷ (61, λ rest. expect 61 rest >>= ended op.Eq) ∷ (33, λ rest. expect 61 rest >>= ended op.Ne)
+      ∷ (60, less_at) ∷ (62, greater_at) ∷ (45, ended op.Sub) ∷ (43, ended op.Add) ∷ (37, ended op.Rem) ∷ (42, ended op.Mul)
+      ∷ (47, ended op.Div) ∷ []
+
+unfoldable pub operator_at : Reader BinOp
+operator_at bytes = expect 32 bytes >>= by_first operator_readers
+
+abbrev pub increment_readers : List (ℕ × Reader Increment)
+increment_readers =
+    (48, ended increment.PreIncrement) ∷ (49, ended increment.PreDecrement) ∷ (50, ended increment.PostIncrement)
+      ∷ (51, ended increment.PostDecrement) ∷ []
+
+unfoldable pub increment_at : Reader Increment
+increment_at bytes = expect 32 bytes >>= by_first increment_readers
+
+unfoldable pub case_at : ℕ → Reader Instr
+case_at below bytes = do
+  rest ← expect 32 bytes
+  value ← number_at 32 (2 ^ 16) rest
+  target ← number_at 10 below value.1
+  Some (instr.JumpIfCase value.0 target.0, target.1)
+
+abbrev pub instr_readers : Sizes → List (ℕ × Reader Instr)
+instr_readers sizes =
+    (99, λ rest. mapped instr.Constant (operand_at (2 ^ 16) rest)) ∷ (120, λ rest. mapped instr.External (name_operand_at rest))
+      ∷ (97, λ rest. mapped instr.Automatic (operand_at sizes.frame rest)) ∷ (115, λ rest. mapped instr.Text (operand_at sizes.strings rest))
+      ∷ (108, λ rest. mapped instr.Label (operand_at sizes.labels rest)) ∷ (118, ended instr.Load) ∷ (119, ended instr.Store)
+      ∷ (98, λ rest. mapped instr.Binary (operator_at rest)) ∷ (109, λ rest. mapped instr.Modify (operator_at rest)) ∷ (110, ended instr.Negate)
+      ∷ (104, ended instr.Not) ∷ (105, λ rest. mapped instr.Increment (increment_at rest))
+      ∷ (106, λ rest. mapped instr.Jump (operand_at sizes.code rest)) ∷ (122, λ rest. mapped instr.JumpIfZero (operand_at sizes.code rest))
+      ∷ (103, ended instr.Goto) ∷ (101, case_at sizes.code) ∷ (107, λ rest. mapped instr.Call (operand_at (2 ^ 16) rest))
+      ∷ (114, ended instr.Return) ∷ (112, ended instr.Pop) ∷ []
+
+unfoldable pub instr_at : Sizes → Reader Instr
+instr_at sizes bytes = by_first (instr_readers sizes) bytes
+
+abbrev pub ival_readers : ℕ → List (ℕ × Reader Ival)
+ival_readers strings =
+    (99, λ rest. mapped ival.Number (operand_at (2 ^ 16) rest)) ∷ (120, λ rest. mapped ival.Name (name_operand_at rest))
+      ∷ (115, λ rest. mapped ival.Text (operand_at strings rest)) ∷ []
+
+unfoldable pub ival_at : ℕ → Reader Ival
+ival_at strings bytes = by_first (ival_readers strings) bytes
+
+-- the line of a label's target or of a string word
+unfoldable pub number_line_at : ℕ → ℕ → Reader ℕ
+number_line_at letter below bytes = expect letter bytes >>= operand_at below
+
+unfoldable pub sizes_at : Reader Sizes
+sizes_at bytes = do
+  frame ← number_at 32 32768 bytes
+  labels ← number_at 32 129 frame.1
+  strings ← number_at 32 1025 labels.1
+  code ← number_at 10 4097 strings.1
+  if labels.0 == 0 || not (code.0 == 0) then
+    Some (record { frame = frame.0; labels = labels.0; strings = strings.0; code = code.0 }, code.1)
+    else None
+
+unfoldable pub function_header_at : Reader Header
+function_header_at bytes = do
+  rest ← expect 32 bytes
+  name ← name_at 32 rest
+  parameters ← number_at 32 129 name.1
+  sizes ← sizes_at parameters.1
+  if nat_le parameters.0 sizes.0.frame then Some (header.Function name.0 parameters.0 sizes.0, sizes.1) else None
+
+unfoldable pub simple_header_at : Reader Header
+simple_header_at bytes = do
+  rest ← expect 32 bytes
+  name ← name_at 32 rest
+  values ← number_at 32 1025 name.1
+  strings ← number_at 10 1025 values.1
+  Some (header.Simple name.0 values.0 strings.0, strings.1)
+
+unfoldable pub vector_header_at : Reader Header
+vector_header_at bytes = do
+  rest ← expect 32 bytes
+  name ← name_at 32 rest
+  words ← number_at 32 32768 name.1
+  values ← number_at 32 1025 words.1
+  strings ← number_at 10 1025 values.1
+  if nat_le 1 words.0 && nat_le values.0 words.0 then Some (header.Vector name.0 words.0 values.0 strings.0, strings.1) else None
+
+abbrev pub header_readers : List (ℕ × Reader Header)
+header_readers = (70, function_header_at) ∷ (88, simple_header_at) ∷ (86, vector_header_at) ∷ (69, ended header.End) ∷ []
+
+unfoldable pub header_at : Reader Header
+header_at bytes = by_first header_readers bytes

@@ -1,0 +1,276 @@
+//! Lines, read from the front of a text.
+ghost use Rattle.std.specs.Prelude.{◌≡◌, ◌≤◌};
+ghost use Rattle.bcode.specs.LineReading.{
+    ended, operand_at, name_operand_at, less_at, greater_at, operator_at, increment_at, case_at, instr_at, ival_at, number_line_at,
+    sizes_at, function_header_at, simple_header_at, vector_header_at, header_at
+};
+ghost use Rattle.bcode.specs.Reading.{Gives};
+
+use crate::header::{Header, Sizes};
+use crate::parts::{expect, name, number};
+use crate::{Increment, Instr, Ival};
+use bword::{BinOp, Name};
+
+/// How many words there are.
+const WORDS: u32 = 65536;
+
+// The text behind the end of a line, beside what stood in the line.
+#[tactic(auto, unfolding(crate::specs::LineReading::ended))]
+fn ended<T: Drop>(value: T, text: &[u8]) -> Option<(T, &[u8])>
+    ensures { Gives (λ r. (r.0, r.1.now)) result (ended value text.now) }
+{
+    let rest = expect(text, b'\n')?;
+    Some((value, rest))
+}
+
+#[tactic(auto, unfolding(crate::specs::LineReading::operand_at))]
+fn operand(text: &[u8], below: u32) -> Option<(u16, &[u8])>
+    requires { below ≤ 65536 }
+    ensures { Gives (λ r. (r.0, r.1.now)) result (operand_at below text.now) }
+{
+    let rest = expect(text, b' ')?;
+    number(rest, b'\n', below)
+}
+
+#[tactic(auto, unfolding(crate::specs::LineReading::name_operand_at))]
+fn name_operand(text: &[u8]) -> Option<(Name, &[u8])>
+    ensures { Gives (λ r. (r.0, r.1.now)) result (name_operand_at text.now) }
+{
+    let rest = expect(text, b' ')?;
+    name(rest, b'\n')
+}
+
+#[tactic(auto, unfolding(crate::specs::LineReading::less_at))]
+fn less(text: &[u8]) -> Option<(BinOp, &[u8])>
+    ensures { Gives (λ r. (r.0, r.1.now)) result (less_at text.now) }
+{
+    let (byte, rest) = text.split_first()?;
+    match *byte {
+        b'\n' => Some((BinOp::Lt, rest)),
+        b'=' => ended(BinOp::Le, rest),
+        b'<' => ended(BinOp::Shl, rest),
+        _ => None,
+    }
+}
+
+#[tactic(auto, unfolding(crate::specs::LineReading::greater_at))]
+fn greater(text: &[u8]) -> Option<(BinOp, &[u8])>
+    ensures { Gives (λ r. (r.0, r.1.now)) result (greater_at text.now) }
+{
+    let (byte, rest) = text.split_first()?;
+    match *byte {
+        b'\n' => Some((BinOp::Gt, rest)),
+        b'=' => ended(BinOp::Ge, rest),
+        b'>' => ended(BinOp::Shr, rest),
+        _ => None,
+    }
+}
+
+#[tactic(auto, unfolding(crate::specs::LineReading::operator_at))]
+fn operator(text: &[u8]) -> Option<(BinOp, &[u8])>
+    ensures { Gives (λ r. (r.0, r.1.now)) result (operator_at text.now) }
+{
+    let (byte, rest) = expect(text, b' ')?.split_first()?;
+    match *byte {
+        b'|' => ended(BinOp::Or, rest),
+        b'&' => ended(BinOp::And, rest),
+        b'=' => ended(BinOp::Eq, expect(rest, b'=')?),
+        b'!' => ended(BinOp::Ne, expect(rest, b'=')?),
+        b'<' => less(rest),
+        b'>' => greater(rest),
+        b'-' => ended(BinOp::Sub, rest),
+        b'+' => ended(BinOp::Add, rest),
+        b'%' => ended(BinOp::Rem, rest),
+        b'*' => ended(BinOp::Mul, rest),
+        b'/' => ended(BinOp::Div, rest),
+        _ => None,
+    }
+}
+
+#[tactic(auto, unfolding(crate::specs::LineReading::increment_at))]
+fn increment(text: &[u8]) -> Option<(Increment, &[u8])>
+    ensures { Gives (λ r. (r.0, r.1.now)) result (increment_at text.now) }
+{
+    let (byte, rest) = expect(text, b' ')?.split_first()?;
+    match *byte {
+        b'0' => ended(Increment::PreIncrement, rest),
+        b'1' => ended(Increment::PreDecrement, rest),
+        b'2' => ended(Increment::PostIncrement, rest),
+        b'3' => ended(Increment::PostDecrement, rest),
+        _ => None,
+    }
+}
+
+#[tactic(auto, unfolding(crate::specs::LineReading::case_at))]
+fn case(text: &[u8], below: u32) -> Option<(Instr, &[u8])>
+    requires { below ≤ 65536 }
+    ensures { Gives (λ r. (r.0, r.1.now)) result (case_at below text.now) }
+{
+    let rest = expect(text, b' ')?;
+    let (value, rest) = number(rest, b' ', WORDS)?;
+    let (target, rest) = number(rest, b'\n', below)?;
+    Some((Instr::JumpIfCase { value, target }, rest))
+}
+
+/// An instruction of a function of these sizes.
+#[tactic(auto, unfolding(crate::specs::LineReading::instr_at))]
+pub fn instr(text: &[u8], sizes: Sizes) -> Option<(Instr, &[u8])>
+    ensures { Gives (λ r. (r.0, r.1.now)) result (instr_at sizes text.now) }
+{
+    let (letter, rest) = text.split_first()?;
+    match *letter {
+        b'c' => operand(rest, WORDS).map(|(n, rest)| (Instr::Constant(n), rest)),
+        b'x' => match name_operand(rest) {
+            Some((name, rest)) => Some((Instr::External(name), rest)),
+            None => None,
+        },
+        b'a' => operand(rest, u32::from(sizes.frame)).map(|(word, rest)| (Instr::Automatic(word), rest)),
+        b's' => operand(rest, u32::from(sizes.strings)).map(|(offset, rest)| (Instr::Text(offset), rest)),
+        b'l' => operand(rest, u32::from(sizes.labels)).map(|(label, rest)| (Instr::Label(label), rest)),
+        b'v' => ended(Instr::Load, rest),
+        b'w' => ended(Instr::Store, rest),
+        b'b' => operator(rest).map(|(operator, rest)| (Instr::Binary(operator), rest)),
+        b'm' => operator(rest).map(|(operator, rest)| (Instr::Modify(operator), rest)),
+        b'n' => ended(Instr::Negate, rest),
+        b'h' => ended(Instr::Not, rest),
+        b'i' => increment(rest).map(|(which, rest)| (Instr::Increment(which), rest)),
+        b'j' => operand(rest, u32::from(sizes.code)).map(|(place, rest)| (Instr::Jump(place), rest)),
+        b'z' => operand(rest, u32::from(sizes.code)).map(|(place, rest)| (Instr::JumpIfZero(place), rest)),
+        b'g' => ended(Instr::Goto, rest),
+        b'e' => case(rest, u32::from(sizes.code)),
+        b'k' => operand(rest, WORDS).map(|(arguments, rest)| (Instr::Call(arguments), rest)),
+        b'r' => ended(Instr::Return, rest),
+        b'p' => ended(Instr::Pop, rest),
+        _ => None,
+    }
+}
+
+/// An initial value of a definition with this many string words.
+#[tactic(auto, unfolding(crate::specs::LineReading::ival_at))]
+pub fn ival(text: &[u8], strings: u16) -> Option<(Ival, &[u8])>
+    ensures { Gives (λ r. (r.0, r.1.now)) result (ival_at strings text.now) }
+{
+    let (letter, rest) = text.split_first()?;
+    match *letter {
+        b'c' => operand(rest, WORDS).map(|(n, rest)| (Ival::Number(n), rest)),
+        b'x' => match name_operand(rest) {
+            Some((name, rest)) => Some((Ival::Name(name), rest)),
+            None => None,
+        },
+        b's' => operand(rest, u32::from(strings)).map(|(offset, rest)| (Ival::Text(offset), rest)),
+        _ => None,
+    }
+}
+
+/// The line of a letter and a number.
+#[tactic(auto, unfolding(crate::specs::LineReading::number_line_at))]
+pub fn number_line(text: &[u8], letter: u8, below: u32) -> Option<(u16, &[u8])>
+    requires { below ≤ 65536 }
+    ensures { Gives (λ r. (r.0, r.1.now)) result (number_line_at letter below text.now) }
+{
+    let rest = expect(text, letter)?;
+    operand(rest, below)
+}
+
+#[tactic(auto, unfolding(crate::specs::LineReading::sizes_at))]
+fn sizes(text: &[u8]) -> Option<(Sizes, &[u8])>
+    ensures { Gives (λ r. (r.0, r.1.now)) result (sizes_at text.now) }
+{
+    let (frame, rest) = number(text, b' ', 32768)?;
+    let (labels, rest) = number(rest, b' ', 129)?;
+    let (strings, rest) = number(rest, b' ', 1025)?;
+    let (code, rest) = number(rest, b'\n', 4097)?;
+    if labels != 0 && code == 0 {
+        return None;
+    }
+    let sizes = Sizes {
+        frame,
+        labels,
+        strings,
+        code,
+    };
+    Some((sizes, rest))
+}
+
+#[tactic(auto, unfolding(crate::specs::LineReading::function_header_at))]
+fn function_header(text: &[u8]) -> Option<(Header, &[u8])>
+    ensures { Gives (λ r. (r.0, r.1.now)) result (function_header_at text.now) }
+{
+    let rest = expect(text, b' ')?;
+    let Some((name, rest)) = name(rest, b' ') else {
+        return None;
+    };
+    let (parameters, rest) = number(rest, b' ', 129)?;
+    let (sizes, rest) = sizes(rest)?;
+    if parameters > sizes.frame {
+        return None;
+    }
+    Some((
+        Header::Function {
+            name,
+            parameters,
+            sizes,
+        },
+        rest,
+    ))
+}
+
+#[tactic(auto, unfolding(crate::specs::LineReading::simple_header_at))]
+fn simple_header(text: &[u8]) -> Option<(Header, &[u8])>
+    ensures { Gives (λ r. (r.0, r.1.now)) result (simple_header_at text.now) }
+{
+    let rest = expect(text, b' ')?;
+    let Some((name, rest)) = name(rest, b' ') else {
+        return None;
+    };
+    let (values, rest) = number(rest, b' ', 1025)?;
+    let (strings, rest) = number(rest, b'\n', 1025)?;
+    Some((
+        Header::Simple {
+            name,
+            values,
+            strings,
+        },
+        rest,
+    ))
+}
+
+#[tactic(auto, unfolding(crate::specs::LineReading::vector_header_at))]
+fn vector_header(text: &[u8]) -> Option<(Header, &[u8])>
+    ensures { Gives (λ r. (r.0, r.1.now)) result (vector_header_at text.now) }
+{
+    let rest = expect(text, b' ')?;
+    let Some((name, rest)) = name(rest, b' ') else {
+        return None;
+    };
+    let (words, rest) = number(rest, b' ', 32768)?;
+    let (values, rest) = number(rest, b' ', 1025)?;
+    let (strings, rest) = number(rest, b'\n', 1025)?;
+    if words == 0 || values > words {
+        return None;
+    }
+    Some((
+        Header::Vector {
+            name,
+            words,
+            values,
+            strings,
+        },
+        rest,
+    ))
+}
+
+/// The first line of a definition, or the last one of a code text.
+#[tactic(auto, unfolding(crate::specs::LineReading::header_at))]
+pub fn header(text: &[u8]) -> Option<(Header, &[u8])>
+    ensures { Gives (λ r. (r.0, r.1.now)) result (header_at text.now) }
+{
+    let (letter, rest) = text.split_first()?;
+    match *letter {
+        b'F' => function_header(rest),
+        b'X' => simple_header(rest),
+        b'V' => vector_header(rest),
+        b'E' => ended(Header::End, rest),
+        _ => None,
+    }
+}
