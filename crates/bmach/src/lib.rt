@@ -16,3 +16,6 @@ pub use image::Image;
 pub use library::Library;
 pub use loader::load;
 pub use outcome::Trap;
+
+#[cfg(test)]
+mod tests;
