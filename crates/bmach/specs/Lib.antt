@@ -4,6 +4,7 @@ pub mod Layout
 pub mod LayoutRows
 pub mod Machine
 pub mod Resolved
+pub mod Operations
 pub mod Images
 pub mod Loading
 pub mod Parts

@@ -6,6 +6,7 @@ mod fault;
 mod image;
 mod library;
 mod loader;
+mod operation;
 mod outcome;
 mod part;
 mod parts;

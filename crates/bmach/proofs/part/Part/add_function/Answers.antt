@@ -7,6 +7,7 @@ use Rattle.bmach.specs.Parts.{Adds}
 use Rattle.bmach.specs.Layout.{first_undefined, name_in_instr}
 use Rattle.bmach.specs.Loading.{known_in}
 use Rattle.bmach.specs.Images.{loaded_of}
+use Rattle.bmach.specs.Operations.{instr_of}
 use Rattle.bmach.specs.Resolved.{resolved_instr}
 use Rattle.bmach.proofs.part.Part.add_function.Goals as goal
 
@@ -25,7 +26,7 @@ returns c =
         ∙ append_assoc old ((7 + c.len.result) ∷ []) c.deref.result.now
         ∙ ap (λ n. old ++ ((7 + n) ∷ c.deref.result.now)) count
         ∙ ap (λ ss. old ++ ((7 + length (map loaded_of c.args.self.now.functions.items)) ∷ ss)) c.deref.ensures.value in
-    let code : c.in_ok-code.code.items ≡ map (resolved_instr known (length old + 1) c.args.self.now.first_label) p.code.items =
+    let code : map instr_of c.in_ok-code.code.items ≡ map (resolved_instr known (length old + 1) c.args.self.now.first_label) p.code.items =
         c.in_ok-code.ensures.0
         ∙ ap (λ n. map (resolved_instr known n c.args.self.now.first_label) c.deref-2.result.now) strings
         ∙ ap (map (resolved_instr known (length old + 1) c.args.self.now.first_label)) c.deref-2.ensures.value in
