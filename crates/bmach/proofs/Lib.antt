@@ -7,3 +7,4 @@ pub mod Whole
 pub mod Fitting
 pub mod Faults
 pub mod Loads
+pub mod Taking

@@ -8,3 +8,5 @@ pub mod Operations
 pub mod Images
 pub mod Loading
 pub mod Parts
+pub mod Taken
+pub mod Steps

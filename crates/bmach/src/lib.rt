@@ -6,11 +6,14 @@ mod fault;
 mod image;
 mod library;
 mod loader;
+mod machine;
+mod operands;
 mod operation;
 mod outcome;
 mod part;
 mod parts;
 mod resolve;
+mod step;
 
 pub use fault::LoadFault;
 pub use image::Image;
