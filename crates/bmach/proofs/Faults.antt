@@ -1,15 +1,14 @@
 -- Which fault a load has, and what is kept where it has none.
-use Rattle.std.proofs.Common.{◌≡◌, ℕ, zero, suc, ◌+◌, Bool, true, false, cond, List, [], ◌∷◌, ◌++◌, length, get_or, drop, add-one, ◌<◌, map, refl, sym, ap, ◌∙◌, subst, arith, Option, Some, None}
-use Rattle.std.specs.Prelude.{zip, find, filter_map, option_map, option_and_then, slice_get, not, ◌||◌}
+use Rattle.std.proofs.Common.{◌≡◌, ℕ, suc, ◌+◌, Bool, true, false, cond, List, [], ◌∷◌, ◌++◌, length, get_or, drop, add-one, ◌<◌, map, refl, sym, ap, ◌∙◌, arith, Option, Some, None}
+use Rattle.std.specs.Prelude.{zip, find, option_and_then, slice_get, ◌||◌}
 use Rattle.std.specs.List.{list_any}
 use Rattle.std.proofs.Math.Seq.{drop-cons}
-use Rattle.std.proofs.lemmas.Option.{slice_get-map}
 use Rattle.bcode.specs.declared.definition.Definition.{Definition}
 use Rattle.bcode.specs.declared.definition.Definition.TheVariants as definition
 use Rattle.bmach.specs.declared.fault.LoadFault.{LoadFault}
 use Rattle.bmach.specs.declared.fault.LoadFault.TheVariants as fault
-use Rattle.bmach.specs.Layout.{Shape, shape_of, spot_behind, spots_behind, first_some, some_if, is_main, same_name, functions_in, load_fault}
-use Rattle.bmach.specs.Machine.{Loaded, loaded_at}
+use Rattle.bmach.specs.Layout.{Shape, shape_of, spot_behind, spots_behind, first_some, is_main, functions_in}
+use Rattle.bmach.specs.Machine.{loaded_at}
 use Rattle.bmach.specs.Loading.{IsFault, main_from}
 use Rattle.bmach.proofs.Whole.{functions_behind}
 

@@ -1,12 +1,10 @@
 -- Whether definitions fit.
-use Rattle.std.proofs.Common.{◌≡◌, ℕ, ◌+◌, ◌<◌, ◌≤◌, Bool, true, false, List, [], ◌∷◌, ◌++◌, take, drop, get_or, length, map, refl, sym, ap, ◌∙◌, arith, ◌⊎◌, inl, inr, ⊎_elim}
-use Rattle.std.specs.Prelude.{sum_by, nat_lt, not, ◌||◌}
+use Rattle.std.proofs.Common.{◌≡◌, ℕ, ◌+◌, ◌<◌, ◌≤◌, true, false, List, [], ◌∷◌, ◌++◌, arith, ◌⊎◌, inl, inr, ⊎_elim}
+use Rattle.std.specs.Prelude.{nat_lt, not, ◌||◌}
 use Rattle.std.proofs.lemmas.Bool.Decides.{nat_tests}
 use Rattle.std.proofs.lemmas.List.Sums.{sum_by-append}
-use Rattle.bcode.specs.declared.definition.Definition.{Definition}
-use Rattle.bmach.specs.Layout.{Shape, shape_of, size_of, labels_in, data_end, label_count}
+use Rattle.bmach.specs.Layout.{Shape, size_of, labels_in, data_end, label_count}
 use Rattle.bmach.specs.Loading.{fits}
-use Rattle.bmach.proofs.Naming.{shapes_more, shapes_split}
 
 fits_from : (end labels : ℕ) → end ≤ 65536 → labels ≤ 65535 → not (nat_lt 65536 end || nat_lt 65535 labels) ≡ true
 fits_from end labels h k = grind (arith, nat_tests)

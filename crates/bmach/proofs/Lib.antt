@@ -8,3 +8,4 @@ pub mod Fitting
 pub mod Faults
 pub mod Loads
 pub mod Taking
+pub mod Calling

@@ -1,5 +1,5 @@
 -- What a load gives.
-use Rattle.std.proofs.Common.{◌≡◌, ℕ, ◌+◌, Bool, true, false, List, [], ◌∷◌, ◌++◌, length, map, refl, sym, ap, ◌∙◌, subst, arith, Option, Some, None}
+use Rattle.std.proofs.Common.{◌≡◌, ℕ, Bool, true, false, List, [], ◌∷◌, ◌++◌, length, map, refl, sym, ap, ◌∙◌, subst, arith, Option, Some, None}
 use Rattle.std.specs.Prelude.{flat_map, option_map, slice_get, not, ◌||◌, nat_lt, zip}
 use Rattle.std.specs.List.{list_any}
 use Rattle.std.proofs.lemmas.Option.{slice_get-map}
@@ -8,11 +8,10 @@ use Rattle.bmach.specs.declared.fault.LoadFault.{LoadFault}
 use Rattle.bmach.specs.declared.fault.LoadFault.TheVariants as fault
 use Rattle.bmach.specs.World.{words}
 use Rattle.bmach.specs.Layout.{shape_of, names_of, names_in, duplicate_behind, data_end, label_count, first_undefined, addresses, address_in, Addresses, library_addresses, first_some, some_if, is_main, load_fault, spots, definition_words}
-use Rattle.bmach.specs.Machine.{Loaded, Image, image_of}
-use Rattle.bmach.specs.Resolved.{resolved_function, resolved, IsLoadedFrom}
+use Rattle.bmach.specs.Resolved.{resolved_function, IsLoadedFrom}
 use Rattle.bmach.specs.Loading.{Part, IsFault, fits, first_part, main_from, undefined_fault}
 use Rattle.bmach.proofs.Whole.{whole, functions_behind, length-words}
-use Rattle.bmach.proofs.Faults.{first_fault, find_main, some_main, no_main}
+use Rattle.bmach.proofs.Faults.{first_fault, find_main}
 
 -- the fault of a load by what the four kinds look at
 abbrev fault_of : Option (List ℕ) → (too_large : Bool) → Option (List ℕ) → (has_main : Bool) → Option LoadFault

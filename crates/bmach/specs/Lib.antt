@@ -3,6 +3,7 @@ pub mod Rows
 pub mod Layout
 pub mod LayoutRows
 pub mod Machine
+pub mod MachineRows
 pub mod Resolved
 pub mod Operations
 pub mod Images

@@ -1,10 +1,9 @@
 -- Closed facts: the words that the meaning of programs and the machine share, on numbers.
-use Rattle.std.specs.Prelude.{◌≡◌, ℕ, List, [], ◌∷◌, ◌++◌, codes, replicate, slice_index, Option, Some, None, refl}
+use Rattle.std.specs.Prelude.{◌≡◌, [], ◌∷◌, codes, Some, None, refl}
 use Rattle.std.specs.Fmt.{digits}
-use Rattle.bmach.specs.declared.library.Library.{Library}
 use Rattle.bmach.specs.declared.library.Library.TheVariants.{Char, Lchar, Getchar, Putchar, Printn, Exit}
 use Rattle.bmach.specs.declared.outcome.Trap.TheVariants.{BadBase, NoRoom, TooDeep}
-use Rattle.bmach.specs.World.{World, Reply, Gives, Ends, Exited, Trapped, library, with_words, callee_of, NoFunction, OfLibrary, OfProgram, refusal, parameter_words}
+use Rattle.bmach.specs.World.{World, Gives, Ends, Exited, Trapped, library, with_words, callee_of, NoFunction, OfLibrary, OfProgram, refusal, parameter_words}
 
 -- the string "hi" and its final *e at word 2, the input "ab"
 abbrev world : World

@@ -1,7 +1,9 @@
 //! The loader and the machine.
 #![tactic(auto)]
 
+mod act;
 mod addresses;
+mod calls;
 mod fault;
 mod image;
 mod library;

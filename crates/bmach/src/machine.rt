@@ -17,6 +17,14 @@ pub struct Call<'a> {
     ghost low: { start ≤ 65536 },
 }
 
+/// The active calls.
+#[derive(Drop)]
+pub struct Calls<'a> {
+    pub top: Call<'a>,
+    /// The others, the nearest last.
+    pub below: Vec<Call<'a>>,
+}
+
 /// What a called value is.
 #[derive(Clone, Copy)]
 pub enum Callee<'a> {
@@ -42,6 +50,6 @@ pub enum Flow {
     Reads,
     /// The character's bytes are to be written, and the call gets it.
     WritesCharacter(u16),
-    /// The number is to be written, and the call gets 0.
+    /// The number is to be written to the base, and the call gets 0.
     WritesNumber(u16, u16),
 }

@@ -1,4 +1,4 @@
-use Rattle.std.proofs.Common.{◌≡◌, ◌%◌, ◌+◌, suc, ℕ, List, [], ◌∷◌, ◌++◌, map, take, drop, None, Some, cond, true, refl, sym, ap, ◌∙◌, length, arith}
+use Rattle.std.proofs.Common.{◌≡◌, ◌%◌, ◌+◌, suc, [], ◌∷◌, ◌++◌, map, take, drop, None, Some, cond, true, refl, sym, ap, ◌∙◌, arith}
 use Rattle.std.proofs.Math.Nat.{mod-add-mod}
 use Rattle.std.proofs.lemmas.List.{take_all}
 use Rattle.std.specs.Prelude.{is_some, option_map}

@@ -1,4 +1,4 @@
-use Rattle.std.proofs.Common.{◌≡◌, ◌+◌, ◌<◌, ◌⊎◌, suc, map, take, drop, false, inl, inr, ⊎_elim, sym, ap, ◌∙◌, arith}
+use Rattle.std.proofs.Common.{◌≡◌, ◌+◌, suc, map, take, drop, inl, inr, ⊎_elim, sym, ap, ◌∙◌, arith}
 use Rattle.std.proofs.lemmas.List.{take_all}
 use Rattle.bmach.specs.Layout.{data_end, label_count, labels_in, shape_of, size_of}
 use Rattle.bmach.specs.Loading.{fits}

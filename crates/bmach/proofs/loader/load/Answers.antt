@@ -1,17 +1,15 @@
-use Rattle.std.proofs.Common.{◌≡◌, ◌+◌, ◌≤◌, ℕ, List, length, map, true, false, Option, None, sym, ap, ◌∙◌, subst, arith}
-use Rattle.std.specs.Prelude.{flat_map, option_map}
+use Rattle.std.proofs.Common.{◌≡◌, ℕ, List, length, map, true, false, Option, sym, ap, ◌∙◌, subst, arith}
+use Rattle.std.specs.Prelude.{flat_map}
 use Rattle.std.proofs.lemmas.Result.{err_from_is_err_and}
 use Rattle.bcode.specs.declared.definition.Definition.{Definition}
-use Rattle.bmach.specs.declared.fault.LoadFault.{LoadFault}
-use Rattle.bmach.specs.declared.fault.LoadFault.TheVariants as fault
-use Rattle.bmach.specs.Layout.{shape_of, addresses, address_in, duplicate_behind, names_of, names_in, load_fault, data_end, first_undefined}
-use Rattle.bmach.specs.Loading.{Part, IsFault, fits, known_in, main_from, undefined_fault}
+use Rattle.bmach.specs.Layout.{shape_of, addresses, address_in, names_in, load_fault, data_end, first_undefined}
+use Rattle.bmach.specs.Loading.{Part, IsFault, fits, known_in, undefined_fault}
 use Rattle.bmach.specs.Images.{image_in}
 use Rattle.bmach.specs.Parts.{part_of}
 use Rattle.bmach.specs.Resolved.{IsLoadedFrom}
 use Rattle.bmach.proofs.Fitting.{bounds_if_fits}
 use Rattle.bmach.proofs.Faults.{no_main, some_main}
-use Rattle.bmach.proofs.Whole.{whole, loaded_all, length-words}
+use Rattle.bmach.proofs.Whole.{loaded_all, length-words}
 use Rattle.bmach.proofs.Loads.{duplicate_first, too_large_next, undefined_next, main_last, is_loaded}
 use Rattle.bmach.proofs.loader.load.Goals as goal
 

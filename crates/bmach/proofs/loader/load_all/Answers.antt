@@ -1,16 +1,15 @@
-use Rattle.std.proofs.Common.{◌≡◌, ◌+◌, ◌≤◌, suc, List, [], ◌∷◌, ◌++◌, map, length, take, drop, true, sym, ap, ◌∙◌, arith}
+use Rattle.std.proofs.Common.{◌≡◌, ◌+◌, suc, [], ◌∷◌, ◌++◌, map, length, take, drop, sym, ap, ◌∙◌, arith}
 use Rattle.std.specs.Prelude.{flat_map, fold}
 use Rattle.std.proofs.lemmas.List.{length-map, take_all, take_more}
 use Rattle.std.proofs.lemmas.List.Sums.{fold-append}
 use Rattle.std.proofs.lemmas.Result.{err_from_is_err_and}
-use Rattle.bmach.specs.Layout.{data_end, label_count, labels_in, names_in, shape_of, size_of, first_undefined}
+use Rattle.bmach.specs.Layout.{data_end, label_count, names_in, shape_of, first_undefined}
 use Rattle.bmach.specs.Loading.{Part, first_part, fits, known_in, with_definition}
 use Rattle.bmach.specs.Images.{loaded_of}
-use Rattle.bmach.specs.Parts.{part_of}
 use Rattle.bmach.proofs.Naming.{shapes_split}
 use Rattle.bmach.proofs.Fitting.{one_more_fits}
 use Rattle.bmach.proofs.Undefined.{defined_more, undefined_at}
-use Rattle.bmach.proofs.Whole.{whole, loaded_all, length-words, length-functions, functions_within}
+use Rattle.bmach.proofs.Whole.{loaded_all, length-words, length-functions, functions_within}
 use Rattle.bmach.proofs.loader.load_all.Goals as goal
 
 pub loop-definition-preserved : goal.loop-definition-preserved

@@ -1,6 +1,5 @@
-use Rattle.std.proofs.Common.{◌≡◌, ◌+◌, [], drop, None, true, false, sym, ap, ◌∙◌, arith}
+use Rattle.std.proofs.Common.{◌+◌, drop, true, false, sym, ap, ◌∙◌, arith}
 use Rattle.std.proofs.Math.ListN.{drop_of_length-le}
-use Rattle.bmach.specs.Layout.{functions_in, shape_of}
 use Rattle.bmach.specs.Loading.{main_from}
 use Rattle.bmach.proofs.Faults.{main_step}
 use Rattle.bmach.proofs.loader.main_of.Goals as goal
