@@ -1,5 +1,5 @@
 -- A line read from the text ahead.
-use Rattle.std.proofs.Common.{◌≡◌, ℕ, ◌+◌, ◌<◌, List, [], ◌∷◌, ◌++◌, length, Option, Some, None, Result, Ok, Err, IsErrAnd, refl, sym, ap, ◌∙◌, arith, append_assoc, append-nil, length-append}
+use Rattle.std.proofs.Common.{◌≡◌, ℕ, ◌+◌, ◌<◌, List, [], ◌∷◌, ◌++◌, length, Some, None, Result, Ok, Err, IsErrAnd, refl, sym, ap, ◌∙◌, arith, append_assoc, append-nil, length-append}
 use Rattle.std.specs.List.{flat_map}
 use Rattle.std.proofs.lemmas.List.Concat.{flat_map-append}
 use Rattle.std.proofs.lemmas.List.Elements.{All-nil, All-push}
@@ -37,7 +37,7 @@ module _ {X : Type 0} {spell : X → List ℕ} {within : X → Type 0} where
       → ys ≡ xs ++ x ∷ [] → ReadsLines spell within (i + 1) old ys new
   ReadsLines-more {old} {mid} {new} {i} {xs} {x} ys before step pushed =
       let more : flat_map spell (xs ++ x ∷ []) ≡ flat_map spell xs ++ spell x =
-          flat_map-append spell xs (x ∷ []) ∙ ap (λ l. flat_map spell xs ++ l) (append-nil (spell x)) in
+      flat_map-append spell xs (x ∷ []) ∙ ap (λ l. flat_map spell xs ++ l) (append-nil (spell x)) in
       rw pushed record {
         all = length-append xs (x ∷ []) ∙ ap (λ n. n + 1) before.all;
         inside = All-push within xs x before.inside step.inside;

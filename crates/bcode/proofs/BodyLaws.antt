@@ -1,20 +1,18 @@
 -- Lines read one kind after another.
-use Rattle.std.proofs.Common.{subst, ◌≡◌, ℕ, zero, suc, ◌+◌, ◌<◌, List, [], ◌∷◌, ◌++◌, length, map, replicate, Option, Some, None, Result, Ok, Err, IsErrAnd, refl, sym, ap, ◌∙◌, arith, append_assoc}
-use Rattle.std.specs.Prelude.{All}
+use Rattle.std.proofs.Common.{subst, ◌≡◌, ℕ, suc, ◌+◌, List, [], ◌∷◌, ◌++◌, length, map, replicate, Option, Result, Ok, Err, IsErrAnd, refl, sym, ap, ◌∙◌, arith, append_assoc}
 use Rattle.std.specs.List.{flat_map}
 use Rattle.std.proofs.lemmas.List.Concat.{flat_map-append}
-use Rattle.bcode.specs.Ahead.{Ahead, ReadsLine, RefusesLine, ReadsLines, RefusesLines, LineGives, LinesGive, GoesOn, StopsAhead, ReadsBody, BodyGives, ReadsDefinition, ReadsEnd, HasNext, DefinitionGives}
-use Rattle.bcode.specs.Headers.{header_of, header_text, IsHeaderWithin}
-use Rattle.bcode.specs.Stopping.{Kind, IsOfKind, State, expects, finished, state_after, Leads, Stuck, Stops}
-use Rattle.bcode.specs.Text.{joined, end_text, header_line, body_lines, text_of}
-use Rattle.bcode.specs.Views.{IsWithinRanges}
+use Rattle.bcode.specs.Ahead.{Ahead, ReadsLine, RefusesLine, ReadsLines, RefusesLines, LinesGive, GoesOn, StopsAhead, ReadsBody, BodyGives, ReadsDefinition, ReadsEnd, HasNext, DefinitionGives}
+use Rattle.bcode.specs.Headers.{header_text, IsHeaderWithin}
+use Rattle.bcode.specs.Stopping.{Kind, IsOfKind, State, expects, state_after, Stops}
+use Rattle.bcode.specs.Text.{joined, header_line, body_lines}
 use Rattle.bcode.specs.declared.definition.Definition.{Definition}
 use Rattle.bcode.specs.declared.fault.CodeFault.{CodeFault}
 use Rattle.bcode.specs.declared.fault.CodeFault.TheVariants as fault
 use Rattle.bcode.specs.declared.header.Header.{Header}
 use Rattle.bcode.specs.declared.header.Header.TheVariants as header
 use Rattle.bcode.proofs.StoppingLaws.{AreGoodKinds, IsGoodState, good_after, sample}
-use Rattle.bcode.proofs.CodeLaws.{Made, made, OfKinds, OfState, stops_behind, stops_last, stops_among, stops_among_last, header_of-text}
+use Rattle.bcode.proofs.CodeLaws.{made, OfKinds, OfState, stops_behind, stops_last, stops_among, stops_among_last, header_of-text}
 
 pub GoesOn-trans : {a b c : Ahead} {s t u : State} → GoesOn a s b t → GoesOn b t c u → GoesOn a s c u
 GoesOn-trans {a} {b} {c} {s} {t} {u} h k = record {
@@ -88,16 +86,16 @@ pub two_kinds : {X Y : Type 0} (f : X → List ℕ) (g : Y → List ℕ) (xs : L
     → a ≡ joined (map f xs ++ map g ys) ++ c
 two_kinds f g xs ys a b c first second =
     let whole : joined (map f xs ++ map g ys) ≡ flat_map f xs ++ flat_map g ys =
-        flat_map-append (λ l. l) (map f xs) (map g ys) ∙ ap (λ l. l ++ joined (map g ys)) (sym (flat_joined f xs)) ∙ ap (λ l. flat_map f xs ++ l) (sym (flat_joined g ys)) in
+    flat_map-append (λ l. l) (map f xs) (map g ys) ∙ ap (λ l. l ++ joined (map g ys)) (sym (flat_joined f xs)) ∙ ap (λ l. flat_map f xs ++ l) (sym (flat_joined g ys)) in
     first ∙ ap (λ l. flat_map f xs ++ l) second ∙ sym (append_assoc (flat_map f xs) (flat_map g ys) c) ∙ ap (λ l. l ++ c) (sym whole)
 
 pub three_kinds : {X Y Z : Type 0} (f : X → List ℕ) (g : Y → List ℕ) (h : Z → List ℕ) (xs : List X) (ys : List Y) (zs : List Z) (a b c d : List ℕ)
     → a ≡ flat_map f xs ++ b → b ≡ flat_map g ys ++ c → c ≡ flat_map h zs ++ d → a ≡ joined (map f xs ++ map g ys ++ map h zs) ++ d
 three_kinds f g h xs ys zs a b c d first second third =
     let whole : joined (map f xs ++ map g ys ++ map h zs) ≡ joined (map f xs ++ map g ys) ++ flat_map h zs =
-        flat_map-append (λ l. l) (map f xs ++ map g ys) (map h zs) ∙ ap (λ l. joined (map f xs ++ map g ys) ++ l) (sym (flat_joined h zs)) in
+    flat_map-append (λ l. l) (map f xs ++ map g ys) (map h zs) ∙ ap (λ l. joined (map f xs ++ map g ys) ++ l) (sym (flat_joined h zs)) in
     two_kinds f g xs ys a b c first second ∙ ap (λ l. joined (map f xs ++ map g ys) ++ l) third
-        ∙ sym (append_assoc (joined (map f xs ++ map g ys)) (flat_map h zs) d) ∙ ap (λ l. l ++ d) (sym whole)
+    ∙ sym (append_assoc (joined (map f xs ++ map g ys)) (flat_map h zs) d) ∙ ap (λ l. l ++ d) (sym whole)
 
 -- a definition's first line
 

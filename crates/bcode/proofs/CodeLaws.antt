@@ -1,14 +1,12 @@
 -- Code texts as paths of lines, and that a code text is that of one list of definitions.
-use Rattle.std.proofs.Common.{subst, ◌≡◌, ℕ, zero, suc, ◌+◌, ◌^◌, ◌<◌, ◌≤◌, List, [], ◌∷◌, ◌++◌, length, take, map, replicate, decimal, refl, sym, ap, ◌∙◌, arith, append_assoc, append-nil, length-append}
+use Rattle.std.proofs.Common.{subst, ◌≡◌, ℕ, zero, suc, ◌+◌, ◌<◌, List, [], ◌∷◌, ◌++◌, length, map, replicate, refl, sym, ap, ◌∙◌, arith, append_assoc, append-nil}
 use Rattle.std.specs.Prelude.{All}
 use Rattle.std.specs.List.{flat_map}
-use Rattle.std.proofs.lemmas.List.Concat.{flat_map-append}
 use Rattle.std.proofs.lemmas.List.Elements.{All-nil, All-cons, All-head, All-tail}
-use Rattle.bcode.specs.Definitions.{Function, Simple, Vector, IsWord, IsInstrWithin, IsIvalWithin, IsFunctionWithinRanges, IsSimpleWithinRanges, IsVectorWithinRanges, sizes_of}
-use Rattle.bcode.specs.Headers.{header_of, header_text, IsHeaderWithin, IsFunctionHeader, IsSimpleHeader, IsVectorHeader}
-use Rattle.bcode.specs.LineReading.{Reader}
-use Rattle.bcode.specs.Stopping.{Kind, value, target, string, instruction, IsOfKind, State, expects, finished, state_after, Leads, Stuck, Stops}
-use Rattle.bcode.specs.Text.{joined, end_text, header_line, body_lines, lines_of, text_of, code_lines, IsCodeText, target_line, string_line, ival_line, instr_line}
+use Rattle.bcode.specs.Definitions.{Function, IsWord, IsInstrWithin, IsIvalWithin, sizes_of}
+use Rattle.bcode.specs.Headers.{header_of, header_text, IsHeaderWithin, IsFunctionHeader}
+use Rattle.bcode.specs.Stopping.{Kind, value, target, string, instruction, IsOfKind, State, expects, finished, state_after, Stops}
+use Rattle.bcode.specs.Text.{end_text, header_line, body_lines, lines_of, code_lines, target_line, string_line, ival_line, instr_line}
 use Rattle.bcode.specs.Views.{IsWithinRanges}
 use Rattle.bcode.specs.declared.definition.Definition.{Definition}
 use Rattle.bcode.specs.declared.definition.Definition.TheVariants as definition
@@ -70,7 +68,7 @@ module _ {X : Type 0} (spell : X → List ℕ) (within : X → Type 0) (kind : K
       let others = stops_behind xs ks n rest (All-tail within x xs all) stops in
       let to = expects (replicate (length xs) kind ++ ks) in
       let first : Stops (suc (length xs + n)) (expects (kind ∷ (replicate (length xs) kind ++ ks))) (spell x ++ flat_map spell xs ++ rest) =
-          (spell x, to, flat_map spell xs ++ rest, (of_kind x (All-head within x xs all), refl), append_assoc (spell x) (flat_map spell xs) rest, others) in
+      (spell x, to, flat_map spell xs ++ rest, (of_kind x (All-head within x xs all), refl), append_assoc (spell x) (flat_map spell xs) rest, others) in
       subst (λ (m : ℕ). Stops m (expects (kind ∷ (replicate (length xs) kind ++ ks))) (spell x ++ flat_map spell xs ++ rest)) same first
 
   pub stops_last : (xs : List X) (n : ℕ) (rest : List ℕ) → All within xs → Stops n (expects []) rest
@@ -90,8 +88,12 @@ module _ {X : Type 0} (spell : X → List ℕ) (within : X → Type 0) (kind : K
       not_finished = λ same. absurd (cc);
     }
     stops_among (x ∷ xs) (suc count) ks rest fewer all none = (
-      spell x, expects (replicate count kind ++ ks), flat_map spell xs ++ rest, (of_kind x (All-head within x xs all), refl),
-      append_assoc (spell x) (flat_map spell xs) rest, stops_among xs count ks rest (omega arith) (All-tail within x xs all) none,
+      spell x,
+      expects (replicate count kind ++ ks),
+      flat_map spell xs ++ rest,
+      (of_kind x (All-head within x xs all), refl),
+      append_assoc (spell x) (flat_map spell xs) rest,
+      stops_among xs count ks rest (omega arith) (All-tail within x xs all) none,
     )
 
     pub stops_among_last : (xs : List X) (count : ℕ) (rest : List ℕ) → length xs < count → All within xs
@@ -121,24 +123,24 @@ path_body (definition.Function f) ls h path =
     let code = map instr_line f.code in
     let sizes = sizes_of f in
     let all = path_items target_line (λ t. t < length f.code) (target (length f.code)) (of_target (length f.code)) f.targets _ _ h.targets
-      (path_items string_line IsWord string of_string f.strings _ _ h.strings
-        (path_last instr_line (IsInstrWithin sizes) (instruction sizes) (of_instr sizes) f.code ls h.code path)) in
+    (path_items string_line IsWord string of_string f.strings _ _ h.strings
+    (path_last instr_line (IsInstrWithin sizes) (instruction sizes) (of_instr sizes) f.code ls h.code path)) in
     let same : lines ++ (words ++ (code ++ ls)) ≡ lines ++ words ++ code ++ ls =
-        sym (append_assoc lines words (code ++ ls)) ∙ sym (append_assoc (lines ++ words) code ls) in
+    sym (append_assoc lines words (code ++ ls)) ∙ sym (append_assoc (lines ++ words) code ls) in
     subst (λ (m : List (List ℕ)). Path (state_after (header_of (definition.Function f))) m) same all
 path_body (definition.Simple s) ls h path =
     let values = map ival_line s.values in
     let words = map string_line s.strings in
     let strings = length s.strings in
     let all = path_items ival_line (IsIvalWithin strings) (value strings) (of_value strings) s.values _ _ h.values
-      (path_last string_line IsWord string of_string s.strings ls h.strings path) in
+    (path_last string_line IsWord string of_string s.strings ls h.strings path) in
     subst (λ (m : List (List ℕ)). Path (state_after (header_of (definition.Simple s))) m) (sym (append_assoc values words ls)) all
 path_body (definition.Vector v) ls h path =
     let values = map ival_line v.values in
     let words = map string_line v.strings in
     let strings = length v.strings in
     let all = path_items ival_line (IsIvalWithin strings) (value strings) (of_value strings) v.values _ _ h.values
-      (path_last string_line IsWord string of_string v.strings ls h.strings path) in
+    (path_last string_line IsWord string of_string v.strings ls h.strings path) in
     subst (λ (m : List (List ℕ)). Path (state_after (header_of (definition.Vector v))) m) (sym (append_assoc values words ls)) all
 
 pub code_path : (ds : List Definition) → All IsWithinRanges ds → Path (expects []) (code_lines ds)
@@ -147,9 +149,11 @@ code_path (d ∷ ds) all =
     let within = All-head IsWithinRanges d ds all in
     let others = path_body d (code_lines ds) within (code_path ds (All-tail IsWithinRanges d ds all)) in
     let same : body_lines d ++ code_lines ds ≡ body_lines d ++ flat_map lines_of ds ++ end_text ∷ [] =
-        sym (append_assoc (body_lines d) (flat_map lines_of ds) (end_text ∷ [])) in
-    (state_after (header_of d), (header_of d, header_of-within d within, sym (header_of-text d), refl),
-      subst (λ (ls : List (List ℕ)). Path (state_after (header_of d)) ls) same others)
+    sym (append_assoc (body_lines d) (flat_map lines_of ds) (end_text ∷ [])) in (
+      state_after (header_of d),
+      (header_of d, header_of-within d within, sym (header_of-text d), refl),
+      subst (λ (ls : List (List ℕ)). Path (state_after (header_of d)) ls) same others,
+    )
 
 -- paths are code texts
 
@@ -234,12 +238,18 @@ made_function name parameters s bs h of =
 
 made_values : (values strings : ℕ) (bs : List (List ℕ)) → OfKinds (replicate values (value strings) ++ replicate strings string) bs
     → (vs : List Ival) × (ws : List ℕ) × (length vs ≡ values) × (length ws ≡ strings) × All (IsIvalWithin (length ws)) vs × All IsWord ws
-      × (bs ≡ map ival_line vs ++ map string_line ws)
+    × (bs ≡ map ival_line vs ++ map string_line ws)
 made_values values strings bs of =
     let v = items_of ival_line (IsIvalWithin strings) (value strings) (λ l x. x) values (replicate strings string) bs of in
-    let w = last_items string_line IsWord string (λ l x. x) strings v.behind v.others in
-    (v.values, w.0, v.count, w.1, subst (λ (n : ℕ). All (IsIvalWithin n) v.values) (sym w.1) v.inside, w.2,
-      v.lines ∙ ap (λ m. map ival_line v.values ++ m) w.3)
+    let w = last_items string_line IsWord string (λ l x. x) strings v.behind v.others in (
+      v.values,
+      w.0,
+      v.count,
+      w.1,
+      subst (λ (n : ℕ). All (IsIvalWithin n) v.values) (sym w.1) v.inside,
+      w.2,
+      v.lines ∙ ap (λ m. map ival_line v.values ++ m) w.3,
+    )
 
 pub made : (h : Header) (bs : List (List ℕ)) → IsHeaderWithin h → OfState (state_after h) bs → Made h bs
 made (header.Function name parameters s) bs h of = made_function name parameters s bs h of
@@ -294,7 +304,7 @@ split_header h l ls ks state within e s =
       lines =
           let first : l ≡ header_line m.definition = e ∙ ap header_text (sym m.header) ∙ header_of-text m.definition in
           ap (λ z. z ∷ ls) first ∙ ap (λ z. header_line m.definition ∷ z) (s.lines ∙ ap (λ z. z ++ code_lines s.definitions) m.lines
-            ∙ sym (append_assoc (body_lines m.definition) (flat_map lines_of s.definitions) (end_text ∷ [])));
+          ∙ sym (append_assoc (body_lines m.definition) (flat_map lines_of s.definitions) (end_text ∷ [])));
     }
 
 split_after : (h : Header) (l : List ℕ) (ls : List (List ℕ)) → ((ks : List Kind) → Path (expects ks) ls → Split ks ls) → IsHeaderWithin h → l ≡ header_text h

@@ -1,27 +1,26 @@
 -- The line of a fault, and that a code text is that of one list of definitions.
-use Rattle.std.proofs.Common.{subst, Bool, true, false, eqb, Option, Some, None, Result, Ok, Err, IsErrAnd, MatchResult, length-append, ◌≡◌, ℕ, zero, suc, ◌+◌, ◌^◌, ◌<◌, ◌≤◌, List, [], ◌∷◌, ◌++◌, length, take, map, decimal, refl, sym, ap, ◌∙◌, arith, append_assoc, append-nil}
+use Rattle.std.proofs.Common.{subst, true, false, eqb, Result, Ok, Err, IsErrAnd, MatchResult, length-append, ◌≡◌, ℕ, suc, ◌+◌, ◌^◌, ◌<◌, ◌≤◌, List, [], ◌∷◌, ◌++◌, length, take, refl, sym, ap, ◌∙◌, arith, append_assoc, append-nil}
 use Rattle.std.specs.Prelude.{All, IfErr}
 use Rattle.std.specs.List.{flat_map}
 use Rattle.std.proofs.lemmas.List.Concat.{flat_map-append}
 use Rattle.std.proofs.lemmas.List.Elements.{All-head, All-tail, All-push}
-use Rattle.bcode.specs.Definitions.{Function, Simple, Vector, IsWord, IsInstrWithin, IsIvalWithin, sizes_of}
-use Rattle.bcode.specs.Ahead.{Ahead, GoesOn, StopsAhead, ReadsDefinition, ReadsEnd, HasNext, DefinitionGives}
-use Rattle.bcode.specs.Faults.{Begins, IsFaultLine, HasHeader, IsFaultOf}
+use Rattle.bcode.specs.Definitions.{Function, Simple, Vector, IsInstrWithin, IsIvalWithin, sizes_of}
+use Rattle.bcode.specs.Ahead.{Ahead, GoesOn, StopsAhead, ReadsDefinition, ReadsEnd, DefinitionGives}
+use Rattle.bcode.specs.Faults.{IsFaultLine, IsFaultOf}
 use Rattle.bcode.specs.Headers.{header_of, header_text}
 use Rattle.bcode.specs.LineReading.{Reader}
-use Rattle.bcode.specs.Stopping.{expects, finished, Stops}
+use Rattle.bcode.specs.Stopping.{expects, Stops}
 use Rattle.bcode.specs.Text.{joined, end_text, header_line, body_lines, lines_of, text_of, code_lines, IsCodeText, target_line, string_line, ival_line, instr_line}
 use Rattle.bcode.specs.Views.{IsWithinRanges}
 use Rattle.bcode.specs.declared.definition.Definition.{Definition}
 use Rattle.bcode.specs.declared.definition.Definition.TheVariants as definition
 use Rattle.bcode.specs.declared.fault.CodeFault.{CodeFault}
 use Rattle.bcode.specs.declared.fault.CodeFault.TheVariants as fault
-use Rattle.bcode.specs.declared.header.Header.{Header}
 use Rattle.bcode.specs.declared.header.Header.TheVariants as header
 use Rattle.bcode.specs.declared.header.Sizes.{Sizes}
 use Rattle.bcode.specs.declared.instr.Instr.{Instr}
 use Rattle.bcode.specs.declared.instr.Ival.{Ival}
-use Rattle.bcode.proofs.BodyLaws.{GoesOn-trans, two_kinds, three_kinds}
+use Rattle.bcode.proofs.BodyLaws.{two_kinds, three_kinds}
 use Rattle.bcode.proofs.CodeLaws.{header_of-text, header_of-within, code_path, path_code}
 use Rattle.bcode.proofs.HeaderLaws.{header_at-exact}
 use Rattle.bcode.proofs.LineLaws.{IsExact, FitSizes, ival_at-exact, instr_at-exact, number_line_at-exact}
@@ -57,7 +56,7 @@ module _ {X : Type 0} {spell : X → List ℕ} {within : X → Type 0} {read : R
   same_items (x ∷ xs) [] r s len all_x all_y same = absurd (cc)
   same_items (x ∷ xs) (y ∷ ys) r s len all_x all_y same =
       let one = same_spelling exact x y (flat_map spell xs ++ r) (flat_map spell ys ++ s) (All-head within x xs all_x) (All-head within y ys all_y)
-        (sym (append_assoc (spell x) (flat_map spell xs) r) ∙ same ∙ append_assoc (spell y) (flat_map spell ys) s) in
+      (sym (append_assoc (spell x) (flat_map spell xs) r) ∙ same ∙ append_assoc (spell y) (flat_map spell ys) s) in
       let others = same_items xs ys r s (omega arith) (All-tail within x xs all_x) (All-tail within y ys all_y) one.1 in
       (ap (λ z. z ∷ xs) one.0 ∙ ap (λ l. y ∷ l) others.0, others.1)
 
@@ -89,12 +88,14 @@ same_body (definition.Function f) (definition.Function g) r s in_f in_g header s
       code = (let l = in_f.few_instrs in omega arith);
     } in
     let t = same_items (number_line_at-exact 116 (length f.code) fit.code) f.targets g.targets _ _ (ap (λ z. z.labels) sizes) in_f.targets
-      (subst (λ (n : ℕ). All (λ k. k < n) g.targets) (sym (ap (λ z. z.code) sizes)) in_g.targets) flat in
+    (subst (λ (n : ℕ). All (λ k. k < n) g.targets) (sym (ap (λ z. z.code) sizes)) in_g.targets) flat in
     let w = same_items (number_line_at-exact 119 (2 ^ 16) (omega arith)) f.strings g.strings _ _ (ap (λ z. z.strings) sizes) in_f.strings in_g.strings t.1 in
     let c = same_items (instr_at-exact (sizes_of f) fit) f.code g.code _ _ (ap (λ z. z.code) sizes) in_f.code
-      (subst (λ (z : Sizes). All (IsInstrWithin z) g.code) (sym sizes) in_g.code) w.1 in
-    (ap definition.Function (same_function f.name g.name f.parameters g.parameters f.frame g.frame f.targets g.targets f.strings g.strings f.code g.code
-      name parameters (ap (λ z. z.frame) sizes) t.0 w.0 c.0), c.1)
+    (subst (λ (z : Sizes). All (IsInstrWithin z) g.code) (sym sizes) in_g.code) w.1 in (
+      ap definition.Function (same_function f.name g.name f.parameters g.parameters f.frame g.frame f.targets g.targets f.strings g.strings f.code g.code
+          name parameters (ap (λ z. z.frame) sizes) t.0 w.0 c.0),
+      c.1,
+    )
 same_body (definition.Simple f) (definition.Simple g) r s in_f in_g header same =
     let name : f.name ≡ g.name = cc in
     let values : length f.values ≡ length g.values = cc in
@@ -103,7 +104,7 @@ same_body (definition.Simple f) (definition.Simple g) r s in_f in_g header same 
     let flat = sym (spelled f r) ∙ same ∙ spelled g s in
     let few : length f.strings ≤ 2 ^ 16 = (let l = in_f.few_strings in omega arith) in
     let v = same_items (ival_at-exact (length f.strings) few) f.values g.values _ _ values in_f.values
-      (subst (λ (n : ℕ). All (IsIvalWithin n) g.values) (sym strings) in_g.values) flat in
+    (subst (λ (n : ℕ). All (IsIvalWithin n) g.values) (sym strings) in_g.values) flat in
     let w = same_items (number_line_at-exact 119 (2 ^ 16) (omega arith)) f.strings g.strings _ _ strings in_f.strings in_g.strings v.1 in
     (ap definition.Simple (same_simple f.name g.name f.values g.values f.strings g.strings name v.0 w.0), w.1)
 same_body (definition.Vector f) (definition.Vector g) r s in_f in_g header same =
@@ -115,7 +116,7 @@ same_body (definition.Vector f) (definition.Vector g) r s in_f in_g header same 
     let flat = sym (spelled f r) ∙ same ∙ spelled g s in
     let few : length f.strings ≤ 2 ^ 16 = (let l = in_f.few_strings in omega arith) in
     let v = same_items (ival_at-exact (length f.strings) few) f.values g.values _ _ values in_f.values
-      (subst (λ (n : ℕ). All (IsIvalWithin n) g.values) (sym strings) in_g.values) flat in
+    (subst (λ (n : ℕ). All (IsIvalWithin n) g.values) (sym strings) in_g.values) flat in
     let w = same_items (number_line_at-exact 119 (2 ^ 16) (omega arith)) f.strings g.strings _ _ strings in_f.strings in_g.strings v.1 in
     (ap definition.Vector (same_vector f.name g.name f.words g.words f.values g.values f.strings g.strings name words v.0 w.0), w.1)
 same_body _ _ r s in_d in_e header same = absurd (cc)
@@ -123,9 +124,9 @@ same_body _ _ r s in_d in_e header same = absurd (cc)
 code_text : (d : Definition) (ds : List Definition) → joined (code_lines (d ∷ ds)) ≡ header_text (header_of d) ++ (joined (body_lines d) ++ joined (code_lines ds))
 code_text d ds =
     let lines : code_lines (d ∷ ds) ≡ header_line d ∷ (body_lines d ++ code_lines ds) =
-        ap (λ l. header_line d ∷ l) (append_assoc (body_lines d) (flat_map lines_of ds) (end_text ∷ [])) in
+    ap (λ l. header_line d ∷ l) (append_assoc (body_lines d) (flat_map lines_of ds) (end_text ∷ [])) in
     ap joined lines ∙ ap (λ l. header_line d ++ l) (flat_map-append (λ l. l) (body_lines d) (code_lines ds))
-        ∙ ap (λ l. l ++ (joined (body_lines d) ++ joined (code_lines ds))) (sym (header_of-text d))
+    ∙ ap (λ l. l ++ (joined (body_lines d) ++ joined (code_lines ds))) (sym (header_of-text d))
 
 not_end : (d : Definition) → header_of d ≡ header.End → ⊥
 not_end (definition.Function f) e = cc
@@ -136,17 +137,17 @@ unique_lines : (ds es : List Definition) → All IsWithinRanges ds → All IsWit
 unique_lines [] [] in_d in_e same = refl
 unique_lines [] (e ∷ es) in_d in_e same =
     let one = same_spelling header_at-exact (header_of e) header.End (joined (body_lines e) ++ joined (code_lines es)) [] (header_of-within e (All-head IsWithinRanges e es in_e)) tt
-      (sym (code_text e es) ∙ sym same) in
+    (sym (code_text e es) ∙ sym same) in
     absurd (not_end e one.0)
 unique_lines (d ∷ ds) [] in_d in_e same =
     let one = same_spelling header_at-exact (header_of d) header.End (joined (body_lines d) ++ joined (code_lines ds)) [] (header_of-within d (All-head IsWithinRanges d ds in_d)) tt
-      (sym (code_text d ds) ∙ same) in
+    (sym (code_text d ds) ∙ same) in
     absurd (not_end d one.0)
 unique_lines (d ∷ ds) (e ∷ es) in_d in_e same =
     let d_in = All-head IsWithinRanges d ds in_d in
     let e_in = All-head IsWithinRanges e es in_e in
     let one = same_spelling header_at-exact (header_of d) (header_of e) (joined (body_lines d) ++ joined (code_lines ds)) (joined (body_lines e) ++ joined (code_lines es))
-      (header_of-within d d_in) (header_of-within e e_in) (sym (code_text d ds) ∙ same ∙ code_text e es) in
+    (header_of-within d d_in) (header_of-within e e_in) (sym (code_text d ds) ∙ same ∙ code_text e es) in
     let first = same_body d e (joined (code_lines ds)) (joined (code_lines es)) d_in e_in one.0 one.1 in
     let others = unique_lines ds es (All-tail IsWithinRanges d ds in_d) (All-tail IsWithinRanges e es in_e) first.1 in
     ap (λ z. z ∷ ds) first.0 ∙ ap (λ l. e ∷ l) others
@@ -159,10 +160,10 @@ pub code_text-joined : (ds : List Definition) → joined (code_lines ds) ≡ fla
 code_text-joined [] = append-nil end_text
 code_text-joined (d ∷ ds) =
     code_text d ds ∙ ap (λ h. h ++ (joined (body_lines d) ++ joined (code_lines ds))) (header_of-text d)
-        ∙ ap (λ l. header_line d ++ (joined (body_lines d) ++ l)) (code_text-joined ds)
-        ∙ ap (λ l. header_line d ++ l) (sym (append_assoc (joined (body_lines d)) (flat_map text_of ds) end_text))
-        ∙ sym (append_assoc (header_line d) (joined (body_lines d) ++ flat_map text_of ds) end_text)
-        ∙ ap (λ l. l ++ end_text) (sym (append_assoc (header_line d) (joined (body_lines d)) (flat_map text_of ds)))
+    ∙ ap (λ l. header_line d ++ (joined (body_lines d) ++ l)) (code_text-joined ds)
+    ∙ ap (λ l. header_line d ++ l) (sym (append_assoc (joined (body_lines d)) (flat_map text_of ds) end_text))
+    ∙ sym (append_assoc (header_line d) (joined (body_lines d) ++ flat_map text_of ds) end_text)
+    ∙ ap (λ l. l ++ end_text) (sym (append_assoc (header_line d) (joined (body_lines d)) (flat_map text_of ds)))
 
 -- reading a text from its beginning
 
@@ -222,9 +223,9 @@ pub spelled_more : (text : List ℕ) (known more : List Definition) (d : Definit
     → more ≡ known ++ d ∷ [] → text ≡ flat_map text_of more ++ new.text
 spelled_more text known more d at new spelled read pushed =
     let whole : flat_map text_of (known ++ d ∷ []) ≡ flat_map text_of known ++ text_of d =
-        flat_map-append text_of known (d ∷ []) ∙ ap (λ l. flat_map text_of known ++ l) (append-nil (text_of d)) in
+    flat_map-append text_of known (d ∷ []) ∙ ap (λ l. flat_map text_of known ++ l) (append-nil (text_of d)) in
     spelled ∙ ap (λ t. flat_map text_of known ++ t) read.spelled ∙ sym (append_assoc (flat_map text_of known) (text_of d) new.text)
-        ∙ ap (λ l. l ++ new.text) (sym whole) ∙ ap (λ l. flat_map text_of l ++ new.text) (sym pushed)
+    ∙ ap (λ l. l ++ new.text) (sym whole) ∙ ap (λ l. flat_map text_of l ++ new.text) (sym pushed)
 
 pub within_more : (known more : List Definition) (d : Definition) → All IsWithinRanges known → IsWithinRanges d → more ≡ known ++ d ∷ [] → All IsWithinRanges more
 within_more known more d inside at pushed = subst (λ (ds : List Definition). All IsWithinRanges ds) (sym pushed) (All-push IsWithinRanges known d inside at)

@@ -1,11 +1,11 @@
 -- What is read as the first line of a definition is its text, and its text is read as it.
-use Rattle.std.proofs.Common.{subst, length, ◌≡◌, ℕ, ◌+◌, ◌^◌, ◌<◌, ◌≤◌, ◌⊎◌, inl, inr, Bool, true, false, ◌&&◌, ◌||◌, eqb, leb, List, [], ◌∷◌, ◌++◌, codes, decimal, Option, Some, None, refl, sym, ap, ◌∙◌, arith, append_assoc, lit<, IsTrue}
+use Rattle.std.proofs.Common.{subst, length, ◌≡◌, ℕ, ◌+◌, ◌^◌, ◌<◌, ◌≤◌, true, false, ◌&&◌, ◌||◌, eqb, leb, List, ◌∷◌, ◌++◌, decimal, Some, refl, sym, ap, ◌∙◌, arith, append_assoc, lit<}
 use Rattle.std.specs.Prelude.{not}
 use Rattle.std.specs.Char.{is_ascii_digit}
 use Rattle.std.proofs.lemmas.Bool.Decides.{nat_tests}
 use Rattle.bcode.specs.Headers.{header_text, IsHeaderWithin, IsFunctionHeader, IsSimpleHeader, IsVectorHeader}
 use Rattle.bcode.specs.LineReading.{header_at, header_readers, sizes_at, function_header_at, simple_header_at, vector_header_at, ended}
-use Rattle.bcode.specs.Reading.{◌>>=◌, expect, number_at, name_at}
+use Rattle.bcode.specs.Reading.{expect, number_at, name_at}
 use Rattle.bcode.specs.declared.header.Header.{Header}
 use Rattle.bcode.specs.declared.header.Header.TheVariants as header
 use Rattle.bcode.specs.declared.header.Sizes.{Sizes}
@@ -71,8 +71,8 @@ sizes_at-sound bytes s rest e =
       labels_in_code = labels_none labels.0.0 code.0.0 fit.0;
     } in
     let text : bytes ≡ sizes_text sizes code.0.1 =
-        frame_read.1 ∙ ap (λ l. decimal frame.0.0 ++ 32 ∷ l) (labels_read.1 ∙ ap (λ l. decimal labels.0.0 ++ 32 ∷ l) (strings_read.1
-          ∙ ap (λ l. decimal strings.0.0 ++ 32 ∷ l) code_read.1)) in
+    frame_read.1 ∙ ap (λ l. decimal frame.0.0 ++ 32 ∷ l) (labels_read.1 ∙ ap (λ l. decimal labels.0.0 ++ 32 ∷ l) (strings_read.1
+    ∙ ap (λ l. decimal strings.0.0 ++ 32 ∷ l) code_read.1)) in
     (subst FitSizesOf read.0 inside, text ∙ ap (λ z. sizes_text z code.0.1) read.0 ∙ ap (sizes_text s) read.1)
 
 function_header_entry : IsSoundBehind header_text IsHeaderWithin 70 function_header_at
@@ -99,7 +99,7 @@ function_header_entry bytes x rest e =
       labels_in_code = f.labels_in_code;
     } in
     let text = expect-sound 32 bytes space.0 space.1 ∙ ap (λ l. 32 ∷ l) (n.1 ∙ ap (λ l. name.0.0 ++ 32 ∷ l) (parameters_read.1
-        ∙ ap (λ l. decimal parameters.0.0 ++ 32 ∷ l) sizes_read.1)) in
+    ∙ ap (λ l. decimal parameters.0.0 ++ 32 ∷ l) sizes_read.1)) in
     let line_is = function_text name.0.0 parameters.0.0 sizes.0.0 sizes.0.1 in
     (subst IsHeaderWithin read.0 inside, ap (λ l. 70 ∷ l) text ∙ line_is ∙ ap (λ h. header_text h ++ sizes.0.1) read.0 ∙ ap (λ r. header_text x ++ r) read.1)
 
@@ -145,7 +145,6 @@ vector_header_entry bytes x rest e =
     let line_is = vector_text name.0.0 words.0.0 values.0.0 strings.0.0 strings.0.1 in
     (subst IsHeaderWithin read.0 inside, ap (λ l. 86 ∷ l) text ∙ line_is ∙ ap (λ h. header_text h ++ strings.0.1) read.0 ∙ ap (λ r. header_text x ++ r) read.1)
 
-
 header_at-sound : (bytes : List ℕ) (x : Header) (rest : List ℕ) → header_at bytes ≡ Some (x, rest) → IsHeaderWithin x × (bytes ≡ header_text x ++ rest)
 unfolding header_at
 header_at-sound = by_first-sound header_text IsHeaderWithin header_readers
@@ -173,10 +172,17 @@ function_header_at-again name p s rest h =
     let labels = decimal s.labels ++ 32 ∷ strings in
     let frame = decimal s.frame ++ 32 ∷ labels in
     let parameters = decimal p ++ 32 ∷ frame in
-    rw (expect-again 32 (name ++ 32 ∷ parameters), name_at-again 32 refl name parameters h.named, number_again 32 128 p frame refl h.few_parameters (lit< tt),
-      number_again 32 32767 s.frame labels refl h.small_frame (lit< tt), number_again 32 128 s.labels strings refl h.few_labels (lit< tt),
-      number_again 32 1024 s.strings code refl h.few_strings (lit< tt), number_again 10 4096 s.code rest refl h.few_instrs (lit< tt),
-      labels_test s.labels s.code h.labels_in_code, params_test p s.frame h.parameters_in_frame) refl
+    rw (
+      expect-again 32 (name ++ 32 ∷ parameters),
+      name_at-again 32 refl name parameters h.named,
+      number_again 32 128 p frame refl h.few_parameters (lit< tt),
+      number_again 32 32767 s.frame labels refl h.small_frame (lit< tt),
+      number_again 32 128 s.labels strings refl h.few_labels (lit< tt),
+      number_again 32 1024 s.strings code refl h.few_strings (lit< tt),
+      number_again 10 4096 s.code rest refl h.few_instrs (lit< tt),
+      labels_test s.labels s.code h.labels_in_code,
+      params_test p s.frame h.parameters_in_frame,
+    ) refl
 
 simple_header_at-again : (name : List ℕ) (v s : ℕ) (rest : List ℕ) → IsSimpleHeader name v s
     → simple_header_at (32 ∷ (name ++ 32 ∷ (decimal v ++ 32 ∷ (decimal s ++ 10 ∷ rest)))) ≡ Some (header.Simple name v s, rest)
@@ -184,8 +190,12 @@ unfolding simple_header_at
 simple_header_at-again name v s rest h =
     let strings = decimal s ++ 10 ∷ rest in
     let values = decimal v ++ 32 ∷ strings in
-    rw (expect-again 32 (name ++ 32 ∷ values), name_at-again 32 refl name values h.named, number_again 32 1024 v strings refl h.few_values (lit< tt),
-      number_again 10 1024 s rest refl h.few_strings (lit< tt)) refl
+    rw (
+      expect-again 32 (name ++ 32 ∷ values),
+      name_at-again 32 refl name values h.named,
+      number_again 32 1024 v strings refl h.few_values (lit< tt),
+      number_again 10 1024 s rest refl h.few_strings (lit< tt),
+    ) refl
 
 vector_header_at-again : (name : List ℕ) (w v s : ℕ) (rest : List ℕ) → IsVectorHeader name w v s
     → vector_header_at (32 ∷ (name ++ 32 ∷ (decimal w ++ 32 ∷ (decimal v ++ 32 ∷ (decimal s ++ 10 ∷ rest))))) ≡ Some (header.Vector name w v s, rest)
@@ -194,9 +204,14 @@ vector_header_at-again name w v s rest h =
     let strings = decimal s ++ 10 ∷ rest in
     let values = decimal v ++ 32 ∷ strings in
     let words = decimal w ++ 32 ∷ values in
-    rw (expect-again 32 (name ++ 32 ∷ words), name_at-again 32 refl name words h.named, number_again 32 32767 w values refl h.few_words (lit< tt),
-      number_again 32 1024 v strings refl h.few_values (lit< tt), number_again 10 1024 s rest refl h.few_strings (lit< tt),
-      words_test-true w v h.some_word h.values_in_words) refl
+    rw (
+      expect-again 32 (name ++ 32 ∷ words),
+      name_at-again 32 refl name words h.named,
+      number_again 32 32767 w values refl h.few_words (lit< tt),
+      number_again 32 1024 v strings refl h.few_values (lit< tt),
+      number_again 10 1024 s rest refl h.few_strings (lit< tt),
+      words_test-true w v h.some_word h.values_in_words,
+    ) refl
 
 header_at-again : (x : Header) (rest : List ℕ) → IsHeaderWithin x → header_at (header_text x ++ rest) ≡ Some (x, rest)
 unfolding header_at ended expect

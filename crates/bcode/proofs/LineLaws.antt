@@ -1,5 +1,5 @@
 -- What is read as a line is its text, and its text is read as it.
-use Rattle.std.proofs.Common.{subst, length, drop, ◌≡◌, ℕ, ◌+◌, ◌^◌, ◌<◌, ◌≤◌, Bool, true, false, cond, eqb, List, [], ◌∷◌, ◌++◌, codes, decimal, Option, Some, None, refl, sym, ap, ◌∙◌, arith, append_assoc, IsTrue}
+use Rattle.std.proofs.Common.{subst, length, drop, ◌≡◌, ℕ, ◌^◌, ◌<◌, ◌≤◌, Bool, true, false, cond, eqb, List, [], ◌∷◌, ◌++◌, decimal, Option, Some, None, refl, sym, ap, ◌∙◌, arith, append_assoc, IsTrue}
 use Rattle.bword.specs.Names.{is_name}
 use Rattle.bword.specs.declared.operators.BinOp.{BinOp}
 use Rattle.bword.specs.declared.operators.BinOp.TheVariants as op
@@ -14,7 +14,7 @@ use Rattle.bcode.specs.declared.instr.Instr.{Instr}
 use Rattle.bcode.specs.declared.instr.Instr.TheVariants as instr
 use Rattle.bcode.specs.declared.instr.Ival.{Ival}
 use Rattle.bcode.specs.declared.instr.Ival.TheVariants as ival
-use Rattle.bcode.proofs.PartLaws.{bind_some, only_if, same_read, is_same, expect-sound, expect-again, number_at-sound, number_at-again, name_at-sound, name_at-again}
+use Rattle.bcode.proofs.PartLaws.{bind_some, same_read, is_same, expect-sound, expect-again, number_at-sound, number_at-again, name_at-sound, name_at-again}
 
 -- a reader reads just these texts of these values
 pub record IsExact {X : Type 0} (text : X → List ℕ) (within : X → Type 0) (read : Reader X) : Type 0 where
@@ -132,8 +132,10 @@ unfolding ival_at
 ival_at-exact strings few = record {
   sound = by_first-sound ival_line (IsIvalWithin strings) (ival_readers strings) (
     number_entry ival_line (IsIvalWithin strings) 99 ival.Number (2 ^ 16) (λ n h. h) (λ n. refl),
-    (name_entry ival_line (IsIvalWithin strings) 120 ival.Name (λ n h. h) (λ n. refl),
-      (number_entry ival_line (IsIvalWithin strings) 115 ival.Text strings (λ n h. h) (λ n. refl), tt)),
+    (
+      name_entry ival_line (IsIvalWithin strings) 120 ival.Name (λ n h. h) (λ n. refl),
+      (number_entry ival_line (IsIvalWithin strings) 115 ival.Text strings (λ n h. h) (λ n. refl), tt),
+    ),
   );
   again = ival_at-again strings few;
   filled = ival_line-filled;
@@ -160,9 +162,11 @@ two_entry : (byte : ℕ) (x : BinOp) → operator_text x ≡ byte ∷ 61 ∷ []
     → IsSoundBehind operator_end (λ o. Unit {0}) byte (λ rest. expect 61 rest >>= ended x)
 two_entry byte x same bytes y rest e =
     let found = bind_some (expect 61 bytes) (ended x) (y, rest) e in
-    let read = ended-sound x y found.0 rest found.2 in
-    (tt, ap (λ l. byte ∷ l) (expect-sound 61 bytes found.0 found.1 ∙ ap (λ l. 61 ∷ l) read.1) ∙ ap (λ l. l ++ 10 ∷ [] ++ rest) (sym same)
-        ∙ ap (λ o. operator_text o ++ 10 ∷ [] ++ rest) read.0)
+    let read = ended-sound x y found.0 rest found.2 in (
+      tt,
+      ap (λ l. byte ∷ l) (expect-sound 61 bytes found.0 found.1 ∙ ap (λ l. 61 ∷ l) read.1) ∙ ap (λ l. l ++ 10 ∷ [] ++ rest) (sym same)
+          ∙ ap (λ o. operator_text o ++ 10 ∷ [] ++ rest) read.0,
+    )
 
 -- what stands behind the first byte of an operator
 abbrev behind_first : BinOp → List ℕ
@@ -183,16 +187,16 @@ less_entry : IsSoundBehind operator_end (λ o. Unit {0}) 60 less_at
 unfolding less_at
 less_entry bytes x rest e =
     let read = by_first-sound behind_first (BeginsWith 60) ((10, λ r. Some (op.Lt, r)) ∷ (61, ended op.Le) ∷ (60, ended op.Shl) ∷ [])
-      (one_byte 60 op.Lt refl, (ended_entry behind_first (BeginsWith 60) 61 op.Le refl refl, (ended_entry behind_first (BeginsWith 60) 60 op.Shl refl refl, tt)))
-      bytes x rest e in
+    (one_byte 60 op.Lt refl, (ended_entry behind_first (BeginsWith 60) 61 op.Le refl refl, (ended_entry behind_first (BeginsWith 60) 60 op.Shl refl refl, tt)))
+    bytes x rest e in
     (tt, ap (λ l. 60 ∷ l) read.1 ∙ ap (λ l. l ++ rest) read.0)
 
 greater_entry : IsSoundBehind operator_end (λ o. Unit {0}) 62 greater_at
 unfolding greater_at
 greater_entry bytes x rest e =
     let read = by_first-sound behind_first (BeginsWith 62) ((10, λ r. Some (op.Gt, r)) ∷ (61, ended op.Ge) ∷ (62, ended op.Shr) ∷ [])
-      (one_byte 62 op.Gt refl, (ended_entry behind_first (BeginsWith 62) 61 op.Ge refl refl, (ended_entry behind_first (BeginsWith 62) 62 op.Shr refl refl, tt)))
-      bytes x rest e in
+    (one_byte 62 op.Gt refl, (ended_entry behind_first (BeginsWith 62) 61 op.Ge refl refl, (ended_entry behind_first (BeginsWith 62) 62 op.Shr refl refl, tt)))
+    bytes x rest e in
     (tt, ap (λ l. 62 ∷ l) read.1 ∙ ap (λ l. l ++ rest) read.0)
 
 operator_at-sound : (bytes : List ℕ) (x : BinOp) (rest : List ℕ) → operator_at bytes ≡ Some (x, rest) → bytes ≡ 32 ∷ (operator_end x ++ rest)
@@ -200,10 +204,26 @@ unfolding operator_at
 operator_at-sound bytes x rest e =
     let found = bind_some (expect 32 bytes) (by_first operator_readers) (x, rest) e in
     let one = λ (byte : ℕ) (o : BinOp) (same : operator_end o ≡ byte ∷ 10 ∷ []). ended_entry operator_end (λ _. Unit {0}) byte o tt same in
-    let read = by_first-sound operator_end (λ _. Unit {0}) operator_readers
-      (one 124 op.Or refl, (one 38 op.And refl, (two_entry 61 op.Eq refl, (two_entry 33 op.Ne refl, (less_entry, (greater_entry,
-        (one 45 op.Sub refl, (one 43 op.Add refl, (one 37 op.Rem refl, (one 42 op.Mul refl, (one 47 op.Div refl, tt)))))))))))
-      found.0 x rest found.2 in
+    let read = by_first-sound operator_end (λ _. Unit {0}) operator_readers (
+      one 124 op.Or refl,
+      (
+        one 38 op.And refl,
+        (
+          two_entry 61 op.Eq refl,
+          (
+            two_entry 33 op.Ne refl,
+            (
+              less_entry,
+              (
+                greater_entry,
+                (one 45 op.Sub refl, (one 43 op.Add refl, (one 37 op.Rem refl, (one 42 op.Mul refl, (one 47 op.Div refl, tt))))),
+              ),
+            ),
+          ),
+        ),
+      ),
+    )
+    found.0 x rest found.2 in
     expect-sound 32 bytes found.0 found.1 ∙ ap (λ l. 32 ∷ l) read.1
 
 operator_at-again : (x : BinOp) (rest : List ℕ) → operator_at (32 ∷ (operator_end x ++ rest)) ≡ Some (x, rest)
@@ -220,8 +240,8 @@ increment_at-sound bytes x rest e =
     let found = bind_some (expect 32 bytes) (by_first increment_readers) (x, rest) e in
     let one = λ (byte : ℕ) (i : Increment) (same : increment_end i ≡ byte ∷ 10 ∷ []). ended_entry increment_end (λ _. Unit {0}) byte i tt same in
     let read = by_first-sound increment_end (λ _. Unit {0}) increment_readers
-      (one 48 increment.PreIncrement refl, (one 49 increment.PreDecrement refl, (one 50 increment.PostIncrement refl, (one 51 increment.PostDecrement refl, tt))))
-      found.0 x rest found.2 in
+    (one 48 increment.PreIncrement refl, (one 49 increment.PreDecrement refl, (one 50 increment.PostIncrement refl, (one 51 increment.PostDecrement refl, tt))))
+    found.0 x rest found.2 in
     expect-sound 32 bytes found.0 found.1 ∙ ap (λ l. 32 ∷ l) read.1
 
 increment_at-again : (x : Increment) (rest : List ℕ) → increment_at (32 ∷ (increment_end x ++ rest)) ≡ Some (x, rest)
@@ -258,9 +278,9 @@ module _ (sizes : Sizes) where
       let read = same_read (instr.JumpIfCase value.0.0 target.0.0, target.0.1) (y, rest) target.2 in
       let at : IsInstrWithin sizes y = subst (IsInstrWithin sizes) read.0 (v.0, t.0) in
       let text : bytes ≡ 32 ∷ (decimal value.0.0 ++ 32 ∷ (decimal target.0.0 ++ 10 ∷ rest)) =
-          expect-sound 32 bytes space.0 space.1 ∙ ap (λ l. 32 ∷ l) (v.1 ∙ ap (λ l. decimal value.0.0 ++ 32 ∷ l) (t.1 ∙ ap (λ l. decimal target.0.0 ++ 10 ∷ l) read.1)) in
+      expect-sound 32 bytes space.0 space.1 ∙ ap (λ l. 32 ∷ l) (v.1 ∙ ap (λ l. decimal value.0.0 ++ 32 ∷ l) (t.1 ∙ ap (λ l. decimal target.0.0 ++ 10 ∷ l) read.1)) in
       let line_is : 101 ∷ 32 ∷ (decimal value.0.0 ++ 32 ∷ (decimal target.0.0 ++ 10 ∷ rest)) ≡ instr_line (instr.JumpIfCase value.0.0 target.0.0) ++ rest =
-          simp append_assoc in
+      simp append_assoc in
       (at, ap (λ l. 101 ∷ l) text ∙ line_is ∙ ap (λ z. instr_line z ++ rest) read.0)
 
 -- the sizes are numbers of words
@@ -278,24 +298,58 @@ module _ (sizes : Sizes) where
       let alone = λ (byte : ℕ) (i : Instr) (inside : within i) (same : instr_line i ≡ byte ∷ 10 ∷ []). ended_entry instr_line within byte i inside same in
       by_first-sound instr_line within (instr_readers sizes) (
         number_entry instr_line within 99 instr.Constant (2 ^ 16) (λ n h. h) (λ n. refl),
-        (name_entry instr_line within 120 instr.External (λ n h. h) (λ n. refl),
-        (number_entry instr_line within 97 instr.Automatic sizes.frame (λ n h. h) (λ n. refl),
-        (number_entry instr_line within 115 instr.Text sizes.strings (λ n h. h) (λ n. refl),
-        (number_entry instr_line within 108 instr.Label sizes.labels (λ n h. h) (λ n. refl),
-        (alone 118 instr.Load tt refl,
-        (alone 119 instr.Store tt refl,
-        (operator_entry sizes 98 instr.Binary (λ o. tt) (λ o. refl),
-        (operator_entry sizes 109 instr.Modify (λ o. tt) (λ o. refl),
-        (alone 110 instr.Negate tt refl,
-        (alone 104 instr.Not tt refl,
-        (increment_entry sizes,
-        (number_entry instr_line within 106 instr.Jump sizes.code (λ n h. h) (λ n. refl),
-        (number_entry instr_line within 122 instr.JumpIfZero sizes.code (λ n h. h) (λ n. refl),
-        (alone 103 instr.Goto tt refl,
-        (case_entry sizes,
-        (number_entry instr_line within 107 instr.Call (2 ^ 16) (λ n h. h) (λ n. refl),
-        (alone 114 instr.Return tt refl,
-        (alone 112 instr.Pop tt refl, tt)))))))))))))))))),
+        (
+          name_entry instr_line within 120 instr.External (λ n h. h) (λ n. refl),
+          (
+            number_entry instr_line within 97 instr.Automatic sizes.frame (λ n h. h) (λ n. refl),
+            (
+              number_entry instr_line within 115 instr.Text sizes.strings (λ n h. h) (λ n. refl),
+              (
+                number_entry instr_line within 108 instr.Label sizes.labels (λ n h. h) (λ n. refl),
+                (
+                  alone 118 instr.Load tt refl,
+                  (
+                    alone 119 instr.Store tt refl,
+                    (
+                      operator_entry sizes 98 instr.Binary (λ o. tt) (λ o. refl),
+                      (
+                        operator_entry sizes 109 instr.Modify (λ o. tt) (λ o. refl),
+                        (
+                          alone 110 instr.Negate tt refl,
+                          (
+                            alone 104 instr.Not tt refl,
+                            (
+                              increment_entry sizes,
+                              (
+                                number_entry instr_line within 106 instr.Jump sizes.code (λ n h. h) (λ n. refl),
+                                (
+                                  number_entry instr_line within 122 instr.JumpIfZero sizes.code (λ n h. h) (λ n. refl),
+                                  (
+                                    alone 103 instr.Goto tt refl,
+                                    (
+                                      case_entry sizes,
+                                      (
+                                        number_entry instr_line within 107 instr.Call (2 ^ 16) (λ n h. h) (λ n. refl),
+                                        (
+                                          alone 114 instr.Return tt refl,
+                                          (alone 112 instr.Pop tt refl, tt),
+                                        ),
+                                      ),
+                                    ),
+                                  ),
+                                ),
+                              ),
+                            ),
+                          ),
+                        ),
+                      ),
+                    ),
+                  ),
+                ),
+              ),
+            ),
+          ),
+        ),
       )
 
   case_at-again : (value target : ℕ) (rest : List ℕ) → sizes.code ≤ 2 ^ 16 → IsWord value → target < sizes.code
@@ -303,8 +357,12 @@ module _ (sizes : Sizes) where
   unfolding case_at
   case_at-again value target rest few word less =
       let shape : decimal value ++ 32 ∷ [] ++ (decimal target ++ 10 ∷ []) ++ rest ≡ decimal value ++ 32 ∷ (decimal target ++ 10 ∷ rest) = simp append_assoc in
-      rw (shape, expect-again 32 (decimal value ++ 32 ∷ (decimal target ++ 10 ∷ rest)), number_at-again 32 (2 ^ 16) refl value (decimal target ++ 10 ∷ rest) word word,
-        number_at-again 10 sizes.code refl target rest (omega arith) less) refl
+      rw (
+        shape,
+        expect-again 32 (decimal value ++ 32 ∷ (decimal target ++ 10 ∷ rest)),
+        number_at-again 32 (2 ^ 16) refl value (decimal target ++ 10 ∷ rest) word word,
+        number_at-again 10 sizes.code refl target rest (omega arith) less,
+      ) refl
 
   instr_at-again : FitSizes sizes → (x : Instr) (rest : List ℕ) → IsInstrWithin sizes x → instr_at sizes (instr_line x ++ rest) ≡ Some (x, rest)
   unfolding instr_at ended expect

@@ -43,7 +43,7 @@ module _ {X : Type 0} (f : X → List ℕ) where
   joined_more xs i x h e =
       let last : take (i + 1) xs ≡ take i xs ++ x ∷ [] = take_more xs i x h ∙ ap (λ y. take i xs ++ y ∷ []) (sym e) in
       ap (λ l. joined (map f l)) last ∙ ap joined (map-append f (take i xs) (x ∷ [])) ∙ joined-two (map f (take i xs)) (f x ∷ [])
-          ∙ ap (λ l. joined (map f (take i xs)) ++ l) (append-nil (f x))
+      ∙ ap (λ l. joined (map f (take i xs)) ++ l) (append-nil (f x))
 
   -- one more line
   pub Passes-more : {a b c : Outgoing} {p q r : List ℕ} (s : List ℕ) (xs : List X) (i : ℕ) (x : X) → i < length xs → x ≡ get_or xs i x
@@ -58,11 +58,11 @@ module _ {X : Type 0} (f : X → List ℕ) where
       → Refuses b (q ++ []) e c → Refuses a (p ++ joined (map f xs)) e c
   Refuses-more {a} {b} {c} {p} {q} {e} xs i before refused =
       let split : joined (map f xs) ≡ joined (map f (take i xs)) ++ joined (map f (drop i xs)) =
-          ap (λ l. joined (map f l)) (sym (take-append-drop i xs)) ∙ ap joined (map-append f (take i xs) (drop i xs))
-              ∙ joined-two (map f (take i xs)) (map f (drop i xs)) in
+      ap (λ l. joined (map f l)) (sym (take-append-drop i xs)) ∙ ap joined (map-append f (take i xs) (drop i xs))
+      ∙ joined-two (map f (take i xs)) (map f (drop i xs)) in
       let P : List ℕ → Type 0 = λ l. Refuses a l e c in
       let short : Refuses b (q ++ joined (map f (drop i xs))) e c =
-          subst (λ (l : List ℕ). Refuses b (l ++ joined (map f (drop i xs))) e c) (append-nil q) (Refuses-short (joined (map f (drop i xs))) refused) in
+      subst (λ (l : List ℕ). Refuses b (l ++ joined (map f (drop i xs))) e c) (append-nil q) (Refuses-short (joined (map f (drop i xs))) refused) in
       subst P (ap (λ l. p ++ l) (sym split)) (Refuses-after (joined (map f (drop i xs))) before short)
 
 -- a line's further parts
@@ -70,7 +70,7 @@ pub line-numbers : (part : List ℕ) (ns : List ℕ) → line (part ∷ map deci
 line-numbers part [] = refl
 line-numbers part (n ∷ ns) =
     ap (λ l. part ++ codes " " ++ l) (line-numbers (decimal n) ns)
-        ∙ simp append_assoc
+    ∙ simp append_assoc
 
 -- the first line of a text
 pub Passes-first : (a : Outgoing) (line page : List ℕ) → page ≡ line → Passes a [] line a page

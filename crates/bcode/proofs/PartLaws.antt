@@ -1,11 +1,11 @@
 -- What is read as a part of a line is its text, and its text is read as it.
-use Rattle.std.proofs.Common.{◌≡◌, ◌≢◌, ℕ, suc, ◌+◌, ◌*◌, ◌-◌, ◌/◌, ◌%◌, ◌^◌, ◌<◌, ◌≤◌, ◌⊎◌, inl, inr, Bool, true, false, cond, ◌&&◌, eqb, ltb, leb, List, [], ◌∷◌, ◌++◌, length, take, drop, get_or, decimal, Option, Some, None, refl, sym, ap, ◌∙◌, arith, append_assoc, length-append, IsTrue}
+use Rattle.std.proofs.Common.{◌≡◌, ℕ, ◌+◌, ◌*◌, ◌-◌, ◌/◌, ◌%◌, ◌^◌, ◌<◌, ◌≤◌, Bool, true, false, cond, ◌&&◌, eqb, ltb, List, [], ◌∷◌, ◌++◌, length, take, drop, get_or, decimal, Option, Some, None, refl, sym, ap, ◌∙◌, arith, append_assoc, length-append, IsTrue}
 use Rattle.std.specs.Char.{is_ascii_digit}
 use Rattle.std.proofs.Math.Seq.{take-append_seam, drop-append-add}
 use Rattle.std.proofs.lemmas.List.{take-append-drop, drop_more}
 use Rattle.std.proofs.lemmas.List.Quantifiers.{position-Some}
 use Rattle.std.specs.List.{position, prefix_len, list_all}
-use Rattle.std.specs.Prelude.{◌==◌, not, nat_le}
+use Rattle.std.specs.Prelude.{◌==◌, not}
 use Rattle.std.proofs.lemmas.Bool.{false≢true}
 use Rattle.std.proofs.lemmas.Bool.Decides.{nat_tests}
 use Rattle.std.proofs.lemmas.Fmt.{decimal_digit, decimal_step, decimal_by_steps}
@@ -58,10 +58,10 @@ decimal_more v d some small digit =
 module _ (end below : ℕ) where
   number_from-step : (b : ℕ) (bs : List ℕ) (v n : ℕ) (rest : List ℕ) → v < 2 ^ 16
       → (v * 10 + (b - 48) < 2 ^ 16 → number_from end below (v * 10 + (b - 48)) bs ≡ Some (n, rest)
-          → (n < below) × (decimal (v * 10 + (b - 48)) ++ bs ≡ decimal n ++ end ∷ rest))
+      → (n < below) × (decimal (v * 10 + (b - 48)) ++ bs ≡ decimal n ++ end ∷ rest))
       → (is_end is_zero : Bool) → eqb b end ≡ is_end → eqb v 0 ≡ is_zero
       → cond is_end (cond (ltb v below) (Some (v, bs)) None) (cond is_zero None
-          (cond (is_ascii_digit b) (cond (ltb (v * 10 + (b - 48)) (2 ^ 16)) (number_from end below (v * 10 + (b - 48)) bs) None) None)) ≡ Some (n, rest)
+      (cond (is_ascii_digit b) (cond (ltb (v * 10 + (b - 48)) (2 ^ 16)) (number_from end below (v * 10 + (b - 48)) bs) None) None)) ≡ Some (n, rest)
       → (n < below) × (decimal v ++ b ∷ bs ≡ decimal n ++ end ∷ rest)
   number_from-step b bs v n rest small further true is_zero ends zero e =
       let h = only_if (ltb v below) (Some (v, bs)) (n, rest) e in
@@ -132,9 +132,9 @@ module _ (end below : ℕ) where
     reads_more n ds large before fits rest =
         let value : n / 10 * 10 + n % 10 ≡ n = omega arith in
         ap (number_at end below) (append_assoc ds ((48 + n % 10) ∷ []) rest)
-            ∙ before (omega arith) ((48 + n % 10) ∷ rest)
-            ∙ number_from-digit (n / 10) (n % 10) rest (omega arith) (omega arith) (omega arith)
-            ∙ ap (λ v. number_from end below v rest) value
+        ∙ before (omega arith) ((48 + n % 10) ∷ rest)
+        ∙ number_from-digit (n / 10) (n % 10) rest (omega arith) (omega arith) (omega arith)
+        ∙ ap (λ v. number_from end below v rest) value
 
     reads_decimal : (n : ℕ) → n < 2 ^ 16 → (rest : List ℕ) → number_at end below (decimal n ++ rest) ≡ number_from end below n rest
     unfolding ReadsOn
@@ -160,13 +160,13 @@ name_at-sound end bytes name rest e =
     let there = position-Some (λ b. b == end) bytes n 0 found.1 in
     let same = is_same (get_or bytes n 0) end there.1 in
     let all : bytes ≡ take n bytes ++ end ∷ drop (n + 1) bytes =
-        sym (take-append-drop n bytes) ∙ ap (λ l. take n bytes ++ l) (drop_more bytes n 0 there.0 ∙ ap (λ b. b ∷ drop (n + 1) bytes) same) in
+    sym (take-append-drop n bytes) ∙ ap (λ l. take n bytes ++ l) (drop_more bytes n 0 there.0 ∙ ap (λ b. b ∷ drop (n + 1) bytes) same) in
     (rw (← read.0) named.0, all ∙ ap (λ l. l ++ end ∷ drop (n + 1) bytes) read.0 ∙ ap (λ l. name ++ end ∷ l) read.1)
 
 module _ (end : ℕ) (not_in_name : is_name_byte end ≡ false) where
   other_byte : (b : ℕ) → is_name_byte b ≡ true → eqb b end ≡ false
   other_byte b e = elim (eqb b end) as (λ t. eqb b end ≡ t → t ≡ false) [
-      true ↦ λ same. let ends = is_same b end same in absurd (false≢true (sym not_in_name ∙ ap is_name_byte (sym ends) ∙ e))
+    | true ↦ λ same. let ends = is_same b end same in absurd (false≢true (sym not_in_name ∙ ap is_name_byte (sym ends) ∙ e))
     | false ↦ λ _. refl
   ] refl
 

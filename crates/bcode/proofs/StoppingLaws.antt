@@ -1,10 +1,8 @@
 -- Where a text stops, and the lines that go on.
-use Rattle.std.proofs.Common.{subst, ◌≡◌, ℕ, zero, suc, ◌+◌, ◌^◌, ◌<◌, ◌≤◌, List, [], ◌∷◌, ◌++◌, length, take, replicate, decimal, Option, Some, None, refl, sym, ap, ◌∙◌, arith, append_assoc}
-use Rattle.bcode.specs.Ahead.{Ahead}
-use Rattle.bcode.specs.Definitions.{IsWord, IsInstrWithin, IsIvalWithin}
-use Rattle.bcode.specs.Headers.{header_text, IsHeaderWithin}
+use Rattle.std.proofs.Common.{subst, ◌≡◌, ℕ, zero, suc, ◌^◌, ◌<◌, ◌≤◌, List, [], ◌∷◌, ◌++◌, length, take, replicate, refl, sym, ap, ◌∙◌, arith, append_assoc}
+use Rattle.bcode.specs.Headers.{IsHeaderWithin}
 use Rattle.bcode.specs.LineReading.{Reader}
-use Rattle.bcode.specs.Stopping.{Kind, value, target, string, instruction, IsOfKind, State, expects, finished, state_after, Leads, Stuck, Stops}
+use Rattle.bcode.specs.Stopping.{Kind, value, target, string, instruction, IsOfKind, State, expects, finished, state_after, Leads, Stops}
 use Rattle.bcode.specs.Text.{joined, end_text, target_line, string_line, ival_line, instr_line}
 use Rattle.bcode.specs.declared.header.Header.{Header}
 use Rattle.bcode.specs.declared.header.Header.TheVariants as header
@@ -39,15 +37,15 @@ good_replicate : (n : ℕ) (k : Kind) (ks : List Kind) → (0 < n → IsGoodKind
 good_replicate zero k ks each rest = rest
 good_replicate (suc n) k ks each rest = (each (omega arith), good_replicate n k ks each' rest)
   where
-  each' : 0 < n → IsGoodKind k
-  each' h = each (omega arith)
+    each' : 0 < n → IsGoodKind k
+    each' h = each (omega arith)
 
 good_last : (n : ℕ) (k : Kind) → (0 < n → IsGoodKind k) → AreGoodKinds (replicate n k)
 good_last zero k each = tt
 good_last (suc n) k each = (each (omega arith), good_last n k each')
   where
-  each' : 0 < n → IsGoodKind k
-  each' h = each (omega arith)
+    each' : 0 < n → IsGoodKind k
+    each' h = each (omega arith)
 
 some_code : (code labels : ℕ) → (code ≡ 0 → labels ≡ 0) → 0 < labels → 0 < code
 some_code zero labels h some = let none = h refl in absurd (omega arith)
@@ -58,13 +56,13 @@ good_after (header.Function name parameters s) h =
     let code : s.code ≤ 2 ^ 16 = (let l = h.few_instrs in omega arith) in
     let some : 0 < s.labels → 0 < s.code = some_code s.code s.labels h.labels_in_code in
     good_replicate s.labels (target s.code) _ (λ l. (some l, code))
-      (good_replicate s.strings string _ (λ _. tt)
-        (good_last s.code (instruction s) (λ _. record {
-          frame = (let l = h.small_frame in omega arith);
-          labels = (let l = h.few_labels in omega arith);
-          strings = (let l = h.few_strings in omega arith);
-          code = code;
-        })))
+    (good_replicate s.strings string _ (λ _. tt)
+    (good_last s.code (instruction s) (λ _. record {
+      frame = (let l = h.small_frame in omega arith);
+      labels = (let l = h.few_labels in omega arith);
+      strings = (let l = h.few_strings in omega arith);
+      code = code;
+    })))
 good_after (header.Simple name values strings) h =
     let few : strings ≤ 2 ^ 16 = (let l = h.few_strings in omega arith) in
     good_replicate values (value strings) _ (λ _. few) (good_last strings string (λ _. tt))
@@ -127,9 +125,13 @@ pub begins_path : (n : ℕ) (from : State) (text : List ℕ) → IsGoodState fro
     → (ls : List (List ℕ)) × Path from ls × (n ≤ length ls) × (rest : List ℕ) × (text ≡ joined (take n ls) ++ rest)
 begins_path zero from text good stuck = let whole = ending from good in (whole.0, whole.1, omega arith, text, refl)
 begins_path (suc n) from text good stops =
-    let others = begins_path n stops.1 stops.2 (good_next from stops.0 stops.1 good stops.3) stops.5 in
-    (stops.0 ∷ others.0, (stops.1, stops.3, others.1), (let k = others.2 in omega arith), others.3,
-      stops.4 ∙ ap (λ t. stops.0 ++ t) others.4 ∙ sym (append_assoc stops.0 (joined (take n others.0)) others.3))
+    let others = begins_path n stops.1 stops.2 (good_next from stops.0 stops.1 good stops.3) stops.5 in (
+      stops.0 ∷ others.0,
+      (stops.1, stops.3, others.1),
+      (let k = others.2 in omega arith),
+      others.3,
+      stops.4 ∙ ap (λ t. stops.0 ++ t) others.4 ∙ sym (append_assoc stops.0 (joined (take n others.0)) others.3),
+    )
 
 -- no line more goes on
 pub greatest_path : (n : ℕ) (from : State) (text : List ℕ) → IsGoodState from → Stops n from text
@@ -140,7 +142,7 @@ greatest_path zero from text good stuck (suc m) (l ∷ ls) path le rest same =
     absurd (stuck.refused l path.0 (joined (take m ls) ++ rest) path.1 (same ∙ append_assoc l (joined (take m ls)) rest))
 greatest_path (suc n) from text good stops (suc m) (k ∷ ls) path le rest same =
     let one = leads_one_way from stops.0 k stops.2 (joined (take m ls) ++ rest) stops.1 path.0 good stops.3 path.1
-      (sym stops.4 ∙ same ∙ append_assoc k (joined (take m ls)) rest) in
+    (sym stops.4 ∙ same ∙ append_assoc k (joined (take m ls)) rest) in
     let there : Path stops.1 ls = subst (λ (s : State). Path s ls) (sym one.0) path.2 in
     let before = greatest_path n stops.1 stops.2 (good_next from stops.0 stops.1 good stops.3) stops.5 m ls there (omega arith) rest one.1 in
     omega arith

@@ -1,5 +1,5 @@
 -- What reading some lines does to the text ahead.
-use Rattle.std.specs.Prelude.{◌≡◌, ℕ, suc, ◌+◌, ◌<◌, List, [], ◌++◌, length, All, Option, Some, None, Result, Ok, Err}
+use Rattle.std.specs.Prelude.{◌≡◌, ℕ, ◌+◌, ◌<◌, List, [], ◌++◌, length, All, Option, Some, None, Result, Ok, Err}
 use Rattle.std.specs.List.{flat_map}
 use Rattle.bcode.specs.Headers.{header_of}
 use Rattle.bcode.specs.Stopping.{State, expects, finished, Stops, state_after}

@@ -16,7 +16,7 @@ header_of (definition.Vector v) = header.Vector v.name v.words (length v.values)
 abbrev pub header_text : Header → List ℕ
 header_text (header.Function name parameters sizes) =
     line (codes "F" ∷ name ∷ decimal parameters ∷ decimal sizes.frame ∷ decimal sizes.labels ∷ decimal sizes.strings
-      ∷ decimal sizes.code ∷ [])
+    ∷ decimal sizes.code ∷ [])
 header_text (header.Simple name values strings) = line (codes "X" ∷ name ∷ decimal values ∷ decimal strings ∷ [])
 header_text (header.Vector name words values strings) =
     line (codes "V" ∷ name ∷ decimal words ∷ decimal values ∷ decimal strings ∷ [])

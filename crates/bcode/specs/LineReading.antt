@@ -1,5 +1,5 @@
 -- Reading a line from the front of a text.
-use Rattle.std.specs.Prelude.{◌≡◌, ℕ, ◌^◌, Bool, ◌&&◌, ◌||◌, not, ◌==◌, nat_le, if◌then◌else◌, List, [], ◌∷◌, Option, Some, None}
+use Rattle.std.specs.Prelude.{ℕ, ◌^◌, ◌&&◌, ◌||◌, not, ◌==◌, nat_le, if◌then◌else◌, List, [], ◌∷◌, Option, Some, None}
 use Rattle.bword.specs.declared.operators.BinOp.{BinOp}
 use Rattle.bword.specs.declared.operators.BinOp.TheVariants as op
 use Rattle.bcode.specs.Reading.{◌>>=◌, expect, number_at, name_at}
@@ -49,8 +49,8 @@ greater_at bytes = by_first ((10, λ rest. Some (op.Gt, rest)) ∷ (61, ended op
 abbrev pub operator_readers : List (ℕ × Reader BinOp)
 operator_readers =
     (124, ended op.Or) ∷ (38, ended op.And) ∷ (61, λ rest. expect 61 rest >>= ended op.Eq) ∷ (33, λ rest. expect 61 rest >>= ended op.Ne)
-      ∷ (60, less_at) ∷ (62, greater_at) ∷ (45, ended op.Sub) ∷ (43, ended op.Add) ∷ (37, ended op.Rem) ∷ (42, ended op.Mul)
-      ∷ (47, ended op.Div) ∷ []
+    ∷ (60, less_at) ∷ (62, greater_at) ∷ (45, ended op.Sub) ∷ (43, ended op.Add) ∷ (37, ended op.Rem) ∷ (42, ended op.Mul)
+    ∷ (47, ended op.Div) ∷ []
 
 unfoldable pub operator_at : Reader BinOp
 operator_at bytes = expect 32 bytes >>= by_first operator_readers
@@ -58,7 +58,7 @@ operator_at bytes = expect 32 bytes >>= by_first operator_readers
 abbrev pub increment_readers : List (ℕ × Reader Increment)
 increment_readers =
     (48, ended increment.PreIncrement) ∷ (49, ended increment.PreDecrement) ∷ (50, ended increment.PostIncrement)
-      ∷ (51, ended increment.PostDecrement) ∷ []
+    ∷ (51, ended increment.PostDecrement) ∷ []
 
 unfoldable pub increment_at : Reader Increment
 increment_at bytes = expect 32 bytes >>= by_first increment_readers
@@ -73,13 +73,13 @@ case_at below bytes = do
 abbrev pub instr_readers : Sizes → List (ℕ × Reader Instr)
 instr_readers sizes =
     (99, λ rest. mapped instr.Constant (operand_at (2 ^ 16) rest)) ∷ (120, λ rest. mapped instr.External (name_operand_at rest))
-      ∷ (97, λ rest. mapped instr.Automatic (operand_at sizes.frame rest)) ∷ (115, λ rest. mapped instr.Text (operand_at sizes.strings rest))
-      ∷ (108, λ rest. mapped instr.Label (operand_at sizes.labels rest)) ∷ (118, ended instr.Load) ∷ (119, ended instr.Store)
-      ∷ (98, λ rest. mapped instr.Binary (operator_at rest)) ∷ (109, λ rest. mapped instr.Modify (operator_at rest)) ∷ (110, ended instr.Negate)
-      ∷ (104, ended instr.Not) ∷ (105, λ rest. mapped instr.Increment (increment_at rest))
-      ∷ (106, λ rest. mapped instr.Jump (operand_at sizes.code rest)) ∷ (122, λ rest. mapped instr.JumpIfZero (operand_at sizes.code rest))
-      ∷ (103, ended instr.Goto) ∷ (101, case_at sizes.code) ∷ (107, λ rest. mapped instr.Call (operand_at (2 ^ 16) rest))
-      ∷ (114, ended instr.Return) ∷ (112, ended instr.Pop) ∷ []
+    ∷ (97, λ rest. mapped instr.Automatic (operand_at sizes.frame rest)) ∷ (115, λ rest. mapped instr.Text (operand_at sizes.strings rest))
+    ∷ (108, λ rest. mapped instr.Label (operand_at sizes.labels rest)) ∷ (118, ended instr.Load) ∷ (119, ended instr.Store)
+    ∷ (98, λ rest. mapped instr.Binary (operator_at rest)) ∷ (109, λ rest. mapped instr.Modify (operator_at rest)) ∷ (110, ended instr.Negate)
+    ∷ (104, ended instr.Not) ∷ (105, λ rest. mapped instr.Increment (increment_at rest))
+    ∷ (106, λ rest. mapped instr.Jump (operand_at sizes.code rest)) ∷ (122, λ rest. mapped instr.JumpIfZero (operand_at sizes.code rest))
+    ∷ (103, ended instr.Goto) ∷ (101, case_at sizes.code) ∷ (107, λ rest. mapped instr.Call (operand_at (2 ^ 16) rest))
+    ∷ (114, ended instr.Return) ∷ (112, ended instr.Pop) ∷ []
 
 unfoldable pub instr_at : Sizes → Reader Instr
 instr_at sizes bytes = by_first (instr_readers sizes) bytes
@@ -87,7 +87,7 @@ instr_at sizes bytes = by_first (instr_readers sizes) bytes
 abbrev pub ival_readers : ℕ → List (ℕ × Reader Ival)
 ival_readers strings =
     (99, λ rest. mapped ival.Number (operand_at (2 ^ 16) rest)) ∷ (120, λ rest. mapped ival.Name (name_operand_at rest))
-      ∷ (115, λ rest. mapped ival.Text (operand_at strings rest)) ∷ []
+    ∷ (115, λ rest. mapped ival.Text (operand_at strings rest)) ∷ []
 
 unfoldable pub ival_at : ℕ → Reader Ival
 ival_at strings bytes = by_first (ival_readers strings) bytes
@@ -103,8 +103,8 @@ sizes_at bytes = do
   strings ← number_at 32 1025 labels.1
   code ← number_at 10 4097 strings.1
   if labels.0 == 0 || not (code.0 == 0) then
-    Some (record { frame = frame.0; labels = labels.0; strings = strings.0; code = code.0 }, code.1)
-    else None
+      Some (record { frame = frame.0; labels = labels.0; strings = strings.0; code = code.0 }, code.1)
+      else None
 
 unfoldable pub function_header_at : Reader Header
 function_header_at bytes = do

@@ -1,5 +1,5 @@
 -- Reading the parts of a line from the front of a text: what was read, and the text behind it.
-use Rattle.std.specs.Prelude.{◌≡◌, ℕ, ◌+◌, ◌*◌, ◌-◌, ◌^◌, Bool, ◌==◌, nat_lt, if◌then◌else◌, List, [], ◌∷◌, take, drop, Option, Some, None}
+use Rattle.std.specs.Prelude.{◌≡◌, ℕ, ◌+◌, ◌*◌, ◌-◌, ◌^◌, ◌==◌, nat_lt, if◌then◌else◌, List, [], ◌∷◌, take, drop, Option, Some, None}
 use Rattle.std.specs.Char.{is_ascii_digit}
 use Rattle.std.specs.List.{position}
 use Rattle.bword.specs.Names.{is_name}
@@ -25,7 +25,7 @@ number_from end below value (b ∷ bs) =
     if b == end then (if nat_lt value below then Some (value, bs) else None)
     else if value == 0 then None
     else if is_ascii_digit b then
-      (if nat_lt (value * 10 + (b - 48)) (2 ^ 16) then number_from end below (value * 10 + (b - 48)) bs else None)
+    (if nat_lt (value * 10 + (b - 48)) (2 ^ 16) then number_from end below (value * 10 + (b - 48)) bs else None)
     else None
 
 -- a number below a bound, and the byte that ends it

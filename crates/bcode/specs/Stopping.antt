@@ -1,13 +1,8 @@
 -- A text as lines, each of which a state expects or not.
-use Rattle.std.specs.Prelude.{◌≡◌, ℕ, zero, suc, ◌+◌, ◌<◌, ◌≤◌, List, [], ◌∷◌, ◌++◌, length, replicate, All, codes, decimal, Result, Ok, Err}
-use Rattle.std.specs.List.{flat_map}
+use Rattle.std.specs.Prelude.{◌≡◌, ℕ, zero, suc, ◌<◌, List, [], ◌∷◌, ◌++◌, replicate}
 use Rattle.bcode.specs.Definitions.{IsWord, IsInstrWithin, IsIvalWithin}
-use Rattle.bcode.specs.Headers.{header_of, header_text, IsHeaderWithin}
-use Rattle.bcode.specs.Text.{joined, body_lines, target_line, string_line, instr_line, ival_line}
-use Rattle.bcode.specs.Views.{IsWithinRanges}
-use Rattle.bcode.specs.declared.definition.Definition.{Definition}
-use Rattle.bcode.specs.declared.fault.CodeFault.{CodeFault}
-use Rattle.bcode.specs.declared.fault.CodeFault.TheVariants as fault
+use Rattle.bcode.specs.Headers.{header_text, IsHeaderWithin}
+use Rattle.bcode.specs.Text.{target_line, string_line, instr_line, ival_line}
 use Rattle.bcode.specs.declared.header.Header.{Header}
 use Rattle.bcode.specs.declared.header.Header.TheVariants as header
 use Rattle.bcode.specs.declared.header.Sizes.{Sizes}

@@ -1,8 +1,22 @@
 //! Lines, read from the front of a text.
 ghost use Rattle.std.specs.Prelude.{◌≡◌, ◌≤◌};
 ghost use Rattle.bcode.specs.LineReading.{
-    ended, operand_at, name_operand_at, less_at, greater_at, operator_at, increment_at, case_at, instr_at, ival_at, number_line_at,
-    sizes_at, function_header_at, simple_header_at, vector_header_at, header_at
+  ended,
+  operand_at,
+  name_operand_at,
+  less_at,
+  greater_at,
+  operator_at,
+  increment_at,
+  case_at,
+  instr_at,
+  ival_at,
+  number_line_at,
+  sizes_at,
+  function_header_at,
+  simple_header_at,
+  vector_header_at,
+  header_at,
 };
 ghost use Rattle.bcode.specs.Reading.{Gives};
 
@@ -124,9 +138,18 @@ pub fn instr(text: &[u8], sizes: Sizes) -> Option<(Instr, &[u8])>
             Some((name, rest)) => Some((Instr::External(name), rest)),
             None => None,
         },
-        b'a' => operand(rest, u32::from(sizes.frame)).map(|(word, rest)| (Instr::Automatic(word), rest)),
-        b's' => operand(rest, u32::from(sizes.strings)).map(|(offset, rest)| (Instr::Text(offset), rest)),
-        b'l' => operand(rest, u32::from(sizes.labels)).map(|(label, rest)| (Instr::Label(label), rest)),
+        b'a' => operand(rest, u32::from(sizes.frame)).map(|(word, rest)| (
+            Instr::Automatic(word),
+            rest,
+        )),
+        b's' => operand(rest, u32::from(sizes.strings)).map(|(offset, rest)| (
+            Instr::Text(offset),
+            rest,
+        )),
+        b'l' => operand(rest, u32::from(sizes.labels)).map(|(label, rest)| (
+            Instr::Label(label),
+            rest,
+        )),
         b'v' => ended(Instr::Load, rest),
         b'w' => ended(Instr::Store, rest),
         b'b' => operator(rest).map(|(operator, rest)| (Instr::Binary(operator), rest)),
@@ -134,8 +157,14 @@ pub fn instr(text: &[u8], sizes: Sizes) -> Option<(Instr, &[u8])>
         b'n' => ended(Instr::Negate, rest),
         b'h' => ended(Instr::Not, rest),
         b'i' => increment(rest).map(|(which, rest)| (Instr::Increment(which), rest)),
-        b'j' => operand(rest, u32::from(sizes.code)).map(|(place, rest)| (Instr::Jump(place), rest)),
-        b'z' => operand(rest, u32::from(sizes.code)).map(|(place, rest)| (Instr::JumpIfZero(place), rest)),
+        b'j' => operand(rest, u32::from(sizes.code)).map(|(place, rest)| (
+            Instr::Jump(place),
+            rest,
+        )),
+        b'z' => operand(rest, u32::from(sizes.code)).map(|(place, rest)| (
+            Instr::JumpIfZero(place),
+            rest,
+        )),
         b'g' => ended(Instr::Goto, rest),
         b'e' => case(rest, u32::from(sizes.code)),
         b'k' => operand(rest, WORDS).map(|(arguments, rest)| (Instr::Call(arguments), rest)),

@@ -26,7 +26,11 @@ pub fn number(text: &[u8], end: u8, below: u32) -> Option<(u16, &[u8])>
     let mut value = digit(*first)?;
     while let Some((byte, behind)) = rest.split_first() {
         if *byte == end {
-            return if value < below { Some((value as u16, behind)) } else { None };
+            return if value < below {
+                Some((value as u16, behind))
+            } else {
+                None
+            };
         }
         if value == 0 {
             return None;
@@ -43,7 +47,11 @@ pub fn number(text: &[u8], end: u8, below: u32) -> Option<(u16, &[u8])>
 fn digit(byte: u8) -> Option<u32>
     ensures { Gives (λ d. d) result (if is_ascii_digit byte then Some (byte - 48) else None) }
 {
-    if byte.is_ascii_digit() { Some(u32::from(byte - b'0')) } else { None }
+    if byte.is_ascii_digit() {
+        Some(u32::from(byte - b'0'))
+    } else {
+        None
+    }
 }
 
 /// A name, and the text behind the byte that ends it.

@@ -11,7 +11,10 @@ ghost use Rattle.bcode.specs.declared.header.Header.TheVariants as headers;
 
 use crate::ahead::Ahead;
 use crate::header::{Header, Sizes};
-use crate::{CodeFault, Definition, Function, FunctionParts, Instr, Ival, Simple, SimpleParts, Vector, VectorParts};
+use crate::{
+    CodeFault, Definition, Function, FunctionParts, Instr, Ival, Simple, SimpleParts, Vector,
+    VectorParts,
+};
 use bword::Name;
 use std::alloc::Global;
 

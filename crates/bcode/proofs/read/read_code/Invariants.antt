@@ -1,7 +1,7 @@
-use Rattle.std.proofs.Common.{◌≡◌, ◌++◌, length, List, []}
+use Rattle.std.proofs.Common.{◌≡◌, ◌++◌, length, []}
 use Rattle.std.specs.Prelude.{All}
 use Rattle.std.specs.List.{flat_map}
-use Rattle.bcode.specs.Ahead.{Ahead, GoesOn}
+use Rattle.bcode.specs.Ahead.{GoesOn}
 use Rattle.bcode.specs.Stopping.{expects}
 use Rattle.bcode.specs.Text.{text_of}
 use Rattle.bcode.specs.Views.{IsWithinRanges}

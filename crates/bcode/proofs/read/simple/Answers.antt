@@ -1,28 +1,27 @@
-use Rattle.std.proofs.Common.{subst, Vec, Global, Result, Err, ℕ, ◌<◌, refl, ap, map, replicate, ◌++◌}
-use Rattle.bcode.specs.Definitions.{IsWord, IsInstrWithin, IsIvalWithin}
-use Rattle.bcode.specs.Stopping.{value, target, string, instruction}
-use Rattle.bcode.specs.Text.{target_line, string_line, instr_line, ival_line}
-use Rattle.bcode.specs.declared.instr.Instr.{Instr}
+use Rattle.std.proofs.Common.{Vec, Global, ℕ, refl, replicate}
+use Rattle.bcode.specs.Definitions.{IsWord, IsIvalWithin}
+use Rattle.bcode.specs.Stopping.{value, string}
+use Rattle.bcode.specs.Text.{string_line, ival_line}
 use Rattle.bcode.specs.declared.instr.Ival.{Ival}
 use Rattle.bcode.specs.declared.header.Header.TheVariants as header
-use Rattle.bcode.proofs.BodyLaws.{GoesOn-trans, StopsAhead-behind, goes_on, goes_on_last, stops_here, stops_here_last, body_exit, two_kinds, three_kinds}
-use Rattle.bcode.proofs.CodeLaws.{of_value, of_target, of_string, of_instr, same_sizes}
+use Rattle.bcode.proofs.BodyLaws.{GoesOn-trans, StopsAhead-behind, goes_on, goes_on_last, stops_here, stops_here_last, body_exit, two_kinds}
+use Rattle.bcode.proofs.CodeLaws.{of_value, of_string}
 use Rattle.bcode.proofs.read.simple.Goals as goal
 
 pub returns-in_err-values : goal.returns-in_err-values
 returns-in_err-values c =
     let k = c.args.strings in
     body_exit ival_line (IsIvalWithin k) (λ (v : Vec Ival Global). v.items) c.args.count (header.Simple c.args.name c.args.count c.args.strings) _ _ _ _ _ _ c.from_residual.ensures.1
-        c.in_err-values.ensures
-        (λ n r. stops_here ival_line (IsIvalWithin k) (value k) (of_value k) (λ l x. x) c.args.count (replicate k string) n r)
+    c.in_err-values.ensures
+    (λ n r. stops_here ival_line (IsIvalWithin k) (value k) (of_value k) (λ l x. x) c.args.count (replicate k string) n r)
 
 pub returns-in_err-strings : goal.returns-in_err-strings
 returns-in_err-strings c =
     let k = c.args.strings in
     let values = goes_on ival_line (IsIvalWithin k) (value k) (of_value k) (λ l x. x) c.args.count (replicate k string) c.in_ok-values.ensures in
     body_exit string_line IsWord (λ (v : Vec ℕ Global). v.items) k (header.Simple c.args.name c.args.count c.args.strings) _ _ _ _ _ _ c.from_residual-in_err-strings.ensures.1
-        c.in_err-strings.ensures
-        (λ n r. StopsAhead-behind n values (stops_here_last string_line IsWord string of_string (λ l x. x) k n r))
+    c.in_err-strings.ensures
+    (λ n r. StopsAhead-behind n values (stops_here_last string_line IsWord string of_string (λ l x. x) k n r))
 
 pub returns : goal.returns
 returns c =

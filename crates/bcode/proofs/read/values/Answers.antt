@@ -1,4 +1,4 @@
-use Rattle.std.proofs.Common.{arith, ◌≡◌, ◌≤◌}
+use Rattle.std.proofs.Common.{arith, ◌≡◌}
 use Rattle.bcode.proofs.AheadLaws.{ReadsLines-none, ReadsLines-more, gives_lines}
 use Rattle.bcode.proofs.read.values.Goals as goal
 

@@ -1,4 +1,3 @@
-use Rattle.std.proofs.Common.{arith, ap, length}
 use Rattle.bcode.proofs.AheadLaws.{reads_line, refuses_line, shorter}
 use Rattle.bcode.proofs.HeaderLaws.{header_at-exact}
 use Rattle.bcode.proofs.ahead.Ahead.header.Goals as goal

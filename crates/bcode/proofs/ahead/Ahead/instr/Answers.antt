@@ -1,4 +1,4 @@
-use Rattle.std.proofs.Common.{arith, ap, length}
+use Rattle.std.proofs.Common.{arith}
 use Rattle.bcode.proofs.AheadLaws.{reads_line, refuses_line, shorter}
 use Rattle.bcode.proofs.LineLaws.{instr_at-exact}
 use Rattle.bcode.proofs.ahead.Ahead.instr.Goals as goal

@@ -1,4 +1,4 @@
-use Rattle.std.proofs.Common.{arith, ap, length}
+use Rattle.std.proofs.Common.{arith}
 use Rattle.bcode.proofs.AheadLaws.{reads_line, refuses_line, shorter}
 use Rattle.bcode.proofs.LineLaws.{ival_at-exact}
 use Rattle.bcode.proofs.ahead.Ahead.ival.Goals as goal
