@@ -13,5 +13,7 @@ pub mod Relined
 pub mod ExpressionRelined
 pub mod StatementRelined
 pub mod DefinitionRelined
+pub mod KeptLemmas
 pub mod LawProofs
 pub mod CodeLaws
+pub mod GoingOn
