@@ -17,3 +17,7 @@ pub mod KeptLemmas
 pub mod LawProofs
 pub mod CodeLaws
 pub mod GoingOn
+pub mod ProgramLaws
+pub mod Parting
+pub mod Outcomes
+pub mod GoesLaws
