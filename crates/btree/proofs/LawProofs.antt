@@ -15,23 +15,13 @@ use Rattle.btree.specs.Definition.{Definition, Simple, Vector, Function, spell_d
 use Rattle.btree.specs.DefinitionReader.{definition}
 use Rattle.btree.specs.Laws.{ReadsSpelling, ReadsAgain, GoesOnWithElse, HasTwin, ReadsOn, BeginsWithName, OneExpression, OneStatement, OneDefinition}
 use Rattle.btree.proofs.CommaLaws.{append-nil}
+use Rattle.btree.proofs.KeptLemmas.{kept-twice}
 use Rattle.btree.proofs.ExpressionAgain.{Ends, reader_again}
 use Rattle.btree.proofs.StatementAgain.{statement_again}
 use Rattle.btree.proofs.DefinitionSound.{SpelledDefinition, definition_sound}
 use Rattle.btree.proofs.DefinitionFine.{definition_fine}
 use Rattle.btree.proofs.DefinitionAgain.{definition_again, definition_longer}
 use Rattle.btree.proofs.DefinitionRelined.{definition_twin}
-
-kept-kept : (p : Placed) → kept (kept p) ≡ kept p
-kept-kept p = go (keeps_line p.token) refl
-  where
-    go : (b : Bool) → keeps_line p.token ≡ b → kept (kept p) ≡ kept p
-    go true h = let e : kept p ≡ p = rw h refl in ap kept e
-    go false h = let e : kept p ≡ mark p.token = rw h refl in ap kept e ∙ (let f : kept (mark p.token) ≡ mark p.token = rw h refl in f) ∙ sym e
-
-pub kept-twice : (ts : List Placed) → kept_tokens (kept_tokens ts) ≡ kept_tokens ts
-kept-twice [] = refl
-kept-twice (p ∷ ts) = let a : kept (kept p) ≡ kept p = kept-kept p in let b : kept_tokens (kept_tokens ts) ≡ kept_tokens ts = kept-twice ts in cc
 
 -- what is left of kept tokens is kept
 kept-behind : (u r : List Placed) → kept_tokens (u ++ r) ≡ u ++ r → kept_tokens r ≡ r

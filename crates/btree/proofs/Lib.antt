@@ -13,5 +13,11 @@ pub mod Relined
 pub mod ExpressionRelined
 pub mod StatementRelined
 pub mod DefinitionRelined
+pub mod KeptLemmas
 pub mod LawProofs
 pub mod CodeLaws
+pub mod GoingOn
+pub mod ProgramLaws
+pub mod Parting
+pub mod Outcomes
+pub mod GoesLaws

@@ -1,8 +1,9 @@
--- The laws of reading a definition.
+-- The laws of reading a definition, and of what comes of a source.
 use Rattle.std.specs.Prelude.{◌≡◌, ℕ, map, List, [], ◌∷◌, ◌++◌, Bool, true, false}
 use Rattle.blex.specs.declared.token.Token.TheVariants as token
 use Rattle.blex.specs.declared.token.Keyword.TheVariants as keyword
 use Rattle.blex.specs.declared.token.Placed.{Placed}
+use Rattle.blex.specs.Tokens.{tokens_from}
 use Rattle.btree.specs.Lines.{mark, kept_tokens, bare}
 use Rattle.btree.specs.Expression.{Word, Expr, name_token, spell, rvalue_rank, Fits}
 use Rattle.btree.specs.Reading.{Got, first}
@@ -11,6 +12,7 @@ use Rattle.btree.specs.Statement.{Stmt, spell_statement, Sits, keyword_mark}
 use Rattle.btree.specs.StatementReader.{is_else}
 use Rattle.btree.specs.Definition.{Definition, spell_definition, IsFormed, is_open}
 use Rattle.btree.specs.DefinitionReader.{definition}
+use Rattle.btree.specs.Compiled.{Defined, Outcome, Goes}
 
 -- What a definition is read as is spelled by the tokens that were taken, and well formed.
 abbrev pub ReadsSpelling : Type 0
@@ -44,3 +46,12 @@ OneStatement = (s t : Stmt) (room off : ℕ) → Sits s room off → Sits t room
 
 abbrev pub OneDefinition : Type 0
 OneDefinition = (d e : Definition) → IsFormed d → IsFormed e → spell_definition d ≡ spell_definition e → d ≡ e
+
+-- each source comes to something
+abbrev pub EachSourceComes : Type 0
+EachSourceComes = (names : Defined) (line : ℕ) (bytes : List ℕ) → (r : Outcome) × Goes names (tokens_from line bytes) r
+
+-- the same tokens come to the same
+abbrev pub OutcomesAreEqual : Type 0
+OutcomesAreEqual =
+    (names : Defined) (tokens : List Placed) (r q : Outcome) → Goes names tokens r → Goes names tokens q → r ≡ q

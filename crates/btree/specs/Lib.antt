@@ -8,9 +8,11 @@ pub mod Statement
 pub mod StatementReader
 pub mod Definition
 pub mod DefinitionReader
-pub mod Laws
 pub mod Rows
 pub mod Scope
 pub mod Scan
 pub mod Code
 pub mod CodeRows
+pub mod Program
+pub mod Compiled
+pub mod Laws

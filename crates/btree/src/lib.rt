@@ -2,7 +2,7 @@
 //! contracts only, and each function here is a law, by its contract.
 #![tactic(auto)]
 
-ghost use Rattle.btree.specs.Laws.{BeginsWithName, GoesOnWithElse, HasTwin, OneDefinition, OneExpression, OneStatement, ReadsAgain, ReadsOn, ReadsSpelling};
+ghost use Rattle.btree.specs.Laws.{BeginsWithName, EachSourceComes, GoesOnWithElse, HasTwin, OneDefinition, OneExpression, OneStatement, OutcomesAreEqual, ReadsAgain, ReadsOn, ReadsSpelling};
 ghost use Rattle.btree.specs.CodeRows.{CodeRows, CountsWords, FaultRows, ScansOn};
 ghost use Rattle.btree.specs.Rows.{DefinitionRows, ExpressionRows, LevelRows};
 
@@ -75,4 +75,10 @@ pub fn a_scan_goes_on()
 /// The offsets of strings count the words that they take.
 pub fn offsets_count_string_words()
     ensures { CountsWords }
+{}
+
+/// Each source comes to one outcome: its code texts and its diagnostic, if there is one.
+pub fn one_outcome()
+    ensures comes { EachSourceComes }
+    ensures once { OutcomesAreEqual }
 {}
