@@ -6,7 +6,6 @@ use Rattle.bcode.specs.Text.{end_text}
 use Rattle.bcode.specs.Text as text
 use Rattle.bcode.specs.declared.definition.Definition.TheVariants as code
 use Rattle.bcode.specs.declared.instr.Ival.{Ival}
-use Rattle.bcode.specs.declared.instr.Ival.TheVariants as ival
 use Rattle.bword.specs.ByteEnds.{Incoming, Outgoing, Grew, Writes, Refuses, CountsFault}
 use Rattle.bword.specs.declared.byte_out.EndFault.{EndFault}
 use Rattle.bword.specs.declared.byte_out.EndFault.TheVariants as fault
@@ -16,8 +15,8 @@ use Rattle.blex.specs.Tokens.{placed, token_first, tokens_from}
 use Rattle.blex.specs.declared.token.Token.TheVariants as token
 use Rattle.blex.specs.declared.token.Placed.{Placed}
 use Rattle.blex.specs.declared.diagnostic.Diagnostic.{Diagnostic}
-use Rattle.bsimple.specs.Compiled.{Names, Outcome, Goes, ending, fault_of, text_of, code_of}
-use Rattle.bsimple.specs.Definition.{Definition, spell, spell_values}
+use Rattle.bsimple.specs.Compiled.{Names, Outcome, Goes, ending, fault_of, text_of, ival_of}
+use Rattle.bsimple.specs.Definition.{Definition, Value, spell, spell_values}
 use Rattle.bsimple.specs.Lines.{kept}
 use Rattle.bsimple.specs.Program.{fault_at}
 use Rattle.bsimple.specs.Reading.{Got, Stop, definition}
@@ -131,7 +130,7 @@ module _ (old mid new : Tokens) (names : Names) (out : Outgoing) (lender : ℕ) 
   failures = l.failures ∙ d.passed.failures
 
   -- a definition takes two tokens at least
-  some_values : (vs : List ℕ) → 1 ≤ length (spell_values vs)
+  some_values : (vs : List Value) → 1 ≤ length (spell_values vs)
   some_values [] = omega arith
   some_values (v ∷ vs) = omega arith
 
@@ -215,7 +214,7 @@ fitted ws vs false e = cc
 pub text_so : (header : Header) (found : Values) (tree : Definition) (values : List Ival) → IsReadAs header found tree → found ≡ Some values → text.text_of (code.Simple record { name = header.name; values = values; strings = [] }) ≡ text_of tree
 text_so header found tree values h e =
     ap (λ n. text.text_of (code.Simple record { name = n; values = values; strings = [] })) (sym h.name)
-    ∙ ap (λ vs. text.text_of (code.Simple record { name = tree.name.text; values = vs; strings = [] })) (fitted (map ival.Number tree.values) values (nat_lt 1024 (length (map ival.Number tree.values))) (sym h.values ∙ e))
+    ∙ ap (λ vs. text.text_of (code.Simple record { name = tree.name.text; values = vs; strings = [] })) (fitted (map ival_of tree.values) values (nat_lt 1024 (length (map ival_of tree.values))) (sym h.values ∙ e))
 
 pub read_as : {old new : Tokens} {header : Header} {found : Values} → (d : ReadsDefinition old header new found) → IsReadAs header found d.tree
 read_as d = record { name = d.name; line = d.line; values = d.found_is }

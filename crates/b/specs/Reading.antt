@@ -4,12 +4,13 @@ use Rattle.blex.specs.declared.token.Placed.{Placed}
 use Rattle.blex.specs.declared.token.Token.{Token}
 use Rattle.blex.specs.declared.token.Token.TheVariants as token
 use Rattle.blex.specs.declared.diagnostic.Diagnostic.{Diagnostic}
-use Rattle.bsimple.specs.Definition.{Definition, Word}
+use Rattle.bcode.specs.declared.instr.Ival.{Ival}
+use Rattle.bsimple.specs.Definition.{Definition, Value}
 use Rattle.bsimple.specs.Lines.{kept}
 use Rattle.bsimple.specs.Program.{fault_at}
 use Rattle.bsimple.specs.Reading.{Reader, Got, Stop as Halt, value, values, more_values, definition}
 use Rattle.b.specs.Tokens.{Tokens, IsOpen, Passed, Stops, Breaks}
-use Rattle.b.specs.Values.{Values, values_of}
+use Rattle.b.specs.Values.{Values, values_of, ival_in}
 use Rattle.b.specs.declared.definition.Header.{Header}
 use Rattle.b.specs.declared.step.Stop.{Stop}
 use Rattle.b.specs.declared.step.Stop.TheVariants as stop
@@ -36,10 +37,10 @@ Refused reader old stop.Memory new = ⊥
 -- The values of a definition were read.
 pub record ReadsValues (old : Tokens) (new : Tokens) (found : Values) : Type 0 where
   pub tokens : List Placed
-  pub numbers : List ℕ
+  pub read : List Value
   pub passed : Passed old tokens new
-  pub reading : (rest : List Placed) → values (map kept tokens ++ rest) ≡ Got numbers rest
-  pub found_is : found ≡ values_of numbers
+  pub reading : (rest : List Placed) → values (map kept tokens ++ rest) ≡ Got read rest
+  pub found_is : found ≡ values_of read
   pub open_behind : IsOpen new
 
 -- A definition was read.
@@ -65,9 +66,16 @@ abbrev pub separator : Bool → Token
 separator true = token.Comma
 separator false = token.Semicolon
 
-abbrev pub FindsNumber : Tokens → Result ℕ Stop → Tokens → Type 0
-FindsNumber old (Ok n) new = Found old (token.Number n) new
-FindsNumber old (Err stop) new = Refused value old stop new
+-- A value was taken.
+pub record FoundValue (old : Tokens) (found : Ival) (new : Tokens) : Type 0 where
+  pub placed : Placed
+  pub value_is : ival_in placed.token ≡ Some found
+  pub passed : Passed old (placed ∷ []) new
+  pub open_behind : IsOpen new
+
+abbrev pub FindsValue : Tokens → Result Ival Stop → Tokens → Type 0
+FindsValue old (Ok found) new = FoundValue old found new
+FindsValue old (Err stop) new = Refused value old stop new
 
 abbrev pub FindsSeparator : Tokens → Result Bool Stop → Tokens → Type 0
 FindsSeparator old (Ok another) new = Found old (separator another) new

@@ -32,6 +32,8 @@ fn sources_without_fault(rt: HostRuntime) {
     compiles(&rt, "", "E\n", "", 0);
     compiles(&rt, "n 2000;", "X n 1 0\nc 2000\nE\n", "", 0);
     compiles(&rt, "n/*x*/017;", "X n 1 0\nc 15\nE\n", "", 0);
+    compiles(&rt, "n 'ab';", "X n 1 0\nc 24930\nE\n", "", 0);
+    compiles(&rt, "t 'x', n; n;", "X t 2 0\nc 120\nx n\nX n 0 0\nE\n", "", 0);
 }
 
 #[test]
@@ -43,6 +45,8 @@ fn faulty_sources(rt: HostRuntime) {
     compiles(&rt, "n 65536;", "", "ct 1\n", 1);
     compiles(&rt, "n #;", "", "ch 1\n", 1);
     compiles(&rt, "n 5", "", "sx 1\n", 1);
+    compiles(&rt, "n '';", "", "ct 1\n", 1);
+    compiles(&rt, "n -1;", "", "sx 1\n", 1);
 }
 
 #[test]

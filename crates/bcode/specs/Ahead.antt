@@ -1,9 +1,9 @@
 -- What reading some lines does to the text ahead.
-use Rattle.std.specs.Prelude.{◌≡◌, ℕ, suc, ◌+◌, ◌<◌, List, ◌++◌, length, All, Result, Ok, Err}
+use Rattle.std.specs.Prelude.{◌≡◌, ℕ, suc, ◌+◌, ◌<◌, List, [], ◌++◌, length, All, Option, Some, None, Result, Ok, Err}
 use Rattle.std.specs.List.{flat_map}
 use Rattle.bcode.specs.Headers.{header_of}
-use Rattle.bcode.specs.Stopping.{Stops, state_after}
-use Rattle.bcode.specs.Text.{joined, body_lines}
+use Rattle.bcode.specs.Stopping.{State, expects, finished, Stops, state_after}
+use Rattle.bcode.specs.Text.{joined, body_lines, header_line, text_of, end_text}
 use Rattle.bcode.specs.Views.{IsWithinRanges}
 use Rattle.bcode.specs.declared.definition.Definition.{Definition}
 use Rattle.bcode.specs.declared.fault.CodeFault.{CodeFault}
@@ -54,20 +54,50 @@ module _ {X : Type 0} (spell : X → List ℕ) (within : X → Type 0) where
   LinesGive items count old (Err (fault.Line n)) new = RefusesLines count old n
   LinesGive items count old (Err fault.Memory) new = Unit {0}
 
+-- Some lines lead from one state to another: what stops behind them stops so many lines later before them.
+pub record GoesOn (old : Ahead) (from : State) (new : Ahead) (to : State) : Type 0 where
+  pub taken : ℕ
+  pub counted : new.line ≡ old.line + taken
+  pub onward : (n : ℕ) → Stops n to new.text → Stops (taken + n) from old.text
+
+-- The text stops at line n.
+pub record StopsAhead (from : State) (old : Ahead) (n : ℕ) : Type 0 where
+  pub good : ℕ
+  pub stops : Stops good from old.text
+  pub there : n ≡ old.line + good
+
 -- The lines behind the header of d were read.
 pub record ReadsBody (h : Header) (old : Ahead) (d : Definition) (new : Ahead) : Type 0 where
   pub header : header_of d ≡ h
   pub inside : IsWithinRanges d
   pub spelled : old.text ≡ joined (body_lines d) ++ new.text
-  pub counted : new.line ≡ old.line + length (body_lines d)
-
--- The lines behind the header stop.
-pub record RefusesBody (h : Header) (old : Ahead) (n : ℕ) : Type 0 where
-  pub good : ℕ
-  pub stops : Stops good (state_after h) old.text
-  pub there : n ≡ old.line + good
+  pub onward : GoesOn old (state_after h) new (expects [])
 
 abbrev pub BodyGives : Header → Ahead → Result Definition CodeFault → Ahead → Type 0
 BodyGives h old (Ok d) new = ReadsBody h old d new
-BodyGives h old (Err (fault.Line n)) new = RefusesBody h old n
+BodyGives h old (Err (fault.Line n)) new = StopsAhead (state_after h) old n
 BodyGives h old (Err fault.Memory) new = Unit {0}
+
+-- The lines of d were read.
+pub record ReadsDefinition (old : Ahead) (d : Definition) (new : Ahead) : Type 0 where
+  pub inside : IsWithinRanges d
+  pub spelled : old.text ≡ text_of d ++ new.text
+  pub onward : GoesOn old (expects []) new (expects [])
+
+-- The last line was read.
+pub record ReadsEnd (old new : Ahead) : Type 0 where
+  pub spelled : old.text ≡ end_text ++ new.text
+  pub onward : GoesOn old (expects []) new finished
+
+-- The first line of a definition comes.
+pub record HasNext (text : List ℕ) : Type 0 where
+  pub next : Definition
+  pub inside : IsWithinRanges next
+  pub rest : List ℕ
+  pub spelled : text ≡ header_line next ++ rest
+
+abbrev pub DefinitionGives : Ahead → Result (Option Definition) CodeFault → Ahead → Type 0
+DefinitionGives old (Ok (Some d)) new = ReadsDefinition old d new
+DefinitionGives old (Ok None) new = ReadsEnd old new
+DefinitionGives old (Err (fault.Line n)) new = StopsAhead (expects []) old n
+DefinitionGives old (Err fault.Memory) new = HasNext old.text

@@ -44,7 +44,8 @@ impl Function {
     /// The definition that has these parts.
     pub fn from_parts(parts: FunctionParts) -> Self
         requires { IsFunctionWithinRanges (function_of parts) }
-        ensures { result ≡ function_of parts }
+        ensures same { result ≡ function_of parts }
+        ensures within { IsFunctionWithinRanges result }
     {
         Function { parts }
     }
@@ -98,7 +99,8 @@ impl Simple {
     /// The definition that has these parts.
     pub fn from_parts(parts: SimpleParts) -> Self
         requires { IsSimpleWithinRanges (simple_of parts) }
-        ensures { result ≡ simple_of parts }
+        ensures same { result ≡ simple_of parts }
+        ensures within { IsSimpleWithinRanges result }
     {
         Simple { parts }
     }
@@ -154,7 +156,8 @@ impl Vector {
     /// The definition that has these parts.
     pub fn from_parts(parts: VectorParts) -> Self
         requires { IsVectorWithinRanges (vector_of parts) }
-        ensures { result ≡ vector_of parts }
+        ensures same { result ≡ vector_of parts }
+        ensures within { IsVectorWithinRanges result }
     {
         Vector { parts }
     }

@@ -2,7 +2,7 @@
 ghost use Rattle.std.specs.Prelude.{◌≡◌};
 ghost use Rattle.bcode.specs.declared.fault.CodeFault.TheVariants.{Memory};
 
-use std::alloc::AllocFailed;
+use std::alloc::{AllocError, AllocFailed};
 use thiserror::Error;
 
 /// Why a code text was not read.
@@ -14,6 +14,14 @@ pub enum CodeFault {
     /// A growth was refused.
     #[error("memory")]
     Memory,
+}
+
+impl From<AllocError> for CodeFault {
+    ghost from_gives = { λ _ e. e ≡ Memory };
+
+    fn from(_error: AllocError) -> CodeFault {
+        CodeFault::Memory
+    }
 }
 
 impl<T: Drop> From<AllocFailed<T>> for CodeFault {

@@ -34,10 +34,12 @@ impl FlatStore {
 }
 
 impl Store for FlatStore {
-    ghost use Rattle.std.specs.Prelude.{◌≡◌, IsOk, OnOk, OnErr, slice_set};
+    ghost use Rattle.std.specs.Prelude.{◌≡◌, false, IsOk, OnOk, slice_set};
     ghost use Rattle.bword.specs.FlatStores.{words_of};
 
     ghost words = { words_of };
+
+    ghost may_refuse = { false };
 
     #[inline]
     fn get(&self, a: u16) -> u16 {
@@ -48,7 +50,6 @@ impl Store for FlatStore {
     #[inline]
     fn set(&mut self, a: u16, w: u16) -> Result<(), NoMemory>
         ensures stored { OnOk result (words_of self.new ≡ slice_set (words_of self.old) a w) }
-        ensures unchanged { OnErr result (words_of self.new ≡ words_of self.old) }
         ensures succeeds { IsOk result }
     {
         self.words[usize::from(a)] = w;

@@ -5,20 +5,35 @@ ghost use Rattle.bword.specs.Words.{binary_of, negate_of, not_of, quotient_of, r
 /// A binary operator, named as Rust's traits name it.
 #[derive(Clone, Copy, Debug, PartialEq, Eq)]
 pub enum BinOp {
+    /// `|`
     Or,
+    /// `&`
     And,
+    /// `==`
     Eq,
+    /// `!=`
     Ne,
+    /// `<`, signed
     Lt,
+    /// `<=`, signed
     Le,
+    /// `>`, signed
     Gt,
+    /// `>=`, signed
     Ge,
+    /// `<<`; a count of 16 or more gives 0
     Shl,
+    /// `>>`, which brings zeros in
     Shr,
+    /// `-`
     Sub,
+    /// `+`
     Add,
+    /// `%`, with the sign of the dividend
     Rem,
+    /// `*`
     Mul,
+    /// `/`, signed, which rounds toward zero
     Div,
 }
 
@@ -28,8 +43,7 @@ pub struct DivZero;
 
 /// What an operator makes of two words.
 ///
-/// Arithmetic wraps. Comparison, division and remainder take the words as signed; a shift counts by its whole
-/// unsigned right operand.
+/// A relation gives 1 or 0. Arithmetic wraps, so -32768 divided by -1 is -32768, with remainder 0.
 ///
 /// # Errors
 ///
@@ -63,7 +77,7 @@ pub fn binary(op: BinOp, a: u16, b: u16) -> Result<u16, DivZero>
 pub fn negate(a: u16) -> u16
     ensures { result ≡ negate_of a }
 {
-    0u16.wrapping_sub(a)
+    a.wrapping_neg()
 }
 
 /// 1 for 0, else 0.

@@ -1,5 +1,5 @@
 //! Stores of words, and the bytes of their strings.
-ghost use Rattle.std.specs.Prelude.{◌≡◌, ℕ, List, OnOk, OnErr, slice_index, slice_set};
+ghost use Rattle.std.specs.Prelude.{◌≡◌, ℕ, Bool, List, IsFalse, IsOk, OnOk, OnErr, slice_index, slice_set};
 ghost use Rattle.bword.specs.Stores.{IsStore, byte_address, byte_of, char_of, with_byte, with_char};
 
 /// How many words a store has.
@@ -11,7 +11,11 @@ pub struct NoMemory;
 
 /// The 65536 words of a machine, by their addresses.
 pub trait Store {
+    // Its words, by their addresses.
     ghost words: { Self → List ℕ };
+
+    // Whether a `set` can be refused memory.
+    ghost may_refuse: { Bool };
 
     /// The word at an address.
     fn get(&self, a: u16) -> u16
@@ -24,13 +28,17 @@ pub trait Store {
     /// `NoMemory` where the store was refused memory for it. No word has changed then.
     fn set(&mut self, a: u16, w: u16) -> Result<(), NoMemory>
         ensures stored { OnOk result (words self.new ≡ slice_set (words self.old) a w) }
-        ensures unchanged { OnErr result (words self.new ≡ words self.old) };
+        ensures unchanged { OnErr result (words self.new ≡ words self.old) }
+        ensures refused { IsFalse may_refuse → IsOk result };
 
+    // It has 65536 of them, each below 65536.
     ghost whole: { (store : Self) → IsStore (words store) };
 }
 
 impl<S: Store> Store for &mut S {
     ghost words = { λ r. S.words r.now };
+
+    ghost may_refuse = { S.may_refuse };
 
     #[inline]
     fn get(&self, a: u16) -> u16 {
@@ -66,6 +74,7 @@ pub fn char_at<S: Store>(store: &S, s: u16, i: u16) -> u16
 pub fn set_char<S: Store>(store: &mut S, s: u16, i: u16, c: u16) -> Result<(), NoMemory>
     ensures stored { OnOk result (S.words store.new ≡ with_char (S.words store.old) s i c) }
     ensures unchanged { OnErr result (S.words store.new ≡ S.words store.old) }
+    ensures refused { IsFalse S.may_refuse → IsOk result }
 {
     let address = byte_address(s, i);
     let word = with_byte(i, store.get(address), c);

@@ -1,4 +1,4 @@
-use Rattle.std.proofs.Common.{◌<◌, arith, sym}
+use Rattle.std.proofs.Common.{arith, sym}
 use Rattle.bword.proofs.WordLemmas.{shr_out}
 use Rattle.bword.proofs.operators.shifted_right.Goals as goal
 

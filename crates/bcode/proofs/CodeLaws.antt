@@ -1,0 +1,324 @@
+-- Code texts as paths of lines, and that a code text is that of one list of definitions.
+use Rattle.std.proofs.Common.{subst, ◌≡◌, ℕ, zero, suc, ◌+◌, ◌^◌, ◌<◌, ◌≤◌, List, [], ◌∷◌, ◌++◌, length, take, map, replicate, decimal, refl, sym, ap, ◌∙◌, arith, append_assoc, append-nil, length-append}
+use Rattle.std.specs.Prelude.{All}
+use Rattle.std.specs.List.{flat_map}
+use Rattle.std.proofs.lemmas.List.Concat.{flat_map-append}
+use Rattle.std.proofs.lemmas.List.Elements.{All-nil, All-cons, All-head, All-tail}
+use Rattle.bcode.specs.Definitions.{Function, Simple, Vector, IsWord, IsInstrWithin, IsIvalWithin, IsFunctionWithinRanges, IsSimpleWithinRanges, IsVectorWithinRanges, sizes_of}
+use Rattle.bcode.specs.Headers.{header_of, header_text, IsHeaderWithin, IsFunctionHeader, IsSimpleHeader, IsVectorHeader}
+use Rattle.bcode.specs.LineReading.{Reader}
+use Rattle.bcode.specs.Stopping.{Kind, value, target, string, instruction, IsOfKind, State, expects, finished, state_after, Leads, Stuck, Stops}
+use Rattle.bcode.specs.Text.{joined, end_text, header_line, body_lines, lines_of, text_of, code_lines, IsCodeText, target_line, string_line, ival_line, instr_line}
+use Rattle.bcode.specs.Views.{IsWithinRanges}
+use Rattle.bcode.specs.declared.definition.Definition.{Definition}
+use Rattle.bcode.specs.declared.definition.Definition.TheVariants as definition
+use Rattle.bcode.specs.declared.header.Header.{Header}
+use Rattle.bcode.specs.declared.header.Header.TheVariants as header
+use Rattle.bcode.specs.declared.header.Sizes.{Sizes}
+use Rattle.bcode.specs.declared.instr.Instr.{Instr}
+use Rattle.bcode.specs.declared.instr.Ival.{Ival}
+use Rattle.bcode.proofs.StoppingLaws.{Path}
+
+pub header_of-text : (d : Definition) → header_text (header_of d) ≡ header_line d
+header_of-text (definition.Function f) = refl
+header_of-text (definition.Simple s) = refl
+header_of-text (definition.Vector v) = refl
+
+no_labels : (targets : List ℕ) (code : ℕ) → All (λ t. t < code) targets → code ≡ 0 → length targets ≡ 0
+no_labels [] code all none = refl
+no_labels (t ∷ ts) code all none = let first = All-head (λ n. n < code) t ts all in absurd (omega arith)
+
+pub header_of-within : (d : Definition) → IsWithinRanges d → IsHeaderWithin (header_of d)
+header_of-within (definition.Function f) h = record {
+  named = h.named;
+  few_parameters = h.few_parameters;
+  parameters_in_frame = h.parameters_in_frame;
+  small_frame = h.frame;
+  few_labels = h.few_labels;
+  few_strings = h.few_strings;
+  few_instrs = h.few_instrs;
+  labels_in_code = no_labels f.targets (length f.code) h.targets;
+}
+header_of-within (definition.Simple s) h = record { named = h.named; few_values = h.few_values; few_strings = h.few_strings }
+header_of-within (definition.Vector v) h = record {
+  named = h.named;
+  some_word = h.some_word;
+  values_in_words = h.values_in_words;
+  few_words = h.few_words;
+  few_values = h.few_values;
+  few_strings = h.few_strings;
+}
+
+-- lines of one kind
+module _ {X : Type 0} (spell : X → List ℕ) (within : X → Type 0) (kind : Kind) (of_kind : (x : X) → within x → IsOfKind kind (spell x)) where
+  path_items : (xs : List X) (ks : List Kind) (ls : List (List ℕ)) → All within xs → Path (expects ks) ls
+      → Path (expects (replicate (length xs) kind ++ ks)) (map spell xs ++ ls)
+  path_items [] ks ls all path = path
+  path_items (x ∷ xs) ks ls all path =
+      (expects (replicate (length xs) kind ++ ks), (of_kind x (All-head within x xs all), refl), path_items xs ks ls (All-tail within x xs all) path)
+
+  path_last : (xs : List X) (ls : List (List ℕ)) → All within xs → Path (expects []) ls → Path (expects (replicate (length xs) kind)) (map spell xs ++ ls)
+  path_last xs ls all path = subst (λ (ks : List Kind). Path (expects ks) (map spell xs ++ ls)) (append-nil (replicate (length xs) kind)) (path_items xs [] ls all path)
+
+  -- behind these lines as text
+  pub stops_behind : (xs : List X) (ks : List Kind) (n : ℕ) (rest : List ℕ) → All within xs → Stops n (expects ks) rest
+      → Stops (length xs + n) (expects (replicate (length xs) kind ++ ks)) (flat_map spell xs ++ rest)
+  stops_behind [] ks n rest all stops =
+      let same : n ≡ 0 + n = omega arith in subst (λ (m : ℕ). Stops m (expects ks) rest) same stops
+  stops_behind (x ∷ xs) ks n rest all stops =
+      let same : suc (length xs + n) ≡ suc (length xs) + n = omega arith in
+      let others = stops_behind xs ks n rest (All-tail within x xs all) stops in
+      let to = expects (replicate (length xs) kind ++ ks) in
+      let first : Stops (suc (length xs + n)) (expects (kind ∷ (replicate (length xs) kind ++ ks))) (spell x ++ flat_map spell xs ++ rest) =
+          (spell x, to, flat_map spell xs ++ rest, (of_kind x (All-head within x xs all), refl), append_assoc (spell x) (flat_map spell xs) rest, others) in
+      subst (λ (m : ℕ). Stops m (expects (kind ∷ (replicate (length xs) kind ++ ks))) (spell x ++ flat_map spell xs ++ rest)) same first
+
+  pub stops_last : (xs : List X) (n : ℕ) (rest : List ℕ) → All within xs → Stops n (expects []) rest
+      → Stops (length xs + n) (expects (replicate (length xs) kind)) (flat_map spell xs ++ rest)
+  stops_last xs n rest all stops =
+      subst (λ (ks : List Kind). Stops (length xs + n) (expects ks) (flat_map spell xs ++ rest)) (append-nil (replicate (length xs) kind)) (stops_behind xs [] n rest all stops)
+
+  -- fewer lines than are expected, and then none
+  module _ (is_kind : (l : List ℕ) → IsOfKind kind l → (x : X) × within x × (l ≡ spell x)) where
+    pub stops_among : (xs : List X) (count : ℕ) (ks : List Kind) (rest : List ℕ) → length xs < count → All within xs
+        → ((x : X) (behind : List ℕ) → within x → rest ≡ spell x ++ behind → ⊥)
+        → Stops (length xs) (expects (replicate count kind ++ ks)) (flat_map spell xs ++ rest)
+    stops_among xs zero ks rest fewer all none = absurd (omega arith)
+    stops_among [] (suc count) ks rest fewer all none = record {
+      refused = λ l to behind leads same.
+          let read = is_kind l leads.0 in none read.0 behind read.1 (same ∙ ap (λ t. t ++ behind) read.2);
+      not_finished = λ same. absurd (cc);
+    }
+    stops_among (x ∷ xs) (suc count) ks rest fewer all none = (
+      spell x, expects (replicate count kind ++ ks), flat_map spell xs ++ rest, (of_kind x (All-head within x xs all), refl),
+      append_assoc (spell x) (flat_map spell xs) rest, stops_among xs count ks rest (omega arith) (All-tail within x xs all) none,
+    )
+
+    pub stops_among_last : (xs : List X) (count : ℕ) (rest : List ℕ) → length xs < count → All within xs
+        → ((x : X) (behind : List ℕ) → within x → rest ≡ spell x ++ behind → ⊥)
+        → Stops (length xs) (expects (replicate count kind)) (flat_map spell xs ++ rest)
+    stops_among_last xs count rest fewer all none =
+        subst (λ (ks : List Kind). Stops (length xs) (expects ks) (flat_map spell xs ++ rest)) (append-nil (replicate count kind)) (stops_among xs count [] rest fewer all none)
+
+pub of_value : (strings : ℕ) (x : Ival) → IsIvalWithin strings x → IsOfKind (value strings) (ival_line x)
+of_value strings x h = (x, h, refl)
+
+pub of_target : (code n : ℕ) → n < code → IsOfKind (target code) (target_line n)
+of_target code n h = (n, h, refl)
+
+pub of_string : (n : ℕ) → IsWord n → IsOfKind string (string_line n)
+of_string n h = (n, h, refl)
+
+pub of_instr : (sizes : Sizes) (i : Instr) → IsInstrWithin sizes i → IsOfKind (instruction sizes) (instr_line i)
+of_instr sizes i h = (i, h, refl)
+
+-- code texts are paths
+
+path_body : (d : Definition) (ls : List (List ℕ)) → IsWithinRanges d → Path (expects []) ls → Path (state_after (header_of d)) (body_lines d ++ ls)
+path_body (definition.Function f) ls h path =
+    let lines = map target_line f.targets in
+    let words = map string_line f.strings in
+    let code = map instr_line f.code in
+    let sizes = sizes_of f in
+    let all = path_items target_line (λ t. t < length f.code) (target (length f.code)) (of_target (length f.code)) f.targets _ _ h.targets
+      (path_items string_line IsWord string of_string f.strings _ _ h.strings
+        (path_last instr_line (IsInstrWithin sizes) (instruction sizes) (of_instr sizes) f.code ls h.code path)) in
+    let same : lines ++ (words ++ (code ++ ls)) ≡ lines ++ words ++ code ++ ls =
+        sym (append_assoc lines words (code ++ ls)) ∙ sym (append_assoc (lines ++ words) code ls) in
+    subst (λ (m : List (List ℕ)). Path (state_after (header_of (definition.Function f))) m) same all
+path_body (definition.Simple s) ls h path =
+    let values = map ival_line s.values in
+    let words = map string_line s.strings in
+    let strings = length s.strings in
+    let all = path_items ival_line (IsIvalWithin strings) (value strings) (of_value strings) s.values _ _ h.values
+      (path_last string_line IsWord string of_string s.strings ls h.strings path) in
+    subst (λ (m : List (List ℕ)). Path (state_after (header_of (definition.Simple s))) m) (sym (append_assoc values words ls)) all
+path_body (definition.Vector v) ls h path =
+    let values = map ival_line v.values in
+    let words = map string_line v.strings in
+    let strings = length v.strings in
+    let all = path_items ival_line (IsIvalWithin strings) (value strings) (of_value strings) v.values _ _ h.values
+      (path_last string_line IsWord string of_string v.strings ls h.strings path) in
+    subst (λ (m : List (List ℕ)). Path (state_after (header_of (definition.Vector v))) m) (sym (append_assoc values words ls)) all
+
+pub code_path : (ds : List Definition) → All IsWithinRanges ds → Path (expects []) (code_lines ds)
+code_path [] all = (finished, (header.End, tt, refl, refl), refl)
+code_path (d ∷ ds) all =
+    let within = All-head IsWithinRanges d ds all in
+    let others = path_body d (code_lines ds) within (code_path ds (All-tail IsWithinRanges d ds all)) in
+    let same : body_lines d ++ code_lines ds ≡ body_lines d ++ flat_map lines_of ds ++ end_text ∷ [] =
+        sym (append_assoc (body_lines d) (flat_map lines_of ds) (end_text ∷ [])) in
+    (state_after (header_of d), (header_of d, header_of-within d within, sym (header_of-text d), refl),
+      subst (λ (ls : List (List ℕ)). Path (state_after (header_of d)) ls) same others)
+
+-- paths are code texts
+
+abbrev pub OfKinds : List Kind → List (List ℕ) → Type 0
+OfKinds [] bs = bs ≡ []
+OfKinds (k ∷ ks) [] = ⊥
+OfKinds (k ∷ ks) (l ∷ ls) = IsOfKind k l × OfKinds ks ls
+
+abbrev pub OfState : State → List (List ℕ) → Type 0
+OfState (expects ks) bs = OfKinds ks bs
+OfState finished bs = ⊥
+
+-- values whose lines these are
+record Items {X : Type 0} (spell : X → List ℕ) (within : X → Type 0) (n : ℕ) (ks : List Kind) (bs : List (List ℕ)) : Type 0 where
+  values : List X
+  behind : List (List ℕ)
+  count : length values ≡ n
+  inside : All within values
+  lines : bs ≡ map spell values ++ behind
+  others : OfKinds ks behind
+
+module _ {X : Type 0} (spell : X → List ℕ) (within : X → Type 0) (kind : Kind) (is_kind : (l : List ℕ) → IsOfKind kind l → (x : X) × within x × (l ≡ spell x)) where
+  items_of : (n : ℕ) (ks : List Kind) (bs : List (List ℕ)) → OfKinds (replicate n kind ++ ks) bs → Items spell within n ks bs
+  items_of zero ks bs of = record { values = []; behind = bs; count = refl; inside = All-nil within; lines = refl; others = of }
+  items_of (suc n) ks [] of = absurd of
+  items_of (suc n) ks (l ∷ bs) of =
+      let first = is_kind l of.0 in
+      let more = items_of n ks bs of.1 in
+      record {
+        values = first.0 ∷ more.values;
+        behind = more.behind;
+        count = let c = more.count in omega arith;
+        inside = All-cons within first.0 more.values first.1 more.inside;
+        lines = ap (λ m. m ∷ bs) first.2 ∙ ap (λ m. spell first.0 ∷ m) more.lines;
+        others = more.others;
+      }
+
+  last_items : (n : ℕ) (bs : List (List ℕ)) → OfKinds (replicate n kind) bs → (xs : List X) × (length xs ≡ n) × All within xs × (bs ≡ map spell xs)
+  last_items n bs of =
+      let same : OfKinds (replicate n kind ++ []) bs = subst (λ (ks : List Kind). OfKinds ks bs) (sym (append-nil (replicate n kind))) of in
+      let all = items_of n [] bs same in
+      (all.values, all.count, all.inside, all.lines ∙ ap (λ m. map spell all.values ++ m) all.others ∙ append-nil (map spell all.values))
+
+pub same_sizes : (s : Sizes) (labels strings code : ℕ) → labels ≡ s.labels → strings ≡ s.strings → code ≡ s.code
+    → let sizes : Sizes = record { frame = s.frame; labels = labels; strings = strings; code = code } in sizes ≡ s
+same_sizes s labels strings code l w c = rw (l, w, c) refl
+
+-- a definition with this header and these lines
+pub record Made (h : Header) (bs : List (List ℕ)) : Type 0 where
+  pub definition : Definition
+  pub header : header_of definition ≡ h
+  pub inside : IsWithinRanges definition
+  pub lines : bs ≡ body_lines definition
+
+made_function : (name : List ℕ) (parameters : ℕ) (s : Sizes) (bs : List (List ℕ)) → IsFunctionHeader name parameters s.frame s.labels s.strings s.code
+    → OfKinds (replicate s.labels (target s.code) ++ (replicate s.strings string ++ replicate s.code (instruction s))) bs
+    → Made (header.Function name parameters s) bs
+made_function name parameters s bs h of =
+    let t = items_of target_line (λ n. n < s.code) (target s.code) (λ l x. x) s.labels (replicate s.strings string ++ replicate s.code (instruction s)) bs of in
+    let w = items_of string_line IsWord string (λ l x. x) s.strings (replicate s.code (instruction s)) t.behind t.others in
+    let c = last_items instr_line (IsInstrWithin s) (instruction s) (λ l x. x) s.code w.behind w.others in
+    let f : Function = record { name = name; parameters = parameters; frame = s.frame; targets = t.values; strings = w.values; code = c.0 } in
+    let sizes = same_sizes s (length t.values) (length w.values) (length c.0) t.count w.count c.1 in
+    record {
+      definition = definition.Function f;
+      header = ap (λ z. header.Function name parameters z) sizes;
+      inside = record {
+        named = h.named;
+        few_parameters = h.few_parameters;
+        parameters_in_frame = h.parameters_in_frame;
+        frame = h.small_frame;
+        few_labels = rw t.count h.few_labels;
+        few_strings = rw w.count h.few_strings;
+        few_instrs = rw c.1 h.few_instrs;
+        targets = subst (λ (n : ℕ). All (λ k. k < n) t.values) (sym c.1) t.inside;
+        strings = w.inside;
+        code = subst (λ (z : Sizes). All (IsInstrWithin z) c.0) (sym sizes) c.2;
+      };
+      lines = t.lines ∙ ap (λ m. map target_line t.values ++ m) (w.lines ∙ ap (λ m. map string_line w.values ++ m) c.3)
+          ∙ sym (append_assoc (map target_line t.values) (map string_line w.values) (map instr_line c.0));
+    }
+
+made_values : (values strings : ℕ) (bs : List (List ℕ)) → OfKinds (replicate values (value strings) ++ replicate strings string) bs
+    → (vs : List Ival) × (ws : List ℕ) × (length vs ≡ values) × (length ws ≡ strings) × All (IsIvalWithin (length ws)) vs × All IsWord ws
+      × (bs ≡ map ival_line vs ++ map string_line ws)
+made_values values strings bs of =
+    let v = items_of ival_line (IsIvalWithin strings) (value strings) (λ l x. x) values (replicate strings string) bs of in
+    let w = last_items string_line IsWord string (λ l x. x) strings v.behind v.others in
+    (v.values, w.0, v.count, w.1, subst (λ (n : ℕ). All (IsIvalWithin n) v.values) (sym w.1) v.inside, w.2,
+      v.lines ∙ ap (λ m. map ival_line v.values ++ m) w.3)
+
+pub made : (h : Header) (bs : List (List ℕ)) → IsHeaderWithin h → OfState (state_after h) bs → Made h bs
+made (header.Function name parameters s) bs h of = made_function name parameters s bs h of
+made (header.Simple name values strings) bs h of =
+    let m = made_values values strings bs of in
+    record {
+      definition = definition.Simple record { name = name; values = m.0; strings = m.1 };
+      header = rw (m.2, m.3) refl;
+      inside = record { named = h.named; few_values = rw m.2 h.few_values; few_strings = rw m.3 h.few_strings; values = m.4; strings = m.5 };
+      lines = m.6;
+    }
+made (header.Vector name words values strings) bs h of =
+    let m = made_values values strings bs of in
+    record {
+      definition = definition.Vector record { name = name; words = words; values = m.0; strings = m.1 };
+      header = rw (m.2, m.3) refl;
+      inside = record {
+        named = h.named;
+        some_word = h.some_word;
+        values_in_words = rw m.2 h.values_in_words;
+        few_words = h.few_words;
+        few_values = rw m.2 h.few_values;
+        few_strings = rw m.3 h.few_strings;
+        values = m.4;
+        strings = m.5;
+      };
+      lines = m.6;
+    }
+made header.End bs h of = absurd of
+
+-- the lines of a body that is under way, and whole definitions
+record Split (ks : List Kind) (ls : List (List ℕ)) : Type 0 where
+  body : List (List ℕ)
+  definitions : List Definition
+  of_kinds : OfKinds ks body
+  inside : All IsWithinRanges definitions
+  lines : ls ≡ body ++ code_lines definitions
+
+split_end : (l : List ℕ) (ls : List (List ℕ)) → l ≡ end_text → Path finished ls → Split [] (l ∷ ls)
+split_end l [] e path = record { body = []; definitions = []; of_kinds = refl; inside = All-nil IsWithinRanges; lines = ap (λ m. m ∷ []) e }
+split_end l (k ∷ ls) e path = absurd path.1
+
+split_header : (h : Header) (l : List ℕ) (ls : List (List ℕ)) (ks : List Kind) → state_after h ≡ expects ks → IsHeaderWithin h → l ≡ header_text h → Split ks ls → Split [] (l ∷ ls)
+split_header h l ls ks state within e s =
+    let of : OfState (state_after h) s.body = subst (λ (z : State). OfState z s.body) (sym state) s.of_kinds in
+    let m = made h s.body within of in
+    record {
+      body = [];
+      definitions = m.definition ∷ s.definitions;
+      of_kinds = refl;
+      inside = All-cons IsWithinRanges m.definition s.definitions m.inside s.inside;
+      lines =
+          let first : l ≡ header_line m.definition = e ∙ ap header_text (sym m.header) ∙ header_of-text m.definition in
+          ap (λ z. z ∷ ls) first ∙ ap (λ z. header_line m.definition ∷ z) (s.lines ∙ ap (λ z. z ++ code_lines s.definitions) m.lines
+            ∙ sym (append_assoc (body_lines m.definition) (flat_map lines_of s.definitions) (end_text ∷ [])));
+    }
+
+split_after : (h : Header) (l : List ℕ) (ls : List (List ℕ)) → ((ks : List Kind) → Path (expects ks) ls → Split ks ls) → IsHeaderWithin h → l ≡ header_text h
+    → Path (state_after h) ls → Split [] (l ∷ ls)
+split_after (header.Function name parameters s) l ls further within e path = split_header (header.Function name parameters s) l ls _ refl within e (further _ path)
+split_after (header.Simple name values strings) l ls further within e path = split_header (header.Simple name values strings) l ls _ refl within e (further _ path)
+split_after (header.Vector name words values strings) l ls further within e path = split_header (header.Vector name words values strings) l ls _ refl within e (further _ path)
+split_after header.End l ls further within e path = split_end l ls e path
+
+split_path : (ls : List (List ℕ)) (ks : List Kind) → Path (expects ks) ls → Split ks ls
+split_path [] ks path = absurd (cc)
+split_path (l ∷ ls) [] path =
+    split_after path.1.0 l ls (split_path ls) path.1.1 path.1.2 (subst (λ (z : State). Path z ls) path.1.3 path.2)
+split_path (l ∷ ls) (k ∷ ks) path =
+    let others = split_path ls ks (subst (λ (z : State). Path z ls) path.1.1 path.2) in
+    record {
+      body = l ∷ others.body;
+      definitions = others.definitions;
+      of_kinds = (path.1.0, others.of_kinds);
+      inside = others.inside;
+      lines = ap (λ m. l ∷ m) others.lines;
+    }
+
+-- a path is a code text
+pub path_code : (ls : List (List ℕ)) → Path (expects []) ls → (ds : List Definition) × All IsWithinRanges ds × (ls ≡ code_lines ds)
+path_code ls path =
+    let s = split_path ls [] path in (s.definitions, s.inside, s.lines ∙ ap (λ b. b ++ code_lines s.definitions) s.of_kinds)

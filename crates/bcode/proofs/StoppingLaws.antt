@@ -1,0 +1,157 @@
+-- Where a text stops, and the lines that go on.
+use Rattle.std.proofs.Common.{subst, ◌≡◌, ℕ, zero, suc, ◌+◌, ◌^◌, ◌<◌, ◌≤◌, List, [], ◌∷◌, ◌++◌, length, take, replicate, decimal, Option, Some, None, refl, sym, ap, ◌∙◌, arith, append_assoc}
+use Rattle.bcode.specs.Ahead.{Ahead}
+use Rattle.bcode.specs.Definitions.{IsWord, IsInstrWithin, IsIvalWithin}
+use Rattle.bcode.specs.Headers.{header_text, IsHeaderWithin}
+use Rattle.bcode.specs.LineReading.{Reader}
+use Rattle.bcode.specs.Stopping.{Kind, value, target, string, instruction, IsOfKind, State, expects, finished, state_after, Leads, Stuck, Stops}
+use Rattle.bcode.specs.Text.{joined, end_text, target_line, string_line, ival_line, instr_line}
+use Rattle.bcode.specs.declared.header.Header.{Header}
+use Rattle.bcode.specs.declared.header.Header.TheVariants as header
+use Rattle.bcode.specs.declared.instr.Instr.TheVariants as instr
+use Rattle.bcode.specs.declared.instr.Ival.TheVariants as ival
+use Rattle.bcode.proofs.HeaderLaws.{header_at-exact}
+use Rattle.bcode.proofs.LineLaws.{IsExact, FitSizes, ival_at-exact, instr_at-exact, number_line_at-exact}
+use Rattle.bcode.proofs.PartLaws.{same_read}
+
+-- two spellings that a text begins with are one
+pub same_spelling : {X : Type 0} {spell : X → List ℕ} {within : X → Type 0} {read : Reader X} → IsExact spell within read → (x y : X) (rest behind : List ℕ)
+    → within x → within y → spell x ++ rest ≡ spell y ++ behind → (x ≡ y) × (rest ≡ behind)
+same_spelling {X} {spell} {within} {read} exact x y rest behind in_x in_y same =
+    same_read (x, rest) (y, behind) (sym (exact.again x rest in_x) ∙ ap read same ∙ exact.again y behind in_y)
+
+-- a kind that has lines, with numbers that are read as such
+abbrev pub IsGoodKind : Kind → Type 0
+IsGoodKind (value strings) = strings ≤ 2 ^ 16
+IsGoodKind (target code) = (0 < code) × (code ≤ 2 ^ 16)
+IsGoodKind string = Unit {0}
+IsGoodKind (instruction sizes) = FitSizes sizes
+
+abbrev pub AreGoodKinds : List Kind → Type 0
+AreGoodKinds [] = Unit {0}
+AreGoodKinds (k ∷ ks) = IsGoodKind k × AreGoodKinds ks
+
+abbrev pub IsGoodState : State → Type 0
+IsGoodState (expects ks) = AreGoodKinds ks
+IsGoodState finished = Unit {0}
+
+good_replicate : (n : ℕ) (k : Kind) (ks : List Kind) → (0 < n → IsGoodKind k) → AreGoodKinds ks → AreGoodKinds (replicate n k ++ ks)
+good_replicate zero k ks each rest = rest
+good_replicate (suc n) k ks each rest = (each (omega arith), good_replicate n k ks each' rest)
+  where
+  each' : 0 < n → IsGoodKind k
+  each' h = each (omega arith)
+
+good_last : (n : ℕ) (k : Kind) → (0 < n → IsGoodKind k) → AreGoodKinds (replicate n k)
+good_last zero k each = tt
+good_last (suc n) k each = (each (omega arith), good_last n k each')
+  where
+  each' : 0 < n → IsGoodKind k
+  each' h = each (omega arith)
+
+some_code : (code labels : ℕ) → (code ≡ 0 → labels ≡ 0) → 0 < labels → 0 < code
+some_code zero labels h some = let none = h refl in absurd (omega arith)
+some_code (suc n) labels h some = omega arith
+
+pub good_after : (h : Header) → IsHeaderWithin h → IsGoodState (state_after h)
+good_after (header.Function name parameters s) h =
+    let code : s.code ≤ 2 ^ 16 = (let l = h.few_instrs in omega arith) in
+    let some : 0 < s.labels → 0 < s.code = some_code s.code s.labels h.labels_in_code in
+    good_replicate s.labels (target s.code) _ (λ l. (some l, code))
+      (good_replicate s.strings string _ (λ _. tt)
+        (good_last s.code (instruction s) (λ _. record {
+          frame = (let l = h.small_frame in omega arith);
+          labels = (let l = h.few_labels in omega arith);
+          strings = (let l = h.few_strings in omega arith);
+          code = code;
+        })))
+good_after (header.Simple name values strings) h =
+    let few : strings ≤ 2 ^ 16 = (let l = h.few_strings in omega arith) in
+    good_replicate values (value strings) _ (λ _. few) (good_last strings string (λ _. tt))
+good_after (header.Vector name words values strings) h =
+    let few : strings ≤ 2 ^ 16 = (let l = h.few_strings in omega arith) in
+    good_replicate values (value strings) _ (λ _. few) (good_last strings string (λ _. tt))
+good_after header.End h = tt
+
+good_next : (from : State) (l : List ℕ) (to : State) → IsGoodState from → Leads from l to → IsGoodState to
+good_next (expects []) l to good leads = subst IsGoodState (sym leads.3) (good_after leads.0 leads.1)
+good_next (expects (k ∷ ks)) l to good leads = subst IsGoodState (sym leads.1) good.1
+good_next finished l to good leads = absurd leads
+
+-- the text behind a line of a kind is one
+same_behind : (k : Kind) (l m rest behind : List ℕ) → IsGoodKind k → IsOfKind k l → IsOfKind k m → l ++ rest ≡ m ++ behind → rest ≡ behind
+same_behind (value strings) l m rest behind good x y same =
+    (same_spelling (ival_at-exact strings good) x.0 y.0 rest behind x.1 y.1 (ap (λ t. t ++ rest) (sym x.2) ∙ same ∙ ap (λ t. t ++ behind) y.2)).1
+same_behind (target code) l m rest behind good x y same =
+    (same_spelling (number_line_at-exact 116 code good.1) x.0 y.0 rest behind x.1 y.1 (ap (λ t. t ++ rest) (sym x.2) ∙ same ∙ ap (λ t. t ++ behind) y.2)).1
+same_behind string l m rest behind good x y same =
+    (same_spelling (number_line_at-exact 119 (2 ^ 16) (omega arith)) x.0 y.0 rest behind x.1 y.1 (ap (λ t. t ++ rest) (sym x.2) ∙ same ∙ ap (λ t. t ++ behind) y.2)).1
+same_behind (instruction sizes) l m rest behind good x y same =
+    (same_spelling (instr_at-exact sizes good) x.0 y.0 rest behind x.1 y.1 (ap (λ t. t ++ rest) (sym x.2) ∙ same ∙ ap (λ t. t ++ behind) y.2)).1
+
+-- a text goes on in one way
+leads_one_way : (from : State) (l m rest behind : List ℕ) (to other : State) → IsGoodState from → Leads from l to → Leads from m other → l ++ rest ≡ m ++ behind
+    → (to ≡ other) × (rest ≡ behind)
+leads_one_way (expects []) l m rest behind to other good x y same =
+    let one = same_spelling header_at-exact x.0 y.0 rest behind x.1 y.1 (ap (λ t. t ++ rest) (sym x.2) ∙ same ∙ ap (λ t. t ++ behind) y.2) in
+    (x.3 ∙ ap state_after one.0 ∙ sym y.3, one.1)
+leads_one_way (expects (k ∷ ks)) l m rest behind to other good x y same =
+    (x.1 ∙ sym y.1, same_behind k l m rest behind good.0 x.0 y.0 same)
+leads_one_way finished l m rest behind to other good x y same = absurd x
+
+-- lines that lead to the end
+abbrev pub Path : State → List (List ℕ) → Type 0
+Path from [] = from ≡ finished
+Path from (l ∷ ls) = (to : State) × Leads from l to × Path to ls
+
+pub sample : (k : Kind) → IsGoodKind k → (l : List ℕ) × IsOfKind k l
+sample (value strings) good = (ival_line (ival.Number 0), (ival.Number 0, omega arith, refl))
+sample (target code) good = (target_line 0, (0, good.0, refl))
+sample string good = (string_line 0, (0, omega arith, refl))
+sample (instruction sizes) good = (instr_line instr.Return, (instr.Return, tt, refl))
+
+-- every state can be ended
+completion : (ks : List Kind) → AreGoodKinds ks → (ls : List (List ℕ)) × Path (expects ks) ls
+completion [] good = (end_text ∷ [], (finished, (header.End, tt, refl, refl), refl))
+completion (k ∷ ks) good =
+    let first = sample k good.0 in
+    let others = completion ks good.1 in
+    (first.0 ∷ others.0, (expects ks, (first.1, refl), others.1))
+
+ending : (from : State) → IsGoodState from → (ls : List (List ℕ)) × Path from ls
+ending (expects ks) good = completion ks good
+ending finished good = ([], refl)
+
+-- what was taken can be completed
+pub begins_path : (n : ℕ) (from : State) (text : List ℕ) → IsGoodState from → Stops n from text
+    → (ls : List (List ℕ)) × Path from ls × (n ≤ length ls) × (rest : List ℕ) × (text ≡ joined (take n ls) ++ rest)
+begins_path zero from text good stuck = let whole = ending from good in (whole.0, whole.1, omega arith, text, refl)
+begins_path (suc n) from text good stops =
+    let others = begins_path n stops.1 stops.2 (good_next from stops.0 stops.1 good stops.3) stops.5 in
+    (stops.0 ∷ others.0, (stops.1, stops.3, others.1), (let k = others.2 in omega arith), others.3,
+      stops.4 ∙ ap (λ t. stops.0 ++ t) others.4 ∙ sym (append_assoc stops.0 (joined (take n others.0)) others.3))
+
+-- no line more goes on
+pub greatest_path : (n : ℕ) (from : State) (text : List ℕ) → IsGoodState from → Stops n from text
+    → (m : ℕ) (ls : List (List ℕ)) → Path from ls → m ≤ length ls → (rest : List ℕ) → text ≡ joined (take m ls) ++ rest → m ≤ n
+greatest_path n from text good stops zero ls path le rest same = omega arith
+greatest_path n from text good stops (suc m) [] path le rest same = absurd (omega arith)
+greatest_path zero from text good stuck (suc m) (l ∷ ls) path le rest same =
+    absurd (stuck.refused l path.0 (joined (take m ls) ++ rest) path.1 (same ∙ append_assoc l (joined (take m ls)) rest))
+greatest_path (suc n) from text good stops (suc m) (k ∷ ls) path le rest same =
+    let one = leads_one_way from stops.0 k stops.2 (joined (take m ls) ++ rest) stops.1 path.0 good stops.3 path.1
+      (sym stops.4 ∙ same ∙ append_assoc k (joined (take m ls)) rest) in
+    let there : Path stops.1 ls = subst (λ (s : State). Path s ls) (sym one.0) path.2 in
+    let before = greatest_path n stops.1 stops.2 (good_next from stops.0 stops.1 good stops.3) stops.5 m ls there (omega arith) rest one.1 in
+    omega arith
+
+-- such a text leads to no end
+pub no_path : (n : ℕ) (from : State) (text : List ℕ) → IsGoodState from → Stops n from text → (ls : List (List ℕ)) → Path from ls → text ≡ joined ls → ⊥
+no_path zero from text good stuck [] path same = stuck.not_finished path same
+no_path zero from text good stuck (l ∷ ls) path same = stuck.refused l path.0 (joined ls) path.1 same
+no_path (suc n) from text good stops [] path same =
+    let nowhere : Leads finished stops.0 stops.1 = subst (λ (s : State). Leads s stops.0 stops.1) path stops.3 in nowhere
+no_path (suc n) from text good stops (k ∷ ls) path same =
+    let one = leads_one_way from stops.0 k stops.2 (joined ls) stops.1 path.0 good stops.3 path.1 (sym stops.4 ∙ same) in
+    let there : Path stops.1 ls = subst (λ (s : State). Path s ls) (sym one.0) path.2 in
+    no_path n stops.1 stops.2 (good_next from stops.0 stops.1 good stops.3) stops.5 ls there one.1

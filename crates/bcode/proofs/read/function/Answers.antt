@@ -1,0 +1,54 @@
+use Rattle.std.proofs.Common.{subst, Vec, Global, Result, Err, ℕ, ◌<◌, refl, ap, map, replicate, ◌++◌}
+use Rattle.bcode.specs.Ahead.{ReadsLines, LinesGive}
+use Rattle.bcode.specs.Definitions.{IsWord, IsInstrWithin, IsIvalWithin}
+use Rattle.bcode.specs.Stopping.{value, target, string, instruction}
+use Rattle.bcode.specs.Text.{target_line, string_line, instr_line, ival_line}
+use Rattle.bcode.specs.declared.instr.Instr.{Instr}
+use Rattle.bcode.specs.declared.instr.Ival.{Ival}
+use Rattle.bcode.specs.declared.header.Header.TheVariants as header
+use Rattle.bcode.proofs.BodyLaws.{GoesOn-trans, StopsAhead-behind, goes_on, goes_on_last, stops_here, stops_here_last, body_exit, two_kinds, three_kinds}
+use Rattle.bcode.proofs.CodeLaws.{of_value, of_target, of_string, of_instr, same_sizes}
+use Rattle.bcode.proofs.read.function.Goals as goal
+
+pub returns-in_err-targets : goal.returns-in_err-targets
+returns-in_err-targets c =
+    let s = c.args.sizes in
+    body_exit target_line (λ n. n < s.code) (λ (v : Vec ℕ Global). v.items) s.labels (header.Function c.args.name c.args.parameters s) _ _ _ _ _ _ c.from_residual.ensures.1
+        (subst (λ (b : ℕ). LinesGive target_line (λ n. n < b) (λ (v : Vec ℕ Global). v.items) s.labels c.args.ahead.now (Err c.in_err-targets.field-0.0) c.numbers.new.ahead)
+          c.from.ensures c.in_err-targets.ensures)
+        (λ n r. stops_here target_line (λ n. n < s.code) (target s.code) (of_target s.code) (λ l x. x) s.labels (replicate s.strings string ++ replicate s.code (instruction s)) n r)
+
+pub returns-in_err-strings : goal.returns-in_err-strings
+returns-in_err-strings c =
+    let s = c.args.sizes in
+    let targets = goes_on target_line (λ n. n < s.code) (target s.code) (of_target s.code) (λ l x. x) s.labels (replicate s.strings string ++ replicate s.code (instruction s))
+      (subst (λ (b : ℕ). ReadsLines target_line (λ n. n < b) s.labels c.args.ahead.now c.in_ok-targets.targets.items c.numbers.new.ahead) c.from.ensures c.in_ok-targets.ensures) in
+    body_exit string_line IsWord (λ (v : Vec ℕ Global). v.items) s.strings (header.Function c.args.name c.args.parameters s) _ _ _ _ _ _ c.from_residual-in_err-strings.ensures.1
+        c.in_err-strings.ensures
+        (λ n r. StopsAhead-behind n targets (stops_here string_line IsWord string of_string (λ l x. x) s.strings (replicate s.code (instruction s)) n r))
+
+pub returns-in_err-code : goal.returns-in_err-code
+returns-in_err-code c =
+    let s = c.args.sizes in
+    let targets = goes_on target_line (λ n. n < s.code) (target s.code) (of_target s.code) (λ l x. x) s.labels (replicate s.strings string ++ replicate s.code (instruction s))
+      (subst (λ (b : ℕ). ReadsLines target_line (λ n. n < b) s.labels c.args.ahead.now c.in_ok-targets.targets.items c.numbers.new.ahead) c.from.ensures c.in_ok-targets.ensures) in
+    let strings = goes_on string_line IsWord string of_string (λ l x. x) s.strings (replicate s.code (instruction s)) c.in_ok-strings.ensures in
+    body_exit instr_line (IsInstrWithin s) (λ (v : Vec Instr Global). v.items) s.code (header.Function c.args.name c.args.parameters s) _ _ _ _ _ _ c.from_residual-in_err-code.ensures.1
+        c.in_err-code.ensures
+        (λ n r. StopsAhead-behind n (GoesOn-trans targets strings) (stops_here_last instr_line (IsInstrWithin s) (instruction s) (of_instr s) (λ l x. x) s.code n r))
+
+pub returns : goal.returns
+returns c =
+    let s = c.args.sizes in
+    let t = subst (λ (b : ℕ). ReadsLines target_line (λ n. n < b) s.labels c.args.ahead.now c.in_ok-targets.targets.items c.numbers.new.ahead) c.from.ensures c.in_ok-targets.ensures in
+    let w = c.in_ok-strings.ensures in
+    let k = c.in_ok-code.ensures in
+    let targets = goes_on target_line (λ n. n < s.code) (target s.code) (of_target s.code) (λ l x. x) s.labels (replicate s.strings string ++ replicate s.code (instruction s)) t in
+    let strings = goes_on string_line IsWord string of_string (λ l x. x) s.strings (replicate s.code (instruction s)) w in
+    let code = goes_on_last instr_line (IsInstrWithin s) (instruction s) (of_instr s) (λ l x. x) s.code k in
+    record {
+      header = rw c.from_parts.ensures.same (ap (λ z. header.Function c.args.name c.args.parameters z) (same_sizes s _ _ _ t.all w.all k.all));
+      inside = c.from_parts.ensures.within;
+      spelled = rw c.from_parts.ensures.same (three_kinds target_line string_line instr_line _ _ _ _ _ _ _ t.spelled w.spelled k.spelled);
+      onward = GoesOn-trans (GoesOn-trans targets strings) code;
+    }

@@ -1,0 +1,39 @@
+use Rattle.std.proofs.Common.{subst, Vec, Global, Result, Err, ℕ, ◌<◌, refl, ap, map, replicate, ◌++◌}
+use Rattle.bcode.specs.Definitions.{IsWord, IsInstrWithin, IsIvalWithin}
+use Rattle.bcode.specs.Stopping.{value, target, string, instruction}
+use Rattle.bcode.specs.Text.{target_line, string_line, instr_line, ival_line}
+use Rattle.bcode.specs.declared.instr.Instr.{Instr}
+use Rattle.bcode.specs.declared.instr.Ival.{Ival}
+use Rattle.bcode.specs.declared.header.Header.TheVariants as header
+use Rattle.bcode.proofs.BodyLaws.{GoesOn-trans, StopsAhead-behind, goes_on, goes_on_last, stops_here, stops_here_last, body_exit, two_kinds, three_kinds}
+use Rattle.bcode.proofs.CodeLaws.{of_value, of_target, of_string, of_instr, same_sizes}
+use Rattle.bcode.proofs.read.simple.Goals as goal
+
+pub returns-in_err-values : goal.returns-in_err-values
+returns-in_err-values c =
+    let k = c.args.strings in
+    body_exit ival_line (IsIvalWithin k) (λ (v : Vec Ival Global). v.items) c.args.count (header.Simple c.args.name c.args.count c.args.strings) _ _ _ _ _ _ c.from_residual.ensures.1
+        c.in_err-values.ensures
+        (λ n r. stops_here ival_line (IsIvalWithin k) (value k) (of_value k) (λ l x. x) c.args.count (replicate k string) n r)
+
+pub returns-in_err-strings : goal.returns-in_err-strings
+returns-in_err-strings c =
+    let k = c.args.strings in
+    let values = goes_on ival_line (IsIvalWithin k) (value k) (of_value k) (λ l x. x) c.args.count (replicate k string) c.in_ok-values.ensures in
+    body_exit string_line IsWord (λ (v : Vec ℕ Global). v.items) k (header.Simple c.args.name c.args.count c.args.strings) _ _ _ _ _ _ c.from_residual-in_err-strings.ensures.1
+        c.in_err-strings.ensures
+        (λ n r. StopsAhead-behind n values (stops_here_last string_line IsWord string of_string (λ l x. x) k n r))
+
+pub returns : goal.returns
+returns c =
+    let k = c.args.strings in
+    let v = c.in_ok-values.ensures in
+    let w = c.in_ok-strings.ensures in
+    let values = goes_on ival_line (IsIvalWithin k) (value k) (of_value k) (λ l x. x) c.args.count (replicate k string) v in
+    let strings = goes_on_last string_line IsWord string of_string (λ l x. x) k w in
+    record {
+      header = rw c.from_parts.ensures.same (rw (v.all, w.all) refl);
+      inside = c.from_parts.ensures.within;
+      spelled = rw c.from_parts.ensures.same (two_kinds ival_line string_line _ _ _ _ _ v.spelled w.spelled);
+      onward = GoesOn-trans values strings;
+    }

@@ -1,0 +1,11 @@
+pub mod Lookups
+pub mod Spots
+pub mod Naming
+pub mod Undefined
+pub mod Padding
+pub mod Whole
+pub mod Fitting
+pub mod Faults
+pub mod Loads
+pub mod Taking
+pub mod Calling

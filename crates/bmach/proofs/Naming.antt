@@ -1,0 +1,49 @@
+-- Names, one definition after another.
+use Rattle.std.proofs.Common.{◌≡◌, ℕ, suc, ◌+◌, ◌<◌, ◌≤◌, true, false, cond, List, [], ◌∷◌, ◌++◌, length, take, drop, get_or, map, refl, sym, ap, ◌∙◌, Option, Some, None}
+use Rattle.std.specs.Prelude.{is_some, zip}
+use Rattle.std.specs.List.{list_any}
+use Rattle.std.specs.Option.{option_or}
+use Rattle.std.proofs.lemmas.List.{map-append, take_more}
+use Rattle.std.proofs.Math.Seq.{split_at}
+use Rattle.bcode.specs.declared.definition.Definition.{Definition}
+use Rattle.bmach.specs.Layout.{Shape, shape_of, same_name, names_of, Addresses, address_in, addresses, duplicate_behind, data_end, spots, library_addresses}
+use Rattle.bmach.proofs.Lookups.{lookup-append, is_some-lookup-zip, duplicate_behind-append}
+use Rattle.bmach.proofs.Spots.{wrapped, length-wrapped, addresses_fit}
+
+-- the shapes of one definition more, and of all
+pub shapes_more : (ds : List Definition) (i : ℕ) (d : Definition) → i < length ds → d ≡ get_or ds i d → map shape_of (take (i + 1) ds) ≡ map shape_of (take i ds) ++ shape_of d ∷ []
+shapes_more ds i d lt is =
+    ap (map shape_of) (take_more ds i d lt) ∙ map-append shape_of (take i ds) (get_or ds i d ∷ []) ∙ ap (λ e. map shape_of (take i ds) ++ shape_of e ∷ []) (sym is)
+
+pub shapes_split : (ds : List Definition) (i : ℕ) (d : Definition) → i < length ds → d ≡ get_or ds i d → map shape_of ds ≡ map shape_of (take i ds) ++ (shape_of d ∷ map shape_of (drop (suc i) ds))
+shapes_split ds i d lt is =
+    ap (map shape_of) (split_at ds i d lt) ∙ map-append shape_of (take i ds) (get_or ds i d ∷ drop (suc i) ds) ∙ ap (λ e. map shape_of (take i ds) ++ (shape_of e ∷ map shape_of (drop (suc i) ds))) (sym is)
+
+-- a name that has an address stands among the names before
+among : (before : List Shape) (x : List ℕ) → list_any (same_name x) (names_of before) ≡ is_some (address_in (wrapped before) x)
+among before x = sym (is_some-lookup-zip (same_name x) (names_of before) _ (length-wrapped before))
+
+behind : (before : List Shape) (d : Shape) (rest : List Shape) → duplicate_behind [] (names_of before) ≡ None → duplicate_behind [] (names_of (before ++ (d ∷ rest))) ≡ cond (is_some (address_in (wrapped before) d.name)) (Some d.name) (duplicate_behind (names_of before ++ d.name ∷ []) (names_of rest))
+behind before d rest none =
+    ap (duplicate_behind []) (map-append (λ (e : Shape). e.name) before (d ∷ rest))
+    ∙ duplicate_behind-append [] (names_of before) (d.name ∷ names_of rest) none
+    ∙ ap (λ b. cond b (Some d.name) (duplicate_behind (names_of before ++ d.name ∷ []) (names_of rest))) (among before d.name)
+
+pub new_name : (before : List Shape) (d : Shape) → duplicate_behind [] (names_of before) ≡ None → address_in (wrapped before) d.name ≡ None → duplicate_behind [] (names_of (before ++ d ∷ [])) ≡ None
+new_name before d none fresh = behind before d [] none ∙ ap (λ o. cond (is_some o) (Some d.name) None) fresh
+
+pub old_name : (before : List Shape) (d : Shape) (rest : List Shape) → duplicate_behind [] (names_of before) ≡ None → is_some (address_in (wrapped before) d.name) ≡ true → duplicate_behind [] (names_of (before ++ (d ∷ rest))) ≡ Some d.name
+old_name before d rest none found =
+    behind before d rest none
+    ∙ ap (λ b. cond b (Some d.name) (duplicate_behind (names_of before ++ d.name ∷ []) (names_of rest))) found
+
+pub none_from_is_some : {A : Type 0} (o : Option A) → is_some o ≡ false → o ≡ None
+none_from_is_some None e = refl
+none_from_is_some (Some a) e = cc
+
+-- all names with their addresses
+pub all_known : (ds : List Shape) (known : Addresses) (x : List ℕ) → data_end ds ≤ 65536 → address_in known x ≡ address_in (wrapped ds) x → address_in (known ++ library_addresses) x ≡ address_in (addresses ds) x
+all_known ds known x fits e =
+    lookup-append (same_name x) known library_addresses
+    ∙ ap (λ o. option_or o (address_in library_addresses x)) (e ∙ ap (λ ps. address_in (zip (names_of ds) ps) x) (addresses_fit [] ds fits))
+    ∙ sym (lookup-append (same_name x) (zip (names_of ds) (map (λ s. s.address) (spots ds))) library_addresses)

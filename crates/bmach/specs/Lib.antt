@@ -1,0 +1,13 @@
+pub mod World
+pub mod Rows
+pub mod Layout
+pub mod LayoutRows
+pub mod Machine
+pub mod MachineRows
+pub mod Resolved
+pub mod Operations
+pub mod Images
+pub mod Loading
+pub mod Parts
+pub mod Taken
+pub mod Steps

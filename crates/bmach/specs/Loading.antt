@@ -1,0 +1,64 @@
+-- What the loader's parts do.
+use Rattle.std.specs.Prelude.{◌≡◌, ℕ, ◌+◌, ◌||◌, not, Bool, List, [], ◌∷◌, ◌++◌, length, nat_lt, Option, Some, None, option_map, if◌then◌else◌}
+use Rattle.bcode.specs.declared.definition.Definition.{Definition}
+use Rattle.bmach.specs.declared.fault.LoadFault.{LoadFault}
+use Rattle.bmach.specs.declared.fault.LoadFault.TheVariants as fault
+use Rattle.bmach.specs.World.{words}
+use Rattle.bmach.specs.Layout.{Shape, Spot, shape_of, words_before_strings, functions_in, labels_in, data_end, label_count, definition_words, is_main, first_undefined, Addresses, address_in, library_addresses}
+use Rattle.bmach.specs.Machine.{Loaded, loaded_at}
+use Rattle.bmach.specs.Resolved.{resolved_function}
+
+-- a fault is want of memory, or this one
+abbrev pub IsFault : LoadFault → Option LoadFault → Type 0
+IsFault fault.Memory first = Unit {0}
+IsFault f first = first ≡ Some f
+
+-- the address of a name among the definitions' and the library's
+abbrev pub known_in : Addresses → List ℕ → Option ℕ
+known_in entries x = address_in (entries ++ library_addresses) x
+
+-- the fault of names of which one has no address
+abbrev pub undefined_fault : (address_of : List ℕ → Option ℕ) → List (List ℕ) → Option LoadFault
+undefined_fault address_of names = option_map fault.Undefined (first_undefined address_of names)
+
+abbrev pub fits : List Shape → Bool
+fits ds = not (nat_lt words (data_end ds) || nat_lt 65535 (label_count ds))
+
+-- the words and functions of the definitions so far, and the value of the label behind theirs
+pub record Part : Type 0 where
+  pub words : List ℕ
+  pub functions : List Loaded
+  pub first_label : ℕ
+
+abbrev pub first_part : Part
+first_part = record { words = 0 ∷ 1 ∷ 2 ∷ 3 ∷ 4 ∷ 5 ∷ 6 ∷ []; functions = []; first_label = 1 }
+
+-- where the next definition lies
+abbrev pub next_spot : Part → Shape → Spot
+next_spot p d = record {
+  address = length p.words;
+  strings = length p.words + words_before_strings d.kind d.values;
+  value = 7 + length p.functions;
+  first_label = p.first_label;
+}
+
+-- a function, resolved
+abbrev pub loaded_functions : (address_of : List ℕ → Option ℕ) → Option Loaded → List Loaded
+loaded_functions address_of (Some f) = resolved_function address_of f ∷ []
+loaded_functions address_of None = []
+
+-- with one definition more
+abbrev pub with_definition : (address_of : List ℕ → Option ℕ) → Part → Definition → Part
+with_definition address_of p d =
+    let shape = shape_of d in
+    let spot = next_spot p shape in
+    record {
+      words = p.words ++ definition_words address_of spot shape;
+      functions = p.functions ++ loaded_functions address_of (loaded_at (spot, d));
+      first_label = p.first_label + labels_in shape.kind;
+    }
+
+-- which of the functions is main, where so many come before
+abbrev pub main_from : ℕ → List Definition → Option ℕ
+main_from k [] = None
+main_from k (d ∷ ds) = if is_main d then Some k else main_from (k + functions_in (shape_of d).kind) ds

@@ -1,0 +1,27 @@
+//! The loader and the machine.
+#![tactic(auto)]
+
+mod act;
+mod addresses;
+mod calls;
+mod fault;
+mod image;
+mod library;
+mod loader;
+mod machine;
+mod operands;
+mod operation;
+mod outcome;
+mod part;
+mod parts;
+mod resolve;
+mod step;
+
+pub use fault::LoadFault;
+pub use image::Image;
+pub use library::Library;
+pub use loader::load;
+pub use outcome::Trap;
+
+#[cfg(test)]
+mod tests;

@@ -1,0 +1,55 @@
+//! Calls of the machine, and what comes of a step.
+ghost use Rattle.std.specs.Prelude.{◌≤◌};
+
+use crate::image::LoadedFunction;
+use crate::operands::Operands;
+use crate::{Library, Trap};
+
+/// An active call.
+#[derive(Drop)]
+pub struct Call<'a> {
+    pub function: &'a LoadedFunction,
+    /// The address of its frame.
+    pub start: u32,
+    /// The place of its next operation.
+    pub place: usize,
+    pub operands: Operands,
+    ghost low: { start ≤ 65536 },
+}
+
+/// The active calls.
+#[derive(Drop)]
+pub struct Calls<'a> {
+    pub top: Call<'a>,
+    /// The others, the nearest last.
+    pub below: Vec<Call<'a>>,
+}
+
+/// What a called value is.
+#[derive(Clone, Copy)]
+pub enum Callee<'a> {
+    NoFunction,
+    OfLibrary(Library),
+    OfProgram(&'a LoadedFunction),
+}
+
+/// How a run ends.
+#[derive(Clone, Copy, Debug, PartialEq, Eq)]
+pub enum End {
+    Exit(u8),
+    Trap(Trap),
+}
+
+/// What came of a step.
+#[derive(Clone, Copy, Debug, PartialEq, Eq)]
+pub enum Flow {
+    GoesOn,
+    Halts(End),
+    IsStuck,
+    /// The call gets the next byte.
+    Reads,
+    /// The character's bytes are to be written, and the call gets it.
+    WritesCharacter(u16),
+    /// The number is to be written to the base, and the call gets 0.
+    WritesNumber(u16, u16),
+}
