@@ -1,10 +1,11 @@
 -- What comes of some sources, step by step.
 use Rattle.std.proofs.Common.{[], ◌∷◌, ◌++◌, refl}
 use Rattle.blex.specs.declared.token.Token.TheVariants as token
+use Rattle.blex.specs.declared.token.Keyword.TheVariants as keyword
 use Rattle.blex.specs.declared.token.Letters.TheVariants as letters
 use Rattle.btree.specs.Lines.{mark, placed}
 use Rattle.btree.specs.Expression.{Word, Literal, Number}
-use Rattle.btree.specs.Statement.{If, IfElse, Empty}
+use Rattle.btree.specs.Statement.{If, IfElse, Empty, keyword_mark}
 use Rattle.btree.specs.Definition.{Simple}
 use Rattle.btree.specs.Scope.{name_fault}
 use Rattle.btree.specs.Rows.{name, word, assign, function, body}
@@ -26,4 +27,6 @@ outcome_rows = record {
           (goes_stop ((102 ∷ []) ∷ []) [] (placed (token.Number 5) 2) (mark token.End ∷ []) refl (λ e n. cc));
   in_a_function =
       goes_stop [] (function (mark token.OpenBrace ∷ number 1 ∷ assign ∷ number 2 ∷ semicolon ∷ [])) (placed token.CloseParen 2) (mark token.End ∷ []) refl (λ e n. cc);
+  in_an_else =
+      goes_stop [] (open_function ++ keyword_mark keyword.Else ∷ []) (placed token.CloseParen 2) (mark token.End ∷ []) refl (λ e n. cc);
 }

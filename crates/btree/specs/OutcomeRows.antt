@@ -39,3 +39,5 @@ pub record OutcomeRows : Type 0 where
   pub behind_an_else : Goes [] ((open_function ++ else_empty) ++ last (token.Number 5)) (record { code = text_of_f (instr.Constant 1 ∷ instr.JumpIfZero 3 ∷ instr.Jump 3 ∷ instr.Constant 0 ∷ instr.Return ∷ []) ∷ []; stop = lone_fault letters.Syntax 2 })
   -- `f() { 1=2;` and on line 2 `)`: no scan of what is no whole definition
   pub in_a_function : Goes [] (function (mark token.OpenBrace ∷ number 1 ∷ assign ∷ number 2 ∷ semicolon ∷ []) ++ last token.CloseParen) (record { code = []; stop = lone_fault letters.Syntax 2 })
+  -- `f() if(1) ; else` and on line 2 `)`: the function isn't whole before its `else` has a statement
+  pub in_an_else : Goes [] ((open_function ++ keyword_mark keyword.Else ∷ []) ++ last token.CloseParen) (record { code = []; stop = lone_fault letters.Syntax 2 })
