@@ -21,3 +21,4 @@ pub mod ProgramLaws
 pub mod Parting
 pub mod Outcomes
 pub mod GoesLaws
+pub mod OutcomeRows

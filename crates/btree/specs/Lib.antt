@@ -15,4 +15,5 @@ pub mod Code
 pub mod CodeRows
 pub mod Program
 pub mod Compiled
+pub mod OutcomeRows
 pub mod Laws

@@ -4,6 +4,7 @@
 
 ghost use Rattle.btree.specs.Laws.{BeginsWithName, EachSourceComes, GoesOnWithElse, HasTwin, OneDefinition, OneExpression, OneStatement, OutcomesAreEqual, ReadsAgain, ReadsOn, ReadsSpelling};
 ghost use Rattle.btree.specs.CodeRows.{CodeRows, CountsWords, FaultRows, ScansOn};
+ghost use Rattle.btree.specs.OutcomeRows.{OutcomeRows};
 ghost use Rattle.btree.specs.Rows.{DefinitionRows, ExpressionRows, LevelRows};
 
 /// What is read is spelled by the tokens that were taken, and well formed.
@@ -81,4 +82,9 @@ pub fn offsets_count_string_words()
 pub fn one_outcome()
     ensures comes { EachSourceComes }
     ensures once { OutcomesAreEqual }
+{}
+
+/// Sources with what comes of them.
+pub fn rows_of_outcomes()
+    ensures { OutcomeRows }
 {}

@@ -1,0 +1,5 @@
+use Rattle.btree.proofs.OutcomeRows.{outcome_rows}
+use Rattle.btree.proofs.rows_of_outcomes.Goals as goal
+
+pub returns : goal.returns
+returns c = outcome_rows

@@ -1,0 +1,43 @@
+-- What comes of some sources.
+use Rattle.std.specs.Prelude.{ℕ, List, [], ◌∷◌, ◌++◌}
+use Rattle.bcode.specs.declared.instr.Instr.{Instr}
+use Rattle.bcode.specs.declared.instr.Instr.TheVariants as instr
+use Rattle.bcode.specs.declared.definition.Definition.TheVariants as code
+use Rattle.bcode.specs.Text.{text_of}
+use Rattle.blex.specs.declared.token.Letters.TheVariants as letters
+use Rattle.blex.specs.declared.token.Token.{Token}
+use Rattle.blex.specs.declared.token.Token.TheVariants as token
+use Rattle.blex.specs.declared.token.Keyword.TheVariants as keyword
+use Rattle.blex.specs.declared.token.Placed.{Placed}
+use Rattle.btree.specs.Lines.{mark, placed}
+use Rattle.btree.specs.Statement.{keyword_mark}
+use Rattle.btree.specs.Rows.{name, assign, function}
+use Rattle.btree.specs.CodeRows.{number, semicolon, parenthesized, name_fault, lone_fault}
+use Rattle.btree.specs.Compiled.{Goes}
+
+-- `f() if(1) ;`
+abbrev pub open_function : List Placed
+open_function = function (keyword_mark keyword.If ∷ (parenthesized (number 1 ∷ []) ++ semicolon ∷ []))
+
+abbrev pub else_empty : List Placed
+else_empty = keyword_mark keyword.Else ∷ semicolon ∷ []
+
+-- a token on line 2, and the end of the source behind it
+abbrev pub last : Token → List Placed
+last t = placed t 2 ∷ mark token.End ∷ []
+
+-- the text of `f` with this code
+abbrev pub text_of_f : List Instr → List ℕ
+text_of_f instrs = text_of (code.Function (record { name = 102 ∷ []; parameters = 0; frame = 0; targets = []; strings = []; code = instrs }))
+
+pub record OutcomeRows : Type 0 where
+  -- `a;` and on line 2 `a;`
+  pub defined_twice : Goes [] ((name 97 ∷ semicolon ∷ []) ++ placed (token.Name (97 ∷ [])) 2 ∷ last token.Semicolon) (record { code = text_of (code.Simple (record { name = 97 ∷ []; values = []; strings = [] })) ∷ []; stop = name_fault letters.Redeclared 97 2 })
+  -- `f() if(1) ;` and on line 2 `5`
+  pub behind_a_function : Goes [] (open_function ++ last (token.Number 5)) (record { code = text_of_f (instr.Constant 1 ∷ instr.JumpIfZero 2 ∷ instr.Constant 0 ∷ instr.Return ∷ []) ∷ []; stop = lone_fault letters.Syntax 2 })
+  -- `f() if(1) ; else ;` and on line 2 `5`: the `else` is the function's
+  pub behind_an_else : Goes [] ((open_function ++ else_empty) ++ last (token.Number 5)) (record { code = text_of_f (instr.Constant 1 ∷ instr.JumpIfZero 3 ∷ instr.Jump 3 ∷ instr.Constant 0 ∷ instr.Return ∷ []) ∷ []; stop = lone_fault letters.Syntax 2 })
+  -- `f() { 1=2;` and on line 2 `)`: no scan of what is no whole definition
+  pub in_a_function : Goes [] (function (mark token.OpenBrace ∷ number 1 ∷ assign ∷ number 2 ∷ semicolon ∷ []) ++ last token.CloseParen) (record { code = []; stop = lone_fault letters.Syntax 2 })
+  -- `f() if(1) ; else` and on line 2 `)`: the function isn't whole before its `else` has a statement
+  pub in_an_else : Goes [] ((open_function ++ keyword_mark keyword.Else ∷ []) ++ last token.CloseParen) (record { code = []; stop = lone_fault letters.Syntax 2 })
