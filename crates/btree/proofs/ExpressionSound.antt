@@ -69,7 +69,7 @@ having_is r o op h = go (nat_eq (rank o) r) refl h
     go true e h2 = let m = rw e at h2 in let n : o ≡ op = cc in (n, sym (ap rank n) ∙ eqb-true (rank o) r e)
     go false e h2 = let m = rw e at h2 in cc
 
-op_is : (r : ℕ) (t : Token) (op : BinOp) → op_at r t ≡ Some op → (t ≡ token.Operator op) × (rank op ≡ r)
+pub op_is : (r : ℕ) (t : Token) (op : BinOp) → op_at r t ≡ Some op → (t ≡ token.Operator op) × (rank op ≡ r)
 op_is r (token.Operator o) op h = let i = having_is r o op h in (ap (λ x. token.Operator x) i.0, i.1)
 op_is r _ op h = cc
 

@@ -15,3 +15,5 @@ pub mod StatementRelined
 pub mod DefinitionRelined
 pub mod LawProofs
 pub mod CodeLaws
+pub mod Unread
+pub mod StatementUnread

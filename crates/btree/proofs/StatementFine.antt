@@ -278,7 +278,7 @@ module _ (room : ℕ) (level : Level) (has : Room level) where
   stmt_with_fine : (off : ℕ) (ts : List Placed) → Fine Closer (stmt_with room level off) ts
   stmt_with_fine off ts = bind_fine closing Last lead (λ l r. stmt_behind room level off l.word r >>= λ s. Got (headed l.headings s)) closer_is_last (λ l. record { with_ = mark token.Semicolon ∷ []; value = headed l.headings (shortest l.word); done = λ k h. ap (λ x. x >>= λ s. Got (headed l.headings s)) (behind_one off l.word k); front = λ k h. refl }) ts (lead_fine ts) (λ l u r h g. map_fine closing (stmt_behind room level off l.word) (headed l.headings) r (behind_fine off l.word r))
 
-kept-length : (ts : List Placed) → length (kept_tokens ts) ≡ length ts
+pub kept-length : (ts : List Placed) → length (kept_tokens ts) ≡ length ts
 kept-length [] = refl
 kept-length (t ∷ ts) = ap suc (kept-length ts)
 

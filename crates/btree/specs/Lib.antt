@@ -14,3 +14,4 @@ pub mod Scope
 pub mod Scan
 pub mod Code
 pub mod CodeRows
+pub mod Unread

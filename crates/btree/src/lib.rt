@@ -4,6 +4,7 @@
 
 ghost use Rattle.btree.specs.Laws.{BeginsWithName, GoesOnWithElse, HasTwin, OneDefinition, OneExpression, OneStatement, ReadsAgain, ReadsOn, ReadsSpelling};
 ghost use Rattle.btree.specs.CodeRows.{CodeRows, CountsWords, FaultRows, ScansOn};
+ghost use Rattle.btree.specs.Unread.{LinesUnread};
 ghost use Rattle.btree.specs.Rows.{DefinitionRows, ExpressionRows, LevelRows};
 
 /// What is read is spelled by the tokens that were taken, and well formed.
@@ -29,6 +30,11 @@ pub fn an_else_goes_on()
 /// Lines decide nothing about well-formed trees.
 pub fn lines_are_free()
     ensures { HasTwin }
+{}
+
+/// The readers may as well be given what trees keep of the tokens.
+pub fn other_lines_are_never_read()
+    ensures { LinesUnread }
 {}
 
 pub fn a_definition_begins_with_its_name()
