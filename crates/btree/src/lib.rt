@@ -2,14 +2,17 @@
 //! contracts only, and each function here is a law, by its contract.
 #![tactic(auto)]
 
-ghost use Rattle.btree.specs.Laws.{BeginsWithName, GoesOnWithElse, HasTwin, OneDefinition, OneExpression, OneStatement, ReadsAgain, ReadsOn, ReadsSpelling};
+ghost use Rattle.btree.specs.Laws.{BeginsWithName, DefinitionRead, ExpressionRead, GoesOnWithElse, HasTwin, OneDefinition, OneExpression, OneStatement, ReadsAgain, ReadsOn, ReadsSpelling, StatementRead};
 ghost use Rattle.btree.specs.CodeRows.{CodeRows, CountsWords, FaultRows, ScansOn};
 ghost use Rattle.btree.specs.Unread.{LinesUnread};
 ghost use Rattle.btree.specs.Rows.{DefinitionRows, ExpressionRows, LevelRows};
 
 /// What is read is spelled by the tokens that were taken, and well formed.
 pub fn what_is_read_is_spelled_so()
-    ensures { ReadsSpelling }
+    ensures kept { ReadsSpelling }
+    ensures definitions { DefinitionRead }
+    ensures statements { StatementRead }
+    ensures expressions { ExpressionRead }
 {}
 
 /// A spelling is read as the tree that has it.
