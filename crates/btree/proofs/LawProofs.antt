@@ -1,20 +1,17 @@
 -- The laws of reading a definition, from those of its readers.
-use Rattle.std.proofs.Common.{◌≡◌, ℕ, List, [], ◌∷◌, ◌++◌, Bool, true, false, sym, ap, ◌∙◌, refl, subst, inl}
-use Rattle.std.specs.Prelude.{map, if◌then◌else◌}
-use Rattle.blex.specs.declared.token.Token.{Token}
+use Rattle.std.proofs.Common.{◌≡◌, List, [], ◌∷◌, ◌++◌, Bool, true, false, sym, ap, ◌∙◌, refl, subst, inl}
 use Rattle.blex.specs.declared.token.Token.TheVariants as token
 use Rattle.blex.specs.declared.token.Placed.{Placed}
-use Rattle.btree.specs.Lines.{keeps_line, mark, placed, kept, kept_tokens, bare}
-use Rattle.btree.specs.Expression.{Word, Expr, spell, rvalue_rank, Fits}
-use Rattle.btree.specs.Reading.{Read, Got, Stop, first}
+use Rattle.btree.specs.Lines.{keeps_line, mark, kept, kept_tokens}
+use Rattle.btree.specs.Expression.{spell, rvalue_rank, Fits}
+use Rattle.btree.specs.Reading.{Got, Stop}
 use Rattle.btree.specs.ReadingOn.{Fine, goes, halts, Closer}
 use Rattle.btree.specs.ExpressionReader.{Rvalue, reader}
-use Rattle.btree.specs.Statement.{Stmt, spell_statement, Sits}
+use Rattle.btree.specs.Statement.{spell_statement, Sits}
 use Rattle.btree.specs.StatementReader.{statement}
-use Rattle.btree.specs.Definition.{Definition, Simple, Vector, Function, spell_definition, IsFormed, is_open}
+use Rattle.btree.specs.Definition.{Definition, Simple, Vector, Function, spell_definition}
 use Rattle.btree.specs.DefinitionReader.{definition}
 use Rattle.btree.specs.Laws.{ReadsSpelling, DefinitionRead, StatementRead, ExpressionRead, ReadsAgain, GoesOnWithElse, HasTwin, ReadsOn, BeginsWithName, OneExpression, OneStatement, OneDefinition}
-use Rattle.btree.proofs.CommaLaws.{append-nil}
 use Rattle.btree.proofs.ExpressionAgain.{Ends, reader_again}
 use Rattle.btree.proofs.StatementAgain.{statement_again}
 use Rattle.btree.proofs.ExpressionSound.{Sound, reader_sound}

@@ -1,19 +1,18 @@
 -- Readers of statements and definitions are blind to lines that trees don't keep.
-use Rattle.std.proofs.Common.{◌≡◌, ℕ, zero, suc, ◌+◌, List, [], ◌∷◌, Bool, true, false, sym, ap, ◌∙◌, refl, Option, Some, None}
-use Rattle.std.specs.Prelude.{if◌then◌else◌}
+use Rattle.std.proofs.Common.{◌≡◌, ℕ, zero, suc, ◌+◌, List, [], ◌∷◌, true, ap, ◌∙◌, refl, Option, Some, None}
 use Rattle.blex.specs.declared.token.Token.{Token}
 use Rattle.blex.specs.declared.token.Token.TheVariants as token
 use Rattle.blex.specs.declared.token.Keyword.TheVariants as keyword
 use Rattle.blex.specs.declared.token.Placed.{Placed}
 use Rattle.btree.specs.Lines.{keeps_line, kept_tokens}
-use Rattle.btree.specs.Expression.{Word, Constant, Number, Character, Expr, name_token, words}
-use Rattle.btree.specs.Reading.{Read, Got, Stop, Reader, ◌>>=◌, first, line_of, after, expect, many}
+use Rattle.btree.specs.Expression.{Word, Number, Character, Expr, name_token, words}
+use Rattle.btree.specs.Reading.{Got, Reader, ◌>>=◌, first, line_of, after, expect, many}
 use Rattle.btree.specs.ExpressionReader.{is_close_paren, is_close_bracket, is_colon, always, Rvalue, reader}
 use Rattle.btree.specs.Commas.{list_reader}
-use Rattle.btree.specs.Statement.{Declared, Heading, Auto, Extrn, Label, Case, Stmt, Compound, If, IfElse, While, Switch, Goto, Return, ReturnValue, Evaluate, Empty, Stmts, Nothing, More, statement_words, body_words}
-use Rattle.btree.specs.StatementReader.{is_open_paren, is_open_brace, is_close_brace, is_semicolon, is_else, name_at, name, constant_at, constant, size_at, size, declared, headed, Lead, no_lead, with_heading, Step, Declares, Imports, Selects, Mentions, Labels, step_at, lead_step, lead_turn, lead, goes_on, Level, tested, else_part, chosen, looped, one_more, body, compound, switched, ended, returned, stmt_at, stmt_behind, stmt_with, level, statement}
-use Rattle.btree.specs.Definition.{Ival, Ival_constant, Ival_text, Ival_name, Definition, Simple, Vector, Function, values_words, nesting_limit}
-use Rattle.btree.specs.DefinitionReader.{ival_at, ival, valued, vector, function_body, function, behind_name_at, behind_name, definition}
+use Rattle.btree.specs.Statement.{Auto, Extrn, Label, Case, Stmt, Compound, If, IfElse, While, Switch, Goto, Return, ReturnValue, Evaluate, Empty, Stmts, Nothing, More, statement_words, body_words}
+use Rattle.btree.specs.StatementReader.{is_open_paren, is_open_brace, is_close_brace, is_semicolon, is_else, name_at, name, constant_at, constant, size_at, size, declared, headed, Lead, no_lead, with_heading, Step, Declares, Imports, Selects, Mentions, Labels, step_at, lead_step, lead_turn, lead, goes_on, Level, tested, else_part, chosen, looped, one_more, body, switched, ended, returned, stmt_at, stmt_behind, stmt_with, level, statement}
+use Rattle.btree.specs.Definition.{Ival, Ival_constant, Ival_text, Definition, Simple, Vector, Function, values_words, nesting_limit}
+use Rattle.btree.specs.DefinitionReader.{ival_at, ival, valued, vector, function_body, function, behind_name_at, behind_name}
 use Rattle.btree.specs.Unread.{kept_read, IsBlind, LinesUnread}
 use Rattle.btree.proofs.Unread.{first-kept, after-kept, line-kept, blind_bind, blind_map, blind_after, blind_if, blind_expect, blind_many, blind_list, blind_reader}
 

@@ -1,13 +1,12 @@
 -- Readers are blind to lines that trees don't keep.
-use Rattle.std.proofs.Common.{◌≡◌, ℕ, zero, suc, ◌+◌, List, [], ◌∷◌, ◌++◌, length, Bool, true, false, sym, ap, ◌∙◌, refl, Option, Some, None}
-use Rattle.std.specs.Prelude.{map, if◌then◌else◌}
+use Rattle.std.proofs.Common.{◌≡◌, ℕ, zero, suc, ◌+◌, List, [], ◌∷◌, ◌++◌, length, Bool, true, false, ap, ◌∙◌, refl, Option, Some, None}
+use Rattle.std.specs.Prelude.{if◌then◌else◌}
 use Rattle.bword.specs.declared.operators.BinOp.{BinOp}
 use Rattle.blex.specs.declared.token.Token.{Token}
 use Rattle.blex.specs.declared.token.Token.TheVariants as token
-use Rattle.blex.specs.declared.token.Keyword.TheVariants as keyword
 use Rattle.blex.specs.declared.token.Placed.{Placed}
-use Rattle.btree.specs.Lines.{keeps_line, mark, kept, kept_tokens}
-use Rattle.btree.specs.Expression.{Word, Constant, Number, Character, Expr, Arguments, PrefixOp, PostfixOp, Named, Literal, Text, Grouped, Indexed, Called, Postfixed, Prefixed, Binary, Conditional, Assigned, No_arguments, Another, name_token, words, argument_words, or_rank}
+use Rattle.btree.specs.Lines.{keeps_line, kept, kept_tokens}
+use Rattle.btree.specs.Expression.{Number, Character, Expr, PrefixOp, PostfixOp, Literal, Text, Grouped, Indexed, Called, Prefixed, Binary, Conditional, Assigned, No_arguments, Another, words, argument_words, or_rank}
 use Rattle.btree.specs.Reading.{Read, Got, Stop, Reader, ◌>>=◌, at_some, first, line_of, after, expect, turns, many}
 use Rattle.btree.specs.ExpressionReader.{is_close_paren, is_close_bracket, is_question, is_colon, prefix_op, op_at, Suffix, Index, Call, Step, suffix, comma, always, Kind, Operand, Choice, Rvalue, Inner, group, primary, primary_at, another, arguments, call, postfix_with, postfix, prefixed, operand, operation, chain, choices, conditional, assigns, assigned, rvalue_from, read_at, inner, reader}
 use Rattle.btree.specs.Commas.{comma_item, list_reader}
