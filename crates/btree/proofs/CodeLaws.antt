@@ -1,12 +1,12 @@
 -- Scans compose, and strings have as many words as their offsets count.
-use Rattle.std.proofs.Common.{◌≡◌, ℕ, ◌+◌, ◌/◌, List, [], ◌∷◌, ◌++◌, length, length-append, sym, ap, ◌∙◌, refl, arith}
+use Rattle.std.proofs.Common.{◌≡◌, ℕ, ◌+◌, ◌/◌, List, [], ◌∷◌, ◌++◌, length, length-append, refl, arith}
 use Rattle.std.specs.Prelude.{Result, Ok, Err}
 use Rattle.blex.specs.declared.diagnostic.Diagnostic.{Diagnostic}
 use Rattle.btree.specs.Expression.{Expr, Arguments, Named, Literal, Text, Grouped, Indexed, Called, Postfixed, Prefixed, Binary, Conditional, Assigned, No_arguments, Another, text_words, words, argument_words}
 use Rattle.btree.specs.Statement.{Stmt, Headed, Compound, If, IfElse, While, Switch, Goto, Return, ReturnValue, Evaluate, Empty, Stmts, Nothing, More, statement_words, body_words}
 use Rattle.btree.specs.Scan.{Event, Scope, step, scanned}
 use Rattle.btree.specs.Code.{packed, strings, argument_strings, statement_strings, body_strings}
-use Rattle.btree.specs.CodeRows.{ScansOn, CountsWords}
+use Rattle.btree.specs.CodeRows.{ScansOn}
 
 pub scanned-append : (es fs : List Event) (r : Result Scope Diagnostic) → scanned (es ++ fs) r ≡ scanned fs (scanned es r)
 scanned-append [] fs r = refl

@@ -1,15 +1,15 @@
 -- Readers of things with commas between them read on, are sound, and read a spelling again.
-use Rattle.std.proofs.Common.{◌≡◌, ℕ, List, [], ◌∷◌, ◌++◌, sym, ap, ◌∙◌, refl, subst, append_assoc, Option, Some, None}
+use Rattle.std.proofs.Common.{◌≡◌, ℕ, List, [], ◌∷◌, ◌++◌, sym, ap, ◌∙◌, refl, subst, append_assoc, Some, None}
 use Rattle.blex.specs.declared.token.Token.{Token}
 use Rattle.blex.specs.declared.token.Token.TheVariants as token
 use Rattle.blex.specs.declared.token.Placed.{Placed}
 use Rattle.btree.specs.Lines.{mark, kept_tokens}
-use Rattle.btree.specs.Reading.{Read, Got, Stop, Reader, ◌>>=◌, first, after, many}
+use Rattle.btree.specs.Reading.{Read, Got, Stop, Reader, ◌>>=◌, first, many}
 use Rattle.btree.specs.ExpressionReader.{comma, always}
 use Rattle.btree.specs.Commas.{comma_spelling, list_spelling, IsNonempty, EachBehind, comma_item, list_reader}
-use Rattle.btree.proofs.Fine.{Fine, Any, Start, then_fine, map_fine, enters, Loop, opened_loop, many_none, many_some, many_start, many_fine}
+use Rattle.btree.proofs.Fine.{Fine, then_fine, map_fine, enters, Loop, opened_loop, many_none, many_some, many_start, many_fine}
 use Rattle.btree.proofs.ExpressionFine.{Closer, closing}
-use Rattle.btree.proofs.ExpressionSound.{Sound, sound_bind, sound_turns, by_first}
+use Rattle.btree.proofs.ExpressionSound.{Sound, sound_turns}
 
 pub append-nil : {A : Type 0} (xs : List A) → xs ++ [] ≡ xs
 append-nil [] = refl

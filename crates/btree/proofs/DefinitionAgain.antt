@@ -1,19 +1,19 @@
 -- The spelling of a well-formed definition is read as that definition, and an open one goes on with an else.
-use Rattle.std.proofs.Common.{◌≡◌, ℕ, zero, suc, ◌+◌, List, [], ◌∷◌, ◌++◌, Bool, true, false, sym, ap, ◌∙◌, refl, subst, append_assoc, Option, Some, None}
+use Rattle.std.proofs.Common.{◌≡◌, ℕ, zero, suc, ◌+◌, List, [], ◌∷◌, ◌++◌, Bool, true, false, sym, ap, ◌∙◌, refl, append_assoc, Option, Some, None}
 use Rattle.blex.specs.declared.token.Token.{Token}
 use Rattle.blex.specs.declared.token.Token.TheVariants as token
 use Rattle.blex.specs.declared.token.Keyword.TheVariants as keyword
 use Rattle.blex.specs.declared.token.Placed.{Placed}
-use Rattle.btree.specs.Lines.{mark, placed}
-use Rattle.btree.specs.Expression.{Word, Constant, Number, Character, Expr, name_token, words, rvalue_rank, Fits}
-use Rattle.btree.specs.Reading.{Read, Got, Stop, Reader, ◌>>=◌, first, line_of, after, expect}
-use Rattle.btree.specs.ExpressionReader.{comma, is_close_paren, is_close_bracket}
-use Rattle.btree.specs.Commas.{list_spelling, IsNonempty, EachBehind, list_reader}
+use Rattle.btree.specs.Lines.{mark}
+use Rattle.btree.specs.Expression.{Word, Number, Character, name_token, words}
+use Rattle.btree.specs.Reading.{Got, ◌>>=◌, first, expect}
+use Rattle.btree.specs.ExpressionReader.{is_close_paren, is_close_bracket}
+use Rattle.btree.specs.Commas.{list_spelling, IsNonempty, EachBehind}
 use Rattle.btree.specs.Statement.{Stmt, Headed, Compound, If, IfElse, While, Switch, Goto, Return, ReturnValue, Evaluate, Empty, keyword_mark, size_spelling, name_spelling, spell_heading, spell_condition, spell_statement, statement_words, Sits}
 use Rattle.btree.specs.Statement as statement
-use Rattle.btree.specs.StatementReader.{is_semicolon, is_else, name, size, statement}
-use Rattle.btree.specs.Definition.{Ival, Ival_constant, Ival_text, Ival_name, Definition, Simple, Vector, Function, ival_spelling, spell_values, spell_definition, values_words, IvalFits, nesting_limit, IsFormed, is_open}
-use Rattle.btree.specs.DefinitionReader.{ival_at, ival, valued, vector, function_body, function, behind_name_at, behind_name, definition}
+use Rattle.btree.specs.StatementReader.{is_semicolon, is_else, name, size}
+use Rattle.btree.specs.Definition.{Ival, Ival_constant, Ival_text, Ival_name, Definition, Simple, Vector, Function, ival_spelling, spell_values, spell_definition, IvalFits, nesting_limit, IsFormed, is_open}
+use Rattle.btree.specs.DefinitionReader.{ival, valued, vector, function_body, function, behind_name_at, behind_name, definition}
 use Rattle.btree.proofs.CommaLaws.{list_again}
 use Rattle.btree.proofs.StatementFine.{name_fine}
 use Rattle.btree.proofs.StatementAgain.{each_any, statement_again}

@@ -1,18 +1,18 @@
 -- The reader of definitions reads on from what it has, and can be ended from wherever it stops.
-use Rattle.std.proofs.Common.{◌≡◌, ℕ, ◌+◌, List, [], ◌∷◌, ◌++◌, Bool, true, false, sym, ap, ◌∙◌, refl, ◌⊎◌, inl, inr, Option, Some, None}
+use Rattle.std.proofs.Common.{◌≡◌, List, [], ◌∷◌, Bool, true, false, ap, ◌∙◌, refl, inl, inr}
 use Rattle.blex.specs.declared.token.Token.{Token}
 use Rattle.blex.specs.declared.token.Token.TheVariants as token
 use Rattle.blex.specs.declared.token.Placed.{Placed}
 use Rattle.btree.specs.Lines.{mark}
 use Rattle.btree.specs.Expression.{Word, Number, Character}
-use Rattle.btree.specs.Reading.{Read, Got, Stop, Reader, ◌>>=◌, first, line_of, after, expect}
+use Rattle.btree.specs.Reading.{Got, ◌>>=◌, first, expect}
 use Rattle.btree.specs.ExpressionReader.{is_close_paren, is_close_bracket}
 use Rattle.btree.specs.Commas.{list_reader}
-use Rattle.btree.specs.Statement.{Stmt, Empty}
+use Rattle.btree.specs.Statement.{Empty}
 use Rattle.btree.specs.StatementReader.{is_semicolon, name, size, statement}
 use Rattle.btree.specs.Definition.{Ival, Ival_constant, Ival_text, Ival_name, Definition, Simple, Vector, Function, values_words, nesting_limit}
-use Rattle.btree.specs.DefinitionReader.{ival_at, ival, valued, vector, function_body, function, behind_name_at, behind_name, definition}
-use Rattle.btree.proofs.Fine.{Near, Any, Fine, Start, bind_fine, shift, idle, stuck, same, got_fine, map_fine, expect_then, expect_start, closed_fine}
+use Rattle.btree.specs.DefinitionReader.{ival, valued, vector, function_body, function, behind_name_at, behind_name, definition}
+use Rattle.btree.proofs.Fine.{Near, Any, Fine, Start, bind_fine, shift, stuck, same, got_fine, map_fine, expect_then, expect_start, closed_fine}
 use Rattle.btree.proofs.ExpressionFine.{one}
 use Rattle.btree.proofs.ExpressionFine as E
 use Rattle.btree.proofs.CommaLaws.{list_fine}

@@ -1,14 +1,14 @@
 -- A definition has a twin with the lines of any tokens that are bare alike.
-use Rattle.std.proofs.Common.{◌≡◌, ℕ, ◌+◌, List, [], ◌∷◌, ◌++◌, Bool, sym, ap, ◌∙◌, refl, subst, Option}
-use Rattle.std.specs.Prelude.{map, sum_by}
+use Rattle.std.proofs.Common.{◌≡◌, ◌+◌, List, [], ◌∷◌, ◌++◌, sym, ap, ◌∙◌, refl}
+use Rattle.std.specs.Prelude.{map}
 use Rattle.std.proofs.lemmas.List.Sums.{sum_by-append}
 use Rattle.std.proofs.Common.{arith}
 use Rattle.blex.specs.declared.token.Token.TheVariants as token
 use Rattle.blex.specs.declared.token.Placed.{Placed}
-use Rattle.btree.specs.Lines.{mark, placed, kept, kept_tokens, bare, string_token}
-use Rattle.btree.specs.Expression.{Word, Constant, Number, Character, constant_token}
+use Rattle.btree.specs.Lines.{mark, placed, kept_tokens, bare, string_token}
+use Rattle.btree.specs.Expression.{Constant, Number, Character}
 use Rattle.btree.specs.Commas.{comma_spelling, list_spelling, EachBehind}
-use Rattle.btree.specs.Statement.{Stmt, size_spelling, name_spelling, spell_statement}
+use Rattle.btree.specs.Statement.{size_spelling, name_spelling, spell_statement}
 use Rattle.btree.specs.Definition.{Ival, Ival_constant, Ival_text, Ival_name, Definition, Simple, Vector, Function, ival_spelling, ival_words, spell_values, spell_definition, values_words, IvalFits, nesting_limit, IsFormed, is_open}
 use Rattle.btree.proofs.Relined.{cut_token, cut_append, nothing_kept, Items, list_twin}
 use Rattle.btree.proofs.StatementRelined.{name_twin, size_kept, StatementTwin, statement_twin}

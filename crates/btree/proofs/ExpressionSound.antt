@@ -8,9 +8,9 @@ use Rattle.blex.specs.declared.token.Token.{Token}
 use Rattle.blex.specs.declared.token.Token.TheVariants as token
 use Rattle.blex.specs.declared.token.Placed.{Placed}
 use Rattle.btree.specs.Lines.{mark, placed, kept, kept_tokens}
-use Rattle.btree.specs.Expression.{Expr, Arguments, PrefixOp, Negate, Not, Indirection, Address, PreIncrement, PreDecrement, PostfixOp, PostIncrement, PostDecrement, Number, Character, Named, Literal, Text, Grouped, Indexed, Called, Postfixed, Prefixed, Binary, Conditional, Assigned, No_arguments, Another, prefix_token, postfix_token, comma_behind, spell, spell_arguments, words, argument_words, rank, or_rank, conditional_rank, rvalue_rank, IsPostfix, Deeper, Fits, ArgumentsFit, is_operand}
-use Rattle.btree.specs.Reading.{Read, Got, Stop, Reader, ◌>>=◌, first, line_of, after, expect, turns, many}
-use Rattle.btree.specs.ExpressionReader.{is_close_paren, is_close_bracket, is_question, is_colon, prefix_op, having_rank, op_at, Suffix, Index, Call, Step, suffix, comma, always, Kind, Operand, Choice, Rvalue, Inner, group, primary, primary_at, another, arguments, call, postfix_with, postfix, prefixed, operand, operation, chain, choices, conditional, assigns, assigned, rvalue_from, read_at, inner, reader}
+use Rattle.btree.specs.Expression.{Expr, Arguments, PrefixOp, Negate, Not, Indirection, Address, PreIncrement, PreDecrement, PostIncrement, PostDecrement, Named, Literal, Text, Grouped, Indexed, Called, Postfixed, Prefixed, Binary, Conditional, Assigned, No_arguments, Another, prefix_token, comma_behind, spell, spell_arguments, words, argument_words, rank, or_rank, conditional_rank, rvalue_rank, IsPostfix, Deeper, Fits, ArgumentsFit, is_operand}
+use Rattle.btree.specs.Reading.{Read, Got, Stop, Reader, ◌>>=◌, first, expect, turns, many}
+use Rattle.btree.specs.ExpressionReader.{is_close_paren, is_close_bracket, is_colon, prefix_op, having_rank, op_at, Suffix, Index, Call, Step, suffix, comma, always, Kind, Operand, Choice, Rvalue, Inner, primary, another, arguments, call, postfix_with, postfix, prefixed, operand, operation, chain, choices, conditional, assigns, assigned, rvalue_from, read_at, inner, reader}
 
 -- the tokens are the spelling of what was read, and what is left
 abbrev pub Sound : {A : Type 0} → (A → List Placed) → (A → Type 0) → List Placed → Read A → Type 0
@@ -69,7 +69,7 @@ having_is r o op h = go (nat_eq (rank o) r) refl h
     go true e h2 = let m = rw e at h2 in let n : o ≡ op = cc in (n, sym (ap rank n) ∙ eqb-true (rank o) r e)
     go false e h2 = let m = rw e at h2 in cc
 
-op_is : (r : ℕ) (t : Token) (op : BinOp) → op_at r t ≡ Some op → (t ≡ token.Operator op) × (rank op ≡ r)
+pub op_is : (r : ℕ) (t : Token) (op : BinOp) → op_at r t ≡ Some op → (t ≡ token.Operator op) × (rank op ≡ r)
 op_is r (token.Operator o) op h = let i = having_is r o op h in (ap (λ x. token.Operator x) i.0, i.1)
 op_is r _ op h = cc
 

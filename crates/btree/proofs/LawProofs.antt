@@ -1,23 +1,23 @@
 -- The laws of reading a definition, from those of its readers.
-use Rattle.std.proofs.Common.{◌≡◌, ℕ, List, [], ◌∷◌, ◌++◌, Bool, true, false, sym, ap, ◌∙◌, refl, subst, inl}
-use Rattle.std.specs.Prelude.{map, if◌then◌else◌}
-use Rattle.blex.specs.declared.token.Token.{Token}
+use Rattle.std.proofs.Common.{◌≡◌, List, [], ◌∷◌, ◌++◌, Bool, true, false, sym, ap, ◌∙◌, refl, subst, inl}
 use Rattle.blex.specs.declared.token.Token.TheVariants as token
 use Rattle.blex.specs.declared.token.Placed.{Placed}
-use Rattle.btree.specs.Lines.{keeps_line, mark, placed, kept, kept_tokens, bare}
-use Rattle.btree.specs.Expression.{Word, Expr, spell}
-use Rattle.btree.specs.Reading.{Read, Got, Stop, first}
+use Rattle.btree.specs.Lines.{keeps_line, mark, kept, kept_tokens}
+use Rattle.btree.specs.Expression.{spell, rvalue_rank, Fits}
+use Rattle.btree.specs.Reading.{Got, Stop}
 use Rattle.btree.specs.ReadingOn.{Fine, goes, halts, Closer}
 use Rattle.btree.specs.ExpressionReader.{Rvalue, reader}
-use Rattle.btree.specs.Statement.{Stmt, spell_statement}
+use Rattle.btree.specs.Statement.{spell_statement, Sits}
 use Rattle.btree.specs.StatementReader.{statement}
-use Rattle.btree.specs.Definition.{Definition, Simple, Vector, Function, spell_definition, IsFormed, is_open}
+use Rattle.btree.specs.Definition.{Definition, Simple, Vector, Function, spell_definition}
 use Rattle.btree.specs.DefinitionReader.{definition}
-use Rattle.btree.specs.Laws.{ReadsSpelling, ReadsAgain, GoesOnWithElse, HasTwin, ReadsOn, BeginsWithName, OneExpression, OneStatement, OneDefinition}
+use Rattle.btree.specs.Laws.{ReadsSpelling, DefinitionRead, StatementRead, ExpressionRead, ReadsAgain, GoesOnWithElse, HasTwin, ReadsOn, BeginsWithName, OneExpression, OneStatement, OneDefinition}
 use Rattle.btree.proofs.CommaLaws.{append-nil}
 use Rattle.btree.proofs.KeptLemmas.{kept-twice}
 use Rattle.btree.proofs.ExpressionAgain.{Ends, reader_again}
 use Rattle.btree.proofs.StatementAgain.{statement_again}
+use Rattle.btree.proofs.ExpressionSound.{Sound, reader_sound}
+use Rattle.btree.proofs.StatementSound.{Spelled, statement_sound}
 use Rattle.btree.proofs.DefinitionSound.{SpelledDefinition, definition_sound}
 use Rattle.btree.proofs.DefinitionFine.{definition_fine}
 use Rattle.btree.proofs.DefinitionAgain.{definition_again, definition_longer}
@@ -39,6 +39,15 @@ pub reads_spelling : ReadsSpelling
 reads_spelling tokens rest d h =
     let s : SpelledDefinition (kept_tokens (kept_tokens tokens)) (Got d rest) = subst (λ x. SpelledDefinition (kept_tokens (kept_tokens tokens)) x) h (definition_sound (kept_tokens tokens)) in
     (sym (kept-twice tokens) ∙ s.0 ∙ ap (λ l. spell_definition d ++ l) (rest_kept (kept_tokens tokens) rest d (kept-twice tokens) h), s.1)
+
+pub definition_read : DefinitionRead
+definition_read tokens rest d h = subst (λ x. SpelledDefinition (kept_tokens tokens) x) h (definition_sound tokens)
+
+pub statement_read : StatementRead
+statement_read tokens rest room off s h = subst (λ x. Spelled (λ s. Sits s room off) (kept_tokens tokens) x) h (statement_sound room off tokens)
+
+pub expression_read : ExpressionRead
+expression_read tokens rest room off e h = subst (λ x. Sound spell (λ e. Fits e rvalue_rank room off) (kept_tokens tokens) x) h (reader_sound room Rvalue off tokens)
 
 pub reads_again : ReadsAgain
 reads_again d rest f n = definition_again d f rest n

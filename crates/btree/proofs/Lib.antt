@@ -22,3 +22,5 @@ pub mod Parting
 pub mod Outcomes
 pub mod GoesLaws
 pub mod OutcomeRows
+pub mod Unread
+pub mod StatementUnread

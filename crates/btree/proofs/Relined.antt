@@ -1,5 +1,5 @@
 -- A tree whose bare spelling is that of some placed tokens has a twin with the lines of those tokens.
-use Rattle.std.proofs.Common.{◌≡◌, ℕ, zero, suc, ◌+◌, List, [], ◌∷◌, ◌++◌, Bool, sym, ap, ◌∙◌, refl, subst, Option, Some, None}
+use Rattle.std.proofs.Common.{◌≡◌, ℕ, List, [], ◌∷◌, ◌++◌, sym, ap, refl}
 use Rattle.std.specs.Prelude.{map}
 use Rattle.blex.specs.declared.token.Token.{Token}
 use Rattle.blex.specs.declared.token.Placed.{Placed}

@@ -5,15 +5,13 @@ use Rattle.blex.specs.declared.token.Token.TheVariants as token
 use Rattle.blex.specs.declared.token.Keyword.TheVariants as keyword
 use Rattle.blex.specs.declared.token.Placed.{Placed}
 use Rattle.btree.specs.Lines.{mark, placed}
-use Rattle.btree.specs.Expression.{Word, Constant, Number, Character, Expr, Arguments, PrefixOp, Negate, Not, Indirection, Address, PreIncrement, PreDecrement, PostfixOp, PostIncrement, PostDecrement, Named, Literal, Text, Grouped, Indexed, Called, Postfixed, Prefixed, Binary, Conditional, Assigned, name_token, constant_token, prefix_token, postfix_token, spell, spell_arguments, words, rvalue_rank, Fits}
-use Rattle.btree.specs.Reading.{Read, Got, Stop, Reader, ◌>>=◌, first, line_of, after, expect, many}
+use Rattle.btree.specs.Expression.{Word, Constant, Number, Character, Expr, PrefixOp, Negate, Not, Indirection, Address, PreIncrement, PreDecrement, PostfixOp, PostIncrement, PostDecrement, Named, Literal, Text, Grouped, Indexed, Called, Postfixed, Prefixed, Binary, Conditional, Assigned, name_token, prefix_token, postfix_token, spell, spell_arguments, words, rvalue_rank, Fits}
+use Rattle.btree.specs.Reading.{Got, Stop, Reader, ◌>>=◌, first, after, expect, many}
 use Rattle.btree.specs.ExpressionReader.{is_close_paren, is_colon, always, Rvalue, reader}
 use Rattle.btree.specs.Commas.{list_spelling, IsNonempty, EachBehind, list_reader}
 use Rattle.btree.specs.Statement.{Declared, Heading, Auto, Extrn, Label, Case, Stmt, Headed, Compound, If, IfElse, While, Switch, Goto, Return, ReturnValue, Evaluate, Empty, Stmts, Nothing, More, keyword_mark, size_spelling, declared_spelling, name_spelling, spell_heading, spell_condition, spell_statement, spell_body, statement_words, body_words, is_open, IsHeading, Sits, AllSit}
-use Rattle.btree.specs.StatementReader.{is_open_paren, is_open_brace, is_close_brace, is_semicolon, is_else, name, constant, size, size_at, declared, Headings, No_heading, Then, headed, Lead, no_lead, with_heading, Declares, Imports, Selects, Mentions, Labels, step_at, lead_step, lead_turn, lead, goes_on, Level, tested, else_part, chosen, looped, one_more, body, ended, stmt_at, stmt_behind, level, statement}
-use Rattle.btree.proofs.Fine.{Fine, many_none, many_some}
-use Rattle.btree.proofs.ExpressionFine.{reader_fine, reader_one}
-use Rattle.btree.proofs.ExpressionFine as E
+use Rattle.btree.specs.StatementReader.{is_open_paren, is_open_brace, is_close_brace, is_semicolon, is_else, name, size_at, declared, Headings, No_heading, Then, headed, Lead, Declares, Imports, Selects, Mentions, Labels, step_at, lead_step, lead_turn, goes_on, else_part, chosen, looped, one_more, body, ended, stmt_at, stmt_behind, level, statement}
+use Rattle.btree.proofs.Fine.{many_none, many_some}
 use Rattle.btree.proofs.ExpressionAgain.{opens, expr_opens, reader_again, ends_close_paren, ends_semicolon, ends_open_brace}
 use Rattle.btree.proofs.CommaLaws.{list_again}
 use Rattle.btree.proofs.StatementFine.{lasting, closing, name_fine, declared_fine, lead_loop, Good, Room, full, some, body_loop, has_level}

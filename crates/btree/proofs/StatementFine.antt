@@ -1,19 +1,18 @@
 -- Each reader of statements reads on from what it has, and can be ended from wherever it stops.
-use Rattle.std.proofs.Common.{◌≡◌, ℕ, zero, suc, ◌+◌, ◌<◌, ◌≤◌, List, [], ◌∷◌, ◌++◌, length, length-append, Bool, true, false, sym, ap, ◌∙◌, refl, subst, ◌⊎◌, inl, inr, Option, Some, None, arith}
-use Rattle.std.specs.Prelude.{map}
+use Rattle.std.proofs.Common.{◌≡◌, ℕ, zero, suc, ◌+◌, ◌<◌, ◌≤◌, List, [], ◌∷◌, ◌++◌, length, length-append, Bool, true, false, sym, ap, ◌∙◌, refl, subst, inl, inr, Option, Some, None, arith}
 use Rattle.blex.specs.declared.token.Token.{Token}
 use Rattle.blex.specs.declared.token.Token.TheVariants as token
 use Rattle.blex.specs.declared.token.Keyword.TheVariants as keyword
 use Rattle.blex.specs.declared.token.Placed.{Placed}
-use Rattle.btree.specs.Lines.{mark, kept, kept_tokens}
-use Rattle.btree.specs.Expression.{Word, Constant, Number, Character, Expr, Named, name_token, spell, words}
-use Rattle.btree.specs.Reading.{Read, Got, Stop, Reader, ◌>>=◌, first, line_of, after, expect, many}
+use Rattle.btree.specs.Lines.{mark, kept_tokens}
+use Rattle.btree.specs.Expression.{Word, Number, Character, Expr, Named, name_token, spell, words}
+use Rattle.btree.specs.Reading.{Read, Got, Stop, Reader, ◌>>=◌, first, expect, many}
 use Rattle.btree.specs.ExpressionReader.{is_close_paren, is_colon, always, Rvalue, reader}
 pub use Rattle.btree.specs.ReadingOn.{closes, Closer}
 use Rattle.btree.specs.Commas.{list_reader}
-use Rattle.btree.specs.Statement.{Declared, Heading, Auto, Extrn, Label, Case, Stmt, Headed, Compound, If, IfElse, While, Switch, Goto, Return, ReturnValue, Evaluate, Empty, Stmts, Nothing, More, spell_statement, statement_words, body_words, Sits}
-use Rattle.btree.specs.StatementReader.{is_open_paren, is_open_brace, is_close_brace, is_semicolon, is_else, name_at, name, constant_at, constant, size_at, size, declared, Headings, headed, Lead, no_lead, with_heading, Step, Declares, Imports, Selects, Mentions, Labels, step_at, lead_step, lead_turn, lead, goes_on, Level, tested, else_part, chosen, looped, one_more, body, compound, switched, ended, returned, stmt_at, stmt_behind, stmt_with, level, statement}
-use Rattle.btree.proofs.Fine.{Near, Any, Fine, goes, halts, Closing, Start, startable, bind_fine, then_fine, shift, idle, stuck, same, got_fine, got_start, map_fine, expect_then, expect_start, closed_fine, Opened, enters, Loop, opened_loop, runs, many_start, many_fine}
+use Rattle.btree.specs.Statement.{Auto, Extrn, Label, Case, Stmt, Headed, Compound, If, IfElse, While, Switch, Goto, Return, ReturnValue, Evaluate, Empty, Stmts, Nothing, More, spell_statement, statement_words, body_words, Sits}
+use Rattle.btree.specs.StatementReader.{is_open_paren, is_open_brace, is_close_brace, is_semicolon, is_else, name, constant, size_at, size, declared, headed, Lead, no_lead, with_heading, Step, Declares, Imports, Selects, Mentions, Labels, step_at, lead_step, lead_turn, lead, goes_on, Level, else_part, chosen, looped, one_more, body, ended, returned, stmt_at, stmt_behind, stmt_with, level, statement}
+use Rattle.btree.proofs.Fine.{Near, Any, Fine, Closing, Start, startable, bind_fine, then_fine, shift, idle, stuck, same, got_fine, got_start, map_fine, expect_then, expect_start, closed_fine, Opened, enters, Loop, opened_loop, runs, many_fine}
 use Rattle.btree.proofs.ExpressionFine.{one, one_tree, reader_fine, reader_one, from_name_fine, from_name_one}
 use Rattle.btree.proofs.ExpressionFine as E
 use Rattle.btree.proofs.ExpressionAgain.{expr_opens, opens}
@@ -278,7 +277,7 @@ module _ (room : ℕ) (level : Level) (has : Room level) where
   stmt_with_fine : (off : ℕ) (ts : List Placed) → Fine Closer (stmt_with room level off) ts
   stmt_with_fine off ts = bind_fine closing Last lead (λ l r. stmt_behind room level off l.word r >>= λ s. Got (headed l.headings s)) closer_is_last (λ l. record { with_ = mark token.Semicolon ∷ []; value = headed l.headings (shortest l.word); done = λ k h. ap (λ x. x >>= λ s. Got (headed l.headings s)) (behind_one off l.word k); front = λ k h. refl }) ts (lead_fine ts) (λ l u r h g. map_fine closing (stmt_behind room level off l.word) (headed l.headings) r (behind_fine off l.word r))
 
-kept-length : (ts : List Placed) → length (kept_tokens ts) ≡ length ts
+pub kept-length : (ts : List Placed) → length (kept_tokens ts) ≡ length ts
 kept-length [] = refl
 kept-length (t ∷ ts) = ap suc (kept-length ts)
 

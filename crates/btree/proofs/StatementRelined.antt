@@ -1,17 +1,16 @@
 -- A statement has a twin with the lines of any tokens that are bare alike.
-use Rattle.std.proofs.Common.{◌≡◌, ℕ, zero, suc, ◌+◌, List, [], ◌∷◌, ◌++◌, Bool, false, sym, ap, ◌∙◌, refl, subst, Option, Some, None}
+use Rattle.std.proofs.Common.{◌≡◌, ℕ, zero, suc, ◌+◌, List, [], ◌∷◌, ◌++◌, sym, ap, ◌∙◌, refl, subst, Option, Some, None}
 use Rattle.std.specs.Prelude.{map}
-use Rattle.blex.specs.declared.token.Token.{Token}
 use Rattle.blex.specs.declared.token.Token.TheVariants as token
 use Rattle.blex.specs.declared.token.Keyword.{Keyword}
 use Rattle.blex.specs.declared.token.Keyword.TheVariants as keyword
 use Rattle.blex.specs.declared.token.Placed.{Placed}
 use Rattle.btree.specs.Lines.{mark, placed, kept, kept_tokens, bare}
-use Rattle.btree.specs.Expression.{Word, Constant, Number, Character, Expr, name_token, constant_token, spell, words, rvalue_rank, Deeper, Fits}
+use Rattle.btree.specs.Expression.{Word, Constant, Number, Character, Expr, constant_token, spell, words, rvalue_rank, Deeper, Fits}
 use Rattle.btree.specs.Commas.{list_spelling, IsNonempty}
 use Rattle.btree.specs.Statement.{Declared, Heading, Auto, Extrn, Label, Case, Stmt, Headed, Compound, If, IfElse, While, Switch, Goto, Return, ReturnValue, Evaluate, Empty, Stmts, Nothing, More, keyword_mark, size_spelling, declared_spelling, name_spelling, spell_heading, spell_condition, spell_statement, spell_body, statement_words, body_words, is_open, IsHeading, Sits, AllSit}
 use Rattle.btree.proofs.Relined.{cut_token, cut_append, nothing_kept, Item, Items, list_twin}
-use Rattle.btree.proofs.ExpressionRelined.{Alike, Twin, HasTwin, same_off, fits_at, deeper_at, expr_twin}
+use Rattle.btree.proofs.ExpressionRelined.{Alike, Twin, same_off, expr_twin}
 
 pub name_twin : (w : Word) (ps : List Placed) → map bare (name_spelling w) ≡ map bare ps → Item name_spelling w ps
 name_twin w ps h = cut_token (token.Name w.text) w.line [] ps h (λ line r hr k.

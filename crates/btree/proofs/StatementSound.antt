@@ -1,19 +1,18 @@
 -- A statement that is read is spelled by the tokens that it took, and each else went to the nearest if.
-use Rattle.std.proofs.Common.{◌≡◌, ℕ, zero, suc, ◌+◌, ◌≤◌, List, [], ◌∷◌, ◌++◌, Bool, true, false, sym, ap, ◌∙◌, refl, subst, append_assoc, Option, Some, None, arith}
-use Rattle.std.specs.Prelude.{if◌then◌else◌}
+use Rattle.std.proofs.Common.{◌≡◌, ℕ, zero, suc, ◌+◌, List, [], ◌∷◌, ◌++◌, Bool, true, false, sym, ap, ◌∙◌, refl, subst, append_assoc, Option, Some, None}
 use Rattle.blex.specs.declared.token.Token.{Token}
 use Rattle.blex.specs.declared.token.Token.TheVariants as token
 use Rattle.blex.specs.declared.token.Keyword.{Keyword}
 use Rattle.blex.specs.declared.token.Keyword.TheVariants as keyword
 use Rattle.blex.specs.declared.token.Placed.{Placed}
 use Rattle.btree.specs.Lines.{mark, placed, kept, kept_tokens}
-use Rattle.btree.specs.Expression.{Word, Constant, Number, Character, Expr, name_token, constant_token, spell, words, rvalue_rank, Deeper, Fits}
-use Rattle.btree.specs.Reading.{Read, Got, Stop, Reader, ◌>>=◌, first, line_of, after, expect, turns, many}
+use Rattle.btree.specs.Expression.{Word, Constant, Expr, name_token, constant_token, spell, words, rvalue_rank, Deeper, Fits}
+use Rattle.btree.specs.Reading.{Read, Got, Stop, Reader, ◌>>=◌, first, expect, many}
 use Rattle.btree.specs.ExpressionReader.{is_close_paren, is_colon, always, Rvalue, reader}
 use Rattle.btree.specs.Commas.{list_spelling, IsNonempty, EachBehind, list_reader}
-use Rattle.btree.specs.Statement.{Declared, Heading, Auto, Extrn, Label, Case, Stmt, Headed, Compound, If, IfElse, While, Switch, Goto, Return, ReturnValue, Evaluate, Empty, Stmts, Nothing, More, keyword_mark, size_spelling, declared_spelling, name_spelling, spell_heading, spell_condition, spell_statement, spell_body, statement_words, body_words, is_open, IsHeading, Sits, AllSit}
-use Rattle.btree.specs.StatementReader.{is_open_paren, is_open_brace, is_close_brace, is_semicolon, is_else, name_at, name, constant_at, constant, size_at, size, declared, Headings, No_heading, Then, headed, Lead, no_lead, with_heading, Step, Declares, Imports, Selects, Mentions, Labels, step_at, lead_step, lead_turn, lead, goes_on, Level, tested, else_part, chosen, looped, one_more, body, compound, switched, ended, returned, stmt_at, stmt_behind, stmt_with, level, statement}
-use Rattle.btree.proofs.ExpressionSound.{Sound, sound_bind, sound_turns, by_first, shut, reader_sound, both_deeper, only_paren}
+use Rattle.btree.specs.Statement.{Heading, Auto, Extrn, Label, Case, Stmt, Headed, Compound, IfElse, While, Switch, Goto, Return, ReturnValue, Evaluate, Stmts, Nothing, More, keyword_mark, size_spelling, declared_spelling, name_spelling, spell_heading, spell_condition, spell_statement, spell_body, statement_words, body_words, is_open, IsHeading, Sits, AllSit}
+use Rattle.btree.specs.StatementReader.{is_open_paren, is_open_brace, is_close_brace, is_semicolon, is_else, name_at, name, constant_at, constant, size_at, size, declared, Headings, No_heading, Then, headed, Lead, no_lead, Step, Declares, Imports, Selects, Mentions, Labels, step_at, lead_step, lead_turn, lead, goes_on, Level, tested, else_part, chosen, looped, one_more, body, compound, switched, ended, returned, stmt_at, stmt_behind, stmt_with, level, statement}
+use Rattle.btree.proofs.ExpressionSound.{Sound, sound_bind, sound_turns, by_first, reader_sound, both_deeper, only_paren}
 use Rattle.btree.proofs.CommaLaws.{list_sound}
 
 -- a token that must come, whatever is claimed of what stands behind it

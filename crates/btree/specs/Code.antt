@@ -1,5 +1,5 @@
 -- The code of a definition. Places are absolute in a function.
-use Rattle.std.specs.Prelude.{ℕ, ◌+◌, ◌*◌, ◌&&◌, List, [], ◌∷◌, ◌++◌, length, map, max, nat_lt, nat_le, Bool, Option, Some, None, Result, Ok, Err, if◌then◌else◌}
+use Rattle.std.specs.Prelude.{ℕ, ◌+◌, ◌*◌, ◌&&◌, List, [], ◌∷◌, ◌++◌, length, map, max, nat_le, Bool, Option, Some, None, Result, Ok, Err, if◌then◌else◌}
 use Rattle.std.specs.List.{flat_map}
 use Rattle.bword.specs.declared.operators.BinOp.{BinOp}
 use Rattle.bword.specs.declared.operators.BinOp.TheVariants as op
@@ -12,10 +12,10 @@ use Rattle.bcode.specs.declared.instr.Ival as coded_value
 use Rattle.bcode.specs.declared.instr.Ival.TheVariants as ival
 use Rattle.bcode.specs.declared.definition.Definition as coded
 use Rattle.bcode.specs.declared.definition.Definition.TheVariants as code
-use Rattle.btree.specs.Expression.{Word, Expr, Arguments, PrefixOp, Negate, Not, Indirection, Address, PreIncrement, PreDecrement, PostfixOp, PostIncrement, PostDecrement, Named, Literal, Text, Grouped, Indexed, Called, Postfixed, Prefixed, Binary, Conditional, Assigned, No_arguments, Another}
-use Rattle.btree.specs.Statement.{Declared, Heading, Auto, Extrn, Label, Case, Stmt, Headed, Compound, If, IfElse, While, Switch, Goto, Return, ReturnValue, Evaluate, Empty, Stmts, Nothing, More}
+use Rattle.btree.specs.Expression.{Expr, Arguments, Negate, Not, Indirection, Address, PreIncrement, PreDecrement, PostIncrement, PostDecrement, Named, Literal, Text, Grouped, Indexed, Called, Postfixed, Prefixed, Binary, Conditional, Assigned, No_arguments, Another}
+use Rattle.btree.specs.Statement.{Heading, Auto, Extrn, Label, Case, Stmt, Headed, Compound, If, IfElse, While, Switch, Goto, Return, ReturnValue, Evaluate, Empty, Stmts, Nothing, More}
 use Rattle.btree.specs.Definition.{Ival, Ival_constant, Ival_text, Ival_name, Definition, Simple, Vector, Function}
-use Rattle.btree.specs.Scope.{Entry, Kind, Automatic, External, Unlabelled, Labelled, kind_of, fault}
+use Rattle.btree.specs.Scope.{Entry, Kind, Automatic, Labelled, kind_of, fault}
 use Rattle.btree.specs.Scan.{Scope, no_scope, value_of, function_scope, scan, word_of}
 
 -- what a name stands for: a word of the frame, an external, the label of this number

@@ -1,5 +1,5 @@
 -- Definitions with their code, or their fault.
-use Rattle.std.specs.Prelude.{◌≡◌, ℕ, zero, suc, List, [], ◌∷◌, ◌++◌, length, Option, Some, None, Result, Ok}
+use Rattle.std.specs.Prelude.{◌≡◌, ℕ, zero, suc, List, [], ◌∷◌, ◌++◌, length, Option, Some, None, Ok}
 use Rattle.bword.specs.declared.operators.BinOp.TheVariants as op
 use Rattle.blex.specs.declared.token.Letters.{Letters}
 use Rattle.blex.specs.declared.token.Letters.TheVariants as letters
@@ -15,14 +15,13 @@ use Rattle.bcode.specs.declared.instr.Ival.TheVariants as ival
 use Rattle.bcode.specs.declared.definition.Definition as coded
 use Rattle.bcode.specs.declared.definition.Definition.TheVariants as code
 use Rattle.btree.specs.Lines.{mark, placed}
-use Rattle.btree.specs.Expression.{Expr, name_token, words}
-use Rattle.btree.specs.Reading.{Read, Got, Stop}
+use Rattle.btree.specs.Reading.{Read, Got}
 use Rattle.btree.specs.Statement.{Stmt, keyword_mark, statement_words}
 use Rattle.btree.specs.Definition.{Definition}
 use Rattle.btree.specs.DefinitionReader.{definition}
 use Rattle.btree.specs.Scan.{Event, Scope, scanned}
 use Rattle.btree.specs.Code.{code_of, fault_of, strings, statement_strings}
-use Rattle.btree.specs.Rows.{name, word, operator, assign, string}
+use Rattle.btree.specs.Rows.{name, operator, assign, string}
 
 abbrev pub number : ℕ → Placed
 number n = mark (token.Number n)
@@ -117,7 +116,7 @@ pub record FaultRows : Type 0 where
   -- `f() case 1: ;`, and the same constant in one switch and in two
   pub no_switch : fault_in [] (function_f [] (case_token 4 ∷ number 1 ∷ mark token.Colon ∷ semicolon ∷ [])) ≡ case_fault letters.Syntax 4
   pub same_case : fault_in [] (function_f [] (keyword_mark keyword.Switch ∷ number 1 ∷ (braced (case_token 1 ∷ number 97 ∷ mark token.Colon ∷ semicolon ∷ case_token 2 ∷ mark (token.Character 97) ∷ mark token.Colon ∷ semicolon ∷ [])))) ≡ case_fault letters.Redeclared 2
-  pub inner_case : fault_in [] (function_f [] (keyword_mark keyword.Switch ∷ number 1 ∷ (braced (case_token 1 ∷ number 2 ∷ mark token.Colon ∷ keyword_mark keyword.Switch ∷ number 1 ∷ (braced (case_token 1 ∷ number 2 ∷ mark token.Colon ∷ semicolon ∷ []) ++ (case_token 1 ∷ number 3 ∷ mark token.Colon ∷ semicolon ∷ []))))) ) ≡ None
+  pub inner_case : fault_in [] (function_f [] (keyword_mark keyword.Switch ∷ number 1 ∷ (braced (case_token 1 ∷ number 2 ∷ mark token.Colon ∷ keyword_mark keyword.Switch ∷ number 1 ∷ (braced (case_token 1 ∷ number 2 ∷ mark token.Colon ∷ semicolon ∷ []) ++ (case_token 1 ∷ number 3 ∷ mark token.Colon ∷ semicolon ∷ [])))))) ≡ None
   -- 128 parameters, 129 parameters, and 128 with another name; the names come from the greatest number down
   pub most_names : fault_in [] (function_f (names_below 128) (semicolon ∷ [])) ≡ None
   pub too_many_names : fault_in [] (function_f (names_below 129) (semicolon ∷ [])) ≡ lone_fault letters.TooManyNames 1

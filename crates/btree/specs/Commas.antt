@@ -3,7 +3,7 @@ use Rattle.std.specs.Prelude.{List, [], ◌∷◌, ◌++◌}
 use Rattle.blex.specs.declared.token.Token.TheVariants as token
 use Rattle.blex.specs.declared.token.Placed.{Placed}
 use Rattle.btree.specs.Lines.{mark}
-use Rattle.btree.specs.Reading.{Read, Got, Reader, ◌>>=◌, after, many}
+use Rattle.btree.specs.Reading.{Got, Reader, ◌>>=◌, after, many}
 use Rattle.btree.specs.ExpressionReader.{comma, always}
 
 -- each of them behind a comma

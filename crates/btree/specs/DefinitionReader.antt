@@ -1,9 +1,9 @@
 -- Reading a definition from the left, with one token ahead.
-use Rattle.std.specs.Prelude.{ℕ, List, [], Option, if◌then◌else◌}
+use Rattle.std.specs.Prelude.{ℕ, List, [], if◌then◌else◌}
 use Rattle.blex.specs.declared.token.Token.{Token}
 use Rattle.blex.specs.declared.token.Token.TheVariants as token
 use Rattle.btree.specs.Expression.{Word, Number, Character}
-use Rattle.btree.specs.Reading.{Read, Got, Stop, Reader, ◌>>=◌, first, line_of, after, expect}
+use Rattle.btree.specs.Reading.{Got, Stop, Reader, ◌>>=◌, first, line_of, after, expect}
 use Rattle.btree.specs.ExpressionReader.{is_close_paren, is_close_bracket}
 use Rattle.btree.specs.Commas.{list_reader}
 use Rattle.btree.specs.StatementReader.{is_semicolon, name, size, statement}

@@ -5,7 +5,7 @@ use Rattle.bword.specs.declared.operators.BinOp.TheVariants as op
 use Rattle.blex.specs.declared.token.Token.{Token}
 use Rattle.blex.specs.declared.token.Token.TheVariants as token
 use Rattle.btree.specs.Expression.{Expr, Arguments, PrefixOp, Negate, Not, Indirection, Address, PreIncrement, PreDecrement, PostfixOp, PostIncrement, PostDecrement, Number, Character, Named, Literal, Text, Grouped, Indexed, Called, Postfixed, Prefixed, Binary, Conditional, Assigned, No_arguments, Another, words, argument_words, rank, or_rank, is_operand}
-use Rattle.btree.specs.Reading.{Read, Got, Stop, Reader, ◌>>=◌, at_some, first, line_of, after, expect, many}
+use Rattle.btree.specs.Reading.{Got, Stop, Reader, ◌>>=◌, at_some, first, line_of, after, expect, many}
 
 abbrev pub is_close_paren : Token → Bool
 is_close_paren token.CloseParen = true

@@ -1,5 +1,5 @@
 -- The laws of reading a definition, and of what comes of a source.
-use Rattle.std.specs.Prelude.{◌≡◌, ℕ, map, List, [], ◌∷◌, ◌++◌, Bool, true, false}
+use Rattle.std.specs.Prelude.{◌≡◌, ℕ, map, List, [], ◌∷◌, ◌++◌, true, false}
 use Rattle.blex.specs.declared.token.Token.TheVariants as token
 use Rattle.blex.specs.declared.token.Keyword.TheVariants as keyword
 use Rattle.blex.specs.declared.token.Placed.{Placed}
@@ -9,7 +9,9 @@ use Rattle.btree.specs.Expression.{Word, Expr, name_token, spell, rvalue_rank, F
 use Rattle.btree.specs.Reading.{Got, first}
 use Rattle.btree.specs.ReadingOn.{Fine, Closer}
 use Rattle.btree.specs.Statement.{Stmt, spell_statement, Sits, keyword_mark}
-use Rattle.btree.specs.StatementReader.{is_else}
+use Rattle.btree.specs.Statement as statements
+use Rattle.btree.specs.ExpressionReader.{Rvalue, reader}
+use Rattle.btree.specs.StatementReader.{is_else, statement}
 use Rattle.btree.specs.Definition.{Definition, spell_definition, IsFormed, is_open}
 use Rattle.btree.specs.DefinitionReader.{definition}
 use Rattle.btree.specs.Compiled.{Defined, Outcome, Goes}
@@ -17,6 +19,16 @@ use Rattle.btree.specs.Compiled.{Defined, Outcome, Goes}
 -- What a definition is read as is spelled by the tokens that were taken, and well formed.
 abbrev pub ReadsSpelling : Type 0
 ReadsSpelling = (tokens rest : List Placed) (d : Definition) → definition (kept_tokens tokens) ≡ Got d rest → (kept_tokens tokens ≡ spell_definition d ++ rest) × IsFormed d
+
+-- The same of any tokens, but for lines that trees don't keep; and no else of an open definition was left.
+abbrev pub DefinitionRead : Type 0
+DefinitionRead = (tokens rest : List Placed) (d : Definition) → definition tokens ≡ Got d rest → (kept_tokens tokens ≡ spell_definition d ++ kept_tokens rest) × IsFormed d × (is_open d ≡ true → is_else (first rest) ≡ false)
+
+abbrev pub StatementRead : Type 0
+StatementRead = (tokens rest : List Placed) (room off : ℕ) (s : Stmt) → statement room off tokens ≡ Got s rest → (kept_tokens tokens ≡ spell_statement s ++ kept_tokens rest) × Sits s room off × (statements.is_open s ≡ true → is_else (first rest) ≡ false)
+
+abbrev pub ExpressionRead : Type 0
+ExpressionRead = (tokens rest : List Placed) (room off : ℕ) (e : Expr) → reader room Rvalue off tokens ≡ Got e rest → (kept_tokens tokens ≡ spell e ++ kept_tokens rest) × Fits e rvalue_rank room off
 
 -- The spelling of a well-formed definition is read as that definition, whatever stands behind it but for an else of its own.
 abbrev pub ReadsAgain : Type 0

@@ -13,6 +13,7 @@ pub mod Scope
 pub mod Scan
 pub mod Code
 pub mod CodeRows
+pub mod Unread
 pub mod Program
 pub mod Compiled
 pub mod OutcomeRows

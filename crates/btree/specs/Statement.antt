@@ -1,6 +1,5 @@
 -- Statements as trees, how each is spelled, and which are well formed.
 use Rattle.std.specs.Prelude.{◌≡◌, ℕ, ◌+◌, List, [], ◌∷◌, ◌++◌, Bool, true, false, Option, Some, None}
-use Rattle.blex.specs.declared.token.Token.{Token}
 use Rattle.blex.specs.declared.token.Token.TheVariants as token
 use Rattle.blex.specs.declared.token.Keyword.{Keyword}
 use Rattle.blex.specs.declared.token.Keyword.TheVariants as keyword

@@ -1,10 +1,10 @@
 -- Reading a statement from the left, with one token ahead.
-use Rattle.std.specs.Prelude.{ℕ, zero, suc, ◌+◌, List, [], ◌∷◌, Bool, true, false, Option, Some, None, if◌then◌else◌}
+use Rattle.std.specs.Prelude.{ℕ, zero, suc, ◌+◌, List, ◌∷◌, Bool, true, false, Option, Some, None, if◌then◌else◌}
 use Rattle.blex.specs.declared.token.Token.{Token}
 use Rattle.blex.specs.declared.token.Token.TheVariants as token
 use Rattle.blex.specs.declared.token.Keyword.TheVariants as keyword
 use Rattle.btree.specs.Expression.{Word, Constant, Number, Character, Expr, name_token, words}
-use Rattle.btree.specs.Reading.{Read, Got, Stop, Reader, ◌>>=◌, first, line_of, after, expect, many}
+use Rattle.btree.specs.Reading.{Got, Stop, Reader, ◌>>=◌, first, line_of, after, expect, many}
 use Rattle.btree.specs.ExpressionReader.{is_close_paren, is_colon, always, Rvalue, reader}
 use Rattle.btree.specs.Commas.{list_reader}
 use Rattle.btree.specs.Statement.{Declared, Heading, Auto, Extrn, Label, Case, Stmt, Headed, Compound, If, IfElse, While, Switch, Goto, Return, ReturnValue, Evaluate, Empty, Stmts, Nothing, More, statement_words, body_words}

@@ -2,14 +2,18 @@
 //! contracts only, and each function here is a law, by its contract.
 #![tactic(auto)]
 
-ghost use Rattle.btree.specs.Laws.{BeginsWithName, EachSourceComes, GoesOnWithElse, HasTwin, OneDefinition, OneExpression, OneStatement, OutcomesAreEqual, ReadsAgain, ReadsOn, ReadsSpelling};
+ghost use Rattle.btree.specs.Laws.{BeginsWithName, DefinitionRead, EachSourceComes, ExpressionRead, GoesOnWithElse, HasTwin, OneDefinition, OneExpression, OneStatement, OutcomesAreEqual, ReadsAgain, ReadsOn, ReadsSpelling, StatementRead};
 ghost use Rattle.btree.specs.CodeRows.{CodeRows, CountsWords, FaultRows, ScansOn};
 ghost use Rattle.btree.specs.OutcomeRows.{OutcomeRows};
+ghost use Rattle.btree.specs.Unread.{LinesUnread};
 ghost use Rattle.btree.specs.Rows.{DefinitionRows, ExpressionRows, LevelRows};
 
 /// What is read is spelled by the tokens that were taken, and well formed.
 pub fn what_is_read_is_spelled_so()
-    ensures { ReadsSpelling }
+    ensures kept { ReadsSpelling }
+    ensures definitions { DefinitionRead }
+    ensures statements { StatementRead }
+    ensures expressions { ExpressionRead }
 {}
 
 /// A spelling is read as the tree that has it.
@@ -30,6 +34,11 @@ pub fn an_else_goes_on()
 /// Lines decide nothing about well-formed trees.
 pub fn lines_are_free()
     ensures { HasTwin }
+{}
+
+/// The readers may as well be given what trees keep of the tokens.
+pub fn other_lines_are_never_read()
+    ensures { LinesUnread }
 {}
 
 pub fn a_definition_begins_with_its_name()
