@@ -95,7 +95,11 @@ pub fn operate<'a>(call: &mut Call<'a>, operator: BinOp) -> Result<Flow, AllocEr
     }
 }
 
-pub fn modify<'a, S: Store>(call: &mut Call<'a>, store: &mut S, operator: BinOp) -> Result<Flow, AllocError>
+pub fn modify<'a, S: Store>(
+    call: &mut Call<'a>,
+    store: &mut S,
+    operator: BinOp,
+) -> Result<Flow, AllocError>
     requires { call.old.place + 1 < 2 ^ 64 }
     ensures { IfOk result (λ flow. Acts (operation.Modify operator) call.old (S.words store.old) flow call.new (S.words store.new)) }
 {
@@ -134,7 +138,11 @@ fn left(which: Increment, word: u16) -> u16
     }
 }
 
-pub fn count<'a, S: Store>(call: &mut Call<'a>, store: &mut S, which: Increment) -> Result<Flow, AllocError>
+pub fn count<'a, S: Store>(
+    call: &mut Call<'a>,
+    store: &mut S,
+    which: Increment,
+) -> Result<Flow, AllocError>
     requires { call.old.place + 1 < 2 ^ 64 }
     ensures { IfOk result (λ flow. Acts (operation.Increment which) call.old (S.words store.old) flow call.new (S.words store.new)) }
 {
