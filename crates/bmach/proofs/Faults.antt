@@ -39,7 +39,7 @@ find_main known before (definition.Vector v ∷ ds) n k h =
 pub main_step : (ds : List Definition) (i n : ℕ) (d : Definition) (b : Bool) → i < length ds → d ≡ get_or ds i d → is_main d ≡ b → main_from n (drop i ds) ≡ cond b (Some n) (main_from (n + functions_in (shape_of d).kind) (drop (i + 1) ds))
 main_step ds i n d b lt is e =
     let first : drop i ds ≡ d ∷ drop (i + 1) ds =
-        drop-cons ds i d lt ∙ ap (λ x. x ∷ drop (suc i) ds) (sym is) ∙ ap (λ j. d ∷ drop j ds) (sym (add-one i)) in
+    drop-cons ds i d lt ∙ ap (λ x. x ∷ drop (suc i) ds) (sym is) ∙ ap (λ j. d ∷ drop j ds) (sym (add-one i)) in
     ap (main_from n) first ∙ ap (λ c. cond c (Some n) (main_from (n + functions_in (shape_of d).kind) (drop (i + 1) ds))) e
 
 pub no_main : (ds : List Definition) (n : ℕ) → main_from n ds ≡ None → list_any is_main ds ≡ false

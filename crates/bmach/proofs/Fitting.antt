@@ -30,9 +30,9 @@ too_large before d rest h =
     let labels : Shape → ℕ = λ e. labels_in e.kind in
     fits_not (data_end (before ++ (d ∷ rest))) (label_count (before ++ (d ∷ rest)))
     (⊎_elim
-      (λ e. inl (omega (arith, e, sum_by-append size_of before (d ∷ rest), sum_by-append size_of (d ∷ []) rest)))
-      (λ e. inr (omega (arith, e, sum_by-append labels before (d ∷ rest), sum_by-append labels (d ∷ []) rest)))
-      h)
+    (λ e. inl (omega (arith, e, sum_by-append size_of before (d ∷ rest), sum_by-append size_of (d ∷ []) rest)))
+    (λ e. inr (omega (arith, e, sum_by-append labels before (d ∷ rest), sum_by-append labels (d ∷ []) rest)))
+    h)
 
 -- as many as one definition more are within all
 pub one_more_fits : (before : List Shape) (d : Shape) (rest : List Shape) → fits (before ++ (d ∷ rest)) ≡ true → (data_end before + size_of d ≤ 65536) × (label_count before + labels_in d.kind ≤ 65535)

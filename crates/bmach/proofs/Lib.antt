@@ -9,3 +9,4 @@ pub mod Faults
 pub mod Loads
 pub mod Taking
 pub mod Calling
+pub mod Resolving

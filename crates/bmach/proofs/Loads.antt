@@ -62,7 +62,7 @@ is_loaded ds entries part k same is main =
     let fs = functions_behind look_up [] ds in
     let resolve = resolved_function (address_in (addresses (map shape_of ds))) in
     let functions : part.functions ≡ map resolve fs =
-        ap (λ (p : Part). p.functions) is ∙ ap (λ a. map (resolved_function a) fs) names in
+    ap (λ (p : Part). p.functions) is ∙ ap (λ a. map (resolved_function a) fs) names in
     let found = find_main look_up [] ds 0 k main in
     let place : found.0 ≡ k = omega (arith, found.1) in
     record {

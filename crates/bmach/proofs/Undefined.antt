@@ -41,8 +41,8 @@ module _ (address_of : List ℕ → Option ℕ) {A : Type 0} (names : A → List
   pub undefined_at : (xs : List A) (i : ℕ) (x : A) (f : LoadFault) → i < length xs → x ≡ get_or xs i x → first_undefined address_of (flat_map names (take i xs)) ≡ None → IsFault f (undefined_fault address_of (names x)) → IsFault f (undefined_fault address_of (flat_map names xs))
   undefined_at xs i x f lt is before here =
       let whole : first_undefined address_of (flat_map names xs) ≡ option_or (first_undefined address_of (names x)) (first_undefined address_of (flat_map names (drop (suc i) xs))) =
-          ap (λ ys. first_undefined address_of (flat_map names ys)) (split_at xs i x lt ∙ ap (λ y. take i xs ++ y ∷ drop (suc i) xs) (sym is))
-          ∙ first_of_two (take i xs) (x ∷ drop (suc i) xs)
-          ∙ ap (λ o. option_or o (first_undefined address_of (flat_map names (x ∷ drop (suc i) xs)))) before
-          ∙ first_of_rest x (drop (suc i) xs) in
+      ap (λ ys. first_undefined address_of (flat_map names ys)) (split_at xs i x lt ∙ ap (λ y. take i xs ++ y ∷ drop (suc i) xs) (sym is))
+      ∙ first_of_two (take i xs) (x ∷ drop (suc i) xs)
+      ∙ ap (λ o. option_or o (first_undefined address_of (flat_map names (x ∷ drop (suc i) xs)))) before
+      ∙ first_of_rest x (drop (suc i) xs) in
       subst (λ o. IsFault f (option_map fault.Undefined o)) (sym whole) (fault_in_front f (first_undefined address_of (names x)) _ here)

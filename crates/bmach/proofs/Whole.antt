@@ -108,15 +108,15 @@ module _ (address_of : List ℕ → Option ℕ) where
   one_more ds d =
       let shapes = map shape_of ds in
       let words : (whole address_of ds).words ++ definition_words address_of (next_spot (whole address_of ds) (shape_of d)) (shape_of d) ≡ (whole address_of (ds ++ d ∷ [])).words =
-          ap (λ s. (whole address_of ds).words ++ definition_words address_of s (shape_of d)) (spot_is ds d)
-          ∙ append_assoc first_part.words (words_behind address_of [] shapes) (definition_words address_of (spot_behind shapes (shape_of d)) (shape_of d))
-          ∙ ap (λ ws. first_part.words ++ ws) (sym (words_push shapes (shape_of d)))
-          ∙ ap (λ es. first_part.words ++ words_behind address_of [] es) (sym (map-append shape_of ds (d ∷ []))) in
+      ap (λ s. (whole address_of ds).words ++ definition_words address_of s (shape_of d)) (spot_is ds d)
+      ∙ append_assoc first_part.words (words_behind address_of [] shapes) (definition_words address_of (spot_behind shapes (shape_of d)) (shape_of d))
+      ∙ ap (λ ws. first_part.words ++ ws) (sym (words_push shapes (shape_of d)))
+      ∙ ap (λ es. first_part.words ++ words_behind address_of [] es) (sym (map-append shape_of ds (d ∷ []))) in
       let functions : (whole address_of ds).functions ++ loaded_functions address_of (loaded_at (next_spot (whole address_of ds) (shape_of d), d)) ≡ (whole address_of (ds ++ d ∷ [])).functions =
-          ap (λ s. (whole address_of ds).functions ++ loaded_functions address_of (loaded_at (s, d))) (spot_is ds d) ∙ sym (functions_push ds d) in
+      ap (λ s. (whole address_of ds).functions ++ loaded_functions address_of (loaded_at (s, d))) (spot_is ds d) ∙ sym (functions_push ds d) in
       let labels : 1 + label_count shapes + labels_in (shape_of d).kind ≡ 1 + label_count (map shape_of (ds ++ d ∷ [])) =
-          let e : label_count (map shape_of (ds ++ d ∷ [])) ≡ label_count (shapes ++ shape_of d ∷ []) = ap label_count (map-append shape_of ds (d ∷ [])) in
-          omega (arith, e, sum_by-append (λ (s : Shape). labels_in s.kind) shapes (shape_of d ∷ [])) in
+      let e : label_count (map shape_of (ds ++ d ∷ [])) ≡ label_count (shapes ++ shape_of d ∷ []) = ap label_count (map-append shape_of ds (d ∷ [])) in
+      omega (arith, e, sum_by-append (λ (s : Shape). labels_in s.kind) shapes (shape_of d ∷ [])) in
       λ i. record { words = words i; functions = functions i; first_label = labels i }
 
   all_more : (before ds : List Definition) → fold (with_definition address_of) (whole address_of before) ds ≡ whole address_of (before ++ ds)

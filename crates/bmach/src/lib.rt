@@ -22,6 +22,7 @@ pub use image::Image;
 pub use library::Library;
 pub use loader::load;
 pub use outcome::Trap;
+pub use resolve::resolving_changes_no_run;
 
 #[cfg(test)]
 mod tests;

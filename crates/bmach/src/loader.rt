@@ -66,11 +66,15 @@ fn fits(definitions: &[Definition]) -> bool
 }
 
 /// The words up to the data end, and the functions.
-fn load_all(alloc: Global, addresses: &Addresses, definitions: &[Definition]) -> Result<Part, LoadFault>
+fn load_all(
+    alloc: Global,
+    addresses: &Addresses,
+    definitions: &[Definition],
+) -> Result<Part, LoadFault>
     requires { IsTrue (fits (map shape_of definitions.now)) }
     ensures { MatchResult result
         (λ part. (part_of part ≡ fold (with_definition (known_in addresses.now.entries)) first_part definitions.now)
-            × (first_undefined (known_in addresses.now.entries) (flat_map names_in definitions.now) ≡ None))
+        × (first_undefined (known_in addresses.now.entries) (flat_map names_in definitions.now) ≡ None))
         (λ f. IsFault f (undefined_fault (known_in addresses.now.entries) (flat_map names_in definitions.now))) }
 {
     let mut part = Part {

@@ -14,7 +14,8 @@ use std::alloc::AllocError;
 pub fn put<'a>(call: &mut Call<'a>, word: u16) -> Result<Flow, AllocError>
     requires { call.old.place + 1 < 2 ^ 64 }
     ensures flow { IfOk result (λ flow. flow ≡ Flow.GoesOn) }
-    ensures call { OnOk result (call_of call.new ≡ at_place (call_of call.old) (call.old.place + 1) (word ∷ call.old.operands)) }
+    ensures call { OnOk result (call_of call.new
+        ≡ at_place (call_of call.old) (call.old.place + 1) (word ∷ call.old.operands)) }
 {
     call.operands.put(word)?;
     call.place += 1;
@@ -81,7 +82,8 @@ pub fn not_word<'a>(call: &mut Call<'a>) -> Result<Flow, AllocError>
 
 pub fn operate<'a>(call: &mut Call<'a>, operator: BinOp) -> Result<Flow, AllocError>
     requires { call.old.place + 1 < 2 ^ 64 }
-    ensures { IfOk result (λ flow. (words : List ℕ) → Acts (operation.Binary operator) call.old words flow call.new words) }
+    ensures { IfOk result (λ flow. (words : List ℕ) →
+        Acts (operation.Binary operator) call.old words flow call.new words) }
 {
     match call.operands.take() {
         None => Ok(Flow::IsStuck),
@@ -95,9 +97,14 @@ pub fn operate<'a>(call: &mut Call<'a>, operator: BinOp) -> Result<Flow, AllocEr
     }
 }
 
-pub fn modify<'a, S: Store>(call: &mut Call<'a>, store: &mut S, operator: BinOp) -> Result<Flow, AllocError>
+pub fn modify<'a, S: Store>(
+    call: &mut Call<'a>,
+    store: &mut S,
+    operator: BinOp,
+) -> Result<Flow, AllocError>
     requires { call.old.place + 1 < 2 ^ 64 }
-    ensures { IfOk result (λ flow. Acts (operation.Modify operator) call.old (S.words store.old) flow call.new (S.words store.new)) }
+    ensures { IfOk result (λ flow.
+        Acts (operation.Modify operator) call.old (S.words store.old) flow call.new (S.words store.new)) }
 {
     match call.operands.take() {
         None => Ok(Flow::IsStuck),
@@ -134,9 +141,14 @@ fn left(which: Increment, word: u16) -> u16
     }
 }
 
-pub fn count<'a, S: Store>(call: &mut Call<'a>, store: &mut S, which: Increment) -> Result<Flow, AllocError>
+pub fn count<'a, S: Store>(
+    call: &mut Call<'a>,
+    store: &mut S,
+    which: Increment,
+) -> Result<Flow, AllocError>
     requires { call.old.place + 1 < 2 ^ 64 }
-    ensures { IfOk result (λ flow. Acts (operation.Increment which) call.old (S.words store.old) flow call.new (S.words store.new)) }
+    ensures { IfOk result (λ flow.
+        Acts (operation.Increment which) call.old (S.words store.old) flow call.new (S.words store.new)) }
 {
     match call.operands.take() {
         None => Ok(Flow::IsStuck),
@@ -196,7 +208,8 @@ fn target_of<'a>(call: &Call<'a>, value: u16) -> Option<u16>
 
 pub fn jump_if_case<'a>(call: &mut Call<'a>, value: u16, target: u16) -> Result<Flow, AllocError>
     requires { call.old.place + 1 < 2 ^ 64 }
-    ensures { IfOk result (λ flow. (words : List ℕ) → Acts (operation.JumpIfCase value target) call.old words flow call.new words) }
+    ensures { IfOk result (λ flow. (words : List ℕ) →
+        Acts (operation.JumpIfCase value target) call.old words flow call.new words) }
 {
     match call.operands.take() {
         None => Ok(Flow::IsStuck),

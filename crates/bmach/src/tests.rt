@@ -55,7 +55,18 @@ fn numbers(rt: HostRuntime) -> Result<(), Fail> {
     definitions.push(function(rt.alloc(), "main")?)?;
     let image = load(rt.alloc(), definitions)?;
     assert_eq!(rt; image.data_end(), 12);
-    for (address, word) in [(0, 0), (1, 1), (6, 6), (7, 5), (8, 9), (9, 0), (10, 0), (11, 7), (12, 0), (65535, 0)] {
+    for (address, word) in [
+        (0, 0),
+        (1, 1),
+        (6, 6),
+        (7, 5),
+        (8, 9),
+        (9, 0),
+        (10, 0),
+        (11, 7),
+        (12, 0),
+        (65535, 0),
+    ] {
         assert_eq!(rt; image.word(address), word, "at {address}");
     }
     Ok(())
@@ -67,8 +78,14 @@ fn a_hidden_name(rt: HostRuntime) -> Result<(), Fail> {
     definitions.push(simple(rt.alloc(), "exit", &[Ival::Number(5)])?)?;
     definitions.push(function(rt.alloc(), "main")?)?;
     let image = load(rt.alloc(), definitions)?;
-    assert_eq!(rt; image.address(&Name::new("exit").ok_or("no name")?), Some(7));
-    assert_eq!(rt; image.address(&Name::new("char").ok_or("no name")?), Some(1));
+    assert_eq!(rt;
+        image.address(&Name::new("exit").ok_or("no name")?),
+        Some(7)
+    );
+    assert_eq!(rt;
+        image.address(&Name::new("char").ok_or("no name")?),
+        Some(1)
+    );
     assert_eq!(rt; image.address(&Name::new("none").ok_or("no name")?), None);
     Ok(())
 }

@@ -27,7 +27,7 @@ loop-definition-preserved c =
     let more = shapes_more ds i d (omega arith) c.definition-item.is in
     let known = c.loop-definition.invariant.known in
     let fresh : address_in (wrapped before) c.name_of-name.result ≡ None =
-        sym (known c.name_of-name.result) ∙ sym c.in_ok-old.ensures.old ∙ none_from_is_some c.in_ok-old.old (sym c.is_some.ensures ∙ c.if-is_some.false) in
+    sym (known c.name_of-name.result) ∙ sym c.in_ok-old.ensures.old ∙ none_from_is_some c.in_ok-old.old (sym c.is_some.ensures ∙ c.if-is_some.false) in
     record {
       no_duplicate = ap (λ shapes. duplicate_behind [] (names_of shapes)) more
           ∙ new_name before (shape_of d) c.loop-definition.invariant.no_duplicate (ap (address_in (wrapped before)) (sym named) ∙ fresh);
@@ -53,10 +53,10 @@ returns-then-is_some c =
     let d = c.definition-item.result in
     let before = map shape_of (take i ds) in
     let found : is_some (address_in (wrapped before) (shape_of d).name) ≡ true =
-        ap (λ x. is_some (address_in (wrapped before) x)) (sym c.name_of-name.ensures)
-        ∙ ap is_some (sym (c.loop-definition.invariant.known c.name_of-name.result) ∙ sym c.in_ok-old.ensures.old)
-        ∙ sym c.is_some.ensures
-        ∙ c.if-is_some.true in
+    ap (λ x. is_some (address_in (wrapped before) x)) (sym c.name_of-name.ensures)
+    ∙ ap is_some (sym (c.loop-definition.invariant.known c.name_of-name.result) ∙ sym c.in_ok-old.ensures.old)
+    ∙ sym c.is_some.ensures
+    ∙ c.if-is_some.true in
     ap (λ o. option_map fault.Duplicate o) (ap (λ shapes. duplicate_behind [] (names_of shapes)) (shapes_split ds i d (omega arith) c.definition-item.is) ∙ old_name before (shape_of d) (map shape_of (drop (suc i) ds)) c.loop-definition.invariant.no_duplicate found ∙ ap Some (sym c.name_of-name.ensures))
 
 pub returns : goal.returns

@@ -28,13 +28,13 @@ returns-then-end-gt-STORE_WORDS c =
     let d = c.definition-item.result in
     let before = map shape_of (take i ds) in
     let end : c.loop-definition.end + c.from-end-in-loop-definition.result ≡ data_end before + size_of (shape_of d) =
-        omega (arith, c.from-end-in-loop-definition.ensures, c.size_of.ensures.value, c.loop-definition.invariant.end) in
+    omega (arith, c.from-end-in-loop-definition.ensures, c.size_of.ensures.value, c.loop-definition.invariant.end) in
     let labels : c.loop-definition.labels + c.from-labels.result ≡ label_count before + labels_in (shape_of d).kind =
-        omega (arith, c.from-labels.ensures, c.labels_in.ensures.value, c.loop-definition.invariant.labels) in
+    omega (arith, c.from-labels.ensures, c.labels_in.ensures.value, c.loop-definition.invariant.labels) in
     sym (ap fits (shapes_split ds i d (omega arith) c.definition-item.is) ∙ too_large before (shape_of d) (map shape_of (drop (suc i) ds)) (⊎_elim (λ e. inl (omega (arith, e, end))) (λ e. inr (omega (arith, e.1, labels))) c.then-end-gt-STORE_WORDS.either))
 
 pub returns : goal.returns
 returns c =
     let all : map shape_of (take c.loop-definition.definition-index c.args.definitions.now) ≡ map shape_of c.args.definitions.now =
-        ap (map shape_of) (take_all c.loop-definition.definition-index c.args.definitions.now c.loop-definition-test.false) in
+    ap (map shape_of) (take_all c.loop-definition.definition-index c.args.definitions.now c.loop-definition-test.false) in
     sym (fits_if (map shape_of c.args.definitions.now) (omega (arith, ap data_end all)) (omega (arith, ap label_count all)))

@@ -50,7 +50,7 @@ invariant_of-result c =
     let fit : fits (map shape_of ds) ≡ true = sym c.fits.ensures ∙ c.if-not-fits.false in
     let known = known_in c.in_ok-addresses.addresses.entries in
     let long : length c.in_ok-part.part.words.items ≡ data_end (map shape_of ds) =
-        ap (λ (p : Part). length p.words) (c.in_ok-part.ensures.0 ∙ loaded_all known ds) ∙ length-words known ds in
+    ap (λ (p : Part). length p.words) (c.in_ok-part.ensures.0 ∙ loaded_all known ds) ∙ length-words known ds in
     omega (arith, long, (bounds_if_fits (map shape_of ds) fit).0)
 
 pub returns-clause-ok : goal.returns-clause-ok

@@ -34,7 +34,7 @@ add-requires-clause-words c =
     let ds = c.args.definitions.now in
     let d = c.definition-item.result in
     let long : length c.loop-definition.part.words.items ≡ data_end (map shape_of (take i ds)) =
-        ap (λ (p : Part). length p.words) (c.loop-definition.invariant.part ∙ loaded_all known (take i ds)) ∙ length-words known (take i ds) in
+    ap (λ (p : Part). length p.words) (c.loop-definition.invariant.part ∙ loaded_all known (take i ds)) ∙ length-words known (take i ds) in
     omega (arith, long, (one_more_fits (map shape_of (take i ds)) (shape_of d) (map shape_of (drop (suc i) ds)) (ap fits (sym (shapes_split ds i d (omega arith) c.definition-item.is)) ∙ c.requires)).0)
 
 pub add-requires-clause-functions : goal.add-requires-clause-functions
@@ -52,7 +52,7 @@ add-requires-clause-labels c =
     let ds = c.args.definitions.now in
     let d = c.definition-item.result in
     let label : c.loop-definition.part.first_label ≡ 1 + label_count (map shape_of (take i ds)) =
-        ap (λ (p : Part). p.first_label) (c.loop-definition.invariant.part ∙ loaded_all known (take i ds)) in
+    ap (λ (p : Part). p.first_label) (c.loop-definition.invariant.part ∙ loaded_all known (take i ds)) in
     omega (arith, label, (one_more_fits (map shape_of (take i ds)) (shape_of d) (map shape_of (drop (suc i) ds)) (ap fits (sym (shapes_split ds i d (omega arith) c.definition-item.is)) ∙ c.requires)).1)
 
 pub returns-in_err-add : goal.returns-in_err-add
@@ -64,5 +64,5 @@ pub returns : goal.returns
 returns c =
     let known = known_in c.args.addresses.now.entries in
     let all : take c.loop-definition.definition-index c.args.definitions.now ≡ c.args.definitions.now =
-        take_all c.loop-definition.definition-index c.args.definitions.now c.loop-definition-test.false in
+    take_all c.loop-definition.definition-index c.args.definitions.now c.loop-definition-test.false in
     (c.loop-definition.invariant.part ∙ ap (fold (with_definition known) first_part) all, ap (λ ds. first_undefined known (flat_map names_in ds)) (sym all) ∙ c.loop-definition.invariant.defined)

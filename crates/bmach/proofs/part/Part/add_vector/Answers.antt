@@ -22,22 +22,22 @@ returns c =
     let own = old ++ (length old + 1) ∷ [] in
     let values = map (value_word known strings) p.values.items in
     let pushed : c.push_values.new.words.items ≡ own ++ values =
-        c.in_ok-push_values.ensures.0
-        ∙ ap (λ ws. ws ++ map (value_word known end) c.deref.result.now) (c.in_ok-push.ensures.items ∙ ap (λ a. old ++ (a + 1) ∷ []) first)
-        ∙ ap (λ n. own ++ map (value_word known n) c.deref.result.now) is_end
-        ∙ ap (λ vs. own ++ map (value_word known strings) vs) c.deref.ensures.value in
+    c.in_ok-push_values.ensures.0
+    ∙ ap (λ ws. ws ++ map (value_word known end) c.deref.result.now) (c.in_ok-push.ensures.items ∙ ap (λ a. old ++ (a + 1) ∷ []) first)
+    ∙ ap (λ n. own ++ map (value_word known n) c.deref.result.now) is_end
+    ∙ ap (λ vs. own ++ map (value_word known strings) vs) c.deref.ensures.value in
     let count : vec_len c.push_values.new.words ≡ length (own ++ values) = c.push_values.new.words.ok.0 ∙ ap length pushed in
     let long : length values ≡ length p.values.items = length-map p.values.items _ in
     let filled : c.resize.new.self.items ≡ own ++ padded p.words values =
-        c.in_ok-resize.ensures.items
-        ∙ ap (λ ws. take end ws ++ replicate (end - vec_len c.push_values.new.words) 0) pushed
-        ∙ padded_behind own values p.words end (vec_len c.push_values.new.words) (omega (arith, is_end, long, length-append old ((length old + 1) ∷ []))) count in
+    c.in_ok-resize.ensures.items
+    ∙ ap (λ ws. take end ws ++ replicate (end - vec_len c.push_values.new.words) 0) pushed
+    ∙ padded_behind own values p.words end (vec_len c.push_values.new.words) (omega (arith, is_end, long, length-append old ((length old + 1) ∷ []))) count in
     let words : c.extend_from_slice.new.self.items ≡ old ++ ((length old + 1) ∷ (padded p.words values ++ p.strings.items)) =
-        c.in_ok-extend_from_slice.ensures.items
-        ∙ ap (λ ws. ws ++ c.deref-2.result.now) filled
-        ∙ ap (λ ss. (own ++ padded p.words values) ++ ss) c.deref-2.ensures.value
-        ∙ append_assoc own (padded p.words values) p.strings.items
-        ∙ append_assoc old ((length old + 1) ∷ []) (padded p.words values ++ p.strings.items) in
+    c.in_ok-extend_from_slice.ensures.items
+    ∙ ap (λ ws. ws ++ c.deref-2.result.now) filled
+    ∙ ap (λ ss. (own ++ padded p.words values) ++ ss) c.deref-2.ensures.value
+    ∙ append_assoc own (padded p.words values) p.strings.items
+    ∙ append_assoc old ((length old + 1) ∷ []) (padded p.words values ++ p.strings.items) in
     let functions = map loaded_of c.args.self.now.functions.items in
     let same : functions ≡ functions ++ [] = sym (append-nil functions) in
     let label : c.args.self.now.first_label ≡ c.args.self.now.first_label + 0 = omega arith in
