@@ -143,6 +143,7 @@ impl Scope {
 fn index_of(entries: &Entries, name: Name) -> Option<usize>
     ensures index { result ≡ index_of name entries.now.items }
     ensures within { IfSome result (λ index. index < length entries.now.items) }
+    ensures few { length entries.now.items ≤ most_names }
 {
     entries.as_slice().iter().position(|entry| entry.name == name)
 }
@@ -157,6 +158,7 @@ fn entry_at(entries: &Entries, index: usize) -> Entry
 // Enters a name behind the others, and answers where it stands.
 fn enter(entries: &mut Entries, name: Name, kind: Kind) -> Result<usize, TooManyNames>
     ensures index { IfOk result (λ index. index ≡ length entries.old.items) }
+    ensures few { length entries.new.items ≤ most_names }
     ensures entries { with_entry name kind entries.old.items ≡ option_map (λ _. entries.new.items) (result_ok result) }
     ensures unchanged { OnErr result (entries.new ≡ entries.old) }
 {
@@ -169,6 +171,7 @@ fn enter(entries: &mut Entries, name: Name, kind: Kind) -> Result<usize, TooMany
 
 // Gives a new name, or an internal one that has none, this label.
 fn label(entries: &mut Entries, name: Name, number: u16) -> Result<(), DeclareFault>
+    ensures few { length entries.new.items ≤ most_names }
     ensures ok { OnOk result (labelled name number entries.old.items ≡ Ok entries.new.items) }
     ensures err { IfErr result (λ fault. labelled name number entries.old.items ≡ Err fault) }
     ensures unchanged { OnErr result (entries.new ≡ entries.old) }
