@@ -11,5 +11,5 @@ ab = refl
 nothing : packed [] ≡ 4 ∷ []
 nothing = refl
 
-odd : packed (codes "x") ≡ 120 + 4 * 256 ∷ []
+odd : packed (codes "x") ≡ (120 + 4 * 256) ∷ []
 odd = refl
