@@ -1,5 +1,5 @@
 //! The code of a definition.
-ghost use Rattle.std.specs.Prelude.{◌≡◌, ◌+◌, ◌*◌, ◌/◌, ◌<◌, ◌≤◌, ◌↔◌, ◌++◌, length, All, Ok, Err, IsOk, IsSome, OnOk, OnErr, IfOk, IfErr};
+ghost use Rattle.std.specs.Prelude.{◌≡◌, ◌+◌, ◌*◌, ◌/◌, ◌<◌, ◌≤◌, ◌↔◌, ◌++◌, [], ◌∷◌, length, All, Ok, Err, IsOk, IsSome, OnOk, OnErr, IfOk, IfErr};
 ghost use Rattle.arrayvec.specs.ArrayVec.{array_vec_len};
 ghost use Rattle.bemit.specs.Buffers.{no_code, most_instructions, most_string_words, most_cases, with_instr, jump, hole_at, IsOpen, filled, with_label, numbered, resolved, packed, word_of, with_text, has_case, with_case};
 ghost use Rattle.bemit.specs.Scopes.{label_number};
@@ -10,14 +10,14 @@ use arrayvec::ArrayVec;
 use bcode::Instr;
 use std::marker::Model;
 
-/// The most instructions of a definition.
-pub const MAX_INSTRUCTIONS: usize = 4096;
+// The most instructions of a definition.
+const MAX_INSTRUCTIONS: usize = 4096;
 
-/// The most string words of a definition.
-pub const MAX_STRING_WORDS: usize = 1024;
+// The most string words of a definition.
+const MAX_STRING_WORDS: usize = 1024;
 
-/// The most cases of a function.
-pub const MAX_CASES: usize = 256;
+// The most cases of a function.
+const MAX_CASES: usize = 256;
 
 // The byte that ends a string.
 const STRING_END: u8 = 4;
@@ -86,12 +86,7 @@ impl CodeBuffer {
         ensures ok { OnOk result (self.new ≡ with_instr instr self.old) }
         ensures err { OnErr result (self.new ≡ self.old) }
     {
-        if self.code.is_full() {
-            return Err(TooLarge);
-        }
-        let place = self.code.len() as u16;
-        self.code.push(instr);
-        Ok(place)
+        push_instr(&mut self.code, instr)
     }
 
     /// Adds a jump whose target comes later.
@@ -121,12 +116,8 @@ impl CodeBuffer {
         ensures ok { OnOk result (self.new ≡ with_label entry self.old) }
         ensures err { OnErr result (self.new ≡ self.old) }
     {
-        if self.code.is_full() {
-            return Err(TooLarge);
-        }
-        let place = self.code.len() as u16;
+        let place = push_instr(&mut self.code, Instr::Label(entry))?;
         self.labels.push(PendingLabel { place, entry });
-        self.code.push(Instr::Label(entry));
         Ok(place)
     }
 
@@ -200,6 +191,20 @@ impl CodeBuffer {
     }
 }
 
+fn push_instr(code: &mut Code, instr: Instr) -> Result<u16, TooLarge>
+    ensures room { IsOk result ↔ (length code.old.items < most_instructions) }
+    ensures place { IfOk result (λ place. place ≡ length code.old.items) }
+    ensures ok { OnOk result (code.new.items ≡ code.old.items ++ instr ∷ []) }
+    ensures err { OnErr result (code.new ≡ code.old) }
+{
+    let place = code.len() as u16;
+    match code.try_push(instr) {
+        Ok(()) => Ok(place),
+        Err(_) => Err(TooLarge),
+    }
+}
+
+// Gives each of these label instructions its number.
 fn number_labels(code: &mut Code, labels: &[PendingLabel], scope: &Scope)
     requires places { All (λ l. l.place < length code.old.items) labels.now }
     requires numbers { All (λ l. IsSome (label_number scope.now.entries l.entry)) labels.now }
@@ -211,6 +216,7 @@ fn number_labels(code: &mut Code, labels: &[PendingLabel], scope: &Scope)
     }
 }
 
+// Adds the words of a string, for which there is room.
 fn push_text(strings: &mut Strings, text: &[u8])
     requires { array_vec_len strings.old + length text.now / 2 < most_string_words }
     ensures { strings.new.items ≡ strings.old.items ++ packed text.now }

@@ -9,8 +9,8 @@ use arrayvec::ArrayVec;
 use bword::Name;
 use std::marker::Model;
 
-/// The most names of a function.
-pub const MAX_NAMES: usize = 128;
+// The most names of a function.
+const MAX_NAMES: usize = 128;
 
 type Entries = ArrayVec<Entry, MAX_NAMES>;
 
@@ -121,7 +121,7 @@ impl Scope {
     }
 
     /// The number of the label that an entry has, if it has one.
-    pub fn label_number(&self, entry: u16) -> Option<u16>
+    pub(crate) fn label_number(&self, entry: u16) -> Option<u16>
         ensures { result ≡ label_number self.now.entries entry }
     {
         match self.entries.get(usize::from(entry))?.kind {
