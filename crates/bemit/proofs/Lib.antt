@@ -1,2 +1,3 @@
+pub mod BindingLemmas
 pub mod BufferLemmas
 pub mod ScopeLemmas

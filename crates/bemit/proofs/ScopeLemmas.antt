@@ -34,7 +34,7 @@ slice_get-push : {X : Type 0} (xs : List X) (y : X) → slice_get (xs ++ y ∷ [
 slice_get-push [] y = refl
 slice_get-push (x ∷ xs) y = slice_get-push xs y
 
-with_entry-is : (b : Bool) (es new : List Entry) → cond b (Some es) None ≡ Some new → new ≡ es
+pub with_entry-is : (b : Bool) (es new : List Entry) → cond b (Some es) None ≡ Some new → new ≡ es
 with_entry-is true es new h = cc
 with_entry-is false es new h = cc
 

@@ -243,5 +243,7 @@ fn word_of(low: u8, high: u8) -> u16
 fn has_case(cases: &[Case], switch: u64, value: u16) -> bool
     ensures { result ≡ has_case switch value cases.now }
 {
-    cases.iter().any(|case| case.switch == switch && case.value == value)
+    cases
+        .iter()
+        .any(|case| case.switch == switch && case.value == value)
 }

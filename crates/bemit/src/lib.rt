@@ -10,3 +10,6 @@ pub use buffer::CodeBuffer;
 pub use names::{Binding, DeclareFault, Declared, TooManyNames, Undefined};
 pub use parts::{Branch, Case, CaseFault, Hole, TooLarge};
 pub use scope::Scope;
+
+#[cfg(test)]
+mod tests;

@@ -1,7 +1,5 @@
 //! The table of names of a function.
-ghost use Rattle.std.specs.Prelude.{◌≡◌, ◌<◌, ◌≤◌, ◌++◌, [], ◌∷◌, length, Some, Ok, Err, OnOk, OnErr, IfOk, IfErr, IfSome, slice_get};
-ghost use Rattle.std.specs.Option.{option_map};
-ghost use Rattle.std.specs.Result.{result_ok};
+ghost use Rattle.std.specs.Prelude.{◌≡◌, ◌<◌, ◌≤◌, ◌++◌, [], ◌∷◌, length, Some, None, Ok, Err, OnOk, OnErr, IfOk, IfErr, IfSome, slice_get};
 ghost use Rattle.bemit.specs.Scopes.{no_names, most_names, index_of, with_entry, kind_declared, declared, kind_mentioned, mentioned, binding_of, labelled, label_number, finished};
 
 use crate::names::{Binding, DeclareFault, Declared, Entry, Kind, TooManyNames, Undefined};
@@ -75,7 +73,8 @@ impl Scope {
     /// where it is called, else as internal.
     pub fn mention(&mut self, name: Name, called: bool, line: u64) -> Result<Binding, TooManyNames>
         ensures binding { IfOk result (λ binding. binding_of name self.new.entries ≡ Some binding) }
-        ensures entries { mentioned name (kind_mentioned called line) self.old.entries ≡ option_map (λ _. self.new.entries) (result_ok result) }
+        ensures ok { OnOk result (mentioned name (kind_mentioned called line) self.old.entries ≡ Some self.new.entries) }
+        ensures err { OnErr result (mentioned name (kind_mentioned called line) self.old.entries ≡ None) }
         ensures unchanged { OnErr result (self.new ≡ self.old) }
         ensures targets { self.new.targets ≡ self.old.targets }
     {
@@ -145,7 +144,10 @@ fn index_of(entries: &Entries, name: Name) -> Option<usize>
     ensures within { IfSome result (λ index. index < length entries.now.items) }
     ensures few { length entries.now.items ≤ most_names }
 {
-    entries.as_slice().iter().position(|entry| entry.name == name)
+    entries
+        .as_slice()
+        .iter()
+        .position(|entry| entry.name == name)
 }
 
 fn entry_at(entries: &Entries, index: usize) -> Entry
@@ -159,7 +161,8 @@ fn entry_at(entries: &Entries, index: usize) -> Entry
 fn enter(entries: &mut Entries, name: Name, kind: Kind) -> Result<usize, TooManyNames>
     ensures index { IfOk result (λ index. index ≡ length entries.old.items) }
     ensures few { length entries.new.items ≤ most_names }
-    ensures entries { with_entry name kind entries.old.items ≡ option_map (λ _. entries.new.items) (result_ok result) }
+    ensures ok { OnOk result (with_entry name kind entries.old.items ≡ Some entries.new.items) }
+    ensures err { OnErr result (with_entry name kind entries.old.items ≡ None) }
     ensures unchanged { OnErr result (entries.new ≡ entries.old) }
 {
     let index = entries.len();

@@ -5,5 +5,5 @@ use Rattle.bemit.proofs.scope.Scope.mention.Goals as goal
 
 pub returns-clause-binding : goal.returns-clause-binding
 returns-clause-binding c =
-    let bound = binding_of-with_entry c.args.name c.if-called.kind _ _ (sym c.in_default.ensures.index) c.in_ok-index.ensures.entries in
+    let bound = binding_of-with_entry c.args.name c.if-called.kind _ _ (sym c.in_default.ensures.index) c.in_ok-index.ensures.ok in
     rw (c.binding-2.ensures, c.in_ok-index.ensures.index) bound
