@@ -2,7 +2,7 @@
 use Rattle.std.proofs.Common.{◌≡◌, ℕ, zero, suc, ◌+◌, Bool, true, false, cond, List, [], ◌∷◌, ◌++◌, length, Option, Some, None, Result, Ok, Err, refl, sym, ◌∙◌, ap, get_or, slice_get, slice_set, if◌then◌else◌}
 use Rattle.std.specs.Prelude.{nat_eq, nat_lt, position}
 use Rattle.std.specs.List.{position_from, position_or_len}
-use Rattle.std.specs.Option.{option_map, option_and_then, ok_or, is_some}
+use Rattle.std.specs.Option.{option_map, option_and_then, ok_or}
 use Rattle.std.specs.Cmp.Lexicographic.{nat_list_eq_equiv}
 use Rattle.std.proofs.Math.ListN.{length-set}
 use Rattle.std.proofs.lemmas.Iterator.Adapters.{position_from-zero}
@@ -14,8 +14,8 @@ use Rattle.bemit.specs.declared.names.Kind.{Kind}
 use Rattle.bemit.specs.declared.names.Kind.TheVariants.{Automatic, External, Unlabelled, Label}
 use Rattle.bemit.specs.declared.names.Entry.{Entry}
 use Rattle.bemit.specs.declared.names.DeclareFault.{DeclareFault}
-use Rattle.bemit.specs.declared.names.DeclareFault.TheVariants.{Redeclared, TooManyNames}
-use Rattle.bemit.specs.Scopes.{is_named, index_of, with_entry, declared, mentioned, binding_at, binding_of, is_unlabelled, is_unlabelled_at, labelled_at, labelled}
+use Rattle.bemit.specs.declared.names.DeclareFault.TheVariants.{Redeclared}
+use Rattle.bemit.specs.Scopes.{is_named, index_of, with_entry, binding_at, binding_of, KeepsBindings, is_unlabelled, is_unlabelled_at, labelled_at, labelled}
 use Rattle.bemit.proofs.ScopeLemmas.{with_entry-is}
 
 stays : {X : Type 0} (b : Bool) (o r s : Option X) (x : X) → cond b o r ≡ Some x → (r ≡ Some x → s ≡ Some x) → cond b o s ≡ Some x
@@ -51,14 +51,13 @@ binding-append name es more b None e h = cc
 binding-append name es more b (Some i) e h =
     rw (position-append (is_named name) es more i e) (bound-append i es more b (slice_get es i) refl h)
 
-pub binding_of-append : (name : List ℕ) (es more : List Entry) (b : Binding)
+binding_of-append : (name : List ℕ) (es more : List Entry) (b : Binding)
     → binding_of name es ≡ Some b → binding_of name (es ++ more) ≡ Some b
 binding_of-append name es more b h = binding-append name es more b (index_of name es) refl h
 
 -- A new entry changes no other name.
-pub binding_of-with_entry_kept : (name : List ℕ) (kind : Kind) (es new : List Entry) (x : List ℕ) (b : Binding)
-    → with_entry name kind es ≡ Some new → binding_of x es ≡ Some b → binding_of x new ≡ Some b
-binding_of-with_entry_kept name kind es new x b h g = rw (with_entry-is _ _ _ h) (binding_of-append x es _ b g)
+pub KeepsBindings-with_entry : (name : List ℕ) (kind : Kind) (es new : List Entry) → with_entry name kind es ≡ Some new → KeepsBindings es new
+KeepsBindings-with_entry name kind es new h = λ x b g. rw (with_entry-is _ _ _ h) (binding_of-append x es _ b g)
 
 both_internal : (i number : ℕ) (k : Kind) → is_unlabelled k ≡ true → Internal i ≡ binding_at i k
 both_internal i number (Automatic word) h = cc
@@ -107,35 +106,11 @@ entered-is (Some es) e new h = cc
 binding-labelled_at : (name x : List ℕ) (number : ℕ) (es new : List Entry) (b : Binding) (o : Option ℕ) → index_of name es ≡ o
     → labelled_at name number es o ≡ Ok new → binding_of x es ≡ Some b → binding_of x new ≡ Some b
 binding-labelled_at name x number es new b None e h g =
-    binding_of-with_entry_kept name (Label number) es new x b (entered-is _ _ _ h) g
+    KeepsBindings-with_entry name (Label number) es new (entered-is _ _ _ h) x b g
 binding-labelled_at name x number es new b (Some i) e h g =
     let done = replaced-is (is_unlabelled_at es i) _ new h in
     rw done.1 (binding_of-slice_set name x number es i e done.0 ∙ g)
 
 -- A label changes no other name, and its own stays internal.
-pub binding_of-labelled : (name x : List ℕ) (number : ℕ) (es new : List Entry) (b : Binding)
-    → labelled name number es ≡ Ok new → binding_of x es ≡ Some b → binding_of x new ≡ Some b
-binding_of-labelled name x number es new b h g = binding-labelled_at name x number es new b (index_of name es) refl h g
-
-declared-is : (b : Bool) (o : Option (List Entry)) (new : List Entry)
-    → (let r : Result (List Entry) DeclareFault = if b then Err Redeclared else ok_or o TooManyNames in r) ≡ Ok new → o ≡ Some new
-declared-is true o new h = cc
-declared-is false o new h = entered-is o TooManyNames new h
-
--- A declaration changes no other name.
-pub binding_of-declared : (name x : List ℕ) (kind : Kind) (es new : List Entry) (b : Binding)
-    → declared name kind es ≡ Ok new → binding_of x es ≡ Some b → binding_of x new ≡ Some b
-binding_of-declared name x kind es new b h g =
-    binding_of-with_entry_kept name kind es new x b (declared-is (is_some (index_of name es)) _ new h) g
-
-mentioned-is : (c : Bool) (x : List ℕ) (es new : List Entry) (o : Option (List Entry)) (b : Binding)
-    → (o ≡ Some new → binding_of x new ≡ Some b) → binding_of x es ≡ Some b → cond c (Some es) o ≡ Some new → binding_of x new ≡ Some b
-mentioned-is true x es new o b f g h = let e : new ≡ es = cc in rw e g
-mentioned-is false x es new o b f g h = f h
-
--- A mention changes no name that is there.
-pub binding_of-mentioned : (name x : List ℕ) (kind : Kind) (es new : List Entry) (b : Binding)
-    → mentioned name kind es ≡ Some new → binding_of x es ≡ Some b → binding_of x new ≡ Some b
-binding_of-mentioned name x kind es new b h g =
-    mentioned-is (is_some (index_of name es)) x es new (with_entry name kind es) b
-    (λ e. binding_of-with_entry_kept name kind es new x b e g) g h
+pub KeepsBindings-labelled : (name : List ℕ) (number : ℕ) (es new : List Entry) → labelled name number es ≡ Ok new → KeepsBindings es new
+KeepsBindings-labelled name number es new h = λ x b g. binding-labelled_at name x number es new b (index_of name es) refl h g

@@ -1,5 +1,5 @@
 -- The names of one function: a table in the order of entering, and the targets of its labels.
-use Rattle.std.specs.Prelude.{ℕ, ◌+◌, List, [], ◌∷◌, ◌++◌, length, Bool, true, false, ◌==◌, nat_eq, nat_lt, Option, Some, None, Result, Ok, Err, is_some, position, slice_get, slice_set, if◌then◌else◌}
+use Rattle.std.specs.Prelude.{◌≡◌, ℕ, ◌+◌, List, [], ◌∷◌, ◌++◌, length, Bool, true, false, ◌==◌, nat_eq, nat_lt, Option, Some, None, Result, Ok, Err, is_some, position, slice_get, slice_set, if◌then◌else◌}
 use Rattle.std.specs.Option.{option_map, option_map_or, option_and_then, ok_or}
 use Rattle.std.specs.Result.{result_and}
 use Rattle.std.specs.Cmp.Lexicographic.{pointwise}
@@ -65,6 +65,10 @@ binding_at i (Label number) = bindings.Internal i
 -- what a name stands for
 abbrev pub binding_of : List ℕ → List Entry → Option Binding
 binding_of name entries = option_and_then (λ i. option_map (λ e. binding_at i e.kind) (slice_get entries i)) (index_of name entries)
+
+-- Each name that is in the old table stands for the same in the new one.
+abbrev pub KeepsBindings : List Entry → List Entry → Type 0
+KeepsBindings old new = (name : List ℕ) (binding : Binding) → binding_of name old ≡ Some binding → binding_of name new ≡ Some binding
 
 abbrev pub is_unlabelled : Kind → Bool
 is_unlabelled (Automatic word) = false

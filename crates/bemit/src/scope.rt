@@ -1,6 +1,6 @@
 //! The table of names of a function.
 ghost use Rattle.std.specs.Prelude.{◌≡◌, ◌<◌, ◌≤◌, ◌++◌, [], ◌∷◌, length, Some, None, Ok, Err, OnOk, OnErr, IfOk, IfErr, IfSome, slice_get};
-ghost use Rattle.bemit.specs.Scopes.{no_names, most_names, index_of, with_entry, kind_declared, declared, kind_mentioned, mentioned, binding_of, labelled, label_number, finished};
+ghost use Rattle.bemit.specs.Scopes.{no_names, most_names, index_of, with_entry, kind_declared, declared, kind_mentioned, mentioned, binding_of, KeepsBindings, labelled, label_number, finished};
 
 use crate::names::{Binding, DeclareFault, Declared, Entry, Kind, TooManyNames, Undefined};
 use arrayvec::ArrayVec;
@@ -57,6 +57,7 @@ impl Scope {
         ensures err { IfErr result (λ fault. declared name (kind_declared how) self.old.entries ≡ Err fault) }
         ensures unchanged { OnErr result (self.new ≡ self.old) }
         ensures targets { self.new.targets ≡ self.old.targets }
+        ensures kept { OnOk result (KeepsBindings self.old.entries self.new.entries) }
     {
         if index_of(&self.entries, name).is_some() {
             return Err(DeclareFault::Redeclared);
@@ -77,6 +78,7 @@ impl Scope {
         ensures err { OnErr result (mentioned name (kind_mentioned called line) self.old.entries ≡ None) }
         ensures unchanged { OnErr result (self.new ≡ self.old) }
         ensures targets { self.new.targets ≡ self.old.targets }
+        ensures kept { OnOk result (KeepsBindings self.old.entries self.new.entries) }
     {
         if let Some(index) = index_of(&self.entries, name) {
             return Ok(entry_at(&self.entries, index).kind.binding(index));
@@ -96,6 +98,7 @@ impl Scope {
         ensures ok { OnOk result (labelled name (length self.old.targets) self.old.entries ≡ Ok self.new.entries) }
         ensures err { IfErr result (λ fault. labelled name (length self.old.targets) self.old.entries ≡ Err fault) }
         ensures target { OnOk result (self.new.targets ≡ self.old.targets ++ place ∷ []) }
+        ensures kept { OnOk result (KeepsBindings self.old.entries self.new.entries) }
         ensures unchanged { OnErr result (self.new ≡ self.old) }
     {
         let number = self.targets.len() as u16;
