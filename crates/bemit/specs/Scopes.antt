@@ -1,5 +1,5 @@
 -- The names of one function: a table in the order of entering, and the targets of its labels.
-use Rattle.std.specs.Prelude.{◌≡◌, ℕ, ◌+◌, List, [], ◌∷◌, ◌++◌, length, Bool, true, false, ◌==◌, nat_eq, nat_lt, Option, Some, None, Result, Ok, Err, is_some, position, slice_get, slice_set, if◌then◌else◌}
+use Rattle.std.specs.Prelude.{◌≡◌, ℕ, ◌+◌, List, [], ◌∷◌, ◌++◌, length, Bool, true, false, ◌==◌, nat_eq, nat_lt, Option, Some, None, Result, Ok, Err, is_some, IsSome, position, slice_get, slice_set, if◌then◌else◌}
 use Rattle.std.specs.Option.{option_map, option_map_or, option_and_then, ok_or}
 use Rattle.std.specs.Result.{result_and}
 use Rattle.std.specs.Cmp.Lexicographic.{pointwise}
@@ -111,3 +111,7 @@ labelled_or_undefined name (Label number) = Ok tt
 abbrev pub finished : List Entry → Result (Unit {0}) Undefined
 finished [] = Ok tt
 finished (e ∷ es) = result_and (labelled_or_undefined e.name e.kind) (finished es)
+
+-- Each internal name has a label with a number.
+abbrev pub AllLabelled : List Entry → Type 0
+AllLabelled entries = (name : List ℕ) (i : ℕ) → binding_of name entries ≡ Some (bindings.Internal i) → IsSome (label_number entries i)

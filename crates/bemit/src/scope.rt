@@ -1,6 +1,6 @@
 //! The table of names of a function.
 ghost use Rattle.std.specs.Prelude.{◌≡◌, ◌<◌, ◌≤◌, ◌++◌, [], ◌∷◌, length, Some, None, Ok, Err, OnOk, OnErr, IfOk, IfErr, IfSome, slice_get};
-ghost use Rattle.bemit.specs.Scopes.{no_names, most_names, index_of, with_entry, kind_declared, declared, kind_mentioned, mentioned, binding_of, KeepsBindings, labelled, label_number, finished};
+ghost use Rattle.bemit.specs.Scopes.{no_names, most_names, index_of, with_entry, kind_declared, declared, kind_mentioned, mentioned, binding_of, KeepsBindings, labelled, label_number, finished, AllLabelled};
 
 use crate::names::{Binding, DeclareFault, Declared, Entry, Kind, TooManyNames, Undefined};
 use arrayvec::ArrayVec;
@@ -109,7 +109,8 @@ impl Scope {
 
     /// Whether each internal name has a label. The first one without, in the order of first mention, is the fault.
     pub fn finish(&self) -> Result<(), Undefined>
-        ensures { result ≡ finished self.now.entries }
+        ensures value { result ≡ finished self.now.entries }
+        ensures labelled { OnOk result (AllLabelled self.now.entries) }
     {
         for entry in self.entries.as_slice() {
             if let Kind::Unlabelled { line } = entry.kind {
