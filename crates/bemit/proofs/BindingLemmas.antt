@@ -1,6 +1,6 @@
 -- A name keeps what it stands for, whatever enters the table after it.
 use Rattle.std.proofs.Common.{◌≡◌, ℕ, zero, suc, ◌+◌, Bool, true, false, cond, List, [], ◌∷◌, ◌++◌, length, Option, Some, None, Result, Ok, Err, refl, sym, ◌∙◌, ap, get_or, slice_get, slice_set, if◌then◌else◌}
-use Rattle.std.specs.Prelude.{nat_eq, nat_lt, position}
+use Rattle.std.specs.Prelude.{nat_lt, position}
 use Rattle.std.specs.List.{position_from, position_or_len}
 use Rattle.std.specs.Option.{option_map, option_and_then, ok_or}
 use Rattle.std.specs.Cmp.Lexicographic.{nat_list_eq_equiv}

@@ -1,14 +1,13 @@
 -- After a finished table each internal name has its label.
-use Rattle.std.proofs.Common.{◌≡◌, ℕ, zero, suc, Bool, true, false, List, [], ◌∷◌, Option, Some, None, Result, Ok, Err, refl, sym, ap, subst, IsSome, slice_get}
+use Rattle.std.proofs.Common.{◌≡◌, ℕ, zero, suc, false, List, [], ◌∷◌, Option, Some, None, Result, Ok, refl, subst, IsSome, slice_get}
 use Rattle.std.specs.Option.{option_map, option_and_then}
 use Rattle.std.specs.Result.{result_and}
-use Rattle.bemit.specs.declared.names.Binding.{Binding}
 use Rattle.bemit.specs.declared.names.Binding.TheVariants.{Internal}
 use Rattle.bemit.specs.declared.names.Kind.{Kind}
 use Rattle.bemit.specs.declared.names.Kind.TheVariants.{Automatic, External, Unlabelled, Label}
 use Rattle.bemit.specs.declared.names.Entry.{Entry}
 use Rattle.bemit.specs.declared.names.Undefined.{Undefined}
-use Rattle.bemit.specs.Scopes.{index_of, binding_at, binding_of, is_unlabelled, number_of, label_number, labelled_or_undefined, finished, AllLabelled}
+use Rattle.bemit.specs.Scopes.{index_of, binding_at, is_unlabelled, number_of, label_number, labelled_or_undefined, finished, AllLabelled}
 
 passed : (name : List ℕ) (k : Kind) (rest : Result (Unit {0}) Undefined)
     → result_and (labelled_or_undefined name k) rest ≡ Ok tt → (is_unlabelled k ≡ false) × (rest ≡ Ok tt)

@@ -1,5 +1,5 @@
 -- The names of one function: a table in the order of entering, and the targets of its labels.
-use Rattle.std.specs.Prelude.{◌≡◌, ℕ, ◌+◌, List, [], ◌∷◌, ◌++◌, length, Bool, true, false, ◌==◌, nat_eq, nat_lt, Option, Some, None, Result, Ok, Err, is_some, IsSome, position, slice_get, slice_set, if◌then◌else◌}
+use Rattle.std.specs.Prelude.{◌≡◌, ℕ, List, [], ◌∷◌, ◌++◌, length, Bool, true, false, nat_eq, nat_lt, Option, Some, None, Result, Ok, Err, is_some, IsSome, position, slice_get, slice_set, if◌then◌else◌}
 use Rattle.std.specs.Option.{option_map, option_map_or, option_and_then, ok_or}
 use Rattle.std.specs.Result.{result_and}
 use Rattle.std.specs.Cmp.Lexicographic.{pointwise}

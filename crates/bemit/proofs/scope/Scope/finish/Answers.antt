@@ -1,4 +1,4 @@
-use Rattle.std.proofs.Common.{◌≡◌, Ok, arith, sym, rules}
+use Rattle.std.proofs.Common.{◌≡◌, Ok, arith, sym}
 use Rattle.std.proofs.lemmas.Grind.{common_steps}
 use Rattle.bemit.specs.Scopes.{finished}
 use Rattle.bemit.proofs.FinishLemmas.{AllLabelled-finished}
