@@ -1,0 +1,4 @@
+pub mod BindingLemmas
+pub mod BufferLemmas
+pub mod FinishLemmas
+pub mod ScopeLemmas

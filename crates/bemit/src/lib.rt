@@ -1,0 +1,15 @@
+//! The names and the code of one function while it is compiled, in a fixed room. No call takes memory.
+#![tactic(auto)]
+
+mod buffer;
+mod names;
+mod parts;
+mod scope;
+
+pub use buffer::CodeBuffer;
+pub use names::{Binding, DeclareFault, Declared, TooManyNames, Undefined};
+pub use parts::{Branch, Case, CaseFault, Hole, TooLarge};
+pub use scope::Scope;
+
+#[cfg(test)]
+mod tests;

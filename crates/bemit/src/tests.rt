@@ -1,0 +1,155 @@
+use crate::{
+    Binding, Branch, Case, CaseFault, CodeBuffer, DeclareFault, Declared, Scope, TooLarge,
+    TooManyNames, Undefined,
+};
+use bcode::Instr;
+use bword::Name;
+use std::test::Fail;
+
+fn name(text: &str) -> Result<Name, Fail> {
+    Ok(Name::new(text).ok_or("a name")?)
+}
+
+#[test]
+fn names_are_bound_where_they_are_declared_or_mentioned(rt: HostRuntime) -> Result<(), Fail> {
+    let mut scope = Scope::new();
+    assert_eq!(rt; scope.declare(name("a")?, Declared::Auto(3)), Ok(()));
+    assert_eq!(rt; scope.declare(name("n")?, Declared::External), Ok(()));
+    assert_eq!(rt;
+        scope.declare(name("a")?, Declared::External),
+        Err(DeclareFault::Redeclared)
+    );
+    assert_eq!(rt;
+        scope.mention(name("a")?, true, 1),
+        Ok(Binding::Automatic(3))
+    );
+    assert_eq!(rt; scope.mention(name("n")?, false, 1), Ok(Binding::External));
+    assert_eq!(rt; scope.mention(name("f")?, true, 1), Ok(Binding::External));
+    assert_eq!(rt;
+        scope.mention(name("L")?, false, 2),
+        Ok(Binding::Internal(3))
+    );
+    assert_eq!(rt;
+        scope.mention(name("M")?, false, 3),
+        Ok(Binding::Internal(4))
+    );
+    assert_eq!(rt; scope.place_label(name("M")?, 7), Ok(0));
+    assert_eq!(rt;
+        scope.finish(),
+        Err(Undefined {
+            name: name("L")?,
+            line: 2
+        })
+    );
+    assert_eq!(rt;
+        scope.place_label(name("M")?, 8),
+        Err(DeclareFault::Redeclared)
+    );
+    assert_eq!(rt;
+        scope.place_label(name("f")?, 8),
+        Err(DeclareFault::Redeclared)
+    );
+    assert_eq!(rt; scope.place_label(name("N")?, 9), Ok(1));
+    assert_eq!(rt; scope.place_label(name("L")?, 4), Ok(2));
+    assert_eq!(rt;
+        scope.mention(name("L")?, true, 5),
+        Ok(Binding::Internal(3))
+    );
+    assert_eq!(rt; scope.finish(), Ok(()));
+    assert_eq!(rt; scope.targets(), [7, 9, 4].as_slice());
+    scope.clear();
+    assert_eq!(rt; scope.finish(), Ok(()));
+    assert_eq!(rt; scope.mention(name("a")?, true, 1), Ok(Binding::External));
+    Ok(())
+}
+
+#[test]
+fn a_function_has_128_names(rt: HostRuntime) -> Result<(), Fail> {
+    let mut scope = Scope::new();
+    for high in b"ABCDEFGH" {
+        for low in b"abcdefghijklmnop" {
+            let name = Name::from_bytes(&[*high, *low]).ok_or("a name")?;
+            assert_eq!(rt; scope.declare(name, Declared::External), Ok(()));
+        }
+    }
+    assert_eq!(rt;
+        scope.declare(name("x")?, Declared::External),
+        Err(DeclareFault::TooManyNames)
+    );
+    assert_eq!(rt; scope.mention(name("x")?, false, 1), Err(TooManyNames));
+    assert_eq!(rt;
+        scope.place_label(name("x")?, 0),
+        Err(DeclareFault::TooManyNames)
+    );
+    assert_eq!(rt;
+        scope.declare(name("Hp")?, Declared::External),
+        Err(DeclareFault::Redeclared)
+    );
+    assert_eq!(rt; scope.mention(name("Aa")?, false, 1), Ok(Binding::External));
+    Ok(())
+}
+
+#[test]
+fn a_hole_is_filled(rt: HostRuntime) -> Result<(), Fail> {
+    let mut buffer = CodeBuffer::new();
+    assert_eq!(rt; buffer.emit(Instr::Constant(1)), Ok(0));
+    let end = buffer.hole(Branch::JumpIfZero).ok().ok_or("room")?;
+    assert_eq!(rt; end.place(), 1);
+    buffer.fill(end, 3);
+    assert_eq!(rt; buffer.emit_label(5), Ok(2));
+    assert_eq!(rt; buffer.place(), 3);
+    assert_eq!(rt;
+        buffer.code(),
+        [Instr::Constant(1), Instr::JumpIfZero(3), Instr::Label(5)].as_slice()
+    );
+    Ok(())
+}
+
+#[test]
+fn strings_and_cases_have_a_room(rt: HostRuntime) {
+    let mut buffer = CodeBuffer::new();
+    assert_eq!(rt; buffer.text(b"hi"), Ok(0));
+    assert_eq!(rt; buffer.text(b""), Ok(2));
+    assert_eq!(rt; buffer.text(b"x"), Ok(3));
+    assert_eq!(rt; buffer.strings(), [26984, 4, 4, 1144].as_slice());
+    assert_eq!(rt; buffer.text(&[b'a'; 2039]), Ok(4));
+    assert_eq!(rt; buffer.text(b""), Err(TooLarge));
+    assert_eq!(rt; buffer.strings().len(), 1024);
+    for value in 0..256 {
+        assert_eq!(rt; buffer.add_case(0, value, 9), Ok(()));
+    }
+    assert_eq!(rt; buffer.add_case(0, 255, 9), Err(CaseFault::Redeclared));
+    assert_eq!(rt; buffer.add_case(1, 255, 9), Err(CaseFault::TooManyCases));
+    assert_eq!(rt;
+        buffer.cases().last(),
+        Some(&Case {
+            switch: 0,
+            value: 255,
+            target: 9
+        })
+    );
+    for place in 0..4096 {
+        assert_eq!(rt; buffer.emit(Instr::Pop), Ok(place));
+    }
+    assert_eq!(rt; buffer.emit(Instr::Pop), Err(TooLarge));
+    assert_eq!(rt; buffer.hole(Branch::Jump), Err(TooLarge));
+    assert_eq!(rt; buffer.emit_label(0), Err(TooLarge));
+    buffer.clear();
+    assert_eq!(rt; buffer.emit(Instr::Pop), Ok(0));
+    assert_eq!(rt; buffer.text(b"ab"), Ok(0));
+}
+
+#[test]
+fn labels_get_their_numbers(rt: HostRuntime) -> Result<(), Fail> {
+    let mut scope = Scope::new();
+    assert_eq!(rt; scope.place_label(name("L")?, 1), Ok(0));
+    let mut buffer = CodeBuffer::new();
+    assert_eq!(rt; buffer.emit(Instr::Label(3)), Ok(0));
+    assert_eq!(rt; buffer.emit_label(0), Ok(1));
+    buffer.resolve(&scope);
+    assert_eq!(rt;
+        buffer.code(),
+        [Instr::Label(3), Instr::Label(0)].as_slice()
+    );
+    Ok(())
+}
