@@ -70,8 +70,8 @@ compiling_more {old} {now} {new} h w = record {
   failures = w.failures ∙ h.failures;
   open_now = w.open_behind;
   comes = λ more f r g.
-    subst (λ ts. Goes old.names ts (with_texts (h.texts ++ w.text ∷ []) r)) (ap (tokens_of old.tokens) (sym (append_assoc h.taken w.taken more)))
-    (subst (λ code. Goes old.names (tokens_of old.tokens (h.taken ++ (w.taken ++ more))) (record { code = code; stop = r.stop })) (sym (append_assoc h.texts (w.text ∷ []) r.code))
+      subst (λ ts. Goes old.names ts (with_texts (h.texts ++ w.text ∷ []) r)) (ap (tokens_of old.tokens) (sym (append_assoc h.taken w.taken more)))
+      (subst (λ code. Goes old.names (tokens_of old.tokens (h.taken ++ (w.taken ++ more))) (record { code = code; stop = r.stop })) (sym (append_assoc h.texts (w.text ∷ []) r.code))
       (h.comes (w.taken ++ more) (follow w.keeps more f) (record { code = w.text ∷ r.code; stop = r.stop }) (w.comes more f r g)));
 }
 
@@ -85,8 +85,8 @@ all_written {old} {now} {new} stop h s = record {
   taken = h.taken ++ s.taken;
   keeps = keeps_then h.keeps s.keeps;
   written = λ more f r a.
-    let e = behind h s.keeps more f (record { code = []; stop = stop }) r (s.comes more f) a in
-    (ap (λ x. x.stop) e, subst (λ x. Writes old.out (code_text x) new.out) (sym e) (rw append-nil (Writes-append h.written s.written)));
+      let e = behind h s.keeps more f (record { code = []; stop = stop }) r (s.comes more f) a in
+      (ap (λ x. x.stop) e, subst (λ x. Writes old.out (code_text x) new.out) (sym e) (rw append-nil (Writes-append h.written s.written)));
 }
 
 began_behind : {a b c : Outgoing} {xs ys : List ℕ} → Writes a xs b → Began b ys c → Began a (xs ++ ys) c
@@ -113,12 +113,12 @@ all_broke {old} {now} {new} first then h b reasons = record {
   taken = h.taken ++ b.taken;
   keeps = keeps_then h.keeps b.keeps;
   began = λ more f r a.
-    let some = goes_some now.names (tokens_of now.tokens (b.taken ++ more)) (tokens_of-ended now.tokens (b.taken ++ more)) in
-    let q = some.outcome in
-    let e = behind h b.keeps more f q r some.goes a in
-    let began = began_behind h.written (began_all q.code q.stop (b.began more f q some.goes)) in
-    let same_ : joined h.texts ++ (joined q.code ++ ending q.stop) ≡ code_text (with_texts h.texts q) = sym (append_assoc (joined h.texts) (joined q.code) (ending q.stop)) ∙ ap (λ l. l ++ ending q.stop) (sym (joined-append h.texts q.code)) in
-    subst (λ x. Began old.out (code_text x) new.out) (sym e) (subst (λ l. Began old.out l new.out) same_ began);
+      let some = goes_some now.names (tokens_of now.tokens (b.taken ++ more)) (tokens_of-ended now.tokens (b.taken ++ more)) in
+      let q = some.outcome in
+      let e = behind h b.keeps more f q r some.goes a in
+      let began = began_behind h.written (began_all q.code q.stop (b.began more f q some.goes)) in
+      let same_ : joined h.texts ++ (joined q.code ++ ending q.stop) ≡ code_text (with_texts h.texts q) = sym (append_assoc (joined h.texts) (joined q.code) (ending q.stop)) ∙ ap (λ l. l ++ ending q.stop) (sym (joined-append h.texts q.code)) in
+      subst (λ x. Began old.out (code_text x) new.out) (sym e) (subst (λ l. Began old.out l new.out) same_ began);
   reason = reasons b.reason;
 }
 

@@ -73,8 +73,8 @@ module _ (old new : Tokens) (names : Names) (out : Outgoing) (lender : ℕ) wher
         failures = f.stops.failures;
         closed = refl;
         comes = λ more c.
-          let e = f.stops.come more c in
-          subst (λ ts. Goes names ts (record { code = []; stop = Some d })) (sym e.1)
+            let e = f.stops.come more c in
+            subst (λ ts. Goes names ts (record { code = []; stop = Some d })) (sym e.1)
             (subst (λ x. Goes names (f.tokens ++ f.at ∷ e.0) (record { code = []; stop = Some x })) (sym f.fault_is) (goes_stop names f.tokens f.at e.0 (f.reading (map kept e.0)) h.within));
       }
 

@@ -148,11 +148,11 @@ values_more {old} {mid} {next} {new} {was} {found} ival h comma value' f =
       read = h.read ++ v.tree ∷ [];
       passed = Passed-append h.passed (Passed-append comma.passed value'.passed);
       reading = λ rest.
-        ap values (kept_behind h.tokens (comma.placed ∷ value'.placed ∷ []) rest)
-        ∙ h.reading (kept comma.placed ∷ kept value'.placed ∷ rest)
-        ∙ ap (λ t. behind_value t (kept comma.placed ∷ kept value'.placed ∷ rest) (kept value'.placed ∷ rest) (value (kept value'.placed ∷ rest)) >>= λ more. Got (h.read ++ more)) (bare-kept comma.placed ∙ comma.token_is)
-        ∙ ap (λ o. with o (kept value'.placed ∷ rest) (more_values rest) >>= λ more. Got (h.read ++ more)) v.value_is
-        ∙ bind_more h.read v.tree (more_values rest);
+          ap values (kept_behind h.tokens (comma.placed ∷ value'.placed ∷ []) rest)
+          ∙ h.reading (kept comma.placed ∷ kept value'.placed ∷ rest)
+          ∙ ap (λ t. behind_value t (kept comma.placed ∷ kept value'.placed ∷ rest) (kept value'.placed ∷ rest) (value (kept value'.placed ∷ rest)) >>= λ more. Got (h.read ++ more)) (bare-kept comma.placed ∙ comma.token_is)
+          ∙ ap (λ o. with o (kept value'.placed ∷ rest) (more_values rest) >>= λ more. Got (h.read ++ more)) v.value_is
+          ∙ bind_more h.read v.tree (more_values rest);
       found_is = f ∙ ap (λ x. with_value x ival) h.found_is ∙ ap (with_value (values_of h.read)) (sym v.found_is) ∙ fitting-more h.read v.tree;
       open_now = value'.open_behind;
     }
@@ -163,9 +163,9 @@ values_end {old} {mid} {new} {found} h end = record {
   read = h.read ++ [];
   passed = Passed-append h.passed end.passed;
   reading = λ rest.
-    ap values (kept_behind h.tokens (end.placed ∷ []) rest)
-    ∙ h.reading (kept end.placed ∷ rest)
-    ∙ ap (λ t. behind_value t (kept end.placed ∷ rest) rest (value rest) >>= λ more. Got (h.read ++ more)) (bare-kept end.placed ∙ end.token_is);
+      ap values (kept_behind h.tokens (end.placed ∷ []) rest)
+      ∙ h.reading (kept end.placed ∷ rest)
+      ∙ ap (λ t. behind_value t (kept end.placed ∷ rest) rest (value rest) >>= λ more. Got (h.read ++ more)) (bare-kept end.placed ∙ end.token_is);
   found_is = h.found_is ∙ ap values_of (sym (append-nil h.read));
   open_behind = end.open_behind;
 }
@@ -177,9 +177,9 @@ values_fault {old} {mid} {new} {found} {d} h f = record {
   at = f.at;
   stops = Passed-stops h.passed f.stops;
   reading = λ rest.
-    ap values (kept_behind h.tokens f.tokens (kept f.at ∷ rest))
-    ∙ h.reading (map kept f.tokens ++ kept f.at ∷ rest)
-    ∙ ap (λ x. x >>= λ more. Got (h.read ++ more)) (f.reading rest);
+      ap values (kept_behind h.tokens f.tokens (kept f.at ∷ rest))
+      ∙ h.reading (map kept f.tokens ++ kept f.at ∷ rest)
+      ∙ ap (λ x. x >>= λ more. Got (h.read ++ more)) (f.reading rest);
   fault_is = f.fault_is;
 }
 
@@ -189,8 +189,8 @@ value_fault {old} {mid} {new} {d} comma f = record {
   at = f.at;
   stops = Passed-stops comma.passed f.stops;
   reading = λ rest.
-    ap (λ t. behind_value t (kept comma.placed ∷ map kept f.tokens ++ kept f.at ∷ rest) (map kept f.tokens ++ kept f.at ∷ rest) (value (map kept f.tokens ++ kept f.at ∷ rest))) (bare-kept comma.placed ∙ comma.token_is)
-    ∙ f.reading rest;
+      ap (λ t. behind_value t (kept comma.placed ∷ map kept f.tokens ++ kept f.at ∷ rest) (map kept f.tokens ++ kept f.at ∷ rest) (value (map kept f.tokens ++ kept f.at ∷ rest))) (bare-kept comma.placed ∙ comma.token_is)
+      ∙ f.reading rest;
   fault_is = f.fault_is;
 }
 
@@ -222,8 +222,8 @@ definition_read {old} {mid} {new} {p} {x} {found} {header} h e same r = record {
   tree = record { name = record { text = x; line = p.line }; values = r.read };
   passed = Passed-append (name_passed h e) r.passed;
   reading = λ rest.
-    ap (λ k. definition (k ∷ map kept r.tokens ++ rest)) (name_kept p x e)
-    ∙ ap (λ y. y >>= λ vs. Got (record { name = record { text = x; line = p.line }; values = vs })) (r.reading rest);
+      ap (λ k. definition (k ∷ map kept r.tokens ++ rest)) (name_kept p x e)
+      ∙ ap (λ y. y >>= λ vs. Got (record { name = record { text = x; line = p.line }; values = vs })) (r.reading rest);
   name = ap (λ y. y.name) (sym same);
   line = ap (λ y. y.line) (sym same);
   found_is = r.found_is;
@@ -237,8 +237,8 @@ definition_fault {old} {mid} {new} {p} {x} {d} h e f = record {
     at = f.at;
     stops = Passed-stops (name_passed h e) f.stops;
     reading = λ rest.
-      ap (λ k. definition (k ∷ map kept f.tokens ++ kept f.at ∷ rest)) (name_kept p x e)
-      ∙ ap (λ y. y >>= λ vs. Got (record { name = record { text = x; line = p.line }; values = vs })) (f.reading rest);
+        ap (λ k. definition (k ∷ map kept f.tokens ++ kept f.at ∷ rest)) (name_kept p x e)
+        ∙ ap (λ y. y >>= λ vs. Got (record { name = record { text = x; line = p.line }; values = vs })) (f.reading rest);
     fault_is = f.fault_is;
   };
   within = λ a n. cc;

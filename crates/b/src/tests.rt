@@ -7,13 +7,7 @@ use std::io::{self, Read, Write};
 use std::process::Abort;
 use std::test::Fail;
 
-fn compiles(
-    rt: &(impl AllocGlobal + Abort),
-    source: &str,
-    code: &str,
-    line: &str,
-    status: Status,
-) {
+fn compiles(rt: &(impl AllocGlobal + Abort), source: &str, code: &str, line: &str, status: Status) {
     let mut out = MemOut::new(rt.alloc());
     let mut diag = MemOut::new(rt.alloc());
     let answer = compile(
@@ -33,7 +27,13 @@ fn sources_without_fault(rt: HostRuntime) {
     compiles(&rt, "n 2000;", "X n 1 0\nc 2000\nE\n", "", 0);
     compiles(&rt, "n/*x*/017;", "X n 1 0\nc 15\nE\n", "", 0);
     compiles(&rt, "n 'ab';", "X n 1 0\nc 24930\nE\n", "", 0);
-    compiles(&rt, "t 'x', n; n;", "X t 2 0\nc 120\nx n\nX n 0 0\nE\n", "", 0);
+    compiles(
+        &rt,
+        "t 'x', n; n;",
+        "X t 2 0\nc 120\nx n\nX n 0 0\nE\n",
+        "",
+        0,
+    );
 }
 
 #[test]
@@ -92,7 +92,11 @@ fn the_command_compile(rt: HostRuntime) -> Result<(), Fail> {
 
 #[test]
 fn wrong_command_lines(rt: HostRuntime) -> Result<(), Fail> {
-    for words in [["b", "run"].as_slice(), ["b"].as_slice(), ["b", "compile", "x"].as_slice()] {
+    for words in [
+        ["b", "run"].as_slice(),
+        ["b"].as_slice(),
+        ["b", "compile", "x"].as_slice(),
+    ] {
         let (out, diag) = serves(&rt, words, 135)?;
         assert_eq!(rt; out.bytes().len(), 0);
         assert!(rt; !diag.bytes().is_empty());
@@ -123,7 +127,11 @@ impl Read for Cut {
         let Some(first) = buf.first_mut() else {
             return Ok(0);
         };
-        *first = if self.left % 2 == 0 { b';' } else { b'a' + self.left };
+        *first = if self.left % 2 == 0 {
+            b';'
+        } else {
+            b'a' + self.left
+        };
         Ok(1)
     }
 }

@@ -92,6 +92,7 @@ value_on_at None t ts e on =
 
 mutual
   unfolding semicolon one_value
+
   more_on : (ts : List Placed) → ReadsOn more_values ts
   more_on [] = none_on more_values more_end semicolon [] (refl, tt) refl
   more_on (t ∷ ts) = more_on_at t.token t ts refl (value_on ts)
@@ -288,9 +289,11 @@ relined d f [] h = cc
 relined d f (p ∷ ps) h =
     let e : token.Name d.name.text ≡ p.token = cc in
     let g : map bare (spell_values d.values) ≡ map bare ps = cc in
-    let ws = values_relined d.values ps g in
-    (record { name = record { text = d.name.text; line = p.line }; values = ws.0 }, tt,
-     ap (λ k. kept (placed k p.line) ∷ spell_values ws.0) e ∙ ap (λ l. kept p ∷ l) ws.1)
+    let ws = values_relined d.values ps g in (
+      record { name = record { text = d.name.text; line = p.line }; values = ws.0 },
+      tt,
+      ap (λ k. kept (placed k p.line) ∷ spell_values ws.0) e ∙ ap (λ l. kept p ∷ l) ws.1,
+    )
 
 -- a spelling begins with a name
 pub spelled_name : (d : Definition) → (tail : List Placed) × (spell d ≡ word d.name ∷ tail)

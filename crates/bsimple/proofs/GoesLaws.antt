@@ -20,7 +20,6 @@ use Rattle.bsimple.specs.Compiled.{Names, Outcome, outcome_of, outcome_with, fau
 use Rattle.bsimple.proofs.Outcomes.{parted_behind, parted_once, Ended, ended_behind, go_on_kept, begun_goes_on}
 use Rattle.bsimple.proofs.ProgramLaws.{bare-append, all_relined, program_first, read_first, program_goes_on, begins_goes_on, viable_cases, viable_end, viable_next, one_before, begins_before, stops_begins, stops_there, GoOn-append, reads_first}
 
-
 -- The tokens of a source end.
 pub ended_cons : (t : Placed) (ts : List Placed) → Ended ts → Ended (t ∷ ts)
 ended_cons t [] e = absurd e

@@ -133,7 +133,7 @@ module _ (tokens : List Placed) (at : Placed) (rest : List Placed) (halting : Ha
       go (inr b) =
           let ps = at ∷ map mark b.more in
           let e : map bare (spell_all b.program.definitions) ≡ map bare (tokens ++ ps) =
-              b.program.spelled ∙ append_assoc (map bare tokens) (at.token ∷ []) b.more ∙ ap (λ l. map bare tokens ++ at.token ∷ l) (sym (map_bare-mark b.more)) ∙ sym (bare-append tokens ps) in
+          b.program.spelled ∙ append_assoc (map bare tokens) (at.token ∷ []) b.more ∙ ap (λ l. map bare tokens ++ at.token ∷ l) (sym (map_bare-mark b.more)) ∙ sym (bare-append tokens ps) in
           not_spelled b.program.definitions b.program.formed ps refl (λ e. some tokens e) e
         where
           some : (l : List Placed) → l ++ (at ∷ map mark b.more) ≡ [] → ⊥

@@ -117,10 +117,10 @@ module _ (d : Definition) (f : IsFormed d) (ds : List Definition) (part : List P
   open_goes_on o e e2 h =
       let longer = open_longer d f o in
       let spelled : map bare (spell longer.0 ++ []) ≡ (map bare (spell d ++ (spell_all ds ++ part)) ++ at.token ∷ []) ++ map bare longer.1 =
-          ap (map bare) (no_more (spell longer.0) ∙ longer.3) ∙ bare-append (spell d) (mark (token.Keyword keyword.Else) ∷ longer.1)
-          ∙ ap (λ k. map bare (spell d) ++ k ∷ map bare longer.1) (sym (only_else at.token h))
-          ∙ sym (append_assoc (map bare (spell d)) (at.token ∷ []) (map bare longer.1))
-          ∙ ap (λ l. (map bare l ++ at.token ∷ []) ++ map bare longer.1) (sym (no_more (spell d)) ∙ ap (λ l. spell d ++ l) (sym (rw (e, e2) refl))) in
+      ap (map bare) (no_more (spell longer.0) ∙ longer.3) ∙ bare-append (spell d) (mark (token.Keyword keyword.Else) ∷ longer.1)
+      ∙ ap (λ k. map bare (spell d) ++ k ∷ map bare longer.1) (sym (only_else at.token h))
+      ∙ sym (append_assoc (map bare (spell d)) (at.token ∷ []) (map bare longer.1))
+      ∙ ap (λ l. (map bare l ++ at.token ∷ []) ++ map bare longer.1) (sym (no_more (spell d)) ∙ ap (λ l. spell d ++ l) (sym (rw (e, e2) refl))) in
       wrong (record { more = map bare longer.1; program = record { definitions = longer.0 ∷ []; formed = (longer.2, tt); spelled = spelled } })
 
   no_else_behind : (ds' : List Definition) → ds ≡ ds' → (part' : List Placed) → part ≡ part' → is_open d ≡ true → is_else (first ((spell_all ds ++ part) ++ (kept at ∷ behind))).token ≡ false

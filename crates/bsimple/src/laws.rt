@@ -5,5 +5,4 @@ ghost use Rattle.bsimple.specs.Laws.{EachSourceComes, OutcomesAreEqual};
 pub fn one_outcome()
     ensures comes { EachSourceComes }
     ensures once { OutcomesAreEqual }
-{
-}
+{}

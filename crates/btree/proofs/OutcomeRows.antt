@@ -18,13 +18,13 @@ outcome_rows = record {
   defined_twice =
       let again : Word = record { text = 97 ∷ []; line = 2 } in
       goes_behind [] (name 97 ∷ semicolon ∷ []) (Simple (word 97) []) (placed (token.Name (97 ∷ [])) 2 ∷ last token.Semicolon) _ refl refl
-          (goes_fault ((97 ∷ []) ∷ []) (placed (token.Name (97 ∷ [])) 2 ∷ placed token.Semicolon 2 ∷ []) (Simple again []) (mark token.End ∷ []) (name_fault letters.Redeclared again) refl refl refl);
+      (goes_fault ((97 ∷ []) ∷ []) (placed (token.Name (97 ∷ [])) 2 ∷ placed token.Semicolon 2 ∷ []) (Simple again []) (mark token.End ∷ []) (name_fault letters.Redeclared again) refl refl refl);
   behind_a_function =
       goes_behind [] open_function (body (If (Literal (Number 1)) Empty)) (last (token.Number 5)) _ refl refl
-          (goes_stop ((102 ∷ []) ∷ []) [] (placed (token.Number 5) 2) (mark token.End ∷ []) refl (λ e n. cc));
+      (goes_stop ((102 ∷ []) ∷ []) [] (placed (token.Number 5) 2) (mark token.End ∷ []) refl (λ e n. cc));
   behind_an_else =
       goes_behind [] (open_function ++ else_empty) (body (IfElse (Literal (Number 1)) Empty Empty)) (last (token.Number 5)) _ refl refl
-          (goes_stop ((102 ∷ []) ∷ []) [] (placed (token.Number 5) 2) (mark token.End ∷ []) refl (λ e n. cc));
+      (goes_stop ((102 ∷ []) ∷ []) [] (placed (token.Number 5) 2) (mark token.End ∷ []) refl (λ e n. cc));
   in_a_function =
       goes_stop [] (function (mark token.OpenBrace ∷ number 1 ∷ assign ∷ number 2 ∷ semicolon ∷ [])) (placed token.CloseParen 2) (mark token.End ∷ []) refl (λ e n. cc);
   in_an_else =

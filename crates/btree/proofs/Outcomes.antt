@@ -57,13 +57,13 @@ module _ (taken : List Placed) (d : Definition) (tokens : List Placed) (ds : Lis
       go (inr b) =
           let ps = p.before ++ p.at ∷ map mark b.more in
           let spelled : map bare (taken ++ ps) ≡ (map bare (taken ++ p.before) ++ p.at.token ∷ []) ++ b.more =
-              ap (map bare) (sym (append_assoc taken p.before (p.at ∷ map mark b.more)))
-              ∙ bare-append (taken ++ p.before) (p.at ∷ map mark b.more)
-              ∙ ap (λ l. map bare (taken ++ p.before) ++ p.at.token ∷ l) (map_bare-mark b.more)
-              ∙ sym (append_assoc (map bare (taken ++ p.before)) (p.at.token ∷ []) b.more) in
+          ap (map bare) (sym (append_assoc taken p.before (p.at ∷ map mark b.more)))
+          ∙ bare-append (taken ++ p.before) (p.at ∷ map mark b.more)
+          ∙ ap (λ l. map bare (taken ++ p.before) ++ p.at.token ∷ l) (map_bare-mark b.more)
+          ∙ sym (append_assoc (map bare (taken ++ p.before)) (p.at.token ∷ []) b.more) in
           let rest = peeled ps (at_first b.more) (subst IsProgram (sym spelled) b.program) in
           let same_ : map bare ps ≡ (map bare p.before ++ p.at.token ∷ []) ++ b.more =
-              bare-append p.before (p.at ∷ map mark b.more) ∙ ap (λ l. map bare p.before ++ p.at.token ∷ l) (map_bare-mark b.more) ∙ sym (append_assoc (map bare p.before) (p.at.token ∷ []) b.more) in
+          bare-append p.before (p.at ∷ map mark b.more) ∙ ap (λ l. map bare p.before ++ p.at.token ∷ l) (map_bare-mark b.more) ∙ sym (append_assoc (map bare p.before) (p.at.token ∷ []) b.more) in
           wrong (viable_next (map bare p.before) p.at.token (record { more = b.more; program = subst IsProgram same_ rest }))
 
   stops_behind : (s : Option Diagnostic) → StopsAt (map bare p.before) p.at s → StopsAt (map bare (taken ++ p.before)) p.at s
@@ -123,8 +123,8 @@ same_parts tokens at rest wrong (d ∷ ds) (e ∷ es) p q l =
 no_further : (before : List Placed) (at : Placed) (stop : Option Diagnostic) → StopsAt (map bare before) at stop → (c further : List Placed) → further ≡ before ++ at ∷ c → Begins (map bare further) → ⊥
 no_further before at stop stops c further e b =
     let spelled : map bare further ++ b.more ≡ (map bare before ++ at.token ∷ []) ++ (map bare c ++ b.more) =
-        ap (λ l. map bare l ++ b.more) e ∙ ap (λ l. l ++ b.more) (bare-append before (at ∷ c)) ∙ append_assoc (map bare before) (at.token ∷ map bare c) b.more
-        ∙ sym (append_assoc (map bare before) (at.token ∷ []) (map bare c ++ b.more)) in
+    ap (λ l. map bare l ++ b.more) e ∙ ap (λ l. l ++ b.more) (bare-append before (at ∷ c)) ∙ append_assoc (map bare before) (at.token ∷ map bare c) b.more
+    ∙ sym (append_assoc (map bare before) (at.token ∷ []) (map bare c ++ b.more)) in
     stops_there (map bare before) at stop stops (record { more = map bare c ++ b.more; program = subst IsProgram spelled b.program })
 
 same_stop : (before : List Token) (at : Placed) (s t : Option Diagnostic) → StopsAt before at s → StopsAt before at t → s ≡ t
@@ -146,9 +146,10 @@ parted_once tokens ds es s t p q = go (order p.before p.at p.behind q.before q.a
         let less : length es ≤ length ds = p.longest es q_parts in
         let more : length ds ≤ length es = q.longest ds p_parts in
         let lengths : length ds ≡ length es = omega arith in
-        let q_stops : StopsAt (map bare p.before) p.at t = subst (λ b. StopsAt (map bare p.before) b t) (sym f) (subst (λ l. StopsAt (map bare l) q.at t) (sym e) q.stops) in
-        (same_parts p.before p.at p.behind (stops_there (map bare p.before) p.at s p.stops) ds es p.parts q_parts lengths,
-         same_stop (map bare p.before) p.at s t p.stops q_stops)
+        let q_stops : StopsAt (map bare p.before) p.at t = subst (λ b. StopsAt (map bare p.before) b t) (sym f) (subst (λ l. StopsAt (map bare l) q.at t) (sym e) q.stops) in (
+          same_parts p.before p.at p.behind (stops_there (map bare p.before) p.at s p.stops) ds es p.parts q_parts lengths,
+          same_stop (map bare p.before) p.at s t p.stops q_stops,
+        )
 
 -- the last token is one that ends a source
 abbrev pub Ended : List Placed → Type 0
@@ -173,6 +174,7 @@ begun_goes_on (u ∷ us) b = (program_goes_on [] (bare u) (map bare us ++ b.more
   where
     begun_tail : (us : List Placed) (front : List Token) → Begins (front ++ map bare us) → GoOn us
     begun_tail [] front b = tt
-    begun_tail (u ∷ us) front b =
-        (program_goes_on front (bare u) (map bare us ++ b.more) (subst IsProgram (append_assoc front (bare u ∷ map bare us) b.more) b.program),
-         begun_tail us (front ++ bare u ∷ []) (subst Begins (sym (append_assoc front (bare u ∷ []) (map bare us))) b))
+    begun_tail (u ∷ us) front b = (
+      program_goes_on front (bare u) (map bare us ++ b.more) (subst IsProgram (append_assoc front (bare u ∷ map bare us) b.more) b.program),
+      begun_tail us (front ++ bare u ∷ []) (subst Begins (sym (append_assoc front (bare u ∷ []) (map bare us))) b),
+    )

@@ -127,10 +127,10 @@ module _ (d : Definition) (f : IsFormed d) (ds : List Definition) (part : List P
       let longer = goes_on_with_else d f o in
       let more : List Placed = mark token.Semicolon ∷ [] in
       let spelled : map bare (spell_definition longer.0 ++ []) ≡ (map bare (spell_definition d ++ (spell_all ds ++ part)) ++ at.token ∷ []) ++ map bare more =
-          ap (map bare) (append-nil (spell_definition longer.0) ∙ longer.2) ∙ bare-append (spell_definition d) (keyword_mark keyword.Else ∷ more)
-          ∙ ap (λ k. map bare (spell_definition d) ++ k ∷ map bare more) (sym (only_else at.token h))
-          ∙ sym (append_assoc (map bare (spell_definition d)) (at.token ∷ []) (map bare more))
-          ∙ ap (λ l. (map bare l ++ at.token ∷ []) ++ map bare more) (sym (append-nil (spell_definition d)) ∙ ap (λ l. spell_definition d ++ l) (sym (rw (e, e2) refl))) in
+      ap (map bare) (append-nil (spell_definition longer.0) ∙ longer.2) ∙ bare-append (spell_definition d) (keyword_mark keyword.Else ∷ more)
+      ∙ ap (λ k. map bare (spell_definition d) ++ k ∷ map bare more) (sym (only_else at.token h))
+      ∙ sym (append_assoc (map bare (spell_definition d)) (at.token ∷ []) (map bare more))
+      ∙ ap (λ l. (map bare l ++ at.token ∷ []) ++ map bare more) (sym (append-nil (spell_definition d)) ∙ ap (λ l. spell_definition d ++ l) (sym (rw (e, e2) refl))) in
       wrong (record { more = map bare more; program = record { definitions = longer.0 ∷ []; formed = (longer.1, tt); spelled = spelled } })
 
   no_else_behind : (ds' : List Definition) → ds ≡ ds' → (part' : List Placed) → part ≡ part' → is_open d ≡ true → is_else (first ((spell_all ds ++ part) ++ (kept at ∷ behind))) ≡ false

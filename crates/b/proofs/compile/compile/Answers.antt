@@ -15,9 +15,9 @@ returns-in-Ok-write_diagnostic-clause-compiles g c =
 pub returns-in-Err-clause-compiles : goal.returns-in-Err-clause-compiles
 returns-in-Err-clause-compiles g c =
     rw c.of_fault.ensures
-      (compiles_line _ _ _ _ _ _ c.in-Err-Fault.fault c.in-Err.fault
-        (compiles_err _ _ _ _ (g.D.ByteOut.outgoing c.args.diag.now) (g.D.ByteOut.outgoing c.args.diag.now) c.compile_code.result (why.Fault c.in-Err-Fault.fault) c.compile_code.ensures.gives (c.in-Err-Fault.is ∙ ap Err c.in-Err-Fault.field-0-is))
-        c.in-Err.ensures.gives)
+    (compiles_line _ _ _ _ _ _ c.in-Err-Fault.fault c.in-Err.fault
+    (compiles_err _ _ _ _ (g.D.ByteOut.outgoing c.args.diag.now) (g.D.ByteOut.outgoing c.args.diag.now) c.compile_code.result (why.Fault c.in-Err-Fault.fault) c.compile_code.ensures.gives (c.in-Err-Fault.is ∙ ap Err c.in-Err-Fault.field-0-is))
+    c.in-Err.ensures.gives)
 
 pub returns-in-Err-Device-clause-compiles : goal.returns-in-Err-Device-clause-compiles
 returns-in-Err-Device-clause-compiles g c =

@@ -28,7 +28,7 @@ pub returns-in_err-values-clause-gives : goal.returns-in_err-values-clause-gives
 returns-in_err-values-clause-gives g c =
     gives_stop _ (compiler_of c.look.new.self c.define.new.names (g.O.ByteOut.outgoing c.args.out.now) (g.O.ByteOut.lender c.args.out.now)) c.from_residual-in_err-values.result c.in_err-values.field-0.0 c.from_residual-in_err-values.ensures.1
     (define_stops c.args.tokens.now c.read_definition.new.tokens c.look.new.self c.args.names.now c.define.new.names (g.O.ByteOut.outgoing c.args.out.now) (g.O.ByteOut.lender c.args.out.now) c.in-Some.header c.read_definition.new.values
-      (rw c.in-Some.is at c.in_ok-header.ensures) c.in_ok-look.ensures.ok c.in_err-values.field-0.0 c.in_err-values.ensures.defines)
+    (rw c.in-Some.is at c.in_ok-header.ensures) c.in_ok-look.ensures.ok c.in_err-values.field-0.0 c.in_err-values.ensures.defines)
 
 pub returns-in_err-write_definition-clause-gives : goal.returns-in_err-write_definition-clause-gives
 returns-in_err-write_definition-clause-gives g c =
@@ -36,8 +36,8 @@ returns-in_err-write_definition-clause-gives g c =
     let so = read_as d in
     gives_stop _ (compiler_of c.look.new.self c.define.new.names (g.O.ByteOut.outgoing c.write_definition.new.out) (g.O.ByteOut.lender c.write_definition.new.out)) c.from_residual-in_err-write_definition.result (stop_of c.in_err-write_definition.field-0.0) c.from_residual-in_err-write_definition.ensures.1
     (write_breaks c.args.tokens.now c.read_definition.new.tokens c.look.new.self c.args.names.now (g.O.ByteOut.outgoing c.args.out.now) (g.O.ByteOut.lender c.args.out.now) c.in-Some.header c.read_definition.new.values d c.in_ok-look.ensures.ok
-      c.define.new.names _ _ c.in_err-write_definition.field-0.0 (c.in_ok-values.ensures.defines.1 d.tree so) c.in_err-write_definition.ensures.same
-      (rw (text_so c.in-Some.header c.read_definition.new.values d.tree c.in_ok-values.values.now so c.in_ok-values.ensures.values) at c.in_err-write_definition.ensures.gives))
+    c.define.new.names _ _ c.in_err-write_definition.field-0.0 (c.in_ok-values.ensures.defines.1 d.tree so) c.in_err-write_definition.ensures.same
+    (rw (text_so c.in-Some.header c.read_definition.new.values d.tree c.in_ok-values.values.now so c.in_ok-values.ensures.values) at c.in_err-write_definition.ensures.gives))
 
 pub returns-clause-gives : goal.returns-clause-gives
 returns-clause-gives g c =
