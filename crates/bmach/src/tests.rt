@@ -124,3 +124,35 @@ fn faults(rt: HostRuntime) -> Result<(), Fail> {
     assert_eq!(rt; fault(rt.alloc(), large)?.as_str(), "load 2");
     Ok(())
 }
+
+// `s "ab", t, 'x'; t; main() ;`
+const STRINGS: &str =
+    "X s 3 2\ns 0\nx t\nc 120\nw 25185\nw 4\nX t 0 0\nF main 0 0 0 0 2\nc 0\nr\nE\n";
+
+#[test]
+fn a_string_as_a_value(rt: HostRuntime) -> Result<(), Fail> {
+    let image = load(rt.alloc(), read_code(rt.alloc(), STRINGS.as_bytes())?)?;
+    assert_eq!(rt; image.data_end(), 14);
+    for (address, word) in [
+        (7, 10),
+        (8, 12),
+        (9, 120),
+        (10, 25185),
+        (11, 4),
+        (12, 0),
+        (13, 7),
+    ] {
+        assert_eq!(rt; image.word(address), word, "at {address}");
+    }
+    Ok(())
+}
+
+// With an allocation that fails there is no other fault than that.
+#[test]
+fn memory_alone_is_refused(rt: HostRuntime) {
+    if let Ok(definitions) = read_code(rt.alloc(), STRINGS.as_bytes()) {
+        if let Err(fault) = load(rt.alloc(), definitions) {
+            assert!(rt; matches!(fault, LoadFault::Memory));
+        }
+    }
+}
