@@ -130,7 +130,7 @@ impl Read for Cut {
         *first = if self.left % 2 == 0 {
             b';'
         } else {
-            b'a' + self.left
+            b'a'.wrapping_add(self.left)
         };
         Ok(1)
     }
