@@ -2,11 +2,13 @@
 #![tactic(auto)]
 
 mod buffer;
+mod form;
 mod names;
 mod parts;
 mod scope;
 
 pub use buffer::CodeBuffer;
+pub use form::Form;
 pub use names::{Binding, DeclareFault, Declared, TooManyNames, Undefined};
 pub use parts::{Branch, Case, CaseFault, Hole, TooLarge};
 pub use scope::Scope;
