@@ -1,12 +1,10 @@
 -- No token of a spelling ends a source.
 use Rattle.std.proofs.Common.{◌≡◌, ℕ, false, List, [], ◌∷◌, ◌++◌, refl, Option, Some, None}
-use Rattle.blex.specs.declared.token.Token.TheVariants as token
 use Rattle.blex.specs.declared.token.Placed.{Placed}
 use Rattle.blex.specs.Tokens.{is_last}
-use Rattle.btree.specs.Lines.{mark}
 use Rattle.btree.specs.Expression.{Word, Constant, Number, Character, Expr, Arguments, PrefixOp, Negate, Not, Indirection, Address, PreIncrement, PreDecrement, PostfixOp, PostIncrement, PostDecrement, Named, Literal, Text, Grouped, Indexed, Called, Postfixed, Prefixed, Binary, Conditional, Assigned, No_arguments, Another, constant_token, prefix_token, postfix_token, comma_behind, spell, spell_arguments}
 use Rattle.btree.specs.Commas.{comma_spelling, list_spelling}
-use Rattle.btree.specs.Statement.{Declared, Heading, Auto, Extrn, Label, Case, Stmt, Headed, Compound, If, IfElse, While, Switch, Goto, Return, ReturnValue, Evaluate, Empty, Stmts, Nothing, More, size_spelling, declared_spelling, name_spelling, spell_heading, spell_condition, spell_statement, spell_body}
+use Rattle.btree.specs.Statement.{Heading, Auto, Extrn, Label, Case, Stmt, Headed, Compound, If, IfElse, While, Switch, Goto, Return, ReturnValue, Evaluate, Empty, Stmts, Nothing, More, size_spelling, declared_spelling, name_spelling, spell_heading, spell_condition, spell_statement, spell_body}
 use Rattle.btree.specs.Definition.{Ival, Ival_constant, Ival_text, Ival_name, Definition, Simple, Vector, Function, ival_spelling, spell_values, spell_definition}
 
 -- no token of these ends a source

@@ -1,8 +1,8 @@
 -- The laws of reading a definition, from those of its readers.
-use Rattle.std.proofs.Common.{◌≡◌, List, [], ◌∷◌, ◌++◌, Bool, true, false, sym, ap, ◌∙◌, refl, subst, inl}
+use Rattle.std.proofs.Common.{◌≡◌, List, [], ◌∷◌, ◌++◌, sym, ap, ◌∙◌, refl, subst, inl}
 use Rattle.blex.specs.declared.token.Token.TheVariants as token
 use Rattle.blex.specs.declared.token.Placed.{Placed}
-use Rattle.btree.specs.Lines.{keeps_line, mark, kept, kept_tokens}
+use Rattle.btree.specs.Lines.{kept_tokens}
 use Rattle.btree.specs.Expression.{spell, rvalue_rank, Fits}
 use Rattle.btree.specs.Reading.{Got, Stop}
 use Rattle.btree.specs.ReadingOn.{Fine, goes, halts, Closer}
@@ -12,7 +12,6 @@ use Rattle.btree.specs.StatementReader.{statement}
 use Rattle.btree.specs.Definition.{Definition, Simple, Vector, Function, spell_definition}
 use Rattle.btree.specs.DefinitionReader.{definition}
 use Rattle.btree.specs.Laws.{ReadsSpelling, DefinitionRead, StatementRead, ExpressionRead, ReadsAgain, GoesOnWithElse, HasTwin, ReadsOn, BeginsWithName, OneExpression, OneStatement, OneDefinition}
-use Rattle.btree.proofs.CommaLaws.{append-nil}
 use Rattle.btree.proofs.KeptLemmas.{kept-twice}
 use Rattle.btree.proofs.ExpressionAgain.{Ends, reader_again}
 use Rattle.btree.proofs.StatementAgain.{statement_again}

@@ -21,6 +21,7 @@ pub mod ProgramLaws
 pub mod Parting
 pub mod Outcomes
 pub mod GoesLaws
+pub mod GoesReads
 pub mod OutcomeRows
 pub mod Unread
 pub mod StatementUnread

@@ -1,5 +1,5 @@
 -- Definitions one behind another: each list of tokens is parted in one way.
-use Rattle.std.proofs.Common.{◌≡◌, ℕ, ◌≤◌, true, false, List, [], ◌∷◌, ◌++◌, map, length, sym, ap, ◌∙◌, refl, subst, append_assoc, ◌⊎◌, inl, inr, arith}
+use Rattle.std.proofs.Common.{◌≡◌, ◌≤◌, true, List, [], ◌∷◌, ◌++◌, map, length, sym, ap, ◌∙◌, refl, subst, append_assoc, ◌⊎◌, inl, inr, arith}
 use Rattle.std.proofs.lemmas.List.{append_cancel_right}
 use Rattle.std.specs.Prelude.{Option, Some, None}
 use Rattle.blex.specs.declared.token.Token.{Token}

@@ -1,8 +1,7 @@
 -- Reading definitions one by one parts the tokens of a source, in the one way there is.
-use Rattle.std.proofs.Common.{◌≡◌, ℕ, ◌+◌, ◌≤◌, List, [], ◌∷◌, ◌++◌, map, length, sym, ap, ◌∙◌, refl, subst, append_assoc, ◌⊎◌, inl, inr, arith}
+use Rattle.std.proofs.Common.{◌≡◌, ◌≤◌, List, [], ◌∷◌, ◌++◌, map, length, sym, ap, ◌∙◌, refl, subst, append_assoc, ◌⊎◌, inl, inr, arith}
 use Rattle.std.proofs.lemmas.List.{append_cancel_right}
-use Rattle.std.specs.Prelude.{Option, Some, None}
-use Rattle.blex.specs.declared.token.Token.{Token}
+use Rattle.std.specs.Prelude.{Some, None}
 use Rattle.blex.specs.declared.token.Token.TheVariants as token
 use Rattle.blex.specs.declared.token.Placed.{Placed}
 use Rattle.btree.specs.Lines.{mark, kept, kept_tokens, bare}
@@ -11,7 +10,6 @@ use Rattle.btree.specs.Reading.{Got, Stop, first}
 use Rattle.btree.specs.ReadingOn.{Fine, goes, halts, Closer}
 use Rattle.btree.specs.Definition.{Definition, spell_definition, IsFormed}
 use Rattle.btree.specs.DefinitionReader.{definition}
-use Rattle.btree.specs.Laws.{ReadsOn}
 use Rattle.btree.specs.Program.{spell_all, AllFormed, IsProgram, Begins, IsViable, StopsAt, IsPart, Parts, Parted, fault_at}
 use Rattle.btree.proofs.CommaLaws.{append-nil}
 use Rattle.btree.proofs.Relined.{kept-append}

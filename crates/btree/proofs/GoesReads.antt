@@ -1,0 +1,78 @@
+-- What comes of tokens that were read as they stand.
+use Rattle.std.proofs.Common.{◌≡◌, List, [], ◌∷◌, ◌++◌, map, sym, ap, ◌∙◌, refl, subst, inl}
+use Rattle.std.proofs.lemmas.List.{map-append}
+use Rattle.std.specs.Prelude.{Some, None}
+use Rattle.blex.specs.declared.token.Token.TheVariants as token
+use Rattle.blex.specs.declared.token.Placed.{Placed}
+use Rattle.blex.specs.declared.diagnostic.Diagnostic.{Diagnostic}
+use Rattle.btree.specs.Lines.{kept}
+use Rattle.btree.specs.Reading.{Got, Stop}
+use Rattle.btree.specs.ReadingOn.{Fine, goes, halts, Closer}
+use Rattle.btree.specs.Definition.{Definition}
+use Rattle.btree.specs.DefinitionReader.{definition}
+use Rattle.btree.specs.Scan.{word_of}
+use Rattle.btree.specs.Code.{fault_of}
+use Rattle.btree.specs.Program.{fault_at}
+use Rattle.btree.specs.Unread.{kept_read}
+use Rattle.btree.specs.Compiled.{Defined, Outcome, text_of, Goes}
+use Rattle.btree.proofs.LawProofs.{reads_on}
+use Rattle.btree.proofs.Outcomes.{Ended}
+use Rattle.btree.proofs.StatementUnread.{lines_unread}
+use Rattle.btree.proofs.GoesLaws.{goes_stop, goes_behind, goes_fault}
+
+-- the tokens that were taken before these
+pub record Taken (u v : List Placed) : Type 0 where
+  pub tokens : List Placed
+  pub split : u ≡ tokens ++ v
+
+pub got_taken : (u v : List Placed) (d : Definition) → definition u ≡ Got d v → Taken u v
+got_taken u v d h = go (reads_on u)
+  where
+    go : Fine Closer definition u → Taken u v
+    go (goes p r a e g) =
+        let b : Got a r ≡ Got d v = sym (g r (inl refl)) ∙ ap definition (sym e) ∙ h in
+        let q : r ≡ v = cc in
+        record { tokens = p; split = e ∙ ap (λ x. p ++ x) q }
+    go (halts p r e stop c a fin) = let b : Stop r ≡ Got d v = sym (stop r refl) ∙ ap definition (sym e) ∙ h in cc
+
+pub stop_taken : (u v : List Placed) → definition u ≡ Stop v → Taken u v
+stop_taken u v h = go (reads_on u)
+  where
+    go : Fine Closer definition u → Taken u v
+    go (goes p r a e g) = let b : Got a r ≡ Stop v = sym (g r (inl refl)) ∙ ap definition (sym e) ∙ h in cc
+    go (halts p r e stop c a fin) =
+        let b : Stop r ≡ Stop v = sym (stop r refl) ∙ ap definition (sym e) ∙ h in
+        let q : r ≡ v = cc in
+        record { tokens = p; split = e ∙ ap (λ x. p ++ x) q }
+
+module _ (u v : List Placed) (t : Taken u v) where
+  read_kept : definition (map kept t.tokens ++ map kept v) ≡ kept_read (definition u)
+  read_kept = ap definition (sym (map-append kept t.tokens v) ∙ ap (map kept) (sym t.split)) ∙ lines_unread u
+
+-- behind a definition without fault
+pub goes_behind_read : (names : Defined) (u v : List Placed) (d : Definition) (r : Outcome) → definition u ≡ Got d v → fault_of names d ≡ None
+    → Goes (names ++ (word_of d).text ∷ []) v r → Goes names u (record { code = text_of d ∷ r.code; stop = r.stop })
+goes_behind_read names u v d r h clean g =
+    let t = got_taken u v d h in
+    subst (λ l. Goes names l (record { code = text_of d ∷ r.code; stop = r.stop })) (sym t.split)
+    (goes_behind names t.tokens d v r (read_kept u v t ∙ ap kept_read h) clean g)
+
+-- at a definition with a fault
+pub goes_fault_read : (names : Defined) (u v : List Placed) (d : Definition) (fault : Diagnostic) → definition u ≡ Got d v → fault_of names d ≡ Some fault
+    → Ended v → Goes names u (record { code = []; stop = Some fault })
+goes_fault_read names u v d fault h wrong e =
+    let t = got_taken u v d h in
+    subst (λ l. Goes names l (record { code = []; stop = Some fault })) (sym t.split)
+    (goes_fault names t.tokens d v fault (read_kept u v t ∙ ap kept_read h) wrong e)
+
+nothing_taken : (ts v : List Placed) → ts ≡ [] → ts ++ v ≡ v
+nothing_taken [] v e = refl
+nothing_taken (p ∷ ts) v e = cc
+
+-- at a token that can't come, which is not the end where a definition could begin
+pub goes_stop_read : (names : Defined) (u rest : List Placed) (at : Placed) → definition u ≡ Stop (at ∷ rest) → (at.token ≡ token.End → u ≡ at ∷ rest → ⊥)
+    → Goes names u (record { code = []; stop = Some (fault_at at) })
+goes_stop_read names u rest at h not_end =
+    let t = stop_taken u (at ∷ rest) h in
+    subst (λ l. Goes names l (record { code = []; stop = Some (fault_at at) })) (sym t.split)
+    (goes_stop names t.tokens at rest (read_kept u (at ∷ rest) t ∙ ap kept_read h) (λ e n. not_end e (t.split ∙ nothing_taken t.tokens (at ∷ rest) n)))
