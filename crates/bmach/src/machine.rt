@@ -2,6 +2,7 @@
 ghost use Rattle.std.specs.Prelude.{◌≤◌};
 
 use crate::image::LoadedFunction;
+use crate::number::Base;
 use crate::operands::Operands;
 use crate::{Library, Trap};
 
@@ -51,5 +52,5 @@ pub enum Flow {
     /// The character's bytes are to be written, and the call gets it.
     WritesCharacter(u16),
     /// The number is to be written to the base, and the call gets 0.
-    WritesNumber(u16, u16),
+    WritesNumber(u16, Base),
 }
