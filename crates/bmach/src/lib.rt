@@ -30,4 +30,6 @@ pub use resolve::resolving_changes_no_run;
 pub use runs::run;
 
 #[cfg(test)]
+mod run_tests;
+#[cfg(test)]
 mod tests;
