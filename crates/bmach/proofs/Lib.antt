@@ -10,3 +10,7 @@ pub mod Loads
 pub mod Taking
 pub mod Calling
 pub mod Resolving
+pub mod Turning
+pub mod Digits
+pub mod Running
+pub mod Copying

@@ -11,3 +11,5 @@ pub mod Loading
 pub mod Parts
 pub mod Taken
 pub mod Steps
+pub mod Runs
+pub mod Turns

@@ -4,25 +4,32 @@
 mod act;
 mod addresses;
 mod calls;
+mod exchange;
 mod fault;
 mod image;
 mod library;
 mod loader;
 mod machine;
+mod number;
 mod operands;
 mod operation;
 mod outcome;
 mod part;
 mod parts;
 mod resolve;
+mod runs;
 mod step;
+mod text;
 
 pub use fault::LoadFault;
 pub use image::Image;
 pub use library::Library;
 pub use loader::load;
-pub use outcome::Trap;
+pub use outcome::{Outcome, Trap};
 pub use resolve::resolving_changes_no_run;
+pub use runs::run;
 
+#[cfg(test)]
+mod run_tests;
 #[cfg(test)]
 mod tests;

@@ -2,7 +2,8 @@
 ghost use Rattle.std.specs.Prelude.{◌≤◌};
 
 use crate::image::LoadedFunction;
-use crate::operands::Operands;
+use crate::number::Base;
+use crate::operands::{Operands, Spare};
 use crate::{Library, Trap};
 
 /// An active call.
@@ -23,6 +24,8 @@ pub struct Calls<'a> {
     pub top: Call<'a>,
     /// The others, the nearest last.
     pub below: Vec<Call<'a>>,
+    /// The operands of calls that have returned.
+    pub spare: Spare,
 }
 
 /// What a called value is.
@@ -46,10 +49,12 @@ pub enum Flow {
     GoesOn,
     Halts(End),
     IsStuck,
+    /// The call gets a word.
+    Gives(u16),
     /// The call gets the next byte.
     Reads,
     /// The character's bytes are to be written, and the call gets it.
     WritesCharacter(u16),
     /// The number is to be written to the base, and the call gets 0.
-    WritesNumber(u16, u16),
+    WritesNumber(u16, Base),
 }

@@ -18,3 +18,18 @@ pub enum Trap {
     /// Too few operands, or no instruction at this place.
     Stuck,
 }
+
+/// What comes of a run.
+#[derive(Clone, Copy, Debug, PartialEq, Eq)]
+pub enum Outcome {
+    /// `exit` was called, with its argument modulo 128, or `main` has returned, which is 0.
+    Exit(u8),
+    /// The run can't go on.
+    Trap(Trap),
+    /// So many steps were made, and none halted.
+    Limit,
+    /// A read or a write failed.
+    Device,
+    /// Memory was refused.
+    Memory,
+}
