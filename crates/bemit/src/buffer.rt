@@ -1,5 +1,5 @@
 //! The code of a definition.
-ghost use Rattle.std.specs.Prelude.{◌≡◌, ◌+◌, ◌*◌, ◌/◌, ◌<◌, ◌≤◌, ◌↔◌, ◌++◌, [], ◌∷◌, length, map, slice_set, Ok, Err, IsOk, OnOk, OnErr, IfOk, IfErr};
+ghost use Rattle.std.specs.Prelude.{◌≡◌, ◌+◌, ◌*◌, ◌/◌, ◌<◌, ◌≤◌, ◌↔◌, ◌++◌, [], ◌∷◌, length, map, slice_get, slice_set, Some, Ok, Err, IsOk, OnOk, OnErr, IfOk, IfErr};
 ghost use Rattle.arrayvec.specs.ArrayVec.{array_vec_len};
 ghost use Rattle.btree.specs.Code.{packed};
 ghost use Rattle.bcode.specs.declared.instr.Instr.TheVariants as instrs;
@@ -210,12 +210,20 @@ fn set(code: &mut Code, place: usize, instr: Instr)
     }
 }
 
+fn instr_at(code: &Code, place: usize) -> Instr
+    requires { place < array_vec_len code.now }
+    ensures { slice_get code.now.items place ≡ Some result }
+{
+    code[place]
+}
+
 // Gives each label instruction the number of its entry's label.
 fn number_labels(code: &mut Code, scope: &Scope)
     ensures { code.new.items ≡ map (numbered scope.now.names) code.old.items }
 {
     for place in 0..code.len() {
-        code[place] = numbered(code[place], scope);
+        let instr = numbered(instr_at(code, place), scope);
+        set(code, place, instr);
     }
 }
 

@@ -1,5 +1,5 @@
 //! What one pass makes of a definition, step by step.
-ghost use Rattle.std.specs.Prelude.{◌≡◌, ◌+◌, ◌≤◌, ◌↔◌, ◌++◌, length, map, IsOk, OnOk, Some, IfSome, IfNone};
+ghost use Rattle.std.specs.Prelude.{◌≡◌, ◌+◌, ◌<◌, ◌≤◌, ◌++◌, length, map, OnOk, OnErr, Some, IfSome, IfNone};
 ghost use Rattle.btree.specs.Scan.{Mention, words_of};
 ghost use Rattle.bemit.specs.Buffers.{test};
 ghost use Rattle.bemit.specs.Drafts.{most_instructions, most_string_words, most_values, most_words, fresh, failed, emitted, place_of, filled, offset_of, stringed, valued, worded, named, name_form, checked, declared, imported, labelled, selected, begun, ended, case_count, tested, resolved, fault_in, stepped, names_of};
@@ -397,7 +397,8 @@ fn form(binding: Binding) -> Form
 
 // Adds a test for each of these cases, if there is room for all.
 fn push_tests(buffer: &mut CodeBuffer, arms: &[Arm]) -> Result<(), TooLarge>
-    ensures room { IsOk result ↔ (length buffer.old.code + length arms.now ≤ most_instructions) }
+    ensures room { OnOk result (length buffer.old.code ≤ most_instructions → length buffer.old.code + length arms.now ≤ most_instructions) }
+    ensures full { OnErr result (most_instructions < length buffer.old.code + length arms.now) }
     ensures ok { OnOk result (buffer.new ≡ record buffer.old { code = buffer.old.code ++ map test arms.now }) }
     ensures strings { buffer.new.strings ≡ buffer.old.strings }
     ensures few { length buffer.old.code ≤ most_instructions → length buffer.new.code ≤ most_instructions }

@@ -65,8 +65,12 @@ impl Switches {
         ensures begun { result ≡ true → self.new ≡ begun self.old }
         ensures unchanged { result ≡ false → self.new ≡ self.old }
     {
+        if self.starts.is_full() {
+            return false;
+        }
         let start = self.arms.len() as u16;
-        self.starts.try_push(start).is_ok()
+        self.starts.push(start);
+        true
     }
 
     /// The innermost switch ends.
@@ -95,10 +99,10 @@ impl Switches {
         ensures err { IfErr result (λ why. added arm self.old ≡ Err why) }
         ensures unchanged { OnErr result (self.new ≡ self.old) }
     {
-        let Some(start) = self.starts.as_slice().last() else {
+        if self.starts.is_empty() {
             return Err(CaseFault::OutsideSwitch);
-        };
-        if has_value(&self.arms.as_slice()[usize::from(*start)..], arm.0) {
+        }
+        if has_value(self.innermost(), arm.0) {
             return Err(CaseFault::Redeclared);
         }
         if usize::from(self.count) == MAX_CASES {
