@@ -1,5 +1,5 @@
 -- A draft from its parts, after a step.
-use Rattle.std.proofs.Common.{◌≡◌, ℕ, ◌+◌, ◌<◌, ◌≤◌, min, Bool, true, false, cond, List, [], ◌∷◌, ◌++◌, length, map, Option, Some, None, Result, Ok, Err, refl, sym, ap, subst, ◌∙◌, arith, length-append, IfSome, is_none}
+use Rattle.std.proofs.Common.{◌≡◌, ℕ, ◌+◌, ◌<◌, ◌≤◌, min, Bool, true, false, cond, ◌||◌, List, [], ◌∷◌, ◌++◌, length, map, Option, Some, None, Result, Ok, Err, refl, sym, ap, subst, ◌∙◌, arith, length-append, is_some}
 use Rattle.std.specs.Prelude.{nat_lt, nat_eq}
 use Rattle.std.specs.List.{list_any}
 use Rattle.std.specs.Option.{option_map}
@@ -9,7 +9,7 @@ use Rattle.blex.specs.declared.diagnostic.Diagnostic.{Diagnostic}
 use Rattle.bcode.specs.declared.instr.Instr.TheVariants as instr
 use Rattle.bcode.specs.declared.instr.Ival.{Ival}
 use Rattle.btree.specs.Expression.{Word}
-use Rattle.btree.specs.Scope.{Entry, Kind, Automatic, External, Unlabelled, Labelled, same_name, kind_of, with_kind, declared, mentioned, kind_mentioned, labelled, entered}
+use Rattle.btree.specs.Scope.{Entry, Kind, Automatic, External, Unlabelled, Labelled, same_name, kind_of, with_kind, declared, mentioned, kind_mentioned, labelled, entered, fault}
 use Rattle.btree.specs.Scan.{Scope, most_cases, case_fault}
 use Rattle.btree.specs.Scan as scan
 use Rattle.bemit.specs.Drafts.{Made, Draft, Faulty, Going, emitted, names_of, entry_of, address_of, with_case}
@@ -23,7 +23,7 @@ use Rattle.bemit.specs.declared.names.Binding.TheVariants as bindings
 use Rattle.bemit.specs.declared.parts.CaseFault.{CaseFault}
 use Rattle.bemit.specs.declared.parts.CaseFault.TheVariants.{OutsideSwitch, Redeclared, TooManyCases}
 
-pub no_fault : (o : Option Diagnostic) → is_none o ≡ true → o ≡ None
+pub no_fault : (o : Option Diagnostic) → is_some o ≡ false → o ≡ None
 no_fault None h = refl
 no_fault (Some d) h = cc
 
@@ -128,7 +128,12 @@ IsSound-declared t u b values frame words is_over over x s few e some most withi
     let more : frame ≤ frame + words = omega arith in
     let last : frame < frame + words = omega arith in
     record {
-      code = s.code; strings = s.strings; initial = s.initial; names = few; bounded = omega arith; within = within;
+      code = s.code;
+      strings = s.strings;
+      initial = s.initial;
+      names = few;
+      bounded = omega arith;
+      within = within;
       automatic = rw e (AreBelow-push (frame + words) t.names (entry x (Automatic frame)) (AreBelow-more frame (frame + words) t.names s.automatic more) last);
     }
 
@@ -160,8 +165,8 @@ pub IsWithin-bound : (n : ℕ) (x : List ℕ) (es : List Entry) (b : Binding)
     → AreBelow n es → n ≤ 32767 → binding_of x es ≡ Some b → IsWithin b
 IsWithin-bound n x es b h few s = within_bound n (entry_of x es) x es b (kind_of x es) refl h few s
 
-pub IfMade-draft : (fault : Option Diagnostic) (is_over : Bool) (s : Scope) (m : Made) (P : Scope → Made → Type 0)
-    → (is_over ≡ false → P s m) → IfMade (draft_of fault is_over s m) P
+pub IfMade-draft : (first : Option Diagnostic) (is_over : Bool) (s : Scope) (m : Made) (P : Scope → Made → Type 0)
+    → (is_over ≡ false → P s m) → IfMade (draft_of first is_over s m) P
 IfMade-draft (Some d) is_over s m P f = tt
 IfMade-draft None true s m P f = tt
 IfMade-draft None false s m P f = f refl
@@ -192,66 +197,67 @@ emitted-bound x b (Going s (Some m)) h e =
 
 any-map : (value : ℕ) (cases : List (ℕ × ℕ)) → list_any (nat_eq value) (map (λ c. c.0) cases) ≡ has_value value cases
 any-map value [] = refl
-any-map value (c ∷ cases) = ap (λ b. cond (nat_eq value c.0) true b) (any-map value cases)
+any-map value (c ∷ cases) = ap (λ b. nat_eq value c.0 || b) (any-map value cases)
 
 refused : (b c : Bool) (o : Switches) (s : Scope) (why : CaseFault) (line : ℕ)
     → cond b (Err Redeclared) (cond c (Ok o) (Err TooManyCases)) ≡ Err why
-    → cond b (Err (case_fault letters.Redeclared line)) (cond c (Ok s) (Err (case_fault letters.TooManyCases line))) ≡ Err (case_refusal why line)
+    → cond b (Err (case_fault letters.Redeclared line)) (cond c (Ok s) (Err (fault letters.TooManyCases line))) ≡ Err (case_refusal why line)
 refused true c o s why line h = let same : Redeclared ≡ why = cc in ap (λ w. Err (case_refusal w line)) same
 refused false true o s why line h = cc
 refused false false o s why line h = let same : TooManyCases ≡ why = cc in ap (λ w. Err (case_refusal w line)) same
 
 accepted : (b c : Bool) (o new : Switches) (s : Scope) (line : ℕ)
     → cond b (Err Redeclared) (cond c (Ok o) (Err TooManyCases)) ≡ Ok new
-    → (cond b (Err (case_fault letters.Redeclared line)) (cond c (Ok s) (Err (case_fault letters.TooManyCases line))) ≡ Ok s) × (new ≡ o)
+    → (cond b (Err (case_fault letters.Redeclared line)) (cond c (Ok s) (Err (fault letters.TooManyCases line))) ≡ Ok s) × (new ≡ o)
 accepted true c o new s line h = cc
 accepted false true o new s line h = (refl, cc)
 accepted false false o new s line h = cc
-
-selected-err : (t : Table) (frame line value target : ℕ) (cases : List (List (ℕ × ℕ))) (count : ℕ) (why : CaseFault)
-    → added (value, target) (record { cases = cases; count = count }) ≡ Err why
-    → scan.selected line value (scope_of t frame (record { cases = cases; count = count })) (map (map (λ c. c.0)) cases) ≡ Err (case_refusal why line)
-selected-err t frame line value target [] count why h = let same : OutsideSwitch ≡ why = cc in ap (λ w. Err (case_refusal w line)) same
-selected-err t frame line value target (cases ∷ others) count why h =
-    rw (any-map value cases) (refused (has_value value cases) (nat_lt count most_cases) _ _ why line h)
 
 -- a scope with these constants of the innermost switch, of which one is new
 abbrev innermost_is : Table → ℕ → List ℕ → List (List (ℕ × ℕ)) → ℕ → Scope
 innermost_is t frame constants others count =
     record { names = t.names; frame = frame; labels = length t.targets; switches = constants ∷ map (map (λ c. c.0)) others; cases = count + 1 }
 
+selected-err : (t : Table) (frame line value target : ℕ) (cases : List (List (ℕ × ℕ))) (count : ℕ) (why : CaseFault)
+    → added (value, target) (record { cases = cases; count = count }) ≡ Err why
+    → scan.selected line value (scope_of t frame (record { cases = cases; count = count })) (map (map (λ c. c.0)) cases) ≡ Err (case_refusal why line)
+selected-err t frame line value target [] count why h = let same : OutsideSwitch ≡ why = cc in ap (λ w. Err (case_refusal w line)) same
+selected-err t frame line value target (cases ∷ others) count why h =
+    let more : Switches = record { cases = (cases ++ (value, target) ∷ []) ∷ others; count = count + 1 } in
+    rw (any-map value cases) (refused (has_value value cases) (nat_lt count most_cases) more (innermost_is t frame (map (λ c. c.0) cases ++ value ∷ []) others count) why line h)
+
 selected-ok : (t : Table) (frame line value target : ℕ) (cases : List (List (ℕ × ℕ))) (count : ℕ) (new : Switches)
     → added (value, target) (record { cases = cases; count = count }) ≡ Ok new
     → (scan.selected line value (scope_of t frame (record { cases = cases; count = count })) (map (map (λ c. c.0)) cases) ≡ Ok (scope_of t frame new))
-      × (new.cases ≡ with_case (value, target) cases)
+    × (new.cases ≡ with_case (value, target) cases)
 selected-ok t frame line value target [] count new h = cc
 selected-ok t frame line value target (cases ∷ others) count new h =
     let more : Switches = record { cases = (cases ++ (value, target) ∷ []) ∷ others; count = count + 1 } in
     let done = accepted (has_value value cases) (nat_lt count most_cases) more new (innermost_is t frame (map (λ c. c.0) cases ++ value ∷ []) others count) line h in
     let same : innermost_is t frame (map (λ c. c.0) cases ++ value ∷ []) others count ≡ scope_of t frame more =
-        ap (λ l. innermost_is t frame l others count) (sym (map-append (λ (c : ℕ × ℕ). c.0) cases ((value, target) ∷ []))) in
+    ap (λ l. innermost_is t frame l others count) (sym (map-append (λ (c : ℕ × ℕ). c.0) cases ((value, target) ∷ []))) in
     (rw (any-map value cases) (done.0 ∙ ap (λ s. Ok s) (same ∙ ap (λ (o : Switches). scope_of t frame o) (sym done.1))), ap (λ (o : Switches). o.cases) done.1)
 
 -- a case is refused
-pub case-refused : (fault : Option Diagnostic) (is_over : Bool) (t : Table) (frame line value target : ℕ) (o : Switches) (m : Made) (why : CaseFault)
-    → fault ≡ None → added (value, target) o ≡ Err why
-    → Faulty (case_refusal why line) ≡ drafts.selected line value (draft_of fault is_over (scope_of t frame o) m)
+pub case-refused : (first : Option Diagnostic) (is_over : Bool) (t : Table) (frame line value target : ℕ) (o : Switches) (m : Made) (why : CaseFault)
+    → first ≡ None → added (value, target) o ≡ Err why
+    → Faulty (case_refusal why line) ≡ drafts.selected line value (draft_of first is_over (scope_of t frame o) m)
 case-refused (Some d) is_over t frame line value target o m why none h = cc
 case-refused None is_over t frame line value target o m why none h = rw (selected-err t frame line value target o.cases o.count why h) refl
 
 case_taken : (is_over : Bool) (b : Buffer) (t : Table) (values : List Ival) (frame value : ℕ) (o new : Switches)
     → new.cases ≡ with_case (value, length b.code) o.cases
     → Going (scope_of t frame new) (made_within is_over (made_of b t values new))
-      ≡ drafts.with_made (λ m. Some (record m { cases = with_case (value, length m.code) m.cases })) (Going (scope_of t frame new) (made_within is_over (made_of b t values o)))
+    ≡ drafts.with_made (λ m. Some (record m { cases = with_case (value, length m.code) m.cases })) (Going (scope_of t frame new) (made_within is_over (made_of b t values o)))
 case_taken true b t values frame value o new e = refl
 case_taken false b t values frame value o new e =
     ap (λ cs. Going (scope_of t frame new) (Some (record { code = b.code; strings = b.strings; values = values; targets = t.targets; cases = cs }))) e
 
 -- one more case
-pub case-taken : (fault : Option Diagnostic) (is_over : Bool) (b : Buffer) (t : Table) (values : List Ival) (frame line value : ℕ) (o new : Switches)
-    → fault ≡ None → added (value, length b.code) o ≡ Ok new
-    → draft_of fault is_over (scope_of t frame new) (made_of b t values new)
-      ≡ drafts.selected line value (draft_of fault is_over (scope_of t frame o) (made_of b t values o))
+pub case-taken : (first : Option Diagnostic) (is_over : Bool) (b : Buffer) (t : Table) (values : List Ival) (frame line value : ℕ) (o new : Switches)
+    → first ≡ None → added (value, length b.code) o ≡ Ok new
+    → draft_of first is_over (scope_of t frame new) (made_of b t values new)
+    ≡ drafts.selected line value (draft_of first is_over (scope_of t frame o) (made_of b t values o))
 case-taken (Some d) is_over b t values frame line value o new none h = cc
 case-taken None is_over b t values frame line value o new none h =
     let done = selected-ok t frame line value (length b.code) o.cases o.count new h in

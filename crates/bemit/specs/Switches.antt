@@ -4,6 +4,7 @@ use Rattle.std.specs.List.{list_any}
 use Rattle.btree.specs.Scan.{rest_of, most_cases}
 use Rattle.blex.specs.declared.token.Letters.TheVariants as letters
 use Rattle.blex.specs.declared.diagnostic.Diagnostic.{Diagnostic}
+use Rattle.btree.specs.Scope.{fault}
 use Rattle.btree.specs.Scan.{case_fault}
 use Rattle.bemit.specs.Drafts.{most_switches}
 use Rattle.bemit.specs.declared.parts.CaseFault.{CaseFault}
@@ -57,4 +58,4 @@ added arm s = added_to arm s.count s.cases
 abbrev pub case_refusal : CaseFault → ℕ → Diagnostic
 case_refusal OutsideSwitch line = case_fault letters.Syntax line
 case_refusal Redeclared line = case_fault letters.Redeclared line
-case_refusal TooManyCases line = case_fault letters.TooManyCases line
+case_refusal TooManyCases line = fault letters.TooManyCases line

@@ -274,11 +274,7 @@ impl Draft {
             return Some(fault);
         }
         if let Err(undefined) = self.scope.finish() {
-            return Some(name_fault(
-                Letters::Undefined,
-                undefined.name,
-                undefined.line,
-            ));
+            return Some(name_fault(Letters::Undefined, undefined.name, undefined.line));
         }
         if self.is_over {
             return Some(fault(Letters::TooLarge, line));

@@ -1,6 +1,7 @@
 //! Diagnostics.
 ghost use Rattle.std.specs.Prelude.{◌≡◌};
 ghost use Rattle.btree.specs.Scope.{fault, name_fault};
+ghost use Rattle.btree.specs.Scan.{case_fault};
 ghost use Rattle.bemit.specs.Switches.{case_refusal};
 ghost use Rattle.bemit.specs.Tables.{word, refusal};
 
@@ -44,11 +45,16 @@ pub fn refusal(why: DeclareFault, name: Name, line: u64) -> Diagnostic
 pub fn case_refusal(why: CaseFault, line: u64) -> Diagnostic
     ensures { result ≡ case_refusal why line }
 {
-    let letters = match why {
-        CaseFault::OutsideSwitch => Letters::Syntax,
-        CaseFault::Redeclared => Letters::Redeclared,
-        CaseFault::TooManyCases => Letters::TooManyCases,
-    };
+    match why {
+        CaseFault::OutsideSwitch => case_fault(Letters::Syntax, line),
+        CaseFault::Redeclared => case_fault(Letters::Redeclared, line),
+        CaseFault::TooManyCases => fault(Letters::TooManyCases, line),
+    }
+}
+
+fn case_fault(letters: Letters, line: u64) -> Diagnostic
+    ensures { result ≡ case_fault letters line }
+{
     Diagnostic {
         letters,
         about: About::Case,

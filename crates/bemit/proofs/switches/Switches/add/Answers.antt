@@ -10,7 +10,7 @@ returns-then-from-eq-MAX_CASES-clause-err c =
     let some : 0 < length (reverse c.self.inside.starts.items) = grind (arith, length-reverse c.self.inside.starts.items) in
     let same = ap (λ s. innermost s.cases) c.self.view_is in
     let new : has_value c.args.arm.0 (innermost (split (reverse c.self.inside.starts.items) c.self.inside.arms.items)) ≡ false =
-        ap (λ l. has_value c.args.arm.0 l) (same ∙ sym c.innermost.ensures.cases) ∙ sym c.has_value.ensures ∙ c.if-has_value.false in
+    ap (λ l. has_value c.args.arm.0 l) (same ∙ sym c.innermost.ensures.cases) ∙ sym c.has_value.ensures ∙ c.if-has_value.false in
     let many : 256 ≤ c.self.inside.count = grind arith in
     rw (← c.self.view_is) (added-full c.args.arm c.self.inside.count (reverse c.self.inside.starts.items) c.self.inside.arms.items some new many)
 
@@ -26,7 +26,7 @@ returns-clause-ok c =
     let some : 0 < length (reverse c.self.inside.starts.items) = grind (arith, length-reverse c.self.inside.starts.items) in
     let same = ap (λ s. innermost s.cases) c.self.view_is in
     let new : has_value c.args.arm.0 (innermost (split (reverse c.self.inside.starts.items) c.self.inside.arms.items)) ≡ false =
-        ap (λ l. has_value c.args.arm.0 l) (same ∙ sym c.innermost.ensures.cases) ∙ sym c.has_value.ensures ∙ c.if-has_value.false in
+    ap (λ l. has_value c.args.arm.0 l) (same ∙ sym c.innermost.ensures.cases) ∙ sym c.has_value.ensures ∙ c.if-has_value.false in
     let old = c.self.invariant.few in
     let few : c.self.inside.count < 256 = grind arith in
     rw (← c.self.view_is, c.push.ensures.items)
