@@ -2,12 +2,16 @@
 #![tactic(auto)]
 
 mod buffer;
+mod draft;
+mod faults;
 mod form;
 mod names;
 mod parts;
 mod scope;
+mod switches;
 
 pub use buffer::CodeBuffer;
+pub use draft::Draft;
 pub use form::Form;
 pub use names::{Binding, DeclareFault, Declared, TooManyNames, Undefined};
 pub use parts::{Branch, Case, CaseFault, Hole, TooLarge};
