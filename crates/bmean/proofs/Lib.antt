@@ -1,0 +1,5 @@
+pub mod Does
+pub mod Stands
+pub mod Values
+pub mod Statements
+pub mod Fuel
