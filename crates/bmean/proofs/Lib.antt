@@ -3,3 +3,8 @@ pub mod Stands
 pub mod Values
 pub mod Statements
 pub mod Fuel
+pub mod Runs
+pub mod Whole
+pub mod Names
+pub mod Loads
+pub mod LawProofs

@@ -1,26 +1,18 @@
 -- The laws that join the meaning of a program and the run of its code.
-use Rattle.std.specs.Prelude.{◌≡◌, ◌≢◌, ℕ, ◌+◌, ◌≤◌, List, [], ◌∷◌, ◌++◌, map, None}
+use Rattle.std.specs.Prelude.{◌≡◌, ◌≢◌, ℕ, ◌+◌, ◌≤◌, List, ◌++◌, map, None}
 use Rattle.btree.specs.Definition.{Definition}
-use Rattle.btree.specs.Scan.{word_of}
-use Rattle.btree.specs.Compiled.{Defined}
-use Rattle.btree.specs.Code.{code_of, fault_of}
+use Rattle.btree.specs.Code.{code_of}
 use Rattle.bmach.specs.World.{World, Ending}
 use Rattle.bmach.specs.Layout.{load_fault}
 use Rattle.bmach.specs.Machine.{Call, State, Running, Halted, Stuck, image_of, run}
 use Rattle.bmean.specs.Answer.{Answer, Gives, Ends, Wants}
 use Rattle.bmean.specs.Meaning.{program_of, meaning}
 
--- no definition has a fault, behind definitions of these names
-abbrev pub Faultless : Defined → List Definition → Type 0
-Faultless names [] = Unit {0}
-Faultless names (d ∷ ds) = (fault_of names d ≡ None) × Faultless (names ++ (word_of d).text ∷ []) ds
+-- a program whose code loads
+abbrev pub Loads : List Definition → Type 0
+Loads ds = load_fault (map code_of ds) ≡ None
 
--- the definitions compile, and their code loads
-pub record Loads (ds : List Definition) : Type 0 where
-  pub faultless : Faultless [] ds
-  pub loads : load_fault (map code_of ds) ≡ None
-
--- what they mean, and the machine with their code after so many steps
+-- what definitions mean, and the machine with their code after so many steps
 abbrev pub meant : List Definition → List ℕ → ℕ → Answer ⊥
 meant ds input n = meaning (program_of ds) input n
 

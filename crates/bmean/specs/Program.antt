@@ -37,11 +37,11 @@ abbrev pub number_of : List ℕ → List (List ℕ × Remaining) → ℕ
 number_of x [] = 0
 number_of x (l ∷ ls) = if same_name l.0 x then 0 else suc (number_of x ls)
 
--- what a name stands for: a word of the frame, an external, or a label
+-- what a name stands for: a word of the frame, a label, or an external
+abbrev pub stands_for : List (List ℕ × Remaining) → List ℕ → Option Kind → Meaning
+stands_for labels x (Some (Automatic word)) = In_frame word
+stands_for labels x (Some (Labelled number)) = At_label (number_of x labels)
+stands_for labels x _ = Outside
+
 abbrev pub names_of : Function → Names
-names_of f x = stands_for (kind_of x (scope_of f).names)
-  where
-    stands_for : Option Kind → Meaning
-    stands_for (Some (Automatic word)) = In_frame word
-    stands_for (Some (Labelled number)) = At_label (number_of x (labels_of f))
-    stands_for _ = Outside
+names_of f x = stands_for (labels_of f) x (kind_of x (scope_of f).names)
