@@ -165,7 +165,7 @@ exited_keeps (Wants w) b h = record { by = tt }
 begun_keeps : (r : Option Trap) (program : Program) (f : Function) (n m : ℕ) → n ≤ m → (w : World) → Keeps (begun r program f n w) (begun r program f m w)
 begun_keeps (Some t) program f n m le w = same _
 begun_keeps None program f n m le w =
-    exited_keeps _ _ (go_keeps program (fuel_of program n) (fuel_of program m) (fuel_more program n m le) (record { function = f; start = program.data_end; active = 1 }) (f.body ∷ []) w).by
+    exited_keeps _ _ (go_keeps program (fuel_of program n) (fuel_of program m) (fuel_more program n m le) _ _ w).by
 
 started_keeps : (program : Program) (o : Option Function) (n m : ℕ) → n ≤ m → (w : World) → Keeps (started program o n w) (started program o m w)
 started_keeps program None n m le w = same _
