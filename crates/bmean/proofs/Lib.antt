@@ -1,0 +1,12 @@
+pub mod Does
+pub mod Stands
+pub mod Values
+pub mod Statements
+pub mod Fuel
+pub mod Runs
+pub mod Whole
+pub mod Names
+pub mod Loads
+pub mod LawProofs
+pub mod Sentences
+pub mod LoadedImages
