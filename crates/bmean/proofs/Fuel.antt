@@ -12,7 +12,7 @@ use Rattle.bmean.specs.Remaining.{Remaining}
 use Rattle.bmean.specs.Program.{Function, Program, frame_words, names_of}
 use Rattle.bmean.specs.Value.{Frame, Lesser, Fuel, spend, is_true, entered, called, name_value, name_address, value, address, values}
 use Rattle.bmean.specs.GoingOn.{passed, gone_to, take_up, take_up_body, go_on, fuel_of}
-use Rattle.bmean.specs.Meaning.{exited, begun, started, first_world, meaning, program_of}
+use Rattle.bmean.specs.Meaning.{exited, main_frame, begun, started, first_world, meaning, program_of}
 use Rattle.bmean.specs.Laws.{EndsForGood}
 
 abbrev Stays : {A : Type 0} → Answer A → Answer A → Type 0
@@ -165,7 +165,7 @@ exited_keeps (Wants w) b h = record { by = tt }
 begun_keeps : (r : Option Trap) (program : Program) (f : Function) (n m : ℕ) → n ≤ m → (w : World) → Keeps (begun r program f n w) (begun r program f m w)
 begun_keeps (Some t) program f n m le w = same _
 begun_keeps None program f n m le w =
-    exited_keeps _ _ (go_keeps program (fuel_of program n) (fuel_of program m) (fuel_more program n m le) (record { function = f; start = program.data_end; active = 1 }) (f.body ∷ []) w).by
+    exited_keeps _ _ (go_keeps program (fuel_of program n) (fuel_of program m) (fuel_more program n m le) (main_frame program f) (f.body ∷ []) w).by
 
 started_keeps : (program : Program) (o : Option Function) (n m : ℕ) → n ≤ m → (w : World) → Keeps (started program o n w) (started program o m w)
 started_keeps program None n m le w = same _

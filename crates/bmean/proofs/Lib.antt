@@ -8,3 +8,4 @@ pub mod Whole
 pub mod Names
 pub mod Loads
 pub mod LawProofs
+pub mod Sentences

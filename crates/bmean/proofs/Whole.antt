@@ -8,9 +8,8 @@ use Rattle.bmach.specs.Machine.{Image, Call, State, Running, Halted, Stuck, step
 use Rattle.bmach.specs.Machine as machine
 use Rattle.bmean.specs.Answer.{Answer, Gives, Ends, Wants}
 use Rattle.bmean.specs.Program.{Function, Program, frame_words, names_of}
-use Rattle.bmean.specs.Value.{Frame}
 use Rattle.bmean.specs.GoingOn.{go_on, fuel_of}
-use Rattle.bmean.specs.Meaning.{exited, begun, started, first_world, meaning}
+use Rattle.bmean.specs.Meaning.{exited, main_frame, begun, started, first_world, meaning}
 use Rattle.bmean.specs.Laws.{world_of, IsBeginningOf}
 use Rattle.bmean.proofs.Does.{Reaches}
 use Rattle.bmean.proofs.Stands.{body_leads}
@@ -30,7 +29,7 @@ exited_reaches image n s (Wants w) r = r
 begun_reaches : (r : Option Trap) (program : Program) (f : Function) (n : ℕ) (w : World) → Reaches (image_code program) n (machine.begun r (loaded_code f) program.data_end w) nowhere (begun r program f n w)
 begun_reaches (Some t) program f n w = (0, refl)
 begun_reaches None program f n w =
-    let frame : Frame = record { function = f; start = program.data_end; active = 1 } in
+    let frame = main_frame program f in
     exited_reaches (image_code program) n _ (go_on program (fuel_of program n) frame (f.body ∷ []) w) ((follows program n).runs frame [] refl (f.body ∷ []) 0 (body_leads (names_of f) f.body) w).by
 
 abbrev HasMain : Program → Type 0

@@ -4,4 +4,6 @@ pub mod Program
 pub mod Value
 pub mod GoingOn
 pub mod Meaning
+pub mod Sentences
 pub mod Laws
+pub mod Rows

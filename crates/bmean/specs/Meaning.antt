@@ -9,6 +9,7 @@ use Rattle.bmach.specs.Layout.{Kind, Shape, Spot, spots, data_end, first_words, 
 use Rattle.bmean.specs.Answer.{Answer, Gives, Ends, Wants}
 use Rattle.bmean.specs.Remaining.{labels}
 use Rattle.bmean.specs.Program.{Function, Program, frame_words}
+use Rattle.bmean.specs.Value.{Frame}
 use Rattle.bmean.specs.GoingOn.{go_on, fuel_of}
 
 -- what the layout looks at
@@ -50,17 +51,20 @@ exited (Gives v w) = Ends (Exited 0) w
 exited (Ends e w) = Ends e w
 exited (Wants w) = Wants w
 
+-- the call of the main function, whose frame begins at the data end
+abbrev pub main_frame : Program → Function → Frame
+main_frame program f = record { function = f; start = program.data_end; active = 1 }
+
 -- the main function begins, unless its frame has no room
 abbrev pub begun : Option Trap → Program → Function → ℕ → World → Answer ⊥
 begun (Some t) program f n w = Ends (Trapped t) w
 begun None program f n w =
-    exited (go_on program (fuel_of program n) (record { function = f; start = program.data_end; active = 1 }) (f.body ∷ []) w)
+    exited (go_on program (fuel_of program n) (main_frame program f) (f.body ∷ []) w)
 
 -- A program without a main function, which doesn't load, never ends.
 abbrev pub started : Program → Option Function → ℕ → World → Answer ⊥
 started program None n w = Wants w
 started program (Some f) n w = begun (refusal 0 (program.data_end + frame_words f)) program f n w
 
--- its frame begins at the data end
 abbrev pub meaning : Program → List ℕ → ℕ → Answer ⊥
 meaning program input n = started program program.main n (first_world program input)

@@ -103,9 +103,9 @@ module _ (program : Program) (fuel : Fuel) (frame : Frame) where
       x ← fetch a
       store a ((x + 65535) % words)
     value (Binary op line e f) = do
-      x ← value e
-      y ← value f
-      operate op x y
+      left ← value e
+      right ← value f
+      operate op left right
     value (Conditional e f g) = do
       x ← value e
       if is_true x then value f else value g
@@ -115,9 +115,9 @@ module _ (program : Program) (fuel : Fuel) (frame : Frame) where
       store a v
     value (Assigned (Some op) line e f) = do
       a ← address e
-      y ← value f
-      x ← fetch a
-      v ← operate op x y
+      new ← value f
+      old ← fetch a
+      v ← operate op old new
       store a v
 
     -- of an lvalue; of anything else, which a scan refuses, 0

@@ -2,6 +2,7 @@
 //! contract.
 #![tactic(auto)]
 
+ghost use Rattle.bmean.specs.Sentences.{EachGoesOn};
 ghost use Rattle.bmean.specs.Laws.{EndsForGood, HaltsAsMeant, MeantIsDone, NeverStuck, RunsWithoutEnd, WantsAsItRuns, WritesAsMeant};
 
 /// Where the machine halts, the program ends so: with the same outcome, the same output and the same store, by as much
@@ -34,4 +35,9 @@ pub fn a_program_that_wants_fuel_still_runs()
 /// More fuel changes no end of a program.
 pub fn more_fuel_changes_no_end()
     ensures { EndsForGood }
+{}
+
+/// Going on with a statement is going on with what it puts in its place.
+pub fn statements_are_done_in_place()
+    ensures { EachGoesOn }
 {}

@@ -1,0 +1,166 @@
+-- Closed facts: what small programs mean.
+use Rattle.std.specs.Prelude.{◌≡◌, ℕ, List, [], ◌∷◌, map, codes, Option, Some, None, refl}
+use Rattle.std.specs.Fmt.{digits}
+use Rattle.bword.specs.declared.operators.BinOp.TheVariants as op
+use Rattle.btree.specs.Expression.{Word, Number, Character, Expr, Arguments, Address, PostIncrement, Named, Literal, Text, Called, Postfixed, Prefixed, Binary, Assigned, No_arguments, Another}
+use Rattle.btree.specs.Statement.{Auto, Extrn, Label, Case, Stmt, Headed, Compound, If, While, Switch, Goto, ReturnValue, Evaluate, Empty, Stmts, Nothing, More}
+use Rattle.btree.specs.Definition.{Definition, Ival_constant}
+use Rattle.bmach.specs.declared.outcome.Trap.TheVariants.{ZeroDivisor, NotAFunction, NotALabel, NoRoom}
+use Rattle.bmach.specs.World.{Ending, Exited, Trapped}
+use Rattle.bmean.specs.Answer.{Answer, Gives, Ends, Wants}
+use Rattle.bmean.specs.Laws.{meant}
+
+abbrev word : List ℕ → Word
+word x = record { text = x; line = 1 }
+
+abbrev name : List ℕ → Expr
+name x = Named (word x)
+
+abbrev number : ℕ → Expr
+number n = Literal (Number n)
+
+abbrev arguments_behind : Arguments → List Expr → Arguments
+arguments_behind before [] = before
+arguments_behind before (e ∷ es) = arguments_behind (Another before e) es
+
+abbrev call : List ℕ → List Expr → Expr
+call f es = Called (name f) (arguments_behind No_arguments es)
+
+abbrev set : List ℕ → Expr → Stmt
+set x e = Evaluate (Assigned None 1 (name x) e)
+
+abbrev printn : Expr → Stmt
+printn e = Evaluate (call (codes "printn") (e ∷ number 10 ∷ []))
+
+abbrev putchar : Expr → Stmt
+putchar e = Evaluate (call (codes "putchar") (e ∷ []))
+
+abbrev statements_behind : Stmts → List Stmt → Stmts
+statements_behind before [] = before
+statements_behind before (s ∷ ss) = statements_behind (More before s) ss
+
+abbrev block : List Stmt → Stmt
+block ss = Compound (statements_behind Nothing ss)
+
+-- a name with or without the constant of a vector, before a statement
+abbrev auto : List ℕ → Option ℕ → Stmt → Stmt
+auto x size s = Headed (Auto (record { word = word x; size = size } ∷ [])) s
+
+abbrev label : List ℕ → Stmt → Stmt
+label x s = Headed (Label (word x)) s
+
+abbrev case : ℕ → Stmt → Stmt
+case n s = Headed (Case 1 (Number n)) s
+
+abbrev function : List ℕ → List (List ℕ) → List Stmt → Definition
+function f parameters ss = Definition.Function (word f) (map word parameters) (block ss)
+
+abbrev main : List Stmt → Definition
+main ss = function (codes "main") [] ss
+
+-- how the program ends with this fuel, or that it wants more, and what it has written
+abbrev shown : Answer ⊥ → Option Ending × List ℕ
+shown (Gives v w) = elim v [ ]
+shown (Ends e w) = (Some e, w.output)
+shown (Wants w) = (None, w.output)
+
+abbrev does : List Definition → (input : List ℕ) → (fuel : ℕ) → Option Ending × List ℕ
+does ds input n = shown (meant ds input n)
+
+-- main(){}
+does_nothing : does (main [] ∷ []) [] 0 ≡ (Some (Exited 0), [])
+does_nothing = refl
+
+-- the word that main returns is no status: main() return(5);
+returns_5 : does (main (ReturnValue (number 5) ∷ []) ∷ []) [] 0 ≡ (Some (Exited 0), [])
+returns_5 = refl
+
+exits_200 : does (main (Evaluate (call (codes "exit") (number 200 ∷ [])) ∷ []) ∷ []) [] 0 ≡ (Some (Exited 72), [])
+exits_200 = refl
+
+-- f(){auto a; a='7';} g(){auto b; return(b);} main(){f(); putchar(g());}: a frame isn't cleared
+keeps_frames : does (function (codes "f") [] (auto (codes "a") None (set (codes "a") (number 55)) ∷ []) ∷ function (codes "g") [] (auto (codes "b") None (ReturnValue (name (codes "b"))) ∷ []) ∷ main (Evaluate (call (codes "f") []) ∷ putchar (call (codes "g") []) ∷ []) ∷ []) [] 1 ≡ (Some (Exited 0), codes "7")
+keeps_frames = refl
+
+-- p(x){putchar(x); return(x);} main(){p('a')-p('b');}
+left_first : does (function (codes "p") (codes "x" ∷ []) (putchar (name (codes "x")) ∷ ReturnValue (name (codes "x")) ∷ []) ∷ main (Evaluate (Binary op.Sub 1 (call (codes "p") (number 97 ∷ [])) (call (codes "p") (number 98 ∷ []))) ∷ []) ∷ []) [] 1 ≡ (Some (Exited 0), codes "ab")
+left_first = refl
+
+-- n 1; f(){extrn n; n=5; return(1);} main(){extrn n; n =+ f(); printn(n,10);}
+reads_behind : does (Definition.Simple (word (codes "n")) (Ival_constant (Number 1) ∷ []) ∷ function (codes "f") [] (Headed (Extrn (word (codes "n") ∷ [])) (set (codes "n") (number 5)) ∷ ReturnValue (number 1) ∷ []) ∷ main (Headed (Extrn (word (codes "n") ∷ [])) (Evaluate (Assigned (Some op.Add) 1 (name (codes "n")) (call (codes "f") []))) ∷ printn (name (codes "n")) ∷ []) ∷ []) [] 1 ≡ (Some (Exited 0), codes "6")
+unfolding digits
+reads_behind = refl
+
+-- main(){auto i; i=0; goto in; while(i<3){in: putchar('a'+i); i++;}}
+abbrev into_loop : List Definition
+into_loop = main (auto (codes "i") None (set (codes "i") (number 0)) ∷ Goto (name (codes "in")) ∷ While (Binary op.Lt 1 (name (codes "i")) (number 3)) (block (label (codes "in") (putchar (Binary op.Add 1 (number 97) (name (codes "i")))) ∷ Evaluate (Postfixed PostIncrement 1 (name (codes "i"))) ∷ [])) ∷ []) ∷ []
+
+goes_into_loop : does into_loop [] 4 ≡ (Some (Exited 0), codes "abc")
+goes_into_loop = refl
+
+goes_into_loop_3 : does into_loop [] 3 ≡ (None, codes "abc")
+goes_into_loop_3 = refl
+
+goes_into_loop_0 : does into_loop [] 0 ≡ (None, [])
+goes_into_loop_0 = refl
+
+-- main(){switch s {case 1: putchar('1'); case 2: putchar('2'); case 3: putchar('3');} putchar('.');}
+abbrev switched : ℕ → List Definition
+switched s = main (Switch (number s) (statements_behind Nothing (case 1 (putchar (number 49)) ∷ case 2 (putchar (number 50)) ∷ case 3 (putchar (number 51)) ∷ [])) ∷ putchar (number 46) ∷ []) ∷ []
+
+falls_through : map (λ s. does (switched s) [] 1) (2 ∷ 9 ∷ []) ≡ (Some (Exited 0), codes "23.") ∷ (Some (Exited 0), codes ".") ∷ []
+falls_through = refl
+
+-- f(){a: b: ;} main(){auto i; i=d; c: printn(i,10); d: ;}: labels count over the whole program
+label_values : does (function (codes "f") [] (label (codes "a") (label (codes "b") Empty) ∷ []) ∷ main (auto (codes "i") None (set (codes "i") (name (codes "d"))) ∷ label (codes "c") (printn (name (codes "i"))) ∷ label (codes "d") Empty ∷ []) ∷ []) [] 0 ≡ (Some (Exited 0), codes "4")
+unfolding digits
+label_values = refl
+
+-- main(){goto 9;}, and f(l){goto l;} main(){f(x); x: ;}
+goes_nowhere : does (main (Goto (number 9) ∷ []) ∷ []) [] 0 ≡ (Some (Trapped NotALabel), [])
+goes_nowhere = refl
+
+goes_elsewhere : does (function (codes "f") (codes "l" ∷ []) (Goto (name (codes "l")) ∷ []) ∷ main (Evaluate (call (codes "f") (name (codes "x") ∷ [])) ∷ label (codes "x") Empty ∷ []) ∷ []) [] 1 ≡ (Some (Trapped NotALabel), [])
+goes_elsewhere = refl
+
+-- main(){extrn n; n();} n 0;
+calls_0 : does (main (Headed (Extrn (word (codes "n") ∷ [])) (Evaluate (call (codes "n") [])) ∷ []) ∷ Definition.Simple (word (codes "n")) (Ival_constant (Number 0) ∷ []) ∷ []) [] 0 ≡ (Some (Trapped NotAFunction), [])
+calls_0 = refl
+
+-- main(){putchar('.'); printn(1/0,10);}
+divides_by_0 : does (main (putchar (number 46) ∷ printn (Binary op.Div 1 (number 1) (number 0)) ∷ []) ∷ []) [] 0 ≡ (Some (Trapped ZeroDivisor), codes ".")
+divides_by_0 = refl
+
+-- main(){auto v 32000; main();}
+no_room : does (main (auto (codes "v") (Some 32000) (Evaluate (call (codes "main") [])) ∷ []) ∷ []) [] 1 ≡ (Some (Trapped NoRoom), [])
+no_room = refl
+
+-- f(a,b) return(b); main(){putchar(f(1)+'0'); putchar(f('a','b','c'));}
+parameters : does (function (codes "f") (codes "a" ∷ codes "b" ∷ []) (ReturnValue (name (codes "b")) ∷ []) ∷ main (putchar (Binary op.Add 1 (call (codes "f") (number 1 ∷ [])) (number 48)) ∷ putchar (call (codes "f") (number 97 ∷ number 98 ∷ number 99 ∷ [])) ∷ []) ∷ []) [] 1 ≡ (Some (Exited 0), codes "0b")
+parameters = refl
+
+-- n 5; v[1]; main(){extrn n,v; printn(&n,10); putchar(' '); printn(v,10);}
+external_words : does (Definition.Simple (word (codes "n")) (Ival_constant (Number 5) ∷ []) ∷ Definition.Vector (word (codes "v")) (Some 1) [] ∷ main (Headed (Extrn (word (codes "n") ∷ word (codes "v") ∷ [])) (printn (Prefixed Address 1 (name (codes "n")))) ∷ putchar (number 32) ∷ printn (name (codes "v")) ∷ []) ∷ []) [] 0 ≡ (Some (Exited 0), codes "7 9")
+unfolding digits
+external_words = refl
+
+-- main(){putchar(char("hi",1)); printn("a",10);}: each string has its own words, behind the function's
+string_words : does (main (putchar (call (codes "char") (Text (codes "hi") 0 ∷ number 1 ∷ [])) ∷ printn (Text (codes "a") 2) ∷ []) ∷ []) [] 0 ≡ (Some (Exited 0), codes "i10")
+unfolding digits
+string_words = refl
+
+-- main(){auto i; i=0; a: {auto v 0; if(v-&v) putchar('1'); v=&v;} if(i++<1) goto a;}: v is set each time
+sets_vector : does (main (auto (codes "i") None (set (codes "i") (number 0)) ∷ label (codes "a") (block (auto (codes "v") (Some 0) (If (Binary op.Sub 1 (name (codes "v")) (Prefixed Address 1 (name (codes "v")))) (putchar (number 49))) ∷ set (codes "v") (Prefixed Address 1 (name (codes "v"))) ∷ [])) ∷ If (Binary op.Lt 1 (Postfixed PostIncrement 1 (name (codes "i"))) (number 1)) (Goto (name (codes "a"))) ∷ []) ∷ []) [] 1 ≡ (Some (Exited 0), codes "11")
+sets_vector = refl
+
+-- main(){auto c; while((c=getchar())!='*e') putchar(c);}
+copies : does (main (auto (codes "c") None (While (Binary op.Ne 1 (Assigned None 1 (name (codes "c")) (call (codes "getchar") [])) (Literal (Character 4))) (putchar (name (codes "c")))) ∷ []) ∷ []) (codes "hi") 3 ≡ (Some (Exited 0), codes "hi")
+copies = refl
+
+-- f() return(0); main() while(f()) ;: the call has what fuel the while left
+condition_fuel : map (does (function (codes "f") [] (ReturnValue (number 0) ∷ []) ∷ main (While (call (codes "f") []) Empty ∷ []) ∷ []) []) (0 ∷ 1 ∷ 2 ∷ []) ≡ (None, []) ∷ (None, []) ∷ (Some (Exited 0), []) ∷ []
+condition_fuel = refl
+
+-- the same of a switch
+value_fuel : map (does (function (codes "f") [] (ReturnValue (number 0) ∷ []) ∷ main (Switch (call (codes "f") []) Nothing ∷ []) ∷ []) []) (0 ∷ 1 ∷ 2 ∷ []) ≡ (None, []) ∷ (None, []) ∷ (Some (Exited 0), []) ∷ []
+value_fuel = refl
