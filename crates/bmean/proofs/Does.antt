@@ -2,7 +2,7 @@
 use Rattle.std.proofs.Common.{◌≡◌, ◌≢◌, ℕ, zero, suc, ◌+◌, ◌≤◌, refl, sym, ap, ◌∙◌, subst, arith}
 use Rattle.bmach.specs.World.{World, Reply}
 use Rattle.bmach.specs.Machine.{Image, State, Running, Halted, Stuck, step, steps, on_reply}
-use Rattle.bmean.specs.Answer.{Answer, Gives, Ends, Wants, go_from, answer_of}
+use Rattle.bmean.specs.Answer.{Answer, Gives, Ends, Wants, and_then, answer_of}
 
 -- a run that isn't over, in this world
 abbrev pub IsAt : State → World → Type 0
@@ -51,12 +51,12 @@ EachGiven P (Gives a w) = P a
 EachGiven P (Ends e w) = Unit {0}
 EachGiven P (Wants w) = Unit {0}
 
-pub each_from : {A B : Type 0} (P : A → Type 0) (Q : B → Type 0) (a : Answer A) (f : A → World → Answer B) → EachGiven P a → ((x : A) (w : World) → P x → EachGiven Q (f x w)) → EachGiven Q (go_from a f)
+pub each_from : {A B : Type 0} (P : A → Type 0) (Q : B → Type 0) (a : Answer A) (f : A → World → Answer B) → EachGiven P a → ((x : A) (w : World) → P x → EachGiven Q (f x w)) → EachGiven Q (and_then a f)
 each_from P Q (Gives x w) f p h = h x w p
 each_from P Q (Ends e w) f p h = tt
 each_from P Q (Wants w) f p h = tt
 
-then_reaches : {A B : Type 0} (image : Image) (n : ℕ) (s : State) (P : A → Type 0) (to : A → World → State) (to' : B → World → State) (a : Answer A) (f : A → World → Answer B) → EachGiven P a → Reaches image n s to a → ((x : A) (w : World) → P x → Does image n (to x w) to' (f x w)) → Reaches image n s to' (go_from a f)
+then_reaches : {A B : Type 0} (image : Image) (n : ℕ) (s : State) (P : A → Type 0) (to : A → World → State) (to' : B → World → State) (a : Answer A) (f : A → World → Answer B) → EachGiven P a → Reaches image n s to a → ((x : A) (w : World) → P x → Does image n (to x w) to' (f x w)) → Reaches image n s to' (and_then a f)
 then_reaches image n s P to to' (Gives x w) f p r h = comes_on image r.0 n n s (to x w) to' (f x w) r.1 (omega arith) (h x w p).by
 then_reaches image n s P to to' (Ends e w) f p r h = r
 then_reaches image n s P to to' (Wants w) f p r h = r
@@ -66,7 +66,7 @@ to_elsewhere (Gives x w) d h = after_steps d.by.0 _ d.by.1 (omega arith) (h x w)
 to_elsewhere (Ends e w) d h = record { by = d.by }
 to_elsewhere (Wants w) d h = record { by = d.by }
 
-pub then_does_each : {A B : Type 0} {image : Image} {n : ℕ} {s : State} {to : A → World → State} {to' : B → World → State} {a : Answer A} {f : A → World → Answer B} (P : A → Type 0) → EachGiven P a → Does image n s to a → ((x : A) (w : World) → P x → Does image n (to x w) to' (f x w)) → Does image n s to' (go_from a f)
+pub then_does_each : {A B : Type 0} {image : Image} {n : ℕ} {s : State} {to : A → World → State} {to' : B → World → State} {a : Answer A} {f : A → World → Answer B} (P : A → Type 0) → EachGiven P a → Does image n s to a → ((x : A) (w : World) → P x → Does image n (to x w) to' (f x w)) → Does image n s to' (and_then a f)
 then_does_each {image} {n} {s} {to} {to'} {a} {f} P p d h = record { by = then_reaches image n s P to to' a f p d.by h }
 
 pub each_unit : {A : Type 0} (a : Answer A) → EachGiven (λ x. Unit {0}) a
@@ -75,7 +75,7 @@ each_unit (Ends e w) = tt
 each_unit (Wants w) = tt
 
 -- one thing, and then another with its result
-pub then_does : {A B : Type 0} {image : Image} {n : ℕ} {s : State} {to : A → World → State} {to' : B → World → State} (a : Answer A) (f : A → World → Answer B) → Does image n s to a → ((x : A) (w : World) → Does image n (to x w) to' (f x w)) → Does image n s to' (go_from a f)
+pub then_does : {A B : Type 0} {image : Image} {n : ℕ} {s : State} {to : A → World → State} {to' : B → World → State} (a : Answer A) (f : A → World → Answer B) → Does image n s to a → ((x : A) (w : World) → Does image n (to x w) to' (f x w)) → Does image n s to' (and_then a f)
 then_does a f d h = then_does_each (λ x. Unit {0}) (each_unit a) d (λ x w _. h x w)
 
 later_reaches : {A : Type 0} (image : Image) (n m : ℕ) (s s' : State) (to : A → World → State) (a : Answer A) → s ≢ s' → steps image m s ≡ s' → Reaches image n s' to a → Reaches image (suc n) s to a
@@ -83,7 +83,7 @@ later_reaches image n zero s s' to a d e r = absurd (d e)
 later_reaches image n (suc m) s s' to a d e r = comes_on image (suc m) n (suc n) s s' to a e (omega arith) r
 
 -- the same where the first thing makes a step at least
-pub then_does_later : {A B : Type 0} {image : Image} {n : ℕ} {s : State} {to : A → World → State} {to' : B → World → State} (a : Answer A) (f : A → World → Answer B) → ((x : A) (w : World) → s ≢ to x w) → Does image (suc n) s to a → ((x : A) (w : World) → Does image n (to x w) to' (f x w)) → Does image (suc n) s to' (go_from a f)
+pub then_does_later : {A B : Type 0} {image : Image} {n : ℕ} {s : State} {to : A → World → State} {to' : B → World → State} (a : Answer A) (f : A → World → Answer B) → ((x : A) (w : World) → s ≢ to x w) → Does image (suc n) s to a → ((x : A) (w : World) → Does image n (to x w) to' (f x w)) → Does image (suc n) s to' (and_then a f)
 then_does_later {image} {n} {s} {to} {to'} (Gives x w) f d h k =
     record { by = later_reaches image n h.by.0 s (to x w) to' (f x w) (d x w) h.by.1 (k x w).by }
 then_does_later (Ends e w) f d h k = record { by = h.by }

@@ -7,10 +7,10 @@ use Rattle.btree.specs.Statement.{Stmt, Headed, Compound, If, IfElse, While, Swi
 use Rattle.btree.specs.Code.{Meaning, In_frame, Outside, At_label}
 use Rattle.bmach.specs.declared.outcome.Trap.{Trap}
 use Rattle.bmach.specs.World.{World, Ending, word_at, library, Callee, NoFunction, OfLibrary, OfProgram, callee_of, refusal}
-use Rattle.bmean.specs.Answer.{Answer, Gives, Ends, Wants, Doing, go_from, answer_of, operated}
+use Rattle.bmean.specs.Answer.{Answer, Gives, Ends, Wants, Computation, and_then, answer_of, operated}
 use Rattle.bmean.specs.Remaining.{Remaining}
 use Rattle.bmean.specs.Program.{Function, Program, frame_words, names_of}
-use Rattle.bmean.specs.Value.{Frame, Lesser, Fuel, spend, is_true, entered, called, name_value, name_address, value, address, values}
+use Rattle.bmean.specs.Value.{Frame, Evaluator, Fuel, spend, is_true, entered, called, name_value, name_address, value, address, values}
 use Rattle.bmean.specs.GoingOn.{passed, gone_to, take_up, take_up_body, go_on, fuel_of}
 use Rattle.bmean.specs.Meaning.{exited, main_frame, begun, started, first_world, meaning, program_of}
 use Rattle.bmean.specs.Laws.{EndsForGood}
@@ -29,30 +29,30 @@ same (Gives v w) = record { by = refl }
 same (Ends e w) = record { by = refl }
 same (Wants w) = record { by = tt }
 
-then_stays : {A B : Type 0} (a a' : Answer A) (f f' : A → World → Answer B) → Stays a a' → ((x : A) (w : World) → Keeps (f x w) (f' x w)) → Stays (go_from a f) (go_from a' f')
-then_stays (Gives x w) a' f f' h k = subst (λ b. Stays (f x w) (go_from b f')) (sym h) (k x w).by
-then_stays (Ends e w) a' f f' h k = ap (λ b. go_from b f') h
+then_stays : {A B : Type 0} (a a' : Answer A) (f f' : A → World → Answer B) → Stays a a' → ((x : A) (w : World) → Keeps (f x w) (f' x w)) → Stays (and_then a f) (and_then a' f')
+then_stays (Gives x w) a' f f' h k = subst (λ b. Stays (f x w) (and_then b f')) (sym h) (k x w).by
+then_stays (Ends e w) a' f f' h k = ap (λ b. and_then b f') h
 then_stays (Wants w) a' f f' h k = tt
 
-then_keeps : {A B : Type 0} (a a' : Answer A) (f f' : A → World → Answer B) → Keeps a a' → ((x : A) (w : World) → Keeps (f x w) (f' x w)) → Keeps (go_from a f) (go_from a' f')
+then_keeps : {A B : Type 0} (a a' : Answer A) (f f' : A → World → Answer B) → Keeps a a' → ((x : A) (w : World) → Keeps (f x w) (f' x w)) → Keeps (and_then a f) (and_then a' f')
 then_keeps a a' f f' h k = record { by = then_stays a a' f f' h.by k }
 
 -- the same of everything that is done with one fuel less
-record LessKeeps (a b : Lesser) : Type 0 where
+record EvaluatorKeeps (a b : Evaluator) : Type 0 where
   values : (frame : Frame) (e : Expr) (w : World) → Keeps (a.value frame e w) (b.value frame e w)
   runs : (frame : Frame) (rest : Remaining) (w : World) → Keeps (a.go_on frame rest w) (b.go_on frame rest w)
 
 abbrev MoreFuel : Fuel → Fuel → Type 0
 MoreFuel None g = Unit {0}
 MoreFuel (Some f) None = ⊥
-MoreFuel (Some f) (Some g) = LessKeeps f g
+MoreFuel (Some f) (Some g) = EvaluatorKeeps f g
 
-spend_keeps : {A : Type 0} (f g : Fuel) → MoreFuel f g → (next next' : Lesser → Doing A) → (w : World) → ((a b : Lesser) → LessKeeps a b → Keeps (next a w) (next' b w)) → Keeps (spend f next w) (spend g next' w)
+spend_keeps : {A : Type 0} (f g : Fuel) → MoreFuel f g → (next next' : Evaluator → Computation A) → (w : World) → ((a b : Evaluator) → EvaluatorKeeps a b → Keeps (next a w) (next' b w)) → Keeps (spend f next w) (spend g next' w)
 spend_keeps None g h next next' w k = record { by = tt }
 spend_keeps (Some f) None h next next' w k = elim h [ ]
 spend_keeps (Some f) (Some g) h next next' w k = k f g h
 
-if_keeps : {A : Type 0} (b : Bool) (a c a' c' : Doing A) (w : World) → Keeps (a w) (a' w) → Keeps (c w) (c' w) → Keeps ((if b then a else c) w) ((if b then a' else c') w)
+if_keeps : {A : Type 0} (b : Bool) (a c a' c' : Computation A) (w : World) → Keeps (a w) (a' w) → Keeps (c w) (c' w) → Keeps ((if b then a else c) w) ((if b then a' else c') w)
 if_keeps true a c a' c' w h k = h
 if_keeps false a c a' c' w h k = k
 
@@ -122,7 +122,7 @@ module _ (program : Program) (f g : Fuel) (more : MoreFuel f g) (frame : Frame) 
   gone_keeps (Some r) w = spend_keeps f g more _ _ w (λ a b h. h.runs frame r w)
 
   mutual
-    take_keeps : (s : Stmt) (rest : Remaining) (next next' : Doing ℕ) → ((w : World) → Keeps (next w) (next' w)) → (w : World) → Keeps (take_up program f frame s rest next w) (take_up program g frame s rest next' w)
+    take_keeps : (s : Stmt) (rest : Remaining) (next next' : Computation ℕ) → ((w : World) → Keeps (next w) (next' w)) → (w : World) → Keeps (take_up program f frame s rest next w) (take_up program g frame s rest next' w)
     take_keeps (Headed h s) rest next next' k w = take_keeps s rest next next' k (passed h frame w)
     take_keeps (Compound body) rest next next' k w = take_body_keeps body rest next next' k w
     take_keeps (If e s) rest next next' k w =
@@ -138,7 +138,7 @@ module _ (program : Program) (f g : Fuel) (more : MoreFuel f g) (frame : Frame) 
     take_keeps (Evaluate e) rest next next' k w = then_keeps _ _ _ _ (value_keeps e w) (λ v w1. k w1)
     take_keeps Empty rest next next' k w = k w
 
-    take_body_keeps : (body : Stmts) (rest : Remaining) (next next' : Doing ℕ) → ((w : World) → Keeps (next w) (next' w)) → (w : World) → Keeps (take_up_body program f frame body rest next w) (take_up_body program g frame body rest next' w)
+    take_body_keeps : (body : Stmts) (rest : Remaining) (next next' : Computation ℕ) → ((w : World) → Keeps (next w) (next' w)) → (w : World) → Keeps (take_up_body program f frame body rest next w) (take_up_body program g frame body rest next' w)
     take_body_keeps Nothing rest next next' k w = k w
     take_body_keeps (More before s) rest next next' k w =
         take_body_keeps before (s ∷ rest) _ _ (λ w1. take_keeps s rest next next' k w1) w

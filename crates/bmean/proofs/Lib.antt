@@ -9,3 +9,4 @@ pub mod Names
 pub mod Loads
 pub mod LawProofs
 pub mod Sentences
+pub mod LoadedImages

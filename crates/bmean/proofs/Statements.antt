@@ -8,12 +8,12 @@ use Rattle.btree.specs.Statement.{Declared, Heading, Auto, Extrn, Label, Case, S
 use Rattle.btree.specs.Code.{Names, Meaning, In_frame, Outside, At_label, word_code, vector_code, heading_code, cases_code, statement_code, body_code, body_cases, label_places}
 use Rattle.bmach.specs.World.{words, World, with_word}
 use Rattle.bmach.specs.Machine.{Call, State, returned, label_target, gone_to, act_if, step}
-use Rattle.bmean.specs.Answer.{Answer, Gives, Doing}
+use Rattle.bmean.specs.Answer.{Answer, Gives, Computation}
 use Rattle.bmean.specs.Remaining.{Remaining, labels}
 use Rattle.bmean.specs.Remaining as remaining
 use Rattle.bmean.specs.Program.{Program, labels_of}
-use Rattle.bmean.specs.Value.{Frame, Lesser, Fuel, value}
-use Rattle.bmean.specs.GoingOn.{with_vector, with_vectors, passed, selected, label_at, take_up, take_up_body, go_on, done_with, fuel_of}
+use Rattle.bmean.specs.Value.{Frame, Evaluator, Fuel, value}
+use Rattle.bmean.specs.GoingOn.{with_vector, with_vectors, passed, selected, label_at, take_up, take_up_body, go_on, evaluator, fuel_of}
 use Rattle.bmean.specs.GoingOn as going
 use Rattle.bmean.proofs.Does.{IsAt, Does, after_steps, after_step, fewer, arrives, to_elsewhere, then_does}
 use Rattle.bmean.proofs.Stands.{One, Vector_at, Vectors_at, Heading_at, Cases_at, Statement_at, Body_at, Glides, Stays, Jumps, Stands, Leads, leads_there, leads_and, EachLeads, EachCase, body_cases_lead, labels_of_body_lead}
@@ -84,11 +84,11 @@ module _ (program : Program) (n : ℕ) (fuel : Fuel) (is_fuel : IsFuel program n
       after_steps (suc zero) n e (omega (arith, is_less)) (follows.runs frame below deep r t h w))
 
   -- the cases of a switch, with the value on top
-  one_case : (m : ℕ) (less : Lesser) (b : Bool) (v d t : ℕ) (there rest : Remaining) (s : State) (w : World) → step (image_code program) s ≡ (if b then at frame below t [] w else at frame below d (v ∷ []) w) → Does (image_code program) m (at frame below t [] w) (to_caller below) (less.go_on frame there w) → Does (image_code program) m (at frame below d (v ∷ []) w) (to_caller below) (less.go_on frame rest w) → Does (image_code program) m s (to_caller below) (less.go_on frame (if b then there else rest) w)
+  one_case : (m : ℕ) (less : Evaluator) (b : Bool) (v d t : ℕ) (there rest : Remaining) (s : State) (w : World) → step (image_code program) s ≡ (if b then at frame below t [] w else at frame below d (v ∷ []) w) → Does (image_code program) m (at frame below t [] w) (to_caller below) (less.go_on frame there w) → Does (image_code program) m (at frame below d (v ∷ []) w) (to_caller below) (less.go_on frame rest w) → Does (image_code program) m s (to_caller below) (less.go_on frame (if b then there else rest) w)
   one_case m less true v d t there rest s w e d1 d2 = fewer {j = m} (omega arith) (after_step e d1)
   one_case m less false v d t there rest s w e d1 d2 = fewer {j = m} (omega arith) (after_step e d2)
 
-  cases_do : (m : ℕ) (less : Lesser) → Follows program m less → (rs : List (ℕ × Remaining)) (ps : List (ℕ × ℕ)) (d c q v : ℕ) (rest : Remaining) → EachCase (names_in_frame frame) (code_in_frame frame) rs ps → Cases_at (names_in_frame frame) (code_in_frame frame) ps d c → One (names_in_frame frame) (code_in_frame frame) c instr.Pop q → Leads (names_in_frame frame) (code_in_frame frame) rest q → (w : World) → Does (image_code program) m (at frame below d (v ∷ []) w) (to_caller below) (less.go_on frame (selected v rs rest) w)
+  cases_do : (m : ℕ) (less : Evaluator) → Follows program m less → (rs : List (ℕ × Remaining)) (ps : List (ℕ × ℕ)) (d c q v : ℕ) (rest : Remaining) → EachCase (names_in_frame frame) (code_in_frame frame) rs ps → Cases_at (names_in_frame frame) (code_in_frame frame) ps d c → One (names_in_frame frame) (code_in_frame frame) c instr.Pop q → Leads (names_in_frame frame) (code_in_frame frame) rest q → (w : World) → Does (image_code program) m (at frame below d (v ∷ []) w) (to_caller below) (less.go_on frame (selected v rs rest) w)
   cases_do m less follows [] [] d c q v rest h k o l w =
       fewer {j = m} (omega arith) (instr_does program n fuel is_fuel frame below deep instr.Pop d q (v ∷ []) [] w w (to_caller below) (less.go_on frame rest w) m (subst (λ r. One (names_in_frame frame) (code_in_frame frame) r instr.Pop q) k o) refl (follows.runs frame below deep rest q l w))
   cases_do m less follows [] (p ∷ ps) d c q v rest h k o l w = elim h [ ]
@@ -98,7 +98,7 @@ module _ (program : Program) (n : ℕ) (fuel : Fuel) (is_fuel : IsFuel program n
       (one_case m less (v == p.0) v (d + 1) p.1 r.1 (selected v rs rest) (at frame below d (v ∷ []) w) w (ap (act_if (image_code program) (call_at frame d (v ∷ [])) below w) k.0.fetched) (follows.runs frame below deep r.1 p.1 h.1 w) (cases_do m less follows rs ps (d + 1) c q v rest h.2 k.1 o l w))
 
   mutual
-    take_up_does : (s : Stmt) (rest : Remaining) (p q : ℕ) → Statement_at (names_in_frame frame) (code_in_frame frame) s p q → Leads (names_in_frame frame) (code_in_frame frame) rest q → (next : Doing ℕ) → ((w : World) → Does (image_code program) n (at frame below q [] w) (to_caller below) (next w)) → (w : World) → Does (image_code program) n (at frame below p [] w) (to_caller below) (take_up program fuel frame s rest next w)
+    take_up_does : (s : Stmt) (rest : Remaining) (p q : ℕ) → Statement_at (names_in_frame frame) (code_in_frame frame) s p q → Leads (names_in_frame frame) (code_in_frame frame) rest q → (next : Computation ℕ) → ((w : World) → Does (image_code program) n (at frame below q [] w) (to_caller below) (next w)) → (w : World) → Does (image_code program) n (at frame below p [] w) (to_caller below) (take_up program fuel frame s rest next w)
     take_up_does (Headed g s) rest p q h l next d w =
         let m = p + length (heading_code (names_in_frame frame) g) in
         heading_does g p m w (to_caller below) _ h.0 (take_up_does s rest m q h.1 l next d (passed g frame w))
@@ -153,7 +153,7 @@ module _ (program : Program) (n : ℕ) (fuel : Fuel) (is_fuel : IsFuel program n
         fewer {j = n} (omega arith) (instr_does program n fuel is_fuel frame below deep instr.Pop m q (v ∷ []) [] w1 w1 (to_caller below) (next w1) n h.1 refl (d w1)))
     take_up_does Empty rest p q h l next d w = subst (λ r. Does (image_code program) n (at frame below r [] w) (to_caller below) (next w)) h (d w)
 
-    take_up_body_does : (body : Stmts) (rest : Remaining) (p q : ℕ) → Body_at (names_in_frame frame) (code_in_frame frame) body p q → Leads (names_in_frame frame) (code_in_frame frame) rest q → (next : Doing ℕ) → ((w : World) → Does (image_code program) n (at frame below q [] w) (to_caller below) (next w)) → (w : World) → Does (image_code program) n (at frame below p [] w) (to_caller below) (take_up_body program fuel frame body rest next w)
+    take_up_body_does : (body : Stmts) (rest : Remaining) (p q : ℕ) → Body_at (names_in_frame frame) (code_in_frame frame) body p q → Leads (names_in_frame frame) (code_in_frame frame) rest q → (next : Computation ℕ) → ((w : World) → Does (image_code program) n (at frame below q [] w) (to_caller below) (next w)) → (w : World) → Does (image_code program) n (at frame below p [] w) (to_caller below) (take_up_body program fuel frame body rest next w)
     take_up_body_does Nothing rest p q h l next d w = subst (λ r. Does (image_code program) n (at frame below r [] w) (to_caller below) (next w)) h (d w)
     take_up_body_does (More before s) rest p q h l next d w =
         let m = p + length (body_code (names_in_frame frame) before p) in
@@ -166,7 +166,7 @@ module _ (program : Program) (n : ℕ) (fuel : Fuel) (is_fuel : IsFuel program n
   go_on_does (s ∷ rest) p h w =
       take_up_does s rest p h.0 h.2 (record { place = h.1; glides = h.3; stands = h.4 }) (go_on program fuel frame rest) (λ w'. glides_do h.0 h.1 w' (to_caller below) _ h.3 (go_on_does rest h.1 h.4 w')) w
 
-follows_with : (program : Program) (n : ℕ) (fuel : Fuel) → IsFuel program n fuel → Follows program n (done_with program fuel)
+follows_with : (program : Program) (n : ℕ) (fuel : Fuel) → IsFuel program n fuel → Follows program n (evaluator program fuel)
 follows_with program n fuel is_fuel = record {
   runs = λ frame below deep rest p l w. glides_do program n fuel is_fuel frame below deep p l.place w (to_caller below) _ l.glides (go_on_does program n fuel is_fuel frame below deep rest l.place l.stands w);
   values = λ frame below deep e p q h w. value_does program n fuel is_fuel frame below deep e p q h [] w;
@@ -174,7 +174,7 @@ follows_with program n fuel is_fuel = record {
 }
 
 -- with any fuel
-pub follows : (program : Program) (n : ℕ) → Follows program n (done_with program (fuel_of program n))
+pub follows : (program : Program) (n : ℕ) → Follows program n (evaluator program (fuel_of program n))
 follows program zero = follows_with program zero None refl
 follows program (suc n) =
-    follows_with program (suc n) (Some (done_with program (fuel_of program n))) (n, omega arith, follows program n)
+    follows_with program (suc n) (Some (evaluator program (fuel_of program n))) (n, omega arith, follows program n)

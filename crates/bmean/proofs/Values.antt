@@ -20,10 +20,10 @@ use Rattle.bmach.specs.World.{words, World, with_word, word_at, with_words, para
 use Rattle.bmach.specs.Layout.{address_in}
 use Rattle.bmach.specs.Machine.{Loaded, Image, Call, State, Running, take_one, take_call, on_reply, operator_reply, at_place, returned, call_of, act, act_if, step}
 use Rattle.bmach.specs.Machine as machine
-use Rattle.bmean.specs.Answer.{Answer, Gives, Doing, go_from, answer_of, operated, operate}
+use Rattle.bmean.specs.Answer.{Answer, Gives, Computation, and_then, answer_of, operated, operate}
 use Rattle.bmean.specs.Remaining.{Remaining}
 use Rattle.bmean.specs.Program.{Function, Program, frame_words, names_of}
-use Rattle.bmean.specs.Value.{Frame, Lesser, Fuel, spend, is_true, entered, called, name_value, name_address, value, address, values}
+use Rattle.bmean.specs.Value.{Frame, Evaluator, Fuel, spend, is_true, entered, called, name_value, name_address, value, address, values}
 use Rattle.bmean.proofs.Does.{IsAt, Does, after_steps, after_step, fewer, arrives, EachGiven, each_from, each_unit, to_elsewhere, then_does, then_does_each, then_does_later, reply_does}
 use Rattle.bmean.proofs.Stands.{One, Name_at, Word_at, Address_at, Arguments_at, Leads, whole_code, body_leads}
 
@@ -66,17 +66,17 @@ abbrev pub to_caller : List Call → ℕ → World → State
 to_caller below v w = returned v below w
 
 -- The machine does what is done with this fuel, wherever it stands.
-pub record Follows (program : Program) (n : ℕ) (less : Lesser) : Type 0 where
+pub record Follows (program : Program) (n : ℕ) (less : Evaluator) : Type 0 where
   pub runs : (frame : Frame) (below : List Call) → frame.active ≡ 1 + length below → (remaining : Remaining) (p : ℕ) → Leads (names_in_frame frame) (code_in_frame frame) remaining p → (w : World) → Does (image_code program) n (at frame below p [] w) (to_caller below) (less.go_on frame remaining w)
   pub values : (frame : Frame) (below : List Call) → frame.active ≡ 1 + length below → (e : Expr) (p q : ℕ) → Word_at (names_in_frame frame) (code_in_frame frame) e p q → (w : World) → Does (image_code program) (suc n) (at frame below p [] w) (λ v w'. at frame below q (v ∷ []) w') (less.value frame e w)
-  pub tests : (frame : Frame) (e : Expr) (s : Stmt) (rest : Remaining) (w : World) → less.go_on frame (If e (Compound (More (More Nothing s) (While e s))) ∷ rest) w ≡ go_from (less.value frame e w) (λ x. if is_true x then less.go_on frame (s ∷ While e s ∷ rest) else less.go_on frame rest)
+  pub tests : (frame : Frame) (e : Expr) (s : Stmt) (rest : Remaining) (w : World) → less.go_on frame (If e (Compound (More (More Nothing s) (While e s))) ∷ rest) w ≡ and_then (less.value frame e w) (λ x. if is_true x then less.go_on frame (s ∷ While e s ∷ rest) else less.go_on frame rest)
 
 abbrev pub IsFuel : Program → ℕ → Fuel → Type 0
 IsFuel program n None = n ≡ 0
 IsFuel program n (Some less) = (m : ℕ) × (n ≡ m + 1) × Follows program m less
 
 -- spending fuel where a run stands
-pub spend_does : {A : Type 0} (program : Program) (n : ℕ) (fuel : Fuel) → IsFuel program n fuel → (s : State) (to : A → World → State) (next : Lesser → Doing A) (w : World) → IsAt s w → ((m : ℕ) (less : Lesser) → n ≡ m + 1 → Follows program m less → Does (image_code program) n s to (next less w)) → Does (image_code program) n s to (spend fuel next w)
+pub spend_does : {A : Type 0} (program : Program) (n : ℕ) (fuel : Fuel) → IsFuel program n fuel → (s : State) (to : A → World → State) (next : Evaluator → Computation A) (w : World) → IsAt s w → ((m : ℕ) (less : Evaluator) → n ≡ m + 1 → Follows program m less → Does (image_code program) n s to (next less w)) → Does (image_code program) n s to (spend fuel next w)
 spend_does program n None f s to next w i h = record { by = (zero, omega (arith, f), i) }
 spend_does program n (Some less) f s to next w i h = h f.0 less f.1 f.2
 
@@ -139,12 +139,12 @@ module _ (program : Program) (n : ℕ) (fuel : Fuel) (is_fuel : IsFuel program n
       subst (λ a. Does (image_code program) (suc n) (at frame below p operands w) to a) (operated_replies r w)
       (reply_does to (operator_reply r w) (ap (act_if (image_code program) (call_at frame p operands) below w) o.fetched ∙ e ∙ ap (λ m. on_reply (operator_reply r w) (λ v w'. at frame below m (v ∷ rest) (g v w'))) (sym o.behind)))
 
-  branch_on : {A : Type 0} (z : Bool) (t q : ℕ) (operands : List ℕ) (w : World) (s : State) (to : A → World → State) (a b : Doing A) (j : ℕ) → step (image_code program) s ≡ (if z then at frame below t operands w else at frame below q operands w) → Does (image_code program) j (at frame below q operands w) to (a w) → Does (image_code program) j (at frame below t operands w) to (b w) → Does (image_code program) (suc j) s to ((if not z then a else b) w)
+  branch_on : {A : Type 0} (z : Bool) (t q : ℕ) (operands : List ℕ) (w : World) (s : State) (to : A → World → State) (a b : Computation A) (j : ℕ) → step (image_code program) s ≡ (if z then at frame below t operands w else at frame below q operands w) → Does (image_code program) j (at frame below q operands w) to (a w) → Does (image_code program) j (at frame below t operands w) to (b w) → Does (image_code program) (suc j) s to ((if not z then a else b) w)
   branch_on true t q operands w s to a b j e d d' = after_step e d'
   branch_on false t q operands w s to a b j e d d' = after_step e d
 
   -- a jump that is made at 0
-  pub branch_does : {A : Type 0} (x p t q : ℕ) (operands : List ℕ) (w : World) (to : A → World → State) (a b : Doing A) (j : ℕ) → One (names_in_frame frame) (code_in_frame frame) p (instr.JumpIfZero t) q → Does (image_code program) j (at frame below q operands w) to (a w) → Does (image_code program) j (at frame below t operands w) to (b w) → Does (image_code program) (suc j) (at frame below p (x ∷ operands) w) to ((if is_true x then a else b) w)
+  pub branch_does : {A : Type 0} (x p t q : ℕ) (operands : List ℕ) (w : World) (to : A → World → State) (a b : Computation A) (j : ℕ) → One (names_in_frame frame) (code_in_frame frame) p (instr.JumpIfZero t) q → Does (image_code program) j (at frame below q operands w) to (a w) → Does (image_code program) j (at frame below t operands w) to (b w) → Does (image_code program) (suc j) (at frame below p (x ∷ operands) w) to ((if is_true x then a else b) w)
   branch_does x p t q operands w to a b j o d d' =
       branch_on (x == 0) t q operands w (at frame below p (x ∷ operands) w) to a b j (ap (act_if (image_code program) (call_at frame p (x ∷ operands)) below w) o.fetched ∙ ap (λ m. if x == 0 then at frame below t operands w else at frame below m operands w) (sym o.behind)) d d'
 

@@ -10,7 +10,7 @@ use Rattle.bmean.specs.Answer.{Answer, Gives, Ends, Wants}
 use Rattle.bmean.specs.Program.{Function, Program, frame_words, names_of}
 use Rattle.bmean.specs.GoingOn.{go_on, fuel_of}
 use Rattle.bmean.specs.Meaning.{exited, main_frame, begun, started, first_world, meaning}
-use Rattle.bmean.specs.Laws.{world_of, IsBeginningOf}
+use Rattle.bmean.specs.Laws.{world_of, HaltsAsMeant, MeantIsDone, NeverStuck, WritesAsMeant, WantsAsItRuns, RunsWithoutEnd}
 use Rattle.bmean.proofs.Does.{Reaches}
 use Rattle.bmean.proofs.Stands.{body_leads}
 use Rattle.bmean.proofs.Values.{loaded_code, image_code, to_caller}
@@ -81,13 +81,19 @@ so_far_written image n k s call below w (Ends e' w') le r h =
 so_far_written image n k s call below w (Wants w') le r h =
     subst (λ u. Writes u w') (ap world_in h) (subst (λ u. Writes (world_in (steps image n s)) u) (at_world (steps image r.0 s) w' r.2) (later_writes image n r.0 s (omega (arith, le, r.1))))
 
--- the laws of one program, as a machine's states and a meaning's answers
+abbrev IsWant : Answer ⊥ → Type 0
+IsWant (Gives v w) = ⊥
+IsWant (Ends e w) = ⊥
+IsWant (Wants w) = Unit {0}
+
+-- the laws together, of a machine and a program
 pub record Agree (state : ℕ → State) (answer : ℕ → Answer ⊥) : Type 0 where
-  pub halts_as_meant : (n : ℕ) (e : Ending) (w : World) → state n ≡ Halted e w → answer (n + 1) ≡ Ends e w
-  pub meant_is_done : (n : ℕ) (e : Ending) (w : World) → answer n ≡ Ends e w → (m : ℕ) × (state m ≡ Halted e w)
-  pub never_stuck : (n : ℕ) (w : World) → state n ≢ Stuck w
-  pub writes_as_meant : (n : ℕ) (call : Call) (below : List Call) (w : World) → state n ≡ Running call below w → IsBeginningOf w.output (world_of (answer (n + 1))).output
-  pub wants_as_it_runs : (n : ℕ) (w : World) → answer n ≡ Wants w → (m : ℕ) × (call : Call) × (below : List Call) × (n ≤ m) × (state m ≡ Running call below w)
+  pub halts_as_meant : HaltsAsMeant state answer
+  pub meant_is_done : MeantIsDone state answer
+  pub never_stuck : NeverStuck state answer
+  pub writes_as_meant : WritesAsMeant state answer
+  pub wants_as_it_runs : WantsAsItRuns state answer
+  pub runs_without_end : RunsWithoutEnd state answer
 
 pub agree : (program : Program) → HasMain program → (input : List ℕ) → Agree (run (image_code program) input) (meaning program input)
 agree program main input =
@@ -104,4 +110,6 @@ agree program main input =
           let r = subst (λ a. Reaches image n s nowhere a) h (reach n) in
           let running = at_running (steps image r.0 s) w r.2 in
           (r.0, running.0, running.1, r.1, running.2);
+      runs_without_end = λ wants n e w h.
+          subst IsWant (sym (wants (n + 1)).1 ∙ over_ends image n (n + 1) s e w (answer (n + 1)) (omega arith) (reach (n + 1)) h) tt;
     }

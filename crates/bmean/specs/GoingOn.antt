@@ -4,10 +4,10 @@ use Rattle.btree.specs.Statement.{Declared, Heading, Auto, Extrn, Label, Case, S
 use Rattle.btree.specs.Code.{Names, Meaning, In_frame}
 use Rattle.bmach.specs.declared.outcome.Trap.TheVariants.{NotALabel}
 use Rattle.bmach.specs.World.{words, World, with_word}
-use Rattle.bmean.specs.Answer.{Doing, ◌>>=◌, gives, trap}
+use Rattle.bmean.specs.Answer.{Computation, ◌>>=◌, gives, trap}
 use Rattle.bmean.specs.Remaining.{Remaining, body_cases}
 use Rattle.bmean.specs.Program.{Program, names_of, labels_of}
-use Rattle.bmean.specs.Value.{Frame, Lesser, Fuel, spend, is_true, value}
+use Rattle.bmean.specs.Value.{Frame, Evaluator, Fuel, spend, is_true, value}
 
 -- the own word of a vector is the address of the word after it
 abbrev pub with_vector : Meaning → Option ℕ → (start : ℕ) → World → World
@@ -36,14 +36,14 @@ label_at first value labels =
     if nat_lt value first then None else option_map (λ l. l.1) (slice_get labels (value - first))
 
 -- a jump to a label of this function spends one fuel
-abbrev pub gone_to : Fuel → Frame → Option Remaining → Doing ℕ
+abbrev pub gone_to : Fuel → Frame → Option Remaining → Computation ℕ
 gone_to fuel frame None = trap NotALabel
 gone_to fuel frame (Some there) = spend fuel (λ less. less.go_on frame there)
 
 module _ (program : Program) (fuel : Fuel) (frame : Frame) where
   abbrev mutual
     -- does a statement and what is next, which are the statements that remain
-    pub take_up : Stmt → Remaining → Doing ℕ → Doing ℕ
+    pub take_up : Stmt → Remaining → Computation ℕ → Computation ℕ
     take_up (Headed h s) rest next = λ w. take_up s rest next (passed h frame w)
     take_up (Compound body) rest next = take_up_body body rest next
     take_up (If e s) rest next = do
@@ -68,18 +68,19 @@ module _ (program : Program) (fuel : Fuel) (frame : Frame) where
       next
     take_up Empty rest next = next
 
-    pub take_up_body : Stmts → Remaining → Doing ℕ → Doing ℕ
+    pub take_up_body : Stmts → Remaining → Computation ℕ → Computation ℕ
     take_up_body Nothing rest next = next
     take_up_body (More before s) rest next = take_up_body before (s ∷ rest) (take_up s rest next)
 
 -- gives the word that the call returns, which is 0 where nothing remains
-abbrev pub go_on : Program → Fuel → Frame → Remaining → Doing ℕ
+abbrev pub go_on : Program → Fuel → Frame → Remaining → Computation ℕ
 go_on program fuel frame [] = gives 0
 go_on program fuel frame (s ∷ rest) = take_up program fuel frame s rest (go_on program fuel frame rest)
 
-abbrev pub done_with : Program → Fuel → Lesser
-done_with program fuel = record { value = value program fuel; go_on = go_on program fuel }
+-- the evaluator with this fuel, and the fuel of so many
+abbrev pub evaluator : Program → Fuel → Evaluator
+evaluator program fuel = record { value = value program fuel; go_on = go_on program fuel }
 
 abbrev pub fuel_of : Program → ℕ → Fuel
 fuel_of program zero = None
-fuel_of program (suc n) = Some (done_with program (fuel_of program n))
+fuel_of program (suc n) = Some (evaluator program (fuel_of program n))

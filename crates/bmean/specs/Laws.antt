@@ -4,20 +4,44 @@ use Rattle.btree.specs.Definition.{Definition}
 use Rattle.btree.specs.Code.{code_of}
 use Rattle.bmach.specs.World.{World, Ending}
 use Rattle.bmach.specs.Layout.{load_fault}
-use Rattle.bmach.specs.Machine.{Call, State, Running, Halted, Stuck, image_of, run}
+use Rattle.bmach.specs.Machine.{Image, Call, State, Running, Halted, Stuck, image_of, run}
+use Rattle.bmach.specs.Resolved.{IsLoadedFrom}
 use Rattle.bmean.specs.Answer.{Answer, Gives, Ends, Wants}
 use Rattle.bmean.specs.Meaning.{program_of, meaning}
 
--- a program whose code loads
-abbrev pub Loads : List Definition → Type 0
-Loads ds = load_fault (map code_of ds) ≡ None
-
--- what definitions mean, and the machine with their code after so many steps
+-- what definitions mean
 abbrev pub meant : List Definition → List ℕ → ℕ → Answer ⊥
 meant ds input n = meaning (program_of ds) input n
 
-abbrev pub machine : List Definition → List ℕ → ℕ → State
-machine ds input n = run (image_of (map code_of ds)) input n
+abbrev pub Loads : List Definition → Type 0
+Loads ds = load_fault (map code_of ds) ≡ None
+
+-- a law of the states of a machine, by the number of steps, and the answers of a program, by its fuel
+abbrev pub Law : Type 1
+Law = (state : ℕ → State) → (answer : ℕ → Answer ⊥) → Type 0
+
+-- It holds of each program whose code loads, and the machine with that code, on every input.
+abbrev pub OfCode : Law → Type 0
+OfCode Holds =
+    (ds : List Definition) → Loads ds → (input : List ℕ) → Holds (run (image_of (map code_of ds)) input) (meant ds input)
+
+-- The same of a machine with an image that was loaded from that code.
+abbrev pub OfImage : Law → Type 0
+OfImage Holds =
+    (ds : List Definition) (image : Image) → Loads ds → IsLoadedFrom (map code_of ds) image → (input : List ℕ) → Holds (run image input) (meant ds input)
+
+-- Where the machine halts, the meaning ends so with one fuel more than its steps.
+abbrev pub HaltsAsMeant : Law
+HaltsAsMeant state answer = (n : ℕ) (e : Ending) (w : World) → state n ≡ Halted e w → answer (n + 1) ≡ Ends e w
+
+-- Where the meaning ends, the machine halts so at some step.
+abbrev pub MeantIsDone : Law
+MeantIsDone state answer =
+    (n : ℕ) (e : Ending) (w : World) → answer n ≡ Ends e w → (m : ℕ) × (state m ≡ Halted e w)
+
+-- The machine is never stuck.
+abbrev pub NeverStuck : Law
+NeverStuck state answer = (n : ℕ) (w : World) → state n ≢ Stuck w
 
 abbrev pub world_of : Answer ⊥ → World
 world_of (Gives v w) = w
@@ -27,35 +51,20 @@ world_of (Wants w) = w
 abbrev pub IsBeginningOf : List ℕ → List ℕ → Type 0
 IsBeginningOf xs ys = (more : List ℕ) × (xs ++ more ≡ ys)
 
--- Where the machine halts, the meaning ends so with one fuel more than its steps.
-abbrev pub HaltsAsMeant : Type 0
-HaltsAsMeant =
-    (ds : List Definition) → Loads ds → (input : List ℕ) (n : ℕ) (e : Ending) (w : World) → machine ds input n ≡ Halted e w → meant ds input (n + 1) ≡ Ends e w
-
--- Where the meaning ends, the machine halts so at some step.
-abbrev pub MeantIsDone : Type 0
-MeantIsDone =
-    (ds : List Definition) → Loads ds → (input : List ℕ) (n : ℕ) (e : Ending) (w : World) → meant ds input n ≡ Ends e w → (m : ℕ) × (machine ds input m ≡ Halted e w)
-
--- Compiled code is never stuck.
-abbrev pub NeverStuck : Type 0
-NeverStuck =
-    (ds : List Definition) → Loads ds → (input : List ℕ) (n : ℕ) (w : World) → machine ds input n ≢ Stuck w
-
--- What was written before a halt is a beginning of what the meaning writes.
-abbrev pub WritesAsMeant : Type 0
-WritesAsMeant =
-    (ds : List Definition) → Loads ds → (input : List ℕ) (n : ℕ) (call : Call) (below : List Call) (w : World) → machine ds input n ≡ Running call below w → IsBeginningOf w.output (world_of (meant ds input (n + 1))).output
+-- What was written before a halt is a beginning of what the meaning writes with one fuel more than the steps.
+abbrev pub WritesAsMeant : Law
+WritesAsMeant state answer =
+    (n : ℕ) (call : Call) (below : List Call) (w : World) → state n ≡ Running call below w → IsBeginningOf w.output (world_of (answer (n + 1))).output
 
 -- Where the meaning wants more fuel than n, the machine after n steps or more hasn't halted, and has written the same.
-abbrev pub WantsAsItRuns : Type 0
-WantsAsItRuns =
-    (ds : List Definition) → Loads ds → (input : List ℕ) (n : ℕ) (w : World) → meant ds input n ≡ Wants w → (m : ℕ) × (call : Call) × (below : List Call) × (n ≤ m) × (machine ds input m ≡ Running call below w)
+abbrev pub WantsAsItRuns : Law
+WantsAsItRuns state answer =
+    (n : ℕ) (w : World) → answer n ≡ Wants w → (m : ℕ) × (call : Call) × (below : List Call) × (n ≤ m) × (state m ≡ Running call below w)
 
 -- Where it wants more fuel at every n, the machine never halts.
-abbrev pub RunsWithoutEnd : Type 0
-RunsWithoutEnd =
-    (ds : List Definition) → Loads ds → (input : List ℕ) → ((n : ℕ) → (w : World) × (meant ds input n ≡ Wants w)) → (n : ℕ) (e : Ending) (w : World) → machine ds input n ≢ Halted e w
+abbrev pub RunsWithoutEnd : Law
+RunsWithoutEnd state answer =
+    ((n : ℕ) → (w : World) × (answer n ≡ Wants w)) → (n : ℕ) (e : Ending) (w : World) → state n ≢ Halted e w
 
 -- More fuel changes no end.
 abbrev pub EndsForGood : Type 0

@@ -8,7 +8,7 @@ use Rattle.bmach.specs.declared.outcome.Trap.{Trap}
 use Rattle.bmach.specs.declared.outcome.Trap.TheVariants.{NotAFunction}
 use Rattle.bmach.specs.World.{words, with_words, library, Callee, NoFunction, OfLibrary, OfProgram, callee_of, refusal, parameter_words}
 use Rattle.bmach.specs.Layout.{address_in}
-use Rattle.bmean.specs.Answer.{Wants, Doing, ◌>>=◌, gives, trap, fetch, store, operate, answer_of}
+use Rattle.bmean.specs.Answer.{Wants, Computation, ◌>>=◌, gives, trap, fetch, store, operate, answer_of}
 use Rattle.bmean.specs.Remaining.{Remaining}
 use Rattle.bmean.specs.Program.{Function, Program, frame_words, names_of}
 
@@ -18,16 +18,16 @@ pub record Frame : Type 0 where
   pub start : ℕ
   pub active : ℕ
 
--- what is done with one fuel less: expressions, and what remains of a call
-pub record Lesser : Type 0 where
-  pub value : Frame → Expr → Doing ℕ
-  pub go_on : Frame → Remaining → Doing ℕ
+-- an evaluator of expressions, and of what remains of a call
+pub record Evaluator : Type 0 where
+  pub value : Frame → Expr → Computation ℕ
+  pub go_on : Frame → Remaining → Computation ℕ
 
--- none where no fuel is left
+-- the evaluator with one fuel less, or none where no fuel is left
 abbrev pub Fuel : Type 0
-Fuel = Option Lesser
+Fuel = Option Evaluator
 
-abbrev pub spend : {A : Type 0} → Fuel → (Lesser → Doing A) → Doing A
+abbrev pub spend : {A : Type 0} → Fuel → (Evaluator → Computation A) → Computation A
 spend None next w = Wants w
 spend (Some less) next w = next less w
 
@@ -36,32 +36,32 @@ is_true x = not (x == 0)
 
 module _ (program : Program) (fuel : Fuel) (frame : Frame) where
   -- a call that isn't refused stores its parameters and spends one fuel
-  abbrev pub entered : Option Trap → Function → List ℕ → (start : ℕ) → Doing ℕ
+  abbrev pub entered : Option Trap → Function → List ℕ → (start : ℕ) → Computation ℕ
   entered (Some t) f args start = trap t
   entered None f args start =
       spend fuel (λ less w. less.go_on (record { function = f; start = start; active = frame.active + 1 }) (f.body ∷ []) (with_words w start (parameter_words (length f.parameters) args)))
 
   -- the frame of a called function begins behind the caller's
-  abbrev pub called : Callee Function → List ℕ → Doing ℕ
+  abbrev pub called : Callee Function → List ℕ → Computation ℕ
   called NoFunction args = trap NotAFunction
   called (OfLibrary f) args = λ w. answer_of (library f args w)
   called (OfProgram f) args =
       let start = frame.start + frame_words frame.function in
       entered (refusal frame.active (start + frame_words f)) f args start
 
-  abbrev pub name_address : Meaning → List ℕ → Doing ℕ
+  abbrev pub name_address : Meaning → List ℕ → Computation ℕ
   name_address (In_frame k) x = gives ((frame.start + k) % words)
   name_address Outside x = gives (unwrap_or (address_in program.addresses x) 0)
   name_address (At_label k) x = gives ((frame.function.first_label + k) % words)
 
   -- a label is its own value
-  abbrev pub name_value : Meaning → List ℕ → Doing ℕ
+  abbrev pub name_value : Meaning → List ℕ → Computation ℕ
   name_value (In_frame k) x = name_address (In_frame k) x >>= fetch
   name_value Outside x = name_address Outside x >>= fetch
   name_value (At_label k) x = name_address (At_label k) x
 
   abbrev mutual
-    pub value : Expr → Doing ℕ
+    pub value : Expr → Computation ℕ
     value (Named w) = name_value (names_of frame.function w.text) w.text
     value (Literal c) = gives (value_of c)
     value (Text bytes offset) = gives ((frame.function.strings + offset) % words)
@@ -121,7 +121,7 @@ module _ (program : Program) (fuel : Fuel) (frame : Frame) where
       store a v
 
     -- of an lvalue; of anything else, which a scan refuses, 0
-    pub address : Expr → Doing ℕ
+    pub address : Expr → Computation ℕ
     address (Named w) = name_address (names_of frame.function w.text) w.text
     address (Grouped e) = address e
     address (Prefixed Indirection line e) = value e
@@ -131,7 +131,7 @@ module _ (program : Program) (fuel : Fuel) (frame : Frame) where
       gives ((x + y) % words)
     address _ = gives 0
 
-    pub values : Arguments → Doing (List ℕ)
+    pub values : Arguments → Computation (List ℕ)
     values No_arguments = gives []
     values (Another before e) = do
       vs ← values before

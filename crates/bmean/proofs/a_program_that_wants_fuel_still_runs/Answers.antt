@@ -1,8 +1,9 @@
-use Rattle.bmean.proofs.LawProofs.{wants_as_it_runs, runs_without_end}
+use Rattle.bmean.proofs.LawProofs.{code_agrees, image_agrees}
 use Rattle.bmean.proofs.a_program_that_wants_fuel_still_runs.Goals as goal
 
-pub returns-clause-once : goal.returns-clause-once
-returns-clause-once c = wants_as_it_runs
+pub returns-clause-code : goal.returns-clause-code
+returns-clause-code c ds loads input = (code_agrees ds loads input).wants_as_it_runs
 
-pub returns-clause-forever : goal.returns-clause-forever
-returns-clause-forever c = runs_without_end
+pub returns-clause-image : goal.returns-clause-image
+returns-clause-image c ds image loads loaded input =
+    (image_agrees c.resolving_changes_no_run.ensures ds image loads loaded input).wants_as_it_runs

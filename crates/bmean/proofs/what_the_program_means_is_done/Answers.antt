@@ -1,5 +1,9 @@
-use Rattle.bmean.proofs.LawProofs.{meant_is_done}
+use Rattle.bmean.proofs.LawProofs.{code_agrees, image_agrees}
 use Rattle.bmean.proofs.what_the_program_means_is_done.Goals as goal
 
-pub returns : goal.returns
-returns c = meant_is_done
+pub returns-clause-code : goal.returns-clause-code
+returns-clause-code c ds loads input = (code_agrees ds loads input).meant_is_done
+
+pub returns-clause-image : goal.returns-clause-image
+returns-clause-image c ds image loads loaded input =
+    (image_agrees c.resolving_changes_no_run.ensures ds image loads loaded input).meant_is_done
