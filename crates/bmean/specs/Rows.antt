@@ -2,10 +2,10 @@
 use Rattle.std.specs.Prelude.{◌≡◌, ℕ, List, [], ◌∷◌, map, codes, Option, Some, None, refl}
 use Rattle.std.specs.Fmt.{digits}
 use Rattle.bword.specs.declared.operators.BinOp.TheVariants as op
-use Rattle.btree.specs.Expression.{Word, Number, Character, Expr, Arguments, Address, PostIncrement, Named, Literal, Text, Called, Postfixed, Prefixed, Binary, Assigned, No_arguments, Another}
+use Rattle.btree.specs.Expression.{Word, Number, Character, Expr, Arguments, Address, Not, PreIncrement, PostIncrement, PostDecrement, Named, Literal, Text, Grouped, Indexed, Called, Postfixed, Prefixed, Binary, Conditional, Assigned, No_arguments, Another}
 use Rattle.btree.specs.Statement.{Auto, Extrn, Label, Case, Stmt, Headed, Compound, If, While, Switch, Goto, ReturnValue, Evaluate, Empty, Stmts, Nothing, More}
 use Rattle.btree.specs.Definition.{Definition, Ival_constant}
-use Rattle.bmach.specs.declared.outcome.Trap.TheVariants.{ZeroDivisor, NotAFunction, NotALabel, NoRoom}
+use Rattle.bmach.specs.declared.outcome.Trap.TheVariants.{ZeroDivisor, NotAFunction, NotALabel, NoRoom, TooDeep}
 use Rattle.bmach.specs.World.{Ending, Exited, Trapped}
 use Rattle.bmean.specs.Answer.{Answer, Gives, Ends, Wants}
 use Rattle.bmean.specs.Laws.{meant}
@@ -139,6 +139,14 @@ no_room = refl
 parameters : does (function (codes "f") (codes "a" ∷ codes "b" ∷ []) (ReturnValue (name (codes "b")) ∷ []) ∷ main (putchar (Binary op.Add 1 (call (codes "f") (number 1 ∷ [])) (number 48)) ∷ putchar (call (codes "f") (number 97 ∷ number 98 ∷ number 99 ∷ [])) ∷ []) ∷ []) [] 1 ≡ (Some (Exited 0), codes "0b")
 parameters = refl
 
+-- main(){main();}
+too_deep : does (main (Evaluate (call (codes "main") []) ∷ []) ∷ []) [] 4095 ≡ (Some (Trapped TooDeep), [])
+too_deep = refl
+
+-- printn(n,b){extrn putchar; auto a; if(a=n/b) printn(a,b); putchar(n%b+'0');} main(){printn(1972,10);}: the library's is hidden
+hides_printn : does (function (codes "printn") (codes "n" ∷ codes "b" ∷ []) (Headed (Extrn (word (codes "putchar") ∷ [])) (auto (codes "a") None (If (Assigned None 1 (name (codes "a")) (Binary op.Div 1 (name (codes "n")) (name (codes "b")))) (Evaluate (call (codes "printn") (name (codes "a") ∷ name (codes "b") ∷ []))))) ∷ putchar (Binary op.Add 1 (Binary op.Rem 1 (name (codes "n")) (name (codes "b"))) (number 48)) ∷ []) ∷ main (printn (number 1972) ∷ []) ∷ []) [] 4 ≡ (Some (Exited 0), codes "1972")
+hides_printn = refl
+
 -- n 5; v[1]; main(){extrn n,v; printn(&n,10); putchar(' '); printn(v,10);}
 external_words : does (Definition.Simple (word (codes "n")) (Ival_constant (Number 5) ∷ []) ∷ Definition.Vector (word (codes "v")) (Some 1) [] ∷ main (Headed (Extrn (word (codes "n") ∷ word (codes "v") ∷ [])) (printn (Prefixed Address 1 (name (codes "n")))) ∷ putchar (number 32) ∷ printn (name (codes "v")) ∷ []) ∷ []) [] 0 ≡ (Some (Exited 0), codes "7 9")
 unfolding digits
@@ -164,3 +172,46 @@ condition_fuel = refl
 -- the same of a switch
 value_fuel : map (does (function (codes "f") [] (ReturnValue (number 0) ∷ []) ∷ main (Switch (call (codes "f") []) Nothing ∷ []) ∷ []) []) (0 ∷ 1 ∷ 2 ∷ []) ≡ (None, []) ∷ (None, []) ∷ (Some (Exited 0), []) ∷ []
 value_fuel = refl
+
+-- main() { extrn putchar, n, v; auto i, c, col, a; i = col = 0; while(i<n) v[i++] = 1; while(col<n) { a = n+1; c = i = 0;
+-- while(i<n) { c =+ v[i]*10; v[i++] = c%a; c =/ a--; } putchar(c+'0'); if(!(++col%5)) putchar(col%50?' ':'*n'); }
+-- putchar('*n*n'); } v[10]; n 10;
+abbrev n : Expr
+n = name (codes "n")
+
+abbrev i : Expr
+i = name (codes "i")
+
+abbrev c : Expr
+c = name (codes "c")
+
+abbrev col : Expr
+col = name (codes "col")
+
+abbrev a : Expr
+a = name (codes "a")
+
+abbrev counted : Expr → Expr
+counted e = Postfixed PostIncrement 1 e
+
+abbrev digits_of_e : List Definition
+digits_of_e =
+    main (Headed (Extrn (map word (codes "putchar" ∷ codes "n" ∷ codes "v" ∷ []))) (Headed (Auto (map (λ x. record { word = word x; size = None }) (codes "i" ∷ codes "c" ∷ codes "col" ∷ codes "a" ∷ []))) (set (codes "i") (Assigned None 1 col (number 0))))
+    ∷ While (Binary op.Lt 1 i n) (Evaluate (Assigned None 1 (Indexed (name (codes "v")) (counted i)) (number 1)))
+    ∷ While (Binary op.Lt 1 col n) (block (set (codes "a") (Binary op.Add 1 n (number 1))
+    ∷ set (codes "c") (Assigned None 1 i (number 0))
+    ∷ While (Binary op.Lt 1 i n) (block (Evaluate (Assigned (Some op.Add) 1 c (Binary op.Mul 1 (Indexed (name (codes "v")) i) (number 10)))
+    ∷ Evaluate (Assigned None 1 (Indexed (name (codes "v")) (counted i)) (Binary op.Rem 1 c a))
+    ∷ Evaluate (Assigned (Some op.Div) 1 c (Postfixed PostDecrement 1 a))
+    ∷ []))
+    ∷ putchar (Binary op.Add 1 c (number 48))
+    ∷ If (Prefixed Not 1 (Grouped (Binary op.Rem 1 (Prefixed PreIncrement 1 col) (number 5)))) (putchar (Conditional (Binary op.Rem 1 col (number 50)) (number 32) (number 10)))
+    ∷ []))
+    ∷ putchar (number 2570)
+    ∷ [])
+    ∷ Definition.Vector (word (codes "v")) (Some 10) []
+    ∷ Definition.Simple (word (codes "n")) (Ival_constant (Number 10) ∷ [])
+    ∷ []
+
+computes_e : does digits_of_e [] 150 ≡ (Some (Exited 0), codes "71828 18261 \n\n")
+computes_e = refl
