@@ -1,0 +1,10 @@
+pub mod Holds
+pub mod Tokens
+pub mod ExpressionCode
+pub mod StatementCode
+pub mod Scopes
+pub mod Scans
+pub mod Strings
+pub mod Labels
+pub mod Definitions
+pub mod ReadingBack

@@ -1,0 +1,180 @@
+-- What a scan without a fault comes to: a table within its limits, and vectors within the frame.
+use Rattle.std.proofs.Common.{◌≡◌, ℕ, suc, ◌+◌, ◌<◌, ◌≤◌, Bool, true, false, List, [], ◌∷◌, ◌++◌, length, refl, sym, ap, arith, length-append, if◌then◌else◌, Option, Some, None, Result, Ok, Err, ◌⊎◌, inl, inr}
+use Rattle.std.specs.Prelude.{nat_lt, sum_by}
+use Rattle.std.specs.Cmp.Lexicographic.{nat_list_eq_equiv}
+use Rattle.std.proofs.lemmas.Bool.Decides.{nat_tests}
+use Rattle.std.proofs.lemmas.List.Sums.{sum_by-append, sum_by-cons}
+use Rattle.blex.specs.declared.diagnostic.Diagnostic.{Diagnostic}
+use Rattle.btree.specs.Expression.{Word}
+use Rattle.btree.specs.Scope.{Kind, Automatic, External, Unlabelled, Labelled, Entry, same_name, kind_of, entered, declared, kind_mentioned, mentioned, with_kind, labelled}
+use Rattle.bback.proofs.Holds.{Holds, Holds-nil, Holds-cons, Holds-first, Holds-rest, Holds-append, Holds-weaker}
+
+-- What the table becomes.
+-- an entry more, where there was room
+pub record Entered (x : List ℕ) (k : Kind) (es new : List Entry) : Type 0 where
+  pub room : length es < 128
+  pub is : new ≡ es ++ record { name = x; kind = k } ∷ []
+
+entered_if : (b : Bool) (x : List ℕ) (k : Kind) (es new : List Entry) (d : Diagnostic) → (b ≡ true → length es < 128)
+    → (let r : Result (List Entry) Diagnostic = if b then Ok (es ++ record { name = x; kind = k } ∷ []) else Err d in r) ≡ Ok new → Entered x k es new
+entered_if true x k es new d room h = record { room = room refl; is = let e : es ++ record { name = x; kind = k } ∷ [] ≡ new = cc in sym e }
+entered_if false x k es new d room h = cc
+
+entered_is : (w : Word) (k : Kind) (es new : List Entry) → entered w k es ≡ Ok new → Entered w.text k es new
+entered_is w k es new h = entered_if (nat_lt (length es) 128) w.text k es new _ (λ l. grind (arith, nat_tests)) h
+
+pub declared_is : (w : Word) (k : Kind) (es new : List Entry) (o : Option Kind) → kind_of w.text es ≡ o → declared w k es ≡ Ok new → (kind_of w.text es ≡ None) × Entered w.text k es new
+declared_is w k es new None e h = (e, entered_is w k es new (rw e at h))
+declared_is w k es new (Some old) e h = let n = rw e at h in cc
+
+-- the same table, or an entry more
+pub mentioned_is : (called : Bool) (w : Word) (es new : List Entry) (o : Option Kind) → kind_of w.text es ≡ o → mentioned called w es ≡ Ok new
+    → (new ≡ es) ⊎ Entered w.text (kind_mentioned called w.line) es new
+mentioned_is called w es new None e h = inr (entered_is w _ es new (rw e at h))
+mentioned_is called w es new (Some old) e h = let n = rw e at h in let q : new ≡ es = cc in inl q
+
+-- a label for an internal name
+pub record Relabelled (x : List ℕ) (k : Kind) (es new : List Entry) : Type 0 where
+  pub line : ℕ
+  pub was : kind_of x es ≡ Some (Unlabelled line)
+  pub is : new ≡ with_kind x k es
+
+pub labelled_is : (w : Word) (number : ℕ) (es new : List Entry) (o : Option Kind) → kind_of w.text es ≡ o → labelled w number es ≡ Ok new
+    → Entered w.text (Labelled number) es new ⊎ Relabelled w.text (Labelled number) es new
+labelled_is w number es new None e h = inl (entered_is w _ es new (rw e at h))
+labelled_is w number es new (Some (Unlabelled line)) e h =
+    let n = rw e at h in
+    let q : new ≡ with_kind w.text (Labelled number) es = cc in
+    inr (record { line = line; was = e; is = q })
+labelled_is w number es new (Some (Automatic word)) e h = let n = rw e at h in cc
+labelled_is w number es new (Some External) e h = let n = rw e at h in cc
+labelled_is w number es new (Some (Labelled n)) e h = let n = rw e at h in cc
+
+-- What a name stands for.
+kind_of_if : (b : Bool) (o p q : Option Kind) (k : Kind) → (p ≡ Some k → q ≡ Some k) → (if b then o else p) ≡ Some k → (if b then o else q) ≡ Some k
+kind_of_if true o p q k f h = h
+kind_of_if false o p q k f h = f h
+
+pub kind_of-append : (x : List ℕ) (es more : List Entry) (k : Kind) → kind_of x es ≡ Some k → kind_of x (es ++ more) ≡ Some k
+kind_of-append x [] more k h = cc
+kind_of-append x (e ∷ es) more k h = kind_of_if (same_name e.name x) _ _ _ k (kind_of-append x es more k) h
+
+kind_of_none : (b : Bool) (o p q : Option Kind) (k old : Kind) → o ≡ Some old → (p ≡ None → q ≡ Some k) → (if b then o else p) ≡ None → (if b then o else q) ≡ Some k
+kind_of_none true o p q k old e f h = cc
+kind_of_none false o p q k old e f h = f h
+
+pub kind_of-entered : (x : List ℕ) (es : List Entry) (k : Kind) → kind_of x es ≡ None → kind_of x (es ++ record { name = x; kind = k } ∷ []) ≡ Some k
+kind_of-entered x [] k h = rw (nat_list_eq_equiv.refl x) refl
+kind_of-entered x (e ∷ es) k h = kind_of_none (same_name e.name x) _ _ _ k e.kind refl (kind_of-entered x es k) h
+
+with_kind_if : (b c : Bool) (k : Kind) (x : List ℕ) (e : Entry) (rest more : List Entry) → same_name e.name x ≡ c → (kind_of x more ≡ kind_of x rest) ⊎ (kind_of x more ≡ Some k)
+    → (let new : List Entry = if b then record { name = e.name; kind = k } ∷ rest else e ∷ more in (kind_of x new ≡ kind_of x (e ∷ rest)) ⊎ (kind_of x new ≡ Some k))
+with_kind_if true true k x e rest more s h = inr (rw s refl)
+with_kind_if true false k x e rest more s h = inl (rw s refl)
+with_kind_if false true k x e rest more s h = inl (rw s refl)
+with_kind_if false false k x e rest more s h = rw s h
+
+pub kind_of-with_kind : (x y : List ℕ) (k : Kind) (es : List Entry) → (kind_of x (with_kind y k es) ≡ kind_of x es) ⊎ (kind_of x (with_kind y k es) ≡ Some k)
+kind_of-with_kind x y k [] = inl refl
+kind_of-with_kind x y k (e ∷ es) = with_kind_if (same_name e.name y) (same_name e.name x) k x e es (with_kind y k es) refl (kind_of-with_kind x y k es)
+
+-- How many names have a label.
+abbrev is_labelled : Kind → ℕ
+is_labelled (Labelled n) = 1
+is_labelled _ = 0
+
+abbrev labels_of : List Entry → ℕ
+labels_of es = sum_by (λ e. is_labelled e.kind) es
+
+length_if : (b : Bool) (e f : Entry) (es more : List Entry) → length more ≡ length es → length (if b then f ∷ es else e ∷ more) ≡ length (e ∷ es)
+length_if true e f es more h = refl
+length_if false e f es more h = ap suc h
+
+pub length-with_kind : (x : List ℕ) (k : Kind) (es : List Entry) → length (with_kind x k es) ≡ length es
+length-with_kind x k [] = refl
+length-with_kind x k (e ∷ es) = length_if (same_name e.name x) e _ es (with_kind x k es) (length-with_kind x k es)
+
+labels_if : (b : Bool) (n line : ℕ) (e : Entry) (es more : List Entry) (o : Option Kind) → (o ≡ Some (Unlabelled line) → labels_of more ≡ labels_of es + 1)
+    → (if b then Some e.kind else o) ≡ Some (Unlabelled line) → labels_of (if b then record { name = e.name; kind = Labelled n } ∷ es else e ∷ more) ≡ labels_of (e ∷ es) + 1
+labels_if true n line e es more o f h =
+    let k : e.kind ≡ Unlabelled line = cc in
+    let z : is_labelled e.kind ≡ 0 = ap is_labelled k in
+    omega (arith, sum_by-cons (λ (e : Entry). is_labelled e.kind) e es, sum_by-cons (λ (e : Entry). is_labelled e.kind) (record { name = e.name; kind = Labelled n }) es)
+labels_if false n line e es more o f h =
+    omega (arith, f h, sum_by-cons (λ (e : Entry). is_labelled e.kind) e es, sum_by-cons (λ (e : Entry). is_labelled e.kind) e more)
+
+labels_of-with_kind : (x : List ℕ) (n line : ℕ) (es : List Entry) → kind_of x es ≡ Some (Unlabelled line) → labels_of (with_kind x (Labelled n) es) ≡ labels_of es + 1
+labels_of-with_kind x n line [] h = cc
+labels_of-with_kind x n line (e ∷ es) h =
+    labels_if (same_name e.name x) n line e es (with_kind x (Labelled n) es) (kind_of x es) (labels_of-with_kind x n line es) h
+
+labels_of-length : (es : List Entry) → labels_of es ≤ length es
+labels_of-length [] = omega arith
+labels_of-length (e ∷ es) = omega (arith, labels_of-length es, at_most_one e.kind, sum_by-cons (λ (e : Entry). is_labelled e.kind) e es)
+  where
+    at_most_one : (k : Kind) → is_labelled k ≤ 1
+    at_most_one (Labelled n) = omega arith
+    at_most_one (Automatic word) = omega arith
+    at_most_one External = omega arith
+    at_most_one (Unlabelled line) = omega arith
+
+-- A table with words of this frame, and these many labels.
+abbrev pub IsKindWithin : ℕ → ℕ → Kind → Type 0
+IsKindWithin frame labels (Automatic word) = word < frame
+IsKindWithin frame labels (Labelled number) = number < labels
+IsKindWithin frame labels _ = Unit {0}
+
+abbrev IsEntryWithin : ℕ → ℕ → Entry → Type 0
+IsEntryWithin frame labels e = IsKindWithin frame labels e.kind
+
+pub record IsTable (es : List Entry) (frame labels : ℕ) : Type 0 where
+  pub few : length es ≤ 128
+  pub within : Holds (IsEntryWithin frame labels) es
+  pub labelled : labels ≤ labels_of es
+
+pub few_labels : {es : List Entry} {frame labels : ℕ} → IsTable es frame labels → labels ≤ 128
+few_labels {es} {frame} {labels} t = let f = t.few in let l = t.labelled in omega (arith, labels_of-length es)
+
+kind_of_within : (b : Bool) (frame labels : ℕ) (k : Kind) (o : Option Kind) → IsKindWithin frame labels k → ((j : Kind) → o ≡ Some j → IsKindWithin frame labels j)
+    → (j : Kind) → (if b then Some k else o) ≡ Some j → IsKindWithin frame labels j
+kind_of_within true frame labels k o h f j e = let s : k ≡ j = cc in rw (← s) h
+kind_of_within false frame labels k o h f j e = f j e
+
+pub kind_within : (frame labels : ℕ) (x : List ℕ) (es : List Entry) → Holds (IsEntryWithin frame labels) es → (k : Kind) → kind_of x es ≡ Some k → IsKindWithin frame labels k
+kind_within frame labels x [] h k e = cc
+kind_within frame labels x (y ∷ es) h k e =
+    kind_of_within (same_name y.name x) frame labels y.kind (kind_of x es) (Holds-first h) (kind_within frame labels x es (Holds-rest h)) k e
+
+wider : (frame frame2 labels labels2 : ℕ) → frame ≤ frame2 → labels ≤ labels2 → (k : Kind) → IsKindWithin frame labels k → IsKindWithin frame2 labels2 k
+wider frame frame2 labels labels2 f l (Automatic word) h = omega arith
+wider frame frame2 labels labels2 f l (Labelled number) h = omega arith
+wider frame frame2 labels labels2 f l External h = tt
+wider frame frame2 labels labels2 f l (Unlabelled line) h = tt
+
+pub IsTable-entered : {x : List ℕ} {k : Kind} {es new : List Entry} (frame frame2 labels labels2 : ℕ) → IsTable es frame labels → Entered x k es new → frame ≤ frame2 → labels ≤ labels2
+    → IsKindWithin frame2 labels2 k → labels2 ≤ labels + is_labelled k → IsTable new frame2 labels2
+IsTable-entered {x} {k} {es} {new} frame frame2 labels labels2 t e f l h m =
+    let room = e.room in
+    let table : IsTable (es ++ record { name = x; kind = k } ∷ []) frame2 labels2 = record {
+      few = omega (arith, length-append es (record { name = x; kind = k } ∷ []));
+      within = Holds-append (Holds-weaker (λ e. wider frame frame2 labels labels2 f l e.kind) t.within) (Holds-cons h Holds-nil);
+      labelled = let b = t.labelled in omega (arith, sum_by-append (λ (e : Entry). is_labelled e.kind) es (record { name = x; kind = k } ∷ []), sum_by-cons (λ (e : Entry). is_labelled e.kind) (record { name = x; kind = k }) []);
+    } in
+    rw e.is table
+
+with_kind_within : (P : Entry → Type 0) (x : List ℕ) (k : Kind) (es : List Entry) → ((name : List ℕ) → P (record { name = name; kind = k })) → Holds P es → Holds P (with_kind x k es)
+with_kind_within P x k [] p h = h
+with_kind_within P x k (e ∷ es) p h = go (same_name e.name x) (with_kind_within P x k es p (Holds-rest h))
+  where
+    go : (b : Bool) → Holds P (with_kind x k es) → Holds P (if b then record { name = e.name; kind = k } ∷ es else e ∷ with_kind x k es)
+    go true more = Holds-cons (p e.name) (Holds-rest h)
+    go false more = Holds-cons (Holds-first h) more
+
+pub IsTable-relabelled : {x : List ℕ} {es new : List Entry} (frame labels : ℕ) → IsTable es frame labels → Relabelled x (Labelled labels) es new → IsTable new frame (labels + 1)
+IsTable-relabelled {x} {es} {new} frame labels t e =
+    let table : IsTable (with_kind x (Labelled labels) es) frame (labels + 1) = record {
+      few = let f = t.few in omega (arith, length-with_kind x (Labelled labels) es);
+      within = with_kind_within _ x (Labelled labels) es (λ name. let l : labels < labels + 1 = omega arith in l) (Holds-weaker (λ e. wider frame frame labels (labels + 1) (omega arith) (omega arith) e.kind) t.within);
+      labelled = let b = t.labelled in omega (arith, labels_of-with_kind x labels e.line es e.was);
+    } in
+    rw e.is table
