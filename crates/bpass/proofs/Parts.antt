@@ -41,7 +41,7 @@ joined a b = record {
   cases = λ p. a.cases p ++ b.cases (p + length (a.code p));
 }
 
-add_cases-two : (cs ds : List (ℕ × ℕ)) (k : List (List (ℕ × ℕ))) → add_cases ds (add_cases cs k) ≡ add_cases (cs ++ ds) k
+pub add_cases-two : (cs ds : List (ℕ × ℕ)) (k : List (List (ℕ × ℕ))) → add_cases ds (add_cases cs k) ≡ add_cases (cs ++ ds) k
 add_cases-two cs ds [] = refl
 add_cases-two cs ds (x ∷ xs) = ap (λ l. l ∷ xs) (append_assoc x cs ds)
 
