@@ -1,3 +1,4 @@
 pub mod Names
 pub mod Parts
 pub mod Jumps
+pub mod Expressions
