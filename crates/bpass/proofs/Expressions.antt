@@ -24,13 +24,13 @@ use Rattle.bpass.proofs.Jumps.{arms_parts, parts_ways}
 abbrev pub only : (ℕ → List Instr) → List ℕ → Parts
 only code strings = record { code = code; strings = strings; targets = λ p. []; cases = λ p. [] }
 
-abbrev meaning_form : Meaning → Form
+abbrev pub meaning_form : Meaning → Form
 meaning_form (In_frame word) = Place
 meaning_form Outside = Place
 meaning_form (At_label number) = Lone
 
 -- what an expression leaves, by what the names stand for
-abbrev form_by : Names → Expr → Form
+abbrev pub form_by : Names → Expr → Form
 form_by names (Named w) = meaning_form (names w.text)
 form_by names (Literal c) = Lone
 form_by names (Text bytes offset) = Lone
@@ -45,7 +45,7 @@ form_by names (Conditional e f g) = Joined
 form_by names (Assigned op line e f) = Joined
 
 -- the address of a place, and the word of anything else
-abbrev held_code : Names → Expr → ℕ → List Instr
+abbrev pub held_code : Names → Expr → ℕ → List Instr
 held_code names (Named w) p = name_address (names w.text) w.text ∷ []
 held_code names (Grouped e) p = held_code names e p
 held_code names (Indexed e f) p = address_code names (Indexed e f) p
@@ -93,15 +93,15 @@ address_is_held names (Prefixed Indirection line e) p h = refl
 address_is_held names e p h = cc
 
 -- the events of an expression that may be a called name
-abbrev events_of : Bool → Expr → List Event
+abbrev pub events_of : Bool → Expr → List Event
 events_of called (Named w) = Mention called w ∷ []
 events_of called e = events e
 
-events_false : (e : Expr) → events_of false e ≡ events e
+pub events_false : (e : Expr) → events_of false e ≡ events e
 events_false (Named w) = refl
 events_false e = refl
 
-events_called : (e : Expr) (args : Arguments) → events_of true e ++ argument_events args ≡ events (Called e args)
+pub events_called : (e : Expr) (args : Arguments) → events_of true e ++ argument_events args ≡ events (Called e args)
 events_called (Named w) args = refl
 events_called e args = refl
 
@@ -166,7 +166,7 @@ standing_address x i External = refl
 standing_address x i (Unlabelled line) = refl
 standing_address x i (Labelled number) = refl
 
-names_makes : {names : Names} {room off : ℕ} (called : Bool) (w : Word) → Makes names (named called w) (Mention called w ∷ []) room off (only (λ p. name_address (names w.text) w.text ∷ []) [])
+pub names_makes : {names : Names} {room off : ℕ} (called : Bool) (w : Word) → Makes names (named called w) (Mention called w ∷ []) room off (only (λ p. name_address (names w.text) w.text ∷ []) [])
 names_makes {names = names} called w = record {
   scans = λ d n. scope_kept _ (stepped (Mention called w) d) ∙ scope_stepped (Mention called w) d;
   depth = λ s s2 h. ap (λ (t : Scope). length t.switches) (with_names_is s (mentioned called w s.names) s2 h).scope_is;
@@ -183,7 +183,7 @@ names_makes {names = names} called w = record {
 }
 
 -- a string, which stands at this offset
-text_makes : {names : Names} {room off : ℕ} (bytes : List ℕ) → Makes names (λ d. emitted (instr.Text (offset_of d)) (stringed bytes d)) [] room off (only (λ p. instr.Text off ∷ []) (packed bytes))
+pub text_makes : {names : Names} {room off : ℕ} (bytes : List ℕ) → Makes names (λ d. emitted (instr.Text (offset_of d)) (stringed bytes d)) [] room off (only (λ p. instr.Text off ∷ []) (packed bytes))
 text_makes {off = off} bytes = record {
   scans = λ d n. scope_kept _ (stringed bytes d) ∙ scope_kept _ d;
   depth = λ s s2 h. let e : s ≡ s2 = cc in ap (λ (t : Scope). length t.switches) (sym e);
@@ -228,11 +228,11 @@ loaded_makes {names = names} {a = a} e called x = record {
 }
 
 -- the word of an expression
-word_makes : {names : Names} {room off : ℕ} (e : Expr) (called : Bool) → Makes names (held called e) (events_of called e) room off (only (held_code names e) (strings e)) → Makes names (λ d. loaded e (held called e d)) (events_of called e) room off (only (word_code names e) (strings e))
+pub word_makes : {names : Names} {room off : ℕ} (e : Expr) (called : Bool) → Makes names (held called e) (events_of called e) room off (only (held_code names e) (strings e)) → Makes names (λ d. loaded e (held called e d)) (events_of called e) room off (only (word_code names e) (strings e))
 word_makes {names = names} e called x =
     retold (only (word_code names e) (strings e)) (λ p. record { code = sym (word_is_held names e p); strings = refl; targets = refl; cases = refl }) (loaded_makes e called x)
 
-evaluated_by : {names : Names} {room off : ℕ} (e : Expr) → Makes names (held false e) (events_of false e) room off (only (held_code names e) (strings e)) → Makes names (evaluated e) (events e) room off (only (word_code names e) (strings e))
+pub evaluated_by : {names : Names} {room off : ℕ} (e : Expr) → Makes names (held false e) (events_of false e) room off (only (held_code names e) (strings e)) → Makes names (evaluated e) (events e) room off (only (word_code names e) (strings e))
 evaluated_by e x = rescanned (events_false e) (word_makes e false x)
 
 checked_fault : (f : Form) (line : ℕ) (d : Diagnostic) → checked f line (Faulty d) ≡ Faulty d
@@ -273,7 +273,7 @@ place_form Lone h = cc
 place_form Joined h = cc
 
 -- an lvalue that an operator wants
-checked_makes : {names : Names} {room off : ℕ} (e : Expr) (line : ℕ) → Makes names (held false e) (events_of false e) room off (only (held_code names e) (strings e))
+pub checked_makes : {names : Names} {room off : ℕ} (e : Expr) (line : ℕ) → Makes names (held false e) (events_of false e) room off (only (held_code names e) (strings e))
     → Makes names (λ d. checked (form e (held false e d)) line (held false e d)) (events e ++ Lvalue line e ∷ []) room off (only (address_code names e) (strings e))
 checked_makes {names = names} {room = room} {off = off} e line x = rescanned (ap (λ l. l ++ Lvalue line e ∷ []) (events_false e)) (record {
   scans = λ d n.

@@ -2,3 +2,4 @@ pub mod Names
 pub mod Parts
 pub mod Jumps
 pub mod Expressions
+pub mod ExpressionMakes
