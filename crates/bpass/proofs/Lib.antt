@@ -3,3 +3,4 @@ pub mod Parts
 pub mod Jumps
 pub mod Expressions
 pub mod ExpressionMakes
+pub mod Headings

@@ -235,6 +235,9 @@ deeper {room = room} x = record {
     less (Ok s) n = let le : length s.switches + room ≤ most_switches = omega (arith, n) in le
     less (Err d) n = tt
 
+pub nothing_added : (m : Made) → m ≡ added m no_parts
+nothing_added m = λ i. record { code = sym (append-nil m.code) i; strings = sym (append-nil m.strings) i; values = m.values; targets = sym (append-nil m.targets) i; cases = sym (add_cases-none m.cases) i }
+
 -- nothing is done
 pub idle : {names : Names} {room off : ℕ} → Makes names (λ d. d) [] room off no_parts
 idle = record {
@@ -242,9 +245,6 @@ idle = record {
   depth = λ s s2 h. let e : s ≡ s2 = cc in ap (λ x. length x.switches) (sym e);
   makes = λ s s2 m n h agree l. let e : s ≡ s2 = cc in ap (λ x. drafted x m) e ∙ ap (drafted s2) (nothing_added m);
 }
-  where
-    nothing_added : (m : Made) → m ≡ added m no_parts
-    nothing_added m = λ i. record { code = sym (append-nil m.code) i; strings = sym (append-nil m.strings) i; values = m.values; targets = sym (append-nil m.targets) i; cases = sym (add_cases-none m.cases) i }
 
 -- one more instruction at the end
 abbrev pub ending : Parts → (ℕ → Instr) → Parts
