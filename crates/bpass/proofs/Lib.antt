@@ -4,3 +4,5 @@ pub mod Jumps
 pub mod Expressions
 pub mod ExpressionMakes
 pub mod Headings
+pub mod Switches
+pub mod StatementMakes
