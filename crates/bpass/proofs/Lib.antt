@@ -6,3 +6,4 @@ pub mod ExpressionMakes
 pub mod Headings
 pub mod Switches
 pub mod StatementMakes
+pub mod Numbered

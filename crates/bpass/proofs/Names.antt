@@ -48,19 +48,19 @@ extends_append : (es more : List Entry) → Extends es (es ++ more)
 extends_append [] more = tt
 extends_append (e ∷ es) more = (refl, λ i. refl, extends_append es more)
 
-abbrev is : List ℕ → Entry → Bool
+abbrev pub is : List ℕ → Entry → Bool
 is x e = same_name e.name x
 
-kind_here : (x : List ℕ) (e : Entry) (es : List Entry) → is x e ≡ true → kind_of x (e ∷ es) ≡ Some e.kind
+pub kind_here : (x : List ℕ) (e : Entry) (es : List Entry) → is x e ≡ true → kind_of x (e ∷ es) ≡ Some e.kind
 kind_here x e es h = rw h refl
 
-kind_there : (x : List ℕ) (e : Entry) (es : List Entry) → is x e ≡ false → kind_of x (e ∷ es) ≡ kind_of x es
+pub kind_there : (x : List ℕ) (e : Entry) (es : List Entry) → is x e ≡ false → kind_of x (e ∷ es) ≡ kind_of x es
 kind_there x e es h = rw h refl
 
-position_here : (x : List ℕ) (e : Entry) (es : List Entry) (j : ℕ) → is x e ≡ true → position_from (is x) j (e ∷ es) ≡ Some j
+pub position_here : (x : List ℕ) (e : Entry) (es : List Entry) (j : ℕ) → is x e ≡ true → position_from (is x) j (e ∷ es) ≡ Some j
 position_here x e es j h = rw h refl
 
-position_there : (x : List ℕ) (e : Entry) (es : List Entry) (j : ℕ) → is x e ≡ false → position_from (is x) j (e ∷ es) ≡ position_from (is x) (j + 1) es
+pub position_there : (x : List ℕ) (e : Entry) (es : List Entry) (j : ℕ) → is x e ≡ false → position_from (is x) j (e ∷ es) ≡ position_from (is x) (j + 1) es
 position_there x e es j h = rw h refl
 
 -- what is found of a name in a later table
