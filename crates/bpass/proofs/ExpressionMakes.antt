@@ -84,20 +84,20 @@ module _ (names : Names) where
     held_makes (Literal c) called loose k off room h = emits (instr.Constant (value_of c)) idle
     held_makes (Text bytes offset) called loose k off room h =
         retold (only (held_code names (Text bytes offset)) (strings (Text bytes offset))) (λ p. record { code = ap (λ n. instr.Text n ∷ []) (sym h); strings = refl; targets = refl; cases = refl })
-          (text_makes bytes)
+        (text_makes bytes)
     held_makes (Grouped e) called loose k off room h =
         let i = inside (λ j. Fits e rvalue_rank j off) k h in
         rescanned (events_false e) (held_makes e false rvalue_rank i.0 off room i.1)
     held_makes (Indexed e f) called loose k off room h =
         let i = inside (λ j. Fits f rvalue_rank j (off + words e)) k h.2 in
         retold (only (held_code names (Indexed e f)) (strings (Indexed e f))) (λ p. record { code = append_assoc (word_code names e p) (word_code names f _) (instr.Binary op.Add ∷ []); strings = refl; targets = refl; cases = refl })
-          (emits (instr.Binary op.Add) (then_ (evaluated_by e (held_makes e false 0 k off room h.1)) (evaluated_by f (held_makes f false rvalue_rank i.0 (off + words e) room i.1)) (expression_words e off)))
+        (emits (instr.Binary op.Add) (then_ (evaluated_by e (held_makes e false 0 k off room h.1)) (evaluated_by f (held_makes f false rvalue_rank i.0 (off + words e) room i.1)) (expression_words e off)))
     held_makes (Called e args) called loose k off room h =
         let i = inside (λ j. ArgumentsFit args j (off + words e)) k h.2 in
         retold (only (held_code names (Called e args)) (strings (Called e args))) (λ p. record { code = append_assoc (word_code names e p) (argument_code names args _) (instr.Call (argument_count args) ∷ []); strings = refl; targets = refl; cases = refl })
-          (rescanned (events_called e args)
-            (emits_known (instr.Call (min (argument_count args) most_arguments)) (instr.Call (argument_count args)) (count_known e args)
-              (then_ (word_makes e true (held_makes e true 0 k off room h.1)) (passed_makes args i.0 (off + words e) room i.1) (expression_words e off))))
+        (rescanned (events_called e args)
+        (emits_known (instr.Call (min (argument_count args) most_arguments)) (instr.Call (argument_count args)) (count_known e args)
+        (then_ (word_makes e true (held_makes e true 0 k off room h.1)) (passed_makes args i.0 (off + words e) room i.1) (expression_words e off))))
     held_makes (Postfixed PostIncrement line e) called loose k off room h = emits (instr.Increment increment.PostIncrement) (checked_makes e line (held_makes e false 0 k off room h.1))
     held_makes (Postfixed PostDecrement line e) called loose k off room h = emits (instr.Increment increment.PostDecrement) (checked_makes e line (held_makes e false 0 k off room h.1))
     held_makes (Prefixed Negate line e) called loose k off room h =
@@ -120,22 +120,22 @@ module _ (names : Names) where
         emits (instr.Increment increment.PreDecrement) (checked_makes e line (held_makes e false 0 i.0 off room i.1))
     held_makes (Binary op line e f) called loose k off room h =
         retold (only (held_code names (Binary op line e f)) (strings (Binary op line e f))) (λ p. record { code = append_assoc (word_code names e p) (word_code names f _) (instr.Binary op ∷ []); strings = refl; targets = refl; cases = refl })
-          (emits (instr.Binary op) (then_ (evaluated_by e (held_makes e false (rank op) k off room h.1)) (evaluated_by f (held_makes f false (rank op - 1) k (off + words e) room h.2)) (expression_words e off)))
+        (emits (instr.Binary op) (then_ (evaluated_by e (held_makes e false (rank op) k off room h.1)) (evaluated_by f (held_makes f false (rank op - 1) k (off + words e) room h.2)) (expression_words e off)))
     held_makes (Conditional e f g) called loose k off room h =
         let i = inside (λ j. Fits f rvalue_rank j (off + words e) × Fits g conditional_rank j (off + words e + words f)) k h.2 in
         retold (only (held_code names (Conditional e f g)) (strings (Conditional e f g))) (λ p. record { code = refl; strings = refl; targets = refl; cases = refl })
-          (then_ (evaluated_by e (held_makes e false or_rank k off room h.1)) (parts_ways (evaluated_by f (held_makes f false rvalue_rank i.0 (off + words e) room i.1.0)) (evaluated_by g (held_makes g false conditional_rank i.0 (off + words e + words f) room i.1.1)) (expression_words f (off + words e))) (expression_words e off))
+        (then_ (evaluated_by e (held_makes e false or_rank k off room h.1)) (parts_ways (evaluated_by f (held_makes f false rvalue_rank i.0 (off + words e) room i.1.0)) (evaluated_by g (held_makes g false conditional_rank i.0 (off + words e + words f) room i.1.1)) (expression_words f (off + words e))) (expression_words e off))
     held_makes (Assigned op line e f) called loose k off room h =
         let i = inside (λ j. Fits f rvalue_rank j (off + words e)) k h.2 in
         retold (only (held_code names (Assigned op line e f)) (strings (Assigned op line e f))) (λ p. record { code = append_assoc (address_code names e p) (word_code names f _) (assignment op ∷ []); strings = refl; targets = refl; cases = refl })
-          (rescanned (append_assoc (events e) (Lvalue line e ∷ []) (events f))
-            (emits (assignment op) (then_ (checked_makes e line (held_makes e false 0 k off room h.1)) (evaluated_by f (held_makes f false rvalue_rank i.0 (off + words e) room i.1)) (expression_words e off))))
+        (rescanned (append_assoc (events e) (Lvalue line e ∷ []) (events f))
+        (emits (assignment op) (then_ (checked_makes e line (held_makes e false 0 k off room h.1)) (evaluated_by f (held_makes f false rvalue_rank i.0 (off + words e) room i.1)) (expression_words e off))))
 
     passed_makes : (args : Arguments) (k off room : ℕ) → ArgumentsFit args k off → Makes names (passed args) (argument_events args) room off (only (argument_code names args) (argument_strings args))
     passed_makes No_arguments k off room h = idle
     passed_makes (Another before e) k off room h =
         retold (only (argument_code names (Another before e)) (argument_strings (Another before e))) (λ p. record { code = refl; strings = refl; targets = refl; cases = refl })
-          (then_ (passed_makes before k off room h.0) (evaluated_by e (held_makes e false rvalue_rank k (off + argument_words before) room h.1)) (arguments_words before off))
+        (then_ (passed_makes before k off room h.0) (evaluated_by e (held_makes e false rvalue_rank k (off + argument_words before) room h.1)) (arguments_words before off))
 
   pub evaluated_makes : (e : Expr) (k off room : ℕ) → Fits e rvalue_rank k off → Makes names (evaluated e) (events e) room off (only (word_code names e) (strings e))
   evaluated_makes e k off room h = evaluated_by e (held_makes e false rvalue_rank k off room h)

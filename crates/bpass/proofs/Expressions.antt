@@ -171,15 +171,15 @@ names_makes {names = names} called w = record {
   scans = λ d n. scope_kept _ (stepped (Mention called w) d) ∙ scope_stepped (Mention called w) d;
   depth = λ s s2 h. ap (λ (t : Scope). length t.switches) (with_names_is s (mentioned called w s.names) s2 h).scope_is;
   makes = λ s s2 m n h agree l.
-    let d = with_names_is s (mentioned called w s.names) s2 h in
-    let r : Rooted s2.names (Named w) = rooted (Named w) called s s2 h in
-    let address : address_of w.text s2.names ≡ name_address (names w.text) w.text =
-        ap (λ o. address_at w.text (entry_of w.text s2.names) o) r.1
-        ∙ standing_address w.text (entry_of w.text s2.names) r.0
-        ∙ ap (λ k. name_address k w.text) (sym (agree w.text r.0 r.1)) in
-    ap (λ b. emitted (address_of w.text (names_of b)) b) (stepped_is (Mention called w) s s2 m h (ap (λ (t : Scope). t.frame) d.scope_is))
-    ∙ emit (address_of w.text s2.names) (name_address (names w.text) w.text) s2 m (λ q. address)
-    ∙ ap (drafted s2) (put_only m (name_address (names w.text) w.text));
+      let d = with_names_is s (mentioned called w s.names) s2 h in
+      let r : Rooted s2.names (Named w) = rooted (Named w) called s s2 h in
+      let address : address_of w.text s2.names ≡ name_address (names w.text) w.text =
+      ap (λ o. address_at w.text (entry_of w.text s2.names) o) r.1
+      ∙ standing_address w.text (entry_of w.text s2.names) r.0
+      ∙ ap (λ k. name_address k w.text) (sym (agree w.text r.0 r.1)) in
+      ap (λ b. emitted (address_of w.text (names_of b)) b) (stepped_is (Mention called w) s s2 m h (ap (λ (t : Scope). t.frame) d.scope_is))
+      ∙ emit (address_of w.text s2.names) (name_address (names w.text) w.text) s2 m (λ q. address)
+      ∙ ap (drafted s2) (put_only m (name_address (names w.text) w.text));
 }
 
 -- a string, which stands at this offset
@@ -222,9 +222,9 @@ loaded_makes {names = names} {a = a} e called x = record {
   scans = λ d n. loads_scope (form e (held called e d)) (held called e d) ∙ x.scans d n;
   depth = x.depth;
   makes = λ s s2 m n h agree l.
-    ap (loaded e) (x.makes s s2 m n h agree l)
-    ∙ ap (λ f. loads f (drafted s2 (added m a))) (form_is names e s2 _ (rooted e called s s2 h) agree)
-    ∙ loads_is (form_by names e) s2 m a;
+      ap (loaded e) (x.makes s s2 m n h agree l)
+      ∙ ap (λ f. loads f (drafted s2 (added m a))) (form_is names e s2 _ (rooted e called s s2 h) agree)
+      ∙ loads_is (form_by names e) s2 m a;
 }
 
 -- the word of an expression
@@ -277,16 +277,16 @@ pub checked_makes : {names : Names} {room off : ℕ} (e : Expr) (line : ℕ) →
     → Makes names (λ d. checked (form e (held false e d)) line (held false e d)) (events e ++ Lvalue line e ∷ []) room off (only (address_code names e) (strings e))
 checked_makes {names = names} {room = room} {off = off} e line x = rescanned (ap (λ l. l ++ Lvalue line e ∷ []) (events_false e)) (record {
   scans = λ d n.
-    check_scope e line (held false e d) (λ s q. rooted_behind e (scope_of d) s (sym (x.scans d n) ∙ q))
-    ∙ ap (scanned (Lvalue line e ∷ [])) (x.scans d n)
-    ∙ sym (scanned-append (events_of false e) (Lvalue line e ∷ []) (scope_of d));
+      check_scope e line (held false e d) (λ s q. rooted_behind e (scope_of d) s (sym (x.scans d n) ∙ q))
+      ∙ ap (scanned (Lvalue line e ∷ [])) (x.scans d n)
+      ∙ sym (scanned-append (events_of false e) (Lvalue line e ∷ []) (scope_of d));
   depth = λ s s3 h.
-    let t = scanned_twice (events_of false e) (Lvalue line e ∷ []) s s3 h in
-    ap (λ (u : Scope). length u.switches) (check_is e line t.0 s3 t.2).same ∙ x.depth s t.0 t.1;
+      let t = scanned_twice (events_of false e) (Lvalue line e ∷ []) s s3 h in
+      ap (λ (u : Scope). length u.switches) (check_is e line t.0 s3 t.2).same ∙ x.depth s t.0 t.1;
   makes = λ s s3 m n h agree l.
-    let t = scanned_twice (events_of false e) (Lvalue line e ∷ []) s s3 h in
-    let c = check_is e line t.0 s3 t.2 in
-    made s t.0 s3 m t.1 c.same c.lvalue agree (x.makes s t.0 m n t.1 (subst (λ (u : Scope). Agrees names u.names) c.same agree) l);
+      let t = scanned_twice (events_of false e) (Lvalue line e ∷ []) s s3 h in
+      let c = check_is e line t.0 s3 t.2 in
+      made s t.0 s3 m t.1 c.same c.lvalue agree (x.makes s t.0 m n t.1 (subst (λ (u : Scope). Agrees names u.names) c.same agree) l);
 })
   where
     made : (s s2 s3 : Scope) (m : Made) → scanned (events_of false e) (Ok s) ≡ Ok s2 → s3 ≡ s2 → is_lvalue s2.names e ≡ true → Agrees names s3.names

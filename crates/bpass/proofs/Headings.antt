@@ -20,7 +20,7 @@ vector_scope : (size : Option ℕ) (k : ℕ) (d : Draft) → scope_of (vector_se
 vector_scope None k d = refl
 vector_scope (Some c) k d = scope_kept _ _ ∙ scope_kept _ _ ∙ scope_kept _ _ ∙ scope_kept _ d
 
-worded_scope : (n : ℕ) (d : Draft) → scope_of (worded n d) ≡ scope_of d
+pub worded_scope : (n : ℕ) (d : Draft) → scope_of (worded n d) ≡ scope_of d
 worded_scope n d = go (nat_lt most_words n) refl
   where
     go : (b : Bool) → nat_lt most_words n ≡ b → scope_of (worded n d) ≡ scope_of d
@@ -51,9 +51,9 @@ put_vector s m k c =
     ∙ ap (emitted instr.Pop) (emit instr.Store instr.Store s m2 (λ r. refl))
     ∙ emit instr.Pop instr.Pop s m3 (λ r. refl)
     ∙ ap (λ l. drafted s (record m { code = l }))
-        (append_assoc m2.code (instr.Store ∷ []) (instr.Pop ∷ [])
-        ∙ append_assoc m1.code (instr.Automatic (k + 1) ∷ []) (instr.Store ∷ instr.Pop ∷ [])
-        ∙ append_assoc m.code (instr.Automatic k ∷ []) (instr.Automatic (k + 1) ∷ instr.Store ∷ instr.Pop ∷ []))
+    (append_assoc m2.code (instr.Store ∷ []) (instr.Pop ∷ [])
+    ∙ append_assoc m1.code (instr.Automatic (k + 1) ∷ []) (instr.Store ∷ instr.Pop ∷ [])
+    ∙ append_assoc m.code (instr.Automatic k ∷ []) (instr.Automatic (k + 1) ∷ instr.Store ∷ instr.Pop ∷ []))
 
 code_only : (m : Made) (c : List Instr) → record m { code = m.code ++ c } ≡ added m (only (λ p. c) [])
 code_only m c = λ i. record { code = m.code ++ c; strings = sym (append-nil m.strings) i; values = m.values; targets = sym (append-nil m.targets) i; cases = sym (add_cases-none m.cases) i }
@@ -68,19 +68,19 @@ declared_makes {names = names} w size = record {
   scans = λ d n. vector_scope size (frame_of d) _ ∙ worded_scope _ (stepped (Declaration w size) d) ∙ scope_stepped (Declaration w size) d;
   depth = λ s s2 h. ap (λ (t : Scope). length t.switches) (with_names_is (record s { frame = s.frame + words_of size }) (scope.declared w (Automatic s.frame) s.names) s2 h).scope_is;
   makes = λ s s2 m n h agree l.
-    let d = with_names_is (record s { frame = s.frame + words_of size }) (scope.declared w (Automatic s.frame) s.names) s2 h in
-    let kind : kind_of w.text s2.names ≡ Some (Automatic s.frame) = subst (λ (t : Scope). kind_of w.text t.names ≡ Some (Automatic s.frame)) (sym d.scope_is) (declared_is w (Automatic s.frame) s.names d.names d.names_are).kind_is in
-    ap (λ b. vector_set size s.frame (worded (frame_of b) b)) (ap (λ r. behind r (kept s.frame m)) h)
-    ∙ ap (vector_set size s.frame) (worded_is s2 s.frame m (later (Declaration w size ∷ []) s s2 h).frame)
-    ∙ vector_made names size s.frame s2 m
-    ∙ ap (λ k. drafted s2 (added m (only (λ p. vector_code names k size) []))) (sym (agree w.text (Automatic s.frame) kind));
+      let d = with_names_is (record s { frame = s.frame + words_of size }) (scope.declared w (Automatic s.frame) s.names) s2 h in
+      let kind : kind_of w.text s2.names ≡ Some (Automatic s.frame) = subst (λ (t : Scope). kind_of w.text t.names ≡ Some (Automatic s.frame)) (sym d.scope_is) (declared_is w (Automatic s.frame) s.names d.names d.names_are).kind_is in
+      ap (λ b. vector_set size s.frame (worded (frame_of b) b)) (ap (λ r. behind r (kept s.frame m)) h)
+      ∙ ap (vector_set size s.frame) (worded_is s2 s.frame m (later (Declaration w size ∷ []) s s2 h).frame)
+      ∙ vector_made names size s.frame s2 m
+      ∙ ap (λ k. drafted s2 (added m (only (λ p. vector_code names k size) []))) (sym (agree w.text (Automatic s.frame) kind));
 }
 
 pub autos_make : {names : Names} {room off : ℕ} (ds : List Declared) → Makes names (λ d. fold (λ b x. declared x.word x.size b) d ds) (map (λ d. Declaration d.word d.size) ds) room off (only (λ p. flat_map (λ d. vector_code names (names d.word.text) d.size) ds) [])
 autos_make [] = idle
 autos_make {names = names} {off = off} (x ∷ ds) =
     retold (only (λ p. flat_map (λ d. vector_code names (names d.word.text) d.size) (x ∷ ds)) []) (λ p. record { code = refl; strings = refl; targets = refl; cases = refl })
-      (then_ (declared_makes x.word x.size) (autos_make ds) (sym (add-zero off)))
+    (then_ (declared_makes x.word x.size) (autos_make ds) (sym (add-zero off)))
 
 no_vector : (names : Names) (m : Meaning) → vector_code names m None ≡ []
 no_vector names (In_frame k) = refl
@@ -91,15 +91,15 @@ pub parameters_make : {names : Names} {room off : ℕ} (ws : List Word) → Make
 parameters_make [] = idle
 parameters_make {names = names} {off = off} (w ∷ ws) =
     retold no_parts (λ p. record { code = ap (λ l. l ++ []) (no_vector names (names w.text)); strings = refl; targets = refl; cases = refl })
-      (then_ (declared_makes w None) (parameters_make ws) (sym (add-zero off)))
+    (then_ (declared_makes w None) (parameters_make ws) (sym (add-zero off)))
 
 pub imported_makes : {names : Names} {room off : ℕ} (w : Word) → Makes names (imported w) (Import w ∷ []) room off no_parts
 imported_makes w = record {
   scans = λ d n. scope_stepped (Import w) d;
   depth = λ s s2 h. ap (λ (t : Scope). length t.switches) (with_names_is s (scope.declared w External s.names) s2 h).scope_is;
   makes = λ s s2 m n h agree l.
-    stepped_is (Import w) s s2 m h (ap (λ (t : Scope). t.frame) (with_names_is s (scope.declared w External s.names) s2 h).scope_is)
-    ∙ ap (drafted s2) (nothing_added m);
+      stepped_is (Import w) s s2 m h (ap (λ (t : Scope). t.frame) (with_names_is s (scope.declared w External s.names) s2 h).scope_is)
+      ∙ ap (drafted s2) (nothing_added m);
 }
 
 imports_make : {names : Names} {room off : ℕ} (ws : List Word) → Makes names (λ d. fold (λ b w. imported w b) d ws) (map Import ws) room off no_parts
@@ -118,9 +118,9 @@ labelled_makes w = record {
   scans = λ d n. scope_kept _ (stepped (LabelHere w) d) ∙ scope_stepped (LabelHere w) d;
   depth = λ s s2 h. ap (λ (t : Scope). length t.switches) (label_renames w s s2 h).scope_is;
   makes = λ s s2 m n h agree l.
-    ap (with_made (λ m. Some (record m { targets = m.targets ++ length m.code ∷ [] }))) (stepped_is (LabelHere w) s s2 m h (ap (λ (t : Scope). t.frame) (label_renames w s s2 h).scope_is))
-    ∙ noted _ s2 m (record m { targets = m.targets ++ length m.code ∷ [] }) (λ r. refl) refl refl refl
-    ∙ ap (drafted s2) (whole m);
+      ap (with_made (λ m. Some (record m { targets = m.targets ++ length m.code ∷ [] }))) (stepped_is (LabelHere w) s s2 m h (ap (λ (t : Scope). t.frame) (label_renames w s s2 h).scope_is))
+      ∙ noted _ s2 m (record m { targets = m.targets ++ length m.code ∷ [] }) (λ r. refl) refl refl refl
+      ∙ ap (drafted s2) (whole m);
 }
   where
     whole : (m : Made) → record m { targets = m.targets ++ length m.code ∷ [] } ≡ added m label_parts
@@ -157,9 +157,9 @@ selected_makes line value = record {
   scans = λ d n. scope_kept _ (stepped (CaseHere line value) d) ∙ scope_stepped (CaseHere line value) d;
   depth = λ s s2 h. (selected_is line value s s2 s.switches h).depth;
   makes = λ s s2 m n h agree l.
-    ap (with_made (λ m. Some (record m { cases = with_case (value, length m.code) m.cases }))) (stepped_is (CaseHere line value) s s2 m h (selected_is line value s s2 s.switches h).frame)
-    ∙ noted _ s2 m (record m { cases = with_case (value, length m.code) m.cases }) (λ r. refl) refl refl refl
-    ∙ ap (drafted s2) (whole m);
+      ap (with_made (λ m. Some (record m { cases = with_case (value, length m.code) m.cases }))) (stepped_is (CaseHere line value) s s2 m h (selected_is line value s s2 s.switches h).frame)
+      ∙ noted _ s2 m (record m { cases = with_case (value, length m.code) m.cases }) (λ r. refl) refl refl refl
+      ∙ ap (drafted s2) (whole m);
 }
   where
     whole : (m : Made) → record m { cases = with_case (value, length m.code) m.cases } ≡ added m (case_parts value)

@@ -86,8 +86,8 @@ skips {names = names} {body = body} {es = es} {room = room} {off = off} {a = a} 
 abbrev pub arms_parts : Parts → Parts → Parts
 arms_parts a b = record {
   code = λ p.
-    let q = p + 1 + length (a.code (p + 1)) + 1 in
-    instr.JumpIfZero q ∷ (a.code (p + 1) ++ (instr.Jump (q + length (b.code q)) ∷ b.code q));
+      let q = p + 1 + length (a.code (p + 1)) + 1 in
+      instr.JumpIfZero q ∷ (a.code (p + 1) ++ (instr.Jump (q + length (b.code q)) ∷ b.code q));
   strings = a.strings ++ b.strings;
   targets = λ p. a.targets (p + 1) ++ b.targets (p + 1 + length (a.code (p + 1)) + 1);
   cases = λ p. a.cases (p + 1) ++ b.cases (p + 1 + length (a.code (p + 1)) + 1);
@@ -216,9 +216,9 @@ parts_ways {names = names} {first = first} {second = second} {es = es} {fs = fs}
   scans = arms_scans;
   depth = λ s s3 h. let t = scanned_twice es fs s s3 h in y.depth t.0 s3 t.2 ∙ x.depth s t.0 t.1;
   makes = λ s s3 m n h agree l.
-    let t = scanned_twice es fs s s3 h in
-    let after = later fs t.0 s3 t.2 in
-    arms_at first second s t.0 s3 m a b (later es s t.0 t.1).frame after.frame
+      let t = scanned_twice es fs s s3 h in
+      let after = later fs t.0 s3 t.2 in
+      arms_at first second s t.0 s3 m a b (later es s t.0 t.1).frame after.frame
       (x.makes s t.0 (put m (instr.JumpIfZero 0)) n t.1 (agrees_before names t.0.names s3.names after.longer agree) l)
       (λ c same. y.makes t.0 s3 c (omega (arith, n, x.depth s t.0 t.1)) t.2 agree (let e : length c.strings ≡ off2 = omega (arith, ap length same, length-append m.strings a.strings, l, o) in e));
 }

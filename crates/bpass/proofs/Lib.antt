@@ -7,3 +7,4 @@ pub mod Headings
 pub mod Switches
 pub mod StatementMakes
 pub mod Numbered
+pub mod Definitions

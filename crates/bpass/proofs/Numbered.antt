@@ -160,10 +160,10 @@ module _ (es : List Entry) (names names2 : Names) (renamed : (x : List ℕ) → 
     word_numbered (Grouped e) p = word_numbered e p
     word_numbered (Indexed e g) p =
         behind_numbered (word_code names e p) (word_code names2 e p) (λ q. word_code names g q ++ (instr.Binary op.Add ∷ instr.Load ∷ [])) (λ q. word_code names2 g q ++ (instr.Binary op.Add ∷ instr.Load ∷ [])) p (word_numbered e p)
-          (λ q. tail_numbered _ _ _ (word_numbered g q))
+        (λ q. tail_numbered _ _ _ (word_numbered g q))
     word_numbered (Called e args) p =
         behind_numbered (word_code names e p) (word_code names2 e p) (λ q. argument_code names args q ++ (instr.Call (argument_count args) ∷ [])) (λ q. argument_code names2 args q ++ (instr.Call (argument_count args) ∷ [])) p (word_numbered e p)
-          (λ q. tail_numbered _ _ _ (arguments_numbered args q))
+        (λ q. tail_numbered _ _ _ (arguments_numbered args q))
     word_numbered (Postfixed PostIncrement line e) p = tail_numbered _ _ _ (address_numbered e p)
     word_numbered (Postfixed PostDecrement line e) p = tail_numbered _ _ _ (address_numbered e p)
     word_numbered (Prefixed Negate line e) p = tail_numbered _ _ _ (word_numbered e p)
@@ -174,13 +174,13 @@ module _ (es : List Entry) (names names2 : Names) (renamed : (x : List ℕ) → 
     word_numbered (Prefixed PreDecrement line e) p = tail_numbered _ _ _ (address_numbered e p)
     word_numbered (Binary op line e g) p =
         behind_numbered (word_code names e p) (word_code names2 e p) (λ q. word_code names g q ++ (instr.Binary op ∷ [])) (λ q. word_code names2 g q ++ (instr.Binary op ∷ [])) p (word_numbered e p)
-          (λ q. tail_numbered _ _ _ (word_numbered g q))
+        (λ q. tail_numbered _ _ _ (word_numbered g q))
     word_numbered (Conditional e g h) p =
         behind_numbered (word_code names e p) (word_code names2 e p) (arms_code (word_code names g) (word_code names h)) (arms_code (word_code names2 g) (word_code names2 h)) p (word_numbered e p)
-          (arms_numbered (word_code names g) (word_code names2 g) (word_code names h) (word_code names2 h) (λ q. word_numbered g q) (λ q. word_numbered h q))
+        (arms_numbered (word_code names g) (word_code names2 g) (word_code names h) (word_code names2 h) (λ q. word_numbered g q) (λ q. word_numbered h q))
     word_numbered (Assigned op line e g) p =
         behind_numbered (address_code names e p) (address_code names2 e p) (λ q. word_code names g q ++ (assignment op ∷ [])) (λ q. word_code names2 g q ++ (assignment op ∷ [])) p (address_numbered e p)
-          (λ q. tail_numbered _ _ _ (word_numbered g q) ∙ ap (λ i. word_code names2 g q ++ (i ∷ [])) (assignment_same op))
+        (λ q. tail_numbered _ _ _ (word_numbered g q) ∙ ap (λ i. word_code names2 g q ++ (i ∷ [])) (assignment_same op))
 
     address_numbered : (e : Expr) (p : ℕ) → map (numbered es) (address_code names e p) ≡ address_code names2 e p
     address_numbered (Named w) p = ap (λ i. i ∷ []) (address_name w.text (names w.text)) ∙ ap (λ m. name_address m w.text ∷ []) (renamed w.text)
@@ -188,7 +188,7 @@ module _ (es : List Entry) (names names2 : Names) (renamed : (x : List ℕ) → 
     address_numbered (Prefixed Indirection line e) p = word_numbered e p
     address_numbered (Indexed e g) p =
         behind_numbered (word_code names e p) (word_code names2 e p) (λ q. word_code names g q ++ (instr.Binary op.Add ∷ [])) (λ q. word_code names2 g q ++ (instr.Binary op.Add ∷ [])) p (word_numbered e p)
-          (λ q. tail_numbered _ _ _ (word_numbered g q))
+        (λ q. tail_numbered _ _ _ (word_numbered g q))
     address_numbered e p = refl
 
     arguments_numbered : (args : Arguments) (p : ℕ) → map (numbered es) (argument_code names args p) ≡ argument_code names2 args p
@@ -232,16 +232,16 @@ module _ (es : List Entry) (names names2 : Names) (renamed : (x : List ℕ) → 
     statement_numbered (Compound body) p = body_numbered body p
     statement_numbered (If e s) p =
         behind_numbered (word_code names e p) (word_code names2 e p) (skip_code (statement_code names s)) (skip_code (statement_code names2 s)) p (word_numbered e p)
-          (skip_numbered (statement_code names s) (statement_code names2 s) (λ q. statement_numbered s q))
+        (skip_numbered (statement_code names s) (statement_code names2 s) (λ q. statement_numbered s q))
     statement_numbered (IfElse e s other) p =
         behind_numbered (word_code names e p) (word_code names2 e p) (arms_code (statement_code names s) (statement_code names other)) (arms_code (statement_code names2 s) (statement_code names2 other)) p (word_numbered e p)
-          (arms_numbered (statement_code names s) (statement_code names2 s) (statement_code names other) (statement_code names2 other) (λ q. statement_numbered s q) (λ q. statement_numbered other q))
+        (arms_numbered (statement_code names s) (statement_code names2 s) (statement_code names other) (statement_code names2 other) (λ q. statement_numbered s q) (λ q. statement_numbered other q))
     statement_numbered (While e s) p =
         behind_numbered (word_code names e p) (word_code names2 e p) (loop_code (statement_code names s) p) (loop_code (statement_code names2 s) p) p (word_numbered e p)
-          (loop_numbered (statement_code names s) (statement_code names2 s) p (λ q. statement_numbered s q))
+        (loop_numbered (statement_code names s) (statement_code names2 s) p (λ q. statement_numbered s q))
     statement_numbered (Switch e body) p =
         behind_numbered (word_code names e p) (word_code names2 e p) (switch_code (body_code names body) (body_cases names body)) (switch_code (body_code names2 body) (body_cases names2 body)) p (word_numbered e p)
-          (switch_numbered (body_code names body) (body_code names2 body) (body_cases names body) (body_cases names2 body) (λ q. body_numbered body q) (λ q. body_cases_same body q))
+        (switch_numbered (body_code names body) (body_code names2 body) (body_cases names body) (body_cases names2 body) (λ q. body_numbered body q) (λ q. body_cases_same body q))
     statement_numbered (Goto e) p = tail_numbered _ _ _ (word_numbered e p)
     statement_numbered Return p = refl
     statement_numbered (ReturnValue e) p = tail_numbered _ _ _ (word_numbered e p)

@@ -56,12 +56,12 @@ two m a b =
     let ka = a.cases (length m.code) in
     let q : length (m.code ++ ca) ≡ length m.code + length ca = length-append m.code ca in
     let code : (m.code ++ ca) ++ b.code (length (m.code ++ ca)) ≡ m.code ++ (ca ++ b.code (length m.code + length ca)) =
-        append_assoc m.code ca (b.code (length (m.code ++ ca))) ∙ ap (λ n. m.code ++ (ca ++ b.code n)) q in
+    append_assoc m.code ca (b.code (length (m.code ++ ca))) ∙ ap (λ n. m.code ++ (ca ++ b.code n)) q in
     let strings : (m.strings ++ a.strings) ++ b.strings ≡ m.strings ++ (a.strings ++ b.strings) = append_assoc m.strings a.strings b.strings in
     let targets : (m.targets ++ ta) ++ b.targets (length (m.code ++ ca)) ≡ m.targets ++ (ta ++ b.targets (length m.code + length ca)) =
-        append_assoc m.targets ta (b.targets (length (m.code ++ ca))) ∙ ap (λ n. m.targets ++ (ta ++ b.targets n)) q in
+    append_assoc m.targets ta (b.targets (length (m.code ++ ca))) ∙ ap (λ n. m.targets ++ (ta ++ b.targets n)) q in
     let cases : add_cases (b.cases (length (m.code ++ ca))) (add_cases ka m.cases) ≡ add_cases (ka ++ b.cases (length m.code + length ca)) m.cases =
-        add_cases-two ka (b.cases (length (m.code ++ ca))) m.cases ∙ ap (λ n. add_cases (ka ++ b.cases n) m.cases) q in
+    add_cases-two ka (b.cases (length (m.code ++ ca))) m.cases ∙ ap (λ n. add_cases (ka ++ b.cases n) m.cases) q in
     λ i. record { code = code i; strings = strings i; values = m.values; targets = targets i; cases = cases i }
 
 -- the same at a place
@@ -132,8 +132,8 @@ changed f s m m2 less same = ⊎_elim some none (kept_cases s.frame m)
 pub noted : (f : Made → Option Made) (s : Scope) (m m2 : Made) → (Roomy s.frame m → f m ≡ Some m2) → length m2.code ≡ length m.code → m2.strings ≡ m.strings → m2.values ≡ m.values → with_made f (drafted s m) ≡ drafted s m2
 noted f s m m2 e c t v =
     changed f s m m2
-      (smaller _ _ m m2 (le_refl _) (omega (arith, c)) (omega (arith, ap length t)) (omega (arith, ap length v)))
-      (λ r. e r ∙ sym (kept_some s.frame m2 (smaller _ _ m2 m (le_refl _) (omega (arith, c)) (omega (arith, ap length t)) (omega (arith, ap length v)) r)))
+    (smaller _ _ m m2 (le_refl _) (omega (arith, c)) (omega (arith, ap length t)) (omega (arith, ap length v)))
+    (λ r. e r ∙ sym (kept_some s.frame m2 (smaller _ _ m2 m (le_refl _) (omega (arith, c)) (omega (arith, ap length t)) (omega (arith, ap length v)) r)))
 
 abbrev pub put : Made → Instr → Made
 put m i = record m { code = m.code ++ i ∷ [] }
@@ -206,11 +206,11 @@ then_ {names = names} {f = f} {g = g} {es = es} {fs = fs} {room = room} {off = o
   scans = λ d n. y.scans (f d) (nested_behind x d n) ∙ ap (scanned fs) (x.scans d n) ∙ sym (scanned-append es fs (scope_of d));
   depth = λ s s3 h. let t = scanned_twice es fs s s3 h in y.depth t.0 s3 t.2 ∙ x.depth s t.0 t.1;
   makes = λ s s3 m n h agree l.
-    let t = scanned_twice es fs s s3 h in
-    let l2 : length (m.strings ++ a.strings) ≡ off2 = omega (arith, length-append m.strings a.strings, l, o) in
-    ap g (x.makes s t.0 m n t.1 (agrees_before names t.0.names s3.names (later fs t.0 s3 t.2).longer agree) l)
-    ∙ y.makes t.0 s3 (added m a) (omega (arith, n, x.depth s t.0 t.1)) t.2 agree l2
-    ∙ ap (drafted s3) (two m a b);
+      let t = scanned_twice es fs s s3 h in
+      let l2 : length (m.strings ++ a.strings) ≡ off2 = omega (arith, length-append m.strings a.strings, l, o) in
+      ap g (x.makes s t.0 m n t.1 (agrees_before names t.0.names s3.names (later fs t.0 s3 t.2).longer agree) l)
+      ∙ y.makes t.0 s3 (added m a) (omega (arith, n, x.depth s t.0 t.1)) t.2 agree l2
+      ∙ ap (drafted s3) (two m a b);
 }
 
 pub retold : {names : Names} {f : Draft → Draft} {es : List Event} {room off : ℕ} {a : Parts} (b : Parts) → ((p : ℕ) → Same p a b) → Makes names f es room off a → Makes names f es room off b
@@ -264,9 +264,9 @@ emits_known {f = f} {a = a} i j known x = record {
   scans = λ d n. scope_kept _ (f d) ∙ x.scans d n;
   depth = x.depth;
   makes = λ s s2 m n h agree l.
-    ap (emitted i) (x.makes s s2 m n h agree l)
-    ∙ emit i j s2 (added m a) (λ r. known (length m.code) (omega (arith, r.code_fits, length-append m.code (a.code (length m.code)))))
-    ∙ ap (drafted s2) (put_ending m a (λ p. j));
+      ap (emitted i) (x.makes s s2 m n h agree l)
+      ∙ emit i j s2 (added m a) (λ r. known (length m.code) (omega (arith, r.code_fits, length-append m.code (a.code (length m.code)))))
+      ∙ ap (drafted s2) (put_ending m a (λ p. j));
 }
 
 pub emits : {names : Names} {f : Draft → Draft} {es : List Event} {room off : ℕ} {a : Parts} (i : Instr) → Makes names f es room off a → Makes names (λ d. emitted i (f d)) es room off (ending a (λ p. i))

@@ -41,9 +41,9 @@ loops {names = names} {room = room} {off = off} {off2 = off2} e s x y o = record
   scans = loop_scans;
   depth = λ s1 s3 h. let t = scanned_twice (events e) (statement_events s) s1 s3 h in y.depth t.0 s3 t.2 ∙ x.depth s1 t.0 t.1;
   makes = λ s1 s3 m n h agree l.
-    let t = scanned_twice (events e) (statement_events s) s1 s3 h in
-    let after = later (statement_events s) t.0 s3 t.2 in
-    loop_at s1 t.0 s3 m (later (events e) s1 t.0 t.1).frame after.frame
+      let t = scanned_twice (events e) (statement_events s) s1 s3 h in
+      let after = later (statement_events s) t.0 s3 t.2 in
+      loop_at s1 t.0 s3 m (later (events e) s1 t.0 t.1).frame after.frame
       (x.makes s1 t.0 m n t.1 (agrees_before names t.0.names s3.names after.longer agree) l)
       (λ c same. y.makes t.0 s3 c (omega (arith, n, x.depth s1 t.0 t.1)) t.2 agree (let q : length c.strings ≡ off2 = omega (arith, ap length same, length-append m.strings (strings e), l, o) in q));
 }
@@ -64,9 +64,9 @@ loops {names = names} {room = room} {off = off} {off2 = off2} e s x y o = record
     loop_at s1 s2 s3 m f f2 h k =
         ap (skipping (λ b. emitted (instr.Jump (place_of (drafted s1 m))) (done s b))) h
         ∙ skip_at (λ b. emitted (instr.Jump (place_of (drafted s1 m))) (done s b)) s2 s3 m1 back f2
-            (ap (emitted (instr.Jump (place_of (drafted s1 m)))) (k (put m1 (instr.JumpIfZero 0)) refl)
-            ∙ emit (instr.Jump (place_of (drafted s1 m))) (instr.Jump (length m.code)) s3 m2 (λ r. ap (λ n. instr.Jump n) (place_is s1 m (less r)))
-            ∙ ap (drafted s3) (put_ending (put m1 (instr.JumpIfZero 0)) (statement_parts names s) (λ p. instr.Jump (length m.code))))
+        (ap (emitted (instr.Jump (place_of (drafted s1 m)))) (k (put m1 (instr.JumpIfZero 0)) refl)
+        ∙ emit (instr.Jump (place_of (drafted s1 m))) (instr.Jump (length m.code)) s3 m2 (λ r. ap (λ n. instr.Jump n) (place_is s1 m (less r)))
+        ∙ ap (drafted s3) (put_ending (put m1 (instr.JumpIfZero 0)) (statement_parts names s) (λ p. instr.Jump (length m.code))))
         ∙ ap (drafted s3) (two m (only (word_code names e) (strings e)) (skipped back))
         ∙ ap (drafted s3) (added_same m (joined (only (word_code names e) (strings e)) (skipped back)) (statement_parts names (While e s)) (record { code = code; strings = refl; targets = refl; cases = refl }))
       where
@@ -100,25 +100,25 @@ module _ (names : Names) where
     pub done_makes : (s : Stmt) (room off : ℕ) → Sits s room off → Makes names (done s) (statement_events s) room off (statement_parts names s)
     done_makes (Headed h s) room off sits =
         retold (statement_parts names (Headed h s)) (λ p. record { code = refl; strings = refl; targets = refl; cases = refl })
-          (then_ (heading_makes h) (done_makes s room off sits.1) (sym (add-zero off)))
+        (then_ (heading_makes h) (done_makes s room off sits.1) (sym (add-zero off)))
     done_makes (Compound body) room off sits =
         retold (statement_parts names (Compound body)) (λ p. record { code = refl; strings = refl; targets = refl; cases = refl })
-          (level (λ k. AllSit body k off) (λ k h. all_make body k off h) room sits)
+        (level (λ k. AllSit body k off) (λ k h. all_make body k off h) room sits)
     done_makes (If e s) room off sits =
         retold (statement_parts names (If e s)) (λ p. record { code = refl; strings = refl; targets = refl; cases = refl })
-          (level (λ k. Fits e rvalue_rank k off × Sits s k (off + words e))
-            (λ k h. then_ (evaluated_makes names e k off k h.0) (skips (done_makes s k (off + words e) h.1)) (expression_words e off)) room sits)
+        (level (λ k. Fits e rvalue_rank k off × Sits s k (off + words e))
+        (λ k h. then_ (evaluated_makes names e k off k h.0) (skips (done_makes s k (off + words e) h.1)) (expression_words e off)) room sits)
     done_makes (IfElse e s other) room off sits =
         retold (statement_parts names (IfElse e s other)) (λ p. record { code = refl; strings = refl; targets = refl; cases = refl })
-          (level (λ k. Fits e rvalue_rank k off × Sits s k (off + words e) × Sits other k (off + words e + statement_words s))
-            (λ k h. then_ (evaluated_makes names e k off k h.0) (parts_ways (done_makes s k (off + words e) h.1) (done_makes other k (off + words e + statement_words s) h.2) (statement_offset s (off + words e))) (expression_words e off)) room sits.1)
+        (level (λ k. Fits e rvalue_rank k off × Sits s k (off + words e) × Sits other k (off + words e + statement_words s))
+        (λ k h. then_ (evaluated_makes names e k off k h.0) (parts_ways (done_makes s k (off + words e) h.1) (done_makes other k (off + words e + statement_words s) h.2) (statement_offset s (off + words e))) (expression_words e off)) room sits.1)
     done_makes (While e s) room off sits =
         level (λ k. Fits e rvalue_rank k off × Sits s k (off + words e))
-          (λ k h. loops e s (evaluated_makes names e k off k h.0) (done_makes s k (off + words e) h.1) (expression_words e off)) room sits
+        (λ k h. loops e s (evaluated_makes names e k off k h.0) (done_makes s k (off + words e) h.1) (expression_words e off)) room sits
     done_makes (Switch e body) zero off sits = elim sits [ ]
     done_makes (Switch e body) (suc k) off sits =
         retold (statement_parts names (Switch e body)) (λ p. record { code = refl; strings = refl; targets = refl; cases = refl })
-          (then_ (evaluated_makes names e k off (suc k) sits.0) (switches (all_make body k (off + words e) sits.1)) (expression_words e off))
+        (then_ (evaluated_makes names e k off (suc k) sits.0) (switches (all_make body k (off + words e) sits.1)) (expression_words e off))
     done_makes (Goto e) room off sits = emits instr.Goto (evaluated_makes names e room off room sits)
     done_makes Return room off sits = emits instr.Return (emits (instr.Constant 0) idle)
     done_makes (ReturnValue e) room off sits = emits instr.Return (evaluated_makes names e room off room sits)
@@ -129,4 +129,4 @@ module _ (names : Names) where
     all_make Nothing room off sits = idle
     all_make (More before s) room off sits =
         retold (body_parts names (More before s)) (λ p. record { code = refl; strings = refl; targets = refl; cases = refl })
-          (then_ (all_make before room off sits.0) (done_makes s room (off + body_words before) sits.1) (body_offset before off))
+        (then_ (all_make before room off sits.0) (done_makes s room (off + body_words before) sits.1) (body_offset before off))

@@ -171,13 +171,13 @@ pub switches : {names : Names} {body : Draft → Draft} {es : List Event} {room 
 switches {names = names} {body = body} {es = es} {room = room} {off = off} {a = a} x = record {
   scans = switch_scans;
   depth = λ s s3 h.
-    let t = scanned_twice es (SwitchEnds ∷ []) (opened s) s3 h in
-    ap (λ (u : Scope). length u.switches) (closed_is t.0 s3 t.2) ∙ rest_length t.0.switches s.switches [] (x.depth (opened s) t.0 t.1);
+      let t = scanned_twice es (SwitchEnds ∷ []) (opened s) s3 h in
+      ap (λ (u : Scope). length u.switches) (closed_is t.0 s3 t.2) ∙ rest_length t.0.switches s.switches [] (x.depth (opened s) t.0 t.1);
   makes = λ s s3 m n h agree l.
-    let t = scanned_twice es (SwitchEnds ∷ []) (opened s) s3 h in
-    switch_at body s t.0 s3 m a (omega (arith, n)) (later es (opened s) t.0 t.1).frame t.2
+      let t = scanned_twice es (SwitchEnds ∷ []) (opened s) s3 h in
+      switch_at body s t.0 s3 m a (omega (arith, n)) (later es (opened s) t.0 t.1).frame t.2
       (λ c same. x.makes (opened s) t.0 c (let le : length (opened s).switches + room ≤ most_switches = omega (arith, n) in le) t.1
-        (agrees_before names t.0.names s3.names (later (SwitchEnds ∷ []) t.0 s3 t.2).longer agree) (ap length same ∙ l));
+      (agrees_before names t.0.names s3.names (later (SwitchEnds ∷ []) t.0 s3 t.2).longer agree) (ap length same ∙ l));
 }
   where
     switch_scans : (d : Draft) → Nested (suc room) (scope_of d) → scope_of (switched body d) ≡ scanned (SwitchBegins ∷ (es ++ SwitchEnds ∷ [])) (scope_of d)
