@@ -1,5 +1,5 @@
 -- One pass over a definition makes its code.
-use Rattle.std.proofs.Common.{◌≡◌, ℕ, zero, suc, ◌+◌, ◌≤◌, ◌&&◌, Bool, true, false, List, [], ◌∷◌, ◌++◌, length, map, fold, flat_map, sum_by, Option, Some, None, Result, Ok, Err, refl, sym, ap, ◌∙◌, subst, arith, le_refl, append_assoc, append-nil, length-append, add-zero, nat_le, nat_lt, if◌then◌else◌, le-leb, leb-true, leb-false, ltb-true, ltb-false, lt-ltb, le-ltb}
+use Rattle.std.proofs.Common.{◌≡◌, ℕ, ◌&&◌, Bool, true, false, List, [], ◌∷◌, ◌++◌, length, map, flat_map, Option, Some, None, Result, Ok, Err, refl, sym, ap, ◌∙◌, subst, arith, le_refl, append_assoc, append-nil, length-append, nat_le, if◌then◌else◌, leb-true, leb-false, lt-ltb, le-ltb}
 use Rattle.std.specs.List.{list_any}
 use Rattle.std.proofs.lemmas.List.{map-append, length-map}
 use Rattle.std.proofs.lemmas.List.Sums.{sum_by-append}
@@ -16,12 +16,12 @@ use Rattle.btree.specs.Commas.{EachBehind}
 use Rattle.btree.specs.Statement.{Stmt, Evaluate, Sits}
 use Rattle.btree.specs.Definition.{Ival, Ival_constant, Ival_text, Ival_name, Definition, Simple, Vector, Function, ival_words, values_words, IvalFits, nesting_limit, IsFormed}
 use Rattle.btree.specs.Scope.{fault, name_fault, same_name, undefined}
-use Rattle.btree.specs.Scan.{Scope, no_scope, Event, scanned, function_events, function_scope, inner_fault, scope_fault, word_of, value_of, scan}
+use Rattle.btree.specs.Scan.{Scope, no_scope, function_events, function_scope, inner_fault, scope_fault, word_of, scan}
 use Rattle.btree.specs.Code.{Names, names_in, statement_code, label_places, statement_strings, packed, ival_strings, ival_code, vector_words, clean, code_of, fits, fault_of, fault_behind}
 use Rattle.btree.proofs.CodeLaws.{counts_words}
 use Rattle.bemit.specs.Drafts.{Made, Draft, Faulty, Going, no_made, fresh, most_words, within_room, with_made, stringed, offset_of, valued, worded, closed, numbered, resolved, fault_in, started}
 use Rattle.bemit.specs.Drafts as drafts
-use Rattle.bemit.specs.Effects.{done, ival_done, values_done, parameters_done, definition_done, code_with}
+use Rattle.bemit.specs.Effects.{ival_done, values_done, definition_done, code_with}
 use Rattle.bpass.specs.Laws.{passed, OnePass}
 use Rattle.bpass.proofs.Names.{names_by, agrees_by, scanned_fault}
 use Rattle.bpass.proofs.Parts.{Parts, no_parts, joined, added, ending, drafted, kept, Roomy, smaller, kept_within, changed, offset_is, scope_of, scope_kept, Makes, then_, emits}

@@ -1,5 +1,5 @@
 -- One pass over an expression makes its code: by induction on the tree.
-use Rattle.std.proofs.Common.{◌≡◌, ℕ, zero, suc, ◌+◌, ◌-◌, ◌≤◌, min, Bool, true, false, List, [], ◌∷◌, ◌++◌, length, refl, sym, ap, ◌∙◌, arith, append_assoc, append-nil, length-append}
+use Rattle.std.proofs.Common.{◌≡◌, ℕ, zero, suc, ◌+◌, ◌-◌, ◌≤◌, min, Bool, true, false, List, [], ◌∷◌, ◌++◌, length, refl, sym, ap, arith, append_assoc, append-nil, length-append}
 use Rattle.std.proofs.Math.Nat.{min-eq_left}
 use Rattle.bword.specs.declared.operators.BinOp.TheVariants as op
 use Rattle.bcode.specs.declared.instr.Instr.{Instr}
@@ -11,8 +11,8 @@ use Rattle.btree.specs.Scan.{Lvalue, events, argument_events, value_of}
 use Rattle.btree.specs.Code.{Names, Meaning, In_frame, Outside, At_label, name_word, word_code, address_code, argument_code, argument_count, assignment, strings, argument_strings}
 use Rattle.btree.proofs.CodeLaws.{counts_words}
 use Rattle.bemit.specs.Drafts.{most_instructions}
-use Rattle.bemit.specs.Effects.{stepping, most_arguments, held, passed, evaluated}
-use Rattle.bpass.proofs.Parts.{Makes, then_, retold, rescanned, idle, emits, emits_known, no_parts}
+use Rattle.bemit.specs.Effects.{most_arguments, held, passed, evaluated}
+use Rattle.bpass.proofs.Parts.{Makes, then_, retold, rescanned, idle, emits, emits_known}
 use Rattle.bpass.proofs.Jumps.{parts_ways}
 use Rattle.bpass.proofs.Expressions.{only, held_code, events_of, events_false, events_called, names_makes, text_makes, word_makes, evaluated_by, checked_makes}
 

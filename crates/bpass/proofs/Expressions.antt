@@ -1,24 +1,21 @@
 -- One pass over an expression makes its code.
-use Rattle.std.proofs.Common.{◌≡◌, ℕ, zero, suc, ◌+◌, ◌≤◌, min, Bool, true, false, List, [], ◌∷◌, ◌++◌, length, map, Option, Some, None, Result, Ok, Err, refl, sym, ap, ◌∙◌, subst, arith, le_refl, append_assoc, append-nil, length-append}
+use Rattle.std.proofs.Common.{◌≡◌, ℕ, ◌+◌, Bool, true, false, List, [], ◌∷◌, ◌++◌, length, Option, Some, Result, Ok, Err, refl, sym, ap, ◌∙◌, subst, arith, le_refl, append_assoc, append-nil, length-append}
 use Rattle.blex.specs.declared.diagnostic.Diagnostic.{Diagnostic}
 use Rattle.bword.specs.declared.operators.BinOp.TheVariants as op
 use Rattle.bcode.specs.declared.instr.Instr.{Instr}
 use Rattle.bcode.specs.declared.instr.Instr.TheVariants as instr
-use Rattle.bcode.specs.declared.instr.Increment.TheVariants as increment
-use Rattle.btree.specs.Expression.{Word, Expr, Arguments, PrefixOp, Negate, Not, Indirection, Address, PreIncrement, PreDecrement, PostfixOp, PostIncrement, PostDecrement, Named, Literal, Text, Grouped, Indexed, Called, Postfixed, Prefixed, Binary, Conditional, Assigned, No_arguments, Another, words, argument_words, Deeper, Fits, ArgumentsFit, rvalue_rank, or_rank, conditional_rank, rank}
-use Rattle.btree.specs.Statement.{Evaluate}
+use Rattle.btree.specs.Expression.{Word, Expr, Arguments, Indirection, Named, Literal, Text, Grouped, Indexed, Called, Postfixed, Prefixed, Binary, Conditional, Assigned}
 use Rattle.btree.specs.Scope.{Entry, Kind, Automatic, External, Unlabelled, Labelled, kind_of, mentioned}
 use Rattle.btree.specs.Scan.{Scope, Event, Mention, Lvalue, step, scanned, events, argument_events, is_lvalue, value_of}
 use Rattle.btree.specs.Scan as scan
-use Rattle.btree.specs.Code.{Names, Meaning, In_frame, Outside, At_label, name_address, name_word, word_code, address_code, argument_code, argument_count, assignment, strings, argument_strings, packed}
-use Rattle.btree.proofs.CodeLaws.{scanned-append, counts_words}
-use Rattle.bemit.specs.Drafts.{Made, Draft, Faulty, Going, most_instructions, most_switches, behind, stepped, emitted, stringed, offset_of, within_room, address_of, address_at, named, names_of, form_at, grouped, checked, entry_of}
-use Rattle.bemit.specs.Effects.{form, loads, loaded, stepping, prefixed, most_arguments, arms, held, passed, evaluated}
+use Rattle.btree.specs.Code.{Names, Meaning, In_frame, Outside, At_label, name_address, name_word, word_code, address_code, strings, packed}
+use Rattle.btree.proofs.CodeLaws.{scanned-append}
+use Rattle.bemit.specs.Drafts.{Made, Draft, Faulty, Going, behind, stepped, emitted, stringed, offset_of, address_of, address_at, named, names_of, form_at, grouped, checked, entry_of}
+use Rattle.bemit.specs.Effects.{form, loads, loaded, held, evaluated}
 use Rattle.bemit.specs.declared.form.Form.{Form}
 use Rattle.bemit.specs.declared.form.Form.TheVariants.{Place, Lone, Joined}
-use Rattle.bpass.proofs.Names.{standing, Agrees, agrees_before, later, with_names_is, mentioned_is, scanned_fault}
-use Rattle.bpass.proofs.Parts.{Parts, added, add_cases, add_cases-none, drafted, kept, Roomy, smaller, kept_within, changed, put, emit, put_ending, offset_is, scope_of, scope_kept, scope_stepped, Nested, Makes, scanned_twice, nested_behind, Same, then_, retold, rescanned, deeper, idle, ending, emits, emits_known}
-use Rattle.bpass.proofs.Jumps.{arms_parts, parts_ways}
+use Rattle.bpass.proofs.Names.{standing, Agrees, with_names_is, mentioned_is, scanned_fault}
+use Rattle.bpass.proofs.Parts.{Parts, added, add_cases, add_cases-none, drafted, kept, Roomy, smaller, kept_within, changed, put, emit, put_ending, offset_is, scope_of, scope_kept, scope_stepped, Makes, scanned_twice, retold, rescanned}
 
 -- code and strings alone
 abbrev pub only : (ℕ → List Instr) → List ℕ → Parts

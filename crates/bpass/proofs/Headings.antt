@@ -1,19 +1,17 @@
 -- One pass over what stands before a statement.
-use Rattle.std.proofs.Common.{◌≡◌, ℕ, zero, suc, ◌+◌, ◌≤◌, Bool, true, false, List, [], ◌∷◌, ◌++◌, length, map, fold, flat_map, Option, Some, None, Result, Ok, Err, refl, sym, ap, ◌∙◌, subst, arith, le_refl, append_assoc, append-nil, length-append, nat_lt, nat_eq, ltb-true, ltb-false, add-zero}
-use Rattle.std.specs.List.{list_any}
+use Rattle.std.proofs.Common.{◌≡◌, ℕ, ◌+◌, ◌≤◌, Bool, true, false, List, [], ◌∷◌, ◌++◌, length, map, fold, flat_map, Option, Some, None, Ok, refl, sym, ap, ◌∙◌, subst, arith, append_assoc, append-nil, nat_lt, ltb-true, ltb-false, add-zero}
 use Rattle.bcode.specs.declared.instr.Instr.{Instr}
 use Rattle.bcode.specs.declared.instr.Instr.TheVariants as instr
 use Rattle.btree.specs.Expression.{Word}
 use Rattle.btree.specs.Statement.{Declared, Heading, Auto, Extrn, Label, Case}
 use Rattle.btree.specs.Scope.{Kind, Automatic, External, kind_of}
 use Rattle.btree.specs.Scope as scope
-use Rattle.btree.specs.Scan.{Scope, Event, Declaration, Import, LabelHere, CaseHere, step, scanned, words_of, value_of, heading_events}
-use Rattle.btree.specs.Scan as scan
+use Rattle.btree.specs.Scan.{Scope, Declaration, Import, LabelHere, CaseHere, step, words_of, value_of, heading_events}
 use Rattle.btree.specs.Code.{Names, Meaning, In_frame, Outside, At_label, vector_code, heading_code, heading_label, heading_case}
-use Rattle.bemit.specs.Drafts.{Made, Draft, Faulty, Going, most_words, with_made, behind, stepped, emitted, worded, frame_of, vector_set, declared, imported, labelled, with_case, selected}
+use Rattle.bemit.specs.Drafts.{Made, Draft, Going, most_words, with_made, behind, stepped, emitted, worded, frame_of, vector_set, declared, imported, labelled, with_case, selected}
 use Rattle.bemit.specs.Effects.{headed, parameters_done}
-use Rattle.bpass.proofs.Names.{standing, Agrees, Renamed, with_names_is, declared_is, later}
-use Rattle.bpass.proofs.Parts.{Parts, no_parts, added, add_cases, add_cases-none, drafted, kept, Roomy, kept_within, kept_none, noted, put, emit, scope_of, scope_kept, scope_stepped, Makes, nothing_added, then_, retold, idle}
+use Rattle.bpass.proofs.Names.{Renamed, with_names_is, selected_is, declared_is, later}
+use Rattle.bpass.proofs.Parts.{Parts, no_parts, added, add_cases, add_cases-none, drafted, kept, kept_within, kept_none, noted, put, emit, scope_of, scope_kept, scope_stepped, Makes, nothing_added, then_, retold, idle}
 use Rattle.bpass.proofs.Expressions.{only, stepped_is}
 
 vector_scope : (size : Option ℕ) (k : ℕ) (d : Draft) → scope_of (vector_set size k d) ≡ scope_of d
@@ -126,25 +124,6 @@ labelled_makes w = record {
     whole : (m : Made) → record m { targets = m.targets ++ length m.code ∷ [] } ≡ added m label_parts
     whole m = λ i. record { code = sym (append-nil m.code) i; strings = sym (append-nil m.strings) i; values = m.values; targets = m.targets ++ length m.code ∷ []; cases = sym (add_cases-none m.cases) i }
 
-record Selected (s s2 : Scope) (switches : List (List ℕ)) : Type 0 where
-  depth : length s2.switches ≡ length switches
-  frame : s2.frame ≡ s.frame
-
-selected_is : (line value : ℕ) (s s2 : Scope) (switches : List (List ℕ)) → scan.selected line value s switches ≡ Ok s2 → Selected s s2 switches
-selected_is line value s s2 [] h = cc
-selected_is line value s s2 (constants ∷ others) h = go (list_any (nat_eq value) constants) (nat_lt s.cases scan.most_cases) refl refl
-  where
-    new : Scope
-    new = record s { switches = (constants ++ value ∷ []) ∷ others; cases = s.cases + 1 }
-
-    go : (a b : Bool) → list_any (nat_eq value) constants ≡ a → nat_lt s.cases scan.most_cases ≡ b → Selected s s2 (constants ∷ others)
-    go true b p q = let bad = rw p at h in cc
-    go false true p q =
-        let e : scan.selected line value s (constants ∷ others) ≡ Ok new = rw (p, q) refl in
-        let same : new ≡ s2 = let k : Ok new ≡ Ok s2 = sym e ∙ h in cc in
-        subst (λ t. Selected s t (constants ∷ others)) same (record { depth = refl; frame = refl })
-    go false false p q = let bad = rw (p, q) at h in cc
-
 with_case-add : (c : ℕ × ℕ) (k : List (List (ℕ × ℕ))) → with_case c k ≡ add_cases (c ∷ []) k
 with_case-add c [] = refl
 with_case-add c (x ∷ xs) = refl
@@ -157,7 +136,7 @@ selected_makes line value = record {
   scans = λ d n. scope_kept _ (stepped (CaseHere line value) d) ∙ scope_stepped (CaseHere line value) d;
   depth = λ s s2 h. (selected_is line value s s2 s.switches h).depth;
   makes = λ s s2 m n h agree l.
-      ap (with_made (λ m. Some (record m { cases = with_case (value, length m.code) m.cases }))) (stepped_is (CaseHere line value) s s2 m h (selected_is line value s s2 s.switches h).frame)
+      ap (with_made (λ m. Some (record m { cases = with_case (value, length m.code) m.cases }))) (stepped_is (CaseHere line value) s s2 m h (sym (selected_is line value s s2 s.switches h).frame))
       ∙ noted _ s2 m (record m { cases = with_case (value, length m.code) m.cases }) (λ r. refl) refl refl refl
       ∙ ap (drafted s2) (whole m);
 }

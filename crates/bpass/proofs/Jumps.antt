@@ -1,14 +1,14 @@
 -- A jump is put once its target is known.
-use Rattle.std.proofs.Common.{◌≡◌, ℕ, zero, suc, ◌+◌, ◌≤◌, List, [], ◌∷◌, ◌++◌, length, map, Option, Some, None, Result, Ok, Err, refl, sym, ap, ◌∙◌, subst, arith, le_refl, append_assoc, append-nil, length-append, slice_set}
+use Rattle.std.proofs.Common.{◌≡◌, ℕ, ◌+◌, ◌≤◌, List, [], ◌∷◌, ◌++◌, length, refl, sym, ap, ◌∙◌, subst, arith, le_refl, append_assoc, length-append, slice_set}
 use Rattle.std.proofs.Math.Seq.{set-append_seam}
 use Rattle.bcode.specs.declared.instr.Instr.{Instr}
 use Rattle.bcode.specs.declared.instr.Instr.TheVariants as instr
 use Rattle.btree.specs.Scan.{Scope, Event, scanned}
 use Rattle.btree.specs.Code.{Names}
 use Rattle.btree.proofs.CodeLaws.{scanned-append}
-use Rattle.bemit.specs.Drafts.{Made, Draft, Faulty, Going, most_switches, emitted, place_of, filled}
+use Rattle.bemit.specs.Drafts.{Made, Draft, emitted, place_of, filled}
 use Rattle.bemit.specs.Effects.{arms, skipping}
-use Rattle.bpass.proofs.Names.{Agrees, agrees_before, later}
+use Rattle.bpass.proofs.Names.{agrees_before, later}
 use Rattle.bpass.proofs.Parts.{Parts, added, add_cases, add_cases-two, drafted, Roomy, smaller, put, put_smaller, emit, fill, place_is, scope_of, scope_kept, Nested, Makes, scanned_twice, nested_behind}
 
 second_jump : (c a b : List Instr) (x j v : Instr) (end : ℕ) → end ≡ length (c ++ (x ∷ a)) → slice_set ((c ++ (x ∷ (a ++ (j ∷ [])))) ++ b) end v ≡ c ++ (x ∷ (a ++ (v ∷ b)))
@@ -21,9 +21,18 @@ second_jump c a b x j v end h =
 pub length_put : (m : Made) (i : Instr) → length (m.code ++ i ∷ []) ≡ length m.code + 1
 length_put m i = length-append m.code (i ∷ [])
 
+-- a jump past code, and jumps round two arms
+abbrev pub skip_code : (ℕ → List Instr) → ℕ → List Instr
+skip_code a p = instr.JumpIfZero (p + 1 + length (a (p + 1))) ∷ a (p + 1)
+
+abbrev pub arms_code : (ℕ → List Instr) → (ℕ → List Instr) → ℕ → List Instr
+arms_code a b p =
+    let q = p + 1 + length (a (p + 1)) + 1 in
+    instr.JumpIfZero q ∷ (a (p + 1) ++ (instr.Jump (q + length (b q)) ∷ b q))
+
 abbrev pub skipped : Parts → Parts
 skipped a = record {
-  code = λ p. instr.JumpIfZero (p + 1 + length (a.code (p + 1))) ∷ a.code (p + 1);
+  code = skip_code a.code;
   strings = a.strings;
   targets = λ p. a.targets (p + 1);
   cases = λ p. a.cases (p + 1);
@@ -85,9 +94,7 @@ skips {names = names} {body = body} {es = es} {room = room} {off = off} {a = a} 
 
 abbrev pub arms_parts : Parts → Parts → Parts
 arms_parts a b = record {
-  code = λ p.
-      let q = p + 1 + length (a.code (p + 1)) + 1 in
-      instr.JumpIfZero q ∷ (a.code (p + 1) ++ (instr.Jump (q + length (b.code q)) ∷ b.code q));
+  code = arms_code a.code b.code;
   strings = a.strings ++ b.strings;
   targets = λ p. a.targets (p + 1) ++ b.targets (p + 1 + length (a.code (p + 1)) + 1);
   cases = λ p. a.cases (p + 1) ++ b.cases (p + 1 + length (a.code (p + 1)) + 1);

@@ -1,10 +1,10 @@
 -- A name stands for the same, whatever enters the table after it.
-use Rattle.std.proofs.Common.{◌≡◌, ℕ, zero, suc, ◌+◌, ◌≤◌, Bool, true, false, List, [], ◌∷◌, ◌++◌, length, map, Option, Some, None, Result, Ok, Err, refl, sym, ◌∙◌, subst, unwrap_or, position, arith, le_refl, nat_lt, nat_eq, ap, if◌then◌else◌}
+use Rattle.std.proofs.Common.{◌≡◌, ℕ, ◌+◌, ◌≤◌, Bool, true, false, List, [], ◌∷◌, ◌++◌, length, Option, Some, None, Result, Ok, Err, refl, sym, ◌∙◌, subst, unwrap_or, arith, le_refl, nat_lt, nat_eq, ap}
 use Rattle.std.specs.List.{position_from, list_any}
 use Rattle.std.specs.Cmp.Lexicographic.{nat_list_eq_equiv}
 use Rattle.std.proofs.lemmas.Iterator.Adapters.{position_from-zero}
 use Rattle.blex.specs.declared.diagnostic.Diagnostic.{Diagnostic}
-use Rattle.btree.specs.Expression.{Word, Expr}
+use Rattle.btree.specs.Expression.{Word}
 use Rattle.btree.specs.Scope.{Entry, Kind, Automatic, External, Unlabelled, Labelled, kind_of, same_name, entered, declared, mentioned, labelled, kind_mentioned}
 use Rattle.btree.specs.Scan.{Scope, Event, Declaration, Import, Mention, LabelHere, CaseHere, Lvalue, SwitchBegins, SwitchEnds, step, scanned, with_names, selected, words_of}
 use Rattle.btree.specs.Scan as scan
@@ -195,28 +195,32 @@ later_renamed s t s2 r n f longer h =
     let d = with_names_is t r s2 h in
     subst (Later s) (sym d.scope_is) (record { longer = longer d.names d.names_are; frame = f })
 
-later_selected : (line value : ℕ) (s s2 : Scope) (switches : List (List ℕ)) → selected line value s switches ≡ Ok s2 → Later s s2
-later_selected line value s s2 [] h = cc
-later_selected line value s s2 (constants ∷ others) h = go (list_any (nat_eq value) constants) refl
+-- a case changes the innermost switch alone
+pub record Selected (s s2 : Scope) (switches : List (List ℕ)) : Type 0 where
+  pub depth : length s2.switches ≡ length switches
+  pub names : s.names ≡ s2.names
+  pub frame : s.frame ≡ s2.frame
+
+pub selected_is : (line value : ℕ) (s s2 : Scope) (switches : List (List ℕ)) → selected line value s switches ≡ Ok s2 → Selected s s2 switches
+selected_is line value s s2 [] h = cc
+selected_is line value s s2 (constants ∷ others) h = go (list_any (nat_eq value) constants) (nat_lt s.cases scan.most_cases) refl refl
   where
     new : Scope
     new = record s { switches = (constants ++ value ∷ []) ∷ others; cases = s.cases + 1 }
 
-    go2 : (b : Bool) → list_any (nat_eq value) constants ≡ false → nat_lt s.cases scan.most_cases ≡ b → Later s s2
-    go2 true p q =
-        let e : selected line value s (constants ∷ others) ≡ Ok new = rw p (rw q refl) in
+    go : (a b : Bool) → list_any (nat_eq value) constants ≡ a → nat_lt s.cases scan.most_cases ≡ b → Selected s s2 (constants ∷ others)
+    go true b p q = let bad = rw p at h in cc
+    go false true p q =
+        let e : selected line value s (constants ∷ others) ≡ Ok new = rw (p, q) refl in
         let same : new ≡ s2 = let k : Ok new ≡ Ok s2 = sym e ∙ h in cc in
-        subst (Later s) same (record { longer = extends_same s.names; frame = le_refl s.frame })
-    go2 false p q = let bad = rw (p, q) at h in cc
+        subst (λ t. Selected s t (constants ∷ others)) same (record { depth = refl; names = refl; frame = refl })
+    go false false p q = let bad = rw (p, q) at h in cc
 
-    go : (b : Bool) → list_any (nat_eq value) constants ≡ b → Later s s2
-    go true q = let bad = rw q at h in cc
-    go false q = go2 (nat_lt s.cases scan.most_cases) q refl
+later_at : (s s2 : Scope) → s.names ≡ s2.names → s.frame ≡ s2.frame → Later s s2
+later_at s s2 n f = record { longer = subst (Extends s.names) n (extends_same s.names); frame = subst (λ k. s.frame ≤ k) f (le_refl s.frame) }
 
 later_same : (s t s2 : Scope) → s.names ≡ t.names → s.frame ≡ t.frame → (let r : Result Scope Diagnostic = Ok t in r) ≡ Ok s2 → Later s s2
-later_same s t s2 n f h =
-    let same : t ≡ s2 = cc in
-    subst (Later s) same (record { longer = subst (Extends s.names) n (extends_same s.names); frame = subst (λ k. s.frame ≤ k) f (le_refl s.frame) })
+later_same s t s2 n f h = let same : t ≡ s2 = cc in subst (Later s) same (later_at s t n f)
 
 later_step : (e : Event) (s s2 : Scope) → step e s ≡ Ok s2 → Later s s2
 later_step (Declaration w size) s s2 h =
@@ -224,7 +228,7 @@ later_step (Declaration w size) s s2 h =
 later_step (Import w) s s2 h = later_renamed s s s2 _ refl (le_refl s.frame) (λ fs q. (declared_is w External s.names fs q).longer) h
 later_step (Mention called w) s s2 h = later_renamed s s s2 _ refl (le_refl s.frame) (λ fs q. (mentioned_is called w s.names fs q).longer) h
 later_step (LabelHere w) s s2 h = later_renamed s (record s { labels = s.labels + 1 }) s2 _ refl (le_refl s.frame) (λ fs q. labelled_extends w s.labels s.names fs q) h
-later_step (CaseHere line value) s s2 h = later_selected line value s s2 s.switches h
+later_step (CaseHere line value) s s2 h = let d = selected_is line value s s2 s.switches h in later_at s s2 d.names d.frame
 later_step (Lvalue line e) s s2 h = go (scan.is_lvalue s.names e) refl
   where
     go : (b : Bool) → scan.is_lvalue s.names e ≡ b → Later s s2

@@ -1,5 +1,5 @@
 -- The code with labels by their entries becomes that with labels by their numbers.
-use Rattle.std.proofs.Common.{◌≡◌, ℕ, zero, suc, ◌+◌, ◌≤◌, Bool, true, false, List, [], ◌∷◌, ◌++◌, length, map, flat_map, Option, Some, None, refl, sym, ap, ap₂, ◌∙◌, subst, arith, unwrap_or, add-zero}
+use Rattle.std.proofs.Common.{◌≡◌, ℕ, suc, ◌+◌, Bool, true, false, List, [], ◌∷◌, ◌++◌, length, map, flat_map, Option, Some, None, refl, sym, ap, ap₂, ◌∙◌, arith, unwrap_or, add-zero}
 use Rattle.std.specs.List.{position_from}
 use Rattle.std.proofs.lemmas.List.{map-append, length-map}
 use Rattle.std.proofs.lemmas.Iterator.Adapters.{position_from-zero}
@@ -8,13 +8,14 @@ use Rattle.bword.specs.declared.operators.BinOp.{BinOp}
 use Rattle.bword.specs.declared.operators.BinOp.TheVariants as op
 use Rattle.bcode.specs.declared.instr.Instr.{Instr}
 use Rattle.bcode.specs.declared.instr.Instr.TheVariants as instr
-use Rattle.bcode.specs.declared.instr.Increment.TheVariants as increment
-use Rattle.btree.specs.Expression.{Word, Expr, Arguments, Negate, Not, Indirection, Address, PreIncrement, PreDecrement, PostIncrement, PostDecrement, Named, Literal, Text, Grouped, Indexed, Called, Postfixed, Prefixed, Binary, Conditional, Assigned, No_arguments, Another}
+use Rattle.btree.specs.Expression.{Expr, Arguments, Negate, Not, Indirection, Address, PreIncrement, PreDecrement, PostIncrement, PostDecrement, Named, Literal, Text, Grouped, Indexed, Called, Postfixed, Prefixed, Binary, Conditional, Assigned, No_arguments, Another}
 use Rattle.btree.specs.Statement.{Declared, Heading, Auto, Extrn, Label, Case, Stmt, Headed, Compound, If, IfElse, While, Switch, Goto, Return, ReturnValue, Evaluate, Empty, Stmts, Nothing, More}
-use Rattle.btree.specs.Scope.{Entry, Kind, Automatic, External, Unlabelled, Labelled, kind_of, same_name, undefined, undefined_at}
+use Rattle.btree.specs.Scope.{Entry, Kind, Automatic, External, Unlabelled, Labelled, kind_of, undefined, undefined_at}
 use Rattle.btree.specs.Code.{Names, Meaning, In_frame, Outside, At_label, names_in, meaning_of, name_address, name_word, word_code, address_code, argument_code, argument_count, assignment, vector_code, heading_code, heading_label, heading_case, statement_code, body_code, statement_cases, body_cases, label_places, body_label_places}
 use Rattle.bemit.specs.Drafts.{entry_of, number_of, label_number, numbered}
-use Rattle.bpass.proofs.Names.{standing, standing_of, names_by, is, kind_here, kind_there, position_here, position_there}
+use Rattle.bpass.proofs.Jumps.{skip_code, arms_code}
+use Rattle.bpass.proofs.Switches.{tests, switch_code}
+use Rattle.bpass.proofs.Names.{standing_of, names_by, is, kind_here, kind_there, position_here, position_there}
 
 abbrev pub renumbered : List Entry → Meaning → Meaning
 renumbered entries (In_frame k) = In_frame k
@@ -108,20 +109,12 @@ module _ (es : List Entry) (names names2 : Names) (renamed : (x : List ℕ) → 
   behind_numbered : (c c2 : List Instr) (g g2 : ℕ → List Instr) (p : ℕ) → map (numbered es) c ≡ c2 → ((q : ℕ) → map (numbered es) (g q) ≡ g2 q) → map (numbered es) (c ++ g (p + length c)) ≡ c2 ++ g2 (p + length c2)
   behind_numbered c c2 g g2 p h k = tail_numbered c c2 (g (p + length c)) h ∙ ap (λ l. c2 ++ l) (k (p + length c) ∙ ap (λ n. g2 (p + n)) (same_length c c2 h))
 
-  abbrev arms_code : (ℕ → List Instr) → (ℕ → List Instr) → ℕ → List Instr
-  arms_code a b p =
-      let q = p + 1 + length (a (p + 1)) + 1 in
-      instr.JumpIfZero q ∷ (a (p + 1) ++ (instr.Jump (q + length (b q)) ∷ b q))
-
   arms_numbered : (a a2 b b2 : ℕ → List Instr) → ((q : ℕ) → map (numbered es) (a q) ≡ a2 q) → ((q : ℕ) → map (numbered es) (b q) ≡ b2 q) → (p : ℕ) → map (numbered es) (arms_code a b p) ≡ arms_code a2 b2 p
   arms_numbered a a2 b b2 h k p =
       let q = p + 1 + length (a (p + 1)) + 1 in
       ap (λ l. instr.JumpIfZero q ∷ l) (tail_numbered (a (p + 1)) (a2 (p + 1)) _ (h (p + 1)))
       ∙ ap₂ (λ n l. instr.JumpIfZero q ∷ (a2 (p + 1) ++ (instr.Jump (q + n) ∷ l))) (same_length (b q) (b2 q) (k q)) (k q)
       ∙ ap (λ n. instr.JumpIfZero (p + 1 + n + 1) ∷ (a2 (p + 1) ++ (instr.Jump (p + 1 + n + 1 + length (b2 (p + 1 + n + 1))) ∷ b2 (p + 1 + n + 1)))) (same_length (a (p + 1)) (a2 (p + 1)) (h (p + 1)))
-
-  abbrev skip_code : (ℕ → List Instr) → ℕ → List Instr
-  skip_code a p = instr.JumpIfZero (p + 1 + length (a (p + 1))) ∷ a (p + 1)
 
   skip_numbered : (a a2 : ℕ → List Instr) → ((q : ℕ) → map (numbered es) (a q) ≡ a2 q) → (p : ℕ) → map (numbered es) (skip_code a p) ≡ skip_code a2 p
   skip_numbered a a2 h p = ap₂ (λ n l. instr.JumpIfZero (p + 1 + n) ∷ l) (same_length (a (p + 1)) (a2 (p + 1)) (h (p + 1))) (h (p + 1))
@@ -132,25 +125,17 @@ module _ (es : List Entry) (names names2 : Names) (renamed : (x : List ℕ) → 
   loop_numbered : (a a2 : ℕ → List Instr) (start : ℕ) → ((q : ℕ) → map (numbered es) (a q) ≡ a2 q) → (p : ℕ) → map (numbered es) (loop_code a start p) ≡ loop_code a2 start p
   loop_numbered a a2 start h p = ap₂ (λ n l. instr.JumpIfZero (p + 1 + n + 1) ∷ l) (same_length (a (p + 1)) (a2 (p + 1)) (h (p + 1))) (tail_numbered (a (p + 1)) (a2 (p + 1)) _ (h (p + 1)))
 
-  abbrev tests : List (ℕ × ℕ) → List Instr
-  tests cases = map (λ c. instr.JumpIfCase c.0 c.1) cases
-
   tests_same : (cases : List (ℕ × ℕ)) → map (numbered es) (tests cases) ≡ tests cases
   tests_same [] = refl
   tests_same (c ∷ cases) = ap (λ l. instr.JumpIfCase c.0 c.1 ∷ l) (tests_same cases)
 
-  abbrev switch_code : (ℕ → List Instr) → (ℕ → List (ℕ × ℕ)) → ℕ → List Instr
-  switch_code a k p =
-      let d = p + 1 + length (a (p + 1)) + 1 in
-      instr.Jump d ∷ (a (p + 1) ++ (instr.Jump (d + length (tests (k (p + 1))) + 1) ∷ (tests (k (p + 1)) ++ (instr.Pop ∷ []))))
-
-  switch_numbered : (a a2 : ℕ → List Instr) (k k2 : ℕ → List (ℕ × ℕ)) → ((q : ℕ) → map (numbered es) (a q) ≡ a2 q) → ((q : ℕ) → k q ≡ k2 q) → (p : ℕ) → map (numbered es) (switch_code a k p) ≡ switch_code a2 k2 p
-  switch_numbered a a2 k k2 h same p =
-      let d = p + 1 + length (a (p + 1)) + 1 in
-      let c = k (p + 1) in
-      ap (λ l. instr.Jump d ∷ l) (tail_numbered (a (p + 1)) (a2 (p + 1)) _ (h (p + 1)))
-      ∙ ap (λ l. instr.Jump d ∷ (a2 (p + 1) ++ (instr.Jump (d + length (tests c) + 1) ∷ l))) (tail_numbered (tests c) (tests c) (instr.Pop ∷ []) (tests_same c))
-      ∙ ap₂ (λ n x. instr.Jump (p + 1 + n + 1) ∷ (a2 (p + 1) ++ (instr.Jump (p + 1 + n + 1 + length (tests x) + 1) ∷ (tests x ++ (instr.Pop ∷ []))))) (same_length (a (p + 1)) (a2 (p + 1)) (h (p + 1))) (same (p + 1))
+  switch_numbered : (a a2 : ℕ → List Instr) (k k2 : ℕ → List (ℕ × ℕ)) → ((q : ℕ) → map (numbered es) (a q) ≡ a2 q) → ((q : ℕ) → k q ≡ k2 q) → (q : ℕ) → map (numbered es) (switch_code a k q) ≡ switch_code a2 k2 q
+  switch_numbered a a2 k k2 h same q =
+      let d = q + length (a q) + 1 in
+      let c = k q in
+      ap (λ l. instr.Jump d ∷ l) (tail_numbered (a q) (a2 q) _ (h q))
+      ∙ ap (λ l. instr.Jump d ∷ (a2 q ++ (instr.Jump (d + length (tests c) + 1) ∷ l))) (tail_numbered (tests c) (tests c) (instr.Pop ∷ []) (tests_same c))
+      ∙ ap₂ (λ n x. instr.Jump (q + n + 1) ∷ (a2 q ++ (instr.Jump (q + n + 1 + length (tests x) + 1) ∷ (tests x ++ (instr.Pop ∷ []))))) (same_length (a q) (a2 q) (h q)) (same q)
 
   mutual
     pub word_numbered : (e : Expr) (p : ℕ) → map (numbered es) (word_code names e p) ≡ word_code names2 e p
@@ -240,8 +225,8 @@ module _ (es : List Entry) (names names2 : Names) (renamed : (x : List ℕ) → 
         behind_numbered (word_code names e p) (word_code names2 e p) (loop_code (statement_code names s) p) (loop_code (statement_code names2 s) p) p (word_numbered e p)
         (loop_numbered (statement_code names s) (statement_code names2 s) p (λ q. statement_numbered s q))
     statement_numbered (Switch e body) p =
-        behind_numbered (word_code names e p) (word_code names2 e p) (switch_code (body_code names body) (body_cases names body)) (switch_code (body_code names2 body) (body_cases names2 body)) p (word_numbered e p)
-        (switch_numbered (body_code names body) (body_code names2 body) (body_cases names body) (body_cases names2 body) (λ q. body_numbered body q) (λ q. body_cases_same body q))
+        behind_numbered (word_code names e p) (word_code names2 e p) (λ q. switch_code (body_code names body) (body_cases names body) (q + 1)) (λ q. switch_code (body_code names2 body) (body_cases names2 body) (q + 1)) p (word_numbered e p)
+        (λ q. switch_numbered (body_code names body) (body_code names2 body) (body_cases names body) (body_cases names2 body) (λ r. body_numbered body r) (λ r. body_cases_same body r) (q + 1))
     statement_numbered (Goto e) p = tail_numbered _ _ _ (word_numbered e p)
     statement_numbered Return p = refl
     statement_numbered (ReturnValue e) p = tail_numbered _ _ _ (word_numbered e p)

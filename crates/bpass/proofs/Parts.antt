@@ -1,9 +1,7 @@
 -- What effects on drafts make, piece by piece. Without limits a piece is appended, and what is too large is no more known.
-use Rattle.std.proofs.Common.{◌≡◌, ℕ, zero, suc, ◌+◌, ◌≤◌, ◌&&◌, Bool, true, false, List, [], ◌∷◌, ◌++◌, length, map, Option, Some, None, Result, Ok, Err, refl, sym, ap, ◌∙◌, subst, arith, le_refl, nat_le, nat_lt, append_assoc, append-nil, length-append, slice_set, if◌then◌else◌, ◌⊎◌, inl, inr, ⊎_elim, le-leb, leb-true, leb-false}
-use Rattle.std.proofs.lemmas.List.{length-set}
+use Rattle.std.proofs.Common.{◌≡◌, ℕ, suc, ◌+◌, ◌≤◌, Bool, true, false, List, [], ◌∷◌, ◌++◌, length, Option, Some, None, Result, Ok, Err, refl, sym, ap, ◌∙◌, subst, arith, le_refl, nat_le, append_assoc, append-nil, length-append, slice_set, if◌then◌else◌, ◌⊎◌, inl, inr, ⊎_elim, le-leb, leb-true, leb-false}
 use Rattle.blex.specs.declared.diagnostic.Diagnostic.{Diagnostic}
 use Rattle.bcode.specs.declared.instr.Instr.{Instr}
-use Rattle.btree.specs.Scope.{Entry}
 use Rattle.btree.specs.Scan.{Scope, Event, step, scanned}
 use Rattle.btree.specs.Code.{Names}
 use Rattle.btree.proofs.CodeLaws.{scanned-append}

@@ -1,5 +1,5 @@
 -- One pass over a statement makes its code: by induction on the tree.
-use Rattle.std.proofs.Common.{◌≡◌, ℕ, zero, suc, ◌+◌, ◌≤◌, Bool, true, false, List, [], ◌∷◌, ◌++◌, length, Result, Ok, Err, refl, sym, ap, ◌∙◌, subst, arith, le_refl, append_assoc, append-nil, length-append, add-zero}
+use Rattle.std.proofs.Common.{◌≡◌, ℕ, zero, suc, ◌+◌, ◌≤◌, List, [], ◌∷◌, ◌++◌, length, refl, sym, ap, ◌∙◌, subst, arith, le_refl, length-append, add-zero}
 use Rattle.bcode.specs.declared.instr.Instr.{Instr}
 use Rattle.bcode.specs.declared.instr.Instr.TheVariants as instr
 use Rattle.btree.specs.Expression.{Expr, words, Deeper, Fits, rvalue_rank}
@@ -7,7 +7,7 @@ use Rattle.btree.specs.Statement.{Stmt, Headed, Compound, If, IfElse, While, Swi
 use Rattle.btree.specs.Scan.{Scope, Event, scanned, events, statement_events, body_events}
 use Rattle.btree.specs.Code.{Names, word_code, strings, statement_code, body_code, statement_cases, body_cases, label_places, body_label_places, statement_strings, body_strings}
 use Rattle.btree.proofs.CodeLaws.{scanned-append, counts_words}
-use Rattle.bemit.specs.Drafts.{Made, Draft, most_switches, emitted, place_of}
+use Rattle.bemit.specs.Drafts.{Made, Draft, emitted, place_of}
 use Rattle.bemit.specs.Effects.{skipping, evaluated, done, all_done}
 use Rattle.bpass.proofs.Names.{agrees_before, later}
 use Rattle.bpass.proofs.Parts.{Parts, added, drafted, Roomy, smaller, put, emit, put_ending, place_is, scope_of, scope_kept, Nested, Makes, scanned_twice, nested_behind, added_same, two, joined, then_, retold, deeper, idle, ending, emits}
@@ -15,7 +15,7 @@ use Rattle.bpass.proofs.Jumps.{skipped, skip_at, skips, parts_ways, length_put}
 use Rattle.bpass.proofs.Switches.{switches}
 use Rattle.bpass.proofs.Expressions.{only}
 use Rattle.bpass.proofs.ExpressionMakes.{expression_words, evaluated_makes}
-use Rattle.bpass.proofs.Headings.{heading_parts, heading_makes}
+use Rattle.bpass.proofs.Headings.{heading_makes}
 
 abbrev pub statement_parts : Names → Stmt → Parts
 statement_parts names s = record { code = statement_code names s; strings = statement_strings s; targets = label_places names s; cases = statement_cases names s }

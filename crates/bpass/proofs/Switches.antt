@@ -1,5 +1,5 @@
 -- The statements of a switch, and its tests behind them.
-use Rattle.std.proofs.Common.{◌≡◌, ℕ, zero, suc, ◌+◌, ◌≤◌, Bool, true, false, List, [], ◌∷◌, ◌++◌, length, map, Option, Some, None, Result, Ok, Err, refl, sym, ap, ◌∙◌, subst, arith, le_refl, append_assoc, append-nil, length-append, slice_set, lt-ltb}
+use Rattle.std.proofs.Common.{◌≡◌, ℕ, suc, ◌+◌, ◌≤◌, List, [], ◌∷◌, ◌++◌, length, map, Some, Result, Ok, Err, refl, sym, ap, ◌∙◌, subst, arith, le_refl, append_assoc, length-append, slice_set, lt-ltb}
 use Rattle.std.proofs.Math.Seq.{set-append_seam}
 use Rattle.std.proofs.lemmas.List.{length-map}
 use Rattle.blex.specs.declared.diagnostic.Diagnostic.{Diagnostic}
@@ -8,24 +8,24 @@ use Rattle.bcode.specs.declared.instr.Instr.TheVariants as instr
 use Rattle.btree.specs.Scan.{Scope, Event, SwitchBegins, SwitchEnds, step, scanned, rest_of}
 use Rattle.btree.specs.Code.{Names}
 use Rattle.btree.proofs.CodeLaws.{scanned-append}
-use Rattle.bemit.specs.Drafts.{Made, Draft, Faulty, Going, most_switches, within_room, with_made, stepped, emitted, place_of, filled, begun, ended, innermost, case_count, tested}
+use Rattle.bemit.specs.Drafts.{Made, Draft, Faulty, Going, most_switches, with_made, stepped, emitted, place_of, filled, begun, ended, case_count, tested}
 use Rattle.bemit.specs.Effects.{switched}
-use Rattle.bpass.proofs.Names.{Agrees, agrees_before, later}
-use Rattle.bpass.proofs.Parts.{Parts, added, add_cases, add_cases-none, drafted, kept, kept_some, kept_within, Roomy, smaller, changed, noted, put, put_smaller, emit, fill, place_is, scope_of, scope_kept, scope_stepped, Nested, Makes, scanned_twice}
+use Rattle.bpass.proofs.Names.{agrees_before, later}
+use Rattle.bpass.proofs.Parts.{Parts, added, add_cases-none, drafted, kept_some, kept_within, Roomy, smaller, changed, noted, put, put_smaller, emit, fill, place_is, scope_of, scope_kept, scope_stepped, Nested, Makes, scanned_twice}
 use Rattle.bpass.proofs.Jumps.{length_put}
 use Rattle.bpass.proofs.Expressions.{stepped_is}
 
-abbrev tests : List (ℕ × ℕ) → List Instr
+abbrev pub tests : List (ℕ × ℕ) → List Instr
 tests cases = map (λ c. instr.JumpIfCase c.0 c.1) cases
 
 -- the code of a switch whose statements stand at q
-abbrev switch_code : Parts → ℕ → List Instr
-switch_code a q =
-    let d = q + length (a.code q) + 1 in
-    instr.Jump d ∷ (a.code q ++ (instr.Jump (d + length (tests (a.cases q)) + 1) ∷ (tests (a.cases q) ++ (instr.Pop ∷ []))))
+abbrev pub switch_code : (ℕ → List Instr) → (ℕ → List (ℕ × ℕ)) → ℕ → List Instr
+switch_code a cases q =
+    let d = q + length (a q) + 1 in
+    instr.Jump d ∷ (a q ++ (instr.Jump (d + length (tests (cases q)) + 1) ∷ (tests (cases q) ++ (instr.Pop ∷ []))))
 
 abbrev pub switched_parts : Parts → Parts
-switched_parts a = record { code = λ p. switch_code a (p + 1); strings = a.strings; targets = λ p. a.targets (p + 1); cases = λ p. [] }
+switched_parts a = record { code = λ p. switch_code a.code a.cases (p + 1); strings = a.strings; targets = λ p. a.targets (p + 1); cases = λ p. [] }
 
 abbrev opened : Scope → Scope
 opened s = record s { switches = [] ∷ s.switches }
@@ -100,7 +100,7 @@ switch_at body s s2 s3 m a le f h k =
     m6 = put m5 instr.Pop
 
     new : List Instr
-    new = m.code ++ switch_code a q
+    new = m.code ++ switch_code a.code a.cases q
 
     m7 : Made
     m7 = record m6 { code = new }
@@ -149,7 +149,7 @@ switch_at body s s2 s3 m a le f h k =
         ∙ append_assoc m.code (instr.Jump 0 ∷ []) behind_jump
 
     same_length : length new ≡ length m6.code
-    same_length = omega (arith, ap length flat, length-append m.code (instr.Jump 0 ∷ behind_jump), length-append m.code (switch_code a q))
+    same_length = omega (arith, ap length flat, length-append m.code (instr.Jump 0 ∷ behind_jump), length-append m.code (switch_code a.code a.cases q))
 
     known : Roomy s2.frame m6 → slice_set m6.code (place_of (drafted s m)) (instr.Jump (place_of behind_body + 1)) ≡ new
     known r =
@@ -165,7 +165,7 @@ switch_at body s s2 s3 m a le f h k =
     filled_is = ap (filled (place_of (drafted s m)) (instr.Jump (place_of behind_body + 1))) pop_is ∙ fill (place_of (drafted s m)) (instr.Jump (place_of behind_body + 1)) s2 m6 new same_length known
 
     whole : record m7 { cases = rest_of m7.cases } ≡ added m (switched_parts a)
-    whole = λ i. record { code = m.code ++ switch_code a (q_is i); strings = m.strings ++ a.strings; values = m.values; targets = m.targets ++ a.targets (q_is i); cases = sym (add_cases-none m.cases) i }
+    whole = λ i. record { code = m.code ++ switch_code a.code a.cases (q_is i); strings = m.strings ++ a.strings; values = m.values; targets = m.targets ++ a.targets (q_is i); cases = sym (add_cases-none m.cases) i }
 
 pub switches : {names : Names} {body : Draft → Draft} {es : List Event} {room off : ℕ} {a : Parts} → Makes names body es room off a → Makes names (switched body) (SwitchBegins ∷ (es ++ SwitchEnds ∷ [])) (suc room) off (switched_parts a)
 switches {names = names} {body = body} {es = es} {room = room} {off = off} {a = a} x = record {
