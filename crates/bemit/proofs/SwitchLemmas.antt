@@ -1,5 +1,5 @@
 -- The cases of the switches around a place.
-use Rattle.std.proofs.Common.{◌≡◌, ℕ, suc, ◌+◌, ◌<◌, ◌≤◌, true, false, List, [], ◌∷◌, ◌++◌, length, take, drop, reverse, Ok, Err, refl, ap, ◌∙◌, arith, lt-ltb, le-ltb}
+use Rattle.std.proofs.Common.{◌≡◌, ℕ, suc, ◌+◌, ◌<◌, ◌≤◌, true, false, List, [], ◌∷◌, ◌++◌, length, take, reverse, Ok, Err, refl, ap, ◌∙◌, arith, lt-ltb, le-ltb}
 use Rattle.std.proofs.lemmas.List.{length-reverse, take-append-le, drop-append-le}
 use Rattle.bemit.specs.Drafts.{innermost}
 use Rattle.bemit.specs.Switches.{split, IsNested, has_value, added_to}

@@ -1,12 +1,11 @@
 -- The switches around a place, and their cases.
-use Rattle.std.specs.Prelude.{◌≡◌, ℕ, ◌+◌, ◌≤◌, List, [], ◌∷◌, ◌++◌, length, take, drop, reverse, Bool, nat_eq, nat_lt, Result, Ok, Err, if◌then◌else◌}
+use Rattle.std.specs.Prelude.{ℕ, ◌+◌, ◌≤◌, List, [], ◌∷◌, ◌++◌, length, take, drop, reverse, Bool, nat_eq, nat_lt, Result, Ok, Err, if◌then◌else◌}
 use Rattle.std.specs.List.{list_any}
 use Rattle.btree.specs.Scan.{rest_of, most_cases}
 use Rattle.blex.specs.declared.token.Letters.TheVariants as letters
 use Rattle.blex.specs.declared.diagnostic.Diagnostic.{Diagnostic}
 use Rattle.btree.specs.Scope.{fault}
 use Rattle.btree.specs.Scan.{case_fault}
-use Rattle.bemit.specs.Drafts.{most_switches}
 use Rattle.bemit.specs.declared.parts.CaseFault.{CaseFault}
 use Rattle.bemit.specs.declared.parts.CaseFault.TheVariants.{OutsideSwitch, Redeclared, TooManyCases}
 

@@ -1,11 +1,11 @@
 -- A draft from its parts in memory.
-use Rattle.std.specs.Prelude.{◌≡◌, ℕ, ◌+◌, ◌*◌, ◌<◌, ◌≤◌, List, [], ◌∷◌, length, map, min, Bool, true, false, Option, Some, None}
+use Rattle.std.specs.Prelude.{◌≡◌, ℕ, ◌*◌, ◌<◌, ◌≤◌, List, [], ◌∷◌, length, map, min, Bool, true, false, Option, Some, None}
 use Rattle.blex.specs.declared.diagnostic.Diagnostic.{Diagnostic}
 use Rattle.bcode.specs.declared.instr.Instr.{Instr}
 use Rattle.bcode.specs.declared.instr.Instr.TheVariants as instr
 use Rattle.bcode.specs.declared.instr.Ival.{Ival}
 use Rattle.btree.specs.Expression.{Word}
-use Rattle.btree.specs.Scope.{Entry, Kind, Automatic, External, Unlabelled, Labelled}
+use Rattle.btree.specs.Scope.{Entry, Kind, Automatic}
 use Rattle.btree.specs.Scan.{Scope, Declaration}
 use Rattle.bemit.specs.Drafts.{Made, Draft, Faulty, Going, stepped, worded, frame_of}
 use Rattle.bemit.specs.Buffers.{Buffer}

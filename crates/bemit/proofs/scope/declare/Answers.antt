@@ -1,4 +1,4 @@
-use Rattle.std.proofs.Common.{◌≡◌, None, arith, sym, ◌∙◌, refl}
+use Rattle.std.proofs.Common.{◌≡◌, None, sym, ◌∙◌}
 use Rattle.bemit.specs.Tables.{index_of, kind_declared}
 use Rattle.bemit.proofs.TableLemmas.{declared-new, declared-full, declared-there, not_some}
 use Rattle.bemit.proofs.scope.declare.Goals as goal

@@ -1,4 +1,4 @@
-use Rattle.std.proofs.Common.{◌≡◌, None, Some, Bool, true, false, arith, sym, ◌∙◌, refl, ap}
+use Rattle.std.proofs.Common.{◌≡◌, None, Some, true, false, sym, ◌∙◌, ap}
 use Rattle.bemit.specs.Tables.{index_of, is_unlabelled}
 use Rattle.bemit.proofs.TableLemmas.{labelled-new, labelled-full, labelled-taken, labelled-there, count_by-slice_set}
 use Rattle.bemit.proofs.scope.label.Goals as goal

@@ -1,4 +1,4 @@
-use Rattle.std.proofs.Common.{◌≡◌, None, Some, arith, sym, ◌∙◌, refl}
+use Rattle.std.proofs.Common.{◌≡◌, None, sym, ◌∙◌}
 use Rattle.bemit.specs.Tables.{index_of}
 use Rattle.btree.specs.Scope.{kind_mentioned}
 use Rattle.bemit.proofs.TableLemmas.{binding_of-push, binding_of-there, mentioned-new, mentioned-full, mentioned-old}

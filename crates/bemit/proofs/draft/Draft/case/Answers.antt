@@ -1,5 +1,4 @@
-use Rattle.std.proofs.Common.{◌≡◌, None, not, ap, ◌∙◌, length}
-use Rattle.bemit.specs.Drafts.{selected}
+use Rattle.std.proofs.Common.{◌≡◌, None, not, ap, ◌∙◌}
 use Rattle.bemit.proofs.DraftLemmas.{no_fault, case-refused, case-taken}
 use Rattle.bemit.proofs.draft.Draft.case.Goals as goal
 

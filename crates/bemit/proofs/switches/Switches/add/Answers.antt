@@ -1,7 +1,7 @@
-use Rattle.std.proofs.Common.{rules, ◌≡◌, ◌<◌, ◌≤◌, length, reverse, true, false, arith, sym, ap, ◌∙◌}
+use Rattle.std.proofs.Common.{◌≡◌, ◌<◌, ◌≤◌, length, reverse, false, arith, sym, ap, ◌∙◌}
 use Rattle.std.proofs.lemmas.List.{length-reverse}
 use Rattle.bemit.specs.Drafts.{innermost}
-use Rattle.bemit.specs.Switches.{has_value, split, added}
+use Rattle.bemit.specs.Switches.{has_value, split}
 use Rattle.bemit.proofs.SwitchLemmas.{added-full, added-new, IsNested-more}
 use Rattle.bemit.proofs.switches.Switches.add.Goals as goal
 

@@ -1,4 +1,4 @@
-use Rattle.std.proofs.Common.{rules, ◌≡◌, ◌<◌, ◌≤◌, length, arith, sym, ap, ◌∙◌, lt-ltb, le-ltb}
+use Rattle.std.proofs.Common.{◌≡◌, ◌<◌, ◌≤◌, length, arith, sym, ap, ◌∙◌, lt-ltb, le-ltb}
 use Rattle.bemit.proofs.SwitchLemmas.{length-split-reverse}
 use Rattle.bemit.proofs.switches.Switches.begin.Goals as goal
 
