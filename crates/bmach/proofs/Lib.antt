@@ -14,3 +14,4 @@ pub mod Turning
 pub mod Digits
 pub mod Running
 pub mod Copying
+pub mod Told
