@@ -22,13 +22,13 @@ nil_both : (xs ys : List ℕ) → xs ≡ [] → ys ≡ [] → xs ++ ys ≡ []
 nil_both xs ys h k = rw (h, k) refl
 
 -- what can follow behind can follow before
-CanFollow-append : {a b c : Source} {xs ys : List ℕ} → Reads a xs b → Reads b ys c → (more : List ℕ) → CanFollow c.end more → CanFollow b.end (ys ++ more)
+pub CanFollow-append : {a b c : Source} {xs ys : List ℕ} → Reads a xs b → Reads b ys c → (more : List ℕ) → CanFollow c.end more → CanFollow b.end (ys ++ more)
 CanFollow-append {a} {b} {c} {xs} {ys} h k more f = λ over. let o = k.took.over over in nil_both ys more o.0 (f o.1)
 
-Reads-none : (s : Source) → length s.ahead ≤ 2 → Reads s [] s
+pub Reads-none : (s : Source) → length s.ahead ≤ 2 → Reads s [] s
 Reads-none s n = record { took = Took-none s.end; lender = refl; near = n }
 
-Reads-append : {a b c : Source} {xs ys : List ℕ} → Reads a xs b → Reads b ys c → Reads a (xs ++ ys) c
+pub Reads-append : {a b c : Source} {xs ys : List ℕ} → Reads a xs b → Reads b ys c → Reads a (xs ++ ys) c
 Reads-append h k = record { took = Took-append h.took k.took; lender = k.lender ∙ h.lender; near = k.near }
 
 -- one move behind another
@@ -96,7 +96,7 @@ module _ (old new : Lexer) (at : Placed) (gives : LexGives old (Ok at) new) (nea
   looks_next : Looks (tokens_at old []) (tokens_at new (at ∷ []))
   looks_next = record {
     moves = record { taken = passes.passes.taken; reads = reads; failures = passes.passes.failures; falls = let l = lighter in omega arith; come = comes };
-    loaded = record { current = at; behind = []; ahead = refl; ready = ready };
+    loaded = record { current = at; behind = []; ahead = refl; ready = ready; near = near };
     alone = refl;
     keeps = tt;
   }
@@ -104,7 +104,7 @@ module _ (old new : Lexer) (at : Placed) (gives : LexGives old (Ok at) new) (nea
   looks_on : (p : Placed) → LooksOn (tokens_at old (p ∷ [])) (tokens_at new (p ∷ at ∷ []))
   looks_on p = record {
     moves = record { taken = passes.passes.taken; reads = reads; failures = passes.passes.failures; falls = let l = lighter in omega arith; come = λ more f. ap (token_first p.token p.line) (comes more f) };
-    loaded = record { current = p; behind = at ∷ []; ahead = refl; ready = λ e. ready };
+    loaded = record { current = p; behind = at ∷ []; ahead = refl; ready = λ e. ready; near = near };
     first_is = refl;
     line_is = refl;
     second = at;
@@ -146,8 +146,8 @@ module _ (old : Tokens) (lexer : Lexer) (current behind : Option Placed) (view :
 
   loaded_at : (o b : Option Placed) → is_some o ≡ true → IsReadyWith (both o b) lexer.progress → IsLoaded (tokens_at lexer (both o b))
   loaded_at None b e r = cc
-  loaded_at (Some p) None e r = record { current = p; behind = []; ahead = refl; ready = r }
-  loaded_at (Some p) (Some q) e r = record { current = p; behind = q ∷ []; ahead = refl; ready = r }
+  loaded_at (Some p) None e r = record { current = p; behind = []; ahead = refl; ready = r; near = near }
+  loaded_at (Some p) (Some q) e r = record { current = p; behind = q ∷ []; ahead = refl; ready = r; near = near }
 
   pub looked_already : IsReady old → is_some current ≡ true → Looks old old
   looked_already ready some = subst (λ o. Looks o o) view (record {

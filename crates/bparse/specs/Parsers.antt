@@ -81,6 +81,11 @@ abbrev pub Enters : ℕ → Tokens → Result ℕ Halt → Tokens → Type 0
 Enters room old (Ok left) new = (room ≡ left + 1) × Advances old new
 Enters room old (Err halt) new = Halts (inner room).enter old halt new
 
+-- the current token was taken, and this answered
+abbrev pub Takes : Tokens → Form → Result Form Halt → Tokens → Type 0
+Takes old given (Ok found) new = Advances old new × (found ≡ given)
+Takes old given (Err why) new = (why ≡ halt.Device) × Breaks old new
+
 abbrev pub prefix_meant : Prefix → tree.PrefixOp
 prefix_meant prefixes.Negate = tree.Negate
 prefix_meant prefixes.Not = tree.Not

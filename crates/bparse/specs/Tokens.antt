@@ -57,6 +57,7 @@ pub record IsLoaded (t : Tokens) : Type 0 where
   pub behind : List Placed
   pub ahead : t.ahead ≡ current ∷ behind
   pub ready : IsReady t
+  pub near : length t.source.ahead ≤ 2
 
 -- No other is ahead.
 abbrev pub IsSingle : Tokens → Type 0

@@ -1,5 +1,5 @@
 //! Reading an expression and compiling it at once.
-ghost use Rattle.std.specs.Prelude.{◌≡◌, ◌+◌, ◌≤◌, false, ℕ, Some, OnOk, IfOk, IfErr};
+ghost use Rattle.std.specs.Prelude.{◌≡◌, ◌+◌, ◌≤◌, false, ℕ, Some, OnOk};
 ghost use Rattle.blex.specs.Lexers.{is_last};
 ghost use Rattle.btree.specs.Reading.{first, line_of};
 ghost use Rattle.btree.specs.Expression.{or_rank};
@@ -10,10 +10,10 @@ ghost use Rattle.bcode.specs.declared.instr.Instr.TheVariants as instr;
 ghost use Rattle.bemit.specs.Drafts.{emitted, checked};
 ghost use Rattle.bemit.specs.Effects.{loads, prefixed};
 ghost use Rattle.bparse.specs.Marks.{is_mark};
-ghost use Rattle.bparse.specs.Tokens.{IsLoaded, IsSingle, Advances, Breaks, work};
+ghost use Rattle.bparse.specs.Tokens.{IsLoaded, IsSingle, work};
 ghost use Rattle.bemit.specs.declared.form.Form.TheVariants.{Lone};
-ghost use Rattle.bparse.specs.declared.halt.Halt.TheVariants.{Device};
-ghost use Rattle.bparse.specs.Parsers.{called_at, prefix_meant, prefix_form, suffix_meant, assigned_at, Follows, Continues, Evaluates, Passes, Expects, Enters};
+ghost use Rattle.blex.specs.declared.token.Token.TheVariants as token;
+ghost use Rattle.bparse.specs.Parsers.{called_at, prefix_meant, prefix_form, suffix_meant, assigned_at, Follows, Continues, Evaluates, Passes, Expects, Enters, Takes};
 
 use crate::halt::Halt;
 use crate::mark::Mark;
@@ -22,7 +22,7 @@ use crate::tokens::Tokens;
 use bcode::{Increment, Instr};
 use bemit::{Draft, Form};
 use blex::Token;
-use bword::{BinOp, ByteIn};
+use bword::{BinOp, ByteIn, Name};
 
 // How loosely the loosest binary operator binds.
 const LOOSEST: u8 = 7;
@@ -123,48 +123,69 @@ impl<I: ByteIn> Parser<I> {
         Ok(room - 1)
     }
 
+    // Takes the current token, behind which this stands.
+    fn take(&mut self, form: Form) -> Result<Form, Halt>
+        requires loaded { IsLoaded self.old.tokens }
+        requires goes_on { is_last (first self.old.tokens.ahead) ≡ false }
+        ensures tokens { Takes self.old.tokens form result self.new.tokens }
+        ensures draft { self.new.draft ≡ self.old.draft }
+    {
+        self.tokens.advance()?;
+        Ok(form)
+    }
+
+    // A name.
+    fn mention(&mut self, name: Name) -> Result<Form, Halt>
+        requires loaded { IsLoaded self.old.tokens }
+        requires here { first self.old.tokens.ahead ≡ token.Name name }
+        ensures { (room : ℕ) → Follows (primary (inner room)) (called_at self.new.tokens) self.old.tokens self.old.draft result self.new.tokens self.new.draft }
+    {
+        let line = self.tokens.line();
+        self.tokens.look_on()?;
+        let called = self.tokens.is_behind(Mark::OpenParen);
+        let form = self.draft.name(name, called, line);
+        self.tokens.advance()?;
+        Ok(form)
+    }
+
     // A name, a constant or a string.
     fn atom(&mut self) -> Result<Form, Halt>
         requires loaded { IsLoaded self.old.tokens }
         requires no_group { is_open_paren (first self.old.tokens.ahead) ≡ false }
         ensures { (room : ℕ) → Follows (primary (inner room)) (called_at self.new.tokens) self.old.tokens self.old.draft result self.new.tokens self.new.draft }
     {
-        let line = self.tokens.line();
-        let form = match self.tokens.token() {
+        match self.tokens.token() {
             Token::Name(name) => {
                 let name = *name;
-                self.tokens.look_on()?;
-                let called = self.tokens.is_behind(Mark::OpenParen);
-                self.draft.name(name, called, line)
+                self.mention(name)
             }
-            Token::Number(word) | Token::Character(word) => {
+            Token::Number(word) => {
                 self.draft.emit(Instr::Constant(*word));
-                Form::Lone
+                self.take(Form::Lone)
+            }
+            Token::Character(word) => {
+                self.draft.emit(Instr::Constant(*word));
+                self.take(Form::Lone)
             }
             Token::String(bytes) => {
                 let offset = self.draft.string(bytes);
                 self.draft.emit(Instr::Text(offset));
-                Form::Lone
+                self.take(Form::Lone)
             }
-            _ => return Err(Halt::Fault),
-        };
-        self.tokens.advance()?;
-        Ok(form)
+            _ => Err(Halt::Fault),
+        }
     }
 
     // `++` or `--` behind its operand.
     fn step(&mut self, increment: Increment, form: Form) -> Result<Form, Halt>
         requires loaded { IsLoaded self.old.tokens }
         requires goes_on { is_last (first self.old.tokens.ahead) ≡ false }
-        ensures ok { OnOk result (Advances self.old.tokens self.new.tokens) }
-        ensures draft { OnOk result (self.new.draft ≡ emitted (instr.Increment increment) (checked form (line_of self.old.tokens.ahead) self.old.draft)) }
-        ensures form { IfOk result (λ found. found ≡ Lone) }
-        ensures err { IfErr result (λ halt. (halt ≡ Device) × Breaks self.old.tokens self.new.tokens) }
+        ensures tokens { Takes self.old.tokens Lone result self.new.tokens }
+        ensures draft { self.new.draft ≡ emitted (instr.Increment increment) (checked form (line_of self.old.tokens.ahead) self.old.draft) }
     {
         self.draft.want_lvalue(form, self.tokens.line());
         self.draft.emit(Instr::Increment(increment));
-        self.tokens.advance()?;
-        Ok(Form::Lone)
+        self.take(Form::Lone)
     }
 
     // An atom, or an expression in parentheses.
