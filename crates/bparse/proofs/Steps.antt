@@ -88,12 +88,15 @@ called_on {a} {m} {b} on ad =
 pub name_took : (a m b : Tokens) (before draft : Draft) (name : List ℕ) (line : ℕ) (called : Bool) (found : Form) → first a.ahead ≡ token.Name name → line ≡ line_of a.ahead → LooksOn a m → called ≡ is_open_paren (first (after m.ahead)) → Advances m b
     → draft ≡ named called (record { text = name; line = line }) before → found ≡ name_form name draft
     → (room : ℕ) → ((offset : ℕ) → Took (primary (inner room) offset) before (called_at b) a b draft found) × IsSingle b
-name_took a m b before draft name line called found h n on c ad d f room = ((λ off. record {
-  tree = Named (record { text = name; line = line });
-  runs = run_then (run_same (primary (inner room) off) on.moves) (run_past ad (λ u e k. name_read room off u name line (e ∙ on.first_is ∙ h) (k ∙ on.line_is ∙ sym n)));
-  made = d ∙ ap (λ x. named x (record { text = name; line = line }) before) (c ∙ sym (called_on on ad));
-  form_is = f;
-}), ad.single)
+name_took a m b before draft name line called found h n on c ad d f room = (
+  (λ off. record {
+    tree = Named (record { text = name; line = line });
+    runs = run_then (run_same (primary (inner room) off) on.moves) (run_past ad (λ u e k. name_read room off u name line (e ∙ on.first_is ∙ h) (k ∙ on.line_is ∙ sym n)));
+    made = d ∙ ap (λ x. named x (record { text = name; line = line }) before) (c ∙ sym (called_on on ad));
+    form_is = f;
+  }),
+  ad.single,
+)
 
 pub name_stops : (a m b : Tokens) (why : Halt) → LooksOn a m → Breaks m b → why ≡ halt.Device → (room offset : ℕ) → Halts (primary (inner room) offset) a why b
 name_stops a m b why on br e room off = halt_device (primary (inner room) off) why e (Moves-breaks on.moves br)
@@ -133,12 +136,15 @@ module _ (room k : ℕ) (a b : Tokens) (enters : (room ≡ k + 1) × Advances a 
       group_open d why h off = halt_behind (expect is_close_paren) (λ o. Got (Grouped (t off).tree)) why d (closing_runs off) h
 
       pub group_took : (d : Tokens) (behind : Draft) (given : Form) → mid ≡ start → Runs c d (expect is_close_paren) (λ v. Got tt v) × IsSingle d → behind ≡ draft → given ≡ drafts.grouped found → ((off : ℕ) → Took (primary (inner room) off) start (called_at d) a d behind given) × IsSingle d
-      group_took d behind given es x eb g = ((λ off. record {
-        tree = Grouped (t off).tree;
-        runs = run_then (closing_runs off) (run_bind (λ o. Got (Grouped (t off).tree)) x.0);
-        made = eb ∙ (t off).made ∙ ap (held false (t off).tree) es;
-        form_is = g ∙ ap drafts.grouped ((t off).form_is ∙ ap (form (t off).tree) (sym eb));
-      }), x.1)
+      group_took d behind given es x eb g = (
+        (λ off. record {
+          tree = Grouped (t off).tree;
+          runs = run_then (closing_runs off) (run_bind (λ o. Got (Grouped (t off).tree)) x.0);
+          made = eb ∙ (t off).made ∙ ap (held false (t off).tree) es;
+          form_is = g ∙ ap drafts.grouped ((t off).form_is ∙ ap (form (t off).tree) (sym eb));
+        }),
+        x.1,
+      )
 
 -- what goes on behind a postfix expression
 suffix_many : (room off : ℕ) (b : reading.Suffix) (e : Expr) (u : List Placed) → suffix (first u) ≡ Some b → suffixes room off e u ≡ (postfix_with (inner room) off b e u >>= suffixes room off)
@@ -156,12 +162,15 @@ no_call _ h = refl
 
 module _ (room : ℕ) (a m : Tokens) (start draft : Draft) (found : Form) (s : InPostfix room a start m draft found) where
   pub postfix_ends : suffix (first m.ahead) ≡ None → ((off : ℕ) → Took (postfix (inner room) off) start false a m draft found) × IsSingle m
-  postfix_ends h = ((λ off. let t = s.so_far off in record {
-    tree = t.tree;
-    runs = run_then t.runs (run_here s.single.0 (λ u f n. many_none (always suffix) (postfix_with (inner room) off) t.tree u (ap suffix f ∙ h)));
-    made = t.made ∙ ap (λ c. held c t.tree start) (no_call (first m.ahead) h);
-    form_is = t.form_is;
-  }), s.single)
+  postfix_ends h = (
+    (λ off. let t = s.so_far off in record {
+      tree = t.tree;
+      runs = run_then t.runs (run_here s.single.0 (λ u f n. many_none (always suffix) (postfix_with (inner room) off) t.tree u (ap suffix f ∙ h)));
+      made = t.made ∙ ap (λ c. held c t.tree start) (no_call (first m.ahead) h);
+      form_is = t.form_is;
+    }),
+    s.single,
+  )
 
   module _ (b : reading.Suffix) (h : suffix (first m.ahead) ≡ Some b) where
     turn_runs : (off : ℕ) → Runs a m (postfix (inner room) off) (λ v. postfix_with (inner room) off b (s.so_far off).tree v >>= suffixes room off)
@@ -194,14 +203,17 @@ module _ (room k : ℕ) (a b : Tokens) (enters : (room ≡ k + 1) × Advances a 
 
     pub index_took : (d : Tokens) (before loads_ before_emit behind : Draft) (given : Form) → called_at a ≡ false → loads_ ≡ loads given before → mid ≡ loads_ → Runs c d (expect is_close_bracket) (λ v. Got tt v) × IsSingle d → before_emit ≡ draft → behind ≡ emitted (instr.Binary op.Add) before_emit
         → ((off : ℕ) (e : Expr) (start : Draft) → before ≡ held (called_at a) e start → given ≡ form e before → Took (postfix_with (inner room) off Index e) start (called_at d) a d behind Place) × IsSingle d
-    index_took d before loads_ before_emit behind given nc l em x eb eo = ((λ off e start h f. record {
-      tree = Indexed e (t (off + words e)).tree;
-      runs = run_then (bracket_runs off e) (run_bind (λ o. Got (Indexed e (t (off + words e)).tree)) x.0);
-      made = eo ∙ ap (emitted (instr.Binary op.Add)) (eb ∙ (t (off + words e)).made ∙ ap (evaluated (t (off + words e)).tree) (em ∙ word_is before loads_ start given false e l (h ∙ ap (λ y. held y e start) nc) f));
-      form_is = refl;
-    }), x.1)
+    index_took d before loads_ before_emit behind given nc l em x eb eo = (
+      (λ off e start h f. record {
+        tree = Indexed e (t (off + words e)).tree;
+        runs = run_then (bracket_runs off e) (run_bind (λ o. Got (Indexed e (t (off + words e)).tree)) x.0);
+        made = eo ∙ ap (emitted (instr.Binary op.Add)) (eb ∙ (t (off + words e)).made ∙ ap (evaluated (t (off + words e)).tree) (em ∙ word_is before loads_ start given false e l (h ∙ ap (λ y. held y e start) nc) f));
+        form_is = refl;
+      }),
+      x.1,
+    )
 
--- a call
+  -- a call
   call_runs : (off : ℕ) (e : Expr) → Runs a b (postfix_with (inner room) off Call e) (call (inner (k + 1)) off e)
   call_runs off e = run_past enters.1 (λ u f n. ap (λ i. postfix_with i off Call e u) (at_room room k enters.0) ∙ ap (λ i. call i off e (after u)) (sym (at_room (k + 1) k refl)))
 
@@ -210,12 +222,15 @@ module _ (room k : ℕ) (a b : Tokens) (enters : (room ≡ k + 1) × Advances a 
 
   pub call_took : (c : Tokens) (before loads_ mid draft behind : Draft) (given : Form) (count : ℕ) → called_at a ≡ true → loads_ ≡ loads given before → mid ≡ loads_ → ((off : ℕ) (e : Expr) → TookArguments (call (inner (k + 1)) off e) e mid b c draft count) × IsSingle c → behind ≡ emitted (instr.Call count) draft
       → ((off : ℕ) (e : Expr) (start : Draft) → before ≡ held (called_at a) e start → given ≡ form e before → Took (postfix_with (inner room) off Call e) start (called_at c) a c behind Lone) × IsSingle c
-  call_took c before loads_ mid draft behind given count yes_ l em t eo = ((λ off e start h f. let x = t.0 off e in record {
-    tree = Called e x.arguments;
-    runs = run_then (call_runs off e) x.runs;
-    made = eo ∙ ap (λ i. emitted (instr.Call i) draft) x.count_is ∙ ap (emitted (instr.Call (min (argument_count x.arguments) most_arguments))) (x.made ∙ ap (passed x.arguments) (em ∙ word_is before loads_ start given true e l (h ∙ ap (λ y. held y e start) yes_) f));
-    form_is = refl;
-  }), t.1)
+  call_took c before loads_ mid draft behind given count yes_ l em t eo = (
+    (λ off e start h f. let x = t.0 off e in record {
+      tree = Called e x.arguments;
+      runs = run_then (call_runs off e) x.runs;
+      made = eo ∙ ap (λ i. emitted (instr.Call i) draft) x.count_is ∙ ap (emitted (instr.Call (min (argument_count x.arguments) most_arguments))) (x.made ∙ ap (passed x.arguments) (em ∙ word_is before loads_ start given true e l (h ∙ ap (λ y. held y e start) yes_) f));
+      form_is = refl;
+    }),
+    t.1,
+  )
 
 pub index_called : (t : Token) → suffix t ≡ Some Index → is_open_paren t ≡ false
 index_called token.OpenParen h = cc
@@ -235,12 +250,15 @@ step_called _ p h = refl
 -- `++` or `--`
 step_took : (room : ℕ) (p : tree.PostfixOp) (a b : Tokens) (before behind : Draft) (given : Form) (r : Result Form Halt) → called_at a ≡ false → Takes a Lone r b → ((line : ℕ) → line ≡ line_of a.ahead → behind ≡ emitted (stepping p) (checked given line before))
     → Continues (λ off e. postfix_with (inner room) off (Step p) e) (called_at a) given (called_at b) a before r b behind
-step_took room p a b before behind given (Ok x) nc k m = ((λ off e start h f. record {
-  tree = Postfixed p (line_of a.ahead) e;
-  runs = run_past k.0 (λ u g n. ap (λ i. Got (Postfixed p i e) (after u)) n);
-  made = m (line_of a.ahead) refl ∙ ap (λ y. emitted (stepping p) (checked y (line_of a.ahead) before)) f ∙ ap (λ d. emitted (stepping p) (checked (form e d) (line_of a.ahead) d)) (h ∙ ap (λ y. held y e start) nc);
-  form_is = k.1;
-}), k.0.single)
+step_took room p a b before behind given (Ok x) nc k m = (
+  (λ off e start h f. record {
+    tree = Postfixed p (line_of a.ahead) e;
+    runs = run_past k.0 (λ u g n. ap (λ i. Got (Postfixed p i e) (after u)) n);
+    made = m (line_of a.ahead) refl ∙ ap (λ y. emitted (stepping p) (checked y (line_of a.ahead) before)) f ∙ ap (λ d. emitted (stepping p) (checked (form e d) (line_of a.ahead) d)) (h ∙ ap (λ y. held y e start) nc);
+    form_is = k.1;
+  }),
+  k.0.single,
+)
 step_took room p a b before behind given (Err why) nc k m = λ off e. halt_device (postfix_with (inner room) off (Step p) e) why k.0 k.1
 
 pub text_took : (a b : Tokens) (before mid put draft : Draft) (r : Result Form Halt) (s : ArrayVec ℕ) (bytes : List ℕ) (offset : ℕ) → Takes a Lone r b → draft ≡ put → first a.ahead ≡ token.String s → bytes ≡ s.items → mid ≡ stringed bytes before → offset ≡ offset_of before → put ≡ emitted (instr.Text offset) mid → (room : ℕ) → Follows (primary (inner room)) (called_at b) a before r b draft
@@ -273,12 +291,15 @@ module _ (room k : ℕ) (p : tree.PrefixOp) (a b : Tokens) (enters : (room ≡ k
 
   pub prefix_took : (c : Tokens) (start mid draft behind : Draft) (given found : Form) (line : ℕ) → mid ≡ start → ((off : ℕ) → Took (operand (inner k) off) mid false b c draft given) × IsSingle c → line ≡ line_of a.ahead → behind ≡ prefixed p line given draft → ((e : Expr) (l : ℕ) (d : Draft) → found ≡ form (Prefixed p l e) d)
       → ((off : ℕ) → Took (operand (inner room) off) start false a c behind found) × IsSingle c
-  prefix_took c start mid draft behind given found line es t n m f = ((λ off. let x = t.0 off in record {
-    tree = Prefixed p (line_of a.ahead) x.tree;
-    runs = run_then (prefix_runs off) (run_bind (λ e. Got (Prefixed p (line_of a.ahead) e)) x.runs);
-    made = m ∙ ap (λ i. prefixed p i given draft) n ∙ ap (λ y. prefixed p (line_of a.ahead) y draft) x.form_is ∙ ap (λ d. prefixed p (line_of a.ahead) (form x.tree d) d) (x.made ∙ ap (held false x.tree) es);
-    form_is = f x.tree (line_of a.ahead) behind;
-  }), t.1)
+  prefix_took c start mid draft behind given found line es t n m f = (
+    (λ off. let x = t.0 off in record {
+      tree = Prefixed p (line_of a.ahead) x.tree;
+      runs = run_then (prefix_runs off) (run_bind (λ e. Got (Prefixed p (line_of a.ahead) e)) x.runs);
+      made = m ∙ ap (λ i. prefixed p i given draft) n ∙ ap (λ y. prefixed p (line_of a.ahead) y draft) x.form_is ∙ ap (λ d. prefixed p (line_of a.ahead) (form x.tree d) d) (x.made ∙ ap (held false x.tree) es);
+      form_is = f x.tree (line_of a.ahead) behind;
+    }),
+    t.1,
+  )
 
 pub prefix_leaves : (p : Prefix) (found : Form) → found ≡ prefix_form p → (e : Expr) (l : ℕ) (d : Draft) → found ≡ form (Prefixed (prefix_meant p) l e) d
 prefix_leaves prefixes.Negate found h e l d = h
@@ -317,12 +338,15 @@ module _ (room rank j : ℕ) (h : rank ≡ suc j) (a m : Tokens) (start draft : 
   at_rank = subst (λ n. InChain room n a start m draft found) h s
 
   pub chain_ends : op_at rank (first m.ahead) ≡ None → ((off : ℕ) → Took (chain (inner room) rank off) start false a m draft found) × IsSingle m
-  chain_ends none = ((λ off. let t = at_rank.so_far off in subst (λ n. Took (chain (inner room) n off) start false a m draft found) (sym h) (record {
-    tree = t.tree;
-    runs = run_then t.runs (run_here s.single.0 (λ u f n. many_none (always (op_at (suc j))) (operation (chain (inner room) j) off) t.tree u (ap (op_at (suc j)) f ∙ ap (λ i. op_at i (first m.ahead)) (sym h) ∙ none)));
-    made = t.made;
-    form_is = t.form_is;
-  })), s.single)
+  chain_ends none = (
+    (λ off. let t = at_rank.so_far off in subst (λ n. Took (chain (inner room) n off) start false a m draft found) (sym h) (record {
+      tree = t.tree;
+      runs = run_then t.runs (run_here s.single.0 (λ u f n. many_none (always (op_at (suc j))) (operation (chain (inner room) j) off) t.tree u (ap (op_at (suc j)) f ∙ ap (λ i. op_at i (first m.ahead)) (sym h) ∙ none)));
+      made = t.made;
+      form_is = t.form_is;
+    })),
+    s.single,
+  )
 
   module _ (p : BinOp) (is : op_at rank (first m.ahead) ≡ Some p) (b : Tokens) (ad : Advances m b) where
     right : ℕ → Expr → ℕ
@@ -442,12 +466,15 @@ module _ (k : ℕ) (a m : Tokens) (start draft : Draft) (count : ℕ) (s : InArg
     end_stops c why h off e = halt_behind (expect is_close_paren) (λ o. Got (Called e (s.so_far off e).arguments)) why c (end_runs off e) h
 
     pub arguments_end : (c : Tokens) (behind : Draft) → Runs m c (expect is_close_paren) (λ v. Got tt v) × IsSingle c → behind ≡ draft → ((off : ℕ) (e : Expr) → TookArguments (call (inner (k + 1)) off e) e start a c behind count) × IsSingle c
-    arguments_end c behind x eb = ((λ off e. let y = s.so_far off e in record {
-      arguments = y.arguments;
-      runs = run_then (end_runs off e) (run_bind (λ o. Got (Called e y.arguments)) x.0);
-      made = eb ∙ y.made;
-      count_is = y.count_is;
-    }), x.1)
+    arguments_end c behind x eb = (
+      (λ off e. let y = s.so_far off e in record {
+        arguments = y.arguments;
+        runs = run_then (end_runs off e) (run_bind (λ o. Got (Called e y.arguments)) x.0);
+        made = eb ∙ y.made;
+        count_is = y.count_is;
+      }),
+      x.1,
+    )
 
 -- a conditional
 question_is : (t : Token) → is_question t ≡ true → is_last t ≡ false
@@ -494,22 +521,25 @@ module _ (room k : ℕ) (a b : Tokens) (enters : (room ≡ k + 1) × Advances a 
         rest_stops n why h off e = let i = off + words e + words (t (off + words e)).tree in
             halt_behind (conditional (inner k) i (y i).tree) (λ g. Got (Conditional e (t (off + words e)).tree g)) why n (rest_runs off e) (h i (y i).tree)
 
-        pub conditional_took : (n : Tokens) (before loads_ jumps colon jump filled_ draft3 loads3 behind : Draft) (given form3 : Form) (test end second last : ℕ)
+        pub conditional_took : (n : Tokens) (before loads_ jumps colon jump draft3 loads3 behind : Draft) (given form3 : Form) (test end second last : ℕ)
             → ((off : ℕ) (e : Expr) (start : Draft) → draft2 ≡ held false e start → form2 ≡ form e draft2 → Took (conditional (inner k) off e) start false m n draft3 form3) × IsSingle n
             → loads_ ≡ loads given before → jumps ≡ loads_ → test ≡ place_of jumps → start1 ≡ emitted (instr.JumpIfZero 0) jumps → colon ≡ draft1 → end ≡ place_of colon → jump ≡ emitted (instr.Jump 0) colon → second ≡ place_of jump
             → start2 ≡ filled test (instr.JumpIfZero second) jump → loads3 ≡ loads form3 draft3 → last ≡ place_of loads3 → behind ≡ filled end (instr.Jump last) loads3
             → ((off : ℕ) (e : Expr) (start : Draft) → before ≡ held false e start → given ≡ form e before → Took (conditional (inner room) off e) start false a n behind Joined) × IsSingle n
-        conditional_took n before loads_ jumps colon jump filled_ draft3 loads3 behind given form3 test end second last z l1 ej e1 e2 e3 e4 e5 e6 e7 l2 e8 e9 = ((λ off e start h f.
-          let i = off + words e + words (t (off + words e)).tree in
-          let w = t (off + words e) in
-          let g = z.0 i (y i).tree start2 (y i).made (y i).form_is in
-          record {
-            tree = Conditional e w.tree g.tree;
-            runs = run_then (rest_runs off e) (run_bind (λ g. Got (Conditional e w.tree g)) g.runs);
-            made = arms_made (evaluated w.tree) (evaluated g.tree) jumps start1 colon jump start2 loads3 behind test end second last e1 e2 (e3 ∙ w.made) e4 e5 e6 e7 (word_is draft3 loads3 start2 form3 false g.tree l2 g.made g.form_is) e8 e9
-                ∙ ap (arms (evaluated w.tree) (evaluated g.tree)) (ej ∙ word_is before loads_ start given false e l1 h f);
-            form_is = refl;
-          }), z.1)
+        conditional_took n before loads_ jumps colon jump draft3 loads3 behind given form3 test end second last z l1 ej e1 e2 e3 e4 e5 e6 e7 l2 e8 e9 = (
+          (λ off e start h f.
+              let i = off + words e + words (t (off + words e)).tree in
+              let w = t (off + words e) in
+              let g = z.0 i (y i).tree start2 (y i).made (y i).form_is in
+              record {
+                tree = Conditional e w.tree g.tree;
+                runs = run_then (rest_runs off e) (run_bind (λ g. Got (Conditional e w.tree g)) g.runs);
+                made = arms_made (evaluated w.tree) (evaluated g.tree) jumps start1 colon jump start2 loads3 behind test end second last e1 e2 (e3 ∙ w.made) e4 e5 e6 e7 (word_is draft3 loads3 start2 form3 false g.tree l2 g.made g.form_is) e8 e9
+                    ∙ ap (arms (evaluated w.tree) (evaluated g.tree)) (ej ∙ word_is before loads_ start given false e l1 h f);
+                form_is = refl;
+              }),
+          z.1,
+        )
           where
             arms_made : (first_ second_ : Draft → Draft) (d0 d1 d2 d3 d4 d5 d6 : Draft) (p q r s : ℕ) → p ≡ place_of d0 → d1 ≡ emitted (instr.JumpIfZero 0) d0 → d2 ≡ first_ d1 → q ≡ place_of d2 → d3 ≡ emitted (instr.Jump 0) d2 → r ≡ place_of d3
                 → d4 ≡ filled p (instr.JumpIfZero r) d3 → d5 ≡ second_ d4 → s ≡ place_of d5 → d6 ≡ filled q (instr.Jump s) d5 → d6 ≡ arms first_ second_ d0
@@ -594,9 +624,16 @@ module _ (room : ℕ) (a b : Tokens) (start draft : Draft) (found : Form) (t : (
       assign_stops d why h off = halt_behind (reader k Rvalue (off + words (t.0 off).tree)) (λ f. Got (Assigned p (line_of b.ahead) (t.0 off).tree f)) why d (value_runs off) (h (off + words (t.0 off).tree))
 
       pub assign_took : (d : Tokens) (wants mid last behind : Draft) (line : ℕ) → line ≡ line_of b.ahead → wants ≡ checked found line draft → mid ≡ wants → ((off : ℕ) → TookWord (reader k Rvalue off) mid c d last) × IsSingle d → behind ≡ emitted (assignment p) last → ((off : ℕ) → Took (reader room Rvalue off) start false a d behind Joined) × IsSingle d
-      assign_took d wants mid last behind line n m em v eo = ((λ off. let x = t.0 off in let w = v.0 (off + words x.tree) in record {
-        tree = Assigned p (line_of b.ahead) x.tree w.tree;
-        runs = run_then (value_runs off) (run_bind (λ f. Got (Assigned p (line_of b.ahead) x.tree f)) w.runs);
-        made = eo ∙ ap (emitted (assignment p)) (w.made ∙ ap (evaluated w.tree) (em ∙ m ∙ ap (λ i. checked found i draft) n ∙ ap (λ y. checked y (line_of b.ahead) draft) x.form_is ∙ ap (λ y. checked (form x.tree y) (line_of b.ahead) y) x.made));
-        form_is = refl;
-      }), v.1)
+      assign_took d wants mid last behind line n m em v eo = (
+        (λ off. let x = t.0 off in let w = v.0 (off + words x.tree) in record {
+          tree = Assigned p (line_of b.ahead) x.tree w.tree;
+          runs = run_then (value_runs off) (run_bind (λ f. Got (Assigned p (line_of b.ahead) x.tree f)) w.runs);
+          made = eo ∙ ap (emitted (assignment p)) (w.made ∙ ap (evaluated w.tree) (em ∙ m ∙ ap (λ i. checked found i draft) n ∙ ap (λ y. checked y (line_of b.ahead) draft) x.form_is ∙ ap (λ y. checked (form x.tree y) (line_of b.ahead) y) x.made));
+          form_is = refl;
+        }),
+        v.1,
+      )
+
+-- what goes on by a suffix that is known
+pub as_suffix : (room : ℕ) (s b : reading.Suffix) (given : Form) (a c : Tokens) (before behind : Draft) (r : Result Form Halt) → s ≡ b → Continues (λ off e. postfix_with (inner room) off b e) (called_at a) given (called_at c) a before r c behind → Continues (λ off e. postfix_with (inner room) off s e) (called_at a) given (called_at c) a before r c behind
+as_suffix room s b given a c before behind r e k = subst (λ x. Continues (λ off y. postfix_with (inner room) off x y) (called_at a) given (called_at c) a before r c behind) (sym e) k
