@@ -1,7 +1,5 @@
 -- How reading goes on: from reader to reader, or to a halt.
-use Rattle.std.proofs.Common.{◌≡◌, ℕ, ◌+◌, Bool, true, false, List, [], ◌∷◌, ◌++◌, length, Option, Some, None, Result, Ok, Err, IsErrAnd, refl, sym, ap, ◌∙◌, subst, arith, if◌then◌else◌}
-use Rattle.blex.specs.Tokens.{token_first}
-use Rattle.blex.specs.declared.token.Token.{Token}
+use Rattle.std.proofs.Common.{◌≡◌, ℕ, Bool, List, ◌∷◌, ◌++◌, Result, Ok, Err, IsErrAnd, refl, sym, ap, ◌∙◌, subst}
 use Rattle.blex.specs.declared.token.Placed.{Placed}
 use Rattle.btree.specs.Expression.{Expr}
 use Rattle.btree.specs.Reading.{Read, Reader, Got, Stop, ◌>>=◌, first, line_of, after}
@@ -9,8 +7,8 @@ use Rattle.bemit.specs.Drafts.{Draft}
 use Rattle.bemit.specs.declared.form.Form.{Form}
 use Rattle.bparse.specs.declared.halt.Halt.{Halt}
 use Rattle.bparse.specs.declared.halt.Halt.TheVariants as halt
-use Rattle.bparse.specs.Tokens.{Tokens, tokens_with, tokens_of, CanFollow, IsLoaded, IsSingle, Moves, Runs, Breaks, Same, Behind, Advances, LooksOn}
-use Rattle.bparse.specs.Parsers.{Halts, Follows, Continues, Evaluates, Passes, Expects, Enters, Takes}
+use Rattle.bparse.specs.Tokens.{Tokens, tokens_with, tokens_of, IsLoaded, Moves, Runs, Breaks, Same, Advances}
+use Rattle.bparse.specs.Parsers.{Halts, Follows, Continues, Evaluates, Passes}
 use Rattle.bparse.proofs.TokenSteps.{Moves-append, Moves-as, Moves-breaks, stays_same}
 
 first_with : (ahead : List Placed) (line : ℕ) (bytes : List ℕ) (p : Placed) (ps : List Placed) → ahead ≡ p ∷ ps → first (tokens_with ahead line bytes) ≡ first ahead

@@ -1,8 +1,7 @@
 -- Each step of the parser, as a fact about what it read and what it made.
-use Rattle.std.proofs.Common.{◌≡◌, ℕ, zero, suc, ◌+◌, ◌-◌, ◌<◌, ◌≤◌, List, [], ◌∷◌, length, Bool, true, false, Option, Some, None, Result, Ok, Err, IsErrAnd, min, refl, sym, ap, ◌∙◌, subst, arith, add-one, if◌then◌else◌}
+use Rattle.std.proofs.Common.{◌≡◌, ℕ, zero, suc, ◌+◌, ◌-◌, List, Bool, true, false, Option, Some, None, Result, Ok, Err, min, refl, sym, ap, ◌∙◌, subst, arith, add-one}
 use Rattle.bword.specs.declared.operators.BinOp.{BinOp}
 use Rattle.bword.specs.declared.operators.BinOp.TheVariants as op
-use Rattle.blex.specs.Lexers.{is_last}
 use Rattle.blex.specs.declared.token.Token.{Token}
 use Rattle.blex.specs.declared.token.Token.TheVariants as token
 use Rattle.blex.specs.declared.token.Placed.{Placed}
@@ -10,7 +9,7 @@ use Rattle.bcode.specs.declared.instr.Instr.TheVariants as instr
 use Rattle.bcode.specs.declared.instr.Increment.TheVariants as increment
 use Rattle.btree.specs.Expression as tree
 use Rattle.btree.specs.Expression.{Expr, Arguments, Number, Character, Named, Literal, Text, Grouped, Indexed, Called, Postfixed, Prefixed, Binary, Conditional, Assigned, No_arguments, Another, words, argument_words, or_rank, is_operand}
-use Rattle.btree.specs.Reading.{Read, Reader, Got, Stop, ◌>>=◌, first, line_of, after, expect, many}
+use Rattle.btree.specs.Reading.{Reader, Got, ◌>>=◌, first, line_of, after, expect, many}
 use Rattle.btree.specs.ExpressionReader as reading
 use Rattle.btree.specs.ExpressionReader.{is_close_paren, is_close_bracket, is_question, is_colon, op_at, suffix, Index, Call, Step, comma, always, prefix_op, Operand, Choice, Rvalue, Inner, primary, another, arguments, call, postfix_with, postfix, operand, operation, chain, choices, conditional, assigns, rvalue_from, inner, reader}
 use Rattle.btree.specs.StatementReader.{is_open_paren}
@@ -27,12 +26,12 @@ use Rattle.bparse.specs.declared.halt.Halt.{Halt}
 use Rattle.bparse.specs.declared.halt.Halt.TheVariants as halt
 use Rattle.arrayvec.specs.ArrayVec.{ArrayVec}
 use Rattle.bparse.specs.Marks.{is_comma}
-use Rattle.bparse.specs.Tokens.{Tokens, IsLoaded, IsSingle, Moves, Runs, Breaks, Same, Keeps, Advances, LooksOn, work}
+use Rattle.bparse.specs.Tokens.{Tokens, IsLoaded, IsSingle, Runs, Breaks, Keeps, Advances, LooksOn}
 use Rattle.bparse.specs.declared.operators.Prefix.{Prefix}
 use Rattle.bparse.specs.declared.operators.Prefix.TheVariants as prefixes
-use Rattle.bparse.specs.Parsers.{assigned_at, prefix_meant, prefix_form, called_at, Halts, Took, Follows, Continues, TookWord, Evaluates, TookArguments, Passes, Expects, Enters, Takes}
+use Rattle.bparse.specs.Parsers.{assigned_at, prefix_meant, prefix_form, called_at, Halts, Took, Follows, Continues, TookWord, TookArguments, Takes}
 use Rattle.bparse.proofs.TokenSteps.{Moves-breaks}
-use Rattle.bparse.proofs.Moving.{run_here, run_past, run_same, run_then, run_bind, halt_behind, halt_bind, bind_twice, halt_then, halt_here, halt_device, follows_err, continues_err, evaluates_err, passes_err}
+use Rattle.bparse.proofs.Moving.{run_here, run_past, run_same, run_then, run_bind, halt_behind, halt_bind, bind_twice, halt_then, halt_device}
 
 -- what a loop has read and made so far
 pub record SoFar (whole : Reader Expr) (more : Expr → Reader Expr) (start : Draft) (called : Bool) (old new : Tokens) (draft : Draft) (found : Form) : Type 0 where
@@ -349,9 +348,6 @@ module _ (room rank j : ℕ) (h : rank ≡ suc j) (a m : Tokens) (start draft : 
   )
 
   module _ (p : BinOp) (is : op_at rank (first m.ahead) ≡ Some p) (b : Tokens) (ad : Advances m b) where
-    right : ℕ → Expr → ℕ
-    right off e = off + words e
-
     operator_read : (off : ℕ) (e : Expr) (u : List Placed) → first u ≡ first m.ahead → line_of u ≡ line_of m.ahead → operators room (suc j) off e u ≡ (chain (inner room) j (off + words e) (after u) >>= λ f r. operators room (suc j) off (Binary p (line_of m.ahead) e f) r)
     operator_read off e u f n =
         operator_many room j off p e u (ap (op_at (suc j)) f ∙ ap (λ i. op_at i (first m.ahead)) (sym h) ∙ is)
@@ -394,9 +390,6 @@ none_read k off e u h = rw h refl
 
 some_read : (k off : ℕ) (e : Expr) (u : List Placed) → is_close_paren (first u) ≡ false → call (inner (suc k)) off e u ≡ (reader k Rvalue (off + words e) u >>= λ f. more_arguments k off e (Another No_arguments f))
 some_read k off e u h = rw h (bind_twice (reader k Rvalue (off + words e) u) (λ f. many (always comma) (another (inner (suc k)) (off + words e)) (Another No_arguments f)) (λ args r. expect is_close_paren r >>= λ o. Got (Called e args)))
-
-close_with : Expr → Arguments → Reader Expr
-close_with e args r = expect is_close_paren r >>= λ o. Got (Called e args)
 
 comma_read : (k off : ℕ) (e : Expr) (args : Arguments) (u : List Placed) → comma (first u) ≡ Some tt → more_arguments k off e args u ≡ (reader k Rvalue (off + words e + argument_words args) (after u) >>= λ f. more_arguments k off e (Another args f))
 comma_read k off e args u h =
@@ -477,10 +470,6 @@ module _ (k : ℕ) (a m : Tokens) (start draft : Draft) (count : ℕ) (s : InArg
     )
 
 -- a conditional
-question_is : (t : Token) → is_question t ≡ true → is_last t ≡ false
-question_is token.Question h = refl
-question_is _ h = cc
-
 choice_read : (room k off : ℕ) (e : Expr) (u : List Placed) → room ≡ k + 1 → is_question (first u) ≡ true → conditional (inner room) off e u ≡ (reader k Rvalue (off + words e) (after u) >>= λ f r. expect is_colon r >>= λ o r. reader k Choice (off + words e + words f) r >>= λ g. Got (Conditional e f g))
 choice_read room k off e u h q = ap (λ i. conditional i off e u) (at_room room k h) ∙ rw q refl
 
@@ -502,9 +491,6 @@ module _ (room k : ℕ) (a b : Tokens) (enters : (room ≡ k + 1) × Advances a 
     colon_stops d why h off e = halt_behind (expect is_colon) (λ o r. reader k Choice (off + words e + words (t (off + words e)).tree) r >>= λ g. Got (Conditional e (t (off + words e)).tree g)) why d (arm_runs off e) h
 
     module _ (d : Tokens) (x : Runs c d (expect is_colon) (λ v. Got tt v)) where
-      at : ℕ → Expr → ℕ
-      at off e = off + words e + words (t (off + words e)).tree
-
       colon_runs : (off : ℕ) (e : Expr) → Runs a d (conditional (inner room) off e) (λ v. (chain (inner k) or_rank (off + words e + words (t (off + words e)).tree) v >>= conditional (inner k) (off + words e + words (t (off + words e)).tree)) >>= λ g. Got (Conditional e (t (off + words e)).tree g))
       colon_runs off e = run_then (arm_runs off e) (run_bind (λ o r. reader k Choice (off + words e + words (t (off + words e)).tree) r >>= λ g. Got (Conditional e (t (off + words e)).tree g)) x)
 

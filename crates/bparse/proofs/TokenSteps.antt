@@ -1,7 +1,6 @@
 -- How takings of tokens compose.
-use Rattle.std.proofs.Common.{◌≡◌, ℕ, ◌+◌, ◌<◌, ◌≤◌, Bool, true, false, List, [], ◌∷◌, ◌++◌, length, Option, Some, None, Result, Ok, Err, refl, sym, ap, ◌∙◌, arith, append_assoc, append-nil, length-append, subst, if◌then◌else◌}
+use Rattle.std.proofs.Common.{◌≡◌, ℕ, ◌+◌, ◌<◌, ◌≤◌, Bool, true, false, List, [], ◌∷◌, ◌++◌, length, Option, Some, None, Ok, Err, refl, sym, ap, ◌∙◌, arith, append_assoc, length-append, subst, if◌then◌else◌}
 use Rattle.std.specs.Prelude.{is_some}
-use Rattle.bword.specs.ByteEnds.{Incoming, Grew}
 use Rattle.blex.specs.Sources.{Source, CanCome, room}
 use Rattle.blex.specs.Lexing.{PassesToken}
 use Rattle.blex.specs.Lexers.{Lexer, LexGives, GivesAt, OpenGives, is_last, progress_behind}
@@ -15,8 +14,8 @@ use Rattle.blex.specs.declared.token.Last.{Last}
 use Rattle.blex.specs.declared.token.Token.{Token}
 use Rattle.blex.specs.declared.token.Placed.{Placed}
 use Rattle.blex.proofs.Passing.{Took-none, Took-append, Grew-after}
-use Rattle.btree.specs.Reading.{Read, Reader, Got, Stop, first, line_of, after}
-use Rattle.bparse.specs.Tokens.{Tokens, both, tokens_of, tokens_with, CanFollow, IsReady, IsReadyWith, IsLoaded, weight, weights, work, Reads, Moves, Runs, Breaks, Same, Keeps, Looks, Behind, Advances, LooksOn}
+use Rattle.btree.specs.Reading.{first, after}
+use Rattle.bparse.specs.Tokens.{Tokens, both, tokens_of, tokens_with, CanFollow, IsReady, IsReadyWith, IsLoaded, weight, work, Reads, Moves, Breaks, Same, Keeps, Looks, Behind, Advances, LooksOn}
 
 nil_both : (xs ys : List ℕ) → xs ≡ [] → ys ≡ [] → xs ++ ys ≡ []
 nil_both xs ys h k = rw (h, k) refl

@@ -1,5 +1,5 @@
 -- The tokens of a source, of which some are ahead, and what taking them does.
-use Rattle.std.specs.Prelude.{◌≡◌, ℕ, ◌+◌, ◌≤◌, Bool, true, false, List, [], ◌∷◌, ◌++◌, length, Option, Some, None, if◌then◌else◌}
+use Rattle.std.specs.Prelude.{◌≡◌, ℕ, ◌+◌, ◌≤◌, true, false, List, [], ◌∷◌, ◌++◌, length, Option, Some, None, if◌then◌else◌}
 use Rattle.bword.specs.ByteEnds.{Incoming, Grew}
 use Rattle.blex.specs.Sources.{Source, Took, room}
 use Rattle.blex.specs.Lexers.{is_last}

@@ -1,4 +1,4 @@
-use Rattle.std.proofs.Common.{◌≡◌, ℕ, zero, suc, ◌+◌, ◌-◌, ◌<◌, ◌≤◌, true, false, Option, Some, None, Ok, Err, sym, ap, ◌∙◌, refl, arith}
+use Rattle.std.proofs.Common.{◌+◌, ◌-◌, ◌<◌, false, Some, Ok, sym, ap, ◌∙◌, refl, arith}
 use Rattle.btree.specs.Expression.{PostIncrement, PostDecrement, Literal, Number}
 use Rattle.btree.specs.ExpressionReader.{inner, primary, postfix, postfix_with, call, operand, chain, conditional, reader, Rvalue, Index, Call, Step, suffix, prefix_op, op_at}
 use Rattle.btree.specs.Reading.{first}

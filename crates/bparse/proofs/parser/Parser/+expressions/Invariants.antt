@@ -1,8 +1,5 @@
-use Rattle.std.proofs.Common.{◌≡◌, ℕ, ◌+◌, ◌*◌, min}
-use Rattle.btree.specs.Expression.{Expr}
-use Rattle.btree.specs.ExpressionReader.{inner, postfix, chain, call}
-use Rattle.bparse.specs.Tokens.{IsSingle, work}
-use Rattle.bparse.specs.Parsers.{called_at}
+use Rattle.std.proofs.Common.{◌+◌, ◌*◌}
+use Rattle.bparse.specs.Tokens.{work}
 use Rattle.bparse.proofs.Steps.{InPostfix, InChain, InArguments}
 use Rattle.bparse.proofs.parser.Parser.+expressions.Given as goal
 

@@ -1,5 +1,5 @@
 use Rattle.bparse.proofs.Steps.{number_took, character_took, text_took}
-use Rattle.std.proofs.Common.{refl, sym, ◌∙◌}
+use Rattle.std.proofs.Common.{sym, ◌∙◌}
 use Rattle.bparse.proofs.parser.Parser.atom.Goals as goal
 
 pub returns-in-Number : goal.returns-in-Number

@@ -1,4 +1,4 @@
-use Rattle.bparse.proofs.TokenSteps.{advance_ready, advanced, advance_breaks}
+use Rattle.bparse.proofs.TokenSteps.{advance_ready}
 use Rattle.bparse.proofs.tokens.Tokens.advance.Goals as goal
 
 pub look-requires : goal.look-requires

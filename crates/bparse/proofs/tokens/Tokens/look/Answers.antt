@@ -1,5 +1,4 @@
 use Rattle.bparse.proofs.TokenSteps.{look_breaks, looked, looked_already, none_is}
-use Rattle.std.proofs.Common.{sym, ◌∙◌}
 use Rattle.bparse.proofs.tokens.Tokens.look.Goals as goal
 
 pub returns-in_default-clause-err : goal.returns-in_default-clause-err
