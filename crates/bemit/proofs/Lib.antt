@@ -1,4 +1,4 @@
-pub mod BindingLemmas
 pub mod BufferLemmas
-pub mod FinishLemmas
-pub mod ScopeLemmas
+pub mod DraftLemmas
+pub mod SwitchLemmas
+pub mod TableLemmas

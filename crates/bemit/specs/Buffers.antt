@@ -1,33 +1,25 @@
 -- The code, the strings and the cases of one definition.
-use Rattle.std.specs.Prelude.{◌≡◌, ℕ, ◌+◌, ◌*◌, List, [], ◌∷◌, ◌++◌, length, Bool, ◌&&◌, ◌==◌, nat_lt, Some, Result, Ok, Err, unwrap_or, slice_get, slice_set, if◌then◌else◌}
+use Rattle.std.specs.Prelude.{◌≡◌, ℕ, ◌+◌, ◌*◌, List, [], ◌∷◌, ◌++◌, length, Bool, ◌&&◌, ◌==◌, nat_lt, Some, Result, Ok, Err, map, slice_get, slice_set, if◌then◌else◌}
 use Rattle.std.specs.List.{list_any}
 use Rattle.bcode.specs.declared.instr.Instr.{Instr}
 use Rattle.bcode.specs.declared.instr.Instr.TheVariants as instrs
 use Rattle.bemit.specs.declared.parts.Branch.{Branch}
 use Rattle.bemit.specs.declared.parts.Branch.TheVariants.{Jump, JumpIfZero}
 use Rattle.bemit.specs.declared.parts.Hole.{Hole}
-use Rattle.bemit.specs.declared.parts.PendingLabel.{PendingLabel}
 use Rattle.bemit.specs.declared.parts.Case.{Case}
 use Rattle.bemit.specs.declared.parts.CaseFault.{CaseFault}
 use Rattle.bemit.specs.declared.parts.CaseFault.TheVariants.{Redeclared, TooManyCases}
-use Rattle.bemit.specs.declared.names.Entry.{Entry}
-use Rattle.bemit.specs.Scopes.{label_number}
+use Rattle.btree.specs.Scope.{Entry}
+use Rattle.btree.specs.Code.{packed}
+use Rattle.bemit.specs.Drafts.{numbered}
 
 pub record Buffer : Type 0 where
   pub code : List Instr
   pub strings : List ℕ
   pub cases : List Case
-  -- the label instructions that have their entry in place of the number
-  pub labels : List PendingLabel
 
 abbrev pub no_code : Buffer
-no_code = record { code = []; strings = []; cases = []; labels = [] }
-
-abbrev pub most_instructions : ℕ
-most_instructions = 4096
-
-abbrev pub most_string_words : ℕ
-most_string_words = 1024
+no_code = record { code = []; strings = []; cases = [] }
 
 abbrev pub most_cases : ℕ
 most_cases = 256
@@ -52,20 +44,13 @@ IsOpen hole code = slice_get code hole.place ≡ Some (jump hole.branch 0)
 abbrev pub filled : Hole → ℕ → Buffer → Buffer
 filled hole target b = record b { code = slice_set b.code hole.place (jump hole.branch target) }
 
-abbrev pub with_label : ℕ → Buffer → Buffer
-with_label entry b = record b {
-  code = b.code ++ instrs.Label entry ∷ [];
-  labels = b.labels ++ record { place = length b.code; entry = entry } ∷ [];
-}
+-- each label instruction, whose operand is the entry of a name, with the number of that name's label
+abbrev pub with_numbers : List Entry → Buffer → Buffer
+with_numbers entries b = record b { code = map (numbered entries) b.code }
 
--- each label instruction with the number of its entry's label
-abbrev pub numbered : List Entry → List PendingLabel → List Instr → List Instr
-numbered entries [] code = code
-numbered entries (l ∷ ls) code =
-    numbered entries ls (slice_set code l.place (instrs.Label (unwrap_or (label_number entries l.entry) 0)))
-
-abbrev pub resolved : List Entry → Buffer → Buffer
-resolved entries b = record b { code = numbered entries b.labels b.code; labels = [] }
+-- the test for a case
+abbrev pub test : ℕ × ℕ → Instr
+test c = instrs.JumpIfCase c.0 c.1
 
 -- the byte that ends a string
 abbrev pub string_end : ℕ
@@ -73,12 +58,6 @@ string_end = 4
 
 abbrev pub word_of : ℕ → ℕ → ℕ
 word_of low high = low + 256 * high
-
--- The characters and the end stand two to a word, the even index in the low byte; an unused high byte is 0.
-abbrev pub packed : List ℕ → List ℕ
-packed [] = word_of string_end 0 ∷ []
-packed (last ∷ []) = word_of last string_end ∷ []
-packed (low ∷ high ∷ rest) = word_of low high ∷ packed rest
 
 abbrev pub with_text : List ℕ → Buffer → Buffer
 with_text text b = record b { strings = b.strings ++ packed text }

@@ -1,11 +1,13 @@
 //! The code of a definition.
-ghost use Rattle.std.specs.Prelude.{◌≡◌, ◌+◌, ◌*◌, ◌/◌, ◌<◌, ◌≤◌, ◌↔◌, ◌++◌, [], ◌∷◌, length, All, Ok, Err, IsOk, IsSome, OnOk, OnErr, IfOk, IfErr};
+ghost use Rattle.std.specs.Prelude.{◌≡◌, ◌+◌, ◌*◌, ◌/◌, ◌<◌, ◌≤◌, ◌↔◌, ◌++◌, [], ◌∷◌, length, map, slice_get, slice_set, Some, Ok, Err, IsOk, OnOk, OnErr, IfOk, IfErr};
 ghost use Rattle.arrayvec.specs.ArrayVec.{array_vec_len};
-ghost use Rattle.bemit.specs.Buffers.{no_code, most_instructions, most_string_words, most_cases, with_instr, jump, hole_at, IsOpen, filled, with_label, numbered, resolved, packed, word_of, with_text, has_case, with_case};
-ghost use Rattle.bemit.specs.Scopes.{label_number};
+ghost use Rattle.btree.specs.Code.{packed};
+ghost use Rattle.bcode.specs.declared.instr.Instr.TheVariants as instrs;
+ghost use Rattle.bemit.specs.Buffers.{no_code, most_cases, with_instr, jump, hole_at, IsOpen, filled, with_numbers, word_of, with_text, has_case, with_case};
+ghost use Rattle.bemit.specs.Drafts.{most_instructions, most_string_words, numbered};
 
 use crate::Scope;
-use crate::parts::{Branch, Case, CaseFault, Hole, PendingLabel, TooLarge};
+use crate::parts::{Branch, Case, CaseFault, Hole, TooLarge};
 use arrayvec::ArrayVec;
 use bcode::Instr;
 use std::marker::Model;
@@ -34,19 +36,14 @@ pub struct CodeBuffer {
     code: Code,
     strings: Strings,
     cases: ArrayVec<Case, MAX_CASES>,
-    labels: ArrayVec<PendingLabel, MAX_INSTRUCTIONS>,
 }
 
 impl Model for CodeBuffer {
-    ghost use Rattle.std.specs.Prelude.{◌<◌, ◌≤◌, length, All};
     ghost use Rattle.bemit.specs.Buffers.{Buffer};
 
     ghost Value = { Buffer };
 
-    ghost view = { λ b. record { code = b.code.items; strings = b.strings.items; cases = b.cases.items; labels = b.labels.items } };
-
-    ghost invariant = { λ b. (length b.labels.items ≤ length b.code.items)
-        × All (λ l. l.place < length b.code.items) b.labels.items };
+    ghost view = { λ b. record { code = b.code.items; strings = b.strings.items; cases = b.cases.items } };
 }
 
 impl CodeBuffer {
@@ -58,7 +55,6 @@ impl CodeBuffer {
             code: ArrayVec::new(),
             strings: ArrayVec::new(),
             cases: ArrayVec::new(),
-            labels: ArrayVec::new(),
         }
     }
 
@@ -69,7 +65,6 @@ impl CodeBuffer {
         self.code.clear();
         self.strings.clear();
         self.cases.clear();
-        self.labels.clear();
     }
 
     /// The place of the next instruction.
@@ -108,26 +103,29 @@ impl CodeBuffer {
         self.code[usize::from(hole.place)] = hole.branch.to(target);
     }
 
+    /// Puts another instruction at this place, if it has one.
+    pub(crate) fn set(&mut self, place: u16, instr: Instr)
+        ensures { self.new ≡ record self.old { code = slice_set self.old.code place instr } }
+    {
+        set(&mut self.code, usize::from(place), instr);
+    }
+
     /// Adds a label instruction whose number comes later, and answers its place. Until then it has in place of the
     /// number the entry of the label's name.
     pub fn emit_label(&mut self, entry: u16) -> Result<u16, TooLarge>
         ensures room { IsOk result ↔ (length self.old.code < most_instructions) }
         ensures place { IfOk result (λ place. place ≡ length self.old.code) }
-        ensures ok { OnOk result (self.new ≡ with_label entry self.old) }
+        ensures ok { OnOk result (self.new ≡ with_instr (instrs.Label entry) self.old) }
         ensures err { OnErr result (self.new ≡ self.old) }
     {
-        let place = push_instr(&mut self.code, Instr::Label(entry))?;
-        self.labels.push(PendingLabel { place, entry });
-        Ok(place)
+        self.emit(Instr::Label(entry))
     }
 
-    /// Gives each label instruction that waits for its number the one of its entry's label.
+    /// Gives each label instruction the number of its entry's label.
     pub fn resolve(&mut self, scope: &Scope)
-        requires { All (λ l. IsSome (label_number scope.now.entries l.entry)) self.old.labels }
-        ensures { self.new ≡ resolved scope.now.entries self.old }
+        ensures { self.new ≡ with_numbers scope.now.names self.old }
     {
-        number_labels(&mut self.code, self.labels.as_slice(), scope);
-        self.labels.clear();
+        number_labels(&mut self.code, scope);
     }
 
     /// Adds the words of a string and answers the offset of the first.
@@ -204,15 +202,37 @@ fn push_instr(code: &mut Code, instr: Instr) -> Result<u16, TooLarge>
     }
 }
 
-// Gives each of these label instructions its number.
-fn number_labels(code: &mut Code, labels: &[PendingLabel], scope: &Scope)
-    requires places { All (λ l. l.place < length code.old.items) labels.now }
-    requires numbers { All (λ l. IsSome (label_number scope.now.entries l.entry)) labels.now }
-    ensures { code.new.items ≡ numbered scope.now.entries labels.now code.old.items }
+fn set(code: &mut Code, place: usize, instr: Instr)
+    ensures { code.new.items ≡ slice_set code.old.items place instr }
 {
-    for label in labels {
-        let number = scope.label_number(label.entry).unwrap();
-        code[usize::from(label.place)] = Instr::Label(number);
+    if place < code.len() {
+        code[place] = instr;
+    }
+}
+
+fn instr_at(code: &Code, place: usize) -> Instr
+    requires { place < array_vec_len code.now }
+    ensures { slice_get code.now.items place ≡ Some result }
+{
+    code[place]
+}
+
+// Gives each label instruction the number of its entry's label.
+fn number_labels(code: &mut Code, scope: &Scope)
+    ensures { code.new.items ≡ map (numbered scope.now.names) code.old.items }
+{
+    for place in 0..code.len() {
+        let instr = numbered(instr_at(code, place), scope);
+        set(code, place, instr);
+    }
+}
+
+fn numbered(instr: Instr, scope: &Scope) -> Instr
+    ensures { result ≡ numbered scope.now.names instr }
+{
+    match instr {
+        Instr::Label(entry) => Instr::Label(scope.label_number(entry)),
+        instr => instr,
     }
 }
 

@@ -1,15 +1,18 @@
 //! What one pass makes of a definition, step by step.
-ghost use Rattle.std.specs.Prelude.{◌≡◌, ◌≤◌, length};
-ghost use Rattle.bemit.specs.Drafts.{most_instructions, most_string_words, most_values, most_words, fresh, failed, emitted, place_of, filled, offset_of, stringed, valued, worded, named, name_form, checked, declared, imported, labelled, selected, begun, ended, case_count, tested, resolved, fault_in};
-ghost use Rattle.bemit.specs.Views.{word, IfMade};
+ghost use Rattle.std.specs.Prelude.{◌≡◌, ◌+◌, ◌<◌, ◌≤◌, ◌++◌, length, map, OnOk, OnErr, Some, IfSome, IfNone};
+ghost use Rattle.btree.specs.Scan.{Mention, words_of};
+ghost use Rattle.bemit.specs.Buffers.{test};
+ghost use Rattle.bemit.specs.Drafts.{most_instructions, most_string_words, most_values, most_words, fresh, failed, emitted, place_of, filled, offset_of, stringed, valued, worded, named, name_form, checked, declared, imported, labelled, selected, begun, ended, case_count, tested, resolved, fault_in, stepped, names_of};
+ghost use Rattle.bemit.specs.Tables.{word, binding_of};
+ghost use Rattle.bemit.specs.Views.{IfMade, IsWithin, IsFaulty, entered_automatic, bound_address, bound_form};
 
-use crate::names::{Binding, DeclareFault, Declared};
-use crate::parts::CaseFault;
+use crate::faults::{case_refusal, fault, name_fault, refusal};
+use crate::names::{Binding, Declared};
 use crate::switches::{Arm, Switches};
-use crate::{CodeBuffer, Form, Scope};
+use crate::{CodeBuffer, Form, Scope, TooLarge};
 use arrayvec::ArrayVec;
 use bcode::{Instr, Ival};
-use blex::{About, Diagnostic, Letters};
+use blex::{Diagnostic, Letters};
 use bword::Name;
 use std::marker::Model;
 
@@ -43,9 +46,9 @@ impl Model for Draft {
 
     ghost Value = { drafts.Draft };
 
-    ghost view = { λ d. draft_of d.fault d.is_over (scope_of d.scope d.frame d.switches) (made_of d.buffer d.scope d.values d.switches) };
+    ghost view = { λ d. draft_of d.fault d.is_over (scope_of d.scope d.frame d.switches) (made_of d.buffer d.scope d.values.items d.switches) };
 
-    ghost invariant = { λ d. IsSound d.scope d.buffer d.frame d.is_over };
+    ghost invariant = { λ d. IsSound d.scope d.buffer d.values.items d.frame d.is_over };
 }
 
 impl Draft {
@@ -187,7 +190,7 @@ impl Draft {
     {
         if self.fault.is_none() {
             if let Err(why) = self.scope.declare(name, Declared::External) {
-                self.fault = Some(refused(why, name, line));
+                self.fault = Some(refusal(why, name, line));
             }
         }
     }
@@ -199,7 +202,7 @@ impl Draft {
         if self.fault.is_none() {
             let place = self.buffer.place();
             if let Err(why) = self.scope.place_label(name, place) {
-                self.fault = Some(refused(why, name, line));
+                self.fault = Some(refusal(why, name, line));
             }
         }
     }
@@ -211,7 +214,7 @@ impl Draft {
         if self.fault.is_none() {
             let place = self.buffer.place();
             if let Err(why) = self.switches.add((value, place)) {
-                self.fault = Some(refused_case(why, line));
+                self.fault = Some(case_refusal(why, line));
             }
         }
     }
@@ -271,11 +274,7 @@ impl Draft {
             return Some(fault);
         }
         if let Err(undefined) = self.scope.finish() {
-            return Some(name_fault(
-                Letters::Undefined,
-                undefined.name,
-                undefined.line,
-            ));
+            return Some(name_fault(Letters::Undefined, undefined.name, undefined.line));
         }
         if self.is_over {
             return Some(fault(Letters::TooLarge, line));
@@ -322,4 +321,89 @@ impl Draft {
     {
         self.frame.min(MAX_WORDS) as u16
     }
+    // Enters a name that is mentioned, and answers what it stands for; nothing if there is a fault.
+    fn mention(&mut self, name: Name, called: bool, line: u64) -> Option<Binding>
+        ensures draft { self.new ≡ stepped (Mention called (word name line)) self.old }
+        ensures binding { IfSome result (λ binding. binding_of name (names_of self.new) ≡ Some binding) }
+        ensures within { IfSome result (λ binding. IfMade self.new (λ s m. IsWithin binding)) }
+        ensures none { IfNone result (IsFaulty self.new) }
+    {
+        if self.fault.is_some() {
+            return None;
+        }
+        match self.scope.mention(name, called, line) {
+            Ok(binding) => Some(binding),
+            Err(_) => {
+                self.fault = Some(fault(Letters::TooManyNames, line));
+                None
+            }
+        }
+    }
+
+    // Enters an automatic name, or a vector of this constant.
+    fn enter_automatic(&mut self, name: Name, line: u64, size: Option<u16>)
+        ensures { self.new ≡ entered_automatic (word name line) size self.old }
+    {
+        if self.fault.is_some() {
+            return;
+        }
+        if let Err(why) = self.scope.declare(name, Declared::Auto(self.frame)) {
+            self.fault = Some(refusal(why, name, line));
+            return;
+        }
+        self.frame += words_of(size);
+        if self.frame > MAX_WORDS {
+            self.is_over = true;
+        }
+    }
+}
+
+// The words of a name by itself, or of a vector of this constant.
+fn words_of(size: Option<u16>) -> u32
+    ensures words { result ≡ words_of size }
+    ensures some { 1 ≤ result }
+    ensures few { result ≤ 65537 }
+{
+    match size {
+        None => 1,
+        Some(constant) => 1 + (u32::from(constant) + 1),
+    }
+}
+
+// The instruction that puts what a name stands for.
+fn address(binding: Binding, name: Name) -> Instr
+    ensures { result ≡ bound_address binding name }
+{
+    match binding {
+        Binding::Automatic(word) => Instr::Automatic(word.min(MAX_WORDS) as u16),
+        Binding::External => Instr::External(name),
+        Binding::Internal(entry) => Instr::Label(entry),
+    }
+}
+
+// The form of what a name stands for.
+fn form(binding: Binding) -> Form
+    ensures { result ≡ bound_form binding }
+{
+    match binding {
+        Binding::Internal(_) => Form::Lone,
+        _ => Form::Place,
+    }
+}
+
+// Adds a test for each of these cases, if there is room for all.
+fn push_tests(buffer: &mut CodeBuffer, arms: &[Arm]) -> Result<(), TooLarge>
+    ensures room { OnOk result (length buffer.old.code ≤ most_instructions → length buffer.old.code + length arms.now ≤ most_instructions) }
+    ensures full { OnErr result (most_instructions < length buffer.old.code + length arms.now) }
+    ensures ok { OnOk result (buffer.new ≡ record buffer.old { code = buffer.old.code ++ map test arms.now }) }
+    ensures strings { buffer.new.strings ≡ buffer.old.strings }
+    ensures few { length buffer.old.code ≤ most_instructions → length buffer.new.code ≤ most_instructions }
+{
+    for arm in arms {
+        buffer.emit(Instr::JumpIfCase {
+            value: arm.0,
+            target: arm.1,
+        })?;
+    }
+    Ok(())
 }

@@ -3,6 +3,7 @@
 
 mod buffer;
 mod draft;
+mod faults;
 mod form;
 mod names;
 mod parts;

@@ -42,14 +42,6 @@ impl Hole {
     }
 }
 
-/// A label instruction whose number comes later.
-#[derive(Clone, Copy, Debug, Default, PartialEq, Eq)]
-pub struct PendingLabel {
-    pub place: u16,
-    /// The label's entry in the table of names.
-    pub entry: u16,
-}
-
 /// A case of a switch.
 #[derive(Clone, Copy, Debug, Default, PartialEq, Eq)]
 pub struct Case {
@@ -67,6 +59,8 @@ pub struct TooLarge;
 /// Why a case is refused.
 #[derive(Clone, Copy, Debug, PartialEq, Eq)]
 pub enum CaseFault {
+    /// No switch is around it.
+    OutsideSwitch,
     /// The switch has a case of this value already.
     Redeclared,
     /// The function has 256 other cases.

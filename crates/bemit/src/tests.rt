@@ -1,8 +1,10 @@
+use crate::faults::{fault, name_fault};
 use crate::{
-    Binding, Branch, Case, CaseFault, CodeBuffer, DeclareFault, Declared, Scope, TooLarge,
-    TooManyNames, Undefined,
+    Binding, Branch, Case, CaseFault, CodeBuffer, DeclareFault, Declared, Draft, Form, Scope,
+    TooLarge, TooManyNames, Undefined,
 };
-use bcode::Instr;
+use bcode::{Instr, Ival};
+use blex::{About, Diagnostic, Letters};
 use bword::Name;
 use std::test::Fail;
 
@@ -142,14 +144,92 @@ fn strings_and_cases_have_a_room(rt: HostRuntime) {
 #[test]
 fn labels_get_their_numbers(rt: HostRuntime) -> Result<(), Fail> {
     let mut scope = Scope::new();
+    assert_eq!(rt; scope.declare(name("x")?, Declared::External), Ok(()));
     assert_eq!(rt; scope.place_label(name("L")?, 1), Ok(0));
     let mut buffer = CodeBuffer::new();
-    assert_eq!(rt; buffer.emit(Instr::Label(3)), Ok(0));
-    assert_eq!(rt; buffer.emit_label(0), Ok(1));
+    assert_eq!(rt; buffer.emit(Instr::Pop), Ok(0));
+    assert_eq!(rt; buffer.emit_label(1), Ok(1));
     buffer.resolve(&scope);
+    assert_eq!(rt; buffer.code(), [Instr::Pop, Instr::Label(0)].as_slice());
+    Ok(())
+}
+
+#[test]
+fn a_draft_is_made(rt: HostRuntime) -> Result<(), Fail> {
+    let mut draft = Draft::new();
+    draft.declare(name("v")?, 1, Some(2));
+    assert_eq!(rt; draft.name(name("v")?, false, 2), Form::Place);
+    assert_eq!(rt; draft.name(name("L")?, false, 2), Form::Lone);
+    assert_eq!(rt; draft.string(b"hi"), 0);
+    draft.label(name("L")?, 3);
+    draft.begin_switch();
+    draft.case(4, 7);
+    assert_eq!(rt; draft.case_count(), 1);
+    draft.emit_tests();
+    draft.end_switch();
+    draft.emit(Instr::Jump(0));
+    draft.fill(7, Instr::Jump(9));
+    draft.resolve();
     assert_eq!(rt;
-        buffer.code(),
-        [Instr::Label(3), Instr::Label(0)].as_slice()
+        draft.code(),
+        [
+            Instr::Automatic(0),
+            Instr::Automatic(1),
+            Instr::Store,
+            Instr::Pop,
+            Instr::Automatic(0),
+            Instr::Label(0),
+            Instr::JumpIfCase {
+                value: 7,
+                target: 6
+            },
+            Instr::Jump(9),
+        ]
+        .as_slice()
     );
+    assert_eq!(rt; draft.strings(), [26984, 4].as_slice());
+    assert_eq!(rt; draft.targets(), [6].as_slice());
+    assert_eq!(rt; draft.frame(), 4);
+    assert_eq!(rt; draft.fault(1), None);
+    draft.start();
+    assert_eq!(rt; draft.place(), 0);
+    draft.value(Ival::Number(5));
+    assert_eq!(rt; draft.values(), [Ival::Number(5)].as_slice());
+    Ok(())
+}
+
+#[test]
+fn the_first_fault_of_a_draft_stays(rt: HostRuntime) -> Result<(), Fail> {
+    let mut draft = Draft::new();
+    assert_eq!(rt; draft.name(name("L")?, false, 2), Form::Lone);
+    assert_eq!(rt;
+        draft.fault(1),
+        Some(name_fault(Letters::Undefined, name("L")?, 2))
+    );
+    draft.limit_words(32768);
+    draft.import(name("f")?, 3);
+    draft.import(name("f")?, 4);
+    draft.case(5, 1);
+    assert_eq!(rt;
+        draft.fault(1),
+        Some(name_fault(Letters::Redeclared, name("f")?, 4))
+    );
+    draft.start();
+    draft.limit_words(32767);
+    assert_eq!(rt; draft.fault(1), None);
+    draft.limit_words(32768);
+    assert_eq!(rt; draft.fault(1), Some(fault(Letters::TooLarge, 1)));
+    draft.case(5, 1);
+    let outside = Diagnostic {
+        letters: Letters::Syntax,
+        about: About::Case,
+        line: 5,
+    };
+    assert_eq!(rt; draft.fault(1), Some(outside));
+    draft.start();
+    draft.want_lvalue(Form::Place, 6);
+    draft.want_lvalue(Form::Joined, 7);
+    draft.fail(fault(Letters::Syntax, 8));
+    assert_eq!(rt; draft.fault(1), Some(fault(Letters::NotLvalue, 7)));
     Ok(())
 }
