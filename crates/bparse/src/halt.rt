@@ -6,7 +6,7 @@ use bword::Device;
 
 /// Why reading doesn't go on.
 #[derive(Clone, Copy, Debug, PartialEq, Eq)]
-pub(crate) enum Halt {
+pub enum Halt {
     /// No program goes on with the current token here.
     Fault,
     /// A read failed.

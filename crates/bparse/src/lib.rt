@@ -6,3 +6,8 @@ mod mark;
 mod operators;
 mod parser;
 mod tokens;
+
+pub use halt::Halt;
+pub use mark::Mark;
+pub use parser::Parser;
+pub use tokens::Tokens;

@@ -6,7 +6,7 @@ use blex::{Keyword, Token};
 
 /// A token by which alone reading goes on.
 #[derive(Clone, Copy, Debug, PartialEq, Eq)]
-pub(crate) enum Mark {
+pub enum Mark {
     OpenParen,
     CloseParen,
     OpenBracket,

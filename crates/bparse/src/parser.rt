@@ -7,10 +7,10 @@ ghost use Rattle.btree.specs.ExpressionReader.{Rvalue, inner, primary, postfix, 
 ghost use Rattle.btree.specs.StatementReader.{is_open_paren};
 ghost use Rattle.btree.specs.Code.{assignment};
 ghost use Rattle.bcode.specs.declared.instr.Instr.TheVariants as instr;
-ghost use Rattle.bemit.specs.Drafts.{emitted, checked};
+ghost use Rattle.bemit.specs.Drafts.{fresh, emitted, checked};
 ghost use Rattle.bemit.specs.Effects.{loads, prefixed};
 ghost use Rattle.bparse.specs.Marks.{is_mark};
-ghost use Rattle.bparse.specs.Tokens.{IsLoaded, IsSingle, work};
+ghost use Rattle.bparse.specs.Tokens.{all_tokens, IsLoaded, IsSingle, work};
 ghost use Rattle.bemit.specs.declared.form.Form.TheVariants.{Lone};
 ghost use Rattle.blex.specs.declared.token.Token.TheVariants as token;
 ghost use Rattle.bparse.specs.Parsers.{called_at, prefix_meant, prefix_form, suffix_meant, assigned_at, Follows, Continues, Evaluates, Passes, Expects, Enters, Takes};
@@ -29,7 +29,7 @@ const LOOSEST: u8 = 7;
 
 /// The tokens to come, and what was made of those before.
 #[derive(Drop)]
-pub(crate) struct Parser<I: ByteIn> {
+pub struct Parser<I: ByteIn> {
     pub tokens: Tokens<I>,
     pub draft: Draft,
 }
@@ -96,6 +96,26 @@ fn assignment(op: Option<BinOp>) -> Instr
 }
 
 impl<I: ByteIn> Parser<I> {
+    /// Before all tokens of the source, with nothing made yet.
+    pub fn new(input: I) -> Self
+        ensures tokens { result.tokens ≡ all_tokens (I.incoming input) (I.lender input) }
+        ensures draft { result.draft ≡ fresh }
+    {
+        Parser {
+            tokens: Tokens::new(input),
+            draft: Draft::new(),
+        }
+    }
+
+    /// The end, without what was read ahead.
+    pub fn into_input(self) -> I
+        ensures end { I.incoming result ≡ self.tokens.source.end }
+        ensures lender { I.lender result ≡ self.tokens.source.lender }
+    {
+        let Parser { tokens, draft: _ } = self;
+        tokens.into_input()
+    }
+
     /// Takes a token that must come.
     pub fn expect(&mut self, mark: Mark) -> Result<(), Halt>
         requires { IsLoaded self.old.tokens }
@@ -109,8 +129,8 @@ impl<I: ByteIn> Parser<I> {
         Ok(())
     }
 
-    // Takes the token that opens a level, and answers how many levels are left there.
-    fn enter(&mut self, room: u8) -> Result<u8, Halt>
+    /// Takes the token that opens a level, and answers how many levels are left there.
+    pub fn enter(&mut self, room: u8) -> Result<u8, Halt>
         requires loaded { IsLoaded self.old.tokens }
         requires goes_on { is_last (first self.old.tokens.ahead) ≡ false }
         ensures tokens { Enters room self.old.tokens result self.new.tokens }

@@ -1,18 +1,20 @@
 //! The tokens of a source, two of which may be ahead.
 ghost use Rattle.std.specs.Prelude.{◌≡◌, false, OnOk, OnErr};
 ghost use Rattle.blex.specs.Lexers.{is_last};
+ghost use Rattle.blex.specs.Tokens.{placed};
+ghost use Rattle.btree.specs.Program.{fault_at};
 ghost use Rattle.btree.specs.Reading.{first, line_of, after};
 ghost use Rattle.bparse.specs.Tokens.{all_tokens, IsReady, IsLoaded, Looks, LooksOn, Advances, Breaks};
 ghost use Rattle.bparse.specs.Marks.{is_mark};
 
 use crate::mark::Mark;
-use blex::{Lexer, Placed, Token};
+use blex::{About, Diagnostic, Letters, Lexer, Placed, Token};
 use bword::{ByteIn, Device};
 use std::marker::Model;
 
 /// The tokens to come.
 #[derive(Drop)]
-pub(crate) struct Tokens<I: ByteIn> {
+pub struct Tokens<I: ByteIn> {
     lexer: Lexer<I>,
     current: Option<Placed>,
     behind: Option<Placed>,
@@ -71,6 +73,22 @@ impl<I: ByteIn> Tokens<I> {
         match &self.current {
             Some(placed) => placed.line,
             None => 0,
+        }
+    }
+
+    /// What is wrong where no program goes on with the current token.
+    pub fn fault(&self) -> Diagnostic
+        requires { IsLoaded self.now }
+        ensures { result ≡ fault_at (placed (first self.now.ahead) (line_of self.now.ahead)) }
+    {
+        let letters = match self.token() {
+            Token::Bad(letters) => *letters,
+            _ => Letters::Syntax,
+        };
+        Diagnostic {
+            letters,
+            about: About::Nothing,
+            line: self.line(),
         }
     }
 
