@@ -5,6 +5,8 @@ mod halt;
 mod mark;
 mod operators;
 mod parser;
+#[cfg(test)]
+mod tests;
 mod tokens;
 
 pub use halt::Halt;
