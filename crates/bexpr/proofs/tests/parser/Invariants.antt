@@ -1,0 +1,5 @@
+use Rattle.bexpr.specs.Tokens.{IsLoaded}
+use Rattle.bexpr.proofs.tests.parser.Given as goal
+
+abbrev pub invariant-externals : goal.invariant-externals
+invariant-externals l = IsLoaded l.parser.tokens

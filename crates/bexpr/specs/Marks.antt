@@ -1,0 +1,29 @@
+-- Tokens that stand at fixed places.
+use Rattle.std.specs.Prelude.{Bool, true, false}
+use Rattle.blex.specs.declared.token.Token.{Token}
+use Rattle.blex.specs.declared.token.Token.TheVariants as token
+use Rattle.btree.specs.ExpressionReader.{is_close_paren, is_close_bracket, is_question, is_colon}
+use Rattle.btree.specs.StatementReader.{is_open_paren, is_open_brace, is_close_brace, is_semicolon, is_else}
+use Rattle.bexpr.specs.declared.mark.Mark.{Mark}
+use Rattle.bexpr.specs.declared.mark.Mark.TheVariants as mark
+
+abbrev pub is_open_bracket : Token → Bool
+is_open_bracket token.OpenBracket = true
+is_open_bracket _ = false
+
+abbrev pub is_comma : Token → Bool
+is_comma token.Comma = true
+is_comma _ = false
+
+abbrev pub is_mark : Mark → Token → Bool
+is_mark mark.OpenParen t = is_open_paren t
+is_mark mark.CloseParen t = is_close_paren t
+is_mark mark.OpenBracket t = is_open_bracket t
+is_mark mark.CloseBracket t = is_close_bracket t
+is_mark mark.OpenBrace t = is_open_brace t
+is_mark mark.CloseBrace t = is_close_brace t
+is_mark mark.Question t = is_question t
+is_mark mark.Colon t = is_colon t
+is_mark mark.Comma t = is_comma t
+is_mark mark.Semicolon t = is_semicolon t
+is_mark mark.Else t = is_else t

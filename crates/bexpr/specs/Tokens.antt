@@ -1,0 +1,137 @@
+-- The tokens of a source, of which some are ahead, and what taking them does.
+use Rattle.std.specs.Prelude.{◌≡◌, ℕ, ◌+◌, ◌≤◌, true, false, List, [], ◌∷◌, ◌++◌, length, Option, Some, None, if◌then◌else◌}
+use Rattle.bword.specs.ByteEnds.{Incoming, Grew}
+use Rattle.blex.specs.Sources.{Source, Took, room}
+use Rattle.blex.specs.Lexers.{is_last}
+use Rattle.blex.specs.Tokens.{token_first, tokens_from}
+use Rattle.blex.specs.declared.lexer.Progress.{Progress}
+use Rattle.blex.specs.declared.lexer.Progress.TheVariants as progress
+use Rattle.blex.specs.declared.token.Token.{Token}
+use Rattle.blex.specs.declared.token.Placed.{Placed}
+use Rattle.btree.specs.Reading.{Reader, first, line_of, after}
+
+-- the source behind the tokens that are ahead, and what its lexer has come to
+pub record Tokens : Type 0 where
+  pub source : Source
+  pub progress : Progress
+  pub ahead : List Placed
+
+-- the tokens that are ahead: the current one, and perhaps the one behind it
+abbrev pub both : Option Placed → Option Placed → List Placed
+both None behind = []
+both (Some current) None = current ∷ []
+both (Some current) (Some behind) = current ∷ behind ∷ []
+
+-- Few bytes are ahead, and a token behind the current one only where that is there.
+pub record InOrder (bytes : List ℕ) (current behind : Option Placed) : Type 0 where
+  pub near : length bytes ≤ 2
+  pub order : current ≡ None → behind ≡ None
+
+-- the tokens of what an end has left
+abbrev pub all_tokens : Incoming → ℕ → Tokens
+all_tokens end lender = record { source = record { ahead = []; line = 1; end = end; lender = lender }; progress = progress.Open; ahead = [] }
+
+abbrev pub tokens_with : List Placed → ℕ → List ℕ → List Placed
+tokens_with [] line bytes = tokens_from line bytes
+tokens_with (p ∷ ps) line bytes = token_first p.token p.line (tokens_with ps line bytes)
+
+-- the tokens to come, where the end still gives these bytes
+abbrev pub tokens_of : Tokens → List ℕ → List Placed
+tokens_of t more = tokens_with t.ahead t.source.line (t.source.ahead ++ more)
+
+-- an end that is over gives no more bytes
+abbrev pub CanFollow : Incoming → List ℕ → Type 0
+CanFollow end more = end.is_over ≡ true → more ≡ []
+
+-- more tokens can come, unless one of those ahead is the last
+abbrev pub IsReadyWith : List Placed → Progress → Type 0
+IsReadyWith [] reached = reached ≡ progress.Open
+IsReadyWith (p ∷ ps) reached = is_last p.token ≡ false → IsReadyWith ps reached
+
+abbrev pub IsReady : Tokens → Type 0
+IsReady t = IsReadyWith t.ahead t.progress
+
+-- The current token is ahead.
+pub record IsLoaded (t : Tokens) : Type 0 where
+  pub current : Placed
+  pub behind : List Placed
+  pub ahead : t.ahead ≡ current ∷ behind
+  pub ready : IsReady t
+  pub near : length t.source.ahead ≤ 2
+
+-- No other is ahead.
+abbrev pub IsSingle : Tokens → Type 0
+IsSingle t = IsLoaded t × (after t.ahead ≡ [])
+
+-- how many tokens can come at most, the last one aside
+abbrev pub weight : Token → ℕ
+weight t = if is_last t then 0 else 1
+
+abbrev pub weights : List Placed → ℕ
+weights [] = 0
+weights (p ∷ ps) = weights ps + weight p.token
+
+abbrev pub work : Tokens → ℕ
+work t = room t.source + weights t.ahead
+
+-- These bytes were taken from the end, and at most two of them not looked at yet.
+pub record Reads (old : Source) (taken : List ℕ) (new : Source) : Type 0 where
+  pub took : Took old.end taken new.end
+  pub lender : new.lender ≡ old.lender
+  pub near : length new.ahead ≤ 2
+
+-- Bytes were taken, and this holds of the tokens that came before and of those that come now, whatever the end still gives.
+pub record Moves (old new : Tokens) (P : List Placed → List Placed → Type 0) : Type 0 where
+  pub taken : List ℕ
+  pub reads : Reads old.source taken new.source
+  pub failures : new.source.end.failures ≡ old.source.end.failures
+  pub falls : work new ≤ work old
+  pub come : (more : List ℕ) → CanFollow new.source.end more → P (tokens_of old (taken ++ more)) (tokens_of new more)
+
+-- Reading goes on with the second reader where it began with the first.
+abbrev pub Runs : {A : Type 0} → Tokens → Tokens → Reader A → Reader A → Type 0
+Runs old new before now = Moves old new (λ u v. before u ≡ now v)
+
+-- A read failed.
+pub record Breaks (old new : Tokens) : Type 0 where
+  pub taken : List ℕ
+  pub reads : Reads old.source taken new.source
+  pub counted : Grew old.source.end.failures new.source.end.failures
+
+-- the same tokens come
+abbrev pub Same : List Placed → List Placed → Type 0
+Same u v = u ≡ v
+
+-- The current token, and where it is there the one behind it, are ahead as they were.
+abbrev pub Keeps : List Placed → List Placed → Type 0
+Keeps [] new = Unit {0}
+Keeps (p ∷ ps) new = (first new ≡ p.token) × (line_of new ≡ p.line)
+
+-- The tokens are as they were, and the current one is ahead.
+pub record Looks (old new : Tokens) : Type 0 where
+  pub moves : Moves old new Same
+  pub loaded : IsLoaded new
+  pub alone : after new.ahead ≡ after old.ahead
+  pub keeps : Keeps old.ahead new.ahead
+
+-- These tokens are those behind the current one.
+pub record Behind (ahead u v : List Placed) : Type 0 where
+  pub rest : v ≡ after u
+  pub token : first u ≡ first ahead
+  pub line : line_of u ≡ line_of ahead
+
+-- The current token was taken, and the next one is ahead.
+pub record Advances (old new : Tokens) : Type 0 where
+  pub moves : Moves old new (Behind old.ahead)
+  pub single : IsSingle new
+  pub keeps : Keeps (after old.ahead) new.ahead
+  pub falls : work new + 1 ≤ work old
+
+-- The tokens are as they were, and the one behind the current one is ahead.
+pub record LooksOn (old new : Tokens) : Type 0 where
+  pub moves : Moves old new Same
+  pub loaded : IsLoaded new
+  pub first_is : first new.ahead ≡ first old.ahead
+  pub line_is : line_of new.ahead ≡ line_of old.ahead
+  pub second : Placed
+  pub second_is : after new.ahead ≡ second ∷ []

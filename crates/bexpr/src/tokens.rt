@@ -1,0 +1,156 @@
+//! The tokens of a source, two of which may be ahead.
+ghost use Rattle.std.specs.Prelude.{◌≡◌, false, OnOk, OnErr};
+ghost use Rattle.blex.specs.Lexers.{is_last};
+ghost use Rattle.blex.specs.Tokens.{placed};
+ghost use Rattle.btree.specs.Program.{fault_at};
+ghost use Rattle.btree.specs.Reading.{first, line_of, after};
+ghost use Rattle.bexpr.specs.Tokens.{all_tokens, IsReady, IsLoaded, Looks, LooksOn, Advances, Breaks};
+ghost use Rattle.bexpr.specs.Marks.{is_mark};
+
+use crate::mark::Mark;
+use blex::{About, Diagnostic, Letters, Lexer, Placed, Token};
+use bword::{ByteIn, Device};
+use std::marker::Model;
+
+/// The tokens to come.
+#[derive(Drop)]
+pub struct Tokens<I: ByteIn> {
+    lexer: Lexer<I>,
+    current: Option<Placed>,
+    behind: Option<Placed>,
+}
+
+impl<I: ByteIn> Model for Tokens<I> {
+    ghost use Rattle.bexpr.specs.Tokens.{Tokens, InOrder, both};
+
+    ghost Value = { Tokens };
+
+    ghost view = { λ t. record { source = t.lexer.source; progress = t.lexer.progress; ahead = both t.current t.behind } };
+
+    ghost invariant = { λ t. InOrder t.lexer.source.ahead t.current t.behind };
+}
+
+impl<I: ByteIn> Tokens<I> {
+    /// All tokens of the source, none of them read yet.
+    pub fn new(input: I) -> Self
+        ensures { result ≡ all_tokens (I.incoming input) (I.lender input) }
+    {
+        Tokens {
+            lexer: Lexer::new(input),
+            current: None,
+            behind: None,
+        }
+    }
+
+    /// The end, without what was read ahead.
+    pub fn into_input(self) -> I
+        ensures end { I.incoming result ≡ self.source.end }
+        ensures lender { I.lender result ≡ self.source.lender }
+    {
+        let Tokens {
+            lexer,
+            current: _,
+            behind: _,
+        } = self;
+        lexer.into_input()
+    }
+
+    /// The current token.
+    pub fn token(&self) -> &Token
+        requires { IsLoaded self.now }
+        ensures { result.now ≡ first self.now.ahead }
+    {
+        let Some(placed) = &self.current else {
+            unreachable!()
+        };
+        &placed.token
+    }
+
+    /// The line of the current token.
+    pub fn line(&self) -> u64
+        ensures { result ≡ line_of self.now.ahead }
+    {
+        match &self.current {
+            Some(placed) => placed.line,
+            None => 0,
+        }
+    }
+
+    /// What is wrong where no program goes on with the current token.
+    pub fn fault(&self) -> Diagnostic
+        requires { IsLoaded self.now }
+        ensures { result ≡ fault_at (placed (first self.now.ahead) (line_of self.now.ahead)) }
+    {
+        let letters = match self.token() {
+            Token::Bad(letters) => *letters,
+            _ => Letters::Syntax,
+        };
+        Diagnostic {
+            letters,
+            about: About::Nothing,
+            line: self.line(),
+        }
+    }
+
+    /// Whether the current token is this one.
+    pub fn is_at(&self, mark: Mark) -> bool
+        ensures { result ≡ is_mark mark (first self.now.ahead) }
+    {
+        match &self.current {
+            Some(placed) => mark.is(&placed.token),
+            None => false,
+        }
+    }
+
+    /// Reads the current token, unless it is there.
+    pub fn look(&mut self) -> Result<(), Device>
+        requires { IsReady self.old }
+        ensures ok { OnOk result (Looks self.old self.new) }
+        ensures err { OnErr result (Breaks self.old self.new) }
+    {
+        if self.current.is_none() {
+            let Ok(placed) = self.lexer.next() else {
+                return Err(Device);
+            };
+            self.current = Some(placed);
+        }
+        Ok(())
+    }
+
+    /// Reads the token behind the current one, which is no last one, unless it is there.
+    pub fn look_on(&mut self) -> Result<(), Device>
+        requires loaded { IsLoaded self.old }
+        requires goes_on { is_last (first self.old.ahead) ≡ false }
+        ensures ok { OnOk result (LooksOn self.old self.new) }
+        ensures err { OnErr result (Breaks self.old self.new) }
+    {
+        if self.behind.is_none() {
+            let Ok(placed) = self.lexer.next() else {
+                return Err(Device);
+            };
+            self.behind = Some(placed);
+        }
+        Ok(())
+    }
+
+    /// Whether this token was read behind the current one.
+    pub fn is_behind(&self, mark: Mark) -> bool
+        ensures { result ≡ is_mark mark (first (after self.now.ahead)) }
+    {
+        match &self.behind {
+            Some(placed) => mark.is(&placed.token),
+            None => false,
+        }
+    }
+
+    /// Takes the current token, which is no last one, and reads the next.
+    pub fn advance(&mut self) -> Result<(), Device>
+        requires loaded { IsLoaded self.old }
+        requires goes_on { is_last (first self.old.ahead) ≡ false }
+        ensures ok { OnOk result (Advances self.old self.new) }
+        ensures err { OnErr result (Breaks self.old self.new) }
+    {
+        self.current = self.behind.take();
+        self.look()
+    }
+}
