@@ -1,4 +1,0 @@
-pub mod CleanLaws
-pub mod CompilerSteps
-pub mod CompileSteps
-pub mod MadeSteps

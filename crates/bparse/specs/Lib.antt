@@ -1,5 +1,0 @@
-pub mod Compilers
-pub mod Compiles
-pub mod Sizes
-pub mod Statuses
-pub mod Stops
