@@ -1,6 +1,6 @@
 //! What one pass makes of a definition, step by step.
 ghost use Rattle.std.specs.Prelude.{◌≡◌, ◌+◌, ◌<◌, ◌≤◌, ◌++◌, length, map, OnOk, OnErr, Some, IfSome, IfNone};
-ghost use Rattle.btree.specs.Scan.{Mention, words_of};
+ghost use Rattle.btree.specs.Scan.{Mention, most_cases, words_of};
 ghost use Rattle.bemit.specs.Buffers.{test};
 ghost use Rattle.bemit.specs.Drafts.{most_instructions, most_string_words, most_values, most_words, fresh, failed, emitted, place_of, filled, offset_of, stringed, valued, worded, named, name_form, checked, declared, imported, labelled, selected, begun, ended, case_count, tested, resolved, fault_in, stepped, names_of};
 ghost use Rattle.bemit.specs.Tables.{word, binding_of};
@@ -239,7 +239,8 @@ impl Draft {
 
     /// How many cases the innermost switch has so far.
     pub fn case_count(&self) -> u16
-        ensures { result ≡ case_count self.now }
+        ensures count { result ≡ case_count self.now }
+        ensures few { result ≤ most_cases }
     {
         if self.fault.is_none() && !self.is_over {
             self.switches.innermost().len() as u16

@@ -1,0 +1,241 @@
+-- How the calls that read definitions go on.
+use Rattle.std.proofs.Common.{◌≡◌, ℕ, ◌+◌, ◌<◌, ◌≤◌, min, max, Bool, true, false, List, [], ◌∷◌, ◌++◌, length, length-append, fold, Option, Some, None, Result, Ok, Err, IsErrAnd, ◌⊎◌, inl, inr, refl, sym, ap, ◌∙◌, subst, arith, if◌then◌else◌}
+use Rattle.std.specs.Prelude.{nat_lt}
+use Rattle.std.proofs.lemmas.Bool.Decides.{nat_tests}
+use Rattle.blex.specs.declared.token.Token.{Token}
+use Rattle.blex.specs.declared.token.Token.TheVariants as token
+use Rattle.blex.specs.declared.token.Placed.{Placed}
+use Rattle.bcode.specs.declared.instr.Ival as coded
+use Rattle.bcode.specs.declared.instr.Ival.TheVariants as ival_code
+use Rattle.bcode.specs.declared.instr.Instr.TheVariants as instr
+use Rattle.btree.specs.Expression.{Word, Number, Character}
+use Rattle.btree.specs.Reading.{Read, Reader, Got, Stop, ◌>>=◌, first, line_of, after, expect}
+use Rattle.btree.specs.ExpressionReader.{is_close_paren, is_close_bracket}
+use Rattle.btree.specs.Commas.{list_reader}
+use Rattle.btree.specs.Code.{vector_words, constant_of}
+use Rattle.btree.specs.Scan.{word_of}
+use Rattle.btree.specs.Statement.{Stmt}
+use Rattle.btree.specs.StatementReader.{is_semicolon, name, size, statement}
+use Rattle.btree.specs.Definition.{Ival, Ival_constant, Ival_text, Ival_name, Definition, Simple, Vector, Function, values_words, nesting_limit}
+use Rattle.btree.specs.DefinitionReader.{ival_at, ival, valued, vector, function_body, function, behind_name_at, behind_name, definition}
+use Rattle.btree.proofs.Fine.{Fine}
+use Rattle.btree.proofs.ExpressionFine.{Closer}
+use Rattle.bemit.specs.Drafts.{Draft, emitted, stringed, offset_of, worded, started}
+use Rattle.bemit.specs.Drafts as drafts
+use Rattle.bemit.specs.Effects.{ival_done, done, values_done, parameters_done, definition_done}
+use Rattle.bexpr.specs.Tokens.{Tokens, IsLoaded, IsSingle, work, Runs, Breaks, Advances}
+use Rattle.bexpr.specs.Marks.{is_comma}
+use Rattle.bexpr.specs.Parsers.{Halts}
+use Rattle.bexpr.specs.declared.halt.Halt.{Halt}
+use Rattle.bexpr.specs.declared.halt.Halt.TheVariants as halt
+use Rattle.bread.specs.declared.header.Header.{Header}
+use Rattle.bread.specs.declared.header.Kind.{Kind}
+use Rattle.bread.specs.declared.header.Kind.TheVariants as kind
+use Rattle.bread.specs.Compiling.{Took, Compiles, Takes}
+use Rattle.bread.specs.Headers.{IsKind, Heads, most_counted}
+use Rattle.bread.specs.Definitions.{TakesValue, values, parameters, TookList, FindsList, TookKind, FindsKind, TookDefinition, FindsDefinition}
+use Rattle.bexpr.proofs.TokenSteps.{Moves-as, Moves-breaks}
+use Rattle.bexpr.proofs.Moving.{run_here, run_past, run_then, run_bind}
+use Rattle.bread.proofs.Steps.{began, went, halts_first, halts_then, halts_behind, device}
+use Rattle.bread.proofs.Takings.{less}
+use Rattle.bread.proofs.Lists.{InList, list_first, list_halts, list_ends}
+
+-- an initial value
+pub value_ends : (made : List Ival → Ival) (v : coded.Ival) (old : Tokens) (start d0 : Draft) (r : Result (Unit {0}) Halt) (new : Tokens) (draft : Draft) → ((before : List Ival) (u : List Placed) → first u ≡ first old.ahead → line_of u ≡ line_of old.ahead → ival before u ≡ Got (made before) (after u)) → ((before : List Ival) → ival_done start (made before) ≡ drafts.valued v d0) → TakesValue v old d0 r new draft → Compiles ival (λ v d. ival_done d v) old start r new draft
+value_ends made v old start d0 (Ok o) new draft is same t = (λ before. record { tree = made before; runs = run_past {g = λ v. Got (made before) v} t.0 (λ u e l. is before u e l); made = t.1 ∙ sym (same before) }, t.0.single, less t.0)
+value_ends made v old start d0 (Err why) new draft is same t = λ before. device old new (ival before) why t.0 t.1
+
+pub number_ends : (n : ℕ) (old : Tokens) (start : Draft) (r : Result (Unit {0}) Halt) (new : Tokens) (draft : Draft) (t : Token) → t ≡ first old.ahead → (t ≡ token.Number n) ⊎ (t ≡ token.Character n) → TakesValue (ival_code.Number n) old start r new draft → Compiles ival (λ v d. ival_done d v) old start r new draft
+number_ends n old start r new draft t e (inl k) h = value_ends (λ before. Ival_constant (Number n)) (ival_code.Number n) old start start r new draft (λ before u f l. ap (λ t. ival_at (values_words before) t u) (f ∙ sym e ∙ k)) (λ before. refl) h
+number_ends n old start r new draft t e (inr k) h = value_ends (λ before. Ival_constant (Character n)) (ival_code.Number n) old start start r new draft (λ before u f l. ap (λ t. ival_at (values_words before) t u) (f ∙ sym e ∙ k)) (λ before. refl) h
+
+pub name_ends : (x : List ℕ) (old : Tokens) (start : Draft) (r : Result (Unit {0}) Halt) (new : Tokens) (draft : Draft) → first old.ahead ≡ token.Name x → TakesValue (ival_code.Name x) old start r new draft → Compiles ival (λ v d. ival_done d v) old start r new draft
+name_ends x old start r new draft k h = value_ends (λ before. Ival_name (record { text = x; line = line_of old.ahead })) (ival_code.Name x) old start start r new draft (λ before u f l. ap (λ t. ival_at (values_words before) t u) (f ∙ k) ∙ ap (λ n. Got (Ival_name (record { text = x; line = n })) (after u)) l) (λ before. refl) h
+
+-- things with commas between them, if any, and the token behind them
+module _ {A : Type 0} (item : List A → Reader A) (fine : (before : List A) (ts : List Placed) → Fine Closer (item before) ts) (effect : A → Draft → Draft) (is : Token → Bool) (effects : List A → Draft → Draft) (same : (xs : List A) (d : Draft) → effects xs d ≡ fold (λ b x. effect x b) d xs) (most : ℕ) where
+  abbrev closed : List A → Reader (List A)
+  closed xs r = expect is r >>= λ o. Got xs
+
+  abbrev perhaps : Reader (List A)
+  perhaps ts = if is (first ts) then Got [] (after ts) else list_reader item ts >>= closed
+
+  pub none_took : (old new : Tokens) (start : Draft) → Advances old new → is (first old.ahead) ≡ true → TookList perhaps effects most start old new start 0
+  none_took old new start a h = record { items = []; runs = run_past {g = λ v. Got [] v} a (λ u e l. ap (λ b. if b then Got [] (after u) else list_reader item u >>= closed) (ap is e ∙ h)); made = sym (same [] start); count_is = omega arith; single = a.single }
+
+  module _ (old : Tokens) (l : IsLoaded old) (n : is (first old.ahead) ≡ false) where
+    some_come : Runs old old perhaps (λ u. list_reader item u >>= closed)
+    some_come = run_here l (λ u e m. ap (λ b. if b then Got [] (after u) else list_reader item u >>= closed) (ap is e ∙ n))
+
+    some_halts : (new : Tokens) (why : Halt) → Halts (list_reader item) old why new → Halts perhaps old why new
+    some_halts new why h = halts_then old old new perhaps (list_reader item) closed why some_come h
+
+    pub some_first : (new : Tokens) (why : Halt) → Halts (item []) old why new → Halts perhaps old why new
+    some_first new why h = some_halts new why (list_first item old new why h)
+
+    module _ {start draft : Draft} {now : Tokens} (s : InList item effect start old now draft) where
+      pub some_comma : (mid new : Tokens) (why : Halt) → Advances now mid → is_comma (first now.ahead) ≡ true → Halts (item s.items) mid why new → Halts perhaps old why new
+      some_comma mid new why h c k = some_halts new why (list_halts item fine effect s h c new why k)
+
+      pub some_breaks : (new : Tokens) (why : Halt) → why ≡ halt.Device → Breaks now new → Halts perhaps old why new
+      some_breaks new why e h = some_halts new why (device old new (list_reader item) why e (Moves-breaks s.runs h))
+
+      some_over : is_comma (first now.ahead) ≡ false → Runs old now perhaps (λ r. expect is r >>= λ o. Got s.items)
+      some_over c = went closed some_come (list_ends item fine effect s c)
+
+      pub some_last : (new : Tokens) (why : Halt) → is_comma (first now.ahead) ≡ false → Halts (expect is) now why new → Halts perhaps old why new
+      some_last new why c h = halts_then old now new perhaps (expect is) (λ o. Got s.items) why (some_over c) h
+
+      pub some_took : (new : Tokens) (draft2 : Draft) (count : ℕ) → is_comma (first now.ahead) ≡ false → Runs now new (expect is) (λ v. Got tt v) → IsSingle new → draft2 ≡ draft → count ≡ min (length s.items) most → TookList perhaps effects most start old new draft2 count
+      some_took new draft2 count c r m e k = record { items = s.items; runs = went (λ o. Got s.items) (some_over c) r; made = e ∙ s.made ∙ sym (same s.items start); count_is = k; single = m }
+
+-- the things so far, counted
+pub record InCounted {A : Type 0} (item : List A → Reader A) (effect : A → Draft → Draft) (most : ℕ) (start : Draft) (old now : Tokens) (draft : Draft) (count : ℕ) : Type 0 where
+  pub list : InList item effect start old now draft
+  pub count_is : count ≡ min (length list.items) most
+
+pub counted_one : {A : Type 0} (x : A) (most : ℕ) → (most ≡ 0 → ⊥) → 1 ≡ min (length (x ∷ [])) most
+counted_one x most h = omega (arith, h)
+
+pub counted_more : {A : Type 0} (xs : List A) (x : A) (count next most : ℕ) → count ≡ min (length xs) most → next ≡ min (count + 1) most → next ≡ min (length (xs ++ x ∷ [])) most
+counted_more xs x count next most h k = omega (arith, length-append xs (x ∷ []), h, k)
+
+pub list_err : {A : Type 0} (reader : Reader (List A)) (effect : List A → Draft → Draft) (most : ℕ) (old : Tokens) (start : Draft) (r : Result ℕ Halt) (new : Tokens) (draft : Draft) (why : Halt) → IsErrAnd r (λ y. y ≡ why) → Halts reader old why new → FindsList reader effect most old start r new draft
+list_err reader effect most old start (Ok n) new draft why e h = absurd e
+list_err reader effect most old start (Err s) new draft why e h = subst (λ x. Halts reader old x new) (sym e) h
+
+-- what stands behind a name
+pub kind_err : (reader : Word → Reader Definition) (old : Tokens) (start : Draft) (r : Result Kind Halt) (new : Tokens) (draft : Draft) (why : Halt) → IsErrAnd r (λ y. y ≡ why) → ((w : Word) → Halts (reader w) old why new) → FindsKind reader old start r new draft
+kind_err reader old start (Ok n) new draft why e h = absurd e
+kind_err reader old start (Err s) new draft why e h = λ w. subst (λ x. Halts (reader w) old x new) (sym e) (h w)
+
+pub kind_behind : (p q : Word → Reader Definition) (old mid : Tokens) (start : Draft) (r : Result Kind Halt) (new : Tokens) (draft : Draft) → ((w : Word) → Runs old mid (q w) (p w)) → FindsKind p mid start r new draft → FindsKind q old start r new draft
+kind_behind p q old mid start (Ok k) new draft m h = (λ w. let t = h.0 w in record { tree = t.tree; runs = run_then (m w) t.runs; made = t.made; named = t.named; kind_is = t.kind_is }, h.1)
+kind_behind p q old mid start (Err why) new draft m h = λ w. halts_behind old mid new (q w) (p w) why (m w) (h w)
+
+pub bracket_runs : (old mid : Tokens) → Advances old mid → first old.ahead ≡ token.OpenBracket → (w : Word) → Runs old mid (behind_name w) (vector w)
+bracket_runs old mid a k w = run_past a (λ u e l. ap (λ t. behind_name_at w t u) (e ∙ k))
+
+pub paren_runs : (old mid : Tokens) → Advances old mid → first old.ahead ≡ token.OpenParen → (w : Word) → Runs old mid (behind_name w) (function w)
+paren_runs old mid a k w = run_past a (λ u e l. ap (λ t. behind_name_at w t u) (e ∙ k))
+
+simple_at : (w : Word) (t : Token) (u : List Placed) → (t ≡ token.OpenBracket → ⊥) → (t ≡ token.OpenParen → ⊥) → behind_name_at w t u ≡ valued (Simple w) u
+simple_at w token.OpenBracket u a b = absurd (a refl)
+simple_at w token.OpenParen u a b = absurd (b refl)
+simple_at w _ u a b = refl
+
+-- initial values as a part of a definition
+closed_values : (made : List Ival → Definition) (x : Read (List Ival)) → (x >>= λ vs r. expect is_semicolon r >>= λ o. Got (made vs)) ≡ ((x >>= λ vs r. expect is_semicolon r >>= λ o. Got vs) >>= λ vs. Got (made vs))
+closed_values made (Got vs r) = go (is_semicolon (first r)) refl
+  where
+    go : (b : Bool) → is_semicolon (first r) ≡ b → (expect is_semicolon r >>= λ o. Got (made vs)) ≡ ((expect is_semicolon r >>= λ o. Got vs) >>= λ vs. Got (made vs))
+    go true k = rw k refl
+    go false k = rw k refl
+closed_values made (Stop r) = refl
+
+valued_is : (made : List Ival → Definition) (u : List Placed) → valued made u ≡ (values u >>= λ vs. Got (made vs))
+valued_is made u = go (is_semicolon (first u)) refl
+  where
+    go : (b : Bool) → is_semicolon (first u) ≡ b → valued made u ≡ (values u >>= λ vs. Got (made vs))
+    go true k = rw k refl
+    go false k = rw k (closed_values made (list_reader ival u))
+
+module _ (old : Tokens) (l : IsLoaded old) (a : first old.ahead ≡ token.OpenBracket → ⊥) (b : first old.ahead ≡ token.OpenParen → ⊥) where
+  simple_runs : (w : Word) → Runs old old (behind_name w) (λ u. values u >>= λ vs. Got (Simple w vs))
+  simple_runs w = run_here l (λ u e m. ap (λ t. behind_name_at w t u) e ∙ simple_at w (first old.ahead) u a b ∙ valued_is (Simple w) u)
+
+  pub simple_halts : (w : Word) (new : Tokens) (why : Halt) → Halts values old why new → Halts (behind_name w) old why new
+  simple_halts w new why h = halts_then old old new (behind_name w) values (λ vs. Got (Simple w vs)) why (simple_runs w) h
+
+  pub simple_took : (most : ℕ) (start : Draft) (new : Tokens) (draft : Draft) (count : ℕ) → TookList values values_done most start old new draft count → (w : Word) → TookKind (behind_name w) w start old new draft kind.Simple
+  simple_took most start new draft count t w = record { tree = Simple w t.items; runs = went (λ vs. Got (Simple w vs)) (simple_runs w) t.runs; made = t.made; named = refl; kind_is = tt }
+
+-- a count that stops at its most
+test_as : (c len count words : ℕ) → count ≡ min len 4294967295 → words ≡ max count (c + 1) → nat_lt 32767 words ≡ nat_lt 32767 (max (c + 1) len)
+test_as c len count words h k = grind (arith, nat_tests, h, k)
+
+worded_as : (c len count words : ℕ) (d : Draft) → count ≡ min len 4294967295 → words ≡ max count (c + 1) → worded words d ≡ worded (max (c + 1) len) d
+worded_as c len count words d h k = ap (λ b. if b then drafts.with_made (λ m. None) d else d) (test_as c len count words h k)
+
+counted_as : (c len count words : ℕ) → count ≡ min len 4294967295 → words ≡ max count (c + 1) → min words 65535 ≡ min (max (c + 1) len) 65535
+counted_as c len count words h k = omega (arith, h, k)
+
+-- a vector
+module _ (w : Word) where
+  abbrev bracketed : Option ℕ → Reader Definition
+  bracketed n r = expect is_close_bracket r >>= λ o. valued (Vector w n)
+
+  pub vector_first : (old new : Tokens) (why : Halt) → Halts size old why new → Halts (vector w) old why new
+  vector_first old new why h = halts_first old new size bracketed why h
+
+  pub vector_then : (old mid new : Tokens) (n : Option ℕ) (why : Halt) → Runs old mid size (λ v. Got n v) → Halts (expect is_close_bracket) mid why new → Halts (vector w) old why new
+  vector_then old mid new n why r h = halts_then old mid new (vector w) (expect is_close_bracket) (λ o. valued (Vector w n)) why (began bracketed r) h
+
+  module _ (old mid next : Tokens) (n : Option ℕ) (r : Runs old mid size (λ v. Got n v)) (s : Runs mid next (expect is_close_bracket) (λ v. Got tt v)) where
+    vector_runs : Runs old next (vector w) (λ u. values u >>= λ vs. Got (Vector w n vs))
+    vector_runs = Moves-as (λ u v. vector w u ≡ (values v >>= λ vs. Got (Vector w n vs))) (λ u v x. x ∙ valued_is (Vector w n) v) (went (λ o. valued (Vector w n)) (began bracketed r) s)
+
+    pub vector_last : (new : Tokens) (why : Halt) → Halts values next why new → Halts (vector w) old why new
+    vector_last new why h = halts_then old next new (vector w) values (λ vs. Got (Vector w n vs)) why vector_runs h
+
+    pub vector_took : (start d1 d2 d3 : Draft) (new : Tokens) (count words k : ℕ) → d1 ≡ start → TookList values values_done 4294967295 d1 next new d2 count → words ≡ max count (constant_of n + 1) → d3 ≡ worded words d2 → k ≡ min words 65535 → TookKind (vector w) w start old new d3 (kind.Vector k)
+    vector_took start d1 d2 d3 new count words k e t x y z = record {
+      tree = Vector w n t.items;
+      runs = went (λ vs. Got (Vector w n vs)) vector_runs t.runs;
+      made = y ∙ ap (worded words) (t.made ∙ ap (values_done t.items) e) ∙ worded_as (constant_of n) (length t.items) count words (values_done t.items start) t.count_is x;
+      named = refl;
+      kind_is = z ∙ counted_as (constant_of n) (length t.items) count words t.count_is x;
+    }
+
+-- a function
+function_is : (w : Word) (u : List Placed) → function w u ≡ (parameters u >>= function_body w)
+function_is w u = go (is_close_paren (first u)) refl
+  where
+    nested : (x : Read (List Word)) → (x >>= λ ps r. expect is_close_paren r >>= λ o. function_body w ps) ≡ ((x >>= λ ps r. expect is_close_paren r >>= λ o. Got ps) >>= function_body w)
+    nested (Stop r) = refl
+    nested (Got ps r) = at (is_close_paren (first r)) refl
+      where
+        at : (b : Bool) → is_close_paren (first r) ≡ b → (expect is_close_paren r >>= λ o. function_body w ps) ≡ ((expect is_close_paren r >>= λ o. Got ps) >>= function_body w)
+        at true k = rw k refl
+        at false k = rw k refl
+
+    go : (b : Bool) → is_close_paren (first u) ≡ b → function w u ≡ (parameters u >>= function_body w)
+    go true k = rw k refl
+    go false k = rw k (nested (list_reader (λ before. name) u))
+
+module _ (w : Word) (old mid : Tokens) where
+  pub function_first : (why : Halt) → Halts parameters old why mid → Halts (function w) old why mid
+  function_first halt.Fault h = (Moves-as (λ u v. function w u ≡ Stop v) (λ u v x. function_is w u ∙ ap (λ y. y >>= function_body w) x) h.0, h.1)
+  function_first halt.Device h = h
+
+  module _ (ps : List Word) (r : Runs old mid parameters (λ v. Got ps v)) where
+    function_runs : Runs old mid (function w) (λ v. statement nesting_limit 0 v >>= λ s. Got (Function w ps s))
+    function_runs = Moves-as (λ u v. function w u ≡ function_body w ps v) (λ u v x. function_is w u ∙ ap (λ y. y >>= function_body w) x) r
+
+    pub function_then : (new : Tokens) (why : Halt) → Halts (statement nesting_limit 0) mid why new → Halts (function w) old why new
+    function_then new why h = halts_then old mid new (function w) (statement nesting_limit 0) (λ s. Got (Function w ps s)) why function_runs h
+
+    pub function_took : (start d1 d2 d3 d4 : Draft) (new : Tokens) (count : ℕ) → d1 ≡ parameters_done ps start → count ≡ min (length ps) 65535 → Took (statement nesting_limit 0) done d1 mid new d2 → d3 ≡ emitted (instr.Constant 0) d2 → d4 ≡ emitted instr.Return d3 → TookKind (function w) w start old new d4 (kind.Function count)
+    function_took start d1 d2 d3 d4 new count e c t x y = record { tree = Function w ps t.tree; runs = went (λ s. Got (Function w ps s)) function_runs t.runs; made = y ∙ rw (x, t.made, e) refl; named = refl; kind_is = c }
+
+-- a definition
+pub definition_err : (names : List (List ℕ)) (old : Tokens) (r : Result Header Halt) (new : Tokens) (draft : Draft) (why : Halt) → IsErrAnd r (λ y. y ≡ why) → Halts definition old why new → FindsDefinition names old r new draft
+definition_err names old (Ok n) new draft why e h = absurd e
+definition_err names old (Err s) new draft why e h = subst (λ x. Halts definition old x new) (sym e) h
+
+pub definition_first : (old new : Tokens) (why : Halt) → Halts name old why new → Halts definition old why new
+definition_first old new why h = halts_first old new name behind_name why h
+
+pub definition_then : (old mid new : Tokens) (w : Word) (why : Halt) → Runs old mid name (λ v. Got w v) → Halts (behind_name w) mid why new → Halts definition old why new
+definition_then old mid new w why r h = halts_behind old mid new definition (behind_name w) why (run_bind behind_name r) h
+
+pub definition_took : (names : List (List ℕ)) (old mid new : Tokens) (w : Word) (d1 draft : Draft) (k : Kind) → Runs old mid name (λ v. Got w v) → work mid < work old → d1 ≡ started names w → TookKind (behind_name w) w d1 mid new draft k → IsSingle new → TookDefinition names old (record { name = w.text; line = w.line; kind = k }) new draft
+definition_took names old mid new w d1 draft k r f e t l = record {
+  tree = t.tree;
+  moves = run_then (run_bind behind_name r) t.runs;
+  heads = record { name = sym (ap (λ x. x.text) t.named); line = sym (ap (λ x. x.line) t.named); kind = t.kind_is };
+  made = t.made ∙ ap (definition_done t.tree) (e ∙ ap (started names) (sym t.named));
+  falls = let a = t.runs.falls in omega (arith, f);
+  loaded = l.0;
+  single = l;
+}

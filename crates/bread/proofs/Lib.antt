@@ -1,0 +1,7 @@
+pub mod HeadingLemmas
+pub mod Steps
+pub mod Takings
+pub mod Lists
+pub mod HeadingSteps
+pub mod StatementSteps
+pub mod DefinitionSteps

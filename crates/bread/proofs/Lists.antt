@@ -1,0 +1,102 @@
+-- Reading things with commas between them, one after the other.
+use Rattle.std.proofs.Common.{◌≡◌, ℕ, ◌+◌, ◌<◌, ◌≤◌, Bool, true, false, List, [], ◌∷◌, ◌++◌, Option, Some, None, refl, sym, ap, ◌∙◌, arith, fold, Result, Ok, Err}
+use Rattle.std.proofs.lemmas.List.Sums.{fold-append}
+use Rattle.blex.specs.declared.token.Token.{Token}
+use Rattle.blex.specs.declared.token.Token.TheVariants as token
+use Rattle.blex.specs.declared.token.Placed.{Placed}
+use Rattle.btree.specs.Reading.{Read, Reader, Got, Stop, ◌>>=◌, first, line_of, after, expect, many}
+use Rattle.btree.specs.ExpressionReader.{comma, always}
+use Rattle.btree.specs.Commas.{comma_item, list_reader}
+use Rattle.btree.proofs.Fine.{Fine, many_some, many_none}
+use Rattle.btree.proofs.ExpressionFine.{Closer, closing}
+use Rattle.btree.proofs.CommaLaws.{comma_loop}
+use Rattle.bemit.specs.Drafts.{Draft}
+use Rattle.bexpr.specs.Tokens.{Tokens, IsLoaded, work, Runs, Breaks, Advances}
+use Rattle.bexpr.specs.Marks.{is_comma}
+use Rattle.bexpr.specs.Parsers.{Halts}
+use Rattle.bexpr.specs.declared.halt.Halt.{Halt}
+use Rattle.bexpr.specs.declared.halt.Halt.TheVariants as halt
+use Rattle.bread.specs.Compiling.{alone, Took, Compiles, Takes}
+use Rattle.bexpr.proofs.TokenSteps.{Moves-breaks}
+use Rattle.bexpr.proofs.Moving.{run_here, run_past, run_then, run_bind}
+use Rattle.bread.proofs.Steps.{began, went, halts_first, halts_then, device}
+
+-- the things read so far
+pub record InList {A : Type 0} (item : List A → Reader A) (effect : A → Draft → Draft) (start : Draft) (old now : Tokens) (draft : Draft) : Type 0 where
+  pub items : List A
+  pub runs : Runs old now (list_reader item) (λ v. many (always comma) (comma_item item) items v)
+  pub made : draft ≡ fold (λ b x. effect x b) start items
+  pub loaded : IsLoaded now
+  pub falls : work now < work old
+
+is_a_comma : (t : Token) → is_comma t ≡ true → comma t ≡ Some tt
+is_a_comma token.Comma h = refl
+is_a_comma _ h = cc
+
+is_no_comma : (t : Token) → is_comma t ≡ false → comma t ≡ None
+is_no_comma token.Comma h = cc
+is_no_comma _ h = refl
+
+pub list_first : {A : Type 0} (item : List A → Reader A) (old new : Tokens) (why : Halt) → Halts (item []) old why new → Halts (list_reader item) old why new
+list_first item old new why h = halts_first old new (item []) (λ x ts. many (always comma) (comma_item item) (x ∷ []) ts) why h
+
+module _ {A : Type 0} (item : List A → Reader A) (fine : (before : List A) (ts : List Placed) → Fine Closer (item before) ts) (effect : A → Draft → Draft) where
+  abbrev rest : List A → Reader (List A)
+  rest items ts = many (always comma) (comma_item item) items ts
+
+  abbrev behind_comma : List A → Reader (List A)
+  behind_comma items ts = (item items ts >>= λ x. Got (items ++ x ∷ [])) >>= rest
+
+  comma_taken : (items : List A) (u : List Placed) → is_comma (first u) ≡ true → rest items u ≡ behind_comma items (after u)
+  comma_taken items u h = many_some closing (always comma) (comma_item item) (comma_loop item fine) tt items u (is_a_comma (first u) h)
+
+  abbrev pub list_begins : {start draft : Draft} {old now : Tokens} → Took (item []) effect start old now draft → IsLoaded now → work now < work old → InList item effect start old now draft
+  list_begins {start} {draft} {old} {now} t l f = record { items = t.tree ∷ []; runs = began (λ x. rest (x ∷ [])) t.runs; made = t.made; loaded = l; falls = f }
+
+  module _ {start draft : Draft} {old now : Tokens} (s : InList item effect start old now draft) where
+    module _ {mid : Tokens} (h : Advances now mid) (c : is_comma (first now.ahead) ≡ true) where
+      pub past_comma : Runs old mid (list_reader item) (behind_comma s.items)
+      past_comma = run_then s.runs (run_past h (λ u e l. comma_taken s.items u (ap is_comma e ∙ c)))
+
+      abbrev pub list_goes : {draft2 : Draft} {new : Tokens} → Took (item s.items) effect draft mid new draft2 → IsLoaded new → work new < work mid → InList item effect start old new draft2
+      list_goes {draft2} {new} t l f = record {
+        items = s.items ++ t.tree ∷ [];
+        runs = run_then past_comma (run_bind rest (run_bind (λ x. Got (s.items ++ x ∷ [])) t.runs));
+        made = t.made ∙ ap (effect t.tree) s.made ∙ sym (fold-append (λ b x. effect x b) start s.items (t.tree ∷ []));
+        loaded = l;
+        falls = let a = s.falls in let b = h.falls in omega (arith, f);
+      }
+
+      pub list_halts : (new : Tokens) (why : Halt) → Halts (item s.items) mid why new → Halts (list_reader item) old why new
+      list_halts new why k = halts_then old mid new (list_reader item) (λ v. item s.items v >>= λ x. Got (s.items ++ x ∷ [])) rest why past_comma (halts_first mid new (item s.items) (λ x. Got (s.items ++ x ∷ [])) why k)
+
+    pub list_breaks : {new : Tokens} → Breaks now new → Halts (list_reader item) old halt.Device new
+    list_breaks h = Moves-breaks s.runs h
+
+    pub list_ends : is_comma (first now.ahead) ≡ false → Runs old now (list_reader item) (λ v. Got s.items v)
+    list_ends h = run_then s.runs (run_here s.loaded (λ u e l. many_none (always comma) (comma_item item) s.items u (is_no_comma (first u) (ap is_comma e ∙ h))))
+
+-- things with commas between them, and the token behind them
+module _ {A B : Type 0} (item : List A → Reader A) (fine : (before : List A) (ts : List Placed) → Fine Closer (item before) ts) (effect : A → Draft → Draft) (is : Token → Bool) (made : List A → B) (effects : B → Draft → Draft) (same : (xs : List A) (d : Draft) → effects (made xs) d ≡ fold (λ b x. effect x b) d xs) where
+  abbrev closed : List A → Reader B
+  closed xs r = expect is r >>= λ o. Got (made xs)
+
+  abbrev whole : Reader B
+  whole ts = list_reader item ts >>= closed
+
+  pub closed_first : (old new : Tokens) (why : Halt) → Halts (item []) old why new → Halts whole old why new
+  closed_first old new why h = halts_first old new (list_reader item) closed why (list_first item old new why h)
+
+  module _ {start draft : Draft} {old now : Tokens} (s : InList item effect start old now draft) where
+    pub closed_comma : (mid new : Tokens) (why : Halt) → Advances now mid → is_comma (first now.ahead) ≡ true → Halts (item s.items) mid why new → Halts whole old why new
+    closed_comma mid new why h c k = halts_first old new (list_reader item) closed why (list_halts item fine effect s h c new why k)
+
+    pub closed_breaks : (new : Tokens) (why : Halt) → why ≡ halt.Device → Breaks now new → Halts whole old why new
+    closed_breaks new why e h = halts_first old new (list_reader item) closed why (device old new (list_reader item) why e (Moves-breaks s.runs h))
+
+    pub closed_ends : (draft2 : Draft) (new : Tokens) (r : Result (Unit {0}) Halt) → is_comma (first now.ahead) ≡ false → Takes is now r new → draft2 ≡ draft → Compiles (alone whole) effects old start r new draft2
+    closed_ends draft2 new (Ok o) c t e = (λ i. record { tree = made s.items; runs = went (λ o. Got (made s.items)) (began closed (list_ends item fine effect s c)) t.0; made = e ∙ s.made ∙ sym (same s.items start) }, t.1, below t.2)
+      where
+        below : work new < work now → work new < work old
+        below l = let f = s.falls in omega (arith, l)
+    closed_ends draft2 new (Err why) c t e = λ i. halts_then old now new whole (expect is) (λ o. Got (made s.items)) why (began closed (list_ends item fine effect s c)) t

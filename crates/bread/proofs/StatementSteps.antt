@@ -1,0 +1,483 @@
+-- How the calls that read statements go on.
+use Rattle.std.proofs.Common.{◌≡◌, ℕ, zero, suc, ◌+◌, ◌<◌, ◌≤◌, Bool, true, false, List, [], ◌∷◌, length, Option, Some, None, Result, Ok, Err, IsErrAnd, refl, sym, ap, ◌∙◌, subst, arith, add-one, if◌then◌else◌}
+use Rattle.std.specs.Option.{is_some}
+use Rattle.blex.specs.declared.token.Token.{Token}
+use Rattle.blex.specs.declared.token.Token.TheVariants as token
+use Rattle.blex.specs.declared.token.Keyword.{Keyword}
+use Rattle.blex.specs.declared.token.Keyword.TheVariants as keyword
+use Rattle.blex.specs.declared.token.Placed.{Placed}
+use Rattle.btree.specs.Expression.{Expr, words}
+use Rattle.btree.specs.Reading.{Read, Reader, Got, Stop, ◌>>=◌, first, line_of, after, expect, many}
+use Rattle.btree.specs.ExpressionReader.{is_close_paren, always, Rvalue, reader, inner}
+use Rattle.btree.specs.Statement.{Heading, Stmt, Headed, Compound, If, IfElse, While, Switch, Goto, Return, ReturnValue, Evaluate, Empty, Stmts, Nothing, More, statement_words, body_words}
+use Rattle.btree.specs.StatementReader.{is_open_paren, is_open_brace, is_close_brace, is_semicolon, is_else, Headings, No_heading, Then, headed, goes_on, Level, else_part, chosen, looped, one_more, body, compound, switched, tested, returned, stmt_at, level, statement}
+use Rattle.btree.specs.StatementReader as whole
+use Rattle.btree.proofs.Fine.{many_some, many_none}
+use Rattle.btree.proofs.StatementFine.{closing, Good, Room, full, some, has_level, body_loop}
+use Rattle.bcode.specs.declared.instr.Instr.{Instr}
+use Rattle.bcode.specs.declared.instr.Instr.TheVariants as instr
+use Rattle.bemit.specs.Views.{IfMade}
+use Rattle.bemit.specs.Drafts.{Draft, Faulty, Going, emitted, filled, place_of, begun}
+use Rattle.bemit.specs.Effects.{evaluated, done, all_done}
+use Rattle.bemit.specs.Effects as effects
+use Rattle.bexpr.specs.Tokens.{Tokens, IsLoaded, IsSingle, work, Moves, Runs, Breaks, Advances}
+use Rattle.bexpr.specs.Parsers.{Halts, TookWord, Enters}
+use Rattle.bexpr.specs.declared.halt.Halt.{Halt}
+use Rattle.bexpr.specs.declared.halt.Halt.TheVariants as halt
+use Rattle.bread.specs.Headings.{unheaded, IsHeadedBy, IsUnheaded, StopsHeading}
+use Rattle.bread.specs.Compiling.{Took, Compiles, Takes, TookHeading, FindsHeading}
+use Rattle.bread.specs.Statements.{behind, ended, evaluated_to, return_value, condition, conditional, repeated, statements, closed_switch, Chooses}
+use Rattle.bexpr.proofs.TokenSteps.{Moves-append, Moves-as, Moves-breaks}
+use Rattle.bexpr.proofs.Moving.{run_here, run_past, run_then, run_bind}
+use Rattle.bread.proofs.Steps.{began, went, halts_first, halts_then, halts_behind, run_seen}
+use Rattle.bread.proofs.Takings.{less, both_fall, falls_before, falls_after, falls_all}
+
+-- what a call reads, as a part of what its caller reads
+module _ {I A B : Type 0} (q : I → Reader B) (effects : B → Draft → Draft) (p : I → Reader A) (effect : A → Draft → Draft) (made : A → B) (same : (a : A) (d : Draft) → effects (made a) d ≡ effect a d) where
+  pub compiles_behind : (old mid : Tokens) (start : Draft) (r : Result (Unit {0}) Halt) (new : Tokens) (draft : Draft) → work mid ≤ work old → ((i : I) → Runs old mid (q i) (λ v. p i v >>= λ a. Got (made a))) → Compiles p effect mid start r new draft → Compiles q effects old start r new draft
+  compiles_behind old mid start (Ok u) new draft l m k = (λ i. let t = k.0 i in record { tree = made t.tree; runs = went (λ a. Got (made a)) (m i) t.runs; made = t.made ∙ sym (same t.tree start) }, k.1, falls_after l k.2)
+  compiles_behind old mid start (Err why) new draft l m k = λ i. halts_then old mid new (q i) (p i) (λ a. Got (made a)) why (m i) (k i)
+
+-- a reader with a token behind it
+closed_map : {A B : Type 0} (is : Token → Bool) (made : A → B) (x : Read A) → (x >>= λ a r. expect is r >>= λ o. Got (made a)) ≡ ((x >>= λ a r. expect is r >>= λ o. Got a) >>= λ a. Got (made a))
+closed_map {A} {B} is made (Got a r) = go (is (first r)) refl
+  where
+    go : (b : Bool) → is (first r) ≡ b → (expect is r >>= λ o. Got (made a)) ≡ ((expect is r >>= λ o. Got a) >>= λ a. Got (made a))
+    go true e = rw e refl
+    go false e = rw e refl
+closed_map is made (Stop r) = refl
+
+-- a rvalue and a semicolon
+module _ (room : ℕ) where
+  abbrev semicolon : Expr → Reader Expr
+  semicolon e r = expect is_semicolon r >>= λ o. Got e
+
+  pub ended_first : (off : ℕ) (old new : Tokens) (why : Halt) → Halts (reader room Rvalue off) old why new → Halts (ended room off) old why new
+  ended_first off old new why h = halts_first old new (reader room Rvalue off) semicolon why h
+
+  pub ended_then : (off : ℕ) (old mid new : Tokens) (e : Expr) (why : Halt) → Runs old mid (reader room Rvalue off) (λ v. Got e v) → Halts (expect is_semicolon) mid why new → Halts (ended room off) old why new
+  ended_then off old mid new e why r h = halts_then old mid new (ended room off) (expect is_semicolon) (λ o. Got e) why (began semicolon r) h
+
+  pub ended_took : {off : ℕ} {old mid new : Tokens} {start draft draft2 : Draft} (last : Instr) → TookWord (reader room Rvalue off) start old mid draft → Runs mid new (expect is_semicolon) (λ v. Got tt v) → draft2 ≡ emitted last draft → Took (ended room off) (evaluated_to last) start old new draft2
+  ended_took last t r e = record { tree = t.tree; runs = went (λ o. Got t.tree) (began semicolon t.runs) r; made = e ∙ ap (emitted last) t.made }
+
+  -- the value of a return
+  abbrev close_then : Expr → Reader Stmt
+  close_then e r = expect is_close_paren r >>= λ o r. expect is_semicolon r >>= λ o. Got (ReturnValue e)
+
+  pub value_first : (off : ℕ) (old new : Tokens) (why : Halt) → Halts (reader room Rvalue off) old why new → Halts (return_value room off) old why new
+  value_first off old new why h = halts_first old new (reader room Rvalue off) close_then why h
+
+  pub value_then : (off : ℕ) (old mid new : Tokens) (e : Expr) (why : Halt) → Runs old mid (reader room Rvalue off) (λ v. Got e v) → Halts (expect is_close_paren) mid why new → Halts (return_value room off) old why new
+  value_then off old mid new e why r h = halts_then old mid new (return_value room off) (expect is_close_paren) (λ o r. expect is_semicolon r >>= λ o. Got (ReturnValue e)) why (began close_then r) h
+
+  value_closed : {off : ℕ} {old mid next : Tokens} {e : Expr} → Runs old mid (reader room Rvalue off) (λ v. Got e v) → Runs mid next (expect is_close_paren) (λ v. Got tt v) → Runs old next (return_value room off) (λ r. expect is_semicolon r >>= λ o. Got (ReturnValue e))
+  value_closed {off} {old} {mid} {next} {e} r s = went (λ o r. expect is_semicolon r >>= λ o. Got (ReturnValue e)) (began close_then r) s
+
+  pub value_last : (off : ℕ) (old mid next new : Tokens) (e : Expr) (why : Halt) → Runs old mid (reader room Rvalue off) (λ v. Got e v) → Runs mid next (expect is_close_paren) (λ v. Got tt v) → Halts (expect is_semicolon) next why new → Halts (return_value room off) old why new
+  value_last off old mid next new e why r s h = halts_then old next new (return_value room off) (expect is_semicolon) (λ o. Got (ReturnValue e)) why (value_closed r s) h
+
+  pub value_took : {off : ℕ} {old mid next new : Tokens} {start draft draft2 : Draft} → TookWord (reader room Rvalue off) start old mid draft → Runs mid next (expect is_close_paren) (λ v. Got tt v) → Runs next new (expect is_semicolon) (λ v. Got tt v) → draft2 ≡ emitted instr.Return draft → Took (return_value room off) done start old new draft2
+  value_took t r s e = record { tree = ReturnValue t.tree; runs = went (λ o. Got (ReturnValue t.tree)) (value_closed t.runs r) s; made = e ∙ ap (emitted instr.Return) t.made }
+
+  -- a condition
+  abbrev shut : Expr → Reader Expr
+  shut e r = expect is_close_paren r >>= λ o. Got e
+
+  abbrev opened : Unit {0} → ℕ → Reader Expr
+  opened o off r = reader room Rvalue off r >>= shut
+
+  pub condition_first : (off : ℕ) (old new : Tokens) (why : Halt) → Halts (expect is_open_paren) old why new → Halts (condition room off) old why new
+  condition_first off old new why h = halts_first old new (expect is_open_paren) (λ o. opened o off) why h
+
+  condition_opened : {off : ℕ} {old mid : Tokens} → Runs old mid (expect is_open_paren) (λ v. Got tt v) → Runs old mid (condition room off) (λ r. reader room Rvalue off r >>= shut)
+  condition_opened {off} h = began (λ o. opened o off) h
+
+  pub condition_then : (off : ℕ) (old mid new : Tokens) (why : Halt) → Runs old mid (expect is_open_paren) (λ v. Got tt v) → Halts (reader room Rvalue off) mid why new → Halts (condition room off) old why new
+  condition_then off old mid new why r h = halts_then old mid new (condition room off) (reader room Rvalue off) shut why (condition_opened r) h
+
+  pub condition_ends : (old mid next : Tokens) (start d0 draft draft2 : Draft) (r : Result (Unit {0}) Halt) (new : Tokens) → work mid < work old → Runs old mid (expect is_open_paren) (λ v. Got tt v) → d0 ≡ start → ((off : ℕ) → TookWord (reader room Rvalue off) d0 mid next draft) → Takes is_close_paren next r new → draft2 ≡ draft → Compiles (condition room) evaluated old start r new draft2
+  condition_ends old mid next start d0 draft draft2 (Ok o) new l r same t k e = (λ off. let w = t off in record { tree = w.tree; runs = went (λ o. Got w.tree) (went shut (condition_opened r) w.runs) k.0; made = e ∙ w.made ∙ ap (evaluated w.tree) same }, k.1, let w = (t 0).runs.falls in falls_all l w k.2)
+  condition_ends old mid next start d0 draft draft2 (Err why) new l r same t k e = λ off. let w = t off in halts_then old next new (condition room off) (expect is_close_paren) (λ o. Got w.tree) why (went shut (condition_opened r) w.runs) k
+
+-- a level of nesting
+at_level : (room left : ℕ) → room ≡ left + 1 → level room ≡ level (suc left)
+at_level room left h = ap level (h ∙ add-one left)
+
+enter_same : (room : ℕ) (u : List Placed) → (level room).enter u ≡ (inner room).enter u
+enter_same zero u = refl
+enter_same (suc room) u = refl
+
+-- a token was taken that opens a level
+pub entered : {A : Type 0} {old new : Tokens} (room left : ℕ) (p q : Level → Reader A) → ((u : List Placed) → p (level (suc left)) u ≡ q (level (suc left)) (after u)) → (room ≡ left + 1) × Advances old new → Runs old new (p (level room)) (q (level (suc left)))
+entered {A} {old} {new} room left p q same h = run_past h.1 (λ u e l. ap (λ x. p x u) (at_level room left h.0) ∙ same u)
+
+pub enter_halts : {A : Type 0} (old new : Tokens) (room : ℕ) (f : Level → Unit {0} → Reader A) (why : Halt) → Halts (inner room).enter old why new → Halts (λ u. (level room).enter u >>= f (level room)) old why new
+enter_halts old new room f why h = halts_first old new (level room).enter (f (level room)) why (same why h)
+  where
+    same : (why : Halt) → Halts (inner room).enter old why new → Halts (level room).enter old why new
+    same halt.Fault h = (Moves-as (λ u v. (level room).enter u ≡ Stop v) (λ u v e. enter_same room u ∙ e) h.0, h.1)
+    same halt.Device h = h
+
+-- a condition behind its keyword
+shut_then : (behind : Expr → Reader Stmt) (y : Read Expr) → (y >>= λ e r. expect is_close_paren r >>= λ o. behind e) ≡ ((y >>= λ e r. expect is_close_paren r >>= λ o. Got e) >>= behind)
+shut_then behind (Got e r) = go (is_close_paren (first r)) refl
+  where
+    go : (b : Bool) → is_close_paren (first r) ≡ b → (expect is_close_paren r >>= λ o. behind e) ≡ ((expect is_close_paren r >>= λ o. Got e) >>= behind)
+    go true k = rw k refl
+    go false k = rw k refl
+shut_then behind (Stop r) = refl
+
+asked : (k off : ℕ) (behind : Expr → Reader Stmt) (x : Read (Unit {0})) → (x >>= λ o r. reader k Rvalue off r >>= λ e r. expect is_close_paren r >>= λ o. behind e) ≡ ((x >>= λ o r. reader k Rvalue off r >>= λ e r. expect is_close_paren r >>= λ o. Got e) >>= behind)
+asked k off behind (Got o r) = shut_then behind (reader k Rvalue off r)
+asked k off behind (Stop r) = refl
+
+module _ (room k off : ℕ) (old mid : Tokens) (h : (room ≡ k + 1) × Advances old mid) (behind : Level → ℕ → Expr → Reader Stmt) where
+  abbrev testing : Reader Stmt
+  testing ts = tested (level room) off (behind (level room) off) ts
+
+  pub tested_runs : Runs old mid testing (λ v. condition k off v >>= behind (level (suc k)) off)
+  tested_runs = entered room k (λ l ts. tested l off (behind l off) ts) (λ l ts. condition k off ts >>= behind l off) (λ u. asked k off (behind (level (suc k)) off) (expect is_open_paren (after u))) h
+
+  pub tested_halts : (new : Tokens) (why : Halt) → Halts (condition k off) mid why new → Halts testing old why new
+  tested_halts new why c = halts_then old mid new testing (condition k off) (behind (level (suc k)) off) why tested_runs c
+
+  module _ (next : Tokens) (e : Expr) (c : Runs mid next (condition k off) (λ v. Got e v)) (rest : Stmt → Reader Stmt) (is : (ts : List Placed) → behind (level (suc k)) off e ts ≡ (statement k (off + words e) ts >>= rest)) where
+    pub tested_on : Runs old next testing (λ v. statement k (off + words e) v >>= rest)
+    tested_on = Moves-as (λ u v. testing u ≡ (statement k (off + words e) v >>= rest)) (λ u v x. x ∙ is v) (went (behind (level (suc k)) off) tested_runs c)
+
+    pub tested_body_halts : (new : Tokens) (why : Halt) → Halts (statement k (off + words e)) next why new → Halts testing old why new
+    tested_body_halts new why x = halts_then old next new testing (statement k (off + words e)) rest why tested_on x
+
+pub tested_enter : (room off : ℕ) (old new : Tokens) (behind : Level → ℕ → Expr → Reader Stmt) (why : Halt) → Halts (inner room).enter old why new → Halts (λ ts. tested (level room) off (behind (level room) off) ts) old why new
+tested_enter room off old new behind why h = enter_halts old new room (λ l o ts. expect is_open_paren ts >>= λ o r. l.expr off r >>= λ e r. expect is_close_paren r >>= λ o. behind l off e) why h
+
+-- an if
+pub conditional_body : (room k off : ℕ) (old mid next new : Tokens) (h : (room ≡ k + 1) × Advances old mid) (e : Expr) (c : Runs mid next (condition k off) (λ v. Got e v)) (why : Halt) → Halts (statement k (off + words e)) next why new → Halts (conditional room off) old why new
+conditional_body room k off old mid next new h e c why x = tested_body_halts room k off old mid h chosen next e c (else_part (level (suc k)) off e) (λ ts. refl) new why x
+
+module _ (room k test : ℕ) (old mid next last : Tokens) (start d0 d1 d2 d3 : Draft) (h : (room ≡ k + 1) × Advances old mid) (same : d0 ≡ start) (c : (off : ℕ) → Took (condition k off) evaluated d0 mid next d1) (test_is : test ≡ place_of d1) (jumped : d2 ≡ emitted (instr.JumpIfZero 0) d1) (b : (off : ℕ) → Took (statement k off) done d2 next last d3) (less_b : work last < work next) where
+  evaluated_is : (off : ℕ) → d1 ≡ evaluated (c off).tree start
+  evaluated_is off = (c off).made ∙ ap (evaluated (c off).tree) same
+
+  body_of : (off : ℕ) → Took (statement k (off + words (c off).tree)) done d2 next last d3
+  body_of off = b (off + words (c off).tree)
+
+  pub conditional_ends : (r : Result (Unit {0}) Halt) (new : Tokens) (draft : Draft) → Chooses k test last d3 r new draft → Compiles (conditional room) done old start r new draft
+  conditional_ends (Ok o) new draft x = (took, x.1, falls_to x.2)
+    where
+      runs : (off : ℕ) → Runs old last (conditional room off) (else_part (level (suc k)) off (c off).tree (body_of off).tree)
+      runs off = went (else_part (level (suc k)) off (c off).tree) (tested_on room k off old mid h chosen next (c off).tree (c off).runs (else_part (level (suc k)) off (c off).tree) (λ ts. refl)) (body_of off).runs
+
+      took : (off : ℕ) → Took (conditional room off) done start old new draft
+      took off =
+          let t = x.0 off (c off).tree (body_of off).tree start (test_is ∙ ap place_of (evaluated_is off)) ((body_of off).made ∙ ap (done (body_of off).tree) (jumped ∙ ap (emitted (instr.JumpIfZero 0)) (evaluated_is off))) in
+          record { tree = t.tree; runs = run_then (runs off) t.runs; made = t.made }
+
+      falls_to : work new ≤ work last → work new < work old
+      falls_to l = let a = h.1.falls in let m = (c 0).runs.falls in omega (arith, l, less_b)
+  conditional_ends (Err why) new draft x = λ off. halts_behind old last new (conditional room off) (else_part (level (suc k)) off (c off).tree (body_of off).tree) why (went (else_part (level (suc k)) off (c off).tree) (tested_on room k off old mid h chosen next (c off).tree (c off).runs (else_part (level (suc k)) off (c off).tree) (λ ts. refl)) (body_of off).runs) (x off (c off).tree (body_of off).tree)
+
+-- the jumps round two statements
+joined : (other s : Stmt) (d : Draft) (test jump : ℕ) (f d1 d2 g : Draft) → test ≡ place_of d → f ≡ done s (emitted (instr.JumpIfZero 0) d) → jump ≡ place_of f → d1 ≡ emitted (instr.Jump 0) f → d2 ≡ filled test (instr.JumpIfZero (place_of d1)) d1 → g ≡ done other d2 → filled jump (instr.Jump (place_of g)) g ≡ effects.arms (λ b. done s b) (λ b. done other b) d
+joined other s d test jump f d1 d2 g at b j e1 e2 o = rw (o, e2, e1, j, b, at) refl
+
+-- behind the statement of an if
+pub otherwise_absent : (k test : ℕ) (old : Tokens) (start draft : Draft) → IsSingle old → is_else (first old.ahead) ≡ false → draft ≡ filled test (instr.JumpIfZero (place_of start)) start → Chooses k test old start (Ok tt) old draft
+otherwise_absent k test old start draft l n f = (took, l, omega arith)
+  where
+    took : (off : ℕ) (e : Expr) (s : Stmt) (d : Draft) → test ≡ place_of (evaluated e d) → start ≡ done s (emitted (instr.JumpIfZero 0) (evaluated e d)) → Took (else_part (level (suc k)) off e s) done d old old draft
+    took off e s d t b = record {
+      tree = If e s;
+      runs = run_here {g = λ v. Got (If e s) v} l.0 (λ u f m. ap (λ b. if b then statement k (off + words e + statement_words s) (after u) >>= (λ other. Got (IfElse e s other)) else Got (If e s) u) (ap is_else f ∙ n));
+      made = f ∙ ap (λ p. filled p (instr.JumpIfZero (place_of start)) start) t ∙ ap (λ x. filled (place_of (evaluated e d)) (instr.JumpIfZero (place_of x)) x) b;
+    }
+
+module _ (k : ℕ) (old mid : Tokens) (a : Advances old mid) (y : is_else (first old.ahead) ≡ true) where
+  else_runs : (off : ℕ) (e : Expr) (s : Stmt) → Runs old mid (else_part (level (suc k)) off e s) (λ v. statement k (off + words e + statement_words s) v >>= λ other. Got (IfElse e s other))
+  else_runs off e s = run_past a (λ u f m. ap (λ b. if b then statement k (off + words e + statement_words s) (after u) >>= (λ other. Got (IfElse e s other)) else Got (If e s) u) (ap is_else f ∙ y))
+
+  pub otherwise_halts : (off : ℕ) (e : Expr) (s : Stmt) (new : Tokens) (why : Halt) → Halts (statement k (off + words e + statement_words s)) mid why new → Halts (else_part (level (suc k)) off e s) old why new
+  otherwise_halts off e s new why h = halts_then old mid new (else_part (level (suc k)) off e s) (statement k (off + words e + statement_words s)) (λ other. Got (IfElse e s other)) why (else_runs off e s) h
+
+  pub otherwise_took : (test jump : ℕ) (new : Tokens) (start d1 d2 d3 draft : Draft) → jump ≡ place_of start → d1 ≡ emitted (instr.Jump 0) start → d2 ≡ filled test (instr.JumpIfZero (place_of d1)) d1 → ((off : ℕ) → Took (statement k off) done d2 mid new d3) → IsSingle new → work new < work mid → draft ≡ filled jump (instr.Jump (place_of d3)) d3 → Chooses k test old start (Ok tt) new draft
+  otherwise_took test jump new start d1 d2 d3 draft j e1 e2 t l f x = (took, l, let b = a.falls in omega (arith, f))
+    where
+      took : (off : ℕ) (e : Expr) (s : Stmt) (d : Draft) → test ≡ place_of (evaluated e d) → start ≡ done s (emitted (instr.JumpIfZero 0) (evaluated e d)) → Took (else_part (level (suc k)) off e s) done d old new draft
+      took off e s d at b =
+          let o = t (off + words e + statement_words s) in
+          record {
+            tree = IfElse e s o.tree;
+            runs = went (λ other. Got (IfElse e s other)) (else_runs off e s) o.runs;
+            made = x ∙ joined o.tree s (evaluated e d) test jump start d1 d2 d3 at b j e1 e2 o.made;
+          }
+
+pub chooses_err : (k test : ℕ) (old : Tokens) (start : Draft) (r : Result (Unit {0}) Halt) (new : Tokens) (draft : Draft) (why : Halt) → IsErrAnd r (λ y. y ≡ why) → ((off : ℕ) (e : Expr) (s : Stmt) → Halts (else_part (level (suc k)) off e s) old why new) → Chooses k test old start r new draft
+chooses_err k test old start (Ok o) new draft why e h = absurd e
+chooses_err k test old start (Err w) new draft why e h = λ off x s. subst (λ y. Halts (else_part (level (suc k)) off x s) old y new) (sym e) (h off x s)
+
+-- a while
+pub repeated_body : (room k off : ℕ) (old mid next new : Tokens) (h : (room ≡ k + 1) × Advances old mid) (e : Expr) (c : Runs mid next (condition k off) (λ v. Got e v)) (why : Halt) → Halts (statement k (off + words e)) next why new → Halts (repeated room off) old why new
+repeated_body room k off old mid next new h e c why x = tested_body_halts room k off old mid h looped next e c (λ s. Got (While e s)) (λ ts. refl) new why x
+
+-- a jump back behind the statement, and one past it
+jumped_back : (s : Stmt) (d f start : Draft) (top test : ℕ) (d2 g draft : Draft) → top ≡ place_of start → test ≡ place_of d → d2 ≡ emitted (instr.JumpIfZero 0) d → f ≡ done s d2 → g ≡ emitted (instr.Jump top) f → draft ≡ filled test (instr.JumpIfZero (place_of g)) g → draft ≡ effects.skipping (λ b. emitted (instr.Jump (place_of start)) (done s b)) d
+jumped_back s d f start top test d2 g draft t e b o j x = x ∙ rw (j, o, b, t, e) refl
+
+pub repeated_took : (room k top test : ℕ) (old mid next new : Tokens) (start d0 d1 d2 d3 d4 draft : Draft) (h : (room ≡ k + 1) × Advances old mid) → top ≡ place_of start → d0 ≡ start → ((off : ℕ) → Took (condition k off) evaluated d0 mid next d1) → test ≡ place_of d1 → d2 ≡ emitted (instr.JumpIfZero 0) d1 → ((off : ℕ) → Took (statement k off) done d2 next new d3) → d4 ≡ emitted (instr.Jump top) d3 → draft ≡ filled test (instr.JumpIfZero (place_of d4)) d4 → (off : ℕ) → Took (repeated room off) done start old new draft
+repeated_took room k top test old mid next new start d0 d1 d2 d3 d4 draft h t same c at j b back x off =
+    let w = c off in
+    let s = b (off + words w.tree) in
+    record {
+      tree = While w.tree s.tree;
+      runs = went (λ s. Got (While w.tree s)) (tested_on room k off old mid h looped next w.tree w.runs (λ s. Got (While w.tree s)) (λ ts. refl)) s.runs;
+      made = jumped_back s.tree d1 d3 start top test d2 d4 draft t at j s.made back x ∙ ap (effects.skipping (λ b. emitted (instr.Jump (place_of start)) (done s.tree b))) (w.made ∙ ap (evaluated w.tree) same);
+    }
+
+-- statements in braces
+body_map : (k off : ℕ) (made : Stmts → Stmt) (u : List Placed) → body (level (suc k)) off made u ≡ (statements k off u >>= λ ss. Got (made ss))
+body_map k off made u = closed_map is_close_brace made (many (always goes_on) (one_more (level (suc k)) off) Nothing u)
+
+pub compound_enter : (room off : ℕ) (old new : Tokens) (why : Halt) → Halts (inner room).enter old why new → Halts (compound (level room) off) old why new
+compound_enter room off old new why h = enter_halts old new room (λ l o. body l off Compound) why h
+
+pub compound_ends : (room k : ℕ) (old mid : Tokens) (start d0 : Draft) (r : Result (Unit {0}) Halt) (new : Tokens) (draft : Draft) → (room ≡ k + 1) × Advances old mid → d0 ≡ start → Compiles (statements k) all_done mid d0 r new draft → Compiles (compound (level room)) done old start r new draft
+compound_ends room k old mid start d0 r new draft h same x =
+    compiles_behind (compound (level room)) done (statements k) all_done Compound (λ a d. refl) old mid start r new draft h.1.moves.falls
+    (λ off. entered room k (λ l. compound l off) (λ l u. statements k off u >>= λ ss. Got (Compound ss)) (λ u. body_map k off Compound (after u)) h)
+    (subst (λ d. Compiles (statements k) all_done mid d r new draft) same x)
+
+-- a switch
+abbrev switch_body : Level → ℕ → Expr → Reader Stmt
+switch_body l off e r = expect is_open_brace r >>= λ o. body l (off + words e) (Switch e)
+
+pub switched_enter : (room off : ℕ) (old new : Tokens) (why : Halt) → Halts (inner room).enter old why new → Halts (switched (level room) off) old why new
+switched_enter room off old new why h = enter_halts old new room (λ l o r. l.expr off r >>= switch_body l off) why h
+
+module _ (room k off : ℕ) (old mid : Tokens) (h : (room ≡ k + 1) × Advances old mid) where
+  switched_runs : Runs old mid (switched (level room) off) (λ v. reader k Rvalue off v >>= switch_body (level (suc k)) off)
+  switched_runs = entered room k (λ l. switched l off) (λ l r. l.expr off r >>= switch_body l off) (λ u. refl) h
+
+  pub switched_value : (new : Tokens) (why : Halt) → Halts (reader k Rvalue off) mid why new → Halts (switched (level room) off) old why new
+  switched_value new why x = halts_then old mid new (switched (level room) off) (reader k Rvalue off) (switch_body (level (suc k)) off) why switched_runs x
+
+  module _ (next : Tokens) (e : Expr) (c : Runs mid next (reader k Rvalue off) (λ v. Got e v)) where
+    switched_open : Runs old next (switched (level room) off) (switch_body (level (suc k)) off e)
+    switched_open = went (switch_body (level (suc k)) off) switched_runs c
+
+    pub switched_brace : (new : Tokens) (why : Halt) → Halts (expect is_open_brace) next why new → Halts (switched (level room) off) old why new
+    switched_brace new why x = halts_then old next new (switched (level room) off) (expect is_open_brace) (λ o. body (level (suc k)) (off + words e) (Switch e)) why switched_open x
+
+    module _ (last : Tokens) (o : Runs next last (expect is_open_brace) (λ v. Got tt v)) where
+      switched_body : Runs old last (switched (level room) off) (λ v. statements k (off + words e) v >>= λ ss. Got (Switch e ss))
+      switched_body = Moves-as (λ u v. switched (level room) off u ≡ (statements k (off + words e) v >>= λ ss. Got (Switch e ss))) (λ u v x. x ∙ body_map k (off + words e) (Switch e) v) (went (λ o. body (level (suc k)) (off + words e) (Switch e)) switched_open o)
+
+      pub switched_body_halts : (new : Tokens) (why : Halt) → Halts (statements k (off + words e)) last why new → Halts (switched (level room) off) old why new
+      switched_body_halts new why x = halts_then old last new (switched (level room) off) (statements k (off + words e)) (λ ss. Got (Switch e ss)) why switched_body x
+
+      pub switched_took : (jump : ℕ) (new : Tokens) (start d1 d2 d3 d4 draft : Draft) → d1 ≡ evaluated e start → jump ≡ place_of d1 → d2 ≡ emitted (instr.Jump 0) d1 → d3 ≡ begun d2 → Took (statements k (off + words e)) all_done d3 last new d4 → draft ≡ closed_switch jump d4 → Took (switched (level room) off) done start old new draft
+      switched_took jump new start d1 d2 d3 d4 draft v j e2 e3 b x = record { tree = Switch e b.tree; runs = went (λ ss. Got (Switch e ss)) switched_body b.runs; made = x ∙ rw (b.made, e3, e2, j, v) refl }
+
+-- the loop of a body
+good_at : (k : ℕ) → Good (level (suc k))
+good_at k = go (has_level (suc k))
+  where
+    go : Room (level (suc k)) → Good (level (suc k))
+    go (full st) = let n : Got tt [] ≡ Stop [] = st [] in cc
+    go (some eq good) = good
+
+-- the statements so far
+pub record InBody (room off : ℕ) (start : Draft) (old now : Tokens) (draft : Draft) : Type 0 where
+  pub body : Stmts
+  pub runs : Runs old now (statements room off) (λ v. many (always goes_on) (one_more (level (suc room)) off) body v >>= λ ss r. expect is_close_brace r >>= λ o. Got ss)
+  pub made : draft ≡ all_done body start
+
+pub body_begins : (room off : ℕ) (start : Draft) (old : Tokens) → IsLoaded old → InBody room off start old old start
+body_begins room off start old l = record { body = Nothing; runs = run_here l (λ u e m. refl); made = refl }
+
+is_further : (t : Token) → is_some (goes_on t) ≡ true → goes_on t ≡ Some tt
+is_further t h = at (goes_on t) refl h
+  where
+    at : (o : Option (Unit {0})) → goes_on t ≡ o → is_some (goes_on t) ≡ true → goes_on t ≡ Some tt
+    at (Some u) e h = e
+    at None e h = let n : is_some (goes_on t) ≡ false = ap is_some e in cc
+
+is_over : (t : Token) → is_some (goes_on t) ≡ false → goes_on t ≡ None
+is_over t h = at (goes_on t) refl h
+  where
+    at : (o : Option (Unit {0})) → goes_on t ≡ o → is_some (goes_on t) ≡ false → goes_on t ≡ None
+    at (Some u) e h = let n : is_some (goes_on t) ≡ true = ap is_some e in cc
+    at None e h = e
+
+module _ (room off : ℕ) (start : Draft) (old now : Tokens) (draft : Draft) (b : InBody room off start old now draft) (l : IsLoaded now) where
+  abbrev end_of : Stmts → Reader Stmts
+  end_of ss r = expect is_close_brace r >>= λ o. Got ss
+
+  abbrev more : Stmts → Reader Stmts
+  more ss r = many (always goes_on) (one_more (level (suc room)) off) ss r >>= end_of
+
+  module _ (g : is_some (goes_on (first now.ahead)) ≡ true) where
+    body_runs : Runs old now (statements room off) (λ v. statement room (off + body_words b.body) v >>= λ s. more (More b.body s))
+    body_runs = run_then b.runs (run_here l (λ u e m. ap (λ x. x >>= end_of) (many_some closing (always goes_on) (one_more (level (suc room)) off) (body_loop (level (suc room)) (good_at room) off) tt b.body u (ap goes_on e ∙ is_further (first now.ahead) g)) ∙ nested (statement room (off + body_words b.body) u)))
+      where
+        nested : (x : Read Stmt) → (((x >>= λ s. Got (More b.body s)) >>= many (always goes_on) (one_more (level (suc room)) off)) >>= end_of) ≡ (x >>= λ s. more (More b.body s))
+        nested (Got s r) = refl
+        nested (Stop r) = refl
+
+    pub body_goes : (new : Tokens) (draft2 : Draft) → Took (statement room (off + body_words b.body)) done draft now new draft2 → InBody room off start old new draft2
+    body_goes new draft2 t = record { body = More b.body t.tree; runs = went (λ s. more (More b.body s)) body_runs t.runs; made = t.made ∙ ap (done t.tree) b.made }
+
+    pub body_halts : (new : Tokens) (why : Halt) → Halts (statement room (off + body_words b.body)) now why new → Halts (statements room off) old why new
+    body_halts new why h = halts_then old now new (statements room off) (statement room (off + body_words b.body)) (λ s. more (More b.body s)) why body_runs h
+
+  module _ (g : is_some (goes_on (first now.ahead)) ≡ false) where
+    body_over : Runs old now (statements room off) (end_of b.body)
+    body_over = run_then b.runs (run_here l (λ u e m. ap (λ x. x >>= end_of) (many_none (always goes_on) (one_more (level (suc room)) off) b.body u (ap goes_on e ∙ is_over (first now.ahead) g))))
+
+    pub body_took : (new : Tokens) (draft2 : Draft) → Runs now new (expect is_close_brace) (λ v. Got tt v) → draft2 ≡ draft → Took (statements room off) all_done start old new draft2
+    body_took new draft2 r e = record { tree = b.body; runs = went (λ o. Got b.body) body_over r; made = e ∙ b.made }
+
+    pub body_stops : (new : Tokens) (why : Halt) → Halts (expect is_close_brace) now why new → Halts (statements room off) old why new
+    body_stops new why h = halts_then old now new (statements room off) (expect is_close_brace) (λ o. Got b.body) why body_over h
+
+pub body_ends : (room : ℕ) (start : Draft) (old now : Tokens) (draft : Draft) → ((off : ℕ) → InBody room off start old now draft) → IsLoaded now → is_some (goes_on (first now.ahead)) ≡ false → (r : Result (Unit {0}) Halt) (new : Tokens) (draft2 : Draft) → Takes is_close_brace now r new → draft2 ≡ draft → Compiles (statements room) all_done old start r new draft2
+body_ends room start old now draft b l g (Ok o) new draft2 t e = (λ off. body_took room off start old now draft (b off) l g new draft2 t.0 e, t.1, falls_after (b 0).runs.falls t.2)
+body_ends room start old now draft b l g (Err why) new draft2 t e = λ off. body_stops room off start old now draft (b off) l g new why t
+
+-- what another reader does with these tokens
+pub compiles_as : {A : Type 0} (q p : ℕ → Reader A) (effect : A → Draft → Draft) (old : Tokens) (start : Draft) (r : Result (Unit {0}) Halt) (new : Tokens) (draft : Draft) → IsLoaded old → ((off : ℕ) (u : List Placed) → first u ≡ first old.ahead → q off u ≡ p off u) → Compiles p effect old start r new draft → Compiles q effect old start r new draft
+compiles_as q p effect old start (Ok o) new draft l same k = (λ off. let t = k.0 off in record { tree = t.tree; runs = run_then (run_here l (λ u e m. same off u e)) t.runs; made = t.made }, k.1, k.2)
+compiles_as q p effect old start (Err why) new draft l same k = λ off. halts_behind old old new (q off) (p off) why (run_here l (λ u e m. same off u e)) (k off)
+
+-- by the token that comes
+pub at_brace : (room : ℕ) (old : Tokens) → first old.ahead ≡ token.OpenBrace → (off : ℕ) (u : List Placed) → first u ≡ first old.ahead → unheaded room off u ≡ compound (level room) off u
+at_brace room old h off u e = ap (λ t. stmt_at room (level room) off t u) (e ∙ h)
+
+pub empty_ends : (room : ℕ) (old : Tokens) (start : Draft) (r : Result (Unit {0}) Halt) (new : Tokens) (draft : Draft) → IsLoaded old → first old.ahead ≡ token.Semicolon → Takes is_semicolon old r new → draft ≡ start → Compiles (unheaded room) done old start r new draft
+empty_ends room old start r new draft l h t e = go r t
+  where
+    is : (off : ℕ) (u : List Placed) → first u ≡ first old.ahead → unheaded room off u ≡ (expect is_semicolon u >>= λ o. Got Empty)
+    is off u f = ap (λ t. stmt_at room (level room) off t u) (f ∙ h) ∙ ap (λ t. (if is_semicolon t then Got tt (after u) else Stop u) >>= λ o. Got Empty) (sym (f ∙ h))
+
+    go : (r : Result (Unit {0}) Halt) → Takes is_semicolon old r new → Compiles (unheaded room) done old start r new draft
+    go (Ok o) t = (λ off. record { tree = Empty; runs = went (λ o. Got Empty) (run_here l (λ u f m. is off u f)) t.0; made = e }, t.1, t.2)
+    go (Err why) t = λ off. halts_then old old new (unheaded room off) (expect is_semicolon) (λ o. Got Empty) why (run_here l (λ u f m. is off u f)) t
+
+pub ends_with : (room : ℕ) (made : Expr → Stmt) (last : Instr) → ((e : Expr) (d : Draft) → done (made e) d ≡ emitted last (evaluated e d)) → (q : ℕ → Reader Stmt) (old mid : Tokens) (start : Draft) (r : Result (Unit {0}) Halt) (new : Tokens) (draft : Draft) → work mid ≤ work old → ((off : ℕ) → Runs old mid (q off) (λ v. whole.ended room off made v)) → Compiles (ended room) (evaluated_to last) mid start r new draft → Compiles q done old start r new draft
+ends_with room made last same q old mid start r new draft l m k =
+    compiles_behind q done (ended room) (evaluated_to last) made same old mid start r new draft l (λ off. Moves-as (λ u v. q off u ≡ (ended room off v >>= λ e. Got (made e))) (λ u v x. x ∙ closed_map is_semicolon made (reader room Rvalue off v)) (m off)) k
+
+plain_at : (room off : ℕ) (t : Token) (u : List Placed) → (t ≡ token.OpenBrace → ⊥) → (t ≡ token.Semicolon → ⊥) → ((k : Keyword) → t ≡ token.Keyword k → ⊥) → stmt_at room (level room) off t u ≡ whole.ended room off Evaluate u
+plain_at room off token.OpenBrace u a b c = absurd (a refl)
+plain_at room off token.Semicolon u a b c = absurd (b refl)
+plain_at room off (token.Keyword k) u a b c = absurd (c k refl)
+plain_at room off _ u a b c = refl
+
+pub plain_ends : (room : ℕ) (old : Tokens) (start : Draft) (r : Result (Unit {0}) Halt) (new : Tokens) (draft : Draft) → IsLoaded old → (first old.ahead ≡ token.OpenBrace → ⊥) → (first old.ahead ≡ token.Semicolon → ⊥) → ((k : Keyword) → first old.ahead ≡ token.Keyword k → ⊥) → Compiles (ended room) (evaluated_to instr.Pop) old start r new draft → Compiles (unheaded room) done old start r new draft
+plain_ends room old start r new draft l a b c k =
+    ends_with room Evaluate instr.Pop (λ e d. refl) (unheaded room) old old start r new draft (omega arith) (λ off. run_here l (λ u e m. ap (λ t. stmt_at room (level room) off t u) e ∙ plain_at room off (first old.ahead) u a b c)) k
+
+-- by the keyword that comes
+at_keyword : (room off : ℕ) (old : Tokens) (k : Keyword) (u : List Placed) → first old.ahead ≡ token.Keyword k → first u ≡ first old.ahead → unheaded room off u ≡ stmt_at room (level room) off (token.Keyword k) u
+at_keyword room off old k u h e = ap (λ t. stmt_at room (level room) off t u) (e ∙ h)
+
+pub at_if : (room : ℕ) (old : Tokens) → first old.ahead ≡ token.Keyword keyword.If → (off : ℕ) (u : List Placed) → first u ≡ first old.ahead → unheaded room off u ≡ conditional room off u
+at_if room old h off u e = at_keyword room off old keyword.If u h e
+
+pub at_while : (room : ℕ) (old : Tokens) → first old.ahead ≡ token.Keyword keyword.While → (off : ℕ) (u : List Placed) → first u ≡ first old.ahead → unheaded room off u ≡ repeated room off u
+at_while room old h off u e = at_keyword room off old keyword.While u h e
+
+pub at_switch : (room : ℕ) (old : Tokens) → first old.ahead ≡ token.Keyword keyword.Switch → (off : ℕ) (u : List Placed) → first u ≡ first old.ahead → unheaded room off u ≡ switched (level room) off u
+at_switch room old h off u e = at_keyword room off old keyword.Switch u h e
+
+pub at_goto : (room : ℕ) (old : Tokens) → first old.ahead ≡ token.Keyword keyword.Goto → (off : ℕ) (u : List Placed) → first u ≡ first old.ahead → unheaded room off u ≡ behind (λ off. whole.ended room off Goto) off u
+at_goto room old h off u e = at_keyword room off old keyword.Goto u h e
+
+pub goto_ends : (room : ℕ) (old mid : Tokens) (start : Draft) (r : Result (Unit {0}) Halt) (new : Tokens) (draft : Draft) → Advances old mid → Compiles (ended room) (evaluated_to instr.Goto) mid start r new draft → Compiles (behind (λ off. whole.ended room off Goto)) done old start r new draft
+goto_ends room old mid start r new draft a k = ends_with room Goto instr.Goto (λ e d. refl) (behind (λ off. whole.ended room off Goto)) old mid start r new draft a.moves.falls (λ off. run_past a (λ u e l. refl)) k
+
+pub return_ends : (room : ℕ) (old mid : Tokens) (start : Draft) (r : Result (Unit {0}) Halt) (new : Tokens) (draft : Draft) → first old.ahead ≡ token.Keyword keyword.Return → Advances old mid → Compiles (returned room) done mid start r new draft → Compiles (unheaded room) done old start r new draft
+return_ends room old mid start (Ok o) new draft h a k = (λ off. let t = k.0 off in record { tree = t.tree; runs = run_then (run_past a (λ u e l. at_keyword room off old keyword.Return u h e)) t.runs; made = t.made }, k.1, falls_after a.moves.falls k.2)
+return_ends room old mid start (Err why) new draft h a k = λ off. halts_behind old mid new (unheaded room off) (returned room off) why (run_past a (λ u e l. at_keyword room off old keyword.Return u h e)) (k off)
+
+other_keyword : (room off : ℕ) (k : Keyword) (u : List Placed) → (k ≡ keyword.If → ⊥) → (k ≡ keyword.While → ⊥) → (k ≡ keyword.Switch → ⊥) → (k ≡ keyword.Goto → ⊥) → (k ≡ keyword.Return → ⊥) → stmt_at room (level room) off (token.Keyword k) u ≡ whole.ended room off Evaluate u
+other_keyword room off keyword.If u a b c d e = absurd (a refl)
+other_keyword room off keyword.While u a b c d e = absurd (b refl)
+other_keyword room off keyword.Switch u a b c d e = absurd (c refl)
+other_keyword room off keyword.Goto u a b c d e = absurd (d refl)
+other_keyword room off keyword.Return u a b c d e = absurd (e refl)
+other_keyword room off _ u a b c d e = refl
+
+pub other_ends : (room : ℕ) (k : Keyword) (old : Tokens) (start : Draft) (r : Result (Unit {0}) Halt) (new : Tokens) (draft : Draft) → IsLoaded old → first old.ahead ≡ token.Keyword k → (k ≡ keyword.If → ⊥) → (k ≡ keyword.While → ⊥) → (k ≡ keyword.Switch → ⊥) → (k ≡ keyword.Goto → ⊥) → (k ≡ keyword.Return → ⊥) → Compiles (ended room) (evaluated_to instr.Pop) old start r new draft → Compiles (unheaded room) done old start r new draft
+other_ends room k old start r new draft l h a b c d e x =
+    ends_with room Evaluate instr.Pop (λ e d. refl) (unheaded room) old old start r new draft (omega arith) (λ off. run_here l (λ u f m. at_keyword room off old k u h f ∙ other_keyword room off k u a b c d e)) x
+
+-- a return
+module _ (room : ℕ) (old : Tokens) where
+  module _ (mid : Tokens) (a : Advances old mid) (p : is_open_paren (first old.ahead) ≡ true) where
+    value_behind : (off : ℕ) → Runs old mid (returned room off) (return_value room off)
+    value_behind off = run_past a (λ u e l. ap (λ b. if b then return_value room off (after u) else expect is_semicolon u >>= (λ o. Got Return)) (ap is_open_paren e ∙ p))
+
+    pub returned_value : (start : Draft) (r : Result (Unit {0}) Halt) (new : Tokens) (draft : Draft) → Compiles (return_value room) done mid start r new draft → Compiles (returned room) done old start r new draft
+    returned_value start (Ok o) new draft k = (λ off. let t = k.0 off in record { tree = t.tree; runs = run_then (value_behind off) t.runs; made = t.made }, k.1, falls_after a.moves.falls k.2)
+    returned_value start (Err why) new draft k = λ off. halts_behind old mid new (returned room off) (return_value room off) why (value_behind off) (k off)
+
+  module _ (l : IsLoaded old) (p : is_open_paren (first old.ahead) ≡ false) where
+    bare : (off : ℕ) → Runs old old (returned room off) (λ u. expect is_semicolon u >>= (λ o. Got Return))
+    bare off = run_here l (λ u e m. ap (λ b. if b then return_value room off (after u) else expect is_semicolon u >>= (λ o. Got Return)) (ap is_open_paren e ∙ p))
+
+    pub returned_halts : (off : ℕ) (new : Tokens) (why : Halt) → Halts (expect is_semicolon) old why new → Halts (returned room off) old why new
+    returned_halts off new why h = halts_then old old new (returned room off) (expect is_semicolon) (λ o. Got Return) why (bare off) h
+
+    pub returned_took : (off : ℕ) (new : Tokens) (start d1 d2 draft : Draft) → Runs old new (expect is_semicolon) (λ v. Got tt v) → d1 ≡ start → d2 ≡ emitted (instr.Constant 0) d1 → draft ≡ emitted instr.Return d2 → Took (returned room off) done start old new draft
+    returned_took off new start d1 d2 draft r e1 e2 e3 = record { tree = Return; runs = went (λ o. Got Return) (bare off) r; made = e3 ∙ rw (e2, e1) refl }
+
+-- headings
+pub record InHeadings (start : Draft) (old now : Tokens) (draft : Draft) : Type 0 where
+  pub headings : Headings
+  pub moves : Moves old now (λ u v. (room off : ℕ) → statement room off u ≡ (statement room off v >>= λ s. Got (headed headings s)))
+  pub made : (s : Stmt) → done (headed headings s) start ≡ done s draft
+  pub loaded : IsLoaded now
+
+unchanged : (x : Read Stmt) → x ≡ (x >>= λ s. Got s)
+unchanged (Got s r) = refl
+unchanged (Stop r) = refl
+
+pub headings_begin : (start : Draft) (old : Tokens) → IsLoaded old → InHeadings start old old start
+headings_begin start old l = record { headings = No_heading; moves = run_seen l (λ u more e f m room off. unchanged (statement room off u)); made = λ s. refl; loaded = l }
+
+module _ {start draft : Draft} {old now : Tokens} (b : InHeadings start old now draft) where
+  abbrev Behind_headings : List Placed → List Placed → Type 0
+  Behind_headings u v = (room off : ℕ) → statement room off u ≡ (statement room off v >>= λ s. Got (headed b.headings s))
+
+  one_further : (h : Heading) (x : Read Stmt) → ((x >>= λ s. Got (Headed h s)) >>= λ s. Got (headed b.headings s)) ≡ (x >>= λ s. Got (headed b.headings (Headed h s)))
+  one_further h (Got s r) = refl
+  one_further h (Stop r) = refl
+
+  pub headings_go : {new : Tokens} {draft2 : Draft} → TookHeading draft now new draft2 → InHeadings start old new draft2
+  headings_go {new} {draft2} t = record {
+    headings = Then b.headings t.heading;
+    moves = Moves-append {P = Behind_headings} {Q = IsHeadedBy t.heading} (λ u w. (room off : ℕ) → statement room off u ≡ (statement room off w >>= λ s. Got (headed b.headings (Headed t.heading s)))) (λ u v w p q room off. p room off ∙ ap (λ x. x >>= λ s. Got (headed b.headings s)) (q room off) ∙ one_further t.heading (statement room off w)) b.moves t.moves;
+    made = λ s. b.made (Headed t.heading s) ∙ ap (done s) (sym t.made);
+    loaded = t.loaded;
+  }
+
+  pub headings_stop : (new : Tokens) (draft2 : Draft) (why : Halt) → FindsHeading now draft (Err why) new draft2 → (room off : ℕ) → Halts (statement room off) old why new
+  headings_stop new draft2 halt.Fault h room off = (Moves-append {P = Behind_headings} {Q = StopsHeading} (λ u w. statement room off u ≡ Stop w) (λ u v w p q. p room off ∙ ap (λ x. x >>= λ s. Got (headed b.headings s)) (q room off)) b.moves h.0, h.1)
+  headings_stop new draft2 halt.Device h room off = Moves-breaks b.moves h
+
+  pub headings_end : (room : ℕ) (mid : Tokens) (d : Draft) → Moves now mid IsUnheaded × IsLoaded mid × (d ≡ draft) → (r : Result (Unit {0}) Halt) (new : Tokens) (draft2 : Draft) → Compiles (unheaded room) done mid d r new draft2 → Compiles (statement room) done old start r new draft2
+  headings_end room mid d h r new draft2 k = go r k
+    where
+      on : (off : ℕ) → Runs old mid (statement room off) (λ v. unheaded room off v >>= λ s. Got (headed b.headings s))
+      on off = Moves-append {P = Behind_headings} {Q = IsUnheaded} (λ u w. statement room off u ≡ (unheaded room off w >>= λ s. Got (headed b.headings s))) (λ u v w p q. p room off ∙ ap (λ x. x >>= λ s. Got (headed b.headings s)) (q room off)) b.moves h.0
+
+      go : (r : Result (Unit {0}) Halt) → Compiles (unheaded room) done mid d r new draft2 → Compiles (statement room) done old start r new draft2
+      go (Ok o) k = (λ off. let t = k.0 off in record { tree = headed b.headings t.tree; runs = went (λ s. Got (headed b.headings s)) (on off) t.runs; made = t.made ∙ ap (done t.tree) h.2 ∙ sym (b.made t.tree) }, k.1, falls_after (on 0).falls k.2)
+      go (Err why) k = λ off. halts_then old mid new (statement room off) (unheaded room off) (λ s. Got (headed b.headings s)) why (on off) (k off)
+
+-- a place behind instructions
+pub place_is : (d : Draft) (code : List Instr) (n : ℕ) → n ≡ place_of d → (n ≡ 0 → ⊥) → IfMade d (λ s m. code ≡ m.code) → length code ≡ place_of d
+place_is (Faulty f) code n e z h = absurd (z e)
+place_is (Going s None) code n e z h = absurd (z e)
+place_is (Going s (Some m)) code n e z h = ap length h

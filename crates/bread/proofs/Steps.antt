@@ -1,0 +1,65 @@
+-- How readings go on from call to call.
+use Rattle.std.proofs.Common.{◌≡◌, ℕ, ◌+◌, ◌<◌, ◌≤◌, Bool, true, false, List, [], ◌∷◌, ◌++◌, length, Result, Ok, Err, IsErrAnd, refl, sym, ap, ◌∙◌, arith, append_assoc, subst, if◌then◌else◌}
+use Rattle.bword.specs.ByteEnds.{Incoming}
+use Rattle.blex.specs.Sources.{Source}
+use Rattle.blex.specs.declared.token.Token.{Token}
+use Rattle.blex.specs.declared.token.Placed.{Placed}
+use Rattle.blex.proofs.Passing.{Took-none, Took-append, Grew-after}
+use Rattle.btree.specs.Reading.{Read, Reader, Got, Stop, ◌>>=◌, first, line_of, after, expect}
+use Rattle.bemit.specs.Drafts.{Draft}
+use Rattle.bexpr.specs.Tokens.{Tokens, tokens_of, tokens_with, CanFollow, IsLoaded, work, Reads, Moves, Runs, Breaks, Same, Behind, Advances, LooksOn}
+use Rattle.bexpr.specs.declared.halt.Halt.{Halt}
+use Rattle.bexpr.specs.declared.halt.Halt.TheVariants as halt
+use Rattle.bexpr.specs.Parsers.{Halts}
+use Rattle.bread.specs.Compiling.{Took, Compiles}
+use Rattle.bexpr.proofs.TokenSteps.{Moves-breaks, stays_same}
+use Rattle.bexpr.proofs.Moving.{run_here, run_past, run_same, run_then, run_bind}
+
+first_with : (ahead : List Placed) (line : ℕ) (bytes : List ℕ) (p : Placed) (ps : List Placed) → ahead ≡ p ∷ ps → first (tokens_with ahead line bytes) ≡ first ahead
+first_with ahead line bytes p ps e = rw e refl
+
+line_with : (ahead : List Placed) (line : ℕ) (bytes : List ℕ) (p : Placed) (ps : List Placed) → ahead ≡ p ∷ ps → line_of (tokens_with ahead line bytes) ≡ line_of ahead
+line_with ahead line bytes p ps e = rw e refl
+
+module _ {A B : Type 0} where
+  -- reading goes on behind what was read
+  pub began : {a b : Tokens} {p : Reader B} {x : B} (f : B → Reader A) → Runs a b p (λ v. Got x v) → Runs a b (λ u. p u >>= f) (f x)
+  began f h = run_bind f h
+
+  pub went : {a b c : Tokens} {whole : Reader A} {p : Reader B} {x : B} (f : B → Reader A) → Runs a b whole (λ v. p v >>= f) → Runs b c p (λ v. Got x v) → Runs a c whole (f x)
+  went f h k = run_then h (run_bind f k)
+
+  -- reading halts behind what was read
+  pub halts_first : (a b : Tokens) (p : Reader B) (f : B → Reader A) (why : Halt) → Halts p a why b → Halts (λ u. p u >>= f) a why b
+  halts_first a b p f halt.Fault h = (run_bind f h.0, h.1)
+  halts_first a b p f halt.Device h = h
+
+  pub halts_then : (a b c : Tokens) (whole : Reader A) (p : Reader B) (f : B → Reader A) (why : Halt) → Runs a b whole (λ v. p v >>= f) → Halts p b why c → Halts whole a why c
+  halts_then a b c whole p f halt.Fault m h = (run_then m (run_bind f h.0), h.1)
+  halts_then a b c whole p f halt.Device m h = Moves-breaks m h
+
+module _ {A : Type 0} where
+  pub halts_behind : (a b c : Tokens) (whole rest : Reader A) (why : Halt) → Runs a b whole rest → Halts rest b why c → Halts whole a why c
+  halts_behind a b c whole rest halt.Fault m h = (run_then m h.0, h.1)
+  halts_behind a b c whole rest halt.Device m h = Moves-breaks m h
+
+  -- a read failed
+  pub device : (a b : Tokens) (whole : Reader A) (why : Halt) → why ≡ halt.Device → Breaks a b → Halts whole a why b
+  device a b whole why e h = subst (λ w. Halts whole a w b) (sym e) h
+
+-- nothing was taken
+pub run_seen : {t : Tokens} {P : List Placed → List Placed → Type 0} → IsLoaded t → ((u : List Placed) (more : List ℕ) → u ≡ tokens_of t more → first u ≡ first t.ahead → line_of u ≡ line_of t.ahead → P u u) → Moves t t P
+run_seen {t} {P} l f =
+    let s = stays_same t l.near in
+    record {
+      taken = s.taken;
+      reads = s.reads;
+      failures = s.failures;
+      falls = s.falls;
+      come = λ more c. subst (λ u. P u (tokens_of t more)) (sym (s.come more c)) (f (tokens_of t more) more refl (first_with t.ahead t.source.line (t.source.ahead ++ more) l.current l.behind l.ahead) (line_with t.ahead t.source.line (t.source.ahead ++ more) l.current l.behind l.ahead));
+    }
+
+-- the exits of a `?`
+pub compiles_err : {I A : Type 0} (reader : I → Reader A) (effect : A → Draft → Draft) (old : Tokens) (start : Draft) (r : Result (Unit {0}) Halt) (new : Tokens) (draft : Draft) (why : Halt) → IsErrAnd r (λ y. y ≡ why) → ((i : I) → Halts (reader i) old why new) → Compiles reader effect old start r new draft
+compiles_err reader effect old start (Ok u) new draft why e h = absurd e
+compiles_err reader effect old start (Err s) new draft why e h = λ i. subst (λ x. Halts (reader i) old x new) (sym e) (h i)

@@ -1,0 +1,79 @@
+-- What the calls that read definitions do with the tokens and with the draft.
+use Rattle.std.specs.Prelude.{◌≡◌, ℕ, ◌<◌, min, Bool, List, [], length, Result, Ok, Err, if◌then◌else◌}
+use Rattle.bcode.specs.declared.instr.Ival.{Ival}
+use Rattle.btree.specs.Expression.{Word}
+use Rattle.btree.specs.Reading.{Reader, Got, ◌>>=◌, first, after, expect}
+use Rattle.btree.specs.ExpressionReader.{is_close_paren}
+use Rattle.btree.specs.Commas.{list_reader}
+use Rattle.btree.specs.StatementReader.{is_semicolon, name}
+use Rattle.btree.specs.Definition as tree
+use Rattle.btree.specs.Definition.{Definition}
+use Rattle.btree.specs.DefinitionReader.{ival, definition}
+use Rattle.blex.specs.declared.token.Letters.TheVariants as letters
+use Rattle.btree.specs.Scope.{name_fault}
+use Rattle.btree.specs.Scan.{word_of}
+use Rattle.bemit.specs.Drafts.{Draft, Faulty, fresh, valued, started}
+use Rattle.bemit.specs.Effects.{values_done, parameters_done, definition_done}
+use Rattle.bexpr.specs.Tokens.{Tokens, IsLoaded, IsSingle, Runs, Breaks, Advances, work}
+use Rattle.bexpr.specs.declared.halt.Halt.{Halt}
+use Rattle.bexpr.specs.declared.halt.Halt.TheVariants as halt
+use Rattle.bexpr.specs.Parsers.{Halts}
+use Rattle.bread.specs.declared.header.Header.{Header}
+use Rattle.bread.specs.declared.header.Kind.{Kind}
+use Rattle.bread.specs.Headers.{IsKind, Heads, most_counted}
+
+-- the current token was taken, and a value added
+abbrev pub TakesValue : Ival → Tokens → Draft → Result (Unit {0}) Halt → Tokens → Draft → Type 0
+TakesValue v old start (Ok u) new draft = Advances old new × (draft ≡ valued v start)
+TakesValue v old start (Err why) new draft = (why ≡ halt.Device) × Breaks old new
+
+-- a definition of this name begins, which may be defined already
+abbrev pub begun : Word → Bool → Draft
+begun w is_defined = if is_defined then Faulty (name_fault letters.Redeclared w) else fresh
+
+-- initial values, perhaps none, and a semicolon
+abbrev pub values : Reader (List tree.Ival)
+values ts = if is_semicolon (first ts) then Got [] (after ts) else list_reader ival ts >>= (λ vs r. expect is_semicolon r >>= λ o. Got vs)
+
+-- names, perhaps none, and a closing parenthesis
+abbrev pub parameters : Reader (List Word)
+parameters ts = if is_close_paren (first ts) then Got [] (after ts) else list_reader (λ before. name) ts >>= (λ ws r. expect is_close_paren r >>= λ o. Got ws)
+
+-- A list was read, compiled and counted.
+pub record TookList {A : Type 0} (reader : Reader (List A)) (effect : List A → Draft → Draft) (most : ℕ) (start : Draft) (old new : Tokens) (draft : Draft) (count : ℕ) : Type 0 where
+  pub items : List A
+  pub runs : Runs old new reader (λ v. Got items v)
+  pub made : draft ≡ effect items start
+  pub count_is : count ≡ min (length items) most
+  pub single : IsSingle new
+
+abbrev pub FindsList : {A : Type 0} → Reader (List A) → (List A → Draft → Draft) → ℕ → Tokens → Draft → Result ℕ Halt → Tokens → Draft → Type 0
+FindsList reader effect most old start (Ok count) new draft = TookList reader effect most start old new draft count
+FindsList reader effect most old start (Err why) new draft = Halts reader old why new
+
+-- What stands behind the name of a definition was read and compiled.
+pub record TookKind (reader : Reader Definition) (w : Word) (start : Draft) (old new : Tokens) (draft : Draft) (kind : Kind) : Type 0 where
+  pub tree : Definition
+  pub runs : Runs old new reader (λ v. Got tree v)
+  pub made : draft ≡ definition_done tree start
+  pub named : word_of tree ≡ w
+  pub kind_is : IsKind kind tree
+
+-- whatever the name is
+abbrev pub FindsKind : (Word → Reader Definition) → Tokens → Draft → Result Kind Halt → Tokens → Draft → Type 0
+FindsKind reader old start (Ok kind) new draft = ((w : Word) → TookKind (reader w) w start old new draft kind) × IsSingle new
+FindsKind reader old start (Err why) new draft = (w : Word) → Halts (reader w) old why new
+
+-- A definition was read and compiled, behind definitions of these names.
+pub record TookDefinition (names : List (List ℕ)) (old : Tokens) (header : Header) (new : Tokens) (draft : Draft) : Type 0 where
+  pub tree : Definition
+  pub moves : Runs old new definition (λ v. Got tree v)
+  pub heads : Heads header tree
+  pub made : draft ≡ definition_done tree (started names (word_of tree))
+  pub falls : work new < work old
+  pub loaded : IsLoaded new
+  pub single : IsSingle new
+
+abbrev pub FindsDefinition : List (List ℕ) → Tokens → Result Header Halt → Tokens → Draft → Type 0
+FindsDefinition names old (Ok header) new draft = TookDefinition names old header new draft
+FindsDefinition names old (Err why) new draft = Halts definition old why new

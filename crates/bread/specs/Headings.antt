@@ -1,0 +1,34 @@
+-- Reading what stands before a statement, one heading at a time.
+use Rattle.std.specs.Prelude.{◌≡◌, ℕ, List}
+use Rattle.blex.specs.declared.token.Placed.{Placed}
+use Rattle.btree.specs.Reading.{Got, Stop, Reader, ◌>>=◌, first, line_of, after, expect}
+use Rattle.btree.specs.ExpressionReader.{is_colon}
+use Rattle.btree.specs.Commas.{list_reader}
+use Rattle.btree.specs.Statement.{Heading, Auto, Extrn, Case, Stmt, Headed}
+use Rattle.btree.specs.StatementReader.{is_semicolon, name, constant, declared, stmt_at, level, statement}
+
+-- a heading behind its keyword
+abbrev pub auto : Reader Heading
+auto ts = list_reader (λ before. declared) ts >>= λ ds r. expect is_semicolon r >>= λ o. Got (Auto ds)
+
+abbrev pub extrn : Reader Heading
+extrn ts = list_reader (λ before. name) ts >>= λ names r. expect is_semicolon r >>= λ o. Got (Extrn names)
+
+abbrev pub case : ℕ → Reader Heading
+case line ts = constant ts >>= λ c r. expect is_colon r >>= λ o. Got (Case line c)
+
+-- a statement without a heading
+abbrev pub unheaded : ℕ → ℕ → Reader Stmt
+unheaded room off ts = stmt_at room (level room) off (first ts) ts
+
+-- The heading stands before the rest, whatever statement is read there.
+abbrev pub IsHeadedBy : Heading → List Placed → List Placed → Type 0
+IsHeadedBy h u v = (room off : ℕ) → statement room off u ≡ (statement room off v >>= λ s. Got (Headed h s))
+
+-- No heading stands here.
+abbrev pub IsUnheaded : List Placed → List Placed → Type 0
+IsUnheaded u v = (room off : ℕ) → statement room off u ≡ unheaded room off v
+
+-- A heading begins here, and reading it stops.
+abbrev pub StopsHeading : List Placed → List Placed → Type 0
+StopsHeading u v = (room off : ℕ) → statement room off u ≡ Stop v

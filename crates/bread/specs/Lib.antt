@@ -1,0 +1,5 @@
+pub mod Headings
+pub mod Compiling
+pub mod Statements
+pub mod Headers
+pub mod Definitions

@@ -1,0 +1,56 @@
+-- Parts of statements, as the calls read them.
+use Rattle.std.specs.Prelude.{◌≡◌, ℕ, suc, ◌+◌, ◌<◌, ◌≤◌, List, Result, Ok, Err}
+use Rattle.btree.specs.Expression.{Expr}
+use Rattle.btree.specs.Reading.{Got, Reader, ◌>>=◌, after, expect, many}
+use Rattle.btree.specs.ExpressionReader.{is_close_paren, always, Rvalue, reader}
+use Rattle.btree.specs.Statement.{Stmt, Stmts, Nothing, ReturnValue}
+use Rattle.btree.specs.StatementReader.{is_open_paren, is_close_brace, is_semicolon, goes_on, one_more, level, tested, chosen, looped, else_part}
+use Rattle.bcode.specs.declared.instr.Instr.{Instr}
+use Rattle.bcode.specs.declared.instr.Instr.TheVariants as instr
+use Rattle.bemit.specs.Drafts as drafts
+use Rattle.bemit.specs.Drafts.{Draft, emitted, filled, place_of, case_count}
+use Rattle.bemit.specs.Effects.{evaluated, done}
+use Rattle.bexpr.specs.Tokens.{Tokens, IsSingle, work}
+use Rattle.bexpr.specs.declared.halt.Halt.{Halt}
+use Rattle.bexpr.specs.Parsers.{Halts}
+use Rattle.bread.specs.Compiling.{Took}
+
+-- behind the current token
+abbrev pub behind : {I A : Type 0} → (I → Reader A) → I → Reader A
+behind reader i ts = reader i (after ts)
+
+-- a rvalue, and a semicolon
+abbrev pub ended : ℕ → ℕ → Reader Expr
+ended room off ts = reader room Rvalue off ts >>= λ e r. expect is_semicolon r >>= λ o. Got e
+
+-- an instruction behind a rvalue
+abbrev pub evaluated_to : Instr → Expr → Draft → Draft
+evaluated_to last e d = emitted last (evaluated e d)
+
+-- the value of a return, behind the parenthesis that opens it
+abbrev pub return_value : ℕ → ℕ → Reader Stmt
+return_value room off ts = reader room Rvalue off ts >>= λ e r. expect is_close_paren r >>= λ o r. expect is_semicolon r >>= λ o. Got (ReturnValue e)
+
+-- a condition in its parentheses
+abbrev pub condition : ℕ → ℕ → Reader Expr
+condition room off ts = expect is_open_paren ts >>= λ o r. reader room Rvalue off r >>= λ e r. expect is_close_paren r >>= λ o. Got e
+
+abbrev pub conditional : ℕ → ℕ → Reader Stmt
+conditional room off ts = tested (level room) off (chosen (level room) off) ts
+
+abbrev pub repeated : ℕ → ℕ → Reader Stmt
+repeated room off ts = tested (level room) off (looped (level room) off) ts
+
+-- statements up to a closing brace, each with so many levels of nesting
+abbrev pub statements : ℕ → ℕ → Reader Stmts
+statements room off ts = many (always goes_on) (one_more (level (suc room)) off) Nothing ts >>= λ ss r. expect is_close_brace r >>= λ o. Got ss
+
+-- An `else` and its statement were read behind the first statement, or there is none, and the test jumps round what it must.
+abbrev pub Chooses : ℕ → ℕ → Tokens → Draft → Result (Unit {0}) Halt → Tokens → Draft → Type 0
+Chooses room test old start (Ok u) new draft =
+    ((off : ℕ) (e : Expr) (s : Stmt) (d : Draft) → test ≡ place_of (evaluated e d) → start ≡ done s (emitted (instr.JumpIfZero 0) (evaluated e d)) → Took (else_part (level (suc room)) off e s) done d old new draft) × IsSingle new × (work new ≤ work old)
+Chooses room test old start (Err halt) new draft = (off : ℕ) (e : Expr) (s : Stmt) → Halts (else_part (level (suc room)) off e s) old halt new
+
+-- the tests of a switch behind its statements, where the jump to them is at this place
+abbrev pub closed_switch : ℕ → Draft → Draft
+closed_switch jump b = let a = place_of b + 1 in drafts.ended (filled jump (instr.Jump a) (emitted instr.Pop (drafts.tested (emitted (instr.Jump (a + case_count b + 1)) b))))

@@ -1,0 +1,199 @@
+//! Reading a definition and compiling it at once.
+ghost use Rattle.std.specs.Prelude.{◌≡◌, ◌+◌, false, None};
+ghost use Rattle.blex.specs.Lexers.{is_last};
+ghost use Rattle.btree.specs.Reading.{first};
+ghost use Rattle.btree.specs.Code.{constant_of};
+ghost use Rattle.btree.specs.DefinitionReader.{ival, behind_name, vector, function};
+ghost use Rattle.btree.specs.StatementReader.{name};
+ghost use Rattle.bemit.specs.Drafts as drafts;
+ghost use Rattle.bemit.specs.Effects.{ival_done, values_done, parameters_done};
+ghost use Rattle.bread.specs.Headers.{most_counted};
+ghost use Rattle.bexpr.specs.Tokens.{IsLoaded, IsSingle};
+ghost use Rattle.bread.specs.Compiling.{alone, Compiles};
+ghost use Rattle.bread.specs.Definitions.{TakesValue, values, parameters, FindsList, FindsKind, FindsDefinition, begun};
+
+use crate::header::{Header, Kind};
+use crate::names::Names;
+use crate::statement::statement;
+use crate::take::{Word, name, size, take};
+use bcode::{Instr, Ival};
+use bemit::Draft;
+use bexpr::{Halt, Mark, Parser};
+use blex::{About, Diagnostic, Letters, Token};
+use bword::ByteIn;
+
+// The greatest level of nesting.
+const NESTING: u8 = 200;
+
+// The most words or parameters that are counted.
+const MOST_COUNTED: u32 = 65535;
+
+/// Reads the definition that comes, behind definitions of these names.
+pub fn definition<I: ByteIn>(parser: &mut Parser<I>, names: &Names) -> Result<Header, Halt>
+    requires { IsLoaded parser.old.tokens }
+    ensures { FindsDefinition names.now parser.old.tokens result parser.new.tokens parser.new.draft }
+{
+    let word = name(parser)?;
+    let is_defined = names.contains(&word.name);
+    begin(&mut parser.draft, word, is_defined);
+    let kind = behind_name(parser)?;
+    Ok(Header {
+        name: word.name,
+        line: word.line,
+        kind,
+    })
+}
+
+// A definition of this name begins, which may be defined already.
+fn begin(draft: &mut Draft, word: Word, is_defined: bool)
+    ensures { draft.new ≡ begun (record { text = word.name; line = word.line }) is_defined }
+{
+    draft.start();
+    if is_defined {
+        draft.fail(Diagnostic {
+            letters: Letters::Redeclared,
+            about: About::Name(word.name),
+            line: word.line,
+        });
+    }
+}
+
+// What stands behind the name.
+fn behind_name<I: ByteIn>(parser: &mut Parser<I>) -> Result<Kind, Halt>
+    requires { IsLoaded parser.old.tokens }
+    ensures { FindsKind behind_name parser.old.tokens parser.old.draft result parser.new.tokens parser.new.draft }
+{
+    match parser.tokens.token() {
+        Token::OpenBracket => {
+            parser.tokens.advance()?;
+            vector(parser)
+        }
+        Token::OpenParen => {
+            parser.tokens.advance()?;
+            function(parser)
+        }
+        _ => {
+            values(parser)?;
+            Ok(Kind::Simple)
+        }
+    }
+}
+
+// What stands behind an opening bracket.
+fn vector<I: ByteIn>(parser: &mut Parser<I>) -> Result<Kind, Halt>
+    requires { IsSingle parser.old.tokens }
+    ensures { FindsKind vector parser.old.tokens parser.old.draft result parser.new.tokens parser.new.draft }
+{
+    let size = size(parser)?;
+    take(parser, Mark::CloseBracket)?;
+    let count = values(parser)?;
+    let words = count.max(constant_of(size) + 1);
+    parser.draft.limit_words(words);
+    Ok(Kind::Vector {
+        words: words.min(MOST_COUNTED) as u16,
+    })
+}
+
+fn constant_of(size: Option<u16>) -> u32
+    ensures { result ≡ constant_of size }
+{
+    match size {
+        Some(constant) => u32::from(constant),
+        None => 0,
+    }
+}
+
+// What stands behind the parenthesis that opens the parameters.
+fn function<I: ByteIn>(parser: &mut Parser<I>) -> Result<Kind, Halt>
+    requires { IsLoaded parser.old.tokens }
+    ensures { FindsKind function parser.old.tokens parser.old.draft result parser.new.tokens parser.new.draft }
+{
+    let parameters = parameters(parser)?;
+    statement(parser, NESTING)?;
+    parser.draft.emit(Instr::Constant(0));
+    parser.draft.emit(Instr::Return);
+    Ok(Kind::Function { parameters })
+}
+
+// A parameter.
+fn parameter<I: ByteIn>(parser: &mut Parser<I>) -> Result<(), Halt>
+    requires { IsLoaded parser.old.tokens }
+    ensures { Compiles (alone name) (λ w d. drafts.declared w None d) parser.old.tokens parser.old.draft result parser.new.tokens parser.new.draft }
+{
+    let word = name(parser)?;
+    parser.draft.declare(word.name, word.line, None);
+    Ok(())
+}
+
+// The names of the parameters, if any, and the parenthesis behind them.
+fn parameters<I: ByteIn>(parser: &mut Parser<I>) -> Result<u16, Halt>
+    requires { IsLoaded parser.old.tokens }
+    ensures { FindsList parameters parameters_done most_counted parser.old.tokens parser.old.draft result parser.new.tokens parser.new.draft }
+{
+    if parser.tokens.is_at(Mark::CloseParen) {
+        parser.tokens.advance()?;
+        return Ok(0);
+    }
+    parameter(parser)?;
+    let mut count: u16 = 1;
+    'names: while parser.tokens.is_at(Mark::Comma) {
+        parser.tokens.advance()?;
+        parameter(parser)?;
+        count = count.saturating_add(1);
+    }
+    take(parser, Mark::CloseParen)?;
+    Ok(count)
+}
+
+// Adds an initial value, and takes its token.
+fn valued<I: ByteIn>(parser: &mut Parser<I>, value: Ival) -> Result<(), Halt>
+    requires loaded { IsLoaded parser.old.tokens }
+    requires goes_on { is_last (first parser.old.tokens.ahead) ≡ false }
+    ensures { TakesValue value parser.old.tokens parser.old.draft result parser.new.tokens parser.new.draft }
+{
+    parser.tokens.advance()?;
+    parser.draft.value(value);
+    Ok(())
+}
+
+// An initial value.
+fn value<I: ByteIn>(parser: &mut Parser<I>) -> Result<(), Halt>
+    requires { IsLoaded parser.old.tokens }
+    ensures { Compiles ival (λ v d. ival_done d v) parser.old.tokens parser.old.draft result parser.new.tokens parser.new.draft }
+{
+    match parser.tokens.token() {
+        Token::Number(word) | Token::Character(word) => {
+            let word = *word;
+            valued(parser, Ival::Number(word))
+        }
+        Token::Name(name) => {
+            let name = *name;
+            valued(parser, Ival::Name(name))
+        }
+        Token::String(bytes) => {
+            let offset = parser.draft.string(bytes.as_slice());
+            valued(parser, Ival::Text(offset))
+        }
+        _ => Err(Halt::Fault),
+    }
+}
+
+// The initial values, if any, and a semicolon.
+fn values<I: ByteIn>(parser: &mut Parser<I>) -> Result<u32, Halt>
+    requires { IsLoaded parser.old.tokens }
+    ensures { FindsList values values_done 4294967295 parser.old.tokens parser.old.draft result parser.new.tokens parser.new.draft }
+{
+    if parser.tokens.is_at(Mark::Semicolon) {
+        parser.tokens.advance()?;
+        return Ok(0);
+    }
+    value(parser)?;
+    let mut count: u32 = 1;
+    'values: while parser.tokens.is_at(Mark::Comma) {
+        parser.tokens.advance()?;
+        value(parser)?;
+        count = count.saturating_add(1);
+    }
+    take(parser, Mark::Semicolon)?;
+    Ok(count)
+}

@@ -1,0 +1,136 @@
+//! What stands before a statement.
+ghost use Rattle.std.specs.Prelude.{◌≡◌};
+ghost use Rattle.blex.specs.declared.token.Token.TheVariants as token;
+ghost use Rattle.btree.specs.Reading.{first};
+ghost use Rattle.btree.specs.StatementReader.{name, declared};
+ghost use Rattle.bemit.specs.Drafts as drafts;
+ghost use Rattle.bemit.specs.Drafts.{imported};
+ghost use Rattle.bemit.specs.Effects.{headed};
+ghost use Rattle.bexpr.specs.Tokens.{IsLoaded};
+ghost use Rattle.bread.specs.Headings.{auto, extrn, case};
+ghost use Rattle.bread.specs.Compiling.{alone, Compiles, FindsHeading};
+
+use crate::take::{constant, name, size, take};
+use bexpr::{Halt, Mark, Parser};
+use blex::{Keyword, Token};
+use bword::{ByteIn, Name};
+
+// A name of `auto`.
+fn automatic<I: ByteIn>(parser: &mut Parser<I>) -> Result<(), Halt>
+    requires { IsLoaded parser.old.tokens }
+    ensures { Compiles (alone declared) (λ d. drafts.declared d.word d.size) parser.old.tokens parser.old.draft result parser.new.tokens parser.new.draft }
+{
+    let word = name(parser)?;
+    let size = size(parser)?;
+    parser.draft.declare(word.name, word.line, size);
+    Ok(())
+}
+
+// A name of `extrn`.
+fn external<I: ByteIn>(parser: &mut Parser<I>) -> Result<(), Halt>
+    requires { IsLoaded parser.old.tokens }
+    ensures { Compiles (alone name) imported parser.old.tokens parser.old.draft result parser.new.tokens parser.new.draft }
+{
+    let word = name(parser)?;
+    parser.draft.import(word.name, word.line);
+    Ok(())
+}
+
+// The names behind `auto`.
+fn auto<I: ByteIn>(parser: &mut Parser<I>) -> Result<(), Halt>
+    requires { IsLoaded parser.old.tokens }
+    ensures { Compiles (alone auto) headed parser.old.tokens parser.old.draft result parser.new.tokens parser.new.draft }
+{
+    automatic(parser)?;
+    'names: while parser.tokens.is_at(Mark::Comma) {
+        parser.tokens.advance()?;
+        automatic(parser)?;
+    }
+    take(parser, Mark::Semicolon)
+}
+
+// The names behind `extrn`.
+fn extrn<I: ByteIn>(parser: &mut Parser<I>) -> Result<(), Halt>
+    requires { IsLoaded parser.old.tokens }
+    ensures { Compiles (alone extrn) headed parser.old.tokens parser.old.draft result parser.new.tokens parser.new.draft }
+{
+    external(parser)?;
+    'names: while parser.tokens.is_at(Mark::Comma) {
+        parser.tokens.advance()?;
+        external(parser)?;
+    }
+    take(parser, Mark::Semicolon)
+}
+
+// The constant behind a `case` on this line.
+fn case<I: ByteIn>(parser: &mut Parser<I>, line: u64) -> Result<(), Halt>
+    requires { IsLoaded parser.old.tokens }
+    ensures { Compiles (alone (case line)) headed parser.old.tokens parser.old.draft result parser.new.tokens parser.new.draft }
+{
+    let value = constant(parser)?;
+    take(parser, Mark::Colon)?;
+    parser.draft.case(line, value);
+    Ok(())
+}
+
+// A label, if a colon stands behind this name.
+fn label<I: ByteIn>(parser: &mut Parser<I>, name: Name) -> Result<bool, Halt>
+    requires loaded { IsLoaded parser.old.tokens }
+    requires name { first parser.old.tokens.ahead ≡ token.Name name }
+    ensures { FindsHeading parser.old.tokens parser.old.draft result parser.new.tokens parser.new.draft }
+{
+    let line = parser.tokens.line();
+    parser.tokens.look_on()?;
+    if !parser.tokens.is_behind(Mark::Colon) {
+        return Ok(false);
+    }
+    parser.tokens.advance()?;
+    parser.tokens.advance()?;
+    parser.draft.label(name, line);
+    Ok(true)
+}
+
+// A heading that begins with this keyword, if one does.
+fn headed<I: ByteIn>(parser: &mut Parser<I>, keyword: Keyword) -> Result<bool, Halt>
+    requires loaded { IsLoaded parser.old.tokens }
+    requires keyword { first parser.old.tokens.ahead ≡ token.Keyword keyword }
+    ensures { FindsHeading parser.old.tokens parser.old.draft result parser.new.tokens parser.new.draft }
+{
+    let line = parser.tokens.line();
+    match keyword {
+        Keyword::Auto => {
+            parser.tokens.advance()?;
+            auto(parser)?;
+            Ok(true)
+        }
+        Keyword::Extrn => {
+            parser.tokens.advance()?;
+            extrn(parser)?;
+            Ok(true)
+        }
+        Keyword::Case => {
+            parser.tokens.advance()?;
+            case(parser, line)?;
+            Ok(true)
+        }
+        _ => Ok(false),
+    }
+}
+
+/// Takes a heading, if one comes, and says whether it did.
+pub fn heading<I: ByteIn>(parser: &mut Parser<I>) -> Result<bool, Halt>
+    requires { IsLoaded parser.old.tokens }
+    ensures { FindsHeading parser.old.tokens parser.old.draft result parser.new.tokens parser.new.draft }
+{
+    match parser.tokens.token() {
+        Token::Keyword(keyword) => {
+            let keyword = *keyword;
+            headed(parser, keyword)
+        }
+        Token::Name(name) => {
+            let name = *name;
+            label(parser, name)
+        }
+        _ => Ok(false),
+    }
+}

@@ -1,0 +1,13 @@
+//! Reading a definition and compiling it at once.
+#![tactic(auto)]
+
+mod definitions;
+mod header;
+mod heading;
+mod names;
+mod statement;
+mod take;
+
+pub use definitions::definition;
+pub use header::{Header, Kind};
+pub use names::Names;

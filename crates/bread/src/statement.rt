@@ -1,0 +1,258 @@
+//! Reading a statement and compiling it at once.
+ghost use Rattle.std.specs.Prelude.{◌≡◌, ◌+◌, ◌≤◌, false, Some};
+ghost use Rattle.std.specs.Option.{is_some};
+ghost use Rattle.blex.specs.Lexers.{is_last};
+ghost use Rattle.blex.specs.declared.token.Token.TheVariants as token;
+ghost use Rattle.btree.specs.Reading.{first};
+ghost use Rattle.btree.specs.Statement.{Goto};
+ghost use Rattle.btree.specs.StatementReader.{level, goes_on, statement, returned, compound, switched};
+ghost use Rattle.btree.specs.StatementReader as reader;
+ghost use Rattle.bcode.specs.declared.instr.Instr.TheVariants as instr;
+ghost use Rattle.bemit.specs.Drafts.{most_instructions, place_of, filled};
+ghost use Rattle.bemit.specs.Effects.{evaluated, done, all_done};
+ghost use Rattle.bexpr.specs.Tokens.{IsLoaded, IsSingle};
+ghost use Rattle.bread.specs.Headings.{unheaded};
+ghost use Rattle.bread.specs.Compiling.{Compiles};
+ghost use Rattle.bread.specs.Statements.{behind, ended, evaluated_to, return_value, condition, conditional, repeated, statements, closed_switch, Chooses};
+
+use crate::heading::heading;
+use crate::take::take;
+use bcode::Instr;
+use bemit::Draft;
+use bexpr::{Halt, Mark, Parser};
+use blex::{Keyword, Token};
+use bword::ByteIn;
+
+// A rvalue and a semicolon, and then an instruction.
+fn ended<I: ByteIn>(parser: &mut Parser<I>, room: u8, last: Instr) -> Result<(), Halt>
+    requires { IsLoaded parser.old.tokens }
+    ensures { Compiles (ended room) (evaluated_to last) parser.old.tokens parser.old.draft result parser.new.tokens parser.new.draft }
+{
+    parser.evaluate(room)?;
+    take(parser, Mark::Semicolon)?;
+    parser.draft.emit(last);
+    Ok(())
+}
+
+fn goto<I: ByteIn>(parser: &mut Parser<I>, room: u8) -> Result<(), Halt>
+    requires loaded { IsLoaded parser.old.tokens }
+    requires goes_on { is_last (first parser.old.tokens.ahead) ≡ false }
+    ensures { Compiles (behind (λ off. reader.ended room off Goto)) done parser.old.tokens parser.old.draft result parser.new.tokens parser.new.draft }
+{
+    parser.tokens.advance()?;
+    ended(parser, room, Instr::Goto)
+}
+
+// The value of a `return`, behind the parenthesis that opens it.
+fn return_value<I: ByteIn>(parser: &mut Parser<I>, room: u8) -> Result<(), Halt>
+    requires { IsLoaded parser.old.tokens }
+    ensures { Compiles (return_value room) done parser.old.tokens parser.old.draft result parser.new.tokens parser.new.draft }
+{
+    parser.evaluate(room)?;
+    take(parser, Mark::CloseParen)?;
+    take(parser, Mark::Semicolon)?;
+    parser.draft.emit(Instr::Return);
+    Ok(())
+}
+
+// What stands behind `return`.
+fn returned<I: ByteIn>(parser: &mut Parser<I>, room: u8) -> Result<(), Halt>
+    requires { IsLoaded parser.old.tokens }
+    ensures { Compiles (returned room) done parser.old.tokens parser.old.draft result parser.new.tokens parser.new.draft }
+{
+    if parser.tokens.is_at(Mark::OpenParen) {
+        parser.tokens.advance()?;
+        return return_value(parser, room);
+    }
+    take(parser, Mark::Semicolon)?;
+    parser.draft.emit(Instr::Constant(0));
+    parser.draft.emit(Instr::Return);
+    Ok(())
+}
+
+// A condition in its parentheses.
+fn condition<I: ByteIn>(parser: &mut Parser<I>, room: u8) -> Result<(), Halt>
+    requires { IsLoaded parser.old.tokens }
+    ensures { Compiles (condition room) evaluated parser.old.tokens parser.old.draft result parser.new.tokens parser.new.draft }
+{
+    take(parser, Mark::OpenParen)?;
+    parser.evaluate(room)?;
+    take(parser, Mark::CloseParen)
+}
+
+// The jump at this place, taken where a test is 0, leads to what comes.
+fn skip_to_here(draft: &mut Draft, test: u16)
+    ensures { draft.new ≡ filled test (instr.JumpIfZero (place_of draft.old)) draft.old }
+{
+    let here = draft.place();
+    draft.fill(test, Instr::JumpIfZero(here));
+}
+
+// The place of the next instruction, of which there are few.
+fn next_place(draft: &Draft) -> u16
+    ensures place { result ≡ place_of draft.now }
+    ensures few { result ≤ most_instructions }
+{
+    if draft.place() == 0 {
+        return 0;
+    }
+    draft.code().len() as u16
+}
+
+// Ends the statements of a switch whose jump to its tests is at this place.
+fn close_switch(draft: &mut Draft, jump: u16)
+    ensures { draft.new ≡ closed_switch jump draft.old }
+{
+    let tests = next_place(draft) + 1;
+    let end = tests + draft.case_count() + 1;
+    draft.emit(Instr::Jump(end));
+    draft.emit_tests();
+    draft.emit(Instr::Pop);
+    draft.fill(jump, Instr::Jump(tests));
+    draft.end_switch();
+}
+
+// Whether a token begins a further statement of a body, if anything does.
+fn goes_on(token: &Token) -> bool
+    ensures { result ≡ is_some (goes_on token.now) }
+{
+    !matches!(token, Token::CloseBrace | Token::End)
+}
+
+/// Reads a statement with its headings, where so many levels of nesting are left.
+#[cycle(statements)]
+pub fn statement<I: ByteIn>(parser: &mut Parser<I>, room: u8) -> Result<(), Halt>
+    requires { IsLoaded parser.old.tokens }
+    ensures { Compiles (statement room) done parser.old.tokens parser.old.draft result parser.new.tokens parser.new.draft }
+{
+    'headings: while heading(parser)? {}
+    unheaded(parser, room)
+}
+
+// A statement without a heading.
+#[cycle(statements)]
+fn unheaded<I: ByteIn>(parser: &mut Parser<I>, room: u8) -> Result<(), Halt>
+    requires { IsLoaded parser.old.tokens }
+    ensures { Compiles (unheaded room) done parser.old.tokens parser.old.draft result parser.new.tokens parser.new.draft }
+{
+    match parser.tokens.token() {
+        Token::OpenBrace => compound(parser, room),
+        Token::Semicolon => take(parser, Mark::Semicolon),
+        Token::Keyword(keyword) => {
+            let keyword = *keyword;
+            keyed(parser, room, keyword)
+        }
+        _ => ended(parser, room, Instr::Pop),
+    }
+}
+
+// A statement that begins with this keyword, if one does.
+#[cycle(statements)]
+fn keyed<I: ByteIn>(parser: &mut Parser<I>, room: u8, keyword: Keyword) -> Result<(), Halt>
+    requires loaded { IsLoaded parser.old.tokens }
+    requires keyword { first parser.old.tokens.ahead ≡ token.Keyword keyword }
+    ensures { Compiles (unheaded room) done parser.old.tokens parser.old.draft result parser.new.tokens parser.new.draft }
+{
+    match keyword {
+        Keyword::If => conditional(parser, room),
+        Keyword::While => repeated(parser, room),
+        Keyword::Switch => switched(parser, room),
+        Keyword::Goto => goto(parser, room),
+        Keyword::Return => {
+            parser.tokens.advance()?;
+            returned(parser, room)
+        }
+        _ => ended(parser, room, Instr::Pop),
+    }
+}
+
+// Statements in braces.
+#[cycle(statements)]
+fn compound<I: ByteIn>(parser: &mut Parser<I>, room: u8) -> Result<(), Halt>
+    requires loaded { IsLoaded parser.old.tokens }
+    requires goes_on { is_last (first parser.old.tokens.ahead) ≡ false }
+    ensures { Compiles (compound (level room)) done parser.old.tokens parser.old.draft result parser.new.tokens parser.new.draft }
+{
+    let room = parser.enter(room)?;
+    body(parser, room)
+}
+
+// Statements up to a closing brace.
+#[cycle(statements)]
+fn body<I: ByteIn>(parser: &mut Parser<I>, room: u8) -> Result<(), Halt>
+    requires { IsLoaded parser.old.tokens }
+    ensures { Compiles (statements room) all_done parser.old.tokens parser.old.draft result parser.new.tokens parser.new.draft }
+{
+    'statements: while goes_on(parser.tokens.token()) {
+        statement(parser, room)?;
+    }
+    take(parser, Mark::CloseBrace)
+}
+
+#[cycle(statements)]
+fn conditional<I: ByteIn>(parser: &mut Parser<I>, room: u8) -> Result<(), Halt>
+    requires loaded { IsLoaded parser.old.tokens }
+    requires goes_on { is_last (first parser.old.tokens.ahead) ≡ false }
+    ensures { Compiles (conditional room) done parser.old.tokens parser.old.draft result parser.new.tokens parser.new.draft }
+{
+    let room = parser.enter(room)?;
+    condition(parser, room)?;
+    let test = parser.draft.place();
+    parser.draft.emit(Instr::JumpIfZero(0));
+    statement(parser, room)?;
+    otherwise(parser, room, test)
+}
+
+// An `else`, if one comes behind a statement whose test is at this place.
+#[cycle(statements)]
+fn otherwise<I: ByteIn>(parser: &mut Parser<I>, room: u8, test: u16) -> Result<(), Halt>
+    requires { IsSingle parser.old.tokens }
+    ensures { Chooses room test parser.old.tokens parser.old.draft result parser.new.tokens parser.new.draft }
+{
+    if !parser.tokens.is_at(Mark::Else) {
+        skip_to_here(&mut parser.draft, test);
+        return Ok(());
+    }
+    parser.tokens.advance()?;
+    let jump = parser.draft.place();
+    parser.draft.emit(Instr::Jump(0));
+    skip_to_here(&mut parser.draft, test);
+    statement(parser, room)?;
+    let end = parser.draft.place();
+    parser.draft.fill(jump, Instr::Jump(end));
+    Ok(())
+}
+
+#[cycle(statements)]
+fn repeated<I: ByteIn>(parser: &mut Parser<I>, room: u8) -> Result<(), Halt>
+    requires loaded { IsLoaded parser.old.tokens }
+    requires goes_on { is_last (first parser.old.tokens.ahead) ≡ false }
+    ensures { Compiles (repeated room) done parser.old.tokens parser.old.draft result parser.new.tokens parser.new.draft }
+{
+    let top = parser.draft.place();
+    let room = parser.enter(room)?;
+    condition(parser, room)?;
+    let test = parser.draft.place();
+    parser.draft.emit(Instr::JumpIfZero(0));
+    statement(parser, room)?;
+    parser.draft.emit(Instr::Jump(top));
+    skip_to_here(&mut parser.draft, test);
+    Ok(())
+}
+
+#[cycle(statements)]
+fn switched<I: ByteIn>(parser: &mut Parser<I>, room: u8) -> Result<(), Halt>
+    requires loaded { IsLoaded parser.old.tokens }
+    requires goes_on { is_last (first parser.old.tokens.ahead) ≡ false }
+    ensures { Compiles (switched (level room)) done parser.old.tokens parser.old.draft result parser.new.tokens parser.new.draft }
+{
+    let room = parser.enter(room)?;
+    parser.evaluate(room)?;
+    take(parser, Mark::OpenBrace)?;
+    let jump = parser.draft.place();
+    parser.draft.emit(Instr::Jump(0));
+    parser.draft.begin_switch();
+    body(parser, room)?;
+    close_switch(&mut parser.draft, jump);
+    Ok(())
+}

@@ -1,0 +1,72 @@
+//! Taking one token.
+ghost use Rattle.std.specs.Prelude.{◌≡◌};
+ghost use Rattle.bexpr.specs.Tokens.{IsLoaded, IsSingle};
+ghost use Rattle.bexpr.specs.Marks.{is_mark};
+ghost use Rattle.bread.specs.Compiling.{Takes, FindsName, FindsSize, FindsConstant};
+
+use bexpr::{Halt, Mark, Parser};
+use blex::Token;
+use bword::{ByteIn, Name};
+
+/// A name and its line.
+#[derive(Clone, Copy, Debug, PartialEq, Eq)]
+pub struct Word {
+    pub name: Name,
+    pub line: u64,
+}
+
+/// Takes a name.
+pub fn name<I: ByteIn>(parser: &mut Parser<I>) -> Result<Word, Halt>
+    requires { IsLoaded parser.old.tokens }
+    ensures tokens { FindsName parser.old.tokens result parser.new.tokens }
+    ensures draft { parser.new.draft ≡ parser.old.draft }
+{
+    let line = parser.tokens.line();
+    let name = match parser.tokens.token() {
+        Token::Name(name) => *name,
+        _ => return Err(Halt::Fault),
+    };
+    parser.tokens.advance()?;
+    Ok(Word { name, line })
+}
+
+/// Takes the constant of a vector, if one comes.
+pub fn size<I: ByteIn>(parser: &mut Parser<I>) -> Result<Option<u16>, Halt>
+    requires { IsSingle parser.old.tokens }
+    ensures tokens { FindsSize parser.old.tokens result parser.new.tokens }
+    ensures draft { parser.new.draft ≡ parser.old.draft }
+{
+    let size = match parser.tokens.token() {
+        Token::Number(size) => *size,
+        _ => return Ok(None),
+    };
+    parser.tokens.advance()?;
+    Ok(Some(size))
+}
+
+/// Takes a constant and answers its value.
+pub fn constant<I: ByteIn>(parser: &mut Parser<I>) -> Result<u16, Halt>
+    requires { IsLoaded parser.old.tokens }
+    ensures tokens { FindsConstant parser.old.tokens result parser.new.tokens }
+    ensures draft { parser.new.draft ≡ parser.old.draft }
+{
+    let value = match parser.tokens.token() {
+        Token::Number(value) | Token::Character(value) => *value,
+        _ => return Err(Halt::Fault),
+    };
+    parser.tokens.advance()?;
+    Ok(value)
+}
+
+/// Takes a token that must come.
+pub fn take<I: ByteIn>(parser: &mut Parser<I>, mark: Mark) -> Result<(), Halt>
+    requires { IsLoaded parser.old.tokens }
+    ensures tokens { Takes (is_mark mark) parser.old.tokens result parser.new.tokens }
+    ensures draft { parser.new.draft ≡ parser.old.draft }
+{
+    if !parser.tokens.is_at(mark) {
+        return Err(Halt::Fault);
+    }
+    parser.tokens.advance()?;
+    Ok(())
+}
