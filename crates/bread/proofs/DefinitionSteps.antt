@@ -1,5 +1,5 @@
 -- How the calls that read definitions go on.
-use Rattle.std.proofs.Common.{◌≡◌, ℕ, ◌+◌, ◌<◌, ◌≤◌, min, max, Bool, true, false, List, [], ◌∷◌, ◌++◌, length, length-append, fold, Option, Some, None, Result, Ok, Err, IsErrAnd, ◌⊎◌, inl, inr, refl, sym, ap, ◌∙◌, subst, arith, if◌then◌else◌}
+use Rattle.std.proofs.Common.{◌≡◌, ℕ, ◌+◌, ◌<◌, min, max, Bool, true, false, List, [], ◌∷◌, ◌++◌, length, length-append, fold, Option, None, Result, Ok, Err, IsErrAnd, ◌⊎◌, inl, inr, refl, sym, ap, ◌∙◌, subst, arith, if◌then◌else◌}
 use Rattle.std.specs.Prelude.{nat_lt}
 use Rattle.std.proofs.lemmas.Bool.Decides.{nat_tests}
 use Rattle.blex.specs.declared.token.Token.{Token}
@@ -12,11 +12,9 @@ use Rattle.btree.specs.Expression.{Word, Number, Character}
 use Rattle.btree.specs.Reading.{Read, Reader, Got, Stop, ◌>>=◌, first, line_of, after, expect}
 use Rattle.btree.specs.ExpressionReader.{is_close_paren, is_close_bracket}
 use Rattle.btree.specs.Commas.{list_reader}
-use Rattle.btree.specs.Code.{vector_words, constant_of}
-use Rattle.btree.specs.Scan.{word_of}
-use Rattle.btree.specs.Statement.{Stmt}
+use Rattle.btree.specs.Code.{constant_of}
 use Rattle.btree.specs.StatementReader.{is_semicolon, name, size, statement}
-use Rattle.btree.specs.Definition.{Ival, Ival_constant, Ival_text, Ival_name, Definition, Simple, Vector, Function, values_words, nesting_limit}
+use Rattle.btree.specs.Definition.{Ival, Ival_constant, Ival_name, Definition, Simple, Vector, Function, values_words, nesting_limit}
 use Rattle.btree.specs.DefinitionReader.{ival_at, ival, valued, vector, function_body, function, behind_name_at, behind_name, definition}
 use Rattle.btree.proofs.Fine.{Fine}
 use Rattle.btree.proofs.ExpressionFine.{Closer}
@@ -31,8 +29,7 @@ use Rattle.bexpr.specs.declared.halt.Halt.TheVariants as halt
 use Rattle.bread.specs.declared.header.Header.{Header}
 use Rattle.bread.specs.declared.header.Kind.{Kind}
 use Rattle.bread.specs.declared.header.Kind.TheVariants as kind
-use Rattle.bread.specs.Compiling.{Took, Compiles, Takes}
-use Rattle.bread.specs.Headers.{IsKind, Heads, most_counted}
+use Rattle.bread.specs.Compiling.{Took, Compiles}
 use Rattle.bread.specs.Definitions.{TakesValue, values, parameters, TookList, FindsList, TookKind, FindsKind, TookDefinition, FindsDefinition}
 use Rattle.bexpr.proofs.TokenSteps.{Moves-as, Moves-breaks}
 use Rattle.bexpr.proofs.Moving.{run_here, run_past, run_then, run_bind}

@@ -3,15 +3,15 @@ use Rattle.std.proofs.Common.{◌≡◌, ℕ, zero, suc, List, [], ◌∷◌, le
 use Rattle.blex.specs.declared.token.Token.{Token}
 use Rattle.blex.specs.declared.token.Token.TheVariants as token
 use Rattle.blex.specs.declared.token.Placed.{Placed}
-use Rattle.btree.specs.Expression.{Word, name_token}
-use Rattle.btree.specs.Reading.{Read, Got, Stop, Reader, ◌>>=◌, at_some, first, line_of, after, expect, turns, many}
+use Rattle.btree.specs.Expression.{Word}
+use Rattle.btree.specs.Reading.{Read, Got, Stop, Reader, ◌>>=◌, first, line_of, after, expect, turns, many}
 use Rattle.btree.specs.ExpressionReader.{is_colon}
 use Rattle.btree.specs.Commas.{list_reader}
 use Rattle.btree.specs.Statement.{Heading, Auto, Extrn, Label, Case, Stmt, Headed, Evaluate}
-use Rattle.btree.specs.StatementReader.{is_semicolon, name, constant, declared, Headings, No_heading, Then, headed, Lead, no_lead, with_heading, Step, Declares, Imports, Selects, Mentions, Labels, step_at, lead_step, lead_turn, lead, stmt_at, stmt_behind, stmt_with, level, ended, statement}
+use Rattle.btree.specs.StatementReader.{is_semicolon, name, constant, declared, Headings, No_heading, Then, headed, Lead, no_lead, with_heading, Step, Declares, Imports, Selects, Mentions, Labels, step_at, lead_step, lead_turn, lead, stmt_at, stmt_behind, level, ended, statement}
 use Rattle.btree.proofs.Fine.{many_some, many_none}
 use Rattle.btree.proofs.StatementFine.{lasting, lead_loop}
-use Rattle.bread.specs.Headings.{auto, extrn, case, unheaded, IsHeadedBy, IsUnheaded, StopsHeading}
+use Rattle.bread.specs.Headings.{unheaded, IsHeadedBy, IsUnheaded, StopsHeading}
 
 -- headings behind these
 abbrev joined : Headings → Headings → Headings

@@ -1,31 +1,29 @@
 -- How the calls that read headings go on.
-use Rattle.std.proofs.Common.{◌≡◌, ℕ, ◌+◌, ◌<◌, ◌≤◌, Bool, true, false, List, [], ◌∷◌, ◌++◌, if◌then◌else◌, Option, Some, None, Result, Ok, Err, IsErrAnd, refl, sym, ap, ◌∙◌, arith, subst}
+use Rattle.std.proofs.Common.{◌≡◌, ℕ, ◌<◌, Bool, true, false, List, [], ◌∷◌, ◌++◌, if◌then◌else◌, Option, Some, None, Result, Ok, Err, IsErrAnd, refl, sym, ap, ◌∙◌, arith, subst}
 use Rattle.blex.specs.Lexers.{is_last}
 use Rattle.blex.specs.Tokens.{token_first}
 use Rattle.blex.specs.declared.token.Token.{Token}
 use Rattle.blex.specs.declared.token.Token.TheVariants as token
 use Rattle.blex.specs.declared.token.Keyword.TheVariants as keyword
 use Rattle.blex.specs.declared.token.Placed.{Placed}
-use Rattle.btree.specs.Expression.{Word, Constant}
+use Rattle.btree.specs.Expression.{Word}
 use Rattle.btree.specs.Reading.{Read, Reader, Got, Stop, ◌>>=◌, first, line_of, after, expect}
 use Rattle.btree.specs.ExpressionReader.{is_colon}
 use Rattle.btree.specs.Commas.{list_reader}
-use Rattle.btree.specs.Scan.{value_of}
-use Rattle.btree.specs.Statement.{Declared, Heading, Auto, Extrn, Label, Case}
-use Rattle.btree.specs.StatementReader.{is_semicolon, name, size, constant, declared, no_lead, with_heading, Step, Declares, Imports, Selects, step_at, lead_turn, Lead}
+use Rattle.btree.specs.Statement.{Heading, Auto, Extrn, Label, Case}
+use Rattle.btree.specs.StatementReader.{is_semicolon, name, size, constant, declared, no_lead, with_heading, Step, Declares, Imports, Selects, step_at, lead_turn}
 use Rattle.bemit.specs.Drafts.{Draft, selected, imported, labelled}
 use Rattle.bemit.specs.Drafts as drafts
 use Rattle.bemit.specs.Effects.{headed}
-use Rattle.bexpr.specs.Tokens.{Tokens, IsLoaded, work, Moves, Runs, Breaks, Advances, LooksOn, Same, Behind, Keeps, tokens_of, tokens_with}
+use Rattle.bexpr.specs.Tokens.{Tokens, IsLoaded, work, Moves, Runs, Breaks, Advances, LooksOn, Same, Behind, Keeps, tokens_with}
 use Rattle.bexpr.specs.Parsers.{Halts}
 use Rattle.bexpr.specs.declared.halt.Halt.{Halt}
 use Rattle.bexpr.specs.declared.halt.Halt.TheVariants as halt
 use Rattle.bread.specs.Headings.{auto, extrn, case, IsHeadedBy, IsUnheaded, StopsHeading}
 use Rattle.bread.specs.Compiling.{Took, TookConstant, TookHeading, FindsHeading}
-use Rattle.bexpr.proofs.TokenSteps.{Moves-append, Moves-as, Moves-breaks}
-use Rattle.bexpr.proofs.Moving.{run_here, run_past, run_same, run_then, run_bind}
+use Rattle.bexpr.proofs.TokenSteps.{Moves-append, Moves-breaks}
 use Rattle.bread.proofs.Steps.{began, went, halts_first, halts_then, run_seen}
-use Rattle.bread.proofs.HeadingLemmas.{heading_read, heading_stops, label_read, no_heading, no_label}
+use Rattle.bread.proofs.HeadingLemmas.{heading_read, heading_stops, label_read, no_label}
 
 -- a name of `auto`
 pub automatic_first : (old new : Tokens) (why : Halt) → Halts name old why new → Halts declared old why new

@@ -1,5 +1,5 @@
 -- How the calls that read statements go on.
-use Rattle.std.proofs.Common.{◌≡◌, ℕ, zero, suc, ◌+◌, ◌<◌, ◌≤◌, Bool, true, false, List, [], ◌∷◌, length, Option, Some, None, Result, Ok, Err, IsErrAnd, refl, sym, ap, ◌∙◌, subst, arith, add-one, if◌then◌else◌}
+use Rattle.std.proofs.Common.{◌≡◌, ℕ, zero, suc, ◌+◌, ◌<◌, ◌≤◌, Bool, true, false, List, [], length, Option, Some, None, Result, Ok, Err, IsErrAnd, refl, sym, ap, ◌∙◌, subst, arith, add-one, if◌then◌else◌}
 use Rattle.std.specs.Option.{is_some}
 use Rattle.blex.specs.declared.token.Token.{Token}
 use Rattle.blex.specs.declared.token.Token.TheVariants as token
@@ -7,7 +7,7 @@ use Rattle.blex.specs.declared.token.Keyword.{Keyword}
 use Rattle.blex.specs.declared.token.Keyword.TheVariants as keyword
 use Rattle.blex.specs.declared.token.Placed.{Placed}
 use Rattle.btree.specs.Expression.{Expr, words}
-use Rattle.btree.specs.Reading.{Read, Reader, Got, Stop, ◌>>=◌, first, line_of, after, expect, many}
+use Rattle.btree.specs.Reading.{Read, Reader, Got, Stop, ◌>>=◌, first, after, expect, many}
 use Rattle.btree.specs.ExpressionReader.{is_close_paren, always, Rvalue, reader, inner}
 use Rattle.btree.specs.Statement.{Heading, Stmt, Headed, Compound, If, IfElse, While, Switch, Goto, Return, ReturnValue, Evaluate, Empty, Stmts, Nothing, More, statement_words, body_words}
 use Rattle.btree.specs.StatementReader.{is_open_paren, is_open_brace, is_close_brace, is_semicolon, is_else, Headings, No_heading, Then, headed, goes_on, Level, else_part, chosen, looped, one_more, body, compound, switched, tested, returned, stmt_at, level, statement}
@@ -20,17 +20,17 @@ use Rattle.bemit.specs.Views.{IfMade}
 use Rattle.bemit.specs.Drafts.{Draft, Faulty, Going, emitted, filled, place_of, begun}
 use Rattle.bemit.specs.Effects.{evaluated, done, all_done}
 use Rattle.bemit.specs.Effects as effects
-use Rattle.bexpr.specs.Tokens.{Tokens, IsLoaded, IsSingle, work, Moves, Runs, Breaks, Advances}
-use Rattle.bexpr.specs.Parsers.{Halts, TookWord, Enters}
+use Rattle.bexpr.specs.Tokens.{Tokens, IsLoaded, IsSingle, work, Moves, Runs, Advances}
+use Rattle.bexpr.specs.Parsers.{Halts, TookWord}
 use Rattle.bexpr.specs.declared.halt.Halt.{Halt}
 use Rattle.bexpr.specs.declared.halt.Halt.TheVariants as halt
 use Rattle.bread.specs.Headings.{unheaded, IsHeadedBy, IsUnheaded, StopsHeading}
 use Rattle.bread.specs.Compiling.{Took, Compiles, Takes, TookHeading, FindsHeading}
 use Rattle.bread.specs.Statements.{behind, ended, evaluated_to, return_value, condition, conditional, repeated, statements, closed_switch, Chooses}
 use Rattle.bexpr.proofs.TokenSteps.{Moves-append, Moves-as, Moves-breaks}
-use Rattle.bexpr.proofs.Moving.{run_here, run_past, run_then, run_bind}
+use Rattle.bexpr.proofs.Moving.{run_here, run_past, run_then}
 use Rattle.bread.proofs.Steps.{began, went, halts_first, halts_then, halts_behind, run_seen}
-use Rattle.bread.proofs.Takings.{less, both_fall, falls_before, falls_after, falls_all}
+use Rattle.bread.proofs.Takings.{falls_after, falls_all}
 
 -- what a call reads, as a part of what its caller reads
 module _ {I A B : Type 0} (q : I → Reader B) (effects : B → Draft → Draft) (p : I → Reader A) (effect : A → Draft → Draft) (made : A → B) (same : (a : A) (d : Draft) → effects (made a) d ≡ effect a d) where

@@ -1,19 +1,15 @@
 -- How readings go on from call to call.
-use Rattle.std.proofs.Common.{◌≡◌, ℕ, ◌+◌, ◌<◌, ◌≤◌, Bool, true, false, List, [], ◌∷◌, ◌++◌, length, Result, Ok, Err, IsErrAnd, refl, sym, ap, ◌∙◌, arith, append_assoc, subst, if◌then◌else◌}
-use Rattle.bword.specs.ByteEnds.{Incoming}
-use Rattle.blex.specs.Sources.{Source}
-use Rattle.blex.specs.declared.token.Token.{Token}
+use Rattle.std.proofs.Common.{◌≡◌, ℕ, List, ◌∷◌, ◌++◌, Result, Ok, Err, IsErrAnd, refl, sym, subst}
 use Rattle.blex.specs.declared.token.Placed.{Placed}
-use Rattle.blex.proofs.Passing.{Took-none, Took-append, Grew-after}
-use Rattle.btree.specs.Reading.{Read, Reader, Got, Stop, ◌>>=◌, first, line_of, after, expect}
+use Rattle.btree.specs.Reading.{Reader, Got, ◌>>=◌, first, line_of}
 use Rattle.bemit.specs.Drafts.{Draft}
-use Rattle.bexpr.specs.Tokens.{Tokens, tokens_of, tokens_with, CanFollow, IsLoaded, work, Reads, Moves, Runs, Breaks, Same, Behind, Advances, LooksOn}
+use Rattle.bexpr.specs.Tokens.{Tokens, tokens_of, tokens_with, IsLoaded, Moves, Runs, Breaks}
 use Rattle.bexpr.specs.declared.halt.Halt.{Halt}
 use Rattle.bexpr.specs.declared.halt.Halt.TheVariants as halt
 use Rattle.bexpr.specs.Parsers.{Halts}
-use Rattle.bread.specs.Compiling.{Took, Compiles}
+use Rattle.bread.specs.Compiling.{Compiles}
 use Rattle.bexpr.proofs.TokenSteps.{Moves-breaks, stays_same}
-use Rattle.bexpr.proofs.Moving.{run_here, run_past, run_same, run_then, run_bind}
+use Rattle.bexpr.proofs.Moving.{run_then, run_bind}
 
 first_with : (ahead : List Placed) (line : ℕ) (bytes : List ℕ) (p : Placed) (ps : List Placed) → ahead ≡ p ∷ ps → first (tokens_with ahead line bytes) ≡ first ahead
 first_with ahead line bytes p ps e = rw e refl

@@ -1,18 +1,12 @@
 -- What taking one token reads.
-use Rattle.std.proofs.Common.{◌≡◌, ℕ, ◌+◌, ◌<◌, ◌≤◌, Bool, true, false, List, Option, Some, None, Result, Ok, Err, IsErrAnd, refl, sym, ap, ◌∙◌, ◌⊎◌, inl, inr, arith, subst, if◌then◌else◌}
+use Rattle.std.proofs.Common.{◌≡◌, ℕ, ◌<◌, ◌≤◌, Ok, refl, sym, ap, ◌∙◌, ◌⊎◌, inl, inr, arith}
 use Rattle.blex.specs.declared.token.Token.{Token}
 use Rattle.blex.specs.declared.token.Token.TheVariants as token
-use Rattle.blex.specs.declared.token.Placed.{Placed}
-use Rattle.blex.specs.Lexers.{is_last}
 use Rattle.btree.specs.Expression.{Number, Character}
-use Rattle.btree.specs.Reading.{Read, Reader, Got, Stop, ◌>>=◌, first, line_of, after, expect}
-use Rattle.btree.specs.StatementReader.{constant_at, constant}
-use Rattle.bexpr.specs.Tokens.{Tokens, IsLoaded, work, Breaks, Advances}
-use Rattle.bexpr.specs.Parsers.{Halts}
-use Rattle.bexpr.specs.declared.halt.Halt.{Halt}
-use Rattle.bexpr.specs.declared.halt.Halt.TheVariants as halt
-use Rattle.bread.specs.declared.take.Word as take
-use Rattle.bread.specs.Compiling.{Takes, FindsName, FindsSize, FindsConstant, TookConstant}
+use Rattle.btree.specs.Reading.{Got, first}
+use Rattle.btree.specs.StatementReader.{constant_at}
+use Rattle.bexpr.specs.Tokens.{Tokens, work, Advances}
+use Rattle.bread.specs.Compiling.{FindsConstant}
 use Rattle.bexpr.proofs.Moving.{run_past}
 
 pub less : {a b : Tokens} → Advances a b → work b < work a

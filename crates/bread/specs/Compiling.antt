@@ -2,7 +2,7 @@
 use Rattle.std.specs.Prelude.{◌≡◌, ℕ, ◌<◌, Bool, true, false, Option, Result, Ok, Err}
 use Rattle.blex.specs.declared.token.Token.{Token}
 use Rattle.btree.specs.Expression.{Constant}
-use Rattle.btree.specs.Reading.{Reader, Got, Stop, expect}
+use Rattle.btree.specs.Reading.{Reader, Got, expect}
 use Rattle.btree.specs.Statement.{Heading}
 use Rattle.btree.specs.StatementReader.{name, size, constant}
 use Rattle.btree.specs.Scan.{value_of}

@@ -13,14 +13,14 @@ use Rattle.blex.specs.declared.token.Letters.TheVariants as letters
 use Rattle.btree.specs.Scope.{name_fault}
 use Rattle.btree.specs.Scan.{word_of}
 use Rattle.bemit.specs.Drafts.{Draft, Faulty, fresh, valued, started}
-use Rattle.bemit.specs.Effects.{values_done, parameters_done, definition_done}
+use Rattle.bemit.specs.Effects.{definition_done}
 use Rattle.bexpr.specs.Tokens.{Tokens, IsLoaded, IsSingle, Runs, Breaks, Advances, work}
 use Rattle.bexpr.specs.declared.halt.Halt.{Halt}
 use Rattle.bexpr.specs.declared.halt.Halt.TheVariants as halt
 use Rattle.bexpr.specs.Parsers.{Halts}
 use Rattle.bread.specs.declared.header.Header.{Header}
 use Rattle.bread.specs.declared.header.Kind.{Kind}
-use Rattle.bread.specs.Headers.{IsKind, Heads, most_counted}
+use Rattle.bread.specs.Headers.{IsKind, Heads}
 
 -- the current token was taken, and a value added
 abbrev pub TakesValue : Ival → Tokens → Draft → Result (Unit {0}) Halt → Tokens → Draft → Type 0

@@ -1,7 +1,7 @@
 -- Reading what stands before a statement, one heading at a time.
 use Rattle.std.specs.Prelude.{◌≡◌, ℕ, List}
 use Rattle.blex.specs.declared.token.Placed.{Placed}
-use Rattle.btree.specs.Reading.{Got, Stop, Reader, ◌>>=◌, first, line_of, after, expect}
+use Rattle.btree.specs.Reading.{Got, Stop, Reader, ◌>>=◌, first, expect}
 use Rattle.btree.specs.ExpressionReader.{is_colon}
 use Rattle.btree.specs.Commas.{list_reader}
 use Rattle.btree.specs.Statement.{Heading, Auto, Extrn, Case, Stmt, Headed}

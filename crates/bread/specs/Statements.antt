@@ -1,5 +1,5 @@
 -- Parts of statements, as the calls read them.
-use Rattle.std.specs.Prelude.{◌≡◌, ℕ, suc, ◌+◌, ◌<◌, ◌≤◌, List, Result, Ok, Err}
+use Rattle.std.specs.Prelude.{◌≡◌, ℕ, suc, ◌+◌, ◌≤◌, Result, Ok, Err}
 use Rattle.btree.specs.Expression.{Expr}
 use Rattle.btree.specs.Reading.{Got, Reader, ◌>>=◌, after, expect, many}
 use Rattle.btree.specs.ExpressionReader.{is_close_paren, always, Rvalue, reader}

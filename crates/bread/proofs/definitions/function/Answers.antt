@@ -1,4 +1,3 @@
-use Rattle.std.proofs.Common.{◌∙◌, ap}
 use Rattle.bread.proofs.DefinitionSteps.{kind_err, function_first, function_then, function_took}
 use Rattle.bread.proofs.definitions.function.Goals as goal
 

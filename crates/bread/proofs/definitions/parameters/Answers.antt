@@ -1,4 +1,4 @@
-use Rattle.std.proofs.Common.{[], length, refl, sym, ap, ◌∙◌}
+use Rattle.std.proofs.Common.{refl, sym, ◌∙◌}
 use Rattle.bexpr.specs.declared.halt.Halt.TheVariants as halt
 use Rattle.std.proofs.Common.{None}
 use Rattle.btree.specs.ExpressionReader.{is_close_paren}

@@ -1,4 +1,4 @@
-use Rattle.std.proofs.Common.{[], length, refl, sym, ap, ◌∙◌}
+use Rattle.std.proofs.Common.{[], refl, sym, ◌∙◌}
 use Rattle.bexpr.specs.declared.halt.Halt.TheVariants as halt
 use Rattle.btree.specs.StatementReader.{is_semicolon}
 use Rattle.btree.specs.DefinitionReader.{ival}

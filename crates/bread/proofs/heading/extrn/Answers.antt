@@ -3,7 +3,6 @@ use Rattle.btree.specs.Statement.{Extrn}
 use Rattle.btree.specs.StatementReader.{is_semicolon, name}
 use Rattle.btree.proofs.StatementFine.{name_fine}
 use Rattle.bemit.specs.Drafts.{imported}
-use Rattle.bemit.specs.Drafts as drafts
 use Rattle.bemit.specs.Effects.{headed}
 use Rattle.bexpr.specs.declared.halt.Halt.TheVariants as halt
 use Rattle.bread.proofs.Steps.{compiles_err}

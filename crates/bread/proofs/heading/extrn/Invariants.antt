@@ -1,6 +1,5 @@
 use Rattle.btree.specs.StatementReader.{name}
 use Rattle.bemit.specs.Drafts.{imported}
-use Rattle.bemit.specs.Drafts as drafts
 use Rattle.bexpr.specs.Tokens.{work}
 use Rattle.bread.proofs.Lists.{InList}
 use Rattle.bread.proofs.heading.extrn.Given as goal

@@ -1,0 +1,93 @@
+-- A definition without fault is small.
+use Rattle.std.proofs.Common.{◌≡◌, ℕ, ◌+◌, ◌≤◌, Bool, true, false, List, [], ◌∷◌, ◌++◌, length, map, Option, Some, None, Result, Ok, Err, refl, sym, ap, subst, ◌∙◌, arith, length-append, if◌then◌else◌, ltb-true}
+use Rattle.std.specs.Prelude.{nat_lt, nat_le, ◌&&◌}
+use Rattle.std.specs.List.{list_any}
+use Rattle.std.proofs.lemmas.Bool.Decides.{nat_tests}
+use Rattle.blex.specs.declared.diagnostic.Diagnostic.{Diagnostic}
+use Rattle.blex.specs.declared.token.Letters.TheVariants as letters
+use Rattle.bcode.specs.declared.definition.Definition as coded
+use Rattle.btree.specs.Expression.{Word}
+use Rattle.btree.specs.Statement.{Stmt}
+use Rattle.btree.specs.Definition.{Definition, Simple, Vector, Function}
+use Rattle.btree.specs.Scope.{Entry, Kind, Automatic, kind_of, declared, entered, same_name, fault, name_fault, most_names}
+use Rattle.btree.specs.Scan.{Event, Declaration, Scope, no_scope, scanned, step, with_names, words_of, function_events, function_scope, statement_events, scope_fault, inner_fault, scan, word_of}
+use Rattle.std.specs.List.{flat_map}
+use Rattle.btree.specs.Code.{ival_code, ival_strings, code_of, fits, fault_of, fault_behind, vector_words}
+use Rattle.bparse.specs.Sizes.{IsSmall}
+
+abbrev parameter : Word → Event
+parameter w = Declaration w None
+
+scanned-Err : (es : List Event) (d : Diagnostic) → scanned es (Err d) ≡ Err d
+scanned-Err [] d = refl
+scanned-Err (e ∷ es) d = refl
+
+-- a table with one more name
+abbrev Grown : List Entry → List Entry → Type 0
+Grown es names = (length names ≡ length es + 1) × (length es + 1 ≤ most_names)
+
+entered_grown : (b : Bool) (w : Word) (k : Kind) (es names : List Entry) (d : Diagnostic) → nat_lt (length es) most_names ≡ b
+    → (if b then Ok (es ++ record { name = w.text; kind = k } ∷ []) else Err d) ≡ Ok names → Grown es names
+entered_grown true w k es names d e h =
+    let same : names ≡ es ++ record { name = w.text; kind = k } ∷ [] = cc in
+    (ap length same ∙ length-append es (record { name = w.text; kind = k } ∷ []), let l = ltb-true (length es) most_names e in omega (arith, l))
+entered_grown false w k es names d e h = cc
+
+declared_grown : (o : Option Kind) (w : Word) (k : Kind) (es names : List Entry) → kind_of w.text es ≡ o → declared w k es ≡ Ok names → Grown es names
+declared_grown (Some old) w k es names e h = let g = rw e at h in cc
+declared_grown None w k es names e h = entered_grown (nat_lt (length es) most_names) w k es names (fault letters.TooManyNames w.line) refl (rw e at h)
+
+few : (ps : List Word) (es : List Event) (s s2 : Scope) → length s.names ≤ most_names → scanned (map parameter ps ++ es) (Ok s) ≡ Ok s2 → length ps + length s.names ≤ most_names
+few [] es s s2 h e = omega (arith, h)
+few (w ∷ ps) es s s2 h e = go (declared w (Automatic s.frame) s.names) refl (λ n le g. few ps es (record behind { names = n }) s2 le g)
+  where
+    behind : Scope
+    behind = record s { frame = s.frame + words_of None }
+
+    go : (r : Result (List Entry) Diagnostic) → declared w (Automatic s.frame) s.names ≡ r
+        → ((n : List Entry) → length n ≤ most_names → scanned (map parameter ps ++ es) (Ok (record behind { names = n })) ≡ Ok s2 → length ps + length n ≤ most_names)
+        → length (w ∷ ps) + length s.names ≤ most_names
+    go (Ok names) r more =
+        let grown = declared_grown (kind_of w.text s.names) w (Automatic s.frame) s.names names refl r in
+        let rest = more names (omega (arith, grown.0, grown.1)) (subst (λ x. scanned (map parameter ps ++ es) (with_names behind x) ≡ Ok s2) r e) in
+        omega (arith, grown.0, rest)
+    go (Err d) r more =
+        let bad : scanned (map parameter ps ++ es) (Err d) ≡ Ok s2 = subst (λ x. scanned (map parameter ps ++ es) (with_names behind x) ≡ Ok s2) r e in
+        let no : Err d ≡ Ok s2 = sym (scanned-Err (map parameter ps ++ es) d) ∙ bad in
+        cc
+
+third_true : (a b c : Bool) → (a && b && c) ≡ true → c ≡ true
+third_true true true c e = e
+third_true true false c e = cc
+third_true false b c e = cc
+
+fewer : (n : ℕ) → nat_le n 32767 ≡ true → n ≤ 65535
+fewer n h = grind (arith, nat_tests)
+
+no_fault : (o : Option Diagnostic) (line : ℕ) (c : coded.Definition) → fault_behind o line c ≡ None → (o ≡ None) × (fits c ≡ true)
+no_fault (Some d) line c e = cc
+no_fault None line c e = (refl, go (fits c) refl)
+  where
+    go : (b : Bool) → fits c ≡ b → fits c ≡ true
+    go true f = f
+    go false f = let g = rw f at e in cc
+
+no_inner : (b : Bool) (d : Diagnostic) (o : Option Diagnostic) → (if b then Some d else o) ≡ None → o ≡ None
+no_inner true d o e = cc
+no_inner false d o e = e
+
+scope_clean : (r : Result Scope Diagnostic) → scope_fault r ≡ None → (s : Scope) × (r ≡ Ok s)
+scope_clean (Ok s) e = (s, refl)
+scope_clean (Err d) e = cc
+
+pub clean_small : (defined : List (List ℕ)) (d : Definition) → fault_of defined d ≡ None → IsSmall d
+clean_small defined (Simple w values) e = tt
+clean_small defined (Vector w size values) e =
+    let f = no_fault (scan defined (Vector w size values)) w.line (code_of (Vector w size values)) e in
+    fewer (vector_words size values) (third_true (nat_le (length (map ival_code values)) 1024) (nat_le (length (flat_map ival_strings values)) 1024) (nat_le (vector_words size values) 32767) f.1)
+clean_small defined (Function w ps body) e =
+    let f = no_fault (scan defined (Function w ps body)) w.line (code_of (Function w ps body)) e in
+    let inner = no_inner (list_any (same_name w.text) defined) (name_fault letters.Redeclared w) (inner_fault (Function w ps body)) f.0 in
+    let s = scope_clean (function_scope ps body) inner in
+    let n = few ps (statement_events body) no_scope s.0 (omega arith) s.1 in
+    omega (arith, n)

@@ -1,0 +1,4 @@
+pub mod CleanLaws
+pub mod CompilerSteps
+pub mod CompileSteps
+pub mod MadeSteps

@@ -1,0 +1,65 @@
+-- What a pass made of a definition is what its tree has.
+use Rattle.std.proofs.Common.{◌≡◌, ℕ, List, [], ◌∷◌, ◌++◌, Bool, true, false, Option, Some, None, refl, sym, ap, ◌∙◌, subst}
+use Rattle.blex.specs.declared.diagnostic.Diagnostic.{Diagnostic}
+use Rattle.blex.specs.declared.token.Token.{Token}
+use Rattle.blex.specs.declared.token.Token.TheVariants as token
+use Rattle.bcode.specs.declared.definition.Definition as coded
+use Rattle.btree.specs.Code.{code_of, fault_of}
+use Rattle.btree.specs.Compiled.{Defined}
+use Rattle.btree.specs.Definition.{Definition, IsFormed}
+use Rattle.btree.specs.DefinitionReader.{definition}
+use Rattle.btree.specs.Reading.{Got}
+use Rattle.btree.specs.Scan.{word_of}
+use Rattle.btree.proofs.LawProofs.{definition_read}
+use Rattle.bemit.specs.Drafts.{Draft, Going, fault_in, resolved, started}
+use Rattle.bemit.specs.Effects.{code_with, definition_done}
+use Rattle.bemit.specs.Views.{IfMade}
+use Rattle.bpass.proofs.Definitions.{one_pass}
+use Rattle.bparse.specs.Compilers.{is_end}
+use Rattle.bread.specs.Definitions.{TookDefinition}
+use Rattle.bread.specs.Headers.{Heads}
+use Rattle.bparse.specs.Sizes.{IsSmall}
+use Rattle.bexpr.specs.Tokens.{Tokens, tokens_of, Moves}
+use Rattle.bread.specs.declared.header.Header.{Header}
+use Rattle.bparse.proofs.CleanLaws.{clean_small}
+
+pub end_of : (t : Token) → is_end t ≡ true → t ≡ token.End
+end_of token.End e = refl
+end_of _ e = cc
+
+pub not_end : (t : Token) → is_end t ≡ false → t ≡ token.End → ⊥
+not_end t e h = let bad : true ≡ false = sym (ap is_end h) ∙ e in cc
+
+-- the definition of a draft, and how it begins
+pub record Drafted (names : Defined) (tree : Definition) (header : Header) (draft : Draft) : Type 0 where
+  pub formed : IsFormed tree
+  pub made : draft ≡ definition_done tree (started names (word_of tree))
+  pub heads : Heads header tree
+
+pub tree_formed : (mid new : Tokens) (tree : Definition) → Moves mid new (λ u v. definition u ≡ Got tree v) → IsFormed tree
+tree_formed mid new tree m = (definition_read (tokens_of mid (m.taken ++ [])) (tokens_of new []) tree (m.come [] (λ over. refl))).1
+
+pub drafted : (names : Defined) (mid new : Tokens) (header : Header) (draft : Draft) → (t : TookDefinition names mid header new draft) → Drafted names t.tree header draft
+drafted names mid new header draft t = record { formed = tree_formed mid new t.tree t.moves; made = t.made; heads = t.heads }
+
+module _ (names : Defined) (tree : Definition) (header : Header) (draft : Draft) (d : Drafted names tree header draft) where
+  pub fault_is : fault_in header.line draft ≡ fault_of names tree
+  fault_is =
+      ap (λ n. fault_in n draft) d.heads.line ∙ ap (fault_in (word_of tree).line) d.made ∙ (one_pass names tree d.formed).0
+
+  pub fault_some : (f : Diagnostic) (o : Option Diagnostic) → o ≡ fault_in header.line draft → o ≡ Some f → fault_of names tree ≡ Some f
+  fault_some f o e h = sym fault_is ∙ sym e ∙ h
+
+  pub fault_none : (o : Option Diagnostic) → o ≡ fault_in header.line draft → ((f : Diagnostic) → o ≡ Some f → ⊥) → fault_of names tree ≡ None
+  fault_none o e h = go o refl
+    where
+      go : (x : Option Diagnostic) → o ≡ x → fault_of names tree ≡ None
+      go None k = sym fault_is ∙ sym e ∙ k
+      go (Some f) k = absurd (h f k)
+
+  pub viewed : (view : coded.Definition) (after : Draft) → fault_of names tree ≡ None → after ≡ resolved draft
+      → IfMade after (λ s m. (t : Definition) → Heads header t → IsSmall t → view ≡ code_with t s.frame m) → view ≡ code_of tree
+  viewed view after clean same v =
+      let p = (one_pass names tree d.formed).1 clean in
+      let going : after ≡ Going p.0 (Some p.1) = same ∙ ap resolved d.made ∙ p.2 in
+      subst (λ x. IfMade x (λ s m. (t : Definition) → Heads header t → IsSmall t → view ≡ code_with t s.frame m)) going v tree d.heads (clean_small names tree clean) ∙ p.3

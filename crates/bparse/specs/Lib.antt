@@ -1,0 +1,5 @@
+pub mod Compilers
+pub mod Compiles
+pub mod Sizes
+pub mod Statuses
+pub mod Stops

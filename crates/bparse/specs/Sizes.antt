@@ -1,0 +1,10 @@
+-- Definitions whose counts fit the words of a view.
+use Rattle.std.specs.Prelude.{ℕ, ◌≤◌, length}
+use Rattle.btree.specs.Definition.{Definition, Simple, Vector, Function}
+use Rattle.btree.specs.Code.{vector_words}
+
+-- the words of a vector, or the parameters of a function, are no more than a view can count
+abbrev pub IsSmall : Definition → Type 0
+IsSmall (Simple w values) = Unit {0}
+IsSmall (Vector w size values) = vector_words size values ≤ 65535
+IsSmall (Function w parameters body) = length parameters ≤ 65535
