@@ -1,4 +1,3 @@
-pub mod TokenSteps
-pub mod DefinitionSteps
-pub mod CompilerSteps
-pub mod CompileSteps
+pub mod GoSteps
+pub mod MeantSteps
+pub mod RunSteps

@@ -1,10 +1,10 @@
-//! Sources with the code, the diagnostic and the status that they have.
-use crate::compile::compile;
+//! The program over ends that fail, refused memory, and the command line.
 use crate::serve::serve;
-use crate::status::Status;
+use bparse::{Status, compile};
 use bword::{MemIn, MemOut, Reading, Writing};
 use std::io::{self, Read, Write};
 use std::process::Abort;
+use std::rt::Files;
 use std::test::Fail;
 
 fn compiles(rt: &(impl AllocGlobal + Abort), source: &str, code: &str, line: &str, status: Status) {
@@ -22,34 +22,6 @@ fn compiles(rt: &(impl AllocGlobal + Abort), source: &str, code: &str, line: &st
 }
 
 #[test]
-fn sources_without_fault(rt: HostRuntime) {
-    compiles(&rt, "", "E\n", "", 0);
-    compiles(&rt, "n 2000;", "X n 1 0\nc 2000\nE\n", "", 0);
-    compiles(&rt, "n/*x*/017;", "X n 1 0\nc 15\nE\n", "", 0);
-    compiles(&rt, "n 'ab';", "X n 1 0\nc 24930\nE\n", "", 0);
-    compiles(
-        &rt,
-        "t 'x', n; n;",
-        "X t 2 0\nc 120\nx n\nX n 0 0\nE\n",
-        "",
-        0,
-    );
-}
-
-#[test]
-fn faulty_sources(rt: HostRuntime) {
-    compiles(&rt, "a;a;", "X a 0 0\n", "rd a 1\n", 1);
-    compiles(&rt, "a; /* x", "X a 0 0\n", "*/ 1\n", 1);
-    compiles(&rt, "abcdefghi;", "", "nm 1\n", 1);
-    compiles(&rt, "n 08;", "", "ct 1\n", 1);
-    compiles(&rt, "n 65536;", "", "ct 1\n", 1);
-    compiles(&rt, "n #;", "", "ch 1\n", 1);
-    compiles(&rt, "n 5", "", "sx 1\n", 1);
-    compiles(&rt, "n '';", "", "ct 1\n", 1);
-    compiles(&rt, "n -1;", "", "sx 1\n", 1);
-}
-
-#[test]
 fn too_many_values(rt: HostRuntime) -> Result<(), Fail> {
     let mut source = String::from_str(rt.alloc(), "a;\nv 1")?;
     for _ in 0..1024 {
@@ -61,7 +33,7 @@ fn too_many_values(rt: HostRuntime) -> Result<(), Fail> {
 }
 
 fn serves(
-    rt: &(impl AllocGlobal + Abort),
+    rt: &(impl AllocGlobal + Files + Abort),
     words: &[&str],
     status: Status,
 ) -> Result<(MemOut, MemOut), Fail> {

@@ -1,0 +1,13 @@
+use Rattle.std.proofs.Common.{sym, ◌∙◌, refl}
+use Rattle.b.specs.Runs.{refused, ran}
+use Rattle.b.proofs.RunSteps.{first_fault, run_of_loaded}
+use Rattle.b.proofs.run_text.run_definitions.Goals as goal
+
+pub returns-in-Some-clause-runs : goal.returns-in-Some-clause-runs
+returns-in-Some-clause-runs g c =
+    let numbered = sym c.number_of.ensures ∙ c.in-Some.is in
+    refused c.in-Err.fault c.in-Some.number (first_fault c.in-Err.fault _ c.in-Some.number numbered c.in-Err.ensures.err) numbered (record { unread = refl; silent = refl }) c.write_report.ensures.gives
+
+pub returns-clause-runs : goal.returns-clause-runs
+returns-clause-runs g c =
+    ran c.run-outcome.result c.in-Ok.ensures.loads (run_of_loaded c.args.definitions.items c.in-Ok.image c.in-Ok.ensures.ok c.args.steps _ _ _ _ c.run-outcome.result c.run-outcome.ensures.gives) c.finish.ensures.gives

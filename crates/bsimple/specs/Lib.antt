@@ -1,6 +1,0 @@
-pub mod Lines
-pub mod Definition
-pub mod Reading
-pub mod Program
-pub mod Compiled
-pub mod Laws
