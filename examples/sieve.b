@@ -1,16 +1,16 @@
 /* The primes below 100. */
 main() {
-    extrn composite;
+    extrn crossed;
     auto i, j;
 
     i = 2;
     while(i < 100) {
-        if(!composite[i]) {
+        if(!crossed[i]) {
             printn(i, 10);
             putchar('*n');
             j = i + i;
             while(j < 100) {
-                composite[j] = 1;
+                crossed[j] = 1;
                 j =+ i;
             }
         }
@@ -18,4 +18,4 @@ main() {
     }
 }
 
-composite[100];
+crossed[100];

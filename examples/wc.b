@@ -1,10 +1,10 @@
 /* The lines, words and characters of the input. */
 main() {
-    auto c, lines, words, characters, inside;
+    auto c, lines, words, chars, inside;
 
-    lines = words = characters = inside = 0;
+    lines = words = chars = inside = 0;
     while((c = getchar()) != '*e') {
-        characters++;
+        chars++;
         if(c == '*n')
             lines++;
         if(c == ' ' | c == '*t' | c == '*n')
@@ -18,6 +18,6 @@ main() {
     putchar(' ');
     printn(words, 10);
     putchar(' ');
-    printn(characters, 10);
+    printn(chars, 10);
     putchar('*n');
 }

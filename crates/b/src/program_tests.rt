@@ -292,3 +292,17 @@ fn programs_that_do_not_load(rt: HostRuntime) {
         132,
     );
 }
+
+#[test]
+fn jumps_between_statements(rt: HostRuntime) {
+    let out_of_a_switch = "main(){auto i; i=0; switch 1 {case 1: goto in;} while(i<3){in: putchar('a'+i); i++;}}";
+    runs(&rt, out_of_a_switch, "", STEPS, "abc", "", 0);
+    let to_a_declaration =
+        "main(){auto i; i=0; L: auto v 1; v[0]=i; putchar('0'+v[0]); v=0; i++; if(i<3) goto L;}";
+    runs(&rt, to_a_declaration, "", STEPS, "012", "", 0);
+    let a_case_in_a_loop =
+        "main(){auto i; i=0; switch 2 {case 1: while(i<3){case 2: putchar('a'+i); i++;}}}";
+    runs(&rt, a_case_in_a_loop, "", STEPS, "abc", "", 0);
+    let a_call_above_operands = "f(x){return(x*2);} main(){printn(1+f(2)*3-f(f(1)),10);}";
+    runs(&rt, a_call_above_operands, "", STEPS, "9", "", 0);
+}
