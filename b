@@ -10,7 +10,7 @@ is_stale() {
 }
 
 if is_stale; then
-    echo "b: proving and building the program, which takes some minutes the first time" >&2
+    echo "b: proving and building the program, which takes some twenty minutes the first time" >&2
     began=$SECONDS
     log=$(mktemp)
     (cd "$top/crates/b" && rt run -- compile </dev/null) >"$log" 2>&1
