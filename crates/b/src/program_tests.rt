@@ -295,7 +295,8 @@ fn programs_that_do_not_load(rt: HostRuntime) {
 
 #[test]
 fn jumps_between_statements(rt: HostRuntime) {
-    let out_of_a_switch = "main(){auto i; i=0; switch 1 {case 1: goto in;} while(i<3){in: putchar('a'+i); i++;}}";
+    let out_of_a_switch =
+        "main(){auto i; i=0; switch 1 {case 1: goto in;} while(i<3){in: putchar('a'+i); i++;}}";
     runs(&rt, out_of_a_switch, "", STEPS, "abc", "", 0);
     let to_a_declaration =
         "main(){auto i; i=0; L: auto v 1; v[0]=i; putchar('0'+v[0]); v=0; i++; if(i<3) goto L;}";
