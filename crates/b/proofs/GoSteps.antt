@@ -56,7 +56,7 @@ nothing_kept = record { bytes = []; refusals = 0 }
 pub goes_stopped : (steps : ℕ) (source source_behind : Incoming) (ends : Ends) (first last : Kept) (status : ℕ) → first ≡ nothing_kept → (status ≡ 0 → ⊥) → HasNotRun ends
     → Compiling source source_behind first last ends.line ends.line_behind status → GoesOff steps source source_behind ends status
 goes_stopped steps source source_behind ends first last status e not_zero quiet h =
-    going.stopped (outgoing_of last) not_zero quiet (subst (λ m. Compiling source source_behind m last ends.line ends.line_behind status) e h)
+    going.stopped last not_zero quiet (subst (λ m. Compiling source source_behind m last ends.line ends.line_behind status) e h)
 
 pub goes_ran : (steps : ℕ) (source source_behind : Incoming) (ends : Ends) (first last : Kept) (line : Outgoing) (compiled status : ℕ) (text : List ℕ) → first ≡ nothing_kept → compiled ≡ 0 → text ≡ last.bytes
     → Compiling source source_behind first last ends.line line compiled → RunsText steps text (record ends { line = line }) status → GoesOff steps source source_behind ends status

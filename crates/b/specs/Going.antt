@@ -1,6 +1,6 @@
 -- What comes of a source that is compiled and run.
 use Rattle.std.specs.Prelude.{◌≡◌, ℕ, List, [], ◌++◌, map, Some, None}
-use Rattle.bword.specs.ByteEnds.{Incoming, Outgoing, outgoing_of}
+use Rattle.bword.specs.ByteEnds.{Incoming, Outgoing, Kept, outgoing_of}
 use Rattle.blex.specs.Sources.{Took}
 use Rattle.blex.specs.Tokens.{tokens_from}
 use Rattle.btree.specs.Code.{code_of}
@@ -37,9 +37,9 @@ pub record RunsSource (steps : ℕ) (source source_behind : Incoming) (ends : En
   pub runs : (more : List ℕ) → CanFollow source_behind more → (r : compiled.Outcome) → (g : Goes [] (tokens_from 1 (taken ++ more)) r)
       → (r.stop ≡ None) × RunsProgram steps g.definitions ends status
 
--- A source that isn't compiled, for a fault or a failure, is not run.
+-- A source that isn't compiled, for a fault or a failure, is not run. The code is kept in memory, which never fails as a device.
 pub data GoesOff (steps : ℕ) (source source_behind : Incoming) (ends : Ends) (status : ℕ) : Type 0 where
-  stopped : (code : Outgoing) → (status ≡ 0 → ⊥) → HasNotRun ends
-      → Compiles (record { source = source; source_behind = source_behind; code = no_code; code_behind = code; line = ends.line; line_behind = ends.line_behind; status = status })
+  stopped : (kept : Kept) → (status ≡ 0 → ⊥) → HasNotRun ends
+      → Compiles (record { source = source; source_behind = source_behind; code = no_code; code_behind = outgoing_of kept; line = ends.line; line_behind = ends.line_behind; status = status })
       → GoesOff steps source source_behind ends status
   ran : RunsSource steps source source_behind ends status → GoesOff steps source source_behind ends status
