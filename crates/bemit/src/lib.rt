@@ -16,6 +16,3 @@ pub use form::Form;
 pub use names::{Binding, DeclareFault, Declared, TooManyNames, Undefined};
 pub use parts::{Branch, Case, CaseFault, Hole, TooLarge};
 pub use scope::Scope;
-
-#[cfg(test)]
-mod tests;

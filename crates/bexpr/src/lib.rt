@@ -5,8 +5,6 @@ mod halt;
 mod mark;
 mod operators;
 mod parser;
-#[cfg(test)]
-mod tests;
 mod tokens;
 
 pub use halt::Halt;

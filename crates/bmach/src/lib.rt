@@ -28,8 +28,3 @@ pub use loader::load;
 pub use outcome::{Outcome, Trap};
 pub use resolve::resolving_changes_no_run;
 pub use runs::run;
-
-#[cfg(test)]
-mod run_tests;
-#[cfg(test)]
-mod tests;

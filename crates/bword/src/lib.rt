@@ -10,8 +10,6 @@ mod name;
 mod operators;
 mod store;
 mod streams;
-#[cfg(test)]
-mod tests;
 
 pub use byte_in::{ByteIn, Device};
 pub use byte_out::{ByteOut, EndFault};

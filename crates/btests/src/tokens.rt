@@ -1,5 +1,5 @@
-use crate::{Keyword, Letters, Lexer, Placed, Token};
 use arrayvec::ArrayVec;
+use blex::{Keyword, Letters, Lexer, Placed, Token};
 use bword::{BinOp, MemIn, Name};
 
 fn name(text: &str) -> Token {

@@ -1,4 +1,4 @@
-use crate::{
+use bword::{
     BinOp, ByteIn, ByteOut, Device, DivZero, EndFault, FlatStore, MemIn, MemOut, Name, Reading,
     Store, Writing, binary, char_at, negate, not, set_char,
 };

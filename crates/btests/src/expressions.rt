@@ -1,8 +1,8 @@
 ghost use Rattle.std.specs.Prelude.{IfOk};
 ghost use Rattle.bexpr.specs.Tokens.{IsLoaded};
 
-use crate::{Halt, Mark, Parser};
 use bcode::Instr;
+use bexpr::{Halt, Mark, Parser};
 use blex::{About, Diagnostic, Letters, Token};
 use bword::{BinOp, MemIn, Name};
 use std::test::Fail;

@@ -1,15 +1,30 @@
-use crate::faults::{fault, name_fault};
-use crate::{
+use bcode::{Instr, Ival};
+use bemit::{
     Binding, Branch, Case, CaseFault, CodeBuffer, DeclareFault, Declared, Draft, Form, Scope,
     TooLarge, TooManyNames, Undefined,
 };
-use bcode::{Instr, Ival};
 use blex::{About, Diagnostic, Letters};
 use bword::Name;
 use std::test::Fail;
 
 fn name(text: &str) -> Result<Name, Fail> {
     Ok(Name::new(text).ok_or("a name")?)
+}
+
+fn fault(letters: Letters, line: u64) -> Diagnostic {
+    Diagnostic {
+        letters,
+        about: About::Nothing,
+        line,
+    }
+}
+
+fn name_fault(letters: Letters, name: Name, line: u64) -> Diagnostic {
+    Diagnostic {
+        letters,
+        about: About::Name(name),
+        line,
+    }
 }
 
 #[test]

@@ -3,8 +3,8 @@ ghost use Rattle.std.specs.Prelude.{◌≤◌, ◌<◌, All, IsTrue, length};
 ghost use Rattle.bcode.specs.Definitions.{IsIvalWithin};
 ghost use Rattle.bword.specs.Names.{is_name};
 
-use crate::*;
 use bcode::*;
+use bmach::*;
 use bword::Name;
 use std::alloc::Global;
 use std::test::Fail;

@@ -1,4 +1,4 @@
-use crate::{CodeFault, read_code, write_definition, write_end};
+use bcode::{CodeFault, read_code, write_definition, write_end};
 use bword::MemOut;
 use std::test::Fail;
 

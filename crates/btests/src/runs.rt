@@ -1,6 +1,6 @@
 //! Small programs, run.
-use crate::*;
 use bcode::read_code;
+use bmach::*;
 use bword::{ByteIn, Device, FlatStore, MemIn, MemOut, NoMemory, Reading, Store, Writing};
 use std::alloc::Global;
 use std::io;
