@@ -12,7 +12,7 @@ use Rattle.btree.specs.Compiled.{Defined, Outcome, Goes, ending, code_text, line
 use Rattle.bcode.specs.Text.{joined}
 use Rattle.btree.proofs.GoesLaws.{goes_once, goes_some}
 use Rattle.bexpr.specs.Tokens.{Tokens, tokens_of, CanFollow, work}
-use Rattle.bparse.specs.Compilers.{Compiler, Comes, next_text, Began, Keeps, Wrote, Stopped, Broke, DeviceFailed, MemoryRefused, SomeTextComes}
+use Rattle.bparse.specs.Compilers.{Compiler, Comes, next_text, Began, Keeps, Wrote, Stopped, Broke, DeviceFailed, MemoryRefused, SomeTextComes, SomeCodeComes, HasCode}
 use Rattle.bparse.specs.Compilers.{new}
 use Rattle.bparse.specs.Compiles.{KeepsAll, Each, AllWritten, AllBroke, AllGives, CodeComes, CodeGives, Whatever, Run, IsBroken, AnyFailed, AnyRefused, Compiles}
 use Rattle.bparse.specs.Statuses.{status_of}
@@ -127,6 +127,10 @@ not_nil : (xs ys : List (List ℕ)) → (ys ≡ [] → ⊥) → xs ++ ys ≡ [] 
 not_nil [] ys h e = h e
 not_nil (x ∷ xs) ys h e = cc
 
+nil_behind : (xs ys : List (List ℕ)) → xs ++ ys ≡ [] → ys ≡ []
+nil_behind [] ys e = e
+nil_behind (x ∷ xs) ys e = cc
+
 grew_since : (a b c : ℕ) → b ≡ a → Grew b c → Grew a c
 grew_since a b c e g = rw e at g
 
@@ -139,17 +143,24 @@ device_broke {old} {now} {new} h b = all_broke _ (λ taken. Grew old.tokens.sour
     reasons (inr g) = inr (grew_since _ _ _ h.written.failures g)
 
 pub memory_broke : {old now new : Compiler} → Compiling old now → Broke now (λ taken. MemoryRefused now taken new) new
-    → AllBroke old (λ taken. Grew old.out.refusals new.out.refusals ⊎ Each old taken new (λ r. r.code ≡ [] → ⊥)) new
-memory_broke {old} {now} {new} h b = all_broke (λ taken. MemoryRefused now taken new) (λ taken. Grew old.out.refusals new.out.refusals ⊎ Each old taken new (λ r. r.code ≡ [] → ⊥)) h b reasons
+    → AllBroke old (λ taken. (Grew old.out.refusals new.out.refusals × Each old taken new HasCode) ⊎ Each old taken new (λ r. r.code ≡ [] → ⊥)) new
+memory_broke {old} {now} {new} h b = all_broke (λ taken. MemoryRefused now taken new) (λ taken. (Grew old.out.refusals new.out.refusals × Each old taken new HasCode) ⊎ Each old taken new (λ r. r.code ≡ [] → ⊥)) h b reasons
   where
+    some_code : SomeCodeComes now b.taken new → Each old (h.taken ++ b.taken) new HasCode
+    some_code s more f r a e =
+        let some = goes_some now.names (tokens_of now.tokens (b.taken ++ more)) (tokens_of-ended now.tokens (b.taken ++ more)) in
+        let same_ = behind h b.keeps more f some.outcome r some.goes a in
+        let none = nil_behind h.texts some.outcome.code (sym (ap (λ x. x.code) same_) ∙ e) in
+        ap (λ x. x.stop) same_ ∙ s more f some.outcome some.goes none
+
     some_text : SomeTextComes now b.taken new → Each old (h.taken ++ b.taken) new (λ r. r.code ≡ [] → ⊥)
     some_text s more f r a e =
         let some = goes_some now.names (tokens_of now.tokens (b.taken ++ more)) (tokens_of-ended now.tokens (b.taken ++ more)) in
         let same_ = behind h b.keeps more f some.outcome r some.goes a in
         not_nil h.texts some.outcome.code (s more f some.outcome some.goes) (sym (ap (λ x. x.code) same_) ∙ e)
 
-    reasons : MemoryRefused now b.taken new → Grew old.out.refusals new.out.refusals ⊎ Each old (h.taken ++ b.taken) new (λ r. r.code ≡ [] → ⊥)
-    reasons (inl g) = inl (grew_since _ _ _ h.written.refusals g)
+    reasons : MemoryRefused now b.taken new → (Grew old.out.refusals new.out.refusals × Each old (h.taken ++ b.taken) new HasCode) ⊎ Each old (h.taken ++ b.taken) new (λ r. r.code ≡ [] → ⊥)
+    reasons (inl g) = inl (grew_since _ _ _ h.written.refusals g.0, some_code g.1)
     reasons (inr g) = inr (some_text g.1)
 
 pub closed_never : {old now : Compiler} → Compiling old now → now.is_closed ≡ true → ⊥
@@ -220,7 +231,7 @@ module _ (i j : Incoming) (o p d e : Outgoing) where
     compiled = λ s. absurd (omega arith);
     faulty = λ s. absurd (omega arith);
     failed = λ s. absurd (omega arith);
-    refused = λ s. (line_began fault end_fault.Memory h w h 134, inl (inr w.counted.0));
+    refused = λ s. (line_began fault end_fault.Memory h w h 134, inl w.counted.0);
     no_other = inr (inr (inr refl));
   }
 
@@ -250,9 +261,9 @@ module _ (i j : Incoming) (o p d e : Outgoing) where
     no_other = inr (inr (inr refl));
   }
     where
-      refused_by : Grew o.refusals p.refusals ⊎ Whatever h.taken j (λ r. r.code ≡ [] → ⊥) → AnyRefused (run 134) ⊎ Whatever h.taken j (λ r. r.code ≡ [] → ⊥)
-      refused_by (inl g) = inl (inl g)
-      refused_by (inr g) = inr g
+      refused_by : (Grew o.refusals p.refusals × Whatever h.taken j HasCode) ⊎ Whatever h.taken j (λ r. r.code ≡ [] → ⊥) → AnyRefused (run 134) h.taken
+      refused_by (inl g) = inr (inl g)
+      refused_by (inr g) = inr (inr g)
 
   pub compiles_ok : (r : Result (Unit {0}) Stop) (u : Unit {0}) → CodeGives i o r j p → r ≡ Ok u → e ≡ d → Compiles (run 0)
   compiles_ok r u h is same = compiles_all (subst (λ x. CodeComes i o x j p) is h.comes) same

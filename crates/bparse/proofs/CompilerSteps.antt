@@ -145,7 +145,13 @@ module _ (old mid : Tokens) (names : Defined) (l : Looks old mid) where
 
     pub end_breaks : (e : EndFault) → Refuses out end_text e out' → DefinitionGives (compiler_of old names out lender false) (Err (stop_of e)) (compiler_of mid names out' lender' true)
     end_breaks fault.Device w = record { taken = l.moves.taken; keeps = keeps_end; closed = refl; began = end_began fault.Device w; reason = inr w.counted.0 }
-    end_breaks fault.Memory w = record { taken = l.moves.taken; keeps = keeps_end; closed = refl; began = end_began fault.Memory w; reason = inl w.counted.0 }
+    end_breaks fault.Memory w = record {
+      taken = l.moves.taken;
+      keeps = keeps_end;
+      closed = refl;
+      began = end_began fault.Memory w;
+      reason = inl (w.counted.0, λ more c r g none. sym (ap (λ q. q.stop) (goes_once (comes_end more c) g)));
+    }
 
   -- behind a definition
   module _ (new : Tokens) (out : Outgoing) (lender : ℕ) (tree : Definition) (name : List ℕ) (name_is : name ≡ (word_of tree).text) (m : Moves mid new (λ u v. definition u ≡ Got tree v)) where
@@ -192,13 +198,16 @@ module _ (old mid : Tokens) (names : Defined) (l : Looks old mid) where
           (goes_fault_read names (tokens_of mid (m.taken ++ more)) (tokens_of new more) tree fault (m.come more c) wrong (tokens_of-ended new more));
     }
 
+    some_text : fault_of names tree ≡ None → (more : List ℕ) → CanFollow new.source.end more → (r : Outcome) → Goes names (tokens_of old (both new m ++ more)) r → r.code ≡ [] → ⊥
+    some_text clean more c r g e = let f = first_text clean more c r g in let h : [] ≡ text_of tree ∷ f.0.code = sym e ∙ ap (λ q. q.code) f.1 in cc
+
     pub no_memory : fault_of names tree ≡ None → (names' : Defined) → Broke (compiler_of old names out lender false) (λ taken. MemoryRefused (compiler_of old names out lender false) taken (compiler_of new names' out lender true)) (compiler_of new names' out lender true)
     no_memory clean names' = record {
       taken = both new m;
       keeps = keeps_all names' out lender true refl;
       closed = refl;
       began = λ more c r g. began_nothing out (next_text r.code r.stop);
-      reason = inr (refl, λ more c r g e. let f = first_text clean more c r g in let h : [] ≡ text_of tree ∷ f.0.code = sym e ∙ ap (λ q. q.code) f.1 in cc);
+      reason = inr (refl, some_text clean);
     }
 
     write_began : {e : EndFault} (out' : Outgoing) → fault_of names tree ≡ None → Refuses out (text_of tree) e out' → (more : List ℕ) → CanFollow new.source.end more → (r : Outcome) → Goes names (tokens_of old (both new m ++ more)) r → Began out (next_text r.code r.stop) out'
@@ -209,7 +218,7 @@ module _ (old mid : Tokens) (names : Defined) (l : Looks old mid) where
     write_breaks names' out' lender' fault.Device clean same w =
         record { taken = both new m; keeps = keeps_all names' out' lender' true same; closed = refl; began = write_began out' clean w; reason = inr w.counted.0 }
     write_breaks names' out' lender' fault.Memory clean same w =
-        record { taken = both new m; keeps = keeps_all names' out' lender' true same; closed = refl; began = write_began out' clean w; reason = inl w.counted.0 }
+        record { taken = both new m; keeps = keeps_all names' out' lender' true same; closed = refl; began = write_began out' clean w; reason = inl (w.counted.0, λ more c r g e. absurd (some_text clean more c r g e)) }
 
 -- the exits of a `?`
 pub gives_stop : (old : Compiler) (new : Bool → Compiler) (r : Result Bool Why) (e : Why) → IsErrAnd r (λ y. y ≡ e) → DefinitionGives old (Err e) (new true) → DefinitionGives old r (new (is_over r))

@@ -101,10 +101,20 @@ abbrev pub DeviceFailed : Compiler → Compiler → Type 0
 DeviceFailed old new =
     (Grew old.tokens.source.end.failures new.tokens.source.end.failures × (new.out ≡ old.out)) ⊎ Grew old.out.failures new.out.failures
 
--- a growth was refused: by the output, or of the list of names before anything was written
+-- there is code: a definition's, or the last line
+abbrev pub HasCode : Outcome → Type 0
+HasCode r = r.code ≡ [] → r.stop ≡ None
+
+-- whatever comes, a definition or the last line is written next
+abbrev pub SomeCodeComes : Compiler → List ℕ → Compiler → Type 0
+SomeCodeComes old taken new =
+    (more : List ℕ) → CanFollow new.tokens.source.end more → (r : Outcome) → Comes old taken more r → HasCode r
+
+-- a growth was refused: by the output for what is written next, or of the list of names before anything was written
 abbrev pub MemoryRefused : Compiler → List ℕ → Compiler → Type 0
 MemoryRefused old taken new =
-    Grew old.out.refusals new.out.refusals ⊎ ((new.out ≡ old.out) × SomeTextComes old taken new)
+    (Grew old.out.refusals new.out.refusals × SomeCodeComes old taken new)
+    ⊎ ((new.out ≡ old.out) × SomeTextComes old taken new)
 
 -- what a call does
 abbrev pub StepGives : Compiler → Step → Compiler → Type 0

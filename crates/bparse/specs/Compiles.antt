@@ -5,7 +5,7 @@ use Rattle.blex.specs.Sources.{Took}
 use Rattle.blex.specs.Tokens.{tokens_from}
 use Rattle.blex.specs.declared.diagnostic.Diagnostic.{Diagnostic}
 use Rattle.btree.specs.Compiled.{Outcome, Goes, code_text, line_of}
-use Rattle.bparse.specs.Compilers.{Compiler, Comes, Began}
+use Rattle.bparse.specs.Compilers.{Compiler, Comes, Began, HasCode}
 use Rattle.bparse.specs.declared.step.Stop.{Stop}
 use Rattle.bparse.specs.declared.step.Stop.TheVariants as stop
 use Rattle.bexpr.specs.Tokens.{CanFollow}
@@ -50,14 +50,17 @@ AnyFailed run =
     Grew run.source.failures run.source_behind.failures ⊎ Grew run.code.failures run.code_behind.failures
     ⊎ Grew run.line.failures run.line_behind.failures
 
--- an output was refused memory
-abbrev pub AnyRefused : Run → Type 0
-AnyRefused run = Grew run.code.refusals run.code_behind.refusals ⊎ Grew run.line.refusals run.line_behind.refusals
-
 -- each source that begins with the bytes that were taken, or the one whose end was seen, comes to this
 abbrev pub Whatever : List ℕ → Incoming → (Outcome → Type 0) → Type 0
 Whatever taken end P =
     (more : List ℕ) → CanFollow end more → (r : Outcome) → Goes [] (tokens_from 1 (taken ++ more)) r → P r
+
+-- memory was refused: by the line's output, by the code's where there is code, or where a definition comes
+abbrev pub AnyRefused : Run → List ℕ → Type 0
+AnyRefused run taken =
+    Grew run.line.refusals run.line_behind.refusals
+    ⊎ (Grew run.code.refusals run.code_behind.refusals × Whatever taken run.source_behind HasCode)
+    ⊎ Whatever taken run.source_behind (λ r. r.code ≡ [] → ⊥)
 
 -- What was written and answered is what comes of the source.
 pub record Compiles (run : Run) : Type 0 where
@@ -66,8 +69,7 @@ pub record Compiles (run : Run) : Type 0 where
   pub compiled : run.status ≡ 0 → Whatever taken run.source_behind (IsCompiled run)
   pub faulty : run.status ≡ 1 → Whatever taken run.source_behind (IsFaulty run)
   pub failed : run.status ≡ 133 → AnyFailed run × Whatever taken run.source_behind (IsBroken run)
-  pub refused : run.status ≡ 134 → Whatever taken run.source_behind (IsBroken run)
-      × (AnyRefused run ⊎ Whatever taken run.source_behind (λ r. r.code ≡ [] → ⊥))
+  pub refused : run.status ≡ 134 → Whatever taken run.source_behind (IsBroken run) × AnyRefused run taken
   pub no_other : (run.status ≡ 0) ⊎ (run.status ≡ 1) ⊎ (run.status ≡ 133) ⊎ (run.status ≡ 134)
 
 -- All of the code was written, which stops so.
@@ -88,7 +90,8 @@ abbrev pub CodeComes : Incoming → Outgoing → Result (Unit {0}) Stop → Inco
 CodeComes i o (Ok u) j p = CodeWritten i o None j p
 CodeComes i o (Err (stop.Fault fault)) j p = CodeWritten i o (Some fault) j p
 CodeComes i o (Err stop.Device) j p = CodeBroke i o (λ taken. Grew i.failures j.failures ⊎ Grew o.failures p.failures) j p
-CodeComes i o (Err stop.Memory) j p = CodeBroke i o (λ taken. Grew o.refusals p.refusals ⊎ Whatever taken j (λ r. r.code ≡ [] → ⊥)) j p
+CodeComes i o (Err stop.Memory) j p =
+    CodeBroke i o (λ taken. (Grew o.refusals p.refusals × Whatever taken j HasCode) ⊎ Whatever taken j (λ r. r.code ≡ [] → ⊥)) j p
 
 -- what compiling does to the source and the code
 pub record CodeGives (i : Incoming) (o : Outgoing) (r : Result (Unit {0}) Stop) (j : Incoming) (p : Outgoing) : Type 0 where
@@ -125,4 +128,4 @@ AllGives old (Err (stop.Fault fault)) new = AllWritten old (Some fault) new
 AllGives old (Err stop.Device) new =
     AllBroke old (λ taken. Grew old.tokens.source.end.failures new.tokens.source.end.failures ⊎ Grew old.out.failures new.out.failures) new
 AllGives old (Err stop.Memory) new =
-    AllBroke old (λ taken. Grew old.out.refusals new.out.refusals ⊎ Each old taken new (λ r. r.code ≡ [] → ⊥)) new
+    AllBroke old (λ taken. (Grew old.out.refusals new.out.refusals × Each old taken new HasCode) ⊎ Each old taken new (λ r. r.code ≡ [] → ⊥)) new
