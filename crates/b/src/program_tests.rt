@@ -5,9 +5,9 @@ use bword::{MemIn, MemOut};
 use std::process::Abort;
 
 /// The most steps of a run that no row limits.
-const STEPS: u64 = 10_000_000;
+pub(crate) const STEPS: u64 = 10_000_000;
 
-fn runs(
+pub(crate) fn runs(
     rt: &(impl AllocGlobal + Abort),
     source: &str,
     input: &str,

@@ -4,7 +4,7 @@ use bparse::Status;
 use bword::{MemIn, MemOut};
 use std::process::Abort;
 
-fn runs(
+pub(crate) fn runs(
     rt: &(impl AllocGlobal + Abort),
     code: &str,
     steps: u64,

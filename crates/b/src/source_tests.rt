@@ -3,7 +3,13 @@ use bparse::{Status, compile};
 use bword::{MemIn, MemOut};
 use std::process::Abort;
 
-fn compiles(rt: &(impl AllocGlobal + Abort), source: &str, code: &str, line: &str, status: Status) {
+pub(crate) fn compiles(
+    rt: &(impl AllocGlobal + Abort),
+    source: &str,
+    code: &str,
+    line: &str,
+    status: Status,
+) {
     let mut out = MemOut::new(rt.alloc());
     let mut diag = MemOut::new(rt.alloc());
     let answer = compile(

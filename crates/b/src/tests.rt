@@ -1,25 +1,14 @@
 //! The program over ends that fail, refused memory, and the command line.
+use crate::example_tests::HELLO;
 use crate::serve::serve;
+use crate::source_tests::compiles;
 use bparse::{Status, compile};
 use bword::{MemIn, MemOut, Reading, Writing};
+use std::fs;
 use std::io::{self, Read, Write};
-use std::process::Abort;
+use std::process::{self, Abort};
 use std::rt::Files;
 use std::test::Fail;
-
-fn compiles(rt: &(impl AllocGlobal + Abort), source: &str, code: &str, line: &str, status: Status) {
-    let mut out = MemOut::new(rt.alloc());
-    let mut diag = MemOut::new(rt.alloc());
-    let answer = compile(
-        rt.alloc(),
-        &mut MemIn::new(source.as_bytes()),
-        &mut out,
-        &mut diag,
-    );
-    assert_eq!(rt; out.bytes(), code.as_bytes(), "the code of {source}");
-    assert_eq!(rt; diag.bytes(), line.as_bytes(), "the line of {source}");
-    assert_eq!(rt; answer, status, "the status of {source}");
-}
 
 #[test]
 fn too_many_values(rt: HostRuntime) -> Result<(), Fail> {
@@ -35,6 +24,7 @@ fn too_many_values(rt: HostRuntime) -> Result<(), Fail> {
 fn serves(
     rt: &(impl AllocGlobal + Files + Abort),
     words: &[&str],
+    input: &str,
     status: Status,
 ) -> Result<(MemOut, MemOut), Fail> {
     let mut strings = Vec::new(rt.alloc());
@@ -46,7 +36,7 @@ fn serves(
     let answer = serve(
         rt,
         strings.as_slice(),
-        &mut MemIn::new(b"a;"),
+        &mut MemIn::new(input.as_bytes()),
         &mut out,
         &mut diag,
     );
@@ -55,32 +45,77 @@ fn serves(
 }
 
 #[test]
-fn the_command_compile(rt: HostRuntime) -> Result<(), Fail> {
-    let (out, diag) = serves(&rt, &["b", "compile"], 0)?;
-    assert_eq!(rt; out.bytes(), b"X a 0 0\nE\n".as_slice());
+fn the_commands(rt: HostRuntime) -> Result<(), Fail> {
+    let (code, _) = serves(&rt, &["b", "compile"], HELLO, 0)?;
+    let id = process::id(rt.process());
+    let file = format!(in rt.alloc(); "/tmp/b_tests_{id}")?;
+    fs::write(&rt, file.as_str(), HELLO.as_bytes())?;
+    let (out, _) = serves(&rt, &["b", "go", file.as_str()], "", 0)?;
+    assert_eq!(rt; out.bytes(), b"hello, world\n".as_slice());
+    fs::write(&rt, file.as_str(), code.bytes())?;
+    let (out, _) = serves(&rt, &["b", "run", "--steps", "1000", file.as_str()], "", 0)?;
+    assert_eq!(rt; out.bytes(), b"hello, world\n".as_slice());
+    let (_, diag) = serves(&rt, &["b", "run", "--steps", "268", file.as_str()], "", 131)?;
+    assert_eq!(rt; diag.bytes(), b"limit\n".as_slice());
+    fs::remove_file(&rt, file.as_str())?;
+    let (_, diag) = serves(&rt, &["b", "go", file.as_str()], "", 133)?;
     assert_eq!(rt; diag.bytes().len(), 0);
     Ok(())
 }
 
 #[test]
 fn wrong_command_lines(rt: HostRuntime) -> Result<(), Fail> {
-    for words in [
-        ["b", "run"].as_slice(),
-        ["b"].as_slice(),
-        ["b", "compile", "x"].as_slice(),
+    for (words, wrong) in [
+        (
+            ["b", "run"].as_slice(),
+            b"error: the following required arguments were not provided:\n".as_slice(),
+        ),
+        (
+            ["b"].as_slice(),
+            b"error: 'b' requires a subcommand but one was not provided\n".as_slice(),
+        ),
+        (
+            ["b", "compile", "x"].as_slice(),
+            b"error: unexpected argument 'x' found\n".as_slice(),
+        ),
+        (
+            ["b", "walk"].as_slice(),
+            b"error: unrecognized subcommand 'walk'\n".as_slice(),
+        ),
+        (
+            ["b", "go", "--steps", "0", "x"].as_slice(),
+            b"error: invalid value '0' for '--steps <N>': ".as_slice(),
+        ),
     ] {
-        let (out, diag) = serves(&rt, words, 135)?;
+        let (out, diag) = serves(&rt, words, "", 135)?;
         assert_eq!(rt; out.bytes().len(), 0);
-        assert!(rt; !diag.bytes().is_empty());
+        assert!(rt; diag.bytes().starts_with(wrong));
+        assert!(rt; diag.bytes().ends_with(b"try '--help'.\n"));
     }
     Ok(())
 }
 
 #[test]
 fn help(rt: HostRuntime) -> Result<(), Fail> {
-    let (out, diag) = serves(&rt, &["b", "--help"], 0)?;
-    assert!(rt; !out.bytes().is_empty());
-    assert_eq!(rt; diag.bytes().len(), 0);
+    for words in [
+        ["b", "--help"].as_slice(),
+        ["b", "compile", "--help"].as_slice(),
+        ["b", "run", "--help"].as_slice(),
+        ["b", "go", "--help"].as_slice(),
+    ] {
+        let (out, diag) = serves(&rt, words, "", 0)?;
+        assert_eq!(rt; diag.bytes().len(), 0);
+        assert!(rt; !out.bytes().is_empty());
+        let mut width: u64 = 0;
+        for byte in out.bytes() {
+            width = if *byte == b'\n' {
+                0
+            } else {
+                width.saturating_add(1)
+            };
+            assert!(rt; width <= 80);
+        }
+    }
     Ok(())
 }
 
