@@ -6,7 +6,7 @@ use bparse::{Status, compile};
 use bword::{MemIn, MemOut, Reading, Writing};
 use std::fs;
 use std::io::{self, Read, Write};
-use std::process::{self, Abort};
+use std::process::Abort;
 use std::rt::Files;
 use std::test::Fail;
 
@@ -21,15 +21,16 @@ fn too_many_values(rt: HostRuntime) -> Result<(), Fail> {
     Ok(())
 }
 
+// What the program answers to the words of a line, where it has this status.
 fn serves(
     rt: &(impl AllocGlobal + Files + Abort),
-    words: &[&str],
+    words: &str,
     input: &str,
     status: Status,
 ) -> Result<(MemOut, MemOut), Fail> {
     let mut strings = Vec::new(rt.alloc());
-    for word in words {
-        strings.push(String::from_str(rt.alloc(), *word)?)?;
+    for word in words.split(' ') {
+        strings.push(String::from_str(rt.alloc(), word)?)?;
     }
     let mut out = MemOut::new(rt.alloc());
     let mut diag = MemOut::new(rt.alloc());
@@ -40,72 +41,76 @@ fn serves(
         &mut out,
         &mut diag,
     );
-    assert_eq!(rt; answer, status);
+    assert_eq!(rt; answer, status, "the status of {words}");
     Ok((out, diag))
 }
 
+// Its output, and the line beside it.
+fn answers(
+    rt: &(impl AllocGlobal + Files + Abort),
+    words: &str,
+    output: &str,
+    line: &str,
+    status: Status,
+) -> Result<(), Fail> {
+    let (out, diag) = serves(rt, words, "", status)?;
+    assert!(rt; out.bytes() == output.as_bytes(), "the output of {words}");
+    assert!(rt; diag.bytes() == line.as_bytes(), "the line of {words}");
+    Ok(())
+}
+
+// The commands of help. Each run of the tests has a folder of its own.
 #[test]
 fn the_commands(rt: HostRuntime) -> Result<(), Fail> {
-    let (code, _) = serves(&rt, &["b", "compile"], HELLO, 0)?;
-    let id = process::id(rt.process());
-    let file = format!(in rt.alloc(); "/tmp/b_tests_{id}")?;
-    fs::write(&rt, file.as_str(), HELLO.as_bytes())?;
-    let (out, _) = serves(&rt, &["b", "go", file.as_str()], "", 0)?;
-    assert_eq!(rt; out.bytes(), b"hello, world\n".as_slice());
-    fs::write(&rt, file.as_str(), code.bytes())?;
-    let (out, _) = serves(&rt, &["b", "run", "--steps", "1000", file.as_str()], "", 0)?;
-    assert_eq!(rt; out.bytes(), b"hello, world\n".as_slice());
-    let (_, diag) = serves(&rt, &["b", "run", "--steps", "268", file.as_str()], "", 131)?;
-    assert_eq!(rt; diag.bytes(), b"limit\n".as_slice());
-    fs::remove_file(&rt, file.as_str())?;
-    let (_, diag) = serves(&rt, &["b", "go", file.as_str()], "", 133)?;
-    assert_eq!(rt; diag.bytes().len(), 0);
-    Ok(())
+    fs::write(&rt, "hello.b", HELLO.as_bytes())?;
+    answers(&rt, "b go hello.b", "hello, world\n", "", 0)?;
+    answers(&rt, "b go --steps 1000 hello.b", "hello, world\n", "", 0)?;
+    let (code, _) = serves(&rt, "b compile", HELLO, 0)?;
+    fs::write(&rt, "hello.code", code.bytes())?;
+    answers(&rt, "b run hello.code", "hello, world\n", "", 0)?;
+    answers(&rt, "b run --steps 269 hello.code", "hello, world\n", "", 0)?;
+    answers(
+        &rt,
+        "b run --steps 268 hello.code",
+        "hello, world\n",
+        "limit\n",
+        131,
+    )?;
+    fs::remove_file(&rt, "hello.b")?;
+    fs::remove_file(&rt, "hello.code")?;
+    answers(&rt, "b go hello.b", "", "", 133)
 }
 
 #[test]
 fn wrong_command_lines(rt: HostRuntime) -> Result<(), Fail> {
-    for (words, wrong) in [
-        (
-            ["b", "run"].as_slice(),
-            b"error: the following required arguments were not provided:\n".as_slice(),
-        ),
-        (
-            ["b"].as_slice(),
-            b"error: 'b' requires a subcommand but one was not provided\n".as_slice(),
-        ),
-        (
-            ["b", "compile", "x"].as_slice(),
-            b"error: unexpected argument 'x' found\n".as_slice(),
-        ),
-        (
-            ["b", "walk"].as_slice(),
-            b"error: unrecognized subcommand 'walk'\n".as_slice(),
-        ),
-        (
-            ["b", "go", "--steps", "0", "x"].as_slice(),
-            b"error: invalid value '0' for '--steps <N>': ".as_slice(),
-        ),
-    ] {
+    let rows = "\
+b~error: 'b' requires a subcommand but one was not provided
+b run~error: the following required arguments were not provided:
+b compile x~error: unexpected argument 'x' found
+b walk~error: unrecognized subcommand 'walk'
+b go --steps 0 x~error: invalid value '0' for '--steps <N>': ";
+    for row in rows.lines() {
+        let (words, wrong) = row.split_once('~').unwrap_or((row, ""));
         let (out, diag) = serves(&rt, words, "", 135)?;
-        assert_eq!(rt; out.bytes().len(), 0);
-        assert!(rt; diag.bytes().starts_with(wrong));
-        assert!(rt; diag.bytes().ends_with(b"try '--help'.\n"));
+        assert!(rt; out.bytes().is_empty(), "the output of {words}");
+        assert!(rt;
+            diag.bytes().starts_with(wrong.as_bytes()),
+            "what is wrong with {words}"
+        );
+        assert!(rt;
+            diag.bytes().ends_with(b"try '--help'.\n"),
+            "the hint of {words}"
+        );
     }
     Ok(())
 }
 
 #[test]
 fn help(rt: HostRuntime) -> Result<(), Fail> {
-    for words in [
-        ["b", "--help"].as_slice(),
-        ["b", "compile", "--help"].as_slice(),
-        ["b", "run", "--help"].as_slice(),
-        ["b", "go", "--help"].as_slice(),
-    ] {
+    for words in "b --help,b compile --help,b run --help,b go --help".split(',') {
         let (out, diag) = serves(&rt, words, "", 0)?;
-        assert_eq!(rt; diag.bytes().len(), 0);
-        assert!(rt; !out.bytes().is_empty());
+        assert!(rt; diag.bytes().is_empty(), "the line of {words}");
+        assert!(rt; !out.bytes().is_empty(), "the output of {words}");
         let mut width: u64 = 0;
         for byte in out.bytes() {
             width = if *byte == b'\n' {
@@ -113,7 +118,7 @@ fn help(rt: HostRuntime) -> Result<(), Fail> {
             } else {
                 width.saturating_add(1)
             };
-            assert!(rt; width <= 80);
+            assert!(rt; width <= 80, "the width of {words}");
         }
     }
     Ok(())
