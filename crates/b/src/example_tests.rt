@@ -1,35 +1,57 @@
 //! The programs of the examples, with what they write.
-use crate::go::go;
-use bword::{MemIn, MemOut};
+use crate::program_tests::{STEPS, runs};
+use crate::source_tests::compiles;
 use std::process::Abort;
 
+pub(crate) const HELLO: &str = "\
+/* The first program. */
+main() {
+    auto s, i, c;
+    s = \"hello, world*n\";
+    i = 0;
+    while((c = char(s, i++)) != '*e')
+        putchar(c);
+}
+";
+
 fn writes(rt: &(impl AllocGlobal + Abort), source: &str, input: &str, output: &str) {
-    let mut out = MemOut::new(rt.alloc());
-    let mut diag = MemOut::new(rt.alloc());
-    let status = go(
-        rt.alloc(),
-        &mut MemIn::new(source.as_bytes()),
-        &mut MemIn::new(input.as_bytes()),
-        &mut out,
-        &mut diag,
-        10_000_000,
-    );
-    assert_eq!(rt; out.bytes(), output.as_bytes());
-    assert_eq!(rt; diag.bytes().len(), 0);
-    assert_eq!(rt; status, 0);
+    runs(rt, source, input, STEPS, output, "", 0);
 }
 
 #[test]
 fn hello(rt: HostRuntime) {
-    let source =
-        "/* The first program. */\nmain() {\n    auto s, i, c;\n    s = \"hello, world*n\";\n    i = 0;\n    while((c = char(s, i++)) != '*e')\n        putchar(c);\n}\n";
-    writes(&rt, source, "", "hello, world\n");
+    writes(&rt, HELLO, "", "hello, world\n");
 }
 
 #[test]
 fn digits_of_e(rt: HostRuntime) {
-    let source =
-        "/* The digits of e behind 2., n of them, from the users' reference. */\nmain() {\n    extrn putchar, n, v;\n    auto i, c, col, a;\n\n    i = col = 0;\n    while(i < n)\n        v[i++] = 1;\n    while(col < n) {\n        a = n + 1;\n        c = i = 0;\n        while(i < n) {\n            c =+ v[i] * 10;\n            v[i++] = c % a;\n            c =/ a--;\n        }\n        putchar(c + '0');\n        if(!(++col % 5))\n            putchar(col % 50 ? ' ' : '*n');\n    }\n    putchar('*n*n');\n}\n\nv[200];\nn 200;\n";
+    let source = "\
+/* The digits of e behind 2., n of them, from the users' reference. */
+main() {
+    extrn putchar, n, v;
+    auto i, c, col, a;
+
+    i = col = 0;
+    while(i < n)
+        v[i++] = 1;
+    while(col < n) {
+        a = n + 1;
+        c = i = 0;
+        while(i < n) {
+            c =+ v[i] * 10;
+            v[i++] = c % a;
+            c =/ a--;
+        }
+        putchar(c + '0');
+        if(!(++col % 5))
+            putchar(col % 50 ? ' ' : '*n');
+    }
+    putchar('*n*n');
+}
+
+v[200];
+n 200;
+";
     writes(
         &rt,
         source,
@@ -40,8 +62,29 @@ fn digits_of_e(rt: HostRuntime) {
 
 #[test]
 fn sieve(rt: HostRuntime) {
-    let source =
-        "/* The primes below 100. */\nmain() {\n    extrn crossed;\n    auto i, j;\n\n    i = 2;\n    while(i < 100) {\n        if(!crossed[i]) {\n            printn(i, 10);\n            putchar('*n');\n            j = i + i;\n            while(j < 100) {\n                crossed[j] = 1;\n                j =+ i;\n            }\n        }\n        i++;\n    }\n}\n\ncrossed[100];\n";
+    let source = "\
+/* The primes below 100. */
+main() {
+    extrn crossed;
+    auto i, j;
+
+    i = 2;
+    while(i < 100) {
+        if(!crossed[i]) {
+            printn(i, 10);
+            putchar('*n');
+            j = i + i;
+            while(j < 100) {
+                crossed[j] = 1;
+                j =+ i;
+            }
+        }
+        i++;
+    }
+}
+
+crossed[100];
+";
     writes(
         &rt,
         source,
@@ -52,26 +95,118 @@ fn sieve(rt: HostRuntime) {
 
 #[test]
 fn wc(rt: HostRuntime) {
-    let source =
-        "/* The lines, words and characters of the input. */\nmain() {\n    auto c, lines, words, chars, inside;\n\n    lines = words = chars = inside = 0;\n    while((c = getchar()) != '*e') {\n        chars++;\n        if(c == '*n')\n            lines++;\n        if(c == ' ' | c == '*t' | c == '*n')\n            inside = 0;\n        else if(!inside) {\n            inside = 1;\n            words++;\n        }\n    }\n    printn(lines, 10);\n    putchar(' ');\n    printn(words, 10);\n    putchar(' ');\n    printn(chars, 10);\n    putchar('*n');\n}\n";
+    let source = "\
+/* The lines, words and characters of the input. */
+main() {
+    auto c, lines, words, chars, inside;
+
+    lines = words = chars = inside = 0;
+    while((c = getchar()) != '*e') {
+        chars++;
+        if(c == '*n')
+            lines++;
+        if(c == ' ' | c == '*t' | c == '*n')
+            inside = 0;
+        else if(!inside) {
+            inside = 1;
+            words++;
+        }
+    }
+    printn(lines, 10);
+    putchar(' ');
+    printn(words, 10);
+    putchar(' ');
+    printn(chars, 10);
+    putchar('*n');
+}
+";
     writes(&rt, source, "ab cd\nef\n", "2 3 9\n");
 }
 
 #[test]
 fn numbers(rt: HostRuntime) {
-    let source =
-        "/* A printn of its own, from the users' reference, which hides the library's. */\nprintn(n, b) {\n    extrn putchar;\n    auto a;\n\n    if(a = n / b)\n        printn(a, b);\n    putchar(n % b + '0');\n}\n\nmain() {\n    printn(1972, 10);\n    putchar('*n');\n    printn(1972, 8);\n    putchar('*n');\n}\n";
+    let source = "\
+/* A printn of its own, from the users' reference, which hides the library's. */
+printn(n, b) {
+    extrn putchar;
+    auto a;
+
+    if(a = n / b)
+        printn(a, b);
+    putchar(n % b + '0');
+}
+
+main() {
+    printn(1972, 10);
+    putchar('*n');
+    printn(1972, 8);
+    putchar('*n');
+}
+";
     writes(&rt, source, "", "1972\n3664\n");
 }
 
 #[test]
 fn guess(rt: HostRuntime) {
-    let source =
-        "/* Guesses a number from 1 to 100 that the player thinks of: answer l if it is lower, h if higher, y if right. */\nmain() {\n    auto low, high, middle, c;\n\n    low = 1;\n    high = 100;\n    while(low <= high) {\n        middle = (low + high) / 2;\n        putstr(\"Is it \");\n        printn(middle, 10);\n        putstr(\"? \");\n        c = answer();\n        if(c == 'y' | c == '*e')\n            high = 0;\n        else if(c == 'l')\n            high = middle - 1;\n        else\n            low = middle + 1;\n    }\n    putstr(c == 'y' ? \"I knew it.*n\" : \"Really?*n\");\n}\n\n/* The first character of a line, or the end. */\nanswer() {\n    auto c, d;\n\n    c = d = getchar();\n    while(d != '*n' & d != '*e')\n        d = getchar();\n    return(c);\n}\n\nputstr(s) {\n    auto i, c;\n\n    i = 0;\n    while((c = char(s, i++)) != '*e')\n        putchar(c);\n}\n";
+    let source = "\
+/* Guesses a number from 1 to 100 that the player thinks of: answer l if it is lower, h if higher, y if right. */
+main() {
+    auto low, high, middle, c;
+
+    low = 1;
+    high = 100;
+    while(low <= high) {
+        middle = (low + high) / 2;
+        putstr(\"Is it \");
+        printn(middle, 10);
+        putstr(\"? \");
+        c = answer();
+        if(c == 'y' | c == '*e')
+            high = 0;
+        else if(c == 'l')
+            high = middle - 1;
+        else
+            low = middle + 1;
+    }
+    putstr(c == 'y' ? \"I knew it.*n\" : \"Really?*n\");
+}
+
+/* The first character of a line, or the end. */
+answer() {
+    auto c, d;
+
+    c = d = getchar();
+    while(d != '*n' & d != '*e')
+        d = getchar();
+    return(c);
+}
+
+putstr(s) {
+    auto i, c;
+
+    i = 0;
+    while((c = char(s, i++)) != '*e')
+        putchar(c);
+}
+";
     writes(
         &rt,
         source,
         "h\nl\ny\n",
         "Is it 50? Is it 75? Is it 62? I knew it.\n",
     );
+}
+
+#[test]
+fn constants(rt: HostRuntime) {
+    let source = "\
+/* Externals with initial values: the compiler writes their code text. */
+width 64;
+masks 1, 2, 4, 010, 020;
+letters 'ab', width;
+empty;
+";
+    let code =
+        "X width 1 0\nc 64\nX masks 5 0\nc 1\nc 2\nc 4\nc 8\nc 16\nX letters 2 0\nc 24930\nx width\nX empty 0 0\nE\n";
+    compiles(&rt, source, code, "", 0);
 }

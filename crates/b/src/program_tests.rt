@@ -5,9 +5,9 @@ use bword::{MemIn, MemOut};
 use std::process::Abort;
 
 /// The most steps of a run that no row limits.
-const STEPS: u64 = 10_000_000;
+pub(crate) const STEPS: u64 = 10_000_000;
 
-fn runs(
+pub(crate) fn runs(
     rt: &(impl AllocGlobal + Abort),
     source: &str,
     input: &str,
@@ -31,111 +31,86 @@ fn runs(
     assert_eq!(rt; answer, status, "the status of {source}");
 }
 
-#[test]
-fn arithmetic_and_frames(rt: HostRuntime) {
-    runs(
-        &rt,
-        "main(){auto x; x=5; x=-1; printn(x,10);}",
-        "",
-        STEPS,
-        "4",
-        "",
-        0,
-    );
-    runs(
-        &rt,
-        "main(){printn(-7/2,10);printn(-7%2,10);}",
-        "",
-        STEPS,
-        "-3-1",
-        "",
-        0,
-    );
-    runs(
-        &rt,
-        "main(){printn((1<<15)/-1,10);printn((1<<15)%-1,10);}",
-        "",
-        STEPS,
-        "-327680",
-        "",
-        0,
-    );
-    runs(
-        &rt,
-        "main(){printn(1<<16,10);printn(5,2);}",
-        "",
-        STEPS,
-        "0101",
-        "",
-        0,
-    );
-    runs(
-        &rt,
-        "f(){auto a; a=7;} g(){auto b; return(b);} main(){f(); printn(g(),10);}",
-        "",
-        STEPS,
-        "7",
-        "",
-        0,
-    );
-    runs(
-        &rt,
-        "p(x){putchar(x);return(x);} main(){p('a')-p('b');}",
-        "",
-        STEPS,
-        "ab",
-        "",
-        0,
-    );
-    runs(
-        &rt,
-        "f(a,b) return(b); main(){printn(f(1),10);}",
-        "",
-        STEPS,
-        "0",
-        "",
-        0,
-    );
-    runs(
-        &rt,
-        "n 5; v[1]; main() { extrn n, v; printn(&n,10); putchar(' '); printn(v,10); }",
-        "",
-        STEPS,
-        "7 9",
-        "",
-        0,
-    );
+/// Programs, each with `~` and what it writes; `@` parts them. They have status 0.
+pub(crate) fn all_write(rt: &(impl AllocGlobal + Abort), rows: &str) {
+    for row in rows.split("@\n") {
+        let (source, output) = row.split_once('~').unwrap_or((row, ""));
+        runs(rt, source, "", STEPS, output, "", 0);
+    }
+}
+
+/// Programs, each with `~` and the line of its run, which writes nothing and has this status; `@` parts them.
+pub(crate) fn all_stop(rt: &(impl AllocGlobal + Abort), rows: &str, steps: u64, status: Status) {
+    for row in rows.split("@\n") {
+        let (source, line) = row.split_once('~').unwrap_or((row, ""));
+        runs(rt, source, "", steps, "", line, status);
+    }
 }
 
 #[test]
-fn control(rt: HostRuntime) {
-    runs(
-        &rt,
-        "main(){auto i; i=0; goto in; while(i<3){in: putchar('a'+i); i++;}}",
-        "",
-        STEPS,
-        "abc",
-        "",
-        0,
-    );
-    runs(
-        &rt,
-        "main(){switch 2 {case 1: putchar('1'); case 2: putchar('2'); case 3: putchar('3');}}",
-        "",
-        STEPS,
-        "23",
-        "",
-        0,
-    );
-    runs(
-        &rt,
-        "main(){switch 9 {case 1: putchar('1'); case 2: putchar('2'); case 3: putchar('3');}}",
-        "",
-        STEPS,
-        "",
-        "",
-        0,
-    );
+fn programs(rt: HostRuntime) {
+    let rows = "\
+main(){auto x; x=5; x=-1; printn(x,10);}~4@
+main(){printn(-7/2,10);printn(-7%2,10);}~-3-1@
+main(){printn((1<<15)/-1,10);printn((1<<15)%-1,10);}~-327680@
+main(){printn(1<<16,10);printn(5,2);}~0101@
+f(){auto a; a=7;} g(){auto b; return(b);} main(){f(); printn(g(),10);}~7@
+p(x){putchar(x);return(x);} main(){p('a')-p('b');}~ab@
+f(a,b) return(b); main(){printn(f(1),10);}~0@
+n 5; v[1]; main() { extrn n, v; printn(&n,10); putchar(' '); printn(v,10); }~7 9@
+main(){auto i; i=0; goto in; while(i<3){in: putchar('a'+i); i++;}}~abc@
+main(){switch 2 {case 1: putchar('1'); case 2: putchar('2'); case 3: putchar('3');}}~23@
+main(){switch 9 {case 1: putchar('1'); case 2: putchar('2'); case 3: putchar('3');}}~@
+n 1; f(){extrn n; n=5; return(1);} main(){extrn n; n =+ f(); printn(n,10);}~6@
+main(){auto s; s=\"hi\"; lchar(s,0,'H'); putchar(char(s,0)); putchar(char(s,1));}~Hi@
+main() { extrn putchar, n, v; auto i, c, col, a; i = col = 0; while(i<n) v[i++] = 1; while(col<n) { a = n+1; c = i = 0; while(i<n) { c =+ v[i]*10; v[i++] = c%a; c =/ a--; } putchar(c+'0'); if(!(++col%5)) putchar(col%50?' ':'*n'); } putchar('*n*n'); } v[10]; n 10;~71828 18261 
+
+@
+printn(n,b) { extrn putchar; auto a; if(a=n/b) printn(a, b); putchar(n%b + '0'); } main() { printn(1972,10); }~1972@
+main(){auto i; i=0; L: putchar('a'+i); i++; if(i<3) goto L;}~abc@
+main(){auto i; i=0; switch 1 {case 1: goto in;} while(i<3){in: putchar('a'+i); i++;}}~abc@
+main(){auto i; i=0; L: auto v 1; v[0]=i; putchar('0'+v[0]); v=0; i++; if(i<3) goto L;}~012@
+main(){auto i; i=0; switch 2 {case 1: while(i<3){case 2: putchar('a'+i); i++;}}}~abc@
+f(x){return(x*2);} main(){printn(1+f(2)*3-f(f(1)),10);}~9";
+    all_write(&rt, rows);
+}
+
+#[test]
+fn traps(rt: HostRuntime) {
+    let rows = "\
+main(){printn(1/0,10);}~trap dz
+@
+main(){goto 9;}~trap gt
+@
+f(l){goto l;} main(){f(x); x: ;}~trap gt
+@
+main(){extrn n; n();} n 0;~trap fn
+@
+main(){printn(5,11);}~trap bs
+@
+main(){main();}~trap dp
+@
+main(){auto v 32000; main();}~trap st
+";
+    all_stop(&rt, rows, STEPS, 130);
+}
+
+#[test]
+fn programs_that_do_not_load(rt: HostRuntime) {
+    let rows = "\
+~load 4
+@
+main;~load 4
+@
+main() g();~load 3
+@
+v[30000]; w[30000]; x[10000]; main() ;~load 2
+";
+    all_stop(&rt, rows, STEPS, 132);
+}
+
+#[test]
+fn input_status_and_steps(rt: HostRuntime) {
     runs(
         &rt,
         "main(){putchar('*n*n'); exit(200);}",
@@ -163,60 +138,9 @@ fn control(rt: HostRuntime) {
         "",
         0,
     );
-}
-
-#[test]
-fn limits_and_traps(rt: HostRuntime) {
     runs(&rt, "main(){while(1) ;}", "", 100, "", "limit\n", 131);
     runs(&rt, "main(){}", "", 1, "", "limit\n", 131);
     runs(&rt, "main(){}", "", 2, "", "", 0);
-    runs(
-        &rt,
-        "main(){printn(1/0,10);}",
-        "",
-        STEPS,
-        "",
-        "trap dz\n",
-        130,
-    );
-    runs(&rt, "main(){goto 9;}", "", STEPS, "", "trap gt\n", 130);
-    runs(
-        &rt,
-        "f(l){goto l;} main(){f(x); x: ;}",
-        "",
-        STEPS,
-        "",
-        "trap gt\n",
-        130,
-    );
-    runs(
-        &rt,
-        "main(){extrn n; n();} n 0;",
-        "",
-        STEPS,
-        "",
-        "trap fn\n",
-        130,
-    );
-    runs(
-        &rt,
-        "main(){printn(5,11);}",
-        "",
-        STEPS,
-        "",
-        "trap bs\n",
-        130,
-    );
-    runs(&rt, "main(){main();}", "", STEPS, "", "trap dp\n", 130);
-    runs(
-        &rt,
-        "main(){auto v 32000; main();}",
-        "",
-        STEPS,
-        "",
-        "trap st\n",
-        130,
-    );
     runs(
         &rt,
         "main(){while(1) putchar('a');}",
@@ -226,84 +150,4 @@ fn limits_and_traps(rt: HostRuntime) {
         "limit\n",
         131,
     );
-}
-
-#[test]
-fn programs(rt: HostRuntime) {
-    runs(
-        &rt,
-        "n 1; f(){extrn n; n=5; return(1);} main(){extrn n; n =+ f(); printn(n,10);}",
-        "",
-        STEPS,
-        "6",
-        "",
-        0,
-    );
-    runs(
-        &rt,
-        "main(){auto s; s=\"hi\"; lchar(s,0,'H'); putchar(char(s,0)); putchar(char(s,1));}",
-        "",
-        STEPS,
-        "Hi",
-        "",
-        0,
-    );
-    runs(
-        &rt,
-        "main() { extrn putchar, n, v; auto i, c, col, a; i = col = 0; while(i<n) v[i++] = 1; while(col<n) { a = n+1; c = i = 0; while(i<n) { c =+ v[i]*10; v[i++] = c%a; c =/ a--; } putchar(c+'0'); if(!(++col%5)) putchar(col%50?' ':'*n'); } putchar('*n*n'); } v[10]; n 10;",
-        "",
-        STEPS,
-        "71828 18261 \n\n",
-        "",
-        0,
-    );
-    runs(
-        &rt,
-        "printn(n,b) { extrn putchar; auto a; if(a=n/b) printn(a, b); putchar(n%b + '0'); } main() { printn(1972,10); }",
-        "",
-        STEPS,
-        "1972",
-        "",
-        0,
-    );
-    runs(
-        &rt,
-        "main(){auto i; i=0; L: putchar('a'+i); i++; if(i<3) goto L;}",
-        "",
-        STEPS,
-        "abc",
-        "",
-        0,
-    );
-}
-
-#[test]
-fn programs_that_do_not_load(rt: HostRuntime) {
-    runs(&rt, "", "", STEPS, "", "load 4\n", 132);
-    runs(&rt, "main;", "", STEPS, "", "load 4\n", 132);
-    runs(&rt, "main() g();", "", STEPS, "", "load 3\n", 132);
-    runs(
-        &rt,
-        "v[30000]; w[30000]; x[10000]; main() ;",
-        "",
-        STEPS,
-        "",
-        "load 2\n",
-        132,
-    );
-}
-
-#[test]
-fn jumps_between_statements(rt: HostRuntime) {
-    let out_of_a_switch =
-        "main(){auto i; i=0; switch 1 {case 1: goto in;} while(i<3){in: putchar('a'+i); i++;}}";
-    runs(&rt, out_of_a_switch, "", STEPS, "abc", "", 0);
-    let to_a_declaration =
-        "main(){auto i; i=0; L: auto v 1; v[0]=i; putchar('0'+v[0]); v=0; i++; if(i<3) goto L;}";
-    runs(&rt, to_a_declaration, "", STEPS, "012", "", 0);
-    let a_case_in_a_loop =
-        "main(){auto i; i=0; switch 2 {case 1: while(i<3){case 2: putchar('a'+i); i++;}}}";
-    runs(&rt, a_case_in_a_loop, "", STEPS, "abc", "", 0);
-    let a_call_above_operands = "f(x){return(x*2);} main(){printn(1+f(2)*3-f(f(1)),10);}";
-    runs(&rt, a_call_above_operands, "", STEPS, "9", "", 0);
 }

@@ -4,7 +4,7 @@ use bparse::Status;
 use bword::{MemIn, MemOut};
 use std::process::Abort;
 
-fn runs(
+pub(crate) fn runs(
     rt: &(impl AllocGlobal + Abort),
     code: &str,
     steps: u64,
@@ -27,47 +27,96 @@ fn runs(
     assert_eq!(rt; answer, status, "the status of {code}");
 }
 
-#[test]
-fn texts_that_are_no_code(rt: HostRuntime) {
-    for (code, line) in [
-        ("X n 1 0\nc 007\nE\n", "code 2\n"),
-        ("F main 0 0 0 0 2\nc 0\n", "code 3\n"),
-        ("E", "code 1\n"),
-        ("", "code 1\n"),
-        ("E\nE\n", "code 2\n"),
-        ("F f 0 0 1 0 0\nE\n", "code 1\n"),
-        ("F main 0 0 0 0 1\nj 1\nE\n", "code 2\n"),
-        ("F main 0 0 0 0 1\nc 65536\nE\n", "code 2\n"),
-        ("V v 0 0 0\nE\n", "code 1\n"),
-    ] {
-        runs(&rt, code, 100, "", line, 132);
+/// Code texts, each with `~` and the line of its run, which writes nothing and has this status; `@` parts them.
+pub(crate) fn all_stop(rt: &(impl AllocGlobal + Abort), rows: &str, status: Status) {
+    for row in rows.split("@\n") {
+        let (code, line) = row.split_once('~').unwrap_or((row, ""));
+        runs(rt, code, 100, "", line, status);
     }
 }
 
 #[test]
-fn texts_that_do_not_load(rt: HostRuntime) {
-    for (code, line) in [
-        ("X n 0 0\nX n 0 0\nE\n", "load 1\n"),
-        ("V v 32767 0 0\nV w 32767 0 0\nE\n", "load 2\n"),
-        ("X n 1 0\nx m\nE\n", "load 3\n"),
-        ("E\n", "load 4\n"),
-    ] {
-        runs(&rt, code, 100, "", line, 132);
-    }
+fn refused_texts(rt: HostRuntime) {
+    let rows = "\
+X n 1 0
+c 007
+E
+~code 2
+@
+F main 0 0 0 0 2
+c 0
+~code 3
+@
+E~code 1
+@
+~code 1
+@
+E
+E
+~code 2
+@
+F f 0 0 1 0 0
+E
+~code 1
+@
+F main 0 0 0 0 1
+j 1
+E
+~code 2
+@
+F main 0 0 0 0 1
+c 65536
+E
+~code 2
+@
+V v 0 0 0
+E
+~code 1
+@
+X n 0 0
+X n 0 0
+E
+~load 1
+@
+V v 32767 0 0
+V w 32767 0 0
+E
+~load 2
+@
+X n 1 0
+x m
+E
+~load 3
+@
+E
+~load 4
+";
+    all_stop(&rt, rows, 132);
 }
 
 #[test]
-fn runs_that_stop(rt: HostRuntime) {
-    runs(&rt, "F main 0 0 0 0 1\np\nE\n", 100, "", "trap sk\n", 130);
-    runs(&rt, "F main 0 0 0 0 0\nE\n", 100, "", "trap sk\n", 130);
-    runs(
-        &rt,
-        "F main 0 0 0 0 2\nc 1\nk 1\nE\n",
-        100,
-        "",
-        "trap sk\n",
-        130,
-    );
+fn stuck_code(rt: HostRuntime) {
+    let rows = "\
+F main 0 0 0 0 1
+p
+E
+~trap sk
+@
+F main 0 0 0 0 0
+E
+~trap sk
+@
+F main 0 0 0 0 2
+c 1
+k 1
+E
+~trap sk
+";
+    all_stop(&rt, rows, 130);
+}
+
+#[test]
+fn steps(rt: HostRuntime) {
     runs(&rt, "F main 0 0 0 0 1\nj 0\nE\n", 100, "", "limit\n", 131);
     runs(&rt, "F main 0 0 0 0 2\nc 0\nr\nE\n", 2, "", "", 0);
     runs(&rt, "F main 0 0 0 0 2\nc 0\nr\nE\n", 1, "", "limit\n", 131);

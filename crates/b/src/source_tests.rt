@@ -3,7 +3,13 @@ use bparse::{Status, compile};
 use bword::{MemIn, MemOut};
 use std::process::Abort;
 
-fn compiles(rt: &(impl AllocGlobal + Abort), source: &str, code: &str, line: &str, status: Status) {
+pub(crate) fn compiles(
+    rt: &(impl AllocGlobal + Abort),
+    source: &str,
+    code: &str,
+    line: &str,
+    status: Status,
+) {
     let mut out = MemOut::new(rt.alloc());
     let mut diag = MemOut::new(rt.alloc());
     let answer = compile(
@@ -17,158 +23,271 @@ fn compiles(rt: &(impl AllocGlobal + Abort), source: &str, code: &str, line: &st
     assert_eq!(rt; answer, status, "the status of {source}");
 }
 
-#[test]
-fn sources_of_externals(rt: HostRuntime) {
-    compiles(&rt, "", "E\n", "", 0);
-    compiles(&rt, "n 2000;", "X n 1 0\nc 2000\nE\n", "", 0);
-    compiles(&rt, "a;a;", "X a 0 0\n", "rd a 1\n", 1);
-    compiles(&rt, "a; /* x", "X a 0 0\n", "*/ 1\n", 1);
-    compiles(
-        &rt,
-        "s \"ab\", t, 'x'; t;",
-        "X s 3 2\ns 0\nx t\nc 120\nw 25185\nw 4\nX t 0 0\nE\n",
-        "",
-        0,
-    );
-    compiles(
-        &rt,
-        "v[2] 1,2,3,4;",
-        "V v 4 4 0\nc 1\nc 2\nc 3\nc 4\nE\n",
-        "",
-        0,
-    );
-    compiles(&rt, "v[];", "V v 1 0 0\nE\n", "", 0);
-    compiles(&rt, "v[32766];", "V v 32767 0 0\nE\n", "", 0);
-    compiles(&rt, "v[32767];", "", ">e 1\n", 1);
-    compiles(&rt, "n 'ab';", "X n 1 0\nc 24930\nE\n", "", 0);
-    compiles(&rt, "n/*x*/017;", "X n 1 0\nc 15\nE\n", "", 0);
-    compiles(&rt, "abcdefghi;", "", "nm 1\n", 1);
-    compiles(&rt, "n 08;", "", "ct 1\n", 1);
-    compiles(&rt, "n 65536;", "", "ct 1\n", 1);
-    compiles(&rt, "n '';", "", "ct 1\n", 1);
-    compiles(&rt, "n #;", "", "ch 1\n", 1);
-    compiles(&rt, "n -1;", "", "sx 1\n", 1);
-    compiles(&rt, "n 5", "", "sx 1\n", 1);
+/// Sources, each with `~` and its code text; `@` parts them.
+pub(crate) fn all_compile(rt: &(impl AllocGlobal + Abort), rows: &str) {
+    for row in rows.split("@\n") {
+        let (source, code) = row.split_once('~').unwrap_or((row, ""));
+        compiles(rt, source, code, "", 0);
+    }
+}
+
+/// Sources, each with `~`, the code of the definitions before its fault, `~` and the diagnostic; `@` parts them.
+pub(crate) fn all_have_faults(rt: &(impl AllocGlobal + Abort), rows: &str) {
+    for row in rows.split("@\n") {
+        let (source, rest) = row.split_once('~').unwrap_or((row, ""));
+        let (code, line) = rest.split_once('~').unwrap_or((rest, ""));
+        compiles(rt, source, code, line, 1);
+    }
 }
 
 #[test]
-fn functions_and_their_faults(rt: HostRuntime) {
-    compiles(&rt, "main(){}", "F main 0 0 0 0 2\nc 0\nr\nE\n", "", 0);
-    compiles(&rt, "main() { auto x; }", "", "sx 1\n", 1);
-    compiles(
-        &rt,
-        "f() if(1) ; 5",
-        "F f 0 0 0 0 4\nc 1\nz 2\nc 0\nr\n",
-        "sx 1\n",
-        1,
-    );
-    compiles(&rt, "f() if(1) ; else )", "", "sx 1\n", 1);
-    compiles(&rt, "f() { 1 = 2; ) }", "", "sx 1\n", 1);
-    compiles(&rt, "f() { 1 = 2; }", "", "lv 1\n", 1);
-    compiles(&rt, "f() { auto a, a; ) }", "", "sx 1\n", 1);
-    compiles(&rt, "f() {\ngoto L;\n}", "", "un L 2\n", 1);
-    compiles(&rt, "main(){x=5;}", "", "lv 1\n", 1);
-    compiles(&rt, "main(){return(x);}", "", "un x 1\n", 1);
-    compiles(
-        &rt,
-        "f() switch 1 { case 2: ; case 2: ; }",
-        "",
-        "rd case 1\n",
-        1,
-    );
-    compiles(&rt, "f() case 1: ;", "", "sx case 1\n", 1);
-    compiles(
-        &rt,
-        "f(a) a=!a;",
-        "F f 1 1 0 0 8\na 0\na 0\nv\nh\nw\np\nc 0\nr\nE\n",
-        "",
-        0,
-    );
-    compiles(
-        &rt,
-        "f(x) return(x ? 1 : 2);",
-        "F f 1 1 0 0 9\na 0\nv\nz 5\nc 1\nj 6\nc 2\nr\nc 0\nr\nE\n",
-        "",
-        0,
-    );
-    compiles(
-        &rt,
-        "f() while(1) if(2) 3; else 4;",
-        "F f 0 0 0 0 12\nc 1\nz 10\nc 2\nz 7\nc 3\np\nj 9\nc 4\np\nj 0\nc 0\nr\nE\n",
-        "",
-        0,
-    );
-    compiles(
-        &rt,
-        "f(a) { auto v 1, i; L: v[i] =+ a; switch a { case 2: goto L; } return(i); }",
-        "F f 1 5 1 0 26\nt 4\na 1\na 2\nw\np\na 1\nv\na 4\nv\nb +\na 0\nv\nm +\np\na 0\nv\nj 19\nl 0\ng\nj 21\ne 2 16\np\na 4\nv\nr\nc 0\nr\nE\n",
-        "",
-        0,
-    );
+fn sources(rt: HostRuntime) {
+    let rows = "\
+~E
+@
+n 2000;~X n 1 0
+c 2000
+E
+@
+s \"ab\", t, 'x'; t;~X s 3 2
+s 0
+x t
+c 120
+w 25185
+w 4
+X t 0 0
+E
+@
+v[2] 1,2,3,4;~V v 4 4 0
+c 1
+c 2
+c 3
+c 4
+E
+@
+v[];~V v 1 0 0
+E
+@
+v[32766];~V v 32767 0 0
+E
+@
+n 'ab';~X n 1 0
+c 24930
+E
+@
+n/*x*/017;~X n 1 0
+c 15
+E
+@
+main(){}~F main 0 0 0 0 2
+c 0
+r
+E
+@
+f(a) a=!a;~F f 1 1 0 0 8
+a 0
+a 0
+v
+h
+w
+p
+c 0
+r
+E
+@
+f(x) return(x ? 1 : 2);~F f 1 1 0 0 9
+a 0
+v
+z 5
+c 1
+j 6
+c 2
+r
+c 0
+r
+E
+@
+f() while(1) if(2) 3; else 4;~F f 0 0 0 0 12
+c 1
+z 10
+c 2
+z 7
+c 3
+p
+j 9
+c 4
+p
+j 0
+c 0
+r
+E
+@
+f(a) { auto v 1, i; L: v[i] =+ a; switch a { case 2: goto L; } return(i); }~F f 1 5 1 0 26
+t 4
+a 1
+a 2
+w
+p
+a 1
+v
+a 4
+v
+b +
+a 0
+v
+m +
+p
+a 0
+v
+j 19
+l 0
+g
+j 21
+e 2 16
+p
+a 4
+v
+r
+c 0
+r
+E
+@
+f() ;~F f 0 0 0 0 2
+c 0
+r
+E
+@
+f(x) x+++x;~F f 1 1 0 0 8
+a 0
+i 2
+a 0
+v
+b +
+p
+c 0
+r
+E
+@
+g(x) x(\"hi\",x);~F g 1 1 0 2 9
+w 26984
+w 4
+a 0
+v
+s 0
+a 0
+v
+k 2
+p
+c 0
+r
+E
+@
+f() g();~F f 0 0 0 0 6
+x g
+v
+k 0
+p
+c 0
+r
+E
+@
+f() { auto v 32765; ; }~F f 0 32767 0 0 6
+a 0
+a 1
+w
+p
+c 0
+r
+E
+@
+f() { L: goto L; }~F f 0 0 1 0 4
+t 0
+l 0
+g
+c 0
+r
+E
+";
+    all_compile(&rt, rows);
 }
 
 #[test]
-fn expressions(rt: HostRuntime) {
-    compiles(&rt, "f() ;", "F f 0 0 0 0 2\nc 0\nr\nE\n", "", 0);
-    compiles(
-        &rt,
-        "f(x) x+++x;",
-        "F f 1 1 0 0 8\na 0\ni 2\na 0\nv\nb +\np\nc 0\nr\nE\n",
-        "",
-        0,
-    );
-    compiles(
-        &rt,
-        "g(x) x(\"hi\",x);",
-        "F g 1 1 0 2 9\nw 26984\nw 4\na 0\nv\ns 0\na 0\nv\nk 2\np\nc 0\nr\nE\n",
-        "",
-        0,
-    );
-    compiles(
-        &rt,
-        "f() g();",
-        "F f 0 0 0 0 6\nx g\nv\nk 0\np\nc 0\nr\nE\n",
-        "",
-        0,
-    );
-    compiles(&rt, "f() g+g();", "", "un g 1\n", 1);
-    compiles(&rt, "f() (g)();", "", "un g 1\n", 1);
-    compiles(&rt, "f(a,b,c) a+b=c;", "", "sx 1\n", 1);
-    compiles(&rt, "f(a,b,c) a?b:c=a;", "", "sx 1\n", 1);
-    compiles(&rt, "f(a,b) -a=b;", "", "lv 1\n", 1);
-    compiles(&rt, "f(a) a(1)=2;", "", "lv 1\n", 1);
-    compiles(&rt, "f(a,a) ;", "", "rd a 1\n", 1);
-}
-
-#[test]
-fn statements(rt: HostRuntime) {
-    compiles(
-        &rt,
-        "f() { auto v 32765; ; }",
-        "F f 0 32767 0 0 6\na 0\na 1\nw\np\nc 0\nr\nE\n",
-        "",
-        0,
-    );
-    compiles(&rt, "f() { auto v 32766; ; }", "", ">e 1\n", 1);
-}
-
-#[test]
-fn labels_and_cases(rt: HostRuntime) {
-    compiles(
-        &rt,
-        "f() { L: goto L; }",
-        "F f 0 0 1 0 4\nt 0\nl 0\ng\nc 0\nr\nE\n",
-        "",
-        0,
-    );
-    compiles(&rt, "f() { case 1: ; L: L: ; }", "", "sx case 1\n", 1);
-    compiles(&rt, "f() { L: ; L: ; goto M; }", "", "rd L 1\n", 1);
-    compiles(&rt, "f() { goto M; L: ; L: ; }", "", "rd L 1\n", 1);
-    compiles(
-        &rt,
-        "f() switch 1 { case 1: switch 2 { case 1: ; } case 1: ; }",
-        "",
-        "rd case 1\n",
-        1,
-    );
+fn faults(rt: HostRuntime) {
+    let rows = "\
+a;a;~X a 0 0
+~rd a 1
+@
+a; /* x~X a 0 0
+~*/ 1
+@
+v[32767];~~>e 1
+@
+abcdefghi;~~nm 1
+@
+n 08;~~ct 1
+@
+n 65536;~~ct 1
+@
+n '';~~ct 1
+@
+n #;~~ch 1
+@
+n -1;~~sx 1
+@
+n 5~~sx 1
+@
+main() { auto x; }~~sx 1
+@
+f() if(1) ; 5~F f 0 0 0 0 4
+c 1
+z 2
+c 0
+r
+~sx 1
+@
+f() if(1) ; else )~~sx 1
+@
+f() { 1 = 2; ) }~~sx 1
+@
+f() { 1 = 2; }~~lv 1
+@
+f() { auto a, a; ) }~~sx 1
+@
+f() {
+goto L;
+}~~un L 2
+@
+main(){x=5;}~~lv 1
+@
+main(){return(x);}~~un x 1
+@
+f() switch 1 { case 2: ; case 2: ; }~~rd case 1
+@
+f() case 1: ;~~sx case 1
+@
+f() g+g();~~un g 1
+@
+f() (g)();~~un g 1
+@
+f(a,b,c) a+b=c;~~sx 1
+@
+f(a,b,c) a?b:c=a;~~sx 1
+@
+f(a,b) -a=b;~~lv 1
+@
+f(a) a(1)=2;~~lv 1
+@
+f(a,a) ;~~rd a 1
+@
+f() { auto v 32766; ; }~~>e 1
+@
+f() { case 1: ; L: L: ; }~~sx case 1
+@
+f() { L: ; L: ; goto M; }~~rd L 1
+@
+f() { goto M; L: ; L: ; }~~rd L 1
+@
+f() switch 1 { case 1: switch 2 { case 1: ; } case 1: ; }~~rd case 1
+";
+    all_have_faults(&rt, rows);
 }

@@ -1,25 +1,14 @@
 //! The program over ends that fail, refused memory, and the command line.
+use crate::example_tests::HELLO;
 use crate::serve::serve;
+use crate::source_tests::compiles;
 use bparse::{Status, compile};
 use bword::{MemIn, MemOut, Reading, Writing};
+use std::fs;
 use std::io::{self, Read, Write};
 use std::process::Abort;
 use std::rt::Files;
 use std::test::Fail;
-
-fn compiles(rt: &(impl AllocGlobal + Abort), source: &str, code: &str, line: &str, status: Status) {
-    let mut out = MemOut::new(rt.alloc());
-    let mut diag = MemOut::new(rt.alloc());
-    let answer = compile(
-        rt.alloc(),
-        &mut MemIn::new(source.as_bytes()),
-        &mut out,
-        &mut diag,
-    );
-    assert_eq!(rt; out.bytes(), code.as_bytes(), "the code of {source}");
-    assert_eq!(rt; diag.bytes(), line.as_bytes(), "the line of {source}");
-    assert_eq!(rt; answer, status, "the status of {source}");
-}
 
 #[test]
 fn too_many_values(rt: HostRuntime) -> Result<(), Fail> {
@@ -32,55 +21,106 @@ fn too_many_values(rt: HostRuntime) -> Result<(), Fail> {
     Ok(())
 }
 
+// What the program answers to the words of a line, where it has this status.
 fn serves(
     rt: &(impl AllocGlobal + Files + Abort),
-    words: &[&str],
+    words: &str,
+    input: &str,
     status: Status,
 ) -> Result<(MemOut, MemOut), Fail> {
     let mut strings = Vec::new(rt.alloc());
-    for word in words {
-        strings.push(String::from_str(rt.alloc(), *word)?)?;
+    for word in words.split(' ') {
+        strings.push(String::from_str(rt.alloc(), word)?)?;
     }
     let mut out = MemOut::new(rt.alloc());
     let mut diag = MemOut::new(rt.alloc());
     let answer = serve(
         rt,
         strings.as_slice(),
-        &mut MemIn::new(b"a;"),
+        &mut MemIn::new(input.as_bytes()),
         &mut out,
         &mut diag,
     );
-    assert_eq!(rt; answer, status);
+    assert_eq!(rt; answer, status, "the status of {words}");
     Ok((out, diag))
 }
 
-#[test]
-fn the_command_compile(rt: HostRuntime) -> Result<(), Fail> {
-    let (out, diag) = serves(&rt, &["b", "compile"], 0)?;
-    assert_eq!(rt; out.bytes(), b"X a 0 0\nE\n".as_slice());
-    assert_eq!(rt; diag.bytes().len(), 0);
+// Its output, and the line beside it.
+fn answers(
+    rt: &(impl AllocGlobal + Files + Abort),
+    words: &str,
+    output: &str,
+    line: &str,
+    status: Status,
+) -> Result<(), Fail> {
+    let (out, diag) = serves(rt, words, "", status)?;
+    assert!(rt; out.bytes() == output.as_bytes(), "the output of {words}");
+    assert!(rt; diag.bytes() == line.as_bytes(), "the line of {words}");
     Ok(())
+}
+
+// The commands of help. Each run of the tests has a folder of its own.
+#[test]
+fn the_commands(rt: HostRuntime) -> Result<(), Fail> {
+    fs::write(&rt, "hello.b", HELLO.as_bytes())?;
+    answers(&rt, "b go hello.b", "hello, world\n", "", 0)?;
+    answers(&rt, "b go --steps 1000 hello.b", "hello, world\n", "", 0)?;
+    let (code, _) = serves(&rt, "b compile", HELLO, 0)?;
+    fs::write(&rt, "hello.code", code.bytes())?;
+    answers(&rt, "b run hello.code", "hello, world\n", "", 0)?;
+    answers(&rt, "b run --steps 269 hello.code", "hello, world\n", "", 0)?;
+    answers(
+        &rt,
+        "b run --steps 268 hello.code",
+        "hello, world\n",
+        "limit\n",
+        131,
+    )?;
+    fs::remove_file(&rt, "hello.b")?;
+    fs::remove_file(&rt, "hello.code")?;
+    answers(&rt, "b go hello.b", "", "", 133)
 }
 
 #[test]
 fn wrong_command_lines(rt: HostRuntime) -> Result<(), Fail> {
-    for words in [
-        ["b", "run"].as_slice(),
-        ["b"].as_slice(),
-        ["b", "compile", "x"].as_slice(),
-    ] {
-        let (out, diag) = serves(&rt, words, 135)?;
-        assert_eq!(rt; out.bytes().len(), 0);
-        assert!(rt; !diag.bytes().is_empty());
+    let rows = "\
+b~error: 'b' requires a subcommand but one was not provided
+b run~error: the following required arguments were not provided:
+b compile x~error: unexpected argument 'x' found
+b walk~error: unrecognized subcommand 'walk'
+b go --steps 0 x~error: invalid value '0' for '--steps <N>': ";
+    for row in rows.lines() {
+        let (words, wrong) = row.split_once('~').unwrap_or((row, ""));
+        let (out, diag) = serves(&rt, words, "", 135)?;
+        assert!(rt; out.bytes().is_empty(), "the output of {words}");
+        assert!(rt;
+            diag.bytes().starts_with(wrong.as_bytes()),
+            "what is wrong with {words}"
+        );
+        assert!(rt;
+            diag.bytes().ends_with(b"try '--help'.\n"),
+            "the hint of {words}"
+        );
     }
     Ok(())
 }
 
 #[test]
 fn help(rt: HostRuntime) -> Result<(), Fail> {
-    let (out, diag) = serves(&rt, &["b", "--help"], 0)?;
-    assert!(rt; !out.bytes().is_empty());
-    assert_eq!(rt; diag.bytes().len(), 0);
+    for words in "b --help,b compile --help,b run --help,b go --help".split(',') {
+        let (out, diag) = serves(&rt, words, "", 0)?;
+        assert!(rt; diag.bytes().is_empty(), "the line of {words}");
+        assert!(rt; !out.bytes().is_empty(), "the output of {words}");
+        let mut width: u64 = 0;
+        for byte in out.bytes() {
+            width = if *byte == b'\n' {
+                0
+            } else {
+                width.saturating_add(1)
+            };
+            assert!(rt; width <= 80, "the width of {words}");
+        }
+    }
     Ok(())
 }
 
