@@ -43,7 +43,33 @@ pub enum End {
     Trap(Trap),
 }
 
-/// What came of a step.
+/// What came of an operation that looks at one call alone.
+#[derive(Clone, Copy)]
+pub enum Pace {
+    GoesOn,
+    /// There is no room for the word that the call gets.
+    Gives(u16),
+    Traps(Trap),
+    IsStuck,
+    /// The store was refused memory.
+    IsRefused,
+    /// The callee below so many arguments is to be called; the call is behind its operation.
+    Calls(u16),
+    /// The topmost word is to be returned.
+    Returns,
+}
+
+/// Where the steps of a call have come.
+#[derive(Drop)]
+pub struct Pause<'a> {
+    pub call: Call<'a>,
+    /// What came of the last step.
+    pub pace: Pace,
+    /// How many steps are left.
+    pub left: u64,
+}
+
+/// What came of a call or a return.
 #[derive(Clone, Copy, Debug, PartialEq, Eq)]
 pub enum Flow {
     GoesOn,

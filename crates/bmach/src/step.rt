@@ -1,51 +1,62 @@
 //! Operations that look at one call alone.
 ghost use Rattle.std.specs.Prelude.{◌≡◌, ℕ, ◌+◌, ◌^◌, ◌<◌, ◌∷◌, List, IfOk, OnOk, slice_set};
-ghost use Rattle.bmach.specs.Machine.{at_place, label_target, left_word, stored_word};
-ghost use Rattle.bmach.specs.Steps.{Acts, call_of};
+ghost use Rattle.bmach.specs.Machine as machine;
+ghost use Rattle.bmach.specs.Machine.{Running, at_place, label_target, left_word, stored_word};
+ghost use Rattle.bmach.specs.Steps.{Acts, Paced, call_of};
+ghost use Rattle.bmach.specs.World.{World};
 ghost use Rattle.bmach.specs.declared.operation.Operation.TheVariants as operation;
 
 use crate::Trap;
-use crate::machine::{Call, End, Flow};
+use crate::machine::{Call, Pace};
 use bcode::Increment;
 use bword::{BinOp, Store, binary, negate, not};
 use std::alloc::AllocError;
 
 /// Puts a word on top, and goes on behind the operation.
-pub fn put<'a>(call: &mut Call<'a>, word: u16) -> Result<Flow, AllocError>
+#[inline(always)]
+pub fn put<'a>(call: &mut Call<'a>, word: u16) -> Pace
     requires { call.old.place + 1 < 2 ^ 64 }
-    ensures flow { IfOk result (λ flow. flow ≡ Flow.GoesOn) }
-    ensures call { OnOk result (call_of call.new
-        ≡ at_place (call_of call.old) (call.old.place + 1) (word ∷ call.old.operands)) }
+    ensures paced { (image : machine.Image) (below : List machine.Call) (w : World) (s : machine.State) →
+        Paced image result (call_of call.new) below w s
+        (Running (at_place (call_of call.old) (call.old.place + 1) (word ∷ call.old.operands)) below w) }
+    ensures function { call.new.function.now ≡ call.old.function.now }
 {
-    call.operands.put(word)?;
     call.place += 1;
-    Ok(Flow::GoesOn)
+    if call.operands.put_in_room(word) {
+        Pace::GoesOn
+    } else {
+        Pace::Gives(word)
+    }
 }
 
 /// Takes an address and puts its word.
-pub fn load<'a, S: Store>(call: &mut Call<'a>, store: &S) -> Result<Flow, AllocError>
+#[inline(always)]
+pub fn load<'a, S: Store>(call: &mut Call<'a>, store: &S) -> Pace
     requires { call.old.place + 1 < 2 ^ 64 }
-    ensures { IfOk result (λ flow. Acts operation.Load call.old (S.words store.now) flow call.new (S.words store.now)) }
+    ensures acts { Acts operation.Load call.old (S.words store.now) result call.new (S.words store.now) }
+    ensures function { call.new.function.now ≡ call.old.function.now }
 {
     match call.operands.take() {
-        None => Ok(Flow::IsStuck),
+        None => Pace::IsStuck,
         Some(address) => put(call, store.get(address)),
     }
 }
 
 /// Takes a word and an address below it, stores the word and puts it.
-pub fn store<'a, S: Store>(call: &mut Call<'a>, store: &mut S) -> Result<Flow, AllocError>
+#[inline(always)]
+pub fn store<'a, S: Store>(call: &mut Call<'a>, store: &mut S) -> Pace
     requires { call.old.place + 1 < 2 ^ 64 }
-    ensures { IfOk result (λ flow. Acts operation.Store call.old (S.words store.old) flow call.new (S.words store.new)) }
+    ensures acts { Acts operation.Store call.old (S.words store.old) result call.new (S.words store.new) }
+    ensures function { call.new.function.now ≡ call.old.function.now }
 {
     match call.operands.take() {
-        None => Ok(Flow::IsStuck),
+        None => Pace::IsStuck,
         Some(word) => match call.operands.take() {
-            None => Ok(Flow::IsStuck),
-            Some(address) => {
-                set(store, address, word)?;
-                put(call, word)
-            }
+            None => Pace::IsStuck,
+            Some(address) => match store.set(address, word) {
+                Err(_) => Pace::IsRefused,
+                Ok(()) => put(call, word),
+            },
         },
     }
 }
@@ -60,68 +71,71 @@ pub fn set<S: Store>(store: &mut S, address: u16, word: u16) -> Result<(), Alloc
     }
 }
 
-pub fn negate_word<'a>(call: &mut Call<'a>) -> Result<Flow, AllocError>
+#[inline(always)]
+pub fn negate_word<'a>(call: &mut Call<'a>) -> Pace
     requires { call.old.place + 1 < 2 ^ 64 }
-    ensures { IfOk result (λ flow. (words : List ℕ) → Acts operation.Negate call.old words flow call.new words) }
+    ensures acts { (words : List ℕ) → Acts operation.Negate call.old words result call.new words }
+    ensures function { call.new.function.now ≡ call.old.function.now }
 {
     match call.operands.take() {
-        None => Ok(Flow::IsStuck),
+        None => Pace::IsStuck,
         Some(word) => put(call, negate(word)),
     }
 }
 
-pub fn not_word<'a>(call: &mut Call<'a>) -> Result<Flow, AllocError>
+#[inline(always)]
+pub fn not_word<'a>(call: &mut Call<'a>) -> Pace
     requires { call.old.place + 1 < 2 ^ 64 }
-    ensures { IfOk result (λ flow. (words : List ℕ) → Acts operation.Not call.old words flow call.new words) }
+    ensures acts { (words : List ℕ) → Acts operation.Not call.old words result call.new words }
+    ensures function { call.new.function.now ≡ call.old.function.now }
 {
     match call.operands.take() {
-        None => Ok(Flow::IsStuck),
+        None => Pace::IsStuck,
         Some(word) => put(call, not(word)),
     }
 }
 
-pub fn operate<'a>(call: &mut Call<'a>, operator: BinOp) -> Result<Flow, AllocError>
+#[inline(always)]
+pub fn operate<'a>(call: &mut Call<'a>, operator: BinOp) -> Pace
     requires { call.old.place + 1 < 2 ^ 64 }
-    ensures { IfOk result (λ flow. (words : List ℕ) →
-        Acts (operation.Binary operator) call.old words flow call.new words) }
+    ensures acts { (words : List ℕ) → Acts (operation.Binary operator) call.old words result call.new words }
+    ensures function { call.new.function.now ≡ call.old.function.now }
 {
     match call.operands.take() {
-        None => Ok(Flow::IsStuck),
+        None => Pace::IsStuck,
         Some(right) => match call.operands.take() {
-            None => Ok(Flow::IsStuck),
+            None => Pace::IsStuck,
             Some(left) => match binary(operator, left, right) {
-                Err(_) => Ok(Flow::Halts(End::Trap(Trap::ZeroDivisor))),
+                Err(_) => Pace::Traps(Trap::ZeroDivisor),
                 Ok(word) => put(call, word),
             },
         },
     }
 }
 
-pub fn modify<'a, S: Store>(
-    call: &mut Call<'a>,
-    store: &mut S,
-    operator: BinOp,
-) -> Result<Flow, AllocError>
+#[inline(always)]
+pub fn modify<'a, S: Store>(call: &mut Call<'a>, store: &mut S, operator: BinOp) -> Pace
     requires { call.old.place + 1 < 2 ^ 64 }
-    ensures { IfOk result (λ flow.
-        Acts (operation.Modify operator) call.old (S.words store.old) flow call.new (S.words store.new)) }
+    ensures acts { Acts (operation.Modify operator) call.old (S.words store.old) result call.new (S.words store.new) }
+    ensures function { call.new.function.now ≡ call.old.function.now }
 {
     match call.operands.take() {
-        None => Ok(Flow::IsStuck),
+        None => Pace::IsStuck,
         Some(right) => match call.operands.take() {
-            None => Ok(Flow::IsStuck),
+            None => Pace::IsStuck,
             Some(address) => match binary(operator, store.get(address), right) {
-                Err(_) => Ok(Flow::Halts(End::Trap(Trap::ZeroDivisor))),
-                Ok(word) => {
-                    set(store, address, word)?;
-                    put(call, word)
-                }
+                Err(_) => Pace::Traps(Trap::ZeroDivisor),
+                Ok(word) => match store.set(address, word) {
+                    Err(_) => Pace::IsRefused,
+                    Ok(()) => put(call, word),
+                },
             },
         },
     }
 }
 
 /// The word that an increment or decrement stores.
+#[inline(always)]
 fn counted(which: Increment, word: u16) -> u16
     ensures { result ≡ stored_word which word }
 {
@@ -132,6 +146,7 @@ fn counted(which: Increment, word: u16) -> u16
 }
 
 /// The word that it leaves.
+#[inline(always)]
 fn left(which: Increment, word: u16) -> u16
     ensures { result ≡ left_word which word }
 {
@@ -141,58 +156,71 @@ fn left(which: Increment, word: u16) -> u16
     }
 }
 
-pub fn count<'a, S: Store>(
-    call: &mut Call<'a>,
-    store: &mut S,
-    which: Increment,
-) -> Result<Flow, AllocError>
+#[inline(always)]
+pub fn count<'a, S: Store>(call: &mut Call<'a>, store: &mut S, which: Increment) -> Pace
     requires { call.old.place + 1 < 2 ^ 64 }
-    ensures { IfOk result (λ flow.
-        Acts (operation.Increment which) call.old (S.words store.old) flow call.new (S.words store.new)) }
+    ensures acts { Acts (operation.Increment which) call.old (S.words store.old) result call.new (S.words store.new) }
+    ensures function { call.new.function.now ≡ call.old.function.now }
 {
     match call.operands.take() {
-        None => Ok(Flow::IsStuck),
+        None => Pace::IsStuck,
         Some(address) => {
             let word = store.get(address);
-            set(store, address, counted(which, word))?;
-            put(call, left(which, word))
+            match store.set(address, counted(which, word)) {
+                Err(_) => Pace::IsRefused,
+                Ok(()) => put(call, left(which, word)),
+            }
         }
     }
 }
 
-pub fn jump_if_zero<'a>(call: &mut Call<'a>, target: u16) -> Flow
+#[inline(always)]
+pub fn jump<'a>(call: &mut Call<'a>, target: u16) -> Pace
+    ensures acts { (words : List ℕ) → Acts (operation.Jump target) call.old words result call.new words }
+    ensures function { call.new.function.now ≡ call.old.function.now }
+{
+    call.place = target as usize;
+    Pace::GoesOn
+}
+
+#[inline(always)]
+pub fn jump_if_zero<'a>(call: &mut Call<'a>, target: u16) -> Pace
     requires { call.old.place + 1 < 2 ^ 64 }
-    ensures { (words : List ℕ) → Acts (operation.JumpIfZero target) call.old words result call.new words }
+    ensures acts { (words : List ℕ) → Acts (operation.JumpIfZero target) call.old words result call.new words }
+    ensures function { call.new.function.now ≡ call.old.function.now }
 {
     match call.operands.take() {
-        None => Flow::IsStuck,
+        None => Pace::IsStuck,
         Some(word) => {
             if word == 0 {
                 call.place = target as usize;
             } else {
                 call.place += 1;
             }
-            Flow::GoesOn
+            Pace::GoesOn
         }
     }
 }
 
-pub fn go_to_label<'a>(call: &mut Call<'a>) -> Flow
-    ensures { (words : List ℕ) → Acts operation.Goto call.old words result call.new words }
+#[inline(always)]
+pub fn go_to_label<'a>(call: &mut Call<'a>) -> Pace
+    ensures acts { (words : List ℕ) → Acts operation.Goto call.old words result call.new words }
+    ensures function { call.new.function.now ≡ call.old.function.now }
 {
     match call.operands.take() {
-        None => Flow::IsStuck,
+        None => Pace::IsStuck,
         Some(value) => match target_of(call, value) {
-            None => Flow::Halts(End::Trap(Trap::NotALabel)),
+            None => Pace::Traps(Trap::NotALabel),
             Some(target) => {
                 call.place = target as usize;
-                Flow::GoesOn
+                Pace::GoesOn
             }
         },
     }
 }
 
 /// The target of a label's value, if it is one of the function.
+#[inline(always)]
 fn target_of<'a>(call: &Call<'a>, value: u16) -> Option<u16>
     ensures { result ≡ label_target call.now.function.now.first_label call.now.function.now.targets.items value }
 {
@@ -206,17 +234,18 @@ fn target_of<'a>(call: &Call<'a>, value: u16) -> Option<u16>
         .copied()
 }
 
-pub fn jump_if_case<'a>(call: &mut Call<'a>, value: u16, target: u16) -> Result<Flow, AllocError>
+#[inline(always)]
+pub fn jump_if_case<'a>(call: &mut Call<'a>, value: u16, target: u16) -> Pace
     requires { call.old.place + 1 < 2 ^ 64 }
-    ensures { IfOk result (λ flow. (words : List ℕ) →
-        Acts (operation.JumpIfCase value target) call.old words flow call.new words) }
+    ensures acts { (words : List ℕ) → Acts (operation.JumpIfCase value target) call.old words result call.new words }
+    ensures function { call.new.function.now ≡ call.old.function.now }
 {
     match call.operands.take() {
-        None => Ok(Flow::IsStuck),
+        None => Pace::IsStuck,
         Some(word) => {
             if word == value {
                 call.place = target as usize;
-                Ok(Flow::GoesOn)
+                Pace::GoesOn
             } else {
                 put(call, word)
             }
@@ -224,15 +253,28 @@ pub fn jump_if_case<'a>(call: &mut Call<'a>, value: u16, target: u16) -> Result<
     }
 }
 
-pub fn pop<'a>(call: &mut Call<'a>) -> Flow
+#[inline(always)]
+pub fn pop<'a>(call: &mut Call<'a>) -> Pace
     requires { call.old.place + 1 < 2 ^ 64 }
-    ensures { (words : List ℕ) → Acts operation.Pop call.old words result call.new words }
+    ensures acts { (words : List ℕ) → Acts operation.Pop call.old words result call.new words }
+    ensures function { call.new.function.now ≡ call.old.function.now }
 {
     match call.operands.take() {
-        None => Flow::IsStuck,
+        None => Pace::IsStuck,
         Some(_) => {
             call.place += 1;
-            Flow::GoesOn
+            Pace::GoesOn
         }
     }
+}
+
+/// Goes on behind a call, which is left to do.
+#[inline(always)]
+pub fn begin_call<'a>(call: &mut Call<'a>, count: u16) -> Pace
+    requires { call.old.place + 1 < 2 ^ 64 }
+    ensures acts { (words : List ℕ) → Acts (operation.Call count) call.old words result call.new words }
+    ensures function { call.new.function.now ≡ call.old.function.now }
+{
+    call.place += 1;
+    Pace::Calls(count)
 }
