@@ -3,6 +3,7 @@
 
 mod buffer;
 mod draft;
+mod entries;
 mod faults;
 mod form;
 mod names;

@@ -6,15 +6,11 @@ ghost use Rattle.bemit.specs.Drafts.{label_number};
 ghost use Rattle.bemit.specs.Kinds.{kind_seen};
 ghost use Rattle.bemit.specs.Tables.{no_names, word, index_of, kind_declared, refusal, binding_at, binding_of, is_label, undefined_fault};
 
-use crate::names::{Binding, DeclareFault, Declared, Entry, Kind, TooManyNames, Undefined};
+use crate::entries::{Entries, MAX_NAMES};
+use crate::names::{Binding, DeclareFault, Declared, Kind, TooManyNames, Undefined};
 use arrayvec::ArrayVec;
 use bword::Name;
 use std::marker::Model;
-
-// The most names of a function.
-const MAX_NAMES: usize = 128;
-
-type Entries = ArrayVec<Entry, MAX_NAMES>;
 
 /// The names of one function, at most 128, and the targets of its labels.
 ///
@@ -31,9 +27,9 @@ impl Model for Scope {
 
     ghost Value = { Table };
 
-    ghost view = { λ s. record { names = s.entries.items; targets = s.targets.items } };
+    ghost view = { λ s. record { names = s.entries; targets = s.targets.items } };
 
-    ghost invariant = { λ s. length s.targets.items ≡ count_by is_label s.entries.items };
+    ghost invariant = { λ s. length s.targets.items ≡ count_by is_label s.entries };
 }
 
 impl Scope {
@@ -42,7 +38,7 @@ impl Scope {
         ensures { result ≡ no_names }
     {
         Scope {
-            entries: ArrayVec::new(),
+            entries: Entries::new(),
             targets: ArrayVec::new(),
         }
     }
@@ -113,7 +109,7 @@ impl Scope {
     pub(crate) fn label_number(&self, entry: u16) -> u16
         ensures { result ≡ label_number self.now.names entry }
     {
-        match self.entries.get(usize::from(entry)) {
+        match self.entries.as_slice().get(usize::from(entry)) {
             Some(entry) => match entry.kind() {
                 Kind::Label(number) => number,
                 _ => 0,
@@ -131,59 +127,17 @@ impl Scope {
     }
 }
 
-// Where a name stands in the table.
-fn index_of(entries: &Entries, name: Name) -> Option<usize>
-    ensures index { result ≡ index_of name entries.now.items }
-    ensures within { IfSome result (λ index. index < length entries.now.items) }
-    ensures few { length entries.now.items ≤ most_names }
-{
-    entries
-        .as_slice()
-        .iter()
-        .position(|entry| entry.is_of(name))
-}
-
-fn entry_at(entries: &Entries, index: usize) -> Entry
-    requires { index < length entries.now.items }
-    ensures { slice_get entries.now.items index ≡ Some result }
-{
-    entries[index]
-}
-
-fn set(entries: &mut Entries, index: usize, entry: Entry)
-    requires { index < length entries.old.items }
-    ensures { entries.new.items ≡ slice_set entries.old.items index entry }
-{
-    entries[index] = entry;
-}
-
-// Enters a name behind the others, and answers where it stands.
-fn enter(entries: &mut Entries, name: Name, kind: Kind) -> Result<usize, TooManyNames>
-    ensures index { IfOk result (λ index. index ≡ length entries.old.items) }
-    ensures few { length entries.new.items ≤ most_names }
-    ensures ok { OnOk result (entries.new.items ≡ entries.old.items ++ record { name = name; kind = kind_seen kind } ∷ []) }
-    ensures room { OnOk result (length entries.old.items < most_names) }
-    ensures full { OnErr result (most_names ≤ length entries.old.items) }
-    ensures unchanged { OnErr result (entries.new ≡ entries.old) }
-{
-    let index = entries.len();
-    match entries.try_push(Entry::new(name, kind)) {
-        Ok(()) => Ok(index),
-        Err(_) => Err(TooManyNames),
-    }
-}
-
 fn declare(entries: &mut Entries, name: Name, how: Declared) -> Result<(), DeclareFault>
-    ensures few { length entries.new.items ≤ most_names }
-    ensures ok { OnOk result ((line : ℕ) → declared (word name line) (kind_declared how) entries.old.items ≡ Ok entries.new.items) }
-    ensures err { IfErr result (λ why. (line : ℕ) → declared (word name line) (kind_declared how) entries.old.items ≡ Err (refusal why (word name line))) }
+    ensures few { length entries.new ≤ most_names }
+    ensures ok { OnOk result ((line : ℕ) → declared (word name line) (kind_declared how) entries.old ≡ Ok entries.new) }
+    ensures err { IfErr result (λ why. (line : ℕ) → declared (word name line) (kind_declared how) entries.old ≡ Err (refusal why (word name line))) }
     ensures unchanged { OnErr result (entries.new ≡ entries.old) }
-    ensures labels { count_by is_label entries.new.items ≡ count_by is_label entries.old.items }
+    ensures labels { count_by is_label entries.new ≡ count_by is_label entries.old }
 {
-    if index_of(entries, name).is_some() {
+    if entries.index_of(name).is_some() {
         return Err(DeclareFault::Redeclared);
     }
-    match enter(entries, name, kind_declared(how)) {
+    match entries.enter(name, kind_declared(how)) {
         Ok(_) => Ok(()),
         Err(_) => Err(DeclareFault::TooManyNames),
     }
@@ -204,19 +158,19 @@ fn mention(
     called: bool,
     line: u64,
 ) -> Result<Binding, TooManyNames>
-    ensures few { length entries.new.items ≤ most_names }
-    ensures binding { IfOk result (λ binding. binding_of name entries.new.items ≡ Some binding) }
-    ensures ok { OnOk result (mentioned called (word name line) entries.old.items ≡ Ok entries.new.items) }
-    ensures err { OnErr result (mentioned called (word name line) entries.old.items ≡ Err (fault letters.TooManyNames line)) }
+    ensures few { length entries.new ≤ most_names }
+    ensures binding { IfOk result (λ binding. binding_of name entries.new ≡ Some binding) }
+    ensures ok { OnOk result (mentioned called (word name line) entries.old ≡ Ok entries.new) }
+    ensures err { OnErr result (mentioned called (word name line) entries.old ≡ Err (fault letters.TooManyNames line)) }
     ensures unchanged { OnErr result (entries.new ≡ entries.old) }
-    ensures labels { count_by is_label entries.new.items ≡ count_by is_label entries.old.items }
+    ensures labels { count_by is_label entries.new ≡ count_by is_label entries.old }
 {
-    if let Some(index) = index_of(entries, name) {
-        let entry = entry_at(entries, index);
+    if let Some(index) = entries.index_of(name) {
+        let entry = entries.entry_at(index);
         return Ok(binding(entry.kind(), index as u16));
     }
     let kind = kind_mentioned(called, line);
-    match enter(entries, name, kind) {
+    match entries.enter(name, kind) {
         Ok(index) => Ok(binding(kind, index as u16)),
         Err(_) => Err(TooManyNames),
     }
@@ -246,24 +200,24 @@ fn binding(kind: Kind, entry: u16) -> Binding
 
 // Gives a new name, or an internal one that has none, this label.
 fn label(entries: &mut Entries, name: Name, number: u16) -> Result<(), DeclareFault>
-    ensures few { length entries.new.items ≤ most_names }
-    ensures ok { OnOk result ((line : ℕ) → labelled (word name line) number entries.old.items ≡ Ok entries.new.items) }
-    ensures err { IfErr result (λ why. (line : ℕ) → labelled (word name line) number entries.old.items ≡ Err (refusal why (word name line))) }
+    ensures few { length entries.new ≤ most_names }
+    ensures ok { OnOk result ((line : ℕ) → labelled (word name line) number entries.old ≡ Ok entries.new) }
+    ensures err { IfErr result (λ why. (line : ℕ) → labelled (word name line) number entries.old ≡ Err (refusal why (word name line))) }
     ensures unchanged { OnErr result (entries.new ≡ entries.old) }
-    ensures labels { OnOk result (count_by is_label entries.new.items ≡ count_by is_label entries.old.items + 1) }
-    ensures fewer { count_by is_label entries.new.items ≤ most_names }
+    ensures labels { OnOk result (count_by is_label entries.new ≡ count_by is_label entries.old + 1) }
+    ensures fewer { count_by is_label entries.new ≤ most_names }
 {
     let kind = Kind::Label(number);
-    let Some(index) = index_of(entries, name) else {
-        return match enter(entries, name, kind) {
+    let Some(index) = entries.index_of(name) else {
+        return match entries.enter(name, kind) {
             Ok(_) => Ok(()),
             Err(_) => Err(DeclareFault::TooManyNames),
         };
     };
-    let old = entry_at(entries, index);
+    let old = entries.entry_at(index);
     if !old.kind().is_unlabelled() {
         return Err(DeclareFault::Redeclared);
     }
-    set(entries, index, Entry::new(old.name(), kind));
+    entries.set_kind(index, kind);
     Ok(())
 }
