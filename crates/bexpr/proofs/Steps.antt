@@ -5,6 +5,7 @@ use Rattle.bword.specs.declared.operators.BinOp.TheVariants as op
 use Rattle.blex.specs.declared.token.Token.{Token}
 use Rattle.blex.specs.declared.token.Token.TheVariants as token
 use Rattle.blex.specs.declared.token.Placed.{Placed}
+use Rattle.blex.specs.Pieces.{string_token}
 use Rattle.bcode.specs.declared.instr.Instr.TheVariants as instr
 use Rattle.bcode.specs.declared.instr.Increment.TheVariants as increment
 use Rattle.btree.specs.Expression as tree
@@ -24,7 +25,6 @@ use Rattle.bemit.specs.declared.form.Form.{Form}
 use Rattle.bemit.specs.declared.form.Form.TheVariants.{Place, Lone, Joined}
 use Rattle.bexpr.specs.declared.halt.Halt.{Halt}
 use Rattle.bexpr.specs.declared.halt.Halt.TheVariants as halt
-use Rattle.arrayvec.specs.ArrayVec.{ArrayVec}
 use Rattle.bexpr.specs.Marks.{is_comma}
 use Rattle.bexpr.specs.Tokens.{Tokens, IsLoaded, IsSingle, Runs, Breaks, Keeps, Advances, LooksOn}
 use Rattle.bexpr.specs.declared.operators.Prefix.{Prefix}
@@ -260,9 +260,9 @@ step_took room p a b before behind given (Ok x) nc k m = (
 )
 step_took room p a b before behind given (Err why) nc k m = λ off e. halt_device (postfix_with (inner room) off (Step p) e) why k.0 k.1
 
-pub text_took : (a b : Tokens) (before mid put draft : Draft) (r : Result Form Halt) (s : ArrayVec ℕ) (bytes : List ℕ) (offset : ℕ) → Takes a Lone r b → draft ≡ put → first a.ahead ≡ token.String s → bytes ≡ s.items → mid ≡ stringed bytes before → offset ≡ offset_of before → put ≡ emitted (instr.Text offset) mid → (room : ℕ) → Follows (primary (inner room)) (called_at b) a before r b draft
-text_took a b before mid put draft r s bytes offset k e h eb em eo ep room =
-    atom_took room a b before put draft r (λ off. Text s.items off) k e (λ off u f. rw (f ∙ h) refl)
+pub text_took : (a b : Tokens) (before mid put draft : Draft) (r : Result Form Halt) (text bytes : List ℕ) (offset : ℕ) → Takes a Lone r b → draft ≡ put → first a.ahead ≡ string_token text → bytes ≡ text → mid ≡ stringed bytes before → offset ≡ offset_of before → put ≡ emitted (instr.Text offset) mid → (room : ℕ) → Follows (primary (inner room)) (called_at b) a before r b draft
+text_took a b before mid put draft r text bytes offset k e h eb em eo ep room =
+    atom_took room a b before put draft r (λ off. Text text off) k e (λ off u f. rw (f ∙ h) refl)
     (λ off c. ep ∙ ap (λ i. emitted (instr.Text i) mid) eo ∙ ap (emitted (instr.Text (offset_of before))) (em ∙ ap (λ x. stringed x before) eb)) (λ off d. refl)
 
 pub increment_took : (room : ℕ) (a b : Tokens) (before behind : Draft) (given : Form) (r : Result Form Halt) → suffix (first a.ahead) ≡ Some (Step tree.PostIncrement) → Takes a Lone r b → behind ≡ emitted (instr.Increment increment.PostIncrement) (checked given (line_of a.ahead) before)

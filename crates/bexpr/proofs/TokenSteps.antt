@@ -3,6 +3,10 @@ use Rattle.std.proofs.Common.{◌≡◌, ℕ, ◌+◌, ◌<◌, ◌≤◌, Bool,
 use Rattle.std.specs.Prelude.{is_some}
 use Rattle.blex.specs.Sources.{Source, CanCome, room}
 use Rattle.blex.specs.Lexing.{PassesToken}
+use Rattle.blex.specs.Lexemes.{token_of_lexeme}
+use Rattle.blex.specs.declared.lexeme.Lexeme.{Lexeme}
+use Rattle.blex.specs.declared.lexeme.Lexeme.TheVariants as lexeme
+use Rattle.blex.specs.declared.lexeme.Seen.{Seen}
 use Rattle.blex.specs.Lexers.{Lexer, LexGives, GivesAt, OpenGives, is_last, progress_behind}
 use Rattle.blex.specs.Sources as S
 use Rattle.blex.specs.declared.lexer.LexStop.{LexStop}
@@ -15,7 +19,7 @@ use Rattle.blex.specs.declared.token.Token.{Token}
 use Rattle.blex.specs.declared.token.Placed.{Placed}
 use Rattle.blex.proofs.Passing.{Took-none, Took-append, Grew-after}
 use Rattle.btree.specs.Reading.{first, after}
-use Rattle.bexpr.specs.Tokens.{Tokens, both, tokens_of, tokens_with, CanFollow, IsReady, IsReadyWith, IsLoaded, weight, work, Reads, Moves, Breaks, Same, Keeps, Looks, Behind, Advances, LooksOn}
+use Rattle.bexpr.specs.Tokens.{Tokens, both, is_string, token_seen, tokens_of, tokens_with, CanFollow, IsReady, IsReadyWith, IsLoaded, weight, work, Reads, Moves, Breaks, Same, Keeps, Looks, Behind, Advances, LooksOn}
 
 nil_both : (xs ys : List ℕ) → xs ≡ [] → ys ≡ [] → xs ++ ys ≡ []
 nil_both xs ys h k = rw (h, k) refl
@@ -58,7 +62,7 @@ behind_open p at e h = e ∙ ap (λ o. progress_behind o at.line) (none_of (last
 
 -- tokens as a lexer and what is ahead
 abbrev pub tokens_at : Lexer → List Placed → Tokens
-tokens_at lexer ahead = record { source = lexer.source; progress = lexer.progress; ahead = ahead }
+tokens_at lexer ahead = record { source = lexer.source; progress = lexer.progress; text = lexer.characters; ahead = ahead }
 
 -- what is ahead stays
 pub stays_same : (t : Tokens) → length t.source.ahead ≤ 2 → Moves t t Same
@@ -123,19 +127,36 @@ pub none_is : {A : Type 0} (o : Option A) → is_some o ≡ false → o ≡ None
 none_is None e = refl
 none_is (Some x) e = cc
 
+-- a token that is no string has no text
+plain_lexeme : (a b : List ℕ) (l : Lexeme) → is_string (token_of_lexeme l a) ≡ false → token_of_lexeme l b ≡ token_of_lexeme l a
+plain_lexeme a b lexeme.String h = cc
+plain_lexeme a b _ h = refl
+
+pub plain_seen : (a b : List ℕ) (seen : Option Seen) (behind : Option Placed) → is_string (first (both (token_seen a seen) behind)) ≡ false → token_seen b seen ≡ token_seen a seen
+plain_seen a b None behind h = refl
+plain_seen a b (Some s) None h = ap (λ t. Some (record { token = t; line = s.line })) (plain_lexeme a b s.lexeme h)
+plain_seen a b (Some s) (Some p) h = ap (λ t. Some (record { token = t; line = s.line })) (plain_lexeme a b s.lexeme h)
+
+pub seen_is : (text : List ℕ) (seen : Option Seen) (b : Bool) → is_some seen ≡ b → is_some (token_seen text seen) ≡ b
+seen_is text None b h = h
+seen_is text (Some s) b h = h
+
+pub seen_none : (text : List ℕ) (seen : Option Seen) → seen ≡ None → token_seen text seen ≡ None
+seen_none text seen h = ap (token_seen text) h
+
 ahead_none : (current behind : Option Placed) → current ≡ None → both current behind ≡ []
 ahead_none current behind e = ap (λ o. both o behind) e
 
 -- where the view of a lexer and what is ahead is these tokens
 module _ (old : Tokens) (lexer : Lexer) (current behind : Option Placed) (view : tokens_at lexer (both current behind) ≡ old) (near : length lexer.source.ahead ≤ 2) where
-  pub look_breaks : IsReady old → (s : LexStop) (new : Lexer) (after_current : Option Placed) → LexGives lexer (Err s) new → length new.source.ahead ≤ 2 → is_some current ≡ false → Breaks old (tokens_at new (both after_current behind))
-  look_breaks ready s new after_current gives near2 none =
-      subst (λ o. Breaks o (tokens_at new (both after_current behind))) view
-      (lex_breaks s lexer new (both current behind) (both after_current behind) gives (subst (λ o. IsReadyWith (both o behind) lexer.progress) (none_is current none) (subst IsReady (sym view) ready)) near2)
+  pub look_breaks : IsReady old → (s : LexStop) (new : Lexer) (ps : List Placed) → LexGives lexer (Err s) new → length new.source.ahead ≤ 2 → is_some current ≡ false → Breaks old (tokens_at new ps)
+  look_breaks ready s new ps gives near2 none =
+      subst (λ o. Breaks o (tokens_at new ps)) view
+      (lex_breaks s lexer new (both current behind) ps gives (subst (λ o. IsReadyWith (both o behind) lexer.progress) (none_is current none) (subst IsReady (sym view) ready)) near2)
 
-  pub looked : IsReady old → (new : Lexer) (at : Placed) → LexGives lexer (Ok at) new → length new.source.ahead ≤ 2 → (is_last at.token ≡ false → room new.source < room lexer.source) → is_some current ≡ false → behind ≡ None → Looks old (tokens_at new (both (Some at) behind))
-  looked ready new at gives near2 less none no_behind =
-      subst (λ o. Looks o (tokens_at new (both (Some at) behind))) (ap (λ o. tokens_at lexer (both o behind)) (sym (none_is current none)) ∙ view)
+  pub looked : IsReady old → (new : Lexer) (at : Placed) → LexGives lexer (Ok at) new → length new.source.ahead ≤ 2 → (is_last at.token ≡ false → room new.source < room lexer.source) → is_some current ≡ false → (next : Option Placed) → next ≡ None → Looks old (tokens_at new (both (Some at) next))
+  looked ready new at gives near2 less none next no_behind =
+      subst (λ o. Looks o (tokens_at new (both (Some at) next))) (ap (λ o. tokens_at lexer (both o behind)) (sym (none_is current none)) ∙ view)
       (subst (λ b. Looks (tokens_at lexer []) (tokens_at new (both (Some at) b))) (sym no_behind)
       (looks_next lexer new at gives near2 less (subst (λ o. IsReadyWith (both o behind) lexer.progress) (none_is current none) (subst IsReady (sym view) ready))))
 
@@ -167,6 +188,9 @@ module _ (old : Tokens) (lexer : Lexer) (current behind : Option Placed) (view :
   goes : is_last (first old.ahead) ≡ false → is_last (first (both current behind)) ≡ false
   goes h = ap (λ t. is_last (first t.ahead)) view ∙ h
 
+  pub stays_plain : is_string (first old.ahead) ≡ false → is_string (first (both current behind)) ≡ false
+  stays_plain h = ap (λ t. is_string (first t.ahead)) view ∙ h
+
   pub look_on_breaks : IsLoaded old → is_last (first old.ahead) ≡ false → (s : LexStop) (new : Lexer) (ps : List Placed) → LexGives lexer (Err s) new → length new.source.ahead ≤ 2 → is_some behind ≡ false → Breaks old (tokens_at new ps)
   look_on_breaks l h s new ps gives near2 none =
       let f = at_front current behind (here l) (goes h) (none_is behind none) in
@@ -175,11 +199,12 @@ module _ (old : Tokens) (lexer : Lexer) (current behind : Option Placed) (view :
   on_from : (new : Lexer) (at : Placed) → LexGives lexer (Ok at) new → length new.source.ahead ≤ 2 → (is_last at.token ≡ false → room new.source < room lexer.source) → (p : Placed) → lexer.progress ≡ progress.Open → (o b : Option Placed) → o ≡ Some p → b ≡ None → LooksOn (tokens_at lexer (both o b)) (tokens_at new (both o (Some at)))
   on_from new at gives near2 less p opened o b e k = rw (e, k) (looks_on lexer new at gives near2 less opened p)
 
-  pub looked_on : IsLoaded old → is_last (first old.ahead) ≡ false → (new : Lexer) (at : Placed) → LexGives lexer (Ok at) new → length new.source.ahead ≤ 2 → (is_last at.token ≡ false → room new.source < room lexer.source) → is_some behind ≡ false → LooksOn old (tokens_at new (both current (Some at)))
-  looked_on l h new at gives near2 less none =
+  pub looked_on : IsLoaded old → is_last (first old.ahead) ≡ false → (new : Lexer) (at : Placed) → LexGives lexer (Ok at) new → length new.source.ahead ≤ 2 → (is_last at.token ≡ false → room new.source < room lexer.source) → is_some behind ≡ false → (now : Option Placed) → now ≡ current → LooksOn old (tokens_at new (both now (Some at)))
+  looked_on l h new at gives near2 less none now same =
       let f = at_front current behind (here l) (goes h) (none_is behind none) in
-      subst (λ o. LooksOn o (tokens_at new (both current (Some at)))) view
-      (on_from new at gives near2 less f.0 f.2 current behind f.1 (none_is behind none))
+      subst (λ o. LooksOn o (tokens_at new (both now (Some at)))) view
+      (subst (λ o. LooksOn (tokens_at lexer (both current behind)) (tokens_at new (both o (Some at)))) (sym same)
+      (on_from new at gives near2 less f.0 f.2 current behind f.1 (none_is behind none)))
 
   on_at : (o b : Option Placed) → is_some b ≡ true → IsLoaded (tokens_at lexer (both o b)) → LooksOn (tokens_at lexer (both o b)) (tokens_at lexer (both o b))
   on_at None b e l = let n : [] ≡ l.current ∷ l.behind = l.ahead in cc

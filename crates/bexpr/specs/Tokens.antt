@@ -1,20 +1,33 @@
 -- The tokens of a source, of which some are ahead, and what taking them does.
-use Rattle.std.specs.Prelude.{◌≡◌, ℕ, ◌+◌, ◌≤◌, true, false, List, [], ◌∷◌, ◌++◌, length, Option, Some, None, if◌then◌else◌}
+use Rattle.std.specs.Prelude.{◌≡◌, ℕ, ◌+◌, ◌≤◌, Bool, true, false, List, [], ◌∷◌, ◌++◌, length, Option, Some, None, if◌then◌else◌}
 use Rattle.bword.specs.ByteEnds.{Incoming, Grew}
+use Rattle.std.specs.Option.{option_map}
 use Rattle.blex.specs.Sources.{Source, Took, room}
+use Rattle.blex.specs.Lexemes.{placed_of}
 use Rattle.blex.specs.Lexers.{is_last}
 use Rattle.blex.specs.Tokens.{token_first, tokens_from}
 use Rattle.blex.specs.declared.lexer.Progress.{Progress}
 use Rattle.blex.specs.declared.lexer.Progress.TheVariants as progress
+use Rattle.blex.specs.declared.lexeme.Seen.{Seen}
 use Rattle.blex.specs.declared.token.Token.{Token}
+use Rattle.blex.specs.declared.token.Token.TheVariants as token
 use Rattle.blex.specs.declared.token.Placed.{Placed}
 use Rattle.btree.specs.Reading.{Reader, first, line_of, after}
 
--- the source behind the tokens that are ahead, and what its lexer has come to
+-- the source behind the tokens that are ahead, what its lexer has come to, and the text of its last string
 pub record Tokens : Type 0 where
   pub source : Source
   pub progress : Progress
+  pub text : List ℕ
   pub ahead : List Placed
+
+abbrev pub is_string : Token → Bool
+is_string (token.String characters) = true
+is_string _ = false
+
+-- the token that was seen, if one was, which has this text if it is a string
+abbrev pub token_seen : List ℕ → Option Seen → Option Placed
+token_seen text seen = option_map (placed_of text) seen
 
 -- the tokens that are ahead: the current one, and perhaps the one behind it
 abbrev pub both : Option Placed → Option Placed → List Placed
@@ -23,13 +36,13 @@ both (Some current) None = current ∷ []
 both (Some current) (Some behind) = current ∷ behind ∷ []
 
 -- Few bytes are ahead, and a token behind the current one only where that is there.
-pub record InOrder (bytes : List ℕ) (current behind : Option Placed) : Type 0 where
+pub record InOrder (bytes : List ℕ) (current behind : Option Seen) : Type 0 where
   pub near : length bytes ≤ 2
   pub order : current ≡ None → behind ≡ None
 
 -- the tokens of what an end has left
 abbrev pub all_tokens : Incoming → ℕ → Tokens
-all_tokens end lender = record { source = record { ahead = []; line = 1; end = end; lender = lender }; progress = progress.Open; ahead = [] }
+all_tokens end lender = record { source = record { ahead = []; line = 1; end = end; lender = lender }; progress = progress.Open; text = []; ahead = [] }
 
 abbrev pub tokens_with : List Placed → ℕ → List ℕ → List Placed
 tokens_with [] line bytes = tokens_from line bytes

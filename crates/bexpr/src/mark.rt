@@ -1,8 +1,9 @@
 //! Tokens that a program has at fixed places.
-ghost use Rattle.std.specs.Prelude.{◌≡◌};
+ghost use Rattle.std.specs.Prelude.{ℕ, List, ◌≡◌};
+ghost use Rattle.blex.specs.Lexemes.{token_of_lexeme};
 ghost use Rattle.bexpr.specs.Marks.{is_mark};
 
-use blex::{Keyword, Token};
+use blex::{Keyword, Lexeme};
 
 /// A token by which alone reading goes on.
 #[derive(Clone, Copy, Debug, PartialEq, Eq)]
@@ -22,21 +23,21 @@ pub enum Mark {
 
 impl Mark {
     /// Whether a token is this one.
-    pub fn is(self, token: &Token) -> bool
-        ensures { result ≡ is_mark self token.now }
+    pub fn is(self, lexeme: Lexeme) -> bool
+        ensures { (text : List ℕ) → result ≡ is_mark self (token_of_lexeme lexeme text) }
     {
         match self {
-            Mark::OpenParen => matches!(token, Token::OpenParen),
-            Mark::CloseParen => matches!(token, Token::CloseParen),
-            Mark::OpenBracket => matches!(token, Token::OpenBracket),
-            Mark::CloseBracket => matches!(token, Token::CloseBracket),
-            Mark::OpenBrace => matches!(token, Token::OpenBrace),
-            Mark::CloseBrace => matches!(token, Token::CloseBrace),
-            Mark::Question => matches!(token, Token::Question),
-            Mark::Colon => matches!(token, Token::Colon),
-            Mark::Comma => matches!(token, Token::Comma),
-            Mark::Semicolon => matches!(token, Token::Semicolon),
-            Mark::Else => matches!(token, Token::Keyword(Keyword::Else)),
+            Mark::OpenParen => matches!(lexeme, Lexeme::OpenParen),
+            Mark::CloseParen => matches!(lexeme, Lexeme::CloseParen),
+            Mark::OpenBracket => matches!(lexeme, Lexeme::OpenBracket),
+            Mark::CloseBracket => matches!(lexeme, Lexeme::CloseBracket),
+            Mark::OpenBrace => matches!(lexeme, Lexeme::OpenBrace),
+            Mark::CloseBrace => matches!(lexeme, Lexeme::CloseBrace),
+            Mark::Question => matches!(lexeme, Lexeme::Question),
+            Mark::Colon => matches!(lexeme, Lexeme::Colon),
+            Mark::Comma => matches!(lexeme, Lexeme::Comma),
+            Mark::Semicolon => matches!(lexeme, Lexeme::Semicolon),
+            Mark::Else => matches!(lexeme, Lexeme::Keyword(Keyword::Else)),
         }
     }
 }

@@ -1,10 +1,11 @@
 //! Operators by their tokens.
-ghost use Rattle.std.specs.Prelude.{◌≡◌};
+ghost use Rattle.std.specs.Prelude.{ℕ, List, ◌≡◌};
+ghost use Rattle.blex.specs.Lexemes.{token_of_lexeme};
 ghost use Rattle.btree.specs.Expression.{rank};
 ghost use Rattle.btree.specs.ExpressionReader.{prefix_op, suffix, op_at};
 ghost use Rattle.bexpr.specs.Parsers.{some_prefix, some_suffix};
 
-use blex::Token;
+use blex::Lexeme;
 use bword::BinOp;
 
 /// An operator before its operand.
@@ -28,29 +29,29 @@ pub(crate) enum Suffix {
 }
 
 /// The operator before an operand that a token is.
-pub(crate) fn prefix_of(token: &Token) -> Option<Prefix>
-    ensures { some_prefix result ≡ prefix_op token.now }
+pub(crate) fn prefix_of(lexeme: Lexeme) -> Option<Prefix>
+    ensures { (text : List ℕ) → some_prefix result ≡ prefix_op (token_of_lexeme lexeme text) }
 {
-    match token {
-        Token::Operator(BinOp::Sub) => Some(Prefix::Negate),
-        Token::Operator(BinOp::Mul) => Some(Prefix::Indirection),
-        Token::Operator(BinOp::And) => Some(Prefix::Address),
-        Token::Not => Some(Prefix::Not),
-        Token::Increment => Some(Prefix::Increment),
-        Token::Decrement => Some(Prefix::Decrement),
+    match lexeme {
+        Lexeme::Operator(BinOp::Sub) => Some(Prefix::Negate),
+        Lexeme::Operator(BinOp::Mul) => Some(Prefix::Indirection),
+        Lexeme::Operator(BinOp::And) => Some(Prefix::Address),
+        Lexeme::Not => Some(Prefix::Not),
+        Lexeme::Increment => Some(Prefix::Increment),
+        Lexeme::Decrement => Some(Prefix::Decrement),
         _ => None,
     }
 }
 
 /// How a postfix expression goes on by a token.
-pub(crate) fn suffix_of(token: &Token) -> Option<Suffix>
-    ensures { some_suffix result ≡ suffix token.now }
+pub(crate) fn suffix_of(lexeme: Lexeme) -> Option<Suffix>
+    ensures { (text : List ℕ) → some_suffix result ≡ suffix (token_of_lexeme lexeme text) }
 {
-    match token {
-        Token::OpenBracket => Some(Suffix::Index),
-        Token::OpenParen => Some(Suffix::Call),
-        Token::Increment => Some(Suffix::Increment),
-        Token::Decrement => Some(Suffix::Decrement),
+    match lexeme {
+        Lexeme::OpenBracket => Some(Suffix::Index),
+        Lexeme::OpenParen => Some(Suffix::Call),
+        Lexeme::Increment => Some(Suffix::Increment),
+        Lexeme::Decrement => Some(Suffix::Decrement),
         _ => None,
     }
 }
@@ -71,11 +72,11 @@ pub(crate) fn rank_of(op: BinOp) -> u8
 }
 
 /// The binary operator that a token is, if it binds so loosely.
-pub(crate) fn operator_at(rank: u8, token: &Token) -> Option<BinOp>
-    ensures { result ≡ op_at rank token.now }
+pub(crate) fn operator_at(rank: u8, lexeme: Lexeme) -> Option<BinOp>
+    ensures { (text : List ℕ) → result ≡ op_at rank (token_of_lexeme lexeme text) }
 {
-    match token {
-        Token::Operator(op) if rank_of(*op) == rank => Some(*op),
+    match lexeme {
+        Lexeme::Operator(op) if rank_of(op) == rank => Some(op),
         _ => None,
     }
 }

@@ -1,6 +1,7 @@
 //! Reading an expression and compiling it at once.
-ghost use Rattle.std.specs.Prelude.{◌≡◌, ◌+◌, ◌≤◌, false, ℕ, Some, OnOk};
+ghost use Rattle.std.specs.Prelude.{◌≡◌, ◌+◌, ◌≤◌, false, ℕ, List, Some, OnOk};
 ghost use Rattle.blex.specs.Lexers.{is_last};
+ghost use Rattle.blex.specs.Lexemes.{token_of_lexeme};
 ghost use Rattle.btree.specs.Reading.{first, line_of};
 ghost use Rattle.btree.specs.Expression.{or_rank};
 ghost use Rattle.btree.specs.ExpressionReader.{Rvalue, inner, primary, postfix, postfix_with, call, operand, chain, conditional, reader, suffix};
@@ -21,7 +22,7 @@ use crate::operators::{Prefix, Suffix, operator_at, prefix_of, suffix_of};
 use crate::tokens::Tokens;
 use bcode::{Increment, Instr};
 use bemit::{Draft, Form};
-use blex::Token;
+use blex::Lexeme;
 use bword::{BinOp, ByteIn, Name};
 
 // How loosely the loosest binary operator binds.
@@ -75,12 +76,12 @@ fn prefix(draft: &mut Draft, op: Prefix, line: u64, form: Form) -> Form
 }
 
 // The operator of an assignment that a token begins behind an expression, of which only an operand is assigned to.
-fn assigned_at(form: Form, token: &Token) -> Option<Option<BinOp>>
-    ensures { result ≡ assigned_at form token.now }
+fn assigned_at(form: Form, lexeme: Lexeme) -> Option<Option<BinOp>>
+    ensures { (text : List ℕ) → result ≡ assigned_at form (token_of_lexeme lexeme text) }
 {
-    match (form, token) {
+    match (form, lexeme) {
         (Form::Joined, _) => None,
-        (_, Token::Assign(op)) => Some(*op),
+        (_, Lexeme::Assign(op)) => Some(op),
         _ => None,
     }
 }
@@ -174,21 +175,18 @@ impl<I: ByteIn> Parser<I> {
         requires no_group { is_open_paren (first self.old.tokens.ahead) ≡ false }
         ensures { (room : ℕ) → Follows (primary (inner room)) (called_at self.new.tokens) self.old.tokens self.old.draft result self.new.tokens self.new.draft }
     {
-        match self.tokens.token() {
-            Token::Name(name) => {
-                let name = *name;
-                self.mention(name)
-            }
-            Token::Number(word) => {
-                self.draft.emit(Instr::Constant(*word));
+        match self.tokens.lexeme() {
+            Lexeme::Name(name) => self.mention(name),
+            Lexeme::Number(word) => {
+                self.draft.emit(Instr::Constant(word));
                 self.take(Form::Lone)
             }
-            Token::Character(word) => {
-                self.draft.emit(Instr::Constant(*word));
+            Lexeme::Character(word) => {
+                self.draft.emit(Instr::Constant(word));
                 self.take(Form::Lone)
             }
-            Token::String(bytes) => {
-                let offset = self.draft.string(bytes);
+            Lexeme::String => {
+                let offset = self.draft.string(self.tokens.string());
                 self.draft.emit(Instr::Text(offset));
                 self.take(Form::Lone)
             }
@@ -230,7 +228,7 @@ impl<I: ByteIn> Parser<I> {
         ensures { Follows (postfix (inner room)) false self.old.tokens self.old.draft result self.new.tokens self.new.draft }
     {
         let mut form = self.primary(room)?;
-        'suffixes: while let Some(next) = suffix_of(self.tokens.token()) {
+        'suffixes: while let Some(next) = suffix_of(self.tokens.lexeme()) {
             form = self.suffixed(room, next, form)?;
         }
         Ok(form)
@@ -293,7 +291,7 @@ impl<I: ByteIn> Parser<I> {
         ensures { Follows (operand (inner room)) false self.old.tokens self.old.draft result self.new.tokens self.new.draft }
     {
         let line = self.tokens.line();
-        let Some(op) = prefix_of(self.tokens.token()) else {
+        let Some(op) = prefix_of(self.tokens.lexeme()) else {
             return self.postfix(room);
         };
         let room = self.enter(room)?;
@@ -312,7 +310,7 @@ impl<I: ByteIn> Parser<I> {
             return self.operand(room);
         }
         let mut form = self.chain(room, rank - 1)?;
-        'operators: while let Some(op) = operator_at(rank, self.tokens.token()) {
+        'operators: while let Some(op) = operator_at(rank, self.tokens.lexeme()) {
             load(&mut self.draft, form);
             self.tokens.advance()?;
             let right = self.chain(room, rank - 1)?;
@@ -358,7 +356,7 @@ impl<I: ByteIn> Parser<I> {
     {
         let form = self.chain(room, LOOSEST)?;
         let line = self.tokens.line();
-        let Some(op) = assigned_at(form, self.tokens.token()) else {
+        let Some(op) = assigned_at(form, self.tokens.lexeme()) else {
             return self.conditional(room, form);
         };
         self.draft.want_lvalue(form, line);

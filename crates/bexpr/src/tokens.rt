@@ -1,14 +1,15 @@
 //! The tokens of a source, two of which may be ahead.
 ghost use Rattle.std.specs.Prelude.{◌≡◌, false, OnOk, OnErr};
+ghost use Rattle.blex.specs.Lexemes.{token_of_lexeme};
 ghost use Rattle.blex.specs.Lexers.{is_last};
 ghost use Rattle.blex.specs.Tokens.{placed};
 ghost use Rattle.btree.specs.Program.{fault_at};
 ghost use Rattle.btree.specs.Reading.{first, line_of, after};
-ghost use Rattle.bexpr.specs.Tokens.{all_tokens, IsReady, IsLoaded, Looks, LooksOn, Advances, Breaks};
+ghost use Rattle.bexpr.specs.Tokens.{all_tokens, is_string, IsReady, IsLoaded, Looks, LooksOn, Advances, Breaks};
 ghost use Rattle.bexpr.specs.Marks.{is_mark};
 
 use crate::mark::Mark;
-use blex::{About, Diagnostic, Letters, Lexer, Placed, Token};
+use blex::{About, Diagnostic, Letters, Lexeme, Lexer, Seen};
 use bword::{ByteIn, Device};
 use std::marker::Model;
 
@@ -16,16 +17,21 @@ use std::marker::Model;
 #[derive(Drop)]
 pub struct Tokens<I: ByteIn> {
     lexer: Lexer<I>,
-    current: Option<Placed>,
-    behind: Option<Placed>,
+    current: Option<Seen>,
+    behind: Option<Seen>,
 }
 
 impl<I: ByteIn> Model for Tokens<I> {
-    ghost use Rattle.bexpr.specs.Tokens.{Tokens, InOrder, both};
+    ghost use Rattle.bexpr.specs.Tokens.{Tokens, InOrder, both, token_seen};
 
     ghost Value = { Tokens };
 
-    ghost view = { λ t. record { source = t.lexer.source; progress = t.lexer.progress; ahead = both t.current t.behind } };
+    ghost view = { λ t. record {
+      source = t.lexer.source;
+      progress = t.lexer.progress;
+      text = t.lexer.characters;
+      ahead = both (token_seen t.lexer.characters t.current) (token_seen t.lexer.characters t.behind);
+    } };
 
     ghost invariant = { λ t. InOrder t.lexer.source.ahead t.current t.behind };
 }
@@ -55,23 +61,30 @@ impl<I: ByteIn> Tokens<I> {
         lexer.into_input()
     }
 
-    /// The current token.
-    pub fn token(&self) -> &Token
+    /// The current token, without the characters of a string.
+    pub fn lexeme(&self) -> Lexeme
         requires { IsLoaded self.now }
-        ensures { result.now ≡ first self.now.ahead }
+        ensures { token_of_lexeme result self.now.text ≡ first self.now.ahead }
     {
-        let Some(placed) = &self.current else {
+        let Some(seen) = self.current else {
             unreachable!()
         };
-        &placed.token
+        seen.lexeme
+    }
+
+    /// The characters of the current token, if it is a string.
+    pub fn string(&self) -> &[u8]
+        ensures { result.now ≡ self.now.text }
+    {
+        self.lexer.string()
     }
 
     /// The line of the current token.
     pub fn line(&self) -> u64
         ensures { result ≡ line_of self.now.ahead }
     {
-        match &self.current {
-            Some(placed) => placed.line,
+        match self.current {
+            Some(seen) => seen.line,
             None => 0,
         }
     }
@@ -81,8 +94,8 @@ impl<I: ByteIn> Tokens<I> {
         requires { IsLoaded self.now }
         ensures { result ≡ fault_at (placed (first self.now.ahead) (line_of self.now.ahead)) }
     {
-        let letters = match self.token() {
-            Token::Bad(letters) => *letters,
+        let letters = match self.lexeme() {
+            Lexeme::Bad(letters) => letters,
             _ => Letters::Syntax,
         };
         Diagnostic {
@@ -96,8 +109,8 @@ impl<I: ByteIn> Tokens<I> {
     pub fn is_at(&self, mark: Mark) -> bool
         ensures { result ≡ is_mark mark (first self.now.ahead) }
     {
-        match &self.current {
-            Some(placed) => mark.is(&placed.token),
+        match self.current {
+            Some(seen) => mark.is(seen.lexeme),
             None => false,
         }
     }
@@ -109,26 +122,27 @@ impl<I: ByteIn> Tokens<I> {
         ensures err { OnErr result (Breaks self.old self.new) }
     {
         if self.current.is_none() {
-            let Ok(placed) = self.lexer.next() else {
+            let Ok(seen) = self.lexer.next_lexeme() else {
                 return Err(Device);
             };
-            self.current = Some(placed);
+            self.current = Some(seen);
         }
         Ok(())
     }
 
-    /// Reads the token behind the current one, which is no last one, unless it is there.
+    /// Reads the token behind the current one, which is no last one and no string, unless it is there.
     pub fn look_on(&mut self) -> Result<(), Device>
         requires loaded { IsLoaded self.old }
         requires goes_on { is_last (first self.old.ahead) ≡ false }
+        requires no_string { is_string (first self.old.ahead) ≡ false }
         ensures ok { OnOk result (LooksOn self.old self.new) }
         ensures err { OnErr result (Breaks self.old self.new) }
     {
         if self.behind.is_none() {
-            let Ok(placed) = self.lexer.next() else {
+            let Ok(seen) = self.lexer.next_lexeme() else {
                 return Err(Device);
             };
-            self.behind = Some(placed);
+            self.behind = Some(seen);
         }
         Ok(())
     }
@@ -137,8 +151,8 @@ impl<I: ByteIn> Tokens<I> {
     pub fn is_behind(&self, mark: Mark) -> bool
         ensures { result ≡ is_mark mark (first (after self.now.ahead)) }
     {
-        match &self.behind {
-            Some(placed) => mark.is(&placed.token),
+        match self.behind {
+            Some(seen) => mark.is(seen.lexeme),
             None => false,
         }
     }

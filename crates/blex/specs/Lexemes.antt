@@ -5,7 +5,10 @@ use Rattle.blex.specs.declared.lexeme.Lexeme.{Lexeme}
 use Rattle.blex.specs.declared.lexeme.Lexeme.TheVariants as lexeme
 use Rattle.blex.specs.declared.token.Token.{Token}
 use Rattle.blex.specs.declared.token.Token.TheVariants as token
+use Rattle.blex.specs.declared.lexeme.Seen.{Seen}
+use Rattle.blex.specs.declared.token.Placed.{Placed}
 use Rattle.blex.specs.Pieces.{string_token}
+use Rattle.blex.specs.Tokens.{placed}
 
 -- the token of a lexeme, and of the characters where it is a string
 abbrev pub token_of_lexeme : Lexeme → List ℕ → Token
@@ -31,6 +34,10 @@ token_of_lexeme lexeme.OpenBrace characters = token.OpenBrace
 token_of_lexeme lexeme.CloseBrace characters = token.CloseBrace
 token_of_lexeme (lexeme.Bad letters) characters = token.Bad letters
 token_of_lexeme lexeme.End characters = token.End
+
+-- the token that was seen, and its line
+abbrev pub placed_of : List ℕ → Seen → Placed
+placed_of characters seen = placed (token_of_lexeme seen.lexeme characters) seen.line
 
 -- the lexeme stands for the token, whatever the characters: it is no string
 abbrev pub StandsFor : Lexeme → Token → Type 0

@@ -1,23 +1,32 @@
 //! Tokens with the characters of a string kept apart.
-ghost use Rattle.std.specs.Prelude.{◌≡◌};
+ghost use Rattle.std.specs.Prelude.{ℕ, List, ◌≡◌, ◌≢◌};
+ghost use Rattle.blex.specs.declared.lexeme.Lexeme.TheVariants as lexeme;
 ghost use Rattle.blex.specs.Lexemes.{token_of_lexeme};
+ghost use Rattle.blex.specs.Tokens.{last_of};
 
-use crate::token::{Keyword, Letters, STRING_LEN, Token};
+use crate::token::{Keyword, Last, Letters, STRING_LEN, Token};
 use arrayvec::ArrayVec;
 use bword::{BinOp, Name};
 
 /// A token with the characters of a string kept apart, so that it is small and `Copy`.
-#[derive(Clone, Copy)]
-pub(crate) enum Lexeme {
+#[derive(Clone, Copy, Debug, PartialEq, Eq)]
+pub enum Lexeme {
     Name(Name),
     Keyword(Keyword),
     Number(u16),
+    /// One character in the low byte, or the first of two in the high byte.
     Character(u16),
+    /// A string, whose characters the lexer has.
     String,
+    /// One of the fifteen binary operators; `-`, `*` and `&` stand before an operand too.
     Operator(BinOp),
+    /// `=`, or `=` and a binary operator.
     Assign(Option<BinOp>),
+    /// `!`
     Not,
+    /// `++`
     Increment,
+    /// `--`
     Decrement,
     Question,
     Colon,
@@ -29,14 +38,23 @@ pub(crate) enum Lexeme {
     CloseBracket,
     OpenBrace,
     CloseBrace,
+    /// A piece that fits nothing, which ends the tokens.
     Bad(Letters),
     End,
 }
 
+/// A lexeme and the line of its first byte, from 1.
+#[derive(Clone, Copy, Debug, PartialEq, Eq)]
+pub struct Seen {
+    pub lexeme: Lexeme,
+    pub line: u64,
+}
+
 impl Lexeme {
     /// The token, which for a string takes the characters.
-    pub fn token(self, characters: &mut ArrayVec<u8, STRING_LEN>) -> Token
-        ensures { result ≡ token_of_lexeme self characters.old.items }
+    pub(crate) fn token(self, characters: &mut ArrayVec<u8, STRING_LEN>) -> Token
+        ensures token { result ≡ token_of_lexeme self characters.old.items }
+        ensures kept { self ≢ lexeme.String → characters.new ≡ characters.old }
     {
         match self {
             Lexeme::Name(name) => Token::Name(name),
@@ -61,6 +79,17 @@ impl Lexeme {
             Lexeme::CloseBrace => Token::CloseBrace,
             Lexeme::Bad(letters) => Token::Bad(letters),
             Lexeme::End => Token::End,
+        }
+    }
+
+    /// This one, if no other token comes behind it.
+    pub(crate) fn last(self) -> Option<Last>
+        ensures { (characters : List ℕ) → result ≡ last_of (token_of_lexeme self characters) }
+    {
+        match self {
+            Lexeme::Bad(letters) => Some(Last::Bad(letters)),
+            Lexeme::End => Some(Last::End),
+            _ => None,
         }
     }
 }

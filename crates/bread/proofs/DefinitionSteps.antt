@@ -42,9 +42,9 @@ pub value_ends : (made : List Ival → Ival) (v : coded.Ival) (old : Tokens) (st
 value_ends made v old start d0 (Ok o) new draft is same t = (λ before. record { tree = made before; runs = run_past {g = λ v. Got (made before) v} t.0 (λ u e l. is before u e l); made = t.1 ∙ sym (same before) }, t.0.single, less t.0)
 value_ends made v old start d0 (Err why) new draft is same t = λ before. device old new (ival before) why t.0 t.1
 
-pub number_ends : (n : ℕ) (old : Tokens) (start : Draft) (r : Result (Unit {0}) Halt) (new : Tokens) (draft : Draft) (t : Token) → t ≡ first old.ahead → (t ≡ token.Number n) ⊎ (t ≡ token.Character n) → TakesValue (ival_code.Number n) old start r new draft → Compiles ival (λ v d. ival_done d v) old start r new draft
-number_ends n old start r new draft t e (inl k) h = value_ends (λ before. Ival_constant (Number n)) (ival_code.Number n) old start start r new draft (λ before u f l. ap (λ t. ival_at (values_words before) t u) (f ∙ sym e ∙ k)) (λ before. refl) h
-number_ends n old start r new draft t e (inr k) h = value_ends (λ before. Ival_constant (Character n)) (ival_code.Number n) old start start r new draft (λ before u f l. ap (λ t. ival_at (values_words before) t u) (f ∙ sym e ∙ k)) (λ before. refl) h
+pub number_ends : (n : ℕ) (old : Tokens) (start : Draft) (r : Result (Unit {0}) Halt) (new : Tokens) (draft : Draft) → (first old.ahead ≡ token.Number n) ⊎ (first old.ahead ≡ token.Character n) → TakesValue (ival_code.Number n) old start r new draft → Compiles ival (λ v d. ival_done d v) old start r new draft
+number_ends n old start r new draft (inl k) h = value_ends (λ before. Ival_constant (Number n)) (ival_code.Number n) old start start r new draft (λ before u f l. ap (λ t. ival_at (values_words before) t u) (f ∙ k)) (λ before. refl) h
+number_ends n old start r new draft (inr k) h = value_ends (λ before. Ival_constant (Character n)) (ival_code.Number n) old start start r new draft (λ before u f l. ap (λ t. ival_at (values_words before) t u) (f ∙ k)) (λ before. refl) h
 
 pub name_ends : (x : List ℕ) (old : Tokens) (start : Draft) (r : Result (Unit {0}) Halt) (new : Tokens) (draft : Draft) → first old.ahead ≡ token.Name x → TakesValue (ival_code.Name x) old start r new draft → Compiles ival (λ v d. ival_done d v) old start r new draft
 name_ends x old start r new draft k h = value_ends (λ before. Ival_name (record { text = x; line = line_of old.ahead })) (ival_code.Name x) old start start r new draft (λ before u f l. ap (λ t. ival_at (values_words before) t u) (f ∙ k) ∙ ap (λ n. Got (Ival_name (record { text = x; line = n })) (after u)) l) (λ before. refl) h

@@ -1,7 +1,11 @@
 -- What taking one token reads.
-use Rattle.std.proofs.Common.{◌≡◌, ℕ, ◌<◌, ◌≤◌, Ok, refl, sym, ap, ◌∙◌, ◌⊎◌, inl, inr, arith}
+use Rattle.std.proofs.Common.{◌≡◌, ℕ, ◌<◌, ◌≤◌, List, Ok, refl, ap, ◌∙◌, ◌⊎◌, inl, inr, arith}
+use Rattle.blex.specs.declared.lexeme.Lexeme.{Lexeme}
+use Rattle.blex.specs.declared.lexeme.Lexeme.TheVariants as lexeme
 use Rattle.blex.specs.declared.token.Token.{Token}
 use Rattle.blex.specs.declared.token.Token.TheVariants as token
+use Rattle.blex.specs.Lexemes.{token_of_lexeme}
+use Rattle.blex.proofs.LexemeSteps.{token_here}
 use Rattle.btree.specs.Expression.{Number, Character}
 use Rattle.btree.specs.Reading.{Got, first}
 use Rattle.btree.specs.StatementReader.{constant_at}
@@ -18,9 +22,17 @@ number_found {a} {b} n h k = (record { tree = Number n; runs = run_past {g = λ 
 character_found : {a b : Tokens} (n : ℕ) → Advances a b → first a.ahead ≡ token.Character n → FindsConstant a (Ok n) b
 character_found {a} {b} n h k = (record { tree = Character n; runs = run_past {g = λ v. Got (Character n) v} h (λ u e l. ap (λ t. constant_at t u) (e ∙ k)); value = refl }, h.single.0, less h)
 
-pub constant_found : {a b : Tokens} (t : Token) (n : ℕ) → Advances a b → t ≡ first a.ahead → (t ≡ token.Number n) ⊎ (t ≡ token.Character n) → FindsConstant a (Ok n) b
-constant_found t n h e (inl k) = number_found n h (sym e ∙ k)
-constant_found t n h e (inr k) = character_found n h (sym e ∙ k)
+-- a number or a character
+pub constant_here : {l : Lexeme} {t : Token} {n : ℕ} (text : List ℕ) → token_of_lexeme l text ≡ t → (l ≡ lexeme.Number n) ⊎ (l ≡ lexeme.Character n) → (t ≡ token.Number n) ⊎ (t ≡ token.Character n)
+constant_here text e (inl k) = inl (token_here text e k)
+constant_here text e (inr k) = inr (token_here text e k)
+
+found_either : {a b : Tokens} (n : ℕ) → Advances a b → (first a.ahead ≡ token.Number n) ⊎ (first a.ahead ≡ token.Character n) → FindsConstant a (Ok n) b
+found_either n h (inl k) = number_found n h k
+found_either n h (inr k) = character_found n h k
+
+pub constant_found : {a b : Tokens} (l : Lexeme) (n : ℕ) → Advances a b → token_of_lexeme l a.text ≡ first a.ahead → (l ≡ lexeme.Number n) ⊎ (l ≡ lexeme.Character n) → FindsConstant a (Ok n) b
+constant_found {a} {b} l n h e k = found_either n h (constant_here a.text e k)
 
 pub both_fall : {l m n : ℕ} → m < l → n < m → n < l
 both_fall h k = omega (arith, h, k)

@@ -19,7 +19,7 @@ use crate::take::{Word, name, size, take};
 use bcode::{Instr, Ival};
 use bemit::Draft;
 use bexpr::{Halt, Mark, Parser};
-use blex::{About, Diagnostic, Letters, Token};
+use blex::{About, Diagnostic, Letters, Lexeme};
 use bword::ByteIn;
 
 // The greatest level of nesting.
@@ -63,12 +63,12 @@ fn behind_name<I: ByteIn>(parser: &mut Parser<I>) -> Result<Kind, Halt>
     requires { IsLoaded parser.old.tokens }
     ensures { FindsKind behind_name parser.old.tokens parser.old.draft result parser.new.tokens parser.new.draft }
 {
-    match parser.tokens.token() {
-        Token::OpenBracket => {
+    match parser.tokens.lexeme() {
+        Lexeme::OpenBracket => {
             parser.tokens.advance()?;
             vector(parser)
         }
-        Token::OpenParen => {
+        Lexeme::OpenParen => {
             parser.tokens.advance()?;
             function(parser)
         }
@@ -161,17 +161,11 @@ fn value<I: ByteIn>(parser: &mut Parser<I>) -> Result<(), Halt>
     requires { IsLoaded parser.old.tokens }
     ensures { Compiles ival (λ v d. ival_done d v) parser.old.tokens parser.old.draft result parser.new.tokens parser.new.draft }
 {
-    match parser.tokens.token() {
-        Token::Number(word) | Token::Character(word) => {
-            let word = *word;
-            valued(parser, Ival::Number(word))
-        }
-        Token::Name(name) => {
-            let name = *name;
-            valued(parser, Ival::Name(name))
-        }
-        Token::String(bytes) => {
-            let offset = parser.draft.string(bytes.as_slice());
+    match parser.tokens.lexeme() {
+        Lexeme::Number(word) | Lexeme::Character(word) => valued(parser, Ival::Number(word)),
+        Lexeme::Name(name) => valued(parser, Ival::Name(name)),
+        Lexeme::String => {
+            let offset = parser.draft.string(parser.tokens.string());
             valued(parser, Ival::Text(offset))
         }
         _ => Err(Halt::Fault),

@@ -12,7 +12,7 @@ ghost use Rattle.bread.specs.Compiling.{alone, Compiles, FindsHeading};
 
 use crate::take::{constant, name, size, take};
 use bexpr::{Halt, Mark, Parser};
-use blex::{Keyword, Token};
+use blex::{Keyword, Lexeme};
 use bword::{ByteIn, Name};
 
 // A name of `auto`.
@@ -122,15 +122,9 @@ pub fn heading<I: ByteIn>(parser: &mut Parser<I>) -> Result<bool, Halt>
     requires { IsLoaded parser.old.tokens }
     ensures { FindsHeading parser.old.tokens parser.old.draft result parser.new.tokens parser.new.draft }
 {
-    match parser.tokens.token() {
-        Token::Keyword(keyword) => {
-            let keyword = *keyword;
-            headed(parser, keyword)
-        }
-        Token::Name(name) => {
-            let name = *name;
-            label(parser, name)
-        }
+    match parser.tokens.lexeme() {
+        Lexeme::Keyword(keyword) => headed(parser, keyword),
+        Lexeme::Name(name) => label(parser, name),
         _ => Ok(false),
     }
 }

@@ -1,7 +1,8 @@
 //! Reading a statement and compiling it at once.
-ghost use Rattle.std.specs.Prelude.{◌≡◌, ◌+◌, ◌≤◌, false, Some};
+ghost use Rattle.std.specs.Prelude.{ℕ, List, ◌≡◌, ◌+◌, ◌≤◌, false, Some};
 ghost use Rattle.std.specs.Option.{is_some};
 ghost use Rattle.blex.specs.Lexers.{is_last};
+ghost use Rattle.blex.specs.Lexemes.{token_of_lexeme};
 ghost use Rattle.blex.specs.declared.token.Token.TheVariants as token;
 ghost use Rattle.btree.specs.Reading.{first};
 ghost use Rattle.btree.specs.Statement.{Goto};
@@ -20,7 +21,7 @@ use crate::take::take;
 use bcode::Instr;
 use bemit::Draft;
 use bexpr::{Halt, Mark, Parser};
-use blex::{Keyword, Token};
+use blex::{Keyword, Lexeme};
 use bword::ByteIn;
 
 // A rvalue and a semicolon, and then an instruction.
@@ -113,10 +114,10 @@ fn close_switch(draft: &mut Draft, jump: u16)
 }
 
 // Whether a token begins a further statement of a body, if anything does.
-fn goes_on(token: &Token) -> bool
-    ensures { result ≡ is_some (goes_on token.now) }
+fn goes_on(lexeme: Lexeme) -> bool
+    ensures { (text : List ℕ) → result ≡ is_some (goes_on (token_of_lexeme lexeme text)) }
 {
-    !matches!(token, Token::CloseBrace | Token::End)
+    !matches!(lexeme, Lexeme::CloseBrace | Lexeme::End)
 }
 
 /// Reads a statement with its headings, where so many levels of nesting are left.
@@ -135,13 +136,10 @@ fn unheaded<I: ByteIn>(parser: &mut Parser<I>, room: u8) -> Result<(), Halt>
     requires { IsLoaded parser.old.tokens }
     ensures { Compiles (unheaded room) done parser.old.tokens parser.old.draft result parser.new.tokens parser.new.draft }
 {
-    match parser.tokens.token() {
-        Token::OpenBrace => compound(parser, room),
-        Token::Semicolon => take(parser, Mark::Semicolon),
-        Token::Keyword(keyword) => {
-            let keyword = *keyword;
-            keyed(parser, room, keyword)
-        }
+    match parser.tokens.lexeme() {
+        Lexeme::OpenBrace => compound(parser, room),
+        Lexeme::Semicolon => take(parser, Mark::Semicolon),
+        Lexeme::Keyword(keyword) => keyed(parser, room, keyword),
         _ => ended(parser, room, Instr::Pop),
     }
 }
@@ -183,7 +181,7 @@ fn body<I: ByteIn>(parser: &mut Parser<I>, room: u8) -> Result<(), Halt>
     requires { IsLoaded parser.old.tokens }
     ensures { Compiles (statements room) all_done parser.old.tokens parser.old.draft result parser.new.tokens parser.new.draft }
 {
-    'statements: while goes_on(parser.tokens.token()) {
+    'statements: while goes_on(parser.tokens.lexeme()) {
         statement(parser, room)?;
     }
     take(parser, Mark::CloseBrace)

@@ -5,7 +5,7 @@ ghost use Rattle.bexpr.specs.Marks.{is_mark};
 ghost use Rattle.bread.specs.Compiling.{Takes, FindsName, FindsSize, FindsConstant};
 
 use bexpr::{Halt, Mark, Parser};
-use blex::Token;
+use blex::Lexeme;
 use bword::{ByteIn, Name};
 
 /// A name and its line.
@@ -22,8 +22,8 @@ pub fn name<I: ByteIn>(parser: &mut Parser<I>) -> Result<Word, Halt>
     ensures draft { parser.new.draft ≡ parser.old.draft }
 {
     let line = parser.tokens.line();
-    let name = match parser.tokens.token() {
-        Token::Name(name) => *name,
+    let name = match parser.tokens.lexeme() {
+        Lexeme::Name(name) => name,
         _ => return Err(Halt::Fault),
     };
     parser.tokens.advance()?;
@@ -36,8 +36,8 @@ pub fn size<I: ByteIn>(parser: &mut Parser<I>) -> Result<Option<u16>, Halt>
     ensures tokens { FindsSize parser.old.tokens result parser.new.tokens }
     ensures draft { parser.new.draft ≡ parser.old.draft }
 {
-    let size = match parser.tokens.token() {
-        Token::Number(size) => *size,
+    let size = match parser.tokens.lexeme() {
+        Lexeme::Number(size) => size,
         _ => return Ok(None),
     };
     parser.tokens.advance()?;
@@ -50,8 +50,8 @@ pub fn constant<I: ByteIn>(parser: &mut Parser<I>) -> Result<u16, Halt>
     ensures tokens { FindsConstant parser.old.tokens result parser.new.tokens }
     ensures draft { parser.new.draft ≡ parser.old.draft }
 {
-    let value = match parser.tokens.token() {
-        Token::Number(value) | Token::Character(value) => *value,
+    let value = match parser.tokens.lexeme() {
+        Lexeme::Number(value) | Lexeme::Character(value) => value,
         _ => return Err(Halt::Fault),
     };
     parser.tokens.advance()?;

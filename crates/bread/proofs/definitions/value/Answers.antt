@@ -1,16 +1,18 @@
 use Rattle.std.proofs.Common.{sym, ap, ◌∙◌}
+use Rattle.blex.proofs.LexemeSteps.{token_here}
 use Rattle.bcode.specs.declared.instr.Ival.TheVariants as ival
 use Rattle.btree.specs.Definition.{Ival_text, values_words}
 use Rattle.btree.specs.DefinitionReader.{ival_at}
 use Rattle.bemit.specs.Drafts.{valued, stringed, offset_of}
 use Rattle.bread.proofs.DefinitionSteps.{number_ends, name_ends, value_ends}
+use Rattle.bread.proofs.Takings.{constant_here}
 use Rattle.bread.proofs.definitions.value.Goals as goal
 
 pub returns-in-Number : goal.returns-in-Number
-returns-in-Number g c = number_ends c.in-Number.word _ _ c.valued-in-Number.result _ _ c.token.result.now c.token.ensures c.in-Number.is c.valued-in-Number.ensures
+returns-in-Number g c = number_ends c.in-Number.word _ _ c.valued-in-Number.result _ _ (constant_here c.args.parser.now.tokens.text c.lexeme.ensures c.in-Number.is) c.valued-in-Number.ensures
 
 pub returns-in-Name : goal.returns-in-Name
-returns-in-Name g c = name_ends c.in-Name.name _ _ c.valued.result _ _ (sym c.token.ensures ∙ c.in-Name.is) c.valued.ensures
+returns-in-Name g c = name_ends c.in-Name.name _ _ c.valued.result _ _ (token_here c.args.parser.now.tokens.text c.lexeme.ensures c.in-Name.is) c.valued.ensures
 
 pub returns-in-String : goal.returns-in-String
-returns-in-String g c = let d = c.args.parser.now.draft in value_ends (λ before. Ival_text c.in-String.bytes.items (values_words before)) (ival.Text c.string-offset.result) c.args.parser.now.tokens d c.string-offset.new.self c.valued-in-String.result _ _ (λ before u f l. ap (λ t. ival_at (values_words before) t u) (f ∙ sym c.token.ensures ∙ c.in-String.is)) (λ before. sym (ap (λ o. valued (ival.Text o) c.string-offset.new.self) c.string-offset.ensures.offset ∙ ap (valued (ival.Text (offset_of d))) (c.string-offset.ensures.draft ∙ ap (λ b. stringed b d) c.as_slice.ensures.value))) c.valued-in-String.ensures
+returns-in-String g c = let d = c.args.parser.now.draft in let text = c.args.parser.now.tokens.text in value_ends (λ before. Ival_text text (values_words before)) (ival.Text c.string-offset.result) c.args.parser.now.tokens d c.string-offset.new.self c.valued-in-String.result _ _ (λ before u f l. ap (λ t. ival_at (values_words before) t u) (f ∙ token_here text c.lexeme.ensures c.in-String.is)) (λ before. sym (ap (λ o. valued (ival.Text o) c.string-offset.new.self) c.string-offset.ensures.offset ∙ ap (valued (ival.Text (offset_of d))) (c.string-offset.ensures.draft ∙ ap (λ b. stringed b d) c.string.ensures))) c.valued-in-String.ensures

@@ -1,6 +1,7 @@
 use Rattle.std.proofs.Common.{◌+◌, sym, ap, ◌∙◌}
 use Rattle.std.specs.Option.{is_some}
 use Rattle.blex.specs.declared.token.Token.TheVariants as token
+use Rattle.blex.proofs.LexemeSteps.{token_here, lexeme_here}
 use Rattle.btree.specs.Expression.{words}
 use Rattle.btree.specs.Statement.{Goto, statement_words, body_words}
 use Rattle.btree.specs.StatementReader.{compound, switched, chosen, looped, goes_on, level}
@@ -28,13 +29,13 @@ pub statement-returns : goal.statement-returns
 statement-returns g t c = headings_end c.headings.invariant c.args.room _ _ (rw c.if-branch.false at c.in_ok-heading.ensures) c.unheaded.result _ _ c.unheaded.ensures
 
 pub unheaded-returns-in-OpenBrace : goal.unheaded-returns-in-OpenBrace
-unheaded-returns-in-OpenBrace g t c = compiles_as (unheaded c.args.room) (compound (level c.args.room)) done _ _ c.compound.result _ _ c.requires (at_brace c.args.room c.args.parser.now.tokens (sym c.token.ensures ∙ c.in-OpenBrace.is)) c.compound.ensures
+unheaded-returns-in-OpenBrace g t c = compiles_as (unheaded c.args.room) (compound (level c.args.room)) done _ _ c.compound.result _ _ c.requires (at_brace c.args.room c.args.parser.now.tokens (token_here c.args.parser.now.tokens.text c.lexeme.ensures c.in-OpenBrace.is)) c.compound.ensures
 
 pub unheaded-returns-in-Semicolon : goal.unheaded-returns-in-Semicolon
-unheaded-returns-in-Semicolon g t c = empty_ends c.args.room _ _ c.take.result _ _ c.requires (sym c.token.ensures ∙ c.in-Semicolon.is) c.take.ensures.tokens c.take.ensures.draft
+unheaded-returns-in-Semicolon g t c = empty_ends c.args.room _ _ c.take.result _ _ c.requires (token_here c.args.parser.now.tokens.text c.lexeme.ensures c.in-Semicolon.is) c.take.ensures.tokens c.take.ensures.draft
 
 pub unheaded-returns-in_default : goal.unheaded-returns-in_default
-unheaded-returns-in_default g t c = plain_ends c.args.room _ _ c.ended.result _ _ c.requires (λ e. c.in_default.not-OpenBrace (c.token.ensures ∙ e)) (λ e. c.in_default.not-Semicolon (c.token.ensures ∙ e)) (λ k e. c.in_default.not-Keyword k (c.token.ensures ∙ e)) c.ended.ensures
+unheaded-returns-in_default g t c = plain_ends c.args.room _ _ c.ended.result _ _ c.requires (λ e. c.in_default.not-OpenBrace (lexeme_here c.lexeme.result c.args.parser.now.tokens.text (c.lexeme.ensures ∙ e))) (λ e. c.in_default.not-Semicolon (lexeme_here c.lexeme.result c.args.parser.now.tokens.text (c.lexeme.ensures ∙ e))) (λ k e. c.in_default.not-Keyword k (lexeme_here c.lexeme.result c.args.parser.now.tokens.text (c.lexeme.ensures ∙ e))) c.ended.ensures
 
 pub keyed-returns-in-If : goal.keyed-returns-in-If
 keyed-returns-in-If g t c = compiles_as (unheaded c.args.room) (conditional c.args.room) done _ _ c.conditional.result _ _ c.requires.loaded (at_if c.args.room c.args.parser.now.tokens (c.requires.keyword ∙ ap (λ k. token.Keyword k) c.in-If.is)) c.conditional.ensures
@@ -64,13 +65,13 @@ pub body-statements-init : goal.body-statements-init
 body-statements-init g t c = ((λ i. body_begins c.args.room i _ _ c.requires), c.requires)
 
 pub body-statements-preserved : goal.body-statements-preserved
-body-statements-preserved g t c = let b = c.statements.invariant in let e = c.in_ok-statement.ensures in ((λ i. body_goes c.args.room i _ _ _ _ (b.0 i) b.1 (sym (c.goes_on.ensures ∙ ap (λ t. is_some (goes_on t)) c.token.ensures) ∙ c.statements-test.true) _ _ (e.0 (i + body_words (b.0 i).body))), e.1.0)
+body-statements-preserved g t c = let b = c.statements.invariant in let e = c.in_ok-statement.ensures in ((λ i. body_goes c.args.room i _ _ _ _ (b.0 i) b.1 (sym (c.goes_on.ensures c.statements.parser.tokens.text ∙ ap (λ t. is_some (goes_on t)) c.lexeme.ensures) ∙ c.statements-test.true) _ _ (e.0 (i + body_words (b.0 i).body))), e.1.0)
 
 pub body-returns-in_err-statement : goal.body-returns-in_err-statement
-body-returns-in_err-statement g t c = let b = c.statements.invariant in compiles_err _ _ _ _ c.from_residual.result _ _ c.in_err-statement.field-0.0 c.from_residual.ensures.1 (λ i. body_halts c.args.room i _ _ _ _ (b.0 i) b.1 (sym (c.goes_on.ensures ∙ ap (λ t. is_some (goes_on t)) c.token.ensures) ∙ c.statements-test.true) _ c.in_err-statement.field-0.0 (c.in_err-statement.ensures (i + body_words (b.0 i).body)))
+body-returns-in_err-statement g t c = let b = c.statements.invariant in compiles_err _ _ _ _ c.from_residual.result _ _ c.in_err-statement.field-0.0 c.from_residual.ensures.1 (λ i. body_halts c.args.room i _ _ _ _ (b.0 i) b.1 (sym (c.goes_on.ensures c.statements.parser.tokens.text ∙ ap (λ t. is_some (goes_on t)) c.lexeme.ensures) ∙ c.statements-test.true) _ c.in_err-statement.field-0.0 (c.in_err-statement.ensures (i + body_words (b.0 i).body)))
 
 pub body-returns : goal.body-returns
-body-returns g t c = let b = c.statements.invariant in body_ends c.args.room _ _ _ _ b.0 b.1 (sym (c.goes_on.ensures ∙ ap (λ t. is_some (goes_on t)) c.token.ensures) ∙ c.statements-test.false) c.take.result _ _ c.take.ensures.tokens c.take.ensures.draft
+body-returns g t c = let b = c.statements.invariant in body_ends c.args.room _ _ _ _ b.0 b.1 (sym (c.goes_on.ensures c.statements.parser.tokens.text ∙ ap (λ t. is_some (goes_on t)) c.lexeme.ensures) ∙ c.statements-test.false) c.take.result _ _ c.take.ensures.tokens c.take.ensures.draft
 
 pub conditional-returns-in_err-room : goal.conditional-returns-in_err-room
 conditional-returns-in_err-room g t c = compiles_err _ _ _ _ c.from_residual.result _ _ c.in_err-room.field-0.0 c.from_residual.ensures.1 (λ i. tested_enter c.args.room i _ _ chosen c.in_err-room.field-0.0 c.in_err-room.ensures.tokens)

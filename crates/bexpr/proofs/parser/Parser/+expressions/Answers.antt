@@ -60,16 +60,16 @@ pub chain-returns-in_err-advance : goal.chain-returns-in_err-advance
 chain-returns-in_err-advance g t c = follows_err (chain (inner c.args.room) c.args.rank) false c.args.self.now.tokens c.advance.new.self c.args.self.now.draft c.load.new.draft c.from_residual-in_err-advance.result halt.Device c.from_residual-in_err-advance.ensures.1 (operator_stops c.args.room c.args.rank (c.args.rank - 1) c.args.self.now.tokens c.operators.self.tokens c.advance.new.self c.args.self.now.draft c.operators.self.draft c.operators.form halt.Device (rank_up c.args.rank c.if-rank-eq0.false) c.operators.invariant c.in_err-advance.ensures.err refl)
 
 pub chain-returns-in_err-right : goal.chain-returns-in_err-right
-chain-returns-in_err-right g t c = follows_err (chain (inner c.args.room) c.args.rank) false c.args.self.now.tokens c.chain-in-Some.new.self.tokens c.args.self.now.draft c.chain-in-Some.new.self.draft c.from_residual-in_err-right.result c.in_err-right.field-0.0 c.from_residual-in_err-right.ensures.1 (right_stops c.args.room c.args.rank (c.args.rank - 1) (rank_up c.args.rank c.if-rank-eq0.false) c.args.self.now.tokens c.operators.self.tokens c.args.self.now.draft c.operators.self.draft c.operators.form c.operators.invariant c.in-Some.op (sym (c.in-Some.ensures ∙ ap (op_at c.args.rank) c.token.ensures)) c.advance.new.self c.in_ok-advance.ensures.ok c.chain-in-Some.new.self.tokens c.in_err-right.field-0.0 c.in_err-right.ensures)
+chain-returns-in_err-right g t c = follows_err (chain (inner c.args.room) c.args.rank) false c.args.self.now.tokens c.chain-in-Some.new.self.tokens c.args.self.now.draft c.chain-in-Some.new.self.draft c.from_residual-in_err-right.result c.in_err-right.field-0.0 c.from_residual-in_err-right.ensures.1 (right_stops c.args.room c.args.rank (c.args.rank - 1) (rank_up c.args.rank c.if-rank-eq0.false) c.args.self.now.tokens c.operators.self.tokens c.args.self.now.draft c.operators.self.draft c.operators.form c.operators.invariant c.in-Some.op (sym (c.in-Some.ensures c.operators.self.tokens.text ∙ ap (op_at c.args.rank) c.lexeme.ensures)) c.advance.new.self c.in_ok-advance.ensures.ok c.chain-in-Some.new.self.tokens c.in_err-right.field-0.0 c.in_err-right.ensures)
 
 pub chain-operators-smaller : goal.chain-operators-smaller
 chain-operators-smaller g t c = let h : work c.chain-in-Some.new.self.tokens < work c.operators.self.tokens = omega (arith, c.in_ok-advance.ensures.ok.falls, (c.in_ok-right.ensures.0 0).runs.falls) in h
 
 pub chain-operators-preserved : goal.chain-operators-preserved
-chain-operators-preserved g t c = chain_goes c.args.room c.args.rank (c.args.rank - 1) (rank_up c.args.rank c.if-rank-eq0.false) c.args.self.now.tokens c.operators.self.tokens c.args.self.now.draft c.operators.self.draft c.operators.form c.operators.invariant c.in-Some.op (sym (c.in-Some.ensures ∙ ap (op_at c.args.rank) c.token.ensures)) c.advance.new.self c.in_ok-advance.ensures.ok c.chain-in-Some.new.self.tokens c.load.new.draft c.chain-in-Some.new.self.draft c.load-in-Some.new.draft c.emit.new.self c.in_ok-right.right c.load.ensures c.in_ok-right.ensures c.load-in-Some.ensures c.emit.ensures
+chain-operators-preserved g t c = chain_goes c.args.room c.args.rank (c.args.rank - 1) (rank_up c.args.rank c.if-rank-eq0.false) c.args.self.now.tokens c.operators.self.tokens c.args.self.now.draft c.operators.self.draft c.operators.form c.operators.invariant c.in-Some.op (sym (c.in-Some.ensures c.operators.self.tokens.text ∙ ap (op_at c.args.rank) c.lexeme.ensures)) c.advance.new.self c.in_ok-advance.ensures.ok c.chain-in-Some.new.self.tokens c.load.new.draft c.chain-in-Some.new.self.draft c.load-in-Some.new.draft c.emit.new.self c.in_ok-right.right c.load.ensures c.in_ok-right.ensures c.load-in-Some.ensures c.emit.ensures
 
 pub chain-returns : goal.chain-returns
-chain-returns g t c = chain_ends c.args.room c.args.rank (c.args.rank - 1) (rank_up c.args.rank c.if-rank-eq0.false) c.args.self.now.tokens c.operators.self.tokens c.args.self.now.draft c.operators.self.draft c.operators.form c.operators.invariant (sym (c.in_default.ensures ∙ ap (op_at c.args.rank) c.token.ensures))
+chain-returns g t c = chain_ends c.args.room c.args.rank (c.args.rank - 1) (rank_up c.args.rank c.if-rank-eq0.false) c.args.self.now.tokens c.operators.self.tokens c.args.self.now.draft c.operators.self.draft c.operators.form c.operators.invariant (sym (c.in_default.ensures c.operators.self.tokens.text ∙ ap (op_at c.args.rank) c.lexeme.ensures))
 
 pub conditional-returns-in_err-evaluate : goal.conditional-returns-in_err-evaluate
 conditional-returns-in_err-evaluate g t c = continues_err (conditional (inner c.args.room)) false false c.args.form c.args.self.now.tokens c.evaluate.new.self.tokens c.args.self.now.draft c.evaluate.new.self.draft c.from_residual-in_err-evaluate.result c.in_err-evaluate.field-0.0 c.from_residual-in_err-evaluate.ensures.1 (arm_stops c.args.room c.in_ok-room.room c.args.self.now.tokens c.enter.new.self.tokens c.in_ok-room.ensures.tokens (sym c.if-not-is_at.ensures) c.evaluate.new.self.tokens c.in_err-evaluate.field-0.0 c.in_err-evaluate.ensures)
@@ -90,13 +90,13 @@ pub evaluate-returns : goal.evaluate-returns
 evaluate-returns g t c = evaluate_took c.args.room c.args.self.now.tokens c.rvalue.new.self.tokens c.args.self.now.draft c.rvalue.new.self.draft c.load.new.draft c.in_ok-form.form c.in_ok-form.ensures c.load.ensures
 
 pub operand-returns-in_default : goal.operand-returns-in_default
-operand-returns-in_default g t c = operand_none c.args.room c.args.self.now.tokens c.postfix.new.self.tokens c.args.self.now.draft c.postfix.new.self.draft c.postfix.result c.requires (sym (c.in_default.ensures ∙ ap prefix_op c.token.ensures)) c.postfix.ensures
+operand-returns-in_default g t c = operand_none c.args.room c.args.self.now.tokens c.postfix.new.self.tokens c.args.self.now.draft c.postfix.new.self.draft c.postfix.result c.requires (sym (c.in_default.ensures c.args.self.now.tokens.text ∙ ap prefix_op c.lexeme.ensures)) c.postfix.ensures
 
 pub operand-returns-in_err-form : goal.operand-returns-in_err-form
-operand-returns-in_err-form g t c = follows_err (operand (inner c.args.room)) false c.args.self.now.tokens c.operand.new.self.tokens c.args.self.now.draft c.operand.new.self.draft c.from_residual-in_err-form.result c.in_err-form.field-0.0 c.from_residual-in_err-form.ensures.1 (prefix_stops c.args.room c.in_ok-room.room (prefix_meant c.in-Some.op) c.args.self.now.tokens c.enter.new.self.tokens c.in_ok-room.ensures.tokens (sym (c.in-Some.ensures ∙ ap prefix_op c.token.ensures)) c.operand.new.self.tokens c.in_err-form.field-0.0 c.in_err-form.ensures)
+operand-returns-in_err-form g t c = follows_err (operand (inner c.args.room)) false c.args.self.now.tokens c.operand.new.self.tokens c.args.self.now.draft c.operand.new.self.draft c.from_residual-in_err-form.result c.in_err-form.field-0.0 c.from_residual-in_err-form.ensures.1 (prefix_stops c.args.room c.in_ok-room.room (prefix_meant c.in-Some.op) c.args.self.now.tokens c.enter.new.self.tokens c.in_ok-room.ensures.tokens (sym (c.in-Some.ensures c.args.self.now.tokens.text ∙ ap prefix_op c.lexeme.ensures)) c.operand.new.self.tokens c.in_err-form.field-0.0 c.in_err-form.ensures)
 
 pub operand-returns : goal.operand-returns
-operand-returns g t c = prefix_took c.args.room c.in_ok-room.room (prefix_meant c.in-Some.op) c.args.self.now.tokens c.enter.new.self.tokens c.in_ok-room.ensures.tokens (sym (c.in-Some.ensures ∙ ap prefix_op c.token.ensures)) c.operand.new.self.tokens c.args.self.now.draft c.enter.new.self.draft c.operand.new.self.draft c.prefix.new.draft c.in_ok-form.form c.prefix.result c.line-line.result c.in_ok-room.ensures.draft c.in_ok-form.ensures c.line-line.ensures c.prefix.ensures.draft (prefix_leaves c.in-Some.op c.prefix.result c.prefix.ensures.form)
+operand-returns g t c = prefix_took c.args.room c.in_ok-room.room (prefix_meant c.in-Some.op) c.args.self.now.tokens c.enter.new.self.tokens c.in_ok-room.ensures.tokens (sym (c.in-Some.ensures c.args.self.now.tokens.text ∙ ap prefix_op c.lexeme.ensures)) c.operand.new.self.tokens c.args.self.now.draft c.enter.new.self.draft c.operand.new.self.draft c.prefix.new.draft c.in_ok-form.form c.prefix.result c.line-line.result c.in_ok-room.ensures.draft c.in_ok-form.ensures c.line-line.ensures c.prefix.ensures.draft (prefix_leaves c.in-Some.op c.prefix.result c.prefix.ensures.form)
 
 pub postfix-returns-in_err-form : goal.postfix-returns-in_err-form
 postfix-returns-in_err-form g t c = follows_err (postfix (inner c.args.room)) false c.args.self.now.tokens c.primary.new.self.tokens c.args.self.now.draft c.primary.new.self.draft c.from_residual.result c.in_err-form.field-0.0 c.from_residual.ensures.1 (λ off. halt_bind c.args.self.now.tokens (primary (inner c.args.room) off) (suffixes c.args.room off) c.in_err-form.field-0.0 c.primary.new.self.tokens (c.in_err-form.ensures off))
@@ -105,28 +105,28 @@ pub postfix-suffixes-init : goal.postfix-suffixes-init
 postfix-suffixes-init g t c = postfix_begins c.args.room c.args.self.now.tokens c.primary.new.self.tokens c.args.self.now.draft c.primary.new.self.draft c.in_ok-form.form c.in_ok-form.ensures
 
 pub postfix-returns-in_err-form-2 : goal.postfix-returns-in_err-form-2
-postfix-returns-in_err-form-2 g t c = follows_err (postfix (inner c.args.room)) false c.args.self.now.tokens c.suffixed.new.self.tokens c.args.self.now.draft c.suffixed.new.self.draft c.from_residual-in_err-form-2.result c.in_err-form-2.field-0.0 c.from_residual-in_err-form-2.ensures.1 (postfix_stops c.args.room c.args.self.now.tokens c.suffixes.self.tokens c.args.self.now.draft c.suffixes.self.draft c.suffixes.form c.suffixes.invariant (suffix_meant c.in-Some.next) (sym (c.in-Some.ensures ∙ ap suffix c.token.ensures)) c.suffixed.new.self.tokens c.in_err-form-2.field-0.0 c.in_err-form-2.ensures.tree)
+postfix-returns-in_err-form-2 g t c = follows_err (postfix (inner c.args.room)) false c.args.self.now.tokens c.suffixed.new.self.tokens c.args.self.now.draft c.suffixed.new.self.draft c.from_residual-in_err-form-2.result c.in_err-form-2.field-0.0 c.from_residual-in_err-form-2.ensures.1 (postfix_stops c.args.room c.args.self.now.tokens c.suffixes.self.tokens c.args.self.now.draft c.suffixes.self.draft c.suffixes.form c.suffixes.invariant (suffix_meant c.in-Some.next) (sym (c.in-Some.ensures c.suffixes.self.tokens.text ∙ ap suffix c.lexeme.ensures)) c.suffixed.new.self.tokens c.in_err-form-2.field-0.0 c.in_err-form-2.ensures.tree)
 
 pub postfix-suffixes-preserved : goal.postfix-suffixes-preserved
-postfix-suffixes-preserved g t c = postfix_goes c.args.room c.args.self.now.tokens c.suffixes.self.tokens c.args.self.now.draft c.suffixes.self.draft c.suffixes.form c.suffixes.invariant (suffix_meant c.in-Some.next) (sym (c.in-Some.ensures ∙ ap suffix c.token.ensures)) c.suffixed.new.self.tokens c.suffixed.new.self.draft c.in_ok-form-2.form c.in_ok-form-2.ensures.tree
+postfix-suffixes-preserved g t c = postfix_goes c.args.room c.args.self.now.tokens c.suffixes.self.tokens c.args.self.now.draft c.suffixes.self.draft c.suffixes.form c.suffixes.invariant (suffix_meant c.in-Some.next) (sym (c.in-Some.ensures c.suffixes.self.tokens.text ∙ ap suffix c.lexeme.ensures)) c.suffixed.new.self.tokens c.suffixed.new.self.draft c.in_ok-form-2.form c.in_ok-form-2.ensures.tree
 
 pub postfix-returns : goal.postfix-returns
-postfix-returns g t c = postfix_ends c.args.room c.args.self.now.tokens c.suffixes.self.tokens c.args.self.now.draft c.suffixes.self.draft c.suffixes.form c.suffixes.invariant (sym (c.in_default.ensures ∙ ap suffix c.token.ensures))
+postfix-returns g t c = postfix_ends c.args.room c.args.self.now.tokens c.suffixes.self.tokens c.args.self.now.draft c.suffixes.self.draft c.suffixes.form c.suffixes.invariant (sym (c.in_default.ensures c.suffixes.self.tokens.text ∙ ap suffix c.lexeme.ensures))
 
 pub rvalue-returns-in_err-form : goal.rvalue-returns-in_err-form
 rvalue-returns-in_err-form g t c = follows_err (reader c.args.room Rvalue) false c.args.self.now.tokens c.chain.new.self.tokens c.args.self.now.draft c.chain.new.self.draft c.from_residual.result c.in_err-form.field-0.0 c.from_residual.ensures.1 (rvalue_stops c.args.room c.args.self.now.tokens c.chain.new.self.tokens c.in_err-form.field-0.0 c.in_err-form.ensures)
 
 pub rvalue-returns-in_default : goal.rvalue-returns-in_default
-rvalue-returns-in_default g t c = rvalue_goes c.args.room c.args.self.now.tokens c.chain.new.self.tokens c.args.self.now.draft c.chain.new.self.draft c.in_ok-form.form c.in_ok-form.ensures (sym (c.in_default.ensures ∙ ap (assigned_at c.in_ok-form.form) c.token.ensures)) c.conditional.new.self.tokens c.conditional.new.self.draft c.conditional.result c.conditional.ensures
+rvalue-returns-in_default g t c = rvalue_goes c.args.room c.args.self.now.tokens c.chain.new.self.tokens c.args.self.now.draft c.chain.new.self.draft c.in_ok-form.form c.in_ok-form.ensures (sym (c.in_default.ensures c.chain.new.self.tokens.text ∙ ap (assigned_at c.in_ok-form.form) c.lexeme.ensures)) c.conditional.new.self.tokens c.conditional.new.self.draft c.conditional.result c.conditional.ensures
 
 pub rvalue-returns-in_err-room : goal.rvalue-returns-in_err-room
-rvalue-returns-in_err-room g t c = follows_err (reader c.args.room Rvalue) false c.args.self.now.tokens c.enter.new.self.tokens c.args.self.now.draft c.enter.new.self.draft c.from_residual-in_err-room.result c.in_err-room.field-0.0 c.from_residual-in_err-room.ensures.1 (assign_full c.args.room c.args.self.now.tokens c.chain.new.self.tokens c.args.self.now.draft c.chain.new.self.draft c.in_ok-form.form c.in_ok-form.ensures c.in-Some.op (sym (c.in-Some.ensures ∙ ap (assigned_at c.in_ok-form.form) c.token.ensures)) c.enter.new.self.tokens c.in_err-room.field-0.0 c.in_err-room.ensures.tokens)
+rvalue-returns-in_err-room g t c = follows_err (reader c.args.room Rvalue) false c.args.self.now.tokens c.enter.new.self.tokens c.args.self.now.draft c.enter.new.self.draft c.from_residual-in_err-room.result c.in_err-room.field-0.0 c.from_residual-in_err-room.ensures.1 (assign_full c.args.room c.args.self.now.tokens c.chain.new.self.tokens c.args.self.now.draft c.chain.new.self.draft c.in_ok-form.form c.in_ok-form.ensures c.in-Some.op (sym (c.in-Some.ensures c.chain.new.self.tokens.text ∙ ap (assigned_at c.in_ok-form.form) c.lexeme.ensures)) c.enter.new.self.tokens c.in_err-room.field-0.0 c.in_err-room.ensures.tokens)
 
 pub rvalue-returns-in_err-evaluate : goal.rvalue-returns-in_err-evaluate
-rvalue-returns-in_err-evaluate g t c = follows_err (reader c.args.room Rvalue) false c.args.self.now.tokens c.evaluate.new.self.tokens c.args.self.now.draft c.evaluate.new.self.draft c.from_residual-in_err-evaluate.result c.in_err-evaluate.field-0.0 c.from_residual-in_err-evaluate.ensures.1 (assign_stops c.args.room c.args.self.now.tokens c.chain.new.self.tokens c.args.self.now.draft c.chain.new.self.draft c.in_ok-form.form c.in_ok-form.ensures c.in-Some.op (sym (c.in-Some.ensures ∙ ap (assigned_at c.in_ok-form.form) c.token.ensures)) c.in_ok-room.room c.enter.new.self.tokens c.in_ok-room.ensures.tokens c.evaluate.new.self.tokens c.in_err-evaluate.field-0.0 c.in_err-evaluate.ensures)
+rvalue-returns-in_err-evaluate g t c = follows_err (reader c.args.room Rvalue) false c.args.self.now.tokens c.evaluate.new.self.tokens c.args.self.now.draft c.evaluate.new.self.draft c.from_residual-in_err-evaluate.result c.in_err-evaluate.field-0.0 c.from_residual-in_err-evaluate.ensures.1 (assign_stops c.args.room c.args.self.now.tokens c.chain.new.self.tokens c.args.self.now.draft c.chain.new.self.draft c.in_ok-form.form c.in_ok-form.ensures c.in-Some.op (sym (c.in-Some.ensures c.chain.new.self.tokens.text ∙ ap (assigned_at c.in_ok-form.form) c.lexeme.ensures)) c.in_ok-room.room c.enter.new.self.tokens c.in_ok-room.ensures.tokens c.evaluate.new.self.tokens c.in_err-evaluate.field-0.0 c.in_err-evaluate.ensures)
 
 pub rvalue-returns : goal.rvalue-returns
-rvalue-returns g t c = assign_took c.args.room c.args.self.now.tokens c.chain.new.self.tokens c.args.self.now.draft c.chain.new.self.draft c.in_ok-form.form c.in_ok-form.ensures c.in-Some.op (sym (c.in-Some.ensures ∙ ap (assigned_at c.in_ok-form.form) c.token.ensures)) c.in_ok-room.room c.enter.new.self.tokens c.in_ok-room.ensures.tokens c.evaluate.new.self.tokens c.want_lvalue.new.self c.enter.new.self.draft c.evaluate.new.self.draft c.emit.new.self c.line-line.result c.line-line.ensures c.want_lvalue.ensures c.in_ok-room.ensures.draft c.in_ok-evaluate.ensures (c.emit.ensures ∙ ap (λ i. emitted i c.evaluate.new.self.draft) c.assignment.ensures)
+rvalue-returns g t c = assign_took c.args.room c.args.self.now.tokens c.chain.new.self.tokens c.args.self.now.draft c.chain.new.self.draft c.in_ok-form.form c.in_ok-form.ensures c.in-Some.op (sym (c.in-Some.ensures c.chain.new.self.tokens.text ∙ ap (assigned_at c.in_ok-form.form) c.lexeme.ensures)) c.in_ok-room.room c.enter.new.self.tokens c.in_ok-room.ensures.tokens c.evaluate.new.self.tokens c.want_lvalue.new.self c.enter.new.self.draft c.evaluate.new.self.draft c.emit.new.self c.line-line.result c.line-line.ensures c.want_lvalue.ensures c.in_ok-room.ensures.draft c.in_ok-evaluate.ensures (c.emit.ensures ∙ ap (λ i. emitted i c.evaluate.new.self.draft) c.assignment.ensures)
 
 pub suffixed-returns-in_err-evaluate-in-Index-clause-tree : goal.suffixed-returns-in_err-evaluate-in-Index-clause-tree
 suffixed-returns-in_err-evaluate-in-Index-clause-tree g t c = as_suffix c.args.room (suffix_meant c.args.next) Index c.args.form c.args.self.now.tokens c.evaluate.new.self.tokens c.args.self.now.draft c.evaluate.new.self.draft c.from_residual-in_err-evaluate-in-Index.result (ap suffix_meant c.in-Index.is) (continues_err (λ off e. postfix_with (inner c.args.room) off Index e) (called_at c.args.self.now.tokens) (called_at c.evaluate.new.self.tokens) c.args.form c.args.self.now.tokens c.evaluate.new.self.tokens c.args.self.now.draft c.evaluate.new.self.draft c.from_residual-in_err-evaluate-in-Index.result c.in_err-evaluate-in-Index.field-0.0 c.from_residual-in_err-evaluate-in-Index.ensures.1 (index_stops c.args.room c.in_ok-room-in-Index.room c.args.self.now.tokens c.enter.new.self.tokens c.in_ok-room-in-Index.ensures.tokens c.evaluate.new.self.tokens c.in_err-evaluate-in-Index.field-0.0 c.in_err-evaluate-in-Index.ensures))

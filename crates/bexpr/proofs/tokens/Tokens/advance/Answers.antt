@@ -1,6 +1,9 @@
-use Rattle.bexpr.proofs.TokenSteps.{advance_ready}
+use Rattle.std.proofs.Common.{ap}
+use Rattle.bexpr.specs.Tokens.{token_seen}
+use Rattle.bexpr.proofs.TokenSteps.{advance_ready, seen_none}
 use Rattle.bexpr.proofs.tokens.Tokens.advance.Goals as goal
 
 pub look-requires : goal.look-requires
 look-requires g c =
-    advance_ready c.args.self.now c.self.inside.lexer c.self.inside.current c.self.inside.behind c.self.view_is c.self.invariant.near c.requires.loaded c.requires.goes_on _ _ c.take-self-inside.ensures.value c.take-self-inside.ensures.after
+    let text = c.self.inside.lexer.characters in
+    advance_ready c.args.self.now c.self.inside.lexer (token_seen c.self.inside.lexer.characters c.self.inside.current) (token_seen c.self.inside.lexer.characters c.self.inside.behind) c.self.view_is c.self.invariant.near c.requires.loaded c.requires.goes_on _ _ (ap (token_seen text) c.take-self-inside.ensures.value) (seen_none text _ c.take-self-inside.ensures.after)
