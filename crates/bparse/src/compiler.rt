@@ -8,7 +8,7 @@ use crate::step::{Step, Stop};
 use crate::view::view;
 use bcode::{write_definition, write_end};
 use bexpr::{Halt, Parser, Tokens};
-use blex::Token;
+use blex::Lexeme;
 use bread::{Names, definition};
 use bword::{ByteIn, ByteOut};
 use std::alloc::Global;
@@ -119,5 +119,5 @@ fn is_at_end<I: ByteIn>(tokens: &Tokens<I>) -> bool
     requires { IsLoaded tokens.now }
     ensures { result ≡ is_end (first tokens.now.ahead) }
 {
-    matches!(tokens.token(), Token::End)
+    matches!(tokens.lexeme(), Lexeme::End)
 }

@@ -3,7 +3,7 @@ ghost use Rattle.bexpr.specs.Tokens.{IsLoaded};
 
 use bcode::Instr;
 use bexpr::{Halt, Mark, Parser};
-use blex::{About, Diagnostic, Letters, Token};
+use blex::{About, Diagnostic, Letters, Lexeme};
 use bword::{BinOp, MemIn, Name};
 use std::test::Fail;
 
@@ -93,7 +93,7 @@ fn operators_bind_to_the_left(rt: HostRuntime) -> Result<(), Fail> {
 fn a_sum_is_not_assigned_to(rt: HostRuntime) -> Result<(), Fail> {
     let mut parser = parser(b"a+b = 1;", &["a", "b"])?;
     assert_eq!(rt; parser.evaluate(200), Ok(()));
-    assert_eq!(rt; *parser.tokens.token(), Token::Assign(None));
+    assert_eq!(rt; parser.tokens.lexeme(), Lexeme::Assign(None));
     assert_eq!(rt; parser.expect(Mark::Semicolon), Err(Halt::Fault));
     Ok(())
 }
