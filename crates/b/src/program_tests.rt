@@ -1,5 +1,6 @@
 //! Programs with what they write, the line and the status of their runs.
 use crate::go::go;
+use crate::source_tests::compares;
 use bparse::Status;
 use bword::{MemIn, MemOut};
 use std::process::Abort;
@@ -26,8 +27,7 @@ pub(crate) fn runs(
         &mut diag,
         steps,
     );
-    assert_eq!(rt; out.bytes(), output.as_bytes(), "the output of {source}");
-    assert_eq!(rt; diag.bytes(), line.as_bytes(), "the line of {source}");
+    compares(rt, source, &out, output, &diag, line);
     assert_eq!(rt; answer, status, "the status of {source}");
 }
 
