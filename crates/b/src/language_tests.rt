@@ -1,5 +1,5 @@
-//! The programs, sources and code texts of README.md and docs/, with what these pages say of them. Where one is changed,
-//! so is the other.
+//! The programs, sources and code texts of README.md and docs/, with what these pages say of them. Where one is
+//! changed, so is the other.
 use crate::program_tests::{STEPS, all_stop, all_write, runs};
 use crate::run_tests;
 use crate::source_tests::{all_compile, all_have_faults, compiles};
