@@ -1,8 +1,9 @@
-//! The programs, sources and code texts of README.md and docs/, with what these pages say of them. Where one is changed,
-//! so is the other.
+//! The programs, sources and code texts of README.md and docs/, with what these pages say of them. Where one is
+//! changed, so is the other.
 use crate::program_tests::{STEPS, all_stop, all_write, runs};
 use crate::run_tests;
 use crate::source_tests::{all_compile, all_have_faults, compiles};
+use std::alloc::{AllocError, Global};
 use std::test::Fail;
 
 #[test]
@@ -386,43 +387,47 @@ E
     all_compile(&rt, rows);
 }
 
-// The text, so many times over.
-fn push_many(text: &mut String, piece: &str, count: u8) -> Result<(), Fail> {
-    for _ in 0..count {
-        text.push_str(piece)?;
+// A function whose statement is 1 in so many parentheses.
+fn nested(alloc: Global, levels: u8) -> Result<String, AllocError> {
+    let mut source = String::from_str(alloc, "f()")?;
+    for _ in 0..levels {
+        source.push_str("(")?;
     }
-    Ok(())
+    source.push_str("1")?;
+    for _ in 0..levels {
+        source.push_str(")")?;
+    }
+    source.push_str(";")?;
+    Ok(source)
 }
 
 #[test]
 fn levels_of_nesting(rt: HostRuntime) -> Result<(), Fail> {
-    for (levels, code, line, status) in [
-        (200, "F f 0 0 0 0 4\nc 1\np\nc 0\nr\nE\n", "", 0),
-        (201, "", "sx 1\n", 1),
-    ] {
-        let mut source = String::from_str(rt.alloc(), "f()")?;
-        push_many(&mut source, "(", levels)?;
-        source.push_str("1")?;
-        push_many(&mut source, ")", levels)?;
-        source.push_str(";")?;
-        compiles(&rt, source.as_str(), code, line, status);
-    }
+    let deepest = nested(rt.alloc(), 200)?;
+    let code = "F f 0 0 0 0 4\nc 1\np\nc 0\nr\nE\n";
+    compiles(&rt, deepest.as_str(), code, "", 0);
+    let too_deep = nested(rt.alloc(), 201)?;
+    compiles(&rt, too_deep.as_str(), "", "sx 1\n", 1);
     Ok(())
+}
+
+// A function with so many parameters.
+fn with_names(alloc: Global, count: u8) -> Result<String, AllocError> {
+    let mut source = String::from_str(alloc, "f(n1")?;
+    for number in 2..=count {
+        write!(source, ", n{number}")?;
+    }
+    source.push_str(") ;")?;
+    Ok(source)
 }
 
 #[test]
 fn a_name_too_many(rt: HostRuntime) -> Result<(), Fail> {
-    for (last, code, line, status) in [
-        (128, "F f 128 128 0 0 2\nc 0\nr\nE\n", "", 0),
-        (129, "", ">s 1\n", 1),
-    ] {
-        let mut source = String::from_str(rt.alloc(), "f(n1")?;
-        for number in 2..=last {
-            write!(source, ", n{number}")?;
-        }
-        source.push_str(") ;")?;
-        compiles(&rt, source.as_str(), code, line, status);
-    }
+    let most = with_names(rt.alloc(), 128)?;
+    let code = "F f 128 128 0 0 2\nc 0\nr\nE\n";
+    compiles(&rt, most.as_str(), code, "", 0);
+    let more = with_names(rt.alloc(), 129)?;
+    compiles(&rt, more.as_str(), "", ">s 1\n", 1);
     Ok(())
 }
 

@@ -1,5 +1,6 @@
 //! Programs with what they write, the line and the status of their runs.
 use crate::go::go;
+use crate::source_tests::compares;
 use bparse::Status;
 use bword::{MemIn, MemOut};
 use std::process::Abort;
@@ -26,8 +27,7 @@ pub(crate) fn runs(
         &mut diag,
         steps,
     );
-    assert_eq!(rt; out.bytes(), output.as_bytes(), "the output of {source}");
-    assert_eq!(rt; diag.bytes(), line.as_bytes(), "the line of {source}");
+    compares(rt, source, &out, output, &diag, line);
     assert_eq!(rt; answer, status, "the status of {source}");
 }
 
@@ -63,7 +63,10 @@ main(){switch 2 {case 1: putchar('1'); case 2: putchar('2'); case 3: putchar('3'
 main(){switch 9 {case 1: putchar('1'); case 2: putchar('2'); case 3: putchar('3');}}~@
 n 1; f(){extrn n; n=5; return(1);} main(){extrn n; n =+ f(); printn(n,10);}~6@
 main(){auto s; s=\"hi\"; lchar(s,0,'H'); putchar(char(s,0)); putchar(char(s,1));}~Hi@
-main() { extrn putchar, n, v; auto i, c, col, a; i = col = 0; while(i<n) v[i++] = 1; while(col<n) { a = n+1; c = i = 0; while(i<n) { c =+ v[i]*10; v[i++] = c%a; c =/ a--; } putchar(c+'0'); if(!(++col%5)) putchar(col%50?' ':'*n'); } putchar('*n*n'); } v[10]; n 10;~71828 18261 
+main() { extrn putchar, n, v; auto i, c, col, a;
+i = col = 0; while(i<n) v[i++] = 1;
+while(col<n) { a = n+1; c = i = 0; while(i<n) { c =+ v[i]*10; v[i++] = c%a; c =/ a--; }
+putchar(c+'0'); if(!(++col%5)) putchar(col%50?' ':'*n'); } putchar('*n*n'); } v[10]; n 10;~71828 18261 
 
 @
 printn(n,b) { extrn putchar; auto a; if(a=n/b) printn(a, b); putchar(n%b + '0'); } main() { printn(1972,10); }~1972@

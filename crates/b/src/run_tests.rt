@@ -1,5 +1,6 @@
 //! Code texts with the output, the line and the status of their runs.
 use crate::run_text::run_text;
+use crate::source_tests::compares;
 use bparse::Status;
 use bword::{MemIn, MemOut};
 use std::process::Abort;
@@ -22,8 +23,7 @@ pub(crate) fn runs(
         &mut diag,
         steps,
     );
-    assert_eq!(rt; out.bytes(), output.as_bytes(), "the output of {code}");
-    assert_eq!(rt; diag.bytes(), line.as_bytes(), "the line of {code}");
+    compares(rt, code, &out, output, &diag, line);
     assert_eq!(rt; answer, status, "the status of {code}");
 }
 

@@ -3,6 +3,19 @@ use bparse::{Status, compile};
 use bword::{MemIn, MemOut};
 use std::process::Abort;
 
+/// Compares what was written for this source, text or command line, and the line beside it, with what was to come.
+pub(crate) fn compares(
+    rt: &impl Abort,
+    name: &str,
+    out: &MemOut,
+    output: &str,
+    diag: &MemOut,
+    line: &str,
+) {
+    assert_eq!(rt; out.bytes(), output.as_bytes(), "the output of {name}");
+    assert_eq!(rt; diag.bytes(), line.as_bytes(), "the line of {name}");
+}
+
 pub(crate) fn compiles(
     rt: &(impl AllocGlobal + Abort),
     source: &str,
@@ -18,8 +31,7 @@ pub(crate) fn compiles(
         &mut out,
         &mut diag,
     );
-    assert_eq!(rt; out.bytes(), code.as_bytes(), "the code of {source}");
-    assert_eq!(rt; diag.bytes(), line.as_bytes(), "the line of {source}");
+    compares(rt, source, &out, code, &diag, line);
     assert_eq!(rt; answer, status, "the status of {source}");
 }
 

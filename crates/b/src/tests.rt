@@ -1,7 +1,7 @@
 //! The program over ends that fail, refused memory, and the command line.
 use crate::example_tests::HELLO;
 use crate::serve::serve;
-use crate::source_tests::compiles;
+use crate::source_tests::{compares, compiles};
 use bparse::{Status, compile};
 use bword::{MemIn, MemOut, Reading, Writing};
 use std::fs;
@@ -54,8 +54,7 @@ fn answers(
     status: Status,
 ) -> Result<(), Fail> {
     let (out, diag) = serves(rt, words, "", status)?;
-    assert!(rt; out.bytes() == output.as_bytes(), "the output of {words}");
-    assert!(rt; diag.bytes() == line.as_bytes(), "the line of {words}");
+    compares(rt, words, &out, output, &diag, line);
     Ok(())
 }
 
@@ -68,6 +67,13 @@ fn the_commands(rt: HostRuntime) -> Result<(), Fail> {
     let (code, _) = serves(&rt, "b compile", HELLO, 0)?;
     fs::write(&rt, "hello.code", code.bytes())?;
     answers(&rt, "b run hello.code", "hello, world\n", "", 0)?;
+    answers(
+        &rt,
+        "b run --steps 1000 hello.code",
+        "hello, world\n",
+        "",
+        0,
+    )?;
     answers(&rt, "b run --steps 269 hello.code", "hello, world\n", "", 0)?;
     answers(
         &rt,
