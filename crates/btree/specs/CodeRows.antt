@@ -84,6 +84,8 @@ cases_below (suc n) = case_token 2 ∷ number n ∷ mark token.Colon ∷ cases_b
 pub record CodeRows : Type 0 where
   -- `f(a) a=!a;`
   pub assigned : code_at (function_f (name 97 ∷ []) (name 97 ∷ assign ∷ placed token.Not 1 ∷ name 97 ∷ semicolon ∷ [])) ≡ of_f 1 1 [] [] (instr.Automatic 0 ∷ instr.Automatic 0 ∷ instr.Load ∷ instr.Not ∷ instr.Store ∷ instr.Pop ∷ instr.Constant 0 ∷ instr.Return ∷ [])
+  -- `f(a, b) a-b;`
+  pub subtracted : code_at (function_f (name 97 ∷ mark token.Comma ∷ name 98 ∷ []) (name 97 ∷ operator op.Sub ∷ name 98 ∷ semicolon ∷ [])) ≡ of_f 2 2 [] [] (instr.Automatic 0 ∷ instr.Load ∷ instr.Automatic 1 ∷ instr.Load ∷ instr.Binary op.Sub ∷ instr.Pop ∷ instr.Constant 0 ∷ instr.Return ∷ [])
   -- `f(x) return(x ? 1 : 2);`
   pub conditional : code_at (function_f (name 120 ∷ []) (keyword_mark keyword.Return ∷ (parenthesized (name 120 ∷ mark token.Question ∷ number 1 ∷ mark token.Colon ∷ number 2 ∷ []) ++ semicolon ∷ []))) ≡ of_f 1 1 [] [] (instr.Automatic 0 ∷ instr.Load ∷ instr.JumpIfZero 5 ∷ instr.Constant 1 ∷ instr.Jump 6 ∷ instr.Constant 2 ∷ instr.Return ∷ instr.Constant 0 ∷ instr.Return ∷ [])
   -- `f() while(1) if(2) 3; else 4;`
