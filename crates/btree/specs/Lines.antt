@@ -6,6 +6,7 @@ use Rattle.blex.specs.declared.token.Token.{Token}
 use Rattle.blex.specs.declared.token.Token.TheVariants as token
 use Rattle.blex.specs.declared.token.Placed.{Placed}
 pub use Rattle.blex.specs.Tokens.{placed}
+pub use Rattle.blex.specs.Pieces.{string_token}
 
 abbrev pub is_case : Keyword → Bool
 is_case keyword.Case = true
@@ -36,6 +37,3 @@ kept_tokens tokens = map kept tokens
 -- a token alone
 abbrev pub bare : Placed → Token
 bare p = p.token
-
-abbrev pub string_token : List ℕ → Token
-string_token bytes = token.String (record { items = bytes })
