@@ -1,3 +1,5 @@
+pub mod Endings
 pub mod GoSteps
+pub mod HeadlineSteps
 pub mod MeantSteps
 pub mod RunSteps

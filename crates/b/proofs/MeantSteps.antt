@@ -1,6 +1,5 @@
 -- A run does what its program means.
 use Rattle.std.proofs.Common.{◌≡◌, ◌≢◌, ℕ, zero, suc, ◌+◌, ◌-◌, ◌<◌, ◌≤◌, List, [], ◌∷◌, ◌++◌, map, Some, None, refl, sym, ap, ◌∙◌, subst, arith, append-nil, ◌⊎◌, inl, inr, ⊎_elim}
-use Rattle.std.proofs.lemmas.Bool.{cases_lt}
 use Rattle.bword.specs.ByteEnds.{Incoming, Outgoing}
 use Rattle.btree.specs.Code.{code_of}
 use Rattle.btree.specs.Definition.{Definition}
@@ -10,12 +9,15 @@ use Rattle.bmach.specs.Runs as runs
 use Rattle.bmach.specs.World.{World, Ending, Exited, Trapped}
 use Rattle.bmach.specs.declared.outcome.Outcome.{Outcome}
 use Rattle.bmach.specs.declared.outcome.Outcome.TheVariants as outcome
+use Rattle.bmach.specs.declared.outcome.Trap.{Trap}
+use Rattle.bmach.specs.declared.outcome.Trap.TheVariants as trap
 use Rattle.bmean.specs.Answer.{Ends}
 use Rattle.bmean.specs.Laws.{Loads, meant, world_of, IsBeginningOf}
 use Rattle.bmean.proofs.LawProofs.{code_agrees}
 use Rattle.bmean.proofs.Whole.{Agree}
 use Rattle.b.specs.Runs.{machine}
-use Rattle.b.specs.Meant.{Meets, EndsSo, GoesOn, BreaksOff, RunsAsMeant}
+use Rattle.b.specs.Meant.{Meets, EndsSo, GoesOn, BreaksOff, RunsAsMeant, DoesAsMeant}
+use Rattle.b.proofs.Endings.{HaltsProperly, run_proper, no_stuck_outcome, own_status}
 
 -- what halted stays so
 steps-Halted : (image : Image) (n : ℕ) (e : Ending) (w : World) → steps image n (Halted e w) ≡ Halted e w
@@ -27,7 +29,7 @@ steps-behind image zero m k s e = let h : m ≡ k = omega (arith, e) in ap (λ x
 steps-behind image (suc n) zero k s e = absurd (omega (arith, e))
 steps-behind image (suc n) (suc m) k s e = steps-behind image n m k (step image s) (omega (arith, e))
 
-halted_later : (image : Image) (input : List ℕ) (m n : ℕ) (e : Ending) (w : World) → m ≤ n → run image input m ≡ Halted e w → run image input n ≡ Halted e w
+pub halted_later : (image : Image) (input : List ℕ) (m n : ℕ) (e : Ending) (w : World) → m ≤ n → run image input m ≡ Halted e w → run image input n ≡ Halted e w
 halted_later image input m n e w le h =
     let k : n ≡ m + (n - m) = omega (arith, le) in
     steps-behind image m n (n - m) (started image image.main (first_world image input)) k
@@ -101,15 +103,15 @@ module _ (ds : List Definition) (loads : Loads ds) (n : ℕ) (i j : Incoming) (o
         (laws.writes_as_meant n r.call r.below r.world r.state);
     later = λ more c fuel e w m.
         let s = h.shows more c in
-        let laws = code_agrees ds loads (h.taken ++ more) in
-        let r = running_of (states (h.taken ++ more) n) s.outcome in
-        let done = laws.meant_is_done fuel e w m in
-        (done.0, after (h.taken ++ more) r e w done.0 done.1 (cases_lt n done.0), done.1);
+        let input = h.taken ++ more in
+        let r = running_of (states input n) s.outcome in
+        let done = (code_agrees ds loads input).meant_is_done fuel e w m in
+        record {
+          step = done.0;
+          halts = done.1;
+          not_within = λ k le halted. running_not_halted (states input n) r e w (halted_later (image_of (map code_of ds)) input k n e w le halted);
+        };
   }
-    where
-      after : (input : List ℕ) → IsRunning (states input n) → (e : Ending) (w : World) (m : ℕ) → states input m ≡ Halted e w → (n < m) ⊎ (m ≤ n) → n < m
-      after input r e w m h (inl less) = less
-      after input r e w m h (inr le) = absurd (running_not_halted (states input n) r e w (halted_later (image_of (map code_of ds)) input m n e w le h))
 
   breaks_off : (why : Type 0) → Breaks states n i j o p why → BreaksOff ds n i j o p why
   breaks_off why h = record {
@@ -130,9 +132,45 @@ module _ (ds : List Definition) (loads : Loads ds) (n : ℕ) (i j : Incoming) (o
           (w.output, subst (λ x. IsBeginningOf w.output (world_of x).output) (sym ends) (itself w.output), subst (λ x. Began o (runs.world_of x).output p) e b)
       began input made (Stuck w) e b = absurd ((code_agrees ds loads input).never_stuck made w e)
 
-  pub runs_as_meant : (result : Outcome) → RunGives states n i j o p result → RunsAsMeant ds n i j o p result
+  runs_as_meant : (result : Outcome) → RunGives states n i j o p result → RunsAsMeant ds n i j o p result
   runs_as_meant (outcome.Exit status) h = ends_so (outcome.Exit status) (λ e. cc) h
   runs_as_meant (outcome.Trap kind) h = ends_so (outcome.Trap kind) (λ e. cc) h
   runs_as_meant outcome.Limit h = goes_on h
   runs_as_meant outcome.Device h = breaks_off _ h
   runs_as_meant outcome.Memory h = breaks_off _ h
+
+  -- the state of a run over its ends, on some input
+  state_of : (result : Outcome) → Comes states n i j o p result → (input : List ℕ) × (outcome_of (states input n) ≡ result)
+  state_of result h = (h.taken ++ [], (h.shows [] (λ over. refl)).outcome)
+
+  proper : (input : List ℕ) → HaltsProperly (states input n)
+  proper input = run_proper (image_of (map code_of ds)) input n
+
+  not_stuck : (kind : Trap) → Comes states n i j o p (outcome.Trap kind) → outcome.Trap kind ≢ outcome.Trap trap.Stuck
+  not_stuck kind h e =
+      let at = state_of (outcome.Trap kind) h in
+      no_stuck_outcome (states at.0 n) (proper at.0) (λ w. (code_agrees ds loads at.0).never_stuck n w) (at.1 ∙ e)
+
+  below_128 : (status : ℕ) → Comes states n i j o p (outcome.Exit status) → (m : ℕ) → outcome.Exit status ≡ outcome.Exit m → m < 128
+  below_128 status h m e =
+      let at = state_of (outcome.Exit status) h in
+      own_status (states at.0 n) (proper at.0) m (at.1 ∙ e)
+
+  pub does_as_meant : (result : Outcome) → RunGives states n i j o p result → DoesAsMeant ds n i j o p result
+  does_as_meant (outcome.Exit status) h = record { made = h; meant = runs_as_meant (outcome.Exit status) h; not_stuck = λ e. cc; own_status = below_128 status h }
+  does_as_meant (outcome.Trap kind) h = record { made = h; meant = runs_as_meant (outcome.Trap kind) h; not_stuck = not_stuck kind h; own_status = λ m e. absurd (no_exit e) }
+    where
+      no_exit : {m : ℕ} → outcome.Trap kind ≢ outcome.Exit m
+      no_exit e = cc
+  does_as_meant outcome.Limit h = record { made = h; meant = runs_as_meant outcome.Limit h; not_stuck = λ e. cc; own_status = λ m e. absurd (no_limit e) }
+    where
+      no_limit : {m : ℕ} → outcome.Limit ≢ outcome.Exit m
+      no_limit e = cc
+  does_as_meant outcome.Device h = record { made = h; meant = runs_as_meant outcome.Device h; not_stuck = λ e. cc; own_status = λ m e. absurd (no_device e) }
+    where
+      no_device : {m : ℕ} → outcome.Device ≢ outcome.Exit m
+      no_device e = cc
+  does_as_meant outcome.Memory h = record { made = h; meant = runs_as_meant outcome.Memory h; not_stuck = λ e. cc; own_status = λ m e. absurd (no_memory e) }
+    where
+      no_memory : {m : ℕ} → outcome.Memory ≢ outcome.Exit m
+      no_memory e = cc

@@ -13,16 +13,16 @@ use Rattle.bmach.specs.Layout.{load_fault}
 use Rattle.bmach.specs.declared.fault.LoadFault.{LoadFault}
 use Rattle.bmach.specs.declared.outcome.Outcome.{Outcome}
 use Rattle.bmean.specs.Laws.{Loads}
-use Rattle.b.specs.Meant.{RunsAsMeant}
+use Rattle.b.specs.Meant.{DoesAsMeant}
 use Rattle.b.specs.Reports.{Reported, report_text, load_number}
 use Rattle.b.specs.Runs.{Ends, HasNotRun, Finishes}
 use Rattle.b.specs.declared.report.Report.TheVariants as report
 
--- A program whose code doesn't load is reported. Any other does in the run what it means.
+-- A program whose code doesn't load is reported. Any other is run, for so many steps at most, and does what it means.
 pub data RunsProgram (steps : ℕ) (ds : List Definition) (ends : Ends) (status : ℕ) : Type 0 where
   refused : (f : LoadFault) (n : ℕ) → load_fault (map code_of ds) ≡ Some f → load_number f ≡ Some n → HasNotRun ends
       → Reported (report_text (report.Load n)) 132 ends.line ends.line_behind status → RunsProgram steps ds ends status
-  ran : (outcome : Outcome) → Loads ds → RunsAsMeant ds steps ends.input ends.input_behind ends.out ends.out_behind outcome
+  ran : (outcome : Outcome) → Loads ds → DoesAsMeant ds steps ends.input ends.input_behind ends.out ends.out_behind outcome
       → Finishes outcome ends.line ends.line_behind status → RunsProgram steps ds ends status
   no_memory : HasNotRun ends → ends.line_behind ≡ ends.line → status ≡ 134 → RunsProgram steps ds ends status
 

@@ -1,13 +1,14 @@
 -- What a run has to do with the meaning of its program.
-use Rattle.std.specs.Prelude.{◌≡◌, ℕ, ◌+◌, ◌<◌, ◌≤◌, ◌⊎◌, List, ◌++◌, map}
+use Rattle.std.specs.Prelude.{◌≡◌, ◌≢◌, ℕ, ◌+◌, ◌<◌, ◌≤◌, List, ◌++◌, map}
 use Rattle.bword.specs.ByteEnds.{Incoming, Outgoing, Took, Writes}
 use Rattle.btree.specs.Code.{code_of}
 use Rattle.btree.specs.Definition.{Definition}
-use Rattle.bmach.specs.Machine.{Halted}
-use Rattle.bmach.specs.Runs.{CanFollow, Began, Shows, AnyFailed, NoneFailed}
+use Rattle.bmach.specs.Machine.{State, Halted}
+use Rattle.bmach.specs.Runs.{CanFollow, Began, Shows, AnyFailed, NoneFailed, RunGives}
 use Rattle.bmach.specs.World.{World, Ending}
 use Rattle.bmach.specs.declared.outcome.Outcome.{Outcome}
 use Rattle.bmach.specs.declared.outcome.Outcome.TheVariants as outcome
+use Rattle.bmach.specs.declared.outcome.Trap.TheVariants as trap
 use Rattle.bmean.specs.Answer.{Answer, Ends}
 use Rattle.bmean.specs.Laws.{meant, world_of, IsBeginningOf}
 use Rattle.b.specs.Runs.{machine}
@@ -28,7 +29,13 @@ pub record EndsSo (ds : List Definition) (steps : ℕ) (i j : Incoming) (o p : O
   pub written : Writes o output p
   pub ends : (more : List ℕ) → CanFollow j more → Meets result more output (meant ds (taken ++ more) (steps + 1))
 
--- A beginning of what the program writes was written. Where the program ends, it takes more steps.
+-- The machine halts so at some step, and not within so many.
+pub record HaltsLater (state : ℕ → State) (steps : ℕ) (e : Ending) (w : World) : Type 0 where
+  pub step : ℕ
+  pub halts : state step ≡ Halted e w
+  pub not_within : (n : ℕ) → n ≤ steps → state n ≢ Halted e w
+
+-- A beginning of what the program writes was written. Where the program ends, its code takes more steps.
 pub record GoesOn (ds : List Definition) (steps : ℕ) (i j : Incoming) (o p : Outgoing) : Type 0 where
   pub taken : List ℕ
   pub took : Took i taken j
@@ -37,7 +44,7 @@ pub record GoesOn (ds : List Definition) (steps : ℕ) (i j : Incoming) (o p : O
   pub written : Writes o output p
   pub begins : (more : List ℕ) → CanFollow j more → IsBeginningOf output (world_of (meant ds (taken ++ more) (steps + 1))).output
   pub later : (more : List ℕ) → CanFollow j more → (n : ℕ) (e : Ending) (w : World) → meant ds (taken ++ more) n ≡ Ends e w
-      → (m : ℕ) × (steps < m) × (machine (map code_of ds) (taken ++ more) m ≡ Halted e w)
+      → HaltsLater (machine (map code_of ds) (taken ++ more)) steps e w
 
 -- A beginning was written of what the program writes.
 pub record BreaksOff (ds : List Definition) (steps : ℕ) (i j : Incoming) (o p : Outgoing) (why : Type 0) : Type 0 where
@@ -56,3 +63,11 @@ RunsAsMeant ds steps i j o p (outcome.Trap kind) = EndsSo ds steps i j o p (outc
 RunsAsMeant ds steps i j o p outcome.Limit = GoesOn ds steps i j o p
 RunsAsMeant ds steps i j o p outcome.Device = BreaksOff ds steps i j o p (AnyFailed i j o p)
 RunsAsMeant ds steps i j o p outcome.Memory = BreaksOff ds steps i j o p (NoneFailed i j o p)
+
+-- Just so many steps of the program's code were made, or those up to its halt, and what they did is what the program means.
+-- The code was never stuck, and no status from 128 on is the program's own.
+pub record DoesAsMeant (ds : List Definition) (steps : ℕ) (i j : Incoming) (o p : Outgoing) (result : Outcome) : Type 0 where
+  pub made : RunGives (machine (map code_of ds)) steps i j o p result
+  pub meant : RunsAsMeant ds steps i j o p result
+  pub not_stuck : result ≢ outcome.Trap trap.Stuck
+  pub own_status : (n : ℕ) → result ≡ outcome.Exit n → n < 128
