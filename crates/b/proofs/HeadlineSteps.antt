@@ -1,19 +1,22 @@
 -- Where nothing fails, what is said of a run is what its source and its input come to.
 use Rattle.std.proofs.Common.{◌≡◌, ◌≢◌, ℕ, zero, suc, ◌+◌, ◌<◌, ◌≤◌, List, [], ◌∷◌, ◌++◌, map, Bool, true, false, Option, Some, None, refl, sym, ap, ◌∙◌, subst, arith, append-nil, ◌⊎◌, inl, inr, ⊎_elim}
 use Rattle.std.specs.Io.KnownBytes.{Appends, Consumes}
-use Rattle.bword.specs.ByteEnds.{Incoming, Outgoing, Grew, Took, Writes, Refuses, CanFollow}
+use Rattle.bword.specs.ByteEnds.{Incoming, Outgoing, Kept, Grew, Took, Writes, Refuses, CanFollow, outgoing_of}
 use Rattle.bword.specs.declared.byte_out.EndFault.{EndFault}
 use Rattle.bword.specs.declared.byte_out.EndFault.TheVariants as end_fault
 use Rattle.blex.specs.Tokens.{tokens_from}
+use Rattle.blex.specs.declared.diagnostic.Diagnostic.{Diagnostic}
 use Rattle.btree.specs.Code.{code_of}
 use Rattle.btree.specs.Compiled as compiled
 use Rattle.btree.specs.Compiled.{Goes, line_of}
 use Rattle.btree.specs.Definition.{Definition}
+use Rattle.bparse.specs.Compiles.{Compiles}
 use Rattle.bparse.specs.Statuses.{status_of}
 use Rattle.bmach.specs.Machine.{State, Running, Halted, Stuck, image_of}
 use Rattle.bmach.specs.Runs as runs
 use Rattle.bmach.specs.Runs.{Shows, Comes, RunGives, outcome_of}
 use Rattle.bmach.specs.World.{World, Ending, Exited, Trapped}
+use Rattle.bmach.specs.declared.fault.LoadFault.{LoadFault}
 use Rattle.bmach.specs.declared.outcome.Outcome.{Outcome}
 use Rattle.bmach.specs.declared.outcome.Outcome.TheVariants as outcome
 use Rattle.bmach.specs.declared.outcome.Trap.TheVariants as trap
@@ -22,7 +25,7 @@ use Rattle.bmean.proofs.LawProofs.{code_agrees}
 use Rattle.b.specs.Going.{RunsProgram, RunsSource, GoesOff}
 use Rattle.b.specs.Going as going
 use Rattle.b.specs.Headline.{Tells, NothingFailed, Says, line_at, status_at, IsEnd, IsLimit, RunsAsMeant, AnswersTo, Headline}
-use Rattle.b.specs.Reports.{Reported, Refused, report_text}
+use Rattle.b.specs.Reports.{Reported, Refused, report_text, load_number}
 use Rattle.b.specs.Runs.{Ends, Finishes, HasNotRun, machine}
 use Rattle.b.specs.declared.report.Report.TheVariants as report
 use Rattle.b.proofs.MeantSteps.{halted_later}
@@ -60,8 +63,8 @@ rest_of i j taken bytes t told =
         by_cases i.is_over
         (λ was. let nothing : taken ≡ [] = (t.over was).0 in subst (λ xs. xs ++ more ≡ bytes) nothing whole ∙ told.follow was)
         (λ wasnt.
-            let all = subst (λ o. Consumes o (Some []) taken) told.left (t.all wasnt over) in
-            cancel taken more [] (whole ∙ all))
+        let all = subst (λ o. Consumes o (Some []) taken) told.left (t.all wasnt over) in
+        cancel taken more [] (whole ∙ all))
 
 appends_nothing : (known : Option (List ℕ)) → Appends known known []
 appends_nothing None = tt
@@ -179,3 +182,84 @@ module _ (ds : List Definition) (loads : Loads ds) (steps : ℕ) (ends : Ends) (
         as_meant outcome.Limit (came outcome.Limit h line.0 line.1)
     runs_so outcome.Device h f = absurd (⊎_elim healthy.input_read healthy.output_written h.reason)
     runs_so outcome.Memory h f = absurd (healthy.not_refused f.1)
+
+no_zero : Grew 0 0 → ⊥
+no_zero (inl less) = omega arith
+no_zero (inr same) = omega (arith, same.0)
+
+-- A source that isn't compiled where nothing fails has a fault.
+fault_status : (source source_behind : Incoming) (ends : Ends) (status : ℕ) (kept : Kept) → (status ≡ 0 → ⊥) → NothingFailed source source_behind ends status
+    → Compiles (record { source = source; source_behind = source_behind; code = going.no_code; code_behind = outgoing_of kept; line = ends.line; line_behind = ends.line_behind; status = status })
+    → status ≡ 1
+fault_status source source_behind ends status kept not_zero healthy h = by_status h.no_other
+  where
+    failed : (Grew source.failures source_behind.failures ⊎ Grew 0 0 ⊎ Grew ends.line.failures ends.line_behind.failures) → ⊥
+    failed (inl grew) = healthy.source_read grew
+    failed (inr (inl grew)) = no_zero grew
+    failed (inr (inr grew)) = healthy.line_written grew
+
+    by_status : ((status ≡ 0) ⊎ (status ≡ 1) ⊎ (status ≡ 133) ⊎ (status ≡ 134)) → status ≡ 1
+    by_status (inl zero_is) = absurd (not_zero zero_is)
+    by_status (inr (inl one)) = one
+    by_status (inr (inr (inl device))) = absurd (failed (h.failed device).0)
+    by_status (inr (inr (inr memory))) = absurd (healthy.not_refused memory)
+
+other_stop : {A : Type 0} (stop : Option Diagnostic) (fault : Diagnostic) → stop ≡ None → stop ≡ Some fault → A
+other_stop stop fault e f = absurd (no (sym e ∙ f))
+  where
+    no : None ≢ Some fault
+    no e = cc
+
+unread_says : (ends : Ends) (status : ℕ) (input line : List ℕ) (answer : ℕ) → Tells ends.input input → HasNotRun ends → Writes ends.line line ends.line_behind → status ≡ answer → Says ends status input [] line answer
+unread_says ends status input line answer told quiet written is = record {
+  unread = ap (λ (i : Incoming). i.left) quiet.unread ∙ told.left;
+  written = writes_nothing ends.out ends.out_behind quiet.silent;
+  told = written;
+  answered = is;
+}
+
+-- a program that was or wasn't run, where its source has no fault
+program_answers : (r : compiled.Outcome) (ds : List Definition) (input : List ℕ) (steps : ℕ) (source source_behind : Incoming) (ends : Ends) (status : ℕ)
+    → Tells ends.input input → NothingFailed source source_behind ends status → r.stop ≡ None → RunsProgram steps ds ends status → AnswersTo r ds input steps ends status
+program_answers r ds input steps source source_behind ends status told healthy clean (going.refused f n load number quiet line) = record {
+  faulty = λ fault e. other_stop r.stop fault clean e;
+  refused = λ c g m load' number'.
+      let fault_same : Some f ≡ Some g = sym load ∙ load' in
+      let same : f ≡ g = cc in
+      let numbers : Some n ≡ Some m = sym number ∙ ap load_number same ∙ number' in
+      let number_same : n ≡ m = cc in
+      let written = is_told (report_text (report.Load n)) 132 ends.line ends.line_behind status healthy.line_written healthy.not_refused line in
+      subst (λ k. Says ends status input [] (report_text (report.Load k)) 132) number_same (unread_says ends status input (report_text (report.Load n)) 132 told quiet written.0 written.1);
+  runs = λ c loads. absurd (no_load (sym loads ∙ load));
+}
+  where
+    no_load : None ≢ Some f
+    no_load e = cc
+program_answers r ds input steps source source_behind ends status told healthy clean (going.ran result loads does finish) = record {
+  faulty = λ fault e. other_stop r.stop fault clean e;
+  refused = λ c f n load number. absurd (no_load f (sym loads ∙ load));
+  runs = λ c l. runs_so ds loads steps ends status input told source source_behind healthy result does.made finish;
+}
+  where
+    no_load : (f : LoadFault) → None ≢ Some f
+    no_load f e = cc
+program_answers r ds input steps source source_behind ends status told healthy clean (going.no_memory quiet silent is) = absurd (healthy.not_refused is)
+
+pub headline : (steps : ℕ) (source source_behind : Incoming) (ends : Ends) (status : ℕ) → GoesOff steps source source_behind ends status → Headline steps source source_behind ends status
+headline steps source source_behind ends status (going.stopped kept not_zero quiet h) text input tells told healthy r g =
+    let one = fault_status source source_behind ends status kept not_zero healthy h in
+    let rest = rest_of source source_behind h.taken text h.took tells in
+    let f = h.faulty one rest.more rest.follows r (subst (λ t. Goes [] (tokens_from 1 t) r) (sym rest.whole) g) in
+    record {
+      faulty = λ fault e.
+          let both : Some f.fault ≡ Some fault = sym f.stop ∙ e in
+          let same : f.fault ≡ fault = cc in
+          subst (λ d. Says ends status input [] (line_of d) 1) same (unread_says ends status input (line_of f.fault) 1 told quiet f.line one);
+      refused = λ clean x n load number. other_stop r.stop f.fault clean f.stop;
+      runs = λ clean loads. other_stop r.stop f.fault clean f.stop;
+    }
+headline steps source source_behind ends status (going.ran s) text input tells told healthy r g =
+    let rest = rest_of source source_behind s.taken text s.took tells in
+    let runs = subst (λ t. (r : compiled.Outcome) (g : Goes [] (tokens_from 1 t) r) → (r.stop ≡ None) × RunsProgram steps g.definitions ends status) rest.whole (s.runs rest.more rest.follows) in
+    let program = runs r g in
+    program_answers r g.definitions input steps source source_behind ends status told healthy program.0 program.1

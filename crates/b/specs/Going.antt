@@ -9,22 +9,22 @@ use Rattle.btree.specs.Compiled.{Goes}
 use Rattle.btree.specs.Definition.{Definition}
 use Rattle.bexpr.specs.Tokens.{CanFollow}
 use Rattle.bparse.specs.Compiles.{Compiles}
+use Rattle.bparse.specs.declared.status.TheConstants.{DONE, MEMORY}
 use Rattle.bmach.specs.Layout.{load_fault}
 use Rattle.bmach.specs.declared.fault.LoadFault.{LoadFault}
 use Rattle.bmach.specs.declared.outcome.Outcome.{Outcome}
 use Rattle.bmean.specs.Laws.{Loads}
 use Rattle.b.specs.Meant.{DoesAsMeant}
-use Rattle.b.specs.Reports.{Reported, report_text, load_number}
-use Rattle.b.specs.Runs.{Ends, HasNotRun, Finishes}
-use Rattle.b.specs.declared.report.Report.TheVariants as report
+use Rattle.b.specs.Reports.{load_number}
+use Rattle.b.specs.Runs.{Ends, HasNotRun, NotLoaded, Finishes}
 
 -- A program whose code doesn't load is reported. Any other is run, for so many steps at most, and does what it means.
 pub data RunsProgram (steps : ℕ) (ds : List Definition) (ends : Ends) (status : ℕ) : Type 0 where
   refused : (f : LoadFault) (n : ℕ) → load_fault (map code_of ds) ≡ Some f → load_number f ≡ Some n → HasNotRun ends
-      → Reported (report_text (report.Load n)) 132 ends.line ends.line_behind status → RunsProgram steps ds ends status
+      → NotLoaded n ends.line ends.line_behind status → RunsProgram steps ds ends status
   ran : (outcome : Outcome) → Loads ds → DoesAsMeant ds steps ends.input ends.input_behind ends.out ends.out_behind outcome
       → Finishes outcome ends.line ends.line_behind status → RunsProgram steps ds ends status
-  no_memory : HasNotRun ends → ends.line_behind ≡ ends.line → status ≡ 134 → RunsProgram steps ds ends status
+  no_memory : HasNotRun ends → ends.line_behind ≡ ends.line → status ≡ MEMORY → RunsProgram steps ds ends status
 
 -- the output end that keeps the code
 abbrev pub no_code : Outgoing
@@ -39,7 +39,7 @@ pub record RunsSource (steps : ℕ) (source source_behind : Incoming) (ends : En
 
 -- A source that isn't compiled, for a fault or a failure, is not run. The code is kept in memory, which never fails as a device.
 pub data GoesOff (steps : ℕ) (source source_behind : Incoming) (ends : Ends) (status : ℕ) : Type 0 where
-  stopped : (kept : Kept) → (status ≡ 0 → ⊥) → HasNotRun ends
+  stopped : (kept : Kept) → (status ≡ DONE → ⊥) → HasNotRun ends
       → Compiles (record { source = source; source_behind = source_behind; code = no_code; code_behind = outgoing_of kept; line = ends.line; line_behind = ends.line_behind; status = status })
       → GoesOff steps source source_behind ends status
   ran : RunsSource steps source source_behind ends status → GoesOff steps source source_behind ends status

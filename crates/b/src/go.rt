@@ -1,6 +1,7 @@
 //! Compiling a source and running its program.
 ghost use Rattle.std.specs.Prelude.{◌≡◌};
 ghost use Rattle.b.specs.Going.{GoesOff};
+ghost use Rattle.b.specs.Headline.{Headline};
 
 use crate::run_text::run_text;
 use bparse::compile;
@@ -21,6 +22,14 @@ pub fn go<S: ByteIn, I: ByteIn, O: ByteOut, D: ByteOut>(
     steps: u64,
 ) -> Status
     ensures goes { GoesOff steps (S.incoming source.old) (S.incoming source.new) (record {
+      input = I.incoming input.old;
+      input_behind = I.incoming input.new;
+      out = O.outgoing out.old;
+      out_behind = O.outgoing out.new;
+      line = D.outgoing diag.old;
+      line_behind = D.outgoing diag.new;
+    }) result }
+    ensures headline { Headline steps (S.incoming source.old) (S.incoming source.new) (record {
       input = I.incoming input.old;
       input_behind = I.incoming input.new;
       out = O.outgoing out.old;

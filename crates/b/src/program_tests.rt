@@ -1,8 +1,10 @@
 //! Programs with what they write, the line and the status of their runs.
+ghost use Rattle.bword.specs.ByteEnds.{incoming_of, bounded_of};
+
 use crate::go::go;
 use crate::source_tests::compares;
 use bparse::Status;
-use bword::{MemIn, MemOut};
+use bword::{ByteIn, Device, MemIn, MemOut};
 use std::process::Abort;
 
 /// The most steps of a run that no row limits.
@@ -74,7 +76,8 @@ main(){auto i; i=0; L: putchar('a'+i); i++; if(i<3) goto L;}~abc@
 main(){auto i; i=0; switch 1 {case 1: goto in;} while(i<3){in: putchar('a'+i); i++;}}~abc@
 main(){auto i; i=0; L: auto v 1; v[0]=i; putchar('0'+v[0]); v=0; i++; if(i<3) goto L;}~012@
 main(){auto i; i=0; switch 2 {case 1: while(i<3){case 2: putchar('a'+i); i++;}}}~abc@
-f(x){return(x*2);} main(){printn(1+f(2)*3-f(f(1)),10);}~9";
+f(x){return(x*2);} main(){printn(1+f(2)*3-f(f(1)),10);}~9@
+v[32766]; w[32758]; main() ;~";
     all_write(&rt, rows);
 }
 
@@ -94,6 +97,8 @@ main(){printn(5,11);}~trap bs
 main(){main();}~trap dp
 @
 main(){auto v 32000; main();}~trap st
+@
+v[32766]; w[32758]; main() { auto a; ; }~trap st
 ";
     all_stop(&rt, rows, STEPS, 130);
 }
@@ -108,6 +113,8 @@ main;~load 4
 main() g();~load 3
 @
 v[30000]; w[30000]; x[10000]; main() ;~load 2
+@
+v[32766]; w[32759]; main() ;~load 2
 ";
     all_stop(&rt, rows, STEPS, 132);
 }
@@ -153,4 +160,59 @@ fn input_status_and_steps(rt: HostRuntime) {
         "limit\n",
         131,
     );
+}
+
+// An end that counts its calls.
+#[derive(Drop)]
+struct Counted<'a> {
+    end: MemIn<'a>,
+    calls: u64,
+}
+
+impl ByteIn for Counted<'_> {
+    ghost incoming = { λ c. incoming_of c.end };
+
+    ghost lender = { λ _. 0 };
+
+    fn next(&mut self) -> Result<Option<u8>, Device> {
+        self.calls = self.calls.saturating_add(1);
+        self.end.next()
+    }
+
+    ghost bounded = { λ c. bounded_of c.end };
+}
+
+// Each `getchar` asks for one byte, behind the last one too, and nothing else asks.
+#[test]
+fn calls_of_the_input(rt: HostRuntime) {
+    let rows = "\
+main() ;~0
+main(){putchar('a');}~0
+main(){getchar();}~1
+main(){auto c; while((c=getchar())!='*e') putchar(c);}~3
+main(){auto c; while((c=getchar())!='*e') putchar(c); getchar(); getchar();}~5
+main(){getchar(); exit(1/0);}~1
+main(){getchar(); getchar(); getchar(); while(1) ;}~3
+main(){getchar();} n~0
+n;~0
+";
+    for row in rows.lines() {
+        let (source, calls) = row.split_once('~').unwrap_or((row, ""));
+        let mut input = Counted {
+            end: MemIn::new(b"hi"),
+            calls: 0,
+        };
+        let mut out = MemOut::new(rt.alloc());
+        let mut diag = MemOut::new(rt.alloc());
+        let _ = go(
+            rt.alloc(),
+            &mut MemIn::new(source.as_bytes()),
+            &mut input,
+            &mut out,
+            &mut diag,
+            1000,
+        );
+        let asked = calls.parse::<u64>().unwrap_or(0);
+        assert_eq!(rt; input.calls, asked, "the calls of {source}");
+    }
 }

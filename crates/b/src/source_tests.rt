@@ -1,7 +1,10 @@
 //! Sources with the code, the diagnostic and the status that they have.
 use bparse::{Status, compile};
 use bword::{MemIn, MemOut};
+use itoa::Buffer;
+use std::alloc::AllocError;
 use std::process::Abort;
+use std::test::Fail;
 
 /// Compares what was written for this source, text or command line, and the line beside it, with what was to come.
 pub(crate) fn compares(
@@ -300,6 +303,227 @@ f() { L: ; L: ; goto M; }~~rd L 1
 f() { goto M; L: ; L: ; }~~rd L 1
 @
 f() switch 1 { case 1: switch 2 { case 1: ; } case 1: ; }~~rd case 1
+@
+f() { extrn a; auto a; ; }~~rd a 1
+@
+f() { auto a; a: ; }~~rd a 1
 ";
     all_have_faults(&rt, rows);
+}
+
+// Each kind of diagnostic behind the first line.
+#[test]
+fn lines_of_faults(rt: HostRuntime) {
+    let rows = "\
+a;
+b; /* c
+d;~X a 0 0
+X b 0 0
+~*/ 2
+@
+a; /*
+*/ #~X a 0 0
+~ch 2
+@
+a;
+
+abcdefghi;~X a 0 0
+~nm 3
+@
+a;
+n 5, 'b
+';~X a 0 0
+~ct 2
+@
+a; n
+5
+-1;~X a 0 0
+~sx 3
+@
+f()
+{
+
+~~sx 4
+@
+a;
+b;
+
+a;~X a 0 0
+X b 0 0
+~rd a 4
+@
+f(a) {
+a;
+a: ; }~~rd a 3
+@
+f() switch 1 {
+case 1:
+case 1: ; }~~rd case 3
+@
+f() {
+case 2: ; }~~sx case 2
+@
+f() { 1
+= (2
+= 3); }~~lv 2
+@
+f(a) {
+a; --
+7; }~~lv 2
+@
+f() { goto M;
+goto
+L; M: ; }~~un L 3
+@
+f() { goto M;
+goto L; }~~un M 1
+@
+
+
+v
+[32767];~~>e 3
+";
+    all_have_faults(&rt, rows);
+}
+
+// Adds a piece `count|text`: the text so many times, where `#` is the number of each, from 0.
+fn push_piece(source: &mut String, piece: &str) -> Result<(), AllocError> {
+    let (count, text) = piece.split_once('|').unwrap_or(("0", ""));
+    for number in 0..count.parse::<u64>().unwrap_or(0) {
+        let (before, after) = text.split_once('#').unwrap_or((text, ""));
+        source.push_str(before)?;
+        if text.contains('#') {
+            source.push_str(Buffer::new().format(number))?;
+        }
+        source.push_str(after)?;
+    }
+    Ok(())
+}
+
+// Compares the first lines of the code of a source in pieces, and its diagnostic, with what was to come.
+fn begins(
+    rt: &(impl AllocGlobal + Abort),
+    pieces: &str,
+    code: &str,
+    line: &str,
+) -> Result<(), Fail> {
+    let mut source = String::new(rt.alloc());
+    for piece in pieces.split('~') {
+        push_piece(&mut source, piece)?;
+    }
+    let mut out = MemOut::new(rt.alloc());
+    let mut diag = MemOut::new(rt.alloc());
+    let answer = compile(
+        rt.alloc(),
+        &mut MemIn::new(source.as_bytes()),
+        &mut out,
+        &mut diag,
+    );
+    assert!(rt;
+        out.bytes().starts_with(code.as_bytes()),
+        "the code of {pieces}"
+    );
+    assert_eq!(rt;
+        out.bytes().is_empty(),
+        code.is_empty(),
+        "whether {pieces} has code"
+    );
+    assert_eq!(rt; diag.bytes(), line.as_bytes(), "the line of {pieces}");
+    assert_eq!(rt; answer == 1, code.is_empty(), "the status of {pieces}");
+    Ok(())
+}
+
+// Each limit of size, and one past it: pieces of a source, `^`, the first lines of its code, `^` and its diagnostic.
+#[test]
+fn limits(rt: HostRuntime) -> Result<(), Fail> {
+    let rows = "\
+1|f() {~2047|1;~1|}^F f 0 0 0 0 4096
+^@
+1|f() {~2046|1;~1|-1; }^^>e 1
+@
+1|f() {~2048|1;~1|}^^>e 1
+@
+1|f() {~2048|1;~1|goto L; }^^un L 1
+@
+1|f() {~2048|1;~1|) }^^sx 1
+@
+1|f() {~512|\"ab\";~1|}^F f 0 0 0 1024 1026
+^@
+1|f() {~512|\"ab\";~1|\"\"; }^^>e 1
+@
+1|f() {\"~254|a~1|\";\"~254|a~1|\";\"~254|a~1|\";\"~254|a~1|\";\"~254|a~1|\";\"~254|a~1|\";\"~254|a~1|\";\"~254|a~1|\";}^F f 0 0 0 1024 18
+w 24929
+^@
+1|f() \"~254|a~1|\";^F f 0 0 0 128 4
+w 24929
+^@
+1|f() \"~255|a~1|\";^^ct 1
+@
+1|v ~1023|0,~1|0;^X v 1024 0
+c 0
+^@
+1|v ~1024|0,~1|0;^^>e 1
+@
+1|v[] ~1023|0,~1|0;^V v 1024 1024 0
+c 0
+^@
+1|v[] ~1024|0,~1|0;^^>e 1
+@
+1|s ~511|\"ab\",~1|\"ab\";^X s 512 1024
+s 0
+s 2
+^@
+1|s ~511|\"ab\",~1|\"ab\", \"\";^^>e 1
+@
+1|f(~2|p#,~1|q) { auto a, v 32761; ; }^F f 3 32767 0 0 6
+a 4
+^@
+1|f(~2|p#,~1|q) { auto a, b, v 32761; ; }^^>e 1
+@
+1|f(~127|p#,~1|q) ;^F f 128 128 0 0 2
+^@
+1|f(
+~128|p#,~1|
+q) ;^^>s 3
+@
+1|f(~127|p#,~1|q) g();^^>s 1
+@
+1|f() switch 1 {~256|case #: ;~1|}^F f 0 0 0 0 262
+c 1
+j 3
+j 260
+e 0 2
+^@
+1|f() switch 1 {
+~256|case #: ;~1|
+
+case 256: ; }^^>c 4
+@
+1|f() switch 1 {~256|case #: ;~1|case 7: ; }^^rd case 1
+@
+1|f() ~200|!~1|1;^F f 0 0 0 0 204
+c 1
+h
+^@
+1|f() ~201|!~1|1;^^sx 1
+@
+1|f() ~200|{~200|}^F f 0 0 0 0 2
+^@
+1|f() ~201|{~201|}^^sx 1
+@
+1|f() ~200|(~1|1~200|)~1|;^F f 0 0 0 0 4
+c 1
+p
+c 0
+r
+E
+^@
+1|f() ~201|(~1|1~201|)~1|;^^sx 1
+";
+    for row in rows.split("@\n") {
+        let (pieces, rest) = row.split_once('^').unwrap_or((row, ""));
+        let (code, line) = rest.split_once('^').unwrap_or((rest, ""));
+        begins(&rt, pieces, code, line)?;
+    }
+    Ok(())
 }
