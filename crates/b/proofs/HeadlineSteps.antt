@@ -24,7 +24,7 @@ use Rattle.bmean.specs.Laws.{Loads}
 use Rattle.bmean.proofs.LawProofs.{code_agrees}
 use Rattle.b.specs.Going.{RunsProgram, RunsSource, GoesOff}
 use Rattle.b.specs.Going as going
-use Rattle.b.specs.Headline.{Tells, NothingFailed, Says, line_at, status_at, IsEnd, IsLimit, RunsAsMeant, AnswersTo, Headline}
+use Rattle.b.specs.Headline.{Tells, NothingFailed, Says, line_at, status_at, IsEnd, IsLimit, RunAnswers, GoAnswers, Headline}
 use Rattle.b.specs.Reports.{Reported, Refused, report_text, load_number}
 use Rattle.b.specs.Runs.{Ends, Finishes, HasNotRun, machine}
 use Rattle.b.specs.declared.report.Report.TheVariants as report
@@ -161,7 +161,7 @@ module _ (ds : List Definition) (loads : Loads ds) (steps : ℕ) (ends : Ends) (
   limited_at result c runs_on (Halted ending w) e = absurd (runs_on steps (omega arith) ending w e)
   limited_at result c runs_on (Stuck w) e = absurd ((code_agrees ds loads input).never_stuck steps w e)
 
-  as_meant : (result : Outcome) → Came result → RunsAsMeant ds input steps ends status
+  as_meant : (result : Outcome) → Came result → RunAnswers ds input steps ends status
   as_meant result c = record {
     halts = halts result c;
     limited = λ runs_on. limited_at result c runs_on (state steps) refl;
@@ -172,7 +172,7 @@ module _ (ds : List Definition) (loads : Loads ds) (steps : ℕ) (ends : Ends) (
   Gives result = RunGives (machine (map code_of ds)) steps ends.input ends.input_behind ends.out ends.out_behind result
 
   module _ (source source_behind : Incoming) (healthy : NothingFailed source source_behind ends status) where
-    pub runs_so : (result : Outcome) → Gives result → Finishes result ends.line ends.line_behind status → RunsAsMeant ds input steps ends status
+    pub runs_so : (result : Outcome) → Gives result → Finishes result ends.line ends.line_behind status → RunAnswers ds input steps ends status
     runs_so (outcome.Exit n) h f = as_meant (outcome.Exit n) (came (outcome.Exit n) h (writes_nothing ends.line ends.line_behind f.0) f.1)
     runs_so (outcome.Trap kind) h f =
         let line = is_told (report_text (report.Trap kind)) 130 ends.line ends.line_behind status healthy.line_written healthy.not_refused f in
@@ -219,8 +219,8 @@ unread_says ends status input line answer told quiet written is = record {
 }
 
 -- a program that was or wasn't run, where its source has no fault
-program_answers : (r : compiled.Outcome) (ds : List Definition) (input : List ℕ) (steps : ℕ) (source source_behind : Incoming) (ends : Ends) (status : ℕ)
-    → Tells ends.input input → NothingFailed source source_behind ends status → r.stop ≡ None → RunsProgram steps ds ends status → AnswersTo r ds input steps ends status
+pub program_answers : (r : compiled.Outcome) (ds : List Definition) (input : List ℕ) (steps : ℕ) (source source_behind : Incoming) (ends : Ends) (status : ℕ)
+    → Tells ends.input input → NothingFailed source source_behind ends status → r.stop ≡ None → RunsProgram steps ds ends status → GoAnswers r ds input steps ends status
 program_answers r ds input steps source source_behind ends status told healthy clean (going.refused f n load number quiet line) = record {
   faulty = λ fault e. other_stop r.stop fault clean e;
   refused = λ c g m load' number'.

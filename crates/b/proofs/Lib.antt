@@ -1,4 +1,5 @@
 pub mod Endings
+pub mod Excluded
 pub mod GoSteps
 pub mod HeadlineSteps
 pub mod MeantSteps

@@ -34,12 +34,21 @@ no_code = outgoing_of (record { bytes = []; refusals = 0 })
 pub record RunsSource (steps : ℕ) (source source_behind : Incoming) (ends : Ends) (status : ℕ) : Type 0 where
   pub taken : List ℕ
   pub took : Took source taken source_behind
-  pub runs : (more : List ℕ) → CanFollow source_behind more → (r : compiled.Outcome) → (g : Goes [] (tokens_from 1 (taken ++ more)) r)
-      → (r.stop ≡ None) × RunsProgram steps g.definitions ends status
+  pub runs : (more : List ℕ) → CanFollow source_behind more
+      → (r : compiled.Outcome) → (g : Goes [] (tokens_from 1 (taken ++ more)) r) → (r.stop ≡ None) × RunsProgram steps g.definitions ends status
 
--- A source that isn't compiled, for a fault or a failure, is not run. The code is kept in memory, which never fails as a device.
+-- A source that isn't compiled, for a fault or a failure, is not run. The code is kept in memory, which never fails as a
+-- device.
 pub data GoesOff (steps : ℕ) (source source_behind : Incoming) (ends : Ends) (status : ℕ) : Type 0 where
   stopped : (kept : Kept) → (status ≡ DONE → ⊥) → HasNotRun ends
-      → Compiles (record { source = source; source_behind = source_behind; code = no_code; code_behind = outgoing_of kept; line = ends.line; line_behind = ends.line_behind; status = status })
+      → Compiles (record {
+        source = source;
+        source_behind = source_behind;
+        code = no_code;
+        code_behind = outgoing_of kept;
+        line = ends.line;
+        line_behind = ends.line_behind;
+        status = status;
+      })
       → GoesOff steps source source_behind ends status
   ran : RunsSource steps source source_behind ends status → GoesOff steps source source_behind ends status

@@ -51,7 +51,8 @@ status_at (Exited n) = n
 status_at (Trapped kind) = TRAP
 
 -- The program ends so.
-pub record IsEnd (ds : List Definition) (input : List ℕ) (fuel : ℕ) (e : Ending) (w : World) (ends : Ends) (status : ℕ) : Type 0 where
+pub record IsEnd (ds : List Definition) (input : List ℕ) (fuel : ℕ) (e : Ending) (w : World) (ends : Ends) (status : ℕ)
+    : Type 0 where
   pub means : meant ds input fuel ≡ answer.Ends e w
   pub says : Says ends status w.input w.output (line_at e) (status_at e)
 
@@ -62,9 +63,9 @@ pub record IsLimit (ds : List Definition) (input : List ℕ) (steps : ℕ) (ends
   pub begins : IsBeginningOf world.output (world_of (meant ds input (steps + 1))).output
   pub says : Says ends status world.input world.output (report_text report.Limit) LIMIT
 
--- Where the code halts within so many steps, that is the end which the program means; else the limit is reached, and so it
--- is for every number of steps where the program wants more fuel at every number.
-pub record RunsAsMeant (ds : List Definition) (input : List ℕ) (steps : ℕ) (ends : Ends) (status : ℕ) : Type 0 where
+-- Where the code halts within so many steps, that is the end which the program means, and it is what was written and
+-- answered. Else the limit is reached, as it always is where the program wants more fuel at every number.
+pub record RunAnswers (ds : List Definition) (input : List ℕ) (steps : ℕ) (ends : Ends) (status : ℕ) : Type 0 where
   pub halts : (n : ℕ) → n ≤ steps → (e : Ending) (w : World) → machine (map code_of ds) input n ≡ Halted e w
       → IsEnd ds input (n + 1) e w ends status
   pub limited : ((n : ℕ) → n ≤ steps → (e : Ending) (w : World) → machine (map code_of ds) input n ≢ Halted e w)
@@ -72,14 +73,15 @@ pub record RunsAsMeant (ds : List Definition) (input : List ℕ) (steps : ℕ) (
   pub endless : ((n : ℕ) → (w : World) × (meant ds input n ≡ Wants w)) → IsLimit ds input steps ends status
 
 -- A source with a fault gets its line, and so does code that doesn't load. Any other program is run.
-pub record AnswersTo (r : compiled.Outcome) (ds : List Definition) (input : List ℕ) (steps : ℕ) (ends : Ends) (status : ℕ) : Type 0 where
+pub record GoAnswers (r : compiled.Outcome) (ds : List Definition) (input : List ℕ) (steps : ℕ) (ends : Ends) (status : ℕ)
+    : Type 0 where
   pub faulty : (fault : Diagnostic) → r.stop ≡ Some fault → Says ends status input [] (line_of fault) FAULT
   pub refused : r.stop ≡ None → (f : LoadFault) (n : ℕ) → load_fault (map code_of ds) ≡ Some f → load_number f ≡ Some n
       → Says ends status input [] (report_text (report.Load n)) REFUSED
-  pub runs : r.stop ≡ None → Loads ds → RunsAsMeant ds input steps ends status
+  pub runs : r.stop ≡ None → Loads ds → RunAnswers ds input steps ends status
 
--- The source that the end gives has one outcome and one program, which are answered and run on the bytes of the input.
+-- For the outcome of the bytes that the source gives, and its program on the bytes that the input gives.
 abbrev pub Headline : (steps : ℕ) (source source_behind : Incoming) (ends : Ends) (status : ℕ) → Type 0
 Headline steps source source_behind ends status =
     (text input : List ℕ) → Tells source text → Tells ends.input input → NothingFailed source source_behind ends status
-    → (r : compiled.Outcome) (g : Goes [] (tokens_from 1 text) r) → AnswersTo r g.definitions input steps ends status
+    → (r : compiled.Outcome) (g : Goes [] (tokens_from 1 text) r) → GoAnswers r g.definitions input steps ends status

@@ -42,9 +42,10 @@ pub record GoesOn (ds : List Definition) (steps : ℕ) (i j : Incoming) (o p : O
   pub no_failure : j.failures ≡ i.failures
   pub output : List ℕ
   pub written : Writes o output p
-  pub begins : (more : List ℕ) → CanFollow j more → IsBeginningOf output (world_of (meant ds (taken ++ more) (steps + 1))).output
-  pub later : (more : List ℕ) → CanFollow j more → (n : ℕ) (e : Ending) (w : World) → meant ds (taken ++ more) n ≡ Ends e w
-      → HaltsLater (machine (map code_of ds) (taken ++ more)) steps e w
+  pub begins : (more : List ℕ) → CanFollow j more
+      → IsBeginningOf output (world_of (meant ds (taken ++ more) (steps + 1))).output
+  pub later : (more : List ℕ) → CanFollow j more → (n : ℕ) (e : Ending) (w : World)
+      → meant ds (taken ++ more) n ≡ Ends e w → HaltsLater (machine (map code_of ds) (taken ++ more)) steps e w
 
 -- A beginning was written of what the program writes.
 pub record BreaksOff (ds : List Definition) (steps : ℕ) (i j : Incoming) (o p : Outgoing) (why : Type 0) : Type 0 where
@@ -64,9 +65,10 @@ RunsAsMeant ds steps i j o p outcome.Limit = GoesOn ds steps i j o p
 RunsAsMeant ds steps i j o p outcome.Device = BreaksOff ds steps i j o p (AnyFailed i j o p)
 RunsAsMeant ds steps i j o p outcome.Memory = BreaksOff ds steps i j o p (NoneFailed i j o p)
 
--- Just so many steps of the program's code were made, or those up to its halt, and what they did is what the program means.
--- The code was never stuck, and no status from 128 on is the program's own.
-pub record DoesAsMeant (ds : List Definition) (steps : ℕ) (i j : Incoming) (o p : Outgoing) (result : Outcome) : Type 0 where
+-- Just so many steps of the program's code were made, or those up to its halt, and what they did is what the program
+-- means. The code was never stuck, and a status of the program's own is below 128.
+pub record DoesAsMeant (ds : List Definition) (steps : ℕ) (i j : Incoming) (o p : Outgoing) (result : Outcome)
+    : Type 0 where
   pub made : RunGives (machine (map code_of ds)) steps i j o p result
   pub meant : RunsAsMeant ds steps i j o p result
   pub not_stuck : result ≢ outcome.Trap trap.Stuck

@@ -16,7 +16,8 @@ use Rattle.b.specs.Reports.{Reported, report_text, load_number}
 use Rattle.b.specs.Runs.{Finishes, Unread, NotLoaded}
 use Rattle.b.specs.declared.report.Report.TheVariants as report
 
-statuses : (DONE ∷ FAULT ∷ TRAP ∷ LIMIT ∷ REFUSED ∷ DEVICE ∷ MEMORY ∷ WRONG_COMMAND ∷ []) ≡ (0 ∷ 1 ∷ 130 ∷ 131 ∷ 132 ∷ 133 ∷ 134 ∷ 135 ∷ [])
+statuses : (DONE ∷ FAULT ∷ TRAP ∷ LIMIT ∷ REFUSED ∷ DEVICE ∷ MEMORY ∷ WRONG_COMMAND ∷ [])
+    ≡ (0 ∷ 1 ∷ 130 ∷ 131 ∷ 132 ∷ 133 ∷ 134 ∷ 135 ∷ [])
 statuses = refl
 
 refused_writes : map status_of (end_fault.Device ∷ end_fault.Memory ∷ []) ≡ (133 ∷ 134 ∷ [])
@@ -54,11 +55,14 @@ last_line : report_text (report.Code 18446744073709551615) ≡ codes "code 18446
 unfolding digits
 last_line = refl
 
-loads : map (λ n. report_text (report.Load n)) (1 ∷ 2 ∷ 3 ∷ 4 ∷ []) ≡ (codes "load 1\n" ∷ codes "load 2\n" ∷ codes "load 3\n" ∷ codes "load 4\n" ∷ [])
+loads : map (λ n. report_text (report.Load n)) (1 ∷ 2 ∷ 3 ∷ 4 ∷ [])
+    ≡ (codes "load 1\n" ∷ codes "load 2\n" ∷ codes "load 3\n" ∷ codes "load 4\n" ∷ [])
 unfolding digits
 loads = refl
 
-load_numbers : map load_number (fault.Duplicate (codes "a") ∷ fault.TooLarge ∷ fault.Undefined (codes "a") ∷ fault.NoMain ∷ fault.Memory ∷ []) ≡ (Some 1 ∷ Some 2 ∷ Some 3 ∷ Some 4 ∷ None ∷ [])
+load_numbers : map load_number
+    (fault.Duplicate (codes "a") ∷ fault.TooLarge ∷ fault.Undefined (codes "a") ∷ fault.NoMain ∷ fault.Memory ∷ [])
+    ≡ (Some 1 ∷ Some 2 ∷ Some 3 ∷ Some 4 ∷ None ∷ [])
 load_numbers = refl
 
 -- The line and the status of each outcome, and of what isn't run.
@@ -66,7 +70,8 @@ module _ (line behind : Outgoing) (status : ℕ) where
   exits : (n : ℕ) → Finishes (outcome.Exit n) line behind status ≡ ((behind ≡ line) × (status ≡ n))
   exits n = refl
 
-  traps : (kind : Trap) → Finishes (outcome.Trap kind) line behind status ≡ Reported (report_text (report.Trap kind)) 130 line behind status
+  traps : (kind : Trap) → Finishes (outcome.Trap kind) line behind status
+      ≡ Reported (report_text (report.Trap kind)) 130 line behind status
   traps kind = refl
 
   limits : Finishes outcome.Limit line behind status ≡ Reported (codes "limit\n") 131 line behind status

@@ -1,0 +1,84 @@
+-- Answers that the contract of `go` excludes, whatever is proved of the body that gives them.
+use Rattle.std.proofs.Common.{◌≡◌, ℕ, zero, suc, ◌+◌, ◌<◌, ◌≤◌, List, [], ◌∷◌, ◌++◌, map, codes, Some, None, refl, sym, ap, ◌∙◌, subst, arith, ⊎_elim}
+use Rattle.std.specs.Io.KnownBytes.{Appends}
+use Rattle.bword.specs.ByteEnds.{Incoming, Outgoing}
+use Rattle.btree.specs.Code.{code_of}
+use Rattle.btree.specs.Compiled as compiled
+use Rattle.btree.specs.Definition.{Definition}
+use Rattle.btree.specs.Expression.{Word, Number, Expr, Named, Literal, Called, No_arguments, Another}
+use Rattle.btree.specs.Statement.{Evaluate, Compound, Stmts, Nothing, More}
+use Rattle.bmach.specs.Machine.{State, Halted, image_of}
+use Rattle.bmach.specs.Runs as runs
+use Rattle.bmach.specs.Runs.{outcome_of}
+use Rattle.bmach.specs.World.{World, Ending, Exited, Trapped}
+use Rattle.bmach.specs.declared.outcome.Outcome.TheVariants as outcome
+use Rattle.bmean.specs.Laws.{Loads}
+use Rattle.b.specs.Going.{RunsProgram}
+use Rattle.b.specs.Headline.{Tells, NothingFailed, RunAnswers}
+use Rattle.b.specs.Runs.{Ends, machine}
+use Rattle.b.proofs.HeadlineSteps.{program_answers}
+use Rattle.b.proofs.MeantSteps.{halted_later}
+
+abbrev main : Stmts → List Definition
+main body = Definition.Function (record { text = codes "main"; line = 1 }) [] (Compound body) ∷ []
+
+-- main(){}, whose second step is the halt
+abbrev nothing : List Definition
+nothing = main Nothing
+
+-- main(){putchar('a');}, which has written after four steps and halts at the seventh
+abbrev writes_a : List Definition
+writes_a = main (More Nothing (Evaluate (Called (Named (record { text = codes "putchar"; line = 1 })) (Another No_arguments (Literal (Number 97))))))
+
+abbrev state : List Definition → ℕ → State
+state ds n = machine (map code_of ds) [] n
+
+pub nothing_halts : map (λ n. outcome_of (state nothing n)) (0 ∷ 1 ∷ 2 ∷ 3 ∷ []) ≡ (outcome.Limit ∷ outcome.Limit ∷ outcome.Exit 0 ∷ outcome.Exit 0 ∷ [])
+nothing_halts = refl
+
+pub writes_limits : map (λ n. outcome_of (state writes_a n)) (3 ∷ 4 ∷ 6 ∷ 7 ∷ []) ≡ (outcome.Limit ∷ outcome.Limit ∷ outcome.Limit ∷ outcome.Exit 0 ∷ [])
+writes_limits = refl
+
+pub writes_outputs : map (λ n. (runs.world_of (state writes_a n)).output) (3 ∷ 4 ∷ 7 ∷ []) ≡ ([] ∷ codes "a" ∷ codes "a" ∷ [])
+writes_outputs = refl
+
+no_end : (e : Ending) (w : World) → outcome.Limit ≡ outcome_of (Halted e w) → ⊥
+no_end (Exited n) w e = cc
+no_end (Trapped kind) w e = cc
+
+-- a machine at its limit has halted at no step before
+still_runs : (ds : List Definition) (steps : ℕ) → outcome_of (state ds steps) ≡ outcome.Limit → (n : ℕ) → n ≤ steps → (e : Ending) (w : World) → state ds n ≡ Halted e w → ⊥
+still_runs ds steps limit n le e w h =
+    no_end e w (sym limit ∙ ap outcome_of (halted_later (image_of (map code_of ds)) [] n steps e w le h))
+
+nothing_written : (o p : Outgoing) (bytes : List ℕ) → o.written ≡ Some [] → p.written ≡ Some [] → Appends o.written p.written bytes → [] ≡ bytes
+nothing_written o p bytes e f a = subst (λ x. Appends (Some []) x bytes) f (subst (λ x. Appends x p.written bytes) e a)
+
+-- Over ends that tell their bytes, with no input, where nothing fails.
+module _ (source source_behind : Incoming) (ends : Ends) (status : ℕ) (told : Tells ends.input []) (healthy : NothingFailed source source_behind ends status) where
+  answers : (steps : ℕ) (ds : List Definition) → Loads ds → RunsProgram steps ds ends status → RunAnswers ds [] steps ends status
+  answers steps ds loads h =
+      (program_answers (record { code = []; stop = None }) ds [] steps source source_behind ends status told healthy refl h).runs refl loads
+
+  -- `limit` in place of a halt: a run of fewer steps
+  pub no_fewer_steps : RunsProgram 2 nothing ends status → status ≡ 131 → ⊥
+  no_fewer_steps h is =
+      let halt = (answers 2 nothing refl h).halts 2 (omega arith) (Exited 0) (runs.world_of (state nothing 2)) refl in
+      let bad : 131 ≡ 0 = sym is ∙ halt.says.answered in
+      omega (arith, bad)
+
+  -- a halt in place of `limit`: a run of more steps
+  pub no_more_steps : RunsProgram 1 nothing ends status → status ≡ 0 → ⊥
+  no_more_steps h is =
+      let limit = (answers 1 nothing refl h).limited (still_runs nothing 1 refl) in
+      let bad : 0 ≡ 131 = sym is ∙ limit.says.answered in
+      omega (arith, bad)
+
+  -- less output than that of the steps
+  pub no_less_output : RunsProgram 4 writes_a ends status → ends.out.written ≡ Some [] → ends.out_behind.written ≡ Some [] → ⊥
+  no_less_output h before behind =
+      let limit = (answers 4 writes_a refl h).limited (still_runs writes_a 4 refl) in
+      let a : codes "a" ≡ limit.world.output = limit.shows.written in
+      let none : [] ≡ limit.world.output = nothing_written ends.out ends.out_behind limit.world.output before behind limit.says.written.appended in
+      let bad : codes "a" ≡ [] = a ∙ sym none in
+      cc
