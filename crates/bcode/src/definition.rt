@@ -57,14 +57,6 @@ impl Function {
     {
         &self.parts
     }
-
-    /// Its parts, to keep.
-    pub fn into_parts(self) -> FunctionParts
-        ensures same { function_of result ≡ self }
-        ensures within { IsFunctionWithinRanges self }
-    {
-        self.parts
-    }
 }
 
 /// What a simple external is made of.
@@ -111,14 +103,6 @@ impl Simple {
         ensures within { IsSimpleWithinRanges self.now }
     {
         &self.parts
-    }
-
-    /// Its parts, to keep.
-    pub fn into_parts(self) -> SimpleParts
-        ensures same { simple_of result ≡ self }
-        ensures within { IsSimpleWithinRanges self }
-    {
-        self.parts
     }
 }
 
@@ -168,14 +152,6 @@ impl Vector {
         ensures within { IsVectorWithinRanges self.now }
     {
         &self.parts
-    }
-
-    /// Its parts, to keep.
-    pub fn into_parts(self) -> VectorParts
-        ensures same { vector_of result ≡ self }
-        ensures within { IsVectorWithinRanges self }
-    {
-        self.parts
     }
 }
 
