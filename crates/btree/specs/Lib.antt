@@ -17,4 +17,5 @@ pub mod Unread
 pub mod Program
 pub mod Compiled
 pub mod OutcomeRows
+pub mod SourceRows
 pub mod Laws
