@@ -18,4 +18,5 @@ pub mod Program
 pub mod Compiled
 pub mod OutcomeRows
 pub mod SourceRows
+pub mod DiagnosticRows
 pub mod Laws
