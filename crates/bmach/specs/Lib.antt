@@ -4,6 +4,7 @@ pub mod Layout
 pub mod LayoutRows
 pub mod Machine
 pub mod MachineRows
+pub mod StepRows
 pub mod Resolved
 pub mod Operations
 pub mod Images

@@ -7,3 +7,4 @@ pub mod Meaning
 pub mod Sentences
 pub mod Laws
 pub mod Rows
+pub mod RunRows

@@ -1,12 +1,13 @@
 -- The value of an expression, and the address of an lvalue.
 use Rattle.std.specs.Prelude.{ℕ, ◌+◌, ◌%◌, List, [], ◌∷◌, ◌++◌, length, Bool, not, Option, Some, None, unwrap_or, ◌==◌, if◌then◌else◌}
+use Rattle.bword.specs.declared.operators.BinOp.TheVariants as op
 use Rattle.bword.specs.Words.{negate_of, not_of}
 use Rattle.btree.specs.Expression.{Expr, Arguments, Negate, Not, Indirection, Address, PreIncrement, PreDecrement, PostIncrement, PostDecrement, Named, Literal, Text, Grouped, Indexed, Called, Postfixed, Prefixed, Binary, Conditional, Assigned, No_arguments, Another}
 use Rattle.btree.specs.Scan.{value_of}
 use Rattle.btree.specs.Code.{Meaning, In_frame, Outside, At_label}
 use Rattle.bmach.specs.declared.outcome.Trap.{Trap}
 use Rattle.bmach.specs.declared.outcome.Trap.TheVariants.{NotAFunction}
-use Rattle.bmach.specs.World.{words, with_words, library, Callee, NoFunction, OfLibrary, OfProgram, callee_of, refusal, parameter_words}
+use Rattle.bmach.specs.World.{words, with_words, stepped, library, Callee, NoFunction, OfLibrary, OfProgram, callee_of, refusal, parameter_words}
 use Rattle.bmach.specs.Layout.{address_in}
 use Rattle.bmean.specs.Answer.{Wants, Computation, ◌>>=◌, gives, trap, fetch, store, operate, answer_of}
 use Rattle.bmean.specs.Remaining.{Remaining}
@@ -77,12 +78,12 @@ module _ (program : Program) (fuel : Fuel) (frame : Frame) where
     value (Postfixed PostIncrement line e) = do
       a ← address e
       x ← fetch a
-      v ← store a ((x + 1) % words)
+      v ← store a (stepped op.Add x)
       gives x
     value (Postfixed PostDecrement line e) = do
       a ← address e
       x ← fetch a
-      v ← store a ((x + 65535) % words)
+      v ← store a (stepped op.Sub x)
       gives x
     value (Prefixed Negate line e) = do
       x ← value e
@@ -97,11 +98,11 @@ module _ (program : Program) (fuel : Fuel) (frame : Frame) where
     value (Prefixed PreIncrement line e) = do
       a ← address e
       x ← fetch a
-      store a ((x + 1) % words)
+      store a (stepped op.Add x)
     value (Prefixed PreDecrement line e) = do
       a ← address e
       x ← fetch a
-      store a ((x + 65535) % words)
+      store a (stepped op.Sub x)
     value (Binary op line e f) = do
       left ← value e
       right ← value f

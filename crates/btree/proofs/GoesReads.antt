@@ -8,7 +8,7 @@ use Rattle.blex.specs.declared.diagnostic.Diagnostic.{Diagnostic}
 use Rattle.btree.specs.Lines.{kept}
 use Rattle.btree.specs.Reading.{Got, Stop}
 use Rattle.btree.specs.ReadingOn.{Fine, goes, halts, Closer}
-use Rattle.btree.specs.Definition.{Definition}
+use Rattle.btree.specs.Definition.{Definition, spell_definition}
 use Rattle.btree.specs.DefinitionReader.{definition}
 use Rattle.btree.specs.Scan.{word_of}
 use Rattle.btree.specs.Code.{fault_of}
@@ -16,7 +16,9 @@ use Rattle.btree.specs.Program.{fault_at}
 use Rattle.btree.specs.Unread.{kept_read}
 use Rattle.btree.specs.Compiled.{Defined, Outcome, text_of, Goes}
 use Rattle.btree.proofs.LawProofs.{reads_on}
-use Rattle.btree.proofs.Outcomes.{Ended}
+use Rattle.btree.proofs.GoingOn.{GoOn, definition_goes_on}
+use Rattle.btree.proofs.ProgramLaws.{read_there}
+use Rattle.btree.proofs.Outcomes.{Ended, ended_behind, go_on_kept}
 use Rattle.btree.proofs.StatementUnread.{lines_unread}
 use Rattle.btree.proofs.GoesLaws.{goes_stop, goes_behind, goes_fault}
 
@@ -48,6 +50,13 @@ stop_taken u v h = go (reads_on u)
 module _ (u v : List Placed) (t : Taken u v) where
   read_kept : definition (map kept t.tokens ++ map kept v) ≡ kept_read (definition u)
   read_kept = ap definition (sym (map-append kept t.tokens v) ∙ ap (map kept) (sym t.split)) ∙ lines_unread u
+
+-- the tokens behind a definition end where these do
+pub ended_read : (u v : List Placed) (d : Definition) → definition u ≡ Got d v → Ended u → Ended v
+ended_read u v d h e =
+    let t = got_taken u v d h in
+    let there : map kept t.tokens ≡ spell_definition d = (read_there t.tokens v d (read_kept u v t ∙ ap kept_read h)).0 in
+    ended_behind t.tokens v (go_on_kept t.tokens (subst GoOn (sym there) (definition_goes_on d))) (subst Ended t.split e)
 
 -- behind a definition without fault
 pub goes_behind_read : (names : Defined) (u v : List Placed) (d : Definition) (r : Outcome) → definition u ≡ Got d v → fault_of names d ≡ None

@@ -23,5 +23,6 @@ pub mod Outcomes
 pub mod GoesLaws
 pub mod GoesReads
 pub mod OutcomeRows
+pub mod SourceRows
 pub mod Unread
 pub mod StatementUnread

@@ -17,4 +17,6 @@ pub mod Unread
 pub mod Program
 pub mod Compiled
 pub mod OutcomeRows
+pub mod SourceRows
+pub mod DiagnosticRows
 pub mod Laws

@@ -5,6 +5,7 @@
 ghost use Rattle.btree.specs.Laws.{BeginsWithName, DefinitionRead, EachSourceComes, ExpressionRead, GoesOnWithElse, HasTwin, OneDefinition, OneExpression, OneStatement, OutcomesAreEqual, ReadsAgain, ReadsOn, ReadsSpelling, StatementRead};
 ghost use Rattle.btree.specs.CodeRows.{CodeRows, CountsWords, FaultRows, ScansOn};
 ghost use Rattle.btree.specs.OutcomeRows.{OutcomeRows};
+ghost use Rattle.btree.specs.SourceRows.{FaultRows as SourceFaultRows, FunctionRows, PlaceRows, WorkedRows};
 ghost use Rattle.btree.specs.Unread.{LinesUnread};
 ghost use Rattle.btree.specs.Rows.{DefinitionRows, ExpressionRows, LevelRows};
 
@@ -96,4 +97,12 @@ pub fn one_outcome()
 /// Sources with what comes of them.
 pub fn rows_of_outcomes()
     ensures { OutcomeRows }
+{}
+
+/// Whole sources, with the code text and the line of the diagnostic that come of each.
+pub fn rows_of_sources()
+    ensures definitions { WorkedRows }
+    ensures functions { FunctionRows }
+    ensures faults { SourceFaultRows }
+    ensures places { PlaceRows }
 {}

@@ -1,0 +1,464 @@
+-- What comes of whole sources, by reading them one definition at a time.
+use Rattle.std.proofs.Common.{◌≡◌, ℕ, zero, suc, List, [], ◌∷◌, ◌++◌, sym, ap, ◌∙◌, refl, subst}
+use Rattle.std.specs.Prelude.{codes, Option, Some, None}
+use Rattle.std.specs.Fmt.{digits}
+use Rattle.blex.specs.Pieces.{whole, word_of as word_token, keyword_of, number_in, with_byte, escape_of, operator_of, other_of, fixed_of}
+use Rattle.blex.specs.declared.token.Token.{Token}
+use Rattle.blex.specs.declared.token.Token.TheVariants as token
+use Rattle.blex.specs.declared.token.Placed.{Placed}
+use Rattle.blex.specs.declared.diagnostic.Diagnostic.{Diagnostic}
+use Rattle.blex.specs.Tokens.{tokens_from, cut, longest, greatest}
+use Rattle.btree.specs.Reading.{Read, Got, Stop, first}
+use Rattle.btree.specs.Definition.{Definition}
+use Rattle.btree.specs.DefinitionReader.{definition}
+use Rattle.btree.specs.Scan.{word_of}
+use Rattle.btree.specs.Code.{fault_of}
+use Rattle.btree.specs.Program.{fault_at}
+use Rattle.btree.specs.Compiled.{Defined, Outcome, text_of, Goes, code_text}
+use Rattle.btree.specs.SourceRows.{fault_text, Comes, WorkedRows, FunctionRows, FaultRows, PlaceRows}
+use Rattle.btree.proofs.Outcomes.{Ended}
+use Rattle.btree.proofs.GoesLaws.{goes_end, tokens_from-ended}
+use Rattle.btree.proofs.GoesReads.{goes_behind_read, goes_fault_read, goes_stop_read, ended_read}
+
+abbrev pub Later : Type 0
+Later = Defined → List Placed → Option Outcome
+
+abbrev pub with_text : List ℕ → Option Outcome → Option Outcome
+with_text text None = None
+with_text text (Some r) = Some (record { code = text ∷ r.code; stop = r.stop })
+
+abbrev pub at_definition : Later → Defined → Option Diagnostic → Definition → List Placed → Option Outcome
+at_definition later names (Some fault) d rest = Some (record { code = []; stop = Some fault })
+at_definition later names None d rest = with_text (text_of d) (later (names ++ (word_of d).text ∷ []) rest)
+
+abbrev pub at_stop : List Placed → Option Outcome
+at_stop [] = None
+at_stop (at ∷ rest) = Some (record { code = []; stop = Some (fault_at at) })
+
+abbrev pub at_read : Later → Defined → Read Definition → Option Outcome
+at_read later names (Got d rest) = at_definition later names (fault_of names d) d rest
+at_read later names (Stop rest) = at_stop rest
+
+abbrev pub at_first : Later → Defined → Token → List Placed → Option Outcome
+at_first later names token.End ts = Some (record { code = []; stop = None })
+at_first later names t ts = at_read later names (definition ts)
+
+-- what comes of at most so many definitions
+abbrev pub outcome_at : ℕ → Later
+outcome_at zero names ts = None
+outcome_at (suc n) names ts = at_first (λ names ts. outcome_at n names ts) names (first ts) ts
+
+module _ (later : Later) (sound : (names : Defined) (ts : List Placed) (r : Outcome) → Ended ts → later names ts ≡ Some r → Goes names ts r) (names : Defined) where
+  with_text_sound : (u v : List Placed) (d : Definition) (o : Option Outcome) (r : Outcome) → Ended v → definition u ≡ Got d v → fault_of names d ≡ None → later (names ++ (word_of d).text ∷ []) v ≡ o → with_text (text_of d) o ≡ Some r → Goes names u r
+  with_text_sound u v d None r e h clean is from = cc
+  with_text_sound u v d (Some q) r e h clean is from =
+      let same : record { code = text_of d ∷ q.code; stop = q.stop } ≡ r = cc in
+      subst (λ x. Goes names u x) same (goes_behind_read names u v d q h clean (sound (names ++ (word_of d).text ∷ []) v q e is))
+
+  definition_sound : (u v : List Placed) (d : Definition) (f : Option Diagnostic) (r : Outcome) → Ended v → definition u ≡ Got d v → fault_of names d ≡ f → at_definition later names f d v ≡ Some r → Goes names u r
+  definition_sound u v d (Some fault) r e h is from =
+      let same : record { code = []; stop = Some fault } ≡ r = cc in
+      subst (λ x. Goes names u x) same (goes_fault_read names u v d fault h is e)
+  definition_sound u v d None r e h is from = with_text_sound u v d (later (names ++ (word_of d).text ∷ []) v) r e h is refl from
+
+  stop_sound : (u v : List Placed) (r : Outcome) → (first u ≡ token.End → ⊥) → definition u ≡ Stop v → at_stop v ≡ Some r → Goes names u r
+  stop_sound u [] r n h from = cc
+  stop_sound u (at ∷ rest) r n h from =
+      let same : record { code = []; stop = Some (fault_at at) } ≡ r = cc in
+      subst (λ x. Goes names u x) same (goes_stop_read names u rest at h (λ e q. n (ap first q ∙ e)))
+
+  read_sound : (u : List Placed) (x : Read Definition) (r : Outcome) → Ended u → (first u ≡ token.End → ⊥) → definition u ≡ x → at_read later names x ≡ Some r → Goes names u r
+  read_sound u (Got d v) r e n h from = definition_sound u v d (fault_of names d) r (ended_read u v d h e) h refl from
+  read_sound u (Stop v) r e n h from = stop_sound u v r n h from
+
+  first_sound : (t : Token) (u : List Placed) (r : Outcome) → Ended u → first u ≡ t → at_first later names t u ≡ Some r → Goes names u r
+  first_sound t [] r e is from = absurd e
+  first_sound token.End (p ∷ ts) r e is from =
+      let same : record { code = []; stop = None } ≡ r = cc in
+      subst (λ x. Goes names (p ∷ ts) x) same (goes_end names p ts is)
+  first_sound _ (p ∷ ts) r e is from = read_sound (p ∷ ts) (definition (p ∷ ts)) r e (λ n. cc) refl from
+
+pub outcome_sound : (n : ℕ) (names : Defined) (ts : List Placed) (r : Outcome) → Ended ts → outcome_at n names ts ≡ Some r → Goes names ts r
+outcome_sound zero names ts r e h = cc
+outcome_sound (suc n) names ts r e h = first_sound (outcome_at n) (outcome_sound n) names (first ts) ts r e refl h
+
+-- the code text and the line
+abbrev pub written : Option Outcome → Option (List ℕ × List ℕ)
+written None = None
+written (Some r) = Some (code_text r, fault_text r.stop)
+
+written_comes : (source : List ℕ) (o : Option Outcome) (code line : List ℕ) → outcome_at 8 [] (tokens_from 1 source) ≡ o → written o ≡ Some (code, line) → Comes source code line
+written_comes source None code line h w = cc
+written_comes source (Some r) code line h w =
+    let pair : (code_text r, fault_text r.stop) ≡ (code, line) = cc in
+    record {
+      outcome = r;
+      goes = outcome_sound 8 [] (tokens_from 1 source) r (tokens_from-ended 1 source) h;
+      code_is = ap (λ (p : List ℕ × List ℕ). p.0) pair;
+      line_is = ap (λ (p : List ℕ × List ℕ). p.1) pair;
+    }
+
+-- at most eight definitions
+comes : {source code line : List ℕ} → written (outcome_at 8 [] (tokens_from 1 source)) ≡ Some (code, line) → Comes source code line
+comes {source} {code} {line} h = written_comes source (outcome_at 8 [] (tokens_from 1 source)) code line refl h
+
+worked_empty : Comes [] (codes "E\n") []
+unfolding tokens_from cut longest greatest whole word_token keyword_of number_in with_byte escape_of operator_of other_of fixed_of digits
+worked_empty = comes refl
+
+worked_number : Comes (codes "n 2000;") (codes "X n 1 0\nc 2000\nE\n") []
+unfolding tokens_from cut longest greatest whole word_token keyword_of number_in with_byte escape_of operator_of other_of fixed_of digits
+worked_number = comes refl
+
+worked_twice : Comes (codes "a;a;") (codes "X a 0 0\n") (codes "rd a 1\n")
+unfolding tokens_from cut longest greatest whole word_token keyword_of number_in with_byte escape_of operator_of other_of fixed_of digits
+worked_twice = comes refl
+
+worked_open_comment : Comes (codes "a; /* x") (codes "X a 0 0\n") (codes "*/ 1\n")
+unfolding tokens_from cut longest greatest whole word_token keyword_of number_in with_byte escape_of operator_of other_of fixed_of digits
+worked_open_comment = comes refl
+
+worked_values : Comes (codes "s \"ab\", t, 'x'; t;") (codes "X s 3 2\ns 0\nx t\nc 120\nw 25185\nw 4\nX t 0 0\nE\n") []
+unfolding tokens_from cut longest greatest whole word_token keyword_of number_in with_byte escape_of operator_of other_of fixed_of digits
+worked_values = comes refl
+
+worked_vector_values : Comes (codes "v[2] 1,2,3,4;") (codes "V v 4 4 0\nc 1\nc 2\nc 3\nc 4\nE\n") []
+unfolding tokens_from cut longest greatest whole word_token keyword_of number_in with_byte escape_of operator_of other_of fixed_of digits
+worked_vector_values = comes refl
+
+worked_vector_value : Comes (codes "v[5] 1;") (codes "V v 6 1 0\nc 1\nE\n") []
+unfolding tokens_from cut longest greatest whole word_token keyword_of number_in with_byte escape_of operator_of other_of fixed_of digits
+worked_vector_value = comes refl
+
+worked_empty_brackets : Comes (codes "v[];") (codes "V v 1 0 0\nE\n") []
+unfolding tokens_from cut longest greatest whole word_token keyword_of number_in with_byte escape_of operator_of other_of fixed_of digits
+worked_empty_brackets = comes refl
+
+worked_largest_vector : Comes (codes "v[32766];") (codes "V v 32767 0 0\nE\n") []
+unfolding tokens_from cut longest greatest whole word_token keyword_of number_in with_byte escape_of operator_of other_of fixed_of digits
+worked_largest_vector = comes refl
+
+worked_too_large_vector : Comes (codes "v[32767];") [] (codes ">e 1\n")
+unfolding tokens_from cut longest greatest whole word_token keyword_of number_in with_byte escape_of operator_of other_of fixed_of digits
+worked_too_large_vector = comes refl
+
+worked_two_characters : Comes (codes "n 'ab';") (codes "X n 1 0\nc 24930\nE\n") []
+unfolding tokens_from cut longest greatest whole word_token keyword_of number_in with_byte escape_of operator_of other_of fixed_of digits
+worked_two_characters = comes refl
+
+worked_octal_number : Comes (codes "n/*x*/017;") (codes "X n 1 0\nc 15\nE\n") []
+unfolding tokens_from cut longest greatest whole word_token keyword_of number_in with_byte escape_of operator_of other_of fixed_of digits
+worked_octal_number = comes refl
+
+worked_long_name : Comes (codes "abcdefghi;") [] (codes "nm 1\n")
+unfolding tokens_from cut longest greatest whole word_token keyword_of number_in with_byte escape_of operator_of other_of fixed_of digits
+worked_long_name = comes refl
+
+worked_octal_8 : Comes (codes "n 08;") [] (codes "ct 1\n")
+unfolding tokens_from cut longest greatest whole word_token keyword_of number_in with_byte escape_of operator_of other_of fixed_of digits
+worked_octal_8 = comes refl
+
+worked_large_number : Comes (codes "n 65536;") [] (codes "ct 1\n")
+unfolding tokens_from cut longest greatest whole word_token keyword_of number_in with_byte escape_of operator_of other_of fixed_of digits
+worked_large_number = comes refl
+
+worked_no_character : Comes (codes "n '';") [] (codes "ct 1\n")
+unfolding tokens_from cut longest greatest whole word_token keyword_of number_in with_byte escape_of operator_of other_of fixed_of digits
+worked_no_character = comes refl
+
+worked_no_token : Comes (codes "n #;") [] (codes "ch 1\n")
+unfolding tokens_from cut longest greatest whole word_token keyword_of number_in with_byte escape_of operator_of other_of fixed_of digits
+worked_no_token = comes refl
+
+worked_signed_value : Comes (codes "n -1;") [] (codes "sx 1\n")
+unfolding tokens_from cut longest greatest whole word_token keyword_of number_in with_byte escape_of operator_of other_of fixed_of digits
+worked_signed_value = comes refl
+
+worked_no_end : Comes (codes "n 5") [] (codes "sx 1\n")
+unfolding tokens_from cut longest greatest whole word_token keyword_of number_in with_byte escape_of operator_of other_of fixed_of digits
+worked_no_end = comes refl
+
+pub worked_rows : WorkedRows
+worked_rows = record {
+  empty = worked_empty;
+  number = worked_number;
+  twice = worked_twice;
+  open_comment = worked_open_comment;
+  values = worked_values;
+  vector_values = worked_vector_values;
+  vector_value = worked_vector_value;
+  empty_brackets = worked_empty_brackets;
+  largest_vector = worked_largest_vector;
+  too_large_vector = worked_too_large_vector;
+  two_characters = worked_two_characters;
+  octal_number = worked_octal_number;
+  long_name = worked_long_name;
+  octal_8 = worked_octal_8;
+  large_number = worked_large_number;
+  no_character = worked_no_character;
+  no_token = worked_no_token;
+  signed_value = worked_signed_value;
+  no_end = worked_no_end;
+}
+
+function_nothing : Comes (codes "main(){}") (codes "F main 0 0 0 0 2\nc 0\nr\nE\n") []
+unfolding tokens_from cut longest greatest whole word_token keyword_of number_in with_byte escape_of operator_of other_of fixed_of digits
+function_nothing = comes refl
+
+function_a_statement : Comes (codes "f() ;") (codes "F f 0 0 0 0 2\nc 0\nr\nE\n") []
+unfolding tokens_from cut longest greatest whole word_token keyword_of number_in with_byte escape_of operator_of other_of fixed_of digits
+function_a_statement = comes refl
+
+function_declaration_alone : Comes (codes "main() { auto x; }") [] (codes "sx 1\n")
+unfolding tokens_from cut longest greatest whole word_token keyword_of number_in with_byte escape_of operator_of other_of fixed_of digits
+function_declaration_alone = comes refl
+
+function_open_if : Comes (codes "f() if(1) ; 5") (codes "F f 0 0 0 0 4\nc 1\nz 2\nc 0\nr\n") (codes "sx 1\n")
+unfolding tokens_from cut longest greatest whole word_token keyword_of number_in with_byte escape_of operator_of other_of fixed_of digits
+function_open_if = comes refl
+
+function_open_else : Comes (codes "f() if(1) ; else )") [] (codes "sx 1\n")
+unfolding tokens_from cut longest greatest whole word_token keyword_of number_in with_byte escape_of operator_of other_of fixed_of digits
+function_open_else = comes refl
+
+function_lvalue_behind_syntax : Comes (codes "f() { 1 = 2; ) }") [] (codes "sx 1\n")
+unfolding tokens_from cut longest greatest whole word_token keyword_of number_in with_byte escape_of operator_of other_of fixed_of digits
+function_lvalue_behind_syntax = comes refl
+
+function_names_behind_syntax : Comes (codes "f() { auto a, a; ) }") [] (codes "sx 1\n")
+unfolding tokens_from cut longest greatest whole word_token keyword_of number_in with_byte escape_of operator_of other_of fixed_of digits
+function_names_behind_syntax = comes refl
+
+function_negated : Comes (codes "f(a) a=!a;") (codes "F f 1 1 0 0 8\na 0\na 0\nv\nh\nw\np\nc 0\nr\nE\n") []
+unfolding tokens_from cut longest greatest whole word_token keyword_of number_in with_byte escape_of operator_of other_of fixed_of digits
+function_negated = comes refl
+
+function_chosen : Comes (codes "f(x) return(x ? 1 : 2);") (codes "F f 1 1 0 0 9\na 0\nv\nz 5\nc 1\nj 6\nc 2\nr\nc 0\nr\nE\n") []
+unfolding tokens_from cut longest greatest whole word_token keyword_of number_in with_byte escape_of operator_of other_of fixed_of digits
+function_chosen = comes refl
+
+function_loop : Comes (codes "f() while(1) if(2) 3; else 4;") (codes "F f 0 0 0 0 12\nc 1\nz 10\nc 2\nz 7\nc 3\np\nj 9\nc 4\np\nj 0\nc 0\nr\nE\n") []
+unfolding tokens_from cut longest greatest whole word_token keyword_of number_in with_byte escape_of operator_of other_of fixed_of digits
+function_loop = comes refl
+
+function_counted : Comes (codes "f(x) x+++x;") (codes "F f 1 1 0 0 8\na 0\ni 2\na 0\nv\nb +\np\nc 0\nr\nE\n") []
+unfolding tokens_from cut longest greatest whole word_token keyword_of number_in with_byte escape_of operator_of other_of fixed_of digits
+function_counted = comes refl
+
+function_called : Comes (codes "g(x) x(\"hi\",x);") (codes "F g 1 1 0 2 9\nw 26984\nw 4\na 0\nv\ns 0\na 0\nv\nk 2\np\nc 0\nr\nE\n") []
+unfolding tokens_from cut longest greatest whole word_token keyword_of number_in with_byte escape_of operator_of other_of fixed_of digits
+function_called = comes refl
+
+function_external : Comes (codes "f() g();") (codes "F f 0 0 0 0 6\nx g\nv\nk 0\np\nc 0\nr\nE\n") []
+unfolding tokens_from cut longest greatest whole word_token keyword_of number_in with_byte escape_of operator_of other_of fixed_of digits
+function_external = comes refl
+
+function_sum_assigned : Comes (codes "f(a,b,c) a+b=c;") [] (codes "sx 1\n")
+unfolding tokens_from cut longest greatest whole word_token keyword_of number_in with_byte escape_of operator_of other_of fixed_of digits
+function_sum_assigned = comes refl
+
+function_choice_assigned : Comes (codes "f(a,b,c) a?b:c=a;") [] (codes "sx 1\n")
+unfolding tokens_from cut longest greatest whole word_token keyword_of number_in with_byte escape_of operator_of other_of fixed_of digits
+function_choice_assigned = comes refl
+
+function_largest_frame : Comes (codes "f() { auto v 32765; ; }") (codes "F f 0 32767 0 0 6\na 0\na 1\nw\np\nc 0\nr\nE\n") []
+unfolding tokens_from cut longest greatest whole word_token keyword_of number_in with_byte escape_of operator_of other_of fixed_of digits
+function_largest_frame = comes refl
+
+function_endless : Comes (codes "f() { L: goto L; }") (codes "F f 0 0 1 0 4\nt 0\nl 0\ng\nc 0\nr\nE\n") []
+unfolding tokens_from cut longest greatest whole word_token keyword_of number_in with_byte escape_of operator_of other_of fixed_of digits
+function_endless = comes refl
+
+pub function_rows : FunctionRows
+function_rows = record {
+  nothing = function_nothing;
+  a_statement = function_a_statement;
+  declaration_alone = function_declaration_alone;
+  open_if = function_open_if;
+  open_else = function_open_else;
+  lvalue_behind_syntax = function_lvalue_behind_syntax;
+  names_behind_syntax = function_names_behind_syntax;
+  negated = function_negated;
+  chosen = function_chosen;
+  loop = function_loop;
+  counted = function_counted;
+  called = function_called;
+  external = function_external;
+  sum_assigned = function_sum_assigned;
+  choice_assigned = function_choice_assigned;
+  largest_frame = function_largest_frame;
+  endless = function_endless;
+}
+
+fault_no_lvalue : Comes (codes "f() { 1 = 2; }") [] (codes "lv 1\n")
+unfolding tokens_from cut longest greatest whole word_token keyword_of number_in with_byte escape_of operator_of other_of fixed_of digits
+fault_no_lvalue = comes refl
+
+fault_first_lvalue : Comes (codes "f()\n1\n= (2\n= 3);") [] (codes "lv 3\n")
+unfolding tokens_from cut longest greatest whole word_token keyword_of number_in with_byte escape_of operator_of other_of fixed_of digits
+fault_first_lvalue = comes refl
+
+fault_negation_assigned : Comes (codes "f(a,b) -a=b;") [] (codes "lv 1\n")
+unfolding tokens_from cut longest greatest whole word_token keyword_of number_in with_byte escape_of operator_of other_of fixed_of digits
+fault_negation_assigned = comes refl
+
+fault_call_assigned : Comes (codes "f(a) a(1)=2;") [] (codes "lv 1\n")
+unfolding tokens_from cut longest greatest whole word_token keyword_of number_in with_byte escape_of operator_of other_of fixed_of digits
+fault_call_assigned = comes refl
+
+fault_label_assigned : Comes (codes "main(){x=5;}") [] (codes "lv 1\n")
+unfolding tokens_from cut longest greatest whole word_token keyword_of number_in with_byte escape_of operator_of other_of fixed_of digits
+fault_label_assigned = comes refl
+
+fault_undeclared : Comes (codes "main(){return(x);}") [] (codes "un x 1\n")
+unfolding tokens_from cut longest greatest whole word_token keyword_of number_in with_byte escape_of operator_of other_of fixed_of digits
+fault_undeclared = comes refl
+
+fault_mentioned_first : Comes (codes "f() g+g();") [] (codes "un g 1\n")
+unfolding tokens_from cut longest greatest whole word_token keyword_of number_in with_byte escape_of operator_of other_of fixed_of digits
+fault_mentioned_first = comes refl
+
+fault_grouped_callee : Comes (codes "f() (g)();") [] (codes "un g 1\n")
+unfolding tokens_from cut longest greatest whole word_token keyword_of number_in with_byte escape_of operator_of other_of fixed_of digits
+fault_grouped_callee = comes refl
+
+fault_no_label : Comes (codes "f() {\ngoto L;\n}") [] (codes "un L 2\n")
+unfolding tokens_from cut longest greatest whole word_token keyword_of number_in with_byte escape_of operator_of other_of fixed_of digits
+fault_no_label = comes refl
+
+fault_first_undefined : Comes (codes "f() {\ngoto B;\ngoto A; goto B; }") [] (codes "un B 2\n")
+unfolding tokens_from cut longest greatest whole word_token keyword_of number_in with_byte escape_of operator_of other_of fixed_of digits
+fault_first_undefined = comes refl
+
+fault_second_undefined : Comes (codes "f() { goto B;\ngoto A; B: ; }") [] (codes "un A 2\n")
+unfolding tokens_from cut longest greatest whole word_token keyword_of number_in with_byte escape_of operator_of other_of fixed_of digits
+fault_second_undefined = comes refl
+
+fault_parameter_twice : Comes (codes "f(a,a) ;") [] (codes "rd a 1\n")
+unfolding tokens_from cut longest greatest whole word_token keyword_of number_in with_byte escape_of operator_of other_of fixed_of digits
+fault_parameter_twice = comes refl
+
+fault_external_again : Comes (codes "f() {\nextrn a;\nauto a; ; }") [] (codes "rd a 3\n")
+unfolding tokens_from cut longest greatest whole word_token keyword_of number_in with_byte escape_of operator_of other_of fixed_of digits
+fault_external_again = comes refl
+
+fault_label_twice : Comes (codes "f() { L:\nL: ; }") [] (codes "rd L 2\n")
+unfolding tokens_from cut longest greatest whole word_token keyword_of number_in with_byte escape_of operator_of other_of fixed_of digits
+fault_label_twice = comes refl
+
+fault_undefined_last : Comes (codes "f() { L: ; L: ; goto M; }") [] (codes "rd L 1\n")
+unfolding tokens_from cut longest greatest whole word_token keyword_of number_in with_byte escape_of operator_of other_of fixed_of digits
+fault_undefined_last = comes refl
+
+fault_undefined_before : Comes (codes "f() { goto M; L: ; L: ; }") [] (codes "rd L 1\n")
+unfolding tokens_from cut longest greatest whole word_token keyword_of number_in with_byte escape_of operator_of other_of fixed_of digits
+fault_undefined_before = comes refl
+
+fault_case_before : Comes (codes "f() { case 1: ; L: L: ; }") [] (codes "sx case 1\n")
+unfolding tokens_from cut longest greatest whole word_token keyword_of number_in with_byte escape_of operator_of other_of fixed_of digits
+fault_case_before = comes refl
+
+fault_no_switch : Comes (codes "f()\ncase 1: ;") [] (codes "sx case 2\n")
+unfolding tokens_from cut longest greatest whole word_token keyword_of number_in with_byte escape_of operator_of other_of fixed_of digits
+fault_no_switch = comes refl
+
+fault_same_case : Comes (codes "f() switch 1 {\ncase 2: ;\ncase 2: ; }") [] (codes "rd case 3\n")
+unfolding tokens_from cut longest greatest whole word_token keyword_of number_in with_byte escape_of operator_of other_of fixed_of digits
+fault_same_case = comes refl
+
+fault_outer_case : Comes (codes "f() switch 1 { case 1: switch 2 { case 1: ; } case 1: ; }") [] (codes "rd case 1\n")
+unfolding tokens_from cut longest greatest whole word_token keyword_of number_in with_byte escape_of operator_of other_of fixed_of digits
+fault_outer_case = comes refl
+
+fault_two_switches : Comes (codes "f() { switch 1 { case 1: ; } switch 2 { case 1: ; } }") (codes "F f 0 0 0 0 12\nc 1\nj 3\nj 5\ne 1 2\np\nc 2\nj 8\nj 10\ne 1 7\np\nc 0\nr\nE\n") []
+unfolding tokens_from cut longest greatest whole word_token keyword_of number_in with_byte escape_of operator_of other_of fixed_of digits
+fault_two_switches = comes refl
+
+fault_too_large_frame : Comes (codes "f() { auto v 32766; ; }") [] (codes ">e 1\n")
+unfolding tokens_from cut longest greatest whole word_token keyword_of number_in with_byte escape_of operator_of other_of fixed_of digits
+fault_too_large_frame = comes refl
+
+fault_undefined_and_too_large : Comes (codes "f() { auto v 32766; x; }") [] (codes "un x 1\n")
+unfolding tokens_from cut longest greatest whole word_token keyword_of number_in with_byte escape_of operator_of other_of fixed_of digits
+fault_undefined_and_too_large = comes refl
+
+fault_defined_and_too_large : Comes (codes "v; v[32767];") (codes "X v 0 0\n") (codes "rd v 1\n")
+unfolding tokens_from cut longest greatest whole word_token keyword_of number_in with_byte escape_of operator_of other_of fixed_of digits
+fault_defined_and_too_large = comes refl
+
+pub fault_rows : FaultRows
+fault_rows = record {
+  no_lvalue = fault_no_lvalue;
+  first_lvalue = fault_first_lvalue;
+  negation_assigned = fault_negation_assigned;
+  call_assigned = fault_call_assigned;
+  label_assigned = fault_label_assigned;
+  undeclared = fault_undeclared;
+  mentioned_first = fault_mentioned_first;
+  grouped_callee = fault_grouped_callee;
+  no_label = fault_no_label;
+  first_undefined = fault_first_undefined;
+  second_undefined = fault_second_undefined;
+  parameter_twice = fault_parameter_twice;
+  external_again = fault_external_again;
+  label_twice = fault_label_twice;
+  undefined_last = fault_undefined_last;
+  undefined_before = fault_undefined_before;
+  case_before = fault_case_before;
+  no_switch = fault_no_switch;
+  same_case = fault_same_case;
+  outer_case = fault_outer_case;
+  two_switches = fault_two_switches;
+  too_large_frame = fault_too_large_frame;
+  undefined_and_too_large = fault_undefined_and_too_large;
+  defined_and_too_large = fault_defined_and_too_large;
+}
+
+place_comment : Comes (codes "a;\n/* x") (codes "X a 0 0\n") (codes "*/ 2\n")
+unfolding tokens_from cut longest greatest whole word_token keyword_of number_in with_byte escape_of operator_of other_of fixed_of digits
+place_comment = comes refl
+
+place_character : Comes (codes "a;\n #") (codes "X a 0 0\n") (codes "ch 2\n")
+unfolding tokens_from cut longest greatest whole word_token keyword_of number_in with_byte escape_of operator_of other_of fixed_of digits
+place_character = comes refl
+
+place_name : Comes (codes "a;\n\nabcdefghi;") (codes "X a 0 0\n") (codes "nm 3\n")
+unfolding tokens_from cut longest greatest whole word_token keyword_of number_in with_byte escape_of operator_of other_of fixed_of digits
+place_name = comes refl
+
+place_constant : Comes (codes "n\n65536;") [] (codes "ct 2\n")
+unfolding tokens_from cut longest greatest whole word_token keyword_of number_in with_byte escape_of operator_of other_of fixed_of digits
+place_constant = comes refl
+
+place_quoted : Comes (codes "n\n 'a\n';") [] (codes "ct 2\n")
+unfolding tokens_from cut longest greatest whole word_token keyword_of number_in with_byte escape_of operator_of other_of fixed_of digits
+place_quoted = comes refl
+
+place_token : Comes (codes "n\n/*\n*/ -1;") [] (codes "sx 3\n")
+unfolding tokens_from cut longest greatest whole word_token keyword_of number_in with_byte escape_of operator_of other_of fixed_of digits
+place_token = comes refl
+
+place_source : Comes (codes "n 5\n") [] (codes "sx 2\n")
+unfolding tokens_from cut longest greatest whole word_token keyword_of number_in with_byte escape_of operator_of other_of fixed_of digits
+place_source = comes refl
+
+place_definition : Comes (codes "a;\na;") (codes "X a 0 0\n") (codes "rd a 2\n")
+unfolding tokens_from cut longest greatest whole word_token keyword_of number_in with_byte escape_of operator_of other_of fixed_of digits
+place_definition = comes refl
+
+place_too_large : Comes (codes "\nv[\n32767];") [] (codes ">e 2\n")
+unfolding tokens_from cut longest greatest whole word_token keyword_of number_in with_byte escape_of operator_of other_of fixed_of digits
+place_too_large = comes refl
+
+pub place_rows : PlaceRows
+place_rows = record {
+  comment = place_comment;
+  character = place_character;
+  name = place_name;
+  constant = place_constant;
+  quoted = place_quoted;
+  token = place_token;
+  source = place_source;
+  definition = place_definition;
+  too_large = place_too_large;
+}
