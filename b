@@ -26,7 +26,7 @@ is_stale() { [ ! -x "$program" ] || is_behind "$program" "$top/crates"; }
 rt_in() {
     local folder=$top/crates/$1 status
     shift
-    (cd "$folder" && exec rt "$@") &
+    (cd "$folder" && exec rt "$@") <&0 &
     child=$!
     wait "$child"
     status=$?
@@ -111,10 +111,12 @@ build() {
     say "proving takes 8 to 16 minutes the first time, and then what changed alone"
     for crate in "${all[@]}"; do
         at=$((at + 1))
-        [ -n "$is_new" ] || is_behind "$top/crates/$crate/out/rlib/stamp" "$top/crates/$crate" || continue
+        [ "$crate" = b ] || [ "$is_new" ] || is_behind "$top/crates/$crate/out/rlib/stamp" "$top/crates/$crate" || continue
         is_new=1
         say "proving $crate, $at of ${#all[@]}"
-        [ "$crate" = b ] || rt_in "$crate" lib >"$log" 2>&1 </dev/null || break
+        [ "$crate" != b ] || break
+        rt_in "$crate" lib >"$log" 2>&1 </dev/null || break
+        touch -r "$mark" "$top/crates/$crate/out/rlib/stamp"
     done
     if [ "$crate" != b ] || ! rt_in b run -- compile >"$log" 2>&1 </dev/null; then
         cat "$log" >&2
