@@ -729,8 +729,36 @@ main() { printn(6 * 7, 10); putchar('*n'); }
 ~42
 @
 main() { extrn n; printn(n, 10); } n 42;
-~42";
+~42@
+/* The squares of 1 to 5. */
+main() {
+    auto i;
+    i = 1;
+    while(i <= 5) {
+        printn(i * i, 10);
+        putchar('*n');
+        i++;
+    }
+}
+~1
+4
+9
+16
+25
+";
     all_write(&rt, rows);
+    let no_word = "\
+/* The squares of 1 to 5. */
+main() {
+    i = 1;
+    while(i <= 5) {
+        printn(i * i, 10);
+        putchar('*n');
+        i++;
+    }
+}
+";
+    runs(&rt, no_word, "", STEPS, "", "lv 3\n", 1);
     let undeclared = "main() { printn(n, 10); } n 42;\n";
     runs(&rt, undeclared, "", STEPS, "", "un n 1\n", 1);
     let zero = "main() { putchar('a'); printn(1 / 0, 10); }\n";
