@@ -70,20 +70,25 @@ keep_input() {
     fi
 }
 
-# Puts the place of FILE among the words into `place`: the last that is no option, behind the name of the command.
+# Puts the place of FILE among the words of `go` or `run` into `place`, or 0 where there isn't just one.
 find_file() {
-    local at
+    local at count=0
     place=0
+    [[ ${1-} == go || ${1-} == run ]] || return 0
     for ((at = 2; at <= $#; at++)); do
-        [[ ${!at} == -* || ${@:at-1:1} == --steps ]] || place=$at
+        [[ ${!at} == -* || ${@:at-1:1} == --steps ]] || { place=$at count=$((count + 1)); }
     done
+    [ "$count" -eq 1 ] || place=0
 }
 
 # Gives the answer of an unproved run, whose status is then in `status`. Returns 1 where there is none.
 answer_unproved() {
-    local place words=("$@") file= data=()
-    [ "${1-}" != compile ] || return 1
+    local place words=("$@") file= data=() behind=
+    [ "$*" != compile ] || return 1
     find_file "$@"
+    if [ "$place" -gt 0 ]; then
+        behind=", and then the proof goes on"
+    fi
     if [ "$place" -gt 0 ] && [ -e "${!place}" ]; then
         file=$(readlink -f -- "${!place}")
         # What is no file, or has a name that the program may refuse, is left to the program.
@@ -92,12 +97,17 @@ answer_unproved() {
         data=(--data "given.b=$file")
     fi
     keep_input "$file" || return 1
-    say "not proved yet: an unproved, checked run answers in half a minute, and then the proof goes on"
+    say "not proved yet: an unproved, checked run answers in half a minute$behind"
     rt_in b try ${data[@]+"${data[@]}"} -- "${words[@]}" <"$work/input" >"$work/out" 2>"$work/said"
     [[ $(tail -n 1 "$work/said") =~ ^run=ended\ status=([0-9]+)\ .*proved=no$ ]] || return 1
     status=${BASH_REMATCH[1]}
-    cat "$work/out"
-    sed '$d' "$work/said" | sed '${/^checked: ended /d}' >&2
+    if cat "$work/out" 2>/dev/null; then
+        sed '$d' "$work/said" | sed '${/^checked: ended /d}' >&2
+    else
+        status=133
+    fi
+    # Help and a wrong command line need no program behind them.
+    [ "$behind" ] || exit "$status"
 }
 
 # The crates up to the program, each behind those that it uses.
