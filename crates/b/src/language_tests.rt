@@ -221,7 +221,48 @@ main() printn(fact(7), 10);
 twice(f, x) return(f(f(x)));
 add3(x) return(x + 3);
 main() { extrn add3; printn(twice(add3, 1), 10); }
-~7";
+~7@
+main() {
+    auto a, b;
+    a = -1;
+    printn((a && b) == &b, 10);
+    a = 5;
+    if(a===3) putchar('t');
+    printn(a, 10);
+    putchar('\\n');
+    switch 5 { case 1: putchar('1'); default: putchar('d'); }
+    printn(\"ab\"[0], 10);
+}
+~10\\n25185@
+main() {
+    auto a, b, x, i, v 10, s;
+    a = 1; b = 0;
+    printn(a & b, 10); printn(a ? b : 0, 10); printn(a | b, 10); printn(a ? 1 : b, 10);
+    x = 5; x =+ 2; x =- 1; printn(x, 10);
+    x = -1; printn(x, 10);
+    if(a == b) putchar('n');
+    v[10] = 3; printn(v[10], 10);
+    i = 0; while(i < 3) { printn(i, 10); i++; }
+    i = 0;
+again:
+    i++; if(i < 3) goto again;
+    while(1) { if(i == 5) goto out; i++; }
+out:
+    printn(i, 10); printn(kind(7), 10); printn(kind(-1), 10);
+    putchar(char(\"ab\", 1)); s = \"say *\"hi*\"\"; putchar(char(s, 4));
+    printn(037, 10); putchar('ab'); putchar('cd'); putchar('*n');
+}
+kind(x) {
+    switch x { case 65535: return(1); case 7: goto out; }
+    return(0);
+out: return(9);
+}
+~00116-13012591b\"31abcd
+@
+int x;
+x 5;
+main() { extrn int, x; printn(int == &x, 10); }
+~1";
     all_write(&rt, rows);
 }
 
@@ -269,6 +310,8 @@ v[30000]; w[30000]; x[10000]; main() ;~load 2
 main() g();~load 3
 @
 main;~load 4
+@
+main() printf(\"hi\");~load 3
 ";
     all_stop(&rt, refused, STEPS, 132);
 }
@@ -314,6 +357,59 @@ a; a; )~X a 0 0
 ~rd a 1
 @
 f() { x; auto a, a; ; }~~rd a 1
+@
+main() { auto a, b; if(a || b) ; }~~sx 1
+@
+main() { auto x; x += 2; }~~sx 1
+@
+main() { auto x; x -= 2; }~~sx 1
+@
+main() { return 5; }~~sx 1
+@
+main() { auto v[10]; ; }~~sx 1
+@
+main() { auto i = 0; ; }~~sx 1
+@
+main() { int i; ; }~~sx 1
+@
+n = 5;~~sx 1
+@
+main() { auto i; for(i = 0; i < 3; i++) ; }~~sx 1
+@
+main() { auto i; i = 0; do i++; while(i < 3); }~~sx 1
+@
+main() while(1) break;~~un break 1
+@
+main() while(1) continue;~~un continue 1
+@
+main() switch 1 case 1: ;~~sx 1
+@
+main() switch 1 { case -1: ; }~~sx 1
+@
+main() say(\"say \\\"hi\\\"\");~~sx 1
+@
+n 0x1F;~~sx 1
+@
+// remark~~sx 1
+@
+main() { };~F main 0 0 0 0 2
+c 0
+r
+~sx 1
+@
+main() { n = 5; }~~lv 1
+@
+n 'abcd';~~ct 1
+@
+n 5;\r\n~X n 1 0
+c 5
+~ch 1
+@
+\u{feff}n 5;~~ch 1
+@
+n 5;\x0cm 6;~X n 1 0
+c 5
+~ch 1
 ";
     all_have_faults(&rt, rows);
 }
@@ -382,6 +478,10 @@ c 3
 E
 @
 v[32766];~V v 32767 0 0
+E
+@
+n 5; /* \r\x0c\u{feff} */~X n 1 0
+c 5
 E
 ";
     all_compile(&rt, rows);
@@ -629,8 +729,36 @@ main() { printn(6 * 7, 10); putchar('*n'); }
 ~42
 @
 main() { extrn n; printn(n, 10); } n 42;
-~42";
+~42@
+/* The squares of 1 to 5. */
+main() {
+    auto i;
+    i = 1;
+    while(i <= 5) {
+        printn(i * i, 10);
+        putchar('*n');
+        i++;
+    }
+}
+~1
+4
+9
+16
+25
+";
     all_write(&rt, rows);
+    let no_word = "\
+/* The squares of 1 to 5. */
+main() {
+    i = 1;
+    while(i <= 5) {
+        printn(i * i, 10);
+        putchar('*n');
+        i++;
+    }
+}
+";
+    runs(&rt, no_word, "", STEPS, "", "lv 3\n", 1);
     let undeclared = "main() { printn(n, 10); } n 42;\n";
     runs(&rt, undeclared, "", STEPS, "", "un n 1\n", 1);
     let zero = "main() { putchar('a'); printn(1 / 0, 10); }\n";

@@ -58,6 +58,9 @@ fn answers(
     Ok(())
 }
 
+// The version that README.md tells.
+const VERSION: &str = "b 1.0.0, proved with rattle-kit-13b logic dac8208d650f15bf\n";
+
 // The commands of help. Each run of the tests has a folder of its own.
 #[test]
 fn the_commands(rt: HostRuntime) -> Result<(), Fail> {
@@ -82,6 +85,8 @@ fn the_commands(rt: HostRuntime) -> Result<(), Fail> {
         "limit\n",
         131,
     )?;
+    answers(&rt, "b run --no-limit hello.code", "hello, world\n", "", 0)?;
+    answers(&rt, "b --version", VERSION, "", 0)?;
     fs::remove_file(&rt, "hello.b")?;
     fs::remove_file(&rt, "hello.code")?;
     answers(&rt, "b go hello.b", "", "", 133)
@@ -91,11 +96,19 @@ fn the_commands(rt: HostRuntime) -> Result<(), Fail> {
 fn wrong_command_lines(rt: HostRuntime) -> Result<(), Fail> {
     let rows = "\
 b~error: 'b' requires a subcommand but one was not provided
+@
 b run~error: the following required arguments were not provided:
-b compile x~error: unexpected argument 'x' found
+@
+b compile hello.b~error: unexpected argument 'hello.b' found
+
+Usage: b compile < FILE
+@
 b walk~error: unrecognized subcommand 'walk'
-b go --steps 0 x~error: invalid value '0' for '--steps <N>': ";
-    for row in rows.lines() {
+@
+b go --steps 0 x~error: invalid value '0' for '--steps <N>':
+@
+b run --steps 5 --no-limit x~error: the argument '--steps <N>' cannot be used with '--no-limit'";
+    for row in rows.split("\n@\n") {
         let (words, wrong) = row.split_once('~').unwrap_or((row, ""));
         let (out, diag) = serves(&rt, words, "", 135)?;
         assert!(rt; out.bytes().is_empty(), "the output of {words}");

@@ -1,0 +1,162 @@
+//! The order of what a process reads and writes, in a log of its streams.
+use crate::example_tests::GUESS;
+use crate::in_order::{Streams, serve_in_order};
+use bparse::Status;
+use std::alloc::Global;
+use std::cell::RefCell;
+use std::fs;
+use std::io::{self, ErrorKind, Read, Write};
+use std::process::Abort;
+use std::rt::Files;
+use std::test::Fail;
+
+// What the streams did, in turn.
+type Log = RefCell<Vec<u8>>;
+
+fn note(log: &Log, bytes: &[u8]) -> io::Result<()> {
+    match log.try_borrow_mut() {
+        Ok(mut log) => Ok(log.extend_from_slice(bytes)?),
+        Err(_) => Err(io::Error::from(ErrorKind::Other)),
+    }
+}
+
+// A stream whose calls are noted with a mark before them, or which is closed.
+#[derive(Drop)]
+struct Noted<'a> {
+    log: &'a Log,
+    mark: &'a str,
+    is_open: bool,
+    to_come: &'a [u8],
+}
+
+impl Noted<'_> {
+    fn note_call(&self, bytes: &[u8]) -> io::Result<()> {
+        if !self.is_open {
+            return Err(io::Error::from(ErrorKind::Other));
+        }
+        note(self.log, self.mark.as_bytes())?;
+        note(self.log, bytes)
+    }
+}
+
+// It gives up to two bytes a read.
+impl Read for Noted<'_> {
+    fn read(&mut self, buf: &mut [u8]) -> io::Result<usize> {
+        let count = buf.len().min(self.to_come.len()).min(2);
+        let (given, rest) = self.to_come.split_at(count);
+        self.note_call(given)?;
+        buf[..count].copy_from_slice(given);
+        self.to_come = rest;
+        Ok(count)
+    }
+}
+
+impl Write for Noted<'_> {
+    fn write(&mut self, buf: &[u8]) -> io::Result<usize> {
+        self.note_call(buf)?;
+        Ok(buf.len())
+    }
+
+    fn flush(&mut self) -> io::Result<()> {
+        Ok(())
+    }
+}
+
+fn stream<'a>(log: &'a Log, mark: &'a str, to_come: &'a str) -> Noted<'a> {
+    Noted {
+        log,
+        mark,
+        is_open: true,
+        to_come: to_come.as_bytes(),
+    }
+}
+
+// The streams of a process: reads are noted by <, writes by > and lines by !.
+fn streams<'a>(log: &'a Log, input: &'a str) -> Streams<Noted<'a>, Noted<'a>, Noted<'a>> {
+    Streams {
+        input: stream(log, "<", input),
+        output: stream(log, ">", ""),
+        line: stream(log, "!", ""),
+        at_once: false,
+    }
+}
+
+fn words(alloc: Global, line: &str) -> Result<Vec<String>, Fail> {
+    let mut words = Vec::new(alloc);
+    for word in line.split(' ') {
+        words.push(String::from_str(alloc, word)?)?;
+    }
+    Ok(words)
+}
+
+// Compares what the streams did, and the status, for a program in a file of its own.
+fn logs(
+    rt: &(impl AllocGlobal + Files + Abort),
+    source: &str,
+    streams: Streams<Noted<'_>, Noted<'_>, Noted<'_>>,
+    expected: &str,
+    status: Status,
+) -> Result<(), Fail> {
+    fs::write(rt, "x.b", source.as_bytes())?;
+    let log = streams.line.log;
+    let answer = serve_in_order(rt, Some(words(rt.alloc(), "b go x.b")?), streams);
+    assert_eq!(rt; answer, status, "the status of {source}");
+    let Ok(log) = log.try_borrow() else {
+        assert!(rt; false, "a stream still writes into the log of {source}");
+        return Ok(());
+    };
+    assert_eq!(rt; log.as_slice(), expected.as_bytes(), "the log of {source}");
+    Ok(())
+}
+
+const ASKS: &str = "main() { putchar('?'); putchar(getchar()); }";
+
+const DIVIDES: &str = "main() { putchar('a'); putchar('b'); printn(1 / 0, 10); }";
+
+#[test]
+fn questions_and_lines(rt: HostRuntime) -> Result<(), Fail> {
+    let log = RefCell::new(Vec::new(rt.alloc()));
+    let asked = ">Is it 50? <h\n>Is it 75? <l\n>Is it 62? <y\n>I knew it.\n";
+    logs(&rt, GUESS, streams(&log, "h\nl\ny\n"), asked, 0)?;
+    let log = RefCell::new(Vec::new(rt.alloc()));
+    logs(&rt, DIVIDES, streams(&log, ""), ">ab!trap dz\n", 130)?;
+    let log = RefCell::new(Vec::new(rt.alloc()));
+    let mut at_once = streams(&log, "");
+    at_once.at_once = true;
+    logs(&rt, DIVIDES, at_once, ">a>b!trap dz\n", 130)
+}
+
+// A stream that is closed or full: no line tells of it.
+#[test]
+fn closed_streams(rt: HostRuntime) -> Result<(), Fail> {
+    let log = RefCell::new(Vec::new(rt.alloc()));
+    let mut no_input = streams(&log, "x");
+    no_input.input.is_open = false;
+    logs(&rt, ASKS, no_input, ">?", 133)?;
+    let log = RefCell::new(Vec::new(rt.alloc()));
+    let mut no_output = streams(&log, "x");
+    no_output.output.is_open = false;
+    logs(&rt, ASKS, no_output, "", 133)?;
+    let log = RefCell::new(Vec::new(rt.alloc()));
+    let mut no_output = streams(&log, "");
+    no_output.output.is_open = false;
+    logs(&rt, DIVIDES, no_output, "", 133)?;
+    let log = RefCell::new(Vec::new(rt.alloc()));
+    let mut no_line = streams(&log, "");
+    no_line.line.is_open = false;
+    logs(&rt, DIVIDES, no_line, ">ab", 133)
+}
+
+// A word that is not UTF-8 is a wrong command line.
+#[test]
+fn no_words(rt: HostRuntime) -> Result<(), Fail> {
+    let log = RefCell::new(Vec::new(rt.alloc()));
+    assert_eq!(rt; serve_in_order(&rt, None, streams(&log, "")), 135);
+    let wrong = "!error: a word of the command line is not UTF-8\n";
+    let starts = match log.try_borrow() {
+        Ok(log) => log.starts_with(wrong.as_bytes()),
+        Err(_) => false,
+    };
+    assert!(rt; starts);
+    Ok(())
+}
