@@ -1,5 +1,5 @@
 -- Each step of the parser, as a fact about what it read and what it made.
-use Rattle.std.proofs.Common.{◌≡◌, ℕ, zero, suc, ◌+◌, ◌-◌, List, Bool, true, false, Option, Some, None, Result, Ok, Err, min, refl, sym, ap, ◌∙◌, subst, arith, add-one}
+use Rattle.std.proofs.Common.{◌≡◌, ℕ, zero, suc, ◌+◌, ◌-◌, ◌<◌, List, Bool, true, false, Option, Some, None, Result, Ok, Err, min, refl, sym, ap, ◌∙◌, subst, arith, add-one}
 use Rattle.bword.specs.declared.operators.BinOp.{BinOp}
 use Rattle.bword.specs.declared.operators.BinOp.TheVariants as op
 use Rattle.blex.specs.declared.token.Token.{Token}
@@ -26,7 +26,7 @@ use Rattle.bemit.specs.declared.form.Form.TheVariants.{Place, Lone, Joined}
 use Rattle.bexpr.specs.declared.halt.Halt.{Halt}
 use Rattle.bexpr.specs.declared.halt.Halt.TheVariants as halt
 use Rattle.bexpr.specs.Marks.{is_comma}
-use Rattle.bexpr.specs.Tokens.{Tokens, IsLoaded, IsSingle, Runs, Breaks, Keeps, Advances, LooksOn}
+use Rattle.bexpr.specs.Tokens.{Tokens, IsLoaded, IsSingle, Runs, Breaks, Keeps, Advances, LooksOn, work}
 use Rattle.bexpr.specs.declared.operators.Prefix.{Prefix}
 use Rattle.bexpr.specs.declared.operators.Prefix.TheVariants as prefixes
 use Rattle.bexpr.specs.Parsers.{assigned_at, prefix_meant, prefix_form, called_at, Halts, Took, Follows, Continues, TookWord, TookArguments, Takes}
@@ -134,7 +134,7 @@ module _ (room k : ℕ) (a b : Tokens) (enters : (room ≡ k + 1) × Advances a 
       pub group_open : (d : Tokens) (why : Halt) → Halts (expect is_close_paren) c why d → (off : ℕ) → Halts (primary (inner room) off) a why d
       group_open d why h off = halt_behind (expect is_close_paren) (λ o. Got (Grouped (t off).tree)) why d (closing_runs off) h
 
-      pub group_took : (d : Tokens) (behind : Draft) (given : Form) → mid ≡ start → Runs c d (expect is_close_paren) (λ v. Got tt v) × IsSingle d → behind ≡ draft → given ≡ drafts.grouped found → ((off : ℕ) → Took (primary (inner room) off) start (called_at d) a d behind given) × IsSingle d
+      pub group_took : (d : Tokens) (behind : Draft) (given : Form) → mid ≡ start → Runs c d (expect is_close_paren) (λ v. Got tt v) × IsSingle d × (work d < work c) → behind ≡ draft → given ≡ drafts.grouped found → ((off : ℕ) → Took (primary (inner room) off) start (called_at d) a d behind given) × IsSingle d
       group_took d behind given es x eb g = (
         (λ off. record {
           tree = Grouped (t off).tree;
@@ -200,7 +200,7 @@ module _ (room k : ℕ) (a b : Tokens) (enters : (room ≡ k + 1) × Advances a 
     pub index_open : (d : Tokens) (why : Halt) → Halts (expect is_close_bracket) c why d → (off : ℕ) (e : Expr) → Halts (postfix_with (inner room) off Index e) a why d
     index_open d why h off e = halt_behind (expect is_close_bracket) (λ o. Got (Indexed e (t (off + words e)).tree)) why d (bracket_runs off e) h
 
-    pub index_took : (d : Tokens) (before loads_ before_emit behind : Draft) (given : Form) → called_at a ≡ false → loads_ ≡ loads given before → mid ≡ loads_ → Runs c d (expect is_close_bracket) (λ v. Got tt v) × IsSingle d → before_emit ≡ draft → behind ≡ emitted (instr.Binary op.Add) before_emit
+    pub index_took : (d : Tokens) (before loads_ before_emit behind : Draft) (given : Form) → called_at a ≡ false → loads_ ≡ loads given before → mid ≡ loads_ → Runs c d (expect is_close_bracket) (λ v. Got tt v) × IsSingle d × (work d < work c) → before_emit ≡ draft → behind ≡ emitted (instr.Binary op.Add) before_emit
         → ((off : ℕ) (e : Expr) (start : Draft) → before ≡ held (called_at a) e start → given ≡ form e before → Took (postfix_with (inner room) off Index e) start (called_at d) a d behind Place) × IsSingle d
     index_took d before loads_ before_emit behind given nc l em x eb eo = (
       (λ off e start h f. record {
@@ -458,7 +458,7 @@ module _ (k : ℕ) (a m : Tokens) (start draft : Draft) (count : ℕ) (s : InArg
     pub end_stops : (c : Tokens) (why : Halt) → Halts (expect is_close_paren) m why c → (off : ℕ) (e : Expr) → Halts (call (inner (k + 1)) off e) a why c
     end_stops c why h off e = halt_behind (expect is_close_paren) (λ o. Got (Called e (s.so_far off e).arguments)) why c (end_runs off e) h
 
-    pub arguments_end : (c : Tokens) (behind : Draft) → Runs m c (expect is_close_paren) (λ v. Got tt v) × IsSingle c → behind ≡ draft → ((off : ℕ) (e : Expr) → TookArguments (call (inner (k + 1)) off e) e start a c behind count) × IsSingle c
+    pub arguments_end : (c : Tokens) (behind : Draft) → Runs m c (expect is_close_paren) (λ v. Got tt v) × IsSingle c × (work c < work m) → behind ≡ draft → ((off : ℕ) (e : Expr) → TookArguments (call (inner (k + 1)) off e) e start a c behind count) × IsSingle c
     arguments_end c behind x eb = (
       (λ off e. let y = s.so_far off e in record {
         arguments = y.arguments;

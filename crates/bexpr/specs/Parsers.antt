@@ -1,5 +1,5 @@
 -- What the calls of the parser do with the tokens and with the draft.
-use Rattle.std.specs.Prelude.{◌≡◌, ℕ, ◌+◌, min, Bool, Option, Some, None, Result, Ok, Err}
+use Rattle.std.specs.Prelude.{◌≡◌, ℕ, ◌+◌, ◌<◌, min, Bool, Option, Some, None, Result, Ok, Err}
 use Rattle.bword.specs.declared.operators.BinOp.{BinOp}
 use Rattle.blex.specs.declared.token.Token.{Token}
 use Rattle.blex.specs.declared.token.Token.TheVariants as token
@@ -14,7 +14,7 @@ use Rattle.bemit.specs.Drafts.{Draft}
 use Rattle.bemit.specs.Effects.{form, held, passed, evaluated, most_arguments}
 use Rattle.bemit.specs.declared.form.Form.{Form}
 use Rattle.bemit.specs.declared.form.Form.TheVariants.{Place, Lone, Joined}
-use Rattle.bexpr.specs.Tokens.{Tokens, IsLoaded, IsSingle, Runs, Breaks, Advances}
+use Rattle.bexpr.specs.Tokens.{Tokens, IsLoaded, IsSingle, Runs, Breaks, Advances, work}
 use Rattle.bexpr.specs.declared.halt.Halt.{Halt}
 use Rattle.bexpr.specs.declared.halt.Halt.TheVariants as halt
 use Rattle.bexpr.specs.declared.operators.Prefix.{Prefix}
@@ -73,7 +73,7 @@ Passes reader old before (Err halt) new draft = (offset : ℕ) (e : Expr) → Ha
 
 -- a token that must come was taken
 abbrev pub Expects : (Token → Bool) → Tokens → Result (Unit {0}) Halt → Tokens → Type 0
-Expects is old (Ok u) new = Runs old new (expect is) (λ v. Got tt v) × IsSingle new
+Expects is old (Ok u) new = Runs old new (expect is) (λ v. Got tt v) × IsSingle new × (work new < work old)
 Expects is old (Err halt) new = Halts (expect is) old halt new
 
 -- the token that opens a level was taken, if there is room for one

@@ -1,6 +1,7 @@
 -- The tokens of a source, of which some are ahead, and what taking them does.
 use Rattle.std.specs.Prelude.{◌≡◌, ℕ, ◌+◌, ◌≤◌, Bool, true, false, List, [], ◌∷◌, ◌++◌, length, Option, Some, None, if◌then◌else◌}
 use Rattle.bword.specs.ByteEnds.{Incoming, Grew}
+pub use Rattle.bword.specs.ByteEnds.{CanFollow}
 use Rattle.std.specs.Option.{option_map}
 use Rattle.blex.specs.Sources.{Source, Took, room}
 use Rattle.blex.specs.Lexemes.{placed_of}
@@ -51,10 +52,6 @@ tokens_with (p ∷ ps) line bytes = token_first p.token p.line (tokens_with ps l
 -- the tokens to come, where the end still gives these bytes
 abbrev pub tokens_of : Tokens → List ℕ → List Placed
 tokens_of t more = tokens_with t.ahead t.source.line (t.source.ahead ++ more)
-
--- an end that is over gives no more bytes
-abbrev pub CanFollow : Incoming → List ℕ → Type 0
-CanFollow end more = end.is_over ≡ true → more ≡ []
 
 -- more tokens can come, unless one of those ahead is the last
 abbrev pub IsReadyWith : List Placed → Progress → Type 0

@@ -2,6 +2,7 @@
 use Rattle.std.specs.Prelude.{◌≡◌, ◌≢◌, ℕ, ◌+◌, ◌<◌, ◌≤◌, Bool, true, false, List, [], ◌∷◌, ◌++◌, length, take, Option, Some, None, Result, Ok, Err, not, ◌⊎◌}
 use Rattle.std.specs.Io.KnownBytes.{Appends}
 use Rattle.bword.specs.ByteEnds.{Incoming, Outgoing, Grew, Writes}
+pub use Rattle.bword.specs.ByteEnds.{Began}
 use Rattle.blex.specs.declared.diagnostic.Diagnostic.{Diagnostic}
 use Rattle.btree.specs.Compiled.{Defined, Outcome, Goes, ending}
 use Rattle.blex.specs.declared.token.Token.{Token}
@@ -45,12 +46,6 @@ Comes c taken more outcome = Goes c.names (tokens_of c.tokens (taken ++ more)) o
 abbrev pub next_text : List (List ℕ) → Option Diagnostic → List ℕ
 next_text [] stop = ending stop
 next_text (text ∷ texts) stop = text
-
--- A beginning of the text was written.
-pub record Began (old : Outgoing) (text : List ℕ) (new : Outgoing) : Type 0 where
-  pub count : ℕ
-  pub within : count ≤ length text
-  pub appended : Appends old.written new.written (take count text)
 
 -- Bytes were taken, and the ends are those of before.
 pub record Keeps (old : Compiler) (taken : List ℕ) (new : Compiler) : Type 0 where

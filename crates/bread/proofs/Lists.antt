@@ -16,7 +16,8 @@ use Rattle.bexpr.specs.Marks.{is_comma}
 use Rattle.bexpr.specs.Parsers.{Halts}
 use Rattle.bexpr.specs.declared.halt.Halt.{Halt}
 use Rattle.bexpr.specs.declared.halt.Halt.TheVariants as halt
-use Rattle.bread.specs.Compiling.{alone, Took, Compiles, Takes}
+use Rattle.bread.specs.Compiling.{alone, Took, Compiles}
+use Rattle.bexpr.specs.Parsers.{Expects}
 use Rattle.bexpr.proofs.TokenSteps.{Moves-breaks}
 use Rattle.bexpr.proofs.Moving.{run_here, run_past, run_then, run_bind}
 use Rattle.bread.proofs.Steps.{began, went, halts_first, halts_then, device}
@@ -94,7 +95,7 @@ module _ {A B : Type 0} (item : List A → Reader A) (fine : (before : List A) (
     pub closed_breaks : (new : Tokens) (why : Halt) → why ≡ halt.Device → Breaks now new → Halts whole old why new
     closed_breaks new why e h = halts_first old new (list_reader item) closed why (device old new (list_reader item) why e (Moves-breaks s.runs h))
 
-    pub closed_ends : (draft2 : Draft) (new : Tokens) (r : Result (Unit {0}) Halt) → is_comma (first now.ahead) ≡ false → Takes is now r new → draft2 ≡ draft → Compiles (alone whole) effects old start r new draft2
+    pub closed_ends : (draft2 : Draft) (new : Tokens) (r : Result (Unit {0}) Halt) → is_comma (first now.ahead) ≡ false → Expects is now r new → draft2 ≡ draft → Compiles (alone whole) effects old start r new draft2
     closed_ends draft2 new (Ok o) c t e = (λ i. record { tree = made s.items; runs = went (λ o. Got (made s.items)) (began closed (list_ends item fine effect s c)) t.0; made = e ∙ s.made ∙ sym (same s.items start) }, t.1, below t.2)
       where
         below : work new < work now → work new < work old

@@ -25,7 +25,8 @@ use Rattle.bexpr.specs.Parsers.{Halts, TookWord}
 use Rattle.bexpr.specs.declared.halt.Halt.{Halt}
 use Rattle.bexpr.specs.declared.halt.Halt.TheVariants as halt
 use Rattle.bread.specs.Headings.{unheaded, IsHeadedBy, IsUnheaded, StopsHeading}
-use Rattle.bread.specs.Compiling.{Took, Compiles, Takes, TookHeading, FindsHeading}
+use Rattle.bread.specs.Compiling.{Took, Compiles, TookHeading, FindsHeading}
+use Rattle.bexpr.specs.Parsers.{Expects}
 use Rattle.bread.specs.Statements.{behind, ended, evaluated_to, return_value, condition, conditional, repeated, statements, closed_switch, Chooses}
 use Rattle.bexpr.proofs.TokenSteps.{Moves-append, Moves-as, Moves-breaks}
 use Rattle.bexpr.proofs.Moving.{run_here, run_past, run_then}
@@ -96,7 +97,7 @@ module _ (room : ℕ) where
   pub condition_then : (off : ℕ) (old mid new : Tokens) (why : Halt) → Runs old mid (expect is_open_paren) (λ v. Got tt v) → Halts (reader room Rvalue off) mid why new → Halts (condition room off) old why new
   condition_then off old mid new why r h = halts_then old mid new (condition room off) (reader room Rvalue off) shut why (condition_opened r) h
 
-  pub condition_ends : (old mid next : Tokens) (start d0 draft draft2 : Draft) (r : Result (Unit {0}) Halt) (new : Tokens) → work mid < work old → Runs old mid (expect is_open_paren) (λ v. Got tt v) → d0 ≡ start → ((off : ℕ) → TookWord (reader room Rvalue off) d0 mid next draft) → Takes is_close_paren next r new → draft2 ≡ draft → Compiles (condition room) evaluated old start r new draft2
+  pub condition_ends : (old mid next : Tokens) (start d0 draft draft2 : Draft) (r : Result (Unit {0}) Halt) (new : Tokens) → work mid < work old → Runs old mid (expect is_open_paren) (λ v. Got tt v) → d0 ≡ start → ((off : ℕ) → TookWord (reader room Rvalue off) d0 mid next draft) → Expects is_close_paren next r new → draft2 ≡ draft → Compiles (condition room) evaluated old start r new draft2
   condition_ends old mid next start d0 draft draft2 (Ok o) new l r same t k e = (λ off. let w = t off in record { tree = w.tree; runs = went (λ o. Got w.tree) (went shut (condition_opened r) w.runs) k.0; made = e ∙ w.made ∙ ap (evaluated w.tree) same }, k.1, let w = (t 0).runs.falls in falls_all l w k.2)
   condition_ends old mid next start d0 draft draft2 (Err why) new l r same t k e = λ off. let w = t off in halts_then old next new (condition room off) (expect is_close_paren) (λ o. Got w.tree) why (went shut (condition_opened r) w.runs) k
 
@@ -340,7 +341,7 @@ module _ (room off : ℕ) (start : Draft) (old now : Tokens) (draft : Draft) (b 
     pub body_stops : (new : Tokens) (why : Halt) → Halts (expect is_close_brace) now why new → Halts (statements room off) old why new
     body_stops new why h = halts_then old now new (statements room off) (expect is_close_brace) (λ o. Got b.body) why body_over h
 
-pub body_ends : (room : ℕ) (start : Draft) (old now : Tokens) (draft : Draft) → ((off : ℕ) → InBody room off start old now draft) → IsLoaded now → is_some (goes_on (first now.ahead)) ≡ false → (r : Result (Unit {0}) Halt) (new : Tokens) (draft2 : Draft) → Takes is_close_brace now r new → draft2 ≡ draft → Compiles (statements room) all_done old start r new draft2
+pub body_ends : (room : ℕ) (start : Draft) (old now : Tokens) (draft : Draft) → ((off : ℕ) → InBody room off start old now draft) → IsLoaded now → is_some (goes_on (first now.ahead)) ≡ false → (r : Result (Unit {0}) Halt) (new : Tokens) (draft2 : Draft) → Expects is_close_brace now r new → draft2 ≡ draft → Compiles (statements room) all_done old start r new draft2
 body_ends room start old now draft b l g (Ok o) new draft2 t e = (λ off. body_took room off start old now draft (b off) l g new draft2 t.0 e, t.1, falls_after (b 0).runs.falls t.2)
 body_ends room start old now draft b l g (Err why) new draft2 t e = λ off. body_stops room off start old now draft (b off) l g new why t
 
@@ -353,13 +354,13 @@ compiles_as q p effect old start (Err why) new draft l same k = λ off. halts_be
 pub at_brace : (room : ℕ) (old : Tokens) → first old.ahead ≡ token.OpenBrace → (off : ℕ) (u : List Placed) → first u ≡ first old.ahead → unheaded room off u ≡ compound (level room) off u
 at_brace room old h off u e = ap (λ t. stmt_at room (level room) off t u) (e ∙ h)
 
-pub empty_ends : (room : ℕ) (old : Tokens) (start : Draft) (r : Result (Unit {0}) Halt) (new : Tokens) (draft : Draft) → IsLoaded old → first old.ahead ≡ token.Semicolon → Takes is_semicolon old r new → draft ≡ start → Compiles (unheaded room) done old start r new draft
+pub empty_ends : (room : ℕ) (old : Tokens) (start : Draft) (r : Result (Unit {0}) Halt) (new : Tokens) (draft : Draft) → IsLoaded old → first old.ahead ≡ token.Semicolon → Expects is_semicolon old r new → draft ≡ start → Compiles (unheaded room) done old start r new draft
 empty_ends room old start r new draft l h t e = go r t
   where
     is : (off : ℕ) (u : List Placed) → first u ≡ first old.ahead → unheaded room off u ≡ (expect is_semicolon u >>= λ o. Got Empty)
     is off u f = ap (λ t. stmt_at room (level room) off t u) (f ∙ h) ∙ ap (λ t. (if is_semicolon t then Got tt (after u) else Stop u) >>= λ o. Got Empty) (sym (f ∙ h))
 
-    go : (r : Result (Unit {0}) Halt) → Takes is_semicolon old r new → Compiles (unheaded room) done old start r new draft
+    go : (r : Result (Unit {0}) Halt) → Expects is_semicolon old r new → Compiles (unheaded room) done old start r new draft
     go (Ok o) t = (λ off. record { tree = Empty; runs = went (λ o. Got Empty) (run_here l (λ u f m. is off u f)) t.0; made = e }, t.1, t.2)
     go (Err why) t = λ off. halts_then old old new (unheaded room off) (expect is_semicolon) (λ o. Got Empty) why (run_here l (λ u f m. is off u f)) t
 

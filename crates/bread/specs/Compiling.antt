@@ -1,8 +1,7 @@
 -- What the calls that read statements and definitions do with the tokens and with the draft.
 use Rattle.std.specs.Prelude.{◌≡◌, ℕ, ◌<◌, Bool, true, false, Option, Result, Ok, Err}
-use Rattle.blex.specs.declared.token.Token.{Token}
 use Rattle.btree.specs.Expression.{Constant}
-use Rattle.btree.specs.Reading.{Reader, Got, expect}
+use Rattle.btree.specs.Reading.{Reader, Got}
 use Rattle.btree.specs.Statement.{Heading}
 use Rattle.btree.specs.StatementReader.{name, size, constant}
 use Rattle.btree.specs.Scan.{value_of}
@@ -29,11 +28,6 @@ alone reader o = reader
 abbrev pub Compiles : {I A : Type 0} → (I → Reader A) → (A → Draft → Draft) → Tokens → Draft → Result (Unit {0}) Halt → Tokens → Draft → Type 0
 Compiles {I = I} reader effect old start (Ok u) new draft = ((i : I) → Took (reader i) effect start old new draft) × IsSingle new × (work new < work old)
 Compiles {I = I} reader effect old start (Err halt) new draft = (i : I) → Halts (reader i) old halt new
-
--- A token that must come was taken.
-abbrev pub Takes : (Token → Bool) → Tokens → Result (Unit {0}) Halt → Tokens → Type 0
-Takes is old (Ok u) new = Runs old new (expect is) (λ v. Got tt v) × IsSingle new × (work new < work old)
-Takes is old (Err halt) new = Halts (expect is) old halt new
 
 -- A name was taken.
 abbrev pub FindsName : Tokens → Result take.Word Halt → Tokens → Type 0

@@ -15,7 +15,7 @@ ghost use Rattle.bread.specs.Definitions.{TakesValue, values, parameters, FindsL
 use crate::header::{Header, Kind};
 use crate::names::Names;
 use crate::statement::statement;
-use crate::take::{Word, name, size, take};
+use crate::take::{Word, name, size};
 use bcode::{Instr, Ival};
 use bemit::Draft;
 use bexpr::{Halt, Mark, Parser};
@@ -85,7 +85,7 @@ fn vector<I: ByteIn>(parser: &mut Parser<I>) -> Result<Kind, Halt>
     ensures { FindsKind vector parser.old.tokens parser.old.draft result parser.new.tokens parser.new.draft }
 {
     let size = size(parser)?;
-    take(parser, Mark::CloseBracket)?;
+    parser.expect(Mark::CloseBracket)?;
     let count = values(parser)?;
     let words = count.max(constant_of(size) + 1);
     parser.draft.limit_words(words);
@@ -141,7 +141,7 @@ fn parameters<I: ByteIn>(parser: &mut Parser<I>) -> Result<u16, Halt>
         parameter(parser)?;
         count = count.saturating_add(1);
     }
-    take(parser, Mark::CloseParen)?;
+    parser.expect(Mark::CloseParen)?;
     Ok(count)
 }
 
@@ -188,6 +188,6 @@ fn values<I: ByteIn>(parser: &mut Parser<I>) -> Result<u32, Halt>
         value(parser)?;
         count = count.saturating_add(1);
     }
-    take(parser, Mark::Semicolon)?;
+    parser.expect(Mark::Semicolon)?;
     Ok(count)
 }

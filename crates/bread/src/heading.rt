@@ -10,7 +10,7 @@ ghost use Rattle.bexpr.specs.Tokens.{IsLoaded};
 ghost use Rattle.bread.specs.Headings.{auto, extrn, case};
 ghost use Rattle.bread.specs.Compiling.{alone, Compiles, FindsHeading};
 
-use crate::take::{constant, name, size, take};
+use crate::take::{constant, name, size};
 use bexpr::{Halt, Mark, Parser};
 use blex::{Keyword, Lexeme};
 use bword::{ByteIn, Name};
@@ -46,7 +46,7 @@ fn auto<I: ByteIn>(parser: &mut Parser<I>) -> Result<(), Halt>
         parser.tokens.advance()?;
         automatic(parser)?;
     }
-    take(parser, Mark::Semicolon)
+    parser.expect(Mark::Semicolon)
 }
 
 // The names behind `extrn`.
@@ -59,7 +59,7 @@ fn extrn<I: ByteIn>(parser: &mut Parser<I>) -> Result<(), Halt>
         parser.tokens.advance()?;
         external(parser)?;
     }
-    take(parser, Mark::Semicolon)
+    parser.expect(Mark::Semicolon)
 }
 
 // The constant behind a `case` on this line.
@@ -68,7 +68,7 @@ fn case<I: ByteIn>(parser: &mut Parser<I>, line: u64) -> Result<(), Halt>
     ensures { Compiles (alone (case line)) headed parser.old.tokens parser.old.draft result parser.new.tokens parser.new.draft }
 {
     let value = constant(parser)?;
-    take(parser, Mark::Colon)?;
+    parser.expect(Mark::Colon)?;
     parser.draft.case(line, value);
     Ok(())
 }

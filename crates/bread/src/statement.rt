@@ -17,7 +17,6 @@ ghost use Rattle.bread.specs.Compiling.{Compiles};
 ghost use Rattle.bread.specs.Statements.{behind, ended, evaluated_to, return_value, condition, conditional, repeated, statements, closed_switch, Chooses};
 
 use crate::heading::heading;
-use crate::take::take;
 use bcode::Instr;
 use bemit::Draft;
 use bexpr::{Halt, Mark, Parser};
@@ -30,7 +29,7 @@ fn ended<I: ByteIn>(parser: &mut Parser<I>, room: u8, last: Instr) -> Result<(),
     ensures { Compiles (ended room) (evaluated_to last) parser.old.tokens parser.old.draft result parser.new.tokens parser.new.draft }
 {
     parser.evaluate(room)?;
-    take(parser, Mark::Semicolon)?;
+    parser.expect(Mark::Semicolon)?;
     parser.draft.emit(last);
     Ok(())
 }
@@ -50,8 +49,8 @@ fn return_value<I: ByteIn>(parser: &mut Parser<I>, room: u8) -> Result<(), Halt>
     ensures { Compiles (return_value room) done parser.old.tokens parser.old.draft result parser.new.tokens parser.new.draft }
 {
     parser.evaluate(room)?;
-    take(parser, Mark::CloseParen)?;
-    take(parser, Mark::Semicolon)?;
+    parser.expect(Mark::CloseParen)?;
+    parser.expect(Mark::Semicolon)?;
     parser.draft.emit(Instr::Return);
     Ok(())
 }
@@ -65,7 +64,7 @@ fn returned<I: ByteIn>(parser: &mut Parser<I>, room: u8) -> Result<(), Halt>
         parser.tokens.advance()?;
         return return_value(parser, room);
     }
-    take(parser, Mark::Semicolon)?;
+    parser.expect(Mark::Semicolon)?;
     parser.draft.emit(Instr::Constant(0));
     parser.draft.emit(Instr::Return);
     Ok(())
@@ -76,9 +75,9 @@ fn condition<I: ByteIn>(parser: &mut Parser<I>, room: u8) -> Result<(), Halt>
     requires { IsLoaded parser.old.tokens }
     ensures { Compiles (condition room) evaluated parser.old.tokens parser.old.draft result parser.new.tokens parser.new.draft }
 {
-    take(parser, Mark::OpenParen)?;
+    parser.expect(Mark::OpenParen)?;
     parser.evaluate(room)?;
-    take(parser, Mark::CloseParen)
+    parser.expect(Mark::CloseParen)
 }
 
 // The jump at this place, taken where a test is 0, leads to what comes.
@@ -138,7 +137,7 @@ fn unheaded<I: ByteIn>(parser: &mut Parser<I>, room: u8) -> Result<(), Halt>
 {
     match parser.tokens.lexeme() {
         Lexeme::OpenBrace => compound(parser, room),
-        Lexeme::Semicolon => take(parser, Mark::Semicolon),
+        Lexeme::Semicolon => parser.expect(Mark::Semicolon),
         Lexeme::Keyword(keyword) => keyed(parser, room, keyword),
         _ => ended(parser, room, Instr::Pop),
     }
@@ -184,7 +183,7 @@ fn body<I: ByteIn>(parser: &mut Parser<I>, room: u8) -> Result<(), Halt>
     'statements: while goes_on(parser.tokens.lexeme()) {
         statement(parser, room)?;
     }
-    take(parser, Mark::CloseBrace)
+    parser.expect(Mark::CloseBrace)
 }
 
 #[cycle(statements)]
@@ -246,7 +245,7 @@ fn switched<I: ByteIn>(parser: &mut Parser<I>, room: u8) -> Result<(), Halt>
 {
     let room = parser.enter(room)?;
     parser.evaluate(room)?;
-    take(parser, Mark::OpenBrace)?;
+    parser.expect(Mark::OpenBrace)?;
     let jump = parser.draft.place();
     parser.draft.emit(Instr::Jump(0));
     parser.draft.begin_switch();

@@ -1,10 +1,9 @@
 //! Taking one token.
 ghost use Rattle.std.specs.Prelude.{◌≡◌};
 ghost use Rattle.bexpr.specs.Tokens.{IsLoaded, IsSingle};
-ghost use Rattle.bexpr.specs.Marks.{is_mark};
-ghost use Rattle.bread.specs.Compiling.{Takes, FindsName, FindsSize, FindsConstant};
+ghost use Rattle.bread.specs.Compiling.{FindsName, FindsSize, FindsConstant};
 
-use bexpr::{Halt, Mark, Parser};
+use bexpr::{Halt, Parser};
 use blex::Lexeme;
 use bword::{ByteIn, Name};
 
@@ -56,17 +55,4 @@ pub fn constant<I: ByteIn>(parser: &mut Parser<I>) -> Result<u16, Halt>
     };
     parser.tokens.advance()?;
     Ok(value)
-}
-
-/// Takes a token that must come.
-pub fn take<I: ByteIn>(parser: &mut Parser<I>, mark: Mark) -> Result<(), Halt>
-    requires { IsLoaded parser.old.tokens }
-    ensures tokens { Takes (is_mark mark) parser.old.tokens result parser.new.tokens }
-    ensures draft { parser.new.draft ≡ parser.old.draft }
-{
-    if !parser.tokens.is_at(mark) {
-        return Err(Halt::Fault);
-    }
-    parser.tokens.advance()?;
-    Ok(())
 }

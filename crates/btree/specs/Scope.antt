@@ -1,6 +1,6 @@
 -- The names of a function: its one table, in the order of entering.
 use Rattle.std.specs.Prelude.{ℕ, List, [], ◌∷◌, ◌++◌, length, Bool, true, false, nat_eq, nat_lt, Option, Some, None, Result, Ok, Err, if◌then◌else◌}
-use Rattle.std.specs.Cmp.Lexicographic.{pointwise}
+pub use Rattle.bword.specs.Names.{same_name}
 use Rattle.blex.specs.declared.token.Letters.{Letters}
 use Rattle.blex.specs.declared.token.Letters.TheVariants as letters
 use Rattle.blex.specs.declared.diagnostic.About.TheVariants as about
@@ -17,9 +17,6 @@ pub data Kind : Type 0 where
 pub record Entry : Type 0 where
   pub name : List ℕ
   pub kind : Kind
-
-abbrev pub same_name : List ℕ → List ℕ → Bool
-same_name x y = pointwise nat_eq x y
 
 -- what the table says of a name
 abbrev pub kind_of : List ℕ → List Entry → Option Kind

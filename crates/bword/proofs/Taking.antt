@@ -20,7 +20,7 @@ Consumes-at-end (Some a) (Some b) h e = sym h ∙ e
 Consumes-no-more : (a : Option (List ℕ)) (xs ys : List ℕ) → Consumes a (Some []) xs → ys ≡ [] → Consumes a (Some []) (xs ++ ys)
 Consumes-no-more a xs ys h e = rw (e, append-nil xs) h
 
-nil-append : (xs ys : List ℕ) → xs ≡ [] → ys ≡ [] → xs ++ ys ≡ []
+pub nil-append : (xs ys : List ℕ) → xs ≡ [] → ys ≡ [] → xs ++ ys ≡ []
 nil-append xs ys h k = rw (h, k) refl
 
 pub Took-none : (a : Incoming) → Took a [] a

@@ -30,8 +30,8 @@ returns-in_err-advance-2 g c = list_err _ _ _ _ _ c.from_residual-in_err-advance
 pub returns-in_err-value-2 : goal.returns-in_err-value-2
 returns-in_err-value-2 g c = list_err _ _ _ _ _ c.from_residual-in_err-value-2.result _ _ c.in_err-value-2.field-0.0 c.from_residual-in_err-value-2.ensures.1 (some_comma ival ival_fine (λ v d. ival_done d v) is_semicolon values_done (λ xs d. refl) 4294967295 _ c.requires (sym c.is_at.ensures ∙ c.if-is_at.false) c.values.invariant.list _ _ c.in_err-value-2.field-0.0 c.in_ok-advance-2.ensures.ok (sym c.is_at-in-values.ensures ∙ c.values-test.true) (c.in_err-value-2.ensures c.values.invariant.list.items))
 
-pub returns-in_err-take : goal.returns-in_err-take
-returns-in_err-take g c = list_err _ _ _ _ _ c.from_residual-in_err-take.result _ _ c.in_err-take.field-0.0 c.from_residual-in_err-take.ensures.1 (some_last ival ival_fine (λ v d. ival_done d v) is_semicolon values_done (λ xs d. refl) 4294967295 _ c.requires (sym c.is_at.ensures ∙ c.if-is_at.false) c.values.invariant.list _ c.in_err-take.field-0.0 (sym c.is_at-in-values.ensures ∙ c.values-test.false) c.in_err-take.ensures.tokens)
+pub returns-in_err-expect : goal.returns-in_err-expect
+returns-in_err-expect g c = list_err _ _ _ _ _ c.from_residual-in_err-expect.result _ _ c.in_err-expect.field-0.0 c.from_residual-in_err-expect.ensures.1 (some_last ival ival_fine (λ v d. ival_done d v) is_semicolon values_done (λ xs d. refl) 4294967295 _ c.requires (sym c.is_at.ensures ∙ c.if-is_at.false) c.values.invariant.list _ c.in_err-expect.field-0.0 (sym c.is_at-in-values.ensures ∙ c.values-test.false) c.in_err-expect.ensures.tokens)
 
 pub returns : goal.returns
-returns g c = some_took ival ival_fine (λ v d. ival_done d v) is_semicolon values_done (λ xs d. refl) 4294967295 _ c.requires (sym c.is_at.ensures ∙ c.if-is_at.false) c.values.invariant.list _ _ c.values.count (sym c.is_at-in-values.ensures ∙ c.values-test.false) c.in_ok-take.ensures.tokens.0 c.in_ok-take.ensures.tokens.1 c.in_ok-take.ensures.draft c.values.invariant.count_is
+returns g c = some_took ival ival_fine (λ v d. ival_done d v) is_semicolon values_done (λ xs d. refl) 4294967295 _ c.requires (sym c.is_at.ensures ∙ c.if-is_at.false) c.values.invariant.list _ _ c.values.count (sym c.is_at-in-values.ensures ∙ c.values-test.false) c.in_ok-expect.ensures.tokens.0 c.in_ok-expect.ensures.tokens.1 c.in_ok-expect.ensures.draft c.values.invariant.count_is

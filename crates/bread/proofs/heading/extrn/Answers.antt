@@ -20,7 +20,7 @@ pub names-smaller : goal.names-smaller
 names-smaller g c = both_fall (less c.in_ok-advance.ensures.ok) c.in_ok-external-2.ensures.2
 
 pub returns : goal.returns
-returns g c = closed_ends (λ before. name) (λ before. name_fine) (λ w b. imported w b) is_semicolon Extrn headed (λ xs d. refl) c.names.invariant _ _ c.take.result (sym c.is_at.ensures ∙ c.names-test.false) c.take.ensures.tokens c.take.ensures.draft
+returns g c = closed_ends (λ before. name) (λ before. name_fine) (λ w b. imported w b) is_semicolon Extrn headed (λ xs d. refl) c.names.invariant _ _ c.expect.result (sym c.is_at.ensures ∙ c.names-test.false) c.expect.ensures.tokens c.expect.ensures.draft
 
 pub returns-in_err-external : goal.returns-in_err-external
 returns-in_err-external g c = compiles_err _ _ _ _ c.from_residual.result _ _ c.in_err-external.field-0.0 c.from_residual.ensures.1 (λ i. closed_first (λ before. name) (λ before. name_fine) (λ w b. imported w b) is_semicolon Extrn headed (λ xs d. refl) _ _ c.in_err-external.field-0.0 (c.in_err-external.ensures tt))

@@ -32,7 +32,7 @@ pub unheaded-returns-in-OpenBrace : goal.unheaded-returns-in-OpenBrace
 unheaded-returns-in-OpenBrace g t c = compiles_as (unheaded c.args.room) (compound (level c.args.room)) done _ _ c.compound.result _ _ c.requires (at_brace c.args.room c.args.parser.now.tokens (token_here c.args.parser.now.tokens.text c.lexeme.ensures c.in-OpenBrace.is)) c.compound.ensures
 
 pub unheaded-returns-in-Semicolon : goal.unheaded-returns-in-Semicolon
-unheaded-returns-in-Semicolon g t c = empty_ends c.args.room _ _ c.take.result _ _ c.requires (token_here c.args.parser.now.tokens.text c.lexeme.ensures c.in-Semicolon.is) c.take.ensures.tokens c.take.ensures.draft
+unheaded-returns-in-Semicolon g t c = empty_ends c.args.room _ _ c.expect.result _ _ c.requires (token_here c.args.parser.now.tokens.text c.lexeme.ensures c.in-Semicolon.is) c.expect.ensures.tokens c.expect.ensures.draft
 
 pub unheaded-returns-in_default : goal.unheaded-returns-in_default
 unheaded-returns-in_default g t c = plain_ends c.args.room _ _ c.ended.result _ _ c.requires (λ e. c.in_default.not-OpenBrace (lexeme_here c.lexeme.result c.args.parser.now.tokens.text (c.lexeme.ensures ∙ e))) (λ e. c.in_default.not-Semicolon (lexeme_here c.lexeme.result c.args.parser.now.tokens.text (c.lexeme.ensures ∙ e))) (λ k e. c.in_default.not-Keyword k (lexeme_here c.lexeme.result c.args.parser.now.tokens.text (c.lexeme.ensures ∙ e))) c.ended.ensures
@@ -71,7 +71,7 @@ pub body-returns-in_err-statement : goal.body-returns-in_err-statement
 body-returns-in_err-statement g t c = let b = c.statements.invariant in compiles_err _ _ _ _ c.from_residual.result _ _ c.in_err-statement.field-0.0 c.from_residual.ensures.1 (λ i. body_halts c.args.room i _ _ _ _ (b.0 i) b.1 (sym (c.goes_on.ensures c.statements.parser.tokens.text ∙ ap (λ t. is_some (goes_on t)) c.lexeme.ensures) ∙ c.statements-test.true) _ c.in_err-statement.field-0.0 (c.in_err-statement.ensures (i + body_words (b.0 i).body)))
 
 pub body-returns : goal.body-returns
-body-returns g t c = let b = c.statements.invariant in body_ends c.args.room _ _ _ _ b.0 b.1 (sym (c.goes_on.ensures c.statements.parser.tokens.text ∙ ap (λ t. is_some (goes_on t)) c.lexeme.ensures) ∙ c.statements-test.false) c.take.result _ _ c.take.ensures.tokens c.take.ensures.draft
+body-returns g t c = let b = c.statements.invariant in body_ends c.args.room _ _ _ _ b.0 b.1 (sym (c.goes_on.ensures c.statements.parser.tokens.text ∙ ap (λ t. is_some (goes_on t)) c.lexeme.ensures) ∙ c.statements-test.false) c.expect.result _ _ c.expect.ensures.tokens c.expect.ensures.draft
 
 pub conditional-returns-in_err-room : goal.conditional-returns-in_err-room
 conditional-returns-in_err-room g t c = compiles_err _ _ _ _ c.from_residual.result _ _ c.in_err-room.field-0.0 c.from_residual.ensures.1 (λ i. tested_enter c.args.room i _ _ chosen c.in_err-room.field-0.0 c.in_err-room.ensures.tokens)
@@ -112,11 +112,11 @@ switched-returns-in_err-room g t c = compiles_err _ _ _ _ c.from_residual.result
 pub switched-returns-in_err-evaluate : goal.switched-returns-in_err-evaluate
 switched-returns-in_err-evaluate g t c = compiles_err _ _ _ _ c.from_residual-in_err-evaluate.result _ _ c.in_err-evaluate.field-0.0 c.from_residual-in_err-evaluate.ensures.1 (λ i. switched_value c.args.room c.in_ok-room.room i _ _ c.in_ok-room.ensures.tokens _ c.in_err-evaluate.field-0.0 (c.in_err-evaluate.ensures i))
 
-pub switched-returns-in_err-take : goal.switched-returns-in_err-take
-switched-returns-in_err-take g t c = compiles_err _ _ _ _ c.from_residual-in_err-take.result _ _ c.in_err-take.field-0.0 c.from_residual-in_err-take.ensures.1 (λ i. let w = c.in_ok-evaluate.ensures.0 i in switched_brace c.args.room c.in_ok-room.room i _ _ c.in_ok-room.ensures.tokens _ w.tree w.runs _ c.in_err-take.field-0.0 c.in_err-take.ensures.tokens)
+pub switched-returns-in_err-expect : goal.switched-returns-in_err-expect
+switched-returns-in_err-expect g t c = compiles_err _ _ _ _ c.from_residual-in_err-expect.result _ _ c.in_err-expect.field-0.0 c.from_residual-in_err-expect.ensures.1 (λ i. let w = c.in_ok-evaluate.ensures.0 i in switched_brace c.args.room c.in_ok-room.room i _ _ c.in_ok-room.ensures.tokens _ w.tree w.runs _ c.in_err-expect.field-0.0 c.in_err-expect.ensures.tokens)
 
 pub switched-returns-in_err-body : goal.switched-returns-in_err-body
-switched-returns-in_err-body g t c = compiles_err _ _ _ _ c.from_residual-in_err-body.result _ _ c.in_err-body.field-0.0 c.from_residual-in_err-body.ensures.1 (λ i. let w = c.in_ok-evaluate.ensures.0 i in switched_body_halts c.args.room c.in_ok-room.room i _ _ c.in_ok-room.ensures.tokens _ w.tree w.runs _ c.in_ok-take.ensures.tokens.0 _ c.in_err-body.field-0.0 (c.in_err-body.ensures (i + words w.tree)))
+switched-returns-in_err-body g t c = compiles_err _ _ _ _ c.from_residual-in_err-body.result _ _ c.in_err-body.field-0.0 c.from_residual-in_err-body.ensures.1 (λ i. let w = c.in_ok-evaluate.ensures.0 i in switched_body_halts c.args.room c.in_ok-room.room i _ _ c.in_ok-room.ensures.tokens _ w.tree w.runs _ c.in_ok-expect.ensures.tokens.0 _ c.in_err-body.field-0.0 (c.in_err-body.ensures (i + words w.tree)))
 
 pub switched-returns : goal.switched-returns
-switched-returns g t c = ((λ i. let w = c.in_ok-evaluate.ensures.0 i in switched_took c.args.room c.in_ok-room.room i _ _ c.in_ok-room.ensures.tokens _ w.tree w.runs _ c.in_ok-take.ensures.tokens.0 c.place-jump.result _ _ _ _ _ _ _ (c.in_ok-take.ensures.draft ∙ w.made ∙ ap (evaluated w.tree) c.in_ok-room.ensures.draft) c.place-jump.ensures c.emit.ensures c.begin_switch.ensures (c.in_ok-body.ensures.0 (i + words w.tree)) c.close_switch.ensures), c.in_ok-body.ensures.1, both_fall (falls_before (less c.in_ok-room.ensures.tokens.1) (c.in_ok-evaluate.ensures.0 0).runs.falls) (both_fall c.in_ok-take.ensures.tokens.2 c.in_ok-body.ensures.2))
+switched-returns g t c = ((λ i. let w = c.in_ok-evaluate.ensures.0 i in switched_took c.args.room c.in_ok-room.room i _ _ c.in_ok-room.ensures.tokens _ w.tree w.runs _ c.in_ok-expect.ensures.tokens.0 c.place-jump.result _ _ _ _ _ _ _ (c.in_ok-expect.ensures.draft ∙ w.made ∙ ap (evaluated w.tree) c.in_ok-room.ensures.draft) c.place-jump.ensures c.emit.ensures c.begin_switch.ensures (c.in_ok-body.ensures.0 (i + words w.tree)) c.close_switch.ensures), c.in_ok-body.ensures.1, both_fall (falls_before (less c.in_ok-room.ensures.tokens.1) (c.in_ok-evaluate.ensures.0 0).runs.falls) (both_fall c.in_ok-expect.ensures.tokens.2 c.in_ok-body.ensures.2))
