@@ -20,7 +20,7 @@ use Rattle.btree.proofs.ExpressionFine.{closing, has_room, Good, suffix_loop, op
 use Rattle.bemit.specs.Drafts.{Draft, emitted, place_of, filled, stringed, offset_of, named, name_form, checked}
 use Rattle.btree.specs.Scope.{Kind, Automatic, External, Unlabelled, Labelled, kind_of}
 use Rattle.bemit.specs.Drafts as drafts
-use Rattle.bemit.specs.Effects.{form, loads, loaded, held, passed, evaluated, stepping, prefixed, arms, most_arguments}
+use Rattle.bemit.specs.Effects.{form, loads, loaded, held, passed, evaluated, stepping, prefixed, ways, most_arguments}
 use Rattle.bemit.specs.declared.form.Form.{Form}
 use Rattle.bemit.specs.declared.form.Form.TheVariants.{Place, Lone, Joined}
 use Rattle.bexpr.specs.declared.halt.Halt.{Halt}
@@ -521,14 +521,14 @@ module _ (room k : ℕ) (a b : Tokens) (enters : (room ≡ k + 1) × Advances a 
                 tree = Conditional e w.tree g.tree;
                 runs = run_then (rest_runs off e) (run_bind (λ g. Got (Conditional e w.tree g)) g.runs);
                 made = arms_made (evaluated w.tree) (evaluated g.tree) jumps start1 colon jump start2 loads3 behind test end second last e1 e2 (e3 ∙ w.made) e4 e5 e6 e7 (word_is draft3 loads3 start2 form3 false g.tree l2 g.made g.form_is) e8 e9
-                    ∙ ap (arms (evaluated w.tree) (evaluated g.tree)) (ej ∙ word_is before loads_ start given false e l1 h f);
+                    ∙ ap (ways (evaluated w.tree) (evaluated g.tree)) (ej ∙ word_is before loads_ start given false e l1 h f);
                 form_is = refl;
               }),
           z.1,
         )
           where
             arms_made : (first_ second_ : Draft → Draft) (d0 d1 d2 d3 d4 d5 d6 : Draft) (p q r s : ℕ) → p ≡ place_of d0 → d1 ≡ emitted (instr.JumpIfZero 0) d0 → d2 ≡ first_ d1 → q ≡ place_of d2 → d3 ≡ emitted (instr.Jump 0) d2 → r ≡ place_of d3
-                → d4 ≡ filled p (instr.JumpIfZero r) d3 → d5 ≡ second_ d4 → s ≡ place_of d5 → d6 ≡ filled q (instr.Jump s) d5 → d6 ≡ arms first_ second_ d0
+                → d4 ≡ filled p (instr.JumpIfZero r) d3 → d5 ≡ second_ d4 → s ≡ place_of d5 → d6 ≡ filled q (instr.Jump s) d5 → d6 ≡ ways first_ second_ d0
             arms_made first_ second_ d0 d1 d2 d3 d4 d5 d6 p q r s h1 h2 h3 h4 h5 h6 h7 h8 h9 h10 = rw (h10, h9, h8, h7, h6, h5, h4, h3, h2, h1) refl
 
 -- an assignment

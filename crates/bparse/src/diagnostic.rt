@@ -27,6 +27,8 @@ fn line(fault: &Diagnostic) -> ArrayString<LINE_LEN>
     match fault.about {
         About::Nothing => {}
         About::Case => line.push_str(" case"),
+        About::Break => line.push_str(" break"),
+        About::Default => line.push_str(" default"),
         About::Name(name) => {
             line.push_str(" ");
             line.push_str(name.as_str());

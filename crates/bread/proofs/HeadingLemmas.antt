@@ -7,8 +7,8 @@ use Rattle.btree.specs.Expression.{Word}
 use Rattle.btree.specs.Reading.{Read, Got, Stop, Reader, ◌>>=◌, first, line_of, after, expect, turns, many}
 use Rattle.btree.specs.ExpressionReader.{is_colon}
 use Rattle.btree.specs.Commas.{list_reader}
-use Rattle.btree.specs.Statement.{Heading, Auto, Extrn, Label, Case, Stmt, Headed, Evaluate}
-use Rattle.btree.specs.StatementReader.{is_semicolon, name, constant, declared, Headings, No_heading, Then, headed, Lead, no_lead, with_heading, Step, Declares, Imports, Selects, Mentions, Labels, step_at, lead_step, lead_turn, lead, stmt_at, stmt_behind, level, ended, statement}
+use Rattle.btree.specs.Statement.{Heading, Auto, Extrn, Label, Case, Default, Stmt, Headed, Evaluate}
+use Rattle.btree.specs.StatementReader.{is_semicolon, name, constant, declared, Headings, No_heading, Then, headed, Lead, no_lead, with_heading, Step, Declares, Imports, Selects, Defaults, Mentions, Labels, step_at, lead_step, lead_turn, lead, stmt_at, stmt_behind, level, ended, statement}
 use Rattle.btree.proofs.Fine.{many_some, many_none}
 use Rattle.btree.proofs.StatementFine.{lasting, lead_loop}
 use Rattle.bread.specs.Headings.{unheaded, IsHeadedBy, IsUnheaded, StopsHeading}
@@ -36,6 +36,7 @@ turn_behind : (b : Step) (hs : Headings) (l : Lead) (ts : List Placed) → lead_
 turn_behind Declares hs l ts = closed_behind hs is_semicolon Auto l (list_reader (λ before. declared) (after ts))
 turn_behind Imports hs l ts = closed_behind hs is_semicolon Extrn l (list_reader (λ before. name) (after ts))
 turn_behind Selects hs l ts = closed_behind hs is_colon (Case (line_of ts)) l (constant (after ts))
+turn_behind Defaults hs l ts = closed_behind hs is_colon (λ o. Default (line_of ts)) l (Got (tt {0}) (after ts))
 turn_behind (Mentions x) hs l ts = refl
 turn_behind (Labels w) hs l ts = refl
 

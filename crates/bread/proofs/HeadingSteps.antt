@@ -10,16 +10,16 @@ use Rattle.btree.specs.Expression.{Word}
 use Rattle.btree.specs.Reading.{Read, Reader, Got, Stop, ◌>>=◌, first, line_of, after, expect}
 use Rattle.btree.specs.ExpressionReader.{is_colon}
 use Rattle.btree.specs.Commas.{list_reader}
-use Rattle.btree.specs.Statement.{Heading, Auto, Extrn, Label, Case}
-use Rattle.btree.specs.StatementReader.{is_semicolon, name, size, constant, declared, no_lead, with_heading, Step, Declares, Imports, Selects, step_at, lead_turn}
-use Rattle.bemit.specs.Drafts.{Draft, selected, imported, labelled}
+use Rattle.btree.specs.Statement.{Heading, Auto, Extrn, Label, Case, Default}
+use Rattle.btree.specs.StatementReader.{is_semicolon, name, size, constant, declared, no_lead, with_heading, Step, Declares, Imports, Selects, Defaults, step_at, lead_turn}
+use Rattle.bemit.specs.Drafts.{Draft, selected, defaulted, imported, labelled}
 use Rattle.bemit.specs.Drafts as drafts
 use Rattle.bemit.specs.Effects.{headed}
 use Rattle.bexpr.specs.Tokens.{Tokens, IsLoaded, work, Moves, Runs, Breaks, Advances, LooksOn, Same, Behind, Keeps, tokens_with}
 use Rattle.bexpr.specs.Parsers.{Halts}
 use Rattle.bexpr.specs.declared.halt.Halt.{Halt}
 use Rattle.bexpr.specs.declared.halt.Halt.TheVariants as halt
-use Rattle.bread.specs.Headings.{auto, extrn, case, IsHeadedBy, IsUnheaded, StopsHeading}
+use Rattle.bread.specs.Headings.{auto, extrn, case, default, IsHeadedBy, IsUnheaded, StopsHeading}
 use Rattle.bread.specs.Compiling.{Took, TookConstant, TookHeading, FindsHeading}
 use Rattle.bexpr.proofs.TokenSteps.{Moves-append, Moves-breaks}
 use Rattle.bread.proofs.Steps.{began, went, halts_first, halts_then, run_seen}
@@ -44,6 +44,13 @@ case_then line n old mid new why t h = halts_then old mid new (case line) (expec
 
 pub case_took : {old mid new : Tokens} {start draft : Draft} (line n : ℕ) → TookConstant n old mid → Runs mid new (expect is_colon) (λ v. Got tt v) → draft ≡ selected line n start → Took (case line) headed start old new draft
 case_took {start = start} line n t r e = record { tree = Case line t.tree; runs = went (λ o. Got (Case line t.tree)) (began (λ c r. expect is_colon r >>= λ o. Got (Case line c)) t.runs) r; made = e ∙ ap (λ n. selected line n start) (sym t.value) }
+
+-- a default
+pub default_halts : (line : ℕ) (old new : Tokens) (why : Halt) → Halts (expect is_colon) old why new → Halts (default line) old why new
+default_halts line old new why h = halts_first old new (expect is_colon) (λ o. Got (Default line)) why h
+
+pub default_took : {old new : Tokens} {start draft : Draft} (line : ℕ) → Runs old new (expect is_colon) (λ v. Got tt v) → draft ≡ defaulted line start → Took (default line) headed start old new draft
+default_took line r e = record { tree = Default line; runs = began (λ o. Got (Default line)) r; made = e }
 
 -- a heading behind its keyword
 turned : {A : Type 0} (is : Token → Bool) (made : A → Heading) (x : Read A) → (x >>= λ a r. expect is r >>= λ o. Got (with_heading no_lead (made a))) ≡ ((x >>= λ a r. expect is r >>= λ o. Got (made a)) >>= λ h. Got (with_heading no_lead h))
@@ -71,6 +78,12 @@ case_turns {old} h = record { step = Selects; comes = ap (step_at None) h; turn 
 
 pub case_turns_on : {old : Tokens} (line : ℕ) → line ≡ line_of old.ahead → first old.ahead ≡ token.Keyword keyword.Case → Turns old (case line)
 case_turns_on {old} line e h = subst (λ l. Turns old (case l)) (sym e) (case_turns h)
+
+default_turns : {old : Tokens} → first old.ahead ≡ token.Keyword keyword.Default → Turns old (default (line_of old.ahead))
+default_turns {old} h = record { step = Defaults; comes = ap (step_at None) h; turn = λ u e. turned is_colon (λ o. Default (line_of u)) (Got (tt {0}) (after u)) ∙ ap (λ n. default n (after u) >>= λ h. Got (with_heading no_lead h)) e }
+
+pub default_turns_on : {old : Tokens} (line : ℕ) → line ≡ line_of old.ahead → first old.ahead ≡ token.Keyword keyword.Default → Turns old (default line)
+default_turns_on {old} line e h = subst (λ l. Turns old (default l)) (sym e) (default_turns h)
 
 module _ {old mid : Tokens} {p : Reader Heading} (t : Turns old p) (a : Advances old mid) where
   pub heading_took : {start draft : Draft} {new : Tokens} → Took p headed start mid new draft → IsLoaded new → work new < work mid → TookHeading start old new draft

@@ -7,9 +7,9 @@ use Rattle.blex.specs.declared.token.Keyword.{Keyword}
 use Rattle.blex.specs.declared.token.Keyword.TheVariants as keyword
 use Rattle.blex.specs.declared.token.Placed.{Placed}
 use Rattle.btree.specs.Expression.{Expr, words}
-use Rattle.btree.specs.Reading.{Read, Reader, Got, Stop, ◌>>=◌, first, after, expect, many}
+use Rattle.btree.specs.Reading.{Read, Reader, Got, Stop, ◌>>=◌, first, line_of, after, expect, many}
 use Rattle.btree.specs.ExpressionReader.{is_close_paren, always, Rvalue, reader, inner}
-use Rattle.btree.specs.Statement.{Heading, Stmt, Headed, Compound, If, IfElse, While, Switch, Goto, Return, ReturnValue, Evaluate, Empty, Stmts, Nothing, More, statement_words, body_words}
+use Rattle.btree.specs.Statement.{Heading, Stmt, Headed, Compound, If, IfElse, While, Switch, Goto, Break, Return, ReturnValue, Evaluate, Empty, Stmts, Nothing, More, statement_words, body_words}
 use Rattle.btree.specs.StatementReader.{is_open_paren, is_open_brace, is_close_brace, is_semicolon, is_else, Headings, No_heading, Then, headed, goes_on, Level, else_part, chosen, looped, one_more, body, compound, switched, tested, returned, stmt_at, level, statement}
 use Rattle.btree.specs.StatementReader as whole
 use Rattle.btree.proofs.Fine.{many_some, many_none}
@@ -17,7 +17,7 @@ use Rattle.btree.proofs.StatementFine.{closing, Good, Room, full, some, has_leve
 use Rattle.bcode.specs.declared.instr.Instr.{Instr}
 use Rattle.bcode.specs.declared.instr.Instr.TheVariants as instr
 use Rattle.bemit.specs.Views.{IfMade}
-use Rattle.bemit.specs.Drafts.{Draft, Faulty, Going, emitted, filled, place_of, begun}
+use Rattle.bemit.specs.Drafts.{Draft, Faulty, Going, emitted, filled, place_of, mark_of, begun, loop_begun, broken as broken_here}
 use Rattle.bemit.specs.Effects.{evaluated, done, all_done}
 use Rattle.bemit.specs.Effects as effects
 use Rattle.bexpr.specs.Tokens.{Tokens, IsLoaded, IsSingle, work, Moves, Runs, Advances}
@@ -25,9 +25,9 @@ use Rattle.bexpr.specs.Parsers.{Halts, TookWord}
 use Rattle.bexpr.specs.declared.halt.Halt.{Halt}
 use Rattle.bexpr.specs.declared.halt.Halt.TheVariants as halt
 use Rattle.bread.specs.Headings.{unheaded, IsHeadedBy, IsUnheaded, StopsHeading}
-use Rattle.bread.specs.Compiling.{Took, Compiles, TookHeading, FindsHeading}
+use Rattle.bread.specs.Compiling.{alone, Took, Compiles, TookHeading, FindsHeading}
 use Rattle.bexpr.specs.Parsers.{Expects}
-use Rattle.bread.specs.Statements.{behind, ended, evaluated_to, return_value, condition, conditional, repeated, statements, closed_switch, Chooses}
+use Rattle.bread.specs.Statements.{behind, ended, evaluated_to, broken, return_value, condition, conditional, repeated, statements, closed_loop, closed_switch, Chooses}
 use Rattle.bexpr.proofs.TokenSteps.{Moves-append, Moves-as, Moves-breaks}
 use Rattle.bexpr.proofs.Moving.{run_here, run_past, run_then}
 use Rattle.bread.proofs.Steps.{began, went, halts_first, halts_then, halts_behind, run_seen}
@@ -180,7 +180,7 @@ module _ (room k test : ℕ) (old mid next last : Tokens) (start d0 d1 d2 d3 : D
   conditional_ends (Err why) new draft x = λ off. halts_behind old last new (conditional room off) (else_part (level (suc k)) off (c off).tree (body_of off).tree) why (went (else_part (level (suc k)) off (c off).tree) (tested_on room k off old mid h chosen next (c off).tree (c off).runs (else_part (level (suc k)) off (c off).tree) (λ ts. refl)) (body_of off).runs) (x off (c off).tree (body_of off).tree)
 
 -- the jumps round two statements
-joined : (other s : Stmt) (d : Draft) (test jump : ℕ) (f d1 d2 g : Draft) → test ≡ place_of d → f ≡ done s (emitted (instr.JumpIfZero 0) d) → jump ≡ place_of f → d1 ≡ emitted (instr.Jump 0) f → d2 ≡ filled test (instr.JumpIfZero (place_of d1)) d1 → g ≡ done other d2 → filled jump (instr.Jump (place_of g)) g ≡ effects.arms (λ b. done s b) (λ b. done other b) d
+joined : (other s : Stmt) (d : Draft) (test jump : ℕ) (f d1 d2 g : Draft) → test ≡ place_of d → f ≡ done s (emitted (instr.JumpIfZero 0) d) → jump ≡ place_of f → d1 ≡ emitted (instr.Jump 0) f → d2 ≡ filled test (instr.JumpIfZero (place_of d1)) d1 → g ≡ done other d2 → filled jump (instr.Jump (place_of g)) g ≡ effects.ways (λ b. done s b) (λ b. done other b) d
 joined other s d test jump f d1 d2 g at b j e1 e2 o = rw (o, e2, e1, j, b, at) refl
 
 -- behind the statement of an if
@@ -222,17 +222,17 @@ pub repeated_body : (room k off : ℕ) (old mid next new : Tokens) (h : (room �
 repeated_body room k off old mid next new h e c why x = tested_body_halts room k off old mid h looped next e c (λ s. Got (While e s)) (λ ts. refl) new why x
 
 -- a jump back behind the statement, and one past it
-jumped_back : (s : Stmt) (d f start : Draft) (top test : ℕ) (d2 g draft : Draft) → top ≡ place_of start → test ≡ place_of d → d2 ≡ emitted (instr.JumpIfZero 0) d → f ≡ done s d2 → g ≡ emitted (instr.Jump top) f → draft ≡ filled test (instr.JumpIfZero (place_of g)) g → draft ≡ effects.skipping (λ b. emitted (instr.Jump (place_of start)) (done s b)) d
-jumped_back s d f start top test d2 g draft t e b o j x = x ∙ rw (j, o, b, t, e) refl
+jumped_back : (s : Stmt) (d f start : Draft) (top test mark : ℕ) (d2 d3 g draft : Draft) → top ≡ place_of start → test ≡ place_of d → d2 ≡ emitted (instr.JumpIfZero 0) d → mark ≡ mark_of d2 → d3 ≡ loop_begun d2 → f ≡ done s d3 → g ≡ closed_loop top mark f → draft ≡ filled test (instr.JumpIfZero (place_of g)) g → draft ≡ effects.skipping (λ b. effects.breaking (λ c. effects.turning (place_of start) (λ x. done s x) c) b) d
+jumped_back s d f start top test mark d2 d3 g draft t e b m l o j x = x ∙ rw (j, o, l, m, b, t, e) refl
 
-pub repeated_took : (room k top test : ℕ) (old mid next new : Tokens) (start d0 d1 d2 d3 d4 draft : Draft) (h : (room ≡ k + 1) × Advances old mid) → top ≡ place_of start → d0 ≡ start → ((off : ℕ) → Took (condition k off) evaluated d0 mid next d1) → test ≡ place_of d1 → d2 ≡ emitted (instr.JumpIfZero 0) d1 → ((off : ℕ) → Took (statement k off) done d2 next new d3) → d4 ≡ emitted (instr.Jump top) d3 → draft ≡ filled test (instr.JumpIfZero (place_of d4)) d4 → (off : ℕ) → Took (repeated room off) done start old new draft
-repeated_took room k top test old mid next new start d0 d1 d2 d3 d4 draft h t same c at j b back x off =
+pub repeated_took : (room k top test mark : ℕ) (old mid next new : Tokens) (start d0 d1 d2 d3 d4 d5 draft : Draft) (h : (room ≡ k + 1) × Advances old mid) → top ≡ place_of start → d0 ≡ start → ((off : ℕ) → Took (condition k off) evaluated d0 mid next d1) → test ≡ place_of d1 → d2 ≡ emitted (instr.JumpIfZero 0) d1 → mark ≡ mark_of d2 → d3 ≡ loop_begun d2 → ((off : ℕ) → Took (statement k off) done d3 next new d4) → d5 ≡ closed_loop top mark d4 → draft ≡ filled test (instr.JumpIfZero (place_of d5)) d5 → (off : ℕ) → Took (repeated room off) done start old new draft
+repeated_took room k top test mark old mid next new start d0 d1 d2 d3 d4 d5 draft h t same c at j m l b back x off =
     let w = c off in
     let s = b (off + words w.tree) in
     record {
       tree = While w.tree s.tree;
       runs = went (λ s. Got (While w.tree s)) (tested_on room k off old mid h looped next w.tree w.runs (λ s. Got (While w.tree s)) (λ ts. refl)) s.runs;
-      made = jumped_back s.tree d1 d3 start top test d2 d4 draft t at j s.made back x ∙ ap (effects.skipping (λ b. emitted (instr.Jump (place_of start)) (done s.tree b))) (w.made ∙ ap (evaluated w.tree) same);
+      made = jumped_back s.tree d1 d4 start top test mark d2 d3 d5 draft t at j m l s.made back x ∙ ap (effects.skipping (λ b. effects.breaking (λ c. effects.turning (place_of start) (λ x. done s.tree x) c) b)) (w.made ∙ ap (evaluated w.tree) same);
     }
 
 -- statements in braces
@@ -276,8 +276,8 @@ module _ (room k off : ℕ) (old mid : Tokens) (h : (room ≡ k + 1) × Advances
       pub switched_body_halts : (new : Tokens) (why : Halt) → Halts (statements k (off + words e)) last why new → Halts (switched (level room) off) old why new
       switched_body_halts new why x = halts_then old last new (switched (level room) off) (statements k (off + words e)) (λ ss. Got (Switch e ss)) why switched_body x
 
-      pub switched_took : (jump : ℕ) (new : Tokens) (start d1 d2 d3 d4 draft : Draft) → d1 ≡ evaluated e start → jump ≡ place_of d1 → d2 ≡ emitted (instr.Jump 0) d1 → d3 ≡ begun d2 → Took (statements k (off + words e)) all_done d3 last new d4 → draft ≡ closed_switch jump d4 → Took (switched (level room) off) done start old new draft
-      switched_took jump new start d1 d2 d3 d4 draft v j e2 e3 b x = record { tree = Switch e b.tree; runs = went (λ ss. Got (Switch e ss)) switched_body b.runs; made = x ∙ rw (b.made, e3, e2, j, v) refl }
+      pub switched_took : (jump mark : ℕ) (new : Tokens) (start d1 d2 d3 d4 draft : Draft) → d1 ≡ evaluated e start → mark ≡ mark_of d1 → jump ≡ place_of d1 → d2 ≡ emitted (instr.Jump 0) d1 → d3 ≡ begun d2 → Took (statements k (off + words e)) all_done d3 last new d4 → draft ≡ closed_switch jump mark d4 → Took (switched (level room) off) done start old new draft
+      switched_took jump mark new start d1 d2 d3 d4 draft v m j e2 e3 b x = record { tree = Switch e b.tree; runs = went (λ ss. Got (Switch e ss)) switched_body b.runs; made = x ∙ rw (b.made, e3, e2, j, m, v) refl }
 
 -- the loop of a body
 good_at : (k : ℕ) → Good (level (suc k))
@@ -401,17 +401,33 @@ pub return_ends : (room : ℕ) (old mid : Tokens) (start : Draft) (r : Result (U
 return_ends room old mid start (Ok o) new draft h a k = (λ off. let t = k.0 off in record { tree = t.tree; runs = run_then (run_past a (λ u e l. at_keyword room off old keyword.Return u h e)) t.runs; made = t.made }, k.1, falls_after a.moves.falls k.2)
 return_ends room old mid start (Err why) new draft h a k = λ off. halts_behind old mid new (unheaded room off) (returned room off) why (run_past a (λ u e l. at_keyword room off old keyword.Return u h e)) (k off)
 
-other_keyword : (room off : ℕ) (k : Keyword) (u : List Placed) → (k ≡ keyword.If → ⊥) → (k ≡ keyword.While → ⊥) → (k ≡ keyword.Switch → ⊥) → (k ≡ keyword.Goto → ⊥) → (k ≡ keyword.Return → ⊥) → stmt_at room (level room) off (token.Keyword k) u ≡ whole.ended room off Evaluate u
-other_keyword room off keyword.If u a b c d e = absurd (a refl)
-other_keyword room off keyword.While u a b c d e = absurd (b refl)
-other_keyword room off keyword.Switch u a b c d e = absurd (c refl)
-other_keyword room off keyword.Goto u a b c d e = absurd (d refl)
-other_keyword room off keyword.Return u a b c d e = absurd (e refl)
-other_keyword room off _ u a b c d e = refl
+-- a break
+pub broken_halts : (line : ℕ) (old new : Tokens) (why : Halt) → Halts (expect is_semicolon) old why new → Halts (broken line) old why new
+broken_halts line old new why h = halts_first old new (expect is_semicolon) (λ o. Got (Break line)) why h
 
-pub other_ends : (room : ℕ) (k : Keyword) (old : Tokens) (start : Draft) (r : Result (Unit {0}) Halt) (new : Tokens) (draft : Draft) → IsLoaded old → first old.ahead ≡ token.Keyword k → (k ≡ keyword.If → ⊥) → (k ≡ keyword.While → ⊥) → (k ≡ keyword.Switch → ⊥) → (k ≡ keyword.Goto → ⊥) → (k ≡ keyword.Return → ⊥) → Compiles (ended room) (evaluated_to instr.Pop) old start r new draft → Compiles (unheaded room) done old start r new draft
-other_ends room k old start r new draft l h a b c d e x =
-    ends_with room Evaluate instr.Pop (λ e d. refl) (unheaded room) old old start r new draft (omega arith) (λ off. run_here l (λ u f m. at_keyword room off old k u h f ∙ other_keyword room off k u a b c d e)) x
+pub broken_took : {old new : Tokens} {start draft : Draft} (line : ℕ) → Runs old new (expect is_semicolon) (λ v. Got tt v) → draft ≡ broken_here line start → Took (broken line) done start old new draft
+broken_took line r e = record { tree = Break line; runs = began (λ o. Got (Break line)) r; made = e }
+
+module _ (room line : ℕ) (old mid : Tokens) (n : line ≡ line_of old.ahead) (h : first old.ahead ≡ token.Keyword keyword.Break) (a : Advances old mid) where
+  broken_behind : (off : ℕ) → Runs old mid (unheaded room off) (broken line)
+  broken_behind off = run_past a (λ u e l. at_keyword room off old keyword.Break u h e ∙ ap (λ m. broken m (after u)) (l ∙ sym n))
+
+  pub break_ends : (start : Draft) (r : Result (Unit {0}) Halt) (new : Tokens) (draft : Draft) → Compiles (alone (broken line)) done mid start r new draft → Compiles (unheaded room) done old start r new draft
+  break_ends start (Ok o) new draft k = (λ off. let t = k.0 tt in record { tree = t.tree; runs = run_then (broken_behind off) t.runs; made = t.made }, k.1, falls_after a.moves.falls k.2)
+  break_ends start (Err why) new draft k = λ off. halts_behind old mid new (unheaded room off) (broken line) why (broken_behind off) (k tt)
+
+other_keyword : (room off : ℕ) (k : Keyword) (u : List Placed) → (k ≡ keyword.If → ⊥) → (k ≡ keyword.While → ⊥) → (k ≡ keyword.Switch → ⊥) → (k ≡ keyword.Goto → ⊥) → (k ≡ keyword.Break → ⊥) → (k ≡ keyword.Return → ⊥) → stmt_at room (level room) off (token.Keyword k) u ≡ whole.ended room off Evaluate u
+other_keyword room off keyword.If u a b c d f e = absurd (a refl)
+other_keyword room off keyword.While u a b c d f e = absurd (b refl)
+other_keyword room off keyword.Switch u a b c d f e = absurd (c refl)
+other_keyword room off keyword.Goto u a b c d f e = absurd (d refl)
+other_keyword room off keyword.Break u a b c d f e = absurd (f refl)
+other_keyword room off keyword.Return u a b c d f e = absurd (e refl)
+other_keyword room off _ u a b c d f e = refl
+
+pub other_ends : (room : ℕ) (k : Keyword) (old : Tokens) (start : Draft) (r : Result (Unit {0}) Halt) (new : Tokens) (draft : Draft) → IsLoaded old → first old.ahead ≡ token.Keyword k → (k ≡ keyword.If → ⊥) → (k ≡ keyword.While → ⊥) → (k ≡ keyword.Switch → ⊥) → (k ≡ keyword.Goto → ⊥) → (k ≡ keyword.Break → ⊥) → (k ≡ keyword.Return → ⊥) → Compiles (ended room) (evaluated_to instr.Pop) old start r new draft → Compiles (unheaded room) done old start r new draft
+other_ends room k old start r new draft l h a b c d g e x =
+    ends_with room Evaluate instr.Pop (λ e d. refl) (unheaded room) old old start r new draft (omega arith) (λ off. run_here l (λ u f m. at_keyword room off old k u h f ∙ other_keyword room off k u a b c d g e)) x
 
 -- a return
 module _ (room : ℕ) (old : Tokens) where

@@ -4,7 +4,7 @@ use Rattle.blex.specs.declared.token.Placed.{Placed}
 use Rattle.btree.specs.Reading.{Got, Stop, Reader, ◌>>=◌, first, expect}
 use Rattle.btree.specs.ExpressionReader.{is_colon}
 use Rattle.btree.specs.Commas.{list_reader}
-use Rattle.btree.specs.Statement.{Heading, Auto, Extrn, Case, Stmt, Headed}
+use Rattle.btree.specs.Statement.{Heading, Auto, Extrn, Case, Default, Stmt, Headed}
 use Rattle.btree.specs.StatementReader.{is_semicolon, name, constant, declared, stmt_at, level, statement}
 
 -- a heading behind its keyword
@@ -16,6 +16,9 @@ extrn ts = list_reader (λ before. name) ts >>= λ names r. expect is_semicolon 
 
 abbrev pub case : ℕ → Reader Heading
 case line ts = constant ts >>= λ c r. expect is_colon r >>= λ o. Got (Case line c)
+
+abbrev pub default : ℕ → Reader Heading
+default line ts = expect is_colon ts >>= λ o. Got (Default line)
 
 -- a statement without a heading
 abbrev pub unheaded : ℕ → ℕ → Reader Stmt

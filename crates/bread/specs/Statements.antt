@@ -3,12 +3,12 @@ use Rattle.std.specs.Prelude.{◌≡◌, ℕ, suc, ◌+◌, ◌≤◌, Result, O
 use Rattle.btree.specs.Expression.{Expr}
 use Rattle.btree.specs.Reading.{Got, Reader, ◌>>=◌, after, expect, many}
 use Rattle.btree.specs.ExpressionReader.{is_close_paren, always, Rvalue, reader}
-use Rattle.btree.specs.Statement.{Stmt, Stmts, Nothing, ReturnValue}
+use Rattle.btree.specs.Statement.{Stmt, Stmts, Nothing, Break, ReturnValue}
 use Rattle.btree.specs.StatementReader.{is_open_paren, is_close_brace, is_semicolon, goes_on, one_more, level, tested, chosen, looped, else_part}
 use Rattle.bcode.specs.declared.instr.Instr.{Instr}
 use Rattle.bcode.specs.declared.instr.Instr.TheVariants as instr
 use Rattle.bemit.specs.Drafts as drafts
-use Rattle.bemit.specs.Drafts.{Draft, emitted, filled, place_of, case_count}
+use Rattle.bemit.specs.Drafts.{Draft, emitted, filled, place_of, breaks_filled, arms_size}
 use Rattle.bemit.specs.Effects.{evaluated, done}
 use Rattle.bexpr.specs.Tokens.{Tokens, IsSingle, work}
 use Rattle.bexpr.specs.declared.halt.Halt.{Halt}
@@ -26,6 +26,10 @@ ended room off ts = reader room Rvalue off ts >>= λ e r. expect is_semicolon r 
 -- an instruction behind a rvalue
 abbrev pub evaluated_to : Instr → Expr → Draft → Draft
 evaluated_to last e d = emitted last (evaluated e d)
+
+-- what stands behind a break on this line
+abbrev pub broken : ℕ → Reader Stmt
+broken line ts = expect is_semicolon ts >>= λ o. Got (Break line)
 
 -- the value of a return, behind the parenthesis that opens it
 abbrev pub return_value : ℕ → ℕ → Reader Stmt
@@ -51,6 +55,13 @@ Chooses room test old start (Ok u) new draft =
     ((off : ℕ) (e : Expr) (s : Stmt) (d : Draft) → test ≡ place_of (evaluated e d) → start ≡ done s (emitted (instr.JumpIfZero 0) (evaluated e d)) → Took (else_part (level (suc room)) off e s) done d old new draft) × IsSingle new × (work new ≤ work old)
 Chooses room test old start (Err halt) new draft = (off : ℕ) (e : Expr) (s : Stmt) → Halts (else_part (level (suc room)) off e s) old halt new
 
--- the tests of a switch behind its statements, where the jump to them is at this place
-abbrev pub closed_switch : ℕ → Draft → Draft
-closed_switch jump b = let a = place_of b + 1 in drafts.ended (filled jump (instr.Jump a) (emitted instr.Pop (drafts.tested (emitted (instr.Jump (a + case_count b + 1)) b))))
+-- the end of a loop behind its statement, which begins at this place, where its breaks are those since this mark
+abbrev pub closed_loop : ℕ → ℕ → Draft → Draft
+closed_loop top mark b = let t = drafts.loop_ended (emitted (instr.Jump top) b) in breaks_filled mark (place_of t) t
+
+-- the end of a switch behind its statements, where the jump to its tests is at this place and its breaks are those since this mark
+abbrev pub closed_switch : ℕ → ℕ → Draft → Draft
+closed_switch jump mark b =
+    let a = place_of b + 1 in
+    let t = drafts.tested (emitted (instr.Jump (a + arms_size b)) b) in
+    drafts.ended (filled jump (instr.Jump a) (breaks_filled mark (place_of t) t))

@@ -7,7 +7,7 @@ ghost use Rattle.bemit.specs.Drafts as drafts;
 ghost use Rattle.bemit.specs.Drafts.{imported};
 ghost use Rattle.bemit.specs.Effects.{headed};
 ghost use Rattle.bexpr.specs.Tokens.{IsLoaded};
-ghost use Rattle.bread.specs.Headings.{auto, extrn, case};
+ghost use Rattle.bread.specs.Headings.{auto, extrn, case, default};
 ghost use Rattle.bread.specs.Compiling.{alone, Compiles, FindsHeading};
 
 use crate::take::{constant, name, size};
@@ -73,6 +73,16 @@ fn case<I: ByteIn>(parser: &mut Parser<I>, line: u64) -> Result<(), Halt>
     Ok(())
 }
 
+// What stands behind a `default` on this line.
+fn default<I: ByteIn>(parser: &mut Parser<I>, line: u64) -> Result<(), Halt>
+    requires { IsLoaded parser.old.tokens }
+    ensures { Compiles (alone (default line)) headed parser.old.tokens parser.old.draft result parser.new.tokens parser.new.draft }
+{
+    parser.expect(Mark::Colon)?;
+    parser.draft.default(line);
+    Ok(())
+}
+
 // A label, if a colon stands behind this name.
 fn label<I: ByteIn>(parser: &mut Parser<I>, name: Name) -> Result<bool, Halt>
     requires loaded { IsLoaded parser.old.tokens }
@@ -111,6 +121,11 @@ fn headed<I: ByteIn>(parser: &mut Parser<I>, keyword: Keyword) -> Result<bool, H
         Keyword::Case => {
             parser.tokens.advance()?;
             case(parser, line)?;
+            Ok(true)
+        }
+        Keyword::Default => {
+            parser.tokens.advance()?;
+            default(parser, line)?;
             Ok(true)
         }
         _ => Ok(false),

@@ -9,12 +9,12 @@ ghost use Rattle.btree.specs.Statement.{Goto};
 ghost use Rattle.btree.specs.StatementReader.{level, goes_on, statement, returned, compound, switched};
 ghost use Rattle.btree.specs.StatementReader as reader;
 ghost use Rattle.bcode.specs.declared.instr.Instr.TheVariants as instr;
-ghost use Rattle.bemit.specs.Drafts.{most_instructions, place_of, filled};
+ghost use Rattle.bemit.specs.Drafts.{most_instructions, place_of, filled, breaks_filled};
 ghost use Rattle.bemit.specs.Effects.{evaluated, done, all_done};
 ghost use Rattle.bexpr.specs.Tokens.{IsLoaded, IsSingle};
 ghost use Rattle.bread.specs.Headings.{unheaded};
-ghost use Rattle.bread.specs.Compiling.{Compiles};
-ghost use Rattle.bread.specs.Statements.{behind, ended, evaluated_to, return_value, condition, conditional, repeated, statements, closed_switch, Chooses};
+ghost use Rattle.bread.specs.Compiling.{alone, Compiles};
+ghost use Rattle.bread.specs.Statements.{behind, ended, evaluated_to, broken, return_value, condition, conditional, repeated, statements, closed_loop, closed_switch, Chooses};
 
 use crate::heading::heading;
 use bcode::Instr;
@@ -41,6 +41,16 @@ fn goto<I: ByteIn>(parser: &mut Parser<I>, room: u8) -> Result<(), Halt>
 {
     parser.tokens.advance()?;
     ended(parser, room, Instr::Goto)
+}
+
+// What stands behind a `break` on this line.
+fn broken<I: ByteIn>(parser: &mut Parser<I>, line: u64) -> Result<(), Halt>
+    requires { IsLoaded parser.old.tokens }
+    ensures { Compiles (alone (broken line)) done parser.old.tokens parser.old.draft result parser.new.tokens parser.new.draft }
+{
+    parser.expect(Mark::Semicolon)?;
+    parser.draft.add_break(line);
+    Ok(())
 }
 
 // The value of a `return`, behind the parenthesis that opens it.
@@ -88,6 +98,23 @@ fn skip_to_here(draft: &mut Draft, test: u16)
     draft.fill(test, Instr::JumpIfZero(here));
 }
 
+// The breaks since this mark lead to what comes.
+fn break_to_here(draft: &mut Draft, mark: bemit::Mark)
+    ensures { draft.new ≡ breaks_filled mark.count (place_of draft.old) draft.old }
+{
+    let here = draft.place();
+    draft.fill_breaks(mark, here);
+}
+
+// Ends a loop behind its statement: it goes back to this place, and its breaks are those since this mark.
+fn close_loop(draft: &mut Draft, top: u16, mark: bemit::Mark)
+    ensures { draft.new ≡ closed_loop top mark.count draft.old }
+{
+    draft.emit(Instr::Jump(top));
+    draft.end_loop();
+    break_to_here(draft, mark);
+}
+
 // The place of the next instruction, of which there are few.
 fn next_place(draft: &Draft) -> u16
     ensures place { result ≡ place_of draft.now }
@@ -99,15 +126,15 @@ fn next_place(draft: &Draft) -> u16
     draft.code().len() as u16
 }
 
-// Ends the statements of a switch whose jump to its tests is at this place.
-fn close_switch(draft: &mut Draft, jump: u16)
-    ensures { draft.new ≡ closed_switch jump draft.old }
+// Ends a switch behind its statements: the jump to its tests is at this place, and its breaks are those since this mark.
+fn close_switch(draft: &mut Draft, jump: u16, mark: bemit::Mark)
+    ensures { draft.new ≡ closed_switch jump mark.count draft.old }
 {
     let tests = next_place(draft) + 1;
-    let end = tests + draft.case_count() + 1;
+    let end = tests + draft.arms_size();
     draft.emit(Instr::Jump(end));
     draft.emit_tests();
-    draft.emit(Instr::Pop);
+    break_to_here(draft, mark);
     draft.fill(jump, Instr::Jump(tests));
     draft.end_switch();
 }
@@ -150,11 +177,16 @@ fn keyed<I: ByteIn>(parser: &mut Parser<I>, room: u8, keyword: Keyword) -> Resul
     requires keyword { first parser.old.tokens.ahead ≡ token.Keyword keyword }
     ensures { Compiles (unheaded room) done parser.old.tokens parser.old.draft result parser.new.tokens parser.new.draft }
 {
+    let line = parser.tokens.line();
     match keyword {
         Keyword::If => conditional(parser, room),
         Keyword::While => repeated(parser, room),
         Keyword::Switch => switched(parser, room),
         Keyword::Goto => goto(parser, room),
+        Keyword::Break => {
+            parser.tokens.advance()?;
+            broken(parser, line)
+        }
         Keyword::Return => {
             parser.tokens.advance()?;
             returned(parser, room)
@@ -231,8 +263,10 @@ fn repeated<I: ByteIn>(parser: &mut Parser<I>, room: u8) -> Result<(), Halt>
     condition(parser, room)?;
     let test = parser.draft.place();
     parser.draft.emit(Instr::JumpIfZero(0));
+    let mark = parser.draft.mark();
+    parser.draft.begin_loop();
     statement(parser, room)?;
-    parser.draft.emit(Instr::Jump(top));
+    close_loop(&mut parser.draft, top, mark);
     skip_to_here(&mut parser.draft, test);
     Ok(())
 }
@@ -246,10 +280,11 @@ fn switched<I: ByteIn>(parser: &mut Parser<I>, room: u8) -> Result<(), Halt>
     let room = parser.enter(room)?;
     parser.evaluate(room)?;
     parser.expect(Mark::OpenBrace)?;
+    let mark = parser.draft.mark();
     let jump = parser.draft.place();
     parser.draft.emit(Instr::Jump(0));
     parser.draft.begin_switch();
     body(parser, room)?;
-    close_switch(&mut parser.draft, jump);
+    close_switch(&mut parser.draft, jump, mark);
     Ok(())
 }

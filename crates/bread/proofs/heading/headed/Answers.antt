@@ -1,6 +1,6 @@
 use Rattle.std.proofs.Common.{◌∙◌, ap}
 use Rattle.blex.specs.declared.token.Token.TheVariants as token
-use Rattle.bread.proofs.HeadingSteps.{auto_turns, extrn_turns, case_turns_on, heading_took, heading_halts, heading_err}
+use Rattle.bread.proofs.HeadingSteps.{auto_turns, extrn_turns, case_turns_on, default_turns_on, heading_took, heading_halts, heading_err}
 use Rattle.bread.proofs.heading.headed.Goals as goal
 
 pub returns-in_err-auto-in-Auto : goal.returns-in_err-auto-in-Auto
@@ -20,3 +20,9 @@ returns-in_err-case-in-Case g c = let k = c.requires.keyword ∙ ap (λ w. token
 
 pub returns-in_ok-case-in-Case : goal.returns-in_ok-case-in-Case
 returns-in_ok-case-in-Case g c = let k = c.requires.keyword ∙ ap (λ w. token.Keyword w) c.in-Case.is in let a = c.in_ok-advance-in-Case.ensures.ok in let e = c.in_ok-case-in-Case.ensures in heading_took (case_turns_on c.line-line.result c.line-line.ensures k) a (e.0 tt) e.1.0 e.2
+
+pub returns-in_err-default-in-Default : goal.returns-in_err-default-in-Default
+returns-in_err-default-in-Default g c = let k = c.requires.keyword ∙ ap (λ w. token.Keyword w) c.in-Default.is in let a = c.in_ok-advance-in-Default.ensures.ok in heading_err _ _ c.from_residual-in_err-default-in-Default.result _ _ c.in_err-default-in-Default.field-0.0 c.from_residual-in_err-default-in-Default.ensures.1 (heading_halts (default_turns_on c.line-line.result c.line-line.ensures k) a c.args.parser.now.draft c.default.new.parser.draft _ c.in_err-default-in-Default.field-0.0 (c.in_err-default-in-Default.ensures tt))
+
+pub returns-in_ok-default-in-Default : goal.returns-in_ok-default-in-Default
+returns-in_ok-default-in-Default g c = let k = c.requires.keyword ∙ ap (λ w. token.Keyword w) c.in-Default.is in let a = c.in_ok-advance-in-Default.ensures.ok in let e = c.in_ok-default-in-Default.ensures in heading_took (default_turns_on c.line-line.result c.line-line.ensures k) a (e.0 tt) e.1.0 e.2

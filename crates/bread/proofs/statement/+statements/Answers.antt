@@ -13,7 +13,7 @@ use Rattle.bread.specs.Headings.{unheaded}
 use Rattle.bread.specs.Statements.{behind, conditional, repeated}
 use Rattle.bread.proofs.Steps.{compiles_err}
 use Rattle.bread.proofs.Takings.{less, both_fall, falls_before}
-use Rattle.bread.proofs.StatementSteps.{compiles_as, at_brace, empty_ends, plain_ends, at_if, at_while, at_switch, at_goto, return_ends, other_ends, headings_begin, headings_go, headings_stop, headings_end, compound_enter, compound_ends, body_begins, body_goes, body_halts, body_ends, tested_enter, tested_halts, conditional_body, conditional_ends, repeated_body, repeated_took, otherwise_absent, otherwise_halts, otherwise_took, chooses_err, switched_enter, switched_value, switched_brace, switched_body_halts, switched_took}
+use Rattle.bread.proofs.StatementSteps.{compiles_as, at_brace, empty_ends, plain_ends, at_if, at_while, at_switch, at_goto, break_ends, return_ends, other_ends, headings_begin, headings_go, headings_stop, headings_end, compound_enter, compound_ends, body_begins, body_goes, body_halts, body_ends, tested_enter, tested_halts, conditional_body, conditional_ends, repeated_body, repeated_took, otherwise_absent, otherwise_halts, otherwise_took, chooses_err, switched_enter, switched_value, switched_brace, switched_body_halts, switched_took}
 use Rattle.bread.proofs.statement.+statements.Goals as goal
 
 pub statement-headings-init : goal.statement-headings-init
@@ -52,8 +52,11 @@ keyed-returns-in-Goto g t c = compiles_as (unheaded c.args.room) (behind (λ off
 pub keyed-returns-in_ok-advance-in-Return : goal.keyed-returns-in_ok-advance-in-Return
 keyed-returns-in_ok-advance-in-Return g t c = return_ends c.args.room _ _ _ c.returned.result _ _ (c.requires.keyword ∙ ap (λ k. token.Keyword k) c.in-Return.is) c.in_ok-advance-in-Return.ensures.ok c.returned.ensures
 
+pub keyed-returns-in_ok-advance-in-Break : goal.keyed-returns-in_ok-advance-in-Break
+keyed-returns-in_ok-advance-in-Break g t c = break_ends c.args.room c.line-line.result _ _ c.line-line.ensures (c.requires.keyword ∙ ap (λ k. token.Keyword k) c.in-Break.is) c.in_ok-advance-in-Break.ensures.ok _ c.broken.result _ _ c.broken.ensures
+
 pub keyed-returns-in_default : goal.keyed-returns-in_default
-keyed-returns-in_default g t c = other_ends c.args.room c.args.keyword _ _ c.ended.result _ _ c.requires.loaded c.requires.keyword c.in_default.not-If c.in_default.not-While c.in_default.not-Switch c.in_default.not-Goto c.in_default.not-Return c.ended.ensures
+keyed-returns-in_default g t c = other_ends c.args.room c.args.keyword _ _ c.ended.result _ _ c.requires.loaded c.requires.keyword c.in_default.not-If c.in_default.not-While c.in_default.not-Switch c.in_default.not-Goto c.in_default.not-Break c.in_default.not-Return c.ended.ensures
 
 pub compound-returns-in_err-room : goal.compound-returns-in_err-room
 compound-returns-in_err-room g t c = compiles_err _ _ _ _ c.from_residual.result _ _ c.in_err-room.field-0.0 c.from_residual.ensures.1 (λ i. compound_enter c.args.room i _ _ c.in_err-room.field-0.0 c.in_err-room.ensures.tokens)
@@ -95,7 +98,7 @@ pub conditional-returns : goal.conditional-returns
 conditional-returns g t c = conditional_ends c.args.room c.in_ok-room.room c.place-test.result _ _ _ _ _ _ _ _ _ c.in_ok-room.ensures.tokens c.in_ok-room.ensures.draft c.in_ok-condition.ensures.0 c.place-test.ensures c.emit.ensures c.in_ok-statement.ensures.0 c.in_ok-statement.ensures.2 c.otherwise.result _ _ c.otherwise.ensures
 
 pub repeated-returns : goal.repeated-returns
-repeated-returns g t c = (repeated_took c.args.room c.in_ok-room.room c.place-top.result c.place-test.result _ _ _ _ _ _ _ _ _ _ _ c.in_ok-room.ensures.tokens c.place-top.ensures c.in_ok-room.ensures.draft c.in_ok-condition.ensures.0 c.place-test.ensures c.emit.ensures c.in_ok-statement.ensures.0 c.emit-2.ensures c.skip_to_here.ensures, c.in_ok-statement.ensures.1, both_fall (both_fall (less c.in_ok-room.ensures.tokens.1) c.in_ok-condition.ensures.2) c.in_ok-statement.ensures.2)
+repeated-returns g t c = (repeated_took c.args.room c.in_ok-room.room c.place-top.result c.place-test.result _ _ _ _ _ _ _ _ _ _ _ _ _ c.in_ok-room.ensures.tokens c.place-top.ensures c.in_ok-room.ensures.draft c.in_ok-condition.ensures.0 c.place-test.ensures c.emit.ensures c.mark-mark.ensures c.begin_loop.ensures c.in_ok-statement.ensures.0 c.close_loop.ensures c.skip_to_here.ensures, c.in_ok-statement.ensures.1, both_fall (both_fall (less c.in_ok-room.ensures.tokens.1) c.in_ok-condition.ensures.2) c.in_ok-statement.ensures.2)
 
 pub otherwise-returns-then-not-is_at : goal.otherwise-returns-then-not-is_at
 otherwise-returns-then-not-is_at g t c = otherwise_absent c.args.room c.args.test _ _ _ c.requires (sym c.is_at.ensures ∙ c.if-not-is_at.true) c.skip_to_here.ensures
@@ -119,4 +122,4 @@ pub switched-returns-in_err-body : goal.switched-returns-in_err-body
 switched-returns-in_err-body g t c = compiles_err _ _ _ _ c.from_residual-in_err-body.result _ _ c.in_err-body.field-0.0 c.from_residual-in_err-body.ensures.1 (λ i. let w = c.in_ok-evaluate.ensures.0 i in switched_body_halts c.args.room c.in_ok-room.room i _ _ c.in_ok-room.ensures.tokens _ w.tree w.runs _ c.in_ok-expect.ensures.tokens.0 _ c.in_err-body.field-0.0 (c.in_err-body.ensures (i + words w.tree)))
 
 pub switched-returns : goal.switched-returns
-switched-returns g t c = ((λ i. let w = c.in_ok-evaluate.ensures.0 i in switched_took c.args.room c.in_ok-room.room i _ _ c.in_ok-room.ensures.tokens _ w.tree w.runs _ c.in_ok-expect.ensures.tokens.0 c.place-jump.result _ _ _ _ _ _ _ (c.in_ok-expect.ensures.draft ∙ w.made ∙ ap (evaluated w.tree) c.in_ok-room.ensures.draft) c.place-jump.ensures c.emit.ensures c.begin_switch.ensures (c.in_ok-body.ensures.0 (i + words w.tree)) c.close_switch.ensures), c.in_ok-body.ensures.1, both_fall (falls_before (less c.in_ok-room.ensures.tokens.1) (c.in_ok-evaluate.ensures.0 0).runs.falls) (both_fall c.in_ok-expect.ensures.tokens.2 c.in_ok-body.ensures.2))
+switched-returns g t c = ((λ i. let w = c.in_ok-evaluate.ensures.0 i in switched_took c.args.room c.in_ok-room.room i _ _ c.in_ok-room.ensures.tokens _ w.tree w.runs _ c.in_ok-expect.ensures.tokens.0 c.place-jump.result _ _ _ _ _ _ _ _ (c.in_ok-expect.ensures.draft ∙ w.made ∙ ap (evaluated w.tree) c.in_ok-room.ensures.draft) c.mark-mark.ensures c.place-jump.ensures c.emit.ensures c.begin_switch.ensures (c.in_ok-body.ensures.0 (i + words w.tree)) c.close_switch.ensures), c.in_ok-body.ensures.1, both_fall (falls_before (less c.in_ok-room.ensures.tokens.1) (c.in_ok-evaluate.ensures.0 0).runs.falls) (both_fall c.in_ok-expect.ensures.tokens.2 c.in_ok-body.ensures.2))
