@@ -26,18 +26,29 @@ is_stale() { [ ! -x "$program" ] || is_behind "$program" "$top/crates"; }
 rt_in() {
     local folder=$top/crates/$1 status
     shift
-    (cd "$folder" && exec rt "$@") <&0 &
+    (cd "$folder" && exec rt "$@") <&0 9>&- &
     child=$!
+    echo "$child" >"$work/child"
     wait "$child"
     status=$?
     child=
     return "$status"
 }
 
+# Makes a folder for files of this script. Where the script is killed, rt is ended and the folder removed by another
+# process, which reads what only the script writes to.
+prepare() {
+    work=$(mktemp -d) || fail "no room for files of its own"
+    exec 9> >(
+        trap '' HUP INT TERM
+        read -r _ || { kill "$(<"$work/child")"; rm -rf "$work"; } 2>/dev/null
+    )
+}
+
 # Ends what runs below this script, and leaves no file behind. All that rt started ends with rt.
 clean() {
     [ -z "$child" ] || { kill "$child" && wait "$child"; } 2>/dev/null
-    [ -z "$work" ] || rm -rf "$work"
+    [ -z "$work" ] || { rm -rf "$work" && echo >&9 && exec 9>&-; }
     child= work=
 }
 
@@ -147,7 +158,7 @@ if is_stale; then
     began=$SECONDS
     trap clean EXIT
     for signal in HUP INT TERM; do trap "interrupted $signal" "$signal"; done
-    work=$(mktemp -d) || fail "no room for files of its own"
+    prepare
     status=
     if [ -z "$prove_first" ] && [ ! -x "$program" ]; then
         answer_unproved "$@" || say "no answer without the proof"
