@@ -61,6 +61,7 @@ interrupted() {
 
 # Whether all of the input is there: a file, nothing, or a pipe that no one writes to any more. This reads none of it.
 input_is_whole() {
+    [ ! -t 0 ] || return 1
     [ -f /dev/stdin ] || [ /dev/stdin -ef /dev/null ] || python3 -c '
 import select
 pipe = select.poll()
@@ -74,8 +75,10 @@ keep_input() {
     : >"$work/input"
     [ -n "$file" ] || return 0
     if input_is_whole; then
-        cat >"$work/input"
+        cat >"$work/input" || fail "no room for the input"
         exec <"$work/input"
+        # rt takes no more than 64 MiB.
+        [ "$(wc -c <"$work/input")" -lt 67108864 ]
     else
         ! grep -q getchar -- "$file"
     fi
@@ -99,12 +102,12 @@ answer_unproved() {
     find_file "$@"
     if [ "$place" -gt 0 ]; then
         behind=", and then the proof goes on"
+        words[place - 1]=given.b
     fi
     if [ "$place" -gt 0 ] && [ -e "${!place}" ]; then
         file=$(readlink -f -- "${!place}")
         # What is no file, or has a name that the program may refuse, is left to the program.
         [[ -f $file && -r $file && ${!place} != *[!' '-~]* ]] || return 1
-        words[place - 1]=given.b
         data=(--data "given.b=$file")
     fi
     keep_input "$file" || return 1
