@@ -71,7 +71,7 @@ good_after (header.Vector name words values strings) h =
     good_replicate values (value strings) _ (λ _. few) (good_last strings string (λ _. tt))
 good_after header.End h = tt
 
-good_next : (from : State) (l : List ℕ) (to : State) → IsGoodState from → Leads from l to → IsGoodState to
+pub good_next : (from : State) (l : List ℕ) (to : State) → IsGoodState from → Leads from l to → IsGoodState to
 good_next (expects []) l to good leads = subst IsGoodState (sym leads.3) (good_after leads.0 leads.1)
 good_next (expects (k ∷ ks)) l to good leads = subst IsGoodState (sym leads.1) good.1
 good_next finished l to good leads = absurd leads
