@@ -1,13 +1,12 @@
 -- Answers that the contract of `go` excludes, whatever is proved of the body that gives them.
-use Rattle.std.proofs.Common.{◌≡◌, ℕ, zero, suc, ◌+◌, ◌<◌, ◌≤◌, List, [], ◌∷◌, ◌++◌, map, codes, Some, None, refl, sym, ap, ◌∙◌, subst, arith, ◌⊎◌, inl, inr, ⊎_elim}
+use Rattle.std.proofs.Common.{◌≡◌, ℕ, ◌<◌, ◌≤◌, List, [], ◌∷◌, map, codes, Some, None, refl, sym, ap, ◌∙◌, subst, arith, ◌⊎◌, inl, inr, ⊎_elim}
 use Rattle.std.specs.Io.KnownBytes.{Appends}
 use Rattle.bword.specs.ByteEnds.{Incoming, Outgoing, Grew, Refuses}
 use Rattle.bword.specs.declared.byte_out.EndFault.{EndFault}
 use Rattle.bword.specs.declared.byte_out.EndFault.TheVariants as end_fault
 use Rattle.btree.specs.Code.{code_of}
-use Rattle.btree.specs.Compiled as compiled
 use Rattle.btree.specs.Definition.{Definition}
-use Rattle.btree.specs.Expression.{Word, Number, Expr, Named, Literal, Called, No_arguments, Another}
+use Rattle.btree.specs.Expression.{Number, Named, Literal, Called, No_arguments, Another}
 use Rattle.btree.specs.Statement.{Evaluate, Compound, Stmts, Nothing, More}
 use Rattle.bmach.specs.Machine.{State, Halted, image_of}
 use Rattle.bmach.specs.Runs as runs

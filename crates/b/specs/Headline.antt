@@ -1,6 +1,6 @@
 -- What comes of a source and an input where nothing fails: the whole promise of `go`, over ends that tell their bytes.
 use Rattle.std.specs.Prelude.{◌≡◌, ◌≢◌, ℕ, ◌+◌, ◌≤◌, List, [], map, Some, None}
-use Rattle.bword.specs.ByteEnds.{Incoming, Outgoing, Grew, Writes, CanFollow}
+use Rattle.bword.specs.ByteEnds.{Incoming, Grew, Writes, CanFollow}
 use Rattle.blex.specs.Tokens.{tokens_from}
 use Rattle.blex.specs.declared.diagnostic.Diagnostic.{Diagnostic}
 use Rattle.btree.specs.Code.{code_of}
