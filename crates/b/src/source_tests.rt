@@ -423,13 +423,13 @@ fn begins(
         out.bytes().starts_with(code.as_bytes()),
         "the code of {pieces}"
     );
-    assert_eq!(rt;
-        out.bytes().is_empty(),
-        code.is_empty(),
-        "whether {pieces} has code"
+    assert!(rt;
+        line.is_empty() || out.bytes().len() == code.len(),
+        "the code of {pieces} before its fault"
     );
     assert_eq!(rt; diag.bytes(), line.as_bytes(), "the line of {pieces}");
-    assert_eq!(rt; answer == 1, code.is_empty(), "the status of {pieces}");
+    let status = if line.is_empty() { 0 } else { 1 };
+    assert_eq!(rt; answer, status, "the status of {pieces}");
     Ok(())
 }
 
@@ -462,7 +462,9 @@ w 24929
 1|v ~1023|0,~1|0;^X v 1024 0
 c 0
 ^@
-1|v ~1024|0,~1|0;^^>e 1
+1|a;
+v ~1024|0,~1|0;^X a 0 0
+^>e 2
 @
 1|v[] ~1023|0,~1|0;^V v 1024 1024 0
 c 0
