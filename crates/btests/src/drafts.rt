@@ -1,7 +1,7 @@
 use bcode::{Instr, Ival};
 use bemit::{
-    Binding, Branch, Case, CaseFault, CodeBuffer, DeclareFault, Declared, Draft, Form, Scope,
-    TooLarge, TooManyNames, Undefined,
+    Binding, Branch, Case, CaseFault, CodeBuffer, DeclareFault, Declared, DefaultFault, Draft,
+    EmitFault, Form, MentionFault, Scope, Undefined,
 };
 use blex::{About, Diagnostic, Letters};
 use bword::Name;
@@ -93,7 +93,7 @@ fn a_function_has_128_names(rt: HostRuntime) -> Result<(), Fail> {
         scope.declare(name("x")?, Declared::External),
         Err(DeclareFault::TooManyNames)
     );
-    assert_eq!(rt; scope.mention(name("x")?, false, 1), Err(TooManyNames));
+    assert_eq!(rt; scope.mention(name("x")?, false, 1), Err(MentionFault::TooManyNames));
     assert_eq!(rt;
         scope.place_label(name("x")?, 0),
         Err(DeclareFault::TooManyNames)
@@ -130,7 +130,7 @@ fn strings_and_cases_have_a_room(rt: HostRuntime) {
     assert_eq!(rt; buffer.text(b"x"), Ok(3));
     assert_eq!(rt; buffer.strings(), [26984, 4, 4, 1144].as_slice());
     assert_eq!(rt; buffer.text(&[b'a'; 2039]), Ok(4));
-    assert_eq!(rt; buffer.text(b""), Err(TooLarge));
+    assert_eq!(rt; buffer.text(b""), Err(EmitFault::TooLarge));
     assert_eq!(rt; buffer.strings().len(), 1024);
     for value in 0..256 {
         assert_eq!(rt; buffer.add_case(0, value, 9), Ok(()));
@@ -145,15 +145,31 @@ fn strings_and_cases_have_a_room(rt: HostRuntime) {
             target: 9
         })
     );
+    assert_eq!(rt; buffer.add_default(1, 3), Ok(()));
+    assert_eq!(rt; buffer.add_default(1, 4), Err(DefaultFault::Redeclared));
+    assert_eq!(rt; buffer.take_default(2), None);
+    assert_eq!(rt; buffer.take_default(1), Some(3));
+    assert_eq!(rt; buffer.take_default(1), None);
     for place in 0..4096 {
         assert_eq!(rt; buffer.emit(Instr::Pop), Ok(place));
     }
-    assert_eq!(rt; buffer.emit(Instr::Pop), Err(TooLarge));
-    assert_eq!(rt; buffer.hole(Branch::Jump), Err(TooLarge));
-    assert_eq!(rt; buffer.emit_label(0), Err(TooLarge));
+    assert_eq!(rt; buffer.emit(Instr::Pop), Err(EmitFault::TooLarge));
+    assert_eq!(rt; buffer.hole(Branch::Jump), Err(EmitFault::TooLarge));
+    assert_eq!(rt; buffer.emit_label(0), Err(EmitFault::TooLarge));
     buffer.clear();
     assert_eq!(rt; buffer.emit(Instr::Pop), Ok(0));
     assert_eq!(rt; buffer.text(b"ab"), Ok(0));
+}
+
+#[test]
+fn refusals_have_numbers(rt: HostRuntime) {
+    assert_eq!(rt; DeclareFault::Redeclared as u8, 1);
+    assert_eq!(rt; CaseFault::Redeclared as u8, 1);
+    assert_eq!(rt; DefaultFault::Redeclared as u8, 1);
+    assert_eq!(rt; DeclareFault::TooManyNames as u8, 3);
+    assert_eq!(rt; MentionFault::TooManyNames as u8, 3);
+    assert_eq!(rt; EmitFault::TooLarge as u8, 4);
+    assert_eq!(rt; CaseFault::TooManyCases as u8, 5);
 }
 
 #[test]
@@ -179,11 +195,11 @@ fn a_draft_is_made(rt: HostRuntime) -> Result<(), Fail> {
     draft.label(name("L")?, 3);
     draft.begin_switch();
     draft.case(4, 7);
-    assert_eq!(rt; draft.case_count(), 1);
+    assert_eq!(rt; draft.arms_size(), 2);
     draft.emit_tests();
     draft.end_switch();
     draft.emit(Instr::Jump(0));
-    draft.fill(7, Instr::Jump(9));
+    draft.fill(8, Instr::Jump(9));
     draft.resolve();
     assert_eq!(rt;
         draft.code(),
@@ -198,6 +214,7 @@ fn a_draft_is_made(rt: HostRuntime) -> Result<(), Fail> {
                 value: 7,
                 target: 6
             },
+            Instr::Pop,
             Instr::Jump(9),
         ]
         .as_slice()
@@ -246,5 +263,19 @@ fn the_first_fault_of_a_draft_stays(rt: HostRuntime) -> Result<(), Fail> {
     draft.want_lvalue(Form::Joined, 7);
     draft.fail(fault(Letters::Syntax, 8));
     assert_eq!(rt; draft.fault(1), Some(fault(Letters::NotLvalue, 7)));
+    draft.start();
+    draft.begin_switch();
+    draft.case(1, 1);
+    draft.end_switch();
+    draft.begin_switch();
+    draft.case(2, 1);
+    assert_eq!(rt; draft.fault(1), None);
+    draft.case(3, 1);
+    let again = Diagnostic {
+        letters: Letters::Redeclared,
+        about: About::Case,
+        line: 3,
+    };
+    assert_eq!(rt; draft.fault(1), Some(again));
     Ok(())
 }
