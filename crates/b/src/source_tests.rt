@@ -64,6 +64,21 @@ n 2000;~X n 1 0
 c 2000
 E
 @
+f() { switch 1 { case 1: ; } switch 2 { case 1: ; } }~F f 0 0 0 0 12
+c 1
+j 3
+j 5
+e 1 2
+p
+c 2
+j 8
+j 10
+e 1 7
+p
+c 0
+r
+E
+@
 s \"ab\", t, 'x'; t;~X s 3 2
 s 0
 x t
