@@ -6,7 +6,7 @@ use Rattle.blex.specs.declared.token.Placed.{Placed}
 use Rattle.btree.specs.Lines.{mark, placed, string_token}
 use Rattle.btree.specs.Expression.{Expr, Arguments, Named, Literal, Text, Grouped, Indexed, Called, Postfixed, Prefixed, Binary, Conditional, Assigned, No_arguments, Another, name_token, constant_token, prefix_token, postfix_token, comma_behind}
 use Rattle.btree.specs.Commas.{list_spelling}
-use Rattle.btree.specs.Statement.{Stmt, Headed, Compound, If, IfElse, While, Switch, Goto, Return, ReturnValue, Evaluate, Empty, Stmts, Nothing, More, Sits, keyword_mark, name_spelling, spell_heading}
+use Rattle.btree.specs.Statement.{Stmt, Headed, Compound, If, IfElse, While, Switch, Goto, Break, Return, ReturnValue, Evaluate, Empty, Stmts, Nothing, More, Sits, keyword_mark, name_spelling, spell_heading}
 use Rattle.btree.specs.Definition.{Definition, Simple, Vector, Function, spell_definition, IsFormed}
 use Rattle.btree.specs.Program.{spell_all}
 
@@ -62,6 +62,7 @@ abbrev mutual
   statement_levels (Switch e body) n =
       on (suc n) (keyword_mark keyword.Switch) ∷ (levels e (suc n) ++ (on n (mark token.OpenBrace) ∷ (body_levels body (suc n) ++ (on n (mark token.CloseBrace) ∷ []))))
   statement_levels (Goto e) n = on n (keyword_mark keyword.Goto) ∷ (levels e n ++ (on n (mark token.Semicolon) ∷ []))
+  statement_levels (Break line) n = on n (placed (token.Keyword keyword.Break) line) ∷ on n (mark token.Semicolon) ∷ []
   statement_levels Return n = on n (keyword_mark keyword.Return) ∷ on n (mark token.Semicolon) ∷ []
   statement_levels (ReturnValue e) n =
       on n (keyword_mark keyword.Return) ∷ condition_levels e n n (on n (mark token.Semicolon) ∷ [])
