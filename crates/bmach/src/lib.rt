@@ -8,6 +8,7 @@ mod exchange;
 mod fault;
 mod image;
 mod library;
+mod limits;
 mod loader;
 mod machine;
 mod number;
