@@ -3,6 +3,7 @@ use Rattle.std.proofs.Common.{◌≡◌, ℕ, ◌+◌, ◌<◌, ◌≤◌, Bool,
 use Rattle.std.proofs.lemmas.List.{map-append}
 use Rattle.std.proofs.lemmas.Grind.{flat_map-append}
 use Rattle.bword.specs.ByteEnds.{Incoming, Outgoing, Took, Grew, Writes}
+use Rattle.bword.specs.declared.byte_out.EndFault.{EndFault}
 use Rattle.bword.specs.declared.byte_out.EndFault.TheVariants as end_fault
 use Rattle.bword.proofs.Putting.{Writes-none, Writes-append}
 use Rattle.bcode.specs.Text.{joined}
@@ -22,8 +23,7 @@ use Rattle.btree.proofs.GoesReads.{Taken, got_taken}
 use Rattle.btree.proofs.LawProofs.{definition_read}
 use Rattle.btree.proofs.ProgramLaws.{read_there}
 use Rattle.btree.proofs.StatementUnread.{lines_unread}
-use Rattle.bexpr.specs.Tokens.{tokens_of, CanFollow, IsReady, EndsWith, last_ahead}
-use Rattle.bexpr.proofs.TokenSteps.{EndsWith-append}
+use Rattle.bexpr.specs.Tokens.{tokens_of, CanFollow, IsReady}
 use Rattle.bparse.specs.Steps.{Point, name_of, Writing, Stopping, Breaking, ReadFails, OutRefuses, NamesRefuse, Gives}
 use Rattle.bparse.specs.Compilers.{Ends, Compiler, Spelled, Behind, Since, IsOpen, Wrote, Stopped, Broke, StepGives}
 use Rattle.bparse.specs.Compilers as compilers
@@ -57,10 +57,7 @@ since_new ends = record {
   formed = tt;
   spelled = λ more f. record { passed = []; split = refl; spelled = refl };
   comes = λ more f r g. (r, g, record { code = refl; stop = refl });
-  passed = [];
-  split = refl;
   near = omega arith;
-  ends = λ p e. cc;
   is_open = refl;
 }
 
@@ -104,10 +101,6 @@ module _ (first : Ends) (a b : Point) (lender lender' : List ℕ) (before : List
       s.comes (ys ++ more) (follow took more f) r (subst (λ bs. Goes [] (tokens_from 1 bs) r) (append_assoc s.taken ys more) g)
 
   module _ (w : Writing a b) where
-    ends_now : (p : Placed) → EndsWith p.token w.looked.bytes ⊎ ((w.looked.bytes ≡ []) × (last_ahead a.tokens.ahead ≡ Some p)) → EndsWith p.token (s.passed ++ w.looked.bytes)
-    ends_now p (inl h) = EndsWith-append s.passed h
-    ends_now p (inr h) = subst (EndsWith p.token) (sym (append-nil s.passed) ∙ ap (λ l. s.passed ++ l) (sym h.0)) (s.ends p h.1)
-
     spelled_now : (more : List ℕ) → CanFollow b.tokens.source.end more → Spelled (before ++ w.tree ∷ []) (tokens_from 1 ((s.taken ++ w.taken) ++ more)) (tokens_of b.tokens more)
     spelled_now more f =
         let q = s.spelled (w.taken ++ more) (follow w.reads.took more f) in
@@ -138,11 +131,7 @@ module _ (first : Ends) (a b : Point) (lender lender' : List ℕ) (before : List
       formed = AllFormed-append before w.tree s.formed (definition_read (tokens_of a.tokens (w.taken ++ [])) (tokens_of b.tokens []) w.tree (w.read [] (λ over. refl))).1;
       spelled = spelled_now;
       comes = comes_now;
-      passed = s.passed ++ w.looked.bytes;
-      split = ap (λ l. l ++ w.taken) s.split ∙ append_assoc s.passed a.tokens.source.ahead w.taken ∙ ap (λ l. s.passed ++ l) w.looked.split
-          ∙ sym (append_assoc s.passed w.looked.bytes b.tokens.source.ahead);
       near = w.reads.near;
-      ends = λ p e. ends_now p (w.looked.ends p e);
       is_open = refl;
     }
 
@@ -183,7 +172,7 @@ module _ (first : Ends) (a b : Point) (lender lender' : List ℕ) (before : List
   read_failed : ReadFails a b → compilers.ReadFailed old closed
   read_failed h = (broke _ h.0, grew_since _ _ _ s.failures h.1, h.2)
 
-  out_refused : (e : _) → OutRefuses a e b → compilers.OutRefused old e closed
+  out_refused : (e : EndFault) → OutRefuses a e b → compilers.OutRefused old e closed
   out_refused e h = (broke _ h.0, h.1 ∙ s.failures)
 
   names_refused : NamesRefuse a b → compilers.NamesRefused old closed

@@ -1,0 +1,13 @@
+use Rattle.std.proofs.Common.{rules, ap, sym}
+use Rattle.bparse.proofs.compiling.compile_code.Goals as goal
+
+pub returns-clause-gives : goal.returns-clause-gives
+returns-clause-gives g c = record {
+  first = c.new-compiler.result;
+  last = c.compile_all-last.new.compiler;
+  gives = c.compile_all-last.ensures;
+  source = ap (λ x. x.first.source) c.new-compiler.ensures;
+  code = ap (λ x. x.first.out) c.new-compiler.ensures;
+  source_behind = search rules;
+  code_behind = search rules;
+}
