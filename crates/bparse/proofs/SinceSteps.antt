@@ -187,3 +187,21 @@ module _ (first : Ends) (a b : Point) (lender lender' : List ℕ) (before : List
   stops step.Memory (inl h) = inl (out_refused end_fault.Memory h)
   stops step.Memory (inr h) = inr (names_refused h)
   stops step.Closed h = absurd h
+
+-- where the call found the compiler open
+module _ (first : Ends) (a b : Point) (lender lender' : List ℕ) (closed : Bool) (open_now : closed ≡ false) (o : IsOpen (compiler_at first a lender closed)) where
+  opened : IsOpen (compiler_at first a lender false)
+  opened = subst (λ x. IsOpen (compiler_at first a lender x)) open_now o
+
+  pub goes_on_open : Writing a b → IsReady b.tokens → IsOpen (compiler_at first b lender' closed)
+  goes_on_open w ready = subst (λ x. IsOpen (compiler_at first b lender' x)) (sym open_now) (is_open_more first a b lender lender' opened.before opened.since w ready)
+
+  pub written_now : (old : Compiler) → compiler_at first a lender closed ≡ old → Writing a b → Wrote old (compiler_at first b lender' closed)
+  written_now old e w =
+      subst (λ x. Wrote x (compiler_at first b lender' closed)) e
+      (subst (λ x. Wrote (compiler_at first a lender x) (compiler_at first b lender' x)) (sym open_now) (wrote_more first a b lender lender' opened.before opened.since w))
+
+  pub stopped_now : (old : Compiler) → compiler_at first a lender closed ≡ old → (answer : Step) → Gives a (Err answer) b → StepGives old answer (compiler_at first b lender' true)
+  stopped_now old e answer h =
+      subst (λ x. StepGives x answer (compiler_at first b lender' true)) e
+      (subst (λ x. StepGives (compiler_at first a lender x) answer (compiler_at first b lender' true)) (sym open_now) (stops first a b lender lender' opened.before opened.since answer h))
