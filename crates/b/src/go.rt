@@ -37,6 +37,7 @@ pub fn go<S: ByteIn, I: ByteIn, O: ByteOut, D: ByteOut>(
       line = D.outgoing diag.old;
       line_behind = D.outgoing diag.new;
     }) result }
+    ensures source_lender { S.lender source.new ≡ S.lender source.old }
     ensures input_lender { I.lender input.new ≡ I.lender input.old }
     ensures out_lender { O.lender out.new ≡ O.lender out.old }
     ensures diag_lender { D.lender diag.new ≡ D.lender diag.old }

@@ -42,7 +42,7 @@ pub record InOrder (bytes : List ℕ) (current behind : Option Seen) : Type 0 wh
   pub order : current ≡ None → behind ≡ None
 
 -- the tokens of what an end has left
-abbrev pub all_tokens : Incoming → ℕ → Tokens
+abbrev pub all_tokens : Incoming → List ℕ → Tokens
 all_tokens end lender = record { source = record { ahead = []; line = 1; end = end; lender = lender }; progress = progress.Open; text = []; ahead = [] }
 
 abbrev pub tokens_with : List Placed → ℕ → List ℕ → List Placed
