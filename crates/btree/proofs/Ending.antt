@@ -4,7 +4,7 @@ use Rattle.blex.specs.declared.token.Keyword.TheVariants as keyword
 use Rattle.blex.specs.declared.token.Token.TheVariants as token
 use Rattle.blex.specs.declared.token.Placed.{Placed}
 use Rattle.btree.specs.Lines.{mark, placed}
-use Rattle.btree.specs.Expression.{Expr, Arguments, Number, Named, Literal, Text, Grouped, Indexed, Called, Postfixed, Prefixed, Binary, Conditional, Assigned, No_arguments, Another, name_token, prefix_token, postfix_token, comma_behind, spell, spell_arguments, words, argument_words, rank, or_rank, conditional_rank, rvalue_rank, Deeper, Fits, ArgumentsFit}
+use Rattle.btree.specs.Expression.{Expr, Arguments, Number, Named, Literal, Text, Grouped, Indexed, Called, Postfixed, Prefixed, Binary, Conditional, Assigned, No_arguments, Another, name_token, prefix_token, postfix_token, spell, spell_arguments, words, argument_words, rank, or_rank, conditional_rank, rvalue_rank, Fits, ArgumentsFit}
 use Rattle.btree.specs.Commas.{list_spelling}
 use Rattle.btree.specs.Statement.{Stmt, Headed, Compound, If, IfElse, While, Switch, Goto, Break, Return, ReturnValue, Evaluate, Empty, Stmts, Nothing, More, is_open, keyword_mark, name_spelling, spell_heading, spell_condition, spell_statement, spell_body, statement_words, body_words, Sits, AllSit}
 use Rattle.btree.specs.Definition.{Definition, Simple, Vector, Function, spell_definition}
