@@ -17,9 +17,9 @@ use Rattle.bmach.specs.declared.outcome.Outcome.TheVariants as outcome
 use Rattle.bmean.specs.Answer.{Wants}
 use Rattle.bmean.specs.Answer as answer
 use Rattle.bmean.specs.Laws.{Loads, meant, world_of, IsBeginningOf}
-use Rattle.b.specs.Reports.{report_text, load_number}
-use Rattle.b.specs.Runs.{Ends, machine}
-use Rattle.b.specs.declared.report.Report.TheVariants as report
+use Rattle.brun.specs.Reports.{report_text, load_number}
+use Rattle.brun.specs.Runs.{Ends, machine}
+use Rattle.brun.specs.declared.report.Report.TheVariants as report
 
 -- An end tells that it gives these bytes.
 pub record Tells (end : Incoming) (bytes : List ℕ) : Type 0 where

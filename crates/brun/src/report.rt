@@ -1,6 +1,6 @@
 //! The line that tells why a run has no end of its own.
 ghost use Rattle.std.specs.Prelude.{◌≡◌, ◌≤◌, length};
-ghost use Rattle.b.specs.Reports.{Reported, report_text, letters_of, load_number};
+ghost use Rattle.brun.specs.Reports.{Reported, report_text, letters_of, load_number};
 
 use arrayvec::ArrayString;
 use bmach::{LoadFault, Trap};

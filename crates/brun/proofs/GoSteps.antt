@@ -8,11 +8,11 @@ use Rattle.btree.specs.Compiled.{code_text}
 use Rattle.btree.specs.Definition.{Definition}
 use Rattle.bback.proofs.ReadingBack.{reads_back}
 use Rattle.bparse.specs.Compiles.{Compiles}
-use Rattle.b.proofs.MeantSteps.{does_as_meant}
-use Rattle.b.specs.Going.{RunsProgram, RunsSource, GoesOff, no_code}
-use Rattle.b.specs.Going as going
-use Rattle.b.specs.Runs.{Ends, HasNotRun, RunsDefinitions, RunsText}
-use Rattle.b.specs.Runs as runs
+use Rattle.brun.proofs.MeantSteps.{does_as_meant}
+use Rattle.brun.specs.Going.{RunsProgram, RunsSource, GoesOff, no_code}
+use Rattle.brun.specs.Going as going
+use Rattle.brun.specs.Runs.{Ends, HasNotRun, RunsDefinitions, RunsText}
+use Rattle.brun.specs.Runs as runs
 
 program_runs : (steps : ℕ) (ds : List Definition) (ends : Ends) (status : ℕ) → RunsDefinitions steps (map code_of ds) ends status → RunsProgram steps ds ends status
 program_runs steps ds ends status (runs.refused f n h k quiet told) = going.refused f n h k quiet told

@@ -1,7 +1,7 @@
 //! Compiling a source and running its program.
 ghost use Rattle.std.specs.Prelude.{◌≡◌};
-ghost use Rattle.b.specs.Going.{GoesOff};
-ghost use Rattle.b.specs.Headline.{Headline};
+ghost use Rattle.brun.specs.Going.{GoesOff};
+ghost use Rattle.brun.specs.Headline.{Headline};
 
 use crate::run_text::run_text;
 use bparse::compile;

@@ -1,6 +1,6 @@
 //! Running a code text.
 ghost use Rattle.std.specs.Prelude.{◌≡◌};
-ghost use Rattle.b.specs.Runs.{Finishes, RunsDefinitions, RunsText, Unread};
+ghost use Rattle.brun.specs.Runs.{Finishes, RunsDefinitions, RunsText, Unread};
 
 use crate::report::{Report, number_of, write_report};
 use bcode::{CodeFault, Definition, read_code};

@@ -21,13 +21,13 @@ use Rattle.bmach.specs.declared.outcome.Outcome.{Outcome}
 use Rattle.bmach.specs.declared.outcome.Outcome.TheVariants as outcome
 use Rattle.bmean.specs.Laws.{Loads}
 use Rattle.bmean.proofs.LawProofs.{code_agrees}
-use Rattle.b.specs.Going.{RunsProgram, RunsSource, GoesOff}
-use Rattle.b.specs.Going as going
-use Rattle.b.specs.Headline.{Tells, NothingFailed, Says, line_at, status_at, IsEnd, IsLimit, RunAnswers, GoAnswers, Headline}
-use Rattle.b.specs.Reports.{Reported, report_text, load_number}
-use Rattle.b.specs.Runs.{Ends, Finishes, HasNotRun, machine}
-use Rattle.b.specs.declared.report.Report.TheVariants as report
-use Rattle.b.proofs.MeantSteps.{halted_later}
+use Rattle.brun.specs.Going.{RunsProgram, RunsSource, GoesOff}
+use Rattle.brun.specs.Going as going
+use Rattle.brun.specs.Headline.{Tells, NothingFailed, Says, line_at, status_at, IsEnd, IsLimit, RunAnswers, GoAnswers, Headline}
+use Rattle.brun.specs.Reports.{Reported, report_text, load_number}
+use Rattle.brun.specs.Runs.{Ends, Finishes, HasNotRun, machine}
+use Rattle.brun.specs.declared.report.Report.TheVariants as report
+use Rattle.brun.proofs.MeantSteps.{halted_later}
 
 -- what an end that tells its bytes has left
 pub record Rest (i j : Incoming) (taken bytes : List ℕ) : Type 0 where

@@ -14,9 +14,9 @@ use Rattle.bmach.specs.Layout.{load_fault}
 use Rattle.bmach.specs.declared.fault.LoadFault.{LoadFault}
 use Rattle.bmach.specs.declared.outcome.Outcome.{Outcome}
 use Rattle.bmean.specs.Laws.{Loads}
-use Rattle.b.specs.Meant.{DoesAsMeant}
-use Rattle.b.specs.Reports.{load_number}
-use Rattle.b.specs.Runs.{Ends, HasNotRun, NotLoaded, Finishes}
+use Rattle.brun.specs.Meant.{DoesAsMeant}
+use Rattle.brun.specs.Reports.{load_number}
+use Rattle.brun.specs.Runs.{Ends, HasNotRun, NotLoaded, Finishes}
 
 -- A program whose code doesn't load is reported. Any other is run, for so many steps at most, and does what it means.
 pub data RunsProgram (steps : ℕ) (ds : List Definition) (ends : Ends) (status : ℕ) : Type 0 where

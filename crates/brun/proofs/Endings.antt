@@ -15,7 +15,7 @@ use Rattle.bmach.specs.declared.outcome.Trap.TheVariants as trap
 use Rattle.bmach.specs.World.{words, World, Reply, Gives, Ends, next_byte, is_base, argument, library, Ending, Exited, Trapped, Callee, NoFunction, OfLibrary, OfProgram, callee_of, refusal}
 use Rattle.bmach.specs.Machine.{Loaded, Image, Call, State, Running, Halted, Stuck, take_one, take_two, on_reply, operator_reply, label_target, at_place, returned, gone_to, called, call_of, act, act_if, step, steps, begun, started, first_world, image_of, run}
 use Rattle.bmach.specs.Runs.{outcome_of, RunGives}
-use Rattle.b.specs.Runs.{IsOwnStatus, machine}
+use Rattle.brun.specs.Runs.{IsOwnStatus, machine}
 
 abbrev pub IsProper : Ending → Type 0
 IsProper (Exited n) = n < 128

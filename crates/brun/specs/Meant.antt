@@ -11,7 +11,7 @@ use Rattle.bmach.specs.declared.outcome.Outcome.TheVariants as outcome
 use Rattle.bmach.specs.declared.outcome.Trap.TheVariants as trap
 use Rattle.bmean.specs.Answer.{Answer, Ends}
 use Rattle.bmean.specs.Laws.{meant, world_of, IsBeginningOf}
-use Rattle.b.specs.Runs.{IsOwnStatus, machine}
+use Rattle.brun.specs.Runs.{IsOwnStatus, machine}
 
 -- The program ends, with this outcome, this input left and this output.
 pub record Meets (result : Outcome) (left output : List ℕ) (answer : Answer ⊥) : Type 0 where

@@ -16,15 +16,15 @@ use Rattle.bmach.specs.declared.outcome.Outcome.{Outcome}
 use Rattle.bmach.specs.declared.outcome.Outcome.TheVariants as outcome
 use Rattle.bmean.specs.Laws.{Loads}
 use Rattle.bparse.specs.Statuses.{status_of}
-use Rattle.b.specs.Going.{RunsProgram}
-use Rattle.b.specs.Going as going
-use Rattle.b.specs.Meant.{DoesAsMeant}
-use Rattle.b.specs.Reports.{Reported, report_text}
-use Rattle.b.specs.declared.report.Report.TheVariants as report
-use Rattle.b.specs.Headline.{Tells, NothingFailed, RunAnswers}
-use Rattle.b.specs.Runs.{Ends, Finishes, machine}
-use Rattle.b.proofs.HeadlineSteps.{program_answers}
-use Rattle.b.proofs.MeantSteps.{halted_later}
+use Rattle.brun.specs.Going.{RunsProgram}
+use Rattle.brun.specs.Going as going
+use Rattle.brun.specs.Meant.{DoesAsMeant}
+use Rattle.brun.specs.Reports.{Reported, report_text}
+use Rattle.brun.specs.declared.report.Report.TheVariants as report
+use Rattle.brun.specs.Headline.{Tells, NothingFailed, RunAnswers}
+use Rattle.brun.specs.Runs.{Ends, Finishes, machine}
+use Rattle.brun.proofs.HeadlineSteps.{program_answers}
+use Rattle.brun.proofs.MeantSteps.{halted_later}
 
 abbrev main : Stmts → List Definition
 main body = Definition.Function (record { text = codes "main"; line = 1 }) [] (Compound body) ∷ []

@@ -13,9 +13,9 @@ use Rattle.bmach.specs.declared.outcome.Trap.{Trap}
 use Rattle.bmach.specs.declared.outcome.Trap.TheVariants as trap
 use Rattle.bmean.specs.Laws.{Loads, meant, world_of, IsBeginningOf}
 use Rattle.bmean.proofs.LawProofs.{code_agrees}
-use Rattle.b.specs.Runs.{IsOwnStatus, machine}
-use Rattle.b.specs.Meant.{EndsSo, GoesOn, BreaksOff, RunsAsMeant, DoesAsMeant}
-use Rattle.b.proofs.Endings.{HaltsProperly, run_proper, no_stuck_outcome}
+use Rattle.brun.specs.Runs.{IsOwnStatus, machine}
+use Rattle.brun.specs.Meant.{EndsSo, GoesOn, BreaksOff, RunsAsMeant, DoesAsMeant}
+use Rattle.brun.proofs.Endings.{HaltsProperly, run_proper, no_stuck_outcome}
 
 -- what halted stays so
 steps-Halted : (image : Image) (n : ℕ) (e : Ending) (w : World) → steps image n (Halted e w) ≡ Halted e w

@@ -11,10 +11,10 @@ use Rattle.bmach.specs.declared.fault.LoadFault.TheVariants as fault
 use Rattle.bmach.specs.declared.outcome.Outcome.TheVariants as outcome
 use Rattle.bmach.specs.declared.outcome.Trap.{Trap}
 use Rattle.bmach.specs.declared.outcome.Trap.TheVariants as trap
-use Rattle.b.specs.Headline.{line_at, status_at}
-use Rattle.b.specs.Reports.{Reported, report_text, load_number}
-use Rattle.b.specs.Runs.{Finishes, Unread, NotLoaded}
-use Rattle.b.specs.declared.report.Report.TheVariants as report
+use Rattle.brun.specs.Headline.{line_at, status_at}
+use Rattle.brun.specs.Reports.{Reported, report_text, load_number}
+use Rattle.brun.specs.Runs.{Finishes, Unread, NotLoaded}
+use Rattle.brun.specs.declared.report.Report.TheVariants as report
 
 statuses : (DONE ∷ FAULT ∷ TRAP ∷ LIMIT ∷ REFUSED ∷ DEVICE ∷ MEMORY ∷ WRONG_COMMAND ∷ [])
     ≡ (0 ∷ 1 ∷ 130 ∷ 131 ∷ 132 ∷ 133 ∷ 134 ∷ 135 ∷ [])
