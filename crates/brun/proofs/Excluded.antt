@@ -4,7 +4,10 @@ use Rattle.std.specs.Io.KnownBytes.{Appends}
 use Rattle.bword.specs.ByteEnds.{Incoming, Outgoing, Grew, Refuses}
 use Rattle.bword.specs.declared.byte_out.EndFault.{EndFault}
 use Rattle.bword.specs.declared.byte_out.EndFault.TheVariants as end_fault
+use Rattle.blex.specs.Tokens.{tokens_from}
 use Rattle.btree.specs.Code.{code_of}
+use Rattle.btree.specs.Compiled as compiled
+use Rattle.btree.specs.Compiled.{Goes}
 use Rattle.btree.specs.Definition.{Definition}
 use Rattle.btree.specs.Expression.{Number, Named, Literal, Called, No_arguments, Another}
 use Rattle.btree.specs.Statement.{Evaluate, Compound, Stmts, Nothing, More}
@@ -16,14 +19,14 @@ use Rattle.bmach.specs.declared.outcome.Outcome.{Outcome}
 use Rattle.bmach.specs.declared.outcome.Outcome.TheVariants as outcome
 use Rattle.bmean.specs.Laws.{Loads}
 use Rattle.bparse.specs.Statuses.{status_of}
-use Rattle.brun.specs.Going.{RunsProgram}
+use Rattle.brun.specs.Going.{RunsProgram, GoesOff}
 use Rattle.brun.specs.Going as going
 use Rattle.brun.specs.Meant.{DoesAsMeant}
 use Rattle.brun.specs.Reports.{Reported, report_text}
 use Rattle.brun.specs.declared.report.Report.TheVariants as report
 use Rattle.brun.specs.Headline.{Tells, NothingFailed, RunAnswers}
 use Rattle.brun.specs.Runs.{Ends, Finishes, machine}
-use Rattle.brun.proofs.HeadlineSteps.{program_answers}
+use Rattle.brun.proofs.HeadlineSteps.{headline}
 use Rattle.brun.proofs.MeantSteps.{halted_later}
 
 abbrev main : Stmts → List Definition
@@ -61,30 +64,32 @@ still_runs ds steps limit n le e w h =
 nothing_written : (o p : Outgoing) (bytes : List ℕ) → o.written ≡ Some [] → p.written ≡ Some [] → Appends o.written p.written bytes → [] ≡ bytes
 nothing_written o p bytes e f a = subst (λ x. Appends (Some []) x bytes) f (subst (λ x. Appends x p.written bytes) e a)
 
--- Over ends that tell their bytes, with no input, where nothing fails.
-module _ (source source_behind : Incoming) (ends : Ends) (status : ℕ) (told : Tells ends.input []) (healthy : NothingFailed source source_behind ends status) where
-  answers : (steps : ℕ) (ds : List Definition) → Loads ds → RunsProgram steps ds ends status → RunAnswers ds [] steps ends status
-  answers steps ds loads h =
-      (program_answers (record { code = []; stop = None }) ds [] steps source source_behind ends status told healthy refl h).runs refl loads
+-- Over ends that tell their bytes, with no input, where nothing fails and the source has no fault.
+module _ (source source_behind : Incoming) (ends : Ends) (status : ℕ) (text : List ℕ) (tells : Tells source text) (told : Tells ends.input [])
+    (healthy : NothingFailed source source_behind ends status) (r : compiled.Outcome) (g : Goes [] (tokens_from 1 text) r) (clean : r.stop ≡ None) where
+  answers : (steps : ℕ) (ds : List Definition) → g.definitions ≡ ds → Loads ds → GoesOff steps source source_behind ends status → RunAnswers ds [] steps ends status
+  answers steps ds same loads h =
+      subst (λ x. RunAnswers x [] steps ends status) same
+      ((headline steps source source_behind ends status h text [] tells told healthy r g).runs clean (subst (λ x. Loads x) (sym same) loads))
 
   -- `limit` in place of a halt: a run of fewer steps
-  pub no_fewer_steps : RunsProgram 2 nothing ends status → status ≡ 131 → ⊥
-  no_fewer_steps h is =
-      let halt = (answers 2 nothing refl h).halts 2 (omega arith) (Exited 0) (runs.world_of (state nothing 2)) refl in
+  pub no_fewer_steps : g.definitions ≡ nothing → GoesOff 2 source source_behind ends status → status ≡ 131 → ⊥
+  no_fewer_steps same h is =
+      let halt = (answers 2 nothing same refl h).halts 2 (omega arith) (Exited 0) (runs.world_of (state nothing 2)) refl in
       let bad : 131 ≡ 0 = sym is ∙ halt.says.answered in
       omega (arith, bad)
 
   -- a halt in place of `limit`: a run of more steps
-  pub no_more_steps : RunsProgram 1 nothing ends status → status ≡ 0 → ⊥
-  no_more_steps h is =
-      let limit = (answers 1 nothing refl h).limited (still_runs nothing 1 refl) in
+  pub no_more_steps : g.definitions ≡ nothing → GoesOff 1 source source_behind ends status → status ≡ 0 → ⊥
+  no_more_steps same h is =
+      let limit = (answers 1 nothing same refl h).limited (still_runs nothing 1 refl) in
       let bad : 0 ≡ 131 = sym is ∙ limit.says.answered in
       omega (arith, bad)
 
   -- less output than that of the steps
-  pub no_less_output : RunsProgram 4 writes_a ends status → ends.out.written ≡ Some [] → ends.out_behind.written ≡ Some [] → ⊥
-  no_less_output h before behind =
-      let limit = (answers 4 writes_a refl h).limited (still_runs writes_a 4 refl) in
+  pub no_less_output : g.definitions ≡ writes_a → GoesOff 4 source source_behind ends status → ends.out.written ≡ Some [] → ends.out_behind.written ≡ Some [] → ⊥
+  no_less_output same h before behind =
+      let limit = (answers 4 writes_a same refl h).limited (still_runs writes_a 4 refl) in
       let a : codes "a" ≡ limit.world.output = limit.shows.written in
       let none : [] ≡ limit.world.output = nothing_written ends.out ends.out_behind limit.world.output before behind limit.says.written.appended in
       let bad : codes "a" ≡ [] = a ∙ sym none in

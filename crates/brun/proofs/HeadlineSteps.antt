@@ -225,7 +225,7 @@ unread_says ends status input line answer told quiet written is = record {
 }
 
 -- a program that was or wasn't run, where its source has no fault
-pub program_answers : (r : compiled.Outcome) (ds : List Definition) (input : List ℕ) (steps : ℕ) (source source_behind : Incoming) (ends : Ends) (status : ℕ)
+program_answers : (r : compiled.Outcome) (ds : List Definition) (input : List ℕ) (steps : ℕ) (source source_behind : Incoming) (ends : Ends) (status : ℕ)
     → Tells ends.input input → NothingFailed source source_behind ends status → r.stop ≡ None → RunsProgram steps ds ends status → GoAnswers r ds input steps ends status
 program_answers r ds input steps source source_behind ends status told healthy clean (going.refused f n load number quiet line) = record {
   faulty = λ fault e. other_stop r.stop fault clean e;
