@@ -82,10 +82,11 @@ module _ (first last : Compiler) (d e : Outgoing) where
     code_refused fault status h same = record {
       read = read_all h.1;
       code = λ more f r g.
-          let q = h.0.comes more f r g in
-          ((λ none. q.1.stop ∙ q.2.0 (nil_behind (map text_of h.0.before) q.0.code (sym q.1.code ∙ none))),
-          subst (λ t. Refuses first.first.out t fault last.out) (sym (code_behind h.0.before q.0 r q.1))
-          (Refuses-behind (written_before h.0.since) (refused_all q.0.code q.0.stop q.2.1)));
+          let q = h.0.comes more f r g in (
+            (λ none. q.1.stop ∙ q.2.0 (nil_behind (map text_of h.0.before) q.0.code (sym q.1.code ∙ none))),
+            subst (λ t. Refuses first.first.out t fault last.out) (sym (code_behind h.0.before q.0 r q.1))
+                (Refuses-behind (written_before h.0.since) (refused_all q.0.code q.0.stop q.2.1)),
+          );
       silent = same;
     }
 

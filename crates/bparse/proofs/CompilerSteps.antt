@@ -123,12 +123,14 @@ module _ (old mid : Tokens) (names : Defined) (l : Looks old mid) where
     end_stops w = record { taken = l.moves.taken; reads = l.moves.reads; failures = l.moves.failures; written = w; comes = comes_end }
 
     end_refused : (e : EndFault) → Refuses out end_text e out' → OutRefuses (point old names out) e (point mid names out')
-    end_refused e w =
-        (record {
-          taken = l.moves.taken;
-          reads = l.moves.reads;
-          each = λ more c r g. subst (λ q. HasCode q × Refuses out (next_text q.code q.stop) e out') (goes_once (comes_end more c) g) ((λ none. refl), w);
-        }, l.moves.failures)
+    end_refused e w = (
+      record {
+        taken = l.moves.taken;
+        reads = l.moves.reads;
+        each = λ more c r g. subst (λ q. HasCode q × Refuses out (next_text q.code q.stop) e out') (goes_once (comes_end more c) g) ((λ none. refl), w);
+      },
+      l.moves.failures,
+    )
 
     pub end_breaks : (e : EndFault) → Refuses out end_text e out' → Gives (point old names out) (Err (step_of e)) (point mid names out')
     end_breaks fault.Device w = inr (end_refused fault.Device w)
@@ -181,14 +183,16 @@ module _ (old mid : Tokens) (names : Defined) (l : Looks old mid) where
     no_memory clean names' = inr (record { taken = both new m; reads = both_read new m; each = some_text clean }, failed_none new m, refl)
 
     text_refused : (e : EndFault) (names' : Defined) (out' : Outgoing) → fault_of names tree ≡ None → Refuses out (text_of tree) e out' → OutRefuses (point old names out) e (point new names' out')
-    text_refused e names' out' clean w =
-        (record {
-          taken = both new m;
-          reads = both_read new m;
-          each = λ more c r g.
-              let f = first_text clean more c r g in
-              ((λ none. absurd (some_text clean more c r g none)), subst (λ q. Refuses out (next_text q.code q.stop) e out') (sym f.1) w);
-        }, failed_none new m)
+    text_refused e names' out' clean w = (
+      record {
+        taken = both new m;
+        reads = both_read new m;
+        each = λ more c r g.
+            let f = first_text clean more c r g in
+            ((λ none. absurd (some_text clean more c r g none)), subst (λ q. Refuses out (next_text q.code q.stop) e out') (sym f.1) w);
+      },
+      failed_none new m,
+    )
 
     pub write_breaks : (names' : Defined) (out' : Outgoing) (e : EndFault) → fault_of names tree ≡ None → Refuses out (text_of tree) e out'
         → Gives (point old names out) (Err (step_of e)) (point new names' out')
