@@ -48,5 +48,5 @@ pub record GaveFirst (end : Incoming) (answers : List Placed) (l : Lexer) : Type
 
 -- Calls of a new lexer give the first tokens of its source.
 abbrev pub CallsGiveFirst : Type 0
-CallsGiveFirst = (end : Incoming) (lender : ℕ) (answers : List Placed) (l : Lexer)
+CallsGiveFirst = (end : Incoming) (lender : List ℕ) (answers : List Placed) (l : Lexer)
     → Calls (new end lender) answers l → GaveFirst end answers l

@@ -39,7 +39,7 @@ source_runs steps source source_behind ends status m line h done = record {
       let text = kept_text m (code_text r) compiled.code in
       let back = subst (λ t. IsCodeText t (map code_of g.definitions)) text (reads_back 1 (h.taken ++ more) r g compiled.clean) in
       let runs = text_runs steps m.bytes g.definitions (record ends { line = line }) status back done in
-      (compiled.clean, subst (λ l. RunsProgram steps g.definitions (record ends { line = l }) status) compiled.silent runs);
+      (compiled.read, compiled.clean, subst (λ l. RunsProgram steps g.definitions (record ends { line = l }) status) compiled.silent runs);
 }
 
 -- what compiling does to the source, the code that is kept and the line

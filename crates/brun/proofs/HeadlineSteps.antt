@@ -10,7 +10,7 @@ use Rattle.btree.specs.Code.{code_of}
 use Rattle.btree.specs.Compiled as compiled
 use Rattle.btree.specs.Compiled.{Goes, line_of}
 use Rattle.btree.specs.Definition.{Definition}
-use Rattle.bparse.specs.Compiles.{Run, Compiles}
+use Rattle.bparse.specs.Compiles.{Run, Compiles, SourceFailed, CodeRefused, LineRefused}
 use Rattle.bparse.specs.Statuses.{status_of}
 use Rattle.bmach.specs.Machine.{State, Running, Halted, Stuck, image_of}
 use Rattle.bmach.specs.Runs as runs
@@ -193,22 +193,24 @@ compiling source source_behind ends status kept =
 
 -- A source that isn't compiled where nothing fails has a fault.
 module _ (source source_behind : Incoming) (ends : Ends) (status : ℕ) (healthy : NothingFailed source source_behind ends status) (kept : Kept) where
-  not_device : Compiles (compiling source source_behind ends status kept) → status ≡ 133 → ⊥
-  not_device h device = by_end (h.failed device).0
-    where
-      by_end : (Grew source.failures source_behind.failures ⊎ Grew 0 0 ⊎ Grew ends.line.failures ends.line_behind.failures) → ⊥
-      by_end (inl grew) = healthy.source_read grew
-      by_end (inr (inl grew)) = no_zero grew
-      by_end (inr (inr grew)) = healthy.line_written grew
+  -- what follows the bytes taken, and the outcome with it
+  module _ (h : Compiles (compiling source source_behind ends status kept)) (more : List ℕ) (follows : CanFollow source_behind more) (r : compiled.Outcome) (g : Goes [] (tokens_from 1 (h.taken ++ more)) r) where
+    not_device : status ≡ 133 → ⊥
+    not_device device = by_end (h.failed device)
+      where
+        by_end : (SourceFailed (compiling source source_behind ends status kept) h.taken ⊎ CodeRefused (compiling source source_behind ends status kept) h.taken end_fault.Device ⊎ LineRefused (compiling source source_behind ends status kept) h.taken end_fault.Device) → ⊥
+        by_end (inl f) = healthy.source_read f.counted
+        by_end (inr (inl c)) = no_zero (c.code more follows r g).1.counted.0
+        by_end (inr (inr l)) = healthy.line_written (l.written more follows r g).line.counted.0
 
-  fault_status : Compiles (compiling source source_behind ends status kept) → (status ≡ 0 → ⊥) → status ≡ 1
-  fault_status h not_zero = by_status h.no_other
-    where
-      by_status : ((status ≡ 0) ⊎ (status ≡ 1) ⊎ (status ≡ 133) ⊎ (status ≡ 134)) → status ≡ 1
-      by_status (inl none) = absurd (not_zero none)
-      by_status (inr (inl one)) = one
-      by_status (inr (inr (inl device))) = absurd (not_device h device)
-      by_status (inr (inr (inr memory))) = absurd (healthy.not_refused memory)
+    fault_status : (status ≡ 0 → ⊥) → status ≡ 1
+    fault_status not_zero = by_status h.no_other
+      where
+        by_status : ((status ≡ 0) ⊎ (status ≡ 1) ⊎ (status ≡ 133) ⊎ (status ≡ 134)) → status ≡ 1
+        by_status (inl none) = absurd (not_zero none)
+        by_status (inr (inl one)) = one
+        by_status (inr (inr (inl device))) = absurd (not_device device)
+        by_status (inr (inr (inr memory))) = absurd (healthy.not_refused memory)
 
 other_stop : {A : Type 0} (stop : Option Diagnostic) (fault : Diagnostic) → stop ≡ None → stop ≡ Some fault → A
 other_stop stop fault e f = absurd (no (sym e ∙ f))
@@ -253,9 +255,10 @@ program_answers r ds input steps source source_behind ends status told healthy c
 
 pub headline : (steps : ℕ) (source source_behind : Incoming) (ends : Ends) (status : ℕ) → GoesOff steps source source_behind ends status → Headline steps source source_behind ends status
 headline steps source source_behind ends status (going.stopped kept not_zero quiet h) text input tells told healthy r g =
-    let one = fault_status source source_behind ends status healthy kept h not_zero in
     let rest = rest_of source source_behind h.taken text h.took tells in
-    let f = h.faulty one rest.more rest.follows r (subst (λ t. Goes [] (tokens_from 1 t) r) (sym rest.whole) g) in
+    let behind = subst (λ t. Goes [] (tokens_from 1 t) r) (sym rest.whole) g in
+    let one = fault_status source source_behind ends status healthy kept h rest.more rest.follows r behind not_zero in
+    let f = h.faulty one rest.more rest.follows r behind in
     record {
       faulty = λ fault e.
           let both : Some f.fault ≡ Some fault = sym f.stop ∙ e in
@@ -266,6 +269,6 @@ headline steps source source_behind ends status (going.stopped kept not_zero qui
     }
 headline steps source source_behind ends status (going.ran s) text input tells told healthy r g =
     let rest = rest_of source source_behind s.taken text s.took tells in
-    let runs = subst (λ t. (r : compiled.Outcome) (g : Goes [] (tokens_from 1 t) r) → (r.stop ≡ None) × RunsProgram steps g.definitions ends status) rest.whole (s.runs rest.more rest.follows) in
+    let runs = subst (λ t. (r : compiled.Outcome) (g : Goes [] (tokens_from 1 t) r) → (source_behind.failures ≡ source.failures) × (r.stop ≡ None) × RunsProgram steps g.definitions ends status) rest.whole (s.runs rest.more rest.follows) in
     let program = runs r g in
-    program_answers r g.definitions input steps source source_behind ends status told healthy program.0 program.1
+    program_answers r g.definitions input steps source source_behind ends status told healthy program.1 program.2

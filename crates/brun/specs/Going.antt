@@ -37,7 +37,7 @@ pub record RunsSource (steps : ℕ) (source source_behind : Incoming) (ends : En
   pub took : Took source taken source_behind
   pub runs : (more : List ℕ) → CanFollow source_behind more
       → (r : compiled.Outcome) → (g : Goes [] (tokens_from 1 (taken ++ more)) r)
-      → (r.stop ≡ None) × RunsProgram steps g.definitions ends status
+      → (source_behind.failures ≡ source.failures) × (r.stop ≡ None) × RunsProgram steps g.definitions ends status
 
 -- A source that isn't compiled, for a fault or a failure, is not run. The code is kept in memory, which fails for want of
 -- memory alone.
