@@ -8,7 +8,6 @@ mod exchange;
 mod fault;
 mod image;
 mod library;
-mod limits;
 mod loader;
 mod machine;
 mod number;
