@@ -2,7 +2,7 @@ use Rattle.std.proofs.Common.{sym, ◌∙◌, refl}
 use Rattle.brun.specs.Runs.{refused, ran}
 use Rattle.brun.proofs.Endings.{gives_own_status}
 use Rattle.brun.proofs.RunSteps.{first_fault, run_of_loaded}
-use Rattle.brun.proofs.run_text.run_definitions.Goals as goal
+use Rattle.brun.proofs.text.run_definitions.Goals as goal
 
 pub returns-in-Some-clause-runs : goal.returns-in-Some-clause-runs
 returns-in-Some-clause-runs g c =

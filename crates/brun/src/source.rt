@@ -3,7 +3,7 @@ ghost use Rattle.std.specs.Prelude.{◌≡◌};
 ghost use Rattle.brun.specs.Going.{GoesOff};
 ghost use Rattle.brun.specs.Headline.{Headline};
 
-use crate::run_text::run_text;
+use crate::text::run_text;
 use bparse::compile;
 use bparse::status::{self, Status};
 use bword::{ByteIn, ByteOut, MemOut};

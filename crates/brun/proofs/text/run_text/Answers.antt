@@ -1,7 +1,7 @@
 use Rattle.std.proofs.Common.{refl}
 use Rattle.brun.specs.Runs.{read}
 use Rattle.brun.proofs.RunSteps.{text_refused}
-use Rattle.brun.proofs.run_text.run_text.Goals as goal
+use Rattle.brun.proofs.text.run_text.Goals as goal
 
 pub returns-in-Ok-clause-runs : goal.returns-in-Ok-clause-runs
 returns-in-Ok-clause-runs g c = read c.in-Ok.definitions.items c.in-Ok.ensures.ok c.run_definitions.ensures.runs

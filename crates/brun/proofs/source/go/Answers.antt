@@ -1,7 +1,7 @@
 use Rattle.std.proofs.Common.{refl}
 use Rattle.brun.proofs.GoSteps.{goes_stopped, goes_ran}
 use Rattle.brun.proofs.HeadlineSteps.{headline}
-use Rattle.brun.proofs.go.go.Goals as goal
+use Rattle.brun.proofs.source.go.Goals as goal
 
 pub returns-then-status-ne-DONE-clause-goes : goal.returns-then-status-ne-DONE-clause-goes
 returns-then-status-ne-DONE-clause-goes g c =
