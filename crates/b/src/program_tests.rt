@@ -1,4 +1,5 @@
 //! Programs with what they write, the line and the status of their runs.
+ghost use Rattle.std.specs.Prelude.{[]};
 ghost use Rattle.bword.specs.ByteEnds.{incoming_of, bounded_of};
 
 use crate::source_tests::compares;
@@ -172,7 +173,7 @@ struct Counted<'a> {
 impl ByteIn for Counted<'_> {
     ghost incoming = { λ c. incoming_of c.end };
 
-    ghost lender = { λ _. 0 };
+    ghost lender = { λ _. [] };
 
     fn next(&mut self) -> Result<Option<u8>, Device> {
         self.calls = self.calls.saturating_add(1);
