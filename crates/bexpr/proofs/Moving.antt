@@ -24,6 +24,7 @@ run_here {A} {t} {f} {g} l k =
     record {
       taken = s.taken;
       reads = s.reads;
+      looked = s.looked;
       failures = s.failures;
       falls = s.falls;
       come = λ more c.

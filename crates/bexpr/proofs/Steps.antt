@@ -10,9 +10,12 @@ use Rattle.bcode.specs.declared.instr.Instr.TheVariants as instr
 use Rattle.bcode.specs.declared.instr.Increment.TheVariants as increment
 use Rattle.btree.specs.Expression as tree
 use Rattle.btree.specs.Expression.{Expr, Arguments, Number, Character, Named, Literal, Text, Grouped, Indexed, Called, Postfixed, Prefixed, Binary, Conditional, Assigned, No_arguments, Another, words, argument_words, or_rank, is_operand}
-use Rattle.btree.specs.Reading.{Reader, Got, ◌>>=◌, first, line_of, after, expect, many}
+use Rattle.btree.specs.Reading.{Reader, Got, Stop, ◌>>=◌, first, line_of, after, expect, many}
+use Rattle.blex.specs.Lexemes.{token_of_lexeme}
+use Rattle.blex.specs.declared.lexeme.Lexeme.{Lexeme}
+use Rattle.blex.specs.declared.lexeme.Lexeme.TheVariants as lexeme
 use Rattle.btree.specs.ExpressionReader as reading
-use Rattle.btree.specs.ExpressionReader.{is_close_paren, is_close_bracket, is_question, is_colon, op_at, suffix, Index, Call, Step, comma, always, prefix_op, Operand, Choice, Rvalue, Inner, primary, another, arguments, call, postfix_with, postfix, operand, operation, chain, choices, conditional, assigns, rvalue_from, inner, reader}
+use Rattle.btree.specs.ExpressionReader.{is_close_paren, is_close_bracket, is_question, is_colon, op_at, suffix, Index, Call, Step, comma, always, prefix_op, Operand, Choice, Rvalue, Inner, primary, primary_at, another, arguments, call, postfix_with, postfix, operand, operation, chain, choices, conditional, assigns, rvalue_from, inner, reader}
 use Rattle.btree.specs.StatementReader.{is_open_paren}
 use Rattle.btree.specs.Code.{argument_count, assignment}
 use Rattle.btree.proofs.Fine.{many_none, many_some}
@@ -99,6 +102,16 @@ name_took a m b before draft name line called found h n on c ad d f room = (
 
 pub name_stops : (a m b : Tokens) (why : Halt) → LooksOn a m → Breaks m b → why ≡ halt.Device → (room offset : ℕ) → Halts (primary (inner room) offset) a why b
 name_stops a m b why on br e room off = halt_device (primary (inner room) off) why e (Moves-breaks on.moves br)
+
+-- no operand begins with this
+pub primary_none : (l : Lexeme) (text : List ℕ) → ((x : List ℕ) → l ≡ lexeme.Name x → ⊥) → ((x : ℕ) → l ≡ lexeme.Number x → ⊥) → ((x : ℕ) → l ≡ lexeme.Character x → ⊥) → (l ≡ lexeme.String → ⊥) → is_open_paren (token_of_lexeme l text) ≡ false
+    → (i : Inner) (off : ℕ) (u : List Placed) → primary_at i off (token_of_lexeme l text) u ≡ Stop u
+primary_none (lexeme.Name x) text a b c d e i off u = absurd (a x refl)
+primary_none (lexeme.Number x) text a b c d e i off u = absurd (b x refl)
+primary_none (lexeme.Character x) text a b c d e i off u = absurd (c x refl)
+primary_none lexeme.String text a b c d e i off u = absurd (d refl)
+primary_none lexeme.OpenParen text a b c d e i off u = cc
+primary_none _ text a b c d e i off u = refl
 
 -- a constant or a string
 atom_took : (room : ℕ) (a b : Tokens) (before mid draft : Draft) (r : Result Form Halt) (t : ℕ → Expr) → Takes a Lone r b → draft ≡ mid → ((off : ℕ) (u : List Placed) → first u ≡ first a.ahead → primary (inner room) off u ≡ Got (t off) (after u)) → ((off : ℕ) (called : Bool) → mid ≡ held called (t off) before) → ((off : ℕ) (d : Draft) → form (t off) d ≡ Lone) → Follows (primary (inner room)) (called_at b) a before r b draft

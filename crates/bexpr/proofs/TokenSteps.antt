@@ -1,6 +1,6 @@
 -- How takings of tokens compose.
-use Rattle.std.proofs.Common.{◌≡◌, ℕ, ◌+◌, ◌<◌, ◌≤◌, Bool, true, false, List, [], ◌∷◌, ◌++◌, length, Option, Some, None, Ok, Err, refl, sym, ap, ◌∙◌, arith, append_assoc, length-append, subst, if◌then◌else◌}
-use Rattle.std.specs.Prelude.{is_some}
+use Rattle.std.proofs.Common.{◌≡◌, ℕ, ◌+◌, ◌<◌, ◌≤◌, Bool, true, false, List, [], ◌∷◌, ◌++◌, length, Option, Some, None, Ok, Err, refl, sym, ap, ◌∙◌, arith, append-nil, append_assoc, length-append, subst, if◌then◌else◌, ◌⊎◌, inl, inr}
+use Rattle.std.specs.Prelude.{is_some, Result, OnOk}
 use Rattle.blex.specs.Sources.{Source, CanCome, room}
 use Rattle.blex.specs.Lexing.{PassesToken}
 use Rattle.blex.specs.Lexemes.{token_of_lexeme}
@@ -19,7 +19,7 @@ use Rattle.blex.specs.declared.token.Token.{Token}
 use Rattle.blex.specs.declared.token.Placed.{Placed}
 use Rattle.blex.proofs.Passing.{Took-none, Took-append, Grew-after}
 use Rattle.btree.specs.Reading.{first, after}
-use Rattle.bexpr.specs.Tokens.{Tokens, both, is_string, token_seen, tokens_of, tokens_with, CanFollow, IsReady, IsReadyWith, IsLoaded, weight, work, Reads, Moves, Breaks, Same, Keeps, Looks, Behind, Advances, LooksOn}
+use Rattle.bexpr.specs.Tokens.{Tokens, both, is_string, token_seen, tokens_of, tokens_with, CanFollow, IsReady, IsReadyWith, IsLoaded, weight, work, Reads, last_ahead, EndsWith, LooksAt, Moves, Breaks, Same, Keeps, Looks, Behind, Advances, LooksOn}
 
 nil_both : (xs ys : List ℕ) → xs ≡ [] → ys ≡ [] → xs ++ ys ≡ []
 nil_both xs ys h k = rw (h, k) refl
@@ -34,11 +34,35 @@ Reads-none s n = record { took = Took-none s.end; lender = refl; near = n }
 pub Reads-append : {a b c : Source} {xs ys : List ℕ} → Reads a xs b → Reads b ys c → Reads a (xs ++ ys) c
 Reads-append h k = record { took = Took-append h.took k.took; lender = k.lender ∙ h.lender; near = k.near }
 
+pub EndsWith-append : {t : Token} (xs : List ℕ) {ys : List ℕ} → EndsWith t ys → EndsWith t (xs ++ ys)
+EndsWith-append xs e = record { before = xs ++ e.before; text = e.text; split = ap (λ l. xs ++ l) e.split ∙ sym (append_assoc xs e.before e.text); is = e.is }
+
+LooksAt-none : (t : Tokens) → LooksAt t [] t
+LooksAt-none t = record { bytes = []; split = append-nil t.source.ahead; ends = λ p e. inr (refl, e) }
+
+pub LooksAt-append : {a b c : Tokens} {xs ys : List ℕ} → LooksAt a xs b → LooksAt b ys c → LooksAt a (xs ++ ys) c
+LooksAt-append {a} {b} {c} {xs} {ys} h k = record {
+  bytes = h.bytes ++ k.bytes;
+  split =
+      sym (append_assoc a.source.ahead xs ys) ∙ ap (λ l. l ++ ys) h.split ∙ append_assoc h.bytes b.source.ahead ys
+      ∙ ap (λ l. h.bytes ++ l) k.split ∙ sym (append_assoc h.bytes k.bytes c.source.ahead);
+  ends = λ p e. both_ends p (k.ends p e);
+}
+  where
+    first_ends : (p : Placed) → k.bytes ≡ [] → EndsWith p.token h.bytes ⊎ ((h.bytes ≡ []) × (last_ahead a.ahead ≡ Some p)) → EndsWith p.token (h.bytes ++ k.bytes) ⊎ ((h.bytes ++ k.bytes ≡ []) × (last_ahead a.ahead ≡ Some p))
+    first_ends p none (inl e) = inl (subst (EndsWith p.token) (sym (append-nil h.bytes) ∙ ap (λ l. h.bytes ++ l) (sym none)) e)
+    first_ends p none (inr e) = inr (nil_both h.bytes k.bytes e.0 none, e.1)
+
+    both_ends : (p : Placed) → EndsWith p.token k.bytes ⊎ ((k.bytes ≡ []) × (last_ahead b.ahead ≡ Some p)) → EndsWith p.token (h.bytes ++ k.bytes) ⊎ ((h.bytes ++ k.bytes ≡ []) × (last_ahead a.ahead ≡ Some p))
+    both_ends p (inl e) = inl (EndsWith-append h.bytes e)
+    both_ends p (inr e) = first_ends p e.0 (h.ends p e.1)
+
 -- one move behind another
 pub Moves-append : {a b c : Tokens} {P Q : List Placed → List Placed → Type 0} (R : List Placed → List Placed → Type 0) → ((u v w : List Placed) → P u v → Q v w → R u w) → Moves a b P → Moves b c Q → Moves a c R
 Moves-append {a} {b} {c} {P} {Q} R both_are h k = record {
   taken = h.taken ++ k.taken;
   reads = Reads-append h.reads k.reads;
+  looked = LooksAt-append h.looked k.looked;
   failures = k.failures ∙ h.failures;
   falls = let x = h.falls in let y = k.falls in omega arith;
   come = λ more f.
@@ -48,7 +72,7 @@ Moves-append {a} {b} {c} {P} {Q} R both_are h k = record {
 
 -- the same move, as something else that holds of it
 pub Moves-as : {a b : Tokens} {P : List Placed → List Placed → Type 0} (R : List Placed → List Placed → Type 0) → ((u v : List Placed) → P u v → R u v) → Moves a b P → Moves a b R
-Moves-as R f h = record { taken = h.taken; reads = h.reads; failures = h.failures; falls = h.falls; come = λ more c. f _ _ (h.come more c) }
+Moves-as R f h = record { taken = h.taken; reads = h.reads; looked = h.looked; failures = h.failures; falls = h.falls; come = λ more c. f _ _ (h.come more c) }
 
 pub Moves-breaks : {a b c : Tokens} {P : List Placed → List Placed → Type 0} → Moves a b P → Breaks b c → Breaks a c
 Moves-breaks h k = record { taken = h.taken ++ k.taken; reads = Reads-append h.reads k.reads; counted = Grew-after _ _ _ h.failures k.counted }
@@ -66,7 +90,7 @@ tokens_at lexer ahead = record { source = lexer.source; progress = lexer.progres
 
 -- what is ahead stays
 pub stays_same : (t : Tokens) → length t.source.ahead ≤ 2 → Moves t t Same
-stays_same t near = record { taken = []; reads = Reads-none t.source near; failures = refl; falls = omega arith; come = λ more f. refl }
+stays_same t near = record { taken = []; reads = Reads-none t.source near; looked = LooksAt-none t; failures = refl; falls = omega arith; come = λ more f. refl }
 
 weight_of : (t : Token) (b : Bool) → is_last t ≡ b → (l m : ℕ) → (b ≡ false → l < m) → l ≤ m → l + (if b then 0 else 1) ≤ m
 weight_of t true e l m h k = omega (arith, k)
@@ -96,9 +120,21 @@ module _ (old new : Lexer) (at : Placed) (gives : LexGives old (Ok at) new) (nea
   ready : IsReadyWith (at ∷ []) new.progress
   ready = λ e. behind_open new.progress at given.1 e
 
+  ends_with : (p : Placed) → Some at ≡ Some p → EndsWith p.token passes.bytes
+  ends_with p e =
+      let same : at ≡ p = cc in
+      subst (λ q. EndsWith q.token passes.bytes) same (record { before = passes.space; text = passes.text; split = passes.split; is = passes.is })
+
   looks_next : Looks (tokens_at old []) (tokens_at new (at ∷ []))
   looks_next = record {
-    moves = record { taken = passes.passes.taken; reads = reads; failures = passes.passes.failures; falls = let l = lighter in omega arith; come = comes };
+    moves = record {
+      taken = passes.passes.taken;
+      reads = reads;
+      looked = record { bytes = passes.bytes; split = passes.passes.split; ends = λ p e. inl (ends_with p e) };
+      failures = passes.passes.failures;
+      falls = let l = lighter in omega arith;
+      come = comes;
+    };
     loaded = record { current = at; behind = []; ahead = refl; ready = ready; near = near };
     alone = refl;
     keeps = tt;
@@ -106,7 +142,14 @@ module _ (old new : Lexer) (at : Placed) (gives : LexGives old (Ok at) new) (nea
 
   looks_on : (p : Placed) → LooksOn (tokens_at old (p ∷ [])) (tokens_at new (p ∷ at ∷ []))
   looks_on p = record {
-    moves = record { taken = passes.passes.taken; reads = reads; failures = passes.passes.failures; falls = let l = lighter in omega arith; come = λ more f. ap (token_first p.token p.line) (comes more f) };
+    moves = record {
+      taken = passes.passes.taken;
+      reads = reads;
+      looked = record { bytes = passes.bytes; split = passes.passes.split; ends = λ q e. inl (ends_with q e) };
+      failures = passes.passes.failures;
+      falls = let l = lighter in omega arith;
+      come = λ more f. ap (token_first p.token p.line) (comes more f);
+    };
     loaded = record { current = p; behind = at ∷ []; ahead = refl; ready = λ e. ready; near = near };
     first_is = refl;
     line_is = refl;
@@ -222,10 +265,15 @@ module _ (old : Tokens) (lexer : Lexer) (current behind : Option Placed) (view :
   pub advance_ready : IsLoaded old → is_last (first old.ahead) ≡ false → (o b : Option Placed) → o ≡ behind → b ≡ None → IsReadyWith (both o b) lexer.progress
   advance_ready l h o b e k = rw (e, k) (ready_behind current behind (here l) (goes h))
 
+  last_stays : (p q : Placed) (ps : List Placed) → last_ahead ps ≡ Some q → last_ahead (p ∷ ps) ≡ Some q
+  last_stays p q [] e = cc
+  last_stays p q (r ∷ rs) e = e
+
   stepped : (p : Placed) (ps : List Placed) → is_last p.token ≡ false → Moves (tokens_at lexer (p ∷ ps)) (tokens_at lexer ps) (Behind (p ∷ ps))
   stepped p ps h = record {
     taken = [];
     reads = Reads-none lexer.source near;
+    looked = record { bytes = []; split = append-nil lexer.source.ahead; ends = λ q e. inr (refl, last_stays p q ps e) };
     failures = refl;
     falls = omega arith;
     come = λ more f. record { rest = sym (ap (λ b. if b then [] else tokens_with ps lexer.source.line (lexer.source.ahead ++ more)) h); token = refl; line = refl };
@@ -260,3 +308,7 @@ module _ (old : Tokens) (lexer : Lexer) (current behind : Option Placed) (view :
   pub advance_breaks : IsLoaded old → is_last (first old.ahead) ≡ false → (o b : Option Placed) (new : Tokens) → o ≡ behind → b ≡ None → Breaks (tokens_at lexer (both o b)) new → Breaks old new
   advance_breaks l h o b new e k breaks =
       subst (λ t. Breaks t new) view (breaks_from current behind new (here l) (goes h) (subst (λ x. Breaks (tokens_at lexer (both x None)) new) e (subst (λ x. Breaks (tokens_at lexer (both o x)) new) k breaks)))
+
+  pub advanced_ok : {T E : Type 0} → IsLoaded old → is_last (first old.ahead) ≡ false → (o b : Option Placed) (new : Tokens) → o ≡ behind → b ≡ None → (r : Result T E) → OnOk r (Looks (tokens_at lexer (both o b)) new) → OnOk r (Advances old new)
+  advanced_ok l h o b new e k (Ok x) looks = advanced l h o b new e k looks
+  advanced_ok l h o b new e k (Err x) looks = looks

@@ -1,11 +1,12 @@
 -- The tokens of a source, of which some are ahead, and what taking them does.
-use Rattle.std.specs.Prelude.{◌≡◌, ℕ, ◌+◌, ◌≤◌, Bool, true, false, List, [], ◌∷◌, ◌++◌, length, Option, Some, None, if◌then◌else◌}
+use Rattle.std.specs.Prelude.{◌≡◌, ℕ, ◌+◌, ◌≤◌, ◌⊎◌, Bool, true, false, List, [], ◌∷◌, ◌++◌, length, Option, Some, None, if◌then◌else◌}
 use Rattle.bword.specs.ByteEnds.{Incoming, Grew}
 pub use Rattle.bword.specs.ByteEnds.{CanFollow}
 use Rattle.std.specs.Option.{option_map}
 use Rattle.blex.specs.Sources.{Source, Took, room}
 use Rattle.blex.specs.Lexemes.{placed_of}
 use Rattle.blex.specs.Lexers.{is_last}
+use Rattle.blex.specs.Pieces.{Word, whole}
 use Rattle.blex.specs.Tokens.{token_first, tokens_from}
 use Rattle.blex.specs.declared.lexer.Progress.{Progress}
 use Rattle.blex.specs.declared.lexer.Progress.TheVariants as progress
@@ -90,10 +91,31 @@ pub record Reads (old : Source) (taken : List ℕ) (new : Source) : Type 0 where
   pub lender : new.lender ≡ old.lender
   pub near : length new.ahead ≤ 2
 
+-- the last of the tokens that are ahead
+abbrev pub last_ahead : List Placed → Option Placed
+last_ahead [] = None
+last_ahead (p ∷ []) = Some p
+last_ahead (p ∷ q ∷ ps) = last_ahead (q ∷ ps)
+
+-- The bytes end with those of this token.
+pub record EndsWith (token : Token) (bytes : List ℕ) : Type 0 where
+  pub before : List ℕ
+  pub text : List ℕ
+  pub split : bytes ≡ before ++ text
+  pub is : whole text ≡ Some (Word token)
+
+-- Bytes were looked at, of those read before and those taken. The last token ahead ends them, or was ahead before.
+pub record LooksAt (old : Tokens) (taken : List ℕ) (new : Tokens) : Type 0 where
+  pub bytes : List ℕ
+  pub split : old.source.ahead ++ taken ≡ bytes ++ new.source.ahead
+  pub ends : (p : Placed) → last_ahead new.ahead ≡ Some p
+      → EndsWith p.token bytes ⊎ ((bytes ≡ []) × (last_ahead old.ahead ≡ Some p))
+
 -- Bytes were taken, and this holds of the tokens that came before and of those that come now, whatever the end still gives.
 pub record Moves (old new : Tokens) (P : List Placed → List Placed → Type 0) : Type 0 where
   pub taken : List ℕ
   pub reads : Reads old.source taken new.source
+  pub looked : LooksAt old taken new
   pub failures : new.source.end.failures ≡ old.source.end.failures
   pub falls : work new ≤ work old
   pub come : (more : List ℕ) → CanFollow new.source.end more → P (tokens_of old (taken ++ more)) (tokens_of new more)

@@ -20,8 +20,8 @@ use Rattle.btree.specs.Scan.{word_of}
 use Rattle.btree.proofs.Outcomes.{Ended}
 use Rattle.btree.proofs.GoesLaws.{tokens_from-ended, ended_cons, goes_once, goes_some, goes_end}
 use Rattle.btree.proofs.GoesReads.{goes_behind_read, goes_fault_read, goes_stop_read}
-use Rattle.bexpr.specs.Tokens.{Tokens, tokens_of, tokens_with, CanFollow, IsLoaded, IsSingle, Looks, Moves, work, Reads, Breaks}
-use Rattle.bexpr.proofs.TokenSteps.{Reads-append, CanFollow-append}
+use Rattle.bexpr.specs.Tokens.{Tokens, tokens_of, tokens_with, CanFollow, IsLoaded, IsSingle, Looks, LooksAt, Moves, work, Reads, Breaks}
+use Rattle.bexpr.proofs.TokenSteps.{Reads-append, LooksAt-append, CanFollow-append}
 use Rattle.blex.proofs.Passing.{Grew-after}
 use Rattle.bparse.specs.Steps.{Point, point, Comes, next_text, HasCode, Writing, Stopping, Breaking, ReadFails, OutRefuses, NamesRefuse, Gives, step_of}
 use Rattle.bparse.specs.declared.step.Step.{Step}
@@ -82,6 +82,9 @@ module _ (old mid : Tokens) (names : Defined) (l : Looks old mid) where
 
     both_read : Reads old.source both new.source
     both_read = Reads-append l.moves.reads m.reads
+
+    both_looked : LooksAt old both new
+    both_looked = LooksAt-append l.moves.looked m.looked
 
     come : (more : List ℕ) → CanFollow new.source.end more → tokens_of old (both ++ more) ≡ tokens_of mid (m.taken ++ more)
     come more c =
@@ -156,6 +159,7 @@ module _ (old mid : Tokens) (names : Defined) (l : Looks old mid) where
     wrote names' out' clean added w single less = record {
       taken = both new m;
       reads = both_read new m;
+      looked = both_looked new m;
       failures = failed_none new m;
       tree = tree;
       read = λ more c. ap definition (come new m more c) ∙ m.come more c;

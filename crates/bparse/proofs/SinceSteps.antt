@@ -23,7 +23,8 @@ use Rattle.btree.proofs.GoesReads.{Taken, got_taken}
 use Rattle.btree.proofs.LawProofs.{definition_read}
 use Rattle.btree.proofs.ProgramLaws.{read_there}
 use Rattle.btree.proofs.StatementUnread.{lines_unread}
-use Rattle.bexpr.specs.Tokens.{tokens_of, CanFollow, IsReady}
+use Rattle.bexpr.specs.Tokens.{tokens_of, CanFollow, IsReady, EndsWith, last_ahead}
+use Rattle.bexpr.proofs.TokenSteps.{EndsWith-append}
 use Rattle.bparse.specs.Steps.{Point, name_of, Writing, Stopping, Breaking, ReadFails, OutRefuses, NamesRefuse, Gives}
 use Rattle.bparse.specs.Compilers.{Ends, Compiler, Spelled, Behind, Since, IsOpen, Wrote, Stopped, Broke, StepGives}
 use Rattle.bparse.specs.Compilers as compilers
@@ -57,7 +58,10 @@ since_new ends = record {
   formed = tt;
   spelled = λ more f. record { passed = []; split = refl; spelled = refl };
   comes = λ more f r g. (r, g, record { code = refl; stop = refl });
+  passed = [];
+  split = refl;
   near = omega arith;
+  ends = λ p e. cc;
   is_open = refl;
 }
 
@@ -101,6 +105,10 @@ module _ (first : Ends) (a b : Point) (lender lender' : List ℕ) (before : List
       s.comes (ys ++ more) (follow took more f) r (subst (λ bs. Goes [] (tokens_from 1 bs) r) (append_assoc s.taken ys more) g)
 
   module _ (w : Writing a b) where
+    ends_now : (p : Placed) → EndsWith p.token w.looked.bytes ⊎ ((w.looked.bytes ≡ []) × (last_ahead a.tokens.ahead ≡ Some p)) → EndsWith p.token (s.passed ++ w.looked.bytes)
+    ends_now p (inl h) = EndsWith-append s.passed h
+    ends_now p (inr h) = subst (EndsWith p.token) (sym (append-nil s.passed) ∙ ap (λ l. s.passed ++ l) (sym h.0)) (s.ends p h.1)
+
     spelled_now : (more : List ℕ) → CanFollow b.tokens.source.end more → Spelled (before ++ w.tree ∷ []) (tokens_from 1 ((s.taken ++ w.taken) ++ more)) (tokens_of b.tokens more)
     spelled_now more f =
         let q = s.spelled (w.taken ++ more) (follow w.reads.took more f) in
@@ -131,7 +139,11 @@ module _ (first : Ends) (a b : Point) (lender lender' : List ℕ) (before : List
       formed = AllFormed-append before w.tree s.formed (definition_read (tokens_of a.tokens (w.taken ++ [])) (tokens_of b.tokens []) w.tree (w.read [] (λ over. refl))).1;
       spelled = spelled_now;
       comes = comes_now;
+      passed = s.passed ++ w.looked.bytes;
+      split = ap (λ l. l ++ w.taken) s.split ∙ append_assoc s.passed a.tokens.source.ahead w.taken ∙ ap (λ l. s.passed ++ l) w.looked.split
+          ∙ sym (append_assoc s.passed w.looked.bytes b.tokens.source.ahead);
       near = w.reads.near;
+      ends = λ p e. ends_now p (w.looked.ends p e);
       is_open = refl;
     }
 

@@ -11,7 +11,7 @@ use Rattle.btree.specs.Compiled.{Defined, Outcome, Goes, ending, text_of}
 use Rattle.btree.specs.Definition.{Definition}
 use Rattle.btree.specs.Lines.{kept}
 use Rattle.btree.specs.Program.{AllFormed, spell_all}
-use Rattle.bexpr.specs.Tokens.{Tokens, all_tokens, tokens_of, CanFollow, IsReady, IsSingle, work}
+use Rattle.bexpr.specs.Tokens.{Tokens, all_tokens, tokens_of, CanFollow, EndsWith, IsReady, IsSingle, last_ahead, work}
 use Rattle.bparse.specs.Steps.{name_of, next_text, HasCode}
 use Rattle.bparse.specs.declared.step.Step.{Step}
 use Rattle.bparse.specs.declared.step.Step.TheVariants as step
@@ -71,7 +71,8 @@ pub record Behind (ds : List Definition) (rest outcome : Outcome) : Type 0 where
   pub stop : outcome.stop ≡ rest.stop
 
 -- Since a compiler was made, it has written the texts of these definitions, and nothing else. They are the first ones of
--- the source, none has a fault, and the tokens to come are those directly behind them.
+-- the source, none has a fault, and the tokens to come are those directly behind them. Of the bytes taken, all but two at
+-- most were passed, and these end with the last token that is held.
 pub record Since (c : Compiler) (ds : List Definition) : Type 0 where
   pub taken : List ℕ
   pub took : Took c.first.source taken c.tokens.source.end
@@ -83,7 +84,10 @@ pub record Since (c : Compiler) (ds : List Definition) : Type 0 where
       → Spelled ds (tokens_from 1 (taken ++ more)) (tokens_of c.tokens more)
   pub comes : (more : List ℕ) → CanFollow c.tokens.source.end more → (r : Outcome)
       → Goes [] (tokens_from 1 (taken ++ more)) r → (rest : Outcome) × Goes c.names (tokens_of c.tokens more) rest × Behind ds rest r
+  pub passed : List ℕ
+  pub split : taken ≡ passed ++ c.tokens.source.ahead
   pub near : length c.tokens.source.ahead ≤ 2
+  pub ends : (p : Placed) → last_ahead c.tokens.ahead ≡ Some p → EndsWith p.token passed
   pub is_open : c.is_closed ≡ false
 
 -- more definitions can come

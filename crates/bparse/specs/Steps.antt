@@ -11,7 +11,7 @@ use Rattle.btree.specs.Definition.{Definition}
 use Rattle.btree.specs.DefinitionReader.{definition}
 use Rattle.btree.specs.Reading.{Got}
 use Rattle.btree.specs.Scan.{word_of}
-use Rattle.bexpr.specs.Tokens.{Tokens, tokens_of, CanFollow, IsSingle, Reads, work}
+use Rattle.bexpr.specs.Tokens.{Tokens, tokens_of, CanFollow, IsSingle, Reads, LooksAt, work}
 use Rattle.bparse.specs.declared.step.Step.{Step}
 use Rattle.bparse.specs.declared.step.Step.TheVariants as step
 
@@ -49,6 +49,7 @@ HasCode r = r.code ≡ [] → r.stop ≡ None
 pub record Writing (old new : Point) : Type 0 where
   pub taken : List ℕ
   pub reads : Reads old.tokens.source taken new.tokens.source
+  pub looked : LooksAt old.tokens taken new.tokens
   pub failures : new.tokens.source.end.failures ≡ old.tokens.source.end.failures
   pub tree : Definition
   pub read : (more : List ℕ) → CanFollow new.tokens.source.end more

@@ -50,6 +50,7 @@ run_seen {t} {P} l f =
     record {
       taken = s.taken;
       reads = s.reads;
+      looked = s.looked;
       failures = s.failures;
       falls = s.falls;
       come = λ more c. subst (λ u. P u (tokens_of t more)) (sym (s.come more c)) (f (tokens_of t more) more refl (first_with t.ahead t.source.line (t.source.ahead ++ more) l.current l.behind l.ahead) (line_with t.ahead t.source.line (t.source.ahead ++ more) l.current l.behind l.ahead));

@@ -1,14 +1,18 @@
 -- What taking one token reads.
-use Rattle.std.proofs.Common.{◌≡◌, ℕ, ◌<◌, ◌≤◌, List, Ok, refl, ap, ◌∙◌, ◌⊎◌, inl, inr, arith}
+use Rattle.std.proofs.Common.{◌≡◌, ℕ, ◌<◌, ◌≤◌, List, None, Ok, refl, ap, ◌∙◌, ◌⊎◌, inl, inr, arith}
 use Rattle.blex.specs.declared.lexeme.Lexeme.{Lexeme}
 use Rattle.blex.specs.declared.lexeme.Lexeme.TheVariants as lexeme
 use Rattle.blex.specs.declared.token.Token.{Token}
 use Rattle.blex.specs.declared.token.Token.TheVariants as token
+use Rattle.blex.specs.declared.token.Keyword.{Keyword}
+use Rattle.blex.specs.declared.token.Keyword.TheVariants as keyword
+use Rattle.blex.specs.declared.token.Placed.{Placed}
 use Rattle.blex.specs.Lexemes.{token_of_lexeme}
 use Rattle.blex.proofs.LexemeSteps.{token_here}
 use Rattle.btree.specs.Expression.{Number, Character}
-use Rattle.btree.specs.Reading.{Got, first}
-use Rattle.btree.specs.StatementReader.{constant_at}
+use Rattle.btree.specs.Reading.{Got, Stop, first}
+use Rattle.btree.specs.StatementReader.{constant_at, name_at, size_at, step_at}
+use Rattle.btree.specs.DefinitionReader.{ival_at}
 use Rattle.bexpr.specs.Tokens.{Tokens, work, Advances}
 use Rattle.bread.specs.Compiling.{FindsConstant}
 use Rattle.bexpr.proofs.Moving.{run_past}
@@ -45,3 +49,36 @@ falls_after h k = omega (arith, h, k)
 
 pub falls_all : {l m n o : ℕ} → m < l → n ≤ m → o < n → o < l
 falls_all h i k = omega (arith, h, i, k)
+
+-- what begins with this is no name, no constant, no initial value and no heading
+pub name_none : (l : Lexeme) (text : List ℕ) → ((x : List ℕ) → l ≡ lexeme.Name x → ⊥) → (u : List Placed) → name_at (token_of_lexeme l text) u ≡ Stop u
+name_none (lexeme.Name x) text a u = absurd (a x refl)
+name_none _ text a u = refl
+
+pub constant_none : (l : Lexeme) (text : List ℕ) → ((x : ℕ) → l ≡ lexeme.Number x → ⊥) → ((x : ℕ) → l ≡ lexeme.Character x → ⊥) → (u : List Placed) → constant_at (token_of_lexeme l text) u ≡ Stop u
+constant_none (lexeme.Number x) text a b u = absurd (a x refl)
+constant_none (lexeme.Character x) text a b u = absurd (b x refl)
+constant_none _ text a b u = refl
+
+pub size_none : (l : Lexeme) (text : List ℕ) → ((x : ℕ) → l ≡ lexeme.Number x → ⊥) → (u : List Placed) → size_at (token_of_lexeme l text) u ≡ Got None u
+size_none (lexeme.Number x) text a u = absurd (a x refl)
+size_none _ text a u = refl
+
+pub ival_none : (l : Lexeme) (text : List ℕ) → ((x : List ℕ) → l ≡ lexeme.Name x → ⊥) → ((x : ℕ) → l ≡ lexeme.Number x → ⊥) → ((x : ℕ) → l ≡ lexeme.Character x → ⊥) → (l ≡ lexeme.String → ⊥) → (off : ℕ) (u : List Placed) → ival_at off (token_of_lexeme l text) u ≡ Stop u
+ival_none (lexeme.Name x) text a b c d off u = absurd (a x refl)
+ival_none (lexeme.Number x) text a b c d off u = absurd (b x refl)
+ival_none (lexeme.Character x) text a b c d off u = absurd (c x refl)
+ival_none lexeme.String text a b c d off u = absurd (d refl)
+ival_none _ text a b c d off u = refl
+
+pub step_none : (l : Lexeme) (text : List ℕ) → ((x : List ℕ) → l ≡ lexeme.Name x → ⊥) → ((k : Keyword) → l ≡ lexeme.Keyword k → ⊥) → step_at None (token_of_lexeme l text) ≡ None
+step_none (lexeme.Name x) text a b = absurd (a x refl)
+step_none (lexeme.Keyword k) text a b = absurd (b k refl)
+step_none _ text a b = refl
+
+pub keyword_none : (k : Keyword) → (k ≡ keyword.Auto → ⊥) → (k ≡ keyword.Extrn → ⊥) → (k ≡ keyword.Case → ⊥) → (k ≡ keyword.Default → ⊥) → step_at None (token.Keyword k) ≡ None
+keyword_none keyword.Auto a b c d = absurd (a refl)
+keyword_none keyword.Extrn a b c d = absurd (b refl)
+keyword_none keyword.Case a b c d = absurd (c refl)
+keyword_none keyword.Default a b c d = absurd (d refl)
+keyword_none _ a b c d = refl

@@ -2,10 +2,11 @@ use Rattle.std.proofs.Common.{sym, ap, ◌∙◌}
 use Rattle.blex.proofs.LexemeSteps.{token_here}
 use Rattle.bcode.specs.declared.instr.Ival.TheVariants as ival
 use Rattle.btree.specs.Definition.{Ival_text, values_words}
-use Rattle.btree.specs.DefinitionReader.{ival_at}
+use Rattle.btree.specs.DefinitionReader.{ival, ival_at}
 use Rattle.bemit.specs.Drafts.{valued, stringed, offset_of}
 use Rattle.bread.proofs.DefinitionSteps.{number_ends, name_ends, value_ends}
-use Rattle.bread.proofs.Takings.{constant_here}
+use Rattle.bexpr.proofs.Moving.{halt_here}
+use Rattle.bread.proofs.Takings.{constant_here, ival_none}
 use Rattle.bread.proofs.definitions.value.Goals as goal
 
 pub returns-in-Number : goal.returns-in-Number
@@ -16,3 +17,9 @@ returns-in-Name g c = name_ends c.in-Name.name _ _ c.valued.result _ _ (token_he
 
 pub returns-in-String : goal.returns-in-String
 returns-in-String g c = let d = c.args.parser.now.draft in let text = c.args.parser.now.tokens.text in value_ends (λ before. Ival_text text (values_words before)) (ival.Text c.string-offset.result) c.args.parser.now.tokens d c.string-offset.new.self c.valued-in-String.result _ _ (λ before u f l. ap (λ t. ival_at (values_words before) t u) (f ∙ token_here text c.lexeme.ensures c.in-String.is)) (λ before. sym (ap (λ o. valued (ival.Text o) c.string-offset.new.self) c.string-offset.ensures.offset ∙ ap (valued (ival.Text (offset_of d))) (c.string-offset.ensures.draft ∙ ap (λ b. stringed b d) c.string.ensures))) c.valued-in-String.ensures
+
+pub returns-in_default : goal.returns-in_default
+returns-in_default g c = λ before.
+    halt_here {f = ival before} c.requires
+    (λ u e n. ap (λ t. ival_at (values_words before) t u) (e ∙ sym c.lexeme.ensures)
+    ∙ ival_none c.lexeme.result c.args.parser.now.tokens.text (λ x. c.in_default.not-Name x) (λ x. c.in_default.not-Number x) (λ x. c.in_default.not-Character x) c.in_default.not-String (values_words before) u)

@@ -1,5 +1,10 @@
-use Rattle.std.proofs.Common.{◌∙◌, ap}
+use Rattle.std.proofs.Common.{◌∙◌, ap, None, refl}
 use Rattle.blex.specs.declared.token.Token.TheVariants as token
+use Rattle.btree.specs.StatementReader.{step_at}
+use Rattle.bread.specs.Headings.{IsUnheaded}
+use Rattle.bread.proofs.Steps.{run_seen}
+use Rattle.bread.proofs.HeadingLemmas.{no_heading}
+use Rattle.bread.proofs.Takings.{keyword_none}
 use Rattle.bread.proofs.HeadingSteps.{auto_turns, extrn_turns, case_turns_on, default_turns_on, heading_took, heading_halts, heading_err}
 use Rattle.bread.proofs.heading.headed.Goals as goal
 
@@ -26,3 +31,11 @@ returns-in_err-default-in-Default g c = let k = c.requires.keyword ∙ ap (λ w.
 
 pub returns-in_ok-default-in-Default : goal.returns-in_ok-default-in-Default
 returns-in_ok-default-in-Default g c = let k = c.requires.keyword ∙ ap (λ w. token.Keyword w) c.in-Default.is in let a = c.in_ok-advance-in-Default.ensures.ok in let e = c.in_ok-default-in-Default.ensures in heading_took (default_turns_on c.line-line.result c.line-line.ensures k) a (e.0 tt) e.1.0 e.2
+
+pub returns-in_default : goal.returns-in_default
+returns-in_default g c = (
+  run_seen {P = IsUnheaded} c.requires.loaded
+      (λ u more s f l. no_heading u (ap (step_at None) (f ∙ c.requires.keyword) ∙ keyword_none c.args.keyword c.in_default.not-Auto c.in_default.not-Extrn c.in_default.not-Case c.in_default.not-Default)),
+  c.requires.loaded,
+  refl,
+)

@@ -8,7 +8,7 @@ use Rattle.bexpr.specs.declared.halt.Halt.TheVariants as halt
 use Rattle.bexpr.specs.Tokens.{work}
 use Rattle.bexpr.specs.Parsers.{called_at, assigned_at, prefix_meant, suffix_meant}
 use Rattle.bexpr.proofs.Moving.{follows_err, continues_err, passes_err, halt_bind}
-use Rattle.bexpr.proofs.Steps.{suffixes, group_stops, group_open, group_took, no_arguments, first_stops, arguments_begin, comma_stops, more_stops, arguments_go, end_stops, arguments_end, rank_up, chain_operand, chain_first_stops, chain_begins, operator_stops, right_stops, chain_goes, chain_ends, arm_stops, colon_stops, chain_stops, rest_stops, conditional_took, evaluate_took, operand_none, prefix_stops, prefix_took, prefix_leaves, postfix_begins, postfix_stops, postfix_goes, postfix_ends, rvalue_stops, rvalue_goes, assign_full, assign_stops, assign_took, as_suffix, index_stops, index_open, index_took, index_called, call_stops, call_took, call_called, increment_took, decrement_took}
+use Rattle.bexpr.proofs.Steps.{conditional_none, suffixes, group_stops, group_open, group_took, no_arguments, first_stops, arguments_begin, comma_stops, more_stops, arguments_go, end_stops, arguments_end, rank_up, chain_operand, chain_first_stops, chain_begins, operator_stops, right_stops, chain_goes, chain_ends, arm_stops, colon_stops, chain_stops, rest_stops, conditional_took, evaluate_took, operand_none, prefix_stops, prefix_took, prefix_leaves, postfix_begins, postfix_stops, postfix_goes, postfix_ends, rvalue_stops, rvalue_goes, assign_full, assign_stops, assign_took, as_suffix, index_stops, index_open, index_took, index_called, call_stops, call_took, call_called, increment_took, decrement_took}
 use Rattle.bexpr.proofs.parser.Parser.+expressions.Goals as goal
 
 pub primary-returns-in_err-form : goal.primary-returns-in_err-form
@@ -154,3 +154,6 @@ suffixed-returns-in-Increment-clause-tree g t c = as_suffix c.args.room (suffix_
 
 pub suffixed-returns-in-Decrement-clause-tree : goal.suffixed-returns-in-Decrement-clause-tree
 suffixed-returns-in-Decrement-clause-tree g t c = as_suffix c.args.room (suffix_meant c.args.next) (Step PostDecrement) c.args.form c.args.self.now.tokens c.step-in-Decrement.new.self.tokens c.args.self.now.draft c.step-in-Decrement.new.self.draft c.step-in-Decrement.result (ap suffix_meant c.in-Decrement.is) (decrement_took c.args.room c.args.self.now.tokens c.step-in-Decrement.new.self.tokens c.args.self.now.draft c.step-in-Decrement.new.self.draft c.args.form c.step-in-Decrement.result (c.requires.here ∙ ap (λ s. Some (suffix_meant s)) c.in-Decrement.is) c.step-in-Decrement.ensures.tokens c.step-in-Decrement.ensures.draft)
+
+pub conditional-returns-then-not-is_at : goal.conditional-returns-then-not-is_at
+conditional-returns-then-not-is_at g t c = conditional_none c.args.room c.args.self.now.tokens c.args.self.now.draft c.args.form c.requires (sym c.if-not-is_at.ensures)

@@ -1,5 +1,9 @@
+use Rattle.std.proofs.Common.{◌∙◌, ap, sym}
+use Rattle.btree.specs.ExpressionReader.{inner, primary, primary_at}
+use Rattle.btree.specs.StatementReader.{is_open_paren}
+use Rattle.bexpr.proofs.Moving.{halt_here}
 use Rattle.blex.proofs.LexemeSteps.{token_here}
-use Rattle.bexpr.proofs.Steps.{number_took, character_took, text_took}
+use Rattle.bexpr.proofs.Steps.{primary_none, number_took, character_took, text_took}
 use Rattle.bexpr.proofs.parser.Parser.atom.Goals as goal
 
 pub returns-in-Number : goal.returns-in-Number
@@ -10,3 +14,9 @@ returns-in-Character g c = character_took c.args.self.now.tokens c.take-in-Chara
 
 pub returns-in-String : goal.returns-in-String
 returns-in-String g c = text_took c.args.self.now.tokens c.take-in-String.new.self.tokens c.args.self.now.draft c.string-offset.new.self c.emit-in-String.new.self c.take-in-String.new.self.draft c.take-in-String.result c.args.self.now.tokens.text c.string.result.now c.string-offset.result c.take-in-String.ensures.tokens c.take-in-String.ensures.draft (token_here c.args.self.now.tokens.text c.lexeme.ensures c.in-String.is) c.string.ensures c.string-offset.ensures.draft c.string-offset.ensures.offset c.emit-in-String.ensures
+
+pub returns-in_default : goal.returns-in_default
+returns-in_default g c = λ room offset.
+    halt_here {f = primary (inner room) offset} c.requires.loaded
+    (λ u e n. ap (λ t. primary_at (inner room) offset t u) (e ∙ sym c.lexeme.ensures)
+    ∙ primary_none c.lexeme.result c.args.self.now.tokens.text (λ x. c.in_default.not-Name x) (λ x. c.in_default.not-Number x) (λ x. c.in_default.not-Character x) c.in_default.not-String (ap is_open_paren c.lexeme.ensures ∙ c.requires.no_group) (inner room) offset u)
