@@ -1,5 +1,6 @@
 -- Where nothing fails, what is said of a run is what its source and its input come to.
 use Rattle.std.proofs.Common.{◌≡◌, ◌≢◌, ℕ, zero, suc, ◌+◌, ◌<◌, ◌≤◌, List, [], ◌∷◌, ◌++◌, map, Bool, true, false, Option, Some, None, refl, sym, ap, ◌∙◌, subst, arith, append-nil, ◌⊎◌, inl, inr, ⊎_elim}
+use Rattle.bword.specs.declared.edition.Edition.TheVariants as editions
 use Rattle.std.specs.Io.KnownBytes.{Appends, Consumes}
 use Rattle.bword.specs.ByteEnds.{Incoming, Outgoing, Kept, Grew, Took, Writes, Refuses, CanFollow, outgoing_of}
 use Rattle.bword.specs.declared.byte_out.EndFault.{EndFault}
@@ -249,7 +250,7 @@ pub headline : (steps : ℕ) (source source_behind : Incoming) (ends : Ends) (st
 headline steps source source_behind ends status (going.stopped kept not_zero quiet h) text input tells told healthy r g =
     let one = fault_status source source_behind ends status kept not_zero healthy h in
     let rest = rest_of source source_behind h.taken text h.took tells in
-    let f = h.faulty one rest.more rest.follows r (subst (λ t. Goes [] (tokens_from 1 t) r) (sym rest.whole) g) in
+    let f = h.faulty one rest.more rest.follows r (subst (λ t. Goes [] (tokens_from editions.One 1 t) r) (sym rest.whole) g) in
     record {
       faulty = λ fault e.
           let both : Some f.fault ≡ Some fault = sym f.stop ∙ e in
@@ -260,6 +261,6 @@ headline steps source source_behind ends status (going.stopped kept not_zero qui
     }
 headline steps source source_behind ends status (going.ran s) text input tells told healthy r g =
     let rest = rest_of source source_behind s.taken text s.took tells in
-    let runs = subst (λ t. (r : compiled.Outcome) (g : Goes [] (tokens_from 1 t) r) → (r.stop ≡ None) × RunsProgram steps g.definitions ends status) rest.whole (s.runs rest.more rest.follows) in
+    let runs = subst (λ t. (r : compiled.Outcome) (g : Goes [] (tokens_from editions.One 1 t) r) → (r.stop ≡ None) × RunsProgram steps g.definitions ends status) rest.whole (s.runs rest.more rest.follows) in
     let program = runs r g in
     program_answers r g.definitions input steps source source_behind ends status told healthy program.0 program.1

@@ -1,6 +1,7 @@
 -- Texts of single definitions.
 use Rattle.std.specs.Prelude.{◌≡◌, [], ◌∷◌, codes, refl}
 use Rattle.std.specs.Fmt.{digits}
+use Rattle.bword.specs.declared.edition.Edition.TheVariants as editions
 use Rattle.bword.specs.declared.operators.BinOp.TheVariants as op
 use Rattle.bcode.specs.declared.definition.Definition.TheVariants as definition
 use Rattle.bcode.specs.declared.instr.Increment.TheVariants as increment
@@ -64,8 +65,11 @@ letters : text_of (definition.Function record {
 unfolding digits
 letters = refl
 
-empty : joined (code_lines []) ≡ codes "E\n"
+empty : joined (code_lines editions.One []) ≡ codes "E\n"
 empty = refl
+
+empty_in_two : joined (code_lines editions.Two []) ≡ codes "B 2\nE\n"
+empty_in_two = refl
 
 operators : flat_map operator_text (op.Or ∷ op.And ∷ op.Eq ∷ op.Ne ∷ op.Lt ∷ op.Le ∷ op.Gt ∷ op.Ge ∷ op.Shl ∷ op.Shr ∷ op.Sub
     ∷ op.Add ∷ op.Rem ∷ op.Mul ∷ op.Div ∷ []) ≡ codes "|&==!=<<=>>=<<>>-+%*/"

@@ -79,10 +79,11 @@ module _ (old new : Lexer) (at : Placed) (gives : LexGives old (Ok at) new) (nea
   passes : PassesToken old.source at new.source
   passes = given.0
 
-  comes : (more : List ℕ) → CanFollow new.source.end more → tokens_from old.source.line (old.source.ahead ++ (passes.passes.taken ++ more)) ≡ token_first at.token at.line (tokens_from new.source.line (new.source.ahead ++ more))
+  comes : (more : List ℕ) → CanFollow new.source.end more → tokens_from old.source.edition old.source.line (old.source.ahead ++ (passes.passes.taken ++ more)) ≡ token_first at.token at.line (tokens_from new.source.edition new.source.line (new.source.ahead ++ more))
   comes more f =
-      ap (tokens_from old.source.line) (sym (append_assoc old.source.ahead passes.passes.taken more) ∙ ap (λ l. l ++ more) passes.passes.split ∙ append_assoc passes.bytes new.source.ahead more)
+      ap (tokens_from old.source.edition old.source.line) (sym (append_assoc old.source.ahead passes.passes.taken more) ∙ ap (λ l. l ++ more) passes.passes.split ∙ append_assoc passes.bytes new.source.ahead more)
       ∙ passes.cut (new.source.ahead ++ more) (record { more = more; split = refl; over = f })
+      ∙ ap (λ e. token_first at.token at.line (tokens_from e new.source.line (new.source.ahead ++ more))) (sym passes.passes.edition)
 
   reads : Reads old.source passes.passes.taken new.source
   reads = record { took = passes.passes.took; lender = passes.passes.lender; near = near }
@@ -228,7 +229,7 @@ module _ (old : Tokens) (lexer : Lexer) (current behind : Option Placed) (view :
     reads = Reads-none lexer.source near;
     failures = refl;
     falls = omega arith;
-    come = λ more f. record { rest = sym (ap (λ b. if b then [] else tokens_with ps lexer.source.line (lexer.source.ahead ++ more)) h); token = refl; line = refl };
+    come = λ more f. record { rest = sym (ap (λ b. if b then [] else tokens_with ps lexer.source.edition lexer.source.line (lexer.source.ahead ++ more)) h); token = refl; line = refl };
   }
 
   lighter_by : (p : Placed) (ps : List Placed) → is_last p.token ≡ false → work (tokens_at lexer ps) + 1 ≤ work (tokens_at lexer (p ∷ ps))

@@ -1,5 +1,6 @@
 -- What several calls of the compiler come to.
 use Rattle.std.proofs.Common.{◌≡◌, ◌≢◌, ℕ, ◌+◌, ◌<◌, ◌≤◌, Bool, true, false, List, [], ◌∷◌, ◌++◌, length, map, take, Option, Some, None, Result, Ok, Err, refl, sym, ap, ◌∙◌, subst, append_assoc, append-nil, length-append, arith, ◌⊎◌, inl, inr}
+use Rattle.bword.specs.declared.edition.Edition.TheVariants as editions
 use Rattle.std.proofs.KnownBytes.{Appends-trans}
 use Rattle.std.specs.Io.KnownBytes.{Appends}
 use Rattle.std.proofs.Math.Seq.{take-append-add}
@@ -87,7 +88,7 @@ all_written {old} {now} {new} stop h s = record {
   keeps = keeps_then h.keeps s.keeps;
   written = λ more f r a.
       let e = behind h s.keeps more f (record { code = []; stop = stop }) r (s.comes more f) a in
-      (ap (λ x. x.stop) e, subst (λ x. Writes old.out (code_text x) new.out) (sym e) (rw append-nil (Writes-append h.written s.written)));
+      (ap (λ x. x.stop) e, subst (λ x. Writes old.out (code_text editions.One x) new.out) (sym e) (rw append-nil (Writes-append h.written s.written)));
 }
 
 began_behind : {a b c : Outgoing} {xs ys : List ℕ} → Writes a xs b → Began b ys c → Began a (xs ++ ys) c
@@ -118,8 +119,8 @@ all_broke {old} {now} {new} first then h b reasons = record {
       let q = some.outcome in
       let e = behind h b.keeps more f q r some.goes a in
       let began = began_behind h.written (began_all q.code q.stop (b.began more f q some.goes)) in
-      let same_ : joined h.texts ++ (joined q.code ++ ending q.stop) ≡ code_text (with_texts h.texts q) = sym (append_assoc (joined h.texts) (joined q.code) (ending q.stop)) ∙ ap (λ l. l ++ ending q.stop) (sym (joined-append h.texts q.code)) in
-      subst (λ x. Began old.out (code_text x) new.out) (sym e) (subst (λ l. Began old.out l new.out) same_ began);
+      let same_ : joined h.texts ++ (joined q.code ++ ending q.stop) ≡ code_text editions.One (with_texts h.texts q) = sym (append_assoc (joined h.texts) (joined q.code) (ending q.stop)) ∙ ap (λ l. l ++ ending q.stop) (sym (joined-append h.texts q.code)) in
+      subst (λ x. Began old.out (code_text editions.One x) new.out) (sym e) (subst (λ l. Began old.out l new.out) same_ began);
   reason = reasons b.reason;
 }
 

@@ -1,5 +1,6 @@
 -- What a call of the compiler does.
 use Rattle.std.specs.Prelude.{◌≡◌, ◌≢◌, ℕ, ◌+◌, ◌<◌, ◌≤◌, Bool, true, false, List, [], ◌∷◌, ◌++◌, length, take, Option, Some, None, Result, Ok, Err, not, ◌⊎◌}
+use Rattle.bword.specs.declared.edition.Edition.TheVariants as editions
 use Rattle.std.specs.Io.KnownBytes.{Appends}
 use Rattle.bword.specs.ByteEnds.{Incoming, Outgoing, Grew, Writes}
 pub use Rattle.bword.specs.ByteEnds.{Began}
@@ -36,7 +37,7 @@ compiler_at p out out_lender = compiler_of p.tokens p.names out out_lender p.is_
 
 -- a compiler that has read and written nothing
 abbrev pub new : Incoming → ℕ → Outgoing → ℕ → Compiler
-new input lender out out_lender = compiler_of (all_tokens input lender) [] out out_lender false
+new input lender out out_lender = compiler_of (all_tokens editions.One input lender) [] out out_lender false
 
 -- what comes of the source, where these bytes were taken and more follow
 abbrev pub Comes : Compiler → List ℕ → List ℕ → Outcome → Type 0

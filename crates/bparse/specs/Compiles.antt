@@ -1,5 +1,6 @@
 -- What the compiler does with a whole source.
 use Rattle.std.specs.Prelude.{◌≡◌, ℕ, List, [], ◌++◌, Option, Some, None, Result, Ok, Err, ◌⊎◌}
+use Rattle.bword.specs.declared.edition.Edition.TheVariants as editions
 use Rattle.bword.specs.ByteEnds.{Incoming, Outgoing, Grew, Writes}
 use Rattle.blex.specs.Sources.{Took}
 use Rattle.blex.specs.Tokens.{tokens_from}
@@ -23,26 +24,26 @@ pub record Run : Type 0 where
 -- The code was written.
 pub record IsCompiled (run : Run) (r : Outcome) : Type 0 where
   pub clean : r.stop ≡ None
-  pub code : Writes run.code (code_text r) run.code_behind
+  pub code : Writes run.code (code_text editions.One r) run.code_behind
   pub silent : run.line_behind ≡ run.line
 
 -- The code before a fault was written, and the line of the fault.
 pub record IsFaulty (run : Run) (r : Outcome) : Type 0 where
   pub fault : Diagnostic
   pub stop : r.stop ≡ Some fault
-  pub code : Writes run.code (code_text r) run.code_behind
+  pub code : Writes run.code (code_text editions.One r) run.code_behind
   pub line : Writes run.line (line_of fault) run.line_behind
 
 -- All of the code was written, and a beginning of the line of the fault.
 pub record LineBegan (run : Run) (r : Outcome) : Type 0 where
   pub fault : Diagnostic
   pub stop : r.stop ≡ Some fault
-  pub code : Writes run.code (code_text r) run.code_behind
+  pub code : Writes run.code (code_text editions.One r) run.code_behind
   pub line : Began run.line (line_of fault) run.line_behind
 
 -- A beginning of the code was written and no line, or all of it and a beginning of the line.
 abbrev pub IsBroken : Run → Outcome → Type 0
-IsBroken run r = (Began run.code (code_text r) run.code_behind × (run.line_behind ≡ run.line)) ⊎ LineBegan run r
+IsBroken run r = (Began run.code (code_text editions.One r) run.code_behind × (run.line_behind ≡ run.line)) ⊎ LineBegan run r
 
 -- a read or a write failed
 abbrev pub AnyFailed : Run → Type 0
@@ -53,7 +54,7 @@ AnyFailed run =
 -- each source that begins with the bytes that were taken, or the one whose end was seen, comes to this
 abbrev pub Whatever : List ℕ → Incoming → (Outcome → Type 0) → Type 0
 Whatever taken end P =
-    (more : List ℕ) → CanFollow end more → (r : Outcome) → Goes [] (tokens_from 1 (taken ++ more)) r → P r
+    (more : List ℕ) → CanFollow end more → (r : Outcome) → Goes [] (tokens_from editions.One 1 (taken ++ more)) r → P r
 
 -- memory was refused: by the line's output, by the code's where there is code, or where a definition comes
 abbrev pub AnyRefused : Run → List ℕ → Type 0
@@ -76,13 +77,13 @@ pub record Compiles (run : Run) : Type 0 where
 pub record CodeWritten (i : Incoming) (o : Outgoing) (stop : Option Diagnostic) (j : Incoming) (p : Outgoing) : Type 0 where
   pub taken : List ℕ
   pub took : Took i taken j
-  pub written : Whatever taken j (λ r. (r.stop ≡ stop) × Writes o (code_text r) p)
+  pub written : Whatever taken j (λ r. (r.stop ≡ stop) × Writes o (code_text editions.One r) p)
 
 -- A beginning of the code was written.
 pub record CodeBroke (i : Incoming) (o : Outgoing) (why : List ℕ → Type 0) (j : Incoming) (p : Outgoing) : Type 0 where
   pub taken : List ℕ
   pub took : Took i taken j
-  pub began : Whatever taken j (λ r. Began o (code_text r) p)
+  pub began : Whatever taken j (λ r. Began o (code_text editions.One r) p)
   pub reason : why taken
 
 -- what compiling comes to, by its answer
@@ -112,13 +113,13 @@ Each old taken new P =
 pub record AllWritten (old : Compiler) (stop : Option Diagnostic) (new : Compiler) : Type 0 where
   pub taken : List ℕ
   pub keeps : KeepsAll old taken new
-  pub written : Each old taken new (λ r. (r.stop ≡ stop) × Writes old.out (code_text r) new.out)
+  pub written : Each old taken new (λ r. (r.stop ≡ stop) × Writes old.out (code_text editions.One r) new.out)
 
 -- A beginning of what comes is written.
 pub record AllBroke (old : Compiler) (why : List ℕ → Type 0) (new : Compiler) : Type 0 where
   pub taken : List ℕ
   pub keeps : KeepsAll old taken new
-  pub began : Each old taken new (λ r. Began old.out (code_text r) new.out)
+  pub began : Each old taken new (λ r. Began old.out (code_text editions.One r) new.out)
   pub reason : why taken
 
 -- what calls up to the last do

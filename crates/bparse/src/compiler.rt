@@ -1,6 +1,7 @@
 //! The compiler, which writes one definition a call.
 ghost use Rattle.std.specs.Prelude.{◌≡◌, IfOk, Some, [], false, true};
 ghost use Rattle.btree.specs.Reading.{first};
+ghost use Rattle.bword.specs.declared.edition.Edition.TheVariants as editions;
 ghost use Rattle.bexpr.specs.Tokens.{IsReady, IsLoaded, all_tokens};
 ghost use Rattle.bparse.specs.Compilers.{compiler_of, compiler_at, StepGives, DefinitionGives, is_end, is_over};
 
@@ -10,7 +11,7 @@ use bcode::{write_definition, write_end};
 use bexpr::{Halt, Parser, Tokens};
 use blex::Lexeme;
 use bread::{Names, definition};
-use bword::{ByteIn, ByteOut};
+use bword::{ByteIn, ByteOut, Edition};
 use std::alloc::Global;
 use std::marker::Model;
 
@@ -40,10 +41,10 @@ impl<I: ByteIn> Model for Compiler<I> {
 impl<I: ByteIn> Compiler<I> {
     /// A compiler that has read nothing.
     pub fn new(alloc: Global, input: I) -> Self
-        ensures { result ≡ record { tokens = all_tokens (I.incoming input) (I.lender input); names = []; is_closed = false } }
+        ensures { result ≡ record { tokens = all_tokens editions.One (I.incoming input) (I.lender input); names = []; is_closed = false } }
     {
         Compiler {
-            parser: Parser::new(input),
+            parser: Parser::new(input, Edition::One),
             names: Names::new(alloc),
             is_closed: false,
         }

@@ -1,5 +1,6 @@
 -- What comes of whole sources, by reading them one definition at a time.
 use Rattle.std.proofs.Common.{◌≡◌, ℕ, zero, suc, List, [], ◌∷◌, ◌++◌, sym, ap, ◌∙◌, refl, subst}
+use Rattle.bword.specs.declared.edition.Edition.TheVariants as editions
 use Rattle.std.specs.Prelude.{codes, Option, Some, None}
 use Rattle.std.specs.Fmt.{digits}
 use Rattle.blex.specs.Pieces.{whole, word_of as word_token, keyword_of, number_in, with_byte, escape_of, operator_of, other_of, fixed_of}
@@ -87,20 +88,20 @@ abbrev pub written : Option Outcome → Option (List ℕ × List ℕ)
 written None = None
 written (Some r) = Some (code_text r, fault_text r.stop)
 
-written_comes : (source : List ℕ) (o : Option Outcome) (code line : List ℕ) → outcome_at 8 [] (tokens_from 1 source) ≡ o → written o ≡ Some (code, line) → Comes source code line
+written_comes : (source : List ℕ) (o : Option Outcome) (code line : List ℕ) → outcome_at 8 [] (tokens_from editions.One 1 source) ≡ o → written o ≡ Some (code, line) → Comes source code line
 written_comes source None code line h w = cc
 written_comes source (Some r) code line h w =
     let pair : (code_text r, fault_text r.stop) ≡ (code, line) = cc in
     record {
       outcome = r;
-      goes = outcome_sound 8 [] (tokens_from 1 source) r (tokens_from-ended 1 source) h;
+      goes = outcome_sound 8 [] (tokens_from editions.One 1 source) r (tokens_from-ended editions.One 1 source) h;
       code_is = ap (λ (p : List ℕ × List ℕ). p.0) pair;
       line_is = ap (λ (p : List ℕ × List ℕ). p.1) pair;
     }
 
 -- at most eight definitions
-comes : {source code line : List ℕ} → written (outcome_at 8 [] (tokens_from 1 source)) ≡ Some (code, line) → Comes source code line
-comes {source} {code} {line} h = written_comes source (outcome_at 8 [] (tokens_from 1 source)) code line refl h
+comes : {source code line : List ℕ} → written (outcome_at 8 [] (tokens_from editions.One 1 source)) ≡ Some (code, line) → Comes source code line
+comes {source} {code} {line} h = written_comes source (outcome_at 8 [] (tokens_from editions.One 1 source)) code line refl h
 
 worked_empty : Comes [] (codes "E\n") []
 unfolding tokens_from cut longest greatest whole word_token keyword_of number_in with_byte escape_of operator_of other_of fixed_of digits

@@ -1,5 +1,6 @@
 -- What is written for whole sources: the code text, and the line of the diagnostic.
 use Rattle.std.specs.Prelude.{◌≡◌, ℕ, List, [], codes, Option, Some, None}
+use Rattle.bword.specs.declared.edition.Edition.TheVariants as editions
 use Rattle.blex.specs.declared.diagnostic.Diagnostic.{Diagnostic}
 use Rattle.blex.specs.Tokens.{tokens_from}
 use Rattle.btree.specs.Compiled.{Outcome, Goes, code_text, line_of}
@@ -12,8 +13,8 @@ fault_text (Some d) = line_of d
 -- This code text and this line come of the source, and nothing else does.
 pub record Comes (source code line : List ℕ) : Type 0 where
   pub outcome : Outcome
-  pub goes : Goes [] (tokens_from 1 source) outcome
-  pub code_is : code_text outcome ≡ code
+  pub goes : Goes [] (tokens_from editions.One 1 source) outcome
+  pub code_is : code_text editions.One outcome ≡ code
   pub line_is : fault_text outcome.stop ≡ line
 
 -- definitions beside functions
