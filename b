@@ -26,18 +26,29 @@ is_stale() { [ ! -x "$program" ] || is_behind "$program" "$top/crates"; }
 rt_in() {
     local folder=$top/crates/$1 status
     shift
-    (cd "$folder" && exec rt "$@") <&0 &
+    (cd "$folder" && exec rt "$@") <&0 9>&- &
     child=$!
+    echo "$child" >"$work/child"
     wait "$child"
     status=$?
     child=
     return "$status"
 }
 
+# Makes a folder for files of this script. Where the script is killed, rt is ended and the folder removed by another
+# process, which reads what only the script writes to.
+prepare() {
+    work=$(mktemp -d) || fail "no room for files of its own"
+    exec 9> >(
+        trap '' HUP INT TERM
+        read -r _ || { kill "$(<"$work/child")"; rm -rf "$work"; } 2>/dev/null
+    )
+}
+
 # Ends what runs below this script, and leaves no file behind. All that rt started ends with rt.
 clean() {
     [ -z "$child" ] || { kill "$child" && wait "$child"; } 2>/dev/null
-    [ -z "$work" ] || rm -rf "$work"
+    [ -z "$work" ] || { rm -rf "$work" && echo >&9 && exec 9>&-; }
     child= work=
 }
 
@@ -50,6 +61,7 @@ interrupted() {
 
 # Whether all of the input is there: a file, nothing, or a pipe that no one writes to any more. This reads none of it.
 input_is_whole() {
+    [ ! -t 0 ] || return 1
     [ -f /dev/stdin ] || [ /dev/stdin -ef /dev/null ] || python3 -c '
 import select
 pipe = select.poll()
@@ -63,8 +75,10 @@ keep_input() {
     : >"$work/input"
     [ -n "$file" ] || return 0
     if input_is_whole; then
-        cat >"$work/input"
+        cat >"$work/input" || fail "no room for the input"
         exec <"$work/input"
+        # rt takes no more than 64 MiB.
+        [ "$(wc -c <"$work/input")" -lt 67108864 ]
     else
         ! grep -q getchar -- "$file"
     fi
@@ -88,12 +102,12 @@ answer_unproved() {
     find_file "$@"
     if [ "$place" -gt 0 ]; then
         behind=", and then the proof goes on"
+        words[place - 1]=given.b
     fi
     if [ "$place" -gt 0 ] && [ -e "${!place}" ]; then
         file=$(readlink -f -- "${!place}")
         # What is no file, or has a name that the program may refuse, is left to the program.
         [[ -f $file && -r $file && ${!place} != *[!' '-~]* ]] || return 1
-        words[place - 1]=given.b
         data=(--data "given.b=$file")
     fi
     keep_input "$file" || return 1
@@ -147,7 +161,7 @@ if is_stale; then
     began=$SECONDS
     trap clean EXIT
     for signal in HUP INT TERM; do trap "interrupted $signal" "$signal"; done
-    work=$(mktemp -d) || fail "no room for files of its own"
+    prepare
     status=
     if [ -z "$prove_first" ] && [ ! -x "$program" ]; then
         answer_unproved "$@" || say "no answer without the proof"

@@ -1,17 +1,21 @@
 -- How the machine halts: with a status below 128, or with a trap that is not that of stuck code.
-use Rattle.std.proofs.Common.{◌≡◌, ◌≢◌, ℕ, zero, suc, ◌+◌, ◌<◌, List, [], ◌∷◌, length, Option, Some, None, Bool, true, false, refl, sym, subst, arith, take, drop, reverse}
+use Rattle.std.proofs.Common.{◌≡◌, ◌≢◌, ℕ, zero, suc, ◌+◌, ◌<◌, List, [], ◌∷◌, ◌++◌, length, Option, Some, None, Bool, true, false, refl, sym, ◌∙◌, subst, arith, take, drop, reverse}
 use Rattle.std.specs.Prelude.{slice_get, ◌==◌, if◌then◌else◌, nat_lt}
+use Rattle.bword.specs.ByteEnds.{Incoming, Outgoing}
 use Rattle.bword.specs.Words.{binary_of}
+use Rattle.bcode.specs.declared.definition.Definition.{Definition}
 use Rattle.bcode.specs.declared.instr.Instr.{Instr}
 use Rattle.bcode.specs.declared.instr.Instr.TheVariants as instr
 use Rattle.bmach.specs.declared.library.Library.{Library}
 use Rattle.bmach.specs.declared.library.Library.TheVariants.{Char, Lchar, Getchar, Putchar, Printn, Exit}
+use Rattle.bmach.specs.declared.outcome.Outcome.{Outcome}
 use Rattle.bmach.specs.declared.outcome.Outcome.TheVariants as outcome
 use Rattle.bmach.specs.declared.outcome.Trap.{Trap}
 use Rattle.bmach.specs.declared.outcome.Trap.TheVariants as trap
 use Rattle.bmach.specs.World.{words, World, Reply, Gives, Ends, next_byte, is_base, argument, printed, with_output, library, Ending, Exited, Trapped, Callee, NoFunction, OfLibrary, OfProgram, callee_of, refusal}
-use Rattle.bmach.specs.Machine.{Loaded, Image, Call, State, Running, Halted, Stuck, take_one, take_two, on_reply, operator_reply, label_target, at_place, returned, gone_to, called, call_of, act, act_if, step, steps, begun, started, first_world, run}
-use Rattle.bmach.specs.Runs.{outcome_of}
+use Rattle.bmach.specs.Machine.{Loaded, Image, Call, State, Running, Halted, Stuck, take_one, take_two, on_reply, operator_reply, label_target, at_place, returned, gone_to, called, call_of, act, act_if, step, steps, begun, started, first_world, image_of, run}
+use Rattle.bmach.specs.Runs.{outcome_of, RunGives}
+use Rattle.b.specs.Runs.{IsOwnStatus, machine}
 
 abbrev pub IsProper : Ending → Type 0
 IsProper (Exited n) = n < 128
@@ -151,7 +155,7 @@ no_stuck_outcome (Halted (Exited n) w) h not_stuck e = cc
 no_stuck_outcome (Halted (Trapped kind) w) h not_stuck e = let same : kind ≡ trap.Stuck = cc in h same
 no_stuck_outcome (Stuck w) h not_stuck e = not_stuck w refl
 
-pub own_status : (s : State) → HaltsProperly s → (n : ℕ) → outcome_of s ≡ outcome.Exit n → n < 128
+own_status : (s : State) → HaltsProperly s → (n : ℕ) → outcome_of s ≡ outcome.Exit n → n < 128
 own_status (Running call below w) h n e = absurd (no e)
   where
     no : outcome.Limit ≢ outcome.Exit n
@@ -164,4 +168,26 @@ own_status (Halted (Trapped kind) w) h n e = absurd (no e)
 own_status (Stuck w) h n e = absurd (no e)
   where
     no : outcome.Trap trap.Stuck ≢ outcome.Exit n
+    no e = cc
+
+-- a run that ends by itself has a status below 128
+pub gives_own_status : (ds : List Definition) (n : ℕ) (i j : Incoming) (o p : Outgoing) (result : Outcome) → RunGives (machine ds) n i j o p result → IsOwnStatus result
+gives_own_status ds n i j o p (outcome.Exit m) h k e =
+    let input = h.taken ++ [] in
+    own_status (machine ds input n) (run_proper (image_of ds) input n) k ((h.shows [] (λ over. refl)).outcome ∙ e)
+gives_own_status ds n i j o p (outcome.Trap kind) h k e = absurd (no e)
+  where
+    no : outcome.Trap kind ≢ outcome.Exit k
+    no e = cc
+gives_own_status ds n i j o p outcome.Limit h k e = absurd (no e)
+  where
+    no : outcome.Limit ≢ outcome.Exit k
+    no e = cc
+gives_own_status ds n i j o p outcome.Device h k e = absurd (no e)
+  where
+    no : outcome.Device ≢ outcome.Exit k
+    no e = cc
+gives_own_status ds n i j o p outcome.Memory h k e = absurd (no e)
+  where
+    no : outcome.Memory ≢ outcome.Exit k
     no e = cc

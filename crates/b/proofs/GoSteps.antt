@@ -20,7 +20,7 @@ use Rattle.b.specs.Runs as runs
 
 program_runs : (steps : ℕ) (ds : List Definition) (ends : Ends) (status : ℕ) → RunsDefinitions steps (map code_of ds) ends status → RunsProgram steps ds ends status
 program_runs steps ds ends status (runs.refused f n h k quiet told) = going.refused f n h k quiet told
-program_runs steps ds ends status (runs.ran outcome loads gives finish) = going.ran outcome loads (does_as_meant ds loads steps _ _ _ _ outcome gives) finish
+program_runs steps ds ends status (runs.ran outcome loads gives own finish) = going.ran outcome loads (does_as_meant ds loads steps _ _ _ _ outcome gives own) finish
 program_runs steps ds ends status (runs.no_memory some quiet silent is) = going.no_memory quiet silent is
 
 text_runs : (steps : ℕ) (text : List ℕ) (ds : List Definition) (ends : Ends) (status : ℕ) → IsCodeText text (map code_of ds) → RunsText steps text ends status → RunsProgram steps ds ends status

@@ -11,7 +11,7 @@ use Rattle.btree.specs.Code.{code_of}
 use Rattle.btree.specs.Compiled as compiled
 use Rattle.btree.specs.Compiled.{Goes, line_of}
 use Rattle.btree.specs.Definition.{Definition}
-use Rattle.bparse.specs.Compiles.{Compiles}
+use Rattle.bparse.specs.Compiles.{Run, Compiles}
 use Rattle.bparse.specs.Statuses.{status_of}
 use Rattle.bmach.specs.Machine.{State, Running, Halted, Stuck, image_of}
 use Rattle.bmach.specs.Runs as runs
@@ -188,22 +188,29 @@ no_zero : Grew 0 0 → ⊥
 no_zero (inl less) = omega arith
 no_zero (inr same) = omega (arith, same.0)
 
--- A source that isn't compiled where nothing fails has a fault.
-fault_status : (source source_behind : Incoming) (ends : Ends) (status : ℕ) (kept : Kept) → (status ≡ 0 → ⊥) → NothingFailed source source_behind ends status
-    → Compiles (record { source = source; source_behind = source_behind; code = going.no_code; code_behind = outgoing_of kept; line = ends.line; line_behind = ends.line_behind; status = status })
-    → status ≡ 1
-fault_status source source_behind ends status kept not_zero healthy h = by_status h.no_other
-  where
-    failed : (Grew source.failures source_behind.failures ⊎ Grew 0 0 ⊎ Grew ends.line.failures ends.line_behind.failures) → ⊥
-    failed (inl grew) = healthy.source_read grew
-    failed (inr (inl grew)) = no_zero grew
-    failed (inr (inr grew)) = healthy.line_written grew
+-- what compiling does to the source, the kept code and the line
+abbrev compiling : (source source_behind : Incoming) (ends : Ends) (status : ℕ) (kept : Kept) → Run
+compiling source source_behind ends status kept =
+    record { source = source; source_behind = source_behind; code = going.no_code; code_behind = outgoing_of kept; line = ends.line; line_behind = ends.line_behind; status = status }
 
-    by_status : ((status ≡ 0) ⊎ (status ≡ 1) ⊎ (status ≡ 133) ⊎ (status ≡ 134)) → status ≡ 1
-    by_status (inl zero_is) = absurd (not_zero zero_is)
-    by_status (inr (inl one)) = one
-    by_status (inr (inr (inl device))) = absurd (failed (h.failed device).0)
-    by_status (inr (inr (inr memory))) = absurd (healthy.not_refused memory)
+-- A source that isn't compiled where nothing fails has a fault.
+module _ (source source_behind : Incoming) (ends : Ends) (status : ℕ) (healthy : NothingFailed source source_behind ends status) (kept : Kept) where
+  not_device : Compiles (compiling source source_behind ends status kept) → status ≡ 133 → ⊥
+  not_device h device = by_end (h.failed device).0
+    where
+      by_end : (Grew source.failures source_behind.failures ⊎ Grew 0 0 ⊎ Grew ends.line.failures ends.line_behind.failures) → ⊥
+      by_end (inl grew) = healthy.source_read grew
+      by_end (inr (inl grew)) = no_zero grew
+      by_end (inr (inr grew)) = healthy.line_written grew
+
+  fault_status : Compiles (compiling source source_behind ends status kept) → (status ≡ 0 → ⊥) → status ≡ 1
+  fault_status h not_zero = by_status h.no_other
+    where
+      by_status : ((status ≡ 0) ⊎ (status ≡ 1) ⊎ (status ≡ 133) ⊎ (status ≡ 134)) → status ≡ 1
+      by_status (inl none) = absurd (not_zero none)
+      by_status (inr (inl one)) = one
+      by_status (inr (inr (inl device))) = absurd (not_device h device)
+      by_status (inr (inr (inr memory))) = absurd (healthy.not_refused memory)
 
 other_stop : {A : Type 0} (stop : Option Diagnostic) (fault : Diagnostic) → stop ≡ None → stop ≡ Some fault → A
 other_stop stop fault e f = absurd (no (sym e ∙ f))
@@ -248,7 +255,7 @@ program_answers r ds input steps source source_behind ends status told healthy c
 
 pub headline : (steps : ℕ) (source source_behind : Incoming) (ends : Ends) (status : ℕ) → GoesOff steps source source_behind ends status → Headline steps source source_behind ends status
 headline steps source source_behind ends status (going.stopped kept not_zero quiet h) text input tells told healthy r g =
-    let one = fault_status source source_behind ends status kept not_zero healthy h in
+    let one = fault_status source source_behind ends status healthy kept h not_zero in
     let rest = rest_of source source_behind h.taken text h.took tells in
     let f = h.faulty one rest.more rest.follows r (subst (λ t. Goes [] (tokens_from editions.One 1 t) r) (sym rest.whole) g) in
     record {

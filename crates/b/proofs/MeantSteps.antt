@@ -1,5 +1,5 @@
 -- A run does what its program means.
-use Rattle.std.proofs.Common.{◌≡◌, ◌≢◌, ℕ, zero, suc, ◌+◌, ◌-◌, ◌<◌, ◌≤◌, List, [], ◌∷◌, ◌++◌, map, Some, None, refl, sym, ap, ◌∙◌, subst, arith, append-nil, ◌⊎◌, inl, inr, ⊎_elim}
+use Rattle.std.proofs.Common.{◌≡◌, ◌≢◌, ℕ, zero, suc, ◌+◌, ◌-◌, ◌≤◌, List, [], ◌∷◌, ◌++◌, map, Some, None, refl, sym, ap, ◌∙◌, subst, arith, append-nil, ◌⊎◌, inl, inr, ⊎_elim}
 use Rattle.bword.specs.ByteEnds.{Incoming, Outgoing}
 use Rattle.btree.specs.Code.{code_of}
 use Rattle.btree.specs.Definition.{Definition}
@@ -15,9 +15,9 @@ use Rattle.bmean.specs.Answer.{Ends}
 use Rattle.bmean.specs.Laws.{Loads, meant, world_of, IsBeginningOf}
 use Rattle.bmean.proofs.LawProofs.{code_agrees}
 use Rattle.bmean.proofs.Whole.{Agree}
-use Rattle.b.specs.Runs.{machine}
+use Rattle.b.specs.Runs.{IsOwnStatus, machine}
 use Rattle.b.specs.Meant.{Meets, EndsSo, GoesOn, BreaksOff, RunsAsMeant, DoesAsMeant}
-use Rattle.b.proofs.Endings.{HaltsProperly, run_proper, no_stuck_outcome, own_status}
+use Rattle.b.proofs.Endings.{HaltsProperly, run_proper, no_stuck_outcome}
 
 -- what halted stays so
 steps-Halted : (image : Image) (n : ℕ) (e : Ending) (w : World) → steps image n (Halted e w) ≡ Halted e w
@@ -151,26 +151,9 @@ module _ (ds : List Definition) (loads : Loads ds) (n : ℕ) (i j : Incoming) (o
       let at = state_of (outcome.Trap kind) h in
       no_stuck_outcome (states at.0 n) (proper at.0) (λ w. (code_agrees ds loads at.0).never_stuck n w) (at.1 ∙ e)
 
-  below_128 : (status : ℕ) → Comes states n i j o p (outcome.Exit status) → (m : ℕ) → outcome.Exit status ≡ outcome.Exit m → m < 128
-  below_128 status h m e =
-      let at = state_of (outcome.Exit status) h in
-      own_status (states at.0 n) (proper at.0) m (at.1 ∙ e)
-
-  pub does_as_meant : (result : Outcome) → RunGives states n i j o p result → DoesAsMeant ds n i j o p result
-  does_as_meant (outcome.Exit status) h = record { made = h; meant = runs_as_meant (outcome.Exit status) h; not_stuck = λ e. cc; own_status = below_128 status h }
-  does_as_meant (outcome.Trap kind) h = record { made = h; meant = runs_as_meant (outcome.Trap kind) h; not_stuck = not_stuck kind h; own_status = λ m e. absurd (no_exit e) }
-    where
-      no_exit : {m : ℕ} → outcome.Trap kind ≢ outcome.Exit m
-      no_exit e = cc
-  does_as_meant outcome.Limit h = record { made = h; meant = runs_as_meant outcome.Limit h; not_stuck = λ e. cc; own_status = λ m e. absurd (no_limit e) }
-    where
-      no_limit : {m : ℕ} → outcome.Limit ≢ outcome.Exit m
-      no_limit e = cc
-  does_as_meant outcome.Device h = record { made = h; meant = runs_as_meant outcome.Device h; not_stuck = λ e. cc; own_status = λ m e. absurd (no_device e) }
-    where
-      no_device : {m : ℕ} → outcome.Device ≢ outcome.Exit m
-      no_device e = cc
-  does_as_meant outcome.Memory h = record { made = h; meant = runs_as_meant outcome.Memory h; not_stuck = λ e. cc; own_status = λ m e. absurd (no_memory e) }
-    where
-      no_memory : {m : ℕ} → outcome.Memory ≢ outcome.Exit m
-      no_memory e = cc
+  pub does_as_meant : (result : Outcome) → RunGives states n i j o p result → IsOwnStatus result → DoesAsMeant ds n i j o p result
+  does_as_meant (outcome.Exit status) h own = record { made = h; meant = runs_as_meant (outcome.Exit status) h; not_stuck = λ e. cc; own_status = own }
+  does_as_meant (outcome.Trap kind) h own = record { made = h; meant = runs_as_meant (outcome.Trap kind) h; not_stuck = not_stuck kind h; own_status = own }
+  does_as_meant outcome.Limit h own = record { made = h; meant = runs_as_meant outcome.Limit h; not_stuck = λ e. cc; own_status = own }
+  does_as_meant outcome.Device h own = record { made = h; meant = runs_as_meant outcome.Device h; not_stuck = λ e. cc; own_status = own }
+  does_as_meant outcome.Memory h own = record { made = h; meant = runs_as_meant outcome.Memory h; not_stuck = λ e. cc; own_status = own }

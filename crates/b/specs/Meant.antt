@@ -1,5 +1,5 @@
 -- What a run has to do with the meaning of its program.
-use Rattle.std.specs.Prelude.{◌≡◌, ◌≢◌, ℕ, ◌+◌, ◌<◌, ◌≤◌, List, ◌++◌, map}
+use Rattle.std.specs.Prelude.{◌≡◌, ◌≢◌, ℕ, ◌+◌, ◌≤◌, List, ◌++◌, map}
 use Rattle.bword.specs.ByteEnds.{Incoming, Outgoing, Took, Writes}
 use Rattle.btree.specs.Code.{code_of}
 use Rattle.btree.specs.Definition.{Definition}
@@ -11,7 +11,7 @@ use Rattle.bmach.specs.declared.outcome.Outcome.TheVariants as outcome
 use Rattle.bmach.specs.declared.outcome.Trap.TheVariants as trap
 use Rattle.bmean.specs.Answer.{Answer, Ends}
 use Rattle.bmean.specs.Laws.{meant, world_of, IsBeginningOf}
-use Rattle.b.specs.Runs.{machine}
+use Rattle.b.specs.Runs.{IsOwnStatus, machine}
 
 -- The program ends, with this outcome, this input left and this output.
 pub record Meets (result : Outcome) (left output : List ℕ) (answer : Answer ⊥) : Type 0 where
@@ -72,4 +72,4 @@ pub record DoesAsMeant (ds : List Definition) (steps : ℕ) (i j : Incoming) (o 
   pub made : RunGives (machine (map code_of ds)) steps i j o p result
   pub meant : RunsAsMeant ds steps i j o p result
   pub not_stuck : result ≢ outcome.Trap trap.Stuck
-  pub own_status : (n : ℕ) → result ≡ outcome.Exit n → n < 128
+  pub own_status : IsOwnStatus result

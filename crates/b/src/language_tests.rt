@@ -259,6 +259,13 @@ out: return(9);
 }
 ~00116-13012591b\"31abcd
 @
+main() {
+    auto x, y;
+    x = 6; y = 3;
+    x=*y; printn(x, 10); putchar(' ');
+    x=&y; printn(x, 10);
+}
+~18 2@
 int x;
 x 5;
 main() { extrn int, x; printn(int == &x, 10); }

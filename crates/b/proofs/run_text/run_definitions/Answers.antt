@@ -1,5 +1,6 @@
 use Rattle.std.proofs.Common.{sym, ◌∙◌, refl}
 use Rattle.b.specs.Runs.{refused, ran}
+use Rattle.b.proofs.Endings.{gives_own_status}
 use Rattle.b.proofs.RunSteps.{first_fault, run_of_loaded}
 use Rattle.b.proofs.run_text.run_definitions.Goals as goal
 
@@ -10,4 +11,5 @@ returns-in-Some-clause-runs g c =
 
 pub returns-clause-runs : goal.returns-clause-runs
 returns-clause-runs g c =
-    ran c.run-outcome.result c.in-Ok.ensures.loads (run_of_loaded c.args.definitions.items c.in-Ok.image c.in-Ok.ensures.ok c.args.steps _ _ _ _ c.run-outcome.result c.run-outcome.ensures.gives) c.finish.ensures.gives
+    let gives = run_of_loaded c.args.definitions.items c.in-Ok.image c.in-Ok.ensures.ok c.args.steps _ _ _ _ c.run-outcome.result c.run-outcome.ensures.gives in
+    ran c.run-outcome.result c.in-Ok.ensures.loads gives (gives_own_status _ _ _ _ _ _ c.run-outcome.result gives) c.finish.ensures.gives
