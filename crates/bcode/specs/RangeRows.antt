@@ -1,6 +1,7 @@
 -- The ranges of a code text: each at its limit, and one past it.
 use Rattle.std.specs.Prelude.{◌≡◌, ℕ, ◌<◌, ◌≤◌, List, [], ◌∷◌, length, replicate, All, codes, refl}
-use Rattle.std.proofs.Common.{arith, length-replicate}
+use Rattle.std.proofs.Common.{arith}
+use Rattle.std.proofs.lemmas.List.{length-replicate}
 use Rattle.std.proofs.lemmas.List.Elements.{All-replicate, All-head}
 use Rattle.bcode.specs.Definitions.{Function, Simple, Vector, IsWord, IsInstrWithin, IsIvalWithin, IsFunctionWithinRanges, IsSimpleWithinRanges, IsVectorWithinRanges, sizes_of}
 use Rattle.bcode.specs.declared.header.Sizes.{Sizes}
