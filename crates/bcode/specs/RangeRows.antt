@@ -2,7 +2,7 @@
 use Rattle.std.specs.Prelude.{◌≡◌, ℕ, ◌<◌, ◌≤◌, List, [], ◌∷◌, length, replicate, All, codes, refl}
 use Rattle.std.proofs.Common.{arith}
 use Rattle.std.proofs.lemmas.List.{length-replicate}
-use Rattle.std.proofs.lemmas.List.Elements.{All-replicate, All-head}
+use Rattle.std.proofs.lemmas.List.Elements.{All-nil, All-replicate, All-head}
 use Rattle.bcode.specs.Definitions.{Function, Simple, Vector, IsWord, IsInstrWithin, IsIvalWithin, IsFunctionWithinRanges, IsSimpleWithinRanges, IsVectorWithinRanges, sizes_of}
 use Rattle.bcode.specs.declared.header.Sizes.{Sizes}
 use Rattle.bcode.specs.declared.instr.Instr.{Instr}
@@ -22,7 +22,11 @@ function parameters frame labels target strings code = record {
 }
 
 abbrev simple : ℕ → ℕ → Simple
-simple values strings = record { name = codes "s"; values = replicate values (ival.Number 65535); strings = replicate strings 65535 }
+simple values strings = record {
+  name = codes "s";
+  values = replicate values (ival.Number 65535);
+  strings = replicate strings 65535;
+}
 
 abbrev vector : ℕ → ℕ → ℕ → Vector
 vector words values strings = record {
@@ -47,10 +51,11 @@ greatest_function = record {
   few_parameters = omega arith;
   parameters_in_frame = omega arith;
   frame = omega arith;
-  few_labels = at_most 128 128 4095 (omega arith);
-  few_strings = at_most 1024 1024 65535 (omega arith);
+  few_labels = at_most {X = ℕ} 128 128 4095 (omega arith);
+  few_strings = at_most {X = ℕ} 1024 1024 65535 (omega arith);
   few_instrs = at_most 4096 4096 instr.Pop (omega arith);
-  targets = All-replicate (λ t. t < length (replicate 4096 instr.Pop)) 128 4095 (below 4095 4096 instr.Pop (omega arith));
+  targets =
+      All-replicate (λ t. t < length (replicate 4096 instr.Pop)) 128 4095 (below 4095 4096 instr.Pop (omega arith));
   strings = All-replicate IsWord 1024 65535 (omega arith);
   code = All-replicate (IsInstrWithin (sizes_of (function 128 32767 128 4095 1024 4096))) 4096 instr.Pop tt;
 }
@@ -62,10 +67,10 @@ least_code = record {
   few_parameters = omega arith;
   parameters_in_frame = omega arith;
   frame = omega arith;
-  few_labels = at_most 0 128 0 (omega arith);
-  few_strings = at_most 0 1024 65535 (omega arith);
+  few_labels = at_most {X = ℕ} 0 128 0 (omega arith);
+  few_strings = at_most {X = ℕ} 0 1024 65535 (omega arith);
   few_instrs = at_most 0 4096 instr.Pop (omega arith);
-  targets = All-replicate (λ t. t < length (replicate 0 instr.Pop)) 0 0 (omega arith);
+  targets = All-nil (λ t. t < length (replicate 0 instr.Pop));
   strings = All-replicate IsWord 0 65535 (omega arith);
   code = All-replicate (IsInstrWithin (sizes_of (function 5 5 0 0 0 0))) 0 instr.Pop tt;
 }
@@ -80,10 +85,10 @@ frame_too_large : IsFunctionWithinRanges (function 0 32768 0 0 0 0) → ⊥
 frame_too_large w = let small = w.frame in omega arith
 
 label_too_many : IsFunctionWithinRanges (function 0 0 129 0 0 1) → ⊥
-label_too_many w = above 129 128 0 (omega arith) w.few_labels
+label_too_many w = above {X = ℕ} 129 128 0 (omega arith) w.few_labels
 
 string_word_too_many : IsFunctionWithinRanges (function 0 0 0 0 1025 0) → ⊥
-string_word_too_many w = above 1025 1024 65535 (omega arith) w.few_strings
+string_word_too_many w = above {X = ℕ} 1025 1024 65535 (omega arith) w.few_strings
 
 instruction_too_many : IsFunctionWithinRanges (function 0 0 0 0 0 4097) → ⊥
 instruction_too_many w = above 4097 4096 instr.Pop (omega arith) w.few_instrs
@@ -102,8 +107,8 @@ greatest_simple : IsSimpleWithinRanges (simple 1024 1024)
 greatest_simple = record {
   named = refl;
   few_values = at_most 1024 1024 (ival.Number 65535) (omega arith);
-  few_strings = at_most 1024 1024 65535 (omega arith);
-  values = All-replicate (IsIvalWithin (length (replicate 1024 65535))) 1024 (ival.Number 65535) (omega arith);
+  few_strings = at_most {X = ℕ} 1024 1024 65535 (omega arith);
+  values = All-replicate (IsIvalWithin (length {A = ℕ} (replicate 1024 65535))) 1024 (ival.Number 65535) (omega arith);
   strings = All-replicate IsWord 1024 65535 (omega arith);
 }
 
@@ -111,7 +116,7 @@ value_too_many : IsSimpleWithinRanges (simple 1025 0) → ⊥
 value_too_many w = above 1025 1024 (ival.Number 65535) (omega arith) w.few_values
 
 word_of_a_simple_too_many : IsSimpleWithinRanges (simple 0 1025) → ⊥
-word_of_a_simple_too_many w = above 1025 1024 65535 (omega arith) w.few_strings
+word_of_a_simple_too_many w = above {X = ℕ} 1025 1024 65535 (omega arith) w.few_strings
 
 greatest_vector : IsVectorWithinRanges (vector 32767 1024 1024)
 greatest_vector = record {
@@ -120,8 +125,8 @@ greatest_vector = record {
   values_in_words = at_most 1024 32767 (ival.Number 65535) (omega arith);
   few_words = omega arith;
   few_values = at_most 1024 1024 (ival.Number 65535) (omega arith);
-  few_strings = at_most 1024 1024 65535 (omega arith);
-  values = All-replicate (IsIvalWithin (length (replicate 1024 65535))) 1024 (ival.Number 65535) (omega arith);
+  few_strings = at_most {X = ℕ} 1024 1024 65535 (omega arith);
+  values = All-replicate (IsIvalWithin (length {A = ℕ} (replicate 1024 65535))) 1024 (ival.Number 65535) (omega arith);
   strings = All-replicate IsWord 1024 65535 (omega arith);
 }
 
@@ -133,8 +138,8 @@ least_vector = record {
   values_in_words = at_most 1 1 (ival.Number 65535) (omega arith);
   few_words = omega arith;
   few_values = at_most 1 1024 (ival.Number 65535) (omega arith);
-  few_strings = at_most 0 1024 65535 (omega arith);
-  values = All-replicate (IsIvalWithin (length (replicate 0 65535))) 1 (ival.Number 65535) (omega arith);
+  few_strings = at_most {X = ℕ} 0 1024 65535 (omega arith);
+  values = All-replicate (IsIvalWithin (length {A = ℕ} (replicate 0 65535))) 1 (ival.Number 65535) (omega arith);
   strings = All-replicate IsWord 0 65535 (omega arith);
 }
 
@@ -151,7 +156,7 @@ value_of_a_vector_too_many : IsVectorWithinRanges (vector 32767 1025 0) → ⊥
 value_of_a_vector_too_many w = above 1025 1024 (ival.Number 65535) (omega arith) w.few_values
 
 word_of_a_vector_too_many : IsVectorWithinRanges (vector 1 0 1025) → ⊥
-word_of_a_vector_too_many w = above 1025 1024 65535 (omega arith) w.few_strings
+word_of_a_vector_too_many w = above {X = ℕ} 1025 1024 65535 (omega arith) w.few_strings
 
 -- The greatest operand of each instruction and the next one, in a function of these sizes.
 abbrev sizes : Sizes
