@@ -140,7 +140,7 @@ fn strings_have_a_room(rt: HostRuntime) {
         assert_eq!(rt; buffer.text(text), offset);
     }
     assert_eq!(rt; buffer.strings().len(), 1024);
-    assert_eq!(rt; buffer.strings()[..4], [26984, 4, 4, 1144]);
+    assert_eq!(rt; &buffer.strings()[..4], [26984, 4, 4, 1144].as_slice());
 }
 
 #[test]
