@@ -164,7 +164,7 @@ if is_stale; then
     prepare
     status=
     if [ -z "$prove_first" ] && [ ! -x "$program" ]; then
-        answer_unproved "$@" || say "no answer without the proof"
+        answer_unproved "$@" || say "only the proved program can answer this"
     fi
     build
     clean

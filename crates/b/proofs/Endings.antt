@@ -1,5 +1,5 @@
 -- How the machine halts: with a status below 128, or with a trap that is not that of stuck code.
-use Rattle.std.proofs.Common.{◌≡◌, ◌≢◌, ℕ, zero, suc, ◌+◌, ◌<◌, List, [], ◌∷◌, ◌++◌, length, Option, Some, None, Bool, true, false, refl, sym, ◌∙◌, subst, arith, take, drop, reverse}
+use Rattle.std.proofs.Common.{◌≡◌, ◌≢◌, ℕ, zero, suc, ◌+◌, ◌<◌, List, [], ◌∷◌, ◌++◌, length, Option, Some, None, Bool, true, false, refl, ◌∙◌, subst, arith, take, drop, reverse}
 use Rattle.std.specs.Prelude.{slice_get, ◌==◌, if◌then◌else◌, nat_lt}
 use Rattle.bword.specs.ByteEnds.{Incoming, Outgoing}
 use Rattle.bword.specs.Words.{binary_of}
@@ -12,7 +12,7 @@ use Rattle.bmach.specs.declared.outcome.Outcome.{Outcome}
 use Rattle.bmach.specs.declared.outcome.Outcome.TheVariants as outcome
 use Rattle.bmach.specs.declared.outcome.Trap.{Trap}
 use Rattle.bmach.specs.declared.outcome.Trap.TheVariants as trap
-use Rattle.bmach.specs.World.{words, World, Reply, Gives, Ends, next_byte, is_base, argument, printed, with_output, library, Ending, Exited, Trapped, Callee, NoFunction, OfLibrary, OfProgram, callee_of, refusal}
+use Rattle.bmach.specs.World.{words, World, Reply, Gives, Ends, next_byte, is_base, argument, library, Ending, Exited, Trapped, Callee, NoFunction, OfLibrary, OfProgram, callee_of, refusal}
 use Rattle.bmach.specs.Machine.{Loaded, Image, Call, State, Running, Halted, Stuck, take_one, take_two, on_reply, operator_reply, label_target, at_place, returned, gone_to, called, call_of, act, act_if, step, steps, begun, started, first_world, image_of, run}
 use Rattle.bmach.specs.Runs.{outcome_of, RunGives}
 use Rattle.b.specs.Runs.{IsOwnStatus, machine}

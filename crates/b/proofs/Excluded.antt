@@ -1,21 +1,28 @@
 -- Answers that the contract of `go` excludes, whatever is proved of the body that gives them.
-use Rattle.std.proofs.Common.{◌≡◌, ℕ, zero, suc, ◌+◌, ◌<◌, ◌≤◌, List, [], ◌∷◌, ◌++◌, map, codes, Some, None, refl, sym, ap, ◌∙◌, subst, arith, ⊎_elim}
+use Rattle.std.proofs.Common.{◌≡◌, ℕ, ◌<◌, ◌≤◌, List, [], ◌∷◌, map, codes, Some, None, refl, sym, ap, ◌∙◌, subst, arith, ◌⊎◌, inl, inr, ⊎_elim}
 use Rattle.std.specs.Io.KnownBytes.{Appends}
-use Rattle.bword.specs.ByteEnds.{Incoming, Outgoing}
+use Rattle.bword.specs.ByteEnds.{Incoming, Outgoing, Grew, Refuses}
+use Rattle.bword.specs.declared.byte_out.EndFault.{EndFault}
+use Rattle.bword.specs.declared.byte_out.EndFault.TheVariants as end_fault
 use Rattle.btree.specs.Code.{code_of}
-use Rattle.btree.specs.Compiled as compiled
 use Rattle.btree.specs.Definition.{Definition}
-use Rattle.btree.specs.Expression.{Word, Number, Expr, Named, Literal, Called, No_arguments, Another}
+use Rattle.btree.specs.Expression.{Number, Named, Literal, Called, No_arguments, Another}
 use Rattle.btree.specs.Statement.{Evaluate, Compound, Stmts, Nothing, More}
 use Rattle.bmach.specs.Machine.{State, Halted, image_of}
 use Rattle.bmach.specs.Runs as runs
 use Rattle.bmach.specs.Runs.{outcome_of}
 use Rattle.bmach.specs.World.{World, Ending, Exited, Trapped}
+use Rattle.bmach.specs.declared.outcome.Outcome.{Outcome}
 use Rattle.bmach.specs.declared.outcome.Outcome.TheVariants as outcome
 use Rattle.bmean.specs.Laws.{Loads}
+use Rattle.bparse.specs.Statuses.{status_of}
 use Rattle.b.specs.Going.{RunsProgram}
+use Rattle.b.specs.Going as going
+use Rattle.b.specs.Meant.{DoesAsMeant}
+use Rattle.b.specs.Reports.{Reported, report_text}
+use Rattle.b.specs.declared.report.Report.TheVariants as report
 use Rattle.b.specs.Headline.{Tells, NothingFailed, RunAnswers}
-use Rattle.b.specs.Runs.{Ends, machine}
+use Rattle.b.specs.Runs.{Ends, Finishes, machine}
 use Rattle.b.proofs.HeadlineSteps.{program_answers}
 use Rattle.b.proofs.MeantSteps.{halted_later}
 
@@ -82,3 +89,29 @@ module _ (source source_behind : Incoming) (ends : Ends) (status : ℕ) (told : 
       let none : [] ≡ limit.world.output = nothing_written ends.out ends.out_behind limit.world.output before behind limit.says.written.appended in
       let bad : codes "a" ≡ [] = a ∙ sym none in
       cc
+
+told_device : (line : List ℕ) (answer : ℕ) (o p : Outgoing) (status : ℕ) → answer < 133 → Reported line answer o p status → status ≡ 133 → Grew o.failures p.failures
+told_device line answer o p status less (inl told) is = let same : answer ≡ 133 = sym told.1 ∙ is in absurd (omega (arith, less, same))
+told_device line answer o p status less (inr r) is = by_kind r.fault r.refuses r.status
+  where
+    by_kind : (fault : EndFault) → Refuses o line fault p → status ≡ status_of fault → Grew o.failures p.failures
+    by_kind end_fault.Device h s = h.counted.0
+    by_kind end_fault.Memory h s = let bad : 133 ≡ 134 = sym is ∙ s in absurd (omega (arith, bad))
+
+-- A run has the status 133 only where a read of its input, or a write of its output or of its line failed.
+abbrev AnyFailed : Ends → Type 0
+AnyFailed ends =
+    Grew ends.input.failures ends.input_behind.failures ⊎ Grew ends.out.failures ends.out_behind.failures ⊎ Grew ends.line.failures ends.line_behind.failures
+
+finished : (steps : ℕ) (ds : List Definition) (ends : Ends) (status : ℕ) (result : Outcome) → DoesAsMeant ds steps ends.input ends.input_behind ends.out ends.out_behind result
+    → Finishes result ends.line ends.line_behind status → status ≡ 133 → AnyFailed ends
+finished steps ds ends status (outcome.Exit n) h f is = let own = h.own_status n refl in let same : n ≡ 133 = sym f.1 ∙ is in absurd (omega (arith, own, same))
+finished steps ds ends status (outcome.Trap kind) h f is = inr (inr (told_device (report_text (report.Trap kind)) 130 ends.line ends.line_behind status (omega arith) f is))
+finished steps ds ends status outcome.Limit h f is = inr (inr (told_device (report_text report.Limit) 131 ends.line ends.line_behind status (omega arith) f is))
+finished steps ds ends status outcome.Device h f is = ⊎_elim inl (λ o. inr (inl o)) h.made.reason
+finished steps ds ends status outcome.Memory h f is = let bad : 134 ≡ 133 = sym f.1 ∙ is in absurd (omega (arith, bad))
+
+pub only_failed : (steps : ℕ) (ds : List Definition) (ends : Ends) (status : ℕ) → RunsProgram steps ds ends status → status ≡ 133 → AnyFailed ends
+only_failed steps ds ends status (going.refused f n load number quiet line) is = inr (inr (told_device (report_text (report.Load n)) 132 ends.line ends.line_behind status (omega arith) line is))
+only_failed steps ds ends status (going.ran result loads does finish) is = finished steps ds ends status result does finish is
+only_failed steps ds ends status (going.no_memory quiet silent s) is = let bad : 134 ≡ 133 = sym s ∙ is in absurd (omega (arith, bad))

@@ -1,14 +1,11 @@
 -- A source that compiles is run as its program.
-use Rattle.std.proofs.Common.{◌≡◌, ℕ, List, [], ◌∷◌, ◌++◌, map, Some, None, refl, sym, ap, ◌∙◌, subst}
+use Rattle.std.proofs.Common.{◌≡◌, ℕ, List, [], ◌++◌, map, refl, sym, subst}
 use Rattle.bword.specs.declared.edition.Edition.TheVariants as editions
-use Rattle.std.specs.Io.KnownBytes.{Appends}
 use Rattle.bword.specs.ByteEnds.{Incoming, Outgoing, Kept, Writes, outgoing_of}
-use Rattle.blex.specs.Tokens.{tokens_from}
 use Rattle.bcode.specs.Text.{IsCodeText}
 use Rattle.bcode.proofs.FaultLaws.{unique_code}
 use Rattle.btree.specs.Code.{code_of}
-use Rattle.btree.specs.Compiled as compiled
-use Rattle.btree.specs.Compiled.{Goes, code_text}
+use Rattle.btree.specs.Compiled.{code_text}
 use Rattle.btree.specs.Definition.{Definition}
 use Rattle.bback.proofs.ReadingBack.{reads_back}
 use Rattle.bparse.specs.Compiles.{Compiles}

@@ -1,5 +1,5 @@
 -- Where nothing fails, what is said of a run is what its source and its input come to.
-use Rattle.std.proofs.Common.{◌≡◌, ◌≢◌, ℕ, zero, suc, ◌+◌, ◌<◌, ◌≤◌, List, [], ◌∷◌, ◌++◌, map, Bool, true, false, Option, Some, None, refl, sym, ap, ◌∙◌, subst, arith, append-nil, ◌⊎◌, inl, inr, ⊎_elim}
+use Rattle.std.proofs.Common.{◌≡◌, ◌≢◌, ℕ, ◌+◌, ◌≤◌, List, [], ◌∷◌, ◌++◌, map, Bool, true, false, Option, Some, None, refl, sym, ap, ◌∙◌, subst, arith, append-nil, ◌⊎◌, inl, inr, ⊎_elim}
 use Rattle.bword.specs.declared.edition.Edition.TheVariants as editions
 use Rattle.std.specs.Io.KnownBytes.{Appends, Consumes}
 use Rattle.bword.specs.ByteEnds.{Incoming, Outgoing, Kept, Grew, Took, Writes, Refuses, CanFollow, outgoing_of}
@@ -20,13 +20,12 @@ use Rattle.bmach.specs.World.{World, Ending, Exited, Trapped}
 use Rattle.bmach.specs.declared.fault.LoadFault.{LoadFault}
 use Rattle.bmach.specs.declared.outcome.Outcome.{Outcome}
 use Rattle.bmach.specs.declared.outcome.Outcome.TheVariants as outcome
-use Rattle.bmach.specs.declared.outcome.Trap.TheVariants as trap
 use Rattle.bmean.specs.Laws.{Loads}
 use Rattle.bmean.proofs.LawProofs.{code_agrees}
 use Rattle.b.specs.Going.{RunsProgram, RunsSource, GoesOff}
 use Rattle.b.specs.Going as going
 use Rattle.b.specs.Headline.{Tells, NothingFailed, Says, line_at, status_at, IsEnd, IsLimit, RunAnswers, GoAnswers, Headline}
-use Rattle.b.specs.Reports.{Reported, Refused, report_text, load_number}
+use Rattle.b.specs.Reports.{Reported, report_text, load_number}
 use Rattle.b.specs.Runs.{Ends, Finishes, HasNotRun, machine}
 use Rattle.b.specs.declared.report.Report.TheVariants as report
 use Rattle.b.proofs.MeantSteps.{halted_later}

@@ -1,5 +1,5 @@
 -- A run does what its program means.
-use Rattle.std.proofs.Common.{◌≡◌, ◌≢◌, ℕ, zero, suc, ◌+◌, ◌-◌, ◌≤◌, List, [], ◌∷◌, ◌++◌, map, Some, None, refl, sym, ap, ◌∙◌, subst, arith, append-nil, ◌⊎◌, inl, inr, ⊎_elim}
+use Rattle.std.proofs.Common.{◌≡◌, ◌≢◌, ℕ, zero, suc, ◌+◌, ◌-◌, ◌≤◌, List, [], ◌++◌, map, refl, sym, ap, ◌∙◌, subst, arith, append-nil}
 use Rattle.bword.specs.ByteEnds.{Incoming, Outgoing}
 use Rattle.btree.specs.Code.{code_of}
 use Rattle.btree.specs.Definition.{Definition}
@@ -11,12 +11,10 @@ use Rattle.bmach.specs.declared.outcome.Outcome.{Outcome}
 use Rattle.bmach.specs.declared.outcome.Outcome.TheVariants as outcome
 use Rattle.bmach.specs.declared.outcome.Trap.{Trap}
 use Rattle.bmach.specs.declared.outcome.Trap.TheVariants as trap
-use Rattle.bmean.specs.Answer.{Ends}
 use Rattle.bmean.specs.Laws.{Loads, meant, world_of, IsBeginningOf}
 use Rattle.bmean.proofs.LawProofs.{code_agrees}
-use Rattle.bmean.proofs.Whole.{Agree}
 use Rattle.b.specs.Runs.{IsOwnStatus, machine}
-use Rattle.b.specs.Meant.{Meets, EndsSo, GoesOn, BreaksOff, RunsAsMeant, DoesAsMeant}
+use Rattle.b.specs.Meant.{EndsSo, GoesOn, BreaksOff, RunsAsMeant, DoesAsMeant}
 use Rattle.b.proofs.Endings.{HaltsProperly, run_proper, no_stuck_outcome}
 
 -- what halted stays so

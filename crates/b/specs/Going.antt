@@ -23,7 +23,8 @@ use Rattle.b.specs.Runs.{Ends, HasNotRun, NotLoaded, Finishes}
 pub data RunsProgram (steps : ℕ) (ds : List Definition) (ends : Ends) (status : ℕ) : Type 0 where
   refused : (f : LoadFault) (n : ℕ) → load_fault (map code_of ds) ≡ Some f → load_number f ≡ Some n → HasNotRun ends
       → NotLoaded n ends.line ends.line_behind status → RunsProgram steps ds ends status
-  ran : (outcome : Outcome) → Loads ds → DoesAsMeant ds steps ends.input ends.input_behind ends.out ends.out_behind outcome
+  ran : (outcome : Outcome) → Loads ds
+      → DoesAsMeant ds steps ends.input ends.input_behind ends.out ends.out_behind outcome
       → Finishes outcome ends.line ends.line_behind status → RunsProgram steps ds ends status
   no_memory : HasNotRun ends → ends.line_behind ≡ ends.line → status ≡ MEMORY → RunsProgram steps ds ends status
 
@@ -36,10 +37,11 @@ pub record RunsSource (steps : ℕ) (source source_behind : Incoming) (ends : En
   pub taken : List ℕ
   pub took : Took source taken source_behind
   pub runs : (more : List ℕ) → CanFollow source_behind more
-      → (r : compiled.Outcome) → (g : Goes [] (tokens_from editions.One 1 (taken ++ more)) r) → (r.stop ≡ None) × RunsProgram steps g.definitions ends status
+      → (r : compiled.Outcome) → (g : Goes [] (tokens_from editions.One 1 (taken ++ more)) r)
+      → (r.stop ≡ None) × RunsProgram steps g.definitions ends status
 
--- A source that isn't compiled, for a fault or a failure, is not run. The code is kept in memory, which never fails as a
--- device.
+-- A source that isn't compiled, for a fault or a failure, is not run. The code is kept in memory, which fails for want of
+-- memory alone.
 pub data GoesOff (steps : ℕ) (source source_behind : Incoming) (ends : Ends) (status : ℕ) : Type 0 where
   stopped : (kept : Kept) → (status ≡ DONE → ⊥) → HasNotRun ends
       → Compiles (record {

@@ -1,7 +1,7 @@
 -- What comes of a source and an input where nothing fails: the whole promise of `go`, over ends that tell their bytes.
 use Rattle.std.specs.Prelude.{◌≡◌, ◌≢◌, ℕ, ◌+◌, ◌≤◌, List, [], map, Some, None}
 use Rattle.bword.specs.declared.edition.Edition.TheVariants as editions
-use Rattle.bword.specs.ByteEnds.{Incoming, Outgoing, Grew, Writes, CanFollow}
+use Rattle.bword.specs.ByteEnds.{Incoming, Grew, Writes, CanFollow}
 use Rattle.blex.specs.Tokens.{tokens_from}
 use Rattle.blex.specs.declared.diagnostic.Diagnostic.{Diagnostic}
 use Rattle.btree.specs.Code.{code_of}
@@ -74,7 +74,8 @@ pub record RunAnswers (ds : List Definition) (input : List ℕ) (steps : ℕ) (e
   pub endless : ((n : ℕ) → (w : World) × (meant ds input n ≡ Wants w)) → IsLimit ds input steps ends status
 
 -- A source with a fault gets its line, and so does code that doesn't load. Any other program is run.
-pub record GoAnswers (r : compiled.Outcome) (ds : List Definition) (input : List ℕ) (steps : ℕ) (ends : Ends) (status : ℕ)
+pub record GoAnswers
+    (r : compiled.Outcome) (ds : List Definition) (input : List ℕ) (steps : ℕ) (ends : Ends) (status : ℕ)
     : Type 0 where
   pub faulty : (fault : Diagnostic) → r.stop ≡ Some fault → Says ends status input [] (line_of fault) FAULT
   pub refused : r.stop ≡ None → (f : LoadFault) (n : ℕ) → load_fault (map code_of ds) ≡ Some f → load_number f ≡ Some n

@@ -1,5 +1,5 @@
 -- Closed facts: the lines and the statuses of runs.
-use Rattle.std.specs.Prelude.{◌≡◌, ℕ, List, [], ◌∷◌, map, codes, Option, Some, None, refl}
+use Rattle.std.specs.Prelude.{◌≡◌, ℕ, [], ◌∷◌, map, codes, Some, None, refl}
 use Rattle.std.specs.Fmt.{digits}
 use Rattle.bword.specs.ByteEnds.{Outgoing}
 use Rattle.bword.specs.declared.byte_out.EndFault.TheVariants as end_fault

@@ -103,7 +103,9 @@ b compile hello.b~error: unexpected argument 'hello.b' found
 
 Usage: b compile < FILE
 @
-b walk~error: unrecognized subcommand 'walk'
+/x/program walk~error: unrecognized subcommand 'walk'
+
+Usage: b <COMMAND>
 @
 b go --steps 0 x~error: invalid value '0' for '--steps <N>':
 @

@@ -72,7 +72,7 @@ good_after (header.Vector name words values strings) h =
     good_replicate values (value strings) _ (λ _. few) (good_last strings string (λ _. tt))
 good_after header.End h = tt
 
-good_next : (from : State) (l : List ℕ) (to : State) → IsGoodState from → Leads from l to → IsGoodState to
+pub good_next : (from : State) (l : List ℕ) (to : State) → IsGoodState from → Leads from l to → IsGoodState to
 good_next opens l to good (inl x) = subst IsGoodState (sym x.1) tt
 good_next opens l to good (inr x) = subst IsGoodState (sym x.3) (good_after x.0 x.1)
 good_next (expects []) l to good leads = subst IsGoodState (sym leads.3) (good_after leads.0 leads.1)

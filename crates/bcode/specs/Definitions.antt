@@ -1,6 +1,7 @@
 -- What the code of a definition is made of, and the ranges that a code text keeps.
 use Rattle.std.specs.Prelude.{ℕ, ◌<◌, ◌≤◌, ◌^◌, List, length, All, IsTrue}
 use Rattle.bword.specs.Names.{is_name}
+use Rattle.bcode.specs.declared.limits.TheConstants.{MAX_INSTRUCTIONS, MAX_LABELS, MAX_PARAMETERS, MAX_STRING_WORDS, MAX_VALUES, MAX_WORDS}
 use Rattle.bcode.specs.declared.header.Sizes.{Sizes}
 use Rattle.bcode.specs.declared.instr.Instr.{Instr}
 use Rattle.bcode.specs.declared.instr.Instr.TheVariants as instr
@@ -56,20 +57,20 @@ IsInstrWithin sizes _ = Unit {0}
 
 pub record IsFunctionWithinRanges (f : Function) : Type 0 where
   pub named : IsTrue (is_name f.name)
-  pub few_parameters : f.parameters ≤ 128
+  pub few_parameters : f.parameters ≤ MAX_PARAMETERS
   pub parameters_in_frame : f.parameters ≤ f.frame
-  pub frame : f.frame ≤ 32767
-  pub few_labels : length f.targets ≤ 128
-  pub few_strings : length f.strings ≤ 1024
-  pub few_instrs : length f.code ≤ 4096
+  pub frame : f.frame ≤ MAX_WORDS
+  pub few_labels : length f.targets ≤ MAX_LABELS
+  pub few_strings : length f.strings ≤ MAX_STRING_WORDS
+  pub few_instrs : length f.code ≤ MAX_INSTRUCTIONS
   pub targets : All (λ t. t < length f.code) f.targets
   pub strings : All IsWord f.strings
   pub code : All (IsInstrWithin (sizes_of f)) f.code
 
 pub record IsSimpleWithinRanges (s : Simple) : Type 0 where
   pub named : IsTrue (is_name s.name)
-  pub few_values : length s.values ≤ 1024
-  pub few_strings : length s.strings ≤ 1024
+  pub few_values : length s.values ≤ MAX_VALUES
+  pub few_strings : length s.strings ≤ MAX_STRING_WORDS
   pub values : All (IsIvalWithin (length s.strings)) s.values
   pub strings : All IsWord s.strings
 
@@ -77,8 +78,8 @@ pub record IsVectorWithinRanges (v : Vector) : Type 0 where
   pub named : IsTrue (is_name v.name)
   pub some_word : 1 ≤ v.words
   pub values_in_words : length v.values ≤ v.words
-  pub few_words : v.words ≤ 32767
-  pub few_values : length v.values ≤ 1024
-  pub few_strings : length v.strings ≤ 1024
+  pub few_words : v.words ≤ MAX_WORDS
+  pub few_values : length v.values ≤ MAX_VALUES
+  pub few_strings : length v.strings ≤ MAX_STRING_WORDS
   pub values : All (IsIvalWithin (length v.strings)) v.values
   pub strings : All IsWord v.strings

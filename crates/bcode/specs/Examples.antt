@@ -1,5 +1,5 @@
--- Texts of single definitions.
-use Rattle.std.specs.Prelude.{◌≡◌, [], ◌∷◌, codes, refl}
+-- Texts of single definitions, and the lines of each instruction and initial value.
+use Rattle.std.specs.Prelude.{◌≡◌, ℕ, List, [], ◌∷◌, map, codes, decimal, refl}
 use Rattle.std.specs.Fmt.{digits}
 use Rattle.bword.specs.declared.edition.Edition.TheVariants as editions
 use Rattle.bword.specs.declared.operators.BinOp.TheVariants as op
@@ -7,8 +7,8 @@ use Rattle.bcode.specs.declared.definition.Definition.TheVariants as definition
 use Rattle.bcode.specs.declared.instr.Increment.TheVariants as increment
 use Rattle.bcode.specs.declared.instr.Instr.TheVariants as instr
 use Rattle.bcode.specs.declared.instr.Ival.TheVariants as ival
-use Rattle.std.specs.List.{flat_map}
-use Rattle.bcode.specs.Text.{text_of, code_lines, joined, operator_text}
+use Rattle.bcode.specs.declared.instr.Instr.{Instr}
+use Rattle.bcode.specs.Text.{text_of, code_lines, joined, instr_line, ival_line, target_line, string_line}
 
 -- n 2000;
 number : text_of (definition.Simple record { name = codes "n"; values = ival.Number 2000 ∷ []; strings = [] })
@@ -71,6 +71,67 @@ empty = refl
 empty_in_two : joined (code_lines editions.Two []) ≡ codes "B 2\nE\n"
 empty_in_two = refl
 
-operators : flat_map operator_text (op.Or ∷ op.And ∷ op.Eq ∷ op.Ne ∷ op.Lt ∷ op.Le ∷ op.Gt ∷ op.Ge ∷ op.Shl ∷ op.Shr ∷ op.Sub
-    ∷ op.Add ∷ op.Rem ∷ op.Mul ∷ op.Div ∷ []) ≡ codes "|&==!=<<=>>=<<>>-+%*/"
-operators = refl
+-- without needless zeros
+numbers : map decimal (0 ∷ 7 ∷ 10 ∷ 100 ∷ 65535 ∷ []) ≡
+    codes "0" ∷ codes "7" ∷ codes "10" ∷ codes "100" ∷ codes "65535" ∷ []
+unfolding digits
+numbers = refl
+
+-- an instruction and its line
+abbrev Row : Type 0
+Row = Instr × List ℕ
+
+abbrev rows : List Row
+rows =
+    (instr.Constant 65535, codes "c 65535\n") ∷
+    (instr.External (codes "abcdefgh"), codes "x abcdefgh\n") ∷
+    (instr.Automatic 32766, codes "a 32766\n") ∷
+    (instr.Text 10, codes "s 10\n") ∷
+    (instr.Label 127, codes "l 127\n") ∷
+    (instr.Load, codes "v\n") ∷
+    (instr.Store, codes "w\n") ∷
+    (instr.Negate, codes "n\n") ∷
+    (instr.Not, codes "h\n") ∷
+    (instr.Increment increment.PreIncrement, codes "i 0\n") ∷
+    (instr.Increment increment.PreDecrement, codes "i 1\n") ∷
+    (instr.Increment increment.PostIncrement, codes "i 2\n") ∷
+    (instr.Increment increment.PostDecrement, codes "i 3\n") ∷
+    (instr.Jump 4095, codes "j 4095\n") ∷
+    (instr.JumpIfZero 0, codes "z 0\n") ∷
+    (instr.Goto, codes "g\n") ∷
+    (instr.JumpIfCase 0 20, codes "e 0 20\n") ∷
+    (instr.Call 2, codes "k 2\n") ∷
+    (instr.Return, codes "r\n") ∷
+    (instr.Pop, codes "p\n") ∷
+    (instr.Binary op.Or, codes "b |\n") ∷
+    (instr.Binary op.And, codes "b &\n") ∷
+    (instr.Binary op.Eq, codes "b ==\n") ∷
+    (instr.Binary op.Ne, codes "b !=\n") ∷
+    (instr.Binary op.Lt, codes "b <\n") ∷
+    (instr.Binary op.Le, codes "b <=\n") ∷
+    (instr.Binary op.Gt, codes "b >\n") ∷
+    (instr.Binary op.Ge, codes "b >=\n") ∷
+    (instr.Binary op.Shl, codes "b <<\n") ∷
+    (instr.Binary op.Shr, codes "b >>\n") ∷
+    (instr.Binary op.Sub, codes "b -\n") ∷
+    (instr.Binary op.Add, codes "b +\n") ∷
+    (instr.Binary op.Rem, codes "b %\n") ∷
+    (instr.Binary op.Mul, codes "b *\n") ∷
+    (instr.Binary op.Div, codes "b /\n") ∷
+    (instr.Modify op.Shl, codes "m <<\n") ∷
+    (instr.Modify op.Div, codes "m /\n") ∷
+    []
+
+instructions : map (λ r. instr_line r.0) rows ≡ map (λ r. r.1) rows
+unfolding digits
+instructions = refl
+
+initial_values : map ival_line (ival.Number 0 ∷ ival.Name (codes "_9") ∷ ival.Text 1023 ∷ []) ≡
+    codes "c 0\n" ∷ codes "x _9\n" ∷ codes "s 1023\n" ∷ []
+unfolding digits
+initial_values = refl
+
+-- a label's target and a string word
+other_lines : target_line 4095 ∷ string_line 65535 ∷ [] ≡ codes "t 4095\n" ∷ codes "w 65535\n" ∷ []
+unfolding digits
+other_lines = refl

@@ -3,6 +3,7 @@ use Rattle.std.specs.Prelude.{◌≡◌, ℕ, ◌≤◌, List, [], ◌∷◌, co
 use Rattle.bword.specs.Names.{is_name}
 use Rattle.bcode.specs.Definitions.{sizes_of}
 use Rattle.bcode.specs.Text.{line}
+use Rattle.bcode.specs.declared.limits.TheConstants.{MAX_INSTRUCTIONS, MAX_LABELS, MAX_PARAMETERS, MAX_STRING_WORDS, MAX_VALUES, MAX_WORDS}
 use Rattle.bcode.specs.declared.definition.Definition.{Definition}
 use Rattle.bcode.specs.declared.definition.Definition.TheVariants as definition
 use Rattle.bcode.specs.declared.header.Header.{Header}
@@ -24,26 +25,26 @@ header_text header.End = line (codes "E" ∷ [])
 
 pub record IsFunctionHeader (name : List ℕ) (parameters frame labels strings code : ℕ) : Type 0 where
   pub named : IsTrue (is_name name)
-  pub few_parameters : parameters ≤ 128
+  pub few_parameters : parameters ≤ MAX_PARAMETERS
   pub parameters_in_frame : parameters ≤ frame
-  pub small_frame : frame ≤ 32767
-  pub few_labels : labels ≤ 128
-  pub few_strings : strings ≤ 1024
-  pub few_instrs : code ≤ 4096
+  pub small_frame : frame ≤ MAX_WORDS
+  pub few_labels : labels ≤ MAX_LABELS
+  pub few_strings : strings ≤ MAX_STRING_WORDS
+  pub few_instrs : code ≤ MAX_INSTRUCTIONS
   pub labels_in_code : code ≡ 0 → labels ≡ 0
 
 pub record IsSimpleHeader (name : List ℕ) (values strings : ℕ) : Type 0 where
   pub named : IsTrue (is_name name)
-  pub few_values : values ≤ 1024
-  pub few_strings : strings ≤ 1024
+  pub few_values : values ≤ MAX_VALUES
+  pub few_strings : strings ≤ MAX_STRING_WORDS
 
 pub record IsVectorHeader (name : List ℕ) (words values strings : ℕ) : Type 0 where
   pub named : IsTrue (is_name name)
   pub some_word : 1 ≤ words
   pub values_in_words : values ≤ words
-  pub few_words : words ≤ 32767
-  pub few_values : values ≤ 1024
-  pub few_strings : strings ≤ 1024
+  pub few_words : words ≤ MAX_WORDS
+  pub few_values : values ≤ MAX_VALUES
+  pub few_strings : strings ≤ MAX_STRING_WORDS
 
 abbrev pub IsHeaderWithin : Header → Type 0
 IsHeaderWithin (header.Function name parameters s) = IsFunctionHeader name parameters s.frame s.labels s.strings s.code

@@ -1,8 +1,9 @@
 -- Reading a line from the front of a text.
-use Rattle.std.specs.Prelude.{ℕ, ◌^◌, ◌&&◌, ◌||◌, not, ◌==◌, nat_le, if◌then◌else◌, List, [], ◌∷◌, Option, Some, None}
+use Rattle.std.specs.Prelude.{ℕ, ◌+◌, ◌^◌, ◌&&◌, ◌||◌, not, ◌==◌, nat_le, if◌then◌else◌, List, [], ◌∷◌, Option, Some, None}
 use Rattle.bword.specs.declared.operators.BinOp.{BinOp}
 use Rattle.bword.specs.declared.operators.BinOp.TheVariants as op
 use Rattle.bcode.specs.Reading.{◌>>=◌, expect, number_at, name_at}
+use Rattle.bcode.specs.declared.limits.TheConstants.{MAX_INSTRUCTIONS, MAX_LABELS, MAX_PARAMETERS, MAX_STRING_WORDS, MAX_VALUES, MAX_WORDS}
 use Rattle.bcode.specs.declared.header.Header.{Header}
 use Rattle.bcode.specs.declared.header.Header.TheVariants as header
 use Rattle.bcode.specs.declared.header.Sizes.{Sizes}
@@ -98,10 +99,10 @@ number_line_at letter below bytes = expect letter bytes >>= operand_at below
 
 unfoldable pub sizes_at : Reader Sizes
 sizes_at bytes = do
-  frame ← number_at 32 32768 bytes
-  labels ← number_at 32 129 frame.1
-  strings ← number_at 32 1025 labels.1
-  code ← number_at 10 4097 strings.1
+  frame ← number_at 32 (MAX_WORDS + 1) bytes
+  labels ← number_at 32 (MAX_LABELS + 1) frame.1
+  strings ← number_at 32 (MAX_STRING_WORDS + 1) labels.1
+  code ← number_at 10 (MAX_INSTRUCTIONS + 1) strings.1
   if labels.0 == 0 || not (code.0 == 0) then
       Some (record { frame = frame.0; labels = labels.0; strings = strings.0; code = code.0 }, code.1)
       else None
@@ -110,7 +111,7 @@ unfoldable pub function_header_at : Reader Header
 function_header_at bytes = do
   rest ← expect 32 bytes
   name ← name_at 32 rest
-  parameters ← number_at 32 129 name.1
+  parameters ← number_at 32 (MAX_PARAMETERS + 1) name.1
   sizes ← sizes_at parameters.1
   if nat_le parameters.0 sizes.0.frame then Some (header.Function name.0 parameters.0 sizes.0, sizes.1) else None
 
@@ -118,17 +119,17 @@ unfoldable pub simple_header_at : Reader Header
 simple_header_at bytes = do
   rest ← expect 32 bytes
   name ← name_at 32 rest
-  values ← number_at 32 1025 name.1
-  strings ← number_at 10 1025 values.1
+  values ← number_at 32 (MAX_VALUES + 1) name.1
+  strings ← number_at 10 (MAX_STRING_WORDS + 1) values.1
   Some (header.Simple name.0 values.0 strings.0, strings.1)
 
 unfoldable pub vector_header_at : Reader Header
 vector_header_at bytes = do
   rest ← expect 32 bytes
   name ← name_at 32 rest
-  words ← number_at 32 32768 name.1
-  values ← number_at 32 1025 words.1
-  strings ← number_at 10 1025 values.1
+  words ← number_at 32 (MAX_WORDS + 1) name.1
+  values ← number_at 32 (MAX_VALUES + 1) words.1
+  strings ← number_at 10 (MAX_STRING_WORDS + 1) values.1
   if nat_le 1 words.0 && nat_le values.0 words.0 then Some (header.Vector name.0 words.0 values.0 strings.0, strings.1) else None
 
 abbrev pub header_readers : List (ℕ × Reader Header)

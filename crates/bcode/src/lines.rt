@@ -21,6 +21,9 @@ ghost use Rattle.bcode.specs.LineReading.{
 ghost use Rattle.bcode.specs.Reading.{Gives};
 
 use crate::header::{Header, Sizes};
+use crate::limits::{
+    MAX_INSTRUCTIONS, MAX_LABELS, MAX_PARAMETERS, MAX_STRING_WORDS, MAX_VALUES, MAX_WORDS,
+};
 use crate::parts::{expect, name, number};
 use crate::{Increment, Instr, Ival};
 use bword::{BinOp, Name};
@@ -205,10 +208,10 @@ pub fn number_line(text: &[u8], letter: u8, below: u32) -> Option<(u16, &[u8])>
 fn sizes(text: &[u8]) -> Option<(Sizes, &[u8])>
     ensures { Gives (λ r. (r.0, r.1.now)) result (sizes_at text.now) }
 {
-    let (frame, rest) = number(text, b' ', 32768)?;
-    let (labels, rest) = number(rest, b' ', 129)?;
-    let (strings, rest) = number(rest, b' ', 1025)?;
-    let (code, rest) = number(rest, b'\n', 4097)?;
+    let (frame, rest) = number(text, b' ', MAX_WORDS + 1)?;
+    let (labels, rest) = number(rest, b' ', MAX_LABELS as u32 + 1)?;
+    let (strings, rest) = number(rest, b' ', MAX_STRING_WORDS as u32 + 1)?;
+    let (code, rest) = number(rest, b'\n', MAX_INSTRUCTIONS as u32 + 1)?;
     if labels != 0 && code == 0 {
         return None;
     }
@@ -229,7 +232,7 @@ fn function_header(text: &[u8]) -> Option<(Header, &[u8])>
     let Some((name, rest)) = name(rest, b' ') else {
         return None;
     };
-    let (parameters, rest) = number(rest, b' ', 129)?;
+    let (parameters, rest) = number(rest, b' ', MAX_PARAMETERS as u32 + 1)?;
     let (sizes, rest) = sizes(rest)?;
     if parameters > sizes.frame {
         return None;
@@ -252,8 +255,8 @@ fn simple_header(text: &[u8]) -> Option<(Header, &[u8])>
     let Some((name, rest)) = name(rest, b' ') else {
         return None;
     };
-    let (values, rest) = number(rest, b' ', 1025)?;
-    let (strings, rest) = number(rest, b'\n', 1025)?;
+    let (values, rest) = number(rest, b' ', MAX_VALUES as u32 + 1)?;
+    let (strings, rest) = number(rest, b'\n', MAX_STRING_WORDS as u32 + 1)?;
     Some((
         Header::Simple {
             name,
@@ -272,9 +275,9 @@ fn vector_header(text: &[u8]) -> Option<(Header, &[u8])>
     let Some((name, rest)) = name(rest, b' ') else {
         return None;
     };
-    let (words, rest) = number(rest, b' ', 32768)?;
-    let (values, rest) = number(rest, b' ', 1025)?;
-    let (strings, rest) = number(rest, b'\n', 1025)?;
+    let (words, rest) = number(rest, b' ', MAX_WORDS + 1)?;
+    let (values, rest) = number(rest, b' ', MAX_VALUES as u32 + 1)?;
+    let (strings, rest) = number(rest, b'\n', MAX_STRING_WORDS as u32 + 1)?;
     if words == 0 || values > words {
         return None;
     }

@@ -23,7 +23,7 @@ pub type Page = ArrayVec<u8, PAGE_LEN>;
 /// Makes room for a line, by putting the page if it has too little.
 pub fn make_room<O: ByteOut>(page: &mut Page, out: &mut O) -> Result<(), EndFault>
     ensures gives { PageGives (O.outgoing out.old) page.old.items [] result (O.outgoing out.new) page.new.items }
-    ensures room { OnOk result (array_vec_len page.new + 128 ≤ 4096) }
+    ensures room { OnOk result (array_vec_len page.new + LINE_LEN ≤ PAGE_LEN) }
     ensures same { O.lender out.new ≡ O.lender out.old }
 {
     if page.len() > PAGE_LEN - LINE_LEN {
@@ -34,7 +34,7 @@ pub fn make_room<O: ByteOut>(page: &mut Page, out: &mut O) -> Result<(), EndFaul
 }
 
 fn push_bytes(page: &mut Page, bytes: &[u8])
-    requires { array_vec_len page.old + length bytes.now ≤ 4096 }
+    requires { array_vec_len page.old + length bytes.now ≤ PAGE_LEN }
     ensures { page.new.items ≡ page.old.items ++ bytes.now }
 {
     page.try_extend_from_slice(bytes).unwrap();
@@ -42,7 +42,7 @@ fn push_bytes(page: &mut Page, bytes: &[u8])
 
 // Another part of a line, behind a space.
 fn push_part(page: &mut Page, part: &[u8])
-    requires { array_vec_len page.old + length part.now + 1 ≤ 4096 }
+    requires { array_vec_len page.old + length part.now + 1 ≤ PAGE_LEN }
     ensures { page.new.items ≡ page.old.items ++ codes " " ++ part.now }
 {
     page.push(b' ');
@@ -50,7 +50,7 @@ fn push_part(page: &mut Page, part: &[u8])
 }
 
 fn push_name(page: &mut Page, name: Name)
-    requires { array_vec_len page.old + 9 ≤ 4096 }
+    requires { array_vec_len page.old + 9 ≤ PAGE_LEN }
     ensures items { page.new.items ≡ page.old.items ++ codes " " ++ name }
     ensures len { array_vec_len page.new ≤ array_vec_len page.old + 9 }
 {
@@ -58,7 +58,7 @@ fn push_name(page: &mut Page, name: Name)
 }
 
 fn push_number(page: &mut Page, n: usize)
-    requires { array_vec_len page.old + 21 ≤ 4096 }
+    requires { array_vec_len page.old + 21 ≤ PAGE_LEN }
     ensures items { page.new.items ≡ page.old.items ++ codes " " ++ decimal n }
     ensures len { array_vec_len page.new ≤ array_vec_len page.old + 21 }
 {
@@ -67,7 +67,7 @@ fn push_number(page: &mut Page, n: usize)
 
 /// A line of a letter alone.
 pub fn push_letter_line(page: &mut Page, letter: u8)
-    requires { array_vec_len page.old + 128 ≤ 4096 }
+    requires { array_vec_len page.old + LINE_LEN ≤ PAGE_LEN }
     ensures { page.new.items ≡ page.old.items ++ line ((letter ∷ []) ∷ []) }
 {
     page.push(letter);
@@ -76,7 +76,7 @@ pub fn push_letter_line(page: &mut Page, letter: u8)
 
 /// A line of a letter and a number.
 pub fn push_number_line(page: &mut Page, letter: u8, n: u16)
-    requires { array_vec_len page.old + 128 ≤ 4096 }
+    requires { array_vec_len page.old + LINE_LEN ≤ PAGE_LEN }
     ensures { page.new.items ≡ page.old.items ++ line ((letter ∷ []) ∷ decimal n ∷ []) }
 {
     page.push(letter);
@@ -85,7 +85,7 @@ pub fn push_number_line(page: &mut Page, letter: u8, n: u16)
 }
 
 fn push_name_line(page: &mut Page, letter: u8, name: Name)
-    requires { array_vec_len page.old + 128 ≤ 4096 }
+    requires { array_vec_len page.old + LINE_LEN ≤ PAGE_LEN }
     ensures { page.new.items ≡ page.old.items ++ line ((letter ∷ []) ∷ name ∷ []) }
 {
     page.push(letter);
@@ -94,7 +94,7 @@ fn push_name_line(page: &mut Page, letter: u8, name: Name)
 }
 
 fn push_operator_line(page: &mut Page, letter: u8, operator: BinOp)
-    requires { array_vec_len page.old + 128 ≤ 4096 }
+    requires { array_vec_len page.old + LINE_LEN ≤ PAGE_LEN }
     ensures { page.new.items ≡ page.old.items ++ line ((letter ∷ []) ∷ operator_text operator ∷ []) }
 {
     page.push(letter);
@@ -126,7 +126,7 @@ fn operator_text(operator: BinOp) -> &'static [u8]
 }
 
 fn push_increment_line(page: &mut Page, which: Increment)
-    requires { array_vec_len page.old + 128 ≤ 4096 }
+    requires { array_vec_len page.old + LINE_LEN ≤ PAGE_LEN }
     ensures { page.new.items ≡ page.old.items ++ line (codes "i" ∷ increment_text which ∷ []) }
 {
     page.push(b'i');
@@ -147,7 +147,7 @@ fn increment_text(which: Increment) -> &'static [u8]
 }
 
 fn push_case_line(page: &mut Page, value: u16, target: u16)
-    requires { array_vec_len page.old + 128 ≤ 4096 }
+    requires { array_vec_len page.old + LINE_LEN ≤ PAGE_LEN }
     ensures { page.new.items ≡ page.old.items ++ line (codes "e" ∷ decimal value ∷ decimal target ∷ []) }
 {
     page.push(b'e');
@@ -158,7 +158,7 @@ fn push_case_line(page: &mut Page, value: u16, target: u16)
 
 /// The line of an instruction.
 pub fn push_instr_line(page: &mut Page, instr: Instr)
-    requires { array_vec_len page.old + 128 ≤ 4096 }
+    requires { array_vec_len page.old + LINE_LEN ≤ PAGE_LEN }
     ensures { page.new.items ≡ page.old.items ++ instr_line instr }
 {
     match instr {
@@ -186,7 +186,7 @@ pub fn push_instr_line(page: &mut Page, instr: Instr)
 
 /// The line of an initial value.
 pub fn push_ival_line(page: &mut Page, value: Ival)
-    requires { array_vec_len page.old + 128 ≤ 4096 }
+    requires { array_vec_len page.old + LINE_LEN ≤ PAGE_LEN }
     ensures { page.new.items ≡ page.old.items ++ ival_line value }
 {
     match value {
@@ -198,7 +198,7 @@ pub fn push_ival_line(page: &mut Page, value: Ival)
 
 /// The first line of a definition.
 pub fn push_header_line(page: &mut Page, letter: u8, name: Name, numbers: &[usize])
-    requires room { array_vec_len page.old + 128 ≤ 4096 }
+    requires room { array_vec_len page.old + LINE_LEN ≤ PAGE_LEN }
     requires few { length numbers.now ≤ 5 }
     ensures { page.new.items ≡ page.old.items ++ line ((letter ∷ []) ∷ name ∷ map decimal numbers.now) }
 {

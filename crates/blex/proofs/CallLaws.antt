@@ -123,11 +123,11 @@ module _ (end after : Incoming) (taken : List ℕ) (took : Took end taken after)
   of_told : (bytes : List ℕ) → end.left ≡ Some bytes → end.is_over ≡ false → P bytes
   of_told bytes left live = ⊎_elim
       (λ over.
-          let all : Consumes (Some bytes) (Some []) taken = subst (λ known. Consumes known (Some []) taken) left (took.all live over) in
-          subst P (sym all) (any [] (λ o. refl)))
+      let all : Consumes (Some bytes) (Some []) taken = subst (λ known. Consumes known (Some []) taken) left (took.all live over) in
+      subst P (sym all) (any [] (λ o. refl)))
       (λ still.
-          let rest = left_of end.left after.left taken bytes left took.bytes in
-          subst P (sym rest.1) (any rest.0 (λ over. absurd (never after.is_over over still))))
+      let rest = left_of end.left after.left taken bytes left took.bytes in
+      subst P (sym rest.1) (any rest.0 (λ over. absurd (never after.is_over over still))))
       (either after.is_over)
 
 pub calls_give_first : CallsGiveFirst

@@ -84,8 +84,8 @@ keywords_of_two = refl
 abbrev name_texts : List (List ℕ)
 name_texts =
     codes "x" ∷ codes "_" ∷ codes "Z" ∷ codes "a9" ∷ codes "_0_" ∷ codes "abcdefgh" ∷ codes "x1234567" ∷
-    codes "extern" ∷ codes "Auto" ∷ codes "autos" ∷ codes "aut" ∷ codes "IF" ∷ codes "int" ∷ codes "if0" ∷ codes "_if" ∷
-    codes "break" ∷ codes "default" ∷ []
+    codes "extern" ∷ codes "Auto" ∷ codes "autos" ∷ codes "aut" ∷ codes "IF" ∷ codes "int" ∷ codes "if0" ∷
+    codes "_if" ∷ codes "break" ∷ codes "default" ∷ []
 
 names : map tokens name_texts ≡ map (λ text. name text ∷ token.End ∷ []) name_texts
 unfolding tokens_from cut longest greatest whole word_of keyword_of
@@ -169,7 +169,8 @@ unfolding tokens_from cut longest greatest whole with_byte escape_of
 strings = refl
 
 wrong_strings : Wrong (token.Bad letters.Constant) (
-    codes "\"" ∷ codes "\"a" ∷ codes "\"*\"" ∷ codes "\"a\n\"" ∷ codes "\"*x\"" ∷ (34 ∷ 127 ∷ 34 ∷ []) ∷ (34 ∷ 128 ∷ 34 ∷ []) ∷ [])
+    codes "\"" ∷ codes "\"a" ∷ codes "\"*\"" ∷ codes "\"a\n\"" ∷ codes "\"*x\"" ∷ (34 ∷ 127 ∷ 34 ∷ []) ∷ (34 ∷ 128 ∷
+    34 ∷ []) ∷ [])
 unfolding tokens_from cut longest greatest whole with_byte escape_of
 wrong_strings = refl
 
@@ -294,9 +295,11 @@ stops : map tokens (codes "x # y" ∷ codes "x 08 y" ∷ []) ≡
 unfolding tokens_from cut longest greatest whole word_of keyword_of number_in operator_of other_of fixed_of
 stops = refl
 
--- How far a piece reaches that fits nothing: through its run, the byte in quotes that doesn't fit, its one byte, or to the end.
+-- How far a piece reaches that fits nothing: through its run, the byte in quotes that doesn't fit, its one byte,
+-- or to the end.
 reaches : map (longest editions.One) (
-    codes "abcdefghij9_ x" ∷ codes "0899x" ∷ codes "'ab\n'" ∷ codes "'abc'" ∷ codes "'*xy'" ∷ codes "\"a\n\"" ∷ codes "'a" ∷ codes "\"ab" ∷
+    codes "abcdefghij9_ x" ∷ codes "0899x" ∷ codes "'ab\n'" ∷ codes "'abc'" ∷ codes "'*xy'" ∷ codes "\"a\n\"" ∷
+    codes "'a" ∷ codes "\"ab" ∷
     codes "##" ∷ codes "/* x" ∷ []) ≡ 12 ∷ 4 ∷ 4 ∷ 4 ∷ 3 ∷ 3 ∷ 2 ∷ 3 ∷ 1 ∷ 4 ∷ []
 unfolding longest greatest whole word_of keyword_of number_in with_byte escape_of operator_of other_of fixed_of
 reaches = refl
@@ -306,9 +309,11 @@ abbrev lines : List ℕ → List ℕ
 lines bytes = map (λ p. p.line) (tokens_from editions.One 1 bytes)
 
 lines_of_tokens : map lines (
-    [] ∷ codes "\n" ∷ codes "x y" ∷ codes "x\ny" ∷ codes " \n\n x" ∷ codes "/*\n*/ x\n" ∷ codes "x /*\n\n*/ y z" ∷ codes "\n/*\n*/x\n'\n'" ∷
+    [] ∷ codes "\n" ∷ codes "x y" ∷ codes "x\ny" ∷ codes " \n\n x" ∷ codes "/*\n*/ x\n" ∷ codes "x /*\n\n*/ y z" ∷
+    codes "\n/*\n*/x\n'\n'" ∷
     codes "x;\ny /*\n" ∷ []) ≡
-    (1 ∷ []) ∷ (2 ∷ []) ∷ (1 ∷ 1 ∷ 1 ∷ []) ∷ (1 ∷ 2 ∷ 2 ∷ []) ∷ (3 ∷ 3 ∷ []) ∷ (2 ∷ 3 ∷ []) ∷ (1 ∷ 3 ∷ 3 ∷ 3 ∷ []) ∷ (3 ∷ 4 ∷ []) ∷
+    (1 ∷ []) ∷ (2 ∷ []) ∷ (1 ∷ 1 ∷ 1 ∷ []) ∷ (1 ∷ 2 ∷ 2 ∷ []) ∷ (3 ∷ 3 ∷ []) ∷ (2 ∷ 3 ∷ []) ∷ (1 ∷ 3 ∷ 3 ∷ 3 ∷ []) ∷
+    (3 ∷ 4 ∷ []) ∷
     (1 ∷ 1 ∷ 2 ∷ 2 ∷ []) ∷ []
 unfolding tokens_from cut longest greatest whole word_of keyword_of with_byte operator_of other_of fixed_of
 lines_of_tokens = refl

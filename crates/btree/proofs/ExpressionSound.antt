@@ -48,7 +48,7 @@ loosest Rvalue = rvalue_rank
 abbrev pub Below : ℕ → Kind → ℕ → Expr → Type 0
 Below room kind off e = Deeper (λ k. Fits e (loosest kind) k off) room
 
-looser : (e : Expr) (r r2 room off : ℕ) → r ≤ r2 → Fits e r room off → Fits e r2 room off
+pub looser : (e : Expr) (r r2 room off : ℕ) → r ≤ r2 → Fits e r room off → Fits e r2 room off
 looser (Named w) r r2 room off le h = tt
 looser (Literal c) r r2 room off le h = tt
 looser (Text bytes offset) r r2 room off le h = h

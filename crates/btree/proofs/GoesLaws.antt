@@ -97,7 +97,7 @@ some_behind ts us r d e h s others =
     read : definition (map kept s.front ++ map kept s.back) ≡ Got d (map kept s.back)
     read = ap (λ l. definition (l ++ map kept s.back)) s.front_is ∙ subst (λ l. definition (us ++ l) ≡ Got d l) (sym s.back_is) h
 
-parted_some : (n : ℕ) (ts : List Placed) → length ts ≤ n → Ended ts → SomeParting ts
+pub parted_some : (n : ℕ) (ts : List Placed) → length ts ≤ n → Ended ts → SomeParting ts
 parted_some n [] le e = absurd e
 parted_some zero (t ∷ ts) le e = absurd (omega arith)
 parted_some (suc n) (t ∷ ts) le e = go (end_or_not t.token) (λ back less ended. parted_some n back (omega arith) ended)

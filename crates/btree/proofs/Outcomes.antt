@@ -120,7 +120,7 @@ same_parts tokens at rest wrong (d ∷ ds) (e ∷ es) p q l =
     ap (λ x. x ∷ ds) first_one ∙ ap (λ l. e ∷ l) (same_parts s.back at rest still ds es p' q' fewer)
 
 -- a longer beginning would go on where no program does
-no_further : (before : List Placed) (at : Placed) (stop : Option Diagnostic) → StopsAt (map bare before) at stop → (c further : List Placed) → further ≡ before ++ at ∷ c → Begins (map bare further) → ⊥
+pub no_further : (before : List Placed) (at : Placed) (stop : Option Diagnostic) → StopsAt (map bare before) at stop → (c further : List Placed) → further ≡ before ++ at ∷ c → Begins (map bare further) → ⊥
 no_further before at stop stops c further e b =
     let spelled : map bare further ++ b.more ≡ (map bare before ++ at.token ∷ []) ++ (map bare c ++ b.more) =
     ap (λ l. map bare l ++ b.more) e ∙ ap (λ l. l ++ b.more) (bare-append before (at ∷ c)) ∙ append_assoc (map bare before) (at.token ∷ map bare c) b.more

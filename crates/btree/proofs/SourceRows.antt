@@ -267,6 +267,10 @@ function_largest_frame : Comes (codes "f() { auto v 32765; ; }") (codes "F f 0 3
 unfolding tokens_from cut longest greatest whole word_token keyword_of number_in with_byte escape_of operator_of other_of fixed_of digits
 function_largest_frame = comes refl
 
+function_whole : Comes (codes "f(a) { auto v 1, i; L: v[i] =+ a; switch a { case 2: goto L; } return(i); }") (codes "F f 1 5 1 0 26\nt 4\na 1\na 2\nw\np\na 1\nv\na 4\nv\nb +\na 0\nv\nm +\np\na 0\nv\nj 19\nl 0\ng\nj 21\ne 2 16\np\na 4\nv\nr\nc 0\nr\nE\n") []
+unfolding tokens_from cut longest greatest whole word_token keyword_of number_in with_byte escape_of operator_of other_of fixed_of digits
+function_whole = comes refl
+
 function_endless : Comes (codes "f() { L: goto L; }") (codes "F f 0 0 1 0 4\nt 0\nl 0\ng\nc 0\nr\nE\n") []
 unfolding tokens_from cut longest greatest whole word_token keyword_of number_in with_byte escape_of operator_of other_of fixed_of digits
 function_endless = comes refl
@@ -289,6 +293,7 @@ function_rows = record {
   sum_assigned = function_sum_assigned;
   choice_assigned = function_choice_assigned;
   largest_frame = function_largest_frame;
+  whole = function_whole;
   endless = function_endless;
 }
 
@@ -343,6 +348,14 @@ fault_parameter_twice = comes refl
 fault_external_again : Comes (codes "f() {\nextrn a;\nauto a; ; }") [] (codes "rd a 3\n")
 unfolding tokens_from cut longest greatest whole word_token keyword_of number_in with_byte escape_of operator_of other_of fixed_of digits
 fault_external_again = comes refl
+
+fault_mentioned_before : Comes (codes "f(p) {\nh = --p; extrn h; ; }") [] (codes "lv 2\n")
+unfolding tokens_from cut longest greatest whole word_token keyword_of number_in with_byte escape_of operator_of other_of fixed_of digits
+fault_mentioned_before = comes refl
+
+fault_declared_behind : Comes (codes "f() { h;\nextrn h; ; }") [] (codes "rd h 2\n")
+unfolding tokens_from cut longest greatest whole word_token keyword_of number_in with_byte escape_of operator_of other_of fixed_of digits
+fault_declared_behind = comes refl
 
 fault_label_twice : Comes (codes "f() { L:\nL: ; }") [] (codes "rd L 2\n")
 unfolding tokens_from cut longest greatest whole word_token keyword_of number_in with_byte escape_of operator_of other_of fixed_of digits
@@ -403,6 +416,8 @@ fault_rows = record {
   second_undefined = fault_second_undefined;
   parameter_twice = fault_parameter_twice;
   external_again = fault_external_again;
+  mentioned_before = fault_mentioned_before;
+  declared_behind = fault_declared_behind;
   label_twice = fault_label_twice;
   undefined_last = fault_undefined_last;
   undefined_before = fault_undefined_before;

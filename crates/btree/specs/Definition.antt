@@ -7,6 +7,7 @@ use Rattle.btree.specs.Expression.{Word, Constant, name_token, constant_token, t
 use Rattle.btree.specs.Commas.{list_spelling, EachBehind}
 use Rattle.btree.specs.Statement.{Stmt, size_spelling, name_spelling, spell_statement, Sits}
 use Rattle.btree.specs.Statement as statement
+use Rattle.btree.specs.declared.limits.TheConstants.{MAX_NESTING}
 
 -- an initial value
 pub data Ival : Type 0 where
@@ -49,7 +50,7 @@ IvalFits before (Ival_name w) = Unit {0}
 
 -- the greatest level of nesting
 abbrev pub nesting_limit : ℕ
-nesting_limit = 200
+nesting_limit = MAX_NESTING
 
 abbrev pub IsFormed : Definition → Type 0
 IsFormed (Simple w values) = EachBehind IvalFits [] values

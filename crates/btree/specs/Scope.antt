@@ -6,6 +6,7 @@ use Rattle.blex.specs.declared.token.Letters.TheVariants as letters
 use Rattle.blex.specs.declared.diagnostic.About.TheVariants as about
 use Rattle.blex.specs.declared.diagnostic.Diagnostic.{Diagnostic}
 use Rattle.btree.specs.Expression.{Word}
+use Rattle.btree.specs.declared.limits.TheConstants.{MAX_NAMES}
 
 pub data Kind : Type 0 where
   Automatic : (word : ℕ) → Kind
@@ -24,7 +25,7 @@ kind_of x [] = None
 kind_of x (e ∷ es) = if same_name e.name x then Some e.kind else kind_of x es
 
 abbrev pub most_names : ℕ
-most_names = 128
+most_names = MAX_NAMES
 
 -- a diagnostic with letters and a line alone, and one with a name
 abbrev pub fault : Letters → ℕ → Diagnostic

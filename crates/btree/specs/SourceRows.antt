@@ -68,6 +68,8 @@ pub record FunctionRows : Type 0 where
   pub choice_assigned : Comes (codes "f(a,b,c) a?b:c=a;") [] (codes "sx 1\n")
   pub largest_frame : Comes (codes "f() { auto v 32765; ; }")
       (codes "F f 0 32767 0 0 6\na 0\na 1\nw\np\nc 0\nr\nE\n") []
+  pub whole : Comes (codes "f(a) { auto v 1, i; L: v[i] =+ a; switch a { case 2: goto L; } return(i); }")
+      (codes "F f 1 5 1 0 26\nt 4\na 1\na 2\nw\np\na 1\nv\na 4\nv\nb +\na 0\nv\nm +\np\na 0\nv\nj 19\nl 0\ng\nj 21\ne 2 16\np\na 4\nv\nr\nc 0\nr\nE\n") []
   pub endless : Comes (codes "f() { L: goto L; }") (codes "F f 0 0 1 0 4\nt 0\nl 0\ng\nc 0\nr\nE\n") []
 
 -- faults of names, cases and lvalues
@@ -85,6 +87,8 @@ pub record FaultRows : Type 0 where
   pub second_undefined : Comes (codes "f() { goto B;\ngoto A; B: ; }") [] (codes "un A 2\n")
   pub parameter_twice : Comes (codes "f(a,a) ;") [] (codes "rd a 1\n")
   pub external_again : Comes (codes "f() {\nextrn a;\nauto a; ; }") [] (codes "rd a 3\n")
+  pub mentioned_before : Comes (codes "f(p) {\nh = --p; extrn h; ; }") [] (codes "lv 2\n")
+  pub declared_behind : Comes (codes "f() { h;\nextrn h; ; }") [] (codes "rd h 2\n")
   pub label_twice : Comes (codes "f() { L:\nL: ; }") [] (codes "rd L 2\n")
   pub undefined_last : Comes (codes "f() { L: ; L: ; goto M; }") [] (codes "rd L 1\n")
   pub undefined_before : Comes (codes "f() { goto M; L: ; L: ; }") [] (codes "rd L 1\n")

@@ -3,13 +3,15 @@ use Rattle.std.specs.Prelude.{◌≡◌, ℕ, Bool, true, false, List, [], ◌�
 use Rattle.std.specs.List.{range_with_len}
 use Rattle.bword.specs.Names.{is_name, is_name_start, is_name_byte, same_name}
 
-names : map is_name (codes "a" ∷ codes "_" ∷ codes "Z" ∷ codes "a9" ∷ codes "_0_A" ∷ codes "abcdefgh" ∷ codes "x1234567" ∷ []) ≡
+names : map is_name (codes "a" ∷ codes "_" ∷ codes "Z" ∷ codes "a9" ∷ codes "_0_A" ∷ codes "abcdefgh" ∷
+    codes "x1234567" ∷ []) ≡
     replicate 7 true
 names = refl
 
 -- empty, of nine characters, with a digit first, with a byte that is none of a name's
 others : map is_name (
-    [] ∷ codes "abcdefghi" ∷ codes "x12345678" ∷ codes "9" ∷ codes "9a" ∷ codes "a-b" ∷ codes "a b" ∷ codes "a." ∷ (97 ∷ 0 ∷ []) ∷
+    [] ∷ codes "abcdefghi" ∷ codes "x12345678" ∷ codes "9" ∷ codes "9a" ∷ codes "a-b" ∷ codes "a b" ∷ codes "a." ∷
+    (97 ∷ 0 ∷ []) ∷
     (97 ∷ 228 ∷ []) ∷ []) ≡ replicate 10 false
 others = refl
 

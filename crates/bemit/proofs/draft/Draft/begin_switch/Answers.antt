@@ -8,9 +8,10 @@ use Rattle.bemit.proofs.draft.Draft.begin_switch.Goals as goal
 pub invariant_of-self-else-not-begin : goal.invariant_of-self-else-not-begin
 invariant_of-self-else-not-begin c =
     let room : length c.self.inside.switches < most_switches = ltb-true _ _ (sym c.begin.ensures.room ∙ c.if-not-begin.false) in
-    let new = c.begin.ensures.begun c.if-not-begin.false ∙ ap (λ n. n ∷ c.self.inside.switches) c.next_number-number.ensures in
-    (c.self.invariant.0,
-    subst (λ l. AreNumbered l c.self.inside.buffer.cases c.self.inside.buffer.defaults) (sym new) (numbered-begin c.self.inside.switches c.self.inside.buffer.cases c.self.inside.buffer.defaults c.self.invariant.1 room))
+    let new = c.begin.ensures.begun c.if-not-begin.false ∙ ap (λ n. n ∷ c.self.inside.switches) c.next_number-number.ensures in (
+      c.self.invariant.0,
+      subst (λ l. AreNumbered l c.self.inside.buffer.cases c.self.inside.buffer.defaults) (sym new) (numbered-begin c.self.inside.switches c.self.inside.buffer.cases c.self.inside.buffer.defaults c.self.invariant.1 room),
+    )
 
 pub returns-else-not-begin : goal.returns-else-not-begin
 returns-else-not-begin c =

@@ -9,10 +9,11 @@ pub invariant_of-self : goal.invariant_of-self
 invariant_of-self c =
     let there = innermost-first c.self.inside.switches c.in-Some.switch (sym c.end.ensures.number ∙ c.in-Some.is) in
     let left = c.end.ensures.rest ∙ ap rest_of there.1 in
-    let rest = c.take_default.ensures.rest in
-    (IsSound-arms c.self.inside.scope c.self.inside.buffer c.take_default.new.self c.self.inside.values.items c.self.inside.frame c.self.inside.is_over c.self.invariant.0 (ap (λ (b : Buffer). b.code) rest) (ap (λ (b : Buffer). b.strings) rest),
-    subst (λ l. AreNumbered l c.take_default.new.self.cases c.take_default.new.self.defaults) (sym left)
-    (numbered-ended c.in-Some.switch c.self.inside.switches there.0 c.self.inside.buffer c.take_default.new.self there.1 c.self.invariant.1 rest))
+    let rest = c.take_default.ensures.rest in (
+      IsSound-arms c.self.inside.scope c.self.inside.buffer c.take_default.new.self c.self.inside.values.items c.self.inside.frame c.self.inside.is_over c.self.invariant.0 (ap (λ (b : Buffer). b.code) rest) (ap (λ (b : Buffer). b.strings) rest),
+      subst (λ l. AreNumbered l c.take_default.new.self.cases c.take_default.new.self.defaults) (sym left)
+          (numbered-ended c.in-Some.switch c.self.inside.switches there.0 c.self.inside.buffer c.take_default.new.self there.1 c.self.invariant.1 rest),
+    )
 
 pub returns-in-Some : goal.returns-in-Some
 returns-in-Some c =

@@ -1,0 +1,64 @@
+-- Programs stand for tokens in one way, and have one way of parts.
+use Rattle.std.proofs.Common.{◌≡◌, ◌≤◌, List, [], ◌∷◌, ◌++◌, map, length, sym, ap, ◌∙◌, refl, subst, arith}
+use Rattle.std.specs.Prelude.{Option}
+use Rattle.blex.specs.declared.token.Placed.{Placed}
+use Rattle.blex.specs.declared.diagnostic.Diagnostic.{Diagnostic}
+use Rattle.blex.specs.Tokens.{tokens_from}
+use Rattle.btree.specs.Lines.{bare}
+use Rattle.btree.specs.Reading.{Got}
+use Rattle.btree.specs.Definition.{Definition, Simple, Vector, Function, spell_definition, nesting_limit}
+use Rattle.btree.specs.DefinitionReader.{definition}
+use Rattle.btree.specs.Program.{spell_all, AllFormed, Parted, StopsAt}
+use Rattle.btree.specs.Levels.{AllFormedIn}
+use Rattle.btree.specs.ProgramRules.{OneProgram, FormedWithin, HasParts, OneWay}
+use Rattle.btree.proofs.KeptLemmas.{Order, together, sooner, later, order}
+use Rattle.btree.proofs.ProgramLaws.{read_first, stops_begins}
+use Rattle.btree.proofs.LawProofs.{begins_with_name}
+use Rattle.btree.proofs.Outcomes.{parted_once, no_further}
+use Rattle.btree.proofs.GoesLaws.{parted_some, tokens_from-ended}
+
+-- a definition's spelling isn't empty
+some_spelling : (d : Definition) (ds : List Definition) → spell_all (d ∷ ds) ≡ [] → ⊥
+some_spelling d ds e = let name = begins_with_name d in let same : spell_definition d ++ spell_all ds ≡ _ ∷ (name.1 ++ spell_all ds) = ap (λ l. l ++ spell_all ds) name.2 in cc
+
+same_programs : (ds es : List Definition) → AllFormed ds → AllFormed es → spell_all ds ≡ spell_all es → ds ≡ es
+same_programs [] [] f g h = refl
+same_programs [] (e ∷ es) f g h = absurd (some_spelling e es (sym h))
+same_programs (d ∷ ds) [] f g h = absurd (some_spelling d ds h)
+same_programs (d ∷ ds) (e ∷ es) f g h =
+    let both : Got d (spell_all ds) ≡ Got e (spell_all es) = sym (read_first d ds f) ∙ ap definition h ∙ read_first e es g in
+    let one : d ≡ e = cc in
+    let rest : spell_all ds ≡ spell_all es = cc in
+    ap (λ x. x ∷ ds) one ∙ ap (λ l. e ∷ l) (same_programs ds es f.1 g.1 rest)
+
+pub one_program : OneProgram
+one_program ds es tokens p q = same_programs ds es p.formed q.formed (p.spelled ∙ sym q.spelled)
+
+formed_in : (ds : List Definition) → AllFormed ds → AllFormedIn nesting_limit ds
+formed_in [] f = tt
+formed_in (Simple w values ∷ ds) f = (f.0, formed_in ds f.1)
+formed_in (Vector w size values ∷ ds) f = (f.0, formed_in ds f.1)
+formed_in (Function w parameters body ∷ ds) f = (f.0, formed_in ds f.1)
+
+in_formed : (ds : List Definition) → AllFormedIn nesting_limit ds → AllFormed ds
+in_formed [] f = tt
+in_formed (Simple w values ∷ ds) f = (f.0, in_formed ds f.1)
+in_formed (Vector w size values ∷ ds) f = (f.0, in_formed ds f.1)
+in_formed (Function w parameters body ∷ ds) f = (f.0, in_formed ds f.1)
+
+pub formed_within : FormedWithin
+formed_within ds = (formed_in ds, in_formed ds)
+
+pub has_parts : HasParts
+has_parts edition line bytes =
+    let tokens = tokens_from edition line bytes in
+    let p = parted_some (length tokens) tokens (omega arith) (tokens_from-ended edition line bytes) in
+    (p.definitions, p.stop, p.parted)
+
+pub one_way : OneWay
+one_way tokens ds es s t p q = go (order p.before p.at p.behind q.before q.at q.behind (sym p.split ∙ q.split))
+  where
+    go : Order p.before p.at p.behind q.before q.at q.behind → (p.before ≡ q.before) × (p.at ≡ q.at) × (ds ≡ es) × (s ≡ t)
+    go (sooner c e) = absurd (no_further p.before p.at s p.stops c q.before e (stops_begins (map bare q.before) q.at t q.stops))
+    go (later c e) = absurd (no_further q.before q.at t q.stops c p.before e (stops_begins (map bare p.before) p.at s p.stops))
+    go (together e f g) = let one = parted_once tokens ds es s t p q in (e, f, one.0, one.1)

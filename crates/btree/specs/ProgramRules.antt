@@ -1,0 +1,34 @@
+-- Laws of programs: one stands for tokens, and there is one way of parts.
+use Rattle.bword.specs.declared.edition.Edition.{Edition}
+use Rattle.std.specs.Prelude.{◌≡◌, ℕ, List, Option}
+use Rattle.blex.specs.declared.token.Placed.{Placed}
+use Rattle.blex.specs.declared.diagnostic.Diagnostic.{Diagnostic}
+use Rattle.blex.specs.Tokens.{tokens_from}
+use Rattle.btree.specs.Lines.{kept_tokens}
+use Rattle.btree.specs.Definition.{Definition, nesting_limit}
+use Rattle.btree.specs.Program.{spell_all, AllFormed, Parted}
+use Rattle.btree.specs.Levels.{AllFormedIn}
+
+-- A well-formed program stands for tokens that are its spelling, with the lines that trees keep.
+pub record StandsFor (ds : List Definition) (tokens : List Placed) : Type 0 where
+  pub formed : AllFormed ds
+  pub spelled : spell_all ds ≡ kept_tokens tokens
+
+-- Two programs that stand for the same tokens are equal.
+abbrev pub OneProgram : Type 0
+OneProgram = (ds es : List Definition) (tokens : List Placed) → StandsFor ds tokens → StandsFor es tokens → ds ≡ es
+
+-- A program is well formed where it needs no more levels than the limit.
+abbrev pub FormedWithin : Type 0
+FormedWithin = (ds : List Definition) → (AllFormed ds → AllFormedIn nesting_limit ds) × (AllFormedIn nesting_limit ds → AllFormed ds)
+
+-- Each source stops being a program's somewhere, and has parts before.
+abbrev pub HasParts : Type 0
+HasParts = (edition : Edition) (line : ℕ) (bytes : List ℕ)
+    → (ds : List Definition) × (stop : Option Diagnostic) × Parted (tokens_from edition line bytes) ds stop
+
+-- It stops at one place, and has one list of definitions before it.
+abbrev pub OneWay : Type 0
+OneWay =
+    (tokens : List Placed) (ds es : List Definition) (s t : Option Diagnostic) (p : Parted tokens ds s) (q : Parted tokens es t) →
+    (p.before ≡ q.before) × (p.at ≡ q.at) × (ds ≡ es) × (s ≡ t)
