@@ -1,9 +1,9 @@
 //! Programs with what they write, the line and the status of their runs.
 ghost use Rattle.bword.specs.ByteEnds.{incoming_of, bounded_of};
 
-use crate::go::go;
 use crate::source_tests::compares;
 use bparse::Status;
+use brun::go;
 use bword::{ByteIn, Device, MemIn, MemOut};
 use std::process::Abort;
 

@@ -1,7 +1,7 @@
 //! Code texts with the output, the line and the status of their runs.
-use crate::run_text::run_text;
 use crate::source_tests::compares;
 use bparse::Status;
+use brun::run_text;
 use bword::{MemIn, MemOut};
 use std::process::Abort;
 

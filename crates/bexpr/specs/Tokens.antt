@@ -43,7 +43,7 @@ pub record InOrder (bytes : List ℕ) (current behind : Option Seen) : Type 0 wh
   pub order : current ≡ None → behind ≡ None
 
 -- the tokens of what an end has left, in an edition
-abbrev pub all_tokens : Edition → Incoming → ℕ → Tokens
+abbrev pub all_tokens : Edition → Incoming → List ℕ → Tokens
 all_tokens edition end lender = record { source = record { ahead = []; line = 1; end = end; lender = lender; edition = edition }; progress = progress.Open; text = []; ahead = [] }
 
 abbrev pub tokens_with : List Placed → Edition → ℕ → List ℕ → List Placed

@@ -49,5 +49,5 @@ pub record GaveFirst (edition : Edition) (end : Incoming) (answers : List Placed
 
 -- Calls of a new lexer give the first tokens of its source.
 abbrev pub CallsGiveFirst : Type 0
-CallsGiveFirst = (edition : Edition) (end : Incoming) (lender : ℕ) (answers : List Placed) (l : Lexer)
+CallsGiveFirst = (edition : Edition) (end : Incoming) (lender : List ℕ) (answers : List Placed) (l : Lexer)
     → Calls (new edition end lender) answers l → GaveFirst edition end answers l

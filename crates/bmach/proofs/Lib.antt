@@ -15,3 +15,4 @@ pub mod Digits
 pub mod Running
 pub mod Copying
 pub mod Told
+pub mod Excluded

@@ -14,3 +14,4 @@ pub mod Taken
 pub mod Steps
 pub mod Runs
 pub mod Turns
+pub mod Excluded

@@ -8,6 +8,7 @@ mod exchange;
 mod fault;
 mod image;
 mod library;
+mod limits;
 mod loader;
 mod machine;
 mod number;
@@ -23,8 +24,8 @@ mod text;
 
 pub use fault::LoadFault;
 pub use image::Image;
-pub use library::Library;
+use library::Library;
 pub use loader::load;
 pub use outcome::{Outcome, Trap};
 pub use resolve::resolving_changes_no_run;
-pub use runs::run;
+pub use runs::{run, wrong_runs_are_excluded};

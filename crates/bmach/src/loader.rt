@@ -7,17 +7,12 @@ ghost use Rattle.bmach.specs.Parts.{part_of};
 ghost use Rattle.bmach.specs.Resolved.{IsLoadedFrom};
 
 use crate::addresses::{Addresses, FIRST_ADDRESS, addresses_of};
+use crate::limits::{MAX_LABELS, STORE_WORDS};
 use crate::part::Part;
 use crate::parts::{functions_in, is_main, labels_in, size_of};
 use crate::{Image, LoadFault};
 use bcode::Definition;
 use std::alloc::Global;
-
-/// How many words the store has.
-const STORE_WORDS: u32 = 65536;
-
-/// The greatest value of a label.
-const MOST_LABELS: u32 = 65535;
 
 /// Word 0 and the library's externals, whose words are their values.
 const FIRST_WORDS: [u16; 7] = [0, 1, 2, 3, 4, 5, 6];
@@ -58,7 +53,7 @@ fn fits(definitions: &[Definition]) -> bool
     for definition in definitions {
         end += u32::from(size_of(definition));
         labels += u32::from(labels_in(definition));
-        if end > STORE_WORDS || labels > MOST_LABELS {
+        if end > STORE_WORDS || labels > MAX_LABELS {
             return false;
         }
     }

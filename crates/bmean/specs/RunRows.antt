@@ -55,37 +55,59 @@ record Jumps : Type 0 where
 
 jumps : Jumps
 unfolding tokens_from cut longest greatest whole word_of keyword_of number_in with_byte escape_of operator_of other_of fixed_of digits
-jumps = record { into_loop = refl; back = refl; by_number = refl; label_value = refl; no_label = refl; label_elsewhere = refl }
+jumps = record {
+  into_loop = refl;
+  back = refl;
+  by_number = refl;
+  label_value = refl;
+  no_label = refl;
+  label_elsewhere = refl;
+}
 
 -- switches: falling through, one inside another, a case inside a loop, none that fits
 record Switches : Type 0 where
-  falls_through : both (codes "main(){switch 2 {case 1: putchar('1'); case 2: putchar('2'); case 3: putchar('3');}}") [] 400
+  falls_through :
+      both (codes "main(){switch 2 {case 1: putchar('1'); case 2: putchar('2'); case 3: putchar('3');}}") [] 400
       ≡ replicate 2 (Exit 0, codes "23")
   no_case : both (codes "main(){switch 9 {case 1: putchar('1'); case 2: putchar('2');} putchar('.');}") [] 400
       ≡ replicate 2 (Exit 0, codes ".")
-  inner_switch : both (codes "main(){switch 2 {case 1: putchar('1'); case 2: switch 1 {case 2: putchar('x'); case 1: putchar('y');} case 3: putchar('z');}}") [] 400
+  inner_switch :
+      both (codes "main(){switch 2 {case 1: putchar('1'); case 2: switch 1 {case 2: putchar('x'); case 1: putchar('y');} case 3: putchar('z');}}") [] 400
       ≡ replicate 2 (Exit 0, codes "yz")
   inner_case : both (codes "main(){switch 3 {case 1: switch 1 {case 3: putchar('x');} case 3: putchar('z');}}") [] 400
       ≡ replicate 2 (Exit 0, codes "z")
-  case_in_loop : both (codes "main(){auto i; i=0; switch 1 {while(i<2) {case 1: putchar('a'); i++;}} putchar('.');}") [] 400
+  case_in_loop :
+      both (codes "main(){auto i; i=0; switch 1 {while(i<2) {case 1: putchar('a'); i++;}} putchar('.');}") [] 400
       ≡ replicate 2 (Exit 0, codes "aa.")
   nearest_if : both (codes "main(){if(1) if(0) putchar('a'); else putchar('b');}") [] 400
       ≡ replicate 2 (Exit 0, codes "b")
 
 switches : Switches
 unfolding tokens_from cut longest greatest whole word_of keyword_of number_in with_byte escape_of operator_of other_of fixed_of digits
-switches = record { falls_through = refl; no_case = refl; inner_switch = refl; inner_case = refl; case_in_loop = refl; nearest_if = refl }
+switches = record {
+  falls_through = refl;
+  no_case = refl;
+  inner_switch = refl;
+  inner_case = refl;
+  case_in_loop = refl;
+  nearest_if = refl;
+}
 
 -- strings, each with words of its own
 record Strings : Type 0 where
-  string : both (codes "main(){auto s; s=\"hi\"; lchar(s,0,'H'); putchar(char(s,0)); putchar(char(s,1)); printn(char(s,2),10);}") [] 400
+  string :
+      both (codes "main(){auto s; s=\"hi\"; lchar(s,0,'H'); putchar(char(s,0)); putchar(char(s,1)); printn(char(s,2),10);}") [] 400
       ≡ replicate 2 (Exit 0, codes "Hi4")
-  two_strings : both (codes "main(){auto s, t; s=\"a\"; t=\"a\"; lchar(s,0,'b'); putchar(char(s,0)); putchar(char(t,0));}") [] 400
+  two_strings :
+      both (codes "main(){auto s, t; s=\"a\"; t=\"a\"; lchar(s,0,'b'); putchar(char(s,0)); putchar(char(t,0));}") [] 400
       ≡ replicate 2 (Exit 0, codes "ba")
 
 strings : Strings
 unfolding tokens_from cut longest greatest whole word_of keyword_of number_in with_byte escape_of operator_of other_of fixed_of digits
-strings = record { string = refl; two_strings = refl }
+strings = record {
+  string = refl;
+  two_strings = refl;
+}
 
 -- externals: words in order, a name that stands for an address, a name of the library that a definition hides
 record Externals : Type 0 where
@@ -96,7 +118,8 @@ record Externals : Type 0 where
   pointer : both (codes "p n; n 'x'; main(){extrn p; putchar(*p);}") [] 400 ≡ replicate 2 (Exit 0, codes "x")
   hides_exit : both (codes "exit(n) putchar(n); main(){exit('x'); putchar('y');}") [] 400
       ≡ replicate 2 (Exit 0, codes "xy")
-  hides_printn : both (codes "printn(n,b) { extrn putchar; auto a; if(a=n/b) printn(a, b); putchar(n%b + '0'); } main() { printn(1972,10); }") [] 400
+  hides_printn :
+      both (codes "printn(n,b) { extrn putchar; auto a; if(a=n/b) printn(a, b); putchar(n%b + '0'); } main() { printn(1972,10); }") [] 400
       ≡ replicate 2 (Exit 0, codes "1972")
   function_value : both (codes "f(x) putchar(x); main(){extrn f; auto g; g=f; g('q');}") [] 400
       ≡ replicate 2 (Exit 0, codes "q")
@@ -104,7 +127,15 @@ record Externals : Type 0 where
 
 externals : Externals
 unfolding tokens_from cut longest greatest whole word_of keyword_of number_in with_byte escape_of operator_of other_of fixed_of digits
-externals = record { addresses = refl; values = refl; pointer = refl; hides_exit = refl; hides_printn = refl; function_value = refl; no_function = refl }
+externals = record {
+  addresses = refl;
+  values = refl;
+  pointer = refl;
+  hides_exit = refl;
+  hides_printn = refl;
+  function_value = refl;
+  no_function = refl;
+}
 
 -- frames: not cleared, vectors in them, addresses that wrap
 record Frames : Type 0 where
@@ -112,19 +143,26 @@ record Frames : Type 0 where
       ≡ replicate 2 (Exit 0, codes "7")
   vector : both (codes "main(){auto v 2, i; i=0; while(i<3) {v[i]=i+'a'; i++;} i=3; while(i--) putchar(v[i]);}") [] 400
       ≡ replicate 2 (Exit 0, codes "cba")
-  last_word : both (codes "main(){auto p; p=0; *p='a'; p=65535; *p='b'; putchar(*p); putchar(p[1]); putchar(*0);}") [] 400
+  last_word :
+      both (codes "main(){auto p; p=0; *p='a'; p=65535; *p='b'; putchar(*p); putchar(p[1]); putchar(*0);}") [] 400
       ≡ replicate 2 (Exit 0, codes "baa")
   no_room : both (codes "main(){auto v 32000; main();}") [] 400 ≡ replicate 2 (Trap trap.NoRoom, [])
 
 frames : Frames
 unfolding tokens_from cut longest greatest whole word_of keyword_of number_in with_byte escape_of operator_of other_of fixed_of digits
-frames = record { frame_kept = refl; vector = refl; last_word = refl; no_room = refl }
+frames = record {
+  frame_kept = refl;
+  vector = refl;
+  last_word = refl;
+  no_room = refl;
+}
 
 -- calls: missing and extra arguments, the left operand first, recursion, what main returns
 record Calls : Type 0 where
   arguments : both (codes "f(a,b) return(b); main(){printn(f(1),10); printn(f(1,2,3),10);}") [] 400
       ≡ replicate 2 (Exit 0, codes "02")
-  left_first : both (codes "p(x){putchar(x);return(x);} main(){p('a')-p('b');}") [] 400 ≡ replicate 2 (Exit 0, codes "ab")
+  left_first : both (codes "p(x){putchar(x);return(x);} main(){p('a')-p('b');}") [] 400
+      ≡ replicate 2 (Exit 0, codes "ab")
   read_behind : both (codes "n 1; f(){extrn n; n=5; return(1);} main(){extrn n; n =+ f(); printn(n,10);}") [] 400
       ≡ replicate 2 (Exit 0, codes "6")
   factorial : both (codes "f(n){if(n==0) return(1); return(n*f(n-1));} main(){printn(f(8),10);}") [] 400
@@ -135,7 +173,15 @@ record Calls : Type 0 where
 
 calls : Calls
 unfolding tokens_from cut longest greatest whole word_of keyword_of number_in with_byte escape_of operator_of other_of fixed_of digits
-calls = record { arguments = refl; left_first = refl; read_behind = refl; factorial = refl; main_returns = refl; exits = refl; exits_at_most = refl }
+calls = record {
+  arguments = refl;
+  left_first = refl;
+  read_behind = refl;
+  factorial = refl;
+  main_returns = refl;
+  exits = refl;
+  exits_at_most = refl;
+}
 
 -- arithmetic: signs, wrapping, counting, zero divisors, bases
 record Arithmetic : Type 0 where
@@ -156,25 +202,44 @@ record Arithmetic : Type 0 where
 
 arithmetic : Arithmetic
 unfolding tokens_from cut longest greatest whole word_of keyword_of number_in with_byte escape_of operator_of other_of fixed_of digits
-arithmetic = record { assigned = refl; toward_zero = refl; least = refl; shifted_out = refl; counts_down = refl; counts_up = refl; zero_divisor = refl; zero_remainder = refl; base_11 = refl }
+arithmetic = record {
+  assigned = refl;
+  toward_zero = refl;
+  least = refl;
+  shifted_out = refl;
+  counts_down = refl;
+  counts_up = refl;
+  zero_divisor = refl;
+  zero_remainder = refl;
+  base_11 = refl;
+}
 
 -- the input
 record Input : Type 0 where
   copies : both (codes "main(){auto c; while((c=getchar())!='*e') putchar(c);}") (codes "hi") 400
       ≡ replicate 2 (Exit 0, codes "hi")
-  copies_nothing : both (codes "main(){auto c; while((c=getchar())!='*e') putchar(c);}") [] 400 ≡ replicate 2 (Exit 0, [])
+  copies_nothing : both (codes "main(){auto c; while((c=getchar())!='*e') putchar(c);}") [] 400
+      ≡ replicate 2 (Exit 0, [])
   end_again : both (codes "main(){getchar(); printn(getchar(),10); printn(getchar(),10);}") (codes "a") 400
       ≡ replicate 2 (Exit 0, codes "44")
 
 input : Input
 unfolding tokens_from cut longest greatest whole word_of keyword_of number_in with_byte escape_of operator_of other_of fixed_of digits
-input = record { copies = refl; copies_nothing = refl; end_again = refl }
+input = record {
+  copies = refl;
+  copies_nothing = refl;
+  end_again = refl;
+}
 
 -- A run halts with its last step, and wants as much fuel as it makes turns of loops.
 record Limits : Type 0 where
-  two_steps : map (λ n. both (codes "main(){}") [] n) (1 ∷ 2 ∷ []) ≡ ((Exit 0, []) ∷ (Limit, []) ∷ []) ∷ ((Exit 0, []) ∷ (Exit 0, []) ∷ []) ∷ []
+  two_steps : map (λ n. both (codes "main(){}") [] n) (1 ∷ 2 ∷ [])
+      ≡ ((Exit 0, []) ∷ (Limit, []) ∷ []) ∷ ((Exit 0, []) ∷ (Exit 0, []) ∷ []) ∷ []
   endless : both (codes "main(){putchar('a'); while(1) ;}") [] 100 ≡ replicate 2 (Limit, codes "a")
 
 limits : Limits
 unfolding tokens_from cut longest greatest whole word_of keyword_of number_in with_byte escape_of operator_of other_of fixed_of digits
-limits = record { two_steps = refl; endless = refl }
+limits = record {
+  two_steps = refl;
+  endless = refl;
+}

@@ -1,273 +1,218 @@
--- What several calls of the compiler come to.
-use Rattle.std.proofs.Common.{◌≡◌, ◌≢◌, ℕ, ◌+◌, ◌<◌, ◌≤◌, Bool, true, false, List, [], ◌∷◌, ◌++◌, length, map, take, Option, Some, None, Result, Ok, Err, refl, sym, ap, ◌∙◌, subst, append_assoc, append-nil, length-append, arith, ◌⊎◌, inl, inr}
+-- What compiling a whole source comes to, by its last call.
+use Rattle.std.proofs.Common.{◌≡◌, ℕ, ◌+◌, ◌<◌, ◌≤◌, true, false, List, [], ◌∷◌, ◌++◌, length, map, take, Option, Some, None, Result, Ok, Err, refl, sym, ap, ◌∙◌, subst, append_assoc, length-append, arith, ◌⊎◌, inl, inr}
 use Rattle.bword.specs.declared.edition.Edition.TheVariants as editions
-use Rattle.std.proofs.KnownBytes.{Appends-trans}
-use Rattle.std.specs.Io.KnownBytes.{Appends}
-use Rattle.std.proofs.Math.Seq.{take-append-add}
 use Rattle.std.proofs.lemmas.List.{take-append-le}
-use Rattle.bword.specs.ByteEnds.{Incoming, Outgoing, Grew, Writes, Refuses}
-use Rattle.bword.proofs.Putting.{Writes-none, Writes-append}
-use Rattle.blex.proofs.Passing.{Took-none, Took-append}
-use Rattle.blex.specs.declared.diagnostic.Diagnostic.{Diagnostic}
-use Rattle.btree.specs.Compiled.{Defined, Outcome, Goes, ending, code_text, line_of}
-use Rattle.bcode.specs.Text.{joined}
-use Rattle.btree.proofs.GoesLaws.{goes_once, goes_some}
-use Rattle.bexpr.specs.Tokens.{Tokens, tokens_of, CanFollow, work}
-use Rattle.bparse.specs.Compilers.{Compiler, Comes, next_text, Began, Keeps, Wrote, Stopped, Broke, DeviceFailed, MemoryRefused, SomeTextComes, SomeCodeComes, HasCode}
-use Rattle.bparse.specs.Compilers.{new}
-use Rattle.bparse.specs.Compiles.{KeepsAll, Each, AllWritten, AllBroke, AllGives, CodeComes, CodeGives, Whatever, Run, IsBroken, AnyFailed, AnyRefused, Compiles}
-use Rattle.bparse.specs.Statuses.{status_of}
+use Rattle.bword.specs.ByteEnds.{Incoming, Outgoing, Took, Grew, Writes, Refuses}
 use Rattle.bword.specs.declared.byte_out.EndFault.{EndFault}
 use Rattle.bword.specs.declared.byte_out.EndFault.TheVariants as end_fault
-use Rattle.bparse.specs.declared.step.Stop.{Stop}
-use Rattle.bparse.specs.declared.step.Stop.TheVariants as why
-use Rattle.bexpr.proofs.TokenSteps.{CanFollow-append}
-use Rattle.bparse.proofs.CompilerSteps.{tokens_of-ended}
+use Rattle.bword.proofs.Putting.{Writes-append, Refuses-behind, Refuses-short}
+use Rattle.bcode.specs.Text.{joined}
+use Rattle.blex.specs.declared.diagnostic.Diagnostic.{Diagnostic}
+use Rattle.btree.specs.Compiled.{Outcome, ending, code_text, line_of, text_of}
+use Rattle.btree.specs.Definition.{Definition}
+use Rattle.bparse.specs.Compilers.{Ends, Compiler, Keeps, Behind, Since, Wrote, Stopped, Broke, Whatever, StepGives}
+use Rattle.bparse.specs.Compilers as compilers
+use Rattle.bparse.specs.Compiles.{Run, HasWritten, SourceFailed, CodeRefused, LineRefused, NamesRefused, Compiles, LastGives, CodeGives}
+use Rattle.bparse.specs.Statuses.{status_of}
+use Rattle.bparse.specs.Steps.{HasCode, next_text}
+use Rattle.bparse.specs.declared.step.Step.{Step}
+use Rattle.bparse.specs.declared.step.Step.TheVariants as step
+use Rattle.bparse.proofs.SinceSteps.{joined-append}
 
--- texts before others
-abbrev pub with_texts : List (List ℕ) → Outcome → Outcome
-with_texts texts r = record { code = texts ++ r.code; stop = r.stop }
+pub keeps_none : (c : Compiler) → Keeps c c
+keeps_none c = record { first = refl; lender = refl; out_lender = refl }
 
--- some definitions were written
-pub record Compiling (old now : Compiler) : Type 0 where
-  pub taken : List ℕ
-  pub keeps : KeepsAll old taken now
-  pub texts : List (List ℕ)
-  pub written : Writes old.out (joined texts) now.out
-  pub failures : now.tokens.source.end.failures ≡ old.tokens.source.end.failures
-  pub open_now : now.is_closed ≡ false
-  pub comes : (more : List ℕ) → CanFollow now.tokens.source.end more → (r : Outcome) → Goes now.names (tokens_of now.tokens more) r → Comes old taken more (with_texts texts r)
+pub keeps_more : {a b c : Compiler} → Keeps a b → Keeps b c → Keeps a c
+keeps_more h k = record { first = k.first ∙ h.first; lender = k.lender ∙ h.lender; out_lender = k.out_lender ∙ h.out_lender }
 
-pub compiling_none : (c : Compiler) → c.is_closed ≡ false → Compiling c c
-compiling_none c e = record {
-  taken = [];
-  keeps = record { took = Took-none c.tokens.source.end; lender = refl; out_lender = refl };
-  texts = [];
-  written = Writes-none c.out;
-  failures = refl;
-  open_now = e;
-  comes = λ more f r g. g;
-}
+-- the code text of an outcome that begins with these texts
+code_behind : (ds : List Definition) (rest r : Outcome) → Behind ds rest r → code_text editions.One r ≡ joined (map text_of ds) ++ (joined rest.code ++ ending rest.stop)
+code_behind ds rest r h =
+    ap (λ x. joined x ++ ending r.stop) h.code ∙ ap (λ x. joined (map text_of ds ++ rest.code) ++ ending x) h.stop
+    ∙ ap (λ l. l ++ ending rest.stop) (joined-append (map text_of ds) rest.code) ∙ append_assoc (joined (map text_of ds)) (joined rest.code) (ending rest.stop)
 
-joined-append : (xs ys : List (List ℕ)) → joined (xs ++ ys) ≡ joined xs ++ joined ys
-joined-append [] ys = refl
-joined-append (x ∷ xs) ys = ap (λ l. x ++ l) (joined-append xs ys) ∙ sym (append_assoc x (joined xs) (joined ys))
-
-keeps_then : {old now new : Compiler} {xs ys : List ℕ} → KeepsAll old xs now → Keeps now ys new → KeepsAll old (xs ++ ys) new
-keeps_then h k = record { took = Took-append h.took k.reads.took; lender = k.reads.lender ∙ h.lender; out_lender = k.out_lender ∙ h.out_lender }
-
--- what could follow behind could follow before
-follow : {now new : Compiler} {ys : List ℕ} → Keeps now ys new → (more : List ℕ) → CanFollow new.tokens.source.end more → CanFollow now.tokens.source.end (ys ++ more)
-follow {now} {new} {ys} k more f = λ over. let o = k.reads.took.over over in nil_both ys more o.0 (f o.1)
-  where
-    nil_both : (xs zs : List ℕ) → xs ≡ [] → zs ≡ [] → xs ++ zs ≡ []
-    nil_both xs zs h k = rw (h, k) refl
-
-pub compiling_more : {old now new : Compiler} → Compiling old now → Wrote now new → Compiling old new
-compiling_more {old} {now} {new} h w = record {
-  taken = h.taken ++ w.taken;
-  keeps = keeps_then h.keeps w.keeps;
-  texts = h.texts ++ w.text ∷ [];
-  written = rw joined-append (rw append-nil (Writes-append h.written w.written));
-  failures = w.failures ∙ h.failures;
-  open_now = w.open_behind;
-  comes = λ more f r g.
-      subst (λ ts. Goes old.names ts (with_texts (h.texts ++ w.text ∷ []) r)) (ap (tokens_of old.tokens) (sym (append_assoc h.taken w.taken more)))
-      (subst (λ code. Goes old.names (tokens_of old.tokens (h.taken ++ (w.taken ++ more))) (record { code = code; stop = r.stop })) (sym (append_assoc h.texts (w.text ∷ []) r.code))
-      (h.comes (w.taken ++ more) (follow w.keeps more f) (record { code = w.text ∷ r.code; stop = r.stop }) (w.comes more f r g)));
-}
-
--- what comes behind what was written comes behind it
-behind : {old now new : Compiler} {ys : List ℕ} → (h : Compiling old now) → Keeps now ys new → (more : List ℕ) → CanFollow new.tokens.source.end more → (q r : Outcome) → Comes now ys more q → Comes old (h.taken ++ ys) more r → r ≡ with_texts h.texts q
-behind {old} {now} {new} {ys} h k more f q r g a =
-    goes_once a (subst (λ ts. Goes old.names ts (with_texts h.texts q)) (ap (tokens_of old.tokens) (sym (append_assoc h.taken ys more))) (h.comes (ys ++ more) (follow k more f) q g))
-
-pub all_written : {old now new : Compiler} (stop : Option Diagnostic) → Compiling old now → Stopped now stop new → AllWritten old stop new
-all_written {old} {now} {new} stop h s = record {
-  taken = h.taken ++ s.taken;
-  keeps = keeps_then h.keeps s.keeps;
-  written = λ more f r a.
-      let e = behind h s.keeps more f (record { code = []; stop = stop }) r (s.comes more f) a in
-      (ap (λ x. x.stop) e, subst (λ x. Writes old.out (code_text editions.One x) new.out) (sym e) (rw append-nil (Writes-append h.written s.written)));
-}
-
-began_behind : {a b c : Outgoing} {xs ys : List ℕ} → Writes a xs b → Began b ys c → Began a (xs ++ ys) c
-began_behind {a} {b} {c} {xs} {ys} h k = record {
-  count = length xs + k.count;
-  within = let l = k.within in omega (arith, length-append xs ys);
-  appended = rw (take-append-add xs ys k.count) (Appends-trans a.written b.written c.written xs (take k.count ys) h.appended k.appended);
-}
-
-began_longer : {a b : Outgoing} {xs : List ℕ} (ys : List ℕ) → Began a xs b → Began a (xs ++ ys) b
-began_longer {a} {b} {xs} ys h = record {
-  count = h.count;
-  within = let l = h.within in omega (arith, length-append xs ys);
-  appended = rw (take-append-le h.count xs ys h.within) h.appended;
-}
-
--- a beginning of the next text is one of all texts to come
-began_all : {a b : Outgoing} (texts : List (List ℕ)) (stop : Option Diagnostic) → Began a (next_text texts stop) b → Began a (joined texts ++ ending stop) b
-began_all [] stop h = h
-began_all (t ∷ ts) stop h = rw append_assoc (began_longer (joined ts ++ ending stop) h)
-
-pub all_broke : {old now new : Compiler} (first then : List ℕ → Type 0) (h : Compiling old now) → (b : Broke now first new) → (first b.taken → then (h.taken ++ b.taken)) → AllBroke old then new
-all_broke {old} {now} {new} first then h b reasons = record {
-  taken = h.taken ++ b.taken;
-  keeps = keeps_then h.keeps b.keeps;
-  began = λ more f r a.
-      let some = goes_some now.names (tokens_of now.tokens (b.taken ++ more)) (tokens_of-ended now.tokens (b.taken ++ more)) in
-      let q = some.outcome in
-      let e = behind h b.keeps more f q r some.goes a in
-      let began = began_behind h.written (began_all q.code q.stop (b.began more f q some.goes)) in
-      let same_ : joined h.texts ++ (joined q.code ++ ending q.stop) ≡ code_text editions.One (with_texts h.texts q) = sym (append_assoc (joined h.texts) (joined q.code) (ending q.stop)) ∙ ap (λ l. l ++ ending q.stop) (sym (joined-append h.texts q.code)) in
-      subst (λ x. Began old.out (code_text editions.One x) new.out) (sym e) (subst (λ l. Began old.out l new.out) same_ began);
-  reason = reasons b.reason;
-}
-
-not_nil : (xs ys : List (List ℕ)) → (ys ≡ [] → ⊥) → xs ++ ys ≡ [] → ⊥
-not_nil [] ys h e = h e
-not_nil (x ∷ xs) ys h e = cc
+-- what is refused of the next text is refused of all texts to come
+refused_all : {a b : Outgoing} {fault : EndFault} (texts : List (List ℕ)) (stop : Option Diagnostic) → Refuses a (next_text texts stop) fault b → Refuses a (joined texts ++ ending stop) fault b
+refused_all [] stop h = h
+refused_all (t ∷ ts) stop h = rw append_assoc (Refuses-short (joined ts ++ ending stop) h)
 
 nil_behind : (xs ys : List (List ℕ)) → xs ++ ys ≡ [] → ys ≡ []
 nil_behind [] ys e = e
 nil_behind (x ∷ xs) ys e = cc
 
-grew_since : (a b c : ℕ) → b ≡ a → Grew b c → Grew a c
-grew_since a b c e g = rw e at g
+some_length : (xs : List (List ℕ)) → (xs ≡ [] → ⊥) → 0 < length xs
+some_length [] h = absurd (h refl)
+some_length (x ∷ xs) h = omega arith
 
-pub device_broke : {old now new : Compiler} → Compiling old now → Broke now (λ taken. DeviceFailed now new) new
-    → AllBroke old (λ taken. Grew old.tokens.source.end.failures new.tokens.source.end.failures ⊎ Grew old.out.failures new.out.failures) new
-device_broke {old} {now} {new} h b = all_broke _ (λ taken. Grew old.tokens.source.end.failures new.tokens.source.end.failures ⊎ Grew old.out.failures new.out.failures) h b reasons
-  where
-    reasons : DeviceFailed now new → Grew old.tokens.source.end.failures new.tokens.source.end.failures ⊎ Grew old.out.failures new.out.failures
-    reasons (inl g) = inl (grew_since _ _ _ h.failures g.0)
-    reasons (inr g) = inr (grew_since _ _ _ h.written.failures g)
+take_all : (xs : List (List ℕ)) → take (length xs) xs ≡ xs
+take_all [] = refl
+take_all (x ∷ xs) = ap (λ l. x ∷ l) (take_all xs)
 
-pub memory_broke : {old now new : Compiler} → Compiling old now → Broke now (λ taken. MemoryRefused now taken new) new
-    → AllBroke old (λ taken. (Grew old.out.refusals new.out.refusals × Each old taken new HasCode) ⊎ Each old taken new (λ r. r.code ≡ [] → ⊥)) new
-memory_broke {old} {now} {new} h b = all_broke (λ taken. MemoryRefused now taken new) (λ taken. (Grew old.out.refusals new.out.refusals × Each old taken new HasCode) ⊎ Each old taken new (λ r. r.code ≡ [] → ⊥)) h b reasons
-  where
-    some_code : SomeCodeComes now b.taken new → Each old (h.taken ++ b.taken) new HasCode
-    some_code s more f r a e =
-        let some = goes_some now.names (tokens_of now.tokens (b.taken ++ more)) (tokens_of-ended now.tokens (b.taken ++ more)) in
-        let same_ = behind h b.keeps more f some.outcome r some.goes a in
-        let none = nil_behind h.texts some.outcome.code (sym (ap (λ x. x.code) same_) ∙ e) in
-        ap (λ x. x.stop) same_ ∙ s more f some.outcome some.goes none
+take_first : (xs ys zs : List (List ℕ)) → zs ≡ xs ++ ys → take (length xs) zs ≡ xs
+take_first xs ys zs e = ap (take (length xs)) e ∙ take-append-le (length xs) xs ys (omega arith) ∙ take_all xs
 
-    some_text : SomeTextComes now b.taken new → Each old (h.taken ++ b.taken) new (λ r. r.code ≡ [] → ⊥)
-    some_text s more f r a e =
-        let some = goes_some now.names (tokens_of now.tokens (b.taken ++ more)) (tokens_of-ended now.tokens (b.taken ++ more)) in
-        let same_ = behind h b.keeps more f some.outcome r some.goes a in
-        not_nil h.texts some.outcome.code (s more f some.outcome some.goes) (sym (ap (λ x. x.code) same_) ∙ e)
-
-    reasons : MemoryRefused now b.taken new → (Grew old.out.refusals new.out.refusals × Each old (h.taken ++ b.taken) new HasCode) ⊎ Each old (h.taken ++ b.taken) new (λ r. r.code ≡ [] → ⊥)
-    reasons (inl g) = inl (grew_since _ _ _ h.written.refusals g.0, some_code g.1)
-    reasons (inr g) = inr (some_text g.1)
-
-pub closed_never : {old now : Compiler} → Compiling old now → now.is_closed ≡ true → ⊥
-closed_never h e = let o = h.open_now in cc
-
--- from the first byte on
-abbrev start : Incoming → ℕ → Outgoing → ℕ → Compiler
-start i lender o out_lender = new i lender o out_lender
-
-pub code_gives : (i : Incoming) (lender : ℕ) (o : Outgoing) (out_lender : ℕ) (old : Compiler) (r : Result (Unit {0}) Stop) (fin : Compiler) (j : Incoming) (p : Outgoing) → old ≡ start i lender o out_lender → AllGives old r fin → j ≡ fin.tokens.source.end → p ≡ fin.out → CodeGives i o r j p
-code_gives i lender o out_lender old r fin j p e h ej ep = rw (ej, ep) (record { comes = go r (subst (λ c. AllGives c r fin) e h) })
-  where
-    go : (r : Result (Unit {0}) Stop) → AllGives (start i lender o out_lender) r fin → CodeComes i o r fin.tokens.source.end fin.out
-    go (Ok u) h = record { taken = h.taken; took = h.keeps.took; written = h.written }
-    go (Err (why.Fault f)) h = record { taken = h.taken; took = h.keeps.took; written = h.written }
-    go (Err why.Device) h = record { taken = h.taken; took = h.keeps.took; began = h.began; reason = h.reason }
-    go (Err why.Memory) h = record { taken = h.taken; took = h.keeps.took; began = h.began; reason = h.reason }
-
--- the ends stay
-pub Compiling-keeps : {old now : Compiler} → Compiling old now → (now.tokens.source.lender ≡ old.tokens.source.lender) × (now.out_lender ≡ old.out_lender)
-Compiling-keeps h = (h.keeps.lender, h.keeps.out_lender)
-
--- What compiling comes to, with its line.
-module _ (i j : Incoming) (o p d e : Outgoing) where
+module _ (first last : Compiler) (d e : Outgoing) where
   abbrev run : ℕ → Run
-  run status = record { source = i; source_behind = j; code = o; code_behind = p; line = d; line_behind = e; status = status }
+  run status = record { source = first.first.source; source_behind = last.tokens.source.end; code = first.first.out; code_behind = last.out; line = d; line_behind = e; status = status }
 
-  pub compiles_all : CodeComes i o (Ok tt) j p → e ≡ d → Compiles (run 0)
-  compiles_all h same = record {
-    taken = h.taken;
-    took = h.took;
-    compiled = λ s more f r g. let w = h.written more f r g in record { clean = w.0; code = w.1; silent = same };
-    faulty = λ s. absurd (omega arith);
-    failed = λ s. absurd (omega arith);
-    refused = λ s. absurd (omega arith);
-    no_other = inl refl;
+  module _ {answer : Step} (l : LastGives first answer last) where
+    same_first : last.first ≡ first.first
+    same_first = l.keeps.first ∙ l.keeps_old.first
+
+    took_all : {taken : List ℕ} → Took last.first.source taken last.tokens.source.end → Took first.first.source taken last.tokens.source.end
+    took_all {taken} h = subst (λ x. Took x.source taken last.tokens.source.end) same_first h
+
+    read_all : last.tokens.source.end.failures ≡ last.first.source.failures → last.tokens.source.end.failures ≡ first.first.source.failures
+    read_all h = h ∙ ap (λ x. x.source.failures) same_first
+
+    -- what was written before the last call
+    written_before : {before : List Definition} → Since l.old before → Writes first.first.out (joined (map text_of before)) l.old.out
+    written_before {before} s = subst (λ x. Writes x.out (joined (map text_of before)) l.old.out) l.keeps_old.first s.written
+
+    written_whole : {stop : Option Diagnostic} (s : Stopped l.old stop last) (r : Outcome) → (r.code ≡ map text_of s.before) × (r.stop ≡ stop) → Writes first.first.out (code_text editions.One r) last.out
+    written_whole {stop} s r q =
+        subst (λ t. Writes first.first.out t last.out) (ap (λ x. joined x ++ ending stop) (sym q.0) ∙ ap (λ x. joined r.code ++ ending x) (sym q.1))
+        (subst (λ x. Writes x.out (joined (map text_of s.before) ++ ending stop) last.out) same_first s.written)
+
+    texts_written : {before : List Definition} (status : ℕ) → Since l.old before → last.out ≡ l.old.out → (rest r : Outcome) → Behind before rest r → HasWritten (run status) (length (map text_of before)) r
+    texts_written {before} status s same rest r h =
+        subst (λ o. Writes first.first.out (joined (take (length (map text_of before)) r.code)) o) (sym same)
+        (subst (λ x. Writes first.first.out (joined x) l.old.out) (sym (take_first (map text_of before) rest.code r.code h.code)) (written_before s))
+
+    code_refused : (fault : EndFault) (status : ℕ) (h : compilers.OutRefused l.old fault last) → e ≡ d → CodeRefused (run status) h.0.taken fault
+    code_refused fault status h same = record {
+      read = read_all h.1;
+      code = λ more f r g.
+          let q = h.0.comes more f r g in (
+            (λ none. q.1.stop ∙ q.2.0 (nil_behind (map text_of h.0.before) q.0.code (sym q.1.code ∙ none))),
+            subst (λ t. Refuses first.first.out t fault last.out) (sym (code_behind h.0.before q.0 r q.1))
+                (Refuses-behind (written_before h.0.since) (refused_all q.0.code q.0.stop q.2.1)),
+          );
+      silent = same;
+    }
+
+    source_failed : (status : ℕ) (h : compilers.ReadFailed l.old last) → e ≡ d → SourceFailed (run status) h.0.taken
+    source_failed status h same = record {
+      counted = subst (λ x. Grew x.source.failures last.tokens.source.end.failures) same_first h.1;
+      count = length (map text_of h.0.before);
+      code = λ more f r g.
+          let q = h.0.comes more f r g in
+          (omega (arith, ap length q.1.code, length-append (map text_of h.0.before) q.0.code), texts_written status h.0.since h.2 q.0 r q.1);
+      silent = same;
+    }
+
+    names_refused : (status : ℕ) (h : compilers.NamesRefused l.old last) → e ≡ d → NamesRefused (run status) h.0.taken
+    names_refused status h same = record {
+      read = read_all h.1;
+      count = length (map text_of h.0.before);
+      code = λ more f r g.
+          let q = h.0.comes more f r g in
+          (omega (arith, ap length q.1.code, length-append (map text_of h.0.before) q.0.code, some_length q.0.code q.2), texts_written status h.0.since h.2 q.0 r q.1);
+      silent = same;
+    }
+
+  pub done : LastGives first step.Finished last → e ≡ d → Compiles (run 0)
+  done l same =
+      let s = l.gives in
+      record {
+        taken = s.taken;
+        took = took_all l s.took;
+        compiled = λ z more f r g. let q = s.comes more f r g in record { read = read_all l s.failures; clean = q.1; code = written_whole l s r q; silent = same };
+        faulty = λ z. absurd (omega arith);
+        failed = λ z. absurd (omega arith);
+        refused = λ z. absurd (omega arith);
+        no_other = inl refl;
+      }
+
+  pub faulty : (fault : Diagnostic) → LastGives first (step.Fault fault) last → Writes d (line_of fault) e → Compiles (run 1)
+  faulty fault l line =
+      let s = l.gives in
+      record {
+        taken = s.taken;
+        took = took_all l s.took;
+        compiled = λ z. absurd (omega arith);
+        faulty = λ z more f r g. let q = s.comes more f r g in record { read = read_all l s.failures; fault = fault; stop = q.1; code = written_whole l s r q; line = line };
+        failed = λ z. absurd (omega arith);
+        refused = λ z. absurd (omega arith);
+        no_other = inr (inl refl);
+      }
+
+  line_refused : (fault : Diagnostic) (end : EndFault) (status : ℕ) → (l : LastGives first (step.Fault fault) last) → Refuses d (line_of fault) end e → (s : Stopped l.old (Some fault) last) → LineRefused (run status) s.taken end
+  line_refused fault end status l w s = record {
+    read = read_all l s.failures;
+    written = λ more f r g. let q = s.comes more f r g in record { diagnostic = fault; stop = q.1; code = written_whole l s r q; line = w };
   }
 
-  pub compiles_fault : (fault : Diagnostic) → CodeComes i o (Err (why.Fault fault)) j p → Writes d (line_of fault) e → Compiles (run 1)
-  compiles_fault fault h line = record {
-    taken = h.taken;
-    took = h.took;
-    compiled = λ s. absurd (omega arith);
-    faulty = λ s more f r g. let w = h.written more f r g in record { fault = fault; stop = w.0; code = w.1; line = line };
-    failed = λ s. absurd (omega arith);
-    refused = λ s. absurd (omega arith);
-    no_other = inr (inl refl);
-  }
-
-  line_began : (fault : Diagnostic) (end : EndFault) → CodeComes i o (Err (why.Fault fault)) j p → Refuses d (line_of fault) end e → (h : CodeComes i o (Err (why.Fault fault)) j p) → (status : ℕ) → Whatever h.taken j (IsBroken (run status))
-  line_began fault end k w h status more f r g =
-      let written = h.written more f r g in
-      inr (record { fault = fault; stop = written.0; code = written.1; line = record { count = w.count; within = w.within; appended = w.appended } })
-
-  pub compiles_line : (fault : Diagnostic) (end : EndFault) → CodeComes i o (Err (why.Fault fault)) j p → Refuses d (line_of fault) end e → Compiles (run (status_of end))
-  compiles_line fault end_fault.Device h w = record {
-    taken = h.taken;
-    took = h.took;
-    compiled = λ s. absurd (omega arith);
-    faulty = λ s. absurd (omega arith);
-    failed = λ s. (inr (inr w.counted.0), line_began fault end_fault.Device h w h 133);
-    refused = λ s. absurd (omega arith);
+  pub cut_off : (fault : Diagnostic) (end : EndFault) → LastGives first (step.Fault fault) last → Refuses d (line_of fault) end e → Compiles (run (status_of end))
+  cut_off fault end_fault.Device l w = record {
+    taken = l.gives.taken;
+    took = took_all l l.gives.took;
+    compiled = λ z. absurd (omega arith);
+    faulty = λ z. absurd (omega arith);
+    failed = λ z. inr (inr (line_refused fault end_fault.Device 133 l w l.gives));
+    refused = λ z. absurd (omega arith);
     no_other = inr (inr (inl refl));
   }
-  compiles_line fault end_fault.Memory h w = record {
-    taken = h.taken;
-    took = h.took;
-    compiled = λ s. absurd (omega arith);
-    faulty = λ s. absurd (omega arith);
-    failed = λ s. absurd (omega arith);
-    refused = λ s. (line_began fault end_fault.Memory h w h 134, inl w.counted.0);
+  cut_off fault end_fault.Memory l w = record {
+    taken = l.gives.taken;
+    took = took_all l l.gives.took;
+    compiled = λ z. absurd (omega arith);
+    faulty = λ z. absurd (omega arith);
+    failed = λ z. absurd (omega arith);
+    refused = λ z. inr (inr (line_refused fault end_fault.Memory 134 l w l.gives));
     no_other = inr (inr (inr refl));
   }
 
-  any_failed : Grew i.failures j.failures ⊎ Grew o.failures p.failures → AnyFailed (run 133)
-  any_failed (inl g) = inl g
-  any_failed (inr g) = inr (inl g)
-
-  pub compiles_device : CodeComes i o (Err why.Device) j p → e ≡ d → Compiles (run 133)
-  compiles_device h same = record {
-    taken = h.taken;
-    took = h.took;
-    compiled = λ s. absurd (omega arith);
-    faulty = λ s. absurd (omega arith);
-    failed = λ s. (any_failed h.reason, λ more f r g. inl (h.began more f r g, same));
-    refused = λ s. absurd (omega arith);
+  failing : (taken : List ℕ) → Took first.first.source taken last.tokens.source.end
+      → SourceFailed (run 133) taken ⊎ CodeRefused (run 133) taken end_fault.Device ⊎ LineRefused (run 133) taken end_fault.Device → Compiles (run 133)
+  failing taken took h = record {
+    taken = taken;
+    took = took;
+    compiled = λ z. absurd (omega arith);
+    faulty = λ z. absurd (omega arith);
+    failed = λ z. h;
+    refused = λ z. absurd (omega arith);
     no_other = inr (inr (inl refl));
   }
 
-  pub compiles_memory : CodeComes i o (Err why.Memory) j p → e ≡ d → Compiles (run 134)
-  compiles_memory h same = record {
-    taken = h.taken;
-    took = h.took;
-    compiled = λ s. absurd (omega arith);
-    faulty = λ s. absurd (omega arith);
-    failed = λ s. absurd (omega arith);
-    refused = λ s. (λ more f r g. inl (h.began more f r g, same), refused_by h.reason);
+  refusing : (taken : List ℕ) → Took first.first.source taken last.tokens.source.end
+      → NamesRefused (run 134) taken ⊎ CodeRefused (run 134) taken end_fault.Memory ⊎ LineRefused (run 134) taken end_fault.Memory → Compiles (run 134)
+  refusing taken took h = record {
+    taken = taken;
+    took = took;
+    compiled = λ z. absurd (omega arith);
+    faulty = λ z. absurd (omega arith);
+    failed = λ z. absurd (omega arith);
+    refused = λ z. h;
     no_other = inr (inr (inr refl));
   }
+
+  pub device : LastGives first step.Device last → e ≡ d → Compiles (run 133)
+  device l same = go l.gives
     where
-      refused_by : (Grew o.refusals p.refusals × Whatever h.taken j HasCode) ⊎ Whatever h.taken j (λ r. r.code ≡ [] → ⊥) → AnyRefused (run 134) h.taken
-      refused_by (inl g) = inr (inl g)
-      refused_by (inr g) = inr (inr g)
+      go : StepGives l.old step.Device last → Compiles (run 133)
+      go (inl h) = failing h.0.taken (took_all l h.0.took) (inl (source_failed l 133 h same))
+      go (inr h) = failing h.0.taken (took_all l h.0.took) (inr (inl (code_refused l end_fault.Device 133 h same)))
 
-  pub compiles_ok : (r : Result (Unit {0}) Stop) (u : Unit {0}) → CodeGives i o r j p → r ≡ Ok u → e ≡ d → Compiles (run 0)
-  compiles_ok r u h is same = compiles_all (subst (λ x. CodeComes i o x j p) is h.comes) same
+  pub memory : LastGives first step.Memory last → e ≡ d → Compiles (run 134)
+  memory l same = go l.gives
+    where
+      go : StepGives l.old step.Memory last → Compiles (run 134)
+      go (inl h) = refusing h.0.taken (took_all l h.0.took) (inr (inl (code_refused l end_fault.Memory 134 h same)))
+      go (inr h) = refusing h.0.taken (took_all l h.0.took) (inl (names_refused l 134 h same))
 
-  pub compiles_err : (r : Result (Unit {0}) Stop) (s : Stop) → CodeGives i o r j p → r ≡ Err s → CodeComes i o (Err s) j p
-  compiles_err r s h is = subst (λ x. CodeComes i o x j p) is h.comes
+-- no last call answers so
+pub last_not_closed : {first last : Compiler} → LastGives first step.Closed last → ⊥
+last_not_closed l = let o = l.is_open in let c = l.gives.0 in cc
+
+pub last_not_written : {first last : Compiler} → LastGives first step.Written last → ⊥
+last_not_written l = l.not_written refl
+
+-- between these ends
+pub compiles_between : {answer : Step} {status : ℕ} {i j : Incoming} {o p : Outgoing} (d e : Outgoing) (h : CodeGives i o answer j p)
+    → ((first last : Compiler) → LastGives first answer last → Compiles (run first last d e status))
+    → Compiles (record { source = i; source_behind = j; code = o; code_behind = p; line = d; line_behind = e; status = status })
+compiles_between d e h f = rw (sym h.source, sym h.source_behind, sym h.code, sym h.code_behind) (f h.first h.last h.gives)
+
+pub answers : {i j : Incoming} {o p : Outgoing} {a b : Step} → a ≡ b → CodeGives i o a j p → CodeGives i o b j p
+answers {i} {j} {o} {p} e h = subst (λ x. CodeGives i o x j p) e h

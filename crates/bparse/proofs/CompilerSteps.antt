@@ -24,10 +24,9 @@ use Rattle.btree.proofs.GoesReads.{goes_behind_read, goes_fault_read, goes_stop_
 use Rattle.bexpr.specs.Tokens.{Tokens, tokens_of, tokens_with, CanFollow, IsLoaded, IsSingle, Looks, Moves, work, Reads, Breaks}
 use Rattle.bexpr.proofs.TokenSteps.{Reads-append, CanFollow-append}
 use Rattle.blex.proofs.Passing.{Grew-after}
-use Rattle.bparse.specs.Compilers.{Compiler, compiler_of, Comes, next_text, Began, Keeps, Wrote, Stopped, Broke, DeviceFailed, MemoryRefused, DefinitionGives, is_over}
-use Rattle.bparse.specs.Stops.{stop_of}
-use Rattle.bparse.specs.declared.step.Stop.{Stop as Why}
-use Rattle.bparse.specs.declared.step.Stop.TheVariants as why
+use Rattle.bparse.specs.Steps.{Point, point, Comes, next_text, HasCode, Writing, Stopping, Breaking, ReadFails, OutRefuses, NamesRefuse, Gives, step_of}
+use Rattle.bparse.specs.declared.step.Step.{Step}
+use Rattle.bparse.specs.declared.step.Step.TheVariants as step
 
 -- the tokens to come end
 token_first_ended : (b : Bool) (p : Placed) (rest : List Placed) → is_last p.token ≡ b → Ended rest → Ended (p ∷ (if b then [] else rest))
@@ -40,12 +39,6 @@ with_ended (p ∷ ps) edition line bytes = token_first_ended (is_last p.token) p
 
 pub tokens_of-ended : (t : Tokens) (more : List ℕ) → Ended (tokens_of t more)
 tokens_of-ended t more = with_ended t.ahead t.source.edition t.source.line (t.source.ahead ++ more)
-
-began_nothing : (o : Outgoing) (text : List ℕ) → Began o text o
-began_nothing o text = record { count = 0; within = omega arith; appended = (Writes-none o).appended }
-
-began_refused : {o p : Outgoing} {text : List ℕ} {e : EndFault} → Refuses o text e p → Began o text p
-began_refused h = record { count = h.count; within = h.within; appended = h.appended }
 
 -- the tokens that come begin with those that are ahead
 pub record Begins (t : Tokens) (more : List ℕ) : Type 0 where
@@ -79,15 +72,8 @@ pub breaks_behind : {a b c : Tokens} {P : List Placed → List Placed → Type 0
 breaks_behind h k = record { taken = h.taken ++ k.taken; reads = Reads-append h.reads k.reads; counted = Grew-after _ _ _ h.failures k.counted }
 
 -- A failed read, before anything is written.
-module _ (old new : Tokens) (names names' : Defined) (out : Outgoing) (lender : ℕ) where
-  pub device_breaks : Breaks old new → Broke (compiler_of old names out lender false) (λ taken. DeviceFailed (compiler_of old names out lender false) (compiler_of new names' out lender true)) (compiler_of new names' out lender true)
-  device_breaks b = record {
-    taken = b.taken;
-    keeps = record { open_before = refl; reads = b.reads; out_lender = refl };
-    closed = refl;
-    began = λ more c r g. began_nothing out (next_text r.code r.stop);
-    reason = inl (b.counted, refl);
-  }
+pub read_fails : (old new : Tokens) (names names' : Defined) (out : Outgoing) → Breaks old new → Gives (point old names out) (Err step.Device) (point new names' out)
+read_fails old new names names' out b = inl (record { taken = b.taken; reads = b.reads; each = λ more c r g. tt }, b.counted, refl)
 
 -- The token that comes is ahead.
 module _ (old mid : Tokens) (names : Defined) (l : Looks old mid) where
@@ -107,14 +93,13 @@ module _ (old mid : Tokens) (names : Defined) (l : Looks old mid) where
     failed_none = m.failures ∙ l.moves.failures
 
   -- a token that can't come
-  pub fault_stops : (new : Tokens) (out : Outgoing) (lender : ℕ) (d : Diagnostic) → Moves mid new (λ u v. definition u ≡ Stop v) → IsLoaded new → (first mid.ahead ≡ token.End → ⊥) → d ≡ fault_ahead new
-      → Stopped (compiler_of old names out lender false) (Some d) (compiler_of new names out lender true)
-  fault_stops new out lender d m loaded not_end d_is = record {
+  pub fault_stops : (new : Tokens) (out : Outgoing) (d : Diagnostic) → Moves mid new (λ u v. definition u ≡ Stop v) → IsLoaded new → (first mid.ahead ≡ token.End → ⊥) → d ≡ fault_ahead new
+      → Stopping (point old names out) (Some d) (point new names out)
+  fault_stops new out d m loaded not_end d_is = record {
     taken = both new m;
-    keeps = record { open_before = refl; reads = both_read new m; out_lender = refl };
-    written = Writes-none out;
+    reads = both_read new m;
     failures = failed_none new m;
-    closed = refl;
+    written = Writes-none out;
     comes = λ more c. stopped more c;
   }
     where
@@ -128,37 +113,32 @@ module _ (old mid : Tokens) (names : Defined) (l : Looks old mid) where
           (subst (λ x. Goes names (tokens_of mid (m.taken ++ more)) (record { code = []; stop = Some x })) (same_fault new more at ∙ sym d_is) g)
 
   -- the end of the source
-  module _ (out out' : Outgoing) (lender lender' : ℕ) (same : lender' ≡ lender) (at_end : first mid.ahead ≡ token.End) where
-    keeps_end : Keeps (compiler_of old names out lender false) l.moves.taken (compiler_of mid names out' lender' true)
-    keeps_end = record { open_before = refl; reads = l.moves.reads; out_lender = same }
-
+  module _ (out out' : Outgoing) (at_end : first mid.ahead ≡ token.End) where
     comes_end : (more : List ℕ) → CanFollow mid.source.end more → Goes names (tokens_of old (l.moves.taken ++ more)) (record { code = []; stop = None })
     comes_end more c =
         let here = begins mid l.loaded more in
         subst (λ ts. Goes names ts (record { code = []; stop = None })) (sym (l.moves.come more c ∙ here.split))
         (goes_end names here.at here.rest (here.token_is ∙ at_end))
 
-    pub end_stops : Writes out end_text out' → Stopped (compiler_of old names out lender false) None (compiler_of mid names out' lender' true)
-    end_stops w = record { taken = l.moves.taken; keeps = keeps_end; written = w; failures = l.moves.failures; closed = refl; comes = comes_end }
+    pub end_stops : Writes out end_text out' → Stopping (point old names out) None (point mid names out')
+    end_stops w = record { taken = l.moves.taken; reads = l.moves.reads; failures = l.moves.failures; written = w; comes = comes_end }
 
-    end_began : (e : EndFault) → Refuses out end_text e out' → (more : List ℕ) → CanFollow mid.source.end more → (r : Outcome) → Goes names (tokens_of old (l.moves.taken ++ more)) r → Began out (next_text r.code r.stop) out'
-    end_began e w more c r g = subst (λ q. Began out (next_text q.code q.stop) out') (goes_once (comes_end more c) g) (began_refused w)
+    end_refused : (e : EndFault) → Refuses out end_text e out' → OutRefuses (point old names out) e (point mid names out')
+    end_refused e w = (
+      record {
+        taken = l.moves.taken;
+        reads = l.moves.reads;
+        each = λ more c r g. subst (λ q. HasCode q × Refuses out (next_text q.code q.stop) e out') (goes_once (comes_end more c) g) ((λ none. refl), w);
+      },
+      l.moves.failures,
+    )
 
-    pub end_breaks : (e : EndFault) → Refuses out end_text e out' → DefinitionGives (compiler_of old names out lender false) (Err (stop_of e)) (compiler_of mid names out' lender' true)
-    end_breaks fault.Device w = record { taken = l.moves.taken; keeps = keeps_end; closed = refl; began = end_began fault.Device w; reason = inr w.counted.0 }
-    end_breaks fault.Memory w = record {
-      taken = l.moves.taken;
-      keeps = keeps_end;
-      closed = refl;
-      began = end_began fault.Memory w;
-      reason = inl (w.counted.0, λ more c r g none. sym (ap (λ q. q.stop) (goes_once (comes_end more c) g)));
-    }
+    pub end_breaks : (e : EndFault) → Refuses out end_text e out' → Gives (point old names out) (Err (step_of e)) (point mid names out')
+    end_breaks fault.Device w = inr (end_refused fault.Device w)
+    end_breaks fault.Memory w = inl (end_refused fault.Memory w)
 
   -- behind a definition
-  module _ (new : Tokens) (out : Outgoing) (lender : ℕ) (tree : Definition) (name : List ℕ) (name_is : name ≡ (word_of tree).text) (m : Moves mid new (λ u v. definition u ≡ Got tree v)) where
-    keeps_all : (names' : Defined) (out' : Outgoing) (lender' : ℕ) (closed : Bool) → lender' ≡ lender → Keeps (compiler_of old names out lender false) (both new m) (compiler_of new names' out' lender' closed)
-    keeps_all names' out' lender' closed e = record { open_before = refl; reads = both_read new m; out_lender = e }
-
+  module _ (new : Tokens) (out : Outgoing) (tree : Definition) (name : List ℕ) (name_is : name ≡ (word_of tree).text) (m : Moves mid new (λ u v. definition u ≡ Got tree v)) where
     -- a definition without fault comes first
     comes_first : fault_of names tree ≡ None → (more : List ℕ) → CanFollow new.source.end more → (r : Outcome) → Goes (names ++ name ∷ []) (tokens_of new more) r
         → Goes names (tokens_of old (both new m ++ more)) (record { code = text_of tree ∷ r.code; stop = r.stop })
@@ -167,34 +147,32 @@ module _ (old mid : Tokens) (names : Defined) (l : Looks old mid) where
         (goes_behind_read names (tokens_of mid (m.taken ++ more)) (tokens_of new more) tree r (m.come more c) clean (subst (λ n. Goes (names ++ n ∷ []) (tokens_of new more) r) name_is g))
 
     -- so it comes whatever comes
-    pub first_text : fault_of names tree ≡ None → (more : List ℕ) → CanFollow new.source.end more → (r : Outcome) → Goes names (tokens_of old (both new m ++ more)) r → (rest : Outcome) × (r ≡ record { code = text_of tree ∷ rest.code; stop = rest.stop })
+    first_text : fault_of names tree ≡ None → (more : List ℕ) → CanFollow new.source.end more → (r : Outcome) → Goes names (tokens_of old (both new m ++ more)) r → (rest : Outcome) × (r ≡ record { code = text_of tree ∷ rest.code; stop = rest.stop })
     first_text clean more c r g =
         let some = goes_some (names ++ name ∷ []) (tokens_of new more) (tokens_of-ended new more) in
         (some.outcome, goes_once g (comes_first clean more c some.outcome some.goes))
 
-    pub wrote : (names' : Defined) (out' : Outgoing) (lender' : ℕ) → fault_of names tree ≡ None → names' ≡ names ++ name ∷ [] → Writes out (text_of tree) out' → lender' ≡ lender → IsSingle new → work new < work mid
-        → Wrote (compiler_of old names out lender false) (compiler_of new names' out' lender' false)
-    wrote names' out' lender' clean added w e single less = record {
+    pub wrote : (names' : Defined) (out' : Outgoing) → fault_of names tree ≡ None → names' ≡ names ++ name ∷ [] → Writes out (text_of tree) out' → IsSingle new → work new < work mid
+        → Writing (point old names out) (point new names' out')
+    wrote names' out' clean added w single less = record {
       taken = both new m;
-      keeps = keeps_all names' out' lender' false e;
-      name = name;
-      names = added;
-      text = text_of tree;
-      written = w;
+      reads = both_read new m;
       failures = failed_none new m;
-      open_behind = refl;
-      one_ahead = single;
+      tree = tree;
+      read = λ more c. ap definition (come new m more c) ∙ m.come more c;
+      names = added ∙ ap (λ n. names ++ n ∷ []) name_is;
+      written = w;
+      single = single;
       falls = let a = l.moves.falls in omega (arith, a, less);
       comes = λ more c r g. comes_first clean more c r (subst (λ n. Goes n (tokens_of new more) r) added g);
     }
 
-    pub fault_behind : (names' : Defined) (fault : Diagnostic) → fault_of names tree ≡ Some fault → Stopped (compiler_of old names out lender false) (Some fault) (compiler_of new names' out lender true)
+    pub fault_behind : (names' : Defined) (fault : Diagnostic) → fault_of names tree ≡ Some fault → Stopping (point old names out) (Some fault) (point new names' out)
     fault_behind names' fault wrong = record {
       taken = both new m;
-      keeps = keeps_all names' out lender true refl;
-      written = Writes-none out;
+      reads = both_read new m;
       failures = failed_none new m;
-      closed = refl;
+      written = Writes-none out;
       comes = λ more c. subst (λ ts. Goes names ts (record { code = []; stop = Some fault })) (sym (come new m more c))
           (goes_fault_read names (tokens_of mid (m.taken ++ more)) (tokens_of new more) tree fault (m.come more c) wrong (tokens_of-ended new more));
     }
@@ -202,26 +180,27 @@ module _ (old mid : Tokens) (names : Defined) (l : Looks old mid) where
     some_text : fault_of names tree ≡ None → (more : List ℕ) → CanFollow new.source.end more → (r : Outcome) → Goes names (tokens_of old (both new m ++ more)) r → r.code ≡ [] → ⊥
     some_text clean more c r g e = let f = first_text clean more c r g in let h : [] ≡ text_of tree ∷ f.0.code = sym e ∙ ap (λ q. q.code) f.1 in cc
 
-    pub no_memory : fault_of names tree ≡ None → (names' : Defined) → Broke (compiler_of old names out lender false) (λ taken. MemoryRefused (compiler_of old names out lender false) taken (compiler_of new names' out lender true)) (compiler_of new names' out lender true)
-    no_memory clean names' = record {
-      taken = both new m;
-      keeps = keeps_all names' out lender true refl;
-      closed = refl;
-      began = λ more c r g. began_nothing out (next_text r.code r.stop);
-      reason = inr (refl, some_text clean);
-    }
+    pub no_memory : fault_of names tree ≡ None → (names' : Defined) → Gives (point old names out) (Err step.Memory) (point new names' out)
+    no_memory clean names' = inr (record { taken = both new m; reads = both_read new m; each = some_text clean }, failed_none new m, refl)
 
-    write_began : {e : EndFault} (out' : Outgoing) → fault_of names tree ≡ None → Refuses out (text_of tree) e out' → (more : List ℕ) → CanFollow new.source.end more → (r : Outcome) → Goes names (tokens_of old (both new m ++ more)) r → Began out (next_text r.code r.stop) out'
-    write_began out' clean w more c r g = let f = first_text clean more c r g in subst (λ q. Began out (next_text q.code q.stop) out') (sym f.1) (began_refused w)
+    text_refused : (e : EndFault) (names' : Defined) (out' : Outgoing) → fault_of names tree ≡ None → Refuses out (text_of tree) e out' → OutRefuses (point old names out) e (point new names' out')
+    text_refused e names' out' clean w = (
+      record {
+        taken = both new m;
+        reads = both_read new m;
+        each = λ more c r g.
+            let f = first_text clean more c r g in
+            ((λ none. absurd (some_text clean more c r g none)), subst (λ q. Refuses out (next_text q.code q.stop) e out') (sym f.1) w);
+      },
+      failed_none new m,
+    )
 
-    pub write_breaks : (names' : Defined) (out' : Outgoing) (lender' : ℕ) (e : EndFault) → fault_of names tree ≡ None → lender' ≡ lender → Refuses out (text_of tree) e out'
-        → DefinitionGives (compiler_of old names out lender false) (Err (stop_of e)) (compiler_of new names' out' lender' true)
-    write_breaks names' out' lender' fault.Device clean same w =
-        record { taken = both new m; keeps = keeps_all names' out' lender' true same; closed = refl; began = write_began out' clean w; reason = inr w.counted.0 }
-    write_breaks names' out' lender' fault.Memory clean same w =
-        record { taken = both new m; keeps = keeps_all names' out' lender' true same; closed = refl; began = write_began out' clean w; reason = inl (w.counted.0, λ more c r g e. absurd (some_text clean more c r g e)) }
+    pub write_breaks : (names' : Defined) (out' : Outgoing) (e : EndFault) → fault_of names tree ≡ None → Refuses out (text_of tree) e out'
+        → Gives (point old names out) (Err (step_of e)) (point new names' out')
+    write_breaks names' out' fault.Device clean w = inr (text_refused fault.Device names' out' clean w)
+    write_breaks names' out' fault.Memory clean w = inl (text_refused fault.Memory names' out' clean w)
 
 -- the exits of a `?`
-pub gives_stop : (old : Compiler) (new : Bool → Compiler) (r : Result Bool Why) (e : Why) → IsErrAnd r (λ y. y ≡ e) → DefinitionGives old (Err e) (new true) → DefinitionGives old r (new (is_over r))
-gives_stop old new (Ok b) e h k = absurd h
-gives_stop old new (Err s) e h k = subst (λ x. DefinitionGives old (Err x) (new true)) (sym h) k
+pub gives_stop : (old new : Point) (r : Result (Unit {0}) Step) (e : Step) → IsErrAnd r (λ y. y ≡ e) → Gives old (Err e) new → Gives old r new
+gives_stop old new (Ok u) e h k = absurd h
+gives_stop old new (Err s) e h k = subst (λ x. Gives old (Err x) new) (sym h) k

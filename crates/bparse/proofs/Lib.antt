@@ -2,3 +2,4 @@ pub mod CleanLaws
 pub mod CompilerSteps
 pub mod CompileSteps
 pub mod MadeSteps
+pub mod SinceSteps

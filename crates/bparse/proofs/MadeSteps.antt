@@ -15,7 +15,7 @@ use Rattle.bemit.specs.Drafts.{Draft, Going, fault_in, resolved, started}
 use Rattle.bemit.specs.Effects.{code_with, definition_done}
 use Rattle.bemit.specs.Views.{IfMade}
 use Rattle.bpass.proofs.Definitions.{one_pass}
-use Rattle.bparse.specs.Compilers.{is_end}
+use Rattle.bparse.specs.Steps.{is_end}
 use Rattle.bread.specs.Definitions.{TookDefinition}
 use Rattle.bread.specs.Headers.{Heads}
 use Rattle.bparse.specs.Sizes.{IsSmall}

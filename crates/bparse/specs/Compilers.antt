@@ -1,139 +1,154 @@
--- What a call of the compiler does.
-use Rattle.std.specs.Prelude.{◌≡◌, ◌≢◌, ℕ, ◌+◌, ◌<◌, ◌≤◌, Bool, true, false, List, [], ◌∷◌, ◌++◌, length, take, Option, Some, None, Result, Ok, Err, not, ◌⊎◌}
+-- What a call of the compiler does, counted from when the compiler was made.
+use Rattle.std.specs.Prelude.{◌≡◌, ℕ, ◌≤◌, ◌<◌, Bool, true, false, List, [], ◌∷◌, ◌++◌, length, map, Option, Some, None, ◌⊎◌}
 use Rattle.bword.specs.declared.edition.Edition.TheVariants as editions
-use Rattle.std.specs.Io.KnownBytes.{Appends}
-use Rattle.bword.specs.ByteEnds.{Incoming, Outgoing, Grew, Writes}
-pub use Rattle.bword.specs.ByteEnds.{Began}
+use Rattle.bword.specs.ByteEnds.{Incoming, Outgoing, Took, Grew, Writes, Refuses}
+use Rattle.bword.specs.declared.byte_out.EndFault.{EndFault}
+use Rattle.bword.specs.declared.byte_out.EndFault.TheVariants as end_fault
+use Rattle.bcode.specs.Text.{joined}
+use Rattle.blex.specs.Tokens.{tokens_from}
 use Rattle.blex.specs.declared.diagnostic.Diagnostic.{Diagnostic}
-use Rattle.btree.specs.Compiled.{Defined, Outcome, Goes, ending}
-use Rattle.blex.specs.declared.token.Token.{Token}
-use Rattle.blex.specs.declared.token.Token.TheVariants as token
-use Rattle.bexpr.specs.Tokens.{Tokens, all_tokens, tokens_of, CanFollow, IsSingle, Reads, work}
+use Rattle.blex.specs.declared.token.Placed.{Placed}
+use Rattle.btree.specs.Compiled.{Defined, Outcome, Goes, ending, text_of}
+use Rattle.btree.specs.Definition.{Definition}
+use Rattle.btree.specs.Lines.{kept}
+use Rattle.btree.specs.Program.{AllFormed, spell_all}
+use Rattle.bexpr.specs.Tokens.{Tokens, all_tokens, tokens_of, CanFollow, IsReady, IsSingle, work}
+use Rattle.bparse.specs.Steps.{name_of, next_text, HasCode}
 use Rattle.bparse.specs.declared.step.Step.{Step}
 use Rattle.bparse.specs.declared.step.Step.TheVariants as step
-use Rattle.bparse.specs.declared.step.Stop.{Stop}
-use Rattle.bparse.specs.declared.step.Stop.TheVariants as stop
 
--- the tokens to come, the names defined so far, the output, and whether it has stopped
+-- what an input and an output end tell, and which they are
+pub record Ends : Type 0 where
+  pub source : Incoming
+  pub lender : List ℕ
+  pub out : Outgoing
+  pub out_lender : List ℕ
+
+-- what the ends of a compiler told when it was made, the tokens to come, the names defined so far, the output now, and
+-- whether it has stopped
 pub record Compiler : Type 0 where
+  pub first : Ends
   pub tokens : Tokens
   pub names : Defined
   pub out : Outgoing
-  pub out_lender : ℕ
+  pub out_lender : List ℕ
   pub is_closed : Bool
 
-abbrev pub compiler_of : Tokens → Defined → Outgoing → ℕ → Bool → Compiler
-compiler_of tokens names out out_lender is_closed =
-    record { tokens = tokens; names = names; out = out; out_lender = out_lender; is_closed = is_closed }
-
--- what can be seen of a compiler without its output
-pub record Progress : Type 0 where
-  pub tokens : Tokens
-  pub names : Defined
-  pub is_closed : Bool
-
-abbrev pub compiler_at : Progress → Outgoing → ℕ → Compiler
-compiler_at p out out_lender = compiler_of p.tokens p.names out out_lender p.is_closed
+abbrev pub compiler_of : Incoming → List ℕ → Outgoing → List ℕ → Tokens → Defined → Outgoing → List ℕ → Bool → Compiler
+compiler_of source lender first_out first_lender tokens names out out_lender is_closed = record {
+  first = record { source = source; lender = lender; out = first_out; out_lender = first_lender };
+  tokens = tokens;
+  names = names;
+  out = out;
+  out_lender = out_lender;
+  is_closed = is_closed;
+}
 
 -- a compiler that has read and written nothing
-abbrev pub new : Incoming → ℕ → Outgoing → ℕ → Compiler
-new input lender out out_lender = compiler_of (all_tokens editions.One input lender) [] out out_lender false
+abbrev pub new : Ends → Compiler
+new ends = record {
+  first = ends;
+  tokens = all_tokens editions.One ends.source ends.lender;
+  names = [];
+  out = ends.out;
+  out_lender = ends.out_lender;
+  is_closed = false;
+}
 
--- what comes of the source, where these bytes were taken and more follow
-abbrev pub Comes : Compiler → List ℕ → List ℕ → Outcome → Type 0
-Comes c taken more outcome = Goes c.names (tokens_of c.tokens (taken ++ more)) outcome
+-- each source that begins with the bytes that were taken, or the one whose end was seen, comes to this
+abbrev pub Whatever : List ℕ → Incoming → (Outcome → Type 0) → Type 0
+Whatever taken end P =
+    (more : List ℕ) → CanFollow end more → (r : Outcome) → Goes [] (tokens_from editions.One 1 (taken ++ more)) r → P r
 
--- what is written next
-abbrev pub next_text : List (List ℕ) → Option Diagnostic → List ℕ
-next_text [] stop = ending stop
-next_text (text ∷ texts) stop = text
+-- The tokens are those of these definitions, and then the others.
+pub record Spelled (ds : List Definition) (tokens others : List Placed) : Type 0 where
+  pub passed : List Placed
+  pub split : tokens ≡ passed ++ others
+  pub spelled : map kept passed ≡ spell_all ds
 
--- Bytes were taken, and the ends are those of before.
-pub record Keeps (old : Compiler) (taken : List ℕ) (new : Compiler) : Type 0 where
-  pub open_before : old.is_closed ≡ false
-  pub reads : Reads old.tokens.source taken new.tokens.source
-  pub out_lender : new.out_lender ≡ old.out_lender
+-- An outcome begins with the texts of these definitions, and goes on so.
+pub record Behind (ds : List Definition) (rest outcome : Outcome) : Type 0 where
+  pub code : outcome.code ≡ map text_of ds ++ rest.code
+  pub stop : outcome.stop ≡ rest.stop
 
--- A definition was written, and one token behind it was read.
+-- Since a compiler was made, it has written the texts of these definitions, and nothing else. They are the first ones of
+-- the source, none has a fault, and the tokens to come are those directly behind them.
+pub record Since (c : Compiler) (ds : List Definition) : Type 0 where
+  pub taken : List ℕ
+  pub took : Took c.first.source taken c.tokens.source.end
+  pub failures : c.tokens.source.end.failures ≡ c.first.source.failures
+  pub written : Writes c.first.out (joined (map text_of ds)) c.out
+  pub names : c.names ≡ map name_of ds
+  pub formed : AllFormed ds
+  pub spelled : (more : List ℕ) → CanFollow c.tokens.source.end more
+      → Spelled ds (tokens_from editions.One 1 (taken ++ more)) (tokens_of c.tokens more)
+  pub comes : (more : List ℕ) → CanFollow c.tokens.source.end more → (r : Outcome)
+      → Goes [] (tokens_from editions.One 1 (taken ++ more)) r → (rest : Outcome) × Goes c.names (tokens_of c.tokens more) rest × Behind ds rest r
+  pub near : length c.tokens.source.ahead ≤ 2
+  pub is_open : c.is_closed ≡ false
+
+-- more definitions can come
+pub record IsOpen (c : Compiler) : Type 0 where
+  pub before : List Definition
+  pub since : Since c before
+  pub ready : IsReady c.tokens
+
+-- A definition more was written, and one token is held, the one behind it.
 pub record Wrote (old new : Compiler) : Type 0 where
-  pub taken : List ℕ
-  pub keeps : Keeps old taken new
-  pub name : List ℕ
-  pub names : new.names ≡ old.names ++ name ∷ []
-  pub text : List ℕ
-  pub written : Writes old.out text new.out
-  pub failures : new.tokens.source.end.failures ≡ old.tokens.source.end.failures
-  pub open_behind : new.is_closed ≡ false
-  pub one_ahead : IsSingle new.tokens
+  pub before : List Definition
+  pub definition : Definition
+  pub since : Since old before
+  pub now : Since new (before ++ definition ∷ [])
+  pub held : IsSingle new.tokens
   pub falls : work new.tokens < work old.tokens
-  pub comes : (more : List ℕ) → CanFollow new.tokens.source.end more → (r : Outcome) → Goes new.names (tokens_of new.tokens more) r
-      → Comes old taken more (record { code = text ∷ r.code; stop = r.stop })
 
--- Nothing more comes, and the text's last line was written, or nothing where there is a fault.
+-- The source comes to the definitions written before and then stops so. Its last line was written, if it has no fault.
 pub record Stopped (old : Compiler) (stop : Option Diagnostic) (new : Compiler) : Type 0 where
+  pub before : List Definition
+  pub since : Since old before
   pub taken : List ℕ
-  pub keeps : Keeps old taken new
-  pub written : Writes old.out (ending stop) new.out
-  pub failures : new.tokens.source.end.failures ≡ old.tokens.source.end.failures
+  pub took : Took new.first.source taken new.tokens.source.end
+  pub failures : new.tokens.source.end.failures ≡ new.first.source.failures
+  pub written : Writes new.first.out (joined (map text_of before) ++ ending stop) new.out
+  pub comes : Whatever taken new.tokens.source.end (λ r. (r.code ≡ map text_of before) × (r.stop ≡ stop))
   pub closed : new.is_closed ≡ true
-  pub comes : (more : List ℕ) → CanFollow new.tokens.source.end more → Comes old taken more (record { code = []; stop = stop })
 
--- A beginning of what is written next was written, whatever more comes.
-pub record Broke (old : Compiler) (why : List ℕ → Type 0) (new : Compiler) : Type 0 where
+-- A call broke off, and this holds of what comes behind the definitions written before.
+pub record Broke (old : Compiler) (P : Outcome → Type 0) (new : Compiler) : Type 0 where
+  pub before : List Definition
+  pub since : Since old before
   pub taken : List ℕ
-  pub keeps : Keeps old taken new
+  pub took : Took new.first.source taken new.tokens.source.end
+  pub comes : Whatever taken new.tokens.source.end (λ r. (rest : Outcome) × Behind before rest r × P rest)
   pub closed : new.is_closed ≡ true
-  pub began : (more : List ℕ) → CanFollow new.tokens.source.end more → (r : Outcome) → Comes old taken more r
-      → Began old.out (next_text r.code r.stop) new.out
-  pub reason : why taken
 
--- whatever comes, a definition comes
-abbrev pub SomeTextComes : Compiler → List ℕ → Compiler → Type 0
-SomeTextComes old taken new =
-    (more : List ℕ) → CanFollow new.tokens.source.end more → (r : Outcome) → Comes old taken more r → r.code ≢ []
+-- a read failed, and nothing was written
+abbrev pub ReadFailed : Compiler → Compiler → Type 0
+ReadFailed old new =
+    Broke old (λ rest. Unit {0}) new × Grew new.first.source.failures new.tokens.source.end.failures × (new.out ≡ old.out)
 
--- a read or a write failed
-abbrev pub DeviceFailed : Compiler → Compiler → Type 0
-DeviceFailed old new =
-    (Grew old.tokens.source.end.failures new.tokens.source.end.failures × (new.out ≡ old.out)) ⊎ Grew old.out.failures new.out.failures
+-- the output refused what is written next, of which a beginning was written
+abbrev pub OutRefused : Compiler → EndFault → Compiler → Type 0
+OutRefused old fault new =
+    Broke old (λ rest. HasCode rest × Refuses old.out (next_text rest.code rest.stop) fault new.out) new
+    × (new.tokens.source.end.failures ≡ new.first.source.failures)
 
--- there is code: a definition's, or the last line
-abbrev pub HasCode : Outcome → Type 0
-HasCode r = r.code ≡ [] → r.stop ≡ None
-
--- whatever comes, a definition or the last line is written next
-abbrev pub SomeCodeComes : Compiler → List ℕ → Compiler → Type 0
-SomeCodeComes old taken new =
-    (more : List ℕ) → CanFollow new.tokens.source.end more → (r : Outcome) → Comes old taken more r → HasCode r
-
--- a growth was refused: by the output for what is written next, or of the list of names before anything was written
-abbrev pub MemoryRefused : Compiler → List ℕ → Compiler → Type 0
-MemoryRefused old taken new =
-    (Grew old.out.refusals new.out.refusals × SomeCodeComes old taken new)
-    ⊎ ((new.out ≡ old.out) × SomeTextComes old taken new)
+-- the list of names was refused its growth, before anything was written of the definition that comes
+abbrev pub NamesRefused : Compiler → Compiler → Type 0
+NamesRefused old new =
+    Broke old (λ rest. rest.code ≡ [] → ⊥) new × (new.tokens.source.end.failures ≡ new.first.source.failures) × (new.out ≡ old.out)
 
 -- what a call does
 abbrev pub StepGives : Compiler → Step → Compiler → Type 0
 StepGives old step.Written new = Wrote old new
 StepGives old step.Finished new = Stopped old None new
 StepGives old (step.Fault fault) new = Stopped old (Some fault) new
-StepGives old step.Device new = Broke old (λ taken. DeviceFailed old new) new
-StepGives old step.Memory new = Broke old (λ taken. MemoryRefused old taken new) new
+StepGives old step.Device new = ReadFailed old new ⊎ OutRefused old end_fault.Device new
+StepGives old step.Memory new = OutRefused old end_fault.Memory new ⊎ NamesRefused old new
 StepGives old step.Closed new = (old.is_closed ≡ true) × (new ≡ old)
 
--- what the private part of a call does
-abbrev pub DefinitionGives : Compiler → Result Bool Stop → Compiler → Type 0
-DefinitionGives old (Ok true) new = Wrote old new
-DefinitionGives old (Ok false) new = Stopped old None new
-DefinitionGives old (Err (stop.Fault fault)) new = Stopped old (Some fault) new
-DefinitionGives old (Err stop.Device) new = Broke old (λ taken. DeviceFailed old new) new
-DefinitionGives old (Err stop.Memory) new = Broke old (λ taken. MemoryRefused old taken new) new
-
--- no more definition comes
-abbrev pub is_over : Result Bool Stop → Bool
-is_over (Ok more) = not more
-is_over (Err stop) = true
-
-abbrev pub is_end : Token → Bool
-is_end token.End = true
-is_end _ = false
+-- the compiler is over the same ends
+pub record Keeps (old new : Compiler) : Type 0 where
+  pub first : new.first ≡ old.first
+  pub lender : new.tokens.source.lender ≡ old.tokens.source.lender
+  pub out_lender : new.out_lender ≡ old.out_lender

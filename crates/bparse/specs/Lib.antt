@@ -2,4 +2,4 @@ pub mod Compilers
 pub mod Compiles
 pub mod Sizes
 pub mod Statuses
-pub mod Stops
+pub mod Steps

@@ -1,11 +1,12 @@
 //! The compiler, which writes one definition a call.
-ghost use Rattle.std.specs.Prelude.{◌≡◌, IfOk, Some, [], false, true};
+ghost use Rattle.std.specs.Prelude.{◌≡◌, OnOk};
 ghost use Rattle.btree.specs.Reading.{first};
-ghost use Rattle.bword.specs.declared.edition.Edition.TheVariants as editions;
-ghost use Rattle.bexpr.specs.Tokens.{IsReady, IsLoaded, all_tokens};
-ghost use Rattle.bparse.specs.Compilers.{compiler_of, compiler_at, StepGives, DefinitionGives, is_end, is_over};
+ghost use Rattle.bexpr.specs.Tokens.{IsReady, IsLoaded};
+ghost use Rattle.bparse.specs.Compilers.{Keeps, StepGives};
+ghost use Rattle.bparse.specs.Compilers as compilers;
+ghost use Rattle.bparse.specs.Steps.{point, Gives, is_end};
 
-use crate::step::{Step, Stop};
+use crate::step::Step;
 use crate::view::view;
 use bcode::{write_definition, write_end};
 use bexpr::{Halt, Parser, Tokens};
@@ -14,105 +15,123 @@ use bread::{Names, definition};
 use bword::{ByteIn, ByteOut, Edition};
 use std::alloc::Global;
 use std::marker::Model;
+use std::snapshot::Snapshot;
 
 /// A compiler of one source.
 ///
 /// It holds one definition, one token behind it and the names that are defined.
 #[derive(Drop)]
-pub struct Compiler<I: ByteIn> {
+pub struct Compiler<I: ByteIn, O: ByteOut> {
+    // What the ends were at first, for contracts alone: these take no room.
+    first_input: Snapshot<I>,
+    first_out: Snapshot<O>,
     parser: Parser<I>,
     names: Names,
+    out: O,
     is_closed: bool,
 }
 
-impl<I: ByteIn> Model for Compiler<I> {
+impl<I: ByteIn, O: ByteOut> Model for Compiler<I, O> {
     ghost use Rattle.std.specs.Prelude.{◌≡◌, false};
-    ghost use Rattle.btree.specs.Reading.{first};
-    ghost use Rattle.bexpr.specs.Tokens.{IsReady};
-    ghost use Rattle.bparse.specs.Compilers.{Progress};
+    ghost use Rattle.bparse.specs.Compilers.{Compiler, IsOpen, compiler_of};
 
-    ghost Value = { Progress };
+    ghost Value = { Compiler };
 
-    ghost view = { λ c. record { tokens = c.parser.tokens; names = c.names; is_closed = c.is_closed } };
+    ghost view = { λ c. compiler_of (I.incoming c.first_input.value) (I.lender c.first_input.value) (O.outgoing c.first_out.value)
+        (O.lender c.first_out.value) c.parser.tokens c.names (O.outgoing c.out) (O.lender c.out) c.is_closed };
 
-    ghost invariant = { λ c. c.is_closed ≡ false → IsReady c.parser.tokens };
+    ghost invariant = { λ c. c.is_closed ≡ false → IsOpen (compiler_of (I.incoming c.first_input.value)
+        (I.lender c.first_input.value) (O.outgoing c.first_out.value) (O.lender c.first_out.value) c.parser.tokens c.names
+        (O.outgoing c.out) (O.lender c.out) c.is_closed) };
 }
 
-impl<I: ByteIn> Compiler<I> {
-    /// A compiler that has read nothing.
-    pub fn new(alloc: Global, input: I) -> Self
-        ensures { result ≡ record { tokens = all_tokens editions.One (I.incoming input) (I.lender input); names = []; is_closed = false } }
+impl<I: ByteIn, O: ByteOut> Compiler<I, O> {
+    /// A compiler that has read and written nothing.
+    pub fn new(alloc: Global, input: I, out: O) -> Self
+        ensures { result ≡ compilers.new (record {
+          source = I.incoming input;
+          lender = I.lender input;
+          out = O.outgoing out;
+          out_lender = O.lender out;
+        }) }
     {
         Compiler {
+            first_input: Snapshot::of(&input),
+            first_out: Snapshot::of(&out),
             parser: Parser::new(input, Edition::One),
             names: Names::new(alloc),
+            out,
             is_closed: false,
         }
-    }
-
-    /// The end, without what was read ahead.
-    pub fn into_input(self) -> I
-        ensures end { I.incoming result ≡ self.tokens.source.end }
-        ensures lender { I.lender result ≡ self.tokens.source.lender }
-    {
-        let Compiler {
-            parser,
-            names: _,
-            is_closed: _,
-        } = self;
-        parser.into_input()
     }
 
     /// Compiles the next definition.
     ///
     /// After the first answer that isn't `Written`, each call answers `Closed` and does nothing.
-    pub fn next_definition<O: ByteOut>(&mut self, out: &mut O) -> Step
-        ensures { StepGives (compiler_at self.old (O.outgoing out.old) (O.lender out.old)) result
-            (compiler_at self.new (O.outgoing out.new) (O.lender out.new)) }
+    pub fn next_definition(&mut self) -> Step
+        ensures gives { StepGives self.old result self.new }
+        ensures keeps { Keeps self.old self.new }
     {
         if self.is_closed {
             return Step::Closed;
         }
-        let compiled = compile_definition(&mut self.parser, &mut self.names, out);
-        self.is_closed = !matches!(compiled, Ok(true));
-        match compiled {
-            Ok(true) => Step::Written,
-            Ok(false) => Step::Finished,
-            Err(Stop::Fault(fault)) => Step::Fault(fault),
-            Err(Stop::Device) => Step::Device,
-            Err(Stop::Memory) => Step::Memory,
+        match compile_definition(&mut self.parser, &mut self.names, &mut self.out) {
+            Ok(()) => Step::Written,
+            Err(step) => {
+                self.is_closed = true;
+                step
+            }
         }
+    }
+
+    /// Both ends, the input without what was read ahead.
+    pub fn into_ends(self) -> (I, O)
+        ensures source { I.incoming result.0 ≡ self.tokens.source.end }
+        ensures lender { I.lender result.0 ≡ self.tokens.source.lender }
+        ensures out { O.outgoing result.1 ≡ self.out }
+        ensures out_lender { O.lender result.1 ≡ self.out_lender }
+    {
+        let Compiler {
+            first_input: _,
+            first_out: _,
+            parser,
+            names: _,
+            out,
+            is_closed: _,
+        } = self;
+        (parser.into_input(), out)
     }
 }
 
-// Whether there is a further definition, which is then written; else the last line is.
+// Reads and writes the next definition, or tells why none was written.
 fn compile_definition<I: ByteIn, O: ByteOut>(
     parser: &mut Parser<I>,
     names: &mut Names,
     out: &mut O,
-) -> Result<bool, Stop>
+) -> Result<(), Step>
     requires { IsReady parser.old.tokens }
-    ensures gives { DefinitionGives (compiler_of parser.old.tokens names.old (O.outgoing out.old) (O.lender out.old) false) result
-        (compiler_of parser.new.tokens names.new (O.outgoing out.new) (O.lender out.new) (is_over result)) }
-    ensures ready { IfOk result (λ more. more ≡ true → IsReady parser.new.tokens) }
+    ensures gives { Gives (point parser.old.tokens names.old (O.outgoing out.old)) result
+        (point parser.new.tokens names.new (O.outgoing out.new)) }
+    ensures ready { OnOk result (IsReady parser.new.tokens) }
+    ensures same { O.lender out.new ≡ O.lender out.old }
 {
     parser.tokens.look()?;
     if is_at_end(&parser.tokens) {
         write_end(out)?;
-        return Ok(false);
+        return Err(Step::Finished);
     }
     let header = match definition(parser, names) {
         Ok(header) => header,
-        Err(Halt::Fault) => return Err(Stop::Fault(parser.tokens.fault())),
-        Err(Halt::Device) => return Err(Stop::Device),
+        Err(Halt::Fault) => return Err(Step::Fault(parser.tokens.fault())),
+        Err(Halt::Device) => return Err(Step::Device),
     };
     if let Some(fault) = parser.draft.fault(header.line) {
-        return Err(Stop::Fault(fault));
+        return Err(Step::Fault(fault));
     }
     parser.draft.resolve();
     names.push(header.name)?;
     write_definition(view(&header, &parser.draft), out)?;
-    Ok(true)
+    Ok(())
 }
 
 // Whether the source ends with the current token.

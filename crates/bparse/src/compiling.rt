@@ -1,12 +1,11 @@
 //! Compiling a whole source.
 ghost use Rattle.std.specs.Prelude.{◌≡◌, false};
-ghost use Rattle.bparse.specs.Compilers.{compiler_at};
-ghost use Rattle.bparse.specs.Compiles.{Compiles, CodeGives, AllGives};
+ghost use Rattle.bparse.specs.Compiles.{Compiles, CodeGives, LastGives};
 
 use crate::compiler::Compiler;
 use crate::diagnostic::write_diagnostic;
 use crate::status::{self, Status};
-use crate::step::{Step, Stop};
+use crate::step::Step;
 use bword::{ByteIn, ByteOut};
 use std::alloc::Global;
 
@@ -14,7 +13,8 @@ use std::alloc::Global;
 /// line that names that fault.
 ///
 /// The status is 0, or 1 where there is a fault. It is 133 where a read or a write failed and 134 where
-/// memory was refused; then a beginning of the code was written, and of the line, if all of the code was.
+/// memory was refused; then a beginning of the code was written, and of the line only where its own end
+/// refused it.
 pub fn compile<I: ByteIn, O: ByteOut, D: ByteOut>(
     alloc: Global,
     source: &mut I,
@@ -30,51 +30,46 @@ pub fn compile<I: ByteIn, O: ByteOut, D: ByteOut>(
       line_behind = D.outgoing diag.new;
       status = result;
     }) }
+    ensures source_lender { I.lender source.new ≡ I.lender source.old }
     ensures code_lender { O.lender code.new ≡ O.lender code.old }
     ensures diag_lender { D.lender diag.new ≡ D.lender diag.old }
 {
     match compile_code(alloc, source, code) {
-        Ok(()) => status::DONE,
-        Err(Stop::Fault(fault)) => match write_diagnostic(&fault, diag) {
+        Step::Finished => status::DONE,
+        Step::Fault(fault) => match write_diagnostic(&fault, diag) {
             Ok(()) => status::FAULT,
             Err(fault) => status::of_fault(fault),
         },
-        Err(Stop::Device) => status::DEVICE,
-        Err(Stop::Memory) => status::MEMORY,
+        Step::Device => status::DEVICE,
+        Step::Memory => status::MEMORY,
+        Step::Written | Step::Closed => unreachable!(),
     }
 }
 
-// Compiles all definitions from one end to the other.
-fn compile_code<I: ByteIn, O: ByteOut>(
-    alloc: Global,
-    source: &mut I,
-    code: &mut O,
-) -> Result<(), Stop>
-    ensures gives { CodeGives (I.incoming source.old) (O.outgoing code.old) result (I.incoming source.new) (O.outgoing code.new) }
+// Compiles all definitions from one end to the other, and gives the last answer.
+fn compile_code<I: ByteIn, O: ByteOut>(alloc: Global, source: &mut I, code: &mut O) -> Step
+    ensures gives { CodeGives (I.incoming source.old) (O.outgoing code.old) result
+        (I.incoming source.new) (O.outgoing code.new) }
+    ensures source_lender { I.lender source.new ≡ I.lender source.old }
     ensures code_lender { O.lender code.new ≡ O.lender code.old }
 {
-    let mut compiler = Compiler::new(alloc, source);
-    let compiled = compile_all(&mut compiler, code);
-    compiler.into_input();
-    compiled
+    let mut compiler = Compiler::new(alloc, source, code);
+    let last = compile_all(&mut compiler);
+    let (source, code) = compiler.into_ends();
+    let _ = source;
+    let _ = code;
+    last
 }
 
 // Compiles definitions until there is none, or one can't be written.
-fn compile_all<I: ByteIn, O: ByteOut>(compiler: &mut Compiler<I>, code: &mut O) -> Result<(), Stop>
+fn compile_all<I: ByteIn, O: ByteOut>(compiler: &mut Compiler<I, O>) -> Step
     requires { compiler.old.is_closed ≡ false }
-    ensures gives { AllGives (compiler_at compiler.old (O.outgoing code.old) (O.lender code.old)) result
-        (compiler_at compiler.new (O.outgoing code.new) (O.lender code.new)) }
-    ensures lender { compiler.new.tokens.source.lender ≡ compiler.old.tokens.source.lender }
-    ensures code_lender { O.lender code.new ≡ O.lender code.old }
+    ensures { LastGives compiler.old result compiler.new }
 {
     'definitions: loop {
-        match compiler.next_definition(code) {
+        match compiler.next_definition() {
             Step::Written => {}
-            Step::Finished => return Ok(()),
-            Step::Fault(fault) => return Err(Stop::Fault(fault)),
-            Step::Device => return Err(Stop::Device),
-            Step::Memory => return Err(Stop::Memory),
-            Step::Closed => unreachable!(),
+            last => return last,
         }
     }
 }

@@ -1,7 +1,7 @@
 //! What calls of the compiler answer.
 ghost use Rattle.std.specs.Prelude.{◌≡◌};
-ghost use Rattle.bparse.specs.declared.step.Stop.TheVariants.{Device, Memory};
-ghost use Rattle.bparse.specs.Stops.{stop_of};
+ghost use Rattle.bparse.specs.declared.step.Step.TheVariants.{Device, Memory};
+ghost use Rattle.bparse.specs.Steps.{step_of};
 
 use blex::Diagnostic;
 use bword::{Device, EndFault};
@@ -24,37 +24,29 @@ pub enum Step {
     Closed,
 }
 
-/// Why a definition is not written.
-#[derive(Clone, Copy, Debug, PartialEq, Eq)]
-pub(crate) enum Stop {
-    Fault(Diagnostic),
-    Device,
-    Memory,
-}
-
-impl From<Device> for Stop {
-    ghost from_gives = { λ _ stop. stop ≡ Device };
+impl From<Device> for Step {
+    ghost from_gives = { λ _ step. step ≡ Device };
 
     fn from(_: Device) -> Self {
-        Stop::Device
+        Step::Device
     }
 }
 
-impl From<AllocError> for Stop {
-    ghost from_gives = { λ _ stop. stop ≡ Memory };
+impl From<AllocError> for Step {
+    ghost from_gives = { λ _ step. step ≡ Memory };
 
     fn from(_: AllocError) -> Self {
-        Stop::Memory
+        Step::Memory
     }
 }
 
-impl From<EndFault> for Stop {
-    ghost from_gives = { λ fault stop. stop ≡ stop_of fault };
+impl From<EndFault> for Step {
+    ghost from_gives = { λ fault step. step ≡ step_of fault };
 
     fn from(fault: EndFault) -> Self {
         match fault {
-            EndFault::Device => Stop::Device,
-            EndFault::Memory => Stop::Memory,
+            EndFault::Device => Step::Device,
+            EndFault::Memory => Step::Memory,
         }
     }
 }

@@ -20,10 +20,11 @@ use bcode::{Instr, Ival};
 use bemit::Draft;
 use bexpr::{Halt, Mark, Parser};
 use blex::{About, Diagnostic, Letters, Lexeme};
+use btree::MAX_NESTING;
 use bword::ByteIn;
 
 // The greatest level of nesting.
-const NESTING: u8 = 200;
+const NESTING: u8 = MAX_NESTING as u8;
 
 // The most words or parameters that are counted.
 const MOST_COUNTED: u32 = 65535;

@@ -4,9 +4,9 @@ use Rattle.blex.specs.declared.token.Keyword.TheVariants as keyword
 use Rattle.blex.specs.declared.token.Token.TheVariants as token
 use Rattle.blex.specs.declared.token.Placed.{Placed}
 use Rattle.btree.specs.Lines.{mark, placed}
-use Rattle.btree.specs.Expression.{Expr, Arguments, Number, Named, Literal, Text, Grouped, Indexed, Called, Postfixed, Prefixed, Binary, Conditional, Assigned, No_arguments, Another, name_token, prefix_token, postfix_token, comma_behind, spell, spell_arguments, words, argument_words, rank, or_rank, conditional_rank, rvalue_rank, Deeper, Fits, ArgumentsFit}
+use Rattle.btree.specs.Expression.{Expr, Arguments, Number, Named, Literal, Text, Grouped, Indexed, Called, Postfixed, Prefixed, Binary, Conditional, Assigned, No_arguments, Another, name_token, prefix_token, postfix_token, spell, spell_arguments, words, argument_words, rank, or_rank, conditional_rank, rvalue_rank, Fits, ArgumentsFit}
 use Rattle.btree.specs.Commas.{list_spelling}
-use Rattle.btree.specs.Statement.{Stmt, Headed, Compound, If, IfElse, While, Switch, Goto, Return, ReturnValue, Evaluate, Empty, Stmts, Nothing, More, is_open, keyword_mark, name_spelling, spell_heading, spell_condition, spell_statement, spell_body, statement_words, body_words, Sits, AllSit}
+use Rattle.btree.specs.Statement.{Stmt, Headed, Compound, If, IfElse, While, Switch, Goto, Break, Return, ReturnValue, Evaluate, Empty, Stmts, Nothing, More, is_open, keyword_mark, name_spelling, spell_heading, spell_condition, spell_statement, spell_body, statement_words, body_words, Sits, AllSit}
 use Rattle.btree.specs.Definition.{Definition, Simple, Vector, Function, spell_definition}
 use Rattle.btree.specs.Program.{spell_all}
 use Rattle.btree.specs.Levels.{Leveled, on, tokens, levels, argument_levels, condition_levels, statement_levels, body_levels, definition_levels, program_levels, IsFormedIn, AllFormedIn, NoneAbove, CanBeEnded}
@@ -261,6 +261,7 @@ module _ (most : ℕ) where
         [] (on n (keyword_mark keyword.Goto)) (levels e n ++ on n (mark token.Semicolon) ∷ []) [] refl (λ x. refl) (λ na le x g. g)
         (nothing_yet most spell_statement (λ x. Sits x (most - n) off) Empty tt)
         (closed most spell (λ x. Fits x rvalue_rank (most - n) off) (levels e n) (on n (mark token.Semicolon) ∷ []) e (tokens-levels e n) (within most e rvalue_rank room n off f) (ended most e rvalue_rank room n off f))
+    statement_ended (Break line) room n off f = leaf most spell_statement (λ x. Sits x (most - n) off) (statement_levels (Break line) n) (Break line) refl tt
     statement_ended Return room n off f = leaf most spell_statement (λ x. Sits x (most - n) off) (statement_levels Return n) Return refl tt
     statement_ended (ReturnValue e) room n off f =
         then_part most (λ x. mark token.OpenParen ∷ (spell x ++ mark token.CloseParen ∷ mark token.Semicolon ∷ [])) spell_statement (λ x. Fits x rvalue_rank (most - n) off) (λ x. Sits x (most - n) off) (λ x. ReturnValue x)

@@ -1,18 +1,15 @@
 -- A beginning of a program can be ended without a deeper level than it has.
-use Rattle.std.proofs.Common.{◌≡◌, ℕ, zero, suc, ◌+◌, ◌-◌, ◌≤◌, List, [], ◌∷◌, ◌++◌, map, sym, ap, ◌∙◌, refl, subst, append_assoc, arith, Option, Some, None}
+use Rattle.std.proofs.Common.{◌≡◌, ℕ, zero, suc, ◌+◌, ◌-◌, ◌≤◌, List, [], ◌∷◌, ◌++◌, map, sym, ap, ◌∙◌, refl, subst, append_assoc, arith}
 use Rattle.std.proofs.lemmas.List.{map-append}
 use Rattle.blex.specs.declared.token.Keyword.TheVariants as keyword
 use Rattle.blex.specs.declared.token.Token.TheVariants as token
 use Rattle.blex.specs.declared.token.Placed.{Placed}
 use Rattle.btree.specs.Lines.{mark, placed}
-use Rattle.btree.specs.Expression.{Expr, Arguments, Number, Named, Literal, Text, Grouped, Indexed, Called, Postfixed, Prefixed, Binary, Conditional, Assigned, No_arguments, Another, name_token, prefix_token, postfix_token, comma_behind, spell, spell_arguments, words, argument_words, rank, or_rank, conditional_rank, rvalue_rank, Deeper, Fits, ArgumentsFit}
+use Rattle.btree.specs.Expression.{Expr, Arguments, Named, Literal, Text, Grouped, Indexed, Called, Postfixed, Prefixed, Binary, Conditional, Assigned, No_arguments, Another, name_token, prefix_token, postfix_token, comma_behind, spell, spell_arguments, words, argument_words, rank, or_rank, conditional_rank, rvalue_rank, Deeper, Fits, ArgumentsFit}
 use Rattle.btree.specs.Commas.{list_spelling}
-use Rattle.btree.specs.Statement.{Heading, Stmt, Headed, Compound, If, IfElse, While, Switch, Goto, Return, ReturnValue, Evaluate, Empty, Stmts, Nothing, More, is_open, keyword_mark, name_spelling, spell_heading, spell_condition, spell_statement, spell_body, statement_words, body_words, Sits, AllSit}
-use Rattle.btree.specs.Definition.{Definition, Simple, Vector, Function, spell_definition, IsFormed}
-use Rattle.btree.specs.Program.{spell_all}
-use Rattle.btree.specs.Levels.{Leveled, on, tokens, levels, argument_levels, condition_levels, statement_levels, body_levels, definition_levels, program_levels, IsFormedIn, AllFormedIn, NoneAbove, LevelsOfTokens, NeedsLevels, HasLevels, CanBeEnded}
-use Rattle.btree.proofs.CommaLaws.{append-nil}
-use Rattle.btree.proofs.ExpressionSound.{looser}
+use Rattle.btree.specs.Statement.{Stmt, Headed, Compound, If, IfElse, While, Switch, Goto, Break, Return, ReturnValue, Evaluate, Empty, Stmts, Nothing, More, keyword_mark, name_spelling, spell_heading, spell_condition, spell_statement, spell_body, statement_words, body_words, Sits, AllSit}
+use Rattle.btree.specs.Definition.{Definition, Simple, Vector, Function, spell_definition}
+use Rattle.btree.specs.Levels.{Leveled, on, tokens, levels, argument_levels, condition_levels, statement_levels, body_levels, definition_levels, program_levels, IsFormedIn, NoneAbove, LevelsOfTokens, NeedsLevels, HasLevels}
 
 pub tokens-append : (us vs : List Leveled) → tokens (us ++ vs) ≡ tokens us ++ tokens vs
 tokens-append us vs = map-append (λ (t : Leveled). t.token) us vs
@@ -58,6 +55,7 @@ mutual
   tokens-statement (While e s) n = ap (λ l. keyword_mark keyword.While ∷ l) (tokens-condition e (suc n) n _ _ (tokens-statement s (suc n)))
   tokens-statement (Switch e body) n = ap (λ l. keyword_mark keyword.Switch ∷ l) (said (levels e (suc n)) (on n (mark token.OpenBrace)) _ (spell e) _ (tokens-levels e (suc n)) (said (body_levels body (suc n)) (on n (mark token.CloseBrace)) [] (spell_body body) [] (tokens-body body (suc n)) refl))
   tokens-statement (Goto e) n = ap (λ l. keyword_mark keyword.Goto ∷ l) (said (levels e n) (on n (mark token.Semicolon)) [] (spell e) [] (tokens-levels e n) refl)
+  tokens-statement (Break line) n = refl
   tokens-statement Return n = refl
   tokens-statement (ReturnValue e) n = ap (λ l. keyword_mark keyword.Return ∷ l) (tokens-condition e n n _ _ refl)
   tokens-statement (Evaluate e) n = said (levels e n) (on n (mark token.Semicolon)) [] (spell e) [] (tokens-levels e n) refl
@@ -163,6 +161,7 @@ module _ (most : ℕ) where
         let t2 = none_split most (body_levels body (suc n)) _ t.1.1 in
         deeper (λ k. Fits e rvalue_rank k off × AllSit body k (off + words e)) most n none.0 (within e rvalue_rank o.0 (suc n) off o.1.0 t.0, body_within body o.0 (suc n) (off + words e) o.1.1 t2.0)
     statement_within (Goto e) room n off f none = let t = none_split most (levels e n) _ none.1 in within e rvalue_rank room n off f t.0
+    statement_within (Break line) room n off f none = tt
     statement_within Return room n off f none = tt
     statement_within (ReturnValue e) room n off f none = let t = condition_none e n n _ none.1 in within e rvalue_rank room n off f t.0
     statement_within (Evaluate e) room n off f none = let t = none_split most (levels e n) _ none in within e rvalue_rank room n off f t.0
@@ -271,6 +270,7 @@ module _ (most : ℕ) where
         let up : suc n ≤ most = omega (arith, o.1) in
         (up, none_join most (levels e (suc n)) _ (has e rvalue_rank o.0 (suc n) off o.1 o.2.0) (low, none_join most (body_levels body (suc n)) _ (body_has body o.0 (suc n) (off + words e) o.1 o.2.1) (low, tt)))
     statement_has (Goto e) room n off le f = let low : n ≤ most = omega arith in (low, none_join most (levels e n) _ (has e rvalue_rank room n off le f) (low, tt))
+    statement_has (Break line) room n off le f = let low : n ≤ most = omega arith in (low, (low, tt))
     statement_has Return room n off le f = let low : n ≤ most = omega arith in (low, (low, tt))
     statement_has (ReturnValue e) room n off le f = let low : n ≤ most = omega arith in (low, has_condition e n n _ low (has e rvalue_rank room n off le f) (low, tt))
     statement_has (Evaluate e) room n off le f = let low : n ≤ most = omega arith in none_join most (levels e n) _ (has e rvalue_rank room n off le f) (low, tt)

@@ -1,14 +1,11 @@
 -- Programs stand for tokens in one way, and have one way of parts.
-use Rattle.std.proofs.Common.{◌≡◌, ◌≤◌, List, [], ◌∷◌, ◌++◌, map, length, sym, ap, ◌∙◌, refl, subst, arith}
-use Rattle.std.specs.Prelude.{Option}
-use Rattle.blex.specs.declared.token.Placed.{Placed}
-use Rattle.blex.specs.declared.diagnostic.Diagnostic.{Diagnostic}
+use Rattle.std.proofs.Common.{◌≡◌, List, [], ◌∷◌, ◌++◌, map, length, sym, ap, ◌∙◌, refl, arith}
 use Rattle.blex.specs.Tokens.{tokens_from}
 use Rattle.btree.specs.Lines.{bare}
 use Rattle.btree.specs.Reading.{Got}
 use Rattle.btree.specs.Definition.{Definition, Simple, Vector, Function, spell_definition, nesting_limit}
 use Rattle.btree.specs.DefinitionReader.{definition}
-use Rattle.btree.specs.Program.{spell_all, AllFormed, Parted, StopsAt}
+use Rattle.btree.specs.Program.{spell_all, AllFormed}
 use Rattle.btree.specs.Levels.{AllFormedIn}
 use Rattle.btree.specs.ProgramRules.{OneProgram, FormedWithin, HasParts, OneWay}
 use Rattle.btree.proofs.KeptLemmas.{Order, together, sooner, later, order}

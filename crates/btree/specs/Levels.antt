@@ -6,7 +6,7 @@ use Rattle.blex.specs.declared.token.Placed.{Placed}
 use Rattle.btree.specs.Lines.{mark, placed, string_token}
 use Rattle.btree.specs.Expression.{Expr, Arguments, Named, Literal, Text, Grouped, Indexed, Called, Postfixed, Prefixed, Binary, Conditional, Assigned, No_arguments, Another, name_token, constant_token, prefix_token, postfix_token, comma_behind}
 use Rattle.btree.specs.Commas.{list_spelling}
-use Rattle.btree.specs.Statement.{Stmt, Headed, Compound, If, IfElse, While, Switch, Goto, Return, ReturnValue, Evaluate, Empty, Stmts, Nothing, More, Sits, keyword_mark, name_spelling, spell_heading}
+use Rattle.btree.specs.Statement.{Stmt, Headed, Compound, If, IfElse, While, Switch, Goto, Break, Return, ReturnValue, Evaluate, Empty, Stmts, Nothing, More, Sits, keyword_mark, name_spelling, spell_heading}
 use Rattle.btree.specs.Definition.{Definition, Simple, Vector, Function, spell_definition, IsFormed}
 use Rattle.btree.specs.Program.{spell_all}
 
@@ -30,12 +30,14 @@ abbrev mutual
   levels (Indexed e f) n =
       levels e n ++ (on (suc n) (mark token.OpenBracket) ∷ (levels f (suc n) ++ (on n (mark token.CloseBracket) ∷ [])))
   levels (Called e args) n =
-      levels e n ++ (on (suc n) (mark token.OpenParen) ∷ (argument_levels args (suc n) ++ (on n (mark token.CloseParen) ∷ [])))
+      levels e n ++ (on (suc n) (mark token.OpenParen) ∷ (argument_levels args (suc n)
+      ++ (on n (mark token.CloseParen) ∷ [])))
   levels (Postfixed op line e) n = levels e n ++ (on n (placed (postfix_token op) line) ∷ [])
   levels (Prefixed op line e) n = on (suc n) (placed (prefix_token op) line) ∷ levels e (suc n)
   levels (Binary op line e f) n = levels e n ++ (on n (placed (token.Operator op) line) ∷ levels f n)
   levels (Conditional e f g) n =
-      levels e n ++ (on (suc n) (mark token.Question) ∷ (levels f (suc n) ++ (on (suc n) (mark token.Colon) ∷ levels g (suc n))))
+      levels e n ++ (on (suc n) (mark token.Question) ∷ (levels f (suc n) ++ (on (suc n) (mark token.Colon)
+      ∷ levels g (suc n))))
   levels (Assigned op line e f) n = levels e n ++ (on (suc n) (placed (token.Assign op) line) ∷ levels f (suc n))
 
   pub argument_levels : Arguments → ℕ → List Leveled
@@ -56,12 +58,15 @@ abbrev mutual
   statement_levels (If e s) n =
       on (suc n) (keyword_mark keyword.If) ∷ condition_levels e (suc n) n (statement_levels s (suc n))
   statement_levels (IfElse e s other) n =
-      on (suc n) (keyword_mark keyword.If) ∷ condition_levels e (suc n) n (statement_levels s (suc n) ++ (on n (keyword_mark keyword.Else) ∷ statement_levels other (suc n)))
+      on (suc n) (keyword_mark keyword.If) ∷ condition_levels e (suc n) n (statement_levels s (suc n)
+      ++ (on n (keyword_mark keyword.Else) ∷ statement_levels other (suc n)))
   statement_levels (While e s) n =
       on (suc n) (keyword_mark keyword.While) ∷ condition_levels e (suc n) n (statement_levels s (suc n))
   statement_levels (Switch e body) n =
-      on (suc n) (keyword_mark keyword.Switch) ∷ (levels e (suc n) ++ (on n (mark token.OpenBrace) ∷ (body_levels body (suc n) ++ (on n (mark token.CloseBrace) ∷ []))))
+      on (suc n) (keyword_mark keyword.Switch) ∷ (levels e (suc n) ++ (on n (mark token.OpenBrace)
+      ∷ (body_levels body (suc n) ++ (on n (mark token.CloseBrace) ∷ []))))
   statement_levels (Goto e) n = on n (keyword_mark keyword.Goto) ∷ (levels e n ++ (on n (mark token.Semicolon) ∷ []))
+  statement_levels (Break line) n = on n (placed (token.Keyword keyword.Break) line) ∷ on n (mark token.Semicolon) ∷ []
   statement_levels Return n = on n (keyword_mark keyword.Return) ∷ on n (mark token.Semicolon) ∷ []
   statement_levels (ReturnValue e) n =
       on n (keyword_mark keyword.Return) ∷ condition_levels e n n (on n (mark token.Semicolon) ∷ [])
@@ -77,7 +82,8 @@ abbrev pub definition_levels : Definition → List Leveled
 definition_levels (Simple w values) = map (on 0) (spell_definition (Simple w values))
 definition_levels (Vector w size values) = map (on 0) (spell_definition (Vector w size values))
 definition_levels (Function w parameters body) =
-    map (on 0) (name_token w ∷ mark token.OpenParen ∷ (list_spelling name_spelling parameters ++ mark token.CloseParen ∷ []))
+    map (on 0) (name_token w ∷ mark token.OpenParen ∷ (list_spelling name_spelling parameters ++ mark token.CloseParen
+    ∷ []))
     ++ statement_levels body 0
 
 abbrev pub program_levels : List Definition → List Leveled
@@ -106,7 +112,8 @@ LevelsOfTokens = (ds : List Definition) → tokens (program_levels ds) ≡ spell
 -- A program needs no more levels than these, where none of its tokens has one above them, and only there.
 abbrev pub NeedsLevels : Type 0
 NeedsLevels =
-    (ds : List Definition) (deepest most : ℕ) → AllFormedIn deepest ds → NoneAbove most (program_levels ds) → AllFormedIn most ds
+    (ds : List Definition) (deepest most : ℕ) → AllFormedIn deepest ds → NoneAbove most (program_levels ds)
+    → AllFormedIn most ds
 
 abbrev pub HasLevels : Type 0
 HasLevels = (ds : List Definition) (most : ℕ) → AllFormedIn most ds → NoneAbove most (program_levels ds)
@@ -114,5 +121,6 @@ HasLevels = (ds : List Definition) (most : ℕ) → AllFormedIn most ds → None
 -- A beginning of a program can be ended without a deeper level than it has, however deep the program itself goes.
 abbrev pub CanBeEnded : Type 0
 CanBeEnded =
-    (ds : List Definition) (deepest most : ℕ) (u v : List Leveled) → AllFormedIn deepest ds → program_levels ds ≡ u ++ v → NoneAbove most u
+    (ds : List Definition) (deepest most : ℕ) (u v : List Leveled) → AllFormedIn deepest ds → program_levels ds
+    ≡ u ++ v → NoneAbove most u
     → (es : List Definition) × (more : List Placed) × AllFormedIn most es × (spell_all es ≡ tokens u ++ more)

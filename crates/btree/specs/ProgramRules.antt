@@ -20,7 +20,8 @@ OneProgram = (ds es : List Definition) (tokens : List Placed) → StandsFor ds t
 
 -- A program is well formed where it needs no more levels than the limit.
 abbrev pub FormedWithin : Type 0
-FormedWithin = (ds : List Definition) → (AllFormed ds → AllFormedIn nesting_limit ds) × (AllFormedIn nesting_limit ds → AllFormed ds)
+FormedWithin = (ds : List Definition) → (AllFormed ds → AllFormedIn nesting_limit ds) × (AllFormedIn nesting_limit ds
+    → AllFormed ds)
 
 -- Each source stops being a program's somewhere, and has parts before.
 abbrev pub HasParts : Type 0
@@ -30,5 +31,6 @@ HasParts = (edition : Edition) (line : ℕ) (bytes : List ℕ)
 -- It stops at one place, and has one list of definitions before it.
 abbrev pub OneWay : Type 0
 OneWay =
-    (tokens : List Placed) (ds es : List Definition) (s t : Option Diagnostic) (p : Parted tokens ds s) (q : Parted tokens es t) →
+    (tokens : List Placed) (ds es : List Definition) (s t : Option Diagnostic)
+    (p : Parted tokens ds s) (q : Parted tokens es t) →
     (p.before ≡ q.before) × (p.at ≡ q.at) × (ds ≡ es) × (s ≡ t)

@@ -1,8 +1,7 @@
 use Rattle.std.proofs.Common.{◌≡◌, ◌∙◌, sym, subst, ap, refl, Some, None}
-use Rattle.bparse.specs.Compilers.{compiler_of}
-use Rattle.bparse.specs.Stops.{stop_of}
-use Rattle.bparse.specs.declared.step.Stop.TheVariants as why
-use Rattle.bparse.proofs.CompilerSteps.{gives_stop, device_breaks, breaks_behind, fault_stops, end_stops, end_breaks, wrote, fault_behind, no_memory, write_breaks}
+use Rattle.bparse.specs.Steps.{point, step_of}
+use Rattle.bparse.specs.declared.step.Step.TheVariants as step
+use Rattle.bparse.proofs.CompilerSteps.{gives_stop, read_fails, breaks_behind, fault_stops, end_stops, end_breaks, wrote, fault_behind, no_memory, write_breaks}
 use Rattle.bword.specs.ByteEnds.{Writes, Refuses}
 use Rattle.btree.specs.DefinitionReader.{definition}
 use Rattle.bexpr.specs.Parsers.{Halts}
@@ -12,33 +11,33 @@ use Rattle.bparse.proofs.compiler.compile_definition.Goals as goal
 
 pub returns-in_err-look-clause-gives : goal.returns-in_err-look-clause-gives
 returns-in_err-look-clause-gives g c =
-    gives_stop _ (compiler_of c.look.new.self c.args.names.now (g.O.ByteOut.outgoing c.args.out.now) (g.O.ByteOut.lender c.args.out.now)) c.from_residual.result why.Device c.from_residual.ensures.1
-    (device_breaks c.args.parser.now.tokens c.look.new.self c.args.names.now c.args.names.now _ _ (c.in_err-look.ensures.err))
+    gives_stop _ (point c.look.new.self c.args.names.now (g.O.ByteOut.outgoing c.args.out.now)) c.from_residual.result step.Device c.from_residual.ensures.1
+    (read_fails c.args.parser.now.tokens c.look.new.self c.args.names.now c.args.names.now _ (c.in_err-look.ensures.err))
 
 pub returns-in_err-write_end-clause-gives : goal.returns-in_err-write_end-clause-gives
 returns-in_err-write_end-clause-gives g c =
-    gives_stop _ (compiler_of c.look.new.self c.args.names.now (g.O.ByteOut.outgoing c.write_end.new.out) (g.O.ByteOut.lender c.write_end.new.out)) c.from_residual-in_err-write_end.result (stop_of c.in_err-write_end.field-0.0) c.from_residual-in_err-write_end.ensures.1
-    (end_breaks c.args.parser.now.tokens c.look.new.self c.args.names.now c.in_ok-look.ensures.ok _ _ _ _ c.in_err-write_end.ensures.same (end_of _ (sym c.is_at_end.ensures ∙ c.if-is_at_end.true)) c.in_err-write_end.field-0.0 c.in_err-write_end.ensures.gives)
+    gives_stop _ (point c.look.new.self c.args.names.now (g.O.ByteOut.outgoing c.write_end.new.out)) c.from_residual-in_err-write_end.result (step_of c.in_err-write_end.field-0.0) c.from_residual-in_err-write_end.ensures.1
+    (end_breaks c.args.parser.now.tokens c.look.new.self c.args.names.now c.in_ok-look.ensures.ok _ _ (end_of _ (sym c.is_at_end.ensures ∙ c.if-is_at_end.true)) c.in_err-write_end.field-0.0 c.in_err-write_end.ensures.gives)
 
 pub returns-then-is_at_end-clause-gives : goal.returns-then-is_at_end-clause-gives
 returns-then-is_at_end-clause-gives g c =
-    end_stops c.args.parser.now.tokens c.look.new.self c.args.names.now c.in_ok-look.ensures.ok _ _ _ _ c.in_ok-write_end.ensures.same (end_of _ (sym c.is_at_end.ensures ∙ c.if-is_at_end.true)) c.in_ok-write_end.ensures.gives
+    end_stops c.args.parser.now.tokens c.look.new.self c.args.names.now c.in_ok-look.ensures.ok _ _ (end_of _ (sym c.is_at_end.ensures ∙ c.if-is_at_end.true)) c.in_ok-write_end.ensures.gives
 
 pub returns-in-Err-Fault-clause-gives : goal.returns-in-Err-Fault-clause-gives
 returns-in-Err-Fault-clause-gives g c =
     let halted = subst (λ h. Halts definition c.look.new.self h c.definition.new.parser.tokens) c.in-Err-Fault.field-0-is c.in-Err-Fault.ensures in
-    fault_stops c.args.parser.now.tokens c.look.new.self c.args.names.now c.in_ok-look.ensures.ok c.definition.new.parser.tokens _ _ c.fault.result halted.0 halted.1 (not_end _ (sym c.is_at_end.ensures ∙ c.if-is_at_end.false)) c.fault.ensures
+    fault_stops c.args.parser.now.tokens c.look.new.self c.args.names.now c.in_ok-look.ensures.ok c.definition.new.parser.tokens _ c.fault.result halted.0 halted.1 (not_end _ (sym c.is_at_end.ensures ∙ c.if-is_at_end.false)) c.fault.ensures
 
 pub returns-in-Err-Device-clause-gives : goal.returns-in-Err-Device-clause-gives
 returns-in-Err-Device-clause-gives g c =
     let broken = subst (λ h. Halts definition c.look.new.self h c.definition.new.parser.tokens) c.in-Err-Device.field-0-is c.in-Err-Device.ensures in
-    device_breaks c.args.parser.now.tokens c.definition.new.parser.tokens c.args.names.now c.args.names.now _ _ (breaks_behind c.in_ok-look.ensures.ok.moves broken)
+    read_fails c.args.parser.now.tokens c.definition.new.parser.tokens c.args.names.now c.args.names.now _ (breaks_behind c.in_ok-look.ensures.ok.moves broken)
 
 pub returns-in-Some-clause-gives : goal.returns-in-Some-clause-gives
 returns-in-Some-clause-gives g c =
     let t = c.in-Ok.ensures in
     let d = drafted c.args.names.now c.look.new.self c.definition.new.parser.tokens c.in-Ok.header c.definition.new.parser.draft t in
-    fault_behind c.args.parser.now.tokens c.look.new.self c.args.names.now c.in_ok-look.ensures.ok c.definition.new.parser.tokens _ _ t.tree c.in-Ok.header.name t.heads.name t.moves c.args.names.now c.in-Some.fault
+    fault_behind c.args.parser.now.tokens c.look.new.self c.args.names.now c.in_ok-look.ensures.ok c.definition.new.parser.tokens _ t.tree c.in-Ok.header.name t.heads.name t.moves c.args.names.now c.in-Some.fault
     (fault_some c.args.names.now t.tree c.in-Ok.header c.definition.new.parser.draft d c.in-Some.fault c.fault-2.result c.fault-2.ensures c.in-Some.is)
 
 pub returns-in_err-push-clause-gives : goal.returns-in_err-push-clause-gives
@@ -46,8 +45,8 @@ returns-in_err-push-clause-gives g c =
     let t = c.in-Ok.ensures in
     let d = drafted c.args.names.now c.look.new.self c.definition.new.parser.tokens c.in-Ok.header c.definition.new.parser.draft t in
     let clean = fault_none c.args.names.now t.tree c.in-Ok.header c.definition.new.parser.draft d c.fault-2.result c.fault-2.ensures c.in_default.not-Some in
-    gives_stop _ (compiler_of c.definition.new.parser.tokens c.push.new.self (g.O.ByteOut.outgoing c.args.out.now) (g.O.ByteOut.lender c.args.out.now)) c.from_residual-in_err-push.result why.Memory c.from_residual-in_err-push.ensures.1
-    (no_memory c.args.parser.now.tokens c.look.new.self c.args.names.now c.in_ok-look.ensures.ok c.definition.new.parser.tokens _ _ t.tree c.in-Ok.header.name t.heads.name t.moves clean c.push.new.self)
+    gives_stop _ (point c.definition.new.parser.tokens c.push.new.self (g.O.ByteOut.outgoing c.args.out.now)) c.from_residual-in_err-push.result step.Memory c.from_residual-in_err-push.ensures.1
+    (no_memory c.args.parser.now.tokens c.look.new.self c.args.names.now c.in_ok-look.ensures.ok c.definition.new.parser.tokens _ t.tree c.in-Ok.header.name t.heads.name t.moves clean c.push.new.self)
 
 pub returns-in_err-write_definition-clause-gives : goal.returns-in_err-write_definition-clause-gives
 returns-in_err-write_definition-clause-gives g c =
@@ -55,8 +54,8 @@ returns-in_err-write_definition-clause-gives g c =
     let d = drafted c.args.names.now c.look.new.self c.definition.new.parser.tokens c.in-Ok.header c.definition.new.parser.draft t in
     let clean = fault_none c.args.names.now t.tree c.in-Ok.header c.definition.new.parser.draft d c.fault-2.result c.fault-2.ensures c.in_default.not-Some in
     let same = viewed c.args.names.now t.tree c.in-Ok.header c.definition.new.parser.draft d _ c.resolve.new.self clean c.resolve.ensures c.view.ensures in
-    gives_stop _ (compiler_of c.definition.new.parser.tokens c.push.new.self (g.O.ByteOut.outgoing c.write_definition.new.out) (g.O.ByteOut.lender c.write_definition.new.out)) c.from_residual-in_err-write_definition.result (stop_of c.in_err-write_definition.field-0.0) c.from_residual-in_err-write_definition.ensures.1
-    (write_breaks c.args.parser.now.tokens c.look.new.self c.args.names.now c.in_ok-look.ensures.ok c.definition.new.parser.tokens _ _ t.tree c.in-Ok.header.name t.heads.name t.moves c.push.new.self _ _ c.in_err-write_definition.field-0.0 clean c.in_err-write_definition.ensures.same
+    gives_stop _ (point c.definition.new.parser.tokens c.push.new.self (g.O.ByteOut.outgoing c.write_definition.new.out)) c.from_residual-in_err-write_definition.result (step_of c.in_err-write_definition.field-0.0) c.from_residual-in_err-write_definition.ensures.1
+    (write_breaks c.args.parser.now.tokens c.look.new.self c.args.names.now c.in_ok-look.ensures.ok c.definition.new.parser.tokens _ t.tree c.in-Ok.header.name t.heads.name t.moves c.push.new.self _ c.in_err-write_definition.field-0.0 clean
     (subst (λ x. Refuses (g.O.ByteOut.outgoing c.args.out.now) (text_of x) c.in_err-write_definition.field-0.0 (g.O.ByteOut.outgoing c.write_definition.new.out)) same c.in_err-write_definition.ensures.gives))
 
 pub returns-clause-gives : goal.returns-clause-gives
@@ -65,5 +64,5 @@ returns-clause-gives g c =
     let d = drafted c.args.names.now c.look.new.self c.definition.new.parser.tokens c.in-Ok.header c.definition.new.parser.draft t in
     let clean = fault_none c.args.names.now t.tree c.in-Ok.header c.definition.new.parser.draft d c.fault-2.result c.fault-2.ensures c.in_default.not-Some in
     let same = viewed c.args.names.now t.tree c.in-Ok.header c.definition.new.parser.draft d _ c.resolve.new.self clean c.resolve.ensures c.view.ensures in
-    wrote c.args.parser.now.tokens c.look.new.self c.args.names.now c.in_ok-look.ensures.ok c.definition.new.parser.tokens _ _ t.tree c.in-Ok.header.name t.heads.name t.moves c.push.new.self _ _ clean c.in_ok-push.ensures.ok
-    (subst (λ x. Writes (g.O.ByteOut.outgoing c.args.out.now) (text_of x) (g.O.ByteOut.outgoing c.write_definition.new.out)) same c.in_ok-write_definition.ensures.gives) c.in_ok-write_definition.ensures.same t.single t.falls
+    wrote c.args.parser.now.tokens c.look.new.self c.args.names.now c.in_ok-look.ensures.ok c.definition.new.parser.tokens _ t.tree c.in-Ok.header.name t.heads.name t.moves c.push.new.self _ clean c.in_ok-push.ensures.ok
+    (subst (λ x. Writes (g.O.ByteOut.outgoing c.args.out.now) (text_of x) (g.O.ByteOut.outgoing c.write_definition.new.out)) same c.in_ok-write_definition.ensures.gives) t.single t.falls

@@ -1,32 +1,20 @@
-use Rattle.std.proofs.Common.{refl, ap, ◌∙◌, Err}
-use Rattle.bparse.specs.declared.step.Stop.TheVariants as why
-use Rattle.bparse.proofs.CompileSteps.{compiles_ok, compiles_err, compiles_fault, compiles_line, compiles_device, compiles_memory}
+use Rattle.std.proofs.Common.{refl}
+use Rattle.bparse.proofs.CompileSteps.{compiles_between, done, faulty, cut_off, device, memory}
 use Rattle.bparse.proofs.compiling.compile.Goals as goal
 
-pub returns-in-Ok-clause-compiles : goal.returns-in-Ok-clause-compiles
-returns-in-Ok-clause-compiles g c = compiles_ok _ _ _ _ _ _ c.compile_code.result c.in-Ok.field-0 c.compile_code.ensures.gives c.in-Ok.is refl
+pub returns-in-Finished-clause-compiles : goal.returns-in-Finished-clause-compiles
+returns-in-Finished-clause-compiles g c = compiles_between _ _ c.in-Finished.ensures.gives (λ first last l. done first last _ _ l refl)
 
-pub returns-in-Ok-write_diagnostic-clause-compiles : goal.returns-in-Ok-write_diagnostic-clause-compiles
-returns-in-Ok-write_diagnostic-clause-compiles g c =
-    compiles_fault _ _ _ _ _ _ c.in-Err-Fault.fault
-    (compiles_err _ _ _ _ (g.D.ByteOut.outgoing c.args.diag.now) (g.D.ByteOut.outgoing c.args.diag.now) c.compile_code.result (why.Fault c.in-Err-Fault.fault) c.compile_code.ensures.gives (c.in-Err-Fault.is ∙ ap Err c.in-Err-Fault.field-0-is))
-    c.in-Ok-write_diagnostic.ensures.gives
+pub returns-in-Ok-clause-compiles : goal.returns-in-Ok-clause-compiles
+returns-in-Ok-clause-compiles g c =
+    compiles_between _ _ c.in-Fault.ensures.gives (λ first last l. faulty first last _ _ c.in-Fault.fault l c.in-Ok.ensures.gives)
 
 pub returns-in-Err-clause-compiles : goal.returns-in-Err-clause-compiles
 returns-in-Err-clause-compiles g c =
-    rw c.of_fault.ensures
-    (compiles_line _ _ _ _ _ _ c.in-Err-Fault.fault c.in-Err.fault
-    (compiles_err _ _ _ _ (g.D.ByteOut.outgoing c.args.diag.now) (g.D.ByteOut.outgoing c.args.diag.now) c.compile_code.result (why.Fault c.in-Err-Fault.fault) c.compile_code.ensures.gives (c.in-Err-Fault.is ∙ ap Err c.in-Err-Fault.field-0-is))
-    c.in-Err.ensures.gives)
+    rw c.of_fault.ensures (compiles_between _ _ c.in-Fault.ensures.gives (λ first last l. cut_off first last _ _ c.in-Fault.fault c.in-Err.fault l c.in-Err.ensures.gives))
 
-pub returns-in-Err-Device-clause-compiles : goal.returns-in-Err-Device-clause-compiles
-returns-in-Err-Device-clause-compiles g c =
-    compiles_device _ _ _ _ _ _
-    (compiles_err _ _ _ _ (g.D.ByteOut.outgoing c.args.diag.now) (g.D.ByteOut.outgoing c.args.diag.now) c.compile_code.result why.Device c.compile_code.ensures.gives (c.in-Err-Device.is ∙ ap Err c.in-Err-Device.field-0-is))
-    refl
+pub returns-in-Device-clause-compiles : goal.returns-in-Device-clause-compiles
+returns-in-Device-clause-compiles g c = compiles_between _ _ c.in-Device.ensures.gives (λ first last l. device first last _ _ l refl)
 
-pub returns-in-Err-Memory-clause-compiles : goal.returns-in-Err-Memory-clause-compiles
-returns-in-Err-Memory-clause-compiles g c =
-    compiles_memory _ _ _ _ _ _
-    (compiles_err _ _ _ _ (g.D.ByteOut.outgoing c.args.diag.now) (g.D.ByteOut.outgoing c.args.diag.now) c.compile_code.result why.Memory c.compile_code.ensures.gives (c.in-Err-Memory.is ∙ ap Err c.in-Err-Memory.field-0-is))
-    refl
+pub returns-in-Memory-clause-compiles : goal.returns-in-Memory-clause-compiles
+returns-in-Memory-clause-compiles g c = compiles_between _ _ c.in-Memory.ensures.gives (λ first last l. memory first last _ _ l refl)

@@ -1,0 +1,109 @@
+-- What reading and writing one definition does.
+use Rattle.std.specs.Prelude.{◌≡◌, ℕ, ◌<◌, Bool, false, true, List, [], ◌∷◌, ◌++◌, Option, Some, None, Result, Ok, Err, ◌⊎◌}
+use Rattle.bword.specs.ByteEnds.{Outgoing, Grew, Writes, Refuses}
+use Rattle.bword.specs.declared.byte_out.EndFault.{EndFault}
+use Rattle.bword.specs.declared.byte_out.EndFault.TheVariants as end_fault
+use Rattle.blex.specs.declared.diagnostic.Diagnostic.{Diagnostic}
+use Rattle.blex.specs.declared.token.Token.{Token}
+use Rattle.blex.specs.declared.token.Token.TheVariants as token
+use Rattle.btree.specs.Compiled.{Defined, Outcome, Goes, ending, text_of}
+use Rattle.btree.specs.Definition.{Definition}
+use Rattle.btree.specs.DefinitionReader.{definition}
+use Rattle.btree.specs.Reading.{Got}
+use Rattle.btree.specs.Scan.{word_of}
+use Rattle.bexpr.specs.Tokens.{Tokens, tokens_of, CanFollow, IsSingle, Reads, work}
+use Rattle.bparse.specs.declared.step.Step.{Step}
+use Rattle.bparse.specs.declared.step.Step.TheVariants as step
+
+-- the tokens to come, the names defined so far and the output
+pub record Point : Type 0 where
+  pub tokens : Tokens
+  pub names : Defined
+  pub out : Outgoing
+
+abbrev pub point : Tokens → Defined → Outgoing → Point
+point tokens names out = record { tokens = tokens; names = names; out = out }
+
+abbrev pub name_of : Definition → List ℕ
+name_of d = (word_of d).text
+
+-- what comes of the source from a point on, where these bytes were taken and more follow
+abbrev pub Comes : Point → List ℕ → List ℕ → Outcome → Type 0
+Comes p taken more outcome = Goes p.names (tokens_of p.tokens (taken ++ more)) outcome
+
+-- each outcome of what comes, where these bytes were taken
+abbrev pub EachComing : Point → List ℕ → Point → (Outcome → Type 0) → Type 0
+EachComing old taken new P =
+    (more : List ℕ) → CanFollow new.tokens.source.end more → (r : Outcome) → Comes old taken more r → P r
+
+-- what is written next
+abbrev pub next_text : List (List ℕ) → Option Diagnostic → List ℕ
+next_text [] stop = ending stop
+next_text (text ∷ texts) stop = text
+
+-- there is code: a definition's, or the last line
+abbrev pub HasCode : Outcome → Type 0
+HasCode r = r.code ≡ [] → r.stop ≡ None
+
+-- A definition was read, which these tokens spell, and written.
+pub record Writing (old new : Point) : Type 0 where
+  pub taken : List ℕ
+  pub reads : Reads old.tokens.source taken new.tokens.source
+  pub failures : new.tokens.source.end.failures ≡ old.tokens.source.end.failures
+  pub tree : Definition
+  pub read : (more : List ℕ) → CanFollow new.tokens.source.end more
+      → definition (tokens_of old.tokens (taken ++ more)) ≡ Got tree (tokens_of new.tokens more)
+  pub names : new.names ≡ old.names ++ name_of tree ∷ []
+  pub written : Writes old.out (text_of tree) new.out
+  pub single : IsSingle new.tokens
+  pub falls : work new.tokens < work old.tokens
+  pub comes : (more : List ℕ) → CanFollow new.tokens.source.end more → (r : Outcome)
+      → Goes new.names (tokens_of new.tokens more) r → Comes old taken more (record { code = text_of tree ∷ r.code; stop = r.stop })
+
+-- Nothing more comes, and the text's last line was written, or nothing where there is a fault.
+pub record Stopping (old : Point) (stop : Option Diagnostic) (new : Point) : Type 0 where
+  pub taken : List ℕ
+  pub reads : Reads old.tokens.source taken new.tokens.source
+  pub failures : new.tokens.source.end.failures ≡ old.tokens.source.end.failures
+  pub written : Writes old.out (ending stop) new.out
+  pub comes : (more : List ℕ) → CanFollow new.tokens.source.end more → Comes old taken more (record { code = []; stop = stop })
+
+-- A call broke off, and this holds of what comes.
+pub record Breaking (old : Point) (P : Outcome → Type 0) (new : Point) : Type 0 where
+  pub taken : List ℕ
+  pub reads : Reads old.tokens.source taken new.tokens.source
+  pub each : EachComing old taken new P
+
+-- a read failed, and nothing was written
+abbrev pub ReadFails : Point → Point → Type 0
+ReadFails old new =
+    Breaking old (λ r. Unit {0}) new × Grew old.tokens.source.end.failures new.tokens.source.end.failures × (new.out ≡ old.out)
+
+-- the output refused what is written next
+abbrev pub OutRefuses : Point → EndFault → Point → Type 0
+OutRefuses old fault new =
+    Breaking old (λ r. HasCode r × Refuses old.out (next_text r.code r.stop) fault new.out) new
+    × (new.tokens.source.end.failures ≡ old.tokens.source.end.failures)
+
+-- the list of names was refused memory before a definition was written
+abbrev pub NamesRefuse : Point → Point → Type 0
+NamesRefuse old new =
+    Breaking old (λ r. r.code ≡ [] → ⊥) new × (new.tokens.source.end.failures ≡ old.tokens.source.end.failures) × (new.out ≡ old.out)
+
+-- what a call does: it writes a definition, or stops
+abbrev pub Gives : Point → Result (Unit {0}) Step → Point → Type 0
+Gives old (Ok u) new = Writing old new
+Gives old (Err step.Written) new = ⊥
+Gives old (Err step.Finished) new = Stopping old None new
+Gives old (Err (step.Fault fault)) new = Stopping old (Some fault) new
+Gives old (Err step.Device) new = ReadFails old new ⊎ OutRefuses old end_fault.Device new
+Gives old (Err step.Memory) new = OutRefuses old end_fault.Memory new ⊎ NamesRefuse old new
+Gives old (Err step.Closed) new = ⊥
+
+abbrev pub is_end : Token → Bool
+is_end token.End = true
+is_end _ = false
+
+abbrev pub step_of : EndFault → Step
+step_of end_fault.Device = step.Device
+step_of end_fault.Memory = step.Memory

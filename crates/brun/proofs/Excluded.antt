@@ -1,0 +1,123 @@
+-- Answers that the contract of `go` excludes, whatever is proved of the body that gives them.
+use Rattle.std.proofs.Common.{◌≡◌, ℕ, ◌<◌, ◌≤◌, List, [], ◌∷◌, map, codes, Some, None, refl, sym, ap, ◌∙◌, subst, arith, ◌⊎◌, inl, inr, ⊎_elim}
+use Rattle.bword.specs.declared.edition.Edition.TheVariants as editions
+use Rattle.std.specs.Io.KnownBytes.{Appends}
+use Rattle.bword.specs.ByteEnds.{Incoming, Outgoing, Grew, Refuses}
+use Rattle.bword.specs.declared.byte_out.EndFault.{EndFault}
+use Rattle.bword.specs.declared.byte_out.EndFault.TheVariants as end_fault
+use Rattle.blex.specs.Tokens.{tokens_from}
+use Rattle.btree.specs.Code.{code_of}
+use Rattle.btree.specs.Compiled as compiled
+use Rattle.btree.specs.Compiled.{Goes}
+use Rattle.btree.specs.Definition.{Definition}
+use Rattle.btree.specs.Expression.{Number, Named, Literal, Called, No_arguments, Another}
+use Rattle.btree.specs.Statement.{Evaluate, Compound, Stmts, Nothing, More}
+use Rattle.bmach.specs.Machine.{State, Halted, image_of}
+use Rattle.bmach.specs.Runs as runs
+use Rattle.bmach.specs.Runs.{outcome_of}
+use Rattle.bmach.specs.World.{World, Ending, Exited, Trapped}
+use Rattle.bmach.specs.declared.outcome.Outcome.{Outcome}
+use Rattle.bmach.specs.declared.outcome.Outcome.TheVariants as outcome
+use Rattle.bmean.specs.Laws.{Loads}
+use Rattle.bparse.specs.Statuses.{status_of}
+use Rattle.brun.specs.Going.{RunsProgram, GoesOff}
+use Rattle.brun.specs.Going as going
+use Rattle.brun.specs.Meant.{DoesAsMeant}
+use Rattle.brun.specs.Reports.{Reported, report_text}
+use Rattle.brun.specs.declared.report.Report.TheVariants as report
+use Rattle.brun.specs.Headline.{Tells, NothingFailed, RunAnswers}
+use Rattle.brun.specs.Runs.{Ends, Finishes, machine}
+use Rattle.brun.proofs.HeadlineSteps.{headline}
+use Rattle.brun.proofs.MeantSteps.{halted_later}
+
+abbrev main : Stmts → List Definition
+main body = Definition.Function (record { text = codes "main"; line = 1 }) [] (Compound body) ∷ []
+
+-- main(){}, whose second step is the halt
+abbrev nothing : List Definition
+nothing = main Nothing
+
+-- main(){putchar('a');}, which has written after four steps and halts at the seventh
+abbrev writes_a : List Definition
+writes_a = main (More Nothing (Evaluate (Called (Named (record { text = codes "putchar"; line = 1 })) (Another No_arguments (Literal (Number 97))))))
+
+abbrev state : List Definition → ℕ → State
+state ds n = machine (map code_of ds) [] n
+
+pub nothing_halts : map (λ n. outcome_of (state nothing n)) (0 ∷ 1 ∷ 2 ∷ 3 ∷ []) ≡ (outcome.Limit ∷ outcome.Limit ∷ outcome.Exit 0 ∷ outcome.Exit 0 ∷ [])
+nothing_halts = refl
+
+pub writes_limits : map (λ n. outcome_of (state writes_a n)) (3 ∷ 4 ∷ 6 ∷ 7 ∷ []) ≡ (outcome.Limit ∷ outcome.Limit ∷ outcome.Limit ∷ outcome.Exit 0 ∷ [])
+writes_limits = refl
+
+pub writes_outputs : map (λ n. (runs.world_of (state writes_a n)).output) (3 ∷ 4 ∷ 7 ∷ []) ≡ ([] ∷ codes "a" ∷ codes "a" ∷ [])
+writes_outputs = refl
+
+no_end : (e : Ending) (w : World) → outcome.Limit ≡ outcome_of (Halted e w) → ⊥
+no_end (Exited n) w e = cc
+no_end (Trapped kind) w e = cc
+
+-- a machine at its limit has halted at no step before
+still_runs : (ds : List Definition) (steps : ℕ) → outcome_of (state ds steps) ≡ outcome.Limit → (n : ℕ) → n ≤ steps → (e : Ending) (w : World) → state ds n ≡ Halted e w → ⊥
+still_runs ds steps limit n le e w h =
+    no_end e w (sym limit ∙ ap outcome_of (halted_later (image_of (map code_of ds)) [] n steps e w le h))
+
+nothing_written : (o p : Outgoing) (bytes : List ℕ) → o.written ≡ Some [] → p.written ≡ Some [] → Appends o.written p.written bytes → [] ≡ bytes
+nothing_written o p bytes e f a = subst (λ x. Appends (Some []) x bytes) f (subst (λ x. Appends x p.written bytes) e a)
+
+-- Over ends that tell their bytes, with no input, where nothing fails and the source has no fault.
+module _ (source source_behind : Incoming) (ends : Ends) (status : ℕ) (text : List ℕ) (tells : Tells source text) (told : Tells ends.input [])
+    (healthy : NothingFailed source source_behind ends status) (r : compiled.Outcome) (g : Goes [] (tokens_from editions.One 1 text) r) (clean : r.stop ≡ None) where
+  answers : (steps : ℕ) (ds : List Definition) → g.definitions ≡ ds → Loads ds → GoesOff steps source source_behind ends status → RunAnswers ds [] steps ends status
+  answers steps ds same loads h =
+      subst (λ x. RunAnswers x [] steps ends status) same
+      ((headline steps source source_behind ends status h text [] tells told healthy r g).runs clean (subst (λ x. Loads x) (sym same) loads))
+
+  -- `limit` in place of a halt: a run of fewer steps
+  pub no_fewer_steps : g.definitions ≡ nothing → GoesOff 2 source source_behind ends status → status ≡ 131 → ⊥
+  no_fewer_steps same h is =
+      let halt = (answers 2 nothing same refl h).halts 2 (omega arith) (Exited 0) (runs.world_of (state nothing 2)) refl in
+      let bad : 131 ≡ 0 = sym is ∙ halt.says.answered in
+      omega (arith, bad)
+
+  -- a halt in place of `limit`: a run of more steps
+  pub no_more_steps : g.definitions ≡ nothing → GoesOff 1 source source_behind ends status → status ≡ 0 → ⊥
+  no_more_steps same h is =
+      let limit = (answers 1 nothing same refl h).limited (still_runs nothing 1 refl) in
+      let bad : 0 ≡ 131 = sym is ∙ limit.says.answered in
+      omega (arith, bad)
+
+  -- less output than that of the steps
+  pub no_less_output : g.definitions ≡ writes_a → GoesOff 4 source source_behind ends status → ends.out.written ≡ Some [] → ends.out_behind.written ≡ Some [] → ⊥
+  no_less_output same h before behind =
+      let limit = (answers 4 writes_a same refl h).limited (still_runs writes_a 4 refl) in
+      let a : codes "a" ≡ limit.world.output = limit.shows.written in
+      let none : [] ≡ limit.world.output = nothing_written ends.out ends.out_behind limit.world.output before behind limit.says.written.appended in
+      let bad : codes "a" ≡ [] = a ∙ sym none in
+      cc
+
+told_device : (line : List ℕ) (answer : ℕ) (o p : Outgoing) (status : ℕ) → answer < 133 → Reported line answer o p status → status ≡ 133 → Grew o.failures p.failures
+told_device line answer o p status less (inl told) is = let same : answer ≡ 133 = sym told.1 ∙ is in absurd (omega (arith, less, same))
+told_device line answer o p status less (inr r) is = by_kind r.fault r.refuses r.status
+  where
+    by_kind : (fault : EndFault) → Refuses o line fault p → status ≡ status_of fault → Grew o.failures p.failures
+    by_kind end_fault.Device h s = h.counted.0
+    by_kind end_fault.Memory h s = let bad : 133 ≡ 134 = sym is ∙ s in absurd (omega (arith, bad))
+
+-- A run has the status 133 only where a read of its input, or a write of its output or of its line failed.
+abbrev AnyFailed : Ends → Type 0
+AnyFailed ends =
+    Grew ends.input.failures ends.input_behind.failures ⊎ Grew ends.out.failures ends.out_behind.failures ⊎ Grew ends.line.failures ends.line_behind.failures
+
+finished : (steps : ℕ) (ds : List Definition) (ends : Ends) (status : ℕ) (result : Outcome) → DoesAsMeant ds steps ends.input ends.input_behind ends.out ends.out_behind result
+    → Finishes result ends.line ends.line_behind status → status ≡ 133 → AnyFailed ends
+finished steps ds ends status (outcome.Exit n) h f is = let own = h.own_status n refl in let same : n ≡ 133 = sym f.1 ∙ is in absurd (omega (arith, own, same))
+finished steps ds ends status (outcome.Trap kind) h f is = inr (inr (told_device (report_text (report.Trap kind)) 130 ends.line ends.line_behind status (omega arith) f is))
+finished steps ds ends status outcome.Limit h f is = inr (inr (told_device (report_text report.Limit) 131 ends.line ends.line_behind status (omega arith) f is))
+finished steps ds ends status outcome.Device h f is = ⊎_elim inl (λ o. inr (inl o)) h.made.reason
+finished steps ds ends status outcome.Memory h f is = let bad : 134 ≡ 133 = sym f.1 ∙ is in absurd (omega (arith, bad))
+
+pub only_failed : (steps : ℕ) (ds : List Definition) (ends : Ends) (status : ℕ) → RunsProgram steps ds ends status → status ≡ 133 → AnyFailed ends
+only_failed steps ds ends status (going.refused f n load number quiet line) is = inr (inr (told_device (report_text (report.Load n)) 132 ends.line ends.line_behind status (omega arith) line is))
+only_failed steps ds ends status (going.ran result loads does finish) is = finished steps ds ends status result does finish is
+only_failed steps ds ends status (going.no_memory quiet silent s) is = let bad : 134 ≡ 133 = sym s ∙ is in absurd (omega (arith, bad))

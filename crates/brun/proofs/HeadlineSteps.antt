@@ -1,0 +1,275 @@
+-- Where nothing fails, what is said of a run is what its source and its input come to.
+use Rattle.std.proofs.Common.{◌≡◌, ◌≢◌, ℕ, ◌+◌, ◌≤◌, List, [], ◌∷◌, ◌++◌, map, Bool, true, false, Option, Some, None, refl, sym, ap, ◌∙◌, subst, arith, append-nil, ◌⊎◌, inl, inr, ⊎_elim}
+use Rattle.bword.specs.declared.edition.Edition.TheVariants as editions
+use Rattle.std.specs.Io.KnownBytes.{Appends, Consumes}
+use Rattle.bword.specs.ByteEnds.{Incoming, Outgoing, Kept, Grew, Took, Writes, Refuses, CanFollow, outgoing_of}
+use Rattle.bword.specs.declared.byte_out.EndFault.{EndFault}
+use Rattle.bword.specs.declared.byte_out.EndFault.TheVariants as end_fault
+use Rattle.blex.specs.Tokens.{tokens_from}
+use Rattle.blex.specs.declared.diagnostic.Diagnostic.{Diagnostic}
+use Rattle.btree.specs.Code.{code_of}
+use Rattle.btree.specs.Compiled as compiled
+use Rattle.btree.specs.Compiled.{Goes, line_of}
+use Rattle.btree.specs.Definition.{Definition}
+use Rattle.bparse.specs.Compiles.{Run, Compiles, SourceFailed, CodeRefused, LineRefused}
+use Rattle.bparse.specs.Statuses.{status_of}
+use Rattle.bmach.specs.Machine.{State, Running, Halted, Stuck, image_of}
+use Rattle.bmach.specs.Runs as runs
+use Rattle.bmach.specs.Runs.{Shows, Comes, RunGives, outcome_of}
+use Rattle.bmach.specs.World.{World, Ending, Exited, Trapped}
+use Rattle.bmach.specs.declared.fault.LoadFault.{LoadFault}
+use Rattle.bmach.specs.declared.outcome.Outcome.{Outcome}
+use Rattle.bmach.specs.declared.outcome.Outcome.TheVariants as outcome
+use Rattle.bmean.specs.Laws.{Loads}
+use Rattle.bmean.proofs.LawProofs.{code_agrees}
+use Rattle.brun.specs.Going.{RunsProgram, RunsSource, GoesOff}
+use Rattle.brun.specs.Going as going
+use Rattle.brun.specs.Headline.{Tells, NothingFailed, Says, line_at, status_at, IsEnd, IsLimit, RunAnswers, GoAnswers, Headline}
+use Rattle.brun.specs.Reports.{Reported, report_text, load_number}
+use Rattle.brun.specs.Runs.{Ends, Finishes, HasNotRun, machine}
+use Rattle.brun.specs.declared.report.Report.TheVariants as report
+use Rattle.brun.proofs.MeantSteps.{halted_later}
+
+-- what an end that tells its bytes has left
+pub record Rest (i j : Incoming) (taken bytes : List ℕ) : Type 0 where
+  pub more : List ℕ
+  pub follows : CanFollow j more
+  pub whole : taken ++ more ≡ bytes
+  pub left : j.left ≡ Some more
+
+rest_of_bytes : (old new : Option (List ℕ)) (taken bytes : List ℕ) → old ≡ Some bytes → Consumes old new taken → (more : List ℕ) × (new ≡ Some more) × (taken ++ more ≡ bytes)
+rest_of_bytes None new taken bytes e c = absurd (no e)
+  where
+    no : None ≢ Some bytes
+    no e = cc
+rest_of_bytes (Some xs) None taken bytes e c = elim c [ ]
+rest_of_bytes (Some xs) (Some ys) taken bytes e c = let same : xs ≡ bytes = cc in (ys, refl, sym c ∙ same)
+
+cancel : (xs ys zs : List ℕ) → xs ++ ys ≡ xs ++ zs → ys ≡ zs
+cancel [] ys zs e = e
+cancel (x ∷ xs) ys zs e = let tails : xs ++ ys ≡ xs ++ zs = cc in cancel xs ys zs tails
+
+by_cases : {A : Type 0} (b : Bool) → (b ≡ true → A) → (b ≡ false → A) → A
+by_cases true f g = f refl
+by_cases false f g = g refl
+
+rest_of : (i j : Incoming) (taken bytes : List ℕ) → Took i taken j → Tells i bytes → Rest i j taken bytes
+rest_of i j taken bytes t told =
+    let r = rest_of_bytes i.left j.left taken bytes told.left t.bytes in
+    record { more = r.0; follows = follows r.0 r.2; whole = r.2; left = r.1 }
+  where
+    follows : (more : List ℕ) → taken ++ more ≡ bytes → CanFollow j more
+    follows more whole over =
+        by_cases i.is_over
+        (λ was. let nothing : taken ≡ [] = (t.over was).0 in subst (λ xs. xs ++ more ≡ bytes) nothing whole ∙ told.follow was)
+        (λ wasnt.
+        let all = subst (λ o. Consumes o (Some []) taken) told.left (t.all wasnt over) in
+        cancel taken more [] (whole ∙ all))
+
+appends_nothing : (known : Option (List ℕ)) → Appends known known []
+appends_nothing None = tt
+appends_nothing (Some xs) = sym (append-nil xs)
+
+writes_nothing : (o p : Outgoing) → p ≡ o → Writes o [] p
+writes_nothing o p e =
+    subst (λ q. Writes o [] q) (sym e) (record { appended = appends_nothing o.written; failures = refl; refusals = refl })
+
+-- a line is written where its end neither fails nor is refused
+not_refused : (line : List ℕ) (o p : Outgoing) (status : ℕ) (fault : EndFault) → (Grew o.failures p.failures → ⊥) → status ≢ 134 → Refuses o line fault p → status ≡ status_of fault → ⊥
+not_refused line o p status end_fault.Device fails memory r s = fails r.counted.0
+not_refused line o p status end_fault.Memory fails memory r s = memory s
+
+is_told : (line : List ℕ) (answer : ℕ) (o p : Outgoing) (status : ℕ) → (Grew o.failures p.failures → ⊥) → status ≢ 134 → Reported line answer o p status → Writes o line p × (status ≡ answer)
+is_told line answer o p status fails memory (inl told) = told
+is_told line answer o p status fails memory (inr r) = absurd (not_refused line o p status r.fault fails memory r.refuses r.status)
+
+-- the line and the status of an outcome
+abbrev line_in : Outcome → List ℕ
+line_in (outcome.Exit n) = []
+line_in (outcome.Trap kind) = report_text (report.Trap kind)
+line_in outcome.Limit = report_text report.Limit
+line_in outcome.Device = []
+line_in outcome.Memory = []
+
+abbrev status_in : Outcome → ℕ
+status_in (outcome.Exit n) = n
+status_in (outcome.Trap kind) = 130
+status_in outcome.Limit = 131
+status_in outcome.Device = 133
+status_in outcome.Memory = 134
+
+line_same : (e : Ending) (w : World) → line_in (outcome_of (Halted e w)) ≡ line_at e
+line_same (Exited n) w = refl
+line_same (Trapped kind) w = refl
+
+status_same : (e : Ending) (w : World) → status_in (outcome_of (Halted e w)) ≡ status_at e
+status_same (Exited n) w = refl
+status_same (Trapped kind) w = refl
+
+module _ (ds : List Definition) (loads : Loads ds) (steps : ℕ) (ends : Ends) (status : ℕ) (input : List ℕ) (told : Tells ends.input input) where
+  abbrev state : ℕ → State
+  state n = machine (map code_of ds) input n
+
+  -- what shows in the ends of a run
+  pub record Came (result : Outcome) : Type 0 where
+    pub left : List ℕ
+    pub output : List ℕ
+    pub shows : Shows result left output (state steps)
+    pub says : Says ends status left output (line_in result) (status_in result)
+
+  came : (result : Outcome) → Comes (machine (map code_of ds)) steps ends.input ends.input_behind ends.out ends.out_behind result
+      → Writes ends.line (line_in result) ends.line_behind → status ≡ status_in result → Came result
+  came result h line is =
+      let rest = rest_of ends.input ends.input_behind h.taken input h.took told in
+      record {
+        left = rest.more;
+        output = h.output;
+        shows = subst (λ t. Shows result rest.more h.output (machine (map code_of ds) t steps)) rest.whole (h.shows rest.more rest.follows);
+        says = record { unread = rest.left; written = h.written; told = line; answered = is };
+      }
+
+  -- it came so to this state
+  says_at : (result : Outcome) (c : Came result) (s : State) → state steps ≡ s
+      → (outcome_of s ≡ result) × Says ends status (runs.world_of s).input (runs.world_of s).output (line_in (outcome_of s)) (status_in (outcome_of s))
+  says_at result c s e =
+      let shows = subst (λ x. Shows result c.left c.output x) e c.shows in
+      let result_is = sym shows.outcome in
+      let a = subst (λ x. Says ends status c.left c.output (line_in x) (status_in x)) result_is c.says in
+      let b = subst (λ x. Says ends status x c.output (line_in (outcome_of s)) (status_in (outcome_of s))) (sym shows.left) a in
+      (shows.outcome, subst (λ x. Says ends status (runs.world_of s).input x (line_in (outcome_of s)) (status_in (outcome_of s))) (sym shows.written) b)
+
+  halts : (result : Outcome) → Came result → (n : ℕ) → n ≤ steps → (e : Ending) (w : World) → state n ≡ Halted e w → IsEnd ds input (n + 1) e w ends status
+  halts result c n le e w h =
+      let later = halted_later (image_of (map code_of ds)) input n steps e w le h in
+      let said = (says_at result c (Halted e w) later).1 in
+      record {
+        means = (code_agrees ds loads input).halts_as_meant n e w h;
+        says = subst (λ x. Says ends status w.input w.output x (status_at e)) (line_same e w)
+            (subst (λ x. Says ends status w.input w.output (line_in (outcome_of (Halted e w))) x) (status_same e w) said);
+      }
+
+  abbrev StillRuns : Type 0
+  StillRuns = (n : ℕ) → n ≤ steps → (e : Ending) (w : World) → state n ≢ Halted e w
+
+  limited_at : (result : Outcome) → Came result → StillRuns → (s : State) → state steps ≡ s → IsLimit ds input steps ends status
+  limited_at result c runs_on (Running call below w) e = record {
+    world = w;
+    shows = subst (λ x. Shows outcome.Limit w.input w.output x) (sym e) (record { outcome = refl; left = refl; written = refl });
+    begins = (code_agrees ds loads input).writes_as_meant steps call below w e;
+    says = (says_at result c (Running call below w) e).1;
+  }
+  limited_at result c runs_on (Halted ending w) e = absurd (runs_on steps (omega arith) ending w e)
+  limited_at result c runs_on (Stuck w) e = absurd ((code_agrees ds loads input).never_stuck steps w e)
+
+  as_meant : (result : Outcome) → Came result → RunAnswers ds input steps ends status
+  as_meant result c = record {
+    halts = halts result c;
+    limited = λ runs_on. limited_at result c runs_on (state steps) refl;
+    endless = λ wants. limited_at result c (λ n le e w h. (code_agrees ds loads input).runs_without_end wants n e w h) (state steps) refl;
+  }
+
+  abbrev Gives : Outcome → Type 0
+  Gives result = RunGives (machine (map code_of ds)) steps ends.input ends.input_behind ends.out ends.out_behind result
+
+  module _ (source source_behind : Incoming) (healthy : NothingFailed source source_behind ends status) where
+    pub runs_so : (result : Outcome) → Gives result → Finishes result ends.line ends.line_behind status → RunAnswers ds input steps ends status
+    runs_so (outcome.Exit n) h f = as_meant (outcome.Exit n) (came (outcome.Exit n) h (writes_nothing ends.line ends.line_behind f.0) f.1)
+    runs_so (outcome.Trap kind) h f =
+        let line = is_told (report_text (report.Trap kind)) 130 ends.line ends.line_behind status healthy.line_written healthy.not_refused f in
+        as_meant (outcome.Trap kind) (came (outcome.Trap kind) h line.0 line.1)
+    runs_so outcome.Limit h f =
+        let line = is_told (report_text report.Limit) 131 ends.line ends.line_behind status healthy.line_written healthy.not_refused f in
+        as_meant outcome.Limit (came outcome.Limit h line.0 line.1)
+    runs_so outcome.Device h f = absurd (⊎_elim healthy.input_read healthy.output_written h.reason)
+    runs_so outcome.Memory h f = absurd (healthy.not_refused f.1)
+
+no_zero : Grew 0 0 → ⊥
+no_zero (inl less) = omega arith
+no_zero (inr same) = omega (arith, same.0)
+
+-- what compiling does to the source, the kept code and the line
+abbrev compiling : (source source_behind : Incoming) (ends : Ends) (status : ℕ) (kept : Kept) → Run
+compiling source source_behind ends status kept =
+    record { source = source; source_behind = source_behind; code = going.no_code; code_behind = outgoing_of kept; line = ends.line; line_behind = ends.line_behind; status = status }
+
+-- A source that isn't compiled where nothing fails has a fault.
+module _ (source source_behind : Incoming) (ends : Ends) (status : ℕ) (healthy : NothingFailed source source_behind ends status) (kept : Kept) where
+  -- what follows the bytes taken, and the outcome with it
+  module _ (h : Compiles (compiling source source_behind ends status kept)) (more : List ℕ) (follows : CanFollow source_behind more) (r : compiled.Outcome) (g : Goes [] (tokens_from editions.One 1 (h.taken ++ more)) r) where
+    not_device : status ≡ 133 → ⊥
+    not_device device = by_end (h.failed device)
+      where
+        by_end : (SourceFailed (compiling source source_behind ends status kept) h.taken ⊎ CodeRefused (compiling source source_behind ends status kept) h.taken end_fault.Device ⊎ LineRefused (compiling source source_behind ends status kept) h.taken end_fault.Device) → ⊥
+        by_end (inl f) = healthy.source_read f.counted
+        by_end (inr (inl c)) = no_zero (c.code more follows r g).1.counted.0
+        by_end (inr (inr l)) = healthy.line_written (l.written more follows r g).line.counted.0
+
+    fault_status : (status ≡ 0 → ⊥) → status ≡ 1
+    fault_status not_zero = by_status h.no_other
+      where
+        by_status : ((status ≡ 0) ⊎ (status ≡ 1) ⊎ (status ≡ 133) ⊎ (status ≡ 134)) → status ≡ 1
+        by_status (inl none) = absurd (not_zero none)
+        by_status (inr (inl one)) = one
+        by_status (inr (inr (inl device))) = absurd (not_device device)
+        by_status (inr (inr (inr memory))) = absurd (healthy.not_refused memory)
+
+other_stop : {A : Type 0} (stop : Option Diagnostic) (fault : Diagnostic) → stop ≡ None → stop ≡ Some fault → A
+other_stop stop fault e f = absurd (no (sym e ∙ f))
+  where
+    no : None ≢ Some fault
+    no e = cc
+
+unread_says : (ends : Ends) (status : ℕ) (input line : List ℕ) (answer : ℕ) → Tells ends.input input → HasNotRun ends → Writes ends.line line ends.line_behind → status ≡ answer → Says ends status input [] line answer
+unread_says ends status input line answer told quiet written is = record {
+  unread = ap (λ (i : Incoming). i.left) quiet.unread ∙ told.left;
+  written = writes_nothing ends.out ends.out_behind quiet.silent;
+  told = written;
+  answered = is;
+}
+
+-- a program that was or wasn't run, where its source has no fault
+program_answers : (r : compiled.Outcome) (ds : List Definition) (input : List ℕ) (steps : ℕ) (source source_behind : Incoming) (ends : Ends) (status : ℕ)
+    → Tells ends.input input → NothingFailed source source_behind ends status → r.stop ≡ None → RunsProgram steps ds ends status → GoAnswers r ds input steps ends status
+program_answers r ds input steps source source_behind ends status told healthy clean (going.refused f n load number quiet line) = record {
+  faulty = λ fault e. other_stop r.stop fault clean e;
+  refused = λ c g m load' number'.
+      let fault_same : Some f ≡ Some g = sym load ∙ load' in
+      let same : f ≡ g = cc in
+      let numbers : Some n ≡ Some m = sym number ∙ ap load_number same ∙ number' in
+      let number_same : n ≡ m = cc in
+      let written = is_told (report_text (report.Load n)) 132 ends.line ends.line_behind status healthy.line_written healthy.not_refused line in
+      subst (λ k. Says ends status input [] (report_text (report.Load k)) 132) number_same (unread_says ends status input (report_text (report.Load n)) 132 told quiet written.0 written.1);
+  runs = λ c loads. absurd (no_load (sym loads ∙ load));
+}
+  where
+    no_load : None ≢ Some f
+    no_load e = cc
+program_answers r ds input steps source source_behind ends status told healthy clean (going.ran result loads does finish) = record {
+  faulty = λ fault e. other_stop r.stop fault clean e;
+  refused = λ c f n load number. absurd (no_load f (sym loads ∙ load));
+  runs = λ c l. runs_so ds loads steps ends status input told source source_behind healthy result does.made finish;
+}
+  where
+    no_load : (f : LoadFault) → None ≢ Some f
+    no_load f e = cc
+program_answers r ds input steps source source_behind ends status told healthy clean (going.no_memory quiet silent is) = absurd (healthy.not_refused is)
+
+pub headline : (steps : ℕ) (source source_behind : Incoming) (ends : Ends) (status : ℕ) → GoesOff steps source source_behind ends status → Headline steps source source_behind ends status
+headline steps source source_behind ends status (going.stopped kept not_zero quiet h) text input tells told healthy r g =
+    let rest = rest_of source source_behind h.taken text h.took tells in
+    let behind = subst (λ t. Goes [] (tokens_from editions.One 1 t) r) (sym rest.whole) g in
+    let one = fault_status source source_behind ends status healthy kept h rest.more rest.follows r behind not_zero in
+    let f = h.faulty one rest.more rest.follows r behind in
+    record {
+      faulty = λ fault e.
+          let both : Some f.fault ≡ Some fault = sym f.stop ∙ e in
+          let same : f.fault ≡ fault = cc in
+          subst (λ d. Says ends status input [] (line_of d) 1) same (unread_says ends status input (line_of f.fault) 1 told quiet f.line one);
+      refused = λ clean x n load number. other_stop r.stop f.fault clean f.stop;
+      runs = λ clean loads. other_stop r.stop f.fault clean f.stop;
+    }
+headline steps source source_behind ends status (going.ran s) text input tells told healthy r g =
+    let rest = rest_of source source_behind s.taken text s.took tells in
+    let runs = subst (λ t. (r : compiled.Outcome) (g : Goes [] (tokens_from editions.One 1 t) r) → (source_behind.failures ≡ source.failures) × (r.stop ≡ None) × RunsProgram steps g.definitions ends status) rest.whole (s.runs rest.more rest.follows) in
+    let program = runs r g in
+    program_answers r g.definitions input steps source source_behind ends status told healthy program.1 program.2

@@ -1,0 +1,86 @@
+//! The line that tells why a run has no end of its own.
+ghost use Rattle.std.specs.Prelude.{◌≡◌, ◌≤◌, length};
+ghost use Rattle.brun.specs.Reports.{Reported, report_text, letters_of, load_number};
+
+use arrayvec::ArrayString;
+use bmach::{LoadFault, Trap};
+use bparse::status::{self, Status};
+use bword::ByteOut;
+use itoa::Buffer;
+
+/// Room for the longest line.
+const LINE_LEN: usize = 64;
+
+/// What a line tells.
+#[derive(Clone, Copy, Debug, PartialEq, Eq)]
+pub(crate) enum Report {
+    /// No code text goes on with this line.
+    Code(u64),
+    /// The number of the reason why a code text doesn't load, from 1.
+    Load(u8),
+    Trap(Trap),
+    /// No halt within the limit of steps.
+    Limit,
+}
+
+/// Writes the line, and answers this status or that of a refused write.
+pub(crate) fn write_report<D: ByteOut>(report: Report, status: Status, diag: &mut D) -> Status
+    ensures gives { Reported (report_text report) status (D.outgoing diag.old) (D.outgoing diag.new) result }
+    ensures same { D.lender diag.new ≡ D.lender diag.old }
+{
+    match diag.put(line(report).as_str().as_bytes()) {
+        Ok(()) => status,
+        Err(fault) => status::of_fault(fault),
+    }
+}
+
+fn line(report: Report) -> ArrayString<LINE_LEN>
+    ensures { result.bytes ≡ report_text report }
+{
+    let mut line = ArrayString::new();
+    match report {
+        Report::Code(number) => {
+            line.push_str("code ");
+            line.push_str(Buffer::new().format(number));
+        }
+        Report::Load(number) => {
+            line.push_str("load ");
+            line.push_str(Buffer::new().format(number));
+        }
+        Report::Trap(trap) => {
+            line.push_str("trap ");
+            line.push_str(letters(trap));
+        }
+        Report::Limit => line.push_str("limit"),
+    }
+    line.push_str("\n");
+    line
+}
+
+fn letters(trap: Trap) -> &'static str
+    ensures text { result.now ≡ letters_of trap }
+    ensures two { length result.now ≡ 2 }
+{
+    match trap {
+        Trap::ZeroDivisor => "dz",
+        Trap::NotAFunction => "fn",
+        Trap::NotALabel => "gt",
+        Trap::NoRoom => "st",
+        Trap::TooDeep => "dp",
+        Trap::BadBase => "bs",
+        Trap::Stuck => "sk",
+    }
+}
+
+/// The number of a reason, or none where memory was refused.
+pub(crate) fn number_of(fault: &LoadFault) -> Option<u8>
+    ensures { result ≡ load_number fault.now }
+{
+    match fault {
+        LoadFault::Duplicate(_) => Some(1),
+        LoadFault::TooLarge => Some(2),
+        LoadFault::Undefined(_) => Some(3),
+        LoadFault::NoMain => Some(4),
+        LoadFault::Memory => None,
+    }
+}

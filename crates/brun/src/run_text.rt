@@ -1,0 +1,102 @@
+//! Running a code text.
+ghost use Rattle.std.specs.Prelude.{◌≡◌};
+ghost use Rattle.brun.specs.Runs.{Finishes, RunsDefinitions, RunsText, Unread};
+
+use crate::report::{Report, number_of, write_report};
+use bcode::{CodeFault, Definition, read_code};
+use bmach::{Outcome, load, run};
+use bparse::status::{self, Status};
+use bword::{ByteIn, ByteOut, FlatStore};
+use std::alloc::Global;
+
+/// Runs a code text for so many steps at most.
+///
+/// The status is that of the run, or 130 for a trap and 131 where the limit was reached; 132 where it is no code text
+/// or doesn't load; each of these has its line. It is 133 where a read or a write failed, 134 where memory was refused.
+pub fn run_text<I: ByteIn, O: ByteOut, D: ByteOut>(
+    alloc: Global,
+    code: &[u8],
+    input: &mut I,
+    out: &mut O,
+    diag: &mut D,
+    steps: u64,
+) -> Status
+    ensures runs { RunsText steps code.now (record {
+      input = I.incoming input.old;
+      input_behind = I.incoming input.new;
+      out = O.outgoing out.old;
+      out_behind = O.outgoing out.new;
+      line = D.outgoing diag.old;
+      line_behind = D.outgoing diag.new;
+    }) result }
+    ensures input_lender { I.lender input.new ≡ I.lender input.old }
+    ensures out_lender { O.lender out.new ≡ O.lender out.old }
+    ensures diag_lender { D.lender diag.new ≡ D.lender diag.old }
+{
+    match read_code(alloc, code) {
+        Ok(definitions) => run_definitions(alloc, definitions, input, out, diag, steps),
+        Err(fault) => refuse(fault, diag),
+    }
+}
+
+// The status of a text that was not read, and its line if it is no code text.
+fn refuse<D: ByteOut>(fault: CodeFault, diag: &mut D) -> Status
+    ensures gives { Unread fault (D.outgoing diag.old) (D.outgoing diag.new) result }
+    ensures diag_lender { D.lender diag.new ≡ D.lender diag.old }
+{
+    match fault {
+        CodeFault::Line(line) => write_report(Report::Code(line), status::REFUSED, diag),
+        CodeFault::Memory => status::MEMORY,
+    }
+}
+
+// Runs definitions, if they load.
+fn run_definitions<I: ByteIn, O: ByteOut, D: ByteOut>(
+    alloc: Global,
+    definitions: Vec<Definition>,
+    input: &mut I,
+    out: &mut O,
+    diag: &mut D,
+    steps: u64,
+) -> Status
+    ensures runs { RunsDefinitions steps definitions.items (record {
+      input = I.incoming input.old;
+      input_behind = I.incoming input.new;
+      out = O.outgoing out.old;
+      out_behind = O.outgoing out.new;
+      line = D.outgoing diag.old;
+      line_behind = D.outgoing diag.new;
+    }) result }
+    ensures input_lender { I.lender input.new ≡ I.lender input.old }
+    ensures out_lender { O.lender out.new ≡ O.lender out.old }
+    ensures diag_lender { D.lender diag.new ≡ D.lender diag.old }
+{
+    let image = match load(alloc, definitions) {
+        Ok(image) => image,
+        Err(fault) => {
+            return match number_of(&fault) {
+                Some(number) => write_report(Report::Load(number), status::REFUSED, diag),
+                None => status::MEMORY,
+            };
+        }
+    };
+    let Ok(store) = FlatStore::new(alloc) else {
+        return status::MEMORY;
+    };
+    let outcome = run(alloc, &image, store, input, out, steps);
+    finish(outcome, diag)
+}
+
+// The status of an outcome, whose line is written if it has one.
+fn finish<D: ByteOut>(outcome: Outcome, diag: &mut D) -> Status
+    ensures gives { Finishes outcome (D.outgoing diag.old) (D.outgoing diag.new) result }
+    ensures diag_lender { D.lender diag.new ≡ D.lender diag.old }
+{
+    match outcome {
+        Outcome::Exit(status) => status,
+        Outcome::Trap(trap) => write_report(Report::Trap(trap), status::TRAP, diag),
+        Outcome::Limit => write_report(Report::Limit, status::LIMIT, diag),
+        Outcome::Device => status::DEVICE,
+        Outcome::Memory => status::MEMORY,
+    }
+}
