@@ -100,6 +100,7 @@ fn logs(
     fs::write(rt, "x.b", source.as_bytes())?;
     let log = streams.line.log;
     let answer = serve_in_order(rt, Some(words(rt.alloc(), "b go x.b")?), streams);
+    fs::remove_file(rt, "x.b")?;
     assert_eq!(rt; answer, status, "the status of {source}");
     let Ok(log) = log.try_borrow() else {
         assert!(rt; false, "a stream still writes into the log of {source}");

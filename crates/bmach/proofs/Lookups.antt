@@ -8,6 +8,7 @@ use Rattle.std.specs.Cmp.Lexicographic.{slice_cmp, texts_ties, nat_list_eq_equiv
 use Rattle.std.specs.BTreeMap.{is_at}
 use Rattle.std.specs.Map.{lookup}
 use Rattle.bmach.specs.Layout.{same_name, Addresses, address_in, duplicate_behind}
+use Rattle.bmach.specs.Loading.{Knows}
 
 pub lookup-append : {K X : Type 0} (test : K → Bool) (xs ys : List (K × X)) → lookup test (xs ++ ys) ≡ option_or (lookup test xs) (lookup test ys)
 lookup-append test [] ys = refl
@@ -35,6 +36,13 @@ same_name-is_at x y = sym (texts_ties x y)
 pub lookup-is_at : (x : List ℕ) (known : Addresses) → lookup (is_at (slice_cmp nat_cmp x)) known ≡ address_in known x
 lookup-is_at x known = λ i. lookup (λ y. same_name-is_at x y i) known
 
+-- what a map knows with one entry more is what a list of addresses does
+pub knows : (old new : Addresses) (x : List ℕ) (a : ℕ) → ((y : List ℕ) → lookup (is_at (slice_cmp nat_cmp y)) new ≡ cond (is_at (slice_cmp nat_cmp x) y) (Some a) (lookup (is_at (slice_cmp nat_cmp y)) old)) → Knows old x a new
+knows old new x a h y =
+    sym (lookup-is_at y new) ∙ h y
+    ∙ ap (λ b. cond b (Some a) (lookup (is_at (slice_cmp nat_cmp y)) old)) (same_name-is_at x y)
+    ∙ ap (λ o. cond (same_name x y) (Some a) o) (lookup-is_at y old)
+
 known_push : (known : Addresses) (k x : List ℕ) (v : ℕ) (b : Bool) → same_name x k ≡ b → address_in known k ≡ None → cond b (Some v) (address_in known x) ≡ option_or (address_in known x) (cond b (Some v) None)
 known_push known k x v true e none =
     let same : x ≡ k = (bytes_decides x k).0 e in
@@ -44,10 +52,9 @@ known_push known k x v false e none =
     elim (address_in known x) as (λ o. o ≡ option_or o None) [ Some a ↦ refl | None ↦ refl ]
 
 -- a new name comes behind the others
-pub address_in-push : (known : Addresses) (k x : List ℕ) (v : ℕ) → address_in known k ≡ None → cond (is_at (slice_cmp nat_cmp k) x) (Some v) (address_in known x) ≡ address_in (known ++ (k, v) ∷ []) x
+pub address_in-push : (known : Addresses) (k x : List ℕ) (v : ℕ) → address_in known k ≡ None → cond (same_name k x) (Some v) (address_in known x) ≡ address_in (known ++ (k, v) ∷ []) x
 address_in-push known k x v none =
-    let symmetric : is_at (slice_cmp nat_cmp k) x ≡ same_name x k = same_name-is_at k x ∙ nat_list_eq_equiv.symm k x in
-    ap (λ b. cond b (Some v) (address_in known x)) symmetric
+    ap (λ b. cond b (Some v) (address_in known x)) (nat_list_eq_equiv.symm k x)
     ∙ known_push known k x v (same_name x k) refl none
     ∙ sym (lookup-append (same_name x) known ((k, v) ∷ []))
 

@@ -37,10 +37,6 @@ old_name before d rest none found =
     behind before d rest none
     ∙ ap (λ b. cond b (Some d.name) (duplicate_behind (names_of before ++ d.name ∷ []) (names_of rest))) found
 
-pub none_from_is_some : {A : Type 0} (o : Option A) → is_some o ≡ false → o ≡ None
-none_from_is_some None e = refl
-none_from_is_some (Some a) e = cc
-
 -- all names with their addresses
 pub all_known : (ds : List Shape) (known : Addresses) (x : List ℕ) → data_end ds ≤ 65536 → address_in known x ≡ address_in (wrapped ds) x → address_in (known ++ library_addresses) x ≡ address_in (addresses ds) x
 all_known ds known x fits e =

@@ -4,7 +4,7 @@ use Rattle.bcode.specs.declared.definition.Definition.{Definition}
 use Rattle.bmach.specs.declared.fault.LoadFault.{LoadFault}
 use Rattle.bmach.specs.declared.fault.LoadFault.TheVariants as fault
 use Rattle.bmach.specs.World.{words}
-use Rattle.bmach.specs.Layout.{Shape, Spot, shape_of, words_before_strings, functions_in, labels_in, data_end, label_count, definition_words, is_main, first_undefined, Addresses, address_in, library_addresses}
+use Rattle.bmach.specs.Layout.{Shape, Spot, same_name, shape_of, words_before_strings, functions_in, labels_in, data_end, label_count, definition_words, is_main, first_undefined, Addresses, address_in, library_addresses}
 use Rattle.bmach.specs.Machine.{Loaded, loaded_at}
 use Rattle.bmach.specs.Resolved.{resolved_function}
 use Rattle.bmach.specs.declared.limits.TheConstants.{MAX_LABELS}
@@ -17,6 +17,10 @@ IsFault f first = first ≡ Some f
 -- the address of a name among the definitions' and the library's
 abbrev pub known_in : Addresses → List ℕ → Option ℕ
 known_in entries x = address_in (entries ++ library_addresses) x
+
+-- the same addresses, but for one name's
+abbrev pub Knows : Addresses → (x : List ℕ) → (address : ℕ) → Addresses → Type 0
+Knows old x address new = (y : List ℕ) → address_in new y ≡ (if same_name x y then Some address else address_in old y)
 
 -- the fault of names of which one has no address
 abbrev pub undefined_fault : (address_of : List ℕ → Option ℕ) → List (List ℕ) → Option LoadFault

@@ -2,6 +2,7 @@
 #![tactic(auto)]
 
 mod act;
+mod address_table;
 mod addresses;
 mod calls;
 mod exchange;

@@ -6,7 +6,8 @@ ghost use Rattle.bmach.specs.Loading.{IsFault, first_part, fits, known_in, main_
 ghost use Rattle.bmach.specs.Parts.{part_of};
 ghost use Rattle.bmach.specs.Resolved.{IsLoadedFrom};
 
-use crate::addresses::{Addresses, FIRST_ADDRESS, addresses_of};
+use crate::address_table::Addresses;
+use crate::addresses::{FIRST_ADDRESS, addresses_of};
 use crate::limits::{MAX_LABELS, STORE_WORDS};
 use crate::part::Part;
 use crate::parts::{functions_in, is_main, labels_in, size_of};
@@ -68,9 +69,9 @@ fn load_all(
 ) -> Result<Part, LoadFault>
     requires { IsTrue (fits (map shape_of definitions.now)) }
     ensures { MatchResult result
-        (λ part. (part_of part ≡ fold (with_definition (known_in addresses.now.entries)) first_part definitions.now)
-        × (first_undefined (known_in addresses.now.entries) (flat_map names_in definitions.now) ≡ None))
-        (λ f. IsFault f (undefined_fault (known_in addresses.now.entries) (flat_map names_in definitions.now))) }
+        (λ part. (part_of part ≡ fold (with_definition (known_in addresses.now)) first_part definitions.now)
+        × (first_undefined (known_in addresses.now) (flat_map names_in definitions.now) ≡ None))
+        (λ f. IsFault f (undefined_fault (known_in addresses.now) (flat_map names_in definitions.now))) }
 {
     let mut part = Part {
         words: Vec::from_slice(alloc, &FIRST_WORDS)?,

@@ -1,21 +1,30 @@
-use Rattle.std.proofs.Common.{◌≡◌, ◌%◌, ◌+◌, suc, [], ◌∷◌, ◌++◌, map, take, drop, None, Some, cond, true, refl, sym, ap, ◌∙◌, arith}
+use Rattle.std.proofs.Common.{◌≡◌, ◌%◌, ◌+◌, suc, [], ◌∷◌, ◌++◌, map, take, drop, Option, None, Some, Bool, cond, true, false, refl, sym, ap, ◌∙◌, arith}
 use Rattle.std.proofs.Math.Nat.{mod-add-mod}
 use Rattle.std.proofs.lemmas.List.{take_all}
-use Rattle.std.specs.Prelude.{is_some, option_map}
-use Rattle.std.specs.Ordering.{nat_cmp}
-use Rattle.std.specs.Cmp.Lexicographic.{slice_cmp}
-use Rattle.std.specs.BTreeMap.{is_at}
-use Rattle.std.specs.Map.{lookup}
+use Rattle.std.specs.Prelude.{is_none, is_some, option_map}
+use Rattle.std.specs.Bool.{OnTrue}
 use Rattle.bmach.specs.declared.fault.LoadFault.TheVariants as fault
-use Rattle.bmach.specs.Layout.{shape_of, address_in, data_end, duplicate_behind, names_of}
-use Rattle.bmach.proofs.Lookups.{address_in-push, lookup-is_at}
+use Rattle.bmach.specs.Layout.{same_name, shape_of, address_in, data_end, duplicate_behind, names_of}
+use Rattle.bmach.proofs.Lookups.{address_in-push}
 use Rattle.bmach.proofs.Spots.{wrapped, wrapped-push, data_end-push}
-use Rattle.bmach.proofs.Naming.{shapes_more, shapes_split, new_name, old_name, none_from_is_some, all_known}
+use Rattle.bmach.proofs.Naming.{shapes_more, shapes_split, new_name, old_name, all_known}
 use Rattle.bmach.proofs.addresses.addresses_of.Goals as goal
+
+none_at : {X : Type 0} (o : Option X) → is_none o ≡ true → o ≡ None
+none_at None e = refl
+none_at (Some x) e = cc
+
+some_at : {X : Type 0} (o : Option X) → is_none o ≡ false → is_some o ≡ true
+some_at None e = cc
+some_at (Some x) e = refl
+
+at_true : {P : Type 0} (b : Bool) → b ≡ true → OnTrue b P → P
+at_true true e p = p
+at_true false e p = cc
 
 pub loop-definition-init : goal.loop-definition-init
 loop-definition-init c =
-    record { no_duplicate = refl; known = λ x. ap (lookup (is_at (slice_cmp nat_cmp x))) c.new-addresses.ensures.empty; address = refl }
+    record { no_duplicate = refl; known = λ x. ap (λ known. address_in known x) c.new-addresses.ensures; address = refl }
 
 pub loop-definition-preserved : goal.loop-definition-preserved
 loop-definition-preserved c =
@@ -27,13 +36,13 @@ loop-definition-preserved c =
     let more = shapes_more ds i d (omega arith) c.definition-item.is in
     let known = c.loop-definition.invariant.known in
     let fresh : address_in (wrapped before) c.name_of-name.result ≡ None =
-    sym (known c.name_of-name.result) ∙ sym c.in_ok-old.ensures.old ∙ none_from_is_some c.in_ok-old.old (sym c.is_some.ensures ∙ c.if-is_some.false) in
+    sym (known c.name_of-name.result) ∙ none_at _ (sym c.in_ok-is_new.ensures.new ∙ c.if-not-is_new.false) in
     record {
       no_duplicate = ap (λ shapes. duplicate_behind [] (names_of shapes)) more
           ∙ new_name before (shape_of d) c.loop-definition.invariant.no_duplicate (ap (address_in (wrapped before)) (sym named) ∙ fresh);
       known = λ x.
-          c.in_ok-old.ensures.updates.0 x
-          ∙ ap (cond (is_at (slice_cmp nat_cmp c.name_of-name.result) x) (Some c.loop-definition.address)) (known x)
+          at_true c.in_ok-is_new.is_new c.if-not-is_new.false c.in_ok-is_new.ensures.known x
+          ∙ ap (cond (same_name c.name_of-name.result x) (Some c.loop-definition.address)) (known x)
           ∙ address_in-push (wrapped before) c.name_of-name.result x c.loop-definition.address fresh
           ∙ ap (λ k. address_in (wrapped before ++ (k, c.loop-definition.address) ∷ []) x) named
           ∙ ap (λ a. address_in (wrapped before ++ ((shape_of d).name, a) ∷ []) x) c.loop-definition.invariant.address
@@ -46,20 +55,19 @@ loop-definition-preserved c =
           ∙ ap (λ shapes. data_end shapes % 65536) (sym more);
     }
 
-pub returns-then-is_some : goal.returns-then-is_some
-returns-then-is_some c =
+pub returns-then-not-is_new : goal.returns-then-not-is_new
+returns-then-not-is_new c =
     let i = c.loop-definition.definition-index in
     let ds = c.args.definitions.now in
     let d = c.definition-item.result in
     let before = map shape_of (take i ds) in
     let found : is_some (address_in (wrapped before) (shape_of d).name) ≡ true =
     ap (λ x. is_some (address_in (wrapped before) x)) (sym c.name_of-name.ensures)
-    ∙ ap is_some (sym (c.loop-definition.invariant.known c.name_of-name.result) ∙ sym c.in_ok-old.ensures.old)
-    ∙ sym c.is_some.ensures
-    ∙ c.if-is_some.true in
+    ∙ ap is_some (sym (c.loop-definition.invariant.known c.name_of-name.result))
+    ∙ some_at _ (sym c.in_ok-is_new.ensures.new ∙ c.if-not-is_new.true) in
     ap (λ o. option_map fault.Duplicate o) (ap (λ shapes. duplicate_behind [] (names_of shapes)) (shapes_split ds i d (omega arith) c.definition-item.is) ∙ old_name before (shape_of d) (map shape_of (drop (suc i) ds)) c.loop-definition.invariant.no_duplicate found ∙ ap Some (sym c.name_of-name.ensures))
 
 pub returns : goal.returns
 returns c =
     let all : take c.loop-definition.definition-index c.args.definitions.now ≡ c.args.definitions.now = take_all _ _ c.loop-definition-test.false in
-    (ap (λ ds. duplicate_behind [] (names_of (map shape_of ds))) (sym all) ∙ c.loop-definition.invariant.no_duplicate, λ fits x. all_known _ c.loop-definition.addresses.entries x fits (sym (lookup-is_at x _) ∙ c.loop-definition.invariant.known x ∙ ap (λ ds. address_in (wrapped (map shape_of ds)) x) all))
+    (ap (λ ds. duplicate_behind [] (names_of (map shape_of ds))) (sym all) ∙ c.loop-definition.invariant.no_duplicate, λ fits x. all_known _ c.loop-definition.addresses x fits (c.loop-definition.invariant.known x ∙ ap (λ ds. address_in (wrapped (map shape_of ds)) x) all))

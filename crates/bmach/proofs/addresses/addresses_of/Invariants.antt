@@ -1,7 +1,4 @@
 use Rattle.std.proofs.Common.{◌≡◌, ℕ, ◌%◌, List, [], map, take, None}
-use Rattle.std.specs.Ordering.{nat_cmp}
-use Rattle.std.specs.Cmp.Lexicographic.{slice_cmp}
-use Rattle.std.specs.BTreeMap.{get}
 use Rattle.bmach.specs.Layout.{address_in, data_end, duplicate_behind, names_of, shape_of}
 use Rattle.bmach.proofs.Spots.{wrapped}
 use Rattle.bmach.proofs.addresses.addresses_of.Given as goal
@@ -12,6 +9,6 @@ invariant-loop-definition l =
     let before = map shape_of (take l.definition-index l.definitions) in
     record {
       no_duplicate : duplicate_behind [] (names_of before) ≡ None;
-      known : (x : List ℕ) → get (slice_cmp nat_cmp) l.addresses x ≡ address_in (wrapped before) x;
+      known : (x : List ℕ) → address_in l.addresses x ≡ address_in (wrapped before) x;
       address : l.address ≡ data_end before % 65536;
     }

@@ -28,7 +28,7 @@ pub returns-in_err-part-clause-err : goal.returns-in_err-part-clause-err
 returns-in_err-part-clause-err c =
     let ds = c.as_slice-list.result.now in
     let fit : fits (map shape_of ds) ≡ true = sym c.fits.ensures ∙ c.if-not-fits.false in
-    let known = known_in c.in_ok-addresses.addresses.entries in
+    let known = known_in c.in_ok-addresses.addresses in
     let same : known ≡ address_in (addresses (map shape_of ds)) = λ i x. c.in_ok-addresses.ensures.1 (bounds_if_fits (map shape_of ds) fit).0 x i in
     let p = err_from_is_err_and c.from_residual-in_err-part.result c.from_residual-in_err-part.ensures.1 in
     let faulty : List Definition → Type 0 = λ es. IsFault c.in_err-part.field-0.0 (load_fault es) in
@@ -38,7 +38,7 @@ pub returns-in-None-clause-err : goal.returns-in-None-clause-err
 returns-in-None-clause-err c =
     let ds = c.as_slice-list.result.now in
     let fit : fits (map shape_of ds) ≡ true = sym c.fits.ensures ∙ c.if-not-fits.false in
-    let known = known_in c.in_ok-addresses.addresses.entries in
+    let known = known_in c.in_ok-addresses.addresses in
     let same : known ≡ address_in (addresses (map shape_of ds)) = λ i x. c.in_ok-addresses.ensures.1 (bounds_if_fits (map shape_of ds) fit).0 x i in
     let defined = ap (λ a. first_undefined a (flat_map names_in ds)) (sym same) ∙ c.in_ok-part.ensures.1 in
     let missing = no_main ds 0 (sym c.main_of.ensures ∙ c.in-None.is) in
@@ -48,7 +48,7 @@ pub invariant_of-result : goal.invariant_of-result
 invariant_of-result c =
     let ds = c.as_slice-list.result.now in
     let fit : fits (map shape_of ds) ≡ true = sym c.fits.ensures ∙ c.if-not-fits.false in
-    let known = known_in c.in_ok-addresses.addresses.entries in
+    let known = known_in c.in_ok-addresses.addresses in
     let long : length c.in_ok-part.part.words.items ≡ data_end (map shape_of ds) =
     ap (λ (p : Part). length p.words) (c.in_ok-part.ensures.0 ∙ loaded_all known ds) ∙ length-words known ds in
     omega (arith, long, (bounds_if_fits (map shape_of ds) fit).0)
@@ -57,15 +57,15 @@ pub returns-clause-ok : goal.returns-clause-ok
 returns-clause-ok c =
     let ds = c.as_slice-list.result.now in
     let fit : fits (map shape_of ds) ≡ true = sym c.fits.ensures ∙ c.if-not-fits.false in
-    let known = known_in c.in_ok-addresses.addresses.entries in
+    let known = known_in c.in_ok-addresses.addresses in
     let loaded : List Definition → Type 0 = λ es. IsLoadedFrom es (image_in (record { functions = c.in_ok-part.part.functions; main = c.in-Some.main; words = c.in_ok-part.part.words; addresses = c.in_ok-addresses.addresses })) in
-    subst loaded c.as_slice-list.ensures.value (is_loaded ds c.in_ok-addresses.addresses.entries (part_of c.in_ok-part.part) c.in-Some.main (c.in_ok-addresses.ensures.1 (bounds_if_fits (map shape_of ds) fit).0) (c.in_ok-part.ensures.0 ∙ loaded_all known ds) (sym c.main_of.ensures ∙ c.in-Some.is))
+    subst loaded c.as_slice-list.ensures.value (is_loaded ds c.in_ok-addresses.addresses (part_of c.in_ok-part.part) c.in-Some.main (c.in_ok-addresses.ensures.1 (bounds_if_fits (map shape_of ds) fit).0) (c.in_ok-part.ensures.0 ∙ loaded_all known ds) (sym c.main_of.ensures ∙ c.in-Some.is))
 
 pub returns-clause-loads : goal.returns-clause-loads
 returns-clause-loads c =
     let ds = c.as_slice-list.result.now in
     let fit : fits (map shape_of ds) ≡ true = sym c.fits.ensures ∙ c.if-not-fits.false in
-    let known = known_in c.in_ok-addresses.addresses.entries in
+    let known = known_in c.in_ok-addresses.addresses in
     let same : known ≡ address_in (addresses (map shape_of ds)) = λ i x. c.in_ok-addresses.ensures.1 (bounds_if_fits (map shape_of ds) fit).0 x i in
     let defined = ap (λ a. first_undefined a (flat_map names_in ds)) (sym same) ∙ c.in_ok-part.ensures.1 in
     let there = some_main ds 0 c.in-Some.main (sym c.main_of.ensures ∙ c.in-Some.is) in

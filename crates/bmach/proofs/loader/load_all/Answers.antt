@@ -14,7 +14,7 @@ use Rattle.bmach.proofs.loader.load_all.Goals as goal
 
 pub loop-definition-preserved : goal.loop-definition-preserved
 loop-definition-preserved c =
-    let known = known_in c.args.addresses.now.entries in
+    let known = known_in c.args.addresses.now in
     let i = c.loop-definition.definition-index in
     let ds = c.args.definitions.now in
     let d = c.definition-item.result in
@@ -29,7 +29,7 @@ loop-definition-preserved c =
 
 pub add-requires-clause-words : goal.add-requires-clause-words
 add-requires-clause-words c =
-    let known = known_in c.args.addresses.now.entries in
+    let known = known_in c.args.addresses.now in
     let i = c.loop-definition.definition-index in
     let ds = c.args.definitions.now in
     let d = c.definition-item.result in
@@ -39,7 +39,7 @@ add-requires-clause-words c =
 
 pub add-requires-clause-functions : goal.add-requires-clause-functions
 add-requires-clause-functions c =
-    let known = known_in c.args.addresses.now.entries in
+    let known = known_in c.args.addresses.now in
     let i = c.loop-definition.definition-index in
     let ds = c.args.definitions.now in
     let is = c.loop-definition.invariant.part ∙ loaded_all known (take i ds) in
@@ -47,7 +47,7 @@ add-requires-clause-functions c =
 
 pub add-requires-clause-labels : goal.add-requires-clause-labels
 add-requires-clause-labels c =
-    let known = known_in c.args.addresses.now.entries in
+    let known = known_in c.args.addresses.now in
     let i = c.loop-definition.definition-index in
     let ds = c.args.definitions.now in
     let d = c.definition-item.result in
@@ -58,11 +58,11 @@ add-requires-clause-labels c =
 pub returns-in_err-add : goal.returns-in_err-add
 returns-in_err-add c =
     let p = err_from_is_err_and c.from_residual-in_err-add.result c.from_residual-in_err-add.ensures.1 in
-    rw (p.1, p.2) (undefined_at (known_in c.args.addresses.now.entries) names_in c.args.definitions.now c.loop-definition.definition-index c.definition-item.result c.in_err-add.field-0.0 (omega arith) c.definition-item.is c.loop-definition.invariant.defined c.in_err-add.ensures)
+    rw (p.1, p.2) (undefined_at (known_in c.args.addresses.now) names_in c.args.definitions.now c.loop-definition.definition-index c.definition-item.result c.in_err-add.field-0.0 (omega arith) c.definition-item.is c.loop-definition.invariant.defined c.in_err-add.ensures)
 
 pub returns : goal.returns
 returns c =
-    let known = known_in c.args.addresses.now.entries in
+    let known = known_in c.args.addresses.now in
     let all : take c.loop-definition.definition-index c.args.definitions.now ≡ c.args.definitions.now =
     take_all c.loop-definition.definition-index c.args.definitions.now c.loop-definition-test.false in
     (c.loop-definition.invariant.part ∙ ap (fold (with_definition known) first_part) all, ap (λ ds. first_undefined known (flat_map names_in ds)) (sym all) ∙ c.loop-definition.invariant.defined)

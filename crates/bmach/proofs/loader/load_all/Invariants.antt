@@ -7,7 +7,7 @@ use Rattle.bmach.proofs.loader.load_all.Given as goal
 
 abbrev pub invariant-loop-definition : goal.invariant-loop-definition
 invariant-loop-definition l =
-    let known = known_in l.addresses.entries in
+    let known = known_in l.addresses in
     let before = take l.definition-index l.definitions in
     record {
       part : part_of l.part ≡ fold (with_definition known) first_part before;

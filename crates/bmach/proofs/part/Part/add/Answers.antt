@@ -6,15 +6,15 @@ use Rattle.bmach.proofs.part.Part.add.Goals as goal
 
 pub returns-in-Function : goal.returns-in-Function
 returns-in-Function c =
-    let adds : Definition → Type 0 = λ d. Adds (known_in c.args.addresses.now.entries) c.args.self.now d c.add_function.result c.add_function.new.self in
+    let adds : Definition → Type 0 = λ d. Adds (known_in c.args.addresses.now) c.args.self.now d c.add_function.result c.add_function.new.self in
     subst adds (sym c.in-Function.is) c.add_function.ensures
 
 pub returns-in-Simple : goal.returns-in-Simple
 returns-in-Simple c =
-    let adds : Definition → Type 0 = λ d. Adds (known_in c.args.addresses.now.entries) c.args.self.now d c.add_simple.result c.add_simple.new.self in
+    let adds : Definition → Type 0 = λ d. Adds (known_in c.args.addresses.now) c.args.self.now d c.add_simple.result c.add_simple.new.self in
     subst adds (sym c.in-Simple.is) c.add_simple.ensures
 
 pub returns-in-Vector : goal.returns-in-Vector
 returns-in-Vector c =
-    let adds : Definition → Type 0 = λ d. Adds (known_in c.args.addresses.now.entries) c.args.self.now d c.add_vector.result c.add_vector.new.self in
+    let adds : Definition → Type 0 = λ d. Adds (known_in c.args.addresses.now) c.args.self.now d c.add_vector.result c.add_vector.new.self in
     subst adds (sym c.in-Vector.is) c.add_vector.ensures

@@ -13,7 +13,7 @@ use Rattle.bmach.proofs.part.Part.add_function.Goals as goal
 
 pub returns : goal.returns
 returns c =
-    let known = known_in c.args.addresses.now.entries in
+    let known = known_in c.args.addresses.now in
     let old = c.args.self.now.words.items in
     let p = c.parts-parts.result.now in
     let count : c.len.result ≡ length (map loaded_of c.args.self.now.functions.items) =

@@ -12,7 +12,7 @@ use Rattle.bmach.proofs.part.Part.add_simple.Goals as goal
 
 pub returns : goal.returns
 returns c =
-    let known = known_in c.args.addresses.now.entries in
+    let known = known_in c.args.addresses.now in
     let old = c.args.self.now.words.items in
     let p = c.parts-parts.result.now in
     let end : c.len.result + c.max.result ≡ length old + max 1 (length p.values.items) =

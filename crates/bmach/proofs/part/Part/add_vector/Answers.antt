@@ -12,7 +12,7 @@ use Rattle.bmach.proofs.part.Part.add_vector.Goals as goal
 
 pub returns : goal.returns
 returns c =
-    let known = known_in c.args.addresses.now.entries in
+    let known = known_in c.args.addresses.now in
     let old = c.args.self.now.words.items in
     let p = c.parts-parts.result.now in
     let end = c.len-first.result + 1 + c.max.result in
