@@ -3,7 +3,7 @@ use Rattle.std.proofs.Common.{◌≡◌, ℕ, List, [], ◌∷◌, ◌++◌, map
 use Rattle.std.specs.Prelude.{Option, Some, None}
 use Rattle.std.specs.List.{flat_map}
 use Rattle.std.proofs.lemmas.Grind.{flat_map-append}
-use Rattle.bcode.specs.Text.{lines_of, joined, end_text, code_lines}
+use Rattle.bcode.specs.Text.{lines_of, joined, opening, opening_lines, end_text, ended_lines}
 use Rattle.bcode.specs.Views.{IsWithinRanges}
 use Rattle.blex.specs.declared.diagnostic.Diagnostic.{Diagnostic}
 use Rattle.blex.specs.declared.token.Placed.{Placed}
@@ -12,7 +12,7 @@ use Rattle.btree.specs.Definition.{Definition, spell_definition}
 use Rattle.btree.specs.Scan.{word_of}
 use Rattle.btree.specs.Code.{code_of, fault_of}
 use Rattle.btree.specs.Program.{spell_all, AllFormed}
-use Rattle.btree.specs.Compiled.{Defined, Outcome, outcome_with, outcome_of, text_of, code_text}
+use Rattle.btree.specs.Compiled.{Defined, Outcome, outcome_with, outcome_of, text_of, ending, code_text}
 use Rattle.btree.proofs.KeptLemmas.{bare-kept}
 use Rattle.bback.specs.Laws.{ReadsBack}
 use Rattle.bback.proofs.Holds.{Holds, Holds-nil, Holds-cons, Holds-first, Holds-rest, Holds-front, Holds-back, Holds-All}
@@ -22,7 +22,7 @@ use Rattle.bback.proofs.Definitions.{definition_within}
 -- the definitions are within their ranges, and the text is theirs
 record IsWritten (ds : List Definition) (r : Outcome) : Type 0 where
   within : Holds IsWithinRanges (map code_of ds)
-  spelled : code_text r ≡ joined (code_lines (map code_of ds))
+  spelled : joined r.code ++ ending r.stop ≡ joined (ended_lines (map code_of ds))
 
 joined-append : (xs ys : List (List ℕ)) → joined (xs ++ ys) ≡ joined xs ++ joined ys
 joined-append xs ys = flat_map-append (λ l. l) xs ys
@@ -36,7 +36,7 @@ written-cons d ds r h w =
     let cs = map code_of ds in
     record {
       within = Holds-cons h w.within;
-      spelled = append_assoc (text_of d) (joined r.code) _ ∙ ap (λ l. text_of d ++ l) w.spelled ∙ sym (joined-append (lines_of c) (code_lines cs))
+      spelled = append_assoc (text_of d) (joined r.code) _ ∙ ap (λ l. text_of d ++ l) w.spelled ∙ sym (joined-append (lines_of c) (ended_lines cs))
           ∙ ap joined (sym (append_assoc (lines_of c) (flat_map lines_of cs) (end_text ∷ [])));
     }
 
@@ -59,11 +59,15 @@ kept-sound [] h = Holds-nil
 kept-sound (p ∷ ts) h = Holds-cons (subst IsSound (sym (bare-kept p)) (Holds-first h)) (kept-sound ts (Holds-rest h))
 
 pub reads_back : ReadsBack
-reads_back line bytes r g h =
+reads_back edition line bytes r g h =
     let parts = g.parted.parts in
     let before = g.parted.before in
-    let sound_before : AreSound before = Holds-front before _ (subst AreSound g.parted.split (sound-tokens_from line bytes)) in
+    let sound_before : AreSound before = Holds-front before _ (subst AreSound g.parted.split (sound-tokens_from edition line bytes)) in
     let sound : AreSound (spell_all g.definitions) = Holds-front (spell_all g.definitions) _ (subst AreSound parts.split (kept-sound before sound_before)) in
     let stopped : (outcome_of [] g.definitions g.stop).stop ≡ None = subst (λ (o : Outcome). o.stop ≡ None) g.outcome_is h in
     let w = written [] g.definitions g.stop parts.formed sound stopped in
-    record { within = Holds-All w.within; spelled = ap code_text g.outcome_is ∙ w.spelled }
+    let lines = ended_lines (map code_of g.definitions) in
+    record {
+      within = Holds-All w.within;
+      spelled = ap (code_text edition) g.outcome_is ∙ ap (λ t. opening edition ++ t) w.spelled ∙ sym (joined-append (opening_lines edition) lines);
+    }

@@ -8,6 +8,7 @@ use Rattle.std.specs.Option.{option_map, option_or}
 use Rattle.std.proofs.lemmas.List.Elements.{All-from_recursion}
 use Rattle.std.proofs.lemmas.Map.Entries.{All-lookup}
 use Rattle.bword.specs.Names.{is_name, is_name_start, is_name_byte}
+use Rattle.bword.specs.declared.edition.Edition.{Edition}
 use Rattle.bword.specs.declared.operators.BinOp.{BinOp}
 use Rattle.bcode.specs.Definitions.{IsWord}
 use Rattle.blex.specs.declared.token.Keyword.{Keyword}
@@ -40,11 +41,11 @@ sound-keyword_or_name text None h = h
 is_name_word : (b : ℕ) (bs : List ℕ) → is_name_start b ≡ true → list_all is_name_byte bs ≡ true → nat_le (length (b ∷ bs)) 8 ≡ true → is_name (b ∷ bs) ≡ true
 is_name_word b bs s h l = let m : nat_le (length bs) 7 ≡ true = grind (arith, nat_tests) in rw (s, m, h) refl
 
-sound-word_of : (b : ℕ) (bs : List ℕ) → is_name_start b ≡ true → list_all is_name_byte bs ≡ true → IsSound (word_of (b ∷ bs))
+sound-word_of : (edition : Edition) (b : ℕ) (bs : List ℕ) → is_name_start b ≡ true → list_all is_name_byte bs ≡ true → IsSound (word_of edition (b ∷ bs))
 unfolding word_of
-sound-word_of b bs s h =
+sound-word_of edition b bs s h =
     cond_both (nat_le (length (b ∷ bs)) 8) _ _ IsSound
-    (λ l. sound-keyword_or_name (b ∷ bs) (keyword_of (b ∷ bs)) (is_name_word b bs s h l)) (λ l. tt)
+    (λ l. sound-keyword_or_name (b ∷ bs) (keyword_of edition (b ∷ bs)) (is_name_word b bs s h l)) (λ l. tt)
 
 sound-piece_when : (b : Bool) (t : Token) → (b ≡ true → IsSound t) → IsSoundPiece (piece_when b (Word t))
 sound-piece_when true t h = h refl
@@ -153,12 +154,12 @@ sound-comment_of None = tt
 sound-comment_of (Some []) = tt
 sound-comment_of (Some (b ∷ bs)) = tt
 
-sound-whole : (bytes : List ℕ) → IsSoundPiece (whole bytes)
+sound-whole : (edition : Edition) (bytes : List ℕ) → IsSoundPiece (whole edition bytes)
 unfolding whole
-sound-whole [] = tt
-sound-whole (b ∷ bs) =
+sound-whole edition [] = tt
+sound-whole edition (b ∷ bs) =
     cond_both (is_blank b) _ _ IsSoundPiece (λ _. space-alone bs)
-    (λ _. cond_both (is_name_start b) _ _ IsSoundPiece (λ s. sound-piece_when (list_all is_name_byte bs) (word_of (b ∷ bs)) (sound-word_of b bs s))
+    (λ _. cond_both (is_name_start b) _ _ IsSoundPiece (λ s. sound-piece_when (list_all is_name_byte bs) (word_of edition (b ∷ bs)) (sound-word_of edition b bs s))
     (λ _. cond_both (is_digit b) _ _ IsSoundPiece (λ _. sound-piece_when (list_all is_digit bs) (number_of (b ∷ bs)) (λ _. sound-number_in _ (b ∷ bs)))
     (λ _. cond_both (b == 39) _ _ IsSoundPiece (λ _. sound-constant_of character_token (quoted 39 2 bs) sound-character_token (sound-quoted 39 2 bs))
     (λ _. cond_both (b == 34) _ _ IsSoundPiece (λ _. sound-constant_of string_token (quoted 34 254 bs) (λ characters h. h) (sound-quoted 34 254 bs))
@@ -178,15 +179,15 @@ sound-piece_first None line rest h k = Holds-cons tt Holds-nil
 sound-piece_first (Some Space) line rest h k = k
 sound-piece_first (Some (Word t)) line rest h k = Holds-cons h (sound-rest (is_last t) rest k)
 
-sound-cut : (fuel line : ℕ) (bytes : List ℕ) → AreSound (cut fuel line bytes)
+sound-cut : (edition : Edition) (fuel line : ℕ) (bytes : List ℕ) → AreSound (cut edition fuel line bytes)
 unfolding cut
-sound-cut zero line bytes = Holds-cons tt Holds-nil
-sound-cut (suc fuel) line [] = Holds-cons tt Holds-nil
-sound-cut (suc fuel) line (b ∷ bs) =
-    let n = longest (b ∷ bs) in
+sound-cut edition zero line bytes = Holds-cons tt Holds-nil
+sound-cut edition (suc fuel) line [] = Holds-cons tt Holds-nil
+sound-cut edition (suc fuel) line (b ∷ bs) =
+    let n = longest edition (b ∷ bs) in
     let text = take n (b ∷ bs) in
-    sound-piece_first (whole text) line _ (sound-whole text) (sound-cut fuel (line_after line text) (drop n (b ∷ bs)))
+    sound-piece_first (whole edition text) line _ (sound-whole edition text) (sound-cut edition fuel (line_after line text) (drop n (b ∷ bs)))
 
-pub sound-tokens_from : (line : ℕ) (bytes : List ℕ) → AreSound (tokens_from line bytes)
+pub sound-tokens_from : (edition : Edition) (line : ℕ) (bytes : List ℕ) → AreSound (tokens_from edition line bytes)
 unfolding tokens_from
-sound-tokens_from line bytes = sound-cut (length bytes) line bytes
+sound-tokens_from edition line bytes = sound-cut edition (length bytes) line bytes

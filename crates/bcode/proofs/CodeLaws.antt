@@ -1,12 +1,14 @@
 -- Code texts as paths of lines, and that a code text is that of one list of definitions.
-use Rattle.std.proofs.Common.{subst, ◌≡◌, ℕ, zero, suc, ◌+◌, ◌<◌, List, [], ◌∷◌, ◌++◌, length, map, replicate, refl, sym, ap, ◌∙◌, arith, append_assoc, append-nil}
+use Rattle.std.proofs.Common.{subst, ◌≡◌, ℕ, zero, suc, ◌+◌, ◌<◌, List, [], ◌∷◌, ◌++◌, length, map, replicate, refl, sym, ap, ◌∙◌, arith, append_assoc, append-nil, ◌⊎◌, inl, inr}
 use Rattle.std.specs.Prelude.{All}
 use Rattle.std.specs.List.{flat_map}
 use Rattle.std.proofs.lemmas.List.Elements.{All-nil, All-cons, All-head, All-tail}
+use Rattle.bword.specs.declared.edition.Edition.{Edition}
+use Rattle.bword.specs.declared.edition.Edition.TheVariants as editions
 use Rattle.bcode.specs.Definitions.{Function, IsWord, IsInstrWithin, IsIvalWithin, sizes_of}
 use Rattle.bcode.specs.Headers.{header_of, header_text, IsHeaderWithin, IsFunctionHeader}
-use Rattle.bcode.specs.Stopping.{Kind, value, target, string, instruction, IsOfKind, State, expects, finished, state_after, Stops}
-use Rattle.bcode.specs.Text.{end_text, header_line, body_lines, lines_of, code_lines, target_line, string_line, ival_line, instr_line}
+use Rattle.bcode.specs.Stopping.{Kind, value, target, string, instruction, IsOfKind, State, opens, expects, finished, state_after, Leads, Stops}
+use Rattle.bcode.specs.Text.{end_text, header_line, body_lines, lines_of, edition_line, ended_lines, code_lines, target_line, string_line, ival_line, instr_line}
 use Rattle.bcode.specs.Views.{IsWithinRanges}
 use Rattle.bcode.specs.declared.definition.Definition.{Definition}
 use Rattle.bcode.specs.declared.definition.Definition.TheVariants as definition
@@ -143,17 +145,25 @@ path_body (definition.Vector v) ls h path =
     (path_last string_line IsWord string of_string v.strings ls h.strings path) in
     subst (λ (m : List (List ℕ)). Path (state_after (header_of (definition.Vector v))) m) (sym (append_assoc values words ls)) all
 
-pub code_path : (ds : List Definition) → All IsWithinRanges ds → Path (expects []) (code_lines ds)
-code_path [] all = (finished, (header.End, tt, refl, refl), refl)
-code_path (d ∷ ds) all =
+ended_path : (ds : List Definition) → All IsWithinRanges ds → Path (expects []) (ended_lines ds)
+ended_path [] all = (finished, (header.End, tt, refl, refl), refl)
+ended_path (d ∷ ds) all =
     let within = All-head IsWithinRanges d ds all in
-    let others = path_body d (code_lines ds) within (code_path ds (All-tail IsWithinRanges d ds all)) in
-    let same : body_lines d ++ code_lines ds ≡ body_lines d ++ flat_map lines_of ds ++ end_text ∷ [] =
+    let others = path_body d (ended_lines ds) within (ended_path ds (All-tail IsWithinRanges d ds all)) in
+    let same : body_lines d ++ ended_lines ds ≡ body_lines d ++ flat_map lines_of ds ++ end_text ∷ [] =
     sym (append_assoc (body_lines d) (flat_map lines_of ds) (end_text ∷ [])) in (
       state_after (header_of d),
       (header_of d, header_of-within d within, sym (header_of-text d), refl),
       subst (λ (ls : List (List ℕ)). Path (state_after (header_of d)) ls) same others,
     )
+
+opens_path : (ls : List (List ℕ)) → Path (expects []) ls → Path opens ls
+opens_path [] path = absurd (cc)
+opens_path (l ∷ ls) path = (path.0, inr path.1, path.2)
+
+pub code_path : (edition : Edition) (ds : List Definition) → All IsWithinRanges ds → Path opens (code_lines edition ds)
+code_path editions.One ds all = opens_path (ended_lines ds) (ended_path ds all)
+code_path editions.Two ds all = (expects [], inl (refl, refl), ended_path ds all)
 
 -- paths are code texts
 
@@ -163,6 +173,7 @@ OfKinds (k ∷ ks) [] = ⊥
 OfKinds (k ∷ ks) (l ∷ ls) = IsOfKind k l × OfKinds ks ls
 
 abbrev pub OfState : State → List (List ℕ) → Type 0
+OfState opens bs = ⊥
 OfState (expects ks) bs = OfKinds ks bs
 OfState finished bs = ⊥
 
@@ -286,7 +297,7 @@ record Split (ks : List Kind) (ls : List (List ℕ)) : Type 0 where
   definitions : List Definition
   of_kinds : OfKinds ks body
   inside : All IsWithinRanges definitions
-  lines : ls ≡ body ++ code_lines definitions
+  lines : ls ≡ body ++ ended_lines definitions
 
 split_end : (l : List ℕ) (ls : List (List ℕ)) → l ≡ end_text → Path finished ls → Split [] (l ∷ ls)
 split_end l [] e path = record { body = []; definitions = []; of_kinds = refl; inside = All-nil IsWithinRanges; lines = ap (λ m. m ∷ []) e }
@@ -303,7 +314,7 @@ split_header h l ls ks state within e s =
       inside = All-cons IsWithinRanges m.definition s.definitions m.inside s.inside;
       lines =
           let first : l ≡ header_line m.definition = e ∙ ap header_text (sym m.header) ∙ header_of-text m.definition in
-          ap (λ z. z ∷ ls) first ∙ ap (λ z. header_line m.definition ∷ z) (s.lines ∙ ap (λ z. z ++ code_lines s.definitions) m.lines
+          ap (λ z. z ∷ ls) first ∙ ap (λ z. header_line m.definition ∷ z) (s.lines ∙ ap (λ z. z ++ ended_lines s.definitions) m.lines
           ∙ sym (append_assoc (body_lines m.definition) (flat_map lines_of s.definitions) (end_text ∷ [])));
     }
 
@@ -328,7 +339,20 @@ split_path (l ∷ ls) (k ∷ ks) path =
       lines = ap (λ m. l ∷ m) others.lines;
     }
 
+path_ended : (ls : List (List ℕ)) → Path (expects []) ls → (ds : List Definition) × All IsWithinRanges ds × (ls ≡ ended_lines ds)
+path_ended ls path =
+    let s = split_path ls [] path in (s.definitions, s.inside, s.lines ∙ ap (λ b. b ++ ended_lines s.definitions) s.of_kinds)
+
 -- a path is a code text
-pub path_code : (ls : List (List ℕ)) → Path (expects []) ls → (ds : List Definition) × All IsWithinRanges ds × (ls ≡ code_lines ds)
-path_code ls path =
-    let s = split_path ls [] path in (s.definitions, s.inside, s.lines ∙ ap (λ b. b ++ code_lines s.definitions) s.of_kinds)
+abbrev pub Coded : List (List ℕ) → Type 0
+Coded ls = (edition : Edition) × (ds : List Definition) × All IsWithinRanges ds × (ls ≡ code_lines edition ds)
+
+path_opened : (l : List ℕ) (ls : List (List ℕ)) (to : State) → Leads opens l to → Path to ls → Coded (l ∷ ls)
+path_opened l ls to (inl x) path =
+    let ended = path_ended ls (subst (λ (z : State). Path z ls) x.1 path) in
+    (editions.Two, ended.0, ended.1, ap (λ z. z ∷ ls) x.0 ∙ ap (λ z. edition_line ∷ z) ended.2)
+path_opened l ls to (inr x) path = let ended = path_ended (l ∷ ls) (to, x, path) in (editions.One, ended.0, ended.1, ended.2)
+
+pub path_code : (ls : List (List ℕ)) → Path opens ls → Coded ls
+path_code [] path = absurd (cc)
+path_code (l ∷ ls) path = path_opened l ls path.0 path.1 path.2

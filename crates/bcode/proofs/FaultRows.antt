@@ -1,19 +1,22 @@
 -- The line of the fault of some texts, which is behind the whole lines that are right.
-use Rattle.std.proofs.Common.{subst, ◌≡◌, ℕ, zero, suc, ◌^◌, Bool, true, false, ◌&&◌, List, [], ◌∷◌, ◌++◌, Option, Some, None, refl, sym, ap, ◌∙◌, arith}
+use Rattle.std.proofs.Common.{subst, ◌≡◌, ℕ, zero, suc, ◌^◌, Bool, true, false, ◌&&◌, List, [], ◌∷◌, ◌++◌, Option, Some, None, refl, sym, ap, ◌∙◌, arith, eqb, take, drop, if◌then◌else◌, ◌⊎◌, inl, inr}
 use Rattle.std.specs.Prelude.{codes, replicate}
+use Rattle.std.specs.Cmp.Lexicographic.{pointwise}
+use Rattle.std.proofs.lemmas.Bool.Decides.{Decides-eqb}
+use Rattle.std.proofs.lemmas.Slice.Eq.{starts_is}
 use Rattle.bcode.specs.Definitions.{IsWord}
 use Rattle.bcode.specs.Faults.{IsFaultLine}
 use Rattle.bcode.specs.Headers.{header_text, IsHeaderWithin}
 use Rattle.bcode.specs.LineReading.{header_at, sizes_at, function_header_at, simple_header_at, vector_header_at, ended, instr_at, ival_at, number_line_at, operand_at, name_operand_at, operator_at, less_at, greater_at, increment_at, case_at, Reader}
 use Rattle.bcode.specs.Reading.{◌>>=◌, expect, number_at, number_from, name_at}
-use Rattle.bcode.specs.Stopping.{Kind, value, target, string, instruction, State, expects, finished, state_after, Leads, IsOfKind, Stuck, Stops}
-use Rattle.bcode.specs.Text.{target_line, string_line, instr_line, ival_line}
+use Rattle.bcode.specs.Stopping.{Kind, value, target, string, instruction, State, opens, expects, finished, state_after, Leads, IsOfKind, Stuck, Stops}
+use Rattle.bcode.specs.Text.{edition_line, target_line, string_line, instr_line, ival_line}
 use Rattle.bcode.specs.declared.header.Header.{Header}
 use Rattle.bcode.proofs.FaultLaws.{fault_line}
 use Rattle.bcode.proofs.HeaderLaws.{header_at-exact}
 use Rattle.bcode.proofs.LineLaws.{IsExact, ival_at-exact, instr_at-exact, number_line_at-exact}
 use Rattle.bcode.proofs.PartLaws.{bind_some, same_read}
-use Rattle.bcode.proofs.StoppingLaws.{IsGoodKind, IsGoodState, good_next}
+use Rattle.bcode.proofs.StoppingLaws.{IsGoodKind, IsGoodState, good_next, no_header}
 
 -- the text behind a line of a kind
 abbrev behind : {X : Type 0} → Option (X × List ℕ) → Option (List ℕ)
@@ -34,8 +37,22 @@ abbrev after_header : Option (Header × List ℕ) → Option (State × List ℕ)
 after_header (Some r) = Some (state_after r.0, r.1)
 after_header None = None
 
+-- whether the text begins as one of the second edition
+abbrev is_two : List ℕ → Bool
+is_two text = pointwise eqb edition_line (take 4 text)
+
+two_line : (text : List ℕ) → is_two text ≡ true → text ≡ edition_line ++ drop 4 text
+two_line text two = (starts_is Decides-eqb text edition_line (is_two text) refl).0 two
+
+line_two : (text rest : List ℕ) → text ≡ edition_line ++ rest → is_two text ≡ true
+line_two text rest e = (starts_is Decides-eqb text edition_line (is_two text) refl).1 rest e
+
+abbrev after_opening : Bool → List ℕ → Option (State × List ℕ)
+after_opening two text = if two then Some (expects [], drop 4 text) else after_header (header_at text)
+
 -- a line further
 abbrev step : State → List ℕ → Option (State × List ℕ)
+step opens text = after_opening (is_two text) text
 step (expects []) text = after_header (header_at text)
 step (expects (k ∷ ks)) text = to_expect ks (line_behind k text)
 step finished text = None
@@ -90,6 +107,16 @@ headed None to rest e = absurd (cc)
 
 step_leads : (from : State) (text : List ℕ) (to : State) (rest : List ℕ) → IsGoodState from → step from text ≡ Some (to, rest)
     → (l : List ℕ) × Leads from l to × (text ≡ l ++ rest)
+step_leads opens text to rest good e = go (is_two text) refl e
+  where
+    go : (b : Bool) → is_two text ≡ b → after_opening b text ≡ Some (to, rest) → (l : List ℕ) × Leads opens l to × (text ≡ l ++ rest)
+    go true two e =
+        let same = same_read (expects [], drop 4 text) (to, rest) e in
+        (edition_line, inl (refl, sym same.0), two_line text two ∙ ap (λ t. edition_line ++ t) same.1)
+    go false one e =
+        let h = headed (header_at text) to rest e in
+        let read = header_at-exact.sound text h.0 rest h.1 in
+        (header_text h.0, inr (h.0, read.0, refl, h.2), read.1)
 step_leads (expects []) text to rest good e =
     let h = headed (header_at text) to rest e in
     let read = header_at-exact.sound text h.0 rest h.1 in
@@ -101,6 +128,24 @@ step_leads (expects (k ∷ ks)) text to rest good e =
 step_leads finished text to rest good e = absurd (cc)
 
 leads_step : (from : State) (l : List ℕ) (to : State) (text rest : List ℕ) → IsGoodState from → Leads from l to → text ≡ l ++ rest → step from text ≡ Some (to, rest)
+leads_step opens l to text rest good (inl x) same =
+    let line : text ≡ edition_line ++ rest = same ∙ ap (λ t. t ++ rest) x.0 in
+    let behind_line : drop 4 text ≡ rest = ap (λ t. drop 4 t) line in
+    ap (λ b. after_opening b text) (line_two text rest line) ∙ ap (λ t. Some (expects [], t)) behind_line ∙ ap (λ s. Some (s, rest)) (sym x.1)
+leads_step opens l to text rest good (inr x) same = ap (λ b. after_opening b text) one ∙ ap after_header there ∙ ap (λ s. Some (s, rest)) (sym x.3)
+  where
+    spelled : text ≡ header_text x.0 ++ rest
+    spelled = same ∙ ap (λ t. t ++ rest) x.2
+
+    there : header_at text ≡ Some (x.0, rest)
+    there = ap header_at spelled ∙ header_at-exact.again x.0 rest x.1
+
+    go : (b : Bool) → is_two text ≡ b → b ≡ false
+    go true two = absurd (no_header x.0 (drop 4 text) rest (sym (two_line text two) ∙ spelled))
+    go false none = refl
+
+    one : is_two text ≡ false
+    one = go (is_two text) refl
 leads_step (expects []) l to text rest good leads same =
     let there : header_at text ≡ Some (leads.0, rest) = ap header_at (same ∙ ap (λ t. t ++ rest) leads.2) ∙ header_at-exact.again leads.0 rest leads.1 in
     ap after_header there ∙ ap (λ s. Some (s, rest)) (sym leads.3)
@@ -112,6 +157,8 @@ stuck_step : (from : State) (text : List ℕ) (o : Option (State × List ℕ)) �
 stuck_step finished [] o e = absurd (cc)
 stuck_step finished (b ∷ bs) (Some r) e = absurd (cc)
 stuck_step finished (b ∷ bs) None e = (refl, λ p q. cc)
+stuck_step opens text (Some r) e = absurd (cc)
+stuck_step opens text None e = (refl, λ p q. cc)
 stuck_step (expects ks) text (Some r) e = absurd (cc)
 stuck_step (expects ks) text None e = (refl, λ p q. cc)
 
@@ -141,7 +188,7 @@ AreFaults (r ∷ rs) = IsFaultLine r.0 (suc r.1) × AreFaults rs
 
 abbrev stop_there : List Row → Bool
 stop_there [] = true
-stop_there (r ∷ rs) = stops_at r.1 (expects []) r.0 && stop_there rs
+stop_there (r ∷ rs) = stops_at r.1 opens r.0 && stop_there rs
 
 both : (a b : Bool) → (a && b) ≡ true → (a ≡ true) × (b ≡ true)
 both true b e = (refl, e)
@@ -150,8 +197,8 @@ both false b e = absurd (cc)
 faults_there : (rows : List Row) → stop_there rows ≡ true → AreFaults rows
 faults_there [] e = tt
 faults_there (r ∷ rs) e =
-    let h = both (stops_at r.1 (expects []) r.0) (stop_there rs) e in
-    (fault_line r.0 r.1 (stops r.1 (expects []) r.0 tt h.0), faults_there rs h.1)
+    let h = both (stops_at r.1 opens r.0) (stop_there rs) e in
+    (fault_line r.0 r.1 (stops r.1 opens r.0 tt h.0), faults_there rs h.1)
 
 abbrev rows : List Row
 rows =
@@ -159,6 +206,13 @@ rows =
     (codes "E", 0) ∷
     (codes "E\nE\n", 1) ∷
     (codes "E\nx", 1) ∷
+    (codes "B 1\nE\n", 0) ∷
+    (codes "B 2", 0) ∷
+    (codes "B 2\n", 1) ∷
+    (codes "B 2\nB 2\nE\n", 1) ∷
+    (codes "X a 0 0\nB 2\nE\n", 1) ∷
+    (codes "B 2\nX n 1 0\nc 007\nE\n", 2) ∷
+    (codes "B 2\nE\nE\n", 2) ∷
     (codes "X n 0 0\n", 1) ∷
     (codes "X n 0 0\nX n 0 0", 1) ∷
     (codes "X n 1 0\nc 007\nE\n", 1) ∷

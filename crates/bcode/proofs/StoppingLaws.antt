@@ -1,9 +1,9 @@
 -- Where a text stops, and the lines that go on.
-use Rattle.std.proofs.Common.{subst, ◌≡◌, ℕ, zero, suc, ◌^◌, ◌<◌, ◌≤◌, List, [], ◌∷◌, ◌++◌, length, take, replicate, refl, sym, ap, ◌∙◌, arith, append_assoc}
-use Rattle.bcode.specs.Headers.{IsHeaderWithin}
+use Rattle.std.proofs.Common.{subst, ◌≡◌, ℕ, zero, suc, ◌^◌, ◌<◌, ◌≤◌, List, [], ◌∷◌, ◌++◌, length, take, replicate, refl, sym, ap, ◌∙◌, arith, append_assoc, ◌⊎◌, inl, inr}
+use Rattle.bcode.specs.Headers.{header_text, IsHeaderWithin}
 use Rattle.bcode.specs.LineReading.{Reader}
-use Rattle.bcode.specs.Stopping.{Kind, value, target, string, instruction, IsOfKind, State, expects, finished, state_after, Leads, Stops}
-use Rattle.bcode.specs.Text.{joined, end_text, target_line, string_line, ival_line, instr_line}
+use Rattle.bcode.specs.Stopping.{Kind, value, target, string, instruction, IsOfKind, State, opens, expects, finished, state_after, LeadsIn, Leads, Stops}
+use Rattle.bcode.specs.Text.{joined, end_text, edition_line, target_line, string_line, ival_line, instr_line}
 use Rattle.bcode.specs.declared.header.Header.{Header}
 use Rattle.bcode.specs.declared.header.Header.TheVariants as header
 use Rattle.bcode.specs.declared.instr.Instr.TheVariants as instr
@@ -30,6 +30,7 @@ AreGoodKinds [] = Unit {0}
 AreGoodKinds (k ∷ ks) = IsGoodKind k × AreGoodKinds ks
 
 abbrev pub IsGoodState : State → Type 0
+IsGoodState opens = Unit {0}
 IsGoodState (expects ks) = AreGoodKinds ks
 IsGoodState finished = Unit {0}
 
@@ -72,6 +73,8 @@ good_after (header.Vector name words values strings) h =
 good_after header.End h = tt
 
 pub good_next : (from : State) (l : List ℕ) (to : State) → IsGoodState from → Leads from l to → IsGoodState to
+good_next opens l to good (inl x) = subst IsGoodState (sym x.1) tt
+good_next opens l to good (inr x) = subst IsGoodState (sym x.3) (good_after x.0 x.1)
 good_next (expects []) l to good leads = subst IsGoodState (sym leads.3) (good_after leads.0 leads.1)
 good_next (expects (k ∷ ks)) l to good leads = subst IsGoodState (sym leads.1) good.1
 good_next finished l to good leads = absurd leads
@@ -87,12 +90,35 @@ same_behind string l m rest behind good x y same =
 same_behind (instruction sizes) l m rest behind good x y same =
     (same_spelling (instr_at-exact sizes good) x.0 y.0 rest behind x.1 y.1 (ap (λ t. t ++ rest) (sym x.2) ∙ same ∙ ap (λ t. t ++ behind) y.2)).1
 
+first_differs : (a b : ℕ) (xs ys : List ℕ) → a < b → a ∷ xs ≡ b ∷ ys → ⊥
+first_differs a b xs ys l e = let h : a ≡ b = cc in omega (arith, h, l)
+
+-- no header begins as the edition's line does
+pub no_header : (h : Header) (rest behind : List ℕ) → edition_line ++ rest ≡ header_text h ++ behind → ⊥
+no_header (header.Function name parameters s) rest behind e = first_differs 66 70 _ _ (omega arith) e
+no_header (header.Simple name values strings) rest behind e = first_differs 66 88 _ _ (omega arith) e
+no_header (header.Vector name words values strings) rest behind e = first_differs 66 86 _ _ (omega arith) e
+no_header header.End rest behind e = first_differs 66 69 _ _ (omega arith) e
+
+pub same_after : (rest behind : List ℕ) → edition_line ++ rest ≡ edition_line ++ behind → rest ≡ behind
+same_after rest behind e = cc
+
+leads_in_one_way : (l m rest behind : List ℕ) (to other : State) → LeadsIn l to → LeadsIn m other → l ++ rest ≡ m ++ behind → (to ≡ other) × (rest ≡ behind)
+leads_in_one_way l m rest behind to other x y same =
+    let one = same_spelling header_at-exact x.0 y.0 rest behind x.1 y.1 (ap (λ t. t ++ rest) (sym x.2) ∙ same ∙ ap (λ t. t ++ behind) y.2) in
+    (x.3 ∙ ap state_after one.0 ∙ sym y.3, one.1)
+
 -- a text goes on in one way
 leads_one_way : (from : State) (l m rest behind : List ℕ) (to other : State) → IsGoodState from → Leads from l to → Leads from m other → l ++ rest ≡ m ++ behind
     → (to ≡ other) × (rest ≡ behind)
-leads_one_way (expects []) l m rest behind to other good x y same =
-    let one = same_spelling header_at-exact x.0 y.0 rest behind x.1 y.1 (ap (λ t. t ++ rest) (sym x.2) ∙ same ∙ ap (λ t. t ++ behind) y.2) in
-    (x.3 ∙ ap state_after one.0 ∙ sym y.3, one.1)
+leads_one_way opens l m rest behind to other good (inl x) (inl y) same =
+    (x.1 ∙ sym y.1, same_after rest behind (ap (λ t. t ++ rest) (sym x.0) ∙ same ∙ ap (λ t. t ++ behind) y.0))
+leads_one_way opens l m rest behind to other good (inl x) (inr y) same =
+    absurd (no_header y.0 rest behind (ap (λ t. t ++ rest) (sym x.0) ∙ same ∙ ap (λ t. t ++ behind) y.2))
+leads_one_way opens l m rest behind to other good (inr x) (inl y) same =
+    absurd (no_header x.0 behind rest (ap (λ t. t ++ behind) (sym y.0) ∙ sym same ∙ ap (λ t. t ++ rest) x.2))
+leads_one_way opens l m rest behind to other good (inr x) (inr y) same = leads_in_one_way l m rest behind to other x y same
+leads_one_way (expects []) l m rest behind to other good x y same = leads_in_one_way l m rest behind to other x y same
 leads_one_way (expects (k ∷ ks)) l m rest behind to other good x y same =
     (x.1 ∙ sym y.1, same_behind k l m rest behind good.0 x.0 y.0 same)
 leads_one_way finished l m rest behind to other good x y same = absurd x
@@ -117,6 +143,7 @@ completion (k ∷ ks) good =
     (first.0 ∷ others.0, (expects ks, (first.1, refl), others.1))
 
 ending : (from : State) → IsGoodState from → (ls : List (List ℕ)) × Path from ls
+ending opens good = (end_text ∷ [], (finished, inr (header.End, tt, refl, refl), refl))
 ending (expects ks) good = completion ks good
 ending finished good = ([], refl)
 

@@ -1,9 +1,10 @@
 -- What reading some lines does to the text ahead.
 use Rattle.std.specs.Prelude.{◌≡◌, ℕ, ◌+◌, ◌<◌, List, [], ◌++◌, length, All, Option, Some, None, Result, Ok, Err}
 use Rattle.std.specs.List.{flat_map}
+use Rattle.bword.specs.declared.edition.Edition.{Edition}
 use Rattle.bcode.specs.Headers.{header_of}
-use Rattle.bcode.specs.Stopping.{State, expects, finished, Stops, state_after}
-use Rattle.bcode.specs.Text.{joined, body_lines, header_line, text_of, end_text}
+use Rattle.bcode.specs.Stopping.{State, opens, expects, finished, Stops, state_after}
+use Rattle.bcode.specs.Text.{joined, opening, body_lines, header_line, text_of, end_text}
 use Rattle.bcode.specs.Views.{IsWithinRanges}
 use Rattle.bcode.specs.declared.definition.Definition.{Definition}
 use Rattle.bcode.specs.declared.fault.CodeFault.{CodeFault}
@@ -59,6 +60,11 @@ pub record GoesOn (old : Ahead) (from : State) (new : Ahead) (to : State) : Type
   pub taken : ℕ
   pub counted : new.line ≡ old.line + taken
   pub onward : (n : ℕ) → Stops n to new.text → Stops (taken + n) from old.text
+
+-- What a text of this edition begins with was read.
+pub record ReadsOpening (old : Ahead) (edition : Edition) (new : Ahead) : Type 0 where
+  pub spelled : old.text ≡ opening edition ++ new.text
+  pub onward : GoesOn old opens new (expects [])
 
 -- The text stops at line n.
 pub record StopsAhead (from : State) (old : Ahead) (n : ℕ) : Type 0 where

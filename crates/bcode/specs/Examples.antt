@@ -1,6 +1,7 @@
 -- Texts of single definitions, and the lines of each instruction and initial value.
 use Rattle.std.specs.Prelude.{◌≡◌, ℕ, List, [], ◌∷◌, map, codes, decimal, refl}
 use Rattle.std.specs.Fmt.{digits}
+use Rattle.bword.specs.declared.edition.Edition.TheVariants as editions
 use Rattle.bword.specs.declared.operators.BinOp.TheVariants as op
 use Rattle.bcode.specs.declared.definition.Definition.TheVariants as definition
 use Rattle.bcode.specs.declared.instr.Increment.TheVariants as increment
@@ -64,8 +65,11 @@ letters : text_of (definition.Function record {
 unfolding digits
 letters = refl
 
-empty : joined (code_lines []) ≡ codes "E\n"
+empty : joined (code_lines editions.One []) ≡ codes "E\n"
 empty = refl
+
+empty_in_two : joined (code_lines editions.Two []) ≡ codes "B 2\nE\n"
+empty_in_two = refl
 
 -- without needless zeros
 numbers : map decimal (0 ∷ 7 ∷ 10 ∷ 100 ∷ 65535 ∷ []) ≡

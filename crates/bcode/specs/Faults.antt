@@ -1,7 +1,8 @@
 -- Where a text stops being the beginning of a code text.
 use Rattle.std.specs.Prelude.{◌≡◌, ℕ, suc, ◌≤◌, List, ◌++◌, length, take, All}
 use Rattle.std.specs.List.{flat_map}
-use Rattle.bcode.specs.Text.{joined, code_lines, text_of, header_line}
+use Rattle.bword.specs.declared.edition.Edition.{Edition}
+use Rattle.bcode.specs.Text.{joined, opening, code_lines, text_of, header_line}
 use Rattle.bcode.specs.Views.{IsWithinRanges}
 use Rattle.bcode.specs.declared.definition.Definition.{Definition}
 use Rattle.bcode.specs.declared.fault.CodeFault.{CodeFault}
@@ -9,11 +10,12 @@ use Rattle.bcode.specs.declared.fault.CodeFault.TheVariants as fault
 
 -- The text begins with the first m lines of some code text.
 pub record Begins (text : List ℕ) (m : ℕ) : Type 0 where
+  pub edition : Edition
   pub definitions : List Definition
   pub within : All IsWithinRanges definitions
-  pub enough : m ≤ length (code_lines definitions)
+  pub enough : m ≤ length (code_lines edition definitions)
   pub rest : List ℕ
-  pub same : text ≡ joined (take m (code_lines definitions)) ++ rest
+  pub same : text ≡ joined (take m (code_lines edition definitions)) ++ rest
 
 -- n is one more than the greatest number of first lines of the text that begin a code text.
 pub record IsFaultLine (text : List ℕ) (n : ℕ) : Type 0 where
@@ -24,12 +26,13 @@ pub record IsFaultLine (text : List ℕ) (n : ℕ) : Type 0 where
 
 -- Behind some definitions the first line of another one stands.
 pub record HasHeader (text : List ℕ) : Type 0 where
+  pub edition : Edition
   pub definitions : List Definition
   pub next : Definition
   pub within : All IsWithinRanges definitions
   pub next_within : IsWithinRanges next
   pub rest : List ℕ
-  pub same : text ≡ flat_map text_of definitions ++ (header_line next ++ rest)
+  pub same : text ≡ opening edition ++ (flat_map text_of definitions ++ (header_line next ++ rest))
 
 -- why a text was refused
 abbrev pub IsFaultOf : List ℕ → CodeFault → Type 0

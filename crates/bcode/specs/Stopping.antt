@@ -1,8 +1,8 @@
 -- A text as lines, each of which a state expects or not.
-use Rattle.std.specs.Prelude.{◌≡◌, ℕ, zero, suc, ◌<◌, List, [], ◌∷◌, ◌++◌, replicate}
+use Rattle.std.specs.Prelude.{◌≡◌, ℕ, zero, suc, ◌<◌, List, [], ◌∷◌, ◌++◌, replicate, ◌⊎◌}
 use Rattle.bcode.specs.Definitions.{IsWord, IsInstrWithin, IsIvalWithin}
 use Rattle.bcode.specs.Headers.{header_text, IsHeaderWithin}
-use Rattle.bcode.specs.Text.{target_line, string_line, instr_line, ival_line}
+use Rattle.bcode.specs.Text.{edition_line, target_line, string_line, instr_line, ival_line}
 use Rattle.bcode.specs.declared.header.Header.{Header}
 use Rattle.bcode.specs.declared.header.Header.TheVariants as header
 use Rattle.bcode.specs.declared.header.Sizes.{Sizes}
@@ -23,8 +23,9 @@ IsOfKind (target code) l = (n : ℕ) × (n < code) × (l ≡ target_line n)
 IsOfKind string l = (n : ℕ) × IsWord n × (l ≡ string_line n)
 IsOfKind (instruction sizes) l = (i : Instr) × IsInstrWithin sizes i × (l ≡ instr_line i)
 
--- the lines that have to come before the next definition; or nothing comes any more
+-- the beginning; or the lines that have to come before the next definition; or nothing comes any more
 pub data State : Type 0 where
+  opens : State
   expects : List Kind → State
   finished : State
 
@@ -35,9 +36,14 @@ state_after (header.Simple name values strings) = expects (replicate values (val
 state_after (header.Vector name words values strings) = expects (replicate values (value strings) ++ replicate strings string)
 state_after header.End = finished
 
+-- the first line of a definition, or the last line, leads to this state
+abbrev pub LeadsIn : List ℕ → State → Type 0
+LeadsIn l to = (h : Header) × IsHeaderWithin h × (l ≡ header_text h) × (to ≡ state_after h)
+
 -- a line leads from one state to the next
 abbrev pub Leads : State → List ℕ → State → Type 0
-Leads (expects []) l to = (h : Header) × IsHeaderWithin h × (l ≡ header_text h) × (to ≡ state_after h)
+Leads opens l to = ((l ≡ edition_line) × (to ≡ expects [])) ⊎ LeadsIn l to
+Leads (expects []) l to = LeadsIn l to
 Leads (expects (k ∷ ks)) l to = IsOfKind k l × (to ≡ expects ks)
 Leads finished l to = ⊥
 

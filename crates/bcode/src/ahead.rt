@@ -1,6 +1,6 @@
 //! The lines of a text that are still to be read.
 ghost use Rattle.std.specs.Prelude.{◌≡◌, ◌+◌, ◌<◌, ◌≤◌, ◌^◌, ◌==◌, List, ◌∷◌, [], length, decimal};
-ghost use Rattle.bcode.specs.Ahead.{LineGives, LinesGive};
+ghost use Rattle.bcode.specs.Ahead.{LineGives, LinesGive, ReadsOpening};
 ghost use Rattle.bcode.specs.Definitions.{IsInstrWithin, IsIvalWithin};
 ghost use Rattle.bcode.specs.Headers.{header_text, IsHeaderWithin};
 ghost use Rattle.bcode.specs.Text.{line, instr_line, ival_line};
@@ -8,6 +8,7 @@ ghost use Rattle.bcode.specs.Text.{line, instr_line, ival_line};
 use crate::header::{Header, Sizes};
 use crate::lines::{header, instr, ival, number_line};
 use crate::{CodeFault, Instr, Ival};
+use bword::Edition;
 use std::alloc::Global;
 use std::marker::Model;
 
@@ -50,6 +51,17 @@ impl<'a> Ahead<'a> {
         ensures { result ≡ self.now.line }
     {
         self.line
+    }
+
+    /// The edition of the text, behind whose first line the text goes on if that is the edition's.
+    pub fn edition(&mut self) -> Edition
+        ensures { ReadsOpening self.old result self.new }
+    {
+        let Some(rest) = self.text.strip_prefix(b"B 2\n") else {
+            return Edition::One;
+        };
+        self.advance(rest);
+        Edition::Two
     }
 
     /// The first line of a definition, or the last one of a code text.

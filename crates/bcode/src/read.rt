@@ -34,6 +34,7 @@ pub fn read_code(alloc: Global, text: &[u8]) -> Result<Vec<Definition>, CodeFaul
     ensures unique { (ds es : List Definition) → IsCodeText text.now ds → IsCodeText text.now es → ds ≡ es }
 {
     let mut ahead = Ahead::new(text);
+    ahead.edition();
     let mut definitions = Vec::new(alloc);
     while let Some(definition) = next_definition(alloc, &mut ahead)? {
         definitions.push(definition)?;

@@ -1,5 +1,6 @@
 -- How reading goes on: from reader to reader, or to a halt.
 use Rattle.std.proofs.Common.{◌≡◌, ℕ, Bool, List, ◌∷◌, ◌++◌, Result, Ok, Err, IsErrAnd, refl, sym, ap, ◌∙◌, subst}
+use Rattle.bword.specs.declared.edition.Edition.{Edition}
 use Rattle.blex.specs.declared.token.Placed.{Placed}
 use Rattle.btree.specs.Expression.{Expr}
 use Rattle.btree.specs.Reading.{Read, Reader, Got, Stop, ◌>>=◌, first, line_of, after}
@@ -11,11 +12,11 @@ use Rattle.bexpr.specs.Tokens.{Tokens, tokens_with, tokens_of, IsLoaded, Moves, 
 use Rattle.bexpr.specs.Parsers.{Halts, Follows, Continues, Evaluates, Passes}
 use Rattle.bexpr.proofs.TokenSteps.{Moves-append, Moves-as, Moves-breaks, stays_same}
 
-first_with : (ahead : List Placed) (line : ℕ) (bytes : List ℕ) (p : Placed) (ps : List Placed) → ahead ≡ p ∷ ps → first (tokens_with ahead line bytes) ≡ first ahead
-first_with ahead line bytes p ps e = rw e refl
+first_with : (ahead : List Placed) (edition : Edition) (line : ℕ) (bytes : List ℕ) (p : Placed) (ps : List Placed) → ahead ≡ p ∷ ps → first (tokens_with ahead edition line bytes) ≡ first ahead
+first_with ahead edition line bytes p ps e = rw e refl
 
-line_with : (ahead : List Placed) (line : ℕ) (bytes : List ℕ) (p : Placed) (ps : List Placed) → ahead ≡ p ∷ ps → line_of (tokens_with ahead line bytes) ≡ line_of ahead
-line_with ahead line bytes p ps e = rw e refl
+line_with : (ahead : List Placed) (edition : Edition) (line : ℕ) (bytes : List ℕ) (p : Placed) (ps : List Placed) → ahead ≡ p ∷ ps → line_of (tokens_with ahead edition line bytes) ≡ line_of ahead
+line_with ahead edition line bytes p ps e = rw e refl
 
 -- reading goes on where it is
 pub run_here : {A : Type 0} {t : Tokens} {f g : Reader A} → IsLoaded t → ((u : List Placed) → first u ≡ first t.ahead → line_of u ≡ line_of t.ahead → f u ≡ g u) → Runs t t f g
@@ -29,7 +30,7 @@ run_here {A} {t} {f} {g} l k =
       falls = s.falls;
       come = λ more c.
           subst (λ u. f u ≡ g (tokens_of t more)) (sym (s.come more c))
-          (k (tokens_of t more) (first_with t.ahead t.source.line (t.source.ahead ++ more) l.current l.behind l.ahead) (line_with t.ahead t.source.line (t.source.ahead ++ more) l.current l.behind l.ahead));
+          (k (tokens_of t more) (first_with t.ahead t.source.edition t.source.line (t.source.ahead ++ more) l.current l.behind l.ahead) (line_with t.ahead t.source.edition t.source.line (t.source.ahead ++ more) l.current l.behind l.ahead));
     }
 
 -- reading goes on behind the current token

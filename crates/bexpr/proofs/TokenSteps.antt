@@ -35,7 +35,7 @@ pub Reads-append : {a b c : Source} {xs ys : List ℕ} → Reads a xs b → Read
 Reads-append h k = record { took = Took-append h.took k.took; lender = k.lender ∙ h.lender; near = k.near }
 
 pub EndsWith-append : {t : Token} (xs : List ℕ) {ys : List ℕ} → EndsWith t ys → EndsWith t (xs ++ ys)
-EndsWith-append xs e = record { before = xs ++ e.before; text = e.text; split = ap (λ l. xs ++ l) e.split ∙ sym (append_assoc xs e.before e.text); is = e.is }
+EndsWith-append xs e = record { edition = e.edition; before = xs ++ e.before; text = e.text; split = ap (λ l. xs ++ l) e.split ∙ sym (append_assoc xs e.before e.text); is = e.is }
 
 LooksAt-none : (t : Tokens) → LooksAt t [] t
 LooksAt-none t = record { bytes = []; split = append-nil t.source.ahead; ends = λ p e. inr (refl, e) }
@@ -103,10 +103,11 @@ module _ (old new : Lexer) (at : Placed) (gives : LexGives old (Ok at) new) (nea
   passes : PassesToken old.source at new.source
   passes = given.0
 
-  comes : (more : List ℕ) → CanFollow new.source.end more → tokens_from old.source.line (old.source.ahead ++ (passes.passes.taken ++ more)) ≡ token_first at.token at.line (tokens_from new.source.line (new.source.ahead ++ more))
+  comes : (more : List ℕ) → CanFollow new.source.end more → tokens_from old.source.edition old.source.line (old.source.ahead ++ (passes.passes.taken ++ more)) ≡ token_first at.token at.line (tokens_from new.source.edition new.source.line (new.source.ahead ++ more))
   comes more f =
-      ap (tokens_from old.source.line) (sym (append_assoc old.source.ahead passes.passes.taken more) ∙ ap (λ l. l ++ more) passes.passes.split ∙ append_assoc passes.bytes new.source.ahead more)
+      ap (tokens_from old.source.edition old.source.line) (sym (append_assoc old.source.ahead passes.passes.taken more) ∙ ap (λ l. l ++ more) passes.passes.split ∙ append_assoc passes.bytes new.source.ahead more)
       ∙ passes.cut (new.source.ahead ++ more) (record { more = more; split = refl; over = f })
+      ∙ ap (λ e. token_first at.token at.line (tokens_from e new.source.line (new.source.ahead ++ more))) (sym passes.passes.edition)
 
   reads : Reads old.source passes.passes.taken new.source
   reads = record { took = passes.passes.took; lender = passes.passes.lender; near = near }
@@ -123,7 +124,7 @@ module _ (old new : Lexer) (at : Placed) (gives : LexGives old (Ok at) new) (nea
   ends_with : (p : Placed) → Some at ≡ Some p → EndsWith p.token passes.bytes
   ends_with p e =
       let same : at ≡ p = cc in
-      subst (λ q. EndsWith q.token passes.bytes) same (record { before = passes.space; text = passes.text; split = passes.split; is = passes.is })
+      subst (λ q. EndsWith q.token passes.bytes) same (record { edition = _; before = passes.space; text = passes.text; split = passes.split; is = passes.is })
 
   looks_next : Looks (tokens_at old []) (tokens_at new (at ∷ []))
   looks_next = record {
@@ -276,7 +277,7 @@ module _ (old : Tokens) (lexer : Lexer) (current behind : Option Placed) (view :
     looked = record { bytes = []; split = append-nil lexer.source.ahead; ends = λ q e. inr (refl, last_stays p q ps e) };
     failures = refl;
     falls = omega arith;
-    come = λ more f. record { rest = sym (ap (λ b. if b then [] else tokens_with ps lexer.source.line (lexer.source.ahead ++ more)) h); token = refl; line = refl };
+    come = λ more f. record { rest = sym (ap (λ b. if b then [] else tokens_with ps lexer.source.edition lexer.source.line (lexer.source.ahead ++ more)) h); token = refl; line = refl };
   }
 
   lighter_by : (p : Placed) (ps : List Placed) → is_last p.token ≡ false → work (tokens_at lexer ps) + 1 ≤ work (tokens_at lexer (p ∷ ps))

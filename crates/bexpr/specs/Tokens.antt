@@ -2,6 +2,7 @@
 use Rattle.std.specs.Prelude.{◌≡◌, ℕ, ◌+◌, ◌≤◌, ◌⊎◌, Bool, true, false, List, [], ◌∷◌, ◌++◌, length, Option, Some, None, if◌then◌else◌}
 use Rattle.bword.specs.ByteEnds.{Incoming, Grew}
 pub use Rattle.bword.specs.ByteEnds.{CanFollow}
+use Rattle.bword.specs.declared.edition.Edition.{Edition}
 use Rattle.std.specs.Option.{option_map}
 use Rattle.blex.specs.Sources.{Source, Took, room}
 use Rattle.blex.specs.Lexemes.{placed_of}
@@ -42,17 +43,17 @@ pub record InOrder (bytes : List ℕ) (current behind : Option Seen) : Type 0 wh
   pub near : length bytes ≤ 2
   pub order : current ≡ None → behind ≡ None
 
--- the tokens of what an end has left
-abbrev pub all_tokens : Incoming → List ℕ → Tokens
-all_tokens end lender = record { source = record { ahead = []; line = 1; end = end; lender = lender }; progress = progress.Open; text = []; ahead = [] }
+-- the tokens of what an end has left, in an edition
+abbrev pub all_tokens : Edition → Incoming → List ℕ → Tokens
+all_tokens edition end lender = record { source = record { ahead = []; line = 1; end = end; lender = lender; edition = edition }; progress = progress.Open; text = []; ahead = [] }
 
-abbrev pub tokens_with : List Placed → ℕ → List ℕ → List Placed
-tokens_with [] line bytes = tokens_from line bytes
-tokens_with (p ∷ ps) line bytes = token_first p.token p.line (tokens_with ps line bytes)
+abbrev pub tokens_with : List Placed → Edition → ℕ → List ℕ → List Placed
+tokens_with [] edition line bytes = tokens_from edition line bytes
+tokens_with (p ∷ ps) edition line bytes = token_first p.token p.line (tokens_with ps edition line bytes)
 
 -- the tokens to come, where the end still gives these bytes
 abbrev pub tokens_of : Tokens → List ℕ → List Placed
-tokens_of t more = tokens_with t.ahead t.source.line (t.source.ahead ++ more)
+tokens_of t more = tokens_with t.ahead t.source.edition t.source.line (t.source.ahead ++ more)
 
 -- more tokens can come, unless one of those ahead is the last
 abbrev pub IsReadyWith : List Placed → Progress → Type 0
@@ -97,12 +98,13 @@ last_ahead [] = None
 last_ahead (p ∷ []) = Some p
 last_ahead (p ∷ q ∷ ps) = last_ahead (q ∷ ps)
 
--- The bytes end with those of this token.
+-- The bytes end with those of this token, in some edition.
 pub record EndsWith (token : Token) (bytes : List ℕ) : Type 0 where
+  pub edition : Edition
   pub before : List ℕ
   pub text : List ℕ
   pub split : bytes ≡ before ++ text
-  pub is : whole text ≡ Some (Word token)
+  pub is : whole edition text ≡ Some (Word token)
 
 -- Bytes were looked at, of those read before and those taken. The last token ahead ends them, or was ahead before.
 pub record LooksAt (old : Tokens) (taken : List ℕ) (new : Tokens) : Type 0 where

@@ -23,7 +23,7 @@ use crate::tokens::Tokens;
 use bcode::{Increment, Instr};
 use bemit::{Draft, Form};
 use blex::Lexeme;
-use bword::{BinOp, ByteIn, Name};
+use bword::{BinOp, ByteIn, Edition, Name};
 
 // How loosely the loosest binary operator binds.
 const LOOSEST: u8 = 7;
@@ -98,12 +98,12 @@ fn assignment(op: Option<BinOp>) -> Instr
 
 impl<I: ByteIn> Parser<I> {
     /// Before all tokens of the source, with nothing made yet.
-    pub fn new(input: I) -> Self
-        ensures tokens { result.tokens ≡ all_tokens (I.incoming input) (I.lender input) }
+    pub fn new(input: I, edition: Edition) -> Self
+        ensures tokens { result.tokens ≡ all_tokens edition (I.incoming input) (I.lender input) }
         ensures draft { result.draft ≡ fresh }
     {
         Parser {
-            tokens: Tokens::new(input),
+            tokens: Tokens::new(input, edition),
             draft: Draft::new(),
         }
     }

@@ -10,7 +10,7 @@ ghost use Rattle.bexpr.specs.Marks.{is_mark};
 
 use crate::mark::Mark;
 use blex::{About, Diagnostic, Letters, Lexeme, Lexer, Seen};
-use bword::{ByteIn, Device};
+use bword::{ByteIn, Device, Edition};
 use std::marker::Model;
 
 /// The tokens to come.
@@ -38,11 +38,11 @@ impl<I: ByteIn> Model for Tokens<I> {
 
 impl<I: ByteIn> Tokens<I> {
     /// All tokens of the source, none of them read yet.
-    pub fn new(input: I) -> Self
-        ensures { result ≡ all_tokens (I.incoming input) (I.lender input) }
+    pub fn new(input: I, edition: Edition) -> Self
+        ensures { result ≡ all_tokens edition (I.incoming input) (I.lender input) }
     {
         Tokens {
-            lexer: Lexer::new(input),
+            lexer: Lexer::with_edition(input, edition),
             current: None,
             behind: None,
         }

@@ -43,9 +43,9 @@ last_token _ l e = cc
 record Gave (old : Lexer) (answers : List Placed) (after : Lexer) : Type 0 where
   passed : List ℕ
   passes : Passes old.source passed after.source
-  spells : Spells old.source.line (once answers) passed
+  spells : Spells old.source.edition old.source.line (once answers) passed
   any : (xs : List ℕ) → CanCome after.source xs
-      → first (length answers) (tokens_from old.source.line (passed ++ xs)) ≡ answers
+      → first (length answers) (tokens_from old.source.edition old.source.line (passed ++ xs)) ≡ answers
 
 gave_nothing : (old : Lexer) → Gave old [] old
 gave_nothing old = record { passed = []; passes = Passes-refl old.source; spells = refl; any = λ xs c. refl }
@@ -69,25 +69,25 @@ module _ (p : Placed) (ps : List Placed) (old between after : Lexer) (s : Passes
     spells =
         let line : between.source.line ≡ line_after old.source.line (s.space ++ s.text) =
         s.passes.line ∙ ap (line_after old.source.line) s.split in
-        subst (λ ts. Spells old.source.line ts (s.bytes ++ g.passed)) (sym (once_more p ps e))
-        (s.space, s.text, g.passed, ap (λ b. b ++ g.passed) s.split, s.before, s.is, subst (λ n. Spells n (once ps) g.passed) line g.spells);
+        subst (λ ts. Spells old.source.edition old.source.line ts (s.bytes ++ g.passed)) (sym (once_more p ps e))
+        (s.space, s.text, g.passed, ap (λ b. b ++ g.passed) s.split, s.before, s.is, subst (λ n. Spells old.source.edition n (once ps) g.passed) line (subst (λ e. Spells e between.source.line (once ps) g.passed) s.passes.edition g.spells));
     any = λ xs c.
-        let rest = tokens_from between.source.line (g.passed ++ xs) in
-        let all : tokens_from old.source.line ((s.bytes ++ g.passed) ++ xs) ≡ p ∷ rest =
-        ap (tokens_from old.source.line) (append_assoc s.bytes g.passed xs) ∙ s.cut (g.passed ++ xs) (CanCome-behind g.passes c)
+        let rest = tokens_from old.source.edition between.source.line (g.passed ++ xs) in
+        let all : tokens_from old.source.edition old.source.line ((s.bytes ++ g.passed) ++ xs) ≡ p ∷ rest =
+        ap (tokens_from old.source.edition old.source.line) (append_assoc s.bytes g.passed xs) ∙ s.cut (g.passed ++ xs) (CanCome-behind g.passes c)
         ∙ token_first_more p rest e in
-        ap (first (suc (length ps))) all ∙ first_cons p ps rest (g.any xs c);
+        ap (first (suc (length ps))) all ∙ first_cons p ps rest (subst (λ e. first (length ps) (tokens_from e between.source.line (g.passed ++ xs)) ≡ ps) s.passes.edition (g.any xs c));
   }
 
   gave_last : (l : Last) → last_of p.token ≡ Some l → (after ≡ between) × (first (length ps) (p ∷ []) ≡ ps) → Gave old (p ∷ ps) after
   gave_last l e again = record {
     passed = s.bytes;
     passes = subst (λ n. Passes old.source s.bytes n.source) (sym again.0) s.passes;
-    spells = subst (λ ts. Spells old.source.line ts s.bytes) (sym (once_last p ps l e))
+    spells = subst (λ ts. Spells old.source.edition old.source.line ts s.bytes) (sym (once_last p ps l e))
         (s.space, s.text, [], s.split ∙ sym (append-nil (s.space ++ s.text)), s.before, s.is, refl);
     any = λ xs c.
         let here : CanCome between.source xs = subst (λ n. CanCome n.source xs) again.0 c in
-        ap (first (suc (length ps))) (s.cut xs here ∙ token_first_last p (tokens_from between.source.line xs) l e)
+        ap (first (suc (length ps))) (s.cut xs here ∙ token_first_last p (tokens_from old.source.edition between.source.line xs) l e)
         ∙ ap (λ l. p ∷ l) again.1;
   }
 
@@ -131,12 +131,12 @@ module _ (end after : Incoming) (taken : List ℕ) (took : Took end taken after)
       (either after.is_over)
 
 pub calls_give_first : CallsGiveFirst
-calls_give_first end lender answers l calls =
-    let g = calls_gave answers (new end lender) l refl calls in
+calls_give_first edition end lender answers l calls =
+    let g = calls_gave answers (new edition end lender) l refl calls in
     let ahead = l.source.ahead in
     let took : Took end (g.passed ++ ahead) l.source.end = subst (λ t. Took end t l.source.end) g.passes.split g.passes.took in
-    let any : (more : List ℕ) → CanFollow l.source.end more → first (length answers) (tokens_from 1 ((g.passed ++ ahead) ++ more)) ≡ answers =
-    λ more can. ap (λ b. first (length answers) (tokens_from 1 b)) (append_assoc g.passed ahead more)
+    let any : (more : List ℕ) → CanFollow l.source.end more → first (length answers) (tokens_from edition 1 ((g.passed ++ ahead) ++ more)) ≡ answers =
+    λ more can. ap (λ b. first (length answers) (tokens_from edition 1 b)) (append_assoc g.passed ahead more)
     ∙ g.any (ahead ++ more) (record { more = more; split = refl; over = can }) in
     record {
       passed = g.passed;
@@ -144,6 +144,6 @@ calls_give_first end lender answers l calls =
       spells = g.spells;
       near = g.passes.near (omega arith);
       any = any;
-      told = of_told end l.source.end (g.passed ++ ahead) took (λ b. first (length answers) (tokens_from 1 b) ≡ answers) any;
+      told = of_told end l.source.end (g.passed ++ ahead) took (λ b. first (length answers) (tokens_from edition 1 b) ≡ answers) any;
       failures = g.passes.failures;
     }

@@ -1,5 +1,5 @@
 -- What the loop over a comment keeps, and what a slash gives.
-use Rattle.std.proofs.Common.{◌≡◌, ℕ, Bool, true, false, ◌&&◌, ◌==◌, ◌≢◌, List, [], ◌∷◌, ◌++◌, take, Option, Some, None, Result, Ok, Err, refl, sym, ap, ◌∙◌, arith, append_assoc, append-nil, if◌then◌else◌, ◌⊎◌, inl, inr}
+use Rattle.std.proofs.Common.{subst, ◌≡◌, ℕ, Bool, true, false, ◌&&◌, ◌==◌, ◌≢◌, List, [], ◌∷◌, ◌++◌, take, Option, Some, None, Result, Ok, Err, refl, sym, ap, ◌∙◌, arith, append_assoc, append-nil, if◌then◌else◌, ◌⊎◌, inl, inr}
 use Rattle.std.proofs.lemmas.Bool.Decides.{nat_tests}
 use Rattle.std.specs.Prelude.{option_to_list, is_some}
 use Rattle.blex.specs.declared.token.Token.{Token}
@@ -8,11 +8,12 @@ use Rattle.blex.specs.declared.token.Letters.TheVariants as letters
 use Rattle.std.specs.Prelude.{IfOk}
 use Rattle.std.specs.Option.{option_map}
 use Rattle.bword.specs.declared.byte_in.Device.{Device}
+use Rattle.bword.specs.declared.edition.Edition.{Edition}
 use Rattle.blex.specs.declared.lexeme.Lexeme.{Lexeme}
 use Rattle.blex.specs.Lexemes.{token_of_lexeme}
-use Rattle.blex.specs.Pieces.{is_blank, is_digit, after_close}
+use Rattle.blex.specs.Pieces.{is_blank, is_digit, after_close, whole}
 use Rattle.blex.specs.Sources.{Source, Passes, Breaks, Ends}
-use Rattle.blex.specs.Lexing.{PassesPiece, PassesComment, TakesIf, Stops, BeginsFixed}
+use Rattle.blex.specs.Lexing.{piece_of, PassesPiece, PassesComment, TakesIf, Stops, BeginsFixed}
 use Rattle.bword.specs.Names.{is_name_start}
 use Rattle.blex.proofs.Passing.{Passes-refl, Passes-append, Breaks-after, CanCome-none}
 use Rattle.blex.proofs.ByteSteps.{Passes-then}
@@ -30,15 +31,15 @@ pub record InComment (old : Source) (after_star : Bool) (new : Source) : Type 0 
 
 -- one blank
 pub piece_blank : (b : ℕ) (s : Source) → is_blank b ≡ true → PassesPiece b s None s
-piece_blank b s e = record { rest = []; passes = Passes-refl s; is = whole-blank b [] e; stops = λ xs k. blank-stops b xs e }
+piece_blank b s e = record { rest = []; passes = Passes-refl s; is = whole-blank _ b [] e; stops = λ xs k. blank-stops _ b xs e }
 
 -- what begins no other kind of piece
 pub fixed_begins : (b : ℕ) (s : Source) → is_blank b ≡ false → is_name_start b ≡ false → is_digit b ≡ false → b ≢ 39 → b ≢ 34 → b ≢ 47 → BeginsFixed b s
-fixed_begins b s e f g h i j = record { whole_is = λ xs m n. whole-fixed b (take n xs) e f g h i j }
+fixed_begins b s e f g h i j = record { whole_is = λ xs m n. whole-fixed _ b (take n xs) e f g h i j }
 
 pub slash_begins : (a b : Source) (o : Option ℕ) → is_some o ≡ false → TakesIf (λ b. b == 42) a o b → BeginsFixed 47 b
 slash_begins a b (Some x) e h = cc
-slash_begins a b None e h = record { whole_is = λ xs m n. whole-slash n xs (h.1 xs m) }
+slash_begins a b None e h = record { whole_is = λ xs m n. whole-slash _ n xs (h.1 xs m) }
 
 pub no_star : (a b : Source) (o : Option ℕ) → is_some o ≡ false → TakesIf (λ b. b == 42) a o b → Passes a [] b
 no_star a b (Some x) e h = cc
@@ -46,7 +47,12 @@ no_star a b None e h = h.0
 
 -- a piece behind a look at no byte
 pub piece_behind : {a b c : Source} {first : ℕ} {piece : Option Token} → Passes a [] b → PassesPiece first b piece c → PassesPiece first a piece c
-piece_behind {a} {b} {c} {first} {piece} h k = record { rest = k.rest; passes = Passes-append h k.passes; is = k.is; stops = k.stops }
+piece_behind {a} {b} {c} {first} {piece} h k = record {
+  rest = k.rest;
+  passes = Passes-append h k.passes;
+  is = subst (λ e. whole e (first ∷ k.rest) ≡ Some (piece_of piece)) h.edition k.is;
+  stops = λ xs m. subst (λ e. Stops e (first ∷ k.rest) xs) h.edition (k.stops xs m);
+}
 
 equal : (b : ℕ) → (b == 42) ≡ true → b ≡ 42
 equal b h = grind (arith, nat_tests)
@@ -60,16 +66,16 @@ star_breaks a b c o e h k = Breaks-after (star_passed a b o e h) k
 
 pub piece_comment : (a b c : Source) (o : Option ℕ) (ended : Bool) → is_some o ≡ true → TakesIf (λ b. b == 42) a o b → PassesComment b ended c → ended ≡ true → PassesPiece 47 a None c
 piece_comment a b c o ended e h k t =
-    record { rest = 42 ∷ k.body; passes = Passes-append (star_passed a b o e h) k.passes; is = comment-is k.body (k.ends t); stops = λ xs m. comment-stops k.body xs (k.ends t) }
+    record { rest = 42 ∷ k.body; passes = Passes-append (star_passed a b o e h) k.passes; is = comment-is _ k.body (k.ends t); stops = λ xs m. comment-stops _ k.body xs (k.ends t) }
 
-stops-nil : (text xs : List ℕ) → xs ≡ [] → Stops text xs
-stops-nil text [] e = tt
-stops-nil text (x ∷ xs) e = cc
+stops-nil : (edition : Edition) (text xs : List ℕ) → xs ≡ [] → Stops edition text xs
+stops-nil edition text [] e = tt
+stops-nil edition text (x ∷ xs) e = cc
 
 pub piece_open : (a b c : Source) (o : Option ℕ) (ended : Bool) → is_some o ≡ true → TakesIf (λ b. b == 42) a o b → PassesComment b ended c → ended ≡ false → PassesPiece 47 a (Some (token.Bad letters.OpenComment)) c
 piece_open a b c o ended e h k t =
     let endless = k.endless t in
-    record { rest = 42 ∷ k.body; passes = Passes-append (star_passed a b o e h) k.passes; is = open_comment-is k.body endless.0; stops = λ xs m. stops-nil (47 ∷ 42 ∷ k.body) xs (endless.1 xs m) }
+    record { rest = 42 ∷ k.body; passes = Passes-append (star_passed a b o e h) k.passes; is = open_comment-is _ k.body endless.0; stops = λ xs m. stops-nil _ (47 ∷ 42 ∷ k.body) xs (endless.1 xs m) }
 
 -- a comment's body
 nothing : (s : Bool) → None ≡ after_close (behind_star s [])

@@ -19,12 +19,12 @@ alone-some piece [] b bs = refl
 alone-some piece (x ∷ xs) b bs = refl
 
 fixed_here : {old new : Source} {rest : List ℕ} (first : ℕ) → BeginsFixed first old → Passes old rest new
-    → whole (first ∷ rest) ≡ fixed_or_stray (fixed_of (first ∷ rest)) rest
+    → whole old.edition (first ∷ rest) ≡ fixed_or_stray (fixed_of (first ∷ rest)) rest
 fixed_here {old} {new} {rest} first begins passes =
     rw (take-append_seam rest new.ahead) at (begins.whole_is (rest ++ new.ahead) (CanCome-behind passes (CanCome-ahead new)) (length rest))
 
 fixed_longer : {old new : Source} {rest : List ℕ} (first c : ℕ) (cs : List ℕ) (n : ℕ) → BeginsFixed first old → Passes old rest new → CanCome new (c ∷ cs)
-    → fixed_of (first ∷ (rest ++ c ∷ take n cs)) ≡ None → whole (first ∷ (rest ++ c ∷ take n cs)) ≡ None
+    → fixed_of (first ∷ (rest ++ c ∷ take n cs)) ≡ None → whole old.edition (first ∷ (rest ++ c ∷ take n cs)) ≡ None
 fixed_longer {old} {new} {rest} first c cs n begins passes comes none =
     let is = rw (take-append-add rest (c ∷ cs) (suc n)) at (begins.whole_is (rest ++ c ∷ cs) (CanCome-behind passes comes) (length rest + suc n)) in
     is ∙ ap (λ o. fixed_or_stray o (rest ++ c ∷ take n cs)) none ∙ alone-some (Word (token.Bad letters.Character)) rest c (take n cs)
@@ -34,7 +34,7 @@ abbrev pub IsNoLonger : ℕ → List ℕ → Source → Type 0
 IsNoLonger first rest new = (c : ℕ) (cs : List ℕ) → CanCome new (c ∷ cs) → (n : ℕ) → fixed_of (first ∷ (rest ++ c ∷ take n cs)) ≡ None
 
 fixed_stops : {old new : Source} {rest : List ℕ} (first : ℕ) → BeginsFixed first old → Passes old rest new → IsNoLonger first rest new
-    → (xs : List ℕ) → CanCome new xs → Stops (first ∷ rest) xs
+    → (xs : List ℕ) → CanCome new xs → Stops old.edition (first ∷ rest) xs
 fixed_stops {old} {new} {rest} first begins passes longer [] comes = tt
 fixed_stops {old} {new} {rest} first begins passes longer (c ∷ cs) comes = λ n. fixed_longer first c cs n begins passes comes (longer c cs comes n)
 

@@ -84,8 +84,8 @@ number_ends {first} {a} {b} {c} {value} {ok} (Some x) t e s h k w = cc
 number_ends {first} {a} {b} {c} {value} {ok} None t e s h k w = record {
   rest = h.run;
   passes = Passes-then h.passes k.0;
-  is = number-is first h.run s h.digits ∙ ap (λ u. Some (Word u)) (number_is (base_of first) (first ∷ h.run) value ok t h.value_is h.of_base w);
-  stops = λ xs m. number-stops first h.run xs s (k.1 xs m);
+  is = number-is _ first h.run s h.digits ∙ ap (λ u. Some (Word u)) (number_is (base_of first) (first ∷ h.run) value ok t h.value_is h.of_base w);
+  stops = λ xs m. number-stops _ first h.run xs s (k.1 xs m);
 }
 
 first_value : (first value : ℕ) → is_digit first ≡ true → value ≡ first - 48 → value ≡ min (0 * base_of first + (first - 48)) 65536

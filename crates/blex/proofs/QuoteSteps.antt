@@ -2,6 +2,7 @@
 use Rattle.std.proofs.Common.{◌≡◌, ℕ, ◌<◌, Bool, true, false, ◌==◌, ◌≢◌, List, [], ◌∷◌, ◌++◌, length, fold, Option, Some, None, refl, sym, ap, ◌∙◌, arith}
 use Rattle.std.proofs.lemmas.Bool.Decides.{nat_tests}
 use Rattle.std.specs.Prelude.{option_to_list}
+use Rattle.bword.specs.declared.edition.Edition.{Edition}
 use Rattle.blex.specs.declared.token.Token.{Token}
 use Rattle.blex.specs.declared.token.Token.TheVariants as token
 use Rattle.blex.specs.declared.token.Letters.TheVariants as letters
@@ -138,24 +139,24 @@ quoted_endless {quote} {room} {a} {b} {c} {characters} o e h k =
     record { run = h.run; passes = Passes-then h.passes none.0; ends = rw h.is none.1 }
 
 -- The constant.
-stops-nil : (text xs : List ℕ) → xs ≡ [] → Stops text xs
-stops-nil text [] e = tt
-stops-nil text (x ∷ xs) e = cc
+stops-nil : (edition : Edition) (text xs : List ℕ) → xs ≡ [] → Stops edition text xs
+stops-nil edition text [] e = tt
+stops-nil edition text (x ∷ xs) e = cc
 
-module _ (quote room : ℕ) (constant : List ℕ → Token) (whole_is : (bs : List ℕ) → whole (quote ∷ bs) ≡ constant_of constant (quoted quote room bs)) where
+module _ (quote room : ℕ) (constant : List ℕ → Token) (whole_is : (edition : Edition) (bs : List ℕ) → whole edition (quote ∷ bs) ≡ constant_of constant (quoted quote room bs)) where
   closed_piece : {a b : Source} (characters run : List ℕ) → Passes a run b → quoted quote room run ≡ Closed characters → PassesPiece quote a (Some (constant characters)) b
   closed_piece {a} {b} characters run p e = record {
     rest = run;
     passes = p;
-    is = whole_is run ∙ ap (constant_of constant) e;
-    stops = λ xs m. quoted-stops quote room constant whole_is run xs (rw e tt);
+    is = whole_is a.edition run ∙ ap (constant_of constant) e;
+    stops = λ xs m. quoted-stops _ quote room constant (whole_is a.edition) run xs (rw e tt);
   }
 
   wrong_piece : {a b : Source} (run : List ℕ) (now : Quoted) → Passes a run b → quoted quote room run ≡ now → IsCutOff now b → PassesPiece quote a (Some (token.Bad letters.Constant)) b
-  wrong_piece {a} {b} run (Open characters) p e h = record { rest = run; passes = p; is = whole_is run ∙ ap (constant_of constant) e; stops = λ xs m. stops-nil (quote ∷ run) xs (h xs m) }
-  wrong_piece {a} {b} run (Starred characters) p e h = record { rest = run; passes = p; is = whole_is run ∙ ap (constant_of constant) e; stops = λ xs m. stops-nil (quote ∷ run) xs (h xs m) }
+  wrong_piece {a} {b} run (Open characters) p e h = record { rest = run; passes = p; is = whole_is a.edition run ∙ ap (constant_of constant) e; stops = λ xs m. stops-nil _ (quote ∷ run) xs (h xs m) }
+  wrong_piece {a} {b} run (Starred characters) p e h = record { rest = run; passes = p; is = whole_is a.edition run ∙ ap (constant_of constant) e; stops = λ xs m. stops-nil _ (quote ∷ run) xs (h xs m) }
   wrong_piece {a} {b} run (Closed characters) p e h = absurd h
-  wrong_piece {a} {b} run Wrong p e h = record { rest = run; passes = p; is = whole_is run ∙ ap (constant_of constant) e; stops = λ xs m. quoted-stops quote room constant whole_is run xs (rw e tt) }
+  wrong_piece {a} {b} run Wrong p e h = record { rest = run; passes = p; is = whole_is a.edition run ∙ ap (constant_of constant) e; stops = λ xs m. quoted-stops _ quote room constant (whole_is a.edition) run xs (rw e tt) }
   wrong_piece {a} {b} run Past p e h = absurd h
 
   pub constant_closed : {a b : Source} (fits : Bool) (characters : List ℕ) → fits ≡ true → PassesQuoted quote room a fits characters b

@@ -1,13 +1,14 @@
 -- Space, and then a token.
-use Rattle.std.proofs.Common.{◌≡◌, ℕ, ◌<◌, true, false, List, [], ◌∷◌, ◌++◌, length, Option, Some, None, refl, sym, ap, ◌∙◌, arith, append_assoc, append-nil, length-append}
+use Rattle.std.proofs.Common.{subst, ◌≡◌, ℕ, ◌<◌, true, false, List, [], ◌∷◌, ◌++◌, length, Option, Some, None, refl, sym, ap, ◌∙◌, arith, append_assoc, append-nil, length-append}
 use Rattle.std.specs.Prelude.{option_to_list}
+use Rattle.bword.specs.declared.edition.Edition.{Edition}
 use Rattle.blex.specs.declared.token.Token.{Token}
 use Rattle.blex.specs.declared.token.Token.TheVariants as token
 use Rattle.blex.specs.declared.token.Placed.{Placed}
 use Rattle.blex.specs.Pieces.{Word, whole}
 use Rattle.blex.specs.Sources.{Source, Passes, Breaks, Ends, room}
 use Rattle.blex.specs.Tokens.{is_last, placed, piece_first, tokens_from}
-use Rattle.blex.specs.Lexing.{PassesPiece, PassesToken, piece_of, ComesBehind}
+use Rattle.blex.specs.Lexing.{PassesPiece, PassesToken, piece_of, ComesBehind, Stops}
 use Rattle.blex.proofs.Passing.{Passes-refl, Passes-append, Breaks-after}
 use Rattle.blex.proofs.ByteSteps.{Passes-then, room-falls, none_passed}
 use Rattle.blex.proofs.Cutting.{tokens_from-piece, tokens_from-nil, whole-nil}
@@ -17,15 +18,15 @@ pub record InSpace (old : Source) (line : ℕ) (new : Source) : Type 0 where
   pub bytes : List ℕ
   pub passes : Passes old bytes new
   pub line_is : line ≡ new.line
-  pub cut : (xs : List ℕ) → tokens_from old.line (bytes ++ xs) ≡ tokens_from new.line xs
+  pub cut : (xs : List ℕ) → tokens_from old.edition old.line (bytes ++ xs) ≡ tokens_from old.edition new.line xs
 
 pub space_none : (s : Source) (line : ℕ) → line ≡ s.line → InSpace s line s
 space_none s line e = record { bytes = []; passes = Passes-refl s; line_is = e; cut = λ xs. refl }
 
 -- space alone is followed by the end
-space_end : {a b : Source} {line : ℕ} (h : InSpace a line b) → tokens_from a.line h.bytes ≡ placed token.End line ∷ []
+space_end : {a b : Source} {line : ℕ} (h : InSpace a line b) → tokens_from a.edition a.line h.bytes ≡ placed token.End line ∷ []
 space_end {a} {b} {line} h =
-    ap (tokens_from a.line) (sym (append-nil h.bytes)) ∙ h.cut [] ∙ tokens_from-nil b.line ∙ ap (λ l. placed token.End l ∷ []) (sym h.line_is)
+    ap (tokens_from a.edition a.line) (sym (append-nil h.bytes)) ∙ h.cut [] ∙ tokens_from-nil _ b.line ∙ ap (λ l. placed token.End l ∷ []) (sym h.line_is)
 
 pub space_breaks : {a b m c : Source} {line first : ℕ} → InSpace a line b → Passes b (first ∷ []) m → Breaks m c → Breaks a c
 space_breaks {a} {b} {m} {c} {line} {first} h n k = Breaks-after h.passes (Breaks-after n k)
@@ -40,14 +41,20 @@ module _ {a b m c : Source} {line : ℕ} (first : ℕ) (piece : Option Token) (h
   passed : Passes a (h.bytes ++ text) c
   passed = Passes-append h.passes here
 
+  same_edition : m.edition ≡ a.edition
+  same_edition = n.edition ∙ h.passes.edition
+
+  piece_is : whole a.edition text ≡ Some (piece_of piece)
+  piece_is = subst (λ e. whole e text ≡ Some (piece_of piece)) same_edition k.is
+
   -- the tokens from the piece on
-  piece_cut : (xs : List ℕ) → ComesBehind piece c xs → tokens_from a.line ((h.bytes ++ text) ++ xs) ≡ piece_first (Some (piece_of piece)) line (tokens_from c.line xs)
+  piece_cut : (xs : List ℕ) → ComesBehind piece c xs → tokens_from a.edition a.line ((h.bytes ++ text) ++ xs) ≡ piece_first (Some (piece_of piece)) line (tokens_from a.edition c.line xs)
   piece_cut xs m =
       let some : 0 < length text = omega arith in
-      ap (tokens_from a.line) (append_assoc h.bytes text xs) ∙ h.cut (text ++ xs)
-      ∙ tokens_from-piece b.line text xs (piece_of piece) some k.is (k.stops xs m)
-      ∙ ap (λ l. piece_first (Some (piece_of piece)) b.line (tokens_from l xs)) (sym here.line)
-      ∙ ap (λ l. piece_first (Some (piece_of piece)) l (tokens_from c.line xs)) (sym h.line_is)
+      ap (tokens_from a.edition a.line) (append_assoc h.bytes text xs) ∙ h.cut (text ++ xs)
+      ∙ tokens_from-piece _ b.line text xs (piece_of piece) some piece_is (subst (λ e. Stops e text xs) same_edition (k.stops xs m))
+      ∙ ap (λ l. piece_first (Some (piece_of piece)) b.line (tokens_from a.edition l xs)) (sym here.line)
+      ∙ ap (λ l. piece_first (Some (piece_of piece)) l (tokens_from a.edition c.line xs)) (sym h.line_is)
 
 token_here : {a b m c : Source} {line : ℕ} (first : ℕ) (t : Token) → InSpace a line b → Passes b (first ∷ []) m → PassesPiece first m (Some t) c → PassesToken a (placed t line) c
 token_here {a} {b} {m} {c} {line} first t h n k = record {
@@ -57,7 +64,7 @@ token_here {a} {b} {m} {c} {line} first t h n k = record {
   text = first ∷ k.rest;
   split = refl;
   before = space_end h;
-  is = k.is;
+  is = piece_is first (Some t) h n k;
   cut = piece_cut first (Some t) h n k;
 }
 
@@ -88,18 +95,18 @@ end_passed {a} {b} {c} {line} o e h k =
       text = [];
       split = sym (append-nil h.bytes);
       before = space_end h;
-      is = whole-nil;
-      cut = λ xs m. ap (λ l. tokens_from a.line (h.bytes ++ l)) (none.1 xs m) ∙ h.cut [] ∙ tokens_from-nil b.line ∙ ap (λ l. placed token.End l ∷ []) (sym h.line_is);
+      is = whole-nil _;
+      cut = λ xs m. ap (λ l. tokens_from a.edition a.line (h.bytes ++ l)) (none.1 xs m) ∙ h.cut [] ∙ tokens_from-nil _ b.line ∙ ap (λ l. placed token.End l ∷ []) (sym h.line_is);
     }
 
 pub piece_falls : {b m c : Source} {first : ℕ} {piece : Option Token} → Passes b (first ∷ []) m → PassesPiece first m piece c → room c < room b
 piece_falls {b} {m} {c} {first} {piece} n k = omega (arith, room-falls n, room-falls k.passes)
 
 -- a token that is not the last has a byte
-some_text : (t : Token) (text : List ℕ) → whole text ≡ Some (Word t) → is_last t ≡ false → 0 < length text
-some_text t [] e more = let end : Some (Word token.End) ≡ Some (Word t) = sym whole-nil ∙ e in let same : token.End ≡ t = cc in let last : true ≡ false = rw (← same) at more in cc
-some_text t (b ∷ bs) e more = omega arith
+some_text : (edition : Edition) (t : Token) (text : List ℕ) → whole edition text ≡ Some (Word t) → is_last t ≡ false → 0 < length text
+some_text edition t [] e more = let end : Some (Word token.End) ≡ Some (Word t) = sym (whole-nil edition) ∙ e in let same : token.End ≡ t = cc in let last : true ≡ false = rw (← same) at more in cc
+some_text edition t (b ∷ bs) e more = omega arith
 
 pub token_falls : {a b : Source} {t : Placed} → PassesToken a t b → is_last t.token ≡ false → room b < room a
 token_falls {a} {b} {t} h more =
-    omega (arith, room-falls h.passes, some_text t.token h.text h.is more, ap length h.split, length-append h.space h.text)
+    omega (arith, room-falls h.passes, some_text _ t.token h.text h.is more, ap length h.split, length-append h.space h.text)

@@ -6,6 +6,7 @@ use Rattle.std.specs.List.{list_all}
 use Rattle.std.proofs.lemmas.Grind.{common_steps}
 use Rattle.std.proofs.lemmas.List.{take-append-le, length-take}
 use Rattle.bword.specs.Names.{is_name, is_name_start, is_name_byte}
+use Rattle.bword.specs.declared.edition.Edition.{Edition}
 use Rattle.blex.specs.declared.token.Token.{Token}
 use Rattle.blex.specs.declared.token.Token.TheVariants as token
 use Rattle.blex.specs.declared.token.Letters.TheVariants as letters
@@ -75,23 +76,23 @@ word_room {first} {a} {b} {c} {text} {is_long} (Some x) byte text' e h k f t =
     }
 
 word_piece : (first : ℕ) (a b c : Source) (run : List ℕ) (t : Token) → is_name_start first ≡ true → list_all is_name_byte run ≡ true → Passes a run b
-    → TakesIf is_name_byte b None c → word_of (first ∷ run) ≡ t → PassesPiece first a (Some t) c
+    → TakesIf is_name_byte b None c → word_of a.edition (first ∷ run) ≡ t → PassesPiece first a (Some t) c
 word_piece first a b c run t s h p k e = record {
   rest = run;
   passes = Passes-then p k.0;
-  is = word-is first run s h ∙ ap (λ u. Some (Word u)) e;
-  stops = λ xs m. word-stops first run xs s (k.1 xs m);
+  is = word-is _ first run s h ∙ ap (λ u. Some (Word u)) e;
+  stops = λ xs m. word-stops _ first run xs s (k.1 xs m);
 }
 
-too_long : (text : List ℕ) → true ≡ nat_lt 8 (length text) → word_of text ≡ token.Bad letters.LongName
+too_long : (edition : Edition) (text : List ℕ) → true ≡ nat_lt 8 (length text) → word_of edition text ≡ token.Bad letters.LongName
 unfolding word_of
-too_long text h = let l : nat_le (length text) 8 ≡ false = grind (arith, nat_tests) in rw l refl
+too_long edition text h = let l : nat_le (length text) 8 ≡ false = grind (arith, nat_tests) in rw l refl
 
 pub word_long : {first : ℕ} {a b c : Source} {text : List ℕ} {is_long : Bool} (o : Option ℕ) → o ≡ None → is_name_start first ≡ true
     → InWord first a text is_long b → TakesIf is_name_byte b o c → is_long ≡ true → PassesPiece first a (Some (token.Bad letters.LongName)) c
 word_long {first} {a} {b} {c} {text} {is_long} (Some x) e s h k l = cc
 word_long {first} {a} {b} {c} {text} {is_long} None e s h k l =
-    word_piece first a b c h.run _ s h.bytes h.passes k (too_long (first ∷ h.run) (sym l ∙ h.long))
+    word_piece first a b c h.run _ s h.bytes h.passes k (too_long _ (first ∷ h.run) (sym l ∙ h.long))
 
 not_long : (text : List ℕ) (is_long : Bool) → is_long ≡ nat_lt 8 (length text) → is_long ≡ false → length text ≤ 8
 not_long text is_long e f = grind (arith, nat_tests)
@@ -106,7 +107,7 @@ word_name {first} {a} {b} {text} {is_long} s h f =
     rw (e, s, l, h.bytes) refl
 
 pub word_short : {first : ℕ} {a b c : Source} {text : List ℕ} {is_long : Bool} (o : Option ℕ) (t : Token) → o ≡ None → is_name_start first ≡ true
-    → InWord first a text is_long b → TakesIf is_name_byte b o c → is_long ≡ false → t ≡ word_of text → PassesPiece first a (Some t) c
+    → InWord first a text is_long b → TakesIf is_name_byte b o c → is_long ≡ false → t ≡ word_of c.edition text → PassesPiece first a (Some t) c
 word_short {first} {a} {b} {c} {text} {is_long} (Some x) t e s h k l w = cc
 word_short {first} {a} {b} {c} {text} {is_long} None t e s h k l w =
-    word_piece first a b c h.run t s h.bytes h.passes k (ap word_of (sym (word_text h l)) ∙ sym w)
+    word_piece first a b c h.run t s h.bytes h.passes k (ap (word_of a.edition) (sym (word_text h l)) ∙ ap (λ e. word_of e text) (sym (k.0.edition ∙ h.passes.edition)) ∙ sym w)

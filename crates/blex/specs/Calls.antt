@@ -1,6 +1,7 @@
 -- What some calls of a lexer give, from the first on.
 use Rattle.std.specs.Prelude.{◌≡◌, ℕ, zero, suc, ◌≤◌, false, List, [], ◌∷◌, ◌++◌, length, Some, Ok, if◌then◌else◌}
 use Rattle.bword.specs.ByteEnds.{Incoming, Took, CanFollow}
+use Rattle.bword.specs.declared.edition.Edition.{Edition}
 use Rattle.blex.specs.declared.token.Token.TheVariants as token
 use Rattle.blex.specs.declared.token.Placed.{Placed}
 use Rattle.blex.specs.Pieces.{Word, whole}
@@ -25,28 +26,28 @@ once [] = []
 once (t ∷ ts) = t ∷ (if is_last t.token then [] else once ts)
 
 -- The bytes are these tokens, with space before each and nothing behind the last one.
-abbrev pub Spells : ℕ → List Placed → List ℕ → Type 0
-Spells line [] bytes = bytes ≡ []
-Spells line (t ∷ ts) bytes = (space : List ℕ) × (text : List ℕ) × (rest : List ℕ) × (bytes ≡ (space ++ text) ++ rest)
-    × (tokens_from line space ≡ placed token.End t.line ∷ []) × (whole text ≡ Some (Word t.token))
-    × Spells (line_after line (space ++ text)) ts rest
+abbrev pub Spells : Edition → ℕ → List Placed → List ℕ → Type 0
+Spells edition line [] bytes = bytes ≡ []
+Spells edition line (t ∷ ts) bytes = (space : List ℕ) × (text : List ℕ) × (rest : List ℕ) × (bytes ≡ (space ++ text) ++ rest)
+    × (tokens_from edition line space ≡ placed token.End t.line ∷ []) × (whole edition text ≡ Some (Word t.token))
+    × Spells edition (line_after line (space ++ text)) ts rest
 
 -- The lexer of an end has given the first tokens of the source.
-pub record GaveFirst (end : Incoming) (answers : List Placed) (l : Lexer) : Type 0 where
+pub record GaveFirst (edition : Edition) (end : Incoming) (answers : List Placed) (l : Lexer) : Type 0 where
   -- what was taken from the end are the tokens that were given, and at most two bytes
   pub passed : List ℕ
   pub took : Took end (passed ++ l.source.ahead) l.source.end
-  pub spells : Spells 1 (once answers) passed
+  pub spells : Spells edition 1 (once answers) passed
   pub near : length l.source.ahead ≤ 2
   -- they are the first tokens of every source that begins so
   pub any : (more : List ℕ) → CanFollow l.source.end more
-      → first (length answers) (tokens_from 1 ((passed ++ l.source.ahead) ++ more)) ≡ answers
+      → first (length answers) (tokens_from edition 1 ((passed ++ l.source.ahead) ++ more)) ≡ answers
   -- and of the bytes that the end tells
   pub told : (bytes : List ℕ) → end.left ≡ Some bytes → end.is_over ≡ false
-      → first (length answers) (tokens_from 1 bytes) ≡ answers
+      → first (length answers) (tokens_from edition 1 bytes) ≡ answers
   pub failures : l.source.end.failures ≡ end.failures
 
 -- Calls of a new lexer give the first tokens of its source.
 abbrev pub CallsGiveFirst : Type 0
-CallsGiveFirst = (end : Incoming) (lender : List ℕ) (answers : List Placed) (l : Lexer)
-    → Calls (new end lender) answers l → GaveFirst end answers l
+CallsGiveFirst = (edition : Edition) (end : Incoming) (lender : List ℕ) (answers : List Placed) (l : Lexer)
+    → Calls (new edition end lender) answers l → GaveFirst edition end answers l

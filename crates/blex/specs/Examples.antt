@@ -2,6 +2,8 @@
 use Rattle.std.specs.Prelude.{◌≡◌, ℕ, List, [], ◌∷◌, ◌++◌, map, length, filter, replicate, codes, refl, is_some, Some, None}
 use Rattle.std.specs.List.{range_with_len}
 use Rattle.bword.specs.ByteEnds.{most}
+use Rattle.bword.specs.declared.edition.Edition.{Edition}
+use Rattle.bword.specs.declared.edition.Edition.TheVariants as editions
 use Rattle.bword.specs.declared.operators.BinOp.{BinOp}
 use Rattle.bword.specs.declared.operators.BinOp.TheVariants as op
 use Rattle.blex.specs.declared.token.Token.{Token}
@@ -12,8 +14,11 @@ use Rattle.blex.specs.declared.token.Placed.{Placed}
 use Rattle.blex.specs.Pieces.{Space, Word, whole, is_blank, word_of, keyword_of, number_in, with_byte, plain_of, escape_of, operator_of, other_of, fixed_of, string_token}
 use Rattle.blex.specs.Tokens.{tokens_from, placed, cut, longest, greatest}
 
+abbrev tokens_in : Edition → List ℕ → List Token
+tokens_in edition bytes = map (λ p. p.token) (tokens_from edition 1 bytes)
+
 abbrev pub tokens : List ℕ → List Token
-tokens bytes = map (λ p. p.token) (tokens_from 1 bytes)
+tokens bytes = tokens_in editions.One bytes
 
 -- a source and its tokens, without the `End` behind them
 abbrev Row : Type 0
@@ -70,11 +75,17 @@ keywords : Single (
 unfolding tokens_from cut longest greatest whole word_of keyword_of
 keywords = refl
 
+-- the words of the second edition, where the others stay, are names in the first
+keywords_of_two : map (tokens_in editions.Two) (codes "break" ∷ codes "default" ∷ codes "case" ∷ []) ≡
+    (token.Keyword keyword.Break ∷ token.End ∷ []) ∷ (token.Keyword keyword.Default ∷ token.End ∷ []) ∷ (token.Keyword keyword.Case ∷ token.End ∷ []) ∷ []
+unfolding tokens_from cut longest greatest whole word_of keyword_of
+keywords_of_two = refl
+
 abbrev name_texts : List (List ℕ)
 name_texts =
     codes "x" ∷ codes "_" ∷ codes "Z" ∷ codes "a9" ∷ codes "_0_" ∷ codes "abcdefgh" ∷ codes "x1234567" ∷
     codes "extern" ∷ codes "Auto" ∷ codes "autos" ∷ codes "aut" ∷ codes "IF" ∷ codes "int" ∷ codes "if0" ∷
-    codes "_if" ∷ []
+    codes "_if" ∷ codes "break" ∷ codes "default" ∷ []
 
 names : map tokens name_texts ≡ map (λ text. name text ∷ token.End ∷ []) name_texts
 unfolding tokens_from cut longest greatest whole word_of keyword_of
@@ -167,15 +178,15 @@ wrong_strings = refl
 abbrev many : ℕ → List ℕ
 many count = 34 ∷ replicate count 97
 
-greatest_string : whole (many 254 ++ codes "\"") ≡ Some (Word (string_token (replicate 254 97)))
+greatest_string : whole editions.One (many 254 ++ codes "\"") ≡ Some (Word (string_token (replicate 254 97)))
 unfolding whole with_byte
 greatest_string = refl
 
-too_long : whole (many 255) ≡ Some (Word (token.Bad letters.Constant))
+too_long : whole editions.One (many 255) ≡ Some (Word (token.Bad letters.Constant))
 unfolding whole with_byte
 too_long = refl
 
-past_the_255th : whole (many 255 ++ codes "\"") ≡ None
+past_the_255th : whole editions.One (many 255 ++ codes "\"") ≡ None
 unfolding whole with_byte
 past_the_255th = refl
 
@@ -286,7 +297,7 @@ stops = refl
 
 -- How far a piece reaches that fits nothing: through its run, the byte in quotes that doesn't fit, its one byte,
 -- or to the end.
-reaches : map longest (
+reaches : map (longest editions.One) (
     codes "abcdefghij9_ x" ∷ codes "0899x" ∷ codes "'ab\n'" ∷ codes "'abc'" ∷ codes "'*xy'" ∷ codes "\"a\n\"" ∷
     codes "'a" ∷ codes "\"ab" ∷
     codes "##" ∷ codes "/* x" ∷ []) ≡ 12 ∷ 4 ∷ 4 ∷ 4 ∷ 3 ∷ 3 ∷ 2 ∷ 3 ∷ 1 ∷ 4 ∷ []
@@ -295,7 +306,7 @@ reaches = refl
 
 -- Lines: those of the first byte of each token, and of `End`.
 abbrev lines : List ℕ → List ℕ
-lines bytes = map (λ p. p.line) (tokens_from 1 bytes)
+lines bytes = map (λ p. p.line) (tokens_from editions.One 1 bytes)
 
 lines_of_tokens : map lines (
     [] ∷ codes "\n" ∷ codes "x y" ∷ codes "x\ny" ∷ codes " \n\n x" ∷ codes "/*\n*/ x\n" ∷ codes "x /*\n\n*/ y z" ∷
@@ -308,6 +319,6 @@ unfolding tokens_from cut longest greatest whole word_of keyword_of with_byte op
 lines_of_tokens = refl
 
 -- the last line that has a number stays
-last_line : tokens_from most (codes "\nx") ≡ placed x most ∷ placed token.End most ∷ []
+last_line : tokens_from editions.One most (codes "\nx") ≡ placed x most ∷ placed token.End most ∷ []
 unfolding tokens_from cut longest greatest whole word_of keyword_of
 last_line = refl

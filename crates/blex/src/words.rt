@@ -10,7 +10,7 @@ use crate::lexeme::Lexeme;
 use crate::source::Source;
 use crate::token::{Keyword, Letters};
 use arrayvec::ArrayVec;
-use bword::{ByteIn, Device, NAME_LEN, Name, is_name_byte};
+use bword::{ByteIn, Device, Edition, NAME_LEN, Name, is_name_byte};
 
 /// The rest of the word that begins with this byte.
 pub(crate) fn word<I: ByteIn>(source: &mut Source<I>, first: u8) -> Result<Lexeme, Device>
@@ -31,7 +31,7 @@ pub(crate) fn word<I: ByteIn>(source: &mut Source<I>, first: u8) -> Result<Lexem
     if is_long {
         return Ok(Lexeme::Bad(Letters::LongName));
     }
-    Ok(keyword_or_name(&text))
+    Ok(keyword_or_name(source.edition(), &text))
 }
 
 // The next byte, if a name goes on with it.
@@ -51,23 +51,25 @@ fn name_byte<I: ByteIn>(source: &mut Source<I>) -> Result<Option<u8>, Device>
 
 // The keyword or the name that this is.
 #[tactic(auto, unfolding(crate::specs::Pieces::word_of))]
-fn keyword_or_name(text: &[u8]) -> Lexeme
+fn keyword_or_name(edition: Edition, text: &[u8]) -> Lexeme
     requires { IsTrue (is_name text.now) }
-    ensures { StandsFor result (word_of text.now) }
+    ensures { StandsFor result (word_of edition text.now) }
 {
-    match keyword(text) {
+    match keyword(edition, text) {
         Some(keyword) => Lexeme::Keyword(keyword),
         None => Lexeme::Name(Name::from_bytes(text).unwrap()),
     }
 }
 
 #[tactic(auto, unfolding(crate::specs::Pieces::keyword_of))]
-fn keyword(text: &[u8]) -> Option<Keyword>
-    ensures { result ≡ keyword_of text.now }
+fn keyword(edition: Edition, text: &[u8]) -> Option<Keyword>
+    ensures { result ≡ keyword_of edition text.now }
 {
     match text.first()? {
         b'a' => keyword_if(text, b"auto", Keyword::Auto),
+        b'b' if edition == Edition::Two => keyword_if(text, b"break", Keyword::Break),
         b'c' => keyword_if(text, b"case", Keyword::Case),
+        b'd' if edition == Edition::Two => keyword_if(text, b"default", Keyword::Default),
         b'e' if text.len() == 4 => keyword_if(text, b"else", Keyword::Else),
         b'e' => keyword_if(text, b"extrn", Keyword::Extrn),
         b'g' => keyword_if(text, b"goto", Keyword::Goto),

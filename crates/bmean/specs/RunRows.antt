@@ -1,5 +1,6 @@
 -- Closed facts: whole sources, what they mean and what the machine does with their code.
 use Rattle.std.specs.Prelude.{◌≡◌, ℕ, zero, suc, List, [], ◌∷◌, map, replicate, codes, refl}
+use Rattle.bword.specs.declared.edition.Edition.TheVariants as editions
 use Rattle.std.specs.Fmt.{digits}
 use Rattle.blex.specs.Pieces.{whole, word_of, keyword_of, number_in, with_byte, escape_of, operator_of, other_of, fixed_of}
 use Rattle.blex.specs.Tokens.{tokens_from, cut, longest, greatest}
@@ -22,7 +23,7 @@ read_all zero tokens = []
 read_all (suc n) tokens = elim (definition tokens) [ Got d rest ↦ d ∷ read_all n rest | Stop rest ↦ [] ]
 
 abbrev definitions : List ℕ → List Definition
-definitions source = read_all 8 (tokens_from 1 source)
+definitions source = read_all 8 (tokens_from editions.One 1 source)
 
 -- how a program ends, where want of fuel is the limit, and what it has written
 abbrev answered : Answer ⊥ → Outcome × List ℕ

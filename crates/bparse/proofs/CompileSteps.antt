@@ -1,5 +1,6 @@
 -- What compiling a whole source comes to, by its last call.
 use Rattle.std.proofs.Common.{◌≡◌, ℕ, ◌+◌, ◌<◌, ◌≤◌, true, false, List, [], ◌∷◌, ◌++◌, length, map, take, Option, Some, None, Result, Ok, Err, refl, sym, ap, ◌∙◌, subst, append_assoc, length-append, arith, ◌⊎◌, inl, inr}
+use Rattle.bword.specs.declared.edition.Edition.TheVariants as editions
 use Rattle.std.proofs.lemmas.List.{take-append-le}
 use Rattle.bword.specs.ByteEnds.{Incoming, Outgoing, Took, Grew, Writes, Refuses}
 use Rattle.bword.specs.declared.byte_out.EndFault.{EndFault}
@@ -25,7 +26,7 @@ pub keeps_more : {a b c : Compiler} → Keeps a b → Keeps b c → Keeps a c
 keeps_more h k = record { first = k.first ∙ h.first; lender = k.lender ∙ h.lender; out_lender = k.out_lender ∙ h.out_lender }
 
 -- the code text of an outcome that begins with these texts
-code_behind : (ds : List Definition) (rest r : Outcome) → Behind ds rest r → code_text r ≡ joined (map text_of ds) ++ (joined rest.code ++ ending rest.stop)
+code_behind : (ds : List Definition) (rest r : Outcome) → Behind ds rest r → code_text editions.One r ≡ joined (map text_of ds) ++ (joined rest.code ++ ending rest.stop)
 code_behind ds rest r h =
     ap (λ x. joined x ++ ending r.stop) h.code ∙ ap (λ x. joined (map text_of ds ++ rest.code) ++ ending x) h.stop
     ∙ ap (λ l. l ++ ending rest.stop) (joined-append (map text_of ds) rest.code) ∙ append_assoc (joined (map text_of ds)) (joined rest.code) (ending rest.stop)
@@ -68,7 +69,7 @@ module _ (first last : Compiler) (d e : Outgoing) where
     written_before : {before : List Definition} → Since l.old before → Writes first.first.out (joined (map text_of before)) l.old.out
     written_before {before} s = subst (λ x. Writes x.out (joined (map text_of before)) l.old.out) l.keeps_old.first s.written
 
-    written_whole : {stop : Option Diagnostic} (s : Stopped l.old stop last) (r : Outcome) → (r.code ≡ map text_of s.before) × (r.stop ≡ stop) → Writes first.first.out (code_text r) last.out
+    written_whole : {stop : Option Diagnostic} (s : Stopped l.old stop last) (r : Outcome) → (r.code ≡ map text_of s.before) × (r.stop ≡ stop) → Writes first.first.out (code_text editions.One r) last.out
     written_whole {stop} s r q =
         subst (λ t. Writes first.first.out t last.out) (ap (λ x. joined x ++ ending stop) (sym q.0) ∙ ap (λ x. joined r.code ++ ending x) (sym q.1))
         (subst (λ x. Writes x.out (joined (map text_of s.before) ++ ending stop) last.out) same_first s.written)

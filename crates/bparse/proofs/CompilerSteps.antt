@@ -1,5 +1,6 @@
 -- What the steps of the compiler make of what was read.
 use Rattle.std.proofs.Common.{◌≡◌, ℕ, ◌+◌, ◌<◌, ◌≤◌, Bool, true, false, List, [], ◌∷◌, ◌++◌, length, take, Option, Some, None, Result, Ok, Err, IsErrAnd, refl, sym, ap, ◌∙◌, subst, append_assoc, arith, inl, inr, if◌then◌else◌}
+use Rattle.bword.specs.declared.edition.Edition.{Edition}
 use Rattle.bcode.specs.Text.{end_text}
 use Rattle.bword.specs.ByteEnds.{Incoming, Outgoing, Grew, Writes, Refuses}
 use Rattle.bword.specs.declared.byte_out.EndFault.{EndFault}
@@ -32,12 +33,12 @@ token_first_ended : (b : Bool) (p : Placed) (rest : List Placed) → is_last p.t
 token_first_ended true p rest e h = e
 token_first_ended false p rest e h = ended_cons p rest h
 
-with_ended : (ps : List Placed) (line : ℕ) (bytes : List ℕ) → Ended (tokens_with ps line bytes)
-with_ended [] line bytes = tokens_from-ended line bytes
-with_ended (p ∷ ps) line bytes = token_first_ended (is_last p.token) p (tokens_with ps line bytes) refl (with_ended ps line bytes)
+with_ended : (ps : List Placed) (edition : Edition) (line : ℕ) (bytes : List ℕ) → Ended (tokens_with ps edition line bytes)
+with_ended [] edition line bytes = tokens_from-ended edition line bytes
+with_ended (p ∷ ps) edition line bytes = token_first_ended (is_last p.token) p (tokens_with ps edition line bytes) refl (with_ended ps edition line bytes)
 
 pub tokens_of-ended : (t : Tokens) (more : List ℕ) → Ended (tokens_of t more)
-tokens_of-ended t more = with_ended t.ahead t.source.line (t.source.ahead ++ more)
+tokens_of-ended t more = with_ended t.ahead t.source.edition t.source.line (t.source.ahead ++ more)
 
 -- the tokens that come begin with those that are ahead
 pub record Begins (t : Tokens) (more : List ℕ) : Type 0 where
@@ -47,14 +48,14 @@ pub record Begins (t : Tokens) (more : List ℕ) : Type 0 where
   pub token_is : at.token ≡ first t.ahead
   pub line_is : at.line ≡ line_of t.ahead
 
-begins_with : (ps : List Placed) (p : Placed) (behind : List Placed) (line : ℕ) (bytes : List ℕ) → ps ≡ p ∷ behind
-    → (rest : List Placed) × (tokens_with ps line bytes ≡ p ∷ rest)
-begins_with ps p behind line bytes e =
-    ((if is_last p.token then [] else tokens_with behind line bytes), ap (λ l. tokens_with l line bytes) e)
+begins_with : (ps : List Placed) (p : Placed) (behind : List Placed) (edition : Edition) (line : ℕ) (bytes : List ℕ) → ps ≡ p ∷ behind
+    → (rest : List Placed) × (tokens_with ps edition line bytes ≡ p ∷ rest)
+begins_with ps p behind edition line bytes e =
+    ((if is_last p.token then [] else tokens_with behind edition line bytes), ap (λ l. tokens_with l edition line bytes) e)
 
 pub begins : (t : Tokens) → IsLoaded t → (more : List ℕ) → Begins t more
 begins t l more =
-    let b = begins_with t.ahead l.current l.behind t.source.line (t.source.ahead ++ more) l.ahead in
+    let b = begins_with t.ahead l.current l.behind t.source.edition t.source.line (t.source.ahead ++ more) l.ahead in
     record { at = l.current; rest = b.0; split = b.1; token_is = sym (ap first l.ahead); line_is = sym (ap line_of l.ahead) }
 
 -- the diagnostic of the token that is ahead

@@ -1,5 +1,6 @@
 -- What a call of the compiler comes to, counted from when the compiler was made.
 use Rattle.std.proofs.Common.{◌≡◌, ℕ, ◌+◌, ◌<◌, ◌≤◌, Bool, true, false, List, [], ◌∷◌, ◌++◌, length, map, Option, Some, None, Result, Ok, Err, refl, sym, ap, ◌∙◌, subst, append_assoc, append-nil, arith, ◌⊎◌, inl, inr}
+use Rattle.bword.specs.declared.edition.Edition.TheVariants as editions
 use Rattle.std.proofs.lemmas.List.{map-append}
 use Rattle.std.proofs.lemmas.Grind.{flat_map-append}
 use Rattle.bword.specs.ByteEnds.{Incoming, Outgoing, Took, Grew, Writes}
@@ -99,17 +100,17 @@ module _ (first : Ends) (a b : Point) (lender lender' : List ℕ) (before : List
   old = compiler_at first a lender false
 
   -- the outcome from this point on
-  from_here : (ys more : List ℕ) → Took a.tokens.source.end ys b.tokens.source.end → CanFollow b.tokens.source.end more → (r : Outcome) → Goes [] (tokens_from 1 ((s.taken ++ ys) ++ more)) r
+  from_here : (ys more : List ℕ) → Took a.tokens.source.end ys b.tokens.source.end → CanFollow b.tokens.source.end more → (r : Outcome) → Goes [] (tokens_from editions.One 1 ((s.taken ++ ys) ++ more)) r
       → (rest : Outcome) × Goes a.names (tokens_of a.tokens (ys ++ more)) rest × Behind before rest r
   from_here ys more took f r g =
-      s.comes (ys ++ more) (follow took more f) r (subst (λ bs. Goes [] (tokens_from 1 bs) r) (append_assoc s.taken ys more) g)
+      s.comes (ys ++ more) (follow took more f) r (subst (λ bs. Goes [] (tokens_from editions.One 1 bs) r) (append_assoc s.taken ys more) g)
 
   module _ (w : Writing a b) where
     ends_now : (p : Placed) → EndsWith p.token w.looked.bytes ⊎ ((w.looked.bytes ≡ []) × (last_ahead a.tokens.ahead ≡ Some p)) → EndsWith p.token (s.passed ++ w.looked.bytes)
     ends_now p (inl h) = EndsWith-append s.passed h
     ends_now p (inr h) = subst (EndsWith p.token) (sym (append-nil s.passed) ∙ ap (λ l. s.passed ++ l) (sym h.0)) (s.ends p h.1)
 
-    spelled_now : (more : List ℕ) → CanFollow b.tokens.source.end more → Spelled (before ++ w.tree ∷ []) (tokens_from 1 ((s.taken ++ w.taken) ++ more)) (tokens_of b.tokens more)
+    spelled_now : (more : List ℕ) → CanFollow b.tokens.source.end more → Spelled (before ++ w.tree ∷ []) (tokens_from editions.One 1 ((s.taken ++ w.taken) ++ more)) (tokens_of b.tokens more)
     spelled_now more f =
         let q = s.spelled (w.taken ++ more) (follow w.reads.took more f) in
         let u = tokens_of a.tokens (w.taken ++ more) in
@@ -117,12 +118,12 @@ module _ (first : Ends) (a b : Point) (lender lender' : List ℕ) (before : List
         let t = got_taken u v w.tree (w.read more f) in
         record {
           passed = q.passed ++ t.tokens;
-          split = ap (tokens_from 1) (append_assoc s.taken w.taken more) ∙ q.split ∙ ap (λ l. q.passed ++ l) t.split ∙ sym (append_assoc q.passed t.tokens v);
+          split = ap (tokens_from editions.One 1) (append_assoc s.taken w.taken more) ∙ q.split ∙ ap (λ l. q.passed ++ l) t.split ∙ sym (append_assoc q.passed t.tokens v);
           spelled = map-append kept q.passed t.tokens ∙ ap (λ l. l ++ map kept t.tokens) q.spelled
               ∙ ap (λ l. spell_all before ++ l) (tree_spelled u v w.tree t (w.read more f)) ∙ sym (spell_all-append before w.tree);
         }
 
-    comes_now : (more : List ℕ) → CanFollow b.tokens.source.end more → (r : Outcome) → Goes [] (tokens_from 1 ((s.taken ++ w.taken) ++ more)) r
+    comes_now : (more : List ℕ) → CanFollow b.tokens.source.end more → (r : Outcome) → Goes [] (tokens_from editions.One 1 ((s.taken ++ w.taken) ++ more)) r
         → (rest : Outcome) × Goes b.names (tokens_of b.tokens more) rest × Behind (before ++ w.tree ∷ []) rest r
     comes_now more f r g =
         let q = from_here w.taken more w.reads.took f r g in

@@ -1,5 +1,6 @@
 -- What a call of the compiler does, counted from when the compiler was made.
 use Rattle.std.specs.Prelude.{◌≡◌, ℕ, ◌≤◌, ◌<◌, Bool, true, false, List, [], ◌∷◌, ◌++◌, length, map, Option, Some, None, ◌⊎◌}
+use Rattle.bword.specs.declared.edition.Edition.TheVariants as editions
 use Rattle.bword.specs.ByteEnds.{Incoming, Outgoing, Took, Grew, Writes, Refuses}
 use Rattle.bword.specs.declared.byte_out.EndFault.{EndFault}
 use Rattle.bword.specs.declared.byte_out.EndFault.TheVariants as end_fault
@@ -47,7 +48,7 @@ compiler_of source lender first_out first_lender tokens names out out_lender is_
 abbrev pub new : Ends → Compiler
 new ends = record {
   first = ends;
-  tokens = all_tokens ends.source ends.lender;
+  tokens = all_tokens editions.One ends.source ends.lender;
   names = [];
   out = ends.out;
   out_lender = ends.out_lender;
@@ -57,7 +58,7 @@ new ends = record {
 -- each source that begins with the bytes that were taken, or the one whose end was seen, comes to this
 abbrev pub Whatever : List ℕ → Incoming → (Outcome → Type 0) → Type 0
 Whatever taken end P =
-    (more : List ℕ) → CanFollow end more → (r : Outcome) → Goes [] (tokens_from 1 (taken ++ more)) r → P r
+    (more : List ℕ) → CanFollow end more → (r : Outcome) → Goes [] (tokens_from editions.One 1 (taken ++ more)) r → P r
 
 -- The tokens are those of these definitions, and then the others.
 pub record Spelled (ds : List Definition) (tokens others : List Placed) : Type 0 where
@@ -81,9 +82,9 @@ pub record Since (c : Compiler) (ds : List Definition) : Type 0 where
   pub names : c.names ≡ map name_of ds
   pub formed : AllFormed ds
   pub spelled : (more : List ℕ) → CanFollow c.tokens.source.end more
-      → Spelled ds (tokens_from 1 (taken ++ more)) (tokens_of c.tokens more)
+      → Spelled ds (tokens_from editions.One 1 (taken ++ more)) (tokens_of c.tokens more)
   pub comes : (more : List ℕ) → CanFollow c.tokens.source.end more → (r : Outcome)
-      → Goes [] (tokens_from 1 (taken ++ more)) r → (rest : Outcome) × Goes c.names (tokens_of c.tokens more) rest × Behind ds rest r
+      → Goes [] (tokens_from editions.One 1 (taken ++ more)) r → (rest : Outcome) × Goes c.names (tokens_of c.tokens more) rest × Behind ds rest r
   pub passed : List ℕ
   pub split : taken ≡ passed ++ c.tokens.source.ahead
   pub near : length c.tokens.source.ahead ≤ 2

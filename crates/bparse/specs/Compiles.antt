@@ -1,5 +1,6 @@
 -- What the compiler does with a whole source.
 use Rattle.std.specs.Prelude.{◌≡◌, ◌≢◌, ℕ, ◌<◌, ◌≤◌, false, List, length, take, Option, Some, None, ◌⊎◌}
+use Rattle.bword.specs.declared.edition.Edition.TheVariants as editions
 use Rattle.bword.specs.ByteEnds.{Incoming, Outgoing, Grew, Writes, Refuses}
 use Rattle.bword.specs.declared.byte_out.EndFault.{EndFault}
 use Rattle.bword.specs.declared.byte_out.EndFault.TheVariants as end_fault
@@ -35,7 +36,7 @@ IsSilent run = run.line_behind ≡ run.line
 pub record IsCompiled (run : Run) (r : Outcome) : Type 0 where
   pub read : AllRead run
   pub clean : r.stop ≡ None
-  pub code : Writes run.code (code_text r) run.code_behind
+  pub code : Writes run.code (code_text editions.One r) run.code_behind
   pub silent : IsSilent run
 
 -- The code before a fault was written, and the line of the fault.
@@ -43,7 +44,7 @@ pub record IsFaulty (run : Run) (r : Outcome) : Type 0 where
   pub read : AllRead run
   pub fault : Diagnostic
   pub stop : r.stop ≡ Some fault
-  pub code : Writes run.code (code_text r) run.code_behind
+  pub code : Writes run.code (code_text editions.One r) run.code_behind
   pub line : Writes run.line (line_of fault) run.line_behind
 
 -- the texts of so many definitions were written, and nothing else
@@ -60,14 +61,14 @@ pub record SourceFailed (run : Run) (taken : List ℕ) : Type 0 where
 -- The code's end refused so. A beginning of the code was written, and no line.
 pub record CodeRefused (run : Run) (taken : List ℕ) (fault : EndFault) : Type 0 where
   pub read : AllRead run
-  pub code : Whatever taken run.source_behind (λ r. HasCode r × Refuses run.code (code_text r) fault run.code_behind)
+  pub code : Whatever taken run.source_behind (λ r. HasCode r × Refuses run.code (code_text editions.One r) fault run.code_behind)
   pub silent : IsSilent run
 
 -- Code was written whole, and of the line that stops it a beginning, since its end refused so.
 pub record LineCutOff (run : Run) (fault : EndFault) (r : Outcome) : Type 0 where
   pub diagnostic : Diagnostic
   pub stop : r.stop ≡ Some diagnostic
-  pub code : Writes run.code (code_text r) run.code_behind
+  pub code : Writes run.code (code_text editions.One r) run.code_behind
   pub line : Refuses run.line (line_of diagnostic) fault run.line_behind
 
 -- The line's end refused so.

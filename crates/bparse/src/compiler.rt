@@ -12,7 +12,7 @@ use bcode::{write_definition, write_end};
 use bexpr::{Halt, Parser, Tokens};
 use blex::Lexeme;
 use bread::{Names, definition};
-use bword::{ByteIn, ByteOut};
+use bword::{ByteIn, ByteOut, Edition};
 use std::alloc::Global;
 use std::marker::Model;
 use std::snapshot::Snapshot;
@@ -58,7 +58,7 @@ impl<I: ByteIn, O: ByteOut> Compiler<I, O> {
         Compiler {
             first_input: Snapshot::of(&input),
             first_out: Snapshot::of(&out),
-            parser: Parser::new(input),
+            parser: Parser::new(input, Edition::One),
             names: Names::new(alloc),
             out,
             is_closed: false,

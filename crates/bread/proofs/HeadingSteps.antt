@@ -1,5 +1,6 @@
 -- How the calls that read headings go on.
 use Rattle.std.proofs.Common.{◌≡◌, ℕ, ◌<◌, Bool, true, false, List, [], ◌∷◌, ◌++◌, if◌then◌else◌, Option, Some, None, Result, Ok, Err, IsErrAnd, refl, sym, ap, ◌∙◌, arith, subst}
+use Rattle.bword.specs.declared.edition.Edition.{Edition}
 use Rattle.blex.specs.Lexers.{is_last}
 use Rattle.blex.specs.Tokens.{token_first}
 use Rattle.blex.specs.declared.token.Token.{Token}
@@ -111,10 +112,10 @@ is_a_colon : (t : Token) → is_colon t ≡ true → t ≡ token.Colon
 is_a_colon token.Colon h = refl
 is_a_colon _ h = cc
 
-second_of : (ahead : List Placed) (line : ℕ) (bytes : List ℕ) (p q : Placed) (ps : List Placed) (x : List ℕ) → ahead ≡ p ∷ ps → after ahead ≡ q ∷ [] → first ahead ≡ token.Name x → first (after (tokens_with ahead line bytes)) ≡ first (after ahead)
-second_of [] line bytes p q ps x e k h = cc
-second_of (a ∷ []) line bytes p q ps x e k h = cc
-second_of (a ∷ b ∷ bs) line bytes p q ps x e k h = ap (λ t. first (if is_last t then [] else token_first b.token b.line (tokens_with bs line bytes))) h
+second_of : (ahead : List Placed) (edition : Edition) (line : ℕ) (bytes : List ℕ) (p q : Placed) (ps : List Placed) (x : List ℕ) → ahead ≡ p ∷ ps → after ahead ≡ q ∷ [] → first ahead ≡ token.Name x → first (after (tokens_with ahead edition line bytes)) ≡ first (after ahead)
+second_of [] edition line bytes p q ps x e k h = cc
+second_of (a ∷ []) edition line bytes p q ps x e k h = cc
+second_of (a ∷ b ∷ bs) edition line bytes p q ps x e k h = ap (λ t. first (if is_last t then [] else token_first b.token b.line (tokens_with bs edition line bytes))) h
 
 module _ {old mid : Tokens} (x : List ℕ) (name_is : first old.ahead ≡ token.Name x) (h : LooksOn old mid) where
   name_there : first mid.ahead ≡ token.Name x
@@ -122,7 +123,7 @@ module _ {old mid : Tokens} (x : List ℕ) (name_is : first old.ahead ≡ token.
 
   pub label_absent : is_colon (first (after mid.ahead)) ≡ false → Moves old mid IsUnheaded
   label_absent k = Moves-append {P = Same} {Q = IsUnheaded} IsUnheaded (λ u v w e n. subst (λ t. IsUnheaded t w) (sym e) n) h.moves
-      (run_seen h.loaded (λ u more e f m. no_label x u (f ∙ name_there) (ap is_colon (ap (λ t. first (after t)) e ∙ second_of mid.ahead mid.source.line (mid.source.ahead ++ more) h.loaded.current h.second h.loaded.behind x h.loaded.ahead h.second_is name_there) ∙ k)))
+      (run_seen h.loaded (λ u more e f m. no_label x u (f ∙ name_there) (ap is_colon (ap (λ t. first (after t)) e ∙ second_of mid.ahead mid.source.edition mid.source.line (mid.source.ahead ++ more) h.loaded.current h.second h.loaded.behind x h.loaded.ahead h.second_is name_there) ∙ k)))
 
   module _ (k : is_colon (first (after mid.ahead)) ≡ true) {next new : Tokens} (a : Advances mid next) (b : Advances next new) where
     colon_there : first next.ahead ≡ token.Colon

@@ -1,5 +1,6 @@
 -- How readings go on from call to call.
 use Rattle.std.proofs.Common.{◌≡◌, ℕ, List, ◌∷◌, ◌++◌, Result, Ok, Err, IsErrAnd, refl, sym, subst}
+use Rattle.bword.specs.declared.edition.Edition.{Edition}
 use Rattle.blex.specs.declared.token.Placed.{Placed}
 use Rattle.btree.specs.Reading.{Reader, Got, ◌>>=◌, first, line_of}
 use Rattle.bemit.specs.Drafts.{Draft}
@@ -11,11 +12,11 @@ use Rattle.bread.specs.Compiling.{Compiles}
 use Rattle.bexpr.proofs.TokenSteps.{Moves-breaks, stays_same}
 use Rattle.bexpr.proofs.Moving.{run_then, run_bind}
 
-first_with : (ahead : List Placed) (line : ℕ) (bytes : List ℕ) (p : Placed) (ps : List Placed) → ahead ≡ p ∷ ps → first (tokens_with ahead line bytes) ≡ first ahead
-first_with ahead line bytes p ps e = rw e refl
+first_with : (ahead : List Placed) (edition : Edition) (line : ℕ) (bytes : List ℕ) (p : Placed) (ps : List Placed) → ahead ≡ p ∷ ps → first (tokens_with ahead edition line bytes) ≡ first ahead
+first_with ahead edition line bytes p ps e = rw e refl
 
-line_with : (ahead : List Placed) (line : ℕ) (bytes : List ℕ) (p : Placed) (ps : List Placed) → ahead ≡ p ∷ ps → line_of (tokens_with ahead line bytes) ≡ line_of ahead
-line_with ahead line bytes p ps e = rw e refl
+line_with : (ahead : List Placed) (edition : Edition) (line : ℕ) (bytes : List ℕ) (p : Placed) (ps : List Placed) → ahead ≡ p ∷ ps → line_of (tokens_with ahead edition line bytes) ≡ line_of ahead
+line_with ahead edition line bytes p ps e = rw e refl
 
 module _ {A B : Type 0} where
   -- reading goes on behind what was read
@@ -53,7 +54,7 @@ run_seen {t} {P} l f =
       looked = s.looked;
       failures = s.failures;
       falls = s.falls;
-      come = λ more c. subst (λ u. P u (tokens_of t more)) (sym (s.come more c)) (f (tokens_of t more) more refl (first_with t.ahead t.source.line (t.source.ahead ++ more) l.current l.behind l.ahead) (line_with t.ahead t.source.line (t.source.ahead ++ more) l.current l.behind l.ahead));
+      come = λ more c. subst (λ u. P u (tokens_of t more)) (sym (s.come more c)) (f (tokens_of t more) more refl (first_with t.ahead t.source.edition t.source.line (t.source.ahead ++ more) l.current l.behind l.ahead) (line_with t.ahead t.source.edition t.source.line (t.source.ahead ++ more) l.current l.behind l.ahead));
     }
 
 -- the exits of a `?`

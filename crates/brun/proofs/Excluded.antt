@@ -1,5 +1,6 @@
 -- Answers that the contract of `go` excludes, whatever is proved of the body that gives them.
 use Rattle.std.proofs.Common.{◌≡◌, ℕ, ◌<◌, ◌≤◌, List, [], ◌∷◌, map, codes, Some, None, refl, sym, ap, ◌∙◌, subst, arith, ◌⊎◌, inl, inr, ⊎_elim}
+use Rattle.bword.specs.declared.edition.Edition.TheVariants as editions
 use Rattle.std.specs.Io.KnownBytes.{Appends}
 use Rattle.bword.specs.ByteEnds.{Incoming, Outgoing, Grew, Refuses}
 use Rattle.bword.specs.declared.byte_out.EndFault.{EndFault}
@@ -66,7 +67,7 @@ nothing_written o p bytes e f a = subst (λ x. Appends (Some []) x bytes) f (sub
 
 -- Over ends that tell their bytes, with no input, where nothing fails and the source has no fault.
 module _ (source source_behind : Incoming) (ends : Ends) (status : ℕ) (text : List ℕ) (tells : Tells source text) (told : Tells ends.input [])
-    (healthy : NothingFailed source source_behind ends status) (r : compiled.Outcome) (g : Goes [] (tokens_from 1 text) r) (clean : r.stop ≡ None) where
+    (healthy : NothingFailed source source_behind ends status) (r : compiled.Outcome) (g : Goes [] (tokens_from editions.One 1 text) r) (clean : r.stop ≡ None) where
   answers : (steps : ℕ) (ds : List Definition) → g.definitions ≡ ds → Loads ds → GoesOff steps source source_behind ends status → RunAnswers ds [] steps ends status
   answers steps ds same loads h =
       subst (λ x. RunAnswers x [] steps ends status) same

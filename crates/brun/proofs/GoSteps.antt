@@ -1,5 +1,6 @@
 -- A source that compiles is run as its program.
 use Rattle.std.proofs.Common.{◌≡◌, ℕ, List, [], ◌++◌, map, refl, sym, subst}
+use Rattle.bword.specs.declared.edition.Edition.TheVariants as editions
 use Rattle.bword.specs.ByteEnds.{Incoming, Outgoing, Kept, Writes, outgoing_of}
 use Rattle.bcode.specs.Text.{IsCodeText}
 use Rattle.bcode.proofs.FaultLaws.{unique_code}
@@ -36,8 +37,8 @@ source_runs steps source source_behind ends status m line h done = record {
   took = h.took;
   runs = λ more c r g.
       let compiled = h.compiled refl more c r g in
-      let text = kept_text m (code_text r) compiled.code in
-      let back = subst (λ t. IsCodeText t (map code_of g.definitions)) text (reads_back 1 (h.taken ++ more) r g compiled.clean) in
+      let text = kept_text m (code_text editions.One r) compiled.code in
+      let back = subst (λ t. IsCodeText t (map code_of g.definitions)) text (editions.One, reads_back editions.One 1 (h.taken ++ more) r g compiled.clean) in
       let runs = text_runs steps m.bytes g.definitions (record ends { line = line }) status back done in
       (compiled.read, compiled.clean, subst (λ l. RunsProgram steps g.definitions (record ends { line = l }) status) compiled.silent runs);
 }

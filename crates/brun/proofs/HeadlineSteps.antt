@@ -1,5 +1,6 @@
 -- Where nothing fails, what is said of a run is what its source and its input come to.
 use Rattle.std.proofs.Common.{◌≡◌, ◌≢◌, ℕ, ◌+◌, ◌≤◌, List, [], ◌∷◌, ◌++◌, map, Bool, true, false, Option, Some, None, refl, sym, ap, ◌∙◌, subst, arith, append-nil, ◌⊎◌, inl, inr, ⊎_elim}
+use Rattle.bword.specs.declared.edition.Edition.TheVariants as editions
 use Rattle.std.specs.Io.KnownBytes.{Appends, Consumes}
 use Rattle.bword.specs.ByteEnds.{Incoming, Outgoing, Kept, Grew, Took, Writes, Refuses, CanFollow, outgoing_of}
 use Rattle.bword.specs.declared.byte_out.EndFault.{EndFault}
@@ -194,7 +195,7 @@ compiling source source_behind ends status kept =
 -- A source that isn't compiled where nothing fails has a fault.
 module _ (source source_behind : Incoming) (ends : Ends) (status : ℕ) (healthy : NothingFailed source source_behind ends status) (kept : Kept) where
   -- what follows the bytes taken, and the outcome with it
-  module _ (h : Compiles (compiling source source_behind ends status kept)) (more : List ℕ) (follows : CanFollow source_behind more) (r : compiled.Outcome) (g : Goes [] (tokens_from 1 (h.taken ++ more)) r) where
+  module _ (h : Compiles (compiling source source_behind ends status kept)) (more : List ℕ) (follows : CanFollow source_behind more) (r : compiled.Outcome) (g : Goes [] (tokens_from editions.One 1 (h.taken ++ more)) r) where
     not_device : status ≡ 133 → ⊥
     not_device device = by_end (h.failed device)
       where
@@ -256,7 +257,7 @@ program_answers r ds input steps source source_behind ends status told healthy c
 pub headline : (steps : ℕ) (source source_behind : Incoming) (ends : Ends) (status : ℕ) → GoesOff steps source source_behind ends status → Headline steps source source_behind ends status
 headline steps source source_behind ends status (going.stopped kept not_zero quiet h) text input tells told healthy r g =
     let rest = rest_of source source_behind h.taken text h.took tells in
-    let behind = subst (λ t. Goes [] (tokens_from 1 t) r) (sym rest.whole) g in
+    let behind = subst (λ t. Goes [] (tokens_from editions.One 1 t) r) (sym rest.whole) g in
     let one = fault_status source source_behind ends status healthy kept h rest.more rest.follows r behind not_zero in
     let f = h.faulty one rest.more rest.follows r behind in
     record {
@@ -269,6 +270,6 @@ headline steps source source_behind ends status (going.stopped kept not_zero qui
     }
 headline steps source source_behind ends status (going.ran s) text input tells told healthy r g =
     let rest = rest_of source source_behind s.taken text s.took tells in
-    let runs = subst (λ t. (r : compiled.Outcome) (g : Goes [] (tokens_from 1 t) r) → (source_behind.failures ≡ source.failures) × (r.stop ≡ None) × RunsProgram steps g.definitions ends status) rest.whole (s.runs rest.more rest.follows) in
+    let runs = subst (λ t. (r : compiled.Outcome) (g : Goes [] (tokens_from editions.One 1 t) r) → (source_behind.failures ≡ source.failures) × (r.stop ≡ None) × RunsProgram steps g.definitions ends status) rest.whole (s.runs rest.more rest.follows) in
     let program = runs r g in
     program_answers r g.definitions input steps source source_behind ends status told healthy program.1 program.2

@@ -1,5 +1,6 @@
 -- What comes of a source that is compiled and run.
 use Rattle.std.specs.Prelude.{◌≡◌, ℕ, List, [], ◌++◌, map, Some, None}
+use Rattle.bword.specs.declared.edition.Edition.TheVariants as editions
 use Rattle.bword.specs.ByteEnds.{Incoming, Outgoing, Kept, outgoing_of}
 use Rattle.blex.specs.Sources.{Took}
 use Rattle.blex.specs.Tokens.{tokens_from}
@@ -36,7 +37,7 @@ pub record RunsSource (steps : ℕ) (source source_behind : Incoming) (ends : En
   pub taken : List ℕ
   pub took : Took source taken source_behind
   pub runs : (more : List ℕ) → CanFollow source_behind more
-      → (r : compiled.Outcome) → (g : Goes [] (tokens_from 1 (taken ++ more)) r)
+      → (r : compiled.Outcome) → (g : Goes [] (tokens_from editions.One 1 (taken ++ more)) r)
       → (source_behind.failures ≡ source.failures) × (r.stop ≡ None) × RunsProgram steps g.definitions ends status
 
 -- A source that isn't compiled, for a fault or a failure, is not run. The code is kept in memory, which fails for want of

@@ -4,7 +4,7 @@ ghost use Rattle.bexpr.specs.Tokens.{IsLoaded};
 use bcode::Instr;
 use bexpr::{Halt, Mark, Parser};
 use blex::{About, Diagnostic, Letters, Lexeme};
-use bword::{BinOp, MemIn, Name};
+use bword::{BinOp, Edition, MemIn, Name};
 use std::test::Fail;
 
 fn name(text: &str) -> Result<Name, Fail> {
@@ -15,7 +15,7 @@ fn name(text: &str) -> Result<Name, Fail> {
 fn parser<'a>(source: &'a [u8], externals: &[&str]) -> Result<Parser<MemIn<'a>>, Fail>
     ensures { IfOk result (λ parser. IsLoaded parser.tokens) }
 {
-    let mut parser = Parser::new(MemIn::new(source));
+    let mut parser = Parser::new(MemIn::new(source), Edition::One);
     let Ok(()) = parser.tokens.look() else {
         return Err("a first token".into());
     };

@@ -7,6 +7,7 @@ use Rattle.blex.specs.declared.token.Token.TheVariants as token
 use Rattle.blex.specs.declared.token.Placed.{Placed}
 use Rattle.blex.specs.declared.diagnostic.Diagnostic.{Diagnostic}
 use Rattle.blex.specs.Pieces.{Piece, Space, Word, whole}
+use Rattle.bword.specs.declared.edition.Edition.{Edition}
 use Rattle.blex.specs.Tokens.{placed, is_last, piece_first, cut, tokens_from, line_after, longest}
 use Rattle.btree.specs.Lines.{kept, bare}
 use Rattle.btree.specs.Reading.{Got, Stop}
@@ -40,20 +41,20 @@ piece_ended None line rest e = refl
 piece_ended (Some Space) line rest e = e
 piece_ended (Some (Word t)) line rest e = token_ended (is_last t) t line rest refl e
 
-cut_ended : (fuel line : ℕ) (bytes : List ℕ) → Ended (cut fuel line bytes)
+cut_ended : (edition : Edition) (fuel line : ℕ) (bytes : List ℕ) → Ended (cut edition fuel line bytes)
 unfolding cut
-cut_ended zero line bytes = refl
-cut_ended (suc fuel) line [] = refl
-cut_ended (suc fuel) line (b ∷ bs) =
-    let n = longest (b ∷ bs) in
+cut_ended edition zero line bytes = refl
+cut_ended edition (suc fuel) line [] = refl
+cut_ended edition (suc fuel) line (b ∷ bs) =
+    let n = longest edition (b ∷ bs) in
     let text = take n (b ∷ bs) in
     let next = line_after line text in
     let rest = drop n (b ∷ bs) in
-    piece_ended (whole text) line (cut fuel next rest) (cut_ended fuel next rest)
+    piece_ended (whole edition text) line (cut edition fuel next rest) (cut_ended edition fuel next rest)
 
-pub tokens_from-ended : (line : ℕ) (bytes : List ℕ) → Ended (tokens_from line bytes)
+pub tokens_from-ended : (edition : Edition) (line : ℕ) (bytes : List ℕ) → Ended (tokens_from edition line bytes)
 unfolding tokens_from
-tokens_from-ended line bytes = cut_ended (length bytes) line bytes
+tokens_from-ended edition line bytes = cut_ended edition (length bytes) line bytes
 
 -- Each list of tokens that ends is parted.
 pub record SomeParting (tokens : List Placed) : Type 0 where
@@ -156,7 +157,7 @@ goes_fault names taken d tokens fault h wrong e =
     }
 
 pub each_source_comes : EachSourceComes
-each_source_comes names line bytes = let some = goes_some names (tokens_from line bytes) (tokens_from-ended line bytes) in (some.outcome, some.goes)
+each_source_comes names edition line bytes = let some = goes_some names (tokens_from edition line bytes) (tokens_from-ended edition line bytes) in (some.outcome, some.goes)
 
 pub outcomes_are_equal : OutcomesAreEqual
 outcomes_are_equal names tokens r q g h = goes_once g h

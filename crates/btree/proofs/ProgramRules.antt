@@ -47,9 +47,9 @@ pub formed_within : FormedWithin
 formed_within ds = (formed_in ds, in_formed ds)
 
 pub has_parts : HasParts
-has_parts line bytes =
-    let tokens = tokens_from line bytes in
-    let p = parted_some (length tokens) tokens (omega arith) (tokens_from-ended line bytes) in
+has_parts edition line bytes =
+    let tokens = tokens_from edition line bytes in
+    let p = parted_some (length tokens) tokens (omega arith) (tokens_from-ended edition line bytes) in
     (p.definitions, p.stop, p.parted)
 
 pub one_way : OneWay

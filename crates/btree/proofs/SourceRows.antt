@@ -1,5 +1,7 @@
 -- What comes of whole sources, by reading them one definition at a time.
-use Rattle.std.proofs.Common.{◌≡◌, ℕ, zero, suc, List, [], ◌∷◌, ◌++◌, ap, ◌∙◌, refl, subst}
+use Rattle.std.proofs.Common.{◌≡◌, ℕ, zero, suc, List, [], ◌∷◌, ◌++◌, sym, ap, ◌∙◌, refl, subst}
+use Rattle.bword.specs.declared.edition.Edition.{Edition}
+use Rattle.bword.specs.declared.edition.Edition.TheVariants as editions
 use Rattle.std.specs.Prelude.{codes, Option, Some, None}
 use Rattle.std.specs.Fmt.{digits}
 use Rattle.blex.specs.Pieces.{whole, word_of as word_token, keyword_of, number_in, with_byte, escape_of, operator_of, other_of, fixed_of}
@@ -15,7 +17,7 @@ use Rattle.btree.specs.Scan.{word_of}
 use Rattle.btree.specs.Code.{fault_of}
 use Rattle.btree.specs.Program.{fault_at}
 use Rattle.btree.specs.Compiled.{Defined, Outcome, text_of, Goes, code_text}
-use Rattle.btree.specs.SourceRows.{fault_text, Comes, WorkedRows, FunctionRows, FaultRows, PlaceRows}
+use Rattle.btree.specs.SourceRows.{fault_text, ComesIn, Comes, ComesInTwo, WorkedRows, FunctionRows, FaultRows, PlaceRows, EditionRows}
 use Rattle.btree.proofs.Outcomes.{Ended}
 use Rattle.btree.proofs.GoesLaws.{goes_end, tokens_from-ended}
 use Rattle.btree.proofs.GoesReads.{goes_behind_read, goes_fault_read, goes_stop_read, ended_read}
@@ -83,24 +85,24 @@ outcome_sound zero names ts r e h = cc
 outcome_sound (suc n) names ts r e h = first_sound (outcome_at n) (outcome_sound n) names (first ts) ts r e refl h
 
 -- the code text and the line
-abbrev pub written : Option Outcome → Option (List ℕ × List ℕ)
-written None = None
-written (Some r) = Some (code_text r, fault_text r.stop)
+abbrev pub written : Edition → Option Outcome → Option (List ℕ × List ℕ)
+written edition None = None
+written edition (Some r) = Some (code_text edition r, fault_text r.stop)
 
-written_comes : (source : List ℕ) (o : Option Outcome) (code line : List ℕ) → outcome_at 8 [] (tokens_from 1 source) ≡ o → written o ≡ Some (code, line) → Comes source code line
-written_comes source None code line h w = cc
-written_comes source (Some r) code line h w =
-    let pair : (code_text r, fault_text r.stop) ≡ (code, line) = cc in
+written_comes : (edition : Edition) (source : List ℕ) (o : Option Outcome) (code line : List ℕ) → outcome_at 8 [] (tokens_from edition 1 source) ≡ o → written edition o ≡ Some (code, line) → ComesIn edition source code line
+written_comes edition source None code line h w = cc
+written_comes edition source (Some r) code line h w =
+    let pair : (code_text edition r, fault_text r.stop) ≡ (code, line) = cc in
     record {
       outcome = r;
-      goes = outcome_sound 8 [] (tokens_from 1 source) r (tokens_from-ended 1 source) h;
+      goes = outcome_sound 8 [] (tokens_from edition 1 source) r (tokens_from-ended edition 1 source) h;
       code_is = ap (λ (p : List ℕ × List ℕ). p.0) pair;
       line_is = ap (λ (p : List ℕ × List ℕ). p.1) pair;
     }
 
 -- at most eight definitions
-comes : {source code line : List ℕ} → written (outcome_at 8 [] (tokens_from 1 source)) ≡ Some (code, line) → Comes source code line
-comes {source} {code} {line} h = written_comes source (outcome_at 8 [] (tokens_from 1 source)) code line refl h
+comes : {edition : Edition} {source code line : List ℕ} → written edition (outcome_at 8 [] (tokens_from edition 1 source)) ≡ Some (code, line) → ComesIn edition source code line
+comes {edition} {source} {code} {line} h = written_comes edition source (outcome_at 8 [] (tokens_from edition 1 source)) code line refl h
 
 worked_empty : Comes [] (codes "E\n") []
 unfolding tokens_from cut longest greatest whole word_token keyword_of number_in with_byte escape_of operator_of other_of fixed_of digits
@@ -476,4 +478,58 @@ place_rows = record {
   source = place_source;
   definition = place_definition;
   too_large = place_too_large;
+}
+
+edition_empty : ComesInTwo [] (codes "B 2\nE\n") []
+unfolding tokens_from cut longest greatest whole word_token keyword_of number_in with_byte escape_of operator_of other_of fixed_of digits
+edition_empty = comes refl
+
+edition_loop : ComesInTwo (codes "f(a) while(a) { a--; break; }") (codes "B 2\nF f 1 1 0 0 10\na 0\nv\nz 8\na 0\ni 3\np\nj 8\nj 0\nc 0\nr\nE\n") []
+unfolding tokens_from cut longest greatest whole word_token keyword_of number_in with_byte escape_of operator_of other_of fixed_of digits
+edition_loop = comes refl
+
+edition_switch : ComesInTwo (codes "f(a) switch a { case 1: break; default: a=2; }") (codes "B 2\nF f 1 1 0 0 14\na 0\nv\nj 9\nj 12\na 0\nc 2\nw\np\nj 12\ne 1 3\np\nj 4\nc 0\nr\nE\n") []
+unfolding tokens_from cut longest greatest whole word_token keyword_of number_in with_byte escape_of operator_of other_of fixed_of digits
+edition_switch = comes refl
+
+edition_break_outside : ComesInTwo (codes "f() break;") (codes "B 2\n") (codes "sx break 1\n")
+unfolding tokens_from cut longest greatest whole word_token keyword_of number_in with_byte escape_of operator_of other_of fixed_of digits
+edition_break_outside = comes refl
+
+edition_break_alone : ComesInTwo (codes "break;") (codes "B 2\n") (codes "sx 1\n")
+unfolding tokens_from cut longest greatest whole word_token keyword_of number_in with_byte escape_of operator_of other_of fixed_of digits
+edition_break_alone = comes refl
+
+edition_default_outside : ComesInTwo (codes "f() default: ;") (codes "B 2\n") (codes "sx default 1\n")
+unfolding tokens_from cut longest greatest whole word_token keyword_of number_in with_byte escape_of operator_of other_of fixed_of digits
+edition_default_outside = comes refl
+
+edition_default_twice : ComesInTwo (codes "f() switch 1 { default: ; default: ; }") (codes "B 2\n") (codes "rd default 1\n")
+unfolding tokens_from cut longest greatest whole word_token keyword_of number_in with_byte escape_of operator_of other_of fixed_of digits
+edition_default_twice = comes refl
+
+edition_name_break : Comes (codes "break;") (codes "X break 0 0\nE\n") []
+unfolding tokens_from cut longest greatest whole word_token keyword_of number_in with_byte escape_of operator_of other_of fixed_of digits
+edition_name_break = comes refl
+
+edition_label_default : Comes (codes "f() default: ;") (codes "F f 0 0 1 0 2\nt 0\nc 0\nr\nE\n") []
+unfolding tokens_from cut longest greatest whole word_token keyword_of number_in with_byte escape_of operator_of other_of fixed_of digits
+edition_label_default = comes refl
+
+edition_mention_break : Comes (codes "f() break;") [] (codes "un break 1\n")
+unfolding tokens_from cut longest greatest whole word_token keyword_of number_in with_byte escape_of operator_of other_of fixed_of digits
+edition_mention_break = comes refl
+
+pub edition_rows : EditionRows
+edition_rows = record {
+  empty = edition_empty;
+  loop = edition_loop;
+  switch = edition_switch;
+  break_outside = edition_break_outside;
+  break_alone = edition_break_alone;
+  default_outside = edition_default_outside;
+  default_twice = edition_default_twice;
+  name_break = edition_name_break;
+  label_default = edition_label_default;
+  mention_break = edition_mention_break;
 }

@@ -3,6 +3,7 @@ use Rattle.std.specs.Prelude.{◌≡◌, ℕ, map, List, [], ◌∷◌, ◌++◌
 use Rattle.blex.specs.declared.token.Token.TheVariants as token
 use Rattle.blex.specs.declared.token.Keyword.TheVariants as keyword
 use Rattle.blex.specs.declared.token.Placed.{Placed}
+use Rattle.bword.specs.declared.edition.Edition.{Edition}
 use Rattle.blex.specs.Tokens.{tokens_from}
 use Rattle.btree.specs.Lines.{mark, kept_tokens, bare}
 use Rattle.btree.specs.Expression.{Word, Expr, name_token, spell, rvalue_rank, Fits}
@@ -61,7 +62,7 @@ OneDefinition = (d e : Definition) → IsFormed d → IsFormed e → spell_defin
 
 -- each source comes to something
 abbrev pub EachSourceComes : Type 0
-EachSourceComes = (names : Defined) (line : ℕ) (bytes : List ℕ) → (r : Outcome) × Goes names (tokens_from line bytes) r
+EachSourceComes = (names : Defined) (edition : Edition) (line : ℕ) (bytes : List ℕ) → (r : Outcome) × Goes names (tokens_from edition line bytes) r
 
 -- the same tokens come to the same
 abbrev pub OutcomesAreEqual : Type 0

@@ -1,4 +1,5 @@
 -- Laws of programs: one stands for tokens, and there is one way of parts.
+use Rattle.bword.specs.declared.edition.Edition.{Edition}
 use Rattle.std.specs.Prelude.{◌≡◌, ℕ, List, Option}
 use Rattle.blex.specs.declared.token.Placed.{Placed}
 use Rattle.blex.specs.declared.diagnostic.Diagnostic.{Diagnostic}
@@ -24,8 +25,8 @@ FormedWithin = (ds : List Definition) → (AllFormed ds → AllFormedIn nesting_
 
 -- Each source stops being a program's somewhere, and has parts before.
 abbrev pub HasParts : Type 0
-HasParts = (line : ℕ) (bytes : List ℕ)
-    → (ds : List Definition) × (stop : Option Diagnostic) × Parted (tokens_from line bytes) ds stop
+HasParts = (edition : Edition) (line : ℕ) (bytes : List ℕ)
+    → (ds : List Definition) × (stop : Option Diagnostic) × Parted (tokens_from edition line bytes) ds stop
 
 -- It stops at one place, and has one list of definitions before it.
 abbrev pub OneWay : Type 0

@@ -1,5 +1,7 @@
 -- What is written for whole sources: the code text, and the line of the diagnostic.
 use Rattle.std.specs.Prelude.{◌≡◌, ℕ, List, [], codes, Option, Some, None}
+use Rattle.bword.specs.declared.edition.Edition.{Edition}
+use Rattle.bword.specs.declared.edition.Edition.TheVariants as editions
 use Rattle.blex.specs.declared.diagnostic.Diagnostic.{Diagnostic}
 use Rattle.blex.specs.Tokens.{tokens_from}
 use Rattle.btree.specs.Compiled.{Outcome, Goes, code_text, line_of}
@@ -9,12 +11,18 @@ abbrev pub fault_text : Option Diagnostic → List ℕ
 fault_text None = []
 fault_text (Some d) = line_of d
 
--- This code text and this line come of the source, and nothing else does.
-pub record Comes (source code line : List ℕ) : Type 0 where
+-- This code text and this line come of the source in an edition, and nothing else does.
+pub record ComesIn (edition : Edition) (source code line : List ℕ) : Type 0 where
   pub outcome : Outcome
-  pub goes : Goes [] (tokens_from 1 source) outcome
-  pub code_is : code_text outcome ≡ code
+  pub goes : Goes [] (tokens_from edition 1 source) outcome
+  pub code_is : code_text edition outcome ≡ code
   pub line_is : fault_text outcome.stop ≡ line
+
+abbrev pub Comes : List ℕ → List ℕ → List ℕ → Type 0
+Comes source code line = ComesIn editions.One source code line
+
+abbrev pub ComesInTwo : List ℕ → List ℕ → List ℕ → Type 0
+ComesInTwo source code line = ComesIn editions.Two source code line
 
 -- definitions beside functions
 pub record WorkedRows : Type 0 where
@@ -105,3 +113,16 @@ pub record PlaceRows : Type 0 where
   pub source : Comes (codes "n 5\n") [] (codes "sx 2\n")
   pub definition : Comes (codes "a;\na;") (codes "X a 0 0\n") (codes "rd a 2\n")
   pub too_large : Comes (codes "\nv[\n32767];") [] (codes ">e 2\n")
+
+-- the words `break` and `default` in both editions
+pub record EditionRows : Type 0 where
+  pub empty : ComesInTwo [] (codes "B 2\nE\n") []
+  pub loop : ComesInTwo (codes "f(a) while(a) { a--; break; }") (codes "B 2\nF f 1 1 0 0 10\na 0\nv\nz 8\na 0\ni 3\np\nj 8\nj 0\nc 0\nr\nE\n") []
+  pub switch : ComesInTwo (codes "f(a) switch a { case 1: break; default: a=2; }") (codes "B 2\nF f 1 1 0 0 14\na 0\nv\nj 9\nj 12\na 0\nc 2\nw\np\nj 12\ne 1 3\np\nj 4\nc 0\nr\nE\n") []
+  pub break_outside : ComesInTwo (codes "f() break;") (codes "B 2\n") (codes "sx break 1\n")
+  pub break_alone : ComesInTwo (codes "break;") (codes "B 2\n") (codes "sx 1\n")
+  pub default_outside : ComesInTwo (codes "f() default: ;") (codes "B 2\n") (codes "sx default 1\n")
+  pub default_twice : ComesInTwo (codes "f() switch 1 { default: ; default: ; }") (codes "B 2\n") (codes "rd default 1\n")
+  pub name_break : Comes (codes "break;") (codes "X break 0 0\nE\n") []
+  pub label_default : Comes (codes "f() default: ;") (codes "F f 0 0 1 0 2\nt 0\nc 0\nr\nE\n") []
+  pub mention_break : Comes (codes "f() break;") [] (codes "un break 1\n")

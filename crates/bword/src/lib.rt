@@ -4,6 +4,7 @@
 
 mod byte_in;
 mod byte_out;
+mod edition;
 mod flat_store;
 mod memory;
 mod name;
@@ -13,6 +14,7 @@ mod streams;
 
 pub use byte_in::{ByteIn, Device};
 pub use byte_out::{ByteOut, EndFault};
+pub use edition::Edition;
 pub use flat_store::FlatStore;
 pub use memory::{MemIn, MemOut};
 pub use name::{NAME_LEN, Name, is_name_byte, is_name_start};

@@ -1,4 +1,4 @@
-use Rattle.btree.proofs.SourceRows.{worked_rows, function_rows, fault_rows, place_rows}
+use Rattle.btree.proofs.SourceRows.{worked_rows, function_rows, fault_rows, place_rows, edition_rows}
 use Rattle.btree.proofs.rows_of_sources.Goals as goal
 
 pub returns-clause-definitions : goal.returns-clause-definitions
@@ -12,3 +12,6 @@ returns-clause-faults c = fault_rows
 
 pub returns-clause-places : goal.returns-clause-places
 returns-clause-places c = place_rows
+
+pub returns-clause-editions : goal.returns-clause-editions
+returns-clause-editions c = edition_rows

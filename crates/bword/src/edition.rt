@@ -1,0 +1,9 @@
+//! The editions of the language.
+
+/// An edition of the language and of its code text.
+#[derive(Clone, Copy, Debug, PartialEq, Eq)]
+pub enum Edition {
+    One,
+    /// With `break` and `default`.
+    Two,
+}
