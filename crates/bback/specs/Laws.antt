@@ -9,5 +9,5 @@ use Rattle.btree.specs.Compiled.{Outcome, Goes, code_text}
 -- the text is the code text of the definitions of the source
 abbrev pub ReadsBack : Type 0
 ReadsBack =
-    (edition : Edition) (line : ℕ) (bytes : List ℕ) (r : Outcome) (g : Goes [] (tokens_from edition line bytes) r) → r.stop ≡ None
-    → IsTextOf edition (code_text edition r) (map code_of g.definitions)
+    (edition : Edition) (line : ℕ) (bytes : List ℕ) (r : Outcome) (g : Goes [] (tokens_from edition line bytes) r)
+    → r.stop ≡ None → IsTextOf edition (code_text edition r) (map code_of g.definitions)

@@ -7,7 +7,7 @@ use Rattle.bmach.specs.World.{words}
 use Rattle.bmach.specs.Layout.{Shape, Spot, same_name, shape_of, words_before_strings, functions_in, labels_in, data_end, label_count, definition_words, is_main, first_undefined, Addresses, address_in, library_addresses}
 use Rattle.bmach.specs.Machine.{Loaded, loaded_at}
 use Rattle.bmach.specs.Resolved.{resolved_function}
-use Rattle.bmach.specs.declared.limits.TheConstants.{MAX_LABELS}
+use Rattle.bmach.specs.declared.limits.TheConstants.{MAX_PROGRAM_LABELS}
 
 -- a fault is want of memory, or this one
 abbrev pub IsFault : LoadFault → Option LoadFault → Type 0
@@ -27,7 +27,7 @@ abbrev pub undefined_fault : (address_of : List ℕ → Option ℕ) → List (Li
 undefined_fault address_of names = option_map fault.Undefined (first_undefined address_of names)
 
 abbrev pub fits : List Shape → Bool
-fits ds = not (nat_lt words (data_end ds) || nat_lt MAX_LABELS (label_count ds))
+fits ds = not (nat_lt words (data_end ds) || nat_lt MAX_PROGRAM_LABELS (label_count ds))
 
 -- the words and functions of the definitions so far, and the value of the label behind theirs
 pub record Part : Type 0 where

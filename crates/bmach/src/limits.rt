@@ -4,8 +4,8 @@ use bword::STORE_LEN;
 /// How many words the store has.
 pub const STORE_WORDS: u32 = STORE_LEN as u32;
 
-/// The greatest value of a label.
-pub const MAX_LABELS: u32 = 65535;
+/// The most labels of a whole program.
+pub const MAX_PROGRAM_LABELS: u32 = 65535;
 
 /// The most active calls.
 pub const MAX_CALLS: usize = 4096;

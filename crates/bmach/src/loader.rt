@@ -8,7 +8,7 @@ ghost use Rattle.bmach.specs.Resolved.{IsLoadedFrom};
 
 use crate::address_table::Addresses;
 use crate::addresses::{FIRST_ADDRESS, addresses_of};
-use crate::limits::{MAX_LABELS, STORE_WORDS};
+use crate::limits::{MAX_PROGRAM_LABELS, STORE_WORDS};
 use crate::part::Part;
 use crate::parts::{functions_in, is_main, labels_in, size_of};
 use crate::{Image, LoadFault};
@@ -54,7 +54,7 @@ fn fits(definitions: &[Definition]) -> bool
     for definition in definitions {
         end += u32::from(size_of(definition));
         labels += u32::from(labels_in(definition));
-        if end > STORE_WORDS || labels > MAX_LABELS {
+        if end > STORE_WORDS || labels > MAX_PROGRAM_LABELS {
             return false;
         }
     }

@@ -18,7 +18,7 @@ loop-definition-preserved c =
       end = omega (arith, ap data_end more, data_end-push before (shape_of d), c.from-end-in-loop-definition.ensures, c.size_of.ensures.value);
       labels = omega (arith, ap label_count more, label_count-push before (shape_of d), c.from-labels.ensures, c.labels_in.ensures.value);
       end_fits = c.if-end-gt-STORE_WORDS.false;
-      labels_fit = c.if-labels-gt-MAX_LABELS.false;
+      labels_fit = c.if-labels-gt-MAX_PROGRAM_LABELS.false;
     }
 
 pub returns-then-end-gt-STORE_WORDS : goal.returns-then-end-gt-STORE_WORDS
