@@ -144,7 +144,7 @@ fn strings_have_a_room(rt: HostRuntime) {
 }
 
 #[test]
-fn cases_and_defaults_are_those_of_their_switch(rt: HostRuntime) {
+fn cases_are_those_of_their_switch(rt: HostRuntime) {
     let mut buffer = CodeBuffer::new();
     for value in 0..256 {
         assert_eq!(rt; buffer.add_case(0, value, 9), Ok(()));
@@ -153,12 +153,6 @@ fn cases_and_defaults_are_those_of_their_switch(rt: HostRuntime) {
     assert_eq!(rt; buffer.add_case(1, 255, 9), Err(CaseFault::TooManyCases));
     assert_eq!(rt; buffer.cases().len(), 256);
     assert_eq!(rt; buffer.take_default(0), None);
-    assert_eq!(rt; buffer.add_default(0, 7), Ok(()));
-    assert_eq!(rt; buffer.add_default(0, 8), Err(DefaultFault::Redeclared));
-    assert_eq!(rt; buffer.add_default(1, 8), Ok(()));
-    for (switch, target) in [(0, Some(7)), (0, None), (1, Some(8))] {
-        assert_eq!(rt; buffer.take_default(switch), target);
-    }
 }
 
 #[test]
