@@ -13,7 +13,7 @@ use Rattle.btree.specs.Definition.{Definition}
 use Rattle.btree.specs.Lines.{kept}
 use Rattle.btree.specs.Program.{AllFormed, spell_all}
 use Rattle.bexpr.specs.Tokens.{Tokens, all_tokens, tokens_of, CanFollow, EndsWith, IsReady, IsSingle, last_ahead, work}
-use Rattle.bparse.specs.Steps.{name_of, next_text, HasCode}
+use Rattle.bparse.specs.Steps.{name_of, next_text, to_begin, HasCode}
 use Rattle.bparse.specs.declared.step.Step.{Step}
 use Rattle.bparse.specs.declared.step.Step.TheVariants as step
 
@@ -68,7 +68,7 @@ abbrev pub opened : Compiler → List ℕ
 opened c = if c.is_begun then opening c.first.edition else []
 
 abbrev pub unopened : Compiler → List ℕ
-unopened c = if c.is_begun then [] else opening c.first.edition
+unopened c = to_begin c.is_begun c.first.edition
 
 -- What the text begins with was written, if that was still to be done.
 pub record Opens (c : Compiler) (out : Outgoing) : Type 0 where
