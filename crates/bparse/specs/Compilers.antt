@@ -53,15 +53,8 @@ start_of edition source lender out out_lender =
 
 -- a compiler that has read and written nothing
 abbrev pub new : Start → Compiler
-new start = record {
-  first = start;
-  tokens = all_tokens start.edition start.source start.lender;
-  names = [];
-  out = start.out;
-  out_lender = start.out_lender;
-  is_begun = false;
-  is_closed = false;
-}
+new start =
+    compiler_of start (all_tokens start.edition start.source start.lender) [] start.out start.out_lender false false
 
 -- what the text begins with, where it is written, and where it is still to be written
 abbrev pub opened : Compiler → List ℕ
