@@ -2,7 +2,7 @@
 ghost use Rattle.std.specs.Prelude.{◌≡◌};
 ghost use Rattle.bmach.specs.declared.fault.LoadFault.TheVariants as fault;
 
-use bword::Name;
+use bword::{Name, NoMemory};
 use std::alloc::{AllocError, AllocFailed};
 use thiserror::Error;
 
@@ -30,6 +30,14 @@ impl From<AllocError> for LoadFault {
     ghost from_gives = { λ _ f. f ≡ fault.Memory };
 
     fn from(_error: AllocError) -> LoadFault {
+        LoadFault::Memory
+    }
+}
+
+impl From<NoMemory> for LoadFault {
+    ghost from_gives = { λ _ f. f ≡ fault.Memory };
+
+    fn from(_error: NoMemory) -> LoadFault {
         LoadFault::Memory
     }
 }
