@@ -1,82 +1,11 @@
 -- What a scan without a fault comes to: a table within its limits, and vectors within the frame.
-use Rattle.std.proofs.Common.{◌≡◌, ℕ, suc, ◌+◌, ◌<◌, ◌≤◌, Bool, true, false, List, [], ◌∷◌, ◌++◌, length, refl, sym, ap, arith, length-append, if◌then◌else◌, Option, Some, None, Result, Ok, Err, ◌⊎◌, inl, inr}
-use Rattle.std.specs.Prelude.{nat_lt, sum_by}
-use Rattle.std.specs.Cmp.Lexicographic.{nat_list_eq_equiv}
-use Rattle.std.proofs.lemmas.Bool.Decides.{nat_tests}
+use Rattle.std.proofs.Common.{◌≡◌, ℕ, ◌+◌, ◌<◌, ◌≤◌, Bool, true, false, List, [], ◌∷◌, ◌++◌, length, ap, arith, length-append, if◌then◌else◌, Option, Some}
+use Rattle.std.specs.Prelude.{sum_by}
 use Rattle.std.proofs.lemmas.List.Sums.{sum_by-append, sum_by-cons}
-use Rattle.blex.specs.declared.diagnostic.Diagnostic.{Diagnostic}
-use Rattle.btree.specs.Expression.{Word}
-use Rattle.btree.specs.Scope.{Kind, Automatic, External, Unlabelled, Labelled, Entry, same_name, kind_of, entered, declared, kind_mentioned, mentioned, with_kind, labelled}
+use Rattle.btree.specs.Scope.{Kind, Automatic, External, Unlabelled, Labelled, Entry, most_names, same_name, kind_of, with_kind}
+use Rattle.btree.proofs.ScopeLaws.{length-with_kind}
+use Rattle.btree.proofs.ScanSteps.{Entered, Relabelled}
 use Rattle.bback.proofs.Holds.{Holds, Holds-nil, Holds-cons, Holds-first, Holds-rest, Holds-append, Holds-weaker}
-
--- What the table becomes.
--- an entry more, where there was room
-pub record Entered (x : List ℕ) (k : Kind) (es new : List Entry) : Type 0 where
-  pub room : length es < 128
-  pub is : new ≡ es ++ record { name = x; kind = k } ∷ []
-
-entered_if : (b : Bool) (x : List ℕ) (k : Kind) (es new : List Entry) (d : Diagnostic) → (b ≡ true → length es < 128)
-    → (let r : Result (List Entry) Diagnostic = if b then Ok (es ++ record { name = x; kind = k } ∷ []) else Err d in r) ≡ Ok new → Entered x k es new
-entered_if true x k es new d room h = record { room = room refl; is = let e : es ++ record { name = x; kind = k } ∷ [] ≡ new = cc in sym e }
-entered_if false x k es new d room h = cc
-
-entered_is : (w : Word) (k : Kind) (es new : List Entry) → entered w k es ≡ Ok new → Entered w.text k es new
-entered_is w k es new h = entered_if (nat_lt (length es) 128) w.text k es new _ (λ l. grind (arith, nat_tests)) h
-
-pub declared_is : (w : Word) (k : Kind) (es new : List Entry) (o : Option Kind) → kind_of w.text es ≡ o → declared w k es ≡ Ok new → (kind_of w.text es ≡ None) × Entered w.text k es new
-declared_is w k es new None e h = (e, entered_is w k es new (rw e at h))
-declared_is w k es new (Some old) e h = let n = rw e at h in cc
-
--- the same table, or an entry more
-pub mentioned_is : (called : Bool) (w : Word) (es new : List Entry) (o : Option Kind) → kind_of w.text es ≡ o → mentioned called w es ≡ Ok new
-    → (new ≡ es) ⊎ Entered w.text (kind_mentioned called w.line) es new
-mentioned_is called w es new None e h = inr (entered_is w _ es new (rw e at h))
-mentioned_is called w es new (Some old) e h = let n = rw e at h in let q : new ≡ es = cc in inl q
-
--- a label for an internal name
-pub record Relabelled (x : List ℕ) (k : Kind) (es new : List Entry) : Type 0 where
-  pub line : ℕ
-  pub was : kind_of x es ≡ Some (Unlabelled line)
-  pub is : new ≡ with_kind x k es
-
-pub labelled_is : (w : Word) (number : ℕ) (es new : List Entry) (o : Option Kind) → kind_of w.text es ≡ o → labelled w number es ≡ Ok new
-    → Entered w.text (Labelled number) es new ⊎ Relabelled w.text (Labelled number) es new
-labelled_is w number es new None e h = inl (entered_is w _ es new (rw e at h))
-labelled_is w number es new (Some (Unlabelled line)) e h =
-    let n = rw e at h in
-    let q : new ≡ with_kind w.text (Labelled number) es = cc in
-    inr (record { line = line; was = e; is = q })
-labelled_is w number es new (Some (Automatic word)) e h = let n = rw e at h in cc
-labelled_is w number es new (Some External) e h = let n = rw e at h in cc
-labelled_is w number es new (Some (Labelled n)) e h = let n = rw e at h in cc
-
--- What a name stands for.
-kind_of_if : (b : Bool) (o p q : Option Kind) (k : Kind) → (p ≡ Some k → q ≡ Some k) → (if b then o else p) ≡ Some k → (if b then o else q) ≡ Some k
-kind_of_if true o p q k f h = h
-kind_of_if false o p q k f h = f h
-
-pub kind_of-append : (x : List ℕ) (es more : List Entry) (k : Kind) → kind_of x es ≡ Some k → kind_of x (es ++ more) ≡ Some k
-kind_of-append x [] more k h = cc
-kind_of-append x (e ∷ es) more k h = kind_of_if (same_name e.name x) _ _ _ k (kind_of-append x es more k) h
-
-kind_of_none : (b : Bool) (o p q : Option Kind) (k old : Kind) → o ≡ Some old → (p ≡ None → q ≡ Some k) → (if b then o else p) ≡ None → (if b then o else q) ≡ Some k
-kind_of_none true o p q k old e f h = cc
-kind_of_none false o p q k old e f h = f h
-
-pub kind_of-entered : (x : List ℕ) (es : List Entry) (k : Kind) → kind_of x es ≡ None → kind_of x (es ++ record { name = x; kind = k } ∷ []) ≡ Some k
-kind_of-entered x [] k h = rw (nat_list_eq_equiv.refl x) refl
-kind_of-entered x (e ∷ es) k h = kind_of_none (same_name e.name x) _ _ _ k e.kind refl (kind_of-entered x es k) h
-
-with_kind_if : (b c : Bool) (k : Kind) (x : List ℕ) (e : Entry) (rest more : List Entry) → same_name e.name x ≡ c → (kind_of x more ≡ kind_of x rest) ⊎ (kind_of x more ≡ Some k)
-    → (let new : List Entry = if b then record { name = e.name; kind = k } ∷ rest else e ∷ more in (kind_of x new ≡ kind_of x (e ∷ rest)) ⊎ (kind_of x new ≡ Some k))
-with_kind_if true true k x e rest more s h = inr (rw s refl)
-with_kind_if true false k x e rest more s h = inl (rw s refl)
-with_kind_if false true k x e rest more s h = inl (rw s refl)
-with_kind_if false false k x e rest more s h = rw s h
-
-pub kind_of-with_kind : (x y : List ℕ) (k : Kind) (es : List Entry) → (kind_of x (with_kind y k es) ≡ kind_of x es) ⊎ (kind_of x (with_kind y k es) ≡ Some k)
-kind_of-with_kind x y k [] = inl refl
-kind_of-with_kind x y k (e ∷ es) = with_kind_if (same_name e.name y) (same_name e.name x) k x e es (with_kind y k es) refl (kind_of-with_kind x y k es)
 
 -- How many names have a label.
 abbrev is_labelled : Kind → ℕ
@@ -85,14 +14,6 @@ is_labelled _ = 0
 
 abbrev labels_of : List Entry → ℕ
 labels_of es = sum_by (λ e. is_labelled e.kind) es
-
-length_if : (b : Bool) (e f : Entry) (es more : List Entry) → length more ≡ length es → length (if b then f ∷ es else e ∷ more) ≡ length (e ∷ es)
-length_if true e f es more h = refl
-length_if false e f es more h = ap suc h
-
-pub length-with_kind : (x : List ℕ) (k : Kind) (es : List Entry) → length (with_kind x k es) ≡ length es
-length-with_kind x k [] = refl
-length-with_kind x k (e ∷ es) = length_if (same_name e.name x) e _ es (with_kind x k es) (length-with_kind x k es)
 
 labels_if : (b : Bool) (n line : ℕ) (e : Entry) (es more : List Entry) (o : Option Kind) → (o ≡ Some (Unlabelled line) → labels_of more ≡ labels_of es + 1)
     → (if b then Some e.kind else o) ≡ Some (Unlabelled line) → labels_of (if b then record { name = e.name; kind = Labelled n } ∷ es else e ∷ more) ≡ labels_of (e ∷ es) + 1
@@ -128,11 +49,11 @@ abbrev IsEntryWithin : ℕ → ℕ → Entry → Type 0
 IsEntryWithin frame labels e = IsKindWithin frame labels e.kind
 
 pub record IsTable (es : List Entry) (frame labels : ℕ) : Type 0 where
-  pub few : length es ≤ 128
+  pub few : length es ≤ most_names
   pub within : Holds (IsEntryWithin frame labels) es
   pub labelled : labels ≤ labels_of es
 
-pub few_labels : {es : List Entry} {frame labels : ℕ} → IsTable es frame labels → labels ≤ 128
+pub few_labels : {es : List Entry} {frame labels : ℕ} → IsTable es frame labels → labels ≤ most_names
 few_labels {es} {frame} {labels} t = let f = t.few in let l = t.labelled in omega (arith, labels_of-length es)
 
 kind_of_within : (b : Bool) (frame labels : ℕ) (k : Kind) (o : Option Kind) → IsKindWithin frame labels k → ((j : Kind) → o ≡ Some j → IsKindWithin frame labels j)

@@ -5,7 +5,7 @@ use Rattle.std.specs.Fmt.{digits}
 use Rattle.blex.specs.Pieces.{whole, word_of, keyword_of, number_in, with_byte, escape_of, operator_of, other_of, fixed_of}
 use Rattle.blex.specs.Tokens.{tokens_from, cut, longest, greatest}
 use Rattle.blex.specs.declared.token.Placed.{Placed}
-use Rattle.btree.specs.Reading.{Read, Got, Stop}
+use Rattle.btree.specs.Reading.{Got, Stop}
 use Rattle.btree.specs.Definition.{Definition}
 use Rattle.btree.specs.DefinitionReader.{definition}
 use Rattle.btree.specs.Code.{code_of}

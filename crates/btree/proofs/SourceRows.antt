@@ -1,7 +1,6 @@
 -- What comes of whole sources, by reading them one definition at a time.
-use Rattle.std.proofs.Common.{◌≡◌, ℕ, zero, suc, List, [], ◌∷◌, ◌++◌, sym, ap, ◌∙◌, refl, subst}
+use Rattle.std.proofs.Common.{◌≡◌, ℕ, zero, suc, List, [], ◌∷◌, ◌++◌, ap, ◌∙◌, refl, subst}
 use Rattle.bword.specs.declared.edition.Edition.{Edition}
-use Rattle.bword.specs.declared.edition.Edition.TheVariants as editions
 use Rattle.std.specs.Prelude.{codes, Option, Some, None}
 use Rattle.std.specs.Fmt.{digits}
 use Rattle.blex.specs.Pieces.{whole, word_of as word_token, keyword_of, number_in, with_byte, escape_of, operator_of, other_of, fixed_of}
