@@ -13,7 +13,7 @@ use Rattle.btree.specs.Definition.{Definition}
 use Rattle.btree.specs.Lines.{kept}
 use Rattle.btree.specs.Program.{AllFormed, spell_all}
 use Rattle.bexpr.specs.Tokens.{Tokens, all_tokens, tokens_of, CanFollow, EndsWith, IsReady, IsSingle, last_ahead, work}
-use Rattle.bparse.specs.Steps.{name_of, next_text, HasCode}
+use Rattle.bparse.specs.Steps.{name_of, next_text, to_begin, HasCode}
 use Rattle.bparse.specs.declared.step.Step.{Step}
 use Rattle.bparse.specs.declared.step.Step.TheVariants as step
 
@@ -53,22 +53,15 @@ start_of edition source lender out out_lender =
 
 -- a compiler that has read and written nothing
 abbrev pub new : Start → Compiler
-new start = record {
-  first = start;
-  tokens = all_tokens start.edition start.source start.lender;
-  names = [];
-  out = start.out;
-  out_lender = start.out_lender;
-  is_begun = false;
-  is_closed = false;
-}
+new start =
+    compiler_of start (all_tokens start.edition start.source start.lender) [] start.out start.out_lender false false
 
 -- what the text begins with, where it is written, and where it is still to be written
 abbrev pub opened : Compiler → List ℕ
 opened c = if c.is_begun then opening c.first.edition else []
 
 abbrev pub unopened : Compiler → List ℕ
-unopened c = if c.is_begun then [] else opening c.first.edition
+unopened c = to_begin c.is_begun c.first.edition
 
 -- What the text begins with was written, if that was still to be done.
 pub record Opens (c : Compiler) (out : Outgoing) : Type 0 where

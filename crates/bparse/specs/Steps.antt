@@ -107,6 +107,11 @@ abbrev pub step_of : EndFault → Step
 step_of end_fault.Device = step.Device
 step_of end_fault.Memory = step.Memory
 
+-- what a text of the edition begins with, where that is still to be written
+abbrev pub to_begin : Bool → Edition → List ℕ
+to_begin true edition = []
+to_begin false edition = opening edition
+
 -- The output refused so what the text begins with, before anything was read.
 pub record BeginRefuses (start : List ℕ) (old : Point) (r : Result (Unit {0}) Step) (new : Point) : Type 0 where
   pub fault : EndFault
@@ -125,11 +130,6 @@ pub record GivesBehind (start : List ℕ) (old : Point) (r : Result (Unit {0}) S
 -- what a call does for which this is still to be written first
 abbrev pub GivesNext : List ℕ → Point → Result (Unit {0}) Step → Point → Type 0
 GivesNext start old r new = BeginRefuses start old r new ⊎ GivesBehind start old r new
-
--- what a text begins with, where that is still to be written
-abbrev pub start_in : Option Edition → List ℕ
-start_in None = []
-start_in (Some edition) = opening edition
 
 abbrev pub is_end : Token → Bool
 is_end token.End = true

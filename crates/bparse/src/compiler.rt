@@ -5,7 +5,7 @@ ghost use Rattle.btree.specs.Reading.{first};
 ghost use Rattle.bexpr.specs.Tokens.{IsReady, IsLoaded};
 ghost use Rattle.bparse.specs.Compilers.{Keeps, StepGives, start_of};
 ghost use Rattle.bparse.specs.Compilers as compilers;
-ghost use Rattle.bparse.specs.Steps.{point, Gives, GivesNext, is_end, start_in};
+ghost use Rattle.bparse.specs.Steps.{point, Gives, GivesNext, is_end, to_begin};
 
 use crate::step::Step;
 use crate::view::view;
@@ -42,12 +42,12 @@ impl<I: ByteIn, O: ByteOut> Model for Compiler<I, O> {
 
     ghost view = { λ c. compiler_of
         (start_of c.edition (I.incoming c.first_input.value) (I.lender c.first_input.value)
-            (O.outgoing c.first_out.value) (O.lender c.first_out.value))
+        (O.outgoing c.first_out.value) (O.lender c.first_out.value))
         c.parser.tokens c.names (O.outgoing c.out) (O.lender c.out) c.is_begun c.is_closed };
 
     ghost invariant = { λ c. c.is_closed ≡ false → IsOpen (compiler_of
         (start_of c.edition (I.incoming c.first_input.value) (I.lender c.first_input.value)
-            (O.outgoing c.first_out.value) (O.lender c.first_out.value))
+        (O.outgoing c.first_out.value) (O.lender c.first_out.value))
         c.parser.tokens c.names (O.outgoing c.out) (O.lender c.out) c.is_begun c.is_closed) };
 }
 
@@ -85,9 +85,15 @@ impl<I: ByteIn, O: ByteOut> Compiler<I, O> {
         if self.is_closed {
             return Step::Closed;
         }
-        let begins = if self.is_begun { None } else { Some(self.edition) };
+        let is_begun = self.is_begun;
         self.is_begun = true;
-        match compile_next(begins, &mut self.parser, &mut self.names, &mut self.out) {
+        match compile_next(
+            self.edition,
+            is_begun,
+            &mut self.parser,
+            &mut self.names,
+            &mut self.out,
+        ) {
             Ok(()) => Step::Written,
             Err(step) => {
                 self.is_closed = true;
@@ -117,20 +123,21 @@ impl<I: ByteIn, O: ByteOut> Compiler<I, O> {
     }
 }
 
-// Writes what a text of the edition begins with, if there is one, and then the next definition.
+// Reads and writes the next definition, behind what a text of the edition begins with.
 fn compile_next<I: ByteIn, O: ByteOut>(
-    begins: Option<Edition>,
+    edition: Edition,
+    is_begun: bool,
     parser: &mut Parser<I>,
     names: &mut Names,
     out: &mut O,
 ) -> Result<(), Step>
     requires { IsReady parser.old.tokens }
-    ensures gives { GivesNext (start_in begins) (point parser.old.tokens names.old (O.outgoing out.old)) result
+    ensures gives { GivesNext (to_begin is_begun edition) (point parser.old.tokens names.old (O.outgoing out.old)) result
         (point parser.new.tokens names.new (O.outgoing out.new)) }
     ensures ready { OnOk result (IsReady parser.new.tokens) }
     ensures same { O.lender out.new ≡ O.lender out.old }
 {
-    if let Some(edition) = begins {
+    if !is_begun {
         write_begin(edition, out)?;
     }
     compile_definition(parser, names, out)
