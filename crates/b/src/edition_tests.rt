@@ -2,7 +2,7 @@
 use crate::program_tests::{Counted, STEPS, all_write_in, runs_in};
 use crate::run_tests;
 use crate::source_tests::{
-    all_begin_in, all_compile_in, all_have_faults_in, compares, compiles_in, of_pieces,
+    BOTH, all_begin_in, all_compile_in, all_have_faults_in, compares, compiles_in, of_pieces,
 };
 use bparse::{compile, compile_edition};
 use brun::{go, go_edition};
@@ -45,6 +45,25 @@ j 12
 e 1 3
 p
 j 4
+c 0
+r
+E
+@
+f() switch 1 { default: ; }~F f 0 0 0 0 7
+c 1
+j 3
+j 5
+p
+j 2
+c 0
+r
+E
+@
+f() while(1) break;~F f 0 0 0 0 6
+c 1
+z 4
+j 4
+j 0
 c 0
 r
 E
@@ -389,6 +408,83 @@ out:
 }
 ~ib.ib.od.xo";
     all_write_in(&rt, &SECOND, rows);
+}
+
+// The programs of docs/LANGUAGE.md that are of edition 2, and what stands there for the words of it in edition 1.
+#[test]
+fn language_of_both_editions(rt: HostRuntime) {
+    let second = "\
+main() {
+    auto i;
+    i = 0;
+    while(1) {
+        switch i {
+            case 1: break;
+            default: printn(i, 10);
+        }
+        if(i == 3) break;
+        i++;
+    }
+    putchar('!');
+}
+~023!@
+main() {
+    goto in;
+    while(1) {
+        putchar('a');
+in:
+        break;
+    }
+    putchar('k');
+}
+~k@
+kind(c) {
+    switch c {
+        default: putchar('o');
+        case ' ': putchar('b'); break;
+        case '0': putchar('d');
+    }
+    putchar('.');
+}
+
+main() {
+    kind('x');
+    kind(' ');
+    kind('0');
+}
+~ob.b.d.";
+    all_write_in(&rt, &SECOND, second);
+    let both = "\
+main() {
+    auto i;
+    i = 0;
+    while(1) {
+        switch i {
+            case 1: goto done;
+            rest: printn(i, 10);
+            goto done;
+        }
+        goto rest;
+done:
+        if(i == 3) goto out;
+        i++;
+    }
+out:
+    putchar('!');
+}
+~023!@
+main() {
+    auto i;
+    i = 0;
+    while(i < 3) {
+        i++;
+        if(i == 2) goto on;
+        printn(i, 10);
+on: ;
+    }
+}
+~13";
+    all_write_in(&rt, &BOTH, both);
 }
 
 /// A program with a label `default`, to which no case leads, or with the statement.
