@@ -90,15 +90,18 @@ find_file() {
     place=0
     [[ ${1-} == go || ${1-} == run ]] || return 0
     for ((at = 2; at <= $#; at++)); do
-        [[ ${!at} == -* || ${@:at-1:1} == --steps ]] || { place=$at count=$((count + 1)); }
+        [[ ${!at} == -* || ${@:at-1:1} == --@(steps|edition) ]] || { place=$at count=$((count + 1)); }
     done
     [ "$count" -eq 1 ] || place=0
 }
 
+# Whether the words may ask for the code of a source.
+is_compile() { [[ $* =~ ^compile(' --edition'[ =][0-9+]*[12])?(' --')?$ ]]; }
+
 # Gives the answer of an unproved run, whose status is then in `status`. Returns 1 where there is none.
 answer_unproved() {
     local place words=("$@") file= data=() behind=
-    [ "$*" != compile ] || return 1
+    ! is_compile "$@" || return 1
     find_file "$@"
     if [ "$place" -gt 0 ]; then
         behind=", and then the proof goes on"

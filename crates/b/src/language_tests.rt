@@ -230,7 +230,6 @@ main() {
     if(a===3) putchar('t');
     printn(a, 10);
     putchar('\\n');
-    switch 5 { case 1: putchar('1'); default: putchar('d'); }
     printn(\"ab\"[0], 10);
 }
 ~10\\n25185@
@@ -384,8 +383,6 @@ n = 5;~~sx 1
 main() { auto i; for(i = 0; i < 3; i++) ; }~~sx 1
 @
 main() { auto i; i = 0; do i++; while(i < 3); }~~sx 1
-@
-main() while(1) break;~~un break 1
 @
 main() while(1) continue;~~un continue 1
 @

@@ -2,14 +2,41 @@
 ghost use Rattle.std.specs.Prelude.{[]};
 ghost use Rattle.bword.specs.ByteEnds.{incoming_of, bounded_of};
 
-use crate::source_tests::compares;
+use crate::source_tests::{BOTH, compares};
 use bparse::Status;
-use brun::go;
-use bword::{ByteIn, Device, MemIn, MemOut};
+use brun::{go, go_edition};
+use bword::{ByteIn, Device, Edition, MemIn, MemOut};
 use std::process::Abort;
 
 /// The most steps of a run that no row limits.
 pub(crate) const STEPS: u64 = 10_000_000;
+
+pub(crate) fn runs_in(
+    rt: &(impl AllocGlobal + Abort),
+    editions: &[Edition],
+    source: &str,
+    input: &str,
+    steps: u64,
+    output: &str,
+    line: &str,
+    status: Status,
+) {
+    for edition in editions {
+        let mut out = MemOut::new(rt.alloc());
+        let mut diag = MemOut::new(rt.alloc());
+        let answer = go_edition(
+            rt.alloc(),
+            &mut MemIn::new(source.as_bytes()),
+            &mut MemIn::new(input.as_bytes()),
+            &mut out,
+            &mut diag,
+            steps,
+            *edition,
+        );
+        compares(rt, source, &out, output, &diag, line);
+        assert_eq!(rt; answer, status, "the status of {source}");
+    }
+}
 
 pub(crate) fn runs(
     rt: &(impl AllocGlobal + Abort),
@@ -20,26 +47,19 @@ pub(crate) fn runs(
     line: &str,
     status: Status,
 ) {
-    let mut out = MemOut::new(rt.alloc());
-    let mut diag = MemOut::new(rt.alloc());
-    let answer = go(
-        rt.alloc(),
-        &mut MemIn::new(source.as_bytes()),
-        &mut MemIn::new(input.as_bytes()),
-        &mut out,
-        &mut diag,
-        steps,
-    );
-    compares(rt, source, &out, output, &diag, line);
-    assert_eq!(rt; answer, status, "the status of {source}");
+    runs_in(rt, &BOTH, source, input, steps, output, line, status);
 }
 
 /// Programs, each with `~` and what it writes; `@` parts them. They have status 0.
-pub(crate) fn all_write(rt: &(impl AllocGlobal + Abort), rows: &str) {
+pub(crate) fn all_write_in(rt: &(impl AllocGlobal + Abort), editions: &[Edition], rows: &str) {
     for row in rows.split("@\n") {
         let (source, output) = row.split_once('~').unwrap_or((row, ""));
-        runs(rt, source, "", STEPS, output, "", 0);
+        runs_in(rt, editions, source, "", STEPS, output, "", 0);
     }
+}
+
+pub(crate) fn all_write(rt: &(impl AllocGlobal + Abort), rows: &str) {
+    all_write_in(rt, &BOTH, rows);
 }
 
 /// Programs, each with `~` and the line of its run, which writes nothing and has this status; `@` parts them.
@@ -163,11 +183,11 @@ fn input_status_and_steps(rt: HostRuntime) {
     );
 }
 
-// An end that counts its calls.
+/// An end that counts its calls.
 #[derive(Drop)]
-struct Counted<'a> {
-    end: MemIn<'a>,
-    calls: u64,
+pub(crate) struct Counted<'a> {
+    pub(crate) end: MemIn<'a>,
+    pub(crate) calls: u64,
 }
 
 impl ByteIn for Counted<'_> {

@@ -1,10 +1,21 @@
 //! Sources with the code, the diagnostic and the status that they have.
-use bparse::{Status, compile};
-use bword::{MemIn, MemOut};
+use bparse::{Status, compile_edition};
+use bword::{Edition, MemIn, MemOut};
 use itoa::Buffer;
-use std::alloc::AllocError;
+use std::alloc::{AllocError, Global};
 use std::process::Abort;
 use std::test::Fail;
+
+/// What has no `break` and no `default` is the same in both editions, but for what its code text begins with.
+pub(crate) const BOTH: [Edition; 2] = [Edition::One, Edition::Two];
+
+/// What stands in a code text behind what those of this edition begin with.
+pub(crate) fn behind_beginning(edition: Edition, text: &[u8]) -> Option<&[u8]> {
+    match edition {
+        Edition::One => Some(text),
+        Edition::Two => text.strip_prefix(b"B 2\n"),
+    }
+}
 
 /// Compares what was written for this source, text or command line, and the line beside it, with what was to come.
 pub(crate) fn compares(
@@ -19,6 +30,34 @@ pub(crate) fn compares(
     assert_eq!(rt; diag.bytes(), line.as_bytes(), "the line of {name}");
 }
 
+pub(crate) fn compiles_in(
+    rt: &(impl AllocGlobal + Abort),
+    editions: &[Edition],
+    source: &str,
+    code: &str,
+    line: &str,
+    status: Status,
+) {
+    for edition in editions {
+        let mut out = MemOut::new(rt.alloc());
+        let mut diag = MemOut::new(rt.alloc());
+        let answer = compile_edition(
+            rt.alloc(),
+            &mut MemIn::new(source.as_bytes()),
+            &mut out,
+            &mut diag,
+            *edition,
+        );
+        assert_eq!(rt;
+            behind_beginning(*edition, out.bytes()),
+            Some(code.as_bytes()),
+            "the code of {source}"
+        );
+        assert_eq!(rt; diag.bytes(), line.as_bytes(), "the line of {source}");
+        assert_eq!(rt; answer, status, "the status of {source}");
+    }
+}
+
 pub(crate) fn compiles(
     rt: &(impl AllocGlobal + Abort),
     source: &str,
@@ -26,33 +65,36 @@ pub(crate) fn compiles(
     line: &str,
     status: Status,
 ) {
-    let mut out = MemOut::new(rt.alloc());
-    let mut diag = MemOut::new(rt.alloc());
-    let answer = compile(
-        rt.alloc(),
-        &mut MemIn::new(source.as_bytes()),
-        &mut out,
-        &mut diag,
-    );
-    compares(rt, source, &out, code, &diag, line);
-    assert_eq!(rt; answer, status, "the status of {source}");
+    compiles_in(rt, &BOTH, source, code, line, status);
 }
 
 /// Sources, each with `~` and its code text; `@` parts them.
-pub(crate) fn all_compile(rt: &(impl AllocGlobal + Abort), rows: &str) {
+pub(crate) fn all_compile_in(rt: &(impl AllocGlobal + Abort), editions: &[Edition], rows: &str) {
     for row in rows.split("@\n") {
         let (source, code) = row.split_once('~').unwrap_or((row, ""));
-        compiles(rt, source, code, "", 0);
+        compiles_in(rt, editions, source, code, "", 0);
     }
 }
 
+pub(crate) fn all_compile(rt: &(impl AllocGlobal + Abort), rows: &str) {
+    all_compile_in(rt, &BOTH, rows);
+}
+
 /// Sources, each with `~`, the code of the definitions before its fault, `~` and the diagnostic; `@` parts them.
-pub(crate) fn all_have_faults(rt: &(impl AllocGlobal + Abort), rows: &str) {
+pub(crate) fn all_have_faults_in(
+    rt: &(impl AllocGlobal + Abort),
+    editions: &[Edition],
+    rows: &str,
+) {
     for row in rows.split("@\n") {
         let (source, rest) = row.split_once('~').unwrap_or((row, ""));
         let (code, line) = rest.split_once('~').unwrap_or((rest, ""));
-        compiles(rt, source, code, line, 1);
+        compiles_in(rt, editions, source, code, line, 1);
     }
+}
+
+pub(crate) fn all_have_faults(rt: &(impl AllocGlobal + Abort), rows: &str) {
+    all_have_faults_in(rt, &BOTH, rows);
 }
 
 #[test]
@@ -415,40 +457,62 @@ fn push_piece(source: &mut String, piece: &str) -> Result<(), AllocError> {
     Ok(())
 }
 
+/// A text of pieces, which `~` parts.
+pub(crate) fn of_pieces(alloc: Global, pieces: &str) -> Result<String, AllocError> {
+    let mut text = String::new(alloc);
+    for piece in pieces.split('~') {
+        push_piece(&mut text, piece)?;
+    }
+    Ok(text)
+}
+
 // Compares the first lines of the code of a source in pieces, and its diagnostic, with what was to come.
-fn begins(
+fn begins_in(
     rt: &(impl AllocGlobal + Abort),
+    editions: &[Edition],
     pieces: &str,
     code: &str,
     line: &str,
 ) -> Result<(), Fail> {
-    let mut source = String::new(rt.alloc());
-    for piece in pieces.split('~') {
-        push_piece(&mut source, piece)?;
+    let source = of_pieces(rt.alloc(), pieces)?;
+    for edition in editions {
+        let mut out = MemOut::new(rt.alloc());
+        let mut diag = MemOut::new(rt.alloc());
+        let answer = compile_edition(
+            rt.alloc(),
+            &mut MemIn::new(source.as_bytes()),
+            &mut out,
+            &mut diag,
+            *edition,
+        );
+        let text = behind_beginning(*edition, out.bytes()).unwrap_or(b"no code text");
+        assert!(rt; text.starts_with(code.as_bytes()), "the code of {pieces}");
+        assert!(rt;
+            line.is_empty() || text.len() == code.len(),
+            "the code of {pieces} before its fault"
+        );
+        assert_eq!(rt; diag.bytes(), line.as_bytes(), "the line of {pieces}");
+        let status = if line.is_empty() { 0 } else { 1 };
+        assert_eq!(rt; answer, status, "the status of {pieces}");
     }
-    let mut out = MemOut::new(rt.alloc());
-    let mut diag = MemOut::new(rt.alloc());
-    let answer = compile(
-        rt.alloc(),
-        &mut MemIn::new(source.as_bytes()),
-        &mut out,
-        &mut diag,
-    );
-    assert!(rt;
-        out.bytes().starts_with(code.as_bytes()),
-        "the code of {pieces}"
-    );
-    assert!(rt;
-        line.is_empty() || out.bytes().len() == code.len(),
-        "the code of {pieces} before its fault"
-    );
-    assert_eq!(rt; diag.bytes(), line.as_bytes(), "the line of {pieces}");
-    let status = if line.is_empty() { 0 } else { 1 };
-    assert_eq!(rt; answer, status, "the status of {pieces}");
     Ok(())
 }
 
-// Each limit of size, and one past it: pieces of a source, `^`, the first lines of its code, `^` and its diagnostic.
+/// Pieces of sources, each with `^`, the first lines of its code, `^` and its diagnostic; `@` parts them.
+pub(crate) fn all_begin_in(
+    rt: &(impl AllocGlobal + Abort),
+    editions: &[Edition],
+    rows: &str,
+) -> Result<(), Fail> {
+    for row in rows.split("@\n") {
+        let (pieces, rest) = row.split_once('^').unwrap_or((row, ""));
+        let (code, line) = rest.split_once('^').unwrap_or((rest, ""));
+        begins_in(rt, editions, pieces, code, line)?;
+    }
+    Ok(())
+}
+
+// Each limit of size, and one past it.
 #[test]
 fn limits(rt: HostRuntime) -> Result<(), Fail> {
     let rows = "\
@@ -537,10 +601,5 @@ E
 ^@
 1|f() ~201|(~1|1~201|)~1|;^^sx 1
 ";
-    for row in rows.split("@\n") {
-        let (pieces, rest) = row.split_once('^').unwrap_or((row, ""));
-        let (code, line) = rest.split_once('^').unwrap_or((rest, ""));
-        begins(&rt, pieces, code, line)?;
-    }
-    Ok(())
+    all_begin_in(&rt, &BOTH, rows)
 }

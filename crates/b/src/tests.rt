@@ -1,4 +1,5 @@
 //! The program over ends that fail, refused memory, and the command line.
+use crate::edition_tests::LABEL;
 use crate::example_tests::HELLO;
 use crate::serve::serve;
 use crate::source_tests::{compares, compiles};
@@ -93,6 +94,34 @@ fn the_commands(rt: HostRuntime) -> Result<(), Fail> {
 }
 
 #[test]
+fn commands_of_both_editions(rt: HostRuntime) -> Result<(), Fail> {
+    fs::write(&rt, "label.b", LABEL.as_bytes())?;
+    for (edition, output) in [
+        ("", "e"),
+        ("--edition 1 ", "e"),
+        ("--edition=1 ", "e"),
+        ("--edition 2 ", "de"),
+        ("--edition=2 ", "de"),
+        ("--steps 100 --edition 2 ", "de"),
+    ] {
+        let words = format!(in rt.alloc(); "b go {edition}label.b")?;
+        answers(&rt, words.as_str(), output, "", 0)?;
+    }
+    let (code, _) = serves(&rt, "b compile --edition 2", LABEL, 0)?;
+    fs::write(&rt, "label.code", code.bytes())?;
+    answers(&rt, "b run label.code", "de", "", 0)?;
+    answers(&rt, "b compile", "E\n", "", 0)?;
+    answers(&rt, "b compile --edition 1", "E\n", "", 0)?;
+    answers(&rt, "b compile --edition 2", "B 2\nE\n", "", 0)?;
+    fs::write(&rt, "label.b", b"f() break;")?;
+    answers(&rt, "b go label.b", "", "un break 1\n", 1)?;
+    answers(&rt, "b go label.b --edition 2", "", "sx break 1\n", 1)?;
+    fs::remove_file(&rt, "label.b")?;
+    fs::remove_file(&rt, "label.code")?;
+    Ok(())
+}
+
+#[test]
 fn wrong_command_lines(rt: HostRuntime) -> Result<(), Fail> {
     let rows = "\
 b~error: 'b' requires a subcommand but one was not provided
@@ -101,7 +130,23 @@ b run~error: the following required arguments were not provided:
 @
 b compile hello.b~error: unexpected argument 'hello.b' found
 
-Usage: b compile < FILE
+Usage: b compile [OPTIONS] < FILE
+@
+b compile --edition 3~error: invalid value '3' for '--edition <N>':
+@
+b compile --edition 0~error: invalid value '0' for '--edition <N>':
+@
+b go --edition x hello.b~error: invalid value 'x' for '--edition <N>':
+@
+b go --edition 3 hello.b~error: invalid value '3' for '--edition <N>':
+@
+b compile --edition 1 --edition 2~error: the argument '--edition <N>' cannot be used multiple times
+@
+b go --edition 1 hello.b --edition=2~error: the argument '--edition <N>' cannot be used multiple times
+@
+b compile --edition~error: a value is required for '--edition <N>' but none was supplied
+@
+b run --edition 1 hello.code~error: unexpected argument '--edition' found
 @
 /x/program walk~error: unrecognized subcommand 'walk'
 

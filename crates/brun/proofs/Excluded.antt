@@ -1,6 +1,6 @@
 -- Answers that the contract of `go` excludes, whatever is proved of the body that gives them.
 use Rattle.std.proofs.Common.{◌≡◌, ℕ, ◌<◌, ◌≤◌, List, [], ◌∷◌, map, codes, Some, None, refl, sym, ap, ◌∙◌, subst, arith, ◌⊎◌, inl, inr, ⊎_elim}
-use Rattle.bword.specs.declared.edition.Edition.TheVariants as editions
+use Rattle.bword.specs.declared.edition.Edition.{Edition}
 use Rattle.std.specs.Io.KnownBytes.{Appends}
 use Rattle.bword.specs.ByteEnds.{Incoming, Outgoing, Grew, Refuses}
 use Rattle.bword.specs.declared.byte_out.EndFault.{EndFault}
@@ -66,29 +66,29 @@ nothing_written : (o p : Outgoing) (bytes : List ℕ) → o.written ≡ Some [] 
 nothing_written o p bytes e f a = subst (λ x. Appends (Some []) x bytes) f (subst (λ x. Appends x p.written bytes) e a)
 
 -- Over ends that tell their bytes, with no input, where nothing fails and the source has no fault.
-module _ (source source_behind : Incoming) (ends : Ends) (status : ℕ) (text : List ℕ) (tells : Tells source text) (told : Tells ends.input [])
-    (healthy : NothingFailed source source_behind ends status) (r : compiled.Outcome) (g : Goes [] (tokens_from editions.One 1 text) r) (clean : r.stop ≡ None) where
-  answers : (steps : ℕ) (ds : List Definition) → g.definitions ≡ ds → Loads ds → GoesOff steps source source_behind ends status → RunAnswers ds [] steps ends status
+module _ (edition : Edition) (source source_behind : Incoming) (ends : Ends) (status : ℕ) (text : List ℕ) (tells : Tells source text) (told : Tells ends.input [])
+    (healthy : NothingFailed source source_behind ends status) (r : compiled.Outcome) (g : Goes [] (tokens_from edition 1 text) r) (clean : r.stop ≡ None) where
+  answers : (steps : ℕ) (ds : List Definition) → g.definitions ≡ ds → Loads ds → GoesOff edition steps source source_behind ends status → RunAnswers ds [] steps ends status
   answers steps ds same loads h =
       subst (λ x. RunAnswers x [] steps ends status) same
-      ((headline steps source source_behind ends status h text [] tells told healthy r g).runs clean (subst (λ x. Loads x) (sym same) loads))
+      ((headline edition steps source source_behind ends status h text [] tells told healthy r g).runs clean (subst (λ x. Loads x) (sym same) loads))
 
   -- `limit` in place of a halt: a run of fewer steps
-  pub no_fewer_steps : g.definitions ≡ nothing → GoesOff 2 source source_behind ends status → status ≡ 131 → ⊥
+  pub no_fewer_steps : g.definitions ≡ nothing → GoesOff edition 2 source source_behind ends status → status ≡ 131 → ⊥
   no_fewer_steps same h is =
       let halt = (answers 2 nothing same refl h).halts 2 (omega arith) (Exited 0) (runs.world_of (state nothing 2)) refl in
       let bad : 131 ≡ 0 = sym is ∙ halt.says.answered in
       omega (arith, bad)
 
   -- a halt in place of `limit`: a run of more steps
-  pub no_more_steps : g.definitions ≡ nothing → GoesOff 1 source source_behind ends status → status ≡ 0 → ⊥
+  pub no_more_steps : g.definitions ≡ nothing → GoesOff edition 1 source source_behind ends status → status ≡ 0 → ⊥
   no_more_steps same h is =
       let limit = (answers 1 nothing same refl h).limited (still_runs nothing 1 refl) in
       let bad : 0 ≡ 131 = sym is ∙ limit.says.answered in
       omega (arith, bad)
 
   -- less output than that of the steps
-  pub no_less_output : g.definitions ≡ writes_a → GoesOff 4 source source_behind ends status → ends.out.written ≡ Some [] → ends.out_behind.written ≡ Some [] → ⊥
+  pub no_less_output : g.definitions ≡ writes_a → GoesOff edition 4 source source_behind ends status → ends.out.written ≡ Some [] → ends.out_behind.written ≡ Some [] → ⊥
   no_less_output same h before behind =
       let limit = (answers 4 writes_a same refl h).limited (still_runs writes_a 4 refl) in
       let a : codes "a" ≡ limit.world.output = limit.shows.written in

@@ -1,6 +1,6 @@
 -- A source that compiles is run as its program.
 use Rattle.std.proofs.Common.{◌≡◌, ℕ, List, [], ◌++◌, map, refl, sym, subst}
-use Rattle.bword.specs.declared.edition.Edition.TheVariants as editions
+use Rattle.bword.specs.declared.edition.Edition.{Edition}
 use Rattle.bword.specs.ByteEnds.{Incoming, Outgoing, Kept, Writes, outgoing_of}
 use Rattle.bcode.specs.Text.{IsCodeText}
 use Rattle.bcode.proofs.FaultLaws.{unique_code}
@@ -29,36 +29,36 @@ text_runs steps text ds ends status is (runs.no_room header quiet silent s) = go
 kept_text : (m : Kept) (text : List ℕ) → Writes no_code text (outgoing_of m) → text ≡ m.bytes
 kept_text m text w = sym w.appended
 
-pub source_runs : (steps : ℕ) (source source_behind : Incoming) (ends : Ends) (status : ℕ) (m : Kept) (line : Outgoing)
-    → Compiles (record { source = source; source_behind = source_behind; code = no_code; code_behind = outgoing_of m; line = ends.line; line_behind = line; status = 0 })
-    → RunsText steps m.bytes (record ends { line = line }) status → RunsSource steps source source_behind ends status
-source_runs steps source source_behind ends status m line h done = record {
+pub source_runs : (edition : Edition) (steps : ℕ) (source source_behind : Incoming) (ends : Ends) (status : ℕ) (m : Kept) (line : Outgoing)
+    → Compiles (record { edition = edition; source = source; source_behind = source_behind; code = no_code; code_behind = outgoing_of m; line = ends.line; line_behind = line; status = 0 })
+    → RunsText steps m.bytes (record ends { line = line }) status → RunsSource edition steps source source_behind ends status
+source_runs edition steps source source_behind ends status m line h done = record {
   taken = h.taken;
   took = h.took;
   runs = λ more c r g.
       let compiled = h.compiled refl more c r g in
-      let text = kept_text m (code_text editions.One r) compiled.code in
-      let back = subst (λ t. IsCodeText t (map code_of g.definitions)) text (editions.One, reads_back editions.One 1 (h.taken ++ more) r g compiled.clean) in
+      let text = kept_text m (code_text edition r) compiled.code in
+      let back = subst (λ t. IsCodeText t (map code_of g.definitions)) text (edition, reads_back edition 1 (h.taken ++ more) r g compiled.clean) in
       let runs = text_runs steps m.bytes g.definitions (record ends { line = line }) status back done in
       (compiled.read, compiled.clean, subst (λ l. RunsProgram steps g.definitions (record ends { line = l }) status) compiled.silent runs);
 }
 
 -- what compiling does to the source, the code that is kept and the line
-abbrev Compiling : (source source_behind : Incoming) (first last : Kept) (line line_behind : Outgoing) → ℕ → Type 0
-Compiling source source_behind first last line line_behind status =
-    Compiles (record { source = source; source_behind = source_behind; code = outgoing_of first; code_behind = outgoing_of last; line = line; line_behind = line_behind; status = status })
+abbrev Compiling : (edition : Edition) (source source_behind : Incoming) (first last : Kept) (line line_behind : Outgoing) → ℕ → Type 0
+Compiling edition source source_behind first last line line_behind status =
+    Compiles (record { edition = edition; source = source; source_behind = source_behind; code = outgoing_of first; code_behind = outgoing_of last; line = line; line_behind = line_behind; status = status })
 
 abbrev nothing_kept : Kept
 nothing_kept = record { bytes = []; refusals = 0 }
 
-pub goes_stopped : (steps : ℕ) (source source_behind : Incoming) (ends : Ends) (first last : Kept) (status : ℕ) → first ≡ nothing_kept → (status ≡ 0 → ⊥) → HasNotRun ends
-    → Compiling source source_behind first last ends.line ends.line_behind status → GoesOff steps source source_behind ends status
-goes_stopped steps source source_behind ends first last status e not_zero quiet h =
-    going.stopped last not_zero quiet (subst (λ m. Compiling source source_behind m last ends.line ends.line_behind status) e h)
+pub goes_stopped : (edition : Edition) (steps : ℕ) (source source_behind : Incoming) (ends : Ends) (first last : Kept) (status : ℕ) → first ≡ nothing_kept → (status ≡ 0 → ⊥) → HasNotRun ends
+    → Compiling edition source source_behind first last ends.line ends.line_behind status → GoesOff edition steps source source_behind ends status
+goes_stopped edition steps source source_behind ends first last status e not_zero quiet h =
+    going.stopped last not_zero quiet (subst (λ m. Compiling edition source source_behind m last ends.line ends.line_behind status) e h)
 
-pub goes_ran : (steps : ℕ) (source source_behind : Incoming) (ends : Ends) (first last : Kept) (line : Outgoing) (compiled status : ℕ) (text : List ℕ) → first ≡ nothing_kept → compiled ≡ 0 → text ≡ last.bytes
-    → Compiling source source_behind first last ends.line line compiled → RunsText steps text (record ends { line = line }) status → GoesOff steps source source_behind ends status
-goes_ran steps source source_behind ends first last line compiled status text e zero same h done =
-    going.ran (source_runs steps source source_behind ends status last line
-    (subst (λ n. Compiling source source_behind nothing_kept last ends.line line n) zero (subst (λ m. Compiling source source_behind m last ends.line line compiled) e h))
+pub goes_ran : (edition : Edition) (steps : ℕ) (source source_behind : Incoming) (ends : Ends) (first last : Kept) (line : Outgoing) (compiled status : ℕ) (text : List ℕ) → first ≡ nothing_kept → compiled ≡ 0 → text ≡ last.bytes
+    → Compiling edition source source_behind first last ends.line line compiled → RunsText steps text (record ends { line = line }) status → GoesOff edition steps source source_behind ends status
+goes_ran edition steps source source_behind ends first last line compiled status text e zero same h done =
+    going.ran (source_runs edition steps source source_behind ends status last line
+    (subst (λ n. Compiling edition source source_behind nothing_kept last ends.line line n) zero (subst (λ m. Compiling edition source source_behind m last ends.line line compiled) e h))
     (subst (λ t. RunsText steps t (record ends { line = line }) status) same done))

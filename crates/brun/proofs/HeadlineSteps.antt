@@ -1,6 +1,6 @@
 -- Where nothing fails, what is said of a run is what its source and its input come to.
 use Rattle.std.proofs.Common.{◌≡◌, ◌≢◌, ℕ, ◌+◌, ◌≤◌, List, [], ◌∷◌, ◌++◌, map, Bool, true, false, Option, Some, None, refl, sym, ap, ◌∙◌, subst, arith, append-nil, ◌⊎◌, inl, inr, ⊎_elim}
-use Rattle.bword.specs.declared.edition.Edition.TheVariants as editions
+use Rattle.bword.specs.declared.edition.Edition.{Edition}
 use Rattle.std.specs.Io.KnownBytes.{Appends, Consumes}
 use Rattle.bword.specs.ByteEnds.{Incoming, Outgoing, Kept, Grew, Took, Writes, Refuses, CanFollow, outgoing_of}
 use Rattle.bword.specs.declared.byte_out.EndFault.{EndFault}
@@ -11,7 +11,7 @@ use Rattle.btree.specs.Code.{code_of}
 use Rattle.btree.specs.Compiled as compiled
 use Rattle.btree.specs.Compiled.{Goes, line_of}
 use Rattle.btree.specs.Definition.{Definition}
-use Rattle.bparse.specs.Compiles.{Run, Compiles, SourceFailed, CodeRefused, LineRefused}
+use Rattle.bparse.specs.Compiles.{Run, Compiles, SourceFailed, EndRefused}
 use Rattle.bparse.specs.Statuses.{status_of}
 use Rattle.bmach.specs.Machine.{State, Running, Halted, Stuck, image_of}
 use Rattle.bmach.specs.Runs as runs
@@ -188,21 +188,25 @@ no_zero (inl less) = omega arith
 no_zero (inr same) = omega (arith, same.0)
 
 -- what compiling does to the source, the kept code and the line
-abbrev compiling : (source source_behind : Incoming) (ends : Ends) (status : ℕ) (kept : Kept) → Run
-compiling source source_behind ends status kept =
-    record { source = source; source_behind = source_behind; code = going.no_code; code_behind = outgoing_of kept; line = ends.line; line_behind = ends.line_behind; status = status }
+abbrev compiling : (edition : Edition) (source source_behind : Incoming) (ends : Ends) (status : ℕ) (kept : Kept) → Run
+compiling edition source source_behind ends status kept =
+    record { edition = edition; source = source; source_behind = source_behind; code = going.no_code; code_behind = outgoing_of kept; line = ends.line; line_behind = ends.line_behind; status = status }
 
 -- A source that isn't compiled where nothing fails has a fault.
-module _ (source source_behind : Incoming) (ends : Ends) (status : ℕ) (healthy : NothingFailed source source_behind ends status) (kept : Kept) where
+module _ (edition : Edition) (source source_behind : Incoming) (ends : Ends) (status : ℕ) (healthy : NothingFailed source source_behind ends status) (kept : Kept) where
   -- what follows the bytes taken, and the outcome with it
-  module _ (h : Compiles (compiling source source_behind ends status kept)) (more : List ℕ) (follows : CanFollow source_behind more) (r : compiled.Outcome) (g : Goes [] (tokens_from editions.One 1 (h.taken ++ more)) r) where
+  module _ (h : Compiles (compiling edition source source_behind ends status kept)) (more : List ℕ) (follows : CanFollow source_behind more) (r : compiled.Outcome) (g : Goes [] (tokens_from edition 1 (h.taken ++ more)) r) where
     not_device : status ≡ 133 → ⊥
     not_device device = by_end (h.failed device)
       where
-        by_end : (SourceFailed (compiling source source_behind ends status kept) h.taken ⊎ CodeRefused (compiling source source_behind ends status kept) h.taken end_fault.Device ⊎ LineRefused (compiling source source_behind ends status kept) h.taken end_fault.Device) → ⊥
+        run : Run
+        run = compiling edition source source_behind ends status kept
+
+        by_end : (SourceFailed run h.taken ⊎ EndRefused run h.taken end_fault.Device) → ⊥
         by_end (inl f) = healthy.source_read f.counted
-        by_end (inr (inl c)) = no_zero (c.code more follows r g).1.counted.0
-        by_end (inr (inr l)) = healthy.line_written (l.written more follows r g).line.counted.0
+        by_end (inr (inl o)) = no_zero o.code.counted.0
+        by_end (inr (inr (inl c))) = no_zero (subst (λ n. Grew n 0) c.begun.failures (c.code more follows r g).1.counted.0)
+        by_end (inr (inr (inr l))) = healthy.line_written (l.written more follows r g).line.counted.0
 
     fault_status : (status ≡ 0 → ⊥) → status ≡ 1
     fault_status not_zero = by_status h.no_other
@@ -254,11 +258,11 @@ program_answers r ds input steps source source_behind ends status told healthy c
     no_load f e = cc
 program_answers r ds input steps source source_behind ends status told healthy clean (going.no_memory quiet silent is) = absurd (healthy.not_refused is)
 
-pub headline : (steps : ℕ) (source source_behind : Incoming) (ends : Ends) (status : ℕ) → GoesOff steps source source_behind ends status → Headline steps source source_behind ends status
-headline steps source source_behind ends status (going.stopped kept not_zero quiet h) text input tells told healthy r g =
+pub headline : (edition : Edition) (steps : ℕ) (source source_behind : Incoming) (ends : Ends) (status : ℕ) → GoesOff edition steps source source_behind ends status → Headline edition steps source source_behind ends status
+headline edition steps source source_behind ends status (going.stopped kept not_zero quiet h) text input tells told healthy r g =
     let rest = rest_of source source_behind h.taken text h.took tells in
-    let behind = subst (λ t. Goes [] (tokens_from editions.One 1 t) r) (sym rest.whole) g in
-    let one = fault_status source source_behind ends status healthy kept h rest.more rest.follows r behind not_zero in
+    let behind = subst (λ t. Goes [] (tokens_from edition 1 t) r) (sym rest.whole) g in
+    let one = fault_status edition source source_behind ends status healthy kept h rest.more rest.follows r behind not_zero in
     let f = h.faulty one rest.more rest.follows r behind in
     record {
       faulty = λ fault e.
@@ -268,8 +272,8 @@ headline steps source source_behind ends status (going.stopped kept not_zero qui
       refused = λ clean x n load number. other_stop r.stop f.fault clean f.stop;
       runs = λ clean loads. other_stop r.stop f.fault clean f.stop;
     }
-headline steps source source_behind ends status (going.ran s) text input tells told healthy r g =
+headline edition steps source source_behind ends status (going.ran s) text input tells told healthy r g =
     let rest = rest_of source source_behind s.taken text s.took tells in
-    let runs = subst (λ t. (r : compiled.Outcome) (g : Goes [] (tokens_from editions.One 1 t) r) → (source_behind.failures ≡ source.failures) × (r.stop ≡ None) × RunsProgram steps g.definitions ends status) rest.whole (s.runs rest.more rest.follows) in
+    let runs = subst (λ t. (r : compiled.Outcome) (g : Goes [] (tokens_from edition 1 t) r) → (source_behind.failures ≡ source.failures) × (r.stop ≡ None) × RunsProgram steps g.definitions ends status) rest.whole (s.runs rest.more rest.follows) in
     let program = runs r g in
     program_answers r g.definitions input steps source source_behind ends status told healthy program.1 program.2

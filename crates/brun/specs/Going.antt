@@ -1,6 +1,6 @@
 -- What comes of a source that is compiled and run.
 use Rattle.std.specs.Prelude.{◌≡◌, ℕ, List, [], ◌++◌, map, Some, None}
-use Rattle.bword.specs.declared.edition.Edition.TheVariants as editions
+use Rattle.bword.specs.declared.edition.Edition.{Edition}
 use Rattle.bword.specs.ByteEnds.{Incoming, Outgoing, Kept, outgoing_of}
 use Rattle.blex.specs.Sources.{Took}
 use Rattle.blex.specs.Tokens.{tokens_from}
@@ -32,19 +32,22 @@ pub data RunsProgram (steps : ℕ) (ds : List Definition) (ends : Ends) (status 
 abbrev pub no_code : Outgoing
 no_code = outgoing_of (record { bytes = []; refusals = 0 })
 
--- The source was compiled, and its program run.
-pub record RunsSource (steps : ℕ) (source source_behind : Incoming) (ends : Ends) (status : ℕ) : Type 0 where
+-- The source was compiled in the edition, and its program run.
+pub record RunsSource (edition : Edition) (steps : ℕ) (source source_behind : Incoming) (ends : Ends) (status : ℕ)
+    : Type 0 where
   pub taken : List ℕ
   pub took : Took source taken source_behind
   pub runs : (more : List ℕ) → CanFollow source_behind more
-      → (r : compiled.Outcome) → (g : Goes [] (tokens_from editions.One 1 (taken ++ more)) r)
+      → (r : compiled.Outcome) → (g : Goes [] (tokens_from edition 1 (taken ++ more)) r)
       → (source_behind.failures ≡ source.failures) × (r.stop ≡ None) × RunsProgram steps g.definitions ends status
 
--- A source that isn't compiled, for a fault or a failure, is not run. The code is kept in memory, which fails for want of
--- memory alone.
-pub data GoesOff (steps : ℕ) (source source_behind : Incoming) (ends : Ends) (status : ℕ) : Type 0 where
+-- A source that isn't compiled in the edition, for a fault or a failure, is not run. The code is kept in memory, which fails
+-- for want of memory alone.
+pub data GoesOff (edition : Edition) (steps : ℕ) (source source_behind : Incoming) (ends : Ends) (status : ℕ)
+    : Type 0 where
   stopped : (kept : Kept) → (status ≡ DONE → ⊥) → HasNotRun ends
       → Compiles (record {
+        edition = edition;
         source = source;
         source_behind = source_behind;
         code = no_code;
@@ -53,5 +56,5 @@ pub data GoesOff (steps : ℕ) (source source_behind : Incoming) (ends : Ends) (
         line_behind = ends.line_behind;
         status = status;
       })
-      → GoesOff steps source source_behind ends status
-  ran : RunsSource steps source source_behind ends status → GoesOff steps source source_behind ends status
+      → GoesOff edition steps source source_behind ends status
+  ran : RunsSource edition steps source source_behind ends status → GoesOff edition steps source source_behind ends status
