@@ -1,14 +1,18 @@
--- Answers that the contract of `go` excludes, whatever is proved of the body that gives them.
-use Rattle.std.proofs.Common.{◌≡◌, ℕ, ◌<◌, ◌≤◌, List, [], ◌∷◌, map, codes, Some, None, refl, sym, ap, ◌∙◌, subst, arith, ◌⊎◌, inl, inr, ⊎_elim}
+-- Answers that the contract of `go_edition` excludes, whatever is proved of the body that gives them.
+use Rattle.std.proofs.Common.{◌≡◌, ℕ, ◌<◌, ◌≤◌, List, [], ◌∷◌, map, codes, Option, Some, None, refl, sym, ap, ◌∙◌, subst, arith, ◌⊎◌, inl, inr, ⊎_elim}
 use Rattle.bword.specs.declared.edition.Edition.{Edition}
+use Rattle.bword.specs.declared.edition.Edition.TheVariants as editions
 use Rattle.std.specs.Io.KnownBytes.{Appends}
 use Rattle.bword.specs.ByteEnds.{Incoming, Outgoing, Grew, Refuses}
 use Rattle.bword.specs.declared.byte_out.EndFault.{EndFault}
 use Rattle.bword.specs.declared.byte_out.EndFault.TheVariants as end_fault
 use Rattle.blex.specs.Tokens.{tokens_from}
+use Rattle.blex.specs.declared.diagnostic.Diagnostic.{Diagnostic}
 use Rattle.btree.specs.Code.{code_of}
 use Rattle.btree.specs.Compiled as compiled
-use Rattle.btree.specs.Compiled.{Goes}
+use Rattle.btree.specs.Compiled.{Goes, line_of}
+use Rattle.btree.specs.SourceRows.{fault_text, ComesIn}
+use Rattle.btree.proofs.SourceRows.{edition_rows}
 use Rattle.btree.specs.Definition.{Definition}
 use Rattle.btree.specs.Expression.{Number, Named, Literal, Called, No_arguments, Another}
 use Rattle.btree.specs.Statement.{Evaluate, Compound, Stmts, Nothing, More}
@@ -62,8 +66,8 @@ still_runs : (ds : List Definition) (steps : ℕ) → outcome_of (state ds steps
 still_runs ds steps limit n le e w h =
     no_end e w (sym limit ∙ ap outcome_of (halted_later (image_of (map code_of ds)) [] n steps e w le h))
 
-nothing_written : (o p : Outgoing) (bytes : List ℕ) → o.written ≡ Some [] → p.written ≡ Some [] → Appends o.written p.written bytes → [] ≡ bytes
-nothing_written o p bytes e f a = subst (λ x. Appends (Some []) x bytes) f (subst (λ x. Appends x p.written bytes) e a)
+all_written : (o p : Outgoing) (bytes all : List ℕ) → o.written ≡ Some [] → p.written ≡ Some all → Appends o.written p.written bytes → all ≡ bytes
+all_written o p bytes all e f a = subst (λ x. Appends (Some []) x bytes) f (subst (λ x. Appends x p.written bytes) e a)
 
 -- Over ends that tell their bytes, with no input, where nothing fails and the source has no fault.
 module _ (edition : Edition) (source source_behind : Incoming) (ends : Ends) (status : ℕ) (text : List ℕ) (tells : Tells source text) (told : Tells ends.input [])
@@ -92,9 +96,37 @@ module _ (edition : Edition) (source source_behind : Incoming) (ends : Ends) (st
   no_less_output same h before behind =
       let limit = (answers 4 writes_a same refl h).limited (still_runs writes_a 4 refl) in
       let a : codes "a" ≡ limit.world.output = limit.shows.written in
-      let none : [] ≡ limit.world.output = nothing_written ends.out ends.out_behind limit.world.output before behind limit.says.written.appended in
+      let none : [] ≡ limit.world.output = all_written ends.out ends.out_behind limit.world.output [] before behind limit.says.written.appended in
       let bad : codes "a" ≡ [] = a ∙ sym none in
       cc
+
+abbrev first_byte : List ℕ → ℕ
+first_byte [] = 0
+first_byte (b ∷ bytes) = b
+
+-- `f() break;` has a fault in each edition, which has a line of its own there.
+module _ (steps : ℕ) (source source_behind : Incoming) (ends : Ends) (status : ℕ) (tells : Tells source (codes "f() break;")) (told : Tells ends.input [])
+    (healthy : NothingFailed source source_behind ends status) (before : ends.line.written ≡ Some []) (behind : List ℕ) (is : ends.line_behind.written ≡ Some behind) where
+  line_in : (edition : Edition) (code line : List ℕ) (c : ComesIn edition (codes "f() break;") code line) → GoesOff edition steps source source_behind ends status → (line ≡ [] → ⊥) → behind ≡ line
+  line_in edition code line c h some = at_stop c.outcome.stop refl c.line_is
+    where
+      at_stop : (stop : Option Diagnostic) → c.outcome.stop ≡ stop → fault_text stop ≡ line → behind ≡ line
+      at_stop None e nothing = absurd (some (sym nothing))
+      at_stop (Some d) e same =
+          let said = (headline edition steps source source_behind ends status h (codes "f() break;") [] tells told healthy c.outcome c.goes).faulty d e in
+          all_written ends.line ends.line_behind (line_of d) behind before is said.told.appended ∙ same
+
+  -- a body that takes the first edition where it is told the second
+  pub no_first_edition : GoesOff editions.Two steps source source_behind ends status → behind ≡ codes "un break 1\n" → ⊥
+  no_first_edition h first =
+      let letters : 117 ≡ 115 = ap first_byte (sym first ∙ line_in editions.Two _ _ edition_rows.break_outside h (λ e. cc)) in
+      omega (arith, letters)
+
+  -- a body that takes the second where it is told the first
+  pub no_second_edition : GoesOff editions.One steps source source_behind ends status → behind ≡ codes "sx break 1\n" → ⊥
+  no_second_edition h second =
+      let letters : 115 ≡ 117 = ap first_byte (sym second ∙ line_in editions.One _ _ edition_rows.mention_break h (λ e. cc)) in
+      omega (arith, letters)
 
 told_device : (line : List ℕ) (answer : ℕ) (o p : Outgoing) (status : ℕ) → answer < 133 → Reported line answer o p status → status ≡ 133 → Grew o.failures p.failures
 told_device line answer o p status less (inl told) is = let same : answer ≡ 133 = sym told.1 ∙ is in absurd (omega (arith, less, same))

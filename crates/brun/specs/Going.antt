@@ -41,8 +41,8 @@ pub record RunsSource (edition : Edition) (steps : ℕ) (source source_behind : 
       → (r : compiled.Outcome) → (g : Goes [] (tokens_from edition 1 (taken ++ more)) r)
       → (source_behind.failures ≡ source.failures) × (r.stop ≡ None) × RunsProgram steps g.definitions ends status
 
--- A source that isn't compiled in the edition, for a fault or a failure, is not run. The code is kept in memory, which fails
--- for want of memory alone.
+-- A source that isn't compiled in the edition, for a fault or a failure, is not run. The code is kept in memory, which
+-- fails for want of memory alone.
 pub data GoesOff (edition : Edition) (steps : ℕ) (source source_behind : Incoming) (ends : Ends) (status : ℕ)
     : Type 0 where
   stopped : (kept : Kept) → (status ≡ DONE → ⊥) → HasNotRun ends
@@ -57,4 +57,5 @@ pub data GoesOff (edition : Edition) (steps : ℕ) (source source_behind : Incom
         status = status;
       })
       → GoesOff edition steps source source_behind ends status
-  ran : RunsSource edition steps source source_behind ends status → GoesOff edition steps source source_behind ends status
+  ran : RunsSource edition steps source source_behind ends status
+      → GoesOff edition steps source source_behind ends status

@@ -1,4 +1,5 @@
--- What comes of a source and an input where nothing fails: the whole promise of `go_edition`, over ends that tell their bytes.
+-- What comes of a source and an input where nothing fails: the whole promise of `go_edition`, over ends that tell their
+-- bytes.
 use Rattle.std.specs.Prelude.{◌≡◌, ◌≢◌, ℕ, ◌+◌, ◌≤◌, List, [], map, Some, None}
 use Rattle.bword.specs.declared.edition.Edition.{Edition}
 use Rattle.bword.specs.ByteEnds.{Incoming, Grew, Writes, CanFollow}
@@ -83,7 +84,8 @@ pub record GoAnswers
   pub runs : r.stop ≡ None → Loads ds → RunAnswers ds input steps ends status
 
 -- For the outcome in the edition of the bytes that the source gives, and its program on the bytes that the input gives.
-abbrev pub Headline : (edition : Edition) (steps : ℕ) (source source_behind : Incoming) (ends : Ends) (status : ℕ) → Type 0
+abbrev pub Headline : Edition → (steps : ℕ) (source source_behind : Incoming) (ends : Ends) (status : ℕ) → Type 0
 Headline edition steps source source_behind ends status =
     (text input : List ℕ) → Tells source text → Tells ends.input input → NothingFailed source source_behind ends status
-    → (r : compiled.Outcome) (g : Goes [] (tokens_from edition 1 text) r) → GoAnswers r g.definitions input steps ends status
+    → (r : compiled.Outcome) (g : Goes [] (tokens_from edition 1 text) r)
+    → GoAnswers r g.definitions input steps ends status
