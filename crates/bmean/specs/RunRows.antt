@@ -1,5 +1,6 @@
 -- Closed facts: whole sources, what they mean and what the machine does with their code.
 use Rattle.std.specs.Prelude.{◌≡◌, ℕ, zero, suc, List, [], ◌∷◌, map, replicate, codes, refl}
+use Rattle.bword.specs.declared.edition.Edition.{Edition}
 use Rattle.bword.specs.declared.edition.Edition.TheVariants as editions
 use Rattle.std.specs.Fmt.{digits}
 use Rattle.blex.specs.Pieces.{whole, word_of, keyword_of, number_in, with_byte, escape_of, operator_of, other_of, fixed_of}
@@ -22,8 +23,8 @@ abbrev read_all : ℕ → List Placed → List Definition
 read_all zero tokens = []
 read_all (suc n) tokens = elim (definition tokens) [ Got d rest ↦ d ∷ read_all n rest | Stop rest ↦ [] ]
 
-abbrev definitions : List ℕ → List Definition
-definitions source = read_all 8 (tokens_from editions.One 1 source)
+abbrev definitions : Edition → List ℕ → List Definition
+definitions edition source = read_all 8 (tokens_from edition 1 source)
 
 -- how a program ends, where want of fuel is the limit, and what it has written
 abbrev answered : Answer ⊥ → Outcome × List ℕ
@@ -35,10 +36,16 @@ abbrev reached : State → Outcome × List ℕ
 reached s = (outcome_of s, (world_of s).output)
 
 -- the meaning with so much fuel, and the machine after so many steps
-abbrev both : List ℕ → (input : List ℕ) → ℕ → List (Outcome × List ℕ)
-both source input n =
-    let ds = definitions source in
+abbrev both_in : Edition → List ℕ → (input : List ℕ) → ℕ → List (Outcome × List ℕ)
+both_in edition source input n =
+    let ds = definitions edition source in
     answered (meant ds input n) ∷ reached (run (image_of (map code_of ds)) input n) ∷ []
+
+abbrev both : List ℕ → (input : List ℕ) → ℕ → List (Outcome × List ℕ)
+both = both_in editions.One
+
+abbrev both_in_two : List ℕ → (input : List ℕ) → ℕ → List (Outcome × List ℕ)
+both_in_two = both_in editions.Two
 
 -- jumps into a loop, where the loop goes on, and to a label by its number
 record Jumps : Type 0 where
@@ -91,6 +98,52 @@ switches = record {
   inner_case = refl;
   case_in_loop = refl;
   nearest_if = refl;
+}
+
+-- breaks and defaults: in each other, with jumps into them and out of them
+record Breaks : Type 0 where
+  default_falls_through :
+      both_in_two (codes "main(){switch 9 {case 1: putchar('1'); default: putchar('d'); case 2: putchar('2');}}") [] 400
+      ≡ replicate 2 (Exit 0, codes "d2")
+  case_before_default :
+      both_in_two (codes "main(){switch 2 {case 1: putchar('1'); default: putchar('d'); case 2: putchar('2');}}") [] 400
+      ≡ replicate 2 (Exit 0, codes "2")
+  default_alone : both_in_two (codes "main(){switch 9 {putchar('a'); default: putchar('d');} putchar('.');}") [] 400
+      ≡ replicate 2 (Exit 0, codes "d.")
+  leaves_the_switch :
+      both_in_two (codes "main(){auto i; i=0; while(i<2) { switch i { case 0: break; default: putchar('x'); } i++; }}") [] 400
+      ≡ replicate 2 (Exit 0, codes "x")
+  loop_behind :
+      both_in_two (codes "main(){auto i; i=0; while(i<2) {i++; putchar('a'); break; while(1) ;} putchar('k');}") [] 400
+      ≡ replicate 2 (Exit 0, codes "ak")
+  case_in_loop :
+      both_in_two (codes "main(){switch 1 {while(1) {case 1: putchar('a'); break;} putchar('b');} putchar('c');}") [] 400
+      ≡ replicate 2 (Exit 0, codes "abc")
+  goto_to_a_break : both_in_two (codes "main(){goto in; switch 1 { case 1: in: break; } putchar('k');}") [] 400
+      ≡ replicate 2 (Exit 0, codes "k")
+  goto_into_both :
+      both_in_two (codes "main(){goto in; switch 0 {case 1: while(1) {putchar('b'); in: break;} putchar('c'); break; default: putchar('d');} putchar('e');}") [] 400
+      ≡ replicate 2 (Exit 0, codes "ce")
+  three_deep :
+      both_in_two (codes "main(){auto i; i=0; switch 1 {case 1: while(1) {switch i {default: i++; break; case 3: putchar('x');} putchar('w'); if(i==2) break;} putchar('s'); break; default: putchar('x');} putchar('.');}") [] 400
+      ≡ replicate 2 (Exit 0, codes "wws.")
+  in_and_out :
+      both_in_two (codes "main(){auto i; i=0; goto in; switch 1 {case 1: while(i<3) {switch i {default: putchar('d'); in: i++; break; case 2: goto out;} putchar('w');} putchar('x'); default: ;} out: putchar('o');}") [] 400
+      ≡ replicate 2 (Exit 0, codes "wdwo")
+
+breaks : Breaks
+unfolding tokens_from cut longest greatest whole word_of keyword_of number_in with_byte escape_of operator_of other_of fixed_of digits
+breaks = record {
+  default_falls_through = refl;
+  case_before_default = refl;
+  default_alone = refl;
+  leaves_the_switch = refl;
+  loop_behind = refl;
+  case_in_loop = refl;
+  goto_to_a_break = refl;
+  goto_into_both = refl;
+  three_deep = refl;
+  in_and_out = refl;
 }
 
 -- strings, each with words of its own

@@ -1,5 +1,5 @@
 -- Closed facts: the lines of diagnostics, and each size limit with what is one past it.
-use Rattle.std.specs.Prelude.{◌≡◌, ℕ, List, [], ◌∷◌, ◌++◌, map, replicate, codes, true, false, None, refl}
+use Rattle.std.specs.Prelude.{◌≡◌, ℕ, zero, suc, List, [], ◌∷◌, ◌++◌, map, replicate, codes, true, false, None, refl}
 use Rattle.std.specs.Fmt.{digits}
 use Rattle.blex.specs.declared.token.Letters.{Letters}
 use Rattle.blex.specs.declared.token.Letters.TheVariants as letters
@@ -16,7 +16,7 @@ use Rattle.btree.specs.Lines.{mark, placed}
 use Rattle.btree.specs.Statement.{keyword_mark}
 use Rattle.btree.specs.Code.{fits}
 use Rattle.btree.specs.Compiled.{line_of}
-use Rattle.btree.specs.CodeRows.{number, semicolon, braced, function_f, fault_in, name_fault, lone_fault, case_fault, case_token, cases_below, names_below}
+use Rattle.btree.specs.CodeRows.{number, semicolon, braced, function_f, fault_in, not_read, name_fault, lone_fault, case_fault, case_token, default_on, cases_below, names_below}
 
 -- all letters, in the order of their type
 abbrev all : List Letters
@@ -120,3 +120,15 @@ name_again = refl
 defined_first : fault_in (codes "f" ∷ []) (function_f [] (number 1 ∷ placed (token.Assign None) 3 ∷ number 2
     ∷ semicolon ∷ [])) ≡ name_fault letters.Redeclared 102 1
 defined_first = refl
+
+-- so many switches, each at the default of the one around it
+abbrev switches : ℕ → List Placed
+switches zero = semicolon ∷ []
+switches (suc n) = keyword_mark keyword.Switch ∷ number 1 ∷ braced (default_on 1 ++ switches n)
+
+-- 200 switches may be open, each with a default, and 201 may not.
+open_switches : fault_in [] (function_f [] (switches 200)) ≡ None
+open_switches = refl
+
+too_deep_switches : fault_in [] (function_f [] (switches 201)) ≡ not_read
+too_deep_switches = refl
