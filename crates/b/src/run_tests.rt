@@ -69,6 +69,29 @@ c 65536
 E
 ~code 2
 @
+X n 1 0
+c 65536
+E
+~code 2
+@
+F f 0 0 0 0 2
+r
+j 2
+E
+~code 3
+@
+F f 0 0 0 0 1
+b =
+E
+~code 2
+@
+X 9 0 0
+E
+~code 1
+@
+X n 0 0
+X n 0 0~code 2
+@
 V v 0 0 0
 E
 ~code 1
@@ -111,6 +134,23 @@ c 1
 k 1
 E
 ~trap sk
+@
+F main 0 0 0 0 2
+c 1
+b +
+E
+~trap sk
+@
+F main 0 0 0 0 5
+c 5
+x f
+v
+k 0
+r
+F f 0 0 0 0 1
+r
+E
+~trap sk
 ";
     all_stop(&rt, rows, 130);
 }
@@ -120,6 +160,7 @@ fn steps(rt: HostRuntime) {
     runs(&rt, "F main 0 0 0 0 1\nj 0\nE\n", 100, "", "limit\n", 131);
     runs(&rt, "F main 0 0 0 0 2\nc 0\nr\nE\n", 2, "", "", 0);
     runs(&rt, "F main 0 0 0 0 2\nc 0\nr\nE\n", 1, "", "limit\n", 131);
+    runs(&rt, "F main 0 0 0 0 2\nc 0\nr\nE\n", 0, "", "limit\n", 131);
 }
 
 #[test]

@@ -279,6 +279,45 @@ g
 c 0
 r
 E
+@
+f() 1-2-3|4&5;~F f 0 0 0 0 12
+c 1
+c 2
+b -
+c 3
+b -
+c 4
+c 5
+b &
+b |
+p
+c 0
+r
+E
+@
+f() { extrn x, y, z; x = y[1] ? -2 : g(3, *z); }~F f 0 0 0 0 21
+x x
+x y
+v
+c 1
+b +
+v
+z 10
+c 2
+n
+j 17
+x g
+v
+c 3
+x z
+v
+v
+k 2
+w
+p
+c 0
+r
+E
 ";
     all_compile(&rt, rows);
 }

@@ -6,9 +6,9 @@
 #[cfg(test)]
 mod code_texts;
 #[cfg(test)]
-mod drafts;
+mod devices;
 #[cfg(test)]
-mod expressions;
+mod drafts;
 #[cfg(test)]
 mod loads;
 #[cfg(test)]

@@ -1,148 +1,55 @@
-//! Small programs, loaded.
-ghost use Rattle.std.specs.Prelude.{◌≤◌, ◌<◌, All, IsTrue, length};
-ghost use Rattle.bcode.specs.Definitions.{IsIvalWithin};
-ghost use Rattle.bword.specs.Names.{is_name};
-
-use bcode::*;
-use bmach::*;
+//! Code texts, loaded.
+use bcode::read_code;
+use bmach::{Image, LoadFault, load};
 use bword::Name;
 use std::alloc::Global;
+use std::process::Abort;
 use std::test::Fail;
 
-fn simple(alloc: Global, name: &str, values: &[Ival]) -> Result<Definition, Fail>
-    requires few { length values.now ≤ 1024 }
-    requires within { All (IsIvalWithin 0) values.now }
-{
-    let name = Name::new(name).ok_or("no name")?;
-    Ok(Definition::Simple(Simple::from_parts(SimpleParts {
-        name,
-        values: Vec::from_slice(alloc, values)?,
-        strings: Vec::new(alloc),
-    })))
+fn image(alloc: Global, code: &str) -> Result<Image, Fail> {
+    Ok(load(alloc, read_code(alloc, code.as_bytes())?)?)
 }
 
-fn vector(alloc: Global, name: &str, words: u16) -> Result<Definition, Fail>
-    requires some { 1 ≤ words }
-    requires few { words ≤ 32767 }
-{
-    let name = Name::new(name).ok_or("no name")?;
-    Ok(Definition::Vector(Vector::from_parts(VectorParts {
-        name,
-        words,
-        values: Vec::new(alloc),
-        strings: Vec::new(alloc),
-    })))
-}
-
-/// `name() ;`
-fn function(alloc: Global, name: &str) -> Result<Definition, Fail> {
-    let name = Name::new(name).ok_or("no name")?;
-    Ok(Definition::Function(Function::from_parts(FunctionParts {
-        name,
-        parameters: 0,
-        frame: 0,
-        targets: Vec::new(alloc),
-        strings: Vec::new(alloc),
-        code: Vec::from_slice(alloc, &[Instr::Constant(0), Instr::Return])?,
-    })))
-}
-
-#[test]
-fn numbers(rt: HostRuntime) -> Result<(), Fail> {
-    let mut definitions = Vec::new(rt.alloc());
-    definitions.push(simple(rt.alloc(), "n", &[Ival::Number(5)])?)?;
-    definitions.push(vector(rt.alloc(), "v", 2)?)?;
-    definitions.push(function(rt.alloc(), "main")?)?;
-    let image = load(rt.alloc(), definitions)?;
-    assert_eq!(rt; image.data_end(), 12);
-    for (address, word) in [
-        (0, 0),
-        (1, 1),
-        (6, 6),
-        (7, 5),
-        (8, 9),
-        (9, 0),
-        (10, 0),
-        (11, 7),
-        (12, 0),
-        (65535, 0),
-    ] {
-        assert_eq!(rt; image.word(address), word, "at {address}");
+// Compares the words of an image, of which there are no more before its data end.
+fn holds(rt: &impl Abort, image: &Image, words: &str) {
+    let mut end: u16 = 0;
+    for word in words.split(' ') {
+        let held = Some(image.word(end));
+        assert_eq!(rt; held, word.parse().ok(), "at {end} of {words}");
+        end = end.saturating_add(1);
     }
-    Ok(())
-}
-
-#[test]
-fn a_hidden_name(rt: HostRuntime) -> Result<(), Fail> {
-    let mut definitions = Vec::new(rt.alloc());
-    definitions.push(simple(rt.alloc(), "exit", &[Ival::Number(5)])?)?;
-    definitions.push(function(rt.alloc(), "main")?)?;
-    let image = load(rt.alloc(), definitions)?;
+    assert_eq!(rt; image.data_end(), u32::from(end), "the data end of {words}");
     assert_eq!(rt;
-        image.address(&Name::new("exit").ok_or("no name")?),
-        Some(7)
+        [image.word(end), image.word(65535)],
+        [0, 0],
+        "behind {words}"
     );
-    assert_eq!(rt;
-        image.address(&Name::new("char").ok_or("no name")?),
-        Some(1)
-    );
-    assert_eq!(rt; image.address(&Name::new("none").ok_or("no name")?), None);
-    Ok(())
-}
-
-fn fault(alloc: Global, definitions: Vec<Definition>) -> Result<String, Fail> {
-    match load(alloc, definitions) {
-        Ok(_) => return Err("it loads".into()),
-        Err(fault) => return Ok(fault.to_string(alloc)?),
-    }
-}
-
-#[test]
-fn faults(rt: HostRuntime) -> Result<(), Fail> {
-    let none = Vec::new(rt.alloc());
-    assert_eq!(rt; fault(rt.alloc(), none)?.as_str(), "load 4");
-
-    let mut no_main = Vec::new(rt.alloc());
-    no_main.push(simple(rt.alloc(), "main", &[])?)?;
-    assert_eq!(rt; fault(rt.alloc(), no_main)?.as_str(), "load 4");
-
-    let mut twice = Vec::new(rt.alloc());
-    twice.push(simple(rt.alloc(), "n", &[])?)?;
-    twice.push(simple(rt.alloc(), "n", &[])?)?;
-    assert_eq!(rt; fault(rt.alloc(), twice)?.as_str(), "load 1");
-
-    let name = Name::new("g").ok_or("no name")?;
-    let mut undefined = Vec::new(rt.alloc());
-    undefined.push(simple(rt.alloc(), "n", &[Ival::Name(name)])?)?;
-    assert_eq!(rt; fault(rt.alloc(), undefined)?.as_str(), "load 3");
-
-    let mut large = Vec::new(rt.alloc());
-    large.push(vector(rt.alloc(), "v", 30001)?)?;
-    large.push(vector(rt.alloc(), "w", 30001)?)?;
-    large.push(vector(rt.alloc(), "x", 10001)?)?;
-    large.push(function(rt.alloc(), "main")?)?;
-    assert_eq!(rt; fault(rt.alloc(), large)?.as_str(), "load 2");
-    Ok(())
 }
 
 // `s "ab", t, 'x'; t; main() ;`
 const STRINGS: &str =
     "X s 3 2\ns 0\nx t\nc 120\nw 25185\nw 4\nX t 0 0\nF main 0 0 0 0 2\nc 0\nr\nE\n";
 
+// `n 5; v[1]; main() ;`
+const NUMBERS: &str = "X n 1 0\nc 5\nV v 2 0 0\nF main 0 0 0 0 2\nc 0\nr\nE\n";
+
 #[test]
-fn a_string_as_a_value(rt: HostRuntime) -> Result<(), Fail> {
-    let image = load(rt.alloc(), read_code(rt.alloc(), STRINGS.as_bytes())?)?;
-    assert_eq!(rt; image.data_end(), 14);
-    for (address, word) in [
-        (7, 10),
-        (8, 12),
-        (9, 120),
-        (10, 25185),
-        (11, 4),
-        (12, 0),
-        (13, 7),
+fn words_of_images(rt: HostRuntime) -> Result<(), Fail> {
+    for (code, words) in [
+        (NUMBERS, "0 1 2 3 4 5 6 5 9 0 0 7"),
+        (STRINGS, "0 1 2 3 4 5 6 10 12 120 25185 4 0 7"),
     ] {
-        assert_eq!(rt; image.word(address), word, "at {address}");
+        holds(&rt, &image(rt.alloc(), code)?, words);
+    }
+    Ok(())
+}
+
+#[test]
+fn addresses_of_names(rt: HostRuntime) -> Result<(), Fail> {
+    let image = image(rt.alloc(), "X exit 1 0\nc 5\nF main 0 0 0 0 2\nc 0\nr\nE\n")?;
+    for (text, address) in [("exit", Some(7)), ("char", Some(1)), ("none", None)] {
+        let name = Name::new(text).ok_or("a name")?;
+        assert_eq!(rt; image.address(&name), address, "{text}");
     }
     Ok(())
 }

@@ -1,205 +1,81 @@
-use arrayvec::ArrayVec;
-use blex::{Keyword, Letters, Lexer, Placed, Token};
-use bword::{BinOp, MemIn, Name};
+use blex::Lexer;
+use bword::MemIn;
+use std::process::Abort;
+use std::test::Fail;
 
-fn name(text: &str) -> Token {
-    match Name::new(text) {
-        Some(name) => Token::Name(name),
-        None => Token::End,
-    }
-}
-
-fn string(text: &[u8]) -> Token {
-    match ArrayVec::try_from(text) {
-        Ok(characters) => Token::String(characters),
-        Err(_) => Token::End,
-    }
-}
-
-fn bad(letters: Letters) -> Token {
-    Token::Bad(letters)
-}
-
-// Whether the source gives these tokens, and the last one again.
-fn gives(source: &[u8], expected: &[Token]) -> bool {
+// Compares the tokens of a source with those to come, one a word; behind the last one it comes again.
+fn gives(rt: &(impl AllocGlobal + Abort), source: &[u8], tokens: &str) -> Result<(), Fail> {
     let mut lexer = Lexer::new(MemIn::new(source));
-    for token in expected {
+    for token in tokens.split(' ') {
         let Ok(placed) = lexer.next() else {
-            return false;
+            return Err("a token".into());
         };
-        if placed.token != *token {
-            return false;
-        }
+        let given = format!(in rt.alloc(); "{:?}", placed.token)?;
+        assert_eq!(rt; given.as_str(), token, "one of {tokens}");
     }
-    match (lexer.next(), expected.last()) {
-        (Ok(again), Some(last)) => again.token == *last,
-        _ => false,
+    Ok(())
+}
+
+// Sources, each with `~` and its tokens; `@` parts them.
+#[test]
+fn tokens_of_sources(rt: HostRuntime) -> Result<(), Fail> {
+    let rows = "\
+x=-1~Name(x) Assign(Some(Sub)) Number(1) End End
+@
+x=!y~Name(x) Assign(None) Not Name(y) End
+@
+x=!=y~Name(x) Assign(Some(Ne)) Name(y) End
+@
+x==-y~Name(x) Operator(Eq) Operator(Sub) Name(y) End
+@
+x====y~Name(x) Assign(Some(Eq)) Assign(None) Name(y) End
+@
+x+++y~Name(x) Increment Operator(Add) Name(y) End
+@
+=/*p~Assign(Some(Div)) Operator(Mul) Name(p) End
+@
+/**/a~Name(a) End
+@
+/*/~Bad(OpenComment) Bad(OpenComment)
+@
+/* /* */ \u{ff}~Bad(Character) Bad(Character)
+@
+12ab~Number(12) Name(ab) End
+@
+0177777~Number(65535) End
+@
+0200000~Bad(Constant)
+@
+08~Bad(Constant) Bad(Constant)
+@
+'*e''\"''*''~Character(4) Character(34) Character(39) End
+@
+'ab'~Character(24930) End
+@
+aaaaaaaa~Name(aaaaaaaa) End
+@
+return abcdefghi~Keyword(Return) Bad(LongName) Bad(LongName)
+@
+''~Bad(Constant)
+@
+'abc'~Bad(Constant)
+@
+'*x'~Bad(Constant)
+@
+'a
+'~Bad(Constant)
+@
+'a~Bad(Constant)
+@
+\"a
+\"~Bad(Constant)
+@
+\"*~Bad(Constant)
+@
+\"\u{80}\"~Bad(Constant)";
+    for row in rows.split("\n@\n") {
+        let (source, tokens) = row.split_once('~').unwrap_or((row, ""));
+        gives(&rt, source.as_bytes(), tokens)?;
     }
-}
-
-#[test]
-fn takes_the_longest_operator(rt: HostRuntime) {
-    assert!(rt;
-        gives(
-            b"x=-1",
-            &[
-                name("x"),
-                Token::Assign(Some(BinOp::Sub)),
-                Token::Number(1),
-                Token::End
-            ]
-        )
-    );
-    assert!(rt;
-        gives(
-            b"x=!y",
-            &[
-                name("x"),
-                Token::Assign(None),
-                Token::Not,
-                name("y"),
-                Token::End
-            ]
-        )
-    );
-    assert!(rt;
-        gives(
-            b"x=!=y",
-            &[
-                name("x"),
-                Token::Assign(Some(BinOp::Ne)),
-                name("y"),
-                Token::End
-            ]
-        )
-    );
-    assert!(rt;
-        gives(
-            b"x==-y",
-            &[
-                name("x"),
-                Token::Operator(BinOp::Eq),
-                Token::Operator(BinOp::Sub),
-                name("y"),
-                Token::End
-            ]
-        )
-    );
-    assert!(rt;
-        gives(
-            b"x====y",
-            &[
-                name("x"),
-                Token::Assign(Some(BinOp::Eq)),
-                Token::Assign(None),
-                name("y"),
-                Token::End
-            ]
-        )
-    );
-    assert!(rt;
-        gives(
-            b"x+++y",
-            &[
-                name("x"),
-                Token::Increment,
-                Token::Operator(BinOp::Add),
-                name("y"),
-                Token::End
-            ]
-        )
-    );
-    assert!(rt;
-        gives(
-            b"=/*p",
-            &[
-                Token::Assign(Some(BinOp::Div)),
-                Token::Operator(BinOp::Mul),
-                name("p"),
-                Token::End
-            ]
-        )
-    );
-}
-
-#[test]
-fn ends_comments_at_the_first_close(rt: HostRuntime) {
-    assert!(rt; gives(b"/**/a", &[name("a"), Token::End]));
-    assert!(rt; gives(b"/*/", &[bad(Letters::OpenComment)]));
-    assert!(rt; gives(b"/* /* */ \xff", &[bad(Letters::Character)]));
-}
-
-#[test]
-fn reads_constants(rt: HostRuntime) {
-    assert!(rt; gives(b"12ab", &[Token::Number(12), name("ab"), Token::End]));
-    assert!(rt; gives(b"0177777", &[Token::Number(65535), Token::End]));
-    assert!(rt; gives(b"0200000", &[bad(Letters::Constant)]));
-    assert!(rt; gives(b"08", &[bad(Letters::Constant)]));
-    assert!(rt;
-        gives(
-            b"'*e''\"''*''",
-            &[
-                Token::Character(4),
-                Token::Character(34),
-                Token::Character(39),
-                Token::End
-            ]
-        )
-    );
-    assert!(rt; gives(b"'ab'", &[Token::Character(24930), Token::End]));
-    assert!(rt; gives(b"\"a*(*)'\t*n\"", &[string(b"a{}'\t\n"), Token::End]));
-    assert!(rt; gives(&[b'a'; 8], &[name("aaaaaaaa"), Token::End]));
-    assert!(rt;
-        gives(
-            b"return abcdefghi",
-            &[Token::Keyword(Keyword::Return), bad(Letters::LongName)]
-        )
-    );
-}
-
-#[test]
-fn refuses_wrong_constants(rt: HostRuntime) {
-    for source in [
-        &b"''"[..],
-        b"'abc'",
-        b"'*x'",
-        b"'a\n'",
-        b"'a",
-        b"\"a\n\"",
-        b"\"*",
-        b"\"\x80\"",
-    ] {
-        assert!(rt; gives(source, &[bad(Letters::Constant)]));
-    }
-}
-
-#[test]
-fn holds_254_characters(rt: HostRuntime) {
-    let mut source = [b'a'; 256];
-    source[0] = b'"';
-    source[255] = b'"';
-    assert!(rt; gives(&source, &[string(&[b'a'; 254]), Token::End]));
-    let mut source = [b'a'; 257];
-    source[0] = b'"';
-    source[256] = b'"';
-    assert!(rt; gives(&source, &[bad(Letters::Constant)]));
-}
-
-#[test]
-fn counts_lines(rt: HostRuntime) {
-    let mut lexer = Lexer::new(MemIn::new(b"\n/*\n*/ x\n'\n'"));
-    assert_eq!(rt;
-        lexer.next(),
-        Ok(Placed {
-            token: name("x"),
-            line: 3
-        })
-    );
-    assert_eq!(rt;
-        lexer.next(),
-        Ok(Placed {
-            token: bad(Letters::Constant),
-            line: 4
-        })
-    );
+    Ok(())
 }
