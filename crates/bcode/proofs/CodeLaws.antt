@@ -1,15 +1,18 @@
 -- Code texts as paths of lines, and that a code text is that of one list of definitions.
-use Rattle.std.proofs.Common.{subst, ◌≡◌, ℕ, zero, suc, ◌+◌, ◌<◌, List, [], ◌∷◌, ◌++◌, length, map, replicate, refl, sym, ap, ◌∙◌, arith, append_assoc, append-nil, ◌⊎◌, inl, inr}
-use Rattle.std.specs.Prelude.{All}
+use Rattle.std.proofs.Common.{subst, ◌≡◌, ℕ, zero, suc, ◌+◌, ◌<◌, ◌≤◌, true, List, [], ◌∷◌, ◌++◌, length, map, replicate, refl, sym, ap, ◌∙◌, arith, append_assoc, append-nil, ◌⊎◌, inl, inr}
+use Rattle.std.specs.Prelude.{All, IsTrue}
 use Rattle.std.specs.List.{flat_map}
 use Rattle.std.proofs.lemmas.List.Elements.{All-nil, All-cons, All-head, All-tail}
+use Rattle.std.proofs.lemmas.Bool.Decides.{nat_tests}
+use Rattle.bword.specs.Names.{is_name}
 use Rattle.bword.specs.declared.edition.Edition.{Edition}
 use Rattle.bword.specs.declared.edition.Edition.TheVariants as editions
-use Rattle.bcode.specs.Definitions.{Function, IsWord, IsInstrWithin, IsIvalWithin, sizes_of}
-use Rattle.bcode.specs.Headers.{header_of, header_text, IsHeaderWithin, IsFunctionHeader}
+use Rattle.bcode.specs.Definitions.{Function, Simple, Vector, IsWord, IsInstrWithin, IsIvalWithin, IsFunctionWithinRanges, IsSimpleWithinRanges, IsVectorWithinRanges, sizes_of}
+use Rattle.bcode.specs.Headers.{header_of, header_text, function_fits, simple_fits, vector_fits, IsHeaderWithin}
 use Rattle.bcode.specs.Stopping.{Kind, value, target, string, instruction, IsOfKind, State, opens, expects, finished, state_after, Leads, Stops}
 use Rattle.bcode.specs.Text.{end_text, header_line, body_lines, lines_of, edition_line, ended_lines, code_lines, target_line, string_line, ival_line, instr_line}
 use Rattle.bcode.specs.Views.{IsWithinRanges}
+use Rattle.bcode.specs.declared.limits.TheConstants.{MAX_INSTRUCTIONS, MAX_LABELS, MAX_PARAMETERS, MAX_STRING_WORDS, MAX_VALUES, MAX_WORDS}
 use Rattle.bcode.specs.declared.definition.Definition.{Definition}
 use Rattle.bcode.specs.declared.definition.Definition.TheVariants as definition
 use Rattle.bcode.specs.declared.header.Header.{Header}
@@ -17,6 +20,7 @@ use Rattle.bcode.specs.declared.header.Header.TheVariants as header
 use Rattle.bcode.specs.declared.header.Sizes.{Sizes}
 use Rattle.bcode.specs.declared.instr.Instr.{Instr}
 use Rattle.bcode.specs.declared.instr.Ival.{Ival}
+use Rattle.bcode.proofs.HeaderLaws.{end_within}
 use Rattle.bcode.proofs.StoppingLaws.{Path}
 
 pub header_of-text : (d : Definition) → header_text (header_of d) ≡ header_line d
@@ -24,29 +28,70 @@ header_of-text (definition.Function f) = refl
 header_of-text (definition.Simple s) = refl
 header_of-text (definition.Vector v) = refl
 
-no_labels : (targets : List ℕ) (code : ℕ) → All (λ t. t < code) targets → code ≡ 0 → length targets ≡ 0
-no_labels [] code all none = refl
-no_labels (t ∷ ts) code all none = let first = All-head (λ n. n < code) t ts all in absurd (omega arith)
+-- The numbers of a definition and those of its first line.
+no_labels : (targets : List ℕ) (code : ℕ) → All (λ t. t < code) targets → (length targets ≡ 0) ⊎ (1 ≤ code)
+no_labels [] code all = inl refl
+no_labels (t ∷ ts) code all = inr (let first = All-head (λ n. n < code) t ts all in omega arith)
+
+all_fit : (parameters : ℕ) (s : Sizes) → parameters ≤ MAX_PARAMETERS → parameters ≤ s.frame → s.frame ≤ MAX_WORDS → s.labels ≤ MAX_LABELS → s.strings ≤ MAX_STRING_WORDS
+    → s.code ≤ MAX_INSTRUCTIONS → (s.labels ≡ 0) ⊎ (1 ≤ s.code) → function_fits parameters s ≡ true
+all_fit parameters s few inside frame labels strings code (inl none) = grind (arith, nat_tests)
+all_fit parameters s few inside frame labels strings code (inr some) = grind (arith, nat_tests)
+
+both_fit : (values strings : ℕ) → values ≤ MAX_VALUES → strings ≤ MAX_STRING_WORDS → simple_fits values strings ≡ true
+both_fit values strings v s = grind (arith, nat_tests)
+
+words_fit : (words values strings : ℕ) → 1 ≤ words → words ≤ MAX_WORDS → values ≤ words → values ≤ MAX_VALUES → strings ≤ MAX_STRING_WORDS → vector_fits words values strings ≡ true
+words_fit words values strings some few inside v s = grind (arith, nat_tests)
 
 pub header_of-within : (d : Definition) → IsWithinRanges d → IsHeaderWithin (header_of d)
 header_of-within (definition.Function f) h = record {
   named = h.named;
-  few_parameters = h.few_parameters;
-  parameters_in_frame = h.parameters_in_frame;
-  small_frame = h.frame;
-  few_labels = h.few_labels;
-  few_strings = h.few_strings;
-  few_instrs = h.few_instrs;
-  labels_in_code = no_labels f.targets (length f.code) h.targets;
+  fits = all_fit f.parameters (sizes_of f) h.few_parameters h.parameters_in_frame h.frame h.few_labels h.few_strings h.few_instrs (no_labels f.targets (length f.code) h.targets);
 }
-header_of-within (definition.Simple s) h = record { named = h.named; few_values = h.few_values; few_strings = h.few_strings }
+header_of-within (definition.Simple s) h = record { named = h.named; fits = both_fit (length s.values) (length s.strings) h.few_values h.few_strings }
 header_of-within (definition.Vector v) h = record {
   named = h.named;
-  some_word = h.some_word;
-  values_in_words = h.values_in_words;
-  few_words = h.few_words;
-  few_values = h.few_values;
-  few_strings = h.few_strings;
+  fits = words_fit v.words (length v.values) (length v.strings) h.some_word h.few_words h.values_in_words h.few_values h.few_strings;
+}
+
+-- The numbers of a first line that fit are those of a definition within its ranges.
+pub function_within : (f : Function) → IsTrue (is_name f.name) → function_fits f.parameters (sizes_of f) ≡ true
+    → All (λ t. t < length f.code) f.targets → All IsWord f.strings → All (IsInstrWithin (sizes_of f)) f.code → IsFunctionWithinRanges f
+function_within f named fit targets strings code = record {
+  named = named;
+  few_parameters = grind (arith, nat_tests);
+  parameters_in_frame = grind (arith, nat_tests);
+  frame = grind (arith, nat_tests);
+  few_labels = grind (arith, nat_tests);
+  few_strings = grind (arith, nat_tests);
+  few_instrs = grind (arith, nat_tests);
+  targets = targets;
+  strings = strings;
+  code = code;
+}
+
+pub simple_within : (s : Simple) → IsTrue (is_name s.name) → simple_fits (length s.values) (length s.strings) ≡ true
+    → All (IsIvalWithin (length s.strings)) s.values → All IsWord s.strings → IsSimpleWithinRanges s
+simple_within s named fit values strings = record {
+  named = named;
+  few_values = grind (arith, nat_tests);
+  few_strings = grind (arith, nat_tests);
+  values = values;
+  strings = strings;
+}
+
+pub vector_within : (v : Vector) → IsTrue (is_name v.name) → vector_fits v.words (length v.values) (length v.strings) ≡ true
+    → All (IsIvalWithin (length v.strings)) v.values → All IsWord v.strings → IsVectorWithinRanges v
+vector_within v named fit values strings = record {
+  named = named;
+  some_word = grind (arith, nat_tests);
+  values_in_words = grind (arith, nat_tests);
+  few_words = grind (arith, nat_tests);
+  few_values = grind (arith, nat_tests);
+  few_strings = grind (arith, nat_tests);
+  values = values;
+  strings = strings;
 }
 
 -- lines of one kind
@@ -146,7 +191,7 @@ path_body (definition.Vector v) ls h path =
     subst (λ (m : List (List ℕ)). Path (state_after (header_of (definition.Vector v))) m) (sym (append_assoc values words ls)) all
 
 ended_path : (ds : List Definition) → All IsWithinRanges ds → Path (expects []) (ended_lines ds)
-ended_path [] all = (finished, (header.End, tt, refl, refl), refl)
+ended_path [] all = (finished, (header.End, end_within, refl, refl), refl)
 ended_path (d ∷ ds) all =
     let within = All-head IsWithinRanges d ds all in
     let others = path_body d (ended_lines ds) within (ended_path ds (All-tail IsWithinRanges d ds all)) in
@@ -219,7 +264,7 @@ pub record Made (h : Header) (bs : List (List ℕ)) : Type 0 where
   pub inside : IsWithinRanges definition
   pub lines : bs ≡ body_lines definition
 
-made_function : (name : List ℕ) (parameters : ℕ) (s : Sizes) (bs : List (List ℕ)) → IsFunctionHeader name parameters s.frame s.labels s.strings s.code
+made_function : (name : List ℕ) (parameters : ℕ) (s : Sizes) (bs : List (List ℕ)) → IsHeaderWithin (header.Function name parameters s)
     → OfKinds (replicate s.labels (target s.code) ++ (replicate s.strings string ++ replicate s.code (instruction s))) bs
     → Made (header.Function name parameters s) bs
 made_function name parameters s bs h of =
@@ -231,18 +276,8 @@ made_function name parameters s bs h of =
     record {
       definition = definition.Function f;
       header = ap (λ z. header.Function name parameters z) sizes;
-      inside = record {
-        named = h.named;
-        few_parameters = h.few_parameters;
-        parameters_in_frame = h.parameters_in_frame;
-        frame = h.small_frame;
-        few_labels = rw t.count h.few_labels;
-        few_strings = rw w.count h.few_strings;
-        few_instrs = rw c.1 h.few_instrs;
-        targets = subst (λ (n : ℕ). All (λ k. k < n) t.values) (sym c.1) t.inside;
-        strings = w.inside;
-        code = subst (λ (z : Sizes). All (IsInstrWithin z) c.0) (sym sizes) c.2;
-      };
+      inside = function_within f h.named (subst (λ (z : Sizes). function_fits parameters z ≡ true) (sym sizes) h.fits)
+          (subst (λ (n : ℕ). All (λ k. k < n) t.values) (sym c.1) t.inside) w.inside (subst (λ (z : Sizes). All (IsInstrWithin z) c.0) (sym sizes) c.2);
       lines = t.lines ∙ ap (λ m. map target_line t.values ++ m) (w.lines ∙ ap (λ m. map string_line w.values ++ m) c.3)
           ∙ sym (append_assoc (map target_line t.values) (map string_line w.values) (map instr_line c.0));
     }
@@ -269,7 +304,7 @@ made (header.Simple name values strings) bs h of =
     record {
       definition = definition.Simple record { name = name; values = m.0; strings = m.1 };
       header = rw (m.2, m.3) refl;
-      inside = record { named = h.named; few_values = rw m.2 h.few_values; few_strings = rw m.3 h.few_strings; values = m.4; strings = m.5 };
+      inside = simple_within _ h.named (rw (m.2, m.3) h.fits) m.4 m.5;
       lines = m.6;
     }
 made (header.Vector name words values strings) bs h of =
@@ -277,16 +312,7 @@ made (header.Vector name words values strings) bs h of =
     record {
       definition = definition.Vector record { name = name; words = words; values = m.0; strings = m.1 };
       header = rw (m.2, m.3) refl;
-      inside = record {
-        named = h.named;
-        some_word = h.some_word;
-        values_in_words = rw m.2 h.values_in_words;
-        few_words = h.few_words;
-        few_values = rw m.2 h.few_values;
-        few_strings = rw m.3 h.few_strings;
-        values = m.4;
-        strings = m.5;
-      };
+      inside = vector_within _ h.named (rw (m.2, m.3) h.fits) m.4 m.5;
       lines = m.6;
     }
 made header.End bs h of = absurd of

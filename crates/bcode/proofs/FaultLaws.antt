@@ -1,5 +1,5 @@
 -- The line of a fault, and that a code text is that of one list of definitions.
-use Rattle.std.proofs.Common.{subst, true, false, eqb, Result, Ok, Err, IsErrAnd, MatchResult, length-append, ◌≡◌, ℕ, zero, suc, ◌+◌, ◌^◌, ◌<◌, ◌≤◌, List, [], ◌∷◌, ◌++◌, length, take, refl, sym, ap, ◌∙◌, arith, append_assoc, append-nil, ◌⊎◌, inl, inr}
+use Rattle.std.proofs.Common.{subst, true, false, eqb, Result, Ok, Err, IsErrAnd, MatchResult, length-append, ◌≡◌, ℕ, zero, suc, ◌+◌, ◌^◌, ◌<◌, ◌≤◌, List, [], ◌∷◌, ◌++◌, length, take, refl, sym, ap, ◌∙◌, arith, append_assoc, append-nil, inl, inr}
 use Rattle.std.specs.Prelude.{All, IfErr}
 use Rattle.std.specs.List.{flat_map}
 use Rattle.std.proofs.lemmas.List.Concat.{flat_map-append}
@@ -11,7 +11,7 @@ use Rattle.bcode.specs.Ahead.{Ahead, GoesOn, ReadsOpening, StopsAhead, ReadsDefi
 use Rattle.bcode.specs.Faults.{IsFaultLine, IsFaultOf}
 use Rattle.bcode.specs.Headers.{header_of, header_text}
 use Rattle.bcode.specs.LineReading.{Reader}
-use Rattle.bcode.specs.Stopping.{State, opens, expects, finished, Leads, Stuck, Stops}
+use Rattle.bcode.specs.Stopping.{State, opens, expects, Leads, Stops}
 use Rattle.bcode.specs.Text.{joined, end_text, header_line, body_lines, lines_of, text_of, edition_line, opening, ended_lines, code_lines, IsCodeText, target_line, string_line, ival_line, instr_line}
 use Rattle.bcode.specs.Views.{IsWithinRanges}
 use Rattle.bcode.specs.declared.definition.Definition.{Definition}
@@ -24,7 +24,7 @@ use Rattle.bcode.specs.declared.instr.Instr.{Instr}
 use Rattle.bcode.specs.declared.instr.Ival.{Ival}
 use Rattle.bcode.proofs.BodyLaws.{two_kinds, three_kinds}
 use Rattle.bcode.proofs.CodeLaws.{header_of-text, header_of-within, code_path, path_code}
-use Rattle.bcode.proofs.HeaderLaws.{header_at-exact}
+use Rattle.bcode.proofs.HeaderLaws.{header_at-exact, end_within}
 use Rattle.bcode.proofs.LineLaws.{IsExact, FitSizes, ival_at-exact, instr_at-exact, number_line_at-exact}
 use Rattle.bcode.proofs.PartLaws.{is_same}
 use Rattle.bcode.proofs.StoppingLaws.{same_spelling, begins_path, greatest_path, no_header, same_after, no_path}
@@ -139,11 +139,11 @@ not_end (definition.Vector f) e = cc
 unique_lines : (ds es : List Definition) → All IsWithinRanges ds → All IsWithinRanges es → joined (ended_lines ds) ≡ joined (ended_lines es) → ds ≡ es
 unique_lines [] [] in_d in_e same = refl
 unique_lines [] (e ∷ es) in_d in_e same =
-    let one = same_spelling header_at-exact (header_of e) header.End (joined (body_lines e) ++ joined (ended_lines es)) [] (header_of-within e (All-head IsWithinRanges e es in_e)) tt
+    let one = same_spelling header_at-exact (header_of e) header.End (joined (body_lines e) ++ joined (ended_lines es)) [] (header_of-within e (All-head IsWithinRanges e es in_e)) end_within
     (sym (code_text e es) ∙ sym same) in
     absurd (not_end e one.0)
 unique_lines (d ∷ ds) [] in_d in_e same =
-    let one = same_spelling header_at-exact (header_of d) header.End (joined (body_lines d) ++ joined (ended_lines ds)) [] (header_of-within d (All-head IsWithinRanges d ds in_d)) tt
+    let one = same_spelling header_at-exact (header_of d) header.End (joined (body_lines d) ++ joined (ended_lines ds)) [] (header_of-within d (All-head IsWithinRanges d ds in_d)) end_within
     (sym (code_text d ds) ∙ same) in
     absurd (not_end d one.0)
 unique_lines (d ∷ ds) (e ∷ es) in_d in_e same =

@@ -1,21 +1,20 @@
 -- The line of the fault of some texts, which is behind the whole lines that are right.
-use Rattle.std.proofs.Common.{subst, ◌≡◌, ℕ, zero, suc, ◌^◌, Bool, true, false, ◌&&◌, List, [], ◌∷◌, ◌++◌, Option, Some, None, refl, sym, ap, ◌∙◌, arith, eqb, take, drop, if◌then◌else◌, ◌⊎◌, inl, inr}
-use Rattle.std.specs.Prelude.{codes, replicate}
+use Rattle.std.proofs.Common.{◌≡◌, ℕ, zero, suc, ◌^◌, Bool, true, false, ◌&&◌, List, [], ◌∷◌, ◌++◌, Option, Some, None, refl, sym, ap, ◌∙◌, arith, eqb, take, drop, if◌then◌else◌, inl, inr}
+use Rattle.std.specs.Prelude.{codes}
 use Rattle.std.specs.Cmp.Lexicographic.{pointwise}
 use Rattle.std.proofs.lemmas.Bool.Decides.{Decides-eqb}
 use Rattle.std.proofs.lemmas.Slice.Eq.{starts_is}
-use Rattle.bcode.specs.Definitions.{IsWord}
 use Rattle.bcode.specs.Faults.{IsFaultLine}
-use Rattle.bcode.specs.Headers.{header_text, IsHeaderWithin}
-use Rattle.bcode.specs.LineReading.{header_at, sizes_at, function_header_at, simple_header_at, vector_header_at, ended, instr_at, ival_at, number_line_at, operand_at, name_operand_at, operator_at, less_at, greater_at, increment_at, case_at, Reader}
-use Rattle.bcode.specs.Reading.{◌>>=◌, expect, number_at, number_from, name_at}
-use Rattle.bcode.specs.Stopping.{Kind, value, target, string, instruction, State, opens, expects, finished, state_after, Leads, IsOfKind, Stuck, Stops}
+use Rattle.bcode.specs.Headers.{header_text}
+use Rattle.bcode.specs.LineReading.{header_at, any_header_at, sizes_at, function_header_at, simple_header_at, vector_header_at, ended, instr_at, ival_at, number_line_at, operand_at, name_operand_at, operator_at, less_at, greater_at, increment_at, case_at, Reader}
+use Rattle.bcode.specs.Reading.{expect, number_at, number_from, name_at}
+use Rattle.bcode.specs.Stopping.{Kind, value, target, string, instruction, State, opens, expects, finished, state_after, Leads, IsOfKind, Stops}
 use Rattle.bcode.specs.Text.{edition_line, target_line, string_line, instr_line, ival_line}
 use Rattle.bcode.specs.declared.header.Header.{Header}
 use Rattle.bcode.proofs.FaultLaws.{fault_line}
 use Rattle.bcode.proofs.HeaderLaws.{header_at-exact}
 use Rattle.bcode.proofs.LineLaws.{IsExact, ival_at-exact, instr_at-exact, number_line_at-exact}
-use Rattle.bcode.proofs.PartLaws.{bind_some, same_read}
+use Rattle.bcode.proofs.PartLaws.{same_read}
 use Rattle.bcode.proofs.StoppingLaws.{IsGoodKind, IsGoodState, good_next, no_header}
 
 -- the text behind a line of a kind
@@ -231,5 +230,5 @@ rows =
     []
 
 faults : AreFaults rows
-unfolding header_at sizes_at function_header_at simple_header_at vector_header_at ended instr_at ival_at number_line_at operand_at name_operand_at operator_at less_at greater_at increment_at case_at expect number_at number_from name_at
+unfolding header_at any_header_at sizes_at function_header_at simple_header_at vector_header_at ended instr_at ival_at number_line_at operand_at name_operand_at operator_at less_at greater_at increment_at case_at expect number_at number_from name_at
 faults = faults_there rows refl

@@ -1,14 +1,15 @@
 -- Where a text stops, and the lines that go on.
-use Rattle.std.proofs.Common.{subst, ◌≡◌, ℕ, zero, suc, ◌^◌, ◌<◌, ◌≤◌, List, [], ◌∷◌, ◌++◌, length, take, replicate, refl, sym, ap, ◌∙◌, arith, append_assoc, ◌⊎◌, inl, inr}
+use Rattle.std.proofs.Common.{subst, ◌≡◌, ℕ, zero, suc, ◌^◌, ◌<◌, ◌≤◌, List, [], ◌∷◌, ◌++◌, length, take, replicate, refl, sym, ap, ◌∙◌, arith, append_assoc, inl, inr}
 use Rattle.bcode.specs.Headers.{header_text, IsHeaderWithin}
 use Rattle.bcode.specs.LineReading.{Reader}
 use Rattle.bcode.specs.Stopping.{Kind, value, target, string, instruction, IsOfKind, State, opens, expects, finished, state_after, LeadsIn, Leads, Stops}
 use Rattle.bcode.specs.Text.{joined, end_text, edition_line, target_line, string_line, ival_line, instr_line}
 use Rattle.bcode.specs.declared.header.Header.{Header}
 use Rattle.bcode.specs.declared.header.Header.TheVariants as header
+use Rattle.bcode.specs.declared.header.Sizes.{Sizes}
 use Rattle.bcode.specs.declared.instr.Instr.TheVariants as instr
 use Rattle.bcode.specs.declared.instr.Ival.TheVariants as ival
-use Rattle.bcode.proofs.HeaderLaws.{header_at-exact}
+use Rattle.bcode.proofs.HeaderLaws.{header_at-exact, AreWords, function_words, some_code, simple_words, vector_words, end_within}
 use Rattle.bcode.proofs.LineLaws.{IsExact, FitSizes, ival_at-exact, instr_at-exact, number_line_at-exact}
 use Rattle.bcode.proofs.PartLaws.{same_read}
 
@@ -48,27 +49,26 @@ good_last (suc n) k each = (each (omega arith), good_last n k each')
     each' : 0 < n → IsGoodKind k
     each' h = each (omega arith)
 
-some_code : (code labels : ℕ) → (code ≡ 0 → labels ≡ 0) → 0 < labels → 0 < code
-some_code zero labels h some = let none = h refl in absurd (omega arith)
-some_code (suc n) labels h some = omega arith
+pub fit_sizes : (parameters : ℕ) (s : Sizes) → AreWords parameters s → FitSizes s
+fit_sizes parameters s w = record {
+  frame = (let l = w.frame in omega arith);
+  labels = (let l = w.labels in omega arith);
+  strings = (let l = w.strings in omega arith);
+  code = (let l = w.code in omega arith);
+}
 
 pub good_after : (h : Header) → IsHeaderWithin h → IsGoodState (state_after h)
 good_after (header.Function name parameters s) h =
-    let code : s.code ≤ 2 ^ 16 = (let l = h.few_instrs in omega arith) in
-    let some : 0 < s.labels → 0 < s.code = some_code s.code s.labels h.labels_in_code in
-    good_replicate s.labels (target s.code) _ (λ l. (some l, code))
+    let words = function_words parameters s h.fits in
+    let fit = fit_sizes parameters s words in
+    good_replicate s.labels (target s.code) _ (λ l. (some_code parameters s h.fits l, fit.code))
     (good_replicate s.strings string _ (λ _. tt)
-    (good_last s.code (instruction s) (λ _. record {
-      frame = (let l = h.small_frame in omega arith);
-      labels = (let l = h.few_labels in omega arith);
-      strings = (let l = h.few_strings in omega arith);
-      code = code;
-    })))
+    (good_last s.code (instruction s) (λ _. fit)))
 good_after (header.Simple name values strings) h =
-    let few : strings ≤ 2 ^ 16 = (let l = h.few_strings in omega arith) in
+    let few : strings ≤ 2 ^ 16 = (let l = (simple_words values strings h.fits).1 in omega arith) in
     good_replicate values (value strings) _ (λ _. few) (good_last strings string (λ _. tt))
 good_after (header.Vector name words values strings) h =
-    let few : strings ≤ 2 ^ 16 = (let l = h.few_strings in omega arith) in
+    let few : strings ≤ 2 ^ 16 = (let l = (vector_words words values strings h.fits).2 in omega arith) in
     good_replicate values (value strings) _ (λ _. few) (good_last strings string (λ _. tt))
 good_after header.End h = tt
 
@@ -136,14 +136,14 @@ sample (instruction sizes) good = (instr_line instr.Return, (instr.Return, tt, r
 
 -- every state can be ended
 completion : (ks : List Kind) → AreGoodKinds ks → (ls : List (List ℕ)) × Path (expects ks) ls
-completion [] good = (end_text ∷ [], (finished, (header.End, tt, refl, refl), refl))
+completion [] good = (end_text ∷ [], (finished, (header.End, end_within, refl, refl), refl))
 completion (k ∷ ks) good =
     let first = sample k good.0 in
     let others = completion ks good.1 in
     (first.0 ∷ others.0, (expects ks, (first.1, refl), others.1))
 
 ending : (from : State) → IsGoodState from → (ls : List (List ℕ)) × Path from ls
-ending opens good = (end_text ∷ [], (finished, inr (header.End, tt, refl, refl), refl))
+ending opens good = (end_text ∷ [], (finished, inr (header.End, end_within, refl, refl), refl))
 ending (expects ks) good = completion ks good
 ending finished good = ([], refl)
 

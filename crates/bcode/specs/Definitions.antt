@@ -1,7 +1,7 @@
 -- What the code of a definition is made of, and the ranges that a code text keeps.
-use Rattle.std.specs.Prelude.{ℕ, ◌<◌, ◌≤◌, ◌^◌, List, length, All, IsTrue}
+use Rattle.std.specs.Prelude.{ℕ, ◌<◌, ◌≤◌, List, length, All, IsTrue}
 use Rattle.bword.specs.Names.{is_name}
-use Rattle.bcode.specs.declared.limits.TheConstants.{MAX_INSTRUCTIONS, MAX_LABELS, MAX_PARAMETERS, MAX_STRING_WORDS, MAX_VALUES, MAX_WORDS}
+use Rattle.bcode.specs.declared.limits.TheConstants.{MAX_INSTRUCTIONS, MAX_LABELS, MAX_PARAMETERS, MAX_STRING_WORDS, MAX_VALUES, MAX_WORDS, WORD_VALUES}
 use Rattle.bcode.specs.declared.header.Sizes.{Sizes}
 use Rattle.bcode.specs.declared.instr.Instr.{Instr}
 use Rattle.bcode.specs.declared.instr.Instr.TheVariants as instr
@@ -31,7 +31,7 @@ pub record Vector : Type 0 where
   pub strings : List ℕ
 
 abbrev pub IsWord : ℕ → Type 0
-IsWord n = n < 2 ^ 16
+IsWord n = n < WORD_VALUES
 
 -- an initial value, in a definition with this many string words
 abbrev pub IsIvalWithin : ℕ → Ival → Type 0

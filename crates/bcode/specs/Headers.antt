@@ -1,5 +1,5 @@
 -- What the first line of a definition tells of it.
-use Rattle.std.specs.Prelude.{◌≡◌, ℕ, ◌≤◌, List, [], ◌∷◌, codes, decimal, length, IsTrue}
+use Rattle.std.specs.Prelude.{ℕ, ◌&&◌, ◌||◌, ◌==◌, nat_le, Bool, true, List, [], ◌∷◌, codes, decimal, length, IsTrue}
 use Rattle.bword.specs.Names.{is_name}
 use Rattle.bcode.specs.Definitions.{sizes_of}
 use Rattle.bcode.specs.Text.{line}
@@ -8,6 +8,7 @@ use Rattle.bcode.specs.declared.definition.Definition.{Definition}
 use Rattle.bcode.specs.declared.definition.Definition.TheVariants as definition
 use Rattle.bcode.specs.declared.header.Header.{Header}
 use Rattle.bcode.specs.declared.header.Header.TheVariants as header
+use Rattle.bcode.specs.declared.header.Sizes.{Sizes}
 
 abbrev pub header_of : Definition → Header
 header_of (definition.Function f) = header.Function f.name f.parameters (sizes_of f)
@@ -23,31 +24,33 @@ header_text (header.Vector name words values strings) =
     line (codes "V" ∷ name ∷ decimal words ∷ decimal values ∷ decimal strings ∷ [])
 header_text header.End = line (codes "E" ∷ [])
 
-pub record IsFunctionHeader (name : List ℕ) (parameters frame labels strings code : ℕ) : Type 0 where
-  pub named : IsTrue (is_name name)
-  pub few_parameters : parameters ≤ MAX_PARAMETERS
-  pub parameters_in_frame : parameters ≤ frame
-  pub small_frame : frame ≤ MAX_WORDS
-  pub few_labels : labels ≤ MAX_LABELS
-  pub few_strings : strings ≤ MAX_STRING_WORDS
-  pub few_instrs : code ≤ MAX_INSTRUCTIONS
-  pub labels_in_code : code ≡ 0 → labels ≡ 0
+-- The numbers of a first line within their ranges: those of a function, of a simple external and of a vector.
+abbrev pub function_fits : (parameters : ℕ) → Sizes → Bool
+function_fits parameters s =
+    nat_le parameters MAX_PARAMETERS && nat_le parameters s.frame && nat_le s.frame MAX_WORDS
+    && nat_le s.labels MAX_LABELS && nat_le s.strings MAX_STRING_WORDS && nat_le s.code MAX_INSTRUCTIONS
+    && (s.labels == 0 || nat_le 1 s.code)
 
-pub record IsSimpleHeader (name : List ℕ) (values strings : ℕ) : Type 0 where
-  pub named : IsTrue (is_name name)
-  pub few_values : values ≤ MAX_VALUES
-  pub few_strings : strings ≤ MAX_STRING_WORDS
+abbrev pub simple_fits : (values strings : ℕ) → Bool
+simple_fits values strings = nat_le values MAX_VALUES && nat_le strings MAX_STRING_WORDS
 
-pub record IsVectorHeader (name : List ℕ) (words values strings : ℕ) : Type 0 where
-  pub named : IsTrue (is_name name)
-  pub some_word : 1 ≤ words
-  pub values_in_words : values ≤ words
-  pub few_words : words ≤ MAX_WORDS
-  pub few_values : values ≤ MAX_VALUES
-  pub few_strings : strings ≤ MAX_STRING_WORDS
+abbrev pub vector_fits : (words values strings : ℕ) → Bool
+vector_fits words values strings =
+    nat_le 1 words && nat_le words MAX_WORDS && nat_le values words && simple_fits values strings
 
-abbrev pub IsHeaderWithin : Header → Type 0
-IsHeaderWithin (header.Function name parameters s) = IsFunctionHeader name parameters s.frame s.labels s.strings s.code
-IsHeaderWithin (header.Simple name values strings) = IsSimpleHeader name values strings
-IsHeaderWithin (header.Vector name words values strings) = IsVectorHeader name words values strings
-IsHeaderWithin header.End = Unit {0}
+abbrev pub header_fits : Header → Bool
+header_fits (header.Function name parameters sizes) = function_fits parameters sizes
+header_fits (header.Simple name values strings) = simple_fits values strings
+header_fits (header.Vector name words values strings) = vector_fits words values strings
+header_fits header.End = true
+
+-- a name, where there is one
+abbrev pub IsNamed : Header → Type 0
+IsNamed (header.Function name parameters sizes) = IsTrue (is_name name)
+IsNamed (header.Simple name values strings) = IsTrue (is_name name)
+IsNamed (header.Vector name words values strings) = IsTrue (is_name name)
+IsNamed header.End = Unit {0}
+
+pub record IsHeaderWithin (h : Header) : Type 0 where
+  pub named : IsNamed h
+  pub fits : IsTrue (header_fits h)

@@ -1,9 +1,10 @@
 -- Reading a line from the front of a text.
-use Rattle.std.specs.Prelude.{ℕ, ◌+◌, ◌^◌, ◌&&◌, ◌||◌, not, ◌==◌, nat_le, if◌then◌else◌, List, [], ◌∷◌, Option, Some, None}
+use Rattle.std.specs.Prelude.{ℕ, ◌==◌, if◌then◌else◌, List, [], ◌∷◌, Option, Some, None}
 use Rattle.bword.specs.declared.operators.BinOp.{BinOp}
 use Rattle.bword.specs.declared.operators.BinOp.TheVariants as op
 use Rattle.bcode.specs.Reading.{◌>>=◌, expect, number_at, name_at}
-use Rattle.bcode.specs.declared.limits.TheConstants.{MAX_INSTRUCTIONS, MAX_LABELS, MAX_PARAMETERS, MAX_STRING_WORDS, MAX_VALUES, MAX_WORDS}
+use Rattle.bcode.specs.Headers.{header_fits}
+use Rattle.bcode.specs.declared.limits.TheConstants.{WORD_VALUES}
 use Rattle.bcode.specs.declared.header.Header.{Header}
 use Rattle.bcode.specs.declared.header.Header.TheVariants as header
 use Rattle.bcode.specs.declared.header.Sizes.{Sizes}
@@ -67,19 +68,19 @@ increment_at bytes = expect 32 bytes >>= by_first increment_readers
 unfoldable pub case_at : ℕ → Reader Instr
 case_at below bytes = do
   rest ← expect 32 bytes
-  value ← number_at 32 (2 ^ 16) rest
+  value ← number_at 32 (WORD_VALUES) rest
   target ← number_at 10 below value.1
   Some (instr.JumpIfCase value.0 target.0, target.1)
 
 abbrev pub instr_readers : Sizes → List (ℕ × Reader Instr)
 instr_readers sizes =
-    (99, λ rest. mapped instr.Constant (operand_at (2 ^ 16) rest)) ∷ (120, λ rest. mapped instr.External (name_operand_at rest))
+    (99, λ rest. mapped instr.Constant (operand_at (WORD_VALUES) rest)) ∷ (120, λ rest. mapped instr.External (name_operand_at rest))
     ∷ (97, λ rest. mapped instr.Automatic (operand_at sizes.frame rest)) ∷ (115, λ rest. mapped instr.Text (operand_at sizes.strings rest))
     ∷ (108, λ rest. mapped instr.Label (operand_at sizes.labels rest)) ∷ (118, ended instr.Load) ∷ (119, ended instr.Store)
     ∷ (98, λ rest. mapped instr.Binary (operator_at rest)) ∷ (109, λ rest. mapped instr.Modify (operator_at rest)) ∷ (110, ended instr.Negate)
     ∷ (104, ended instr.Not) ∷ (105, λ rest. mapped instr.Increment (increment_at rest))
     ∷ (106, λ rest. mapped instr.Jump (operand_at sizes.code rest)) ∷ (122, λ rest. mapped instr.JumpIfZero (operand_at sizes.code rest))
-    ∷ (103, ended instr.Goto) ∷ (101, case_at sizes.code) ∷ (107, λ rest. mapped instr.Call (operand_at (2 ^ 16) rest))
+    ∷ (103, ended instr.Goto) ∷ (101, case_at sizes.code) ∷ (107, λ rest. mapped instr.Call (operand_at (WORD_VALUES) rest))
     ∷ (114, ended instr.Return) ∷ (112, ended instr.Pop) ∷ []
 
 unfoldable pub instr_at : Sizes → Reader Instr
@@ -87,7 +88,7 @@ instr_at sizes bytes = by_first (instr_readers sizes) bytes
 
 abbrev pub ival_readers : ℕ → List (ℕ × Reader Ival)
 ival_readers strings =
-    (99, λ rest. mapped ival.Number (operand_at (2 ^ 16) rest)) ∷ (120, λ rest. mapped ival.Name (name_operand_at rest))
+    (99, λ rest. mapped ival.Number (operand_at (WORD_VALUES) rest)) ∷ (120, λ rest. mapped ival.Name (name_operand_at rest))
     ∷ (115, λ rest. mapped ival.Text (operand_at strings rest)) ∷ []
 
 unfoldable pub ival_at : ℕ → Reader Ival
@@ -99,41 +100,44 @@ number_line_at letter below bytes = expect letter bytes >>= operand_at below
 
 unfoldable pub sizes_at : Reader Sizes
 sizes_at bytes = do
-  frame ← number_at 32 (MAX_WORDS + 1) bytes
-  labels ← number_at 32 (MAX_LABELS + 1) frame.1
-  strings ← number_at 32 (MAX_STRING_WORDS + 1) labels.1
-  code ← number_at 10 (MAX_INSTRUCTIONS + 1) strings.1
-  if labels.0 == 0 || not (code.0 == 0) then
-      Some (record { frame = frame.0; labels = labels.0; strings = strings.0; code = code.0 }, code.1)
-      else None
+  frame ← number_at 32 WORD_VALUES bytes
+  labels ← number_at 32 WORD_VALUES frame.1
+  strings ← number_at 32 WORD_VALUES labels.1
+  code ← number_at 10 WORD_VALUES strings.1
+  Some (record { frame = frame.0; labels = labels.0; strings = strings.0; code = code.0 }, code.1)
 
 unfoldable pub function_header_at : Reader Header
 function_header_at bytes = do
   rest ← expect 32 bytes
   name ← name_at 32 rest
-  parameters ← number_at 32 (MAX_PARAMETERS + 1) name.1
+  parameters ← number_at 32 WORD_VALUES name.1
   sizes ← sizes_at parameters.1
-  if nat_le parameters.0 sizes.0.frame then Some (header.Function name.0 parameters.0 sizes.0, sizes.1) else None
+  Some (header.Function name.0 parameters.0 sizes.0, sizes.1)
 
 unfoldable pub simple_header_at : Reader Header
 simple_header_at bytes = do
   rest ← expect 32 bytes
   name ← name_at 32 rest
-  values ← number_at 32 (MAX_VALUES + 1) name.1
-  strings ← number_at 10 (MAX_STRING_WORDS + 1) values.1
+  values ← number_at 32 WORD_VALUES name.1
+  strings ← number_at 10 WORD_VALUES values.1
   Some (header.Simple name.0 values.0 strings.0, strings.1)
 
 unfoldable pub vector_header_at : Reader Header
 vector_header_at bytes = do
   rest ← expect 32 bytes
   name ← name_at 32 rest
-  words ← number_at 32 (MAX_WORDS + 1) name.1
-  values ← number_at 32 (MAX_VALUES + 1) words.1
-  strings ← number_at 10 (MAX_STRING_WORDS + 1) values.1
-  if nat_le 1 words.0 && nat_le values.0 words.0 then Some (header.Vector name.0 words.0 values.0 strings.0, strings.1) else None
+  words ← number_at 32 WORD_VALUES name.1
+  values ← number_at 32 WORD_VALUES words.1
+  strings ← number_at 10 WORD_VALUES values.1
+  Some (header.Vector name.0 words.0 values.0 strings.0, strings.1)
 
+-- a first line, whatever its numbers
 abbrev pub header_readers : List (ℕ × Reader Header)
 header_readers = (70, function_header_at) ∷ (88, simple_header_at) ∷ (86, vector_header_at) ∷ (69, ended header.End) ∷ []
 
+unfoldable pub any_header_at : Reader Header
+any_header_at bytes = by_first header_readers bytes
+
+-- a first line whose numbers are within their ranges
 unfoldable pub header_at : Reader Header
-header_at bytes = by_first header_readers bytes
+header_at bytes = any_header_at bytes >>= λ read. if header_fits read.0 then Some read else None

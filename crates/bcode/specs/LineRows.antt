@@ -1,6 +1,6 @@
 -- Which lines are read, each range at its limit and one past it.
 use Rattle.std.specs.Prelude.{◌≡◌, ℕ, ◌^◌, true, false, List, [], ◌∷◌, map, length, replicate, is_some, codes, refl}
-use Rattle.bcode.specs.LineReading.{header_at, sizes_at, function_header_at, simple_header_at, vector_header_at, ended, instr_at, ival_at, number_line_at, operand_at, name_operand_at, operator_at, less_at, greater_at, increment_at, case_at}
+use Rattle.bcode.specs.LineReading.{header_at, any_header_at, sizes_at, function_header_at, simple_header_at, vector_header_at, ended, instr_at, ival_at, number_line_at, operand_at, name_operand_at, operator_at, less_at, greater_at, increment_at, case_at}
 use Rattle.bcode.specs.Reading.{expect, number_at, number_from, name_at}
 use Rattle.bcode.specs.declared.header.Sizes.{Sizes}
 
@@ -13,7 +13,7 @@ first_lines =
     codes "F f 0 0 1 0 1\n" ∷ codes "E\n" ∷ []
 
 headers : map (λ l. is_some (header_at l)) first_lines ≡ replicate (length first_lines) true
-unfolding header_at sizes_at function_header_at simple_header_at vector_header_at ended expect number_at number_from
+unfolding header_at any_header_at sizes_at function_header_at simple_header_at vector_header_at ended expect number_at number_from
     name_at
 headers = refl
 
@@ -31,7 +31,7 @@ no_first_lines =
     codes "F f 0 0 0 1025 0\n" ∷ codes "F f 0 0 0 0 4097\n" ∷ codes "F f 0 0 1 0 0\n" ∷ codes "F f 0 0 0 0\n" ∷ []
 
 no_headers : map (λ l. is_some (header_at l)) no_first_lines ≡ replicate (length no_first_lines) false
-unfolding header_at sizes_at function_header_at simple_header_at vector_header_at ended expect number_at number_from
+unfolding header_at any_header_at sizes_at function_header_at simple_header_at vector_header_at ended expect number_at number_from
     name_at
 no_headers = refl
 

@@ -1,5 +1,5 @@
 -- The ranges of a code text: each at its limit, and one past it.
-use Rattle.std.specs.Prelude.{◌≡◌, ℕ, ◌<◌, ◌≤◌, List, [], ◌∷◌, length, replicate, All, codes, refl}
+use Rattle.std.specs.Prelude.{ℕ, ◌<◌, ◌≤◌, [], length, replicate, codes, refl}
 use Rattle.std.proofs.Common.{arith}
 use Rattle.std.proofs.lemmas.List.{length-replicate}
 use Rattle.std.proofs.lemmas.List.Elements.{All-nil, All-replicate, All-head}
@@ -7,7 +7,6 @@ use Rattle.bcode.specs.Definitions.{Function, Simple, Vector, IsWord, IsInstrWit
 use Rattle.bcode.specs.declared.header.Sizes.{Sizes}
 use Rattle.bcode.specs.declared.instr.Instr.{Instr}
 use Rattle.bcode.specs.declared.instr.Instr.TheVariants as instr
-use Rattle.bcode.specs.declared.instr.Ival.{Ival}
 use Rattle.bcode.specs.declared.instr.Ival.TheVariants as ival
 
 -- definitions with so many of each part

@@ -1,8 +1,9 @@
 -- Reading the parts of a line from the front of a text: what was read, and the text behind it.
-use Rattle.std.specs.Prelude.{◌≡◌, ℕ, ◌+◌, ◌*◌, ◌-◌, ◌^◌, ◌==◌, nat_lt, if◌then◌else◌, List, [], ◌∷◌, take, drop, Option, Some, None}
+use Rattle.std.specs.Prelude.{◌≡◌, ℕ, ◌+◌, ◌*◌, ◌-◌, ◌==◌, nat_lt, if◌then◌else◌, List, [], ◌∷◌, take, drop, Option, Some, None}
 use Rattle.std.specs.Char.{is_ascii_digit}
 use Rattle.std.specs.List.{position}
 use Rattle.bword.specs.Names.{is_name}
+use Rattle.bcode.specs.declared.limits.TheConstants.{WORD_VALUES}
 
 infixl 10 ◌>>=◌
 abbrev pub ◌>>=◌ : {A B : Type 0} → Option A → (A → Option B) → Option B
@@ -25,7 +26,7 @@ number_from end below value (b ∷ bs) =
     if b == end then (if nat_lt value below then Some (value, bs) else None)
     else if value == 0 then None
     else if is_ascii_digit b then
-    (if nat_lt (value * 10 + (b - 48)) (2 ^ 16) then number_from end below (value * 10 + (b - 48)) bs else None)
+    (if nat_lt (value * 10 + (b - 48)) WORD_VALUES then number_from end below (value * 10 + (b - 48)) bs else None)
     else None
 
 -- a number below a bound, and the byte that ends it

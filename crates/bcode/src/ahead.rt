@@ -6,6 +6,7 @@ ghost use Rattle.bcode.specs.Headers.{header_text, IsHeaderWithin};
 ghost use Rattle.bcode.specs.Text.{line, instr_line, ival_line};
 
 use crate::header::{Header, Sizes};
+use crate::limits::WORD_VALUES;
 use crate::lines::{header, instr, ival, number_line};
 use crate::{CodeFault, Instr, Ival};
 use bword::Edition;
@@ -99,7 +100,7 @@ impl<'a> Ahead<'a> {
 
     /// The number in a line with this letter, which is below the bound.
     pub fn number(&mut self, letter: u8, below: u32) -> Result<u16, CodeFault>
-        requires { below ≤ 65536 }
+        requires { below ≤ WORD_VALUES }
         ensures { LineGives (λ n. line ((letter ∷ []) ∷ decimal n ∷ [])) (λ n. n < below) self.old result self.new }
     {
         let Some((n, rest)) = number_line(self.text, letter, below) else {

@@ -1,5 +1,8 @@
 //! The limits of a definition.
 
+/// How many values a word has.
+pub const WORD_VALUES: u32 = 65536;
+
 /// The most parameters of a function.
 pub const MAX_PARAMETERS: usize = 128;
 

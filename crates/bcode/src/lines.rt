@@ -16,20 +16,16 @@ ghost use Rattle.bcode.specs.LineReading.{
   function_header_at,
   simple_header_at,
   vector_header_at,
+  any_header_at,
   header_at,
 };
 ghost use Rattle.bcode.specs.Reading.{Gives};
 
 use crate::header::{Header, Sizes};
-use crate::limits::{
-    MAX_INSTRUCTIONS, MAX_LABELS, MAX_PARAMETERS, MAX_STRING_WORDS, MAX_VALUES, MAX_WORDS,
-};
+use crate::limits::WORD_VALUES;
 use crate::parts::{expect, name, number};
 use crate::{Increment, Instr, Ival};
 use bword::{BinOp, Name};
-
-/// How many words there are.
-const WORDS: u32 = 65536;
 
 // The text behind the end of a line, beside what stood in the line.
 #[tactic(auto, unfolding(crate::specs::LineReading::ended))]
@@ -42,7 +38,7 @@ fn ended<T: Drop>(value: T, text: &[u8]) -> Option<(T, &[u8])>
 
 #[tactic(auto, unfolding(crate::specs::LineReading::operand_at))]
 fn operand(text: &[u8], below: u32) -> Option<(u16, &[u8])>
-    requires { below ≤ 65536 }
+    requires { below ≤ WORD_VALUES }
     ensures { Gives (λ r. (r.0, r.1.now)) result (operand_at below text.now) }
 {
     let rest = expect(text, b' ')?;
@@ -120,11 +116,11 @@ fn increment(text: &[u8]) -> Option<(Increment, &[u8])>
 
 #[tactic(auto, unfolding(crate::specs::LineReading::case_at))]
 fn case(text: &[u8], below: u32) -> Option<(Instr, &[u8])>
-    requires { below ≤ 65536 }
+    requires { below ≤ WORD_VALUES }
     ensures { Gives (λ r. (r.0, r.1.now)) result (case_at below text.now) }
 {
     let rest = expect(text, b' ')?;
-    let (value, rest) = number(rest, b' ', WORDS)?;
+    let (value, rest) = number(rest, b' ', WORD_VALUES)?;
     let (target, rest) = number(rest, b'\n', below)?;
     Some((Instr::JumpIfCase { value, target }, rest))
 }
@@ -136,23 +132,14 @@ pub fn instr(text: &[u8], sizes: Sizes) -> Option<(Instr, &[u8])>
 {
     let (letter, rest) = text.split_first()?;
     match *letter {
-        b'c' => operand(rest, WORDS).map(|(n, rest)| (Instr::Constant(n), rest)),
+        b'c' => operand(rest, WORD_VALUES).map(|(n, rest)| (Instr::Constant(n), rest)),
         b'x' => match name_operand(rest) {
             Some((name, rest)) => Some((Instr::External(name), rest)),
             None => None,
         },
-        b'a' => operand(rest, u32::from(sizes.frame)).map(|(word, rest)| (
-            Instr::Automatic(word),
-            rest,
-        )),
-        b's' => operand(rest, u32::from(sizes.strings)).map(|(offset, rest)| (
-            Instr::Text(offset),
-            rest,
-        )),
-        b'l' => operand(rest, u32::from(sizes.labels)).map(|(label, rest)| (
-            Instr::Label(label),
-            rest,
-        )),
+        b'a' => operand(rest, u32::from(sizes.frame)).map(|(n, rest)| (Instr::Automatic(n), rest)),
+        b's' => operand(rest, u32::from(sizes.strings)).map(|(n, rest)| (Instr::Text(n), rest)),
+        b'l' => operand(rest, u32::from(sizes.labels)).map(|(n, rest)| (Instr::Label(n), rest)),
         b'v' => ended(Instr::Load, rest),
         b'w' => ended(Instr::Store, rest),
         b'b' => operator(rest).map(|(operator, rest)| (Instr::Binary(operator), rest)),
@@ -160,17 +147,11 @@ pub fn instr(text: &[u8], sizes: Sizes) -> Option<(Instr, &[u8])>
         b'n' => ended(Instr::Negate, rest),
         b'h' => ended(Instr::Not, rest),
         b'i' => increment(rest).map(|(which, rest)| (Instr::Increment(which), rest)),
-        b'j' => operand(rest, u32::from(sizes.code)).map(|(place, rest)| (
-            Instr::Jump(place),
-            rest,
-        )),
-        b'z' => operand(rest, u32::from(sizes.code)).map(|(place, rest)| (
-            Instr::JumpIfZero(place),
-            rest,
-        )),
+        b'j' => operand(rest, u32::from(sizes.code)).map(|(n, rest)| (Instr::Jump(n), rest)),
+        b'z' => operand(rest, u32::from(sizes.code)).map(|(n, rest)| (Instr::JumpIfZero(n), rest)),
         b'g' => ended(Instr::Goto, rest),
         b'e' => case(rest, u32::from(sizes.code)),
-        b'k' => operand(rest, WORDS).map(|(arguments, rest)| (Instr::Call(arguments), rest)),
+        b'k' => operand(rest, WORD_VALUES).map(|(n, rest)| (Instr::Call(n), rest)),
         b'r' => ended(Instr::Return, rest),
         b'p' => ended(Instr::Pop, rest),
         _ => None,
@@ -184,7 +165,7 @@ pub fn ival(text: &[u8], strings: u16) -> Option<(Ival, &[u8])>
 {
     let (letter, rest) = text.split_first()?;
     match *letter {
-        b'c' => operand(rest, WORDS).map(|(n, rest)| (Ival::Number(n), rest)),
+        b'c' => operand(rest, WORD_VALUES).map(|(n, rest)| (Ival::Number(n), rest)),
         b'x' => match name_operand(rest) {
             Some((name, rest)) => Some((Ival::Name(name), rest)),
             None => None,
@@ -197,7 +178,7 @@ pub fn ival(text: &[u8], strings: u16) -> Option<(Ival, &[u8])>
 /// The line of a letter and a number.
 #[tactic(auto, unfolding(crate::specs::LineReading::number_line_at))]
 pub fn number_line(text: &[u8], letter: u8, below: u32) -> Option<(u16, &[u8])>
-    requires { below ≤ 65536 }
+    requires { below ≤ WORD_VALUES }
     ensures { Gives (λ r. (r.0, r.1.now)) result (number_line_at letter below text.now) }
 {
     let rest = expect(text, letter)?;
@@ -208,13 +189,10 @@ pub fn number_line(text: &[u8], letter: u8, below: u32) -> Option<(u16, &[u8])>
 fn sizes(text: &[u8]) -> Option<(Sizes, &[u8])>
     ensures { Gives (λ r. (r.0, r.1.now)) result (sizes_at text.now) }
 {
-    let (frame, rest) = number(text, b' ', MAX_WORDS + 1)?;
-    let (labels, rest) = number(rest, b' ', MAX_LABELS as u32 + 1)?;
-    let (strings, rest) = number(rest, b' ', MAX_STRING_WORDS as u32 + 1)?;
-    let (code, rest) = number(rest, b'\n', MAX_INSTRUCTIONS as u32 + 1)?;
-    if labels != 0 && code == 0 {
-        return None;
-    }
+    let (frame, rest) = number(text, b' ', WORD_VALUES)?;
+    let (labels, rest) = number(rest, b' ', WORD_VALUES)?;
+    let (strings, rest) = number(rest, b' ', WORD_VALUES)?;
+    let (code, rest) = number(rest, b'\n', WORD_VALUES)?;
     let sizes = Sizes {
         frame,
         labels,
@@ -232,11 +210,8 @@ fn function_header(text: &[u8]) -> Option<(Header, &[u8])>
     let Some((name, rest)) = name(rest, b' ') else {
         return None;
     };
-    let (parameters, rest) = number(rest, b' ', MAX_PARAMETERS as u32 + 1)?;
+    let (parameters, rest) = number(rest, b' ', WORD_VALUES)?;
     let (sizes, rest) = sizes(rest)?;
-    if parameters > sizes.frame {
-        return None;
-    }
     Some((
         Header::Function {
             name,
@@ -255,8 +230,8 @@ fn simple_header(text: &[u8]) -> Option<(Header, &[u8])>
     let Some((name, rest)) = name(rest, b' ') else {
         return None;
     };
-    let (values, rest) = number(rest, b' ', MAX_VALUES as u32 + 1)?;
-    let (strings, rest) = number(rest, b'\n', MAX_STRING_WORDS as u32 + 1)?;
+    let (values, rest) = number(rest, b' ', WORD_VALUES)?;
+    let (strings, rest) = number(rest, b'\n', WORD_VALUES)?;
     Some((
         Header::Simple {
             name,
@@ -275,12 +250,9 @@ fn vector_header(text: &[u8]) -> Option<(Header, &[u8])>
     let Some((name, rest)) = name(rest, b' ') else {
         return None;
     };
-    let (words, rest) = number(rest, b' ', MAX_WORDS + 1)?;
-    let (values, rest) = number(rest, b' ', MAX_VALUES as u32 + 1)?;
-    let (strings, rest) = number(rest, b'\n', MAX_STRING_WORDS as u32 + 1)?;
-    if words == 0 || values > words {
-        return None;
-    }
+    let (words, rest) = number(rest, b' ', WORD_VALUES)?;
+    let (values, rest) = number(rest, b' ', WORD_VALUES)?;
+    let (strings, rest) = number(rest, b'\n', WORD_VALUES)?;
     Some((
         Header::Vector {
             name,
@@ -292,10 +264,10 @@ fn vector_header(text: &[u8]) -> Option<(Header, &[u8])>
     ))
 }
 
-/// The first line of a definition, or the last one of a code text.
-#[tactic(auto, unfolding(crate::specs::LineReading::header_at))]
-pub fn header(text: &[u8]) -> Option<(Header, &[u8])>
-    ensures { Gives (λ r. (r.0, r.1.now)) result (header_at text.now) }
+// The first line of a definition, whatever its numbers.
+#[tactic(auto, unfolding(crate::specs::LineReading::any_header_at))]
+fn any_header(text: &[u8]) -> Option<(Header, &[u8])>
+    ensures { Gives (λ r. (r.0, r.1.now)) result (any_header_at text.now) }
 {
     let (letter, rest) = text.split_first()?;
     match *letter {
@@ -304,5 +276,20 @@ pub fn header(text: &[u8]) -> Option<(Header, &[u8])>
         b'V' => vector_header(rest),
         b'E' => ended(Header::End, rest),
         _ => None,
+    }
+}
+
+/// The first line of a definition within its ranges, or the last one of a code text.
+#[tactic(auto, unfolding(crate::specs::LineReading::header_at))]
+pub fn header(text: &[u8]) -> Option<(Header, &[u8])>
+    ensures { Gives (λ r. (r.0, r.1.now)) result (header_at text.now) }
+{
+    let Some((header, rest)) = any_header(text) else {
+        return None;
+    };
+    if header.fits() {
+        Some((header, rest))
+    } else {
+        None
     }
 }

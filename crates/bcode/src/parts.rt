@@ -3,6 +3,7 @@ ghost use Rattle.std.specs.Prelude.{◌≡◌, ◌≤◌, ◌<◌, ◌-◌, ◌=
 ghost use Rattle.std.specs.Char.{is_ascii_digit};
 ghost use Rattle.bcode.specs.Reading.{Gives, expect, number_from, number_at, name_at};
 
+use crate::limits::WORD_VALUES;
 use bword::Name;
 
 /// The text behind this byte, where it begins with it.
@@ -19,7 +20,7 @@ pub fn expect(text: &[u8], byte: u8) -> Option<&[u8]>
 /// A number below a bound without needless zeros, and the text behind the byte that ends it.
 #[tactic(auto, unfolding(crate::specs::Reading::number_at, crate::specs::Reading::number_from))]
 pub fn number(text: &[u8], end: u8, below: u32) -> Option<(u16, &[u8])>
-    requires { below ≤ 65536 }
+    requires { below ≤ WORD_VALUES }
     ensures { Gives (λ r. (r.0, r.1.now)) result (number_at end below text.now) }
 {
     let (first, mut rest) = text.split_first()?;

@@ -3,7 +3,7 @@ ghost use Rattle.std.specs.Prelude.{◌≡◌, ◌<◌, ◌≤◌, List, ◌∷�
 ghost use Rattle.bcode.specs.Ahead.{LinesGive, BodyGives, DefinitionGives};
 ghost use Rattle.bcode.specs.Definitions.{IsInstrWithin, IsIvalWithin};
 ghost use Rattle.bcode.specs.Faults.{IsFaultOf};
-ghost use Rattle.bcode.specs.Headers.{IsFunctionHeader, IsSimpleHeader, IsVectorHeader};
+ghost use Rattle.bcode.specs.Headers.{IsHeaderWithin};
 ghost use Rattle.bcode.specs.Text.{line, instr_line, ival_line, IsCodeText};
 ghost use Rattle.bcode.specs.declared.definition.Definition.{Definition};
 ghost use Rattle.bcode.specs.declared.fault.CodeFault.TheVariants.{Memory};
@@ -11,15 +11,13 @@ ghost use Rattle.bcode.specs.declared.header.Header.TheVariants as headers;
 
 use crate::ahead::Ahead;
 use crate::header::{Header, Sizes};
+use crate::limits::WORD_VALUES;
 use crate::{
     CodeFault, Definition, Function, FunctionParts, Instr, Ival, Simple, SimpleParts, Vector,
     VectorParts,
 };
 use bword::Name;
 use std::alloc::Global;
-
-/// How many words there are.
-const WORDS: u32 = 65536;
 
 /// Reads a code text, all of it.
 ///
@@ -77,11 +75,11 @@ fn function(
     parameters: u16,
     sizes: Sizes,
 ) -> Result<Definition, CodeFault>
-    requires { IsFunctionHeader name parameters sizes.frame sizes.labels sizes.strings sizes.code }
+    requires { IsHeaderWithin (headers.Function name parameters sizes) }
     ensures { BodyGives (headers.Function name parameters sizes) ahead.old result ahead.new }
 {
     let targets = numbers(alloc, ahead, b't', u32::from(sizes.code), sizes.labels)?;
-    let strings = numbers(alloc, ahead, b'w', WORDS, sizes.strings)?;
+    let strings = numbers(alloc, ahead, b'w', WORD_VALUES, sizes.strings)?;
     let code = instrs(alloc, ahead, sizes, sizes.code)?;
     Ok(Definition::Function(Function::from_parts(FunctionParts {
         name,
@@ -100,11 +98,11 @@ fn simple(
     count: u16,
     strings: u16,
 ) -> Result<Definition, CodeFault>
-    requires { IsSimpleHeader name count strings }
+    requires { IsHeaderWithin (headers.Simple name count strings) }
     ensures { BodyGives (headers.Simple name count strings) ahead.old result ahead.new }
 {
     let values = values(alloc, ahead, strings, count)?;
-    let strings = numbers(alloc, ahead, b'w', WORDS, strings)?;
+    let strings = numbers(alloc, ahead, b'w', WORD_VALUES, strings)?;
     Ok(Definition::Simple(Simple::from_parts(SimpleParts {
         name,
         values,
@@ -120,11 +118,11 @@ fn vector(
     count: u16,
     strings: u16,
 ) -> Result<Definition, CodeFault>
-    requires { IsVectorHeader name words count strings }
+    requires { IsHeaderWithin (headers.Vector name words count strings) }
     ensures { BodyGives (headers.Vector name words count strings) ahead.old result ahead.new }
 {
     let values = values(alloc, ahead, strings, count)?;
-    let strings = numbers(alloc, ahead, b'w', WORDS, strings)?;
+    let strings = numbers(alloc, ahead, b'w', WORD_VALUES, strings)?;
     Ok(Definition::Vector(Vector::from_parts(VectorParts {
         name,
         words,
@@ -140,7 +138,7 @@ fn numbers(
     below: u32,
     count: u16,
 ) -> Result<Vec<u16>, CodeFault>
-    requires { below ≤ 65536 }
+    requires { below ≤ WORD_VALUES }
     ensures { LinesGive (λ n. line ((letter ∷ []) ∷ decimal n ∷ [])) (λ n. n < below) (λ v. v.items) count ahead.old result ahead.new }
 {
     let mut numbers = Vec::with_capacity(alloc, usize::from(count))?;

@@ -1,12 +1,15 @@
-use Rattle.std.proofs.Common.{subst, Vec, Global, Err, ℕ, ◌<◌, ap, replicate, ◌++◌}
+use Rattle.std.proofs.Common.{subst, sym, ◌≡◌, true, Vec, Global, Err, ℕ, ◌<◌, ap, replicate, ◌++◌}
+use Rattle.std.specs.Prelude.{All}
 use Rattle.bcode.specs.Ahead.{ReadsLines, LinesGive}
 use Rattle.bcode.specs.Definitions.{IsWord, IsInstrWithin}
+use Rattle.bcode.specs.Headers.{function_fits}
+use Rattle.bcode.specs.declared.header.Sizes.{Sizes}
 use Rattle.bcode.specs.Stopping.{target, string, instruction}
 use Rattle.bcode.specs.Text.{target_line, string_line, instr_line}
 use Rattle.bcode.specs.declared.instr.Instr.{Instr}
 use Rattle.bcode.specs.declared.header.Header.TheVariants as header
 use Rattle.bcode.proofs.BodyLaws.{GoesOn-trans, StopsAhead-behind, goes_on, goes_on_last, stops_here, stops_here_last, body_exit, three_kinds}
-use Rattle.bcode.proofs.CodeLaws.{of_target, of_string, of_instr, same_sizes}
+use Rattle.bcode.proofs.CodeLaws.{of_target, of_string, of_instr, same_sizes, function_within}
 use Rattle.bcode.proofs.read.function.Goals as goal
 
 pub returns-in_err-targets : goal.returns-in_err-targets
@@ -35,6 +38,17 @@ returns-in_err-code c =
     body_exit instr_line (IsInstrWithin s) (λ (v : Vec Instr Global). v.items) s.code (header.Function c.args.name c.args.parameters s) _ _ _ _ _ _ c.from_residual-in_err-code.ensures.1
     c.in_err-code.ensures
     (λ n r. StopsAhead-behind n (GoesOn-trans targets strings) (stops_here_last instr_line (IsInstrWithin s) (instruction s) (of_instr s) (λ l x. x) s.code n r))
+
+pub from_parts-requires : goal.from_parts-requires
+from_parts-requires c =
+    let s = c.args.sizes in
+    let t = subst (λ (b : ℕ). ReadsLines target_line (λ n. n < b) s.labels c.args.ahead.now c.in_ok-targets.targets.items c.numbers.new.ahead) c.from.ensures c.in_ok-targets.ensures in
+    let w = c.in_ok-strings.ensures in
+    let k = c.in_ok-code.ensures in
+    let sizes = same_sizes s _ _ _ t.all w.all k.all in
+    function_within _ c.requires.named (subst (λ (z : Sizes). function_fits c.args.parameters z ≡ true) (sym sizes) c.requires.fits)
+    (subst (λ (n : ℕ). All (λ t. t < n) c.in_ok-targets.targets.items) (sym k.all) t.inside) w.inside
+    (subst (λ (z : Sizes). All (IsInstrWithin z) c.in_ok-code.code.items) (sym sizes) k.inside)
 
 pub returns : goal.returns
 returns c =

@@ -1,4 +1,4 @@
-use Rattle.std.proofs.Common.{subst, Option, Ok, Vec, Global, ◌≡◌, sym, ◌∙◌, rules}
+use Rattle.std.proofs.Common.{subst, Option, Ok, Vec, Global, ◌≡◌, sym, ◌∙◌}
 use Rattle.bcode.specs.Ahead.{DefinitionGives, ReadsEnd, ReadsDefinition}
 use Rattle.bcode.specs.declared.definition.Definition.{Definition}
 use Rattle.bcode.proofs.BodyLaws.{GoesOn-trans}

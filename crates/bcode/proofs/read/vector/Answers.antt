@@ -1,11 +1,12 @@
-use Rattle.std.proofs.Common.{Vec, Global, ℕ, refl, replicate}
+use Rattle.std.proofs.Common.{subst, sym, Vec, Global, ℕ, refl, replicate}
+use Rattle.std.specs.Prelude.{All}
 use Rattle.bcode.specs.Definitions.{IsWord, IsIvalWithin}
 use Rattle.bcode.specs.Stopping.{value, string}
 use Rattle.bcode.specs.Text.{string_line, ival_line}
 use Rattle.bcode.specs.declared.instr.Ival.{Ival}
 use Rattle.bcode.specs.declared.header.Header.TheVariants as header
 use Rattle.bcode.proofs.BodyLaws.{GoesOn-trans, StopsAhead-behind, goes_on, goes_on_last, stops_here, stops_here_last, body_exit, two_kinds}
-use Rattle.bcode.proofs.CodeLaws.{of_value, of_string}
+use Rattle.bcode.proofs.CodeLaws.{of_value, of_string, vector_within}
 use Rattle.bcode.proofs.read.vector.Goals as goal
 
 pub returns-in_err-values : goal.returns-in_err-values
@@ -22,6 +23,12 @@ returns-in_err-strings c =
     body_exit string_line IsWord (λ (v : Vec ℕ Global). v.items) k (header.Vector c.args.name c.args.words c.args.count c.args.strings) _ _ _ _ _ _ c.from_residual-in_err-strings.ensures.1
     c.in_err-strings.ensures
     (λ n r. StopsAhead-behind n values (stops_here_last string_line IsWord string of_string (λ l x. x) k n r))
+
+pub from_parts-requires : goal.from_parts-requires
+from_parts-requires c =
+    let v = c.in_ok-values.ensures in
+    let w = c.in_ok-strings.ensures in
+    vector_within _ c.requires.named (rw (v.all, w.all) c.requires.fits) (subst (λ (n : ℕ). All (IsIvalWithin n) c.in_ok-values.values.items) (sym w.all) v.inside) w.inside
 
 pub returns : goal.returns
 returns c =
