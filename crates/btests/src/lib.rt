@@ -12,6 +12,8 @@ mod expressions;
 #[cfg(test)]
 mod loads;
 #[cfg(test)]
+mod pages;
+#[cfg(test)]
 mod runs;
 #[cfg(test)]
 mod tokens;
