@@ -111,6 +111,17 @@ c 1
 k 1
 E
 ~trap sk
+@
+F main 0 0 0 0 5
+c 5
+x f
+v
+k 0
+r
+F f 0 0 0 0 1
+r
+E
+~trap sk
 ";
     all_stop(&rt, rows, 130);
 }
