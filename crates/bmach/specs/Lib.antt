@@ -11,6 +11,7 @@ pub mod Images
 pub mod Loading
 pub mod Parts
 pub mod Taken
+pub mod Split
 pub mod Steps
 pub mod Runs
 pub mod Turns

@@ -3,10 +3,10 @@ ghost use Rattle.std.specs.Prelude.{◌≤◌};
 
 use crate::image::LoadedFunction;
 use crate::number::Base;
-use crate::operands::{Operands, Spare};
+use crate::operands::Operands;
 use crate::{Library, Trap};
 
-/// An active call.
+/// The running call.
 #[derive(Drop)]
 pub struct Call<'a> {
     pub function: &'a LoadedFunction,
@@ -14,7 +14,19 @@ pub struct Call<'a> {
     pub start: u32,
     /// The place of its next operation.
     pub place: usize,
+    /// The operands of all active calls.
     pub operands: Operands,
+    ghost low: { start ≤ 65536 },
+}
+
+/// A call that waits for another one to return.
+#[derive(Clone, Copy)]
+pub struct Caller<'a> {
+    pub function: &'a LoadedFunction,
+    pub start: u32,
+    pub place: usize,
+    /// Where its own operands begin.
+    pub base: usize,
     ghost low: { start ≤ 65536 },
 }
 
@@ -23,9 +35,7 @@ pub struct Call<'a> {
 pub struct Calls<'a> {
     pub top: Call<'a>,
     /// The others, the nearest last.
-    pub below: Vec<Call<'a>>,
-    /// The operands of calls that have returned.
-    pub spare: Spare,
+    pub below: Vec<Caller<'a>>,
 }
 
 /// What a called value is.

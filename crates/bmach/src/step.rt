@@ -18,8 +18,9 @@ pub fn put<'a>(call: &mut Call<'a>, word: u16) -> Pace
     requires { call.old.place + 1 < 2 ^ 64 }
     ensures paced { (image : machine.Image) (below : List machine.Call) (w : World) (s : machine.State) →
         Paced image result (call_of call.new) below w s
-        (Running (at_place (call_of call.old) (call.old.place + 1) (word ∷ call.old.operands)) below w) }
+        (Running (at_place (call_of call.old) (call.old.place + 1) (word ∷ call.old.operands.own)) below w) }
     ensures function { call.new.function.now ≡ call.old.function.now }
+    ensures below { call.new.operands.below ≡ call.old.operands.below }
 {
     call.place += 1;
     if call.operands.put_in_room(word) {
@@ -35,6 +36,7 @@ pub fn load<'a, S: Store>(call: &mut Call<'a>, store: &S) -> Pace
     requires { call.old.place + 1 < 2 ^ 64 }
     ensures acts { Acts operation.Load call.old (S.words store.now) result call.new (S.words store.now) }
     ensures function { call.new.function.now ≡ call.old.function.now }
+    ensures below { call.new.operands.below ≡ call.old.operands.below }
 {
     match call.operands.take() {
         None => Pace::IsStuck,
@@ -48,6 +50,7 @@ pub fn store<'a, S: Store>(call: &mut Call<'a>, store: &mut S) -> Pace
     requires { call.old.place + 1 < 2 ^ 64 }
     ensures acts { Acts operation.Store call.old (S.words store.old) result call.new (S.words store.new) }
     ensures function { call.new.function.now ≡ call.old.function.now }
+    ensures below { call.new.operands.below ≡ call.old.operands.below }
 {
     match call.operands.take() {
         None => Pace::IsStuck,
@@ -76,6 +79,7 @@ pub fn negate_word<'a>(call: &mut Call<'a>) -> Pace
     requires { call.old.place + 1 < 2 ^ 64 }
     ensures acts { (words : List ℕ) → Acts operation.Negate call.old words result call.new words }
     ensures function { call.new.function.now ≡ call.old.function.now }
+    ensures below { call.new.operands.below ≡ call.old.operands.below }
 {
     match call.operands.take() {
         None => Pace::IsStuck,
@@ -88,6 +92,7 @@ pub fn not_word<'a>(call: &mut Call<'a>) -> Pace
     requires { call.old.place + 1 < 2 ^ 64 }
     ensures acts { (words : List ℕ) → Acts operation.Not call.old words result call.new words }
     ensures function { call.new.function.now ≡ call.old.function.now }
+    ensures below { call.new.operands.below ≡ call.old.operands.below }
 {
     match call.operands.take() {
         None => Pace::IsStuck,
@@ -100,6 +105,7 @@ pub fn operate<'a>(call: &mut Call<'a>, operator: BinOp) -> Pace
     requires { call.old.place + 1 < 2 ^ 64 }
     ensures acts { (words : List ℕ) → Acts (operation.Binary operator) call.old words result call.new words }
     ensures function { call.new.function.now ≡ call.old.function.now }
+    ensures below { call.new.operands.below ≡ call.old.operands.below }
 {
     match call.operands.take() {
         None => Pace::IsStuck,
@@ -118,6 +124,7 @@ pub fn modify<'a, S: Store>(call: &mut Call<'a>, store: &mut S, operator: BinOp)
     requires { call.old.place + 1 < 2 ^ 64 }
     ensures acts { Acts (operation.Modify operator) call.old (S.words store.old) result call.new (S.words store.new) }
     ensures function { call.new.function.now ≡ call.old.function.now }
+    ensures below { call.new.operands.below ≡ call.old.operands.below }
 {
     match call.operands.take() {
         None => Pace::IsStuck,
@@ -161,6 +168,7 @@ pub fn count<'a, S: Store>(call: &mut Call<'a>, store: &mut S, which: Increment)
     requires { call.old.place + 1 < 2 ^ 64 }
     ensures acts { Acts (operation.Increment which) call.old (S.words store.old) result call.new (S.words store.new) }
     ensures function { call.new.function.now ≡ call.old.function.now }
+    ensures below { call.new.operands.below ≡ call.old.operands.below }
 {
     match call.operands.take() {
         None => Pace::IsStuck,
@@ -178,6 +186,7 @@ pub fn count<'a, S: Store>(call: &mut Call<'a>, store: &mut S, which: Increment)
 pub fn jump<'a>(call: &mut Call<'a>, target: u16) -> Pace
     ensures acts { (words : List ℕ) → Acts (operation.Jump target) call.old words result call.new words }
     ensures function { call.new.function.now ≡ call.old.function.now }
+    ensures below { call.new.operands.below ≡ call.old.operands.below }
 {
     call.place = target as usize;
     Pace::GoesOn
@@ -188,6 +197,7 @@ pub fn jump_if_zero<'a>(call: &mut Call<'a>, target: u16) -> Pace
     requires { call.old.place + 1 < 2 ^ 64 }
     ensures acts { (words : List ℕ) → Acts (operation.JumpIfZero target) call.old words result call.new words }
     ensures function { call.new.function.now ≡ call.old.function.now }
+    ensures below { call.new.operands.below ≡ call.old.operands.below }
 {
     match call.operands.take() {
         None => Pace::IsStuck,
@@ -206,6 +216,7 @@ pub fn jump_if_zero<'a>(call: &mut Call<'a>, target: u16) -> Pace
 pub fn go_to_label<'a>(call: &mut Call<'a>) -> Pace
     ensures acts { (words : List ℕ) → Acts operation.Goto call.old words result call.new words }
     ensures function { call.new.function.now ≡ call.old.function.now }
+    ensures below { call.new.operands.below ≡ call.old.operands.below }
 {
     match call.operands.take() {
         None => Pace::IsStuck,
@@ -239,6 +250,7 @@ pub fn jump_if_case<'a>(call: &mut Call<'a>, value: u16, target: u16) -> Pace
     requires { call.old.place + 1 < 2 ^ 64 }
     ensures acts { (words : List ℕ) → Acts (operation.JumpIfCase value target) call.old words result call.new words }
     ensures function { call.new.function.now ≡ call.old.function.now }
+    ensures below { call.new.operands.below ≡ call.old.operands.below }
 {
     match call.operands.take() {
         None => Pace::IsStuck,
@@ -258,6 +270,7 @@ pub fn pop<'a>(call: &mut Call<'a>) -> Pace
     requires { call.old.place + 1 < 2 ^ 64 }
     ensures acts { (words : List ℕ) → Acts operation.Pop call.old words result call.new words }
     ensures function { call.new.function.now ≡ call.old.function.now }
+    ensures below { call.new.operands.below ≡ call.old.operands.below }
 {
     match call.operands.take() {
         None => Pace::IsStuck,
@@ -274,6 +287,7 @@ pub fn begin_call<'a>(call: &mut Call<'a>, count: u16) -> Pace
     requires { call.old.place + 1 < 2 ^ 64 }
     ensures acts { (words : List ℕ) → Acts (operation.Call count) call.old words result call.new words }
     ensures function { call.new.function.now ≡ call.old.function.now }
+    ensures below { call.new.operands.below ≡ call.old.operands.below }
 {
     call.place += 1;
     Pace::Calls(count)

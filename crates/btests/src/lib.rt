@@ -14,6 +14,8 @@ mod loads;
 #[cfg(test)]
 mod names;
 #[cfg(test)]
+mod pages;
+#[cfg(test)]
 mod runs;
 #[cfg(test)]
 mod tokens;
