@@ -76,7 +76,7 @@ pub Moves-as : {a b : Tokens} {P : List Placed → List Placed → Type 0} (R : 
 Moves-as R f h = record { taken = h.taken; reads = h.reads; looked = h.looked; failures = h.failures; falls = h.falls; come = λ more c. f _ _ (h.come more c) }
 
 -- what broke off behind other reads
-off_behind : {a b c : Incoming} {xs : List ℕ} → S.Took a xs b → b.failures ≡ a.failures → S.BreaksOff b c → S.BreaksOff a c
+pub off_behind : {a b c : Incoming} {xs : List ℕ} → S.Took a xs b → b.failures ≡ a.failures → S.BreaksOff b c → S.BreaksOff a c
 off_behind {a} {b} {c} {xs} h q k = record { taken = xs ++ k.taken; before = k.before; took = Took-append h k.took; quiet = k.quiet ∙ q; fails = k.fails }
 
 pub Moves-breaks : {a b c : Tokens} {P : List Placed → List Placed → Type 0} → Moves a b P → Breaks b c → Breaks a c
