@@ -1,3 +1,4 @@
+mod EndRows
 pub mod Marks
 pub mod Parsers
 pub mod Tokens

@@ -116,6 +116,9 @@ record Breaks : Type 0 where
   loop_behind :
       both_in_two (codes "main(){auto i; i=0; while(i<2) {i++; putchar('a'); break; while(1) ;} putchar('k');}") [] 400
       ≡ replicate 2 (Exit 0, codes "ak")
+  loop_behind_a_label :
+      both_in_two (codes "main(){auto i; i=0; goto in; while(i<2) {i++; putchar('a'); in: break; while(1) ;} putchar('k');}") [] 400
+      ≡ replicate 2 (Exit 0, codes "k")
   case_in_loop :
       both_in_two (codes "main(){switch 1 {while(1) {case 1: putchar('a'); break;} putchar('b');} putchar('c');}") [] 400
       ≡ replicate 2 (Exit 0, codes "abc")
@@ -139,6 +142,7 @@ breaks = record {
   default_alone = refl;
   leaves_the_switch = refl;
   loop_behind = refl;
+  loop_behind_a_label = refl;
   case_in_loop = refl;
   goto_to_a_break = refl;
   goto_into_both = refl;
