@@ -1,11 +1,12 @@
 -- Answers that the contract of `go_edition` excludes, whatever is proved of the body that gives them.
-use Rattle.std.proofs.Common.{◌≡◌, ℕ, ◌<◌, ◌≤◌, List, [], ◌∷◌, map, codes, Option, Some, None, refl, sym, ap, ◌∙◌, subst, arith, ◌⊎◌, inl, inr, ⊎_elim}
+use Rattle.std.proofs.Common.{◌≡◌, ℕ, ◌<◌, ◌≤◌, List, [], ◌∷◌, ◌++◌, length, map, codes, Option, Some, None, refl, sym, ap, ◌∙◌, subst, arith, ◌⊎◌, inl, inr, ⊎_elim}
 use Rattle.bword.specs.declared.edition.Edition.{Edition}
 use Rattle.bword.specs.declared.edition.Edition.TheVariants as editions
 use Rattle.std.specs.Io.KnownBytes.{Appends}
-use Rattle.bword.specs.ByteEnds.{Incoming, Outgoing, Grew, Refuses}
+use Rattle.bword.specs.ByteEnds.{Incoming, Outgoing, Grew, Refuses, CanFollow}
 use Rattle.bword.specs.declared.byte_out.EndFault.{EndFault}
 use Rattle.bword.specs.declared.byte_out.EndFault.TheVariants as end_fault
+use Rattle.bcode.specs.Text.{opening}
 use Rattle.blex.specs.Tokens.{tokens_from}
 use Rattle.blex.specs.declared.diagnostic.Diagnostic.{Diagnostic}
 use Rattle.btree.specs.Code.{code_of}
@@ -23,6 +24,7 @@ use Rattle.bmach.specs.World.{World, Ending, Exited, Trapped}
 use Rattle.bmach.specs.declared.outcome.Outcome.{Outcome}
 use Rattle.bmach.specs.declared.outcome.Outcome.TheVariants as outcome
 use Rattle.bmean.specs.Laws.{Loads}
+use Rattle.bparse.specs.Compiles.{Run, NamesRefused, EndRefused}
 use Rattle.bparse.specs.Statuses.{status_of}
 use Rattle.brun.specs.Going.{RunsProgram, GoesOff}
 use Rattle.brun.specs.Going as going
@@ -31,7 +33,7 @@ use Rattle.brun.specs.Reports.{Reported, report_text}
 use Rattle.brun.specs.declared.report.Report.TheVariants as report
 use Rattle.brun.specs.Headline.{Tells, NothingFailed, RunAnswers}
 use Rattle.brun.specs.Runs.{Ends, Finishes, machine}
-use Rattle.brun.proofs.HeadlineSteps.{headline}
+use Rattle.brun.proofs.HeadlineSteps.{headline, rest_of, other_stop}
 use Rattle.brun.proofs.MeantSteps.{halted_later}
 
 abbrev main : Stmts → List Definition
@@ -127,6 +129,28 @@ module _ (steps : ℕ) (source source_behind : Incoming) (ends : Ends) (status :
   no_second_edition h second =
       let letters : 115 ≡ 117 = ap first_byte (sym second ∙ line_in editions.One _ _ edition_rows.mention_break h (λ e. cc)) in
       omega (arith, letters)
+
+-- In the first edition nothing is written before there is code. So where there is none, only the line's end is refused memory.
+end_refused : (run : Run) (taken more : List ℕ) → run.edition ≡ editions.One → CanFollow run.source_behind more → (r : compiled.Outcome) → Goes [] (tokens_from run.edition 1 (taken ++ more)) r → r.code ≡ []
+    → (fault : Diagnostic) → r.stop ≡ Some fault → NamesRefused run taken ⊎ EndRefused run taken end_fault.Memory → Grew run.line.refusals run.line_behind.refusals
+end_refused run taken more first follows r g none fault stop (inl n) =
+    let less : n.count < 0 = subst (λ c. n.count < length c) none (n.code more follows r g).0 in
+    absurd (omega (arith, less))
+end_refused run taken more first follows r g none fault stop (inr (inl o)) = absurd (o.some (subst (λ e. opening e ≡ []) (sym first) refl))
+end_refused run taken more first follows r g none fault stop (inr (inr (inl c))) = other_stop r.stop fault ((c.code more follows r g).0 none) stop
+end_refused run taken more first follows r g none fault stop (inr (inr (inr l))) = (l.written more follows r g).line.counted.0
+
+pub refused_without_code : (steps : ℕ) (source source_behind : Incoming) (ends : Ends) (status : ℕ) (text : List ℕ) → Tells source text
+    → (r : compiled.Outcome) → Goes [] (tokens_from editions.One 1 text) r → r.code ≡ [] → (fault : Diagnostic) → r.stop ≡ Some fault
+    → GoesOff editions.One steps source source_behind ends status → status ≡ 134 → Grew ends.line.refusals ends.line_behind.refusals
+refused_without_code steps source source_behind ends status text tells r g none fault stop (going.stopped kept not_zero quiet h) is =
+    let rest = rest_of source source_behind h.taken text h.took tells in
+    let behind = subst (λ t. Goes [] (tokens_from editions.One 1 t) r) (sym rest.whole) g in
+    end_refused _ h.taken rest.more refl rest.follows r behind none fault stop (h.refused is)
+refused_without_code steps source source_behind ends status text tells r g none fault stop (going.ran s) is =
+    let rest = rest_of source source_behind s.taken text s.took tells in
+    let behind = subst (λ t. Goes [] (tokens_from editions.One 1 t) r) (sym rest.whole) g in
+    other_stop r.stop fault (s.runs rest.more rest.follows r behind).1 stop
 
 told_device : (line : List ℕ) (answer : ℕ) (o p : Outgoing) (status : ℕ) → answer < 133 → Reported line answer o p status → status ≡ 133 → Grew o.failures p.failures
 told_device line answer o p status less (inl told) is = let same : answer ≡ 133 = sym told.1 ∙ is in absurd (omega (arith, less, same))

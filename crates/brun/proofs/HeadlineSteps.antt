@@ -53,7 +53,7 @@ by_cases : {A : Type 0} (b : Bool) → (b ≡ true → A) → (b ≡ false → A
 by_cases true f g = f refl
 by_cases false f g = g refl
 
-rest_of : (i j : Incoming) (taken bytes : List ℕ) → Took i taken j → Tells i bytes → Rest i j taken bytes
+pub rest_of : (i j : Incoming) (taken bytes : List ℕ) → Took i taken j → Tells i bytes → Rest i j taken bytes
 rest_of i j taken bytes t told =
     let r = rest_of_bytes i.left j.left taken bytes told.left t.bytes in
     record { more = r.0; follows = follows r.0 r.2; whole = r.2; left = r.1 }
@@ -217,7 +217,7 @@ module _ (edition : Edition) (source source_behind : Incoming) (ends : Ends) (st
         by_status (inr (inr (inl device))) = absurd (not_device device)
         by_status (inr (inr (inr memory))) = absurd (healthy.not_refused memory)
 
-other_stop : {A : Type 0} (stop : Option Diagnostic) (fault : Diagnostic) → stop ≡ None → stop ≡ Some fault → A
+pub other_stop : {A : Type 0} (stop : Option Diagnostic) (fault : Diagnostic) → stop ≡ None → stop ≡ Some fault → A
 other_stop stop fault e f = absurd (no (sym e ∙ f))
   where
     no : None ≢ Some fault
