@@ -1,7 +1,6 @@
 -- How takings of tokens compose.
 use Rattle.std.proofs.Common.{◌≡◌, ℕ, ◌+◌, ◌<◌, ◌≤◌, Bool, true, false, List, [], ◌∷◌, ◌++◌, length, Option, Some, None, Ok, Err, refl, sym, ap, ◌∙◌, arith, append-nil, append_assoc, length-append, subst, if◌then◌else◌, ◌⊎◌, inl, inr}
 use Rattle.std.specs.Prelude.{is_some, Result, OnOk}
-use Rattle.bword.specs.ByteEnds.{Incoming}
 use Rattle.blex.specs.Sources.{Source, CanCome, room}
 use Rattle.blex.specs.Lexing.{PassesToken}
 use Rattle.blex.specs.Lexemes.{token_of_lexeme}
@@ -75,12 +74,8 @@ Moves-append {a} {b} {c} {P} {Q} R both_are h k = record {
 pub Moves-as : {a b : Tokens} {P : List Placed → List Placed → Type 0} (R : List Placed → List Placed → Type 0) → ((u v : List Placed) → P u v → R u v) → Moves a b P → Moves a b R
 Moves-as R f h = record { taken = h.taken; reads = h.reads; looked = h.looked; failures = h.failures; falls = h.falls; come = λ more c. f _ _ (h.come more c) }
 
--- what broke off behind other reads
-pub off_behind : {a b c : Incoming} {xs : List ℕ} → S.Took a xs b → b.failures ≡ a.failures → S.BreaksOff b c → S.BreaksOff a c
-off_behind {a} {b} {c} {xs} h q k = record { taken = xs ++ k.taken; before = k.before; took = Took-append h k.took; quiet = k.quiet ∙ q; fails = k.fails }
-
 pub Moves-breaks : {a b c : Tokens} {P : List Placed → List Placed → Type 0} → Moves a b P → Breaks b c → Breaks a c
-Moves-breaks h k = record { taken = h.taken ++ k.taken; reads = Reads-append h.reads k.reads; off = off_behind h.reads.took h.failures k.off; counted = Grew-after _ _ _ h.failures k.counted }
+Moves-breaks h k = record { taken = h.taken ++ k.taken; reads = Reads-append h.reads k.reads; counted = Grew-after _ _ _ h.failures k.counted }
 
 none_of : (o : Option Last) → is_some o ≡ false → o ≡ None
 none_of None e = refl
@@ -170,7 +165,7 @@ broken_at stop.Closed old new h = absurd h
 pub lex_breaks : (s : LexStop) (old new : Lexer) (ps qs : List Placed) → LexGives old (Err s) new → old.progress ≡ progress.Open → length new.source.ahead ≤ 2 → Breaks (tokens_at old ps) (tokens_at new qs)
 lex_breaks s old new ps qs gives opened near =
     let broken = broken_at s old new (subst (λ p. GivesAt p old (Err s) new) opened gives) in
-    record { taken = broken.taken; reads = record { took = broken.took; lender = broken.lender; near = near }; off = broken.off; counted = broken.counted }
+    record { taken = broken.taken; reads = record { took = broken.took; lender = broken.lender; near = near }; counted = broken.counted }
 
 pub none_is : {A : Type 0} (o : Option A) → is_some o ≡ false → o ≡ None
 none_is None e = refl
@@ -309,7 +304,7 @@ module _ (old : Tokens) (lexer : Lexer) (current behind : Option Placed) (view :
       subst (λ t. Advances t new) view (advanced_from current behind new (here l) (goes h) (subst (λ x. Looks (tokens_at lexer (both x None)) new) e (subst (λ x. Looks (tokens_at lexer (both o x)) new) k looks)))
 
   breaks_from : (o b : Option Placed) (new : Tokens) → IsLoaded (tokens_at lexer (both o b)) → is_last (first (both o b)) ≡ false → Breaks (tokens_at lexer (both b None)) new → Breaks (tokens_at lexer (both o b)) new
-  breaks_from o b new l h k = record { taken = k.taken; reads = k.reads; off = k.off; counted = k.counted }
+  breaks_from o b new l h k = record { taken = k.taken; reads = k.reads; counted = k.counted }
 
   pub advance_breaks : IsLoaded old → is_last (first old.ahead) ≡ false → (o b : Option Placed) (new : Tokens) → o ≡ behind → b ≡ None → Breaks (tokens_at lexer (both o b)) new → Breaks old new
   advance_breaks l h o b new e k breaks =

@@ -4,7 +4,7 @@ use Rattle.bword.specs.ByteEnds.{Incoming, Grew}
 pub use Rattle.bword.specs.ByteEnds.{CanFollow}
 use Rattle.bword.specs.declared.edition.Edition.{Edition}
 use Rattle.std.specs.Option.{option_map}
-use Rattle.blex.specs.Sources.{Source, Took, BreaksOff, room}
+use Rattle.blex.specs.Sources.{Source, Took, room}
 use Rattle.blex.specs.Lexemes.{placed_of}
 use Rattle.blex.specs.Lexers.{is_last}
 use Rattle.blex.specs.Pieces.{Word, whole}
@@ -126,11 +126,10 @@ pub record Moves (old new : Tokens) (P : List Placed → List Placed → Type 0)
 abbrev pub Runs : {A : Type 0} → Tokens → Tokens → Reader A → Reader A → Type 0
 Runs old new before now = Moves old new (λ u v. before u ≡ now v)
 
--- A read failed, and none was made behind it.
+-- A read failed.
 pub record Breaks (old new : Tokens) : Type 0 where
   pub taken : List ℕ
   pub reads : Reads old.source taken new.source
-  pub off : BreaksOff old.source.end new.source.end
   pub counted : Grew old.source.end.failures new.source.end.failures
 
 -- the same tokens come

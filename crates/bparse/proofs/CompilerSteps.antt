@@ -22,7 +22,8 @@ use Rattle.btree.proofs.Outcomes.{Ended}
 use Rattle.btree.proofs.GoesLaws.{tokens_from-ended, ended_cons, goes_once, goes_some, goes_end}
 use Rattle.btree.proofs.GoesReads.{goes_behind_read, goes_fault_read, goes_stop_read}
 use Rattle.bexpr.specs.Tokens.{Tokens, tokens_of, tokens_with, CanFollow, IsLoaded, IsSingle, Looks, LooksAt, Moves, work, Reads, Breaks}
-use Rattle.bexpr.proofs.TokenSteps.{Reads-append, LooksAt-append, CanFollow-append, Moves-breaks}
+use Rattle.bexpr.proofs.TokenSteps.{Reads-append, LooksAt-append, CanFollow-append}
+use Rattle.blex.proofs.Passing.{Grew-after}
 use Rattle.bparse.specs.Steps.{Point, point, Comes, next_text, HasCode, Writing, Stopping, Breaking, ReadFails, OutRefuses, NamesRefuse, Gives, step_of}
 use Rattle.bparse.specs.declared.step.Step.{Step}
 use Rattle.bparse.specs.declared.step.Step.TheVariants as step
@@ -68,7 +69,7 @@ first_of : (at p : Placed) (rest more : List Placed) → at ∷ rest ≡ p ∷ m
 first_of at p rest more e = cc
 
 pub breaks_behind : {a b c : Tokens} {P : List Placed → List Placed → Type 0} → Moves a b P → Breaks b c → Breaks a c
-breaks_behind h k = Moves-breaks h k
+breaks_behind h k = record { taken = h.taken ++ k.taken; reads = Reads-append h.reads k.reads; counted = Grew-after _ _ _ h.failures k.counted }
 
 -- A failed read, before anything is written.
 pub read_fails : (old new : Tokens) (names names' : Defined) (out : Outgoing) → Breaks old new → Gives (point old names out) (Err step.Device) (point new names' out)
