@@ -3,18 +3,15 @@ use Rattle.std.specs.Prelude.{◌≡◌, ℕ, min, length}
 use Rattle.btree.specs.Definition.{Definition, Simple, Vector, Function}
 use Rattle.btree.specs.Code.{vector_words}
 use Rattle.btree.specs.Scan.{word_of}
+use Rattle.bread.specs.declared.header.TheConstants.{MOST_COUNTED}
 use Rattle.bread.specs.declared.header.Header.{Header}
 use Rattle.bread.specs.declared.header.Kind.{Kind}
 use Rattle.bread.specs.declared.header.Kind.TheVariants as kind
 
--- the most words or parameters that are counted
-abbrev pub most_counted : ℕ
-most_counted = 65535
-
 abbrev pub IsKind : Kind → Definition → Type 0
 IsKind kind.Simple (Simple w values) = Unit {0}
-IsKind (kind.Vector n) (Vector w size values) = n ≡ min (vector_words size values) most_counted
-IsKind (kind.Function n) (Function w parameters body) = n ≡ min (length parameters) most_counted
+IsKind (kind.Vector n) (Vector w size values) = n ≡ min (vector_words size values) MOST_COUNTED
+IsKind (kind.Function n) (Function w parameters body) = n ≡ min (length parameters) MOST_COUNTED
 IsKind _ _ = ⊥
 
 -- The definition has this name on this line, and is of this kind.

@@ -7,12 +7,11 @@ ghost use Rattle.btree.specs.DefinitionReader.{ival, behind_name, vector, functi
 ghost use Rattle.btree.specs.StatementReader.{name};
 ghost use Rattle.bemit.specs.Drafts as drafts;
 ghost use Rattle.bemit.specs.Effects.{ival_done, values_done, parameters_done};
-ghost use Rattle.bread.specs.Headers.{most_counted};
 ghost use Rattle.bexpr.specs.Tokens.{IsLoaded, IsSingle};
 ghost use Rattle.bread.specs.Compiling.{alone, Compiles};
 ghost use Rattle.bread.specs.Definitions.{TakesValue, values, parameters, FindsList, FindsKind, FindsDefinition, begun};
 
-use crate::header::{Header, Kind};
+use crate::header::{Header, Kind, MOST_COUNTED};
 use crate::names::Names;
 use crate::statement::statement;
 use crate::take::{Word, name, size};
@@ -25,9 +24,6 @@ use bword::ByteIn;
 
 // The greatest level of nesting.
 const NESTING: u8 = MAX_NESTING as u8;
-
-// The most words or parameters that are counted.
-const MOST_COUNTED: u32 = 65535;
 
 /// Reads the definition that comes, behind definitions of these names.
 pub fn definition<I: ByteIn>(parser: &mut Parser<I>, names: &Names) -> Result<Header, Halt>
@@ -129,7 +125,7 @@ fn parameter<I: ByteIn>(parser: &mut Parser<I>) -> Result<(), Halt>
 // The names of the parameters, if any, and the parenthesis behind them.
 fn parameters<I: ByteIn>(parser: &mut Parser<I>) -> Result<u16, Halt>
     requires { IsLoaded parser.old.tokens }
-    ensures { FindsList parameters parameters_done most_counted parser.old.tokens parser.old.draft result parser.new.tokens parser.new.draft }
+    ensures { FindsList parameters parameters_done MOST_COUNTED parser.old.tokens parser.old.draft result parser.new.tokens parser.new.draft }
 {
     if parser.tokens.is_at(Mark::CloseParen) {
         parser.tokens.advance()?;

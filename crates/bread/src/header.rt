@@ -1,13 +1,16 @@
 //! How a definition begins.
 use bword::Name;
 
+/// The most words or parameters that are counted.
+pub const MOST_COUNTED: u32 = 65535;
+
 /// What a definition is of.
 #[derive(Clone, Copy, Debug, PartialEq, Eq)]
 pub enum Kind {
     Simple,
-    /// A vector of this many words, or of 65535 and more.
+    /// A vector of this many words, or of `MOST_COUNTED` and more.
     Vector { words: u16 },
-    /// A function of this many parameters, or of 65535 and more.
+    /// A function of this many parameters, or of `MOST_COUNTED` and more.
     Function { parameters: u16 },
 }
 

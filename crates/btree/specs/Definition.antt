@@ -30,8 +30,11 @@ spell_values values = list_spelling ival_spelling values ++ (mark token.Semicolo
 
 abbrev pub spell_definition : Definition → List Placed
 spell_definition (Simple w values) = name_token w ∷ spell_values values
-spell_definition (Vector w size values) = name_token w ∷ mark token.OpenBracket ∷ (size_spelling size ++ (mark token.CloseBracket ∷ spell_values values))
-spell_definition (Function w parameters body) = name_token w ∷ mark token.OpenParen ∷ (list_spelling name_spelling parameters ++ (mark token.CloseParen ∷ spell_statement body))
+spell_definition (Vector w size values) =
+    name_token w ∷ mark token.OpenBracket ∷ (size_spelling size ++ (mark token.CloseBracket ∷ spell_values values))
+spell_definition (Function w parameters body) =
+    name_token w ∷ mark token.OpenParen
+    ∷ (list_spelling name_spelling parameters ++ (mark token.CloseParen ∷ spell_statement body))
 
 abbrev pub ival_words : Ival → ℕ
 ival_words (Ival_constant c) = 0

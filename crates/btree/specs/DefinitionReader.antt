@@ -38,7 +38,8 @@ abbrev pub function : Word → Reader Definition
 function w ts =
     if is_close_paren (first ts)
     then function_body w [] (after ts)
-    else list_reader (λ before. name) ts >>= (λ parameters r. expect is_close_paren r >>= λ o. function_body w parameters)
+    else list_reader (λ before. name) ts
+    >>= (λ parameters r. expect is_close_paren r >>= λ o. function_body w parameters)
 
 abbrev pub behind_name_at : Word → Token → Reader Definition
 behind_name_at w token.OpenBracket ts = vector w (after ts)

@@ -168,17 +168,24 @@ abbrev mutual
   Fits (Literal c) loose room off = Unit {0}
   Fits (Text bytes offset) loose room off = offset ≡ off
   Fits (Grouped e) loose room off = Deeper (λ k. Fits e rvalue_rank k off) room
-  Fits (Indexed e f) loose room off = IsPostfix e × Fits e 0 room off × Deeper (λ k. Fits f rvalue_rank k (off + words e)) room
-  Fits (Called e args) loose room off = IsPostfix e × Fits e 0 room off × Deeper (λ k. ArgumentsFit args k (off + words e)) room
+  Fits (Indexed e f) loose room off =
+      IsPostfix e × Fits e 0 room off × Deeper (λ k. Fits f rvalue_rank k (off + words e)) room
+  Fits (Called e args) loose room off =
+      IsPostfix e × Fits e 0 room off × Deeper (λ k. ArgumentsFit args k (off + words e)) room
   Fits (Postfixed op line e) loose room off = IsPostfix e × Fits e 0 room off
   Fits (Prefixed op line e) loose room off = Deeper (λ k. Fits e 0 k off) room
-  Fits (Binary op line e f) loose room off = (rank op ≤ loose) × Fits e (rank op) room off × Fits f (rank op - 1) room (off + words e)
-  Fits (Conditional e f g) loose room off = (conditional_rank ≤ loose) × Fits e or_rank room off × Deeper (λ k. Fits f rvalue_rank k (off + words e) × Fits g conditional_rank k (off + words e + words f)) room
-  Fits (Assigned op line e f) loose room off = (rvalue_rank ≤ loose) × Fits e 0 room off × Deeper (λ k. Fits f rvalue_rank k (off + words e)) room
+  Fits (Binary op line e f) loose room off =
+      (rank op ≤ loose) × Fits e (rank op) room off × Fits f (rank op - 1) room (off + words e)
+  Fits (Conditional e f g) loose room off =
+      (conditional_rank ≤ loose) × Fits e or_rank room off
+      × Deeper (λ k. Fits f rvalue_rank k (off + words e) × Fits g conditional_rank k (off + words e + words f)) room
+  Fits (Assigned op line e f) loose room off =
+      (rvalue_rank ≤ loose) × Fits e 0 room off × Deeper (λ k. Fits f rvalue_rank k (off + words e)) room
 
   pub ArgumentsFit : Arguments → ℕ → ℕ → Type 0
   ArgumentsFit No_arguments room off = Unit {0}
-  ArgumentsFit (Another before e) room off = ArgumentsFit before room off × Fits e rvalue_rank room (off + argument_words before)
+  ArgumentsFit (Another before e) room off =
+      ArgumentsFit before room off × Fits e rvalue_rank room (off + argument_words before)
 
 -- an expression that no binary operator, conditional or assignment joins
 abbrev pub is_operand : Expr → Bool

@@ -79,7 +79,8 @@ pub record Inner : Type 0 where
   pub read : Kind → ℕ → Reader Expr
 
 abbrev pub group : Inner → ℕ → Reader Expr
-group inner off ts = inner.enter ts >>= λ o r. inner.read Rvalue off r >>= λ e r. expect is_close_paren r >>= λ o. Got (Grouped e)
+group inner off ts =
+    inner.enter ts >>= λ o r. inner.read Rvalue off r >>= λ e r. expect is_close_paren r >>= λ o. Got (Grouped e)
 
 abbrev pub primary_at : Inner → ℕ → Token → Reader Expr
 primary_at inner off (token.Name x) ts = Got (Named (record { text = x; line = line_of ts })) (after ts)
@@ -97,14 +98,20 @@ abbrev pub another : Inner → ℕ → Unit {0} → Arguments → Reader Argumen
 another inner off o args ts = inner.read Rvalue (off + argument_words args) (after ts) >>= λ e. Got (Another args e)
 
 abbrev pub arguments : Inner → ℕ → Reader Arguments
-arguments inner off ts = inner.read Rvalue off ts >>= λ e. many (always comma) (another inner off) (Another No_arguments e)
+arguments inner off ts =
+    inner.read Rvalue off ts >>= λ e. many (always comma) (another inner off) (Another No_arguments e)
 
 -- behind the parenthesis that opens the arguments
 abbrev pub call : Inner → ℕ → Expr → Reader Expr
-call inner off e ts = if is_close_paren (first ts) then Got (Called e No_arguments) (after ts) else arguments inner (off + words e) ts >>= λ args r. expect is_close_paren r >>= λ o. Got (Called e args)
+call inner off e ts =
+    if is_close_paren (first ts)
+    then Got (Called e No_arguments) (after ts)
+    else arguments inner (off + words e) ts >>= λ args r. expect is_close_paren r >>= λ o. Got (Called e args)
 
 abbrev pub postfix_with : Inner → ℕ → Suffix → Expr → Reader Expr
-postfix_with inner off Index e ts = inner.enter ts >>= λ o r. inner.read Rvalue (off + words e) r >>= λ f r. expect is_close_bracket r >>= λ o. Got (Indexed e f)
+postfix_with inner off Index e ts =
+    inner.enter ts >>= λ o r. inner.read Rvalue (off + words e) r >>= λ f r. expect is_close_bracket r
+    >>= λ o. Got (Indexed e f)
 postfix_with inner off Call e ts = inner.enter ts >>= λ o. call inner off e
 postfix_with inner off (Step op) e ts = Got (Postfixed op (line_of ts) e) (after ts)
 
@@ -128,7 +135,9 @@ chain inner (suc r) off ts = chain inner r off ts >>= many (always (op_at (suc r
 
 -- behind the question mark
 abbrev pub choices : Inner → ℕ → Expr → Reader Expr
-choices inner off e ts = inner.read Rvalue (off + words e) ts >>= λ f r. expect is_colon r >>= λ o r. inner.read Choice (off + words e + words f) r >>= λ g. Got (Conditional e f g)
+choices inner off e ts =
+    inner.read Rvalue (off + words e) ts >>= λ f r. expect is_colon r
+    >>= λ o r. inner.read Choice (off + words e + words f) r >>= λ g. Got (Conditional e f g)
 
 abbrev pub conditional : Inner → ℕ → Expr → Reader Expr
 conditional inner off e ts = if is_question (first ts) then inner.enter ts >>= (λ o. choices inner off e) else Got e ts
@@ -139,10 +148,12 @@ assigns e (token.Assign op) = if is_operand e then Some op else None
 assigns e _ = None
 
 abbrev pub assigned : Inner → ℕ → Expr → Option BinOp → Reader Expr
-assigned inner off e op ts = inner.enter ts >>= λ o r. inner.read Rvalue (off + words e) r >>= λ f. Got (Assigned op (line_of ts) e f)
+assigned inner off e op ts =
+    inner.enter ts >>= λ o r. inner.read Rvalue (off + words e) r >>= λ f. Got (Assigned op (line_of ts) e f)
 
 abbrev pub rvalue_from : Inner → ℕ → Expr → Reader Expr
-rvalue_from inner off e ts = at_some (assigns e (first ts)) (λ op. assigned inner off e op ts) (conditional inner off e ts)
+rvalue_from inner off e ts =
+    at_some (assigns e (first ts)) (λ op. assigned inner off e op ts) (conditional inner off e ts)
 
 abbrev pub read_at : Inner → Kind → ℕ → Reader Expr
 read_at inner Operand off ts = operand inner off ts

@@ -19,29 +19,46 @@ use Rattle.btree.specs.Compiled.{Defined, Outcome, Goes}
 
 -- What a definition is read as is spelled by the tokens that were taken, and well formed.
 abbrev pub ReadsSpelling : Type 0
-ReadsSpelling = (tokens rest : List Placed) (d : Definition) → definition (kept_tokens tokens) ≡ Got d rest → (kept_tokens tokens ≡ spell_definition d ++ rest) × IsFormed d
+ReadsSpelling =
+    (tokens rest : List Placed) (d : Definition) → definition (kept_tokens tokens) ≡ Got d rest
+    → (kept_tokens tokens ≡ spell_definition d ++ rest) × IsFormed d
 
 -- The same of any tokens, but for lines that trees don't keep; and no else of an open definition was left.
 abbrev pub DefinitionRead : Type 0
-DefinitionRead = (tokens rest : List Placed) (d : Definition) → definition tokens ≡ Got d rest → (kept_tokens tokens ≡ spell_definition d ++ kept_tokens rest) × IsFormed d × (is_open d ≡ true → is_else (first rest) ≡ false)
+DefinitionRead =
+    (tokens rest : List Placed) (d : Definition) → definition tokens ≡ Got d rest
+    → (kept_tokens tokens ≡ spell_definition d ++ kept_tokens rest) × IsFormed d
+    × (is_open d ≡ true → is_else (first rest) ≡ false)
 
 abbrev pub StatementRead : Type 0
-StatementRead = (tokens rest : List Placed) (room off : ℕ) (s : Stmt) → statement room off tokens ≡ Got s rest → (kept_tokens tokens ≡ spell_statement s ++ kept_tokens rest) × Sits s room off × (statements.is_open s ≡ true → is_else (first rest) ≡ false)
+StatementRead =
+    (tokens rest : List Placed) (room off : ℕ) (s : Stmt) → statement room off tokens ≡ Got s rest
+    → (kept_tokens tokens ≡ spell_statement s ++ kept_tokens rest) × Sits s room off
+    × (statements.is_open s ≡ true → is_else (first rest) ≡ false)
 
 abbrev pub ExpressionRead : Type 0
-ExpressionRead = (tokens rest : List Placed) (room off : ℕ) (e : Expr) → reader room Rvalue off tokens ≡ Got e rest → (kept_tokens tokens ≡ spell e ++ kept_tokens rest) × Fits e rvalue_rank room off
+ExpressionRead =
+    (tokens rest : List Placed) (room off : ℕ) (e : Expr) → reader room Rvalue off tokens ≡ Got e rest
+    → (kept_tokens tokens ≡ spell e ++ kept_tokens rest) × Fits e rvalue_rank room off
 
--- The spelling of a well-formed definition is read as that definition, whatever stands behind it but for an else of its own.
+-- The spelling of a well-formed definition is read as that definition, whatever stands behind it but its own else.
 abbrev pub ReadsAgain : Type 0
-ReadsAgain = (d : Definition) (rest : List Placed) → IsFormed d → (is_open d ≡ true → is_else (first rest) ≡ false) → definition (spell_definition d ++ rest) ≡ Got d rest
+ReadsAgain =
+    (d : Definition) (rest : List Placed) → IsFormed d → (is_open d ≡ true → is_else (first rest) ≡ false)
+    → definition (spell_definition d ++ rest) ≡ Got d rest
 
 -- An else behind an open definition goes on with it.
 abbrev pub GoesOnWithElse : Type 0
-GoesOnWithElse = (d : Definition) → IsFormed d → is_open d ≡ true → (d2 : Definition) × IsFormed d2 × (spell_definition d2 ≡ spell_definition d ++ (keyword_mark keyword.Else ∷ mark token.Semicolon ∷ []))
+GoesOnWithElse =
+    (d : Definition) → IsFormed d → is_open d ≡ true
+    → (d2 : Definition) × IsFormed d2
+    × (spell_definition d2 ≡ spell_definition d ++ (keyword_mark keyword.Else ∷ mark token.Semicolon ∷ []))
 
 -- A definition that is spelled by tokens but for their lines has a twin with those lines.
 abbrev pub HasTwin : Type 0
-HasTwin = (d : Definition) (tokens : List Placed) → IsFormed d → map bare (spell_definition d) ≡ map bare tokens → (d2 : Definition) × IsFormed d2 × (is_open d2 ≡ is_open d) × (spell_definition d2 ≡ kept_tokens tokens)
+HasTwin =
+    (d : Definition) (tokens : List Placed) → IsFormed d → map bare (spell_definition d) ≡ map bare tokens
+    → (d2 : Definition) × IsFormed d2 × (is_open d2 ≡ is_open d) × (spell_definition d2 ≡ kept_tokens tokens)
 
 -- Reading a definition depends on the tokens taken and one more, and can be ended wherever it stops.
 abbrev pub ReadsOn : Type 0
@@ -52,17 +69,21 @@ BeginsWithName = (d : Definition) → (w : Word) × (rest : List Placed) × (spe
 
 -- no two well-formed trees have the same spelling
 abbrev pub OneExpression : Type 0
-OneExpression = (e f : Expr) (room off : ℕ) → Fits e rvalue_rank room off → Fits f rvalue_rank room off → spell e ≡ spell f → e ≡ f
+OneExpression =
+    (e f : Expr) (room off : ℕ) → Fits e rvalue_rank room off → Fits f rvalue_rank room off → spell e ≡ spell f → e ≡ f
 
 abbrev pub OneStatement : Type 0
-OneStatement = (s t : Stmt) (room off : ℕ) → Sits s room off → Sits t room off → spell_statement s ≡ spell_statement t → s ≡ t
+OneStatement =
+    (s t : Stmt) (room off : ℕ) → Sits s room off → Sits t room off → spell_statement s ≡ spell_statement t → s ≡ t
 
 abbrev pub OneDefinition : Type 0
 OneDefinition = (d e : Definition) → IsFormed d → IsFormed e → spell_definition d ≡ spell_definition e → d ≡ e
 
 -- each source comes to something
 abbrev pub EachSourceComes : Type 0
-EachSourceComes = (names : Defined) (edition : Edition) (line : ℕ) (bytes : List ℕ) → (r : Outcome) × Goes names (tokens_from edition line bytes) r
+EachSourceComes =
+    (names : Defined) (edition : Edition) (line : ℕ) (bytes : List ℕ)
+    → (r : Outcome) × Goes names (tokens_from edition line bytes) r
 
 -- the same tokens come to the same
 abbrev pub OutcomesAreEqual : Type 0

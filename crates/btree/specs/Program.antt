@@ -51,7 +51,9 @@ StopsAt before at (Some d) = Begins before × (IsViable before at.token → ⊥)
 -- nothing, or a proper beginning of a definition
 abbrev pub IsPart : List Token → Type 0
 IsPart tokens =
-    (tokens ≡ []) ⊎ ((d : Definition) × (t : Token) × (more : List Token) × IsFormed d × (map bare (spell_definition d) ≡ tokens ++ t ∷ more))
+    (tokens ≡ [])
+    ⊎ ((d : Definition) × (t : Token) × (more : List Token) × IsFormed d
+    × (map bare (spell_definition d) ≡ tokens ++ t ∷ more))
 
 -- the tokens are those of the definitions, with the lines that these keep, and a part of one more
 pub record Parts (tokens : List Placed) (definitions : List Definition) : Type 0 where
