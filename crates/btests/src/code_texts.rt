@@ -20,6 +20,13 @@ fn code_read_and_written(rt: HostRuntime) -> Result<(), Fail> {
 }
 
 #[test]
+fn texts_of_the_second_edition(rt: HostRuntime) -> Result<(), Fail> {
+    assert_eq!(rt; read_code(rt.alloc(), b"B 2\nE\n")?.len(), 0);
+    assert_eq!(rt; read_code(rt.alloc(), b"B 2\nX a 0 0\nE\n")?.len(), 1);
+    Ok(())
+}
+
+#[test]
 fn faults_at_their_lines(rt: HostRuntime) {
     for (text, line) in [
         ("X n 1 0\nc 007\nE\n", 2),
@@ -34,6 +41,13 @@ fn faults_at_their_lines(rt: HostRuntime) {
         ("X n 1 0\nc 65536\nE\n", 2),
         ("F f 0 0 0 0 1\nb =\nE\n", 2),
         ("F f 0 0 0 0 2\nr\nj 2\nE\n", 3),
+        ("B 1\nE\n", 1),
+        ("B 2", 1),
+        ("B 02\nE\n", 1),
+        ("B 2\n", 2),
+        ("B 2\nB 2\nE\n", 2),
+        ("X a 0 0\nB 2\nE\n", 2),
+        ("B 2\nX n 1 0\nc 007\nE\n", 3),
     ] {
         let fault = read_code(rt.alloc(), text.as_bytes()).err();
         assert_eq!(rt; fault, Some(CodeFault::Line(line)), "{text}");

@@ -6,6 +6,8 @@
 #[cfg(test)]
 mod code_texts;
 #[cfg(test)]
+mod definitions;
+#[cfg(test)]
 mod drafts;
 #[cfg(test)]
 mod expressions;
