@@ -5,6 +5,7 @@
 mod byte_in;
 mod byte_out;
 mod edition;
+mod failing;
 mod flat_store;
 mod memory;
 mod name;
@@ -15,6 +16,7 @@ mod streams;
 pub use byte_in::{ByteIn, Device};
 pub use byte_out::{ByteOut, EndFault};
 pub use edition::Edition;
+pub use failing::{FailIn, FailOut};
 pub use flat_store::FlatStore;
 pub use memory::{MemIn, MemOut};
 pub use name::{NAME_LEN, Name, is_name_byte, is_name_start};
