@@ -39,10 +39,19 @@ fn is_answered(scope: &mut Scope, call: Call) -> Result<bool, Fail> {
     })
 }
 
+// The first row that the scope answers otherwise.
+fn wrong_row(scope: &mut Scope, calls: &[Call]) -> Result<Option<usize>, Fail> {
+    for (row, call) in calls.iter().enumerate() {
+        if !is_answered(scope, *call)? {
+            return Ok(Some(row));
+        }
+    }
+    Ok(None)
+}
+
 #[test]
 fn names_are_bound_where_they_are_declared_or_mentioned(rt: HostRuntime) -> Result<(), Fail> {
-    let mut scope = Scope::new();
-    for (row, call) in [
+    let calls = [
         Call::Declare("a", Declared::Auto(3), Ok(())),
         Call::Declare("n", Declared::External, Ok(())),
         Call::Declare("a", Declared::External, Err(DeclareFault::Redeclared)),
@@ -62,12 +71,8 @@ fn names_are_bound_where_they_are_declared_or_mentioned(rt: HostRuntime) -> Resu
         Call::Clear,
         Call::Finish(None),
         Call::Mention("a", true, Ok(Binding::External)),
-    ]
-    .into_iter()
-    .enumerate()
-    {
-        assert!(rt; is_answered(&mut scope, call)?, "row {row}");
-    }
+    ];
+    assert_eq!(rt; wrong_row(&mut Scope::new(), &calls)?, None);
     Ok(())
 }
 
@@ -86,19 +91,14 @@ fn full_scope() -> Result<Scope, Fail> {
 
 #[test]
 fn a_function_has_128_names(rt: HostRuntime) -> Result<(), Fail> {
-    let mut scope = full_scope()?;
-    for (row, call) in [
+    let calls = [
         Call::Declare("x", Declared::External, Err(DeclareFault::TooManyNames)),
         Call::Mention("x", false, Err(MentionFault::TooManyNames)),
         Call::Label("x", 0, Err(DeclareFault::TooManyNames)),
         Call::Declare("Hp", Declared::External, Err(DeclareFault::Redeclared)),
         Call::Mention("Aa", false, Ok(Binding::External)),
-    ]
-    .into_iter()
-    .enumerate()
-    {
-        assert!(rt; is_answered(&mut scope, call)?, "row {row}");
-    }
+    ];
+    assert_eq!(rt; wrong_row(&mut full_scope()?, &calls)?, None);
     Ok(())
 }
 
@@ -110,20 +110,33 @@ fn answers(buffer: &mut CodeBuffer) -> [Option<u16>; 3] {
     [emitted, hole, label]
 }
 
-#[test]
-fn code_has_a_room(rt: HostRuntime) -> Result<(), Fail> {
-    let mut buffer = CodeBuffer::new();
-    let end = buffer.hole(Branch::JumpIfZero).ok().ok_or("room")?;
-    assert_eq!(rt; end.place(), 0);
-    buffer.fill(end, 3);
-    assert_eq!(rt; buffer.code(), [Instr::JumpIfZero(3)].as_slice());
-    assert_eq!(rt; answers(&mut buffer), [Some(1), Some(2), Some(3)]);
-    for place in 4..4096 {
-        assert_eq!(rt; buffer.emit(Instr::Pop), Ok(place));
+fn emit_pops(buffer: &mut CodeBuffer, count: u16) {
+    for _ in 0..count {
+        let _ = buffer.emit(Instr::Pop);
     }
-    assert_eq!(rt; answers(&mut buffer), [None; 3]);
+}
+
+#[test]
+fn code_has_a_room(rt: HostRuntime) {
+    let mut buffer = CodeBuffer::new();
+    for (count, want) in [
+        (0, [Some(0), Some(1), Some(2)]),
+        (4090, [Some(4093), Some(4094), Some(4095)]),
+        (1, [None; 3]),
+    ] {
+        emit_pops(&mut buffer, count);
+        assert_eq!(rt; answers(&mut buffer), want, "behind {count}");
+    }
     buffer.clear();
     assert_eq!(rt; answers(&mut buffer), [Some(0), Some(1), Some(2)]);
+}
+
+#[test]
+fn a_hole_is_filled(rt: HostRuntime) -> Result<(), Fail> {
+    let mut buffer = CodeBuffer::new();
+    let end = buffer.hole(Branch::JumpIfZero).ok().ok_or("room")?;
+    buffer.fill(end, 3);
+    assert_eq!(rt; buffer.code(), [Instr::JumpIfZero(3)].as_slice());
     Ok(())
 }
 
@@ -157,11 +170,14 @@ fn cases_are_those_of_their_switch(rt: HostRuntime) {
 
 #[test]
 fn refusals_have_their_numbers(rt: HostRuntime) {
-    assert_eq!(rt; DeclareFault::Redeclared as u8, 1);
-    assert_eq!(rt; DeclareFault::TooManyNames as u8, 3);
-    assert_eq!(rt; MentionFault::TooManyNames as u8, 3);
-    assert_eq!(rt; EmitFault::TooLarge as u8, 4);
-    assert_eq!(rt; CaseFault::Redeclared as u8, 1);
-    assert_eq!(rt; CaseFault::TooManyCases as u8, 5);
-    assert_eq!(rt; DefaultFault::Redeclared as u8, 1);
+    let numbers = [
+        DeclareFault::Redeclared as u8,
+        DeclareFault::TooManyNames as u8,
+        MentionFault::TooManyNames as u8,
+        EmitFault::TooLarge as u8,
+        CaseFault::Redeclared as u8,
+        CaseFault::TooManyCases as u8,
+        DefaultFault::Redeclared as u8,
+    ];
+    assert_eq!(rt; numbers, [1, 3, 3, 4, 1, 5, 1]);
 }
