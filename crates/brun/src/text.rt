@@ -5,8 +5,9 @@ ghost use Rattle.brun.specs.Runs.{Finishes, RunsDefinitions, RunsText, Unread};
 use crate::report::{Report, number_of, write_report};
 use bcode::{CodeFault, Definition, read_code};
 use bmach::{Outcome, load, run};
+use bpages::PagedStore;
 use bparse::status::{self, Status};
-use bword::{ByteIn, ByteOut, FlatStore};
+use bword::{ByteIn, ByteOut};
 use std::alloc::Global;
 
 /// Runs a code text for so many steps at most.
@@ -80,7 +81,7 @@ fn run_definitions<I: ByteIn, O: ByteOut, D: ByteOut>(
             };
         }
     };
-    let Ok(store) = FlatStore::new(alloc) else {
+    let Ok(store) = PagedStore::new(alloc) else {
         return status::MEMORY;
     };
     let outcome = run(alloc, &image, store, input, out, steps);
