@@ -602,20 +602,19 @@ fn outputs_that_are_full(rt: HostRuntime) {
 }
 
 // With an allocation that fails there is no other status than that, and a beginning of the text. The compiler itself
-// takes no memory for a source without a definition.
+// takes no memory for a source without a definition, and reads nothing where the line `B 2` is refused.
 #[test]
 fn want_of_memory_for_the_empty_source(rt: HostRuntime) {
+    let mut source = Counted {
+        end: MemIn::new(b""),
+        calls: 0,
+    };
     let mut out = MemOut::new(rt.alloc());
     let mut diag = MemOut::new(rt.alloc());
-    let answer = compile_edition(
-        rt.alloc(),
-        &mut MemIn::new(b""),
-        &mut out,
-        &mut diag,
-        Edition::Two,
-    );
+    let answer = compile_edition(rt.alloc(), &mut source, &mut out, &mut diag, Edition::Two);
     assert!(rt; answer == 0 || answer == 134);
     assert!(rt; b"B 2\nE\n".starts_with(out.bytes()));
+    assert_eq!(rt; source.calls == 0, out.bytes().is_empty());
     assert_eq!(rt; diag.bytes().len(), 0);
     let answer = go_edition(
         rt.alloc(),
