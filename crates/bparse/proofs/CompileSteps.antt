@@ -1,23 +1,25 @@
 -- What compiling a whole source comes to, by its last call.
-use Rattle.std.proofs.Common.{◌≡◌, ℕ, ◌+◌, ◌<◌, ◌≤◌, true, false, List, [], ◌∷◌, ◌++◌, length, map, take, Option, Some, None, Result, Ok, Err, refl, sym, ap, ◌∙◌, subst, append_assoc, length-append, arith, ◌⊎◌, inl, inr}
-use Rattle.bword.specs.declared.edition.Edition.TheVariants as editions
+use Rattle.std.specs.Io.KnownBytes.{Appends, append_known}
+use Rattle.std.proofs.Common.{◌≡◌, ℕ, ◌+◌, ◌<◌, ◌≤◌, Bool, true, false, List, [], ◌∷◌, ◌++◌, length, map, take, Option, Some, None, Result, Ok, Err, refl, sym, ap, ◌∙◌, subst, append_assoc, length-append, arith, ◌⊎◌, inl, inr, if◌then◌else◌}
+use Rattle.bword.specs.declared.edition.Edition.{Edition}
 use Rattle.std.proofs.lemmas.List.{take-append-le}
 use Rattle.bword.specs.ByteEnds.{Incoming, Outgoing, Took, Grew, Writes, Refuses}
 use Rattle.bword.specs.declared.byte_out.EndFault.{EndFault}
 use Rattle.bword.specs.declared.byte_out.EndFault.TheVariants as end_fault
+use Rattle.blex.proofs.Passing.{Took-none}
 use Rattle.bword.proofs.Putting.{Writes-append, Refuses-behind, Refuses-short}
-use Rattle.bcode.specs.Text.{joined}
+use Rattle.bcode.specs.Text.{joined, opening}
 use Rattle.blex.specs.declared.diagnostic.Diagnostic.{Diagnostic}
 use Rattle.btree.specs.Compiled.{Outcome, ending, code_text, line_of, text_of}
 use Rattle.btree.specs.Definition.{Definition}
-use Rattle.bparse.specs.Compilers.{Ends, Compiler, Keeps, Behind, Since, Wrote, Stopped, Broke, Whatever, StepGives}
+use Rattle.bparse.specs.Compilers.{Compiler, Keeps, Behind, Opens, Since, Wrote, Stopped, Broke, Whatever, StepGives, opened, unopened}
 use Rattle.bparse.specs.Compilers as compilers
-use Rattle.bparse.specs.Compiles.{Run, HasWritten, SourceFailed, CodeRefused, LineRefused, NamesRefused, Compiles, LastGives, CodeGives}
+use Rattle.bparse.specs.Compiles.{Run, HasWritten, SourceFailed, OpeningRefused, CodeRefused, LineRefused, NamesRefused, EndRefused, Compiles, LastGives, CodeGives}
 use Rattle.bparse.specs.Statuses.{status_of}
-use Rattle.bparse.specs.Steps.{HasCode, next_text}
+use Rattle.bparse.specs.Steps.{HasCode, next_text, to_begin}
 use Rattle.bparse.specs.declared.step.Step.{Step}
 use Rattle.bparse.specs.declared.step.Step.TheVariants as step
-use Rattle.bparse.proofs.SinceSteps.{joined-append}
+use Rattle.bparse.proofs.SinceSteps.{joined-append, written_begun}
 
 pub keeps_none : (c : Compiler) → Keeps c c
 keeps_none c = record { first = refl; lender = refl; out_lender = refl }
@@ -25,8 +27,9 @@ keeps_none c = record { first = refl; lender = refl; out_lender = refl }
 pub keeps_more : {a b c : Compiler} → Keeps a b → Keeps b c → Keeps a c
 keeps_more h k = record { first = k.first ∙ h.first; lender = k.lender ∙ h.lender; out_lender = k.out_lender ∙ h.out_lender }
 
--- the code text of an outcome that begins with these texts
-code_behind : (ds : List Definition) (rest r : Outcome) → Behind ds rest r → code_text editions.One r ≡ joined (map text_of ds) ++ (joined rest.code ++ ending rest.stop)
+-- the text of an outcome that begins with these texts
+code_behind : (ds : List Definition) (rest r : Outcome) → Behind ds rest r
+    → joined r.code ++ ending r.stop ≡ joined (map text_of ds) ++ (joined rest.code ++ ending rest.stop)
 code_behind ds rest r h =
     ap (λ x. joined x ++ ending r.stop) h.code ∙ ap (λ x. joined (map text_of ds ++ rest.code) ++ ending x) h.stop
     ∙ ap (λ l. l ++ ending rest.stop) (joined-append (map text_of ds) rest.code) ∙ append_assoc (joined (map text_of ds)) (joined rest.code) (ending rest.stop)
@@ -51,9 +54,43 @@ take_all (x ∷ xs) = ap (λ l. x ∷ l) (take_all xs)
 take_first : (xs ys zs : List (List ℕ)) → zs ≡ xs ++ ys → take (length xs) zs ≡ xs
 take_first xs ys zs e = ap (take (length xs)) e ∙ take-append-le (length xs) xs ys (omega arith) ∙ take_all xs
 
+bool_false : (b : Bool) → (b ≡ true → ⊥) → b ≡ false
+bool_false true h = absurd (h refl)
+bool_false false h = refl
+
+-- what stands between two writes that are seen as one
+append_first : (old : Option (List ℕ)) (xs : List ℕ) → Appends old (append_known old xs) xs
+append_first None xs = tt
+append_first (Some known) xs = refl
+
+append_rest : (old new : Option (List ℕ)) (xs ys : List ℕ) → Appends old new (xs ++ ys) → Appends (append_known old xs) new ys
+append_rest None new xs ys h = tt
+append_rest (Some known) None xs ys h = h
+append_rest (Some known) (Some all) xs ys h = h ∙ sym (append_assoc known xs ys)
+
+abbrev pub split_out : Outgoing → List ℕ → Outgoing
+split_out a xs = record { written = append_known a.written xs; failures = a.failures; refusals = a.refusals }
+
+split_first : (a : Outgoing) (xs : List ℕ) → Writes a xs (split_out a xs)
+split_first a xs = record { appended = append_first a.written xs; failures = refl; refusals = refl }
+
+split_rest : {a b : Outgoing} (xs : List ℕ) {ys : List ℕ} → Writes a (xs ++ ys) b → Writes (split_out a xs) ys b
+split_rest {a} {b} xs {ys} h = record { appended = append_rest a.written b.written xs ys h.appended; failures = h.failures; refusals = h.refusals }
+
+unopened_all : (c : Compiler) → c.is_begun ≡ false → unopened c ≡ opening c.first.edition
+unopened_all c z = ap (λ b. to_begin b c.first.edition) z
+
+unopened_none : (c : Compiler) → c.is_begun ≡ true → unopened c ≡ []
+unopened_none c z = ap (λ b. to_begin b c.first.edition) z
+
+unbegun_out : (c : Compiler) (ds : List Definition) → Since c ds → c.is_begun ≡ false → Writes c.first.out [] c.out
+unbegun_out c ds s z =
+    subst (λ t. Writes c.first.out t c.out)
+    (ap (λ b. (if b then opening c.first.edition else []) ++ joined (map text_of ds)) z ∙ ap (λ x. joined (map text_of x)) (s.unbegun z).0) s.written
+
 module _ (first last : Compiler) (d e : Outgoing) where
   abbrev run : ℕ → Run
-  run status = record { source = first.first.source; source_behind = last.tokens.source.end; code = first.first.out; code_behind = last.out; line = d; line_behind = e; status = status }
+  run status = record { edition = first.first.edition; source = first.first.source; source_behind = last.tokens.source.end; code = first.first.out; code_behind = last.out; line = d; line_behind = e; status = status }
 
   module _ {answer : Step} (l : LastGives first answer last) where
     same_first : last.first ≡ first.first
@@ -65,38 +102,65 @@ module _ (first last : Compiler) (d e : Outgoing) where
     read_all : last.tokens.source.end.failures ≡ last.first.source.failures → last.tokens.source.end.failures ≡ first.first.source.failures
     read_all h = h ∙ ap (λ x. x.source.failures) same_first
 
-    -- what was written before the last call
-    written_before : {before : List Definition} → Since l.old before → Writes first.first.out (joined (map text_of before)) l.old.out
-    written_before {before} s = subst (λ x. Writes x.out (joined (map text_of before)) l.old.out) l.keeps_old.first s.written
+    -- what is written when the last call has written what the text begins with
+    written_before : {before : List Definition} {out : Outgoing} → Since l.old before → Opens l.old out
+        → Writes first.first.out (opening first.first.edition ++ joined (map text_of before)) out
+    written_before {before} {out} s o =
+        subst (λ x. Writes x.out (opening x.edition ++ joined (map text_of before)) out) l.keeps_old.first
+        (written_begun l.old.first l.old.is_begun before l.old.out out (λ e. (s.unbegun e).0) s.written o.written o.nothing)
 
-    written_whole : {stop : Option Diagnostic} (s : Stopped l.old stop last) (r : Outcome) → (r.code ≡ map text_of s.before) × (r.stop ≡ stop) → Writes first.first.out (code_text editions.One r) last.out
+    written_whole : {stop : Option Diagnostic} (s : Stopped l.old stop last) (r : Outcome) → (r.code ≡ map text_of s.before) × (r.stop ≡ stop)
+        → Writes first.first.out (code_text first.first.edition r) last.out
     written_whole {stop} s r q =
-        subst (λ t. Writes first.first.out t last.out) (ap (λ x. joined x ++ ending stop) (sym q.0) ∙ ap (λ x. joined r.code ++ ending x) (sym q.1))
-        (subst (λ x. Writes x.out (joined (map text_of s.before) ++ ending stop) last.out) same_first s.written)
+        subst (λ t. Writes first.first.out (opening first.first.edition ++ t) last.out) (ap (λ x. joined x ++ ending stop) (sym q.0) ∙ ap (λ x. joined r.code ++ ending x) (sym q.1))
+        (subst (λ x. Writes x.out (opening x.edition ++ (joined (map text_of s.before) ++ ending stop)) last.out) same_first s.written)
 
-    texts_written : {before : List Definition} (status : ℕ) → Since l.old before → last.out ≡ l.old.out → (rest r : Outcome) → Behind before rest r → HasWritten (run status) (length (map text_of before)) r
-    texts_written {before} status s same rest r h =
-        subst (λ o. Writes first.first.out (joined (take (length (map text_of before)) r.code)) o) (sym same)
-        (subst (λ x. Writes first.first.out (joined x) l.old.out) (sym (take_first (map text_of before) rest.code r.code h.code)) (written_before s))
+    texts_written : {before : List Definition} (status : ℕ) → Since l.old before → Opens l.old last.out → (rest r : Outcome) → Behind before rest r
+        → HasWritten (run status) (length (map text_of before)) r
+    texts_written {before} status s o rest r h =
+        subst (λ x. Writes first.first.out (opening first.first.edition ++ joined x) last.out) (sym (take_first (map text_of before) rest.code r.code h.code)) (written_before s o)
 
-    code_refused : (fault : EndFault) (status : ℕ) (h : compilers.OutRefused l.old fault last) → e ≡ d → CodeRefused (run status) h.0.taken fault
+    -- what every source comes to that the last call can have seen
+    whatever : (taken : List ℕ) (P : Outcome → Type 0) → Whatever last.first.edition taken last.tokens.source.end P
+        → Whatever first.first.edition taken last.tokens.source.end P
+    whatever taken P h = subst (λ x. Whatever x.edition taken last.tokens.source.end P) same_first h
+
+    code_refused : (fault : EndFault) (status : ℕ) (h : compilers.OutRefused l.old fault last) → e ≡ d → CodeRefused (run status) h.2.taken fault
     code_refused fault status h same = record {
-      read = read_all h.1;
+      read = read_all h.3;
+      opened = split_out first.first.out (opening first.first.edition);
+      begun = split_first first.first.out (opening first.first.edition);
       code = λ more f r g.
-          let q = h.0.comes more f r g in (
-            (λ none. q.1.stop ∙ q.2.0 (nil_behind (map text_of h.0.before) q.0.code (sym q.1.code ∙ none))),
-            subst (λ t. Refuses first.first.out t fault last.out) (sym (code_behind h.0.before q.0 r q.1))
-                (Refuses-behind (written_before h.0.since) (refused_all q.0.code q.0.stop q.2.1)),
+          let q = whatever _ _ h.2.comes more f r g in (
+            (λ none. q.1.stop ∙ q.2.0 (nil_behind (map text_of h.2.before) q.0.code (sym q.1.code ∙ none))),
+            subst (λ t. Refuses (split_out first.first.out (opening first.first.edition)) t fault last.out) (sym (code_behind h.2.before q.0 r q.1))
+                (Refuses-behind (split_rest (opening first.first.edition) (written_before h.2.since h.1)) (refused_all q.0.code q.0.stop q.2.1)),
           );
       silent = same;
     }
+
+    opening_refused : (fault : EndFault) (status : ℕ) (h : compilers.BeginRefused l.old fault last) → l.old.is_begun ≡ false → e ≡ d → OpeningRefused (run status) [] fault
+    opening_refused fault status h z same = record {
+      unread = (refl, ap (λ x. x.source.end) h.unread ∙ (h.since.unbegun z).1 ∙ ap (λ x. x.source) l.keeps_old.first);
+      some = λ none. h.some (to_open ∙ none);
+      code = subst (λ x. Refuses x.out (opening x.edition) fault last.out) l.keeps_old.first
+          (Refuses-behind (unbegun_out l.old h.before h.since z) (subst (λ t. Refuses l.old.out t fault last.out) (unopened_all l.old z) h.refused));
+      silent = same;
+    }
+      where
+        to_open : unopened l.old ≡ opening first.first.edition
+        to_open = unopened_all l.old z ∙ ap (λ x. opening x.edition) l.keeps_old.first
+
+    -- a text that doesn't begin hadn't begun
+    not_begun : {fault : EndFault} → compilers.BeginRefused l.old fault last → l.old.is_begun ≡ false
+    not_begun h = bool_false l.old.is_begun (λ z. h.some (unopened_none l.old z))
 
     source_failed : (status : ℕ) (h : compilers.ReadFailed l.old last) → e ≡ d → SourceFailed (run status) h.0.taken
     source_failed status h same = record {
       counted = subst (λ x. Grew x.source.failures last.tokens.source.end.failures) same_first h.1;
       count = length (map text_of h.0.before);
       code = λ more f r g.
-          let q = h.0.comes more f r g in
+          let q = whatever _ _ h.0.comes more f r g in
           (omega (arith, ap length q.1.code, length-append (map text_of h.0.before) q.0.code), texts_written status h.0.since h.2 q.0 r q.1);
       silent = same;
     }
@@ -106,7 +170,7 @@ module _ (first last : Compiler) (d e : Outgoing) where
       read = read_all h.1;
       count = length (map text_of h.0.before);
       code = λ more f r g.
-          let q = h.0.comes more f r g in
+          let q = whatever _ _ h.0.comes more f r g in
           (omega (arith, ap length q.1.code, length-append (map text_of h.0.before) q.0.code, some_length q.0.code q.2), texts_written status h.0.since h.2 q.0 r q.1);
       silent = same;
     }
@@ -117,7 +181,7 @@ module _ (first last : Compiler) (d e : Outgoing) where
       record {
         taken = s.taken;
         took = took_all l s.took;
-        compiled = λ z more f r g. let q = s.comes more f r g in record { read = read_all l s.failures; clean = q.1; code = written_whole l s r q; silent = same };
+        compiled = λ z more f r g. let q = whatever l _ _ s.comes more f r g in record { read = read_all l s.failures; clean = q.1; code = written_whole l s r q; silent = same };
         faulty = λ z. absurd (omega arith);
         failed = λ z. absurd (omega arith);
         refused = λ z. absurd (omega arith);
@@ -131,7 +195,7 @@ module _ (first last : Compiler) (d e : Outgoing) where
         taken = s.taken;
         took = took_all l s.took;
         compiled = λ z. absurd (omega arith);
-        faulty = λ z more f r g. let q = s.comes more f r g in record { read = read_all l s.failures; fault = fault; stop = q.1; code = written_whole l s r q; line = line };
+        faulty = λ z more f r g. let q = whatever l _ _ s.comes more f r g in record { read = read_all l s.failures; fault = fault; stop = q.1; code = written_whole l s r q; line = line };
         failed = λ z. absurd (omega arith);
         refused = λ z. absurd (omega arith);
         no_other = inr (inl refl);
@@ -140,7 +204,7 @@ module _ (first last : Compiler) (d e : Outgoing) where
   line_refused : (fault : Diagnostic) (end : EndFault) (status : ℕ) → (l : LastGives first (step.Fault fault) last) → Refuses d (line_of fault) end e → (s : Stopped l.old (Some fault) last) → LineRefused (run status) s.taken end
   line_refused fault end status l w s = record {
     read = read_all l s.failures;
-    written = λ more f r g. let q = s.comes more f r g in record { diagnostic = fault; stop = q.1; code = written_whole l s r q; line = w };
+    written = λ more f r g. let q = whatever l _ _ s.comes more f r g in record { diagnostic = fault; stop = q.1; code = written_whole l s r q; line = w };
   }
 
   pub cut_off : (fault : Diagnostic) (end : EndFault) → LastGives first (step.Fault fault) last → Refuses d (line_of fault) end e → Compiles (run (status_of end))
@@ -149,7 +213,7 @@ module _ (first last : Compiler) (d e : Outgoing) where
     took = took_all l l.gives.took;
     compiled = λ z. absurd (omega arith);
     faulty = λ z. absurd (omega arith);
-    failed = λ z. inr (inr (line_refused fault end_fault.Device 133 l w l.gives));
+    failed = λ z. inr (inr (inr (line_refused fault end_fault.Device 133 l w l.gives)));
     refused = λ z. absurd (omega arith);
     no_other = inr (inr (inl refl));
   }
@@ -159,12 +223,12 @@ module _ (first last : Compiler) (d e : Outgoing) where
     compiled = λ z. absurd (omega arith);
     faulty = λ z. absurd (omega arith);
     failed = λ z. absurd (omega arith);
-    refused = λ z. inr (inr (line_refused fault end_fault.Memory 134 l w l.gives));
+    refused = λ z. inr (inr (inr (line_refused fault end_fault.Memory 134 l w l.gives)));
     no_other = inr (inr (inr refl));
   }
 
   failing : (taken : List ℕ) → Took first.first.source taken last.tokens.source.end
-      → SourceFailed (run 133) taken ⊎ CodeRefused (run 133) taken end_fault.Device ⊎ LineRefused (run 133) taken end_fault.Device → Compiles (run 133)
+      → SourceFailed (run 133) taken ⊎ EndRefused (run 133) taken end_fault.Device → Compiles (run 133)
   failing taken took h = record {
     taken = taken;
     took = took;
@@ -176,7 +240,7 @@ module _ (first last : Compiler) (d e : Outgoing) where
   }
 
   refusing : (taken : List ℕ) → Took first.first.source taken last.tokens.source.end
-      → NamesRefused (run 134) taken ⊎ CodeRefused (run 134) taken end_fault.Memory ⊎ LineRefused (run 134) taken end_fault.Memory → Compiles (run 134)
+      → NamesRefused (run 134) taken ⊎ EndRefused (run 134) taken end_fault.Memory → Compiles (run 134)
   refusing taken took h = record {
     taken = taken;
     took = took;
@@ -187,19 +251,24 @@ module _ (first last : Compiler) (d e : Outgoing) where
     no_other = inr (inr (inr refl));
   }
 
+  unread_took : {status : ℕ} {fault : EndFault} → OpeningRefused (run status) [] fault → Took first.first.source [] last.tokens.source.end
+  unread_took o = subst (Took first.first.source []) (sym o.unread.1) (Took-none first.first.source)
+
   pub device : LastGives first step.Device last → e ≡ d → Compiles (run 133)
   device l same = go l.gives
     where
       go : StepGives l.old step.Device last → Compiles (run 133)
       go (inl h) = failing h.0.taken (took_all l h.0.took) (inl (source_failed l 133 h same))
-      go (inr h) = failing h.0.taken (took_all l h.0.took) (inr (inl (code_refused l end_fault.Device 133 h same)))
+      go (inr (inl h)) = failing h.2.taken (took_all l h.2.took) (inr (inr (inl (code_refused l end_fault.Device 133 h same))))
+      go (inr (inr h)) = let o = opening_refused l end_fault.Device 133 h (not_begun l h) same in failing [] (unread_took o) (inr (inl o))
 
   pub memory : LastGives first step.Memory last → e ≡ d → Compiles (run 134)
   memory l same = go l.gives
     where
       go : StepGives l.old step.Memory last → Compiles (run 134)
-      go (inl h) = refusing h.0.taken (took_all l h.0.took) (inr (inl (code_refused l end_fault.Memory 134 h same)))
-      go (inr h) = refusing h.0.taken (took_all l h.0.took) (inl (names_refused l 134 h same))
+      go (inl h) = refusing h.0.taken (took_all l h.0.took) (inl (names_refused l 134 h same))
+      go (inr (inl h)) = refusing h.2.taken (took_all l h.2.took) (inr (inr (inl (code_refused l end_fault.Memory 134 h same))))
+      go (inr (inr h)) = let o = opening_refused l end_fault.Memory 134 h (not_begun l h) same in refusing [] (unread_took o) (inr (inl o))
 
 -- no last call answers so
 pub last_not_closed : {first last : Compiler} → LastGives first step.Closed last → ⊥
@@ -209,10 +278,10 @@ pub last_not_written : {first last : Compiler} → LastGives first step.Written 
 last_not_written l = l.not_written refl
 
 -- between these ends
-pub compiles_between : {answer : Step} {status : ℕ} {i j : Incoming} {o p : Outgoing} (d e : Outgoing) (h : CodeGives i o answer j p)
+pub compiles_between : {answer : Step} {status : ℕ} {edition : Edition} {i j : Incoming} {o p : Outgoing} (d e : Outgoing) (h : CodeGives edition i o answer j p)
     → ((first last : Compiler) → LastGives first answer last → Compiles (run first last d e status))
-    → Compiles (record { source = i; source_behind = j; code = o; code_behind = p; line = d; line_behind = e; status = status })
-compiles_between d e h f = rw (sym h.source, sym h.source_behind, sym h.code, sym h.code_behind) (f h.first h.last h.gives)
+    → Compiles (record { edition = edition; source = i; source_behind = j; code = o; code_behind = p; line = d; line_behind = e; status = status })
+compiles_between d e h f = rw (sym h.edition_is, sym h.source, sym h.source_behind, sym h.code, sym h.code_behind) (f h.first h.last h.gives)
 
-pub answers : {i j : Incoming} {o p : Outgoing} {a b : Step} → a ≡ b → CodeGives i o a j p → CodeGives i o b j p
-answers {i} {j} {o} {p} e h = subst (λ x. CodeGives i o x j p) e h
+pub answers : {edition : Edition} {i j : Incoming} {o p : Outgoing} {a b : Step} → a ≡ b → CodeGives edition i o a j p → CodeGives edition i o b j p
+answers {edition} {i} {j} {o} {p} e h = subst (λ x. CodeGives edition i o x j p) e h

@@ -1,18 +1,18 @@
 -- What a call of the compiler comes to, counted from when the compiler was made.
-use Rattle.std.proofs.Common.{◌≡◌, ℕ, ◌+◌, ◌<◌, ◌≤◌, Bool, true, false, List, [], ◌∷◌, ◌++◌, length, map, Option, Some, None, Result, Ok, Err, refl, sym, ap, ◌∙◌, subst, append_assoc, append-nil, arith, ◌⊎◌, inl, inr}
-use Rattle.bword.specs.declared.edition.Edition.TheVariants as editions
+use Rattle.std.proofs.Common.{◌≡◌, ◌≢◌, ℕ, ◌+◌, ◌<◌, ◌≤◌, Bool, true, false, List, [], ◌∷◌, ◌++◌, length, map, Option, Some, None, Result, Ok, Err, refl, sym, ap, ◌∙◌, subst, append_assoc, append-nil, arith, ◌⊎◌, inl, inr, if◌then◌else◌}
+use Rattle.bword.specs.declared.edition.Edition.{Edition}
 use Rattle.std.proofs.lemmas.List.{map-append}
 use Rattle.std.proofs.lemmas.Grind.{flat_map-append}
-use Rattle.bword.specs.ByteEnds.{Incoming, Outgoing, Took, Grew, Writes}
+use Rattle.bword.specs.ByteEnds.{Incoming, Outgoing, Took, Grew, Writes, Refuses}
 use Rattle.bword.specs.declared.byte_out.EndFault.{EndFault}
 use Rattle.bword.specs.declared.byte_out.EndFault.TheVariants as end_fault
 use Rattle.bword.proofs.Putting.{Writes-none, Writes-append}
-use Rattle.bcode.specs.Text.{joined}
+use Rattle.bcode.specs.Text.{joined, opening}
 use Rattle.blex.proofs.Passing.{Took-none, Took-append}
 use Rattle.blex.specs.Tokens.{tokens_from}
 use Rattle.blex.specs.declared.diagnostic.Diagnostic.{Diagnostic}
 use Rattle.blex.specs.declared.token.Placed.{Placed}
-use Rattle.btree.specs.Compiled.{Outcome, Goes, text_of}
+use Rattle.btree.specs.Compiled.{Outcome, Goes, ending, text_of}
 use Rattle.btree.specs.Definition.{Definition, IsFormed, spell_definition}
 use Rattle.btree.specs.DefinitionReader.{definition}
 use Rattle.btree.specs.Lines.{kept}
@@ -26,8 +26,8 @@ use Rattle.btree.proofs.ProgramLaws.{read_there}
 use Rattle.btree.proofs.StatementUnread.{lines_unread}
 use Rattle.bexpr.specs.Tokens.{tokens_of, CanFollow, IsReady, EndsWith, last_ahead}
 use Rattle.bexpr.proofs.TokenSteps.{EndsWith-append}
-use Rattle.bparse.specs.Steps.{Point, name_of, Writing, Stopping, Breaking, ReadFails, OutRefuses, NamesRefuse, Gives}
-use Rattle.bparse.specs.Compilers.{Ends, Compiler, Spelled, Behind, Since, IsOpen, Wrote, Stopped, Broke, StepGives}
+use Rattle.bparse.specs.Steps.{Point, point, name_of, Writing, Stopping, Breaking, ReadFails, OutRefuses, NamesRefuse, BeginRefuses, GivesBehind, GivesNext, Gives, step_of, to_begin}
+use Rattle.bparse.specs.Compilers.{Start, Compiler, compiler_of, Spelled, Behind, Opens, Since, IsOpen, Wrote, Stopped, Broke, StepGives}
 use Rattle.bparse.specs.Compilers as compilers
 use Rattle.bparse.specs.declared.step.Step.{Step}
 use Rattle.bparse.specs.declared.step.Step.TheVariants as step
@@ -49,12 +49,13 @@ texts-append ds d =
     ap joined (map-append text_of ds (d ∷ [])) ∙ joined-append (map text_of ds) (text_of d ∷ []) ∙ ap (λ l. joined (map text_of ds) ++ l) (append-nil (text_of d))
 
 -- nothing is written at first
-pub since_new : (ends : Ends) → Since (compilers.new ends) []
-since_new ends = record {
+pub since_new : (start : Start) → Since (compilers.new start) []
+since_new start = record {
   taken = [];
-  took = Took-none ends.source;
+  took = Took-none start.source;
   failures = refl;
-  written = Writes-none ends.out;
+  unbegun = λ e. (refl, refl);
+  written = Writes-none start.out;
   names = refl;
   formed = tt;
   spelled = λ more f. record { passed = []; split = refl; spelled = refl };
@@ -66,8 +67,8 @@ since_new ends = record {
   is_open = refl;
 }
 
-pub is_open_new : (ends : Ends) → IsOpen (compilers.new ends)
-is_open_new ends = record { before = []; since = since_new ends; ready = refl }
+pub is_open_new : (start : Start) → IsOpen (compilers.new start)
+is_open_new start = record { before = []; since = since_new start; ready = refl }
 
 nil_both : (xs ys : List ℕ) → xs ≡ [] → ys ≡ [] → xs ++ ys ≡ []
 nil_both xs ys h k = rw (h, k) refl
@@ -80,8 +81,19 @@ grew_since : (a b c : ℕ) → b ≡ a → Grew b c → Grew a c
 grew_since a b c e g = rw e at g
 
 -- a compiler at a point
-abbrev pub compiler_at : Ends → Point → List ℕ → Bool → Compiler
-compiler_at first p lender is_closed = record { first = first; tokens = p.tokens; names = p.names; out = p.out; out_lender = lender; is_closed = is_closed }
+abbrev pub compiler_at : Start → Point → List ℕ → Bool → Bool → Compiler
+compiler_at first p lender is_begun is_closed = compiler_of first p.tokens p.names p.out lender is_begun is_closed
+
+-- what was written, with what the text begins with
+pub written_begun : (first : Start) (begun : Bool) (before : List Definition) (out mid : Outgoing) → (begun ≡ false → before ≡ [])
+    → Writes first.out ((if begun then opening first.edition else []) ++ joined (map text_of before)) out
+    → Writes out (to_begin begun first.edition) mid → (to_begin begun first.edition ≡ [] → mid ≡ out)
+    → Writes first.out (opening first.edition ++ joined (map text_of before)) mid
+written_begun first true before out mid none w o same = subst (λ x. Writes first.out (opening first.edition ++ joined (map text_of before)) x) (sym (same refl)) w
+written_begun first false before out mid none w o same =
+    let e = none refl in
+    subst (λ ds. Writes first.out (opening first.edition ++ joined (map text_of ds)) mid) (sym e)
+    (subst (λ l. Writes first.out l mid) (sym (append-nil (opening first.edition))) (Writes-append (subst (λ ds. Writes first.out (joined (map text_of ds)) out) e w) o))
 
 -- the tokens that were taken spell the tree
 tree_spelled : (u v : List Placed) (d : Definition) (t : Taken u v) → definition u ≡ Got d v → map kept t.tokens ≡ spell_definition d
@@ -95,22 +107,42 @@ behind_more ds d rest later r h e = record {
   stop = h.stop ∙ ap (λ x. x.stop) e;
 }
 
-module _ (first : Ends) (a b : Point) (lender lender' : List ℕ) (before : List Definition) (s : Since (compiler_at first a lender false) before) where
+-- a call of a compiler with this output, which writes what the text begins with, and is then at a point
+module _ (first : Start) (a b : Point) (lender lender' : List ℕ) (out : Outgoing) (begun : Bool) (before : List Definition)
+    (old_since : Since (compiler_of first a.tokens a.names out lender begun false) before) (opens : Opens (compiler_of first a.tokens a.names out lender begun false) a.out) where
   abbrev old : Compiler
-  old = compiler_at first a lender false
+  old = compiler_of first a.tokens a.names out lender begun false
+
+  s : Since (compiler_at first a lender true false) before
+  s = record {
+    taken = old_since.taken;
+    took = old_since.took;
+    failures = old_since.failures;
+    unbegun = λ e. cc;
+    written = written_begun first begun before out a.out (λ e. (old_since.unbegun e).0) old_since.written opens.written opens.nothing;
+    names = old_since.names;
+    formed = old_since.formed;
+    spelled = old_since.spelled;
+    comes = old_since.comes;
+    passed = old_since.passed;
+    split = old_since.split;
+    near = old_since.near;
+    ends = old_since.ends;
+    is_open = refl;
+  }
 
   -- the outcome from this point on
-  from_here : (ys more : List ℕ) → Took a.tokens.source.end ys b.tokens.source.end → CanFollow b.tokens.source.end more → (r : Outcome) → Goes [] (tokens_from editions.One 1 ((s.taken ++ ys) ++ more)) r
+  from_here : (ys more : List ℕ) → Took a.tokens.source.end ys b.tokens.source.end → CanFollow b.tokens.source.end more → (r : Outcome) → Goes [] (tokens_from first.edition 1 ((s.taken ++ ys) ++ more)) r
       → (rest : Outcome) × Goes a.names (tokens_of a.tokens (ys ++ more)) rest × Behind before rest r
   from_here ys more took f r g =
-      s.comes (ys ++ more) (follow took more f) r (subst (λ bs. Goes [] (tokens_from editions.One 1 bs) r) (append_assoc s.taken ys more) g)
+      s.comes (ys ++ more) (follow took more f) r (subst (λ bs. Goes [] (tokens_from first.edition 1 bs) r) (append_assoc s.taken ys more) g)
 
   module _ (w : Writing a b) where
     ends_now : (p : Placed) → EndsWith p.token w.looked.bytes ⊎ ((w.looked.bytes ≡ []) × (last_ahead a.tokens.ahead ≡ Some p)) → EndsWith p.token (s.passed ++ w.looked.bytes)
     ends_now p (inl h) = EndsWith-append s.passed h
     ends_now p (inr h) = subst (EndsWith p.token) (sym (append-nil s.passed) ∙ ap (λ l. s.passed ++ l) (sym h.0)) (s.ends p h.1)
 
-    spelled_now : (more : List ℕ) → CanFollow b.tokens.source.end more → Spelled (before ++ w.tree ∷ []) (tokens_from editions.One 1 ((s.taken ++ w.taken) ++ more)) (tokens_of b.tokens more)
+    spelled_now : (more : List ℕ) → CanFollow b.tokens.source.end more → Spelled (before ++ w.tree ∷ []) (tokens_from first.edition 1 ((s.taken ++ w.taken) ++ more)) (tokens_of b.tokens more)
     spelled_now more f =
         let q = s.spelled (w.taken ++ more) (follow w.reads.took more f) in
         let u = tokens_of a.tokens (w.taken ++ more) in
@@ -118,24 +150,27 @@ module _ (first : Ends) (a b : Point) (lender lender' : List ℕ) (before : List
         let t = got_taken u v w.tree (w.read more f) in
         record {
           passed = q.passed ++ t.tokens;
-          split = ap (tokens_from editions.One 1) (append_assoc s.taken w.taken more) ∙ q.split ∙ ap (λ l. q.passed ++ l) t.split ∙ sym (append_assoc q.passed t.tokens v);
+          split = ap (tokens_from first.edition 1) (append_assoc s.taken w.taken more) ∙ q.split ∙ ap (λ l. q.passed ++ l) t.split ∙ sym (append_assoc q.passed t.tokens v);
           spelled = map-append kept q.passed t.tokens ∙ ap (λ l. l ++ map kept t.tokens) q.spelled
               ∙ ap (λ l. spell_all before ++ l) (tree_spelled u v w.tree t (w.read more f)) ∙ sym (spell_all-append before w.tree);
         }
 
-    comes_now : (more : List ℕ) → CanFollow b.tokens.source.end more → (r : Outcome) → Goes [] (tokens_from editions.One 1 ((s.taken ++ w.taken) ++ more)) r
+    comes_now : (more : List ℕ) → CanFollow b.tokens.source.end more → (r : Outcome) → Goes [] (tokens_from first.edition 1 ((s.taken ++ w.taken) ++ more)) r
         → (rest : Outcome) × Goes b.names (tokens_of b.tokens more) rest × Behind (before ++ w.tree ∷ []) rest r
     comes_now more f r g =
         let q = from_here w.taken more w.reads.took f r g in
         let some = goes_some b.names (tokens_of b.tokens more) (tokens_of-ended b.tokens more) in
         (some.outcome, some.goes, behind_more before w.tree q.0 some.outcome r q.2 (goes_once q.1 (w.comes more f some.outcome some.goes)))
 
-    since_now : Since (compiler_at first b lender' false) (before ++ w.tree ∷ [])
+    since_now : Since (compiler_at first b lender' true false) (before ++ w.tree ∷ [])
     since_now = record {
       taken = s.taken ++ w.taken;
       took = Took-append s.took w.reads.took;
       failures = w.failures ∙ s.failures;
-      written = subst (λ t. Writes first.out t b.out) (sym (texts-append before w.tree)) (Writes-append s.written w.written);
+      unbegun = λ e. cc;
+      written = subst (λ t. Writes first.out t b.out)
+          (append_assoc (opening first.edition) (joined (map text_of before)) (text_of w.tree) ∙ ap (λ l. opening first.edition ++ l) (sym (texts-append before w.tree)))
+          (Writes-append s.written w.written);
       names = w.names ∙ ap (λ l. l ++ name_of w.tree ∷ []) s.names ∙ sym (map-append name_of before (w.tree ∷ []));
       formed = AllFormed-append before w.tree s.formed (definition_read (tokens_of a.tokens (w.taken ++ [])) (tokens_of b.tokens []) w.tree (w.read [] (λ over. refl))).1;
       spelled = spelled_now;
@@ -148,23 +183,23 @@ module _ (first : Ends) (a b : Point) (lender lender' : List ℕ) (before : List
       is_open = refl;
     }
 
-    pub wrote_more : Wrote old (compiler_at first b lender' false)
-    wrote_more = record { before = before; definition = w.tree; since = s; now = since_now; held = w.single; falls = w.falls }
+    pub wrote_more : Wrote old (compiler_at first b lender' true false)
+    wrote_more = record { before = before; definition = w.tree; since = old_since; now = since_now; held = w.single; falls = w.falls }
 
-    pub is_open_more : IsReady b.tokens → IsOpen (compiler_at first b lender' false)
+    pub is_open_more : IsReady b.tokens → IsOpen (compiler_at first b lender' true false)
     is_open_more ready = record { before = before ++ w.tree ∷ []; since = since_now; ready = ready }
 
   abbrev closed : Compiler
-  closed = compiler_at first b lender' true
+  closed = compiler_at first b lender' true true
 
   stopped : (stop : Option Diagnostic) → Stopping a stop b → Stopped old stop closed
   stopped stop h = record {
     before = before;
-    since = s;
+    since = old_since;
     taken = s.taken ++ h.taken;
     took = Took-append s.took h.reads.took;
     failures = h.failures ∙ s.failures;
-    written = Writes-append s.written h.written;
+    written = subst (λ t. Writes first.out t b.out) (append_assoc (opening first.edition) (joined (map text_of before)) (ending stop)) (Writes-append s.written h.written);
     comes = λ more f r g.
         let q = from_here h.taken more h.reads.took f r g in
         let e = goes_once q.1 (h.comes more f) in
@@ -175,46 +210,93 @@ module _ (first : Ends) (a b : Point) (lender lender' : List ℕ) (before : List
   broke : (P : Outcome → Type 0) → Breaking a P b → Broke old P closed
   broke P h = record {
     before = before;
-    since = s;
+    since = old_since;
     taken = s.taken ++ h.taken;
     took = Took-append s.took h.reads.took;
     comes = λ more f r g. let q = from_here h.taken more h.reads.took f r g in (q.0, q.2, h.each more f q.0 q.1);
     closed = refl;
   }
 
+  same_out : b.out ≡ a.out → Opens old b.out
+  same_out e = subst (Opens old) (sym e) opens
+
   read_failed : ReadFails a b → compilers.ReadFailed old closed
-  read_failed h = (broke _ h.0, grew_since _ _ _ s.failures h.1, h.2)
+  read_failed h = (broke _ h.0, grew_since _ _ _ s.failures h.1, same_out h.2)
 
   out_refused : (e : EndFault) → OutRefuses a e b → compilers.OutRefused old e closed
-  out_refused e h = (broke _ h.0, h.1 ∙ s.failures)
+  out_refused e h = (a.out, opens, broke _ h.0, h.1 ∙ s.failures)
 
   names_refused : NamesRefuse a b → compilers.NamesRefused old closed
-  names_refused h = (broke _ h.0, h.1 ∙ s.failures, h.2)
+  names_refused h = (broke _ h.0, h.1 ∙ s.failures, same_out h.2)
 
   pub stops : (answer : Step) → Gives a (Err answer) b → StepGives old answer closed
   stops step.Written h = absurd h
   stops step.Finished h = stopped None h
   stops (step.Fault fault) h = stopped (Some fault) h
   stops step.Device (inl h) = inl (read_failed h)
-  stops step.Device (inr h) = inr (out_refused end_fault.Device h)
-  stops step.Memory (inl h) = inl (out_refused end_fault.Memory h)
-  stops step.Memory (inr h) = inr (names_refused h)
+  stops step.Device (inr h) = inr (inl (out_refused end_fault.Device h))
+  stops step.Memory (inl h) = inr (inl (out_refused end_fault.Memory h))
+  stops step.Memory (inr h) = inl (names_refused h)
   stops step.Closed h = absurd h
 
+-- where the text doesn't begin
+module _ (first : Start) (a b : Point) (lender lender' : List ℕ) (begun : Bool) (before : List Definition)
+    (s : Since (compiler_at first a lender begun false) before) where
+  abbrev unwritten : Compiler
+  unwritten = compiler_at first a lender begun false
+
+  begin_refused : (fault : EndFault) → compilers.unopened unwritten ≢ [] → Refuses a.out (compilers.unopened unwritten) fault b.out → b.tokens ≡ a.tokens
+      → compilers.BeginRefused unwritten fault (compiler_at first b lender' true true)
+  begin_refused fault some w same = record { before = before; since = s; some = some; refused = w; unread = same; closed = refl }
+
+  begin_stops : (fault : EndFault) → compilers.BeginRefused unwritten fault (compiler_at first b lender' true true)
+      → StepGives unwritten (step_of fault) (compiler_at first b lender' true true)
+  begin_stops end_fault.Device h = inr (inr h)
+  begin_stops end_fault.Memory h = inr (inr h)
+
 -- where the call found the compiler open
-module _ (first : Ends) (a b : Point) (lender lender' : List ℕ) (closed : Bool) (open_now : closed ≡ false) (o : IsOpen (compiler_at first a lender closed)) where
-  opened : IsOpen (compiler_at first a lender false)
-  opened = subst (λ x. IsOpen (compiler_at first a lender x)) open_now o
+module _ (first : Start) (a b : Point) (lender lender' : List ℕ) (begun closed : Bool) (open_now : closed ≡ false)
+    (o : IsOpen (compiler_at first a lender begun closed)) where
+  abbrev start : List ℕ
+  start = compilers.unopened (compiler_at first a lender begun closed)
 
-  pub goes_on_open : Writing a b → IsReady b.tokens → IsOpen (compiler_at first b lender' closed)
-  goes_on_open w ready = subst (λ x. IsOpen (compiler_at first b lender' x)) (sym open_now) (is_open_more first a b lender lender' opened.before opened.since w ready)
+  abbrev opened_now : IsOpen (compiler_at first a lender begun false)
+  opened_now = subst (λ x. IsOpen (compiler_at first a lender begun x)) open_now o
 
-  pub written_now : (old : Compiler) → compiler_at first a lender closed ≡ old → Writing a b → Wrote old (compiler_at first b lender' closed)
-  written_now old e w =
-      subst (λ x. Wrote x (compiler_at first b lender' closed)) e
-      (subst (λ x. Wrote (compiler_at first a lender x) (compiler_at first b lender' x)) (sym open_now) (wrote_more first a b lender lender' opened.before opened.since w))
+  abbrev opens : {r : Result (Unit {0}) Step} (h : GivesBehind start a r b) → Opens (compiler_at first a lender begun false) h.out
+  opens h = record { written = h.written; nothing = h.nothing }
 
-  pub stopped_now : (old : Compiler) → compiler_at first a lender closed ≡ old → (answer : Step) → Gives a (Err answer) b → StepGives old answer (compiler_at first b lender' true)
-  stopped_now old e answer h =
-      subst (λ x. StepGives x answer (compiler_at first b lender' true)) e
-      (subst (λ x. StepGives (compiler_at first a lender x) answer (compiler_at first b lender' true)) (sym open_now) (stops first a b lender lender' opened.before opened.since answer h))
+  abbrev behind : {r : Result (Unit {0}) Step} → GivesBehind start a r b → Point
+  behind h = point a.tokens a.names h.out
+
+  abbrev gone_on : (u : Unit {0}) → GivesNext start a (Ok u) b → GivesBehind start a (Ok u) b
+  gone_on u (inl h) = let bad = h.answered in cc
+  gone_on u (inr h) = h
+
+  pub goes_on_open : (u : Unit {0}) → GivesNext start a (Ok u) b → IsReady b.tokens → IsOpen (compiler_at first b lender' true closed)
+  goes_on_open u g ready =
+      let h = gone_on u g in
+      subst (λ x. IsOpen (compiler_at first b lender' true x)) (sym open_now)
+      (is_open_more first (behind h) b lender lender' a.out begun opened_now.before opened_now.since (opens h) h.gives ready)
+
+  wrote_open : (u : Unit {0}) → GivesNext start a (Ok u) b → Wrote (compiler_at first a lender begun false) (compiler_at first b lender' true false)
+  wrote_open u g = let h = gone_on u g in wrote_more first (behind h) b lender lender' a.out begun opened_now.before opened_now.since (opens h) h.gives
+
+  pub written_now : (old : Compiler) → compiler_at first a lender begun closed ≡ old → (u : Unit {0}) → GivesNext start a (Ok u) b
+      → Wrote old (compiler_at first b lender' true closed)
+  written_now old e u g =
+      subst (λ x. Wrote x (compiler_at first b lender' true closed)) e
+      (subst (λ x. Wrote (compiler_at first a lender begun x) (compiler_at first b lender' true x)) (sym open_now) (wrote_open u g))
+
+  stopped_open : (answer : Step) → GivesNext start a (Err answer) b → StepGives (compiler_at first a lender begun false) answer (compiler_at first b lender' true true)
+  stopped_open answer (inl h) =
+      let same : answer ≡ step_of h.fault = let e = h.answered in cc in
+      subst (λ x. StepGives (compiler_at first a lender begun false) x (compiler_at first b lender' true true)) (sym same)
+      (begin_stops first a b lender lender' begun opened_now.before opened_now.since h.fault (begin_refused first a b lender lender' begun opened_now.before opened_now.since h.fault h.some h.refused h.unread))
+  stopped_open answer (inr h) = stops first (behind h) b lender lender' a.out begun opened_now.before opened_now.since (opens h) answer h.gives
+
+  pub stopped_now : (old : Compiler) → compiler_at first a lender begun closed ≡ old → (answer : Step) → GivesNext start a (Err answer) b
+      → StepGives old answer (compiler_at first b lender' true true)
+  stopped_now old e answer g =
+      subst (λ x. StepGives x answer (compiler_at first b lender' true true)) e
+      (subst (λ x. StepGives (compiler_at first a lender begun x) answer (compiler_at first b lender' true true)) (sym open_now) (stopped_open answer g))

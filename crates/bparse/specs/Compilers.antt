@@ -1,10 +1,10 @@
 -- What a call of the compiler does, counted from when the compiler was made.
-use Rattle.std.specs.Prelude.{◌≡◌, ℕ, ◌≤◌, ◌<◌, Bool, true, false, List, [], ◌∷◌, ◌++◌, length, map, Option, Some, None, ◌⊎◌}
-use Rattle.bword.specs.declared.edition.Edition.TheVariants as editions
+use Rattle.std.specs.Prelude.{◌≡◌, ◌≢◌, ℕ, ◌≤◌, ◌<◌, Bool, true, false, List, [], ◌∷◌, ◌++◌, length, map, Option, Some, None, ◌⊎◌, if◌then◌else◌}
+use Rattle.bword.specs.declared.edition.Edition.{Edition}
 use Rattle.bword.specs.ByteEnds.{Incoming, Outgoing, Took, Grew, Writes, Refuses}
 use Rattle.bword.specs.declared.byte_out.EndFault.{EndFault}
 use Rattle.bword.specs.declared.byte_out.EndFault.TheVariants as end_fault
-use Rattle.bcode.specs.Text.{joined}
+use Rattle.bcode.specs.Text.{joined, opening}
 use Rattle.blex.specs.Tokens.{tokens_from}
 use Rattle.blex.specs.declared.diagnostic.Diagnostic.{Diagnostic}
 use Rattle.blex.specs.declared.token.Placed.{Placed}
@@ -13,52 +13,65 @@ use Rattle.btree.specs.Definition.{Definition}
 use Rattle.btree.specs.Lines.{kept}
 use Rattle.btree.specs.Program.{AllFormed, spell_all}
 use Rattle.bexpr.specs.Tokens.{Tokens, all_tokens, tokens_of, CanFollow, EndsWith, IsReady, IsSingle, last_ahead, work}
-use Rattle.bparse.specs.Steps.{name_of, next_text, HasCode}
+use Rattle.bparse.specs.Steps.{name_of, next_text, to_begin, HasCode}
 use Rattle.bparse.specs.declared.step.Step.{Step}
 use Rattle.bparse.specs.declared.step.Step.TheVariants as step
 
--- what an input and an output end tell, and which they are
-pub record Ends : Type 0 where
+-- the edition of a compiler, what its input and its output end told when it was made, and which they are
+pub record Start : Type 0 where
+  pub edition : Edition
   pub source : Incoming
   pub lender : List ℕ
   pub out : Outgoing
   pub out_lender : List ℕ
 
--- what the ends of a compiler told when it was made, the tokens to come, the names defined so far, the output now, and
--- whether it has stopped
+-- how a compiler began, the tokens to come, the names defined so far, the output now, whether what its text begins with is
+-- written, and whether it has stopped
 pub record Compiler : Type 0 where
-  pub first : Ends
+  pub first : Start
   pub tokens : Tokens
   pub names : Defined
   pub out : Outgoing
   pub out_lender : List ℕ
+  pub is_begun : Bool
   pub is_closed : Bool
 
-abbrev pub compiler_of : Incoming → List ℕ → Outgoing → List ℕ → Tokens → Defined → Outgoing → List ℕ → Bool → Compiler
-compiler_of source lender first_out first_lender tokens names out out_lender is_closed = record {
-  first = record { source = source; lender = lender; out = first_out; out_lender = first_lender };
+abbrev pub compiler_of : Start → Tokens → Defined → Outgoing → List ℕ → Bool → Bool → Compiler
+compiler_of start tokens names out out_lender is_begun is_closed = record {
+  first = start;
   tokens = tokens;
   names = names;
   out = out;
   out_lender = out_lender;
+  is_begun = is_begun;
   is_closed = is_closed;
 }
 
+abbrev pub start_of : Edition → Incoming → List ℕ → Outgoing → List ℕ → Start
+start_of edition source lender out out_lender =
+    record { edition = edition; source = source; lender = lender; out = out; out_lender = out_lender }
+
 -- a compiler that has read and written nothing
-abbrev pub new : Ends → Compiler
-new ends = record {
-  first = ends;
-  tokens = all_tokens editions.One ends.source ends.lender;
-  names = [];
-  out = ends.out;
-  out_lender = ends.out_lender;
-  is_closed = false;
-}
+abbrev pub new : Start → Compiler
+new start =
+    compiler_of start (all_tokens start.edition start.source start.lender) [] start.out start.out_lender false false
+
+-- what the text begins with, where it is written, and where it is still to be written
+abbrev pub opened : Compiler → List ℕ
+opened c = if c.is_begun then opening c.first.edition else []
+
+abbrev pub unopened : Compiler → List ℕ
+unopened c = to_begin c.is_begun c.first.edition
+
+-- What the text begins with was written, if that was still to be done.
+pub record Opens (c : Compiler) (out : Outgoing) : Type 0 where
+  pub written : Writes c.out (unopened c) out
+  pub nothing : unopened c ≡ [] → out ≡ c.out
 
 -- each source that begins with the bytes that were taken, or the one whose end was seen, comes to this
-abbrev pub Whatever : List ℕ → Incoming → (Outcome → Type 0) → Type 0
-Whatever taken end P =
-    (more : List ℕ) → CanFollow end more → (r : Outcome) → Goes [] (tokens_from editions.One 1 (taken ++ more)) r → P r
+abbrev pub Whatever : Edition → List ℕ → Incoming → (Outcome → Type 0) → Type 0
+Whatever edition taken end P =
+    (more : List ℕ) → CanFollow end more → (r : Outcome) → Goes [] (tokens_from edition 1 (taken ++ more)) r → P r
 
 -- The tokens are those of these definitions, and then the others.
 pub record Spelled (ds : List Definition) (tokens others : List Placed) : Type 0 where
@@ -71,20 +84,23 @@ pub record Behind (ds : List Definition) (rest outcome : Outcome) : Type 0 where
   pub code : outcome.code ≡ map text_of ds ++ rest.code
   pub stop : outcome.stop ≡ rest.stop
 
--- Since a compiler was made, it has written the texts of these definitions, and nothing else. They are the first ones of
--- the source, none has a fault, and the tokens to come are those directly behind them. Of the bytes taken, all but two at
--- most were passed, and these end with the last token that is held.
+-- Since a compiler was made, it has written what its text begins with and the texts of these definitions, and nothing else;
+-- before its first call nothing, and nothing was taken. The definitions are the first ones of the source, none has a fault,
+-- and the tokens to come are those directly behind them. Of the bytes taken, all but two at most were passed, and these end
+-- with the last token that is held.
 pub record Since (c : Compiler) (ds : List Definition) : Type 0 where
   pub taken : List ℕ
   pub took : Took c.first.source taken c.tokens.source.end
   pub failures : c.tokens.source.end.failures ≡ c.first.source.failures
-  pub written : Writes c.first.out (joined (map text_of ds)) c.out
+  pub unbegun : c.is_begun ≡ false → (ds ≡ []) × (c.tokens.source.end ≡ c.first.source)
+  pub written : Writes c.first.out (opened c ++ joined (map text_of ds)) c.out
   pub names : c.names ≡ map name_of ds
   pub formed : AllFormed ds
   pub spelled : (more : List ℕ) → CanFollow c.tokens.source.end more
-      → Spelled ds (tokens_from editions.One 1 (taken ++ more)) (tokens_of c.tokens more)
+      → Spelled ds (tokens_from c.first.edition 1 (taken ++ more)) (tokens_of c.tokens more)
   pub comes : (more : List ℕ) → CanFollow c.tokens.source.end more → (r : Outcome)
-      → Goes [] (tokens_from editions.One 1 (taken ++ more)) r → (rest : Outcome) × Goes c.names (tokens_of c.tokens more) rest × Behind ds rest r
+      → Goes [] (tokens_from c.first.edition 1 (taken ++ more)) r
+      → (rest : Outcome) × Goes c.names (tokens_of c.tokens more) rest × Behind ds rest r
   pub passed : List ℕ
   pub split : taken ≡ passed ++ c.tokens.source.ahead
   pub near : length c.tokens.source.ahead ≤ 2
@@ -113,8 +129,8 @@ pub record Stopped (old : Compiler) (stop : Option Diagnostic) (new : Compiler) 
   pub taken : List ℕ
   pub took : Took new.first.source taken new.tokens.source.end
   pub failures : new.tokens.source.end.failures ≡ new.first.source.failures
-  pub written : Writes new.first.out (joined (map text_of before) ++ ending stop) new.out
-  pub comes : Whatever taken new.tokens.source.end (λ r. (r.code ≡ map text_of before) × (r.stop ≡ stop))
+  pub written : Writes new.first.out (opening new.first.edition ++ (joined (map text_of before) ++ ending stop)) new.out
+  pub comes : Whatever new.first.edition taken new.tokens.source.end (λ r. (r.code ≡ map text_of before) × (r.stop ≡ stop))
   pub closed : new.is_closed ≡ true
 
 -- A call broke off, and this holds of what comes behind the definitions written before.
@@ -123,32 +139,43 @@ pub record Broke (old : Compiler) (P : Outcome → Type 0) (new : Compiler) : Ty
   pub since : Since old before
   pub taken : List ℕ
   pub took : Took new.first.source taken new.tokens.source.end
-  pub comes : Whatever taken new.tokens.source.end (λ r. (rest : Outcome) × Behind before rest r × P rest)
+  pub comes : Whatever new.first.edition taken new.tokens.source.end (λ r. (rest : Outcome) × Behind before rest r × P rest)
   pub closed : new.is_closed ≡ true
 
--- a read failed, and nothing was written
+-- a read failed, and no definition was written
 abbrev pub ReadFailed : Compiler → Compiler → Type 0
 ReadFailed old new =
-    Broke old (λ rest. Unit {0}) new × Grew new.first.source.failures new.tokens.source.end.failures × (new.out ≡ old.out)
+    Broke old (λ rest. Unit {0}) new × Grew new.first.source.failures new.tokens.source.end.failures × Opens old new.out
+
+-- the output refused what the text begins with, before anything was read
+pub record BeginRefused (old : Compiler) (fault : EndFault) (new : Compiler) : Type 0 where
+  pub before : List Definition
+  pub since : Since old before
+  pub some : unopened old ≢ []
+  pub refused : Refuses old.out (unopened old) fault new.out
+  pub unread : new.tokens ≡ old.tokens
+  pub closed : new.is_closed ≡ true
 
 -- the output refused what is written next, of which a beginning was written
 abbrev pub OutRefused : Compiler → EndFault → Compiler → Type 0
 OutRefused old fault new =
-    Broke old (λ rest. HasCode rest × Refuses old.out (next_text rest.code rest.stop) fault new.out) new
+    (out : Outgoing) × Opens old out
+    × Broke old (λ rest. HasCode rest × Refuses out (next_text rest.code rest.stop) fault new.out) new
     × (new.tokens.source.end.failures ≡ new.first.source.failures)
 
 -- the list of names was refused its growth, before anything was written of the definition that comes
 abbrev pub NamesRefused : Compiler → Compiler → Type 0
 NamesRefused old new =
-    Broke old (λ rest. rest.code ≡ [] → ⊥) new × (new.tokens.source.end.failures ≡ new.first.source.failures) × (new.out ≡ old.out)
+    Broke old (λ rest. rest.code ≡ [] → ⊥) new × (new.tokens.source.end.failures ≡ new.first.source.failures)
+    × Opens old new.out
 
 -- what a call does
 abbrev pub StepGives : Compiler → Step → Compiler → Type 0
 StepGives old step.Written new = Wrote old new
 StepGives old step.Finished new = Stopped old None new
 StepGives old (step.Fault fault) new = Stopped old (Some fault) new
-StepGives old step.Device new = ReadFailed old new ⊎ OutRefused old end_fault.Device new
-StepGives old step.Memory new = OutRefused old end_fault.Memory new ⊎ NamesRefused old new
+StepGives old step.Device new = ReadFailed old new ⊎ OutRefused old end_fault.Device new ⊎ BeginRefused old end_fault.Device new
+StepGives old step.Memory new = NamesRefused old new ⊎ OutRefused old end_fault.Memory new ⊎ BeginRefused old end_fault.Memory new
 StepGives old step.Closed new = (old.is_closed ≡ true) × (new ≡ old)
 
 -- the compiler is over the same ends

@@ -1,8 +1,10 @@
 -- What reading and writing one definition does.
-use Rattle.std.specs.Prelude.{◌≡◌, ℕ, ◌<◌, Bool, false, true, List, [], ◌∷◌, ◌++◌, Option, Some, None, Result, Ok, Err, ◌⊎◌}
+use Rattle.std.specs.Prelude.{◌≡◌, ◌≢◌, ℕ, ◌<◌, Bool, false, true, List, [], ◌∷◌, ◌++◌, Option, Some, None, Result, Ok, Err, ◌⊎◌}
+use Rattle.bword.specs.declared.edition.Edition.{Edition}
 use Rattle.bword.specs.ByteEnds.{Outgoing, Grew, Writes, Refuses}
 use Rattle.bword.specs.declared.byte_out.EndFault.{EndFault}
 use Rattle.bword.specs.declared.byte_out.EndFault.TheVariants as end_fault
+use Rattle.bcode.specs.Text.{opening}
 use Rattle.blex.specs.declared.diagnostic.Diagnostic.{Diagnostic}
 use Rattle.blex.specs.declared.token.Token.{Token}
 use Rattle.blex.specs.declared.token.Token.TheVariants as token
@@ -101,10 +103,34 @@ Gives old (Err step.Device) new = ReadFails old new ⊎ OutRefuses old end_fault
 Gives old (Err step.Memory) new = OutRefuses old end_fault.Memory new ⊎ NamesRefuse old new
 Gives old (Err step.Closed) new = ⊥
 
-abbrev pub is_end : Token → Bool
-is_end token.End = true
-is_end _ = false
-
 abbrev pub step_of : EndFault → Step
 step_of end_fault.Device = step.Device
 step_of end_fault.Memory = step.Memory
+
+-- what a text of the edition begins with, where that is still to be written
+abbrev pub to_begin : Bool → Edition → List ℕ
+to_begin true edition = []
+to_begin false edition = opening edition
+
+-- The output refused so what the text begins with, before anything was read.
+pub record BeginRefuses (start : List ℕ) (old : Point) (r : Result (Unit {0}) Step) (new : Point) : Type 0 where
+  pub fault : EndFault
+  pub answered : r ≡ Err (step_of fault)
+  pub some : start ≢ []
+  pub refused : Refuses old.out start fault new.out
+  pub unread : new.tokens ≡ old.tokens
+
+-- What the text begins with was written, if that was still to be done, and then the call did this.
+pub record GivesBehind (start : List ℕ) (old : Point) (r : Result (Unit {0}) Step) (new : Point) : Type 0 where
+  pub out : Outgoing
+  pub written : Writes old.out start out
+  pub nothing : start ≡ [] → out ≡ old.out
+  pub gives : Gives (point old.tokens old.names out) r new
+
+-- what a call does for which this is still to be written first
+abbrev pub GivesNext : List ℕ → Point → Result (Unit {0}) Step → Point → Type 0
+GivesNext start old r new = BeginRefuses start old r new ⊎ GivesBehind start old r new
+
+abbrev pub is_end : Token → Bool
+is_end token.End = true
+is_end _ = false

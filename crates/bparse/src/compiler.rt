@@ -1,14 +1,15 @@
 //! The compiler, which writes one definition a call.
 ghost use Rattle.std.specs.Prelude.{◌≡◌, OnOk};
+ghost use Rattle.bword.specs.declared.edition.Edition.TheVariants as editions;
 ghost use Rattle.btree.specs.Reading.{first};
 ghost use Rattle.bexpr.specs.Tokens.{IsReady, IsLoaded};
-ghost use Rattle.bparse.specs.Compilers.{Keeps, StepGives};
+ghost use Rattle.bparse.specs.Compilers.{Keeps, StepGives, start_of};
 ghost use Rattle.bparse.specs.Compilers as compilers;
-ghost use Rattle.bparse.specs.Steps.{point, Gives, is_end};
+ghost use Rattle.bparse.specs.Steps.{point, Gives, GivesNext, is_end, to_begin};
 
 use crate::step::Step;
 use crate::view::view;
-use bcode::{write_definition, write_end};
+use bcode::{write_begin, write_definition, write_end};
 use bexpr::{Halt, Parser, Tokens};
 use blex::Lexeme;
 use bread::{Names, definition};
@@ -25,49 +26,58 @@ pub struct Compiler<I: ByteIn, O: ByteOut> {
     // What the ends were at first, for contracts alone: these take no room.
     first_input: Snapshot<I>,
     first_out: Snapshot<O>,
+    edition: Edition,
     parser: Parser<I>,
     names: Names,
     out: O,
+    is_begun: bool,
     is_closed: bool,
 }
 
 impl<I: ByteIn, O: ByteOut> Model for Compiler<I, O> {
     ghost use Rattle.std.specs.Prelude.{◌≡◌, false};
-    ghost use Rattle.bparse.specs.Compilers.{Compiler, IsOpen, compiler_of};
+    ghost use Rattle.bparse.specs.Compilers.{Compiler, IsOpen, compiler_of, start_of};
 
     ghost Value = { Compiler };
 
-    ghost view = { λ c. compiler_of (I.incoming c.first_input.value) (I.lender c.first_input.value) (O.outgoing c.first_out.value)
-        (O.lender c.first_out.value) c.parser.tokens c.names (O.outgoing c.out) (O.lender c.out) c.is_closed };
+    ghost view = { λ c. compiler_of
+        (start_of c.edition (I.incoming c.first_input.value) (I.lender c.first_input.value)
+        (O.outgoing c.first_out.value) (O.lender c.first_out.value))
+        c.parser.tokens c.names (O.outgoing c.out) (O.lender c.out) c.is_begun c.is_closed };
 
-    ghost invariant = { λ c. c.is_closed ≡ false → IsOpen (compiler_of (I.incoming c.first_input.value)
-        (I.lender c.first_input.value) (O.outgoing c.first_out.value) (O.lender c.first_out.value) c.parser.tokens c.names
-        (O.outgoing c.out) (O.lender c.out) c.is_closed) };
+    ghost invariant = { λ c. c.is_closed ≡ false → IsOpen (compiler_of
+        (start_of c.edition (I.incoming c.first_input.value) (I.lender c.first_input.value)
+        (O.outgoing c.first_out.value) (O.lender c.first_out.value))
+        c.parser.tokens c.names (O.outgoing c.out) (O.lender c.out) c.is_begun c.is_closed) };
 }
 
 impl<I: ByteIn, O: ByteOut> Compiler<I, O> {
-    /// A compiler that has read and written nothing.
+    /// A compiler of the first edition that has read and written nothing.
     pub fn new(alloc: Global, input: I, out: O) -> Self
-        ensures { result ≡ compilers.new (record {
-          source = I.incoming input;
-          lender = I.lender input;
-          out = O.outgoing out;
-          out_lender = O.lender out;
-        }) }
+        ensures { result ≡ compilers.new (start_of editions.One (I.incoming input) (I.lender input) (O.outgoing out) (O.lender out)) }
+    {
+        Compiler::with_edition(alloc, input, out, Edition::One)
+    }
+
+    /// A compiler of this edition that has read and written nothing.
+    pub fn with_edition(alloc: Global, input: I, out: O, edition: Edition) -> Self
+        ensures { result ≡ compilers.new (start_of edition (I.incoming input) (I.lender input) (O.outgoing out) (O.lender out)) }
     {
         Compiler {
             first_input: Snapshot::of(&input),
             first_out: Snapshot::of(&out),
-            parser: Parser::new(input, Edition::One),
+            edition,
+            parser: Parser::new(input, edition),
             names: Names::new(alloc),
             out,
+            is_begun: false,
             is_closed: false,
         }
     }
 
     /// Compiles the next definition.
     ///
-    /// After the first answer that isn't `Written`, each call answers `Closed` and does nothing.
+    /// The first call writes what a code text of the edition begins with, before it reads anything. After the first answer that isn't `Written`, each call answers `Closed` and does nothing.
     pub fn next_definition(&mut self) -> Step
         ensures gives { StepGives self.old result self.new }
         ensures keeps { Keeps self.old self.new }
@@ -75,7 +85,15 @@ impl<I: ByteIn, O: ByteOut> Compiler<I, O> {
         if self.is_closed {
             return Step::Closed;
         }
-        match compile_definition(&mut self.parser, &mut self.names, &mut self.out) {
+        let is_begun = self.is_begun;
+        self.is_begun = true;
+        match compile_next(
+            self.edition,
+            is_begun,
+            &mut self.parser,
+            &mut self.names,
+            &mut self.out,
+        ) {
             Ok(()) => Step::Written,
             Err(step) => {
                 self.is_closed = true;
@@ -94,13 +112,35 @@ impl<I: ByteIn, O: ByteOut> Compiler<I, O> {
         let Compiler {
             first_input: _,
             first_out: _,
+            edition: _,
             parser,
             names: _,
             out,
+            is_begun: _,
             is_closed: _,
         } = self;
         (parser.into_input(), out)
     }
+}
+
+// Reads and writes the next definition, behind what a text of the edition begins with.
+fn compile_next<I: ByteIn, O: ByteOut>(
+    edition: Edition,
+    is_begun: bool,
+    parser: &mut Parser<I>,
+    names: &mut Names,
+    out: &mut O,
+) -> Result<(), Step>
+    requires { IsReady parser.old.tokens }
+    ensures gives { GivesNext (to_begin is_begun edition) (point parser.old.tokens names.old (O.outgoing out.old)) result
+        (point parser.new.tokens names.new (O.outgoing out.new)) }
+    ensures ready { OnOk result (IsReady parser.new.tokens) }
+    ensures same { O.lender out.new ≡ O.lender out.old }
+{
+    if !is_begun {
+        write_begin(edition, out)?;
+    }
+    compile_definition(parser, names, out)
 }
 
 // Reads and writes the next definition, or tells why none was written.

@@ -1,20 +1,16 @@
 //! Compiling a whole source.
 ghost use Rattle.std.specs.Prelude.{◌≡◌, false};
+ghost use Rattle.bword.specs.declared.edition.Edition.TheVariants as editions;
 ghost use Rattle.bparse.specs.Compiles.{Compiles, CodeGives, LastGives};
 
 use crate::compiler::Compiler;
 use crate::diagnostic::write_diagnostic;
 use crate::status::{self, Status};
 use crate::step::Step;
-use bword::{ByteIn, ByteOut};
+use bword::{ByteIn, ByteOut, Edition};
 use std::alloc::Global;
 
-/// Compiles the source to its code text, or to the code of the definitions before its first fault and a
-/// line that names that fault.
-///
-/// The status is 0, or 1 where there is a fault. It is 133 where a read or a write failed and 134 where
-/// memory was refused; then a beginning of the code was written, and of the line only where its own end
-/// refused it.
+/// Compiles a source of the first edition, as `compile_edition` does.
 pub fn compile<I: ByteIn, O: ByteOut, D: ByteOut>(
     alloc: Global,
     source: &mut I,
@@ -22,6 +18,7 @@ pub fn compile<I: ByteIn, O: ByteOut, D: ByteOut>(
     diag: &mut D,
 ) -> Status
     ensures compiles { Compiles (record {
+      edition = editions.One;
       source = I.incoming source.old;
       source_behind = I.incoming source.new;
       code = O.outgoing code.old;
@@ -34,7 +31,37 @@ pub fn compile<I: ByteIn, O: ByteOut, D: ByteOut>(
     ensures code_lender { O.lender code.new ≡ O.lender code.old }
     ensures diag_lender { D.lender diag.new ≡ D.lender diag.old }
 {
-    match compile_code(alloc, source, code) {
+    compile_edition(alloc, source, code, diag, Edition::One)
+}
+
+/// Compiles the source to its code text, or to the code of the definitions before its first fault and a
+/// line that names that fault.
+///
+/// The status is 0, or 1 where there is a fault. It is 133 where a read or a write failed and 134 where
+/// memory was refused; then a beginning of the code was written, and of the line only where its own end
+/// refused it.
+pub fn compile_edition<I: ByteIn, O: ByteOut, D: ByteOut>(
+    alloc: Global,
+    source: &mut I,
+    code: &mut O,
+    diag: &mut D,
+    edition: Edition,
+) -> Status
+    ensures compiles { Compiles (record {
+      edition = edition;
+      source = I.incoming source.old;
+      source_behind = I.incoming source.new;
+      code = O.outgoing code.old;
+      code_behind = O.outgoing code.new;
+      line = D.outgoing diag.old;
+      line_behind = D.outgoing diag.new;
+      status = result;
+    }) }
+    ensures source_lender { I.lender source.new ≡ I.lender source.old }
+    ensures code_lender { O.lender code.new ≡ O.lender code.old }
+    ensures diag_lender { D.lender diag.new ≡ D.lender diag.old }
+{
+    match compile_code(alloc, source, code, edition) {
         Step::Finished => status::DONE,
         Step::Fault(fault) => match write_diagnostic(&fault, diag) {
             Ok(()) => status::FAULT,
@@ -47,13 +74,18 @@ pub fn compile<I: ByteIn, O: ByteOut, D: ByteOut>(
 }
 
 // Compiles all definitions from one end to the other, and gives the last answer.
-fn compile_code<I: ByteIn, O: ByteOut>(alloc: Global, source: &mut I, code: &mut O) -> Step
-    ensures gives { CodeGives (I.incoming source.old) (O.outgoing code.old) result
+fn compile_code<I: ByteIn, O: ByteOut>(
+    alloc: Global,
+    source: &mut I,
+    code: &mut O,
+    edition: Edition,
+) -> Step
+    ensures gives { CodeGives edition (I.incoming source.old) (O.outgoing code.old) result
         (I.incoming source.new) (O.outgoing code.new) }
     ensures source_lender { I.lender source.new ≡ I.lender source.old }
     ensures code_lender { O.lender code.new ≡ O.lender code.old }
 {
-    let mut compiler = Compiler::new(alloc, source, code);
+    let mut compiler = Compiler::with_edition(alloc, source, code, edition);
     let last = compile_all(&mut compiler);
     let (source, code) = compiler.into_ends();
     let _ = source;

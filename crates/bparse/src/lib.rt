@@ -9,6 +9,6 @@ mod step;
 mod view;
 
 pub use compiler::Compiler;
-pub use compiling::compile;
+pub use compiling::{compile, compile_edition};
 pub use status::Status;
 pub use step::Step;

@@ -5,5 +5,5 @@ mod report;
 mod source;
 mod text;
 
-pub use source::go;
+pub use source::{go, go_edition};
 pub use text::run_text;

@@ -1,18 +1,16 @@
 //! Compiling a source and running its program.
 ghost use Rattle.std.specs.Prelude.{◌≡◌};
+ghost use Rattle.bword.specs.declared.edition.Edition.TheVariants as editions;
 ghost use Rattle.brun.specs.Going.{GoesOff};
 ghost use Rattle.brun.specs.Headline.{Headline};
 
 use crate::text::run_text;
-use bparse::compile;
+use bparse::compile_edition;
 use bparse::status::{self, Status};
-use bword::{ByteIn, ByteOut, MemOut};
+use bword::{ByteIn, ByteOut, Edition, MemOut};
 use std::alloc::Global;
 
-/// Compiles a source, whose code stands in memory, and runs its program for so many steps at most.
-///
-/// The output gets what the program writes, alone: it does what the source means. The status is that of the program,
-/// or 131 where it hasn't ended within the limit; the others are those of `compile` and `run_text`.
+/// Compiles a source of the first edition and runs its program, as `go_edition` does.
 pub fn go<S: ByteIn, I: ByteIn, O: ByteOut, D: ByteOut>(
     alloc: Global,
     source: &mut S,
@@ -21,7 +19,7 @@ pub fn go<S: ByteIn, I: ByteIn, O: ByteOut, D: ByteOut>(
     diag: &mut D,
     steps: u64,
 ) -> Status
-    ensures goes { GoesOff steps (S.incoming source.old) (S.incoming source.new) (record {
+    ensures goes { GoesOff editions.One steps (S.incoming source.old) (S.incoming source.new) (record {
       input = I.incoming input.old;
       input_behind = I.incoming input.new;
       out = O.outgoing out.old;
@@ -29,7 +27,44 @@ pub fn go<S: ByteIn, I: ByteIn, O: ByteOut, D: ByteOut>(
       line = D.outgoing diag.old;
       line_behind = D.outgoing diag.new;
     }) result }
-    ensures headline { Headline steps (S.incoming source.old) (S.incoming source.new) (record {
+    ensures headline { Headline editions.One steps (S.incoming source.old) (S.incoming source.new) (record {
+      input = I.incoming input.old;
+      input_behind = I.incoming input.new;
+      out = O.outgoing out.old;
+      out_behind = O.outgoing out.new;
+      line = D.outgoing diag.old;
+      line_behind = D.outgoing diag.new;
+    }) result }
+    ensures source_lender { S.lender source.new ≡ S.lender source.old }
+    ensures input_lender { I.lender input.new ≡ I.lender input.old }
+    ensures out_lender { O.lender out.new ≡ O.lender out.old }
+    ensures diag_lender { D.lender diag.new ≡ D.lender diag.old }
+{
+    go_edition(alloc, source, input, out, diag, steps, Edition::One)
+}
+
+/// Compiles a source, whose code stands in memory, and runs its program for so many steps at most.
+///
+/// The output gets what the program writes, alone: it does what the source means. The status is that of the program,
+/// or 131 where it hasn't ended within the limit; the others are those of `compile_edition` and `run_text`.
+pub fn go_edition<S: ByteIn, I: ByteIn, O: ByteOut, D: ByteOut>(
+    alloc: Global,
+    source: &mut S,
+    input: &mut I,
+    out: &mut O,
+    diag: &mut D,
+    steps: u64,
+    edition: Edition,
+) -> Status
+    ensures goes { GoesOff edition steps (S.incoming source.old) (S.incoming source.new) (record {
+      input = I.incoming input.old;
+      input_behind = I.incoming input.new;
+      out = O.outgoing out.old;
+      out_behind = O.outgoing out.new;
+      line = D.outgoing diag.old;
+      line_behind = D.outgoing diag.new;
+    }) result }
+    ensures headline { Headline edition steps (S.incoming source.old) (S.incoming source.new) (record {
       input = I.incoming input.old;
       input_behind = I.incoming input.new;
       out = O.outgoing out.old;
@@ -43,7 +78,7 @@ pub fn go<S: ByteIn, I: ByteIn, O: ByteOut, D: ByteOut>(
     ensures diag_lender { D.lender diag.new ≡ D.lender diag.old }
 {
     let mut code = MemOut::new(alloc);
-    let status = compile(alloc, source, &mut code, diag);
+    let status = compile_edition(alloc, source, &mut code, diag, edition);
     if status != status::DONE {
         return status;
     }

@@ -3,11 +3,12 @@ use Rattle.bparse.proofs.compiling.compile_code.Goals as goal
 
 pub returns-clause-gives : goal.returns-clause-gives
 returns-clause-gives g c = record {
-  first = c.new-compiler.result;
+  first = c.with_edition-compiler.result;
   last = c.compile_all-last.new.compiler;
   gives = c.compile_all-last.ensures;
-  source = ap (λ x. x.first.source) c.new-compiler.ensures;
-  code = ap (λ x. x.first.out) c.new-compiler.ensures;
+  edition_is = ap (λ x. x.first.edition) c.with_edition-compiler.ensures;
+  source = ap (λ x. x.first.source) c.with_edition-compiler.ensures;
+  code = ap (λ x. x.first.out) c.with_edition-compiler.ensures;
   source_behind = search rules;
   code_behind = search rules;
 }
