@@ -11,13 +11,14 @@ use Rattle.blex.specs.Tokens.{placed, token_first, tokens_from}
 use Rattle.blex.specs.declared.token.Token.TheVariants as token
 use Rattle.blex.specs.declared.token.Placed.{Placed}
 use Rattle.blex.specs.declared.diagnostic.Diagnostic.{Diagnostic}
-use Rattle.btree.specs.Compiled.{Defined, Outcome, Goes, ending, text_of}
+use Rattle.btree.specs.Compiled.{AreNames, Defined, Outcome, Goes, ending, text_of}
 use Rattle.btree.specs.Code.{fault_of}
 use Rattle.btree.specs.Definition.{Definition}
 use Rattle.btree.specs.DefinitionReader.{definition}
 use Rattle.btree.specs.Program.{fault_at}
 use Rattle.btree.specs.Reading.{Got, Stop, first, line_of}
 use Rattle.btree.specs.Scan.{word_of}
+use Rattle.btree.proofs.Membership.{by_membership}
 use Rattle.btree.proofs.Outcomes.{Ended}
 use Rattle.btree.proofs.GoesLaws.{tokens_from-ended, ended_cons, goes_once, goes_some, goes_end}
 use Rattle.btree.proofs.GoesReads.{goes_behind_read, goes_fault_read, goes_stop_read}
@@ -155,7 +156,7 @@ module _ (old mid : Tokens) (names : Defined) (l : Looks old mid) where
         let some = goes_some (names ++ name ∷ []) (tokens_of new more) (tokens_of-ended new more) in
         (some.outcome, goes_once g (comes_first clean more c some.outcome some.goes))
 
-    pub wrote : (names' : Defined) (out' : Outgoing) → fault_of names tree ≡ None → names' ≡ names ++ name ∷ [] → Writes out (text_of tree) out' → IsSingle new → work new < work mid
+    pub wrote : (names' : Defined) (out' : Outgoing) → fault_of names tree ≡ None → AreNames names' (names ++ name ∷ []) → Writes out (text_of tree) out' → IsSingle new → work new < work mid
         → Writing (point old names out) (point new names' out')
     wrote names' out' clean added w single less = record {
       taken = both new m;
@@ -164,11 +165,11 @@ module _ (old mid : Tokens) (names : Defined) (l : Looks old mid) where
       failures = failed_none new m;
       tree = tree;
       read = λ more c. ap definition (come new m more c) ∙ m.come more c;
-      names = added ∙ ap (λ n. names ++ n ∷ []) name_is;
+      names = subst (λ n. AreNames names' (names ++ n ∷ [])) name_is added;
       written = w;
       single = single;
       falls = let a = l.moves.falls in omega (arith, a, less);
-      comes = λ more c r g. comes_first clean more c r (subst (λ n. Goes n (tokens_of new more) r) added g);
+      comes = λ more c r g. comes_first clean more c r (by_membership names' (names ++ name ∷ []) (tokens_of new more) r added.members g);
     }
 
     pub fault_behind : (names' : Defined) (fault : Diagnostic) → fault_of names tree ≡ Some fault → Stopping (point old names out) (Some fault) (point new names' out)

@@ -3,3 +3,4 @@ pub mod CompilerSteps
 pub mod CompileSteps
 pub mod MadeSteps
 pub mod SinceSteps
+pub mod NamesSteps

@@ -12,13 +12,14 @@ use Rattle.blex.proofs.Passing.{Took-none, Took-append}
 use Rattle.blex.specs.Tokens.{tokens_from}
 use Rattle.blex.specs.declared.diagnostic.Diagnostic.{Diagnostic}
 use Rattle.blex.specs.declared.token.Placed.{Placed}
-use Rattle.btree.specs.Compiled.{Outcome, Goes, ending, text_of}
+use Rattle.btree.specs.Compiled.{AreNames, Outcome, Goes, ending, text_of}
 use Rattle.btree.specs.Definition.{Definition, IsFormed, spell_definition}
 use Rattle.btree.specs.DefinitionReader.{definition}
 use Rattle.btree.specs.Lines.{kept}
 use Rattle.btree.specs.Program.{AllFormed, spell_all}
 use Rattle.btree.specs.Reading.{Got}
 use Rattle.btree.specs.Unread.{kept_read}
+use Rattle.btree.proofs.Membership.{are_names_behind, are_names_push}
 use Rattle.btree.proofs.GoesLaws.{goes_once, goes_some}
 use Rattle.btree.proofs.GoesReads.{Taken, got_taken}
 use Rattle.btree.proofs.LawProofs.{definition_read}
@@ -56,7 +57,7 @@ since_new start = record {
   failures = refl;
   unbegun = λ e. (refl, refl);
   written = Writes-none start.out;
-  names = refl;
+  names = record { members = λ x. refl; size = refl };
   formed = tt;
   spelled = λ more f. record { passed = []; split = refl; spelled = refl };
   comes = λ more f r g. (r, g, record { code = refl; stop = refl });
@@ -171,7 +172,7 @@ module _ (first : Start) (a b : Point) (lender lender' : List ℕ) (out : Outgoi
       written = subst (λ t. Writes first.out t b.out)
           (append_assoc (opening first.edition) (joined (map text_of before)) (text_of w.tree) ∙ ap (λ l. opening first.edition ++ l) (sym (texts-append before w.tree)))
           (Writes-append s.written w.written);
-      names = w.names ∙ ap (λ l. l ++ name_of w.tree ∷ []) s.names ∙ sym (map-append name_of before (w.tree ∷ []));
+      names = subst (AreNames b.names) (sym (map-append name_of before (w.tree ∷ []))) (are_names_behind _ _ _ w.names (are_names_push a.names (map name_of before) (name_of w.tree) s.names));
       formed = AllFormed-append before w.tree s.formed (definition_read (tokens_of a.tokens (w.taken ++ [])) (tokens_of b.tokens []) w.tree (w.read [] (λ over. refl))).1;
       spelled = spelled_now;
       comes = comes_now;

@@ -8,7 +8,7 @@ use Rattle.bcode.specs.Text.{joined, opening}
 use Rattle.blex.specs.Tokens.{tokens_from}
 use Rattle.blex.specs.declared.diagnostic.Diagnostic.{Diagnostic}
 use Rattle.blex.specs.declared.token.Placed.{Placed}
-use Rattle.btree.specs.Compiled.{Defined, Outcome, Goes, ending, text_of}
+use Rattle.btree.specs.Compiled.{AreNames, Defined, Outcome, Goes, ending, text_of}
 use Rattle.btree.specs.Definition.{Definition}
 use Rattle.btree.specs.Lines.{kept}
 use Rattle.btree.specs.Program.{AllFormed, spell_all}
@@ -94,7 +94,7 @@ pub record Since (c : Compiler) (ds : List Definition) : Type 0 where
   pub failures : c.tokens.source.end.failures ≡ c.first.source.failures
   pub unbegun : c.is_begun ≡ false → (ds ≡ []) × (c.tokens.source.end ≡ c.first.source)
   pub written : Writes c.first.out (opened c ++ joined (map text_of ds)) c.out
-  pub names : c.names ≡ map name_of ds
+  pub names : AreNames c.names (map name_of ds)
   pub formed : AllFormed ds
   pub spelled : (more : List ℕ) → CanFollow c.tokens.source.end more
       → Spelled ds (tokens_from c.first.edition 1 (taken ++ more)) (tokens_of c.tokens more)

@@ -8,7 +8,7 @@ use Rattle.bcode.specs.Text.{opening}
 use Rattle.blex.specs.declared.diagnostic.Diagnostic.{Diagnostic}
 use Rattle.blex.specs.declared.token.Token.{Token}
 use Rattle.blex.specs.declared.token.Token.TheVariants as token
-use Rattle.btree.specs.Compiled.{Defined, Outcome, Goes, ending, text_of}
+use Rattle.btree.specs.Compiled.{AreNames, Defined, Outcome, Goes, ending, text_of}
 use Rattle.btree.specs.Definition.{Definition}
 use Rattle.btree.specs.DefinitionReader.{definition}
 use Rattle.btree.specs.Reading.{Got}
@@ -56,7 +56,7 @@ pub record Writing (old new : Point) : Type 0 where
   pub tree : Definition
   pub read : (more : List ℕ) → CanFollow new.tokens.source.end more
       → definition (tokens_of old.tokens (taken ++ more)) ≡ Got tree (tokens_of new.tokens more)
-  pub names : new.names ≡ old.names ++ name_of tree ∷ []
+  pub names : AreNames new.names (old.names ++ name_of tree ∷ [])
   pub written : Writes old.out (text_of tree) new.out
   pub single : IsSingle new.tokens
   pub falls : work new.tokens < work old.tokens

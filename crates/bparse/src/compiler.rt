@@ -1,5 +1,6 @@
 //! The compiler, which writes one definition a call.
 ghost use Rattle.std.specs.Prelude.{◌≡◌, OnOk};
+ghost use Rattle.std.specs.Map.{keys_of};
 ghost use Rattle.bword.specs.declared.edition.Edition.TheVariants as editions;
 ghost use Rattle.btree.specs.Reading.{first};
 ghost use Rattle.bexpr.specs.Tokens.{IsReady, IsLoaded};
@@ -12,7 +13,8 @@ use crate::view::view;
 use bcode::{write_begin, write_definition, write_end};
 use bexpr::{Halt, Parser, Tokens};
 use blex::Lexeme;
-use bread::{Names, definition};
+use bnames::NameTable;
+use bread::definition;
 use bword::{ByteIn, ByteOut, Edition};
 use std::alloc::Global;
 use std::marker::Model;
@@ -28,7 +30,7 @@ pub struct Compiler<I: ByteIn, O: ByteOut> {
     first_out: Snapshot<O>,
     edition: Edition,
     parser: Parser<I>,
-    names: Names,
+    names: NameTable,
     out: O,
     is_begun: bool,
     is_closed: bool,
@@ -36,6 +38,7 @@ pub struct Compiler<I: ByteIn, O: ByteOut> {
 
 impl<I: ByteIn, O: ByteOut> Model for Compiler<I, O> {
     ghost use Rattle.std.specs.Prelude.{◌≡◌, false};
+    ghost use Rattle.std.specs.Map.{keys_of};
     ghost use Rattle.bparse.specs.Compilers.{Compiler, IsOpen, compiler_of, start_of};
 
     ghost Value = { Compiler };
@@ -43,12 +46,12 @@ impl<I: ByteIn, O: ByteOut> Model for Compiler<I, O> {
     ghost view = { λ c. compiler_of
         (start_of c.edition (I.incoming c.first_input.value) (I.lender c.first_input.value)
         (O.outgoing c.first_out.value) (O.lender c.first_out.value))
-        c.parser.tokens c.names (O.outgoing c.out) (O.lender c.out) c.is_begun c.is_closed };
+        c.parser.tokens (keys_of c.names) (O.outgoing c.out) (O.lender c.out) c.is_begun c.is_closed };
 
     ghost invariant = { λ c. c.is_closed ≡ false → IsOpen (compiler_of
         (start_of c.edition (I.incoming c.first_input.value) (I.lender c.first_input.value)
         (O.outgoing c.first_out.value) (O.lender c.first_out.value))
-        c.parser.tokens c.names (O.outgoing c.out) (O.lender c.out) c.is_begun c.is_closed) };
+        c.parser.tokens (keys_of c.names) (O.outgoing c.out) (O.lender c.out) c.is_begun c.is_closed) };
 }
 
 impl<I: ByteIn, O: ByteOut> Compiler<I, O> {
@@ -68,7 +71,7 @@ impl<I: ByteIn, O: ByteOut> Compiler<I, O> {
             first_out: Snapshot::of(&out),
             edition,
             parser: Parser::new(input, edition),
-            names: Names::new(alloc),
+            names: NameTable::new(alloc),
             out,
             is_begun: false,
             is_closed: false,
@@ -128,12 +131,12 @@ fn compile_next<I: ByteIn, O: ByteOut>(
     edition: Edition,
     is_begun: bool,
     parser: &mut Parser<I>,
-    names: &mut Names,
+    names: &mut NameTable,
     out: &mut O,
 ) -> Result<(), Step>
     requires { IsReady parser.old.tokens }
-    ensures gives { GivesNext (to_begin is_begun edition) (point parser.old.tokens names.old (O.outgoing out.old)) result
-        (point parser.new.tokens names.new (O.outgoing out.new)) }
+    ensures gives { GivesNext (to_begin is_begun edition) (point parser.old.tokens (keys_of names.old) (O.outgoing out.old)) result
+        (point parser.new.tokens (keys_of names.new) (O.outgoing out.new)) }
     ensures ready { OnOk result (IsReady parser.new.tokens) }
     ensures same { O.lender out.new ≡ O.lender out.old }
 {
@@ -146,12 +149,12 @@ fn compile_next<I: ByteIn, O: ByteOut>(
 // Reads and writes the next definition, or tells why none was written.
 fn compile_definition<I: ByteIn, O: ByteOut>(
     parser: &mut Parser<I>,
-    names: &mut Names,
+    names: &mut NameTable,
     out: &mut O,
 ) -> Result<(), Step>
     requires { IsReady parser.old.tokens }
-    ensures gives { Gives (point parser.old.tokens names.old (O.outgoing out.old)) result
-        (point parser.new.tokens names.new (O.outgoing out.new)) }
+    ensures gives { Gives (point parser.old.tokens (keys_of names.old) (O.outgoing out.old)) result
+        (point parser.new.tokens (keys_of names.new) (O.outgoing out.new)) }
     ensures ready { OnOk result (IsReady parser.new.tokens) }
     ensures same { O.lender out.new ≡ O.lender out.old }
 {
@@ -169,7 +172,8 @@ fn compile_definition<I: ByteIn, O: ByteOut>(
         return Err(Step::Fault(fault));
     }
     parser.draft.resolve();
-    names.push(header.name)?;
+    // A name counts alone, without a value.
+    names.insert(header.name, 0)?;
     write_definition(view(&header, &parser.draft), out)?;
     Ok(())
 }

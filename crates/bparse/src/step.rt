@@ -4,8 +4,7 @@ ghost use Rattle.bparse.specs.declared.step.Step.TheVariants.{Device, Memory};
 ghost use Rattle.bparse.specs.Steps.{step_of};
 
 use blex::Diagnostic;
-use bword::{Device, EndFault};
-use std::alloc::AllocError;
+use bword::{Device, EndFault, NoMemory};
 
 /// What became of the next definition.
 #[derive(Clone, Copy, Debug, PartialEq, Eq)]
@@ -32,10 +31,10 @@ impl From<Device> for Step {
     }
 }
 
-impl From<AllocError> for Step {
+impl From<NoMemory> for Step {
     ghost from_gives = { λ _ step. step ≡ Memory };
 
-    fn from(_: AllocError) -> Self {
+    fn from(_: NoMemory) -> Self {
         Step::Memory
     }
 }

@@ -1,5 +1,6 @@
 //! Reading a definition and compiling it at once.
 ghost use Rattle.std.specs.Prelude.{◌≡◌, ◌+◌, false, None};
+ghost use Rattle.std.specs.Map.{keys_of};
 ghost use Rattle.blex.specs.Lexers.{is_last};
 ghost use Rattle.btree.specs.Reading.{first};
 ghost use Rattle.btree.specs.Code.{constant_of};
@@ -12,13 +13,13 @@ ghost use Rattle.bread.specs.Compiling.{alone, Compiles};
 ghost use Rattle.bread.specs.Definitions.{TakesValue, values, parameters, FindsList, FindsKind, FindsDefinition, begun};
 
 use crate::header::{Header, Kind, MOST_COUNTED};
-use crate::names::Names;
 use crate::statement::statement;
 use crate::take::{Word, name, size};
 use bcode::{Instr, Ival};
 use bemit::Draft;
 use bexpr::{Halt, Mark, Parser};
 use blex::{About, Diagnostic, Letters, Lexeme};
+use bnames::{NameTable, Probes};
 use btree::MAX_NESTING;
 use bword::ByteIn;
 
@@ -26,12 +27,12 @@ use bword::ByteIn;
 const NESTING: u8 = MAX_NESTING as u8;
 
 /// Reads the definition that comes, behind definitions of these names.
-pub fn definition<I: ByteIn>(parser: &mut Parser<I>, names: &Names) -> Result<Header, Halt>
+pub fn definition<I: ByteIn>(parser: &mut Parser<I>, names: &NameTable) -> Result<Header, Halt>
     requires { IsLoaded parser.old.tokens }
-    ensures { FindsDefinition names.now parser.old.tokens result parser.new.tokens parser.new.draft }
+    ensures { FindsDefinition (keys_of names.now) parser.old.tokens result parser.new.tokens parser.new.draft }
 {
     let word = name(parser)?;
-    let is_defined = names.contains(&word.name);
+    let is_defined = names.find(&word.name, &mut Probes::new()).is_some();
     begin(&mut parser.draft, word, is_defined);
     let kind = behind_name(parser)?;
     Ok(Header {

@@ -4,10 +4,8 @@
 mod definitions;
 mod header;
 mod heading;
-mod names;
 mod statement;
 mod take;
 
 pub use definitions::definition;
 pub use header::{Header, Kind};
-pub use names::Names;

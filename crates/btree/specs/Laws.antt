@@ -15,7 +15,7 @@ use Rattle.btree.specs.ExpressionReader.{Rvalue, reader}
 use Rattle.btree.specs.StatementReader.{is_else, statement}
 use Rattle.btree.specs.Definition.{Definition, spell_definition, IsFormed, is_open}
 use Rattle.btree.specs.DefinitionReader.{definition}
-use Rattle.btree.specs.Compiled.{Defined, Outcome, Goes}
+use Rattle.btree.specs.Compiled.{Defined, Outcome, Goes, has}
 
 -- What a definition is read as is spelled by the tokens that were taken, and well formed.
 abbrev pub ReadsSpelling : Type 0
@@ -84,6 +84,11 @@ abbrev pub EachSourceComes : Type 0
 EachSourceComes =
     (names : Defined) (edition : Edition) (line : ℕ) (bytes : List ℕ)
     → (r : Outcome) × Goes names (tokens_from edition line bytes) r
+
+-- what comes of tokens looks at the names before them by membership alone
+abbrev pub ByMembership : Type 0
+ByMembership = (names these : Defined) (tokens : List Placed) (r : Outcome) → ((x : List ℕ) → has x names ≡ has x these) →
+    Goes names tokens r → Goes these tokens r
 
 -- the same tokens come to the same
 abbrev pub OutcomesAreEqual : Type 0

@@ -1,3 +1,5 @@
+use Rattle.std.specs.Map.{keys_of}
+use Rattle.bparse.proofs.NamesSteps.{added}
 use Rattle.std.proofs.Common.{◌≡◌, ◌∙◌, sym, subst, ap, refl, Some, None}
 use Rattle.bparse.specs.Steps.{point, step_of}
 use Rattle.bparse.specs.declared.step.Step.TheVariants as step
@@ -11,58 +13,59 @@ use Rattle.bparse.proofs.compiler.compile_definition.Goals as goal
 
 pub returns-in_err-look-clause-gives : goal.returns-in_err-look-clause-gives
 returns-in_err-look-clause-gives g c =
-    gives_stop _ (point c.look.new.self c.args.names.now (g.O.ByteOut.outgoing c.args.out.now)) c.from_residual.result step.Device c.from_residual.ensures.1
-    (read_fails c.args.parser.now.tokens c.look.new.self c.args.names.now c.args.names.now _ (c.in_err-look.ensures.err))
+    gives_stop _ (point c.look.new.self (keys_of c.args.names.now) (g.O.ByteOut.outgoing c.args.out.now)) c.from_residual.result step.Device c.from_residual.ensures.1
+    (read_fails c.args.parser.now.tokens c.look.new.self (keys_of c.args.names.now) (keys_of c.args.names.now) _ (c.in_err-look.ensures.err))
 
 pub returns-in_err-write_end-clause-gives : goal.returns-in_err-write_end-clause-gives
 returns-in_err-write_end-clause-gives g c =
-    gives_stop _ (point c.look.new.self c.args.names.now (g.O.ByteOut.outgoing c.write_end.new.out)) c.from_residual-in_err-write_end.result (step_of c.in_err-write_end.field-0.0) c.from_residual-in_err-write_end.ensures.1
-    (end_breaks c.args.parser.now.tokens c.look.new.self c.args.names.now c.in_ok-look.ensures.ok _ _ (end_of _ (sym c.is_at_end.ensures ∙ c.if-is_at_end.true)) c.in_err-write_end.field-0.0 c.in_err-write_end.ensures.gives)
+    gives_stop _ (point c.look.new.self (keys_of c.args.names.now) (g.O.ByteOut.outgoing c.write_end.new.out)) c.from_residual-in_err-write_end.result (step_of c.in_err-write_end.field-0.0) c.from_residual-in_err-write_end.ensures.1
+    (end_breaks c.args.parser.now.tokens c.look.new.self (keys_of c.args.names.now) c.in_ok-look.ensures.ok _ _ (end_of _ (sym c.is_at_end.ensures ∙ c.if-is_at_end.true)) c.in_err-write_end.field-0.0 c.in_err-write_end.ensures.gives)
 
 pub returns-then-is_at_end-clause-gives : goal.returns-then-is_at_end-clause-gives
 returns-then-is_at_end-clause-gives g c =
-    end_stops c.args.parser.now.tokens c.look.new.self c.args.names.now c.in_ok-look.ensures.ok _ _ (end_of _ (sym c.is_at_end.ensures ∙ c.if-is_at_end.true)) c.in_ok-write_end.ensures.gives
+    end_stops c.args.parser.now.tokens c.look.new.self (keys_of c.args.names.now) c.in_ok-look.ensures.ok _ _ (end_of _ (sym c.is_at_end.ensures ∙ c.if-is_at_end.true)) c.in_ok-write_end.ensures.gives
 
 pub returns-in-Err-Fault-clause-gives : goal.returns-in-Err-Fault-clause-gives
 returns-in-Err-Fault-clause-gives g c =
     let halted = subst (λ h. Halts definition c.look.new.self h c.definition.new.parser.tokens) c.in-Err-Fault.field-0-is c.in-Err-Fault.ensures in
-    fault_stops c.args.parser.now.tokens c.look.new.self c.args.names.now c.in_ok-look.ensures.ok c.definition.new.parser.tokens _ c.fault.result halted.0 halted.1 (not_end _ (sym c.is_at_end.ensures ∙ c.if-is_at_end.false)) c.fault.ensures
+    fault_stops c.args.parser.now.tokens c.look.new.self (keys_of c.args.names.now) c.in_ok-look.ensures.ok c.definition.new.parser.tokens _ c.fault.result halted.0 halted.1 (not_end _ (sym c.is_at_end.ensures ∙ c.if-is_at_end.false)) c.fault.ensures
 
 pub returns-in-Err-Device-clause-gives : goal.returns-in-Err-Device-clause-gives
 returns-in-Err-Device-clause-gives g c =
     let broken = subst (λ h. Halts definition c.look.new.self h c.definition.new.parser.tokens) c.in-Err-Device.field-0-is c.in-Err-Device.ensures in
-    read_fails c.args.parser.now.tokens c.definition.new.parser.tokens c.args.names.now c.args.names.now _ (breaks_behind c.in_ok-look.ensures.ok.moves broken)
+    read_fails c.args.parser.now.tokens c.definition.new.parser.tokens (keys_of c.args.names.now) (keys_of c.args.names.now) _ (breaks_behind c.in_ok-look.ensures.ok.moves broken)
 
 pub returns-in-Some-clause-gives : goal.returns-in-Some-clause-gives
 returns-in-Some-clause-gives g c =
     let t = c.in-Ok.ensures in
-    let d = drafted c.args.names.now c.look.new.self c.definition.new.parser.tokens c.in-Ok.header c.definition.new.parser.draft t in
-    fault_behind c.args.parser.now.tokens c.look.new.self c.args.names.now c.in_ok-look.ensures.ok c.definition.new.parser.tokens _ t.tree c.in-Ok.header.name t.heads.name t.moves c.args.names.now c.in-Some.fault
-    (fault_some c.args.names.now t.tree c.in-Ok.header c.definition.new.parser.draft d c.in-Some.fault c.fault-2.result c.fault-2.ensures c.in-Some.is)
+    let d = drafted (keys_of c.args.names.now) c.look.new.self c.definition.new.parser.tokens c.in-Ok.header c.definition.new.parser.draft t in
+    fault_behind c.args.parser.now.tokens c.look.new.self (keys_of c.args.names.now) c.in_ok-look.ensures.ok c.definition.new.parser.tokens _ t.tree c.in-Ok.header.name t.heads.name t.moves (keys_of c.args.names.now) c.in-Some.fault
+    (fault_some (keys_of c.args.names.now) t.tree c.in-Ok.header c.definition.new.parser.draft d c.in-Some.fault c.fault-2.result c.fault-2.ensures c.in-Some.is)
 
-pub returns-in_err-push-clause-gives : goal.returns-in_err-push-clause-gives
-returns-in_err-push-clause-gives g c =
+pub returns-in_err-insert-clause-gives : goal.returns-in_err-insert-clause-gives
+returns-in_err-insert-clause-gives g c =
     let t = c.in-Ok.ensures in
-    let d = drafted c.args.names.now c.look.new.self c.definition.new.parser.tokens c.in-Ok.header c.definition.new.parser.draft t in
-    let clean = fault_none c.args.names.now t.tree c.in-Ok.header c.definition.new.parser.draft d c.fault-2.result c.fault-2.ensures c.in_default.not-Some in
-    gives_stop _ (point c.definition.new.parser.tokens c.push.new.self (g.O.ByteOut.outgoing c.args.out.now)) c.from_residual-in_err-push.result step.Memory c.from_residual-in_err-push.ensures.1
-    (no_memory c.args.parser.now.tokens c.look.new.self c.args.names.now c.in_ok-look.ensures.ok c.definition.new.parser.tokens _ t.tree c.in-Ok.header.name t.heads.name t.moves clean c.push.new.self)
+    let d = drafted (keys_of c.args.names.now) c.look.new.self c.definition.new.parser.tokens c.in-Ok.header c.definition.new.parser.draft t in
+    let clean = fault_none (keys_of c.args.names.now) t.tree c.in-Ok.header c.definition.new.parser.draft d c.fault-2.result c.fault-2.ensures c.in_default.not-Some in
+    gives_stop _ (point c.definition.new.parser.tokens (keys_of c.insert.new.self) (g.O.ByteOut.outgoing c.args.out.now)) c.from_residual-in_err-insert.result step.Memory c.from_residual-in_err-insert.ensures.1
+    (no_memory c.args.parser.now.tokens c.look.new.self (keys_of c.args.names.now) c.in_ok-look.ensures.ok c.definition.new.parser.tokens _ t.tree c.in-Ok.header.name t.heads.name t.moves clean (keys_of c.insert.new.self))
 
 pub returns-in_err-write_definition-clause-gives : goal.returns-in_err-write_definition-clause-gives
 returns-in_err-write_definition-clause-gives g c =
     let t = c.in-Ok.ensures in
-    let d = drafted c.args.names.now c.look.new.self c.definition.new.parser.tokens c.in-Ok.header c.definition.new.parser.draft t in
-    let clean = fault_none c.args.names.now t.tree c.in-Ok.header c.definition.new.parser.draft d c.fault-2.result c.fault-2.ensures c.in_default.not-Some in
-    let same = viewed c.args.names.now t.tree c.in-Ok.header c.definition.new.parser.draft d _ c.resolve.new.self clean c.resolve.ensures c.view.ensures in
-    gives_stop _ (point c.definition.new.parser.tokens c.push.new.self (g.O.ByteOut.outgoing c.write_definition.new.out)) c.from_residual-in_err-write_definition.result (step_of c.in_err-write_definition.field-0.0) c.from_residual-in_err-write_definition.ensures.1
-    (write_breaks c.args.parser.now.tokens c.look.new.self c.args.names.now c.in_ok-look.ensures.ok c.definition.new.parser.tokens _ t.tree c.in-Ok.header.name t.heads.name t.moves c.push.new.self _ c.in_err-write_definition.field-0.0 clean
+    let d = drafted (keys_of c.args.names.now) c.look.new.self c.definition.new.parser.tokens c.in-Ok.header c.definition.new.parser.draft t in
+    let clean = fault_none (keys_of c.args.names.now) t.tree c.in-Ok.header c.definition.new.parser.draft d c.fault-2.result c.fault-2.ensures c.in_default.not-Some in
+    let same = viewed (keys_of c.args.names.now) t.tree c.in-Ok.header c.definition.new.parser.draft d _ c.resolve.new.self clean c.resolve.ensures c.view.ensures in
+    gives_stop _ (point c.definition.new.parser.tokens (keys_of c.insert.new.self) (g.O.ByteOut.outgoing c.write_definition.new.out)) c.from_residual-in_err-write_definition.result (step_of c.in_err-write_definition.field-0.0) c.from_residual-in_err-write_definition.ensures.1
+    (write_breaks c.args.parser.now.tokens c.look.new.self (keys_of c.args.names.now) c.in_ok-look.ensures.ok c.definition.new.parser.tokens _ t.tree c.in-Ok.header.name t.heads.name t.moves (keys_of c.insert.new.self) _ c.in_err-write_definition.field-0.0 clean
     (subst (λ x. Refuses (g.O.ByteOut.outgoing c.args.out.now) (text_of x) c.in_err-write_definition.field-0.0 (g.O.ByteOut.outgoing c.write_definition.new.out)) same c.in_err-write_definition.ensures.gives))
 
 pub returns-clause-gives : goal.returns-clause-gives
 returns-clause-gives g c =
     let t = c.in-Ok.ensures in
-    let d = drafted c.args.names.now c.look.new.self c.definition.new.parser.tokens c.in-Ok.header c.definition.new.parser.draft t in
-    let clean = fault_none c.args.names.now t.tree c.in-Ok.header c.definition.new.parser.draft d c.fault-2.result c.fault-2.ensures c.in_default.not-Some in
-    let same = viewed c.args.names.now t.tree c.in-Ok.header c.definition.new.parser.draft d _ c.resolve.new.self clean c.resolve.ensures c.view.ensures in
-    wrote c.args.parser.now.tokens c.look.new.self c.args.names.now c.in_ok-look.ensures.ok c.definition.new.parser.tokens _ t.tree c.in-Ok.header.name t.heads.name t.moves c.push.new.self _ clean c.in_ok-push.ensures.ok
+    let d = drafted (keys_of c.args.names.now) c.look.new.self c.definition.new.parser.tokens c.in-Ok.header c.definition.new.parser.draft t in
+    let clean = fault_none (keys_of c.args.names.now) t.tree c.in-Ok.header c.definition.new.parser.draft d c.fault-2.result c.fault-2.ensures c.in_default.not-Some in
+    let same = viewed (keys_of c.args.names.now) t.tree c.in-Ok.header c.definition.new.parser.draft d _ c.resolve.new.self clean c.resolve.ensures c.view.ensures in
+    wrote c.args.parser.now.tokens c.look.new.self (keys_of c.args.names.now) c.in_ok-look.ensures.ok c.definition.new.parser.tokens _ t.tree c.in-Ok.header.name t.heads.name t.moves (keys_of c.insert.new.self) _ clean
+    (added c.args.names.now c.insert.new.self t.tree c.in-Ok.header.name 0 _ t.heads.name clean c.in_ok-insert.ensures.there c.in_ok-insert.ensures.known c.in_ok-insert.ensures.len)
     (subst (λ x. Writes (g.O.ByteOut.outgoing c.args.out.now) (text_of x) (g.O.ByteOut.outgoing c.write_definition.new.out)) same c.in_ok-write_definition.ensures.gives) t.single t.falls

@@ -1,0 +1,53 @@
+-- What comes of a source looks at the names before it by membership alone.
+use Rattle.std.proofs.Common.{◌≡◌, ℕ, List, [], ◌∷◌, ◌++◌, ◌+◌, length, Option, Some, None, refl, sym, ap, ◌∙◌, length-append, if◌then◌else◌}
+use Rattle.std.proofs.lemmas.List.Folds.{list_any-append}
+use Rattle.std.specs.Prelude.{◌||◌}
+use Rattle.std.specs.List.{list_any}
+use Rattle.blex.specs.declared.token.Letters.TheVariants as letters
+use Rattle.blex.specs.declared.token.Placed.{Placed}
+use Rattle.blex.specs.declared.diagnostic.Diagnostic.{Diagnostic}
+use Rattle.btree.specs.Compiled.{AreNames, Defined, Goes, Outcome, has, outcome_of, outcome_with, text_of}
+use Rattle.btree.specs.Laws.{ByMembership}
+use Rattle.btree.specs.Code.{code_of, fault_behind, fault_of}
+use Rattle.btree.specs.Definition.{Definition}
+use Rattle.btree.specs.Scan.{inner_fault, word_of}
+use Rattle.btree.specs.Scope.{name_fault, same_name}
+
+-- a name more
+pub has-push : (x y : List ℕ) (names : Defined) → has x (names ++ y ∷ []) ≡ (has x names || has x (y ∷ []))
+has-push x y names = list_any-append (same_name x) names (y ∷ [])
+
+pub same_behind : (names these : Defined) (y : List ℕ) → ((x : List ℕ) → has x names ≡ has x these) → (x : List ℕ) → has x (names ++ y ∷ []) ≡ has x (these ++ y ∷ [])
+same_behind names these y same x = has-push x y names ∙ ap (λ b. b || has x (y ∷ [])) (same x) ∙ sym (has-push x y these)
+
+pub fault_same : (names these : Defined) (d : Definition) → ((x : List ℕ) → has x names ≡ has x these) → fault_of names d ≡ fault_of these d
+fault_same names these d same =
+    ap (λ b. fault_behind (if b then Some (name_fault letters.Redeclared (word_of d)) else inner_fault d) (word_of d).line (code_of d)) (same (word_of d).text)
+
+outcome_same : (names these : Defined) (ds : List Definition) (stop : Option Diagnostic) → ((x : List ℕ) → has x names ≡ has x these) → outcome_of names ds stop ≡ outcome_of these ds stop
+outcome_same names these [] stop same = refl
+outcome_same names these (d ∷ ds) stop same =
+    let y = (word_of d).text in
+    ap (λ f. outcome_with f (text_of d) (outcome_of (names ++ y ∷ []) ds stop)) (fault_same names these d same)
+    ∙ ap (outcome_with (fault_of these d) (text_of d)) (outcome_same (names ++ y ∷ []) (these ++ y ∷ []) ds stop (same_behind names these y same))
+
+pub by_membership : ByMembership
+by_membership names these tokens r same g = record {
+  definitions = g.definitions;
+  stop = g.stop;
+  parted = g.parted;
+  outcome_is = g.outcome_is ∙ outcome_same names these g.definitions g.stop same;
+}
+
+-- a name more stays one more
+pub are_names_push : (names these : Defined) (y : List ℕ) → AreNames names these → AreNames (names ++ y ∷ []) (these ++ y ∷ [])
+are_names_push names these y a = record {
+  members = same_behind names these y a.members;
+  size = length-append names (y ∷ []) ∙ ap (λ n. n + 1) a.size ∙ sym (length-append these (y ∷ []));
+}
+
+pub are_names_behind : (a b c : Defined) → AreNames a b → AreNames b c → AreNames a c
+are_names_behind a b c h k = record {
+  members = λ x. h.members x ∙ k.members x;
+  size = h.size ∙ k.size;
+}
