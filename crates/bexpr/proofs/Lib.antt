@@ -1,3 +1,4 @@
 pub mod Moving
+pub mod Chains
 pub mod Steps
 pub mod TokenSteps

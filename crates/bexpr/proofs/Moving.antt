@@ -40,6 +40,10 @@ run_past {A} {a} {b} {f} {g} h k = Moves-as (λ u v. f u ≡ g v) (λ u v m. k u
 pub run_same : {A : Type 0} {a b : Tokens} (f : Reader A) → Moves a b Same → Runs a b f f
 run_same f h = Moves-as (λ u v. f u ≡ f v) (λ u v e. ap f e) h
 
+-- readers that agree everywhere
+pub run_as : {A : Type 0} {a b : Tokens} {f g h : Reader A} → ((u : List Placed) → f u ≡ g u) → Runs a b g h → Runs a b f h
+run_as {A} {a} {b} {f} {g} {h} agree m = Moves-as (λ u v. f u ≡ h v) (λ u v e. agree u ∙ e) m
+
 pub run_then : {A : Type 0} {a b c : Tokens} {f g h : Reader A} → Runs a b f g → Runs b c g h → Runs a c f h
 run_then {A} {a} {b} {c} {f} {g} {h} m n = Moves-append (λ u w. f u ≡ h w) (λ u v w p q. p ∙ q) m n
 
@@ -50,6 +54,10 @@ run_bind {A} {B} {a} {b} {f} {g} k m = Moves-as (λ u v. (f u >>= k) ≡ (g v >>
 pub halt_behind : {A B : Type 0} {a b : Tokens} {f : Reader B} (g : Reader A) (k : A → Reader B) (why : Halt) (c : Tokens) → Runs a b f (λ v. g v >>= k) → Halts g b why c → Halts f a why c
 halt_behind g k halt.Fault c m h = (run_then m (run_bind k h.0), h.1)
 halt_behind g k halt.Device c m h = Moves-breaks m h
+
+pub halt_as : {A : Type 0} (a : Tokens) {f g : Reader A} (why : Halt) (c : Tokens) → ((u : List Placed) → f u ≡ g u) → Halts g a why c → Halts f a why c
+halt_as a halt.Fault c agree h = (run_as agree h.0, h.1)
+halt_as a halt.Device c agree h = h
 
 pub halt_then : {A : Type 0} {a b : Tokens} {f g : Reader A} (why : Halt) (c : Tokens) → Runs a b f g → Halts g b why c → Halts f a why c
 halt_then halt.Fault c m h = (run_then m h.0, h.1)

@@ -9,17 +9,17 @@ use Rattle.blex.specs.Pieces.{string_token}
 use Rattle.bcode.specs.declared.instr.Instr.TheVariants as instr
 use Rattle.bcode.specs.declared.instr.Increment.TheVariants as increment
 use Rattle.btree.specs.Expression as tree
-use Rattle.btree.specs.Expression.{Expr, Arguments, Number, Character, Named, Literal, Text, Grouped, Indexed, Called, Postfixed, Prefixed, Binary, Conditional, Assigned, No_arguments, Another, words, argument_words, or_rank, is_operand}
+use Rattle.btree.specs.Expression.{Expr, Arguments, Number, Character, Named, Literal, Text, Grouped, Indexed, Called, Postfixed, Prefixed, Binary, Conditional, Assigned, No_arguments, Another, words, argument_words, or_rank, rank, is_operand}
 use Rattle.btree.specs.Reading.{Reader, Got, Stop, ◌>>=◌, first, line_of, after, expect, many}
 use Rattle.blex.specs.Lexemes.{token_of_lexeme}
 use Rattle.blex.specs.declared.lexeme.Lexeme.{Lexeme}
 use Rattle.blex.specs.declared.lexeme.Lexeme.TheVariants as lexeme
 use Rattle.btree.specs.ExpressionReader as reading
-use Rattle.btree.specs.ExpressionReader.{is_close_paren, is_close_bracket, is_question, is_colon, op_at, suffix, Index, Call, Step, comma, always, prefix_op, Operand, Choice, Rvalue, Inner, primary, primary_at, another, arguments, call, postfix_with, postfix, operand, operation, chain, choices, conditional, assigns, rvalue_from, inner, reader}
+use Rattle.btree.specs.ExpressionReader.{is_close_paren, is_close_bracket, is_question, is_colon, op_at, suffix, Index, Call, Step, comma, always, prefix_op, Operand, Choice, Rvalue, Inner, primary, primary_at, another, arguments, call, postfix_with, postfix, operand, chain, choices, conditional, assigns, rvalue_from, inner, reader}
 use Rattle.btree.specs.StatementReader.{is_open_paren}
 use Rattle.btree.specs.Code.{argument_count, assignment}
 use Rattle.btree.proofs.Fine.{many_none, many_some}
-use Rattle.btree.proofs.ExpressionFine.{closing, has_room, Good, suffix_loop, op_loop, comma_loop, reader_fine, reader_one}
+use Rattle.btree.proofs.ExpressionFine.{closing, has_room, Good, suffix_loop, comma_loop, reader_fine, reader_one}
 use Rattle.bemit.specs.Drafts.{Draft, emitted, place_of, filled, stringed, offset_of, named, name_form, checked}
 use Rattle.btree.specs.Scope.{Kind, Automatic, External, Unlabelled, Labelled, kind_of}
 use Rattle.bemit.specs.Drafts as drafts
@@ -32,9 +32,10 @@ use Rattle.bexpr.specs.Marks.{is_comma}
 use Rattle.bexpr.specs.Tokens.{Tokens, IsLoaded, IsSingle, Runs, Breaks, Keeps, Advances, LooksOn, work}
 use Rattle.bexpr.specs.declared.operators.Prefix.{Prefix}
 use Rattle.bexpr.specs.declared.operators.Prefix.TheVariants as prefixes
-use Rattle.bexpr.specs.Parsers.{assigned_at, prefix_meant, prefix_form, called_at, Halts, Took, Follows, Continues, TookWord, TookArguments, Takes}
+use Rattle.bexpr.specs.Parsers.{assigned_at, op_within, prefix_meant, prefix_form, called_at, Halts, Took, Follows, Continues, TookWord, TookArguments, Takes}
 use Rattle.bexpr.proofs.TokenSteps.{Moves-breaks}
-use Rattle.bexpr.proofs.Moving.{run_here, run_past, run_same, run_then, run_bind, halt_behind, halt_bind, bind_twice, halt_then, halt_device}
+use Rattle.bexpr.proofs.Moving.{run_here, run_past, run_same, run_as, run_then, run_bind, halt_behind, halt_bind, halt_as, bind_twice, halt_then, halt_device}
+use Rattle.bexpr.proofs.Chains.{climb, rank_positive, within_some, within_none, chain_climbs, climb_none, climb_some}
 
 -- what a loop has read and made so far
 pub record SoFar (whole : Reader Expr) (more : Expr → Reader Expr) (start : Draft) (called : Bool) (old new : Tokens) (draft : Draft) (found : Form) : Type 0 where
@@ -52,10 +53,6 @@ pub record SoFarArguments (whole : Reader Expr) (more : Arguments → Reader Exp
 abbrev pub suffixes : ℕ → ℕ → Expr → Reader Expr
 suffixes room off e ts = many (always suffix) (postfix_with (inner room) off) e ts
 
-abbrev pub operators : ℕ → ℕ → ℕ → Expr → Reader Expr
-operators room zero off e ts = Got e ts
-operators room (suc r) off e ts = many (always (op_at (suc r))) (operation (chain (inner room) r) off) e ts
-
 abbrev pub more_arguments : ℕ → ℕ → Expr → Arguments → Reader Expr
 more_arguments room off e args ts = many (always comma) (another (inner (suc room)) (off + words e)) args ts >>= λ args r. expect is_close_paren r >>= λ o. Got (Called e args)
 
@@ -64,7 +61,7 @@ pub record InPostfix (room : ℕ) (old : Tokens) (before : Draft) (new : Tokens)
   pub single : IsSingle new
 
 pub record InChain (room rank : ℕ) (old : Tokens) (before : Draft) (new : Tokens) (draft : Draft) (found : Form) : Type 0 where
-  pub so_far : (offset : ℕ) → SoFar (chain (inner room) rank offset) (operators room rank offset) before false old new draft found
+  pub so_far : (offset : ℕ) → SoFar (chain (inner room) rank offset) (climb room rank offset) before false old new draft found
   pub single : IsSingle new
 
 pub record InArguments (room : ℕ) (old : Tokens) (before : Draft) (new : Tokens) (draft : Draft) (count : ℕ) : Type 0 where
@@ -326,66 +323,56 @@ pub rank_up : (n : ℕ) → (n ≡ 0 → ⊥) → n ≡ suc (n - 1)
 rank_up zero h = absurd (h refl)
 rank_up (suc n) h = omega arith
 
-pub chain_operand : (room rank : ℕ) (a b : Tokens) (before behind : Draft) (r : Result Form Halt) → rank ≡ 0 → Follows (operand (inner room)) false a before r b behind → Follows (chain (inner room) rank) false a before r b behind
-chain_operand room rank a b before behind r h k = subst (λ n. Follows (chain (inner room) n) false a before r b behind) (sym h) (again r k)
-  where
-    again : (r : Result Form Halt) → Follows (operand (inner room)) false a before r b behind → Follows (chain (inner room) 0) false a before r b behind
-    again (Ok x) k = ((λ off. let t = k.0 off in record { tree = t.tree; runs = t.runs; made = t.made; form_is = t.form_is }), k.1)
-    again (Err why) k = k
+pub tighter_rank : (p : BinOp) (n : ℕ) → n ≡ rank p → rank p ≡ suc (n - 1)
+tighter_rank p n h = omega (arith, h, rank_positive p)
 
-pub chain_first_stops : (room rank j : ℕ) (a c : Tokens) (why : Halt) → rank ≡ suc j → ((off : ℕ) → Halts (chain (inner room) j off) a why c) → (off : ℕ) → Halts (chain (inner room) rank off) a why c
-chain_first_stops room rank j a c why h k off = subst (λ n. Halts (chain (inner room) n off) a why c) (sym h) (halt_bind a (chain (inner room) j off) (operators room (suc j) off) why c (k off))
+pub chain_first_stops : (room rank : ℕ) (a c : Tokens) (why : Halt) → ((off : ℕ) → Halts (operand (inner room) off) a why c) → (off : ℕ) → Halts (chain (inner room) rank off) a why c
+chain_first_stops room rank a c why k off = halt_as a why c (chain_climbs room rank off) (halt_bind a (operand (inner room) off) (climb room rank off) why c (k off))
 
-pub chain_begins : (room rank j : ℕ) (a b : Tokens) (start draft : Draft) (found : Form) → rank ≡ suc j → ((off : ℕ) → Took (chain (inner room) j off) start false a b draft found) × IsSingle b → InChain room rank a start b draft found
-chain_begins room rank j a b start draft found h t = subst (λ n. InChain room n a start b draft found) (sym h) (record {
-  so_far = λ off. let x = t.0 off in record { tree = x.tree; runs = run_bind (operators room (suc j) off) x.runs; made = x.made; form_is = x.form_is };
+pub chain_begins : (room rank : ℕ) (a b : Tokens) (start draft : Draft) (found : Form) → ((off : ℕ) → Took (operand (inner room) off) start false a b draft found) × IsSingle b → InChain room rank a start b draft found
+chain_begins room rank a b start draft found t = record {
+  so_far = λ off. let x = t.0 off in record { tree = x.tree; runs = run_as (chain_climbs room rank off) (run_bind (climb room rank off) x.runs); made = x.made; form_is = x.form_is };
   single = t.1;
-})
+}
 
-operator_many : (room j off : ℕ) (p : BinOp) (e : Expr) (u : List Placed) → op_at (suc j) (first u) ≡ Some p → operators room (suc j) off e u ≡ (operation (chain (inner room) j) off p e u >>= operators room (suc j) off)
-operator_many room j off p e u h = many_some closing (always (op_at (suc j))) (operation (chain (inner room) j) off) (op_loop (inner room) (has_room room) j off) p e u h
-
-module _ (room rank j : ℕ) (h : rank ≡ suc j) (a m : Tokens) (start draft : Draft) (found : Form) (s : InChain room rank a start m draft found) where
-  at_rank : InChain room (suc j) a start m draft found
-  at_rank = subst (λ n. InChain room n a start m draft found) h s
-
-  pub chain_ends : op_at rank (first m.ahead) ≡ None → ((off : ℕ) → Took (chain (inner room) rank off) start false a m draft found) × IsSingle m
+module _ (room loosest : ℕ) (a m : Tokens) (start draft : Draft) (found : Form) (s : InChain room loosest a start m draft found) where
+  pub chain_ends : op_within loosest (first m.ahead) ≡ None → ((off : ℕ) → Took (chain (inner room) loosest off) start false a m draft found) × IsSingle m
   chain_ends none = (
-    (λ off. let t = at_rank.so_far off in subst (λ n. Took (chain (inner room) n off) start false a m draft found) (sym h) (record {
+    (λ off. let t = s.so_far off in record {
       tree = t.tree;
-      runs = run_then t.runs (run_here s.single.0 (λ u f n. many_none (always (op_at (suc j))) (operation (chain (inner room) j) off) t.tree u (ap (op_at (suc j)) f ∙ ap (λ i. op_at i (first m.ahead)) (sym h) ∙ none)));
+      runs = run_then t.runs (run_here s.single.0 (λ u f n. climb_none room loosest off t.tree u (λ i le. ap (op_at i) f ∙ within_none loosest (first m.ahead) none i le)));
       made = t.made;
       form_is = t.form_is;
-    })),
+    }),
     s.single,
   )
 
-  module _ (p : BinOp) (is : op_at rank (first m.ahead) ≡ Some p) (b : Tokens) (ad : Advances m b) where
-    operator_read : (off : ℕ) (e : Expr) (u : List Placed) → first u ≡ first m.ahead → line_of u ≡ line_of m.ahead → operators room (suc j) off e u ≡ (chain (inner room) j (off + words e) (after u) >>= λ f r. operators room (suc j) off (Binary p (line_of m.ahead) e f) r)
+  module _ (p : BinOp) (is : op_within loosest (first m.ahead) ≡ Some p) (j : ℕ) (tighter : rank p ≡ suc j) (b : Tokens) (ad : Advances m b) where
+    operator_read : (off : ℕ) (e : Expr) (u : List Placed) → first u ≡ first m.ahead → line_of u ≡ line_of m.ahead → climb room loosest off e u ≡ (chain (inner room) j (off + words e) (after u) >>= λ f. climb room loosest off (Binary p (line_of m.ahead) e f))
     operator_read off e u f n =
-        operator_many room j off p e u (ap (op_at (suc j)) f ∙ ap (λ i. op_at i (first m.ahead)) (sym h) ∙ is)
-        ∙ bind_twice (chain (inner room) j (off + words e) (after u)) (λ f. Got (Binary p (line_of u) e f)) (operators room (suc j) off)
-        ∙ ap (λ i. chain (inner room) j (off + words e) (after u) >>= λ f r. operators room (suc j) off (Binary p i e f) r) n
+        let w = within_some loosest (first m.ahead) p is in
+        climb_some room loosest j off p e u (f ∙ w.0) tighter (omega (arith, w.1, tighter))
+        ∙ ap (λ i. chain (inner room) j (off + words e) (after u) >>= λ f. climb room loosest off (Binary p i e f)) n
 
-    operator_runs : (off : ℕ) → Runs a b (chain (inner room) (suc j) off) (λ v. chain (inner room) j (off + words (at_rank.so_far off).tree) v >>= λ f r. operators room (suc j) off (Binary p (line_of m.ahead) (at_rank.so_far off).tree f) r)
-    operator_runs off = run_then (at_rank.so_far off).runs (run_past ad (λ u f n. operator_read off (at_rank.so_far off).tree u f n))
+    operator_runs : (off : ℕ) → Runs a b (chain (inner room) loosest off) (λ v. chain (inner room) j (off + words (s.so_far off).tree) v >>= λ f. climb room loosest off (Binary p (line_of m.ahead) (s.so_far off).tree f))
+    operator_runs off = run_then (s.so_far off).runs (run_past ad (λ u f n. operator_read off (s.so_far off).tree u f n))
 
-    pub right_stops : (c : Tokens) (why : Halt) → ((off : ℕ) → Halts (chain (inner room) j off) b why c) → (off : ℕ) → Halts (chain (inner room) rank off) a why c
-    right_stops c why k off = subst (λ n. Halts (chain (inner room) n off) a why c) (sym h) (halt_behind (chain (inner room) j (off + words (at_rank.so_far off).tree)) (λ f r. operators room (suc j) off (Binary p (line_of m.ahead) (at_rank.so_far off).tree f) r) why c (operator_runs off) (k (off + words (at_rank.so_far off).tree)))
+    pub right_stops : (c : Tokens) (why : Halt) → ((off : ℕ) → Halts (chain (inner room) j off) b why c) → (off : ℕ) → Halts (chain (inner room) loosest off) a why c
+    right_stops c why k off = halt_behind (chain (inner room) j (off + words (s.so_far off).tree)) (λ f. climb room loosest off (Binary p (line_of m.ahead) (s.so_far off).tree f)) why c (operator_runs off) (k (off + words (s.so_far off).tree))
 
-    pub chain_goes : (c : Tokens) (mid last loads_ behind : Draft) (given : Form) → mid ≡ loads found draft → ((off : ℕ) → Took (chain (inner room) j off) mid false b c last given) × IsSingle c → loads_ ≡ loads given last → behind ≡ emitted (instr.Binary p) loads_ → InChain room rank a start c behind Joined
-    chain_goes c mid last loads_ behind given l k l2 m2 = subst (λ n. InChain room n a start c behind Joined) (sym h) (record {
-      so_far = λ off. let x = at_rank.so_far off in let t = k.0 (off + words x.tree) in record {
+    pub chain_goes : (c : Tokens) (mid last loads_ behind : Draft) (given : Form) → mid ≡ loads found draft → ((off : ℕ) → Took (chain (inner room) j off) mid false b c last given) × IsSingle c → loads_ ≡ loads given last → behind ≡ emitted (instr.Binary p) loads_ → InChain room loosest a start c behind Joined
+    chain_goes c mid last loads_ behind given l k l2 m2 = record {
+      so_far = λ off. let x = s.so_far off in let t = k.0 (off + words x.tree) in record {
         tree = Binary p (line_of m.ahead) x.tree t.tree;
-        runs = run_then (operator_runs off) (run_bind (λ f r. operators room (suc j) off (Binary p (line_of m.ahead) x.tree f) r) t.runs);
+        runs = run_then (operator_runs off) (run_bind (λ f. climb room loosest off (Binary p (line_of m.ahead) x.tree f)) t.runs);
         made = m2 ∙ ap (emitted (instr.Binary p)) (word_is last loads_ mid given false t.tree l2 t.made t.form_is ∙ ap (evaluated t.tree) (word_is draft mid start found false x.tree l x.made x.form_is));
         form_is = refl;
       };
       single = k.1;
-    })
+    }
 
-pub operator_stops : (room rank j : ℕ) (a m b : Tokens) (start draft : Draft) (found : Form) (why : Halt) → rank ≡ suc j → InChain room rank a start m draft found → Breaks m b → why ≡ halt.Device → (off : ℕ) → Halts (chain (inner room) rank off) a why b
-operator_stops room rank j a m b start draft found why h s br e off = halt_device (chain (inner room) rank off) why e (Moves-breaks (s.so_far off).runs br)
+pub operator_stops : (room rank : ℕ) (a m b : Tokens) (start draft : Draft) (found : Form) (why : Halt) → InChain room rank a start m draft found → Breaks m b → why ≡ halt.Device → (off : ℕ) → Halts (chain (inner room) rank off) a why b
+operator_stops room rank a m b start draft found why s br e off = halt_device (chain (inner room) rank off) why e (Moves-breaks (s.so_far off).runs br)
 
 -- the word of an expression
 pub evaluate_took : (room : ℕ) (a b : Tokens) (start draft behind : Draft) (found : Form) → ((off : ℕ) → Took (reader room Rvalue off) start false a b draft found) × IsSingle b → behind ≡ loads found draft → ((off : ℕ) → TookWord (reader room Rvalue off) start a b behind) × IsSingle b

@@ -1,5 +1,5 @@
 -- What the calls of the parser do with the tokens and with the draft.
-use Rattle.std.specs.Prelude.{◌≡◌, ℕ, ◌+◌, ◌<◌, min, Bool, Option, Some, None, Result, Ok, Err}
+use Rattle.std.specs.Prelude.{◌≡◌, ℕ, ◌+◌, ◌<◌, nat_le, if◌then◌else◌, min, Bool, Option, Some, None, Result, Ok, Err}
 use Rattle.bword.specs.declared.operators.BinOp.{BinOp}
 use Rattle.blex.specs.declared.token.Token.{Token}
 use Rattle.blex.specs.declared.token.Token.TheVariants as token
@@ -118,3 +118,8 @@ abbrev pub assigned_at : Form → Token → Option (Option BinOp)
 assigned_at Joined t = None
 assigned_at form (token.Assign op) = Some op
 assigned_at form _ = None
+
+-- the binary operator that a token is, if it binds at most so loosely
+abbrev pub op_within : ℕ → Token → Option BinOp
+op_within loosest (token.Operator op) = if nat_le (tree.rank op) loosest then Some op else None
+op_within loosest _ = None

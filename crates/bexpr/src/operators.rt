@@ -2,8 +2,8 @@
 ghost use Rattle.std.specs.Prelude.{ℕ, List, ◌≡◌};
 ghost use Rattle.blex.specs.Lexemes.{token_of_lexeme};
 ghost use Rattle.btree.specs.Expression.{rank};
-ghost use Rattle.btree.specs.ExpressionReader.{prefix_op, suffix, op_at};
-ghost use Rattle.bexpr.specs.Parsers.{some_prefix, some_suffix};
+ghost use Rattle.btree.specs.ExpressionReader.{prefix_op, suffix};
+ghost use Rattle.bexpr.specs.Parsers.{op_within, some_prefix, some_suffix};
 
 use blex::Lexeme;
 use bword::BinOp;
@@ -71,12 +71,12 @@ pub(crate) fn rank_of(op: BinOp) -> u8
     }
 }
 
-/// The binary operator that a token is, if it binds so loosely.
-pub(crate) fn operator_at(rank: u8, lexeme: Lexeme) -> Option<BinOp>
-    ensures { (text : List ℕ) → result ≡ op_at rank (token_of_lexeme lexeme text) }
+/// The binary operator that a token is, if it binds at most so loosely.
+pub(crate) fn operator_within(loosest: u8, lexeme: Lexeme) -> Option<BinOp>
+    ensures { (text : List ℕ) → result ≡ op_within loosest (token_of_lexeme lexeme text) }
 {
     match lexeme {
-        Lexeme::Operator(op) if rank_of(op) == rank => Some(op),
+        Lexeme::Operator(op) if rank_of(op) <= loosest => Some(op),
         _ => None,
     }
 }

@@ -18,7 +18,7 @@ ghost use Rattle.bexpr.specs.Parsers.{called_at, prefix_meant, prefix_form, suff
 
 use crate::halt::Halt;
 use crate::mark::Mark;
-use crate::operators::{Prefix, Suffix, operator_at, prefix_of, suffix_of};
+use crate::operators::{Prefix, Suffix, operator_within, prefix_of, rank_of, suffix_of};
 use crate::tokens::Tokens;
 use bcode::{Increment, Instr};
 use bemit::{Draft, Form};
@@ -299,21 +299,18 @@ impl<I: ByteIn> Parser<I> {
         Ok(prefix(&mut self.draft, op, line, form))
     }
 
-    // Operands and the binary operators up to a rank.
+    // Operands and the binary operators up to a rank. Behind an operator stands what binds tighter.
     #[cycle(expressions)]
     fn chain(&mut self, room: u8, rank: u8) -> Result<Form, Halt>
         requires loaded { IsLoaded self.old.tokens }
         requires rank { rank ≤ or_rank }
         ensures { Follows (chain (inner room) rank) false self.old.tokens self.old.draft result self.new.tokens self.new.draft }
     {
-        if rank == 0 {
-            return self.operand(room);
-        }
-        let mut form = self.chain(room, rank - 1)?;
-        'operators: while let Some(op) = operator_at(rank, self.tokens.lexeme()) {
+        let mut form = self.operand(room)?;
+        'operators: while let Some(op) = operator_within(rank, self.tokens.lexeme()) {
             load(&mut self.draft, form);
             self.tokens.advance()?;
-            let right = self.chain(room, rank - 1)?;
+            let right = self.chain(room, rank_of(op) - 1)?;
             load(&mut self.draft, right);
             self.draft.emit(Instr::Binary(op));
             form = Form::Joined;

@@ -1,14 +1,14 @@
 use Rattle.std.proofs.Common.{◌+◌, ◌-◌, ◌<◌, false, Some, Ok, sym, ap, ◌∙◌, refl, arith}
 use Rattle.btree.specs.Expression.{PostIncrement, PostDecrement, Literal, Number}
-use Rattle.btree.specs.ExpressionReader.{inner, primary, postfix, postfix_with, call, operand, chain, conditional, reader, Rvalue, Index, Call, Step, suffix, prefix_op, op_at}
+use Rattle.btree.specs.ExpressionReader.{inner, primary, postfix, postfix_with, call, operand, chain, conditional, reader, Rvalue, Index, Call, Step, suffix, prefix_op}
 use Rattle.btree.specs.Reading.{first}
 use Rattle.bemit.specs.Drafts.{emitted}
 use Rattle.bemit.specs.declared.form.Form.TheVariants.{Place, Lone}
 use Rattle.bexpr.specs.declared.halt.Halt.TheVariants as halt
 use Rattle.bexpr.specs.Tokens.{work}
-use Rattle.bexpr.specs.Parsers.{called_at, assigned_at, prefix_meant, suffix_meant}
+use Rattle.bexpr.specs.Parsers.{called_at, assigned_at, op_within, prefix_meant, suffix_meant}
 use Rattle.bexpr.proofs.Moving.{follows_err, continues_err, passes_err, halt_bind}
-use Rattle.bexpr.proofs.Steps.{conditional_none, suffixes, group_stops, group_open, group_took, no_arguments, first_stops, arguments_begin, comma_stops, more_stops, arguments_go, end_stops, arguments_end, rank_up, chain_operand, chain_first_stops, chain_begins, operator_stops, right_stops, chain_goes, chain_ends, arm_stops, colon_stops, chain_stops, rest_stops, conditional_took, evaluate_took, operand_none, prefix_stops, prefix_took, prefix_leaves, postfix_begins, postfix_stops, postfix_goes, postfix_ends, rvalue_stops, rvalue_goes, assign_full, assign_stops, assign_took, as_suffix, index_stops, index_open, index_took, index_called, call_stops, call_took, call_called, increment_took, decrement_took}
+use Rattle.bexpr.proofs.Steps.{conditional_none, suffixes, group_stops, group_open, group_took, no_arguments, first_stops, arguments_begin, comma_stops, more_stops, arguments_go, end_stops, arguments_end, tighter_rank, chain_first_stops, chain_begins, operator_stops, right_stops, chain_goes, chain_ends, arm_stops, colon_stops, chain_stops, rest_stops, conditional_took, evaluate_took, operand_none, prefix_stops, prefix_took, prefix_leaves, postfix_begins, postfix_stops, postfix_goes, postfix_ends, rvalue_stops, rvalue_goes, assign_full, assign_stops, assign_took, as_suffix, index_stops, index_open, index_took, index_called, call_stops, call_took, call_called, increment_took, decrement_took}
 use Rattle.bexpr.proofs.parser.Parser.+expressions.Goals as goal
 
 pub primary-returns-in_err-form : goal.primary-returns-in_err-form
@@ -47,29 +47,26 @@ arguments-returns-in_err-expect g t c = passes_err (call (inner (c.args.room + 1
 pub arguments-returns : goal.arguments-returns
 arguments-returns g t c = arguments_end c.args.room c.args.self.now.tokens c.more.self.tokens c.args.self.now.draft c.more.self.draft c.more.count c.more.invariant (sym c.more-test.ensures) c.expect.new.self.tokens c.expect.new.self.draft c.in_ok-expect.ensures.tokens c.in_ok-expect.ensures.draft
 
-pub chain-returns-then-rank-eq0 : goal.chain-returns-then-rank-eq0
-chain-returns-then-rank-eq0 g t c = chain_operand c.args.room c.args.rank c.args.self.now.tokens c.operand.new.self.tokens c.args.self.now.draft c.operand.new.self.draft c.operand.result c.if-rank-eq0.true c.operand.ensures
-
 pub chain-returns-in_err-form : goal.chain-returns-in_err-form
-chain-returns-in_err-form g t c = follows_err (chain (inner c.args.room) c.args.rank) false c.args.self.now.tokens c.chain.new.self.tokens c.args.self.now.draft c.chain.new.self.draft c.from_residual.result c.in_err-form.field-0.0 c.from_residual.ensures.1 (chain_first_stops c.args.room c.args.rank (c.args.rank - 1) c.args.self.now.tokens c.chain.new.self.tokens c.in_err-form.field-0.0 (rank_up c.args.rank c.if-rank-eq0.false) c.in_err-form.ensures)
+chain-returns-in_err-form g t c = follows_err (chain (inner c.args.room) c.args.rank) false c.args.self.now.tokens c.operand.new.self.tokens c.args.self.now.draft c.operand.new.self.draft c.from_residual.result c.in_err-form.field-0.0 c.from_residual.ensures.1 (chain_first_stops c.args.room c.args.rank c.args.self.now.tokens c.operand.new.self.tokens c.in_err-form.field-0.0 c.in_err-form.ensures)
 
 pub chain-operators-init : goal.chain-operators-init
-chain-operators-init g t c = chain_begins c.args.room c.args.rank (c.args.rank - 1) c.args.self.now.tokens c.chain.new.self.tokens c.args.self.now.draft c.chain.new.self.draft c.in_ok-form.form (rank_up c.args.rank c.if-rank-eq0.false) c.in_ok-form.ensures
+chain-operators-init g t c = chain_begins c.args.room c.args.rank c.args.self.now.tokens c.operand.new.self.tokens c.args.self.now.draft c.operand.new.self.draft c.in_ok-form.form c.in_ok-form.ensures
 
 pub chain-returns-in_err-advance : goal.chain-returns-in_err-advance
-chain-returns-in_err-advance g t c = follows_err (chain (inner c.args.room) c.args.rank) false c.args.self.now.tokens c.advance.new.self c.args.self.now.draft c.load.new.draft c.from_residual-in_err-advance.result halt.Device c.from_residual-in_err-advance.ensures.1 (operator_stops c.args.room c.args.rank (c.args.rank - 1) c.args.self.now.tokens c.operators.self.tokens c.advance.new.self c.args.self.now.draft c.operators.self.draft c.operators.form halt.Device (rank_up c.args.rank c.if-rank-eq0.false) c.operators.invariant c.in_err-advance.ensures.err refl)
+chain-returns-in_err-advance g t c = follows_err (chain (inner c.args.room) c.args.rank) false c.args.self.now.tokens c.advance.new.self c.args.self.now.draft c.load.new.draft c.from_residual-in_err-advance.result halt.Device c.from_residual-in_err-advance.ensures.1 (operator_stops c.args.room c.args.rank c.args.self.now.tokens c.operators.self.tokens c.advance.new.self c.args.self.now.draft c.operators.self.draft c.operators.form halt.Device c.operators.invariant c.in_err-advance.ensures.err refl)
 
 pub chain-returns-in_err-right : goal.chain-returns-in_err-right
-chain-returns-in_err-right g t c = follows_err (chain (inner c.args.room) c.args.rank) false c.args.self.now.tokens c.chain-in-Some.new.self.tokens c.args.self.now.draft c.chain-in-Some.new.self.draft c.from_residual-in_err-right.result c.in_err-right.field-0.0 c.from_residual-in_err-right.ensures.1 (right_stops c.args.room c.args.rank (c.args.rank - 1) (rank_up c.args.rank c.if-rank-eq0.false) c.args.self.now.tokens c.operators.self.tokens c.args.self.now.draft c.operators.self.draft c.operators.form c.operators.invariant c.in-Some.op (sym (c.in-Some.ensures c.operators.self.tokens.text ∙ ap (op_at c.args.rank) c.lexeme.ensures)) c.advance.new.self c.in_ok-advance.ensures.ok c.chain-in-Some.new.self.tokens c.in_err-right.field-0.0 c.in_err-right.ensures)
+chain-returns-in_err-right g t c = follows_err (chain (inner c.args.room) c.args.rank) false c.args.self.now.tokens c.chain.new.self.tokens c.args.self.now.draft c.chain.new.self.draft c.from_residual-in_err-right.result c.in_err-right.field-0.0 c.from_residual-in_err-right.ensures.1 (right_stops c.args.room c.args.rank c.args.self.now.tokens c.operators.self.tokens c.args.self.now.draft c.operators.self.draft c.operators.form c.operators.invariant c.in-Some.op (sym (c.in-Some.ensures c.operators.self.tokens.text ∙ ap (op_within c.args.rank) c.lexeme.ensures)) (c.rank_of.result - 1) (tighter_rank c.in-Some.op c.rank_of.result c.rank_of.ensures) c.advance.new.self c.in_ok-advance.ensures.ok c.chain.new.self.tokens c.in_err-right.field-0.0 c.in_err-right.ensures)
 
 pub chain-operators-smaller : goal.chain-operators-smaller
-chain-operators-smaller g t c = let h : work c.chain-in-Some.new.self.tokens < work c.operators.self.tokens = omega (arith, c.in_ok-advance.ensures.ok.falls, (c.in_ok-right.ensures.0 0).runs.falls) in h
+chain-operators-smaller g t c = let h : work c.chain.new.self.tokens < work c.operators.self.tokens = omega (arith, c.in_ok-advance.ensures.ok.falls, (c.in_ok-right.ensures.0 0).runs.falls) in h
 
 pub chain-operators-preserved : goal.chain-operators-preserved
-chain-operators-preserved g t c = chain_goes c.args.room c.args.rank (c.args.rank - 1) (rank_up c.args.rank c.if-rank-eq0.false) c.args.self.now.tokens c.operators.self.tokens c.args.self.now.draft c.operators.self.draft c.operators.form c.operators.invariant c.in-Some.op (sym (c.in-Some.ensures c.operators.self.tokens.text ∙ ap (op_at c.args.rank) c.lexeme.ensures)) c.advance.new.self c.in_ok-advance.ensures.ok c.chain-in-Some.new.self.tokens c.load.new.draft c.chain-in-Some.new.self.draft c.load-in-Some.new.draft c.emit.new.self c.in_ok-right.right c.load.ensures c.in_ok-right.ensures c.load-in-Some.ensures c.emit.ensures
+chain-operators-preserved g t c = chain_goes c.args.room c.args.rank c.args.self.now.tokens c.operators.self.tokens c.args.self.now.draft c.operators.self.draft c.operators.form c.operators.invariant c.in-Some.op (sym (c.in-Some.ensures c.operators.self.tokens.text ∙ ap (op_within c.args.rank) c.lexeme.ensures)) (c.rank_of.result - 1) (tighter_rank c.in-Some.op c.rank_of.result c.rank_of.ensures) c.advance.new.self c.in_ok-advance.ensures.ok c.chain.new.self.tokens c.load.new.draft c.chain.new.self.draft c.load-in-Some.new.draft c.emit.new.self c.in_ok-right.right c.load.ensures c.in_ok-right.ensures c.load-in-Some.ensures c.emit.ensures
 
 pub chain-returns : goal.chain-returns
-chain-returns g t c = chain_ends c.args.room c.args.rank (c.args.rank - 1) (rank_up c.args.rank c.if-rank-eq0.false) c.args.self.now.tokens c.operators.self.tokens c.args.self.now.draft c.operators.self.draft c.operators.form c.operators.invariant (sym (c.in_default.ensures c.operators.self.tokens.text ∙ ap (op_at c.args.rank) c.lexeme.ensures))
+chain-returns g t c = chain_ends c.args.room c.args.rank c.args.self.now.tokens c.operators.self.tokens c.args.self.now.draft c.operators.self.draft c.operators.form c.operators.invariant (sym (c.in_default.ensures c.operators.self.tokens.text ∙ ap (op_within c.args.rank) c.lexeme.ensures))
 
 pub conditional-returns-in_err-evaluate : goal.conditional-returns-in_err-evaluate
 conditional-returns-in_err-evaluate g t c = continues_err (conditional (inner c.args.room)) false false c.args.form c.args.self.now.tokens c.evaluate.new.self.tokens c.args.self.now.draft c.evaluate.new.self.draft c.from_residual-in_err-evaluate.result c.in_err-evaluate.field-0.0 c.from_residual-in_err-evaluate.ensures.1 (arm_stops c.args.room c.in_ok-room.room c.args.self.now.tokens c.enter.new.self.tokens c.in_ok-room.ensures.tokens (sym c.if-not-is_at.ensures) c.evaluate.new.self.tokens c.in_err-evaluate.field-0.0 c.in_err-evaluate.ensures)
