@@ -1,15 +1,14 @@
 //! Lines put together in a page.
-ghost use Rattle.std.specs.Prelude.{◌≡◌, ◌+◌, ◌≤◌, [], ◌∷◌, ◌++◌, length, map, decimal, codes, IsTrue, OnOk};
-ghost use Rattle.arrayvec.specs.ArrayVec.{array_vec_len};
+ghost use Rattle.std.specs.Prelude.{◌≡◌, ◌+◌, ◌<◌, ◌≤◌, [], ◌∷◌, ◌++◌, length, map, decimal, codes, IsTrue, OnOk};
 ghost use Rattle.bword.specs.ByteEnds.{PutGives};
 ghost use Rattle.bword.specs.Names.{is_name};
 ghost use Rattle.bcode.specs.Pages.{PageGives};
 ghost use Rattle.bcode.specs.Text.{line, instr_line, ival_line, increment_text, operator_text};
 
 use crate::{Increment, Instr, Ival};
-use arrayvec::ArrayVec;
 use bword::{BinOp, ByteOut, EndFault, Name};
-use itoa::Buffer;
+use itoa::{Buffer, write_digits};
+use std::marker::Model;
 
 /// The most bytes that go to an end at once.
 pub const PAGE_LEN: usize = 4096;
@@ -18,57 +17,143 @@ pub const PAGE_LEN: usize = 4096;
 pub const LINE_LEN: usize = 128;
 
 /// Lines that are to be put.
-pub type Page = ArrayVec<u8, PAGE_LEN>;
+#[derive(Drop)]
+pub struct Page {
+    bytes: [u8; PAGE_LEN],
+    len: usize,
+}
+
+impl Model for Page {
+    ghost use Rattle.std.specs.Prelude.{◌≡◌, ◌≤◌, ℕ, List, take, length};
+    ghost use Rattle.bcode.specs.declared.page.TheConstants.{PAGE_LEN};
+
+    ghost Value = { List ℕ };
+
+    ghost view = { λ p. take p.len p.bytes };
+
+    ghost invariant = { λ p. (p.len ≤ PAGE_LEN) × (length p.bytes ≡ PAGE_LEN) };
+}
+
+impl Page {
+    /// A page without lines.
+    pub fn new() -> Self
+        ensures { result ≡ [] }
+    {
+        Page {
+            bytes: [0; PAGE_LEN],
+            len: 0,
+        }
+    }
+
+    /// The bytes of its lines.
+    pub fn as_slice(&self) -> &[u8]
+        ensures { result.now ≡ self.now }
+    {
+        &self.bytes[..self.len]
+    }
+
+    // Takes the lines out of it, and leaves their bytes where they are.
+    fn clear(&mut self)
+        ensures { self.new ≡ [] }
+    {
+        self.len = 0;
+    }
+
+    fn push(&mut self, byte: u8)
+        requires { length self.old < PAGE_LEN }
+        ensures { self.new ≡ self.old ++ byte ∷ [] }
+    {
+        self.bytes[self.len] = byte;
+        self.len += 1;
+    }
+
+    fn push_bytes(&mut self, bytes: &[u8])
+        requires { length self.old + length bytes.now ≤ PAGE_LEN }
+        ensures { self.new ≡ self.old ++ bytes.now }
+    {
+        let end = self.len + bytes.len();
+        self.bytes[self.len..end].copy_from_slice(bytes);
+        self.len = end;
+    }
+
+    // The digits of a number, which are written where they are to stand.
+    fn push_digits(&mut self, n: u16)
+        requires { length self.old + 5 ≤ PAGE_LEN }
+        ensures digits { self.new ≡ self.old ++ decimal n }
+        ensures len { length self.new ≤ length self.old + 5 }
+    {
+        let end = self.len + digits(n);
+        write_digits(u64::from(n), &mut self.bytes, end);
+        self.len = end;
+    }
+}
+
+// How many digits a number has.
+fn digits(n: u16) -> usize
+    ensures digits { result ≡ length (decimal n) }
+    ensures few { result ≤ 5 }
+{
+    match n {
+        0..=9 => 1,
+        10..=99 => 2,
+        100..=999 => 3,
+        1000..=9999 => 4,
+        _ => 5,
+    }
+}
 
 /// Makes room for a line, by putting the page if it has too little.
 pub fn make_room<O: ByteOut>(page: &mut Page, out: &mut O) -> Result<(), EndFault>
-    ensures gives { PageGives (O.outgoing out.old) page.old.items [] result (O.outgoing out.new) page.new.items }
-    ensures room { OnOk result (array_vec_len page.new + LINE_LEN ≤ PAGE_LEN) }
+    ensures gives { PageGives (O.outgoing out.old) page.old [] result (O.outgoing out.new) page.new }
+    ensures room { OnOk result (length page.new + LINE_LEN ≤ PAGE_LEN) }
     ensures same { O.lender out.new ≡ O.lender out.old }
 {
-    if page.len() > PAGE_LEN - LINE_LEN {
+    if page.len > PAGE_LEN - LINE_LEN {
         out.put(page.as_slice())?;
         page.clear();
     }
     Ok(())
 }
 
-fn push_bytes(page: &mut Page, bytes: &[u8])
-    requires { array_vec_len page.old + length bytes.now ≤ PAGE_LEN }
-    ensures { page.new.items ≡ page.old.items ++ bytes.now }
-{
-    page.try_extend_from_slice(bytes).unwrap();
-}
-
 // Another part of a line, behind a space.
 fn push_part(page: &mut Page, part: &[u8])
-    requires { array_vec_len page.old + length part.now + 1 ≤ PAGE_LEN }
-    ensures { page.new.items ≡ page.old.items ++ codes " " ++ part.now }
+    requires { length page.old + length part.now + 1 ≤ PAGE_LEN }
+    ensures { page.new ≡ page.old ++ codes " " ++ part.now }
 {
     page.push(b' ');
-    push_bytes(page, part);
+    page.push_bytes(part);
 }
 
 fn push_name(page: &mut Page, name: Name)
-    requires { array_vec_len page.old + 9 ≤ PAGE_LEN }
-    ensures items { page.new.items ≡ page.old.items ++ codes " " ++ name }
-    ensures len { array_vec_len page.new ≤ array_vec_len page.old + 9 }
+    requires { length page.old + 9 ≤ PAGE_LEN }
+    ensures items { page.new ≡ page.old ++ codes " " ++ name }
+    ensures len { length page.new ≤ length page.old + 9 }
 {
-    push_part(page, name.as_str().as_bytes());
+    push_part(page, name.as_bytes());
 }
 
-fn push_number(page: &mut Page, n: usize)
-    requires { array_vec_len page.old + 21 ≤ PAGE_LEN }
-    ensures items { page.new.items ≡ page.old.items ++ codes " " ++ decimal n }
-    ensures len { array_vec_len page.new ≤ array_vec_len page.old + 21 }
+fn push_number(page: &mut Page, n: u16)
+    requires { length page.old + 6 ≤ PAGE_LEN }
+    ensures items { page.new ≡ page.old ++ codes " " ++ decimal n }
+    ensures len { length page.new ≤ length page.old + 6 }
+{
+    page.push(b' ');
+    page.push_digits(n);
+}
+
+// A number that may be of any length.
+fn push_size(page: &mut Page, n: usize)
+    requires { length page.old + 21 ≤ PAGE_LEN }
+    ensures items { page.new ≡ page.old ++ codes " " ++ decimal n }
+    ensures len { length page.new ≤ length page.old + 21 }
 {
     push_part(page, Buffer::new().format(n).as_bytes());
 }
 
 /// A line of a letter alone.
 pub fn push_letter_line(page: &mut Page, letter: u8)
-    requires { array_vec_len page.old + LINE_LEN ≤ PAGE_LEN }
-    ensures { page.new.items ≡ page.old.items ++ line ((letter ∷ []) ∷ []) }
+    requires { length page.old + LINE_LEN ≤ PAGE_LEN }
+    ensures { page.new ≡ page.old ++ line ((letter ∷ []) ∷ []) }
 {
     page.push(letter);
     page.push(b'\n');
@@ -76,17 +161,17 @@ pub fn push_letter_line(page: &mut Page, letter: u8)
 
 /// A line of a letter and a number.
 pub fn push_number_line(page: &mut Page, letter: u8, n: u16)
-    requires { array_vec_len page.old + LINE_LEN ≤ PAGE_LEN }
-    ensures { page.new.items ≡ page.old.items ++ line ((letter ∷ []) ∷ decimal n ∷ []) }
+    requires { length page.old + LINE_LEN ≤ PAGE_LEN }
+    ensures { page.new ≡ page.old ++ line ((letter ∷ []) ∷ decimal n ∷ []) }
 {
     page.push(letter);
-    push_number(page, usize::from(n));
+    push_number(page, n);
     page.push(b'\n');
 }
 
 fn push_name_line(page: &mut Page, letter: u8, name: Name)
-    requires { array_vec_len page.old + LINE_LEN ≤ PAGE_LEN }
-    ensures { page.new.items ≡ page.old.items ++ line ((letter ∷ []) ∷ name ∷ []) }
+    requires { length page.old + LINE_LEN ≤ PAGE_LEN }
+    ensures { page.new ≡ page.old ++ line ((letter ∷ []) ∷ name ∷ []) }
 {
     page.push(letter);
     push_name(page, name);
@@ -94,8 +179,8 @@ fn push_name_line(page: &mut Page, letter: u8, name: Name)
 }
 
 fn push_operator_line(page: &mut Page, letter: u8, operator: BinOp)
-    requires { array_vec_len page.old + LINE_LEN ≤ PAGE_LEN }
-    ensures { page.new.items ≡ page.old.items ++ line ((letter ∷ []) ∷ operator_text operator ∷ []) }
+    requires { length page.old + LINE_LEN ≤ PAGE_LEN }
+    ensures { page.new ≡ page.old ++ line ((letter ∷ []) ∷ operator_text operator ∷ []) }
 {
     page.push(letter);
     push_part(page, operator_text(operator));
@@ -126,8 +211,8 @@ fn operator_text(operator: BinOp) -> &'static [u8]
 }
 
 fn push_increment_line(page: &mut Page, which: Increment)
-    requires { array_vec_len page.old + LINE_LEN ≤ PAGE_LEN }
-    ensures { page.new.items ≡ page.old.items ++ line (codes "i" ∷ increment_text which ∷ []) }
+    requires { length page.old + LINE_LEN ≤ PAGE_LEN }
+    ensures { page.new ≡ page.old ++ line (codes "i" ∷ increment_text which ∷ []) }
 {
     page.push(b'i');
     push_part(page, increment_text(which));
@@ -147,19 +232,19 @@ fn increment_text(which: Increment) -> &'static [u8]
 }
 
 fn push_case_line(page: &mut Page, value: u16, target: u16)
-    requires { array_vec_len page.old + LINE_LEN ≤ PAGE_LEN }
-    ensures { page.new.items ≡ page.old.items ++ line (codes "e" ∷ decimal value ∷ decimal target ∷ []) }
+    requires { length page.old + LINE_LEN ≤ PAGE_LEN }
+    ensures { page.new ≡ page.old ++ line (codes "e" ∷ decimal value ∷ decimal target ∷ []) }
 {
     page.push(b'e');
-    push_number(page, usize::from(value));
-    push_number(page, usize::from(target));
+    push_number(page, value);
+    push_number(page, target);
     page.push(b'\n');
 }
 
 /// The line of an instruction.
 pub fn push_instr_line(page: &mut Page, instr: Instr)
-    requires { array_vec_len page.old + LINE_LEN ≤ PAGE_LEN }
-    ensures { page.new.items ≡ page.old.items ++ instr_line instr }
+    requires { length page.old + LINE_LEN ≤ PAGE_LEN }
+    ensures { page.new ≡ page.old ++ instr_line instr }
 {
     match instr {
         Instr::Constant(n) => push_number_line(page, b'c', n),
@@ -186,8 +271,8 @@ pub fn push_instr_line(page: &mut Page, instr: Instr)
 
 /// The line of an initial value.
 pub fn push_ival_line(page: &mut Page, value: Ival)
-    requires { array_vec_len page.old + LINE_LEN ≤ PAGE_LEN }
-    ensures { page.new.items ≡ page.old.items ++ ival_line value }
+    requires { length page.old + LINE_LEN ≤ PAGE_LEN }
+    ensures { page.new ≡ page.old ++ ival_line value }
 {
     match value {
         Ival::Number(n) => push_number_line(page, b'c', n),
@@ -198,14 +283,14 @@ pub fn push_ival_line(page: &mut Page, value: Ival)
 
 /// The first line of a definition.
 pub fn push_header_line(page: &mut Page, letter: u8, name: Name, numbers: &[usize])
-    requires room { array_vec_len page.old + LINE_LEN ≤ PAGE_LEN }
+    requires room { length page.old + LINE_LEN ≤ PAGE_LEN }
     requires few { length numbers.now ≤ 5 }
-    ensures { page.new.items ≡ page.old.items ++ line ((letter ∷ []) ∷ name ∷ map decimal numbers.now) }
+    ensures { page.new ≡ page.old ++ line ((letter ∷ []) ∷ name ∷ map decimal numbers.now) }
 {
     page.push(letter);
     push_name(page, name);
     for number in numbers {
-        push_number(page, *number);
+        push_size(page, *number);
     }
     page.push(b'\n');
 }

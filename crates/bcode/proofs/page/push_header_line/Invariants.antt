@@ -4,5 +4,5 @@ use Rattle.bcode.proofs.page.push_header_line.Given as goal
 
 abbrev pub invariant-loop-number : goal.invariant-loop-number
 invariant-loop-number l =
-    (l.page.items ≡ l.initial.page.items ++ flat_map (λ n. codes " " ++ decimal n) (take l.number-index l.numbers))
-    × (length l.page.items ≤ length l.initial.page.items + l.number-index * 21)
+    (l.page ≡ l.initial.page ++ flat_map (λ n. codes " " ++ decimal n) (take l.number-index l.numbers))
+    × (length l.page ≤ length l.initial.page + l.number-index * 21)

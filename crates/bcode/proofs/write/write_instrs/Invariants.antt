@@ -5,6 +5,6 @@ use Rattle.bcode.proofs.write.write_instrs.Given as goal
 
 abbrev pub invariant-loop-instr : goal.invariant-loop-instr
 invariant-loop-instr g l =
-    Passes (g.O.ByteOut.outgoing l.initial.out) l.initial.page.items (joined (map instr_line (take l.instr-index l.code)))
-    (g.O.ByteOut.outgoing l.out) l.page.items
+    Passes (g.O.ByteOut.outgoing l.initial.out) l.initial.page (joined (map instr_line (take l.instr-index l.code)))
+    (g.O.ByteOut.outgoing l.out) l.page
     × (g.O.ByteOut.lender l.out ≡ g.O.ByteOut.lender l.initial.out)
