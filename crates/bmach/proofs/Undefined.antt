@@ -30,19 +30,32 @@ module _ (address_of : List ℕ → Option ℕ) {A : Type 0} (names : A → List
   first_of_rest : (x : A) (rest : List A) → first_undefined address_of (flat_map names (x ∷ rest)) ≡ option_or (first_undefined address_of (names x)) (first_undefined address_of (flat_map names rest))
   first_of_rest x rest = find-append (λ x. is_none (address_of x)) (names x) (flat_map names rest)
 
-  pub defined_more : (xs : List A) (i : ℕ) (x : A) → i < length xs → x ≡ get_or xs i x → first_undefined address_of (flat_map names (take i xs)) ≡ None → first_undefined address_of (names x) ≡ None → first_undefined address_of (flat_map names (take (i + 1) xs)) ≡ None
-  defined_more xs i x lt is before here =
-      ap (λ ys. first_undefined address_of (flat_map names ys)) (take_more xs i x lt ∙ ap (λ y. take i xs ++ y ∷ []) (sym is))
-      ∙ first_of_two (take i xs) (x ∷ [])
+  -- one part more
+  pub defined_behind : (xs : List A) (x : A) → first_undefined address_of (flat_map names xs) ≡ None
+      → first_undefined address_of (names x) ≡ None
+      → first_undefined address_of (flat_map names (xs ++ x ∷ [])) ≡ None
+  defined_behind xs x before here =
+      first_of_two xs (x ∷ [])
       ∙ ap (λ o. option_or o (first_undefined address_of (flat_map names (x ∷ [])))) before
       ∙ first_of_rest x []
       ∙ ap (λ o. option_or o None) here
 
+  pub undefined_behind : (xs : List A) (x : A) (rest : List A) (f : LoadFault)
+      → first_undefined address_of (flat_map names xs) ≡ None → IsFault f (undefined_fault address_of (names x))
+      → IsFault f (undefined_fault address_of (flat_map names (xs ++ x ∷ rest)))
+  undefined_behind xs x rest f before here =
+      let whole : first_undefined address_of (flat_map names (xs ++ x ∷ rest)) ≡ option_or (first_undefined address_of (names x)) (first_undefined address_of (flat_map names rest)) =
+      first_of_two xs (x ∷ rest)
+      ∙ ap (λ o. option_or o (first_undefined address_of (flat_map names (x ∷ rest)))) before
+      ∙ first_of_rest x rest in
+      subst (λ o. IsFault f (option_map fault.Undefined o)) (sym whole) (fault_in_front f (first_undefined address_of (names x)) _ here)
+
+  pub defined_more : (xs : List A) (i : ℕ) (x : A) → i < length xs → x ≡ get_or xs i x → first_undefined address_of (flat_map names (take i xs)) ≡ None → first_undefined address_of (names x) ≡ None → first_undefined address_of (flat_map names (take (i + 1) xs)) ≡ None
+  defined_more xs i x lt is before here =
+      ap (λ ys. first_undefined address_of (flat_map names ys)) (take_more xs i x lt ∙ ap (λ y. take i xs ++ y ∷ []) (sym is))
+      ∙ defined_behind (take i xs) x before here
+
   pub undefined_at : (xs : List A) (i : ℕ) (x : A) (f : LoadFault) → i < length xs → x ≡ get_or xs i x → first_undefined address_of (flat_map names (take i xs)) ≡ None → IsFault f (undefined_fault address_of (names x)) → IsFault f (undefined_fault address_of (flat_map names xs))
   undefined_at xs i x f lt is before here =
-      let whole : first_undefined address_of (flat_map names xs) ≡ option_or (first_undefined address_of (names x)) (first_undefined address_of (flat_map names (drop (suc i) xs))) =
-      ap (λ ys. first_undefined address_of (flat_map names ys)) (split_at xs i x lt ∙ ap (λ y. take i xs ++ y ∷ drop (suc i) xs) (sym is))
-      ∙ first_of_two (take i xs) (x ∷ drop (suc i) xs)
-      ∙ ap (λ o. option_or o (first_undefined address_of (flat_map names (x ∷ drop (suc i) xs)))) before
-      ∙ first_of_rest x (drop (suc i) xs) in
-      subst (λ o. IsFault f (option_map fault.Undefined o)) (sym whole) (fault_in_front f (first_undefined address_of (names x)) _ here)
+      let split : xs ≡ take i xs ++ x ∷ drop (suc i) xs = split_at xs i x lt ∙ ap (λ y. take i xs ++ y ∷ drop (suc i) xs) (sym is) in
+      subst (λ ys. IsFault f (undefined_fault address_of (flat_map names ys))) (sym split) (undefined_behind (take i xs) x (drop (suc i) xs) f before here)

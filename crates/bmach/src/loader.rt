@@ -33,8 +33,9 @@ pub fn load(alloc: Global, definitions: Vec<Definition>) -> Result<Image, LoadFa
     if !fits(list) {
         return Err(LoadFault::TooLarge);
     }
-    let part = load_all(alloc, &addresses, list)?;
-    match main_of(list) {
+    let main = main_of(list);
+    let part = load_all(alloc, &addresses, definitions)?;
+    match main {
         None => Err(LoadFault::NoMain),
         Some(main) => Ok(Image {
             functions: part.functions,
@@ -61,17 +62,17 @@ fn fits(definitions: &[Definition]) -> bool
     true
 }
 
-/// The words up to the data end, and the functions.
+/// The words up to the data end, and the functions. Each definition goes as soon as it is loaded.
 fn load_all(
     alloc: Global,
     addresses: &Addresses,
-    definitions: &[Definition],
+    definitions: Vec<Definition>,
 ) -> Result<Part, LoadFault>
-    requires { IsTrue (fits (map shape_of definitions.now)) }
+    requires { IsTrue (fits (map shape_of definitions.items)) }
     ensures { MatchResult result
-        (λ part. (part_of part ≡ fold (with_definition (known_in addresses.now)) first_part definitions.now)
-        × (first_undefined (known_in addresses.now) (flat_map names_in definitions.now) ≡ None))
-        (λ f. IsFault f (undefined_fault (known_in addresses.now) (flat_map names_in definitions.now))) }
+        (λ part. (part_of part ≡ fold (with_definition (known_in addresses.now)) first_part definitions.items)
+        × (first_undefined (known_in addresses.now) (flat_map names_in definitions.items) ≡ None))
+        (λ f. IsFault f (undefined_fault (known_in addresses.now) (flat_map names_in definitions.items))) }
 {
     let mut part = Part {
         words: Vec::from_slice(alloc, &FIRST_WORDS)?,

@@ -1,9 +1,9 @@
 use Rattle.std.proofs.Common.{◌≡◌, ℕ, List, length, map, true, false, Option, sym, ap, ◌∙◌, subst, arith}
-use Rattle.std.specs.Prelude.{flat_map}
+use Rattle.std.specs.Prelude.{flat_map, fold}
 use Rattle.std.proofs.lemmas.Result.{err_from_is_err_and}
 use Rattle.bcode.specs.declared.definition.Definition.{Definition}
 use Rattle.bmach.specs.Layout.{shape_of, addresses, address_in, names_in, load_fault, data_end, first_undefined}
-use Rattle.bmach.specs.Loading.{Part, IsFault, fits, known_in, undefined_fault}
+use Rattle.bmach.specs.Loading.{Part, IsFault, first_part, fits, known_in, undefined_fault, with_definition}
 use Rattle.bmach.specs.Images.{image_in}
 use Rattle.bmach.specs.Parts.{part_of}
 use Rattle.bmach.specs.Resolved.{IsLoadedFrom}
@@ -32,7 +32,9 @@ returns-in_err-part-clause-err c =
     let same : known ≡ address_in (addresses (map shape_of ds)) = λ i x. c.in_ok-addresses.ensures.1 (bounds_if_fits (map shape_of ds) fit).0 x i in
     let p = err_from_is_err_and c.from_residual-in_err-part.result c.from_residual-in_err-part.ensures.1 in
     let faulty : List Definition → Type 0 = λ es. IsFault c.in_err-part.field-0.0 (load_fault es) in
-    rw (p.1, p.2) (subst faulty c.as_slice-list.ensures.value (undefined_next ds c.in_ok-addresses.ensures.0 fit c.in_err-part.field-0.0 (subst (λ (a : List ℕ → Option ℕ). IsFault c.in_err-part.field-0.0 (undefined_fault a (flat_map names_in ds))) same c.in_err-part.ensures)))
+    let undefined : (List ℕ → Option ℕ) → List Definition → Type 0 = λ a es. IsFault c.in_err-part.field-0.0 (undefined_fault a (flat_map names_in es)) in
+    let here : undefined known ds = subst (λ es. undefined known es) (sym c.as_slice-list.ensures.value) c.in_err-part.ensures in
+    rw (p.1, p.2) (subst faulty c.as_slice-list.ensures.value (undefined_next ds c.in_ok-addresses.ensures.0 fit c.in_err-part.field-0.0 (subst (λ a. undefined a ds) same here)))
 
 pub returns-in-None-clause-err : goal.returns-in-None-clause-err
 returns-in-None-clause-err c =
@@ -40,33 +42,37 @@ returns-in-None-clause-err c =
     let fit : fits (map shape_of ds) ≡ true = sym c.fits.ensures ∙ c.if-not-fits.false in
     let known = known_in c.in_ok-addresses.addresses in
     let same : known ≡ address_in (addresses (map shape_of ds)) = λ i x. c.in_ok-addresses.ensures.1 (bounds_if_fits (map shape_of ds) fit).0 x i in
-    let defined = ap (λ a. first_undefined a (flat_map names_in ds)) (sym same) ∙ c.in_ok-part.ensures.1 in
-    let missing = no_main ds 0 (sym c.main_of.ensures ∙ c.in-None.is) in
+    let defined = ap (λ a. first_undefined a (flat_map names_in ds)) (sym same)
+    ∙ (ap (λ es. first_undefined known (flat_map names_in es)) c.as_slice-list.ensures.value ∙ c.in_ok-part.ensures.1) in
+    let missing = no_main ds 0 (sym c.main_of-main.ensures ∙ c.in-None.is) in
     ap load_fault (sym c.as_slice-list.ensures.value) ∙ main_last ds c.in_ok-addresses.ensures.0 fit false missing defined
 
 pub invariant_of-result : goal.invariant_of-result
 invariant_of-result c =
     let ds = c.as_slice-list.result.now in
+    let made : part_of c.in_ok-part.part ≡ fold (with_definition (known_in c.in_ok-addresses.addresses)) first_part ds = c.in_ok-part.ensures.0 ∙ ap (fold (with_definition (known_in c.in_ok-addresses.addresses)) first_part) (sym c.as_slice-list.ensures.value) in
     let fit : fits (map shape_of ds) ≡ true = sym c.fits.ensures ∙ c.if-not-fits.false in
     let known = known_in c.in_ok-addresses.addresses in
     let long : length c.in_ok-part.part.words.items ≡ data_end (map shape_of ds) =
-    ap (λ (p : Part). length p.words) (c.in_ok-part.ensures.0 ∙ loaded_all known ds) ∙ length-words known ds in
+    ap (λ (p : Part). length p.words) (made ∙ loaded_all known ds) ∙ length-words known ds in
     omega (arith, long, (bounds_if_fits (map shape_of ds) fit).0)
 
-pub returns-clause-ok : goal.returns-clause-ok
-returns-clause-ok c =
+pub returns-in-Some-clause-ok : goal.returns-in-Some-clause-ok
+returns-in-Some-clause-ok c =
     let ds = c.as_slice-list.result.now in
     let fit : fits (map shape_of ds) ≡ true = sym c.fits.ensures ∙ c.if-not-fits.false in
     let known = known_in c.in_ok-addresses.addresses in
     let loaded : List Definition → Type 0 = λ es. IsLoadedFrom es (image_in (record { functions = c.in_ok-part.part.functions; main = c.in-Some.main; words = c.in_ok-part.part.words; addresses = c.in_ok-addresses.addresses })) in
-    subst loaded c.as_slice-list.ensures.value (is_loaded ds c.in_ok-addresses.addresses (part_of c.in_ok-part.part) c.in-Some.main (c.in_ok-addresses.ensures.1 (bounds_if_fits (map shape_of ds) fit).0) (c.in_ok-part.ensures.0 ∙ loaded_all known ds) (sym c.main_of.ensures ∙ c.in-Some.is))
+    let made = c.in_ok-part.ensures.0 ∙ ap (fold (with_definition known) first_part) (sym c.as_slice-list.ensures.value) in
+    subst loaded c.as_slice-list.ensures.value (is_loaded ds c.in_ok-addresses.addresses (part_of c.in_ok-part.part) c.in-Some.main (c.in_ok-addresses.ensures.1 (bounds_if_fits (map shape_of ds) fit).0) (made ∙ loaded_all known ds) (sym c.main_of-main.ensures ∙ c.in-Some.is))
 
-pub returns-clause-loads : goal.returns-clause-loads
-returns-clause-loads c =
+pub returns-in-Some-clause-loads : goal.returns-in-Some-clause-loads
+returns-in-Some-clause-loads c =
     let ds = c.as_slice-list.result.now in
     let fit : fits (map shape_of ds) ≡ true = sym c.fits.ensures ∙ c.if-not-fits.false in
     let known = known_in c.in_ok-addresses.addresses in
     let same : known ≡ address_in (addresses (map shape_of ds)) = λ i x. c.in_ok-addresses.ensures.1 (bounds_if_fits (map shape_of ds) fit).0 x i in
-    let defined = ap (λ a. first_undefined a (flat_map names_in ds)) (sym same) ∙ c.in_ok-part.ensures.1 in
-    let there = some_main ds 0 c.in-Some.main (sym c.main_of.ensures ∙ c.in-Some.is) in
+    let defined = ap (λ a. first_undefined a (flat_map names_in ds)) (sym same)
+    ∙ (ap (λ es. first_undefined known (flat_map names_in es)) c.as_slice-list.ensures.value ∙ c.in_ok-part.ensures.1) in
+    let there = some_main ds 0 c.in-Some.main (sym c.main_of-main.ensures ∙ c.in-Some.is) in
     ap load_fault (sym c.as_slice-list.ensures.value) ∙ main_last ds c.in_ok-addresses.ensures.0 fit true there defined
