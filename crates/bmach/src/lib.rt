@@ -4,6 +4,7 @@
 mod act;
 mod address_table;
 mod addresses;
+mod advance;
 mod calls;
 mod exchange;
 mod fault;
@@ -18,6 +19,7 @@ mod operation;
 mod outcome;
 mod part;
 mod parts;
+mod quick;
 mod resolve;
 mod runs;
 mod step;

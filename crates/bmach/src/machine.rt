@@ -73,10 +73,28 @@ pub enum Pace {
 #[derive(Drop)]
 pub struct Pause<'a> {
     pub call: Call<'a>,
-    /// What came of the last step.
-    pub pace: Pace,
     /// How many steps are left.
     pub left: u64,
+}
+
+/// What came of a call or a return that was tried.
+#[derive(Clone, Copy, Debug, PartialEq, Eq)]
+pub enum Tried {
+    Made,
+    /// It is left to do, and nothing has changed.
+    IsLeft,
+    /// The store was refused memory.
+    IsRefused,
+}
+
+/// Where the steps of all calls have come.
+#[derive(Drop)]
+pub struct Rest<'a> {
+    pub calls: Calls<'a>,
+    /// How many steps are left.
+    pub left: u64,
+    /// Whether the store was refused memory in the next one.
+    pub is_refused: bool,
 }
 
 /// What came of a call or a return.

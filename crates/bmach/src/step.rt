@@ -1,10 +1,10 @@
 //! Operations that look at one call alone.
 ghost use Rattle.std.specs.Prelude.{◌≡◌, ℕ, ◌+◌, ◌^◌, ◌<◌, ◌∷◌, List, IfOk, OnOk, slice_set};
+ghost use Rattle.bcode.specs.declared.instr.Instr.TheVariants as instr;
 ghost use Rattle.bmach.specs.Machine as machine;
 ghost use Rattle.bmach.specs.Machine.{Running, at_place, label_target, left_word, stored_word};
 ghost use Rattle.bmach.specs.Steps.{Acts, Paced, call_of};
 ghost use Rattle.bmach.specs.World.{World};
-ghost use Rattle.bmach.specs.declared.operation.Operation.TheVariants as operation;
 
 use crate::Trap;
 use crate::machine::{Call, Pace};
@@ -34,7 +34,7 @@ pub fn put<'a>(call: &mut Call<'a>, word: u16) -> Pace
 #[inline(always)]
 pub fn load<'a, S: Store>(call: &mut Call<'a>, store: &S) -> Pace
     requires { call.old.place + 1 < 2 ^ 64 }
-    ensures acts { Acts operation.Load call.old (S.words store.now) result call.new (S.words store.now) }
+    ensures acts { Acts instr.Load call.old (S.words store.now) result call.new (S.words store.now) }
     ensures function { call.new.function.now ≡ call.old.function.now }
     ensures below { call.new.operands.below ≡ call.old.operands.below }
 {
@@ -48,7 +48,7 @@ pub fn load<'a, S: Store>(call: &mut Call<'a>, store: &S) -> Pace
 #[inline(always)]
 pub fn store<'a, S: Store>(call: &mut Call<'a>, store: &mut S) -> Pace
     requires { call.old.place + 1 < 2 ^ 64 }
-    ensures acts { Acts operation.Store call.old (S.words store.old) result call.new (S.words store.new) }
+    ensures acts { Acts instr.Store call.old (S.words store.old) result call.new (S.words store.new) }
     ensures function { call.new.function.now ≡ call.old.function.now }
     ensures below { call.new.operands.below ≡ call.old.operands.below }
 {
@@ -77,7 +77,7 @@ pub fn set<S: Store>(store: &mut S, address: u16, word: u16) -> Result<(), Alloc
 #[inline(always)]
 pub fn negate_word<'a>(call: &mut Call<'a>) -> Pace
     requires { call.old.place + 1 < 2 ^ 64 }
-    ensures acts { (words : List ℕ) → Acts operation.Negate call.old words result call.new words }
+    ensures acts { (words : List ℕ) → Acts instr.Negate call.old words result call.new words }
     ensures function { call.new.function.now ≡ call.old.function.now }
     ensures below { call.new.operands.below ≡ call.old.operands.below }
 {
@@ -90,7 +90,7 @@ pub fn negate_word<'a>(call: &mut Call<'a>) -> Pace
 #[inline(always)]
 pub fn not_word<'a>(call: &mut Call<'a>) -> Pace
     requires { call.old.place + 1 < 2 ^ 64 }
-    ensures acts { (words : List ℕ) → Acts operation.Not call.old words result call.new words }
+    ensures acts { (words : List ℕ) → Acts instr.Not call.old words result call.new words }
     ensures function { call.new.function.now ≡ call.old.function.now }
     ensures below { call.new.operands.below ≡ call.old.operands.below }
 {
@@ -103,7 +103,7 @@ pub fn not_word<'a>(call: &mut Call<'a>) -> Pace
 #[inline(always)]
 pub fn operate<'a>(call: &mut Call<'a>, operator: BinOp) -> Pace
     requires { call.old.place + 1 < 2 ^ 64 }
-    ensures acts { (words : List ℕ) → Acts (operation.Binary operator) call.old words result call.new words }
+    ensures acts { (words : List ℕ) → Acts (instr.Binary operator) call.old words result call.new words }
     ensures function { call.new.function.now ≡ call.old.function.now }
     ensures below { call.new.operands.below ≡ call.old.operands.below }
 {
@@ -122,7 +122,7 @@ pub fn operate<'a>(call: &mut Call<'a>, operator: BinOp) -> Pace
 #[inline(always)]
 pub fn modify<'a, S: Store>(call: &mut Call<'a>, store: &mut S, operator: BinOp) -> Pace
     requires { call.old.place + 1 < 2 ^ 64 }
-    ensures acts { Acts (operation.Modify operator) call.old (S.words store.old) result call.new (S.words store.new) }
+    ensures acts { Acts (instr.Modify operator) call.old (S.words store.old) result call.new (S.words store.new) }
     ensures function { call.new.function.now ≡ call.old.function.now }
     ensures below { call.new.operands.below ≡ call.old.operands.below }
 {
@@ -143,7 +143,7 @@ pub fn modify<'a, S: Store>(call: &mut Call<'a>, store: &mut S, operator: BinOp)
 
 /// The word that an increment or decrement stores.
 #[inline(always)]
-fn counted(which: Increment, word: u16) -> u16
+pub fn counted(which: Increment, word: u16) -> u16
     ensures { result ≡ stored_word which word }
 {
     match which {
@@ -154,7 +154,7 @@ fn counted(which: Increment, word: u16) -> u16
 
 /// The word that it leaves.
 #[inline(always)]
-fn left(which: Increment, word: u16) -> u16
+pub fn left(which: Increment, word: u16) -> u16
     ensures { result ≡ left_word which word }
 {
     match which {
@@ -166,7 +166,7 @@ fn left(which: Increment, word: u16) -> u16
 #[inline(always)]
 pub fn count<'a, S: Store>(call: &mut Call<'a>, store: &mut S, which: Increment) -> Pace
     requires { call.old.place + 1 < 2 ^ 64 }
-    ensures acts { Acts (operation.Increment which) call.old (S.words store.old) result call.new (S.words store.new) }
+    ensures acts { Acts (instr.Increment which) call.old (S.words store.old) result call.new (S.words store.new) }
     ensures function { call.new.function.now ≡ call.old.function.now }
     ensures below { call.new.operands.below ≡ call.old.operands.below }
 {
@@ -184,7 +184,7 @@ pub fn count<'a, S: Store>(call: &mut Call<'a>, store: &mut S, which: Increment)
 
 #[inline(always)]
 pub fn jump<'a>(call: &mut Call<'a>, target: u16) -> Pace
-    ensures acts { (words : List ℕ) → Acts (operation.Jump target) call.old words result call.new words }
+    ensures acts { (words : List ℕ) → Acts (instr.Jump target) call.old words result call.new words }
     ensures function { call.new.function.now ≡ call.old.function.now }
     ensures below { call.new.operands.below ≡ call.old.operands.below }
 {
@@ -195,7 +195,7 @@ pub fn jump<'a>(call: &mut Call<'a>, target: u16) -> Pace
 #[inline(always)]
 pub fn jump_if_zero<'a>(call: &mut Call<'a>, target: u16) -> Pace
     requires { call.old.place + 1 < 2 ^ 64 }
-    ensures acts { (words : List ℕ) → Acts (operation.JumpIfZero target) call.old words result call.new words }
+    ensures acts { (words : List ℕ) → Acts (instr.JumpIfZero target) call.old words result call.new words }
     ensures function { call.new.function.now ≡ call.old.function.now }
     ensures below { call.new.operands.below ≡ call.old.operands.below }
 {
@@ -214,7 +214,7 @@ pub fn jump_if_zero<'a>(call: &mut Call<'a>, target: u16) -> Pace
 
 #[inline(always)]
 pub fn go_to_label<'a>(call: &mut Call<'a>) -> Pace
-    ensures acts { (words : List ℕ) → Acts operation.Goto call.old words result call.new words }
+    ensures acts { (words : List ℕ) → Acts instr.Goto call.old words result call.new words }
     ensures function { call.new.function.now ≡ call.old.function.now }
     ensures below { call.new.operands.below ≡ call.old.operands.below }
 {
@@ -232,7 +232,7 @@ pub fn go_to_label<'a>(call: &mut Call<'a>) -> Pace
 
 /// The target of a label's value, if it is one of the function.
 #[inline(always)]
-fn target_of<'a>(call: &Call<'a>, value: u16) -> Option<u16>
+pub fn target_of<'a>(call: &Call<'a>, value: u16) -> Option<u16>
     ensures { result ≡ label_target call.now.function.now.first_label call.now.function.now.targets.items value }
 {
     let first = call.function.first_label;
@@ -248,7 +248,7 @@ fn target_of<'a>(call: &Call<'a>, value: u16) -> Option<u16>
 #[inline(always)]
 pub fn jump_if_case<'a>(call: &mut Call<'a>, value: u16, target: u16) -> Pace
     requires { call.old.place + 1 < 2 ^ 64 }
-    ensures acts { (words : List ℕ) → Acts (operation.JumpIfCase value target) call.old words result call.new words }
+    ensures acts { (words : List ℕ) → Acts (instr.JumpIfCase value target) call.old words result call.new words }
     ensures function { call.new.function.now ≡ call.old.function.now }
     ensures below { call.new.operands.below ≡ call.old.operands.below }
 {
@@ -268,7 +268,7 @@ pub fn jump_if_case<'a>(call: &mut Call<'a>, value: u16, target: u16) -> Pace
 #[inline(always)]
 pub fn pop<'a>(call: &mut Call<'a>) -> Pace
     requires { call.old.place + 1 < 2 ^ 64 }
-    ensures acts { (words : List ℕ) → Acts operation.Pop call.old words result call.new words }
+    ensures acts { (words : List ℕ) → Acts instr.Pop call.old words result call.new words }
     ensures function { call.new.function.now ≡ call.old.function.now }
     ensures below { call.new.operands.below ≡ call.old.operands.below }
 {
@@ -285,7 +285,7 @@ pub fn pop<'a>(call: &mut Call<'a>) -> Pace
 #[inline(always)]
 pub fn begin_call<'a>(call: &mut Call<'a>, count: u16) -> Pace
     requires { call.old.place + 1 < 2 ^ 64 }
-    ensures acts { (words : List ℕ) → Acts (operation.Call count) call.old words result call.new words }
+    ensures acts { (words : List ℕ) → Acts (instr.Call count) call.old words result call.new words }
     ensures function { call.new.function.now ≡ call.old.function.now }
     ensures below { call.new.operands.below ≡ call.old.operands.below }
 {
