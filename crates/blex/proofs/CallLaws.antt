@@ -1,5 +1,5 @@
 -- Calls of a lexer give the first tokens of its source.
-use Rattle.std.proofs.Common.{◌≡◌, ℕ, zero, suc, ◌≤◌, Bool, true, false, List, [], ◌∷◌, ◌++◌, length, Option, Some, None, Ok, refl, sym, ap, ◌∙◌, arith, append_assoc, append-nil, subst, ◌⊎◌, inl, inr, ⊎_elim}
+use Rattle.std.proofs.Common.{◌≡◌, ℕ, suc, Bool, true, false, List, [], ◌∷◌, ◌++◌, length, Option, Some, None, Ok, refl, sym, ap, ◌∙◌, arith, append_assoc, append-nil, subst, ◌⊎◌, inl, inr, ⊎_elim}
 use Rattle.std.specs.Io.KnownBytes.{Consumes}
 use Rattle.bword.specs.ByteEnds.{Incoming, Took, CanFollow}
 use Rattle.blex.specs.declared.token.Last.{Last}
@@ -11,8 +11,8 @@ use Rattle.blex.specs.declared.lexer.Progress.TheVariants as progress
 use Rattle.blex.specs.Tokens.{tokens_from, token_first, token_of, last_of, placed, line_after}
 use Rattle.blex.specs.Sources.{Passes, CanCome}
 use Rattle.blex.specs.Lexing.{PassesToken}
-use Rattle.blex.specs.Lexers.{Lexer, GivesAt, OpenGives, new, progress_behind}
-use Rattle.blex.specs.Calls.{Calls, first, once, Spells, GaveFirst, CallsGiveFirst}
+use Rattle.blex.specs.Lexers.{Lexer, GivesAt, new, progress_behind}
+use Rattle.blex.specs.Calls.{Calls, first, once, Spells, CallsGiveFirst}
 use Rattle.blex.proofs.Passing.{Passes-refl, Passes-append, CanCome-behind}
 
 first_cons : (t : Placed) (ps ts : List Placed) → first (length ps) ts ≡ ps → first (suc (length ps)) (t ∷ ts) ≡ t ∷ ps

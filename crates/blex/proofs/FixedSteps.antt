@@ -1,5 +1,5 @@
 -- Tokens of fixed text, the longest first.
-use Rattle.std.proofs.Common.{◌≡◌, ℕ, zero, suc, ◌+◌, List, [], ◌∷◌, ◌++◌, length, take, drop, Option, Some, None, refl, sym, ap, ◌∙◌, arith, append-nil}
+use Rattle.std.proofs.Common.{subst, ◌≡◌, ℕ, zero, suc, ◌+◌, List, [], ◌∷◌, ◌++◌, length, take, drop, Option, Some, None, refl, sym, ap, ◌∙◌, arith, append-nil}
 use Rattle.std.proofs.Math.Seq.{take-append-add, take-append_seam}
 use Rattle.std.specs.Prelude.{option_to_list}
 use Rattle.blex.specs.declared.token.Token.{Token}
@@ -7,8 +7,8 @@ use Rattle.blex.specs.declared.token.Token.TheVariants as token
 use Rattle.blex.specs.declared.token.Letters.TheVariants as letters
 use Rattle.blex.specs.Pieces.{Piece, Word, whole, alone, fixed_of, fixed_or_stray}
 use Rattle.blex.specs.Sources.{Source, Passes, Begins, BeginsTwo, CanCome}
-use Rattle.blex.specs.Lexing.{PassesPiece, BeginsFixed, Stops, fixed_of_two, fixed_of_three}
-use Rattle.blex.proofs.Passing.{Passes-append, CanCome-behind}
+use Rattle.blex.specs.Lexing.{PassesPiece, BeginsFixed, Stops, NoneOfThree, fixed_of_two, fixed_of_three}
+use Rattle.blex.proofs.Passing.{Passes-refl, Passes-append, CanCome-behind, CanCome-none, CanCome-some}
 use Rattle.blex.proofs.FixedTexts.{fixed_of-long}
 
 CanCome-ahead : (s : Source) → CanCome s s.ahead
@@ -102,3 +102,35 @@ alone_longer first second third s h three two c (d ∷ ds) m (suc n) =
 pub one_piece : {a mid : Source} (first : ℕ) (second third : Option ℕ) (t : Token) → BeginsFixed first a → Passes a [] mid × BeginsTwo second third mid
     → None ≡ fixed_of_three first second third → None ≡ fixed_of_two first second → fixed_or_stray (fixed_of (first ∷ [])) [] ≡ Some (Word t) → PassesPiece first a (Some t) mid
 one_piece {a} {mid} first second third t begins h three two e = fixed_piece first t begins h.0 e (alone_longer first second third mid h.1 three two)
+
+-- with no look at the bytes behind
+pub alone_piece : {a : Source} (first : ℕ) (t : Token) → BeginsFixed first a → fixed_of (first ∷ []) ≡ Some t → ((c : ℕ) (cs : List ℕ) → fixed_of (first ∷ c ∷ cs) ≡ None)
+    → PassesPiece first a (Some t) a
+alone_piece {a} first t begins is longer =
+    fixed_piece first t begins (Passes-refl a) (ap (λ o. fixed_or_stray o []) is) (λ c cs m n. longer c (take n cs))
+
+-- with a look at one byte
+pub two_seen : {a mid one : Source} (first : ℕ) (second : Option ℕ) (t : Token) → BeginsFixed first a → Passes a [] mid × Begins second mid
+    → ((x : ℕ) → Begins (Some x) mid → Passes mid (x ∷ []) one) → NoneOfThree first second → Some t ≡ fixed_of_two first second → PassesPiece first a (Some t) one
+two_seen {a} {mid} {one} first None t begins h skip three e = cc
+two_seen {a} {mid} {one} first (Some b) t begins h skip three e =
+    fixed_piece first t begins (Passes-append h.0 (skip b h.1)) (ap (λ o. fixed_or_stray o (b ∷ [])) (sym e))
+    (λ c cs m n. two_or_long first b c (take n cs) (three c))
+
+no_longer : (first : ℕ) (second : Option ℕ) (s : Source) → Begins second s → NoneOfThree first second → None ≡ fixed_of_two first second → IsNoLonger first [] s
+no_longer first None s h three two c cs m n = let none : c ∷ cs ≡ [] = CanCome-none s (c ∷ cs) h m in cc
+no_longer first (Some b) s h three two c [] m n =
+    let comes = CanCome-some s (c ∷ []) b h m in let same : b ≡ c = let e = comes.1 in cc in rw (take-nil n, ← same) (sym two)
+no_longer first (Some b) s h three two c (d ∷ ds) m zero =
+    let comes = CanCome-some s (c ∷ d ∷ ds) b h m in let same : b ≡ c = let e = comes.1 in cc in rw (← same) (sym two)
+no_longer first (Some b) s h three two c (d ∷ ds) m (suc n) =
+    let comes = CanCome-some s (c ∷ d ∷ ds) b h m in let same : b ≡ c = let e = comes.1 in cc in rw (← same) (two_or_long first b d (take n ds) (three d))
+
+pub one_seen : {a mid : Source} (first : ℕ) (second : Option ℕ) (t : Token) → BeginsFixed first a → Passes a [] mid × Begins second mid → NoneOfThree first second
+    → None ≡ fixed_of_two first second → fixed_or_stray (fixed_of (first ∷ [])) [] ≡ Some (Word t) → PassesPiece first a (Some t) mid
+one_seen {a} {mid} first second t begins h three two e = fixed_piece first t begins h.0 e (no_longer first second mid h.1 three two)
+
+pub begins_behind : {a b : Source} {first : ℕ} → Passes a [] b → BeginsFixed first a → BeginsFixed first b
+begins_behind {a} {b} {first} h k = record {
+  whole_is = λ xs m n. subst (λ e. whole e (first ∷ take n xs) ≡ fixed_or_stray (fixed_of (first ∷ take n xs)) (take n xs)) (sym h.edition) (k.whole_is xs (CanCome-behind h m) n);
+}

@@ -1,5 +1,5 @@
 -- No text of a table is longer than its longest row.
-use Rattle.std.proofs.Common.{◌≡◌, ℕ, ◌<◌, ◌≤◌, Bool, true, false, ◌&&◌, ◌==◌, List, [], ◌∷◌, length, Option, Some, None, refl, arith, if◌then◌else◌}
+use Rattle.std.proofs.Common.{◌≡◌, ℕ, ◌<◌, ◌≤◌, Bool, true, false, ◌&&◌, ◌||◌, ◌==◌, List, [], ◌∷◌, length, Option, Some, None, refl, ◌∙◌, arith, if◌then◌else◌}
 use Rattle.std.proofs.lemmas.Bool.Decides.{nat_tests}
 use Rattle.std.proofs.Math.Bool.{and-false}
 use Rattle.std.specs.Prelude.{nat_le}
@@ -10,6 +10,7 @@ use Rattle.bword.specs.Operators.{operators, operator_text}
 use Rattle.bword.specs.declared.operators.BinOp.{BinOp}
 use Rattle.bword.specs.declared.operators.BinOp.TheVariants as op
 use Rattle.blex.specs.declared.token.Token.{Token}
+use Rattle.blex.specs.Lexing.{NoneOfThree, begins_two}
 use Rattle.blex.specs.Pieces.{is_text, others, operator_of, assignment_of, other_of, fixed_of}
 
 is_text-longer : (xs ys : List ℕ) → length ys < length xs → is_text xs ys ≡ false
@@ -82,3 +83,30 @@ unfolding fixed_of
 fixed_of-long [] h = absurd (omega arith)
 fixed_of-long (b ∷ bs) h =
     rw (operator_of-long (b ∷ bs) (omega arith), operator_of-long bs (omega arith), other_of-long (b ∷ bs) (omega arith), if_none (b == 61)) refl
+
+-- an operator of two bytes begins with one of four
+two_begins : (a b : ℕ) → (a == 61) ≡ false → (a == 33) ≡ false → (a == 60) ≡ false → (a == 62) ≡ false → operator_of (a ∷ b ∷ []) ≡ None
+unfolding operator_of
+two_begins a b e f g h = simp (e, f, g, h, and-false)
+
+no_assignment : (a b c : ℕ) → (a == 61) ≡ false → fixed_of (a ∷ b ∷ c ∷ []) ≡ None
+no_assignment a b c e = fixed_of-three a b c ∙ rw e refl
+
+no_long_assignment : (a b c : ℕ) → (b == 61) ≡ false → (b == 33) ≡ false → (b == 60) ≡ false → (b == 62) ≡ false → fixed_of (a ∷ b ∷ c ∷ []) ≡ None
+no_long_assignment a b c e f g h = fixed_of-three a b c ∙ rw (two_begins b c e f g h) (if_none (a == 61))
+
+-- only an assignment has three bytes
+pub none_unless_assignment : (first : ℕ) (second : Option ℕ) → (first == 61) ≡ false → NoneOfThree first second
+none_unless_assignment first None e = tt
+none_unless_assignment first (Some b) e = λ c. no_assignment first b c e
+
+or-false_both : (a b : Bool) → (a || b) ≡ false → (a ≡ false) × (b ≡ false)
+or-false_both true b e = cc
+or-false_both false b e = (refl, e)
+
+pub none_unless_two : (first b : ℕ) → begins_two b ≡ false → NoneOfThree first (Some b)
+none_unless_two first b e =
+    let p = or-false_both (b == 61) _ e in
+    let q = or-false_both (b == 33) _ p.1 in
+    let r = or-false_both (b == 60) _ q.1 in
+    λ c. no_long_assignment first b c p.0 q.0 r.0 r.1

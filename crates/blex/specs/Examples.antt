@@ -4,14 +4,12 @@ use Rattle.std.specs.List.{range_with_len}
 use Rattle.bword.specs.ByteEnds.{most}
 use Rattle.bword.specs.declared.edition.Edition.{Edition}
 use Rattle.bword.specs.declared.edition.Edition.TheVariants as editions
-use Rattle.bword.specs.declared.operators.BinOp.{BinOp}
 use Rattle.bword.specs.declared.operators.BinOp.TheVariants as op
 use Rattle.blex.specs.declared.token.Token.{Token}
 use Rattle.blex.specs.declared.token.Token.TheVariants as token
 use Rattle.blex.specs.declared.token.Keyword.TheVariants as keyword
 use Rattle.blex.specs.declared.token.Letters.TheVariants as letters
-use Rattle.blex.specs.declared.token.Placed.{Placed}
-use Rattle.blex.specs.Pieces.{Space, Word, whole, is_blank, word_of, keyword_of, number_in, with_byte, plain_of, escape_of, operator_of, other_of, fixed_of, string_token}
+use Rattle.blex.specs.Pieces.{Word, whole, is_blank, word_of, keyword_of, number_in, with_byte, plain_of, escape_of, operator_of, other_of, fixed_of, string_token}
 use Rattle.blex.specs.Tokens.{tokens_from, placed, cut, longest, greatest}
 
 abbrev tokens_in : Edition → List ℕ → List Token

@@ -1,9 +1,9 @@
 //! Tokens whose text is always the same.
-ghost use Rattle.std.specs.Prelude.{◌≡◌, [], ◌∷◌, IfOk, OnErr};
-ghost use Rattle.blex.specs.Pieces.{operator_of, other_of, fixed_of};
+ghost use Rattle.std.specs.Prelude.{ℕ, List, ◌≡◌, [], ◌∷◌, false, Some, IfOk, IfSome, OnErr};
+ghost use Rattle.blex.specs.Pieces.{Word, operator_of, other_of, fixed_of, fixed_or_stray};
 ghost use Rattle.blex.specs.Sources.{Breaks};
-ghost use Rattle.blex.specs.Lexing.{PassesLexeme, BeginsFixed, fixed_of_two, fixed_of_three};
-ghost use Rattle.blex.specs.Lexemes.{MayStandFor};
+ghost use Rattle.blex.specs.Lexing.{PassesLexeme, BeginsFixed, IsAlone, NoneOfThree, begins_two, fixed_of_two, fixed_of_three};
+ghost use Rattle.blex.specs.Lexemes.{MayStandFor, token_of_lexeme};
 
 use crate::lexeme::Lexeme;
 use crate::source::Source;
@@ -12,6 +12,76 @@ use bword::{BinOp, ByteIn, Device};
 
 /// The rest of the operator or the punctuation that begins with this byte, or none of it where nothing fits.
 pub(crate) fn operator<I: ByteIn>(source: &mut Source<I>, first: u8) -> Result<Lexeme, Device>
+    requires { BeginsFixed first source.old }
+    ensures ok { IfOk result (λ lexeme. PassesLexeme first source.old lexeme source.new) }
+    ensures err { OnErr result (Breaks source.old source.new) }
+{
+    match alone(first) {
+        Some(lexeme) => Ok(lexeme),
+        None => longest(source, first),
+    }
+}
+
+// The token of this byte, if no longer one begins with it.
+#[tactic(auto, unfolding(crate::specs::Pieces::operator_of, crate::specs::Pieces::other_of, crate::specs::Pieces::fixed_of))]
+fn alone(byte: u8) -> Option<Lexeme>
+    ensures { IfSome result (IsAlone byte) }
+{
+    match byte {
+        b'|' => Some(Lexeme::Operator(BinOp::Or)),
+        b'&' => Some(Lexeme::Operator(BinOp::And)),
+        b'%' => Some(Lexeme::Operator(BinOp::Rem)),
+        b'*' => Some(Lexeme::Operator(BinOp::Mul)),
+        b'/' => Some(Lexeme::Operator(BinOp::Div)),
+        b'?' => Some(Lexeme::Question),
+        b':' => Some(Lexeme::Colon),
+        b',' => Some(Lexeme::Comma),
+        b';' => Some(Lexeme::Semicolon),
+        b'(' => Some(Lexeme::OpenParen),
+        b')' => Some(Lexeme::CloseParen),
+        b'[' => Some(Lexeme::OpenBracket),
+        b']' => Some(Lexeme::CloseBracket),
+        b'{' => Some(Lexeme::OpenBrace),
+        b'}' => Some(Lexeme::CloseBrace),
+        _ => None,
+    }
+}
+
+// The longest of them that is there, with a look at as many bytes as it can have.
+fn longest<I: ByteIn>(source: &mut Source<I>, first: u8) -> Result<Lexeme, Device>
+    requires { BeginsFixed first source.old }
+    ensures ok { IfOk result (λ lexeme. PassesLexeme first source.old lexeme source.new) }
+    ensures err { OnErr result (Breaks source.old source.new) }
+{
+    let second = source.peek()?;
+    if can_be_three(first, second) {
+        return Ok(longest_of_three(source, first)?);
+    }
+    if let Some(lexeme) = fixed_of_two(first, second) {
+        source.skip();
+        return Ok(lexeme);
+    }
+    Ok(one_or_stray(first))
+}
+
+// Whether a token of three bytes can begin with these two.
+fn can_be_three(first: u8, second: Option<u8>) -> bool
+    ensures { result ≡ false → NoneOfThree first second }
+{
+    let Some(second) = second else {
+        return false;
+    };
+    first == b'=' && begins_two(second)
+}
+
+// Whether an operator of two bytes begins with this one.
+fn begins_two(byte: u8) -> bool
+    ensures { result ≡ begins_two byte }
+{
+    byte == b'=' || byte == b'!' || byte == b'<' || byte == b'>'
+}
+
+fn longest_of_three<I: ByteIn>(source: &mut Source<I>, first: u8) -> Result<Lexeme, Device>
     requires { BeginsFixed first source.old }
     ensures ok { IfOk result (λ lexeme. PassesLexeme first source.old lexeme source.new) }
     ensures err { OnErr result (Breaks source.old source.new) }
@@ -26,9 +96,16 @@ pub(crate) fn operator<I: ByteIn>(source: &mut Source<I>, first: u8) -> Result<L
         source.skip();
         return Ok(lexeme);
     }
+    Ok(one_or_stray(first))
+}
+
+// The token of this one byte, or none that fits.
+fn one_or_stray(first: u8) -> Lexeme
+    ensures { (characters : List ℕ) → fixed_or_stray (fixed_of (first ∷ [])) [] ≡ Some (Word (token_of_lexeme result characters)) }
+{
     match fixed_of_one(first) {
-        Some(lexeme) => Ok(lexeme),
-        None => Ok(Lexeme::Bad(Letters::Character)),
+        Some(lexeme) => lexeme,
+        None => Lexeme::Bad(Letters::Character),
     }
 }
 
