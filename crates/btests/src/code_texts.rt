@@ -23,6 +23,36 @@ fn code_read_and_written(rt: HostRuntime) -> Result<(), Fail> {
     Ok(())
 }
 
+// The text of `f(a) { auto v 1, i; L: v[i] =+ a; switch a { case 2: goto L; } return(i); }`, of 29 lines.
+const WORKED: &str =
+    "F f 1 5 1 0 26\nt 4\na 1\na 2\nw\np\na 1\nv\na 4\nv\nb +\na 0\nv\nm +\np\na 0\nv\nj 19\n\
+    l 0\ng\nj 21\ne 2 16\np\na 4\nv\nr\nc 0\nr\nE\n";
+
+// A beginning that isn't the whole text is at fault in the line behind its last newline.
+#[test]
+fn beginnings_of_a_text(rt: HostRuntime) {
+    let text = WORKED.as_bytes();
+    let mut line = 1_u64;
+    for len in 0..text.len() {
+        let fault = read_code(rt.alloc(), &text[..len]).err();
+        assert_eq!(rt; fault, Some(CodeFault::Line(line)), "of {len} bytes");
+        line = line.saturating_add(u64::from(text[len] == b'\n'));
+    }
+    assert_eq!(rt; line, 30);
+}
+
+// Whatever byte stands behind the last line.
+#[test]
+fn a_byte_behind_a_text(rt: HostRuntime) -> Result<(), Fail> {
+    for byte in 0..=u8::MAX {
+        let mut text = Vec::from_slice(rt.alloc(), WORKED.as_bytes())?;
+        text.push(byte)?;
+        let fault = read_code(rt.alloc(), text.as_slice()).err();
+        assert_eq!(rt; fault, Some(CodeFault::Line(30)), "{byte}");
+    }
+    Ok(())
+}
+
 // With an allocation that fails there is no other fault than that.
 #[test]
 fn memory_alone_is_refused(rt: HostRuntime) {
