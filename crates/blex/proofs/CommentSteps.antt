@@ -86,7 +86,7 @@ plain_cases : (s : Bool) (b c : ℕ) (cs : List ℕ) → (b == 42) ≡ s → (if
 plain_cases true b c cs e = rw e refl
 plain_cases false b c cs e = rw e refl
 
-plain_step : (b : ℕ) (more : List ℕ) → after_close (b ∷ more) ≡ after_close (behind_star (b == 42) more)
+pub plain_step : (b : ℕ) (more : List ℕ) → after_close (b ∷ more) ≡ after_close (behind_star (b == 42) more)
 plain_step b [] = nothing (b == 42)
 plain_step b (c ∷ cs) = plain_cases (b == 42) b c cs refl
 
