@@ -76,15 +76,16 @@ impl Page {
         self.len = end;
     }
 
-    // The digits of a number, which are written where they are to stand.
-    fn push_digits(&mut self, n: u16)
-        requires { length self.old + 5 ≤ PAGE_LEN }
-        ensures digits { self.new ≡ self.old ++ decimal n }
-        ensures len { length self.new ≤ length self.old + 5 }
+    // The digits of a number, which are written where they are to stand, and a byte behind them.
+    fn push_digits(&mut self, n: u16, behind: u8)
+        requires { length self.old + 6 ≤ PAGE_LEN }
+        ensures digits { self.new ≡ self.old ++ decimal n ++ behind ∷ [] }
+        ensures len { length self.new ≤ length self.old + 6 }
     {
         let end = self.len + digits(n);
         write_digits(u64::from(n), &mut self.bytes, end);
-        self.len = end;
+        self.bytes[end] = behind;
+        self.len = end + 1;
     }
 }
 
@@ -132,16 +133,6 @@ fn push_name(page: &mut Page, name: Name)
     push_part(page, name.as_bytes());
 }
 
-fn push_number(page: &mut Page, n: u16)
-    requires { length page.old + 6 ≤ PAGE_LEN }
-    ensures items { page.new ≡ page.old ++ codes " " ++ decimal n }
-    ensures len { length page.new ≤ length page.old + 6 }
-{
-    page.push(b' ');
-    page.push_digits(n);
-}
-
-// A number that may be of any length.
 fn push_size(page: &mut Page, n: usize)
     requires { length page.old + 21 ≤ PAGE_LEN }
     ensures items { page.new ≡ page.old ++ codes " " ++ decimal n }
@@ -150,13 +141,12 @@ fn push_size(page: &mut Page, n: usize)
     push_part(page, Buffer::new().format(n).as_bytes());
 }
 
-/// A line of a letter alone.
-pub fn push_letter_line(page: &mut Page, letter: u8)
+// A line of a letter alone.
+fn push_letter_line(page: &mut Page, letter: u8)
     requires { length page.old + LINE_LEN ≤ PAGE_LEN }
     ensures { page.new ≡ page.old ++ line ((letter ∷ []) ∷ []) }
 {
-    page.push(letter);
-    page.push(b'\n');
+    page.push_bytes(&[letter, b'\n']);
 }
 
 /// A line of a letter and a number.
@@ -164,9 +154,8 @@ pub fn push_number_line(page: &mut Page, letter: u8, n: u16)
     requires { length page.old + LINE_LEN ≤ PAGE_LEN }
     ensures { page.new ≡ page.old ++ line ((letter ∷ []) ∷ decimal n ∷ []) }
 {
-    page.push(letter);
-    push_number(page, n);
-    page.push(b'\n');
+    page.push_bytes(&[letter, b' ']);
+    page.push_digits(n, b'\n');
 }
 
 fn push_name_line(page: &mut Page, letter: u8, name: Name)
@@ -182,9 +171,14 @@ fn push_operator_line(page: &mut Page, letter: u8, operator: BinOp)
     requires { length page.old + LINE_LEN ≤ PAGE_LEN }
     ensures { page.new ≡ page.old ++ line ((letter ∷ []) ∷ operator_text operator ∷ []) }
 {
-    page.push(letter);
-    push_part(page, operator_text(operator));
-    page.push(b'\n');
+    match operator_text(operator) {
+        [byte] => page.push_bytes(&[letter, b' ', *byte, b'\n']),
+        text => {
+            page.push(letter);
+            push_part(page, text);
+            page.push(b'\n');
+        }
+    }
 }
 
 fn operator_text(operator: BinOp) -> &'static [u8]
@@ -235,18 +229,17 @@ fn push_case_line(page: &mut Page, value: u16, target: u16)
     requires { length page.old + LINE_LEN ≤ PAGE_LEN }
     ensures { page.new ≡ page.old ++ line (codes "e" ∷ decimal value ∷ decimal target ∷ []) }
 {
-    page.push(b'e');
-    push_number(page, value);
-    push_number(page, target);
-    page.push(b'\n');
+    page.push_bytes(b"e ");
+    page.push_digits(value, b' ');
+    page.push_digits(target, b'\n');
 }
 
 /// The line of an instruction.
-pub fn push_instr_line(page: &mut Page, instr: Instr)
+pub fn push_instr_line(page: &mut Page, instr: &Instr)
     requires { length page.old + LINE_LEN ≤ PAGE_LEN }
-    ensures { page.new ≡ page.old ++ instr_line instr }
+    ensures { page.new ≡ page.old ++ instr_line instr.now }
 {
-    match instr {
+    match *instr {
         Instr::Constant(n) => push_number_line(page, b'c', n),
         Instr::External(name) => push_name_line(page, b'x', name),
         Instr::Automatic(word) => push_number_line(page, b'a', word),

@@ -79,26 +79,18 @@ word_is d0 d1 start given was e l h f = l ∙ ap (λ x. loads x d0) f ∙ ap (lo
 name_read : (room off : ℕ) (u : List Placed) (name : List ℕ) (line : ℕ) → first u ≡ token.Name name → line_of u ≡ line → primary (inner room) off u ≡ Got (Named (record { text = name; line = line })) (after u)
 name_read room off u name line h n = rw h (ap (λ k. Got (Named (record { text = name; line = k })) (after u)) n)
 
-called_on : {a m b : Tokens} → LooksOn a m → Advances m b → called_at b ≡ is_open_paren (first (after m.ahead))
-called_on {a} {m} {b} on ad =
-    let k : (first b.ahead ≡ on.second.token) × (line_of b.ahead ≡ on.second.line) = subst (λ l. Keeps l b.ahead) on.second_is ad.keeps in
-    ap is_open_paren (k.0 ∙ sym (ap first on.second_is))
-
-pub name_took : (a m b : Tokens) (before draft : Draft) (name : List ℕ) (line : ℕ) (called : Bool) (found : Form) → first a.ahead ≡ token.Name name → line ≡ line_of a.ahead → LooksOn a m → called ≡ is_open_paren (first (after m.ahead)) → Advances m b
+pub name_took : (a b : Tokens) (before draft : Draft) (name : List ℕ) (line : ℕ) (called : Bool) (found : Form) → first a.ahead ≡ token.Name name → line ≡ line_of a.ahead → Advances a b → called ≡ called_at b
     → draft ≡ named called (record { text = name; line = line }) before → found ≡ name_form name draft
     → (room : ℕ) → ((offset : ℕ) → Took (primary (inner room) offset) before (called_at b) a b draft found) × IsSingle b
-name_took a m b before draft name line called found h n on c ad d f room = (
+name_took a b before draft name line called found h n ad c d f room = (
   (λ off. record {
     tree = Named (record { text = name; line = line });
-    runs = run_then (run_same (primary (inner room) off) on.moves) (run_past ad (λ u e k. name_read room off u name line (e ∙ on.first_is ∙ h) (k ∙ on.line_is ∙ sym n)));
-    made = d ∙ ap (λ x. named x (record { text = name; line = line }) before) (c ∙ sym (called_on on ad));
+    runs = run_past ad (λ u e k. name_read room off u name line (e ∙ h) (k ∙ sym n));
+    made = d ∙ ap (λ x. named x (record { text = name; line = line }) before) c;
     form_is = f;
   }),
   ad.single,
 )
-
-pub name_stops : (a m b : Tokens) (why : Halt) → LooksOn a m → Breaks m b → why ≡ halt.Device → (room offset : ℕ) → Halts (primary (inner room) offset) a why b
-name_stops a m b why on br e room off = halt_device (primary (inner room) off) why e (Moves-breaks on.moves br)
 
 -- no operand begins with this
 pub primary_none : (l : Lexeme) (text : List ℕ) → ((x : List ℕ) → l ≡ lexeme.Name x → ⊥) → ((x : ℕ) → l ≡ lexeme.Number x → ⊥) → ((x : ℕ) → l ≡ lexeme.Character x → ⊥) → (l ≡ lexeme.String → ⊥) → is_open_paren (token_of_lexeme l text) ≡ false

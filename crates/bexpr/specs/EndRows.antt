@@ -42,7 +42,8 @@ unfolding whole word_of keyword_of number_in with_byte operator_of other_of fixe
 of_the_next = refl
 
 -- A wrong byte looks like each of its kind.
-of_wrong_bytes : map endings (codes "bc#" ∷ codes "bc# d#" ∷ []) ≡ replicate 2 (token.Bad letters.Character ∷ token.End ∷ [])
+of_wrong_bytes : map endings (codes "bc#" ∷ codes "bc# d#" ∷ [])
+    ≡ replicate 2 (token.Bad letters.Character ∷ token.End ∷ [])
 unfolding whole word_of keyword_of operator_of other_of fixed_of
 of_wrong_bytes = refl
 

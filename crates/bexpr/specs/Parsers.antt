@@ -32,7 +32,8 @@ abbrev pub called_at : Tokens → Bool
 called_at t = is_open_paren (first t.ahead)
 
 -- An expression was read, and compiled onto a draft.
-pub record Took (reader : Reader Expr) (start : Draft) (called : Bool) (old new : Tokens) (draft : Draft) (found : Form) : Type 0 where
+pub record Took (reader : Reader Expr) (start : Draft) (called : Bool) (old new : Tokens)
+    (draft : Draft) (found : Form) : Type 0 where
   pub tree : Expr
   pub runs : Runs old new reader (λ v. Got tree v)
   pub made : draft ≡ held called tree start
@@ -40,14 +41,18 @@ pub record Took (reader : Reader Expr) (start : Draft) (called : Bool) (old new 
 
 -- what reads an expression does so, whatever the offset of its strings is
 abbrev pub Follows : (ℕ → Reader Expr) → Bool → Tokens → Draft → Result Form Halt → Tokens → Draft → Type 0
-Follows reader called old before (Ok found) new draft = ((offset : ℕ) → Took (reader offset) before called old new draft found) × IsSingle new
+Follows reader called old before (Ok found) new draft =
+    ((offset : ℕ) → Took (reader offset) before called old new draft found) × IsSingle new
 Follows reader called old before (Err halt) new draft = (offset : ℕ) → Halts (reader offset) old halt new
 
 -- what reads on behind an expression does so, whatever that is, where the draft holds it
-abbrev pub Continues : (ℕ → Expr → Reader Expr) → Bool → Form → Bool → Tokens → Draft → Result Form Halt → Tokens → Draft → Type 0
+abbrev pub Continues : (ℕ → Expr → Reader Expr) → Bool → Form → Bool → Tokens → Draft
+    → Result Form Halt → Tokens → Draft → Type 0
 Continues reader was given called old before (Ok found) new draft =
-    ((offset : ℕ) (e : Expr) (start : Draft) → before ≡ held was e start → given ≡ form e before → Took (reader offset e) start called old new draft found) × IsSingle new
-Continues reader was given called old before (Err halt) new draft = (offset : ℕ) (e : Expr) → Halts (reader offset e) old halt new
+    ((offset : ℕ) (e : Expr) (start : Draft) → before ≡ held was e start → given ≡ form e before
+    → Took (reader offset e) start called old new draft found) × IsSingle new
+Continues reader was given called old before (Err halt) new draft =
+    (offset : ℕ) (e : Expr) → Halts (reader offset e) old halt new
 
 -- An expression was read, and compiled so that it leaves its word.
 pub record TookWord (reader : Reader Expr) (start : Draft) (old new : Tokens) (draft : Draft) : Type 0 where
@@ -56,11 +61,13 @@ pub record TookWord (reader : Reader Expr) (start : Draft) (old new : Tokens) (d
   pub made : draft ≡ evaluated tree start
 
 abbrev pub Evaluates : (ℕ → Reader Expr) → Tokens → Draft → Result (Unit {0}) Halt → Tokens → Draft → Type 0
-Evaluates reader old before (Ok u) new draft = ((offset : ℕ) → TookWord (reader offset) before old new draft) × IsSingle new
+Evaluates reader old before (Ok u) new draft =
+    ((offset : ℕ) → TookWord (reader offset) before old new draft) × IsSingle new
 Evaluates reader old before (Err halt) new draft = (offset : ℕ) → Halts (reader offset) old halt new
 
 -- The arguments of a call were read, through the parenthesis behind them, and compiled.
-pub record TookArguments (reader : Reader Expr) (callee : Expr) (start : Draft) (old new : Tokens) (draft : Draft) (count : ℕ) : Type 0 where
+pub record TookArguments (reader : Reader Expr) (callee : Expr) (start : Draft) (old new : Tokens)
+    (draft : Draft) (count : ℕ) : Type 0 where
   pub arguments : Arguments
   pub runs : Runs old new reader (λ v. Got (Called callee arguments) v)
   pub made : draft ≡ passed arguments start
@@ -68,7 +75,8 @@ pub record TookArguments (reader : Reader Expr) (callee : Expr) (start : Draft) 
 
 -- whatever is called
 abbrev pub Passes : (ℕ → Expr → Reader Expr) → Tokens → Draft → Result ℕ Halt → Tokens → Draft → Type 0
-Passes reader old before (Ok count) new draft = ((offset : ℕ) (e : Expr) → TookArguments (reader offset e) e before old new draft count) × IsSingle new
+Passes reader old before (Ok count) new draft =
+    ((offset : ℕ) (e : Expr) → TookArguments (reader offset e) e before old new draft count) × IsSingle new
 Passes reader old before (Err halt) new draft = (offset : ℕ) (e : Expr) → Halts (reader offset e) old halt new
 
 -- a token that must come was taken

@@ -45,7 +45,12 @@ pub record InOrder (bytes : List ℕ) (current behind : Option Seen) : Type 0 wh
 
 -- the tokens of what an end has left, in an edition
 abbrev pub all_tokens : Edition → Incoming → List ℕ → Tokens
-all_tokens edition end lender = record { source = record { ahead = []; line = 1; end = end; lender = lender; edition = edition }; progress = progress.Open; text = []; ahead = [] }
+all_tokens edition end lender = record {
+  source = record { ahead = []; line = 1; end = end; lender = lender; edition = edition };
+  progress = progress.Open;
+  text = [];
+  ahead = [];
+}
 
 abbrev pub tokens_with : List Placed → Edition → ℕ → List ℕ → List Placed
 tokens_with [] edition line bytes = tokens_from edition line bytes
@@ -113,7 +118,8 @@ pub record LooksAt (old : Tokens) (taken : List ℕ) (new : Tokens) : Type 0 whe
   pub ends : (p : Placed) → last_ahead new.ahead ≡ Some p
       → EndsWith p.token bytes ⊎ ((bytes ≡ []) × (last_ahead old.ahead ≡ Some p))
 
--- Bytes were taken, and this holds of the tokens that came before and of those that come now, whatever the end still gives.
+-- Bytes were taken, and this holds of the tokens that came before and of those that come now, whatever the end
+-- still gives.
 pub record Moves (old new : Tokens) (P : List Placed → List Placed → Type 0) : Type 0 where
   pub taken : List ℕ
   pub reads : Reads old.source taken new.source

@@ -162,11 +162,9 @@ impl<I: ByteIn> Parser<I> {
         ensures { (room : ℕ) → Follows (primary (inner room)) (called_at self.new.tokens) self.old.tokens self.old.draft result self.new.tokens self.new.draft }
     {
         let line = self.tokens.line();
-        self.tokens.look_on()?;
-        let called = self.tokens.is_behind(Mark::OpenParen);
-        let form = self.draft.name(name, called, line);
         self.tokens.advance()?;
-        Ok(form)
+        let called = self.tokens.is_at(Mark::OpenParen);
+        Ok(self.draft.name(name, called, line))
     }
 
     // A name, a constant or a string.

@@ -164,7 +164,11 @@ impl<I: ByteIn> Tokens<I> {
         ensures ok { OnOk result (Advances self.old self.new) }
         ensures err { OnErr result (Breaks self.old self.new) }
     {
-        self.current = self.behind.take();
+        if self.behind.is_some() {
+            self.current = self.behind.take();
+            return Ok(());
+        }
+        self.current = None;
         self.look()
     }
 }
