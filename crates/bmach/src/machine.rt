@@ -4,7 +4,7 @@ ghost use Rattle.std.specs.Prelude.{◌≤◌};
 use crate::image::LoadedFunction;
 use crate::number::Base;
 use crate::operands::Operands;
-use crate::{Library, Trap};
+use crate::{Library, Outcome, Trap};
 
 /// The running call.
 #[derive(Drop)]
@@ -77,14 +77,14 @@ pub struct Pause<'a> {
     pub left: u64,
 }
 
-/// What came of a call or a return that was tried.
+/// What came of a step that was tried.
 #[derive(Clone, Copy, Debug, PartialEq, Eq)]
 pub enum Tried {
     Made,
     /// It is left to do, and nothing has changed.
     IsLeft,
-    /// The store was refused memory.
-    IsRefused,
+    /// The run is over.
+    IsOver(Outcome),
 }
 
 /// Where the steps of all calls have come.
@@ -93,8 +93,8 @@ pub struct Rest<'a> {
     pub calls: Calls<'a>,
     /// How many steps are left.
     pub left: u64,
-    /// Whether the store was refused memory in the next one.
-    pub is_refused: bool,
+    /// The outcome, if the run was over in the next one.
+    pub over: Option<Outcome>,
 }
 
 /// What came of a call or a return.

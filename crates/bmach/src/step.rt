@@ -183,7 +183,7 @@ pub fn count<'a, S: Store>(call: &mut Call<'a>, store: &mut S, which: Increment)
 }
 
 #[inline(always)]
-pub fn jump<'a>(call: &mut Call<'a>, target: u16) -> Pace
+pub fn jump<'a>(call: &mut Call<'a>, target: u32) -> Pace
     ensures acts { (words : List ℕ) → Acts (instr.Jump target) call.old words result call.new words }
     ensures function { call.new.function.now ≡ call.old.function.now }
     ensures below { call.new.operands.below ≡ call.old.operands.below }
@@ -193,7 +193,7 @@ pub fn jump<'a>(call: &mut Call<'a>, target: u16) -> Pace
 }
 
 #[inline(always)]
-pub fn jump_if_zero<'a>(call: &mut Call<'a>, target: u16) -> Pace
+pub fn jump_if_zero<'a>(call: &mut Call<'a>, target: u32) -> Pace
     requires { call.old.place + 1 < 2 ^ 64 }
     ensures acts { (words : List ℕ) → Acts (instr.JumpIfZero target) call.old words result call.new words }
     ensures function { call.new.function.now ≡ call.old.function.now }
@@ -246,7 +246,7 @@ pub fn target_of<'a>(call: &Call<'a>, value: u16) -> Option<u16>
 }
 
 #[inline(always)]
-pub fn jump_if_case<'a>(call: &mut Call<'a>, value: u16, target: u16) -> Pace
+pub fn jump_if_case<'a>(call: &mut Call<'a>, value: u16, target: u32) -> Pace
     requires { call.old.place + 1 < 2 ^ 64 }
     ensures acts { (words : List ℕ) → Acts (instr.JumpIfCase value target) call.old words result call.new words }
     ensures function { call.new.function.now ≡ call.old.function.now }
