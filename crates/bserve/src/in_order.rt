@@ -1,6 +1,6 @@
 //! The streams of a process, kept in order: what was written is shown before more input is fetched, and before a line
 //! is written beside it.
-use crate::serve::{refuse_words, serve};
+use crate::serving::{refuse_words, serve};
 use bparse::status::{self, Status};
 use bword::{Reading, Writing};
 use std::alloc::Global;
@@ -10,17 +10,17 @@ use std::rt::Files;
 
 /// What a process reads and writes.
 #[derive(Drop)]
-pub(crate) struct Streams<I: Read + Drop, O: Write + Drop, D: Write + Drop> {
-    pub(crate) input: I,
-    pub(crate) output: O,
-    pub(crate) line: D,
+pub struct Streams<I: Read + Drop, O: Write + Drop, D: Write + Drop> {
+    pub input: I,
+    pub output: O,
+    pub line: D,
     /// Whether each piece of output is to be shown at once.
-    pub(crate) at_once: bool,
+    pub at_once: bool,
 }
 
 /// Runs the program that the words name, or refuses them if there are none. All of its output has been shown when the
 /// status is given, or the status is that of a failed write.
-pub(crate) fn serve_in_order<R, I, O, D>(
+pub fn serve_in_order<R, I, O, D>(
     rt: &R,
     words: Option<Vec<String>>,
     streams: Streams<I, O, D>,

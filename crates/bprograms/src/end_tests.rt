@@ -1,0 +1,93 @@
+//! Ends over a reader and a writer that fail, and refused memory.
+use bparse::compile;
+use bword::{MemIn, MemOut, Reading, Writing};
+use std::io::{self, Read, Write};
+
+// A reader that gives some bytes and then fails.
+#[derive(Drop)]
+struct Cut {
+    left: u8,
+}
+
+impl Read for Cut {
+    fn read(&mut self, buf: &mut [u8]) -> io::Result<usize> {
+        if self.left == 0 {
+            return Err(io::Error::from(io::ErrorKind::Other));
+        }
+        self.left -= 1;
+        let Some(first) = buf.first_mut() else {
+            return Ok(0);
+        };
+        *first = if self.left % 2 == 0 {
+            b';'
+        } else {
+            b'a'.wrapping_add(self.left)
+        };
+        Ok(1)
+    }
+}
+
+#[test]
+fn a_read_that_fails_in_mid_stream(rt: HostRuntime) {
+    let mut out = MemOut::new(rt.alloc());
+    let mut diag = MemOut::new(rt.alloc());
+    let mut source = Reading::new(Cut { left: 6 });
+    let answer = compile(rt.alloc(), &mut source, &mut out, &mut diag);
+    assert_eq!(rt; answer, 133);
+    assert_eq!(rt; out.bytes(), b"X f 0 0\nX d 0 0\n".as_slice());
+    assert_eq!(rt; diag.bytes().len(), 0);
+}
+
+// A writer that takes some bytes and then fails.
+#[derive(Drop)]
+struct Full {
+    room: usize,
+}
+
+impl Write for Full {
+    fn write(&mut self, buf: &[u8]) -> io::Result<usize> {
+        if self.room == 0 {
+            return Err(io::Error::from(io::ErrorKind::Other));
+        }
+        let count = buf.len().min(self.room);
+        self.room -= count;
+        Ok(count)
+    }
+
+    fn flush(&mut self) -> io::Result<()> {
+        Ok(())
+    }
+}
+
+#[test]
+fn a_write_that_fails_in_mid_stream(rt: HostRuntime) {
+    let mut diag = MemOut::new(rt.alloc());
+    let mut out = Writing::new(Full { room: 10 });
+    let answer = compile(rt.alloc(), &mut MemIn::new(b"a;b;"), &mut out, &mut diag);
+    assert_eq!(rt; answer, 133);
+    assert_eq!(rt; diag.bytes().len(), 0);
+}
+
+#[test]
+fn a_line_that_can_not_be_written(rt: HostRuntime) {
+    let mut out = MemOut::new(rt.alloc());
+    let mut diag = Writing::new(Full { room: 3 });
+    let answer = compile(rt.alloc(), &mut MemIn::new(b"a;a;"), &mut out, &mut diag);
+    assert_eq!(rt; answer, 133);
+    assert_eq!(rt; out.bytes(), b"X a 0 0\n".as_slice());
+}
+
+// With an allocation that fails there is no other status than that.
+#[test]
+fn memory_alone_is_refused(rt: HostRuntime) {
+    let mut out = MemOut::new(rt.alloc());
+    let mut diag = MemOut::new(rt.alloc());
+    let answer = compile(
+        rt.alloc(),
+        &mut MemIn::new(b"n 2000; m;"),
+        &mut out,
+        &mut diag,
+    );
+    assert!(rt; answer == 0 || answer == 134);
+    assert_eq!(rt; diag.bytes().len(), 0);
+}

@@ -1,0 +1,386 @@
+//! Calls over ends of which each read and each write fails in turn.
+ghost use Rattle.std.specs.Prelude.{[], true, Some};
+
+use crate::program_tests::STEPS;
+use crate::run_tests::all_stop;
+use bparse::{Status, compile};
+use brun::{go, run_text};
+use bword::{ByteIn, ByteOut, Device, EndFault, FailIn, FailOut, MemOut};
+use std::alloc::Global;
+use std::process::Abort;
+
+// What is called with which text and input, and what comes of it where nothing fails.
+#[derive(Clone, Copy)]
+struct Row<'a> {
+    call: &'a str,
+    text: &'a str,
+    input: &'a str,
+    output: &'a str,
+    line: &'a str,
+    status: Status,
+}
+
+// A row `call~text~input~output~line~status`.
+fn row_of(row: &str) -> Row<'_> {
+    let mut parts = row.split('~');
+    Row {
+        call: parts.next().unwrap_or(""),
+        text: parts.next().unwrap_or(""),
+        input: parts.next().unwrap_or(""),
+        output: parts.next().unwrap_or(""),
+        line: parts.next().unwrap_or(""),
+        status: parts.next().unwrap_or("").parse::<Status>().unwrap_or(0),
+    }
+}
+
+// The ends that a call reads.
+#[derive(Drop)]
+struct Reads<'a> {
+    source: FailIn<'a>,
+    input: FailIn<'a>,
+}
+
+// Ends that don't fail.
+fn reads_of<'a>(row: &Row<'a>) -> Reads<'a> {
+    Reads {
+        source: FailIn::new(row.text.as_bytes(), u64::MAX),
+        input: FailIn::new(row.input.as_bytes(), u64::MAX),
+    }
+}
+
+fn answer<O: ByteOut, D: ByteOut>(
+    alloc: Global,
+    row: &Row<'_>,
+    reads: &mut Reads<'_>,
+    out: &mut O,
+    line: &mut D,
+) -> Status {
+    let source = &mut reads.source;
+    let input = &mut reads.input;
+    match row.call {
+        "compile" => compile(alloc, source, out, line),
+        "go" => go(alloc, source, input, out, line, STEPS),
+        _ => run_text(alloc, row.text.as_bytes(), input, out, line, STEPS),
+    }
+}
+
+// Sources without a fault, each of which is read to its end; the end may be asked for again.
+const SOURCES: &str = "\
+compile~n 2000;~~X n 1 0
+c 2000
+E
+~~0@
+compile~s \"ab\", t, 'x'; t;~~X s 3 2
+s 0
+x t
+c 120
+w 25185
+w 4
+X t 0 0
+E
+~~0@
+compile~f(a) { auto v 1, i; L: v[i] =+ a; switch a { case 2: goto L; } return(i); }~~F f 1 5 1 0 26
+t 4
+a 1
+a 2
+w
+p
+a 1
+v
+a 4
+v
+b +
+a 0
+v
+m +
+p
+a 0
+v
+j 19
+l 0
+g
+j 21
+e 2 16
+p
+a 4
+v
+r
+c 0
+r
+E
+~~0@
+go~main(){auto x; x=5; x=-1; printn(x,10);}~~4~~0@
+go~main(){auto c; while((c=getchar())!='*e') putchar(c);}~hi~hi~~0@
+go~main() { extrn putchar, n, v; auto i, c, col, a; i = col = 0; while(i<n) v[i++] = 1; while(col<n) { a = n+1; \
+c = i = 0; while(i<n) { c =+ v[i]*10; v[i++] = c%a; c =/ a--; } putchar(c+'0'); if(!(++col%5)) \
+putchar(col%50?' ':'*n'); } putchar('*n*n'); } v[10]; n 10;~~71828 18261 \n\n~~0@
+compile~a;b;~~X a 0 0
+X b 0 0
+E
+~~0@
+go~main(){printn(-7/2,10);printn(-7%2,10);}~~-3-1~~0";
+
+// Sources with a fault, and code texts.
+const STOPPING: &str = "\
+compile~a;a;~~X a 0 0
+~rd a 1
+~1@
+go~main(){printn(1/0,10);}~~~trap dz
+~130@
+run~X n 1 0
+c 007
+E
+~~~code 2
+~132@
+run~F main 0 0 0 0 2
+c 0
+~~~code 3
+~132@
+run~E~~~code 1
+~132@
+run~~~~code 1
+~132@
+run~E
+E
+~~~code 2
+~132@
+run~F f 0 0 1 0 0
+E
+~~~code 1
+~132";
+
+// How a call ended whose output and line were written into so much room.
+#[derive(Drop)]
+struct Ended {
+    status: Status,
+    out: FailOut,
+    line: FailOut,
+}
+
+impl Ended {
+    fn is(&self, status: Status, output: &[u8], line: &[u8]) -> bool {
+        self.status == status && self.out.bytes() == output && self.line.bytes() == line
+    }
+}
+
+fn limited(
+    alloc: Global,
+    row: &Row<'_>,
+    reads: &mut Reads<'_>,
+    output: usize,
+    line: usize,
+) -> Ended {
+    let mut out = FailOut::new(alloc, output as u64);
+    let mut line = FailOut::new(alloc, line as u64);
+    let status = answer(alloc, row, reads, &mut out, &mut line);
+    Ended { status, out, line }
+}
+
+// A beginning of the code was written, nothing is run, and nothing is read behind the failure.
+#[test]
+fn each_read_of_a_source_fails(rt: HostRuntime) {
+    for row in SOURCES.split("@\n") {
+        let row = row_of(row);
+        for k in 0..=row.text.len() {
+            let mut reads = reads_of(&row);
+            reads.source = FailIn::new(row.text.as_bytes(), k as u64);
+            let ended = limited(rt.alloc(), &row, &mut reads, row.output.len(), 0);
+            let code = if row.call == "compile" {
+                row.output
+            } else {
+                ""
+            };
+            let next = row.text.as_bytes().get(k).copied();
+            let is_right = code.as_bytes().starts_with(ended.out.bytes())
+                && ended.is(133, ended.out.bytes(), b"")
+                && reads.source.next() == Ok::<Option<u8>, Device>(next);
+            assert!(rt; is_right, "read {k} of {}", row.text);
+        }
+    }
+}
+
+// A definition is written when the token behind it was read, and a name ends with the byte behind it.
+#[test]
+fn no_code_before_the_next_token(rt: HostRuntime) {
+    let row = row_of("compile~a;b;");
+    for k in 0..=4 {
+        let mut reads = reads_of(&row);
+        reads.source = FailIn::new(row.text.as_bytes(), k);
+        let ended = limited(rt.alloc(), &row, &mut reads, 18, 0);
+        let is_right = ended.is(133, b"", b"") || (k == 4 && ended.is(133, b"X a 0 0\n", b""));
+        assert!(rt; is_right, "read {k}");
+    }
+}
+
+// The bytes before the failure were written, and nothing is read behind it.
+#[test]
+fn each_read_of_the_input_fails(rt: HostRuntime) {
+    let row = row_of("go~main(){auto c; while((c=getchar())!='*e') putchar(c);}~hi~hi~~0");
+    for k in 0..=row.input.len() {
+        let mut reads = reads_of(&row);
+        reads.input = FailIn::new(row.input.as_bytes(), k as u64);
+        let ended = limited(rt.alloc(), &row, &mut reads, row.output.len(), 0);
+        let written = row.output.as_bytes().get(..k).unwrap_or(b"?");
+        let next = row.input.as_bytes().get(k).copied();
+        let is_right = ended.is(133, written, b"")
+            && reads.input.next() == Ok::<Option<u8>, Device>(next);
+        assert!(rt; is_right, "read {k}");
+    }
+}
+
+// There is room for so many bytes of the output and of the line behind it: they were written, and no others.
+#[test]
+fn each_write_fails(rt: HostRuntime) {
+    for row in SOURCES.split("@\n").chain(STOPPING.split("@\n")) {
+        let row = row_of(row);
+        let all = row.output.len().saturating_add(row.line.len());
+        for room in 0..=all {
+            let output = room.min(row.output.len());
+            let line = room - output;
+            let ended = limited(rt.alloc(), &row, &mut reads_of(&row), output, line);
+            let status = if room == all { row.status } else { 133 };
+            let written = row.output.as_bytes().get(..output).unwrap_or(b"?");
+            let told = row.line.as_bytes().get(..line).unwrap_or(b"?");
+            assert!(rt;
+                ended.is(status, written, told),
+                "room {room} for {}",
+                row.text
+            );
+        }
+    }
+}
+
+// An end over memory of which one call is refused, counted from 0.
+#[derive(Drop)]
+struct Refusing {
+    bytes: MemOut,
+    calls: u64,
+    refused: u64,
+    refusals: u64,
+}
+
+fn end_refusing(alloc: Global, refused: u64) -> Refusing {
+    Refusing {
+        bytes: MemOut::new(alloc),
+        calls: 0,
+        refused,
+        refusals: 0,
+    }
+}
+
+impl ByteOut for Refusing {
+    ghost outgoing = { λ r. record { written = Some r.bytes.bytes; failures = 0; refusals = r.refusals } };
+
+    ghost lender = { λ _. [] };
+
+    ghost refuses_whole = { true };
+
+    fn put(&mut self, bytes: &[u8]) -> Result<(), EndFault> {
+        let call = self.calls;
+        self.calls = self.calls.saturating_add(1);
+        if call == self.refused || self.bytes.put(bytes).is_err() {
+            self.refusals = self.refusals.saturating_add(1);
+            return Err(EndFault::Memory);
+        }
+        Ok(())
+    }
+}
+
+// Whether one of these calls of the output and of the line was made, and so refused: then a beginning was written, and
+// no call follows it.
+fn is_refused(
+    rt: &(impl AllocGlobal + Abort),
+    row: &Row<'_>,
+    of_output: u64,
+    of_line: u64,
+) -> bool {
+    let mut out = end_refusing(rt.alloc(), of_output);
+    let mut line = end_refusing(rt.alloc(), of_line);
+    let status = answer(rt.alloc(), row, &mut reads_of(row), &mut out, &mut line);
+    let is_refused = out.calls > of_output || line.calls > of_line;
+    let output = row.output.as_bytes();
+    let is_whole = out.bytes.bytes() == output;
+    let is_right = if is_refused {
+        status == 134
+            && output.starts_with(out.bytes.bytes())
+            && row.line.as_bytes().starts_with(line.bytes.bytes())
+            && out.calls <= of_output.saturating_add(1)
+            && line.calls <= of_line.saturating_add(1)
+            && (line.calls == 0 || is_whole)
+    } else {
+        status == row.status && is_whole && line.bytes.bytes() == row.line.as_bytes()
+    };
+    assert!(rt; is_right, "calls {of_output} and {of_line} of {}", row.text);
+    is_refused
+}
+
+// Up to the first call that there isn't.
+#[test]
+fn each_write_is_refused_memory(rt: HostRuntime) {
+    for row in SOURCES.split("@\n").chain(STOPPING.split("@\n")) {
+        let row = row_of(row);
+        for call in 0..100 {
+            let is_refused_output = is_refused(&rt, &row, call, u64::MAX);
+            let is_refused_line = is_refused(&rt, &row, u64::MAX, call);
+            if !is_refused_output && !is_refused_line {
+                break;
+            }
+        }
+    }
+}
+
+// What no text begins with, and code that lacks an operand or an instruction.
+#[test]
+fn hostile_texts(rt: HostRuntime) {
+    let refused = "\
+F main 0 0 0 0 1
+a 0
+E
+~code 2
+@
+F main 0 0 0 0 1
+b ^
+E
+~code 2
+@
+F main 0 0 0 0 1
+x abcdefghi
+E
+~code 2
+@
+F main 0 0 1 0 1
+t 1
+r
+E
+~code 2
+@
+F main 0 0 129 0 1
+r
+E
+~code 1
+";
+    all_stop(&rt, refused, 132);
+    let stuck = "\
+F main 0 0 0 0 2
+c 1
+b +
+E
+~trap sk
+@
+F main 0 0 0 0 1
+e 1 0
+E
+~trap sk
+@
+F main 0 0 0 0 1
+k 0
+E
+~trap sk
+@
+F main 0 0 0 0 1
+c 1
+E
+~trap sk
+";
+    all_stop(&rt, stuck, 130);
+}

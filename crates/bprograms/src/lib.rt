@@ -1,0 +1,25 @@
+//! Tests of the program: sources, code texts, runs and command lines, each with what comes of it.
+//!
+//! They stand in a crate of their own since a check of a crate with its tests proves the crate once more.
+#![tactic(auto)]
+
+#[cfg(test)]
+mod command_tests;
+#[cfg(test)]
+mod edition_tests;
+#[cfg(test)]
+mod end_tests;
+#[cfg(test)]
+mod example_tests;
+#[cfg(test)]
+mod failing_tests;
+#[cfg(test)]
+mod in_order_tests;
+#[cfg(test)]
+mod language_tests;
+#[cfg(test)]
+mod program_tests;
+#[cfg(test)]
+mod run_tests;
+#[cfg(test)]
+mod source_tests;

@@ -1,0 +1,136 @@
+-- The command line, and what its words ask for. How words are cut into options, and which have a fault, are definitions
+-- of `clap`, which reads them.
+use Rattle.std.specs.Prelude.{◌≡◌, ℕ, ◌==◌, ◌&&◌, ◌^◌, Bool, true, false, List, [], ◌∷◌, length, codes, Option, Some, None, if◌then◌else◌, nat_lt, option_and_then, unwrap_or}
+use Rattle.std.specs.Char.{digit_value}
+use Rattle.std.specs.List.{list_all}
+use Rattle.std.specs.Option.{option_map_or}
+use Rattle.std.specs.Str.{bytes_eq}
+use Rattle.std.specs.Str.Parse.{digits_value, without_leading_plus}
+use Rattle.clap.specs.Words.{AddsSubcommand, App, Row, Rule, Text, app_of, first_of, one_of, new_app, new_rule, with_rule, with_subcommand}
+use Rattle.clap.specs.Simple.{on_top}
+use Rattle.clap.specs.declared.builder.command.Command.{Command}
+use Rattle.clap.specs.declared.builder.action.ArgAction.TheVariants.{Set, SetTrue}
+use Rattle.clap.specs.declared.builder.value_parser.ValueParser.TheVariants as parser
+use Rattle.bword.specs.declared.edition.Edition.{Edition}
+use Rattle.bword.specs.declared.edition.Edition.TheVariants as editions
+use Rattle.bserve.specs.declared.command.Job.{Job}
+use Rattle.bserve.specs.declared.command.Job.TheVariants as job
+use Rattle.bserve.specs.declared.command.Target.{Target}
+
+-- an option whose value is a number from 1 to the most
+abbrev pub number_rule : Text → ℕ → Rule
+number_rule name most = record (new_rule name) {
+  long = Some name;
+  action = Some Set;
+  value_names = 1;
+  parser = Some (parser.Unsigned 1 most);
+}
+
+abbrev pub edition_rule : Rule
+edition_rule = number_rule (codes "edition") 2
+
+abbrev pub steps_rule : Rule
+steps_rule = number_rule (codes "steps") 4000000000
+
+abbrev pub no_limit_rule : Rule
+no_limit_rule = record (new_rule (codes "no-limit")) { long = Some (codes "no-limit"); action = Some SetTrue }
+
+abbrev pub file_rule : Rule
+file_rule = record (new_rule (codes "FILE")) { required = true; action = Some Set }
+
+-- a command with the options of a run
+abbrev pub running : App → App
+running command = with_rule (with_rule (with_rule command steps_rule) no_limit_rule) file_rule
+
+-- The command is so shaped, and so is it as a part of another one.
+pub record IsShaped (app : App) (command : Command) : Type 0 where
+  pub alone : app_of command ≡ app
+  pub within : (old new : Command) → AddsSubcommand old command new → app_of new ≡ with_subcommand (app_of old) app.top
+
+abbrev pub compile_command : App
+compile_command = with_rule (new_app (codes "compile")) edition_rule
+
+abbrev pub run_command : App
+run_command = running (new_app (codes "run"))
+
+abbrev pub go_command : App
+go_command = running (with_rule (new_app (codes "go")) edition_rule)
+
+-- `b compile`, `b run` and `b go`, one of which there has to be
+abbrev pub command_line : App
+command_line = with_subcommand (with_subcommand (with_subcommand
+    (on_top (λ s. record s { has_version = true; subcommand_required = true }) (new_app (codes "b")))
+    compile_command.top) run_command.top) go_command.top
+
+-- the digits of a number that a u64 holds
+abbrev pub is_number : Text → Bool
+is_number digits = nat_lt 0 (length digits) && list_all (λ d. nat_lt (digit_value d) 10) digits
+    && nat_lt (digits_value 10 digits) (2 ^ 64)
+
+-- the number that a text writes
+abbrev pub number_of : Text → Option ℕ
+number_of text = let digits = without_leading_plus text in
+    if is_number digits then Some (digits_value 10 digits) else None
+
+-- the number that an option has among what was found
+abbrev pub number_in : Text → List Row → Option ℕ
+number_in id rows = option_and_then number_of (one_of id rows)
+
+abbrev pub edition_numbered : Option ℕ → Edition
+edition_numbered number = if unwrap_or number 1 == 2 then editions.Two else editions.One
+
+abbrev pub edition_in : List Row → Edition
+edition_in rows = edition_numbered (number_in (codes "edition") rows)
+
+-- whether a flag is among what was found
+abbrev pub is_set_in : Text → List Row → Bool
+is_set_in id rows = option_map_or (λ t. bytes_eq t (codes "true")) (one_of id rows) false
+
+-- the steps of a run; none where there is a limit and none
+abbrev pub steps_asked : Option ℕ → Bool → Option ℕ
+steps_asked (Some n) true = None
+steps_asked (Some n) false = Some n
+steps_asked None true = Some 18446744073709551615
+steps_asked None false = Some 10000000
+
+abbrev pub steps_in : List Row → Option ℕ
+steps_in rows = steps_asked (number_in (codes "steps") rows) (is_set_in (codes "no-limit") rows)
+
+abbrev pub file_in : List Row → Text
+file_in rows = unwrap_or (first_of (codes "FILE") rows) []
+
+-- What is asked for: that a source is compiled, that the code text in a file is run, that the source in a file is
+-- compiled and run; or a limit of steps and none, which contradict each other.
+pub data Asked : Type 0 where
+  compile : (edition : Edition) → Asked
+  run : (file : Text) (steps : ℕ) → Asked
+  go : (file : Text) (steps : ℕ) (edition : Edition) → Asked
+  contradiction : Asked
+
+abbrev pub run_asked : Text → Option ℕ → Asked
+run_asked file (Some steps) = run file steps
+run_asked file None = contradiction
+
+abbrev pub go_asked : Text → Edition → Option ℕ → Asked
+go_asked file edition (Some steps) = go file steps edition
+go_asked file edition None = contradiction
+
+-- what a command asks for, by its name and what was found of its options
+abbrev pub asked_by : Text → List Row → Asked
+asked_by name rows = if bytes_eq name (codes "run") then run_asked (file_in rows) (steps_in rows)
+    else (if bytes_eq name (codes "go") then go_asked (file_in rows) (edition_in rows) (steps_in rows)
+    else compile (edition_in rows))
+
+abbrev pub asked : Option (Text × List Row) → Asked
+asked None = compile editions.One
+asked (Some command) = asked_by command.0 command.1
+
+-- what a job is of what can be asked for; none is the contradiction
+abbrev pub shown : Option Job → Asked
+shown (Some (job.Compile edition)) = compile edition
+shown (Some (job.Run target)) = run target.file.now target.steps
+shown (Some (job.Go target edition)) = go target.file.now target.steps edition
+shown None = contradiction
+
+abbrev pub target_shown : Target → Text × ℕ
+target_shown target = (target.file.now, target.steps)

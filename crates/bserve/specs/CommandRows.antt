@@ -1,0 +1,92 @@
+-- Closed facts: what command lines ask for, and their faults.
+use Rattle.std.specs.Prelude.{◌≡◌, true, List, [], ◌∷◌, codes, refl}
+use Rattle.clap.specs.Words.{Kinds, Text, fault_of, is_simple, is_simple_and_free, subcommand_of}
+use Rattle.clap.specs.declared.error.kind.ErrorKind.TheVariants as kind
+use Rattle.clap.proofs.OnLiterals.{clap_on_literals}
+use Rattle.bword.specs.declared.edition.Edition.TheVariants as editions
+use Rattle.bserve.specs.CommandLine.{Asked, asked, command_line, compile, run, go, contradiction}
+
+pub is_simple_line : is_simple command_line ≡ true
+is_simple_line = refl
+
+pub is_free_line : is_simple_and_free command_line ≡ true
+is_free_line = refl
+
+-- what words ask for that have no fault
+abbrev Asks : List Text → Asked → Type 0
+Asks words what = (fault_of command_line words ≡ []) × (asked (subcommand_of command_line words) ≡ what)
+
+compiles : Asks (codes "b" ∷ codes "compile" ∷ []) (compile editions.One)
+unfolding clap_on_literals
+compiles = (refl, refl)
+
+compiles_the_second : Asks (codes "b" ∷ codes "compile" ∷ codes "--edition" ∷ codes "2" ∷ []) (compile editions.Two)
+unfolding clap_on_literals
+compiles_the_second = (refl, refl)
+
+compiles_the_first : Asks (codes "b" ∷ codes "compile" ∷ codes "--edition=1" ∷ []) (compile editions.One)
+unfolding clap_on_literals
+compiles_the_first = (refl, refl)
+
+runs : Asks (codes "b" ∷ codes "run" ∷ codes "x" ∷ []) (run (codes "x") 10000000)
+unfolding clap_on_literals
+runs = (refl, refl)
+
+runs_so_long : Asks (codes "b" ∷ codes "run" ∷ codes "--steps" ∷ codes "100" ∷ codes "x" ∷ []) (run (codes "x") 100)
+unfolding clap_on_literals
+runs_so_long = (refl, refl)
+
+goes : Asks (codes "b" ∷ codes "go" ∷ codes "x" ∷ codes "--edition" ∷ codes "2" ∷ []) (go (codes "x") 10000000 editions.Two)
+unfolding clap_on_literals
+goes = (refl, refl)
+
+goes_without_limit : Asks (codes "b" ∷ codes "go" ∷ codes "--no-limit" ∷ codes "x" ∷ [])
+    (go (codes "x") 18446744073709551615 editions.One)
+unfolding clap_on_literals
+goes_without_limit = (refl, refl)
+
+contradicts : Asks (codes "b" ∷ codes "go" ∷ codes "--no-limit" ∷ codes "--steps=5" ∷ codes "x" ∷ []) contradiction
+unfolding clap_on_literals
+contradicts = (refl, refl)
+
+no_command : fault_of command_line (codes "b" ∷ []) ≡ kind.MissingSubcommand ∷ []
+unfolding clap_on_literals
+no_command = refl
+
+another_command : fault_of command_line (codes "b" ∷ codes "walk" ∷ []) ≡ kind.UnknownArgument ∷ kind.InvalidSubcommand ∷ []
+unfolding clap_on_literals
+another_command = refl
+
+no_edition : fault_of command_line (codes "b" ∷ codes "compile" ∷ codes "--edition" ∷ codes "3" ∷ []) ≡ kind.ValueValidation ∷ []
+unfolding clap_on_literals
+no_edition = refl
+
+no_steps : fault_of command_line (codes "b" ∷ codes "run" ∷ codes "--steps" ∷ codes "0" ∷ codes "x" ∷ []) ≡ kind.ValueValidation ∷ []
+unfolding clap_on_literals
+no_steps = refl
+
+no_file : fault_of command_line (codes "b" ∷ codes "run" ∷ []) ≡ kind.MissingRequiredArgument ∷ []
+unfolding clap_on_literals
+no_file = refl
+
+no_edition_of_code : fault_of command_line (codes "b" ∷ codes "run" ∷ codes "--edition" ∷ codes "1" ∷ codes "x" ∷ [])
+    ≡ kind.UnknownArgument ∷ []
+unfolding clap_on_literals
+no_edition_of_code = refl
+
+two_editions : fault_of command_line (codes "b" ∷ codes "compile" ∷ codes "--edition=1" ∷ codes "--edition=2" ∷ [])
+    ≡ kind.ArgumentConflict ∷ []
+unfolding clap_on_literals
+two_editions = refl
+
+help : fault_of command_line (codes "b" ∷ codes "--help" ∷ []) ≡ kind.DisplayHelp ∷ []
+unfolding clap_on_literals
+help = refl
+
+help_of_a_command : fault_of command_line (codes "b" ∷ codes "go" ∷ codes "-h" ∷ []) ≡ kind.DisplayHelp ∷ []
+unfolding clap_on_literals
+help_of_a_command = refl
+
+version : fault_of command_line (codes "b" ∷ codes "--version" ∷ []) ≡ kind.DisplayVersion ∷ []
+unfolding clap_on_literals
+version = refl

@@ -1,0 +1,80 @@
+-- What comes of a command line.
+use Rattle.std.specs.Prelude.{◌≡◌, ◌≢◌, ℕ, List, [], codes, ◌⊎◌}
+use Rattle.clap.specs.Words.{Kinds, IsAmong, Text, fault_of, subcommand_of}
+use Rattle.clap.specs.declared.error.kind.ErrorKind.{ErrorKind}
+use Rattle.clap.specs.declared.error.kind.ErrorKind.TheVariants as kind
+use Rattle.bword.specs.ByteEnds.{Incoming}
+use Rattle.bparse.specs.Compiles.{Compiles}
+use Rattle.bparse.specs.declared.status.TheConstants.{DONE, DEVICE, MEMORY, WRONG_COMMAND}
+use Rattle.brun.specs.Going.{GoesOff}
+use Rattle.brun.specs.Reports.{Reported}
+use Rattle.brun.specs.Runs.{Ends, HasNotRun, RunsText}
+use Rattle.bserve.specs.CommandLine.{Asked, asked, command_line, compile, run, go, contradiction}
+
+-- what is said of words that aren't UTF-8
+abbrev pub unread_line : List ℕ
+unread_line = codes "error: a word of the command line is not UTF-8\n\nFor more information, try '--help'.\n"
+
+-- what is said of a limit of steps and none
+abbrev pub contradiction_line : List ℕ
+contradiction_line =
+    codes "error: the argument '--steps <N>' cannot be used with '--no-limit'\n\nFor more information, try '--help'.\n"
+
+-- Nothing was read or written, and this is the status.
+pub record IsSilent (ends : Ends) (status answer : ℕ) : Type 0 where
+  pub unread : HasNotRun ends
+  pub no_line : ends.line_behind ≡ ends.line
+  pub status_is : status ≡ answer
+
+-- The file could not be opened or read.
+abbrev pub HasNoFile : Ends → ℕ → Type 0
+HasNoFile ends status = IsSilent ends status DEVICE ⊎ IsSilent ends status MEMORY
+
+-- what was asked for is done; no contract can say what a file holds
+abbrev pub Does : Asked → Ends → ℕ → Type 0
+Does (compile edition) ends status = Compiles (record {
+  edition = edition;
+  source = ends.input;
+  source_behind = ends.input_behind;
+  code = ends.out;
+  code_behind = ends.out_behind;
+  line = ends.line;
+  line_behind = ends.line_behind;
+  status = status;
+})
+Does (run file steps) ends status = HasNoFile ends status ⊎ ((text : List ℕ) × RunsText steps text ends status)
+Does (go file steps edition) ends status =
+    HasNoFile ends status ⊎ ((source behind : Incoming) × GoesOff edition steps source behind ends status)
+Does contradiction ends status =
+    HasNotRun ends × Reported contradiction_line WRONG_COMMAND ends.line ends.line_behind status
+
+abbrev pub IsHelp : ErrorKind → Type 0
+IsHelp k = (k ≡ kind.DisplayHelp) ⊎ (k ≡ kind.DisplayVersion)
+
+-- A text was written to the output, for a reason of this kind: help or the version was asked for.
+pub record Tells (k : ErrorKind) (ends : Ends) (status : ℕ) : Type 0 where
+  pub help : IsHelp k
+  pub unread : ends.input_behind ≡ ends.input
+  pub no_line : ends.line_behind ≡ ends.line
+  pub text : List ℕ
+  pub told : Reported text DONE ends.out ends.out_behind status
+
+-- A text was written beside the output, for a reason of another kind.
+pub record Complains (k : ErrorKind) (ends : Ends) (status : ℕ) : Type 0 where
+  pub no_help : IsHelp k → ⊥
+  pub no_memory : k ≢ kind.OutOfMemory
+  pub unread : HasNotRun ends
+  pub text : List ℕ
+  pub told : Reported text WRONG_COMMAND ends.line ends.line_behind status
+
+-- what is answered for a reason of this kind
+abbrev pub Refuses : ErrorKind → Ends → ℕ → Type 0
+Refuses k ends status = Tells k ends status ⊎ Complains k ends status ⊎ IsSilent ends status MEMORY
+
+-- Words without a fault get what they ask for. Others are answered for one of their faults, of which help is one. Memory may be
+-- refused for either.
+pub data Serves (words : List Text) (ends : Ends) (status : ℕ) : Type 0 where
+  did : fault_of command_line words ≡ [] → Does (asked (subcommand_of command_line words)) ends status
+      → Serves words ends status
+  refused : (k : ErrorKind) → IsAmong k (fault_of command_line words) → Refuses k ends status → Serves words ends status
+  no_memory : IsSilent ends status MEMORY → Serves words ends status

@@ -1,0 +1,187 @@
+//! What the words of a command line ask for.
+ghost use Rattle.std.specs.Prelude.{◌≡◌, [], IfOk, IfErr, false, map, option_map, string_bytes};
+ghost use Rattle.clap.specs.Words.{HasKind, app_of, fault_of, found_of, rows_of, rule_of, subcommand_of, subcommand_rows_of};
+ghost use Rattle.bserve.specs.CommandLine.{IsShaped, asked, command_line, compile_command, edition_in, edition_rule, file_in, file_rule, go_command, is_set_in, no_limit_rule, number_in, run_command, shown, steps_asked, steps_in, steps_rule, target_shown};
+
+use crate::texts::{ABOUT, COMPILE_HELP, GO_HELP, HELP, RUN_HELP, VERSION};
+use bword::Edition;
+use clap::{Arg, ArgAction, ArgMatches, Command, Error, value_parser};
+use std::alloc::{AllocError, Global};
+
+/// The steps of a run where the command doesn't say how many.
+const DEFAULT_STEPS: u64 = 10_000_000;
+
+/// The most steps that a command may ask for.
+const MOST_STEPS: i64 = 4_000_000_000;
+
+/// What the words ask for.
+#[derive(Clone, Copy)]
+pub(crate) enum Job<'a> {
+    Compile(Edition),
+    Run(Target<'a>),
+    Go(Target<'a>, Edition),
+}
+
+/// A file to run, and how long.
+#[derive(Clone, Copy)]
+pub(crate) struct Target<'a> {
+    pub(crate) file: &'a str,
+    pub(crate) steps: u64,
+}
+
+/// What is found in the words, if they are a command line.
+pub(crate) fn parse<'a>(alloc: Global, words: &'a [String]) -> Result<ArgMatches<'a>, Error>
+    ensures ok { IfOk result (λ m. (fault_of command_line (map string_bytes words.entry.now) ≡ [])
+        × (subcommand_rows_of m ≡ subcommand_of command_line (map string_bytes words.entry.now))) }
+    ensures err { IfErr result (HasKind (fault_of command_line (map string_bytes words.entry.now))) }
+{
+    command(alloc)?.try_get_matches_from(words)
+}
+
+/// What was found asks for this, or for a limit of steps and none.
+pub(crate) fn job_of<'a>(matches: &ArgMatches<'a>) -> Option<Job<'a>>
+    ensures { shown result ≡ asked (subcommand_rows_of matches.now) }
+{
+    let Some((name, given)) = matches.subcommand() else {
+        return Some(Job::Compile(Edition::One));
+    };
+    match name {
+        "run" => Some(Job::Run(target_of(given)?)),
+        "go" => Some(Job::Go(target_of(given)?, edition_of(given))),
+        _ => Some(Job::Compile(edition_of(given))),
+    }
+}
+
+fn edition_of(given: &ArgMatches<'_>) -> Edition
+    ensures { result ≡ edition_in (rows_of (found_of given.now)) }
+{
+    match number_of(given, "edition") {
+        Some(2) => Edition::Two,
+        _ => Edition::One,
+    }
+}
+
+// None where there is a limit of steps and none.
+fn target_of<'a>(given: &ArgMatches<'a>) -> Option<Target<'a>>
+    ensures { option_map target_shown result
+        ≡ option_map (λ n. (file_in (rows_of (found_of given.now)), n)) (steps_in (rows_of (found_of given.now))) }
+{
+    let file = given.get_str("FILE").unwrap_or("");
+    let steps = steps_of(number_of(given, "steps"), is_set(given, "no-limit"))?;
+    Some(Target { file, steps })
+}
+
+fn steps_of(asked: Option<u64>, is_without_limit: bool) -> Option<u64>
+    ensures { result ≡ steps_asked asked is_without_limit }
+{
+    match (asked, is_without_limit) {
+        (Some(_), true) => None,
+        (Some(steps), false) => Some(steps),
+        (None, true) => Some(u64::MAX),
+        (None, false) => Some(DEFAULT_STEPS),
+    }
+}
+
+fn number_of(given: &ArgMatches<'_>, id: &str) -> Option<u64>
+    ensures { result ≡ number_in id.now (rows_of (found_of given.now)) }
+{
+    given.get_one::<u64>(id)
+}
+
+fn is_set(given: &ArgMatches<'_>, id: &str) -> bool
+    ensures { result ≡ is_set_in id.now (rows_of (found_of given.now)) }
+{
+    given.get_one::<bool>(id).unwrap_or(false)
+}
+
+fn command<'a>(alloc: Global) -> Result<Command<'a>, AllocError>
+    ensures { IfOk result (λ c. app_of c ≡ command_line) }
+{
+    let all = Command::new(alloc, "b")
+        .bin_name("b")?
+        .about(ABOUT)
+        .version(VERSION)
+        .after_help(HELP)
+        .subcommand_required(true);
+    all.subcommand(compile_command(alloc)?)?
+        .subcommand(run_command(alloc)?)?
+        .subcommand(go_command(alloc)?)
+}
+
+fn compile_command<'a>(alloc: Global) -> Result<Command<'a>, AllocError>
+    ensures { IfOk result (IsShaped compile_command) }
+{
+    Command::new(alloc, "compile")
+        .about("Compiles the source on standard input to code text on standard output")
+        .override_usage("b compile [OPTIONS] < FILE")
+        .after_help(COMPILE_HELP)
+        .arg(edition_option(alloc))
+}
+
+fn run_command<'a>(alloc: Global) -> Result<Command<'a>, AllocError>
+    ensures { IfOk result (IsShaped run_command) }
+{
+    Command::new(alloc, "run")
+        .about("Runs the code text in FILE")
+        .after_help(RUN_HELP)
+        .arg(steps_option(alloc))?
+        .arg(no_limit_flag(alloc))?
+        .arg(file_argument(alloc))
+}
+
+fn go_command<'a>(alloc: Global) -> Result<Command<'a>, AllocError>
+    ensures { IfOk result (IsShaped go_command) }
+{
+    Command::new(alloc, "go")
+        .about("Compiles the source in FILE and runs it")
+        .after_help(GO_HELP)
+        .arg(edition_option(alloc))?
+        .arg(steps_option(alloc))?
+        .arg(no_limit_flag(alloc))?
+        .arg(file_argument(alloc))
+}
+
+// The option of a command that compiles.
+fn edition_option<'a>(alloc: Global) -> Arg<'a>
+    ensures rule { rule_of result ≡ edition_rule }
+    ensures local { result.global ≡ false }
+{
+    Arg::new(alloc, "edition")
+        .long("edition")
+        .value_name("N")
+        .action(ArgAction::Set)
+        .value_parser(value_parser!(u64).range(1..=2))
+        .help("The edition of the source, 1 or 2; 1 if not given")
+}
+
+fn steps_option<'a>(alloc: Global) -> Arg<'a>
+    ensures rule { rule_of result ≡ steps_rule }
+    ensures local { result.global ≡ false }
+{
+    Arg::new(alloc, "steps")
+        .long("steps")
+        .value_name("N")
+        .action(ArgAction::Set)
+        .value_parser(value_parser!(u64).range(1..=MOST_STEPS))
+        .help("The most steps, from 1 to 4000000000; 10000000 if not given")
+}
+
+fn no_limit_flag<'a>(alloc: Global) -> Arg<'a>
+    ensures rule { rule_of result ≡ no_limit_rule }
+    ensures local { result.global ≡ false }
+{
+    Arg::new(alloc, "no-limit")
+        .long("no-limit")
+        .action(ArgAction::SetTrue)
+        .help("As many steps as it takes")
+}
+
+fn file_argument<'a>(alloc: Global) -> Arg<'a>
+    ensures rule { rule_of result ≡ file_rule }
+    ensures local { result.global ≡ false }
+{
+    Arg::new(alloc, "FILE")
+        .required(true)
+        .action(ArgAction::Set)
+        .help("The file to run")
+}

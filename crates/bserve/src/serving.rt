@@ -1,0 +1,222 @@
+//! Serving a command line.
+ghost use Rattle.std.specs.Prelude.{◌≡◌, ◌⊎◌, map, string_bytes};
+ghost use Rattle.clap.specs.Words.{kind_of};
+ghost use Rattle.bword.specs.ByteEnds.{Incoming};
+ghost use Rattle.bparse.specs.declared.status.TheConstants.{DEVICE, MEMORY, WRONG_COMMAND};
+ghost use Rattle.brun.specs.Reports.{Reported};
+ghost use Rattle.bserve.specs.CommandLine.{go, run, shown};
+ghost use Rattle.bserve.specs.Serves.{Does, Refuses, Serves, unread_line};
+
+use crate::command::{Job, Target, job_of, parse};
+use crate::texts::{CONTRADICTION, UNREAD};
+use bparse::compile_edition;
+use bparse::status::{self, Status};
+use brun::{go_edition, run_text};
+use bword::{ByteIn, ByteOut, Edition, Reading};
+use clap::Error;
+use clap::error::ErrorKind;
+use std::alloc::Global;
+use std::io::Read;
+use std::rt::Files;
+use std::{fs, io};
+
+/// Runs the program that the words name, with its own name first.
+///
+/// Help goes to `out` with status 0, and what is wrong with the words to `diag` with status 135. A FILE is opened and
+/// read where it is needed: 133 where it can't be.
+pub fn serve<R: AllocGlobal + Files, I: ByteIn, O: ByteOut, D: ByteOut>(
+    rt: &R,
+    words: &[String],
+    input: &mut I,
+    out: &mut O,
+    diag: &mut D,
+) -> Status
+    ensures serves { Serves (map string_bytes words.now) (record {
+      input = I.incoming input.old;
+      input_behind = I.incoming input.new;
+      out = O.outgoing out.old;
+      out_behind = O.outgoing out.new;
+      line = D.outgoing diag.old;
+      line_behind = D.outgoing diag.new;
+    }) result }
+    ensures input_lender { I.lender input.new ≡ I.lender input.old }
+    ensures out_lender { O.lender out.new ≡ O.lender out.old }
+    ensures diag_lender { D.lender diag.new ≡ D.lender diag.old }
+{
+    match parse(rt.alloc(), words) {
+        Ok(matches) => perform(rt, job_of(&matches), input, out, diag),
+        Err(error) => refuse(rt.alloc(), error, out, diag),
+    }
+}
+
+// Does the job, or says that there is a limit of steps and none.
+fn perform<R: AllocGlobal + Files, I: ByteIn, O: ByteOut, D: ByteOut>(
+    rt: &R,
+    job: Option<Job<'_>>,
+    input: &mut I,
+    out: &mut O,
+    diag: &mut D,
+) -> Status
+    ensures does { Does (shown job.entry) (record {
+      input = I.incoming input.old;
+      input_behind = I.incoming input.new;
+      out = O.outgoing out.old;
+      out_behind = O.outgoing out.new;
+      line = D.outgoing diag.old;
+      line_behind = D.outgoing diag.new;
+    }) result }
+    ensures input_lender { I.lender input.new ≡ I.lender input.old }
+    ensures out_lender { O.lender out.new ≡ O.lender out.old }
+    ensures diag_lender { D.lender diag.new ≡ D.lender diag.old }
+{
+    match job {
+        Some(Job::Compile(edition)) => compile_edition(rt.alloc(), input, out, diag, edition),
+        Some(Job::Run(target)) => run_file(rt, target, input, out, diag),
+        Some(Job::Go(target, edition)) => go_file(rt, target, edition, input, out, diag),
+        None => refuse_with(CONTRADICTION, diag),
+    }
+}
+
+// Runs the code text in a file.
+fn run_file<R: AllocGlobal + Files, I: ByteIn, O: ByteOut, D: ByteOut>(
+    rt: &R,
+    target: Target<'_>,
+    input: &mut I,
+    out: &mut O,
+    diag: &mut D,
+) -> Status
+    ensures does { Does (run target.entry.file.now target.entry.steps) (record {
+      input = I.incoming input.old;
+      input_behind = I.incoming input.new;
+      out = O.outgoing out.old;
+      out_behind = O.outgoing out.new;
+      line = D.outgoing diag.old;
+      line_behind = D.outgoing diag.new;
+    }) result }
+    ensures input_lender { I.lender input.new ≡ I.lender input.old }
+    ensures out_lender { O.lender out.new ≡ O.lender out.old }
+    ensures diag_lender { D.lender diag.new ≡ D.lender diag.old }
+{
+    match fs::read(rt, target.file) {
+        Ok(code) => run_text(rt.alloc(), code.as_slice(), input, out, diag, target.steps),
+        Err(error) => status_of(&error),
+    }
+}
+
+// Compiles the source in a file and runs it.
+fn go_file<R: AllocGlobal + Files, I: ByteIn, O: ByteOut, D: ByteOut>(
+    rt: &R,
+    target: Target<'_>,
+    edition: Edition,
+    input: &mut I,
+    out: &mut O,
+    diag: &mut D,
+) -> Status
+    ensures does { Does (go target.entry.file.now target.entry.steps edition) (record {
+      input = I.incoming input.old;
+      input_behind = I.incoming input.new;
+      out = O.outgoing out.old;
+      out_behind = O.outgoing out.new;
+      line = D.outgoing diag.old;
+      line_behind = D.outgoing diag.new;
+    }) result }
+    ensures input_lender { I.lender input.new ≡ I.lender input.old }
+    ensures out_lender { O.lender out.new ≡ O.lender out.old }
+    ensures diag_lender { D.lender diag.new ≡ D.lender diag.old }
+{
+    match fs::open(rt, target.file) {
+        Ok(file) => go_edition(
+            rt.alloc(),
+            &mut Reading::new(Closing { file: Some(file) }),
+            input,
+            out,
+            diag,
+            target.steps,
+            edition,
+        ),
+        Err(error) => status_of(&error),
+    }
+}
+
+// A file that is closed at its end: a run whose standard input is closed doesn't find it in that place.
+#[derive(Drop)]
+struct Closing<F: Read + Drop> {
+    file: Option<F>,
+}
+
+impl<F: Read + Drop> Read for Closing<F> {
+    fn read(&mut self, buf: &mut [u8]) -> io::Result<usize> {
+        let Some(file) = &mut self.file else {
+            return Ok(0);
+        };
+        let count = file.read(buf)?;
+        if count == 0 {
+            self.file = None;
+        }
+        Ok(count)
+    }
+}
+
+// The status of a file that can't be opened or read.
+fn status_of(error: &io::Error) -> Status
+    ensures { (result ≡ DEVICE) ⊎ (result ≡ MEMORY) }
+{
+    if error.kind() == io::ErrorKind::OutOfMemory {
+        status::MEMORY
+    } else {
+        status::DEVICE
+    }
+}
+
+/// Refuses a command line with a word that can't be read, and says so.
+pub fn refuse_words<D: ByteOut>(diag: &mut D) -> Status
+    ensures gives { Reported unread_line WRONG_COMMAND (D.outgoing diag.old) (D.outgoing diag.new) result }
+    ensures diag_lender { D.lender diag.new ≡ D.lender diag.old }
+{
+    refuse_with(UNREAD, diag)
+}
+
+// Writes what is wrong with a command line.
+fn refuse_with<D: ByteOut>(text: &str, diag: &mut D) -> Status
+    ensures gives { Reported text.now WRONG_COMMAND (D.outgoing diag.old) (D.outgoing diag.new) result }
+    ensures diag_lender { D.lender diag.new ≡ D.lender diag.old }
+{
+    tell(text, status::WRONG_COMMAND, diag)
+}
+
+// Writes a text, and answers this status or that of a refused write.
+fn tell<W: ByteOut>(text: &str, status: Status, end: &mut W) -> Status
+    ensures gives { Reported text.now status (W.outgoing end.old) (W.outgoing end.new) result }
+    ensures end_lender { W.lender end.new ≡ W.lender end.old }
+{
+    match end.put(text.as_bytes()) {
+        Ok(()) => status,
+        Err(fault) => status::of_fault(fault),
+    }
+}
+
+// Writes help to the output, and what is wrong beside it.
+fn refuse<O: ByteOut, D: ByteOut>(alloc: Global, error: Error, out: &mut O, diag: &mut D) -> Status
+    ensures refuses { (unread : Incoming) → Refuses (kind_of error) (record {
+      input = unread;
+      input_behind = unread;
+      out = O.outgoing out.old;
+      out_behind = O.outgoing out.new;
+      line = D.outgoing diag.old;
+      line_behind = D.outgoing diag.new;
+    }) result }
+    ensures out_lender { O.lender out.new ≡ O.lender out.old }
+    ensures diag_lender { D.lender diag.new ≡ D.lender diag.old }
+{
+    if error.kind() == ErrorKind::OutOfMemory {
+        return status::MEMORY;
+    }
+    let Ok(text) = error.to_string(alloc) else {
+        return status::MEMORY;
+    };
+    if error.use_stderr() {
+        refuse_with(text.as_str(), diag)
+    } else {
+        tell(text.as_str(), status::DONE, out)
+    }
+}

@@ -1,0 +1,104 @@
+//! What help tells, and what is said of a command line that can't be read.
+
+/// The version of this program, and the line of the kit that it is proved with.
+pub(crate) const VERSION: &str = "1.0.0, proved with rattle-kit-13b logic dac8208d650f15bf";
+
+/// What is said of a command line with a word that can't be read.
+pub(crate) const UNREAD: &str = "\
+error: a word of the command line is not UTF-8
+
+For more information, try '--help'.
+";
+
+/// What is said of a limit of steps and none.
+pub(crate) const CONTRADICTION: &str = "\
+error: the argument '--steps <N>' cannot be used with '--no-limit'
+
+For more information, try '--help'.
+";
+
+pub(crate) const ABOUT: &str =
+    "The compiler for the language B of 1972, and the machine that runs its code.";
+
+pub(crate) const HELP: &str = "\
+Examples:
+  b go hello.b                        compiles a source and runs it
+  b go --edition 2 menu.b             the same with a source of edition 2
+  b compile < hello.b > hello.code    writes its code text into a file
+  b run hello.code                    runs the code text
+  b go --help                         tells more about a command
+
+There are two editions of the language. In edition 2 break leaves the nearest
+while or switch, and a switch that has no case for its value goes to its
+default. In edition 1 these two words are names like others. A source is of
+edition 1 unless --edition 2 is given: take 1 for old sources, 2 for new ones.
+
+A source that compiles has status 0, and a run the status that it exits with.
+Other statuses, with the line on standard error where there is one:
+  1    a fault of the source: two letters, perhaps a name or one of the words
+       case, default and break, and the number of the line
+         sx  a token that can't stand there; sx case, sx default: one outside
+             a switch; sx break: one outside a while or switch
+         ch  a byte that begins no token
+         */  a comment without an end
+         nm  a name of more than eight characters
+         ct  a wrong number, character constant or string
+         rd  a name that is there already; rd case, rd default: a constant or
+             a default that the switch has already
+         lv  an operand that must be an lvalue and isn't
+         un  a name that is neither declared nor a label
+         >s  the 129th name of a function
+         >c  the 257th case of a function
+         >e  a definition past a limit of size
+  130  the run can't go on: trap, and two letters
+         dz  a zero divisor
+         fn  a call of what is no function
+         gt  a goto to what is no label of the function
+         st  no room in the store for a frame
+         dp  more than 4096 active calls
+         bs  a base of printn outside 2 to 10
+         sk  too few operands, or no instruction to go on with
+  131  the limit of steps: limit. Give more by --steps N, or --no-limit
+  132  no code text: code, and the number of the wrong line;
+       or one that doesn't load: load, and
+         1   a name defined twice
+         2   data or labels that are too many
+         3   a name that isn't defined
+         4   no function main
+  133  a failed read or write, or a FILE that can't be opened: no line
+  134  refused memory: no line
+  135  a wrong command line: what is wrong with it";
+
+pub(crate) const COMPILE_HELP: &str = "\
+Each definition is written when it has ended. After a fault the code of the
+definitions before it has been written, without the last line, E.
+
+Examples:
+  b compile < hello.b > hello.code
+  b compile --edition 2 < menu.b > menu.code
+
+Statuses: 0 compiled, 1 a fault of the source, 133 a failed read or write,
+134 refused memory, 135 a wrong command line. b --help has the letters.";
+
+pub(crate) const RUN_HELP: &str = "\
+The program has standard input and output. A step is one instruction.
+Where the line is limit, give it more by --steps N, or --no-limit.
+
+Example:
+  b run --steps 1000 hello.code
+
+Statuses: 0 to 127 the program's own, 130 a trap, 131 the limit of steps,
+132 no code text or one that doesn't load, 133 a failed read or write,
+134 refused memory, 135 a wrong command line. b --help has the letters.";
+
+pub(crate) const GO_HELP: &str = "\
+The program has standard input and output. A step is one instruction.
+Where the line is limit, give it more by --steps N, or --no-limit.
+
+Examples:
+  b go --steps 1000 hello.b
+  b go --edition 2 menu.b
+
+Statuses: 0 to 127 the program's own, 1 also a fault of the source, 130 a trap,
+131 the limit of steps, 132 code that doesn't load, 133 a failed read or write,
+134 refused memory, 135 a wrong command line. b --help has the letters.";
