@@ -1,25 +1,86 @@
--- A line read from the text ahead.
-use Rattle.std.proofs.Common.{◌≡◌, ℕ, ◌+◌, ◌<◌, List, [], ◌∷◌, ◌++◌, length, Some, None, Result, Ok, Err, IsErrAnd, refl, sym, ap, ◌∙◌, arith, append_assoc, append-nil, length-append}
+-- Lines read from the text ahead.
+use Rattle.std.proofs.Common.{subst, ◌≡◌, ℕ, ◌+◌, ◌<◌, true, List, [], ◌∷◌, ◌++◌, length, Option, Some, None, Result, Ok, Err, IsErrAnd, refl, sym, ap, ◌∙◌, arith, append_assoc, append-nil, length-append, eqb, ⊎_elim}
 use Rattle.std.specs.List.{flat_map}
 use Rattle.std.proofs.lemmas.List.Concat.{flat_map-append}
 use Rattle.std.proofs.lemmas.List.Elements.{All-nil, All-push}
-use Rattle.bcode.specs.Ahead.{Ahead, ReadsLine, RefusesLine, LineGives, ReadsLines, RefusesLines, LinesGive}
-use Rattle.bcode.specs.declared.fault.CodeFault.{CodeFault}
+use Rattle.bword.specs.ByteEnds.{Incoming, Took, Grew, CanFollow}
+use Rattle.bword.proofs.Taking.{Took-none, Took-append}
+use Rattle.bcode.specs.Ahead.{Ahead, ahead_of, TextAhead, ahead_in, ReadsOpening, Reads, ReadsSome, Passes, Breaks, ReadsLine, RefusesLine, LineGives, ReadsLines, RefusesLines, LinesGive}
 use Rattle.bcode.specs.declared.fault.CodeFault.TheVariants as fault
+use Rattle.bcode.specs.Text.{edition_line}
+use Rattle.bword.specs.declared.edition.Edition.TheVariants as editions
+use Rattle.bcode.specs.declared.stop.Stop.{Stop}
+use Rattle.bcode.specs.declared.stop.Stop.TheVariants as stop
 use Rattle.bcode.specs.LineReading.{Reader}
 use Rattle.bcode.proofs.LineLaws.{IsExact}
+use Rattle.bcode.proofs.PartLaws.{is_same}
+
+pub Grew-after : (a b c : ℕ) → b ≡ a → Grew b c → Grew a c
+Grew-after a b c e g = rw e at g
+
+pub Reads-none : (at : Ahead) → Reads at [] at
+Reads-none at = record { took = Took-none at.end; failures = refl; lender = refl }
+
+pub Reads-append : {a b c : Ahead} {xs ys : List ℕ} → Reads a xs b → Reads b ys c → Reads a (xs ++ ys) c
+Reads-append h k = record { took = Took-append h.took k.took; failures = k.failures ∙ h.failures; lender = k.lender ∙ h.lender }
+
+pub Passes-none : (at : Ahead) → Passes at [] 0 at
+Passes-none at = record { reads = Reads-none at; counted = omega arith }
+
+pub Passes-append : {a b c : Ahead} {xs ys : List ℕ} {n m : ℕ} → Passes a xs n b → Passes b ys m c → Passes a (xs ++ ys) (n + m) c
+Passes-append h k = record { reads = Reads-append h.reads k.reads; counted = (let x = h.counted in let y = k.counted in omega arith) }
+
+pub Breaks-after : {a b c : Ahead} {xs : List ℕ} → Reads a xs b → Breaks b c → Breaks a c
+Breaks-after {a} {b} {c} {xs} h k = record {
+  taken = xs ++ k.taken;
+  took = Took-append h.took k.took;
+  counted = Grew-after _ _ _ h.failures k.counted;
+  lender = k.lender ∙ h.lender;
+}
+
+-- a text in memory
+
+pub no_length : (t : List ℕ) → eqb (length t) 0 ≡ true → t ≡ []
+no_length [] e = refl
+no_length (x ∷ xs) e = let none = is_same (length (x ∷ xs)) 0 e in absurd (omega arith)
+
+pub both_empty : (xs ys : List ℕ) → xs ++ ys ≡ [] → (xs ≡ []) × (ys ≡ [])
+both_empty [] ys e = (refl, e)
+both_empty (x ∷ xs) ys e = absurd (cc)
+
+behind_none : (text taken rest : List ℕ) → text ≡ taken ++ rest → eqb (length text) 0 ≡ true → (taken ≡ []) × (eqb (length rest) 0 ≡ true)
+behind_none text taken rest same e =
+    let h = both_empty taken rest (sym same ∙ no_length text e) in (h.0, rw h.1 refl)
+
+pub reads_text : (text taken rest : List ℕ) (line line' : ℕ) → text ≡ taken ++ rest → Reads (ahead_of text line) taken (ahead_of rest line')
+reads_text text taken rest line line' same = record {
+  took = record {
+    bytes = same;
+    bound = omega (arith, ap length same, length-append taken rest);
+    over = behind_none text taken rest same;
+    all = λ _ e. same ∙ ap (λ l. taken ++ l) (no_length rest e);
+  };
+  failures = refl;
+  lender = refl;
+}
+
+pub passes_text : (text taken rest : List ℕ) (line : ℕ) → text ≡ taken ++ rest → Passes (ahead_of text line) taken 1 (ahead_of rest (line + 1))
+passes_text text taken rest line same = record { reads = reads_text text taken rest line (line + 1) same; counted = refl }
 
 module _ {X : Type 0} {spell : X → List ℕ} {within : X → Type 0} {read : Reader X} (exact : IsExact spell within read) where
   pub reads_line : (text : List ℕ) (line : ℕ) (x : X) (rest : List ℕ) → read text ≡ Some (x, rest)
-      → ReadsLine spell within (record { text = text; line = line }) x (record { text = rest; line = line + 1 })
+      → ReadsLine spell within (ahead_of text line) x (ahead_of rest (line + 1))
   reads_line text line x rest e =
-      let h = exact.sound text x rest e in record { inside = h.0; spelled = h.1; counted = refl }
+      let h = exact.sound text x rest e in record { inside = h.0; passes = passes_text text (spell x) rest line h.1 }
 
-  pub refuses_line : (text : List ℕ) (line : ℕ) → read text ≡ None → RefusesLine spell within (record { text = text; line = line }) line
+  pub refuses_line : (text : List ℕ) (line : ℕ) → read text ≡ None → RefusesLine spell within (ahead_of text line) line (ahead_of [] line)
   refuses_line text line e = record {
     here = refl;
-    none = λ x rest inside same.
-        let some : read text ≡ Some (x, rest) = ap read same ∙ exact.again x rest inside in
+    taken = text;
+    reads = reads_text text text [] line line (sym (append-nil text));
+    none = λ more can x rest inside same.
+        let whole : text ≡ spell x ++ rest = sym (append-nil text) ∙ ap (λ l. text ++ l) (sym (can refl)) ∙ same in
+        let some : read text ≡ Some (x, rest) = ap read whole ∙ exact.again x rest inside in
         cc;
   }
 
@@ -31,7 +92,7 @@ module _ {X : Type 0} {spell : X → List ℕ} {within : X → Type 0} {read : R
 
 module _ {X : Type 0} {spell : X → List ℕ} {within : X → Type 0} where
   pub ReadsLines-none : (at : Ahead) → ReadsLines spell within 0 at [] at
-  ReadsLines-none at = record { all = refl; inside = All-nil within; spelled = refl; counted = omega arith }
+  ReadsLines-none at = record { all = refl; inside = All-nil within; passes = Passes-none at }
 
   pub ReadsLines-more : {old mid new : Ahead} {i : ℕ} {xs : List X} {x : X} (ys : List X) → ReadsLines spell within i old xs mid → ReadsLine spell within mid x new
       → ys ≡ xs ++ x ∷ [] → ReadsLines spell within (i + 1) old ys new
@@ -41,28 +102,39 @@ module _ {X : Type 0} {spell : X → List ℕ} {within : X → Type 0} where
       rw pushed record {
         all = length-append xs (x ∷ []) ∙ ap (λ n. n + 1) before.all;
         inside = All-push within xs x before.inside step.inside;
-        spelled = before.spelled ∙ ap (λ l. flat_map spell xs ++ l) step.spelled ∙ sym (append_assoc (flat_map spell xs) (spell x) new.text)
-            ∙ ap (λ l. l ++ new.text) (sym more);
-        counted = let a = before.counted in let b = step.counted in omega arith;
+        passes = rw more (Passes-append before.passes step.passes);
       }
 
-  pub RefusesLines-after : {old mid : Ahead} {i : ℕ} {xs : List X} (count n : ℕ) → ReadsLines spell within i old xs mid → i < count → RefusesLine spell within mid n
-      → RefusesLines spell within count old n
-  RefusesLines-after {old} {mid} {i} {xs} count n before less refused = record {
-    read = xs;
-    fewer = rw before.all less;
-    inside = before.inside;
-    rest = mid.text;
-    spelled = before.spelled;
-    there = refused.here ∙ before.counted ∙ ap (λ k. old.line + k) (sym before.all);
-    none = refused.none;
-  }
+  -- the exit of a `?` behind some lines
+  pub gives_lines : {V : Type 0} (items : V → List X) {old mid : Ahead} {i : ℕ} {xs : List X} (count : ℕ) (now : Ahead) (r : Result V Stop) (e : Stop)
+      → ReadsLines spell within i old xs mid → i < count → IsErrAnd r (λ f. f ≡ e) → LineGives spell within mid (Err e) now → LinesGive spell within items count old r now
+  gives_lines items count now (Ok v) e before less same gives = absurd same
+  gives_lines {V} items {old} {mid} {i} {xs} count now (Err f) e before less same gives =
+      subst (λ (s : Stop). LinesGive spell within items count old (Err s) now) (sym same) (stopped e gives)
+    where
+      stopped : (e : Stop) → LineGives spell within mid (Err e) now → LinesGive spell within items count old (Err e) now
+      stopped (stop.Fault (fault.Line n)) refused = record {
+        read = xs;
+        fewer = rw before.all less;
+        inside = before.inside;
+        mid = mid;
+        passes = rw before.all before.passes;
+        refused = refused;
+      }
+      stopped (stop.Fault fault.Memory) gives = absurd gives
+      stopped stop.Device breaks = Breaks-after before.passes.reads breaks
 
-  -- the exit of a `?`
-  pub gives_lines : {V : Type 0} (items : V → List X) {old mid : Ahead} {i : ℕ} {xs : List X} (count : ℕ) (now : Ahead) (r : Result V CodeFault) (e : CodeFault) (new : Ahead)
-      → ReadsLines spell within i old xs mid → i < count → IsErrAnd r (λ f. f ≡ e) → LineGives spell within mid (Err e) now → LinesGive spell within items count old r new
-  gives_lines items count now (Ok v) e new before less same refused = absurd same
-  gives_lines items count now (Err (fault.Line n)) (fault.Line k) new before less same refused =
-      let n_is : n ≡ k = cc in rw n_is (RefusesLines-after count k before less refused)
-  gives_lines items count now (Err (fault.Line n)) fault.Memory new before less same refused = absurd refused
-  gives_lines items count now (Err fault.Memory) e new before less same refused = tt
+  -- the exit where a line's value has no room
+  pub gives_memory : {V : Type 0} (items : V → List X) {old mid : Ahead} {i : ℕ} {xs : List X} {x : X} (count : ℕ) (now : Ahead) (r : Result V Stop)
+      → ReadsLines spell within i old xs mid → ReadsLine spell within mid x now → IsErrAnd r (λ f. f ≡ stop.Fault fault.Memory)
+      → LinesGive spell within items count old r now
+  gives_memory items count now (Ok v) before step same = absurd same
+  gives_memory {V} items {old} count now (Err f) before step same =
+      subst (λ (s : Stop). LinesGive spell within items count old (Err s) now) (sym same) (_, Reads-append before.passes.reads step.passes.reads)
+
+pub no_opening : (text : List ℕ) (line : ℕ) → ((rest : List ℕ) → text ≡ edition_line ++ rest → ⊥) → ReadsOpening (ahead_of text line) editions.One (ahead_of text line)
+no_opening text line none = (refl, λ rest e. none rest (cc))
+
+-- no read of a text in memory fails
+pub no_break : (old new : TextAhead) → Breaks (ahead_in old) (ahead_in new) → ⊥
+no_break old new h = ⊎_elim (λ less. omega arith) (λ most. absurd (let a = most.0 in omega arith)) h.counted

@@ -1,86 +1,139 @@
 -- Lines read one kind after another.
-use Rattle.std.proofs.Common.{subst, ◌≡◌, ℕ, suc, ◌+◌, List, [], ◌∷◌, ◌++◌, length, map, replicate, Option, Result, Ok, Err, IsErrAnd, refl, sym, ap, ◌∙◌, arith, append_assoc}
+use Rattle.std.proofs.Common.{subst, ◌≡◌, ℕ, suc, ◌+◌, ◌<◌, ◌≤◌, List, [], ◌∷◌, ◌++◌, length, map, replicate, take, Option, Some, None, Result, Ok, Err, IsErrAnd, refl, sym, ap, ◌∙◌, arith, append_assoc, append-nil, length-append}
+use Rattle.std.specs.Prelude.{All}
 use Rattle.std.specs.List.{flat_map}
+use Rattle.std.proofs.Math.Seq.{take-append_seam}
+use Rattle.std.proofs.lemmas.List.{length-replicate, length-map}
 use Rattle.std.proofs.lemmas.List.Concat.{flat_map-append}
-use Rattle.bcode.specs.Ahead.{Ahead, ReadsLine, RefusesLine, ReadsLines, RefusesLines, LinesGive, GoesOn, StopsAhead, ReadsBody, BodyGives, ReadsDefinition, ReadsEnd, HasNext, DefinitionGives}
-use Rattle.bcode.specs.Headers.{header_text, IsHeaderWithin}
-use Rattle.bcode.specs.Stopping.{Kind, IsOfKind, State, expects, state_after, Stops}
-use Rattle.bcode.specs.Text.{joined, header_line, body_lines}
+use Rattle.std.proofs.lemmas.List.Elements.{All-nil}
+use Rattle.bword.specs.ByteEnds.{CanFollow}
+use Rattle.bcode.specs.Ahead.{Ahead, Reads, ReadsSome, Passes, Breaks, ReadsLine, RefusesLine, ReadsLines, RefusesLines, LineGives, LinesGive, StopsAhead, StopsAmong, ReadsBody, BodyGives, ReadsDefinition, StopsInside, HasNext, DefinitionGives}
+use Rattle.bcode.specs.Definitions.{IsWord, IsInstrWithin, IsIvalWithin, sizes_of}
+use Rattle.bcode.specs.Headers.{header_of, header_text, IsHeaderWithin}
+use Rattle.bcode.specs.Stopping.{Kind, value, target, string, instruction, IsOfKind, State, expects, finished, kinds_after, state_after, Stops}
+use Rattle.bcode.specs.Text.{joined, header_line, body_lines, lines_of, text_of, end_text, ended_lines, target_line, string_line, ival_line, instr_line}
+use Rattle.bcode.specs.Views.{IsWithinRanges}
 use Rattle.bcode.specs.declared.definition.Definition.{Definition}
-use Rattle.bcode.specs.declared.fault.CodeFault.{CodeFault}
+use Rattle.bcode.specs.declared.definition.Definition.TheVariants as definition
 use Rattle.bcode.specs.declared.fault.CodeFault.TheVariants as fault
 use Rattle.bcode.specs.declared.header.Header.{Header}
 use Rattle.bcode.specs.declared.header.Header.TheVariants as header
-use Rattle.bcode.proofs.StoppingLaws.{AreGoodKinds, IsGoodState, good_after, sample}
-use Rattle.bcode.proofs.CodeLaws.{made, OfKinds, OfState, stops_behind, stops_last, stops_among, stops_among_last, header_of-text}
+use Rattle.bcode.specs.declared.stop.Stop.{Stop}
+use Rattle.bcode.specs.declared.stop.Stop.TheVariants as stop
+use Rattle.bcode.proofs.AheadLaws.{Reads-none, Reads-append, Passes-append, Breaks-after}
+use Rattle.bcode.proofs.HeaderLaws.{header_at-exact}
+use Rattle.bcode.proofs.StoppingLaws.{AreGoodKinds, IsGoodState, good_after, sample, same_spelling, greatest_path, Path}
+use Rattle.bcode.proofs.CodeLaws.{made, OfKinds, OfState, stops_behind, stops_last, stops_among, stops_among_last, header_of-text, header_of-within, path_body, ended_path, of_value, of_target, of_string, of_instr}
 
-pub GoesOn-trans : {a b c : Ahead} {s t u : State} → GoesOn a s b t → GoesOn b t c u → GoesOn a s c u
-GoesOn-trans {a} {b} {c} {s} {t} {u} h k = record {
-  taken = h.taken + k.taken;
-  counted = let x = h.counted in let y = k.counted in omega arith;
-  onward = λ n stops.
-      let same : h.taken + (k.taken + n) ≡ h.taken + k.taken + n = omega arith in
-      subst (λ (m : ℕ). Stops m s a.text) same (h.onward (k.taken + n) (k.onward n stops));
+-- lines lead from one state to another: what stops behind them stops so many lines later before them
+abbrev pub GoesOn : State → List ℕ → ℕ → State → Type 0
+GoesOn from text count to = (n : ℕ) (rest : List ℕ) → Stops n to rest → Stops (count + n) from (text ++ rest)
+
+pub GoesOn-append : (s t u : State) (x y : List ℕ) (i j : ℕ) → GoesOn s x i t → GoesOn t y j u → GoesOn s (x ++ y) (i + j) u
+GoesOn-append s t u x y i j h k n rest stops =
+    let count : i + (j + n) ≡ i + j + n = omega arith in
+    subst (λ (m : ℕ). Stops m s (x ++ y ++ rest)) count
+    (subst (λ (l : List ℕ). Stops (i + (j + n)) s l) (sym (append_assoc x y rest)) (h (j + n) (y ++ rest) (k n rest stops)))
+
+pub StopsAhead-behind : {a b c : Ahead} {s t : State} {text : List ℕ} {count n : ℕ} → Passes a text count b → GoesOn s text count t → StopsAhead t b n c → StopsAhead s a n c
+StopsAhead-behind {a} {b} {c} {s} {t} {text} {count} {n} p goes h = record {
+  good = count + h.good;
+  there = (let x = p.counted in let y = h.there in omega arith);
+  taken = text ++ h.taken;
+  reads = Reads-append p.reads h.reads;
+  stops = λ more can. subst (λ (l : List ℕ). Stops (count + h.good) s l) (sym (append_assoc text h.taken more)) (goes h.good (h.taken ++ more) (h.stops more can));
 }
 
-pub StopsAhead-behind : {a b : Ahead} {s t : State} (n : ℕ) → GoesOn a s b t → StopsAhead t b n → StopsAhead s a n
-StopsAhead-behind n h k = record {
-  good = h.taken + k.good;
-  stops = h.onward k.good k.stops;
-  there = let x = h.counted in let y = k.there in omega arith;
-}
+pub StopsAmong-behind : {a b c : Ahead} {ks ls : List Kind} {text : List ℕ} {count n : ℕ} → Passes a text count b → GoesOn (expects ks) text count (expects ls) → length ks ≡ count + length ls
+    → StopsAmong ls b n c → StopsAmong ks a n c
+unfolding StopsAhead-behind
+StopsAmong-behind p goes all h = record { stopped = StopsAhead-behind p goes h.stopped; among = (let l = h.among in omega arith) }
 
-module _ {X : Type 0} (spell : X → List ℕ) (within : X → Type 0) (kind : Kind) where
-  module _ (of_kind : (x : X) → within x → IsOfKind kind (spell x)) (is_kind : (l : List ℕ) → IsOfKind kind l → (x : X) × within x × (l ≡ spell x)) where
-    pub goes_on : {old new : Ahead} {xs : List X} (count : ℕ) (ks : List Kind) → ReadsLines spell within count old xs new
-        → GoesOn old (expects (replicate count kind ++ ks)) new (expects ks)
-    goes_on {old} {new} {xs} count ks r = record {
-      taken = count;
-      counted = r.counted;
-      onward = λ n stops.
-          let all = stops_behind spell within kind of_kind xs ks n new.text r.inside stops in
-          let counted = subst (λ (c : ℕ). Stops (c + n) (expects (replicate c kind ++ ks)) (flat_map spell xs ++ new.text)) r.all all in
-          subst (λ (t : List ℕ). Stops (count + n) (expects (replicate count kind ++ ks)) t) (sym r.spelled) counted;
+module _ {X : Type 0} (spell : X → List ℕ) (within : X → Type 0) (kind : Kind) (of_kind : (x : X) → within x → IsOfKind kind (spell x)) where
+  pub items_go : (xs : List X) (ks : List Kind) → All within xs → GoesOn (expects (replicate (length xs) kind ++ ks)) (flat_map spell xs) (length xs) (expects ks)
+  items_go xs ks all n rest stops = stops_behind spell within kind of_kind xs ks n rest all stops
+
+  pub items_go_last : (xs : List X) → All within xs → GoesOn (expects (replicate (length xs) kind)) (flat_map spell xs) (length xs) (expects [])
+  items_go_last xs all n rest stops = stops_last spell within kind of_kind xs n rest all stops
+
+  pub goes_on : {old new : Ahead} {xs : List X} (count : ℕ) (ks : List Kind) → ReadsLines spell within count old xs new
+      → GoesOn (expects (replicate count kind ++ ks)) (flat_map spell xs) count (expects ks)
+  goes_on {old} {new} {xs} count ks r =
+      subst (λ (c : ℕ). GoesOn (expects (replicate c kind ++ ks)) (flat_map spell xs) c (expects ks)) r.all (items_go xs ks r.inside)
+
+  module _ (is_kind : (l : List ℕ) → IsOfKind kind l → (x : X) × within x × (l ≡ spell x)) where
+    pub stops_here : {old new : Ahead} (count : ℕ) (ks : List Kind) (n : ℕ) → RefusesLines spell within count old n new → StopsAmong (replicate count kind ++ ks) old n new
+    stops_here {old} {new} count ks n r = record {
+      stopped = record {
+        good = length r.read;
+        there = (let x = r.refused.here in let y = r.passes.counted in omega arith);
+        taken = flat_map spell r.read ++ r.refused.taken;
+        reads = Reads-append r.passes.reads r.refused.reads;
+        stops = λ more can. subst (λ (t : List ℕ). Stops (length r.read) (expects (replicate count kind ++ ks)) t)
+            (sym (append_assoc (flat_map spell r.read) r.refused.taken more))
+            (stops_among spell within kind of_kind is_kind r.read count ks (r.refused.taken ++ more) r.fewer r.inside (r.refused.none more can));
+      };
+      among = (let f = r.fewer in omega (arith, length-append (replicate count kind) ks, length-replicate count kind));
     }
 
-    pub goes_on_last : {old new : Ahead} {xs : List X} (count : ℕ) → ReadsLines spell within count old xs new → GoesOn old (expects (replicate count kind)) new (expects [])
-    goes_on_last {old} {new} {xs} count r = record {
-      taken = count;
-      counted = r.counted;
-      onward = λ n stops.
-          let all = stops_last spell within kind of_kind xs n new.text r.inside stops in
-          let counted = subst (λ (c : ℕ). Stops (c + n) (expects (replicate c kind)) (flat_map spell xs ++ new.text)) r.all all in
-          subst (λ (t : List ℕ). Stops (count + n) (expects (replicate count kind)) t) (sym r.spelled) counted;
-    }
-
-    pub stops_here : {old : Ahead} (count : ℕ) (ks : List Kind) (n : ℕ) → RefusesLines spell within count old n → StopsAhead (expects (replicate count kind ++ ks)) old n
-    stops_here {old} count ks n r = record {
-      good = length r.read;
-      stops = subst (λ (t : List ℕ). Stops (length r.read) (expects (replicate count kind ++ ks)) t) (sym r.spelled)
-          (stops_among spell within kind of_kind is_kind r.read count ks r.rest r.fewer r.inside r.none);
-      there = r.there;
-    }
-
-    pub stops_here_last : {old : Ahead} (count n : ℕ) → RefusesLines spell within count old n → StopsAhead (expects (replicate count kind)) old n
-    stops_here_last {old} count n r = record {
-      good = length r.read;
-      stops = subst (λ (t : List ℕ). Stops (length r.read) (expects (replicate count kind)) t) (sym r.spelled)
-          (stops_among_last spell within kind of_kind is_kind r.read count r.rest r.fewer r.inside r.none);
-      there = r.there;
-    }
+    pub stops_here_last : {old new : Ahead} (count n : ℕ) → RefusesLines spell within count old n new → StopsAmong (replicate count kind) old n new
+    stops_here_last {old} {new} count n r =
+        subst (λ (ks : List Kind). StopsAmong ks old n new) (append-nil (replicate count kind)) (stops_here count [] n r)
 
 -- the exit of a `?` behind lines
-pub body_exit : {X V : Type 0} (spell : X → List ℕ) (within : X → Type 0) (items : V → List X) (count : ℕ) (h : Header) (old mid now new : Ahead) (r : Result Definition CodeFault) (e : CodeFault)
-    → IsErrAnd r (λ f. f ≡ e) → LinesGive spell within items count mid (Err e) now → ((n : ℕ) → RefusesLines spell within count mid n → StopsAhead (state_after h) old n)
-    → BodyGives h old r new
-body_exit spell within items count h old mid now new (Ok d) e same gives stops = absurd same
-body_exit spell within items count h old mid now new (Err (fault.Line n)) (fault.Line k) same gives stops = let n_is : n ≡ k = cc in rw n_is (stops k gives)
-body_exit spell within items count h old mid now new (Err (fault.Line n)) fault.Memory same gives stops = absurd (cc)
-body_exit spell within items count h old mid now new (Err fault.Memory) e same gives stops = tt
+pub body_exit : {X V : Type 0} (spell : X → List ℕ) (within : X → Type 0) (items : V → List X) (count : ℕ) (h : Header) {old mid : Ahead} {before : List ℕ} (now : Ahead) (r : Result Definition Stop) (e : Stop)
+    → IsErrAnd r (λ f. f ≡ e) → Reads old before mid → LinesGive spell within items count mid (Err e) now → ((n : ℕ) → RefusesLines spell within count mid n now → StopsAmong (kinds_after h) old n now)
+    → BodyGives h old r now
+body_exit spell within items count h now (Ok d) e same reads gives stops = absurd same
+body_exit spell within items count h {old} {mid} now (Err f) e same reads gives stops =
+    subst (λ (s : Stop). BodyGives h old (Err s) now) (sym same) (exit e gives)
+  where
+    exit : (e : Stop) → LinesGive spell within items count mid (Err e) now → BodyGives h old (Err e) now
+    exit (stop.Fault (fault.Line n)) gives = stops n gives
+    exit (stop.Fault fault.Memory) gives = (_, Reads-append reads gives.1)
+    exit stop.Device gives = Breaks-after reads gives
 
 pub flat_joined : {X : Type 0} (f : X → List ℕ) (xs : List X) → flat_map f xs ≡ joined (map f xs)
 flat_joined f [] = refl
 flat_joined f (x ∷ xs) = ap (λ l. f x ++ l) (flat_joined f xs)
+
+two_joined : {X Y : Type 0} (f : X → List ℕ) (g : Y → List ℕ) (xs : List X) (ys : List Y) → joined (map f xs ++ map g ys) ≡ flat_map f xs ++ flat_map g ys
+two_joined f g xs ys =
+    flat_map-append (λ l. l) (map f xs) (map g ys) ∙ ap (λ l. l ++ joined (map g ys)) (sym (flat_joined f xs)) ∙ ap (λ l. flat_map f xs ++ l) (sym (flat_joined g ys))
+
+three_joined : {X Y Z : Type 0} (f : X → List ℕ) (g : Y → List ℕ) (h : Z → List ℕ) (xs : List X) (ys : List Y) (zs : List Z) → joined (map f xs ++ map g ys ++ map h zs) ≡ flat_map f xs ++ flat_map g ys ++ flat_map h zs
+three_joined f g h xs ys zs =
+    flat_map-append (λ l. l) (map f xs ++ map g ys) (map h zs) ∙ ap (λ l. l ++ joined (map h zs)) (two_joined f g xs ys)
+    ∙ ap (λ l. flat_map f xs ++ flat_map g ys ++ l) (sym (flat_joined h zs))
+
+pub two_passed : {X Y : Type 0} (f : X → List ℕ) (g : Y → List ℕ) (xs : List X) (ys : List Y) {a b c : Ahead} {n m : ℕ} → length xs ≡ n → length ys ≡ m
+    → Passes a (flat_map f xs) n b → Passes b (flat_map g ys) m c → Passes a (joined (map f xs ++ map g ys)) (length (map f xs ++ map g ys)) c
+two_passed f g xs ys {a} {b} {c} {n} {m} x y p q =
+    let all : length (map f xs ++ map g ys) ≡ n + m = omega (arith, length-append (map f xs) (map g ys), length-map xs f, length-map ys g) in
+    rw (two_joined f g xs ys, all) (Passes-append p q)
+
+pub three_passed : {X Y Z : Type 0} (f : X → List ℕ) (g : Y → List ℕ) (h : Z → List ℕ) (xs : List X) (ys : List Y) (zs : List Z) {a b c d : Ahead} {n m k : ℕ}
+    → length xs ≡ n → length ys ≡ m → length zs ≡ k
+    → Passes a (flat_map f xs) n b → Passes b (flat_map g ys) m c → Passes c (flat_map h zs) k d
+    → Passes a (joined (map f xs ++ map g ys ++ map h zs)) (length (map f xs ++ map g ys ++ map h zs)) d
+three_passed f g h xs ys zs {a} {b} {c} {d} {n} {m} {k} x y z p q r =
+    let all : length (map f xs ++ map g ys ++ map h zs) ≡ n + m + k =
+    omega (arith, length-append (map f xs ++ map g ys) (map h zs), length-append (map f xs) (map g ys), length-map xs f, length-map ys g, length-map zs h) in
+    rw (three_joined f g h xs ys zs, all) (Passes-append (Passes-append p q) r)
+
+pub two_goes : {X Y : Type 0} (f : X → List ℕ) (g : Y → List ℕ) (xs : List X) (ys : List Y) (s t : State) → GoesOn s (flat_map f xs ++ flat_map g ys) (length xs + length ys) t
+    → GoesOn s (joined (map f xs ++ map g ys)) (length (map f xs ++ map g ys)) t
+two_goes f g xs ys s t h =
+    let all : length (map f xs ++ map g ys) ≡ length xs + length ys = omega (arith, length-append (map f xs) (map g ys), length-map xs f, length-map ys g) in
+    rw (two_joined f g xs ys, all) h
+
+pub three_goes : {X Y Z : Type 0} (f : X → List ℕ) (g : Y → List ℕ) (h : Z → List ℕ) (xs : List X) (ys : List Y) (zs : List Z) (s t : State)
+    → GoesOn s (flat_map f xs ++ flat_map g ys ++ flat_map h zs) (length xs + length ys + length zs) t
+    → GoesOn s (joined (map f xs ++ map g ys ++ map h zs)) (length (map f xs ++ map g ys ++ map h zs)) t
+three_goes f g h xs ys zs s t k =
+    let all : length (map f xs ++ map g ys ++ map h zs) ≡ length xs + length ys + length zs =
+    omega (arith, length-append (map f xs ++ map g ys) (map h zs), length-append (map f xs) (map g ys), length-map xs f, length-map ys g, length-map zs h) in
+    rw (three_joined f g h xs ys zs, all) k
 
 pub two_kinds : {X Y : Type 0} (f : X → List ℕ) (g : Y → List ℕ) (xs : List X) (ys : List Y) (a b c : List ℕ) → a ≡ flat_map f xs ++ b → b ≡ flat_map g ys ++ c
     → a ≡ joined (map f xs ++ map g ys) ++ c
@@ -97,38 +150,111 @@ three_kinds f g h xs ys zs a b c d first second third =
     two_kinds f g xs ys a b c first second ∙ ap (λ l. joined (map f xs ++ map g ys) ++ l) third
     ∙ sym (append_assoc (joined (map f xs ++ map g ys)) (flat_map h zs) d) ∙ ap (λ l. l ++ d) (sym whole)
 
+-- as many lines as the header says
+kinds_count : (d : Definition) → length (kinds_after (header_of d)) ≡ length (body_lines d)
+kinds_count (definition.Function f) =
+    let s = sizes_of f in
+    omega (
+      arith,
+      length-append (replicate s.labels (target s.code)) (replicate s.strings string ++ replicate s.code (instruction s)),
+      length-append (replicate s.strings string) (replicate s.code (instruction s)),
+      length-replicate s.labels (target s.code),
+      length-replicate s.strings string,
+      length-replicate s.code (instruction s),
+      length-append (map target_line f.targets ++ map string_line f.strings) (map instr_line f.code),
+      length-append (map target_line f.targets) (map string_line f.strings),
+      length-map f.targets target_line,
+      length-map f.strings string_line,
+      length-map f.code instr_line,
+    )
+kinds_count (definition.Simple s) =
+    omega (
+      arith,
+      length-append (replicate (length s.values) (value (length s.strings))) (replicate (length s.strings) string),
+      length-replicate (length s.values) (value (length s.strings)),
+      length-replicate (length s.strings) string,
+      length-append (map ival_line s.values) (map string_line s.strings),
+      length-map s.values ival_line,
+      length-map s.strings string_line,
+    )
+kinds_count (definition.Vector v) =
+    omega (
+      arith,
+      length-append (replicate (length v.values) (value (length v.strings))) (replicate (length v.strings) string),
+      length-replicate (length v.values) (value (length v.strings)),
+      length-replicate (length v.strings) string,
+      length-append (map ival_line v.values) (map string_line v.strings),
+      length-map v.values ival_line,
+      length-map v.strings string_line,
+    )
+
+pub not_end : (d : Definition) → header_of d ≡ header.End → ⊥
+not_end (definition.Function f) e = cc
+not_end (definition.Simple f) e = cc
+not_end (definition.Vector f) e = cc
+
+pub state_of : (h : Header) → (h ≡ header.End → ⊥) → state_after h ≡ expects (kinds_after h)
+state_of (header.Function name parameters s) more = refl
+state_of (header.Simple name values strings) more = refl
+state_of (header.Vector name words values strings) more = refl
+state_of header.End more = absurd (more refl)
+
+-- a definition's text as its header and what is behind it
+pub text_header : (d : Definition) (rest : List ℕ) → text_of d ++ rest ≡ header_text (header_of d) ++ (joined (body_lines d) ++ rest)
+text_header d rest = append_assoc (header_line d) (joined (body_lines d)) rest ∙ ap (λ l. l ++ (joined (body_lines d) ++ rest)) (sym (header_of-text d))
+
+-- a text with a definition's lines doesn't stop among them
+passes_body : (d : Definition) (good : ℕ) (text rest : List ℕ) → IsWithinRanges d → Stops good (state_after (header_of d)) text → text ≡ joined (body_lines d) ++ rest → length (body_lines d) ≤ good
+passes_body d good text rest inside stops same =
+    let ls = body_lines d ++ ended_lines [] in
+    let all : joined (take (length (body_lines d)) ls) ++ rest ≡ joined (body_lines d) ++ rest =
+    ap (λ l. joined l ++ rest) (take-append_seam (body_lines d) (ended_lines [])) in
+    greatest_path good (state_after (header_of d)) text (good_after (header_of d) (header_of-within d inside)) stops (length (body_lines d)) ls
+    (path_body d (ended_lines []) inside (ended_path [] (All-nil IsWithinRanges))) (omega (arith, length-append (body_lines d) (ended_lines []))) rest (same ∙ sym all)
+
 -- a definition's first line
 
-pub header_goes : {old new : Ahead} (h : Header) → ReadsLine header_text IsHeaderWithin old h new → GoesOn old (expects []) new (state_after h)
-header_goes {old} {new} h r = record {
-  taken = 1;
-  counted = r.counted;
-  onward = λ n stops.
-      let same : suc n ≡ 1 + n = omega arith in
-      let first : Stops (suc n) (expects []) old.text = (header_text h, state_after h, new.text, (h, r.inside, refl, refl), r.spelled, stops) in
-      subst (λ (m : ℕ). Stops m (expects []) old.text) same first;
-}
+pub header_go : (h : Header) → IsHeaderWithin h → GoesOn (expects []) (header_text h) 1 (state_after h)
+header_go h inside n rest stops =
+    let same : suc n ≡ 1 + n = omega arith in
+    let first : Stops (suc n) (expects []) (header_text h ++ rest) = (header_text h, state_after h, rest, (h, inside, refl, refl), refl, stops) in
+    subst (λ (m : ℕ). Stops m (expects []) (header_text h ++ rest)) same first
 
-pub header_stops : {old : Ahead} (n : ℕ) → RefusesLine header_text IsHeaderWithin old n → StopsAhead (expects []) old n
-header_stops {old} n r = record {
-  good = 0;
-  stops = record {
-    refused = λ l to rest leads same. r.none leads.0 rest leads.1 (same ∙ ap (λ t. t ++ rest) leads.2);
-    not_finished = λ e. absurd (cc);
+pub header_stops : {old new : Ahead} (n : ℕ) → RefusesLine header_text IsHeaderWithin old n new → StopsInside old n new
+header_stops {old} {new} n r = record {
+  stopped = record {
+    good = 0;
+    there = (let x = r.here in omega arith);
+    taken = r.taken;
+    reads = r.reads;
+    stops = λ more can. record {
+      refused = λ l to rest leads same. r.none more can leads.0 rest leads.1 (same ∙ ap (λ t. t ++ rest) leads.2);
+      not_finished = λ e. absurd (cc);
+    };
   };
-  there = let x = r.here in omega arith;
+  none = λ more can d rest inside same. r.none more can (header_of d) (joined (body_lines d) ++ rest) (header_of-within d inside) (same ∙ text_header d rest);
 }
 
-pub reads_end : {old new : Ahead} → ReadsLine header_text IsHeaderWithin old header.End new → ReadsEnd old new
-reads_end r = record { spelled = r.spelled; onward = header_goes header.End r }
+pub header_exit : (old now : Ahead) (r : Result (Option Definition) Stop) (e : Stop) → IsErrAnd r (λ f. f ≡ e) → LineGives header_text IsHeaderWithin old (Err e) now → DefinitionGives old r now
+header_exit old now (Ok o) e same gives = absurd same
+header_exit old now (Err f) e same gives = subst (λ (s : Stop). DefinitionGives old (Err s) now) (sym same) (exit e gives)
+  where
+    exit : (e : Stop) → LineGives header_text IsHeaderWithin old (Err e) now → DefinitionGives old (Err e) now
+    exit (stop.Fault (fault.Line n)) gives = header_stops n gives
+    exit (stop.Fault fault.Memory) gives = absurd gives
+    exit stop.Device gives = gives
+
+pub reads_end : {old new : Ahead} → ReadsLine header_text IsHeaderWithin old header.End new → Passes old end_text 1 new
+reads_end r = r.passes
 
 pub reads_definition : {old mid new : Ahead} (h : Header) (d : Definition) → ReadsLine header_text IsHeaderWithin old h mid → ReadsBody h mid d new → ReadsDefinition old d new
 reads_definition {old} {mid} {new} h d r b = record {
   inside = b.inside;
-  spelled =
+  passes =
       let first : header_text h ≡ header_line d = ap header_text (sym b.header) ∙ header_of-text d in
-      r.spelled ∙ ap (λ l. l ++ mid.text) first ∙ ap (λ l. header_line d ++ l) b.spelled ∙ sym (append_assoc (header_line d) (joined (body_lines d)) new.text);
-  onward = GoesOn-trans (header_goes h r) b.onward;
+      let all : 1 + length (body_lines d) ≡ length (lines_of d) = omega arith in
+      let whole = Passes-append r.passes b.passes in
+      subst (λ (n : ℕ). Passes old (text_of d) n new) all (subst (λ (l : List ℕ). Passes old (l ++ joined (body_lines d)) (1 + length (body_lines d)) new) first whole);
 }
 
 some_lines : (ks : List Kind) → AreGoodKinds ks → (bs : List (List ℕ)) × OfKinds ks bs
@@ -138,28 +264,45 @@ some_lines (k ∷ ks) good =
     let others = some_lines ks good.1 in
     (first.0 ∷ others.0, (first.1, others.1))
 
-next_from : {old mid : Ahead} (h : Header) (ks : List Kind) → state_after h ≡ expects ks → ReadsLine header_text IsHeaderWithin old h mid → HasNext old.text
-next_from {old} {mid} h ks state r =
-    let lines = some_lines ks (subst IsGoodState state (good_after h r.inside)) in
+next_from : {old mid now : Ahead} (h : Header) → state_after h ≡ expects (kinds_after h) → ReadsLine header_text IsHeaderWithin old h mid → ReadsSome mid now → HasNext old now
+next_from {old} {mid} {now} h state r others =
+    let lines = some_lines (kinds_after h) (subst IsGoodState state (good_after h r.inside)) in
     let m = made h lines.0 r.inside (subst (λ (z : State). OfState z lines.0) (sym state) lines.1) in
     record {
+      taken = header_text h ++ others.0;
+      reads = Reads-append r.passes.reads others.1;
       next = m.definition;
       inside = m.inside;
-      rest = mid.text;
-      spelled = r.spelled ∙ ap (λ t. header_text t ++ mid.text) (sym m.header) ∙ ap (λ t. t ++ mid.text) (header_of-text m.definition);
+      rest = others.0;
+      spelled = ap (λ t. header_text t ++ others.0) (sym m.header) ∙ ap (λ t. t ++ others.0) (header_of-text m.definition);
     }
 
-pub has_next : {old mid : Ahead} (h : Header) → (h ≡ header.End → ⊥) → ReadsLine header_text IsHeaderWithin old h mid → HasNext old.text
-has_next (header.Function name parameters s) more r = next_from (header.Function name parameters s) _ refl r
-has_next (header.Simple name values strings) more r = next_from (header.Simple name values strings) _ refl r
-has_next (header.Vector name words values strings) more r = next_from (header.Vector name words values strings) _ refl r
-has_next header.End more r = absurd (more refl)
+body_stops : {old mid now : Ahead} (h : Header) (n : ℕ) → state_after h ≡ expects (kinds_after h) → ReadsLine header_text IsHeaderWithin old h mid → StopsAmong (kinds_after h) mid n now
+    → StopsInside old n now
+unfolding StopsAhead-behind
+body_stops {old} {mid} {now} h n state r s = record {
+  stopped = StopsAhead-behind r.passes (subst (λ (z : State). GoesOn (expects []) (header_text h) 1 z) state (header_go h r.inside)) s.stopped;
+  none = none;
+}
+  where
+    none : (more : List ℕ) → CanFollow now.end more → (d : Definition) (rest : List ℕ) → IsWithinRanges d → header_text h ++ s.stopped.taken ++ more ≡ text_of d ++ rest → ⊥
+    none more can d rest inside same =
+        let one = same_spelling header_at-exact h (header_of d) (s.stopped.taken ++ more) (joined (body_lines d) ++ rest) r.inside (header_of-within d inside)
+        (sym (append_assoc (header_text h) s.stopped.taken more) ∙ same ∙ text_header d rest) in
+        let stops : Stops s.stopped.good (state_after (header_of d)) (s.stopped.taken ++ more) =
+        subst (λ (z : State). Stops s.stopped.good z (s.stopped.taken ++ more)) (sym state ∙ ap state_after one.0) (s.stopped.stops more can) in
+        let least = passes_body d s.stopped.good (s.stopped.taken ++ more) rest inside stops one.1 in
+        let count = ap (λ z. length (kinds_after z)) one.0 ∙ kinds_count d in
+        let l = s.among in
+        omega (arith, count, least, l)
 
 -- the exit of a `?` behind a header
-pub next_exit : {old mid : Ahead} (h : Header) (now new : Ahead) (r : Result (Option Definition) CodeFault) (e : CodeFault) → (h ≡ header.End → ⊥)
-    → ReadsLine header_text IsHeaderWithin old h mid → IsErrAnd r (λ f. f ≡ e) → BodyGives h mid (Err e) now → DefinitionGives old r new
-next_exit h now new (Ok o) e more read same gives = absurd same
-next_exit h now new (Err (fault.Line n)) (fault.Line k) more read same gives =
-    let n_is : n ≡ k = cc in rw n_is (StopsAhead-behind k (header_goes h read) gives)
-next_exit h now new (Err (fault.Line n)) fault.Memory more read same gives = absurd (cc)
-next_exit h now new (Err fault.Memory) e more read same gives = has_next h more read
+pub next_exit : {old mid : Ahead} (h : Header) (now : Ahead) (r : Result (Option Definition) Stop) (e : Stop) → (h ≡ header.End → ⊥)
+    → ReadsLine header_text IsHeaderWithin old h mid → IsErrAnd r (λ f. f ≡ e) → BodyGives h mid (Err e) now → DefinitionGives old r now
+next_exit h now (Ok o) e more read same gives = absurd same
+next_exit {old} {mid} h now (Err f) e more read same gives = subst (λ (s : Stop). DefinitionGives old (Err s) now) (sym same) (exit e gives)
+  where
+    exit : (e : Stop) → BodyGives h mid (Err e) now → DefinitionGives old (Err e) now
+    exit (stop.Fault (fault.Line n)) gives = body_stops h n (state_of h more) read gives
+    exit (stop.Fault fault.Memory) gives = next_from h (state_of h more) read gives
+    exit stop.Device gives = Breaks-after read.passes.reads gives

@@ -163,7 +163,7 @@ of_instr sizes i h = (i, h, refl)
 
 -- code texts are paths
 
-path_body : (d : Definition) (ls : List (List ℕ)) → IsWithinRanges d → Path (expects []) ls → Path (state_after (header_of d)) (body_lines d ++ ls)
+pub path_body : (d : Definition) (ls : List (List ℕ)) → IsWithinRanges d → Path (expects []) ls → Path (state_after (header_of d)) (body_lines d ++ ls)
 path_body (definition.Function f) ls h path =
     let lines = map target_line f.targets in
     let words = map string_line f.strings in
@@ -190,7 +190,7 @@ path_body (definition.Vector v) ls h path =
     (path_last string_line IsWord string of_string v.strings ls h.strings path) in
     subst (λ (m : List (List ℕ)). Path (state_after (header_of (definition.Vector v))) m) (sym (append_assoc values words ls)) all
 
-ended_path : (ds : List Definition) → All IsWithinRanges ds → Path (expects []) (ended_lines ds)
+pub ended_path : (ds : List Definition) → All IsWithinRanges ds → Path (expects []) (ended_lines ds)
 ended_path [] all = (finished, (header.End, end_within, refl, refl), refl)
 ended_path (d ∷ ds) all =
     let within = All-head IsWithinRanges d ds all in
@@ -365,7 +365,7 @@ split_path (l ∷ ls) (k ∷ ks) path =
       lines = ap (λ m. l ∷ m) others.lines;
     }
 
-path_ended : (ls : List (List ℕ)) → Path (expects []) ls → (ds : List Definition) × All IsWithinRanges ds × (ls ≡ ended_lines ds)
+pub path_ended : (ls : List (List ℕ)) → Path (expects []) ls → (ds : List Definition) × All IsWithinRanges ds × (ls ≡ ended_lines ds)
 path_ended ls path =
     let s = split_path ls [] path in (s.definitions, s.inside, s.lines ∙ ap (λ b. b ++ ended_lines s.definitions) s.of_kinds)
 

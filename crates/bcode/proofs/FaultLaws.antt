@@ -1,18 +1,20 @@
 -- The line of a fault, and that a code text is that of one list of definitions.
-use Rattle.std.proofs.Common.{subst, true, false, eqb, Result, Ok, Err, IsErrAnd, MatchResult, length-append, ◌≡◌, ℕ, zero, suc, ◌+◌, ◌^◌, ◌<◌, ◌≤◌, List, [], ◌∷◌, ◌++◌, length, take, refl, sym, ap, ◌∙◌, arith, append_assoc, append-nil, inl, inr}
+use Rattle.std.proofs.Common.{subst, ◌≢◌, Bool, true, false, eqb, replicate, Option, Some, None, Result, Ok, Err, IsErrAnd, MatchResult, length-append, ◌≡◌, ℕ, zero, suc, ◌+◌, ◌^◌, ◌<◌, ◌≤◌, List, [], ◌∷◌, ◌++◌, length, take, refl, sym, ap, ◌∙◌, arith, append_assoc, append-nil, inl, inr}
 use Rattle.std.specs.Prelude.{All, IfErr}
 use Rattle.std.specs.List.{flat_map}
 use Rattle.std.proofs.lemmas.List.Concat.{flat_map-append}
-use Rattle.std.proofs.lemmas.List.Elements.{All-head, All-tail, All-push}
+use Rattle.std.proofs.lemmas.List.Elements.{All-nil, All-head, All-tail, All-push}
+use Rattle.std.specs.Io.KnownBytes.{Consumes}
+use Rattle.bword.specs.ByteEnds.{Incoming, Took, CanFollow}
 use Rattle.bword.specs.declared.edition.Edition.{Edition}
 use Rattle.bword.specs.declared.edition.Edition.TheVariants as editions
-use Rattle.bcode.specs.Definitions.{Function, Simple, Vector, IsInstrWithin, IsIvalWithin, sizes_of}
-use Rattle.bcode.specs.Ahead.{Ahead, GoesOn, ReadsOpening, StopsAhead, ReadsDefinition, ReadsEnd, DefinitionGives}
-use Rattle.bcode.specs.Faults.{IsFaultLine, IsFaultOf}
+use Rattle.bcode.specs.Definitions.{Function, Simple, Vector, IsWord, IsInstrWithin, IsIvalWithin, sizes_of}
+use Rattle.bcode.specs.Ahead.{Ahead, ahead_of, TextAhead, ahead_in, Reads, Passes, ReadsOpening, StopsAhead, StopsInside, ReadsDefinition, TextGives}
+use Rattle.bcode.specs.Faults.{BeginsIn, IsFaultLine, IsFaultLineIn, HasHeader, IsFaultOf}
 use Rattle.bcode.specs.Headers.{header_of, header_text}
 use Rattle.bcode.specs.LineReading.{Reader}
-use Rattle.bcode.specs.Stopping.{State, opens, expects, Leads, Stops}
-use Rattle.bcode.specs.Text.{joined, end_text, header_line, body_lines, lines_of, text_of, edition_line, opening, ended_lines, code_lines, IsCodeText, target_line, string_line, ival_line, instr_line}
+use Rattle.bcode.specs.Stopping.{State, opens, expects, value, target, string, instruction, state_after, Leads, Stops}
+use Rattle.bcode.specs.Text.{joined, end_text, header_line, body_lines, lines_of, text_of, edition_line, opening, opening_lines, ended_lines, code_lines, IsTextOf, IsCodeText, target_line, string_line, ival_line, instr_line}
 use Rattle.bcode.specs.Views.{IsWithinRanges}
 use Rattle.bcode.specs.declared.definition.Definition.{Definition}
 use Rattle.bcode.specs.declared.definition.Definition.TheVariants as definition
@@ -22,8 +24,9 @@ use Rattle.bcode.specs.declared.header.Header.TheVariants as header
 use Rattle.bcode.specs.declared.header.Sizes.{Sizes}
 use Rattle.bcode.specs.declared.instr.Instr.{Instr}
 use Rattle.bcode.specs.declared.instr.Ival.{Ival}
-use Rattle.bcode.proofs.BodyLaws.{two_kinds, three_kinds}
-use Rattle.bcode.proofs.CodeLaws.{header_of-text, header_of-within, code_path, path_code}
+use Rattle.bcode.proofs.AheadLaws.{Reads-append, Passes-none, Passes-append, no_length, both_empty}
+use Rattle.bcode.proofs.BodyLaws.{two_kinds, three_kinds, two_goes, three_goes, GoesOn, GoesOn-append, items_go, items_go_last, header_go, not_end, text_header}
+use Rattle.bcode.proofs.CodeLaws.{header_of-text, header_of-within, code_path, path_code, path_ended, ended_path, of_value, of_target, of_string, of_instr}
 use Rattle.bcode.proofs.HeaderLaws.{header_at-exact, end_within}
 use Rattle.bcode.proofs.LineLaws.{IsExact, FitSizes, ival_at-exact, instr_at-exact, number_line_at-exact}
 use Rattle.bcode.proofs.PartLaws.{is_same}
@@ -36,20 +39,89 @@ fault_line text good stops =
     record {
       good = good;
       next = refl;
-      begins = record {
-        edition = code.0;
-        definitions = code.1;
-        within = code.2;
-        enough = rw (← code.3) b.2;
-        rest = b.3;
-        same = b.4 ∙ ap (λ ls. joined (take good ls) ++ b.3) code.3;
-      };
+      begins = (
+        code.0,
+        record {
+          definitions = code.1;
+          within = code.2;
+          enough = rw (← code.3) b.2;
+          rest = b.3;
+          same = b.4 ∙ ap (λ ls. joined (take good ls) ++ b.3) code.3;
+        },
+      );
       greatest = λ m begins.
-          greatest_path good opens text tt stops m (code_lines begins.edition begins.definitions) (code_path begins.edition begins.definitions begins.within) begins.enough begins.rest begins.same;
+          let b = begins.1 in
+          greatest_path good opens text tt stops m (code_lines begins.0 b.definitions) (code_path begins.0 b.definitions b.within) b.enough b.rest b.same;
     }
 
 pub no_code : (text : List ℕ) (good : ℕ) → Stops good opens text → (ds : List Definition) → IsCodeText text ds → ⊥
 no_code text good stops ds code = no_path good opens text tt stops (code_lines code.0 ds) (code_path code.0 ds code.1.within) code.1.spelled
+
+-- the same in one edition, behind what its texts begin with
+pub fault_line_in : (edition : Edition) (text : List ℕ) (good : ℕ) → Stops good (expects []) text → IsFaultLineIn edition (opening edition ++ text) (suc (length (opening_lines edition) + good))
+fault_line_in editions.One text good stops =
+    let b = begins_path good (expects []) text tt stops in
+    let code = path_ended b.0 b.1 in
+    record {
+      good = good;
+      next = omega arith;
+      begins = record {
+        definitions = code.0;
+        within = code.1;
+        enough = rw (← code.2) b.2;
+        rest = b.3;
+        same = b.4 ∙ ap (λ ls. joined (take good ls) ++ b.3) code.2;
+      };
+      greatest = λ m b. greatest_path good (expects []) text tt stops m (ended_lines b.definitions) (ended_path b.definitions b.within) b.enough b.rest b.same;
+    }
+fault_line_in editions.Two text good stops =
+    let b = begins_path good (expects []) text tt stops in
+    let code = path_ended b.0 b.1 in
+    record {
+      good = suc good;
+      next = omega arith;
+      begins = record {
+        definitions = code.0;
+        within = code.1;
+        enough = (let le : good ≤ length (ended_lines code.0) = rw (← code.2) b.2 in omega arith);
+        rest = b.3;
+        same = ap (λ t. edition_line ++ t) (b.4 ∙ ap (λ ls. joined (take good ls) ++ b.3) code.2)
+            ∙ sym (append_assoc edition_line (joined (take good (ended_lines code.0))) b.3);
+      };
+      greatest = greatest;
+    }
+  where
+    greatest : (m : ℕ) → BeginsIn editions.Two (edition_line ++ text) m → m ≤ suc good
+    greatest zero b = omega arith
+    greatest (suc m) b =
+        let first = joined (take m (ended_lines b.definitions)) in
+        let same : text ≡ first ++ b.rest = same_after text (first ++ b.rest) (b.same ∙ append_assoc edition_line first b.rest) in
+        let enough : m ≤ length (ended_lines b.definitions) = (let e = b.enough in omega arith) in
+        let least = greatest_path good (expects []) text tt stops m (ended_lines b.definitions) (ended_path b.definitions b.within) enough b.rest same in
+        omega arith
+
+pub no_code_in : (edition : Edition) (text : List ℕ) (good : ℕ) → Stops good (expects []) text → (ds : List Definition) → IsTextOf edition (opening edition ++ text) ds → ⊥
+no_code_in editions.One text good stops ds code = no_path good (expects []) text tt stops (ended_lines ds) (ended_path ds code.within) code.spelled
+no_code_in editions.Two text good stops ds code =
+    no_path good (expects []) text tt stops (ended_lines ds) (ended_path ds code.within) (same_after text (joined (ended_lines ds)) code.spelled)
+
+-- a text of the second edition that begins with another line
+pub no_opening_line : (text : List ℕ) → ((rest : List ℕ) → text ≡ edition_line ++ rest → ⊥) → IsFaultLineIn editions.Two text 1
+no_opening_line text none = record {
+  good = 0;
+  next = refl;
+  begins = record { definitions = []; within = All-nil IsWithinRanges; enough = omega arith; rest = text; same = refl };
+  greatest = greatest;
+}
+  where
+    greatest : (m : ℕ) → BeginsIn editions.Two text m → m ≤ 0
+    greatest zero b = omega arith
+    greatest (suc m) b =
+        let first = joined (take m (ended_lines b.definitions)) in
+        absurd (none (first ++ b.rest) (b.same ∙ append_assoc edition_line first b.rest))
+
+pub no_opening_code : (text : List ℕ) → ((rest : List ℕ) → text ≡ edition_line ++ rest → ⊥) → (ds : List Definition) → IsTextOf editions.Two text ds → ⊥
+no_opening_code text none ds code = none (joined (ended_lines ds)) code.spelled
 
 -- lines of as many values
 module _ {X : Type 0} {spell : X → List ℕ} {within : X → Type 0} {read : Reader X} (exact : IsExact spell within read) where
@@ -131,11 +203,6 @@ code_text d ds =
     ap joined lines ∙ ap (λ l. header_line d ++ l) (flat_map-append (λ l. l) (body_lines d) (ended_lines ds))
     ∙ ap (λ l. l ++ (joined (body_lines d) ++ joined (ended_lines ds))) (sym (header_of-text d))
 
-not_end : (d : Definition) → header_of d ≡ header.End → ⊥
-not_end (definition.Function f) e = cc
-not_end (definition.Simple f) e = cc
-not_end (definition.Vector f) e = cc
-
 unique_lines : (ds es : List Definition) → All IsWithinRanges ds → All IsWithinRanges es → joined (ended_lines ds) ≡ joined (ended_lines es) → ds ≡ es
 unique_lines [] [] in_d in_e same = refl
 unique_lines [] (e ∷ es) in_d in_e same =
@@ -179,116 +246,44 @@ code_text-joined (d ∷ ds) =
     ∙ sym (append_assoc (header_line d) (joined (body_lines d) ++ flat_map text_of ds) end_text)
     ∙ ap (λ l. l ++ end_text) (sym (append_assoc (header_line d) (joined (body_lines d)) (flat_map text_of ds)))
 
--- reading a text from its beginning
+-- definitions lead from one to the next
 
-abbrev pub start : List ℕ → Ahead
-start text = record { text = text; line = 1 }
+body_goes : (d : Definition) → IsWithinRanges d → GoesOn (state_after (header_of d)) (joined (body_lines d)) (length (body_lines d)) (expects [])
+body_goes (definition.Function f) h =
+    let s = sizes_of f in
+    let code = replicate (length f.code) (instruction s) in
+    let words = replicate (length f.strings) string ++ code in
+    let t = items_go target_line (λ n. n < length f.code) (target (length f.code)) (of_target (length f.code)) f.targets words h.targets in
+    let w = items_go string_line IsWord string of_string f.strings code h.strings in
+    let c = items_go_last instr_line (IsInstrWithin s) (instruction s) (of_instr s) f.code h.code in
+    let all = GoesOn-append _ _ (expects []) _ _ _ _ (GoesOn-append (state_after (header_of (definition.Function f))) (expects words) (expects code) _ _ _ _ t w) c in
+    three_goes target_line string_line instr_line f.targets f.strings f.code _ _ all
+body_goes (definition.Simple s) h =
+    let k = length s.strings in
+    let v = items_go ival_line (IsIvalWithin k) (value k) (of_value k) s.values (replicate k string) h.values in
+    let w = items_go_last string_line IsWord string of_string s.strings h.strings in
+    two_goes ival_line string_line s.values s.strings _ _ (GoesOn-append (state_after (header_of (definition.Simple s))) (expects (replicate k string)) (expects []) _ _ _ _ v w)
+body_goes (definition.Vector s) h =
+    let k = length s.strings in
+    let v = items_go ival_line (IsIvalWithin k) (value k) (of_value k) s.values (replicate k string) h.values in
+    let w = items_go_last string_line IsWord string of_string s.strings h.strings in
+    two_goes ival_line string_line s.values s.strings _ _ (GoesOn-append (state_after (header_of (definition.Vector s))) (expects (replicate k string)) (expects []) _ _ _ _ v w)
 
-stop_line : (text : List ℕ) (at : Ahead) (n : ℕ) → GoesOn (start text) opens at (expects []) → StopsAhead (expects []) at n
-    → (good : ℕ) × (n ≡ suc good) × Stops good opens text
-stop_line text at n before h =
-    (before.taken + h.good, (let x = before.counted in let y = h.there in omega arith), before.onward h.good h.stops)
+definition_goes : (d : Definition) → IsWithinRanges d → GoesOn (expects []) (text_of d) (length (lines_of d)) (expects [])
+definition_goes d h =
+    let all = GoesOn-append (expects []) (state_after (header_of d)) (expects []) (header_text (header_of d)) (joined (body_lines d)) 1 (length (body_lines d))
+    (header_go (header_of d) (header_of-within d h)) (body_goes d h) in
+    let count : 1 + length (body_lines d) ≡ length (lines_of d) = omega arith in
+    subst (λ (n : ℕ). GoesOn (expects []) (text_of d) n (expects [])) count
+    (subst (λ (l : List ℕ). GoesOn (expects []) (l ++ joined (body_lines d)) (1 + length (body_lines d)) (expects [])) (header_of-text d) all)
 
-pub fault_here : (text : List ℕ) (at : Ahead) (n : ℕ) → GoesOn (start text) opens at (expects []) → StopsAhead (expects []) at n → IsFaultLine text n
-fault_here text at n before h =
-    let s = stop_line text at n before h in subst (IsFaultLine text) (sym s.1) (fault_line text s.0 s.2)
-
-pub no_code_here : (text : List ℕ) (at : Ahead) (n : ℕ) → GoesOn (start text) opens at (expects []) → StopsAhead (expects []) at n
-    → (ds : List Definition) → IsCodeText text ds → ⊥
-no_code_here text at n before h ds code = let s = stop_line text at n before h in no_code text s.0 s.2 ds code
-
-pub exit_only : {V : Type 0} (P : V → Type 0) (text : List ℕ) (at new : Ahead) (r : Result V CodeFault) (e : CodeFault) → IsErrAnd r (λ f. f ≡ e)
-    → DefinitionGives at (Err e) new → GoesOn (start text) opens at (expects []) → (ds : List Definition) → IsCodeText text ds → MatchResult r P (λ f. f ≡ fault.Memory)
-exit_only P text at new (Ok v) e same gives before ds code = absurd same
-exit_only P text at new (Err f) (fault.Line n) same gives before ds code = absurd (no_code_here text at n before gives ds code)
-exit_only P text at new (Err f) fault.Memory same gives before ds code = same
-
-pub exit_fault : {V : Type 0} (text : List ℕ) (edition : Edition) (known : List Definition) (at new : Ahead) (r : Result V CodeFault) (e : CodeFault) → IsErrAnd r (λ f. f ≡ e)
-    → DefinitionGives at (Err e) new → GoesOn (start text) opens at (expects []) → All IsWithinRanges known → text ≡ opening edition ++ (flat_map text_of known ++ at.text) → IfErr r (IsFaultOf text)
-exit_fault text edition known at new (Ok v) e same gives before inside spelled = absurd same
-exit_fault text edition known at new (Err (fault.Line n)) (fault.Line k) same gives before inside spelled =
-    let n_is : n ≡ k = cc in subst (IsFaultLine text) (sym n_is) (fault_here text at k before gives)
-exit_fault text edition known at new (Err (fault.Line n)) fault.Memory same gives before inside spelled = absurd (cc)
-exit_fault text edition known at new (Err fault.Memory) (fault.Line k) same gives before inside spelled = absurd (cc)
-exit_fault text edition known at new (Err fault.Memory) fault.Memory same gives before inside spelled = record {
-  edition = edition;
-  definitions = known;
-  next = gives.next;
-  within = inside;
-  next_within = gives.inside;
-  rest = gives.rest;
-  same = spelled ∙ ap (λ t. opening edition ++ (flat_map text_of known ++ t)) gives.spelled;
-}
-
--- memory that was refused behind a definition
-pub push_fault : {V : Type 0} (text : List ℕ) (edition : Edition) (known : List Definition) (d : Definition) (at new : Ahead) (r : Result V CodeFault) → IsErrAnd r (λ f. f ≡ fault.Memory)
-    → ReadsDefinition at d new → All IsWithinRanges known → text ≡ opening edition ++ (flat_map text_of known ++ at.text) → IfErr r (IsFaultOf text)
-push_fault text edition known d at new (Ok v) same read inside spelled = absurd same
-push_fault text edition known d at new (Err (fault.Line n)) same read inside spelled = absurd (cc)
-push_fault text edition known d at new (Err fault.Memory) same read inside spelled = record {
-  edition = edition;
-  definitions = known;
-  next = d;
-  within = inside;
-  next_within = read.inside;
-  rest = joined (body_lines d) ++ new.text;
-  same = spelled ∙ ap (λ t. opening edition ++ (flat_map text_of known ++ t)) (read.spelled ∙ append_assoc (header_line d) (joined (body_lines d)) new.text);
-}
-
-pub spelled_more : (text : List ℕ) (edition : Edition) (known more : List Definition) (d : Definition) (at new : Ahead) → text ≡ opening edition ++ (flat_map text_of known ++ at.text)
-    → ReadsDefinition at d new → more ≡ known ++ d ∷ [] → text ≡ opening edition ++ (flat_map text_of more ++ new.text)
-spelled_more text edition known more d at new spelled read pushed =
-    let whole : flat_map text_of (known ++ d ∷ []) ≡ flat_map text_of known ++ text_of d =
-    flat_map-append text_of known (d ∷ []) ∙ ap (λ l. flat_map text_of known ++ l) (append-nil (text_of d)) in
-    spelled ∙ ap (λ t. opening edition ++ t) (ap (λ t. flat_map text_of known ++ t) read.spelled ∙ sym (append_assoc (flat_map text_of known) (text_of d) new.text)
-    ∙ ap (λ l. l ++ new.text) (sym whole) ∙ ap (λ l. flat_map text_of l ++ new.text) (sym pushed))
-
-pub within_more : (known more : List Definition) (d : Definition) → All IsWithinRanges known → IsWithinRanges d → more ≡ known ++ d ∷ [] → All IsWithinRanges more
-within_more known more d inside at pushed = subst (λ (ds : List Definition). All IsWithinRanges ds) (sym pushed) (All-push IsWithinRanges known d inside at)
-
-pub definition_shorter : (at new : Ahead) (d : Definition) → ReadsDefinition at d new → length new.text < length at.text
-definition_shorter at new d read =
-    let some = header_at-exact.filled (header_of d) in
-    let first = ap length (header_of-text d) in
-    omega (arith, ap length read.spelled, length-append (text_of d) new.text, length-append (header_line d) (joined (body_lines d)))
-
-not_empty : (t : List ℕ) → eqb (length t) 0 ≡ false → t ≡ [] → ⊥
-not_empty [] e same = cc
-not_empty (x ∷ xs) e same = cc
-
-is_empty : (t : List ℕ) → eqb (length t) 0 ≡ true → t ≡ []
-is_empty [] e = refl
-is_empty (x ∷ xs) e = let none = is_same (length (x ∷ xs)) 0 e in absurd (omega arith)
-
--- text behind the end
-behind_end : (at new : Ahead) → ReadsEnd at new → eqb (length new.text) 0 ≡ false → StopsAhead (expects []) at new.line
-behind_end at new read some = record {
-  good = read.onward.taken + 0;
-  stops = read.onward.onward 0 record { refused = λ l to rest leads same. leads; not_finished = λ e same. not_empty new.text some same };
-  there = let x = read.onward.counted in omega arith;
-}
-
-pub end_fault : (text : List ℕ) (at new : Ahead) → GoesOn (start text) opens at (expects []) → ReadsEnd at new → eqb (length new.text) 0 ≡ false → IsFaultLine text new.line
-end_fault text at new before read some = fault_here text at new.line before (behind_end at new read some)
-
-pub end_no_code : (text : List ℕ) (at new : Ahead) → GoesOn (start text) opens at (expects []) → ReadsEnd at new → eqb (length new.text) 0 ≡ false
-    → (ds : List Definition) → IsCodeText text ds → ⊥
-end_no_code text at new before read some = no_code_here text at new.line before (behind_end at new read some)
-
-opened : (edition : Edition) (ds : List Definition) → joined (code_lines edition ds) ≡ opening edition ++ joined (ended_lines ds)
-opened editions.One ds = refl
-opened editions.Two ds = refl
-
-pub whole_code : (text : List ℕ) (edition : Edition) (known : List Definition) (at new : Ahead) → text ≡ opening edition ++ (flat_map text_of known ++ at.text) → All IsWithinRanges known
-    → ReadsEnd at new → eqb (length new.text) 0 ≡ true → IsCodeText text known
-whole_code text edition known at new spelled inside read none = (
-  edition,
-  record {
-    within = inside;
-    spelled = spelled ∙ ap (λ t. opening edition ++ t) (ap (λ t. flat_map text_of known ++ t) (read.spelled ∙ ap (λ t. end_text ++ t) (is_empty new.text none) ∙ append-nil end_text)
-        ∙ sym (code_text-joined known)) ∙ sym (opened edition known);
-  },
-)
+pub definitions_go : (ds : List Definition) → All IsWithinRanges ds → GoesOn (expects []) (flat_map text_of ds) (length (flat_map lines_of ds)) (expects [])
+definitions_go [] all n rest stops = let same : n ≡ 0 + n = omega arith in subst (λ (m : ℕ). Stops m (expects []) rest) same stops
+definitions_go (d ∷ ds) all n rest stops =
+    let count : length (lines_of d) + length (flat_map lines_of ds) ≡ length (flat_map lines_of (d ∷ ds)) = sym (length-append (lines_of d) (flat_map lines_of ds)) in
+    let both = GoesOn-append (expects []) (expects []) (expects []) (text_of d) (flat_map text_of ds) (length (lines_of d)) (length (flat_map lines_of ds))
+    (definition_goes d (All-head IsWithinRanges d ds all)) (definitions_go ds (All-tail IsWithinRanges d ds all)) in
+    subst (λ (k : ℕ). Stops (k + n) (expects []) (flat_map text_of (d ∷ ds) ++ rest)) count (both n rest stops)
 
 -- a text that doesn't begin with the edition's line stops where it stops without one
 still_opens : (n : ℕ) (text : List ℕ) → ((rest : List ℕ) → text ≡ edition_line ++ rest → ⊥) → Stops n (expects []) text → Stops n opens text
@@ -299,14 +294,209 @@ still_opens zero text none stuck = record { refused = λ l to rest leads same. r
     refused l to rest (inr x) same = stuck.refused l to rest x same
 still_opens (suc n) text none stops = (stops.0, stops.1, stops.2, inr stops.3, stops.4, stops.5)
 
-pub no_line_opens : (old : Ahead) → ((rest : List ℕ) → old.text ≡ edition_line ++ rest → ⊥) → ReadsOpening old editions.One old
-no_line_opens old none = record {
-  spelled = refl;
-  onward = record { taken = 0; counted = omega arith; onward = λ n stops. let same : n ≡ 0 + n = omega arith in subst (λ m. Stops m opens old.text) same (still_opens n old.text none stops) };
+opens_to : (edition : Edition) (text : List ℕ) (n : ℕ) → (edition ≡ editions.One → (rest : List ℕ) → opening edition ++ text ≡ edition_line ++ rest → ⊥) → Stops n (expects []) text
+    → Stops (length (opening_lines edition) + n) opens (opening edition ++ text)
+opens_to editions.One text n none stops =
+    let same : n ≡ 0 + n = omega arith in subst (λ (m : ℕ). Stops m opens text) same (still_opens n text (none refl) stops)
+opens_to editions.Two text n none stops =
+    let same : suc n ≡ 1 + n = omega arith in
+    let first : Stops (suc n) opens (edition_line ++ text) = (edition_line, expects [], text, inl (refl, refl), refl, stops) in
+    subst (λ (m : ℕ). Stops m opens (edition_line ++ text)) same first
+
+-- reading a text in memory from its beginning
+
+-- What a text begins with and these definitions were read.
+pub record Knows (text : List ℕ) (known : List Definition) (at : Ahead) : Type 0 where
+  pub edition : Edition
+  pub within : All IsWithinRanges known
+  pub passes : Passes (ahead_of text 1) (opening edition ++ flat_map text_of known) (length (opening_lines edition) + length (flat_map lines_of known)) at
+  pub first : edition ≡ editions.One → (rest : List ℕ) → text ≡ edition_line ++ rest → ⊥
+
+pub knows_opening : (text : List ℕ) (edition : Edition) (at : Ahead) → ReadsOpening (ahead_of text 1) edition at → Knows text [] at
+knows_opening text editions.One at h = record {
+  edition = editions.One;
+  within = All-nil IsWithinRanges;
+  passes = rw h.0 (Passes-none (ahead_of text 1));
+  first = λ e rest same. h.1 rest (ap Some same);
+}
+knows_opening text editions.Two at h = record { edition = editions.Two; within = All-nil IsWithinRanges; passes = h; first = λ e. absurd (cc) }
+
+-- a definition more was passed
+pub passes_more : {start at new : Ahead} (o : List ℕ) (k : ℕ) (known : List Definition) (d : Definition) → Passes start (o ++ flat_map text_of known) (k + length (flat_map lines_of known)) at → ReadsDefinition at d new
+    → Passes start (o ++ flat_map text_of (known ++ d ∷ [])) (k + length (flat_map lines_of (known ++ d ∷ []))) new
+passes_more {start} {at} {new} o k known d passes read =
+    let texts : flat_map text_of (known ++ d ∷ []) ≡ flat_map text_of known ++ text_of d =
+    flat_map-append text_of known (d ∷ []) ∙ ap (λ l. flat_map text_of known ++ l) (append-nil (text_of d)) in
+    let lines : flat_map lines_of (known ++ d ∷ []) ≡ flat_map lines_of known ++ lines_of d =
+    flat_map-append lines_of known (d ∷ []) ∙ ap (λ l. flat_map lines_of known ++ l) (append-nil (lines_of d)) in
+    let all = Passes-append passes read.passes in
+    let count : k + length (flat_map lines_of known) + length (lines_of d) ≡ k + length (flat_map lines_of (known ++ d ∷ [])) =
+    omega (arith, ap length lines, length-append (flat_map lines_of known) (lines_of d)) in
+    subst (λ (n : ℕ). Passes start (o ++ flat_map text_of (known ++ d ∷ [])) n new) count
+    (subst (λ (t : List ℕ). Passes start t (k + length (flat_map lines_of known) + length (lines_of d)) new)
+    (append_assoc o (flat_map text_of known) (text_of d) ∙ ap (λ t. o ++ t) (sym texts)) all)
+
+pub knows_more : (text : List ℕ) (known more : List Definition) (d : Definition) (at new : Ahead) → Knows text known at → ReadsDefinition at d new → more ≡ known ++ d ∷ [] → Knows text more new
+knows_more text known more d at new h read pushed = rw pushed record {
+  edition = h.edition;
+  within = All-push IsWithinRanges known d h.within read.inside;
+  passes = passes_more (opening h.edition) (length (opening_lines h.edition)) known d h.passes read;
+  first = h.first;
 }
 
-pub line_opens : (old new : Ahead) → old.text ≡ edition_line ++ new.text → new.line ≡ old.line + 1 → ReadsOpening old editions.Two new
-line_opens old new spelled counted = record {
-  spelled = spelled;
-  onward = record { taken = 1; counted = counted; onward = λ n stops. let same : suc n ≡ 1 + n = omega arith in subst (λ m. Stops m opens old.text) same (edition_line, expects [], new.text, inl (refl, refl), spelled, stops) };
+pub same_rest : (xs ys zs : List ℕ) → xs ++ ys ≡ xs ++ zs → ys ≡ zs
+same_rest [] ys zs e = e
+same_rest (x ∷ xs) ys zs e = same_rest xs ys zs (cc)
+
+-- what is left of a text of which some bytes were taken
+follow : (text taken : List ℕ) (new : Incoming) (left : Option (List ℕ)) → new.left ≡ left → Took (ahead_of text 1).end taken new → (more : List ℕ) × (text ≡ taken ++ more) × CanFollow new more
+follow text taken new None e h = absurd (subst (λ (o : Option (List ℕ)). Consumes (Some text) o taken) e h.bytes)
+follow text taken new (Some more) e h = (more, whole, can (eqb (length text) 0) refl)
+  where
+    whole : text ≡ taken ++ more
+    whole = subst (λ (o : Option (List ℕ)). Consumes (Some text) o taken) e h.bytes
+
+    can : (b : Bool) → eqb (length text) 0 ≡ b → CanFollow new more
+    can true none over = (both_empty taken more (sym whole ∙ no_length text none)).1
+    can false some over = sym (same_rest taken [] more (sym (h.all some over) ∙ whole))
+
+left_text : (text taken : List ℕ) (new : Ahead) → Reads (ahead_of text 1) taken new → (more : List ℕ) × (text ≡ taken ++ more) × CanFollow new.end more
+left_text text taken new h = follow text taken new.end new.end.left refl h.took
+
+-- behind these definitions the text stops
+stops_behind_known : (text : List ℕ) (known : List Definition) (at : Ahead) (rest : List ℕ) (good : ℕ) (h : Knows text known at) → text ≡ opening h.edition ++ flat_map text_of known ++ rest → Stops good (expects []) rest
+    → Stops (length (opening_lines h.edition) + (length (flat_map lines_of known) + good)) opens text
+stops_behind_known text known at rest good h same stops =
+    let o = opening h.edition in
+    let whole : text ≡ o ++ (flat_map text_of known ++ rest) = same ∙ append_assoc o (flat_map text_of known) rest in
+    let k = length (opening_lines h.edition) + (length (flat_map lines_of known) + good) in
+    subst (λ (t : List ℕ). Stops k opens t) (sym whole)
+    (opens_to h.edition (flat_map text_of known ++ rest) (length (flat_map lines_of known) + good) (λ e r s. h.first e r (whole ∙ s))
+    (definitions_go known h.within good rest stops))
+
+stop_line : (text : List ℕ) (known : List Definition) (at new : Ahead) (n : ℕ) → Knows text known at → StopsAhead (expects []) at n new
+    → (good : ℕ) × (n ≡ suc good) × Stops good opens text
+stop_line text known at new n h s =
+    let reads = Reads-append h.passes.reads s.reads in
+    let left = left_text text _ new reads in
+    let o = opening h.edition ++ flat_map text_of known in (
+      length (opening_lines h.edition) + (length (flat_map lines_of known) + s.good),
+      (let x = h.passes.counted in let y = s.there in omega arith),
+      stops_behind_known text known at (s.taken ++ left.0) s.good h (left.1 ∙ append_assoc o s.taken left.0) (s.stops left.0 left.2),
+    )
+
+fault_here : (text : List ℕ) (known : List Definition) (at new : Ahead) (n : ℕ) → Knows text known at → StopsAhead (expects []) at n new → IsFaultLine text n
+fault_here text known at new n h s = let t = stop_line text known at new n h s in subst (IsFaultLine text) (sym t.1) (fault_line text t.0 t.2)
+
+no_code_here : (text : List ℕ) (known : List Definition) (at new : Ahead) (n : ℕ) → Knows text known at → StopsAhead (expects []) at n new
+    → (ds : List Definition) → IsCodeText text ds → ⊥
+no_code_here text known at new n h s ds code = let t = stop_line text known at new n h s in no_code text t.0 t.2 ds code
+
+pub exit_only : {V : Type 0} (P : V → Type 0) (text : List ℕ) (known : List Definition) (at new : TextAhead) (r : Result V CodeFault) (e : CodeFault) → IsErrAnd r (λ f. f ≡ e)
+    → TextGives at (Err e) new → Knows text known (ahead_in at) → (ds : List Definition) → IsCodeText text ds → MatchResult r P (λ f. f ≡ fault.Memory)
+exit_only P text known at new (Ok v) e same gives h ds code = absurd same
+exit_only P text known at new (Err f) (fault.Line n) same gives h ds code = absurd (no_code_here text known (ahead_in at) (ahead_in new) n h gives.stopped ds code)
+exit_only P text known at new (Err f) fault.Memory same gives h ds code = same
+
+-- a definition's first line was taken behind these definitions
+header_taken : (text : List ℕ) (known : List Definition) (at new : Ahead) (taken rest : List ℕ) (d : Definition) → Knows text known at → Reads at taken new → IsWithinRanges d → taken ≡ header_line d ++ rest
+    → HasHeader text
+header_taken text known at new taken rest d h reads inside spelled =
+    let left = left_text text _ new (Reads-append h.passes.reads reads) in
+    let o = opening h.edition in
+    let texts = flat_map text_of known in
+    record {
+      edition = h.edition;
+      definitions = known;
+      next = d;
+      within = h.within;
+      next_within = inside;
+      rest = rest ++ left.0;
+      same = left.1 ∙ append_assoc (o ++ texts) taken left.0 ∙ append_assoc o texts (taken ++ left.0)
+          ∙ ap (λ t. o ++ (texts ++ t)) (ap (λ t. t ++ left.0) spelled ∙ append_assoc (header_line d) rest left.0);
+    }
+
+pub exit_fault : {V : Type 0} (text : List ℕ) (known : List Definition) (at new : TextAhead) (r : Result V CodeFault) (e : CodeFault) → IsErrAnd r (λ f. f ≡ e)
+    → TextGives at (Err e) new → Knows text known (ahead_in at) → IfErr r (IsFaultOf text)
+exit_fault text known at new (Ok v) e same gives h = absurd same
+exit_fault text known at new (Err f) e same gives h = subst (IsFaultOf text) (sym same) (exit e gives)
+  where
+    exit : (e : CodeFault) → TextGives at (Err e) new → IsFaultOf text e
+    exit (fault.Line n) gives = fault_here text known (ahead_in at) (ahead_in new) n h gives.stopped
+    exit fault.Memory gives = header_taken text known (ahead_in at) (ahead_in new) gives.taken gives.rest gives.next h gives.reads gives.inside gives.spelled
+
+-- memory that was refused behind a definition
+pub push_fault : {V : Type 0} (text : List ℕ) (known : List Definition) (d : Definition) (at new : Ahead) (r : Result V CodeFault) → IsErrAnd r (λ f. f ≡ fault.Memory)
+    → ReadsDefinition at d new → Knows text known at → IfErr r (IsFaultOf text)
+push_fault text known d at new (Ok v) same read h = absurd same
+push_fault text known d at new (Err f) same read h =
+    subst (IsFaultOf text) (sym same) (header_taken text known at new (text_of d) (joined (body_lines d)) d h read.passes.reads read.inside refl)
+
+pub definition_shorter : (at new : Ahead) (d : Definition) → ReadsDefinition at d new → new.end.bound < at.end.bound
+definition_shorter at new d read =
+    let some = header_at-exact.filled (header_of d) in
+    let first = ap length (header_of-text d) in
+    let falls = read.passes.reads.took.bound in
+    omega (arith, falls, length-append (header_line d) (joined (body_lines d)))
+
+-- the last line, and what is behind it
+
+-- the text stops behind the last line
+pub end_stops : {at end new : Ahead} (taken : List ℕ) → Passes at end_text 1 end → Reads end taken new → (taken ≢ []) → StopsInside at end.line new
+end_stops {at} {end} {new} taken passes reads some = record {
+  stopped = record {
+    good = 1 + 0;
+    there = (let x = passes.counted in omega arith);
+    taken = end_text ++ taken;
+    reads = Reads-append passes.reads reads;
+    stops = λ more can. subst (λ (l : List ℕ). Stops (1 + 0) (expects []) l) (sym (append_assoc end_text taken more))
+        (header_go header.End end_within 0 (taken ++ more) record { refused = λ l to rest leads same. leads; not_finished = λ e same. some (both_empty taken more same).0 });
+  };
+  none = λ more can d rest inside same.
+      not_end d (sym (same_spelling header_at-exact header.End (header_of d) (taken ++ more) (joined (body_lines d) ++ rest) end_within (header_of-within d inside)
+      (sym (append_assoc end_text taken more) ∙ same ∙ text_header d rest)).0);
 }
+
+-- a text in memory goes on behind its last line
+over_line : (text : List ℕ) (known : List Definition) (at new : Ahead) → Knows text known at → Passes at end_text 1 new → (new.end.left ≡ Some [] → ⊥)
+    → (good : ℕ) × (new.line ≡ suc good) × Stops good opens text
+over_line text known at new h passes some =
+    let reads = Reads-append h.passes.reads passes.reads in
+    let left = left_text text _ new reads in
+    let o = opening h.edition ++ flat_map text_of known in (
+      length (opening_lines h.edition) + (length (flat_map lines_of known) + (1 + 0)),
+      (let x = h.passes.counted in let y = passes.counted in omega arith),
+      stops_behind_known text known at (end_text ++ left.0) (1 + 0) h (left.1 ∙ append_assoc o end_text left.0)
+          (header_go header.End end_within 0 left.0 record { refused = λ l to rest leads same. leads; not_finished = λ e same. none left.0 left.1 same }),
+    )
+  where
+    none : (more : List ℕ) → text ≡ opening h.edition ++ flat_map text_of known ++ end_text ++ more → more ≡ [] → ⊥
+    none more whole empty = rest_left new.end.left refl
+      where
+        rest_left : (left : Option (List ℕ)) → new.end.left ≡ left → ⊥
+        rest_left None e = absurd (subst (λ (o : Option (List ℕ)). Consumes (Some text) o (opening h.edition ++ flat_map text_of known ++ end_text)) e (Reads-append h.passes.reads passes.reads).took.bytes)
+        rest_left (Some u) e =
+            let there : text ≡ opening h.edition ++ flat_map text_of known ++ end_text ++ u =
+            subst (λ (o : Option (List ℕ)). Consumes (Some text) o (opening h.edition ++ flat_map text_of known ++ end_text)) e (Reads-append h.passes.reads passes.reads).took.bytes in
+            some (e ∙ ap Some (same_rest (opening h.edition ++ flat_map text_of known ++ end_text) u more (sym there ∙ whole) ∙ empty))
+
+pub end_fault : (text : List ℕ) (known : List Definition) (at new : Ahead) → Knows text known at → Passes at end_text 1 new → (new.end.left ≡ Some [] → ⊥) → IsFaultLine text new.line
+end_fault text known at new h passes some = let t = over_line text known at new h passes some in subst (IsFaultLine text) (sym t.1) (fault_line text t.0 t.2)
+
+pub end_no_code : (text : List ℕ) (known : List Definition) (at new : Ahead) → Knows text known at → Passes at end_text 1 new → (new.end.left ≡ Some [] → ⊥)
+    → (ds : List Definition) → IsCodeText text ds → ⊥
+end_no_code text known at new h passes some ds code = let t = over_line text known at new h passes some in no_code text t.0 t.2 ds code
+
+opened : (edition : Edition) (ds : List Definition) → joined (code_lines edition ds) ≡ opening edition ++ joined (ended_lines ds)
+opened editions.One ds = refl
+opened editions.Two ds = refl
+
+pub code_spelled : (edition : Edition) (ds : List Definition) → joined (code_lines edition ds) ≡ opening edition ++ flat_map text_of ds ++ end_text
+code_spelled edition ds = opened edition ds ∙ ap (λ t. opening edition ++ t) (code_text-joined ds) ∙ sym (append_assoc (opening edition) (flat_map text_of ds) end_text)
+
+pub whole_code : (text : List ℕ) (known : List Definition) (at new : Ahead) → Knows text known at → Passes at end_text 1 new → new.end.left ≡ Some [] → IsCodeText text known
+whole_code text known at new h passes none =
+    let before = opening h.edition ++ flat_map text_of known in
+    let all : text ≡ before ++ end_text ++ [] =
+    subst (λ (o : Option (List ℕ)). Consumes (Some text) o (before ++ end_text)) none (Reads-append h.passes.reads passes.reads).took.bytes in
+    (h.edition, record { within = h.within; spelled = all ∙ append-nil (before ++ end_text) ∙ sym (code_spelled h.edition known) })

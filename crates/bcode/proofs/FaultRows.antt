@@ -16,6 +16,7 @@ use Rattle.bcode.proofs.HeaderLaws.{header_at-exact}
 use Rattle.bcode.proofs.LineLaws.{IsExact, ival_at-exact, instr_at-exact, number_line_at-exact}
 use Rattle.bcode.proofs.PartLaws.{same_read}
 use Rattle.bcode.proofs.StoppingLaws.{IsGoodKind, IsGoodState, good_next, no_header}
+use Rattle.bcode.proofs.StreamLaws.{is_two, two_line, line_two}
 
 -- the text behind a line of a kind
 abbrev behind : {X : Type 0} → Option (X × List ℕ) → Option (List ℕ)
@@ -35,16 +36,6 @@ to_expect ks None = None
 abbrev after_header : Option (Header × List ℕ) → Option (State × List ℕ)
 after_header (Some r) = Some (state_after r.0, r.1)
 after_header None = None
-
--- whether the text begins as one of the second edition
-abbrev is_two : List ℕ → Bool
-is_two text = pointwise eqb edition_line (take 4 text)
-
-two_line : (text : List ℕ) → is_two text ≡ true → text ≡ edition_line ++ drop 4 text
-two_line text two = (starts_is Decides-eqb text edition_line (is_two text) refl).0 two
-
-line_two : (text rest : List ℕ) → text ≡ edition_line ++ rest → is_two text ≡ true
-line_two text rest e = (starts_is Decides-eqb text edition_line (is_two text) refl).1 rest e
 
 abbrev after_opening : Bool → List ℕ → Option (State × List ℕ)
 after_opening two text = if two then Some (expects [], drop 4 text) else after_header (header_at text)

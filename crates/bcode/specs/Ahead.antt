@@ -1,109 +1,211 @@
--- What reading some lines does to the text ahead.
-use Rattle.std.specs.Prelude.{◌≡◌, ℕ, ◌+◌, ◌<◌, List, [], ◌++◌, length, All, Option, Some, None, Result, Ok, Err}
+-- What reading some lines takes from where they come from.
+use Rattle.std.specs.Prelude.{◌≡◌, ◌≢◌, ℕ, Bool, true, false, ◌+◌, ◌<◌, List, [], ◌++◌, length, ◌==◌, All, Option, Some, None, Result, Ok, Err, ◌⊎◌}
 use Rattle.std.specs.List.{flat_map}
+use Rattle.bword.specs.ByteEnds.{Incoming, Took, Grew, CanFollow}
+use Rattle.bword.specs.declared.byte_in.Device.{Device}
 use Rattle.bword.specs.declared.edition.Edition.{Edition}
+use Rattle.bword.specs.declared.edition.Edition.TheVariants as editions
 use Rattle.bcode.specs.Headers.{header_of}
-use Rattle.bcode.specs.Stopping.{State, opens, expects, finished, Stops, state_after}
-use Rattle.bcode.specs.Text.{joined, opening, body_lines, header_line, text_of, end_text}
+use Rattle.bcode.specs.Stopping.{Kind, State, expects, Stops, kinds_after}
+use Rattle.bcode.specs.Text.{joined, lines_of, body_lines, header_line, text_of, end_text, edition_line}
 use Rattle.bcode.specs.Views.{IsWithinRanges}
 use Rattle.bcode.specs.declared.definition.Definition.{Definition}
 use Rattle.bcode.specs.declared.fault.CodeFault.{CodeFault}
 use Rattle.bcode.specs.declared.fault.CodeFault.TheVariants as fault
 use Rattle.bcode.specs.declared.header.Header.{Header}
+use Rattle.bcode.specs.declared.stop.Stop.{Stop}
+use Rattle.bcode.specs.declared.stop.Stop.TheVariants as stop
 
--- the text still to be read, and the number of its first line
+-- the end that the lines come from, which end it is, and the number of the next line
 pub record Ahead : Type 0 where
+  pub end : Incoming
+  pub lender : List ℕ
+  pub line : ℕ
+
+-- a text in memory, from this line on
+abbrev pub ahead_of : List ℕ → ℕ → Ahead
+ahead_of text line = record {
+  end = record { left = Some text; is_over = length text == 0; failures = 0; bound = length text };
+  lender = [];
+  line = line;
+}
+
+-- the text that is left in memory, and the number of its first line
+pub record TextAhead : Type 0 where
   pub text : List ℕ
   pub line : ℕ
+
+abbrev pub ahead_in : TextAhead → Ahead
+ahead_in t = ahead_of t.text t.line
+
+-- These bytes were taken, and no read failed.
+pub record Reads (old : Ahead) (taken : List ℕ) (new : Ahead) : Type 0 where
+  pub took : Took old.end taken new.end
+  pub failures : new.end.failures ≡ old.end.failures
+  pub lender : new.lender ≡ old.lender
+
+-- A text of so many lines was taken.
+pub record Passes (old : Ahead) (text : List ℕ) (count : ℕ) (new : Ahead) : Type 0 where
+  pub reads : Reads old text new
+  pub counted : new.line ≡ old.line + count
+
+-- A read failed behind these bytes.
+pub record Breaks (old new : Ahead) : Type 0 where
+  pub taken : List ℕ
+  pub took : Took old.end taken new.end
+  pub counted : Grew old.end.failures new.end.failures
+  pub lender : new.lender ≡ old.lender
+
+-- some bytes were taken, and no read failed
+abbrev pub ReadsSome : Ahead → Ahead → Type 0
+ReadsSome old new = (taken : List ℕ) × Reads old taken new
 
 module _ {X : Type 0} (spell : X → List ℕ) (within : X → Type 0) where
   -- The line of x was read.
   pub record ReadsLine (old : Ahead) (x : X) (new : Ahead) : Type 0 where
     pub inside : within x
-    pub spelled : old.text ≡ spell x ++ new.text
-    pub counted : new.line ≡ old.line + 1
+    pub passes : Passes old (spell x) 1 new
 
-  -- No such line comes first.
-  pub record RefusesLine (old : Ahead) (n : ℕ) : Type 0 where
+  -- No such line comes first, whatever follows the bytes that were taken.
+  pub record RefusesLine (old : Ahead) (n : ℕ) (new : Ahead) : Type 0 where
     pub here : n ≡ old.line
-    pub none : (x : X) (rest : List ℕ) → within x → old.text ≡ spell x ++ rest → ⊥
+    pub taken : List ℕ
+    pub reads : Reads old taken new
+    pub none : (more : List ℕ) → CanFollow new.end more
+        → (x : X) (rest : List ℕ) → within x → taken ++ more ≡ spell x ++ rest → ⊥
 
-  abbrev pub LineGives : Ahead → Result X CodeFault → Ahead → Type 0
+  abbrev pub LineGives : Ahead → Result X Stop → Ahead → Type 0
   LineGives old (Ok x) new = ReadsLine old x new
-  LineGives old (Err (fault.Line n)) new = RefusesLine old n
-  LineGives old (Err fault.Memory) new = ⊥
+  LineGives old (Err (stop.Fault (fault.Line n))) new = RefusesLine old n new
+  LineGives old (Err (stop.Fault fault.Memory)) new = ⊥
+  LineGives old (Err stop.Device) new = Breaks old new
 
   -- The lines of xs were read.
   pub record ReadsLines (count : ℕ) (old : Ahead) (xs : List X) (new : Ahead) : Type 0 where
     pub all : length xs ≡ count
     pub inside : All within xs
-    pub spelled : old.text ≡ flat_map spell xs ++ new.text
-    pub counted : new.line ≡ old.line + count
+    pub passes : Passes old (flat_map spell xs) count new
 
   -- Fewer such lines come first.
-  pub record RefusesLines (count : ℕ) (old : Ahead) (n : ℕ) : Type 0 where
+  pub record RefusesLines (count : ℕ) (old : Ahead) (n : ℕ) (new : Ahead) : Type 0 where
     pub read : List X
     pub fewer : length read < count
     pub inside : All within read
-    pub rest : List ℕ
-    pub spelled : old.text ≡ flat_map spell read ++ rest
-    pub there : n ≡ old.line + length read
-    pub none : (x : X) (behind : List ℕ) → within x → rest ≡ spell x ++ behind → ⊥
+    pub mid : Ahead
+    pub passes : Passes old (flat_map spell read) (length read) mid
+    pub refused : RefusesLine mid n new
 
-  abbrev pub LinesGive : {V : Type 0} → (V → List X) → ℕ → Ahead → Result V CodeFault → Ahead → Type 0
+  abbrev pub LinesGive : {V : Type 0} → (V → List X) → ℕ → Ahead → Result V Stop → Ahead → Type 0
   LinesGive items count old (Ok v) new = ReadsLines count old (items v) new
-  LinesGive items count old (Err (fault.Line n)) new = RefusesLines count old n
-  LinesGive items count old (Err fault.Memory) new = Unit {0}
+  LinesGive items count old (Err (stop.Fault (fault.Line n))) new = RefusesLines count old n new
+  LinesGive items count old (Err (stop.Fault fault.Memory)) new = ReadsSome old new
+  LinesGive items count old (Err stop.Device) new = Breaks old new
 
--- Some lines lead from one state to another: what stops behind them stops so many lines later before them.
-pub record GoesOn (old : Ahead) (from : State) (new : Ahead) (to : State) : Type 0 where
-  pub taken : ℕ
-  pub counted : new.line ≡ old.line + taken
-  pub onward : (n : ℕ) → Stops n to new.text → Stops (taken + n) from old.text
+-- What a text of this edition begins with was read, or the text begins otherwise and nothing was read.
+abbrev pub ReadsOpening : Ahead → Edition → Ahead → Type 0
+ReadsOpening old editions.Two new = Passes old edition_line 1 new
+ReadsOpening old editions.One new = (new ≡ old) × ((rest : List ℕ) → old.end.left ≡ Some (edition_line ++ rest) → ⊥)
 
--- What a text of this edition begins with was read.
-pub record ReadsOpening (old : Ahead) (edition : Edition) (new : Ahead) : Type 0 where
-  pub spelled : old.text ≡ opening edition ++ new.text
-  pub onward : GoesOn old opens new (expects [])
-
--- The text stops at line n.
-pub record StopsAhead (from : State) (old : Ahead) (n : ℕ) : Type 0 where
+-- The text stops at line n, whatever follows the bytes that were taken.
+pub record StopsAhead (from : State) (old : Ahead) (n : ℕ) (new : Ahead) : Type 0 where
   pub good : ℕ
-  pub stops : Stops good from old.text
   pub there : n ≡ old.line + good
+  pub taken : List ℕ
+  pub reads : Reads old taken new
+  pub stops : (more : List ℕ) → CanFollow new.end more → Stops good from (taken ++ more)
+
+-- The text stops in one of the lines of these kinds.
+pub record StopsAmong (kinds : List Kind) (old : Ahead) (n : ℕ) (new : Ahead) : Type 0 where
+  pub stopped : StopsAhead (expects kinds) old n new
+  pub among : stopped.good < length kinds
 
 -- The lines behind the header of d were read.
 pub record ReadsBody (h : Header) (old : Ahead) (d : Definition) (new : Ahead) : Type 0 where
   pub header : header_of d ≡ h
   pub inside : IsWithinRanges d
-  pub spelled : old.text ≡ joined (body_lines d) ++ new.text
-  pub onward : GoesOn old (state_after h) new (expects [])
+  pub passes : Passes old (joined (body_lines d)) (length (body_lines d)) new
 
-abbrev pub BodyGives : Header → Ahead → Result Definition CodeFault → Ahead → Type 0
+abbrev pub BodyGives : Header → Ahead → Result Definition Stop → Ahead → Type 0
 BodyGives h old (Ok d) new = ReadsBody h old d new
-BodyGives h old (Err (fault.Line n)) new = StopsAhead (state_after h) old n
-BodyGives h old (Err fault.Memory) new = Unit {0}
+BodyGives h old (Err (stop.Fault (fault.Line n))) new = StopsAmong (kinds_after h) old n new
+BodyGives h old (Err (stop.Fault fault.Memory)) new = ReadsSome old new
+BodyGives h old (Err stop.Device) new = Breaks old new
 
 -- The lines of d were read.
 pub record ReadsDefinition (old : Ahead) (d : Definition) (new : Ahead) : Type 0 where
   pub inside : IsWithinRanges d
-  pub spelled : old.text ≡ text_of d ++ new.text
-  pub onward : GoesOn old (expects []) new (expects [])
+  pub passes : Passes old (text_of d) (length (lines_of d)) new
 
--- The last line was read.
-pub record ReadsEnd (old new : Ahead) : Type 0 where
-  pub spelled : old.text ≡ end_text ++ new.text
-  pub onward : GoesOn old (expects []) new finished
+-- The text stops before a definition is whole.
+pub record StopsInside (old : Ahead) (n : ℕ) (new : Ahead) : Type 0 where
+  pub stopped : StopsAhead (expects []) old n new
+  pub none : (more : List ℕ) → CanFollow new.end more
+      → (d : Definition) (rest : List ℕ) → IsWithinRanges d → stopped.taken ++ more ≡ text_of d ++ rest → ⊥
 
 -- The first line of a definition comes.
-pub record HasNext (text : List ℕ) : Type 0 where
+pub record HasNext (old new : Ahead) : Type 0 where
+  pub taken : List ℕ
+  pub reads : Reads old taken new
   pub next : Definition
   pub inside : IsWithinRanges next
   pub rest : List ℕ
-  pub spelled : text ≡ header_line next ++ rest
+  pub spelled : taken ≡ header_line next ++ rest
 
-abbrev pub DefinitionGives : Ahead → Result (Option Definition) CodeFault → Ahead → Type 0
+-- a definition was read, or the last line
+abbrev pub DefinitionGives : Ahead → Result (Option Definition) Stop → Ahead → Type 0
 DefinitionGives old (Ok (Some d)) new = ReadsDefinition old d new
-DefinitionGives old (Ok None) new = ReadsEnd old new
-DefinitionGives old (Err (fault.Line n)) new = StopsAhead (expects []) old n
-DefinitionGives old (Err fault.Memory) new = HasNext old.text
+DefinitionGives old (Ok None) new = Passes old end_text 1 new
+DefinitionGives old (Err (stop.Fault (fault.Line n))) new = StopsInside old n new
+DefinitionGives old (Err (stop.Fault fault.Memory)) new = HasNext old new
+DefinitionGives old (Err stop.Device) new = Breaks old new
+
+-- the same in a text in memory, where no read fails
+abbrev pub TextGives : TextAhead → Result (Option Definition) CodeFault → TextAhead → Type 0
+TextGives old (Ok next) new = DefinitionGives (ahead_in old) (Ok next) (ahead_in new)
+TextGives old (Err f) new = DefinitionGives (ahead_in old) (Err (stop.Fault f)) (ahead_in new)
+
+-- No byte was left; or one was taken.
+pub record SeesEnd (old : Ahead) (is_over : Bool) (new : Ahead) : Type 0 where
+  pub taken : List ℕ
+  pub reads : Reads old taken new
+  pub same : new.line ≡ old.line
+  pub nothing : is_over ≡ true → (taken ≡ []) × (new.end.is_over ≡ true)
+  pub some : is_over ≡ false → taken ≢ []
+
+abbrev pub EndGives : Ahead → Result Bool Device → Ahead → Type 0
+EndGives old (Ok is_over) new = SeesEnd old is_over new
+EndGives old (Err e) new = Breaks old new
+
+-- what a text begins with was read, if that was still to be done
+abbrev pub Opens : Bool → Ahead → Ahead → Type 0
+Opens true old new = Passes old edition_line 1 new
+Opens false old new = new ≡ old
+
+abbrev pub OpeningGives : Bool → Ahead → Result (Unit {0}) Stop → Ahead → Type 0
+OpeningGives opens old (Ok u) new = Opens opens old new
+OpeningGives opens old (Err (stop.Fault (fault.Line n))) new =
+    (opens ≡ true) × RefusesLine {X = Unit {0}} (λ _. edition_line) (λ _. Unit {0}) old n new
+OpeningGives opens old (Err (stop.Fault fault.Memory)) new = ⊥
+OpeningGives opens old (Err stop.Device) new = Breaks old new
+
+-- The last line was read, and the end of the input was seen.
+pub record ReadsLast (old new : Ahead) : Type 0 where
+  pub reads : Reads old end_text new
+  pub over : new.end.is_over ≡ true
+
+-- what reading the next definition does, where a line may have to come before it
+abbrev pub NextGives : Bool → Ahead → Result (Option Definition) Stop → Ahead → Type 0
+NextGives opens old (Ok (Some d)) new = (mid : Ahead) × Opens opens old mid × ReadsDefinition mid d new
+NextGives opens old (Ok None) new = (mid : Ahead) × Opens opens old mid × ReadsLast mid new
+NextGives opens old (Err (stop.Fault (fault.Line n))) new =
+    ((opens ≡ true) × RefusesLine {X = Unit {0}} (λ _. edition_line) (λ _. Unit {0}) old n new)
+    ⊎ ((mid : Ahead) × Opens opens old mid × StopsInside mid n new)
+NextGives opens old (Err (stop.Fault fault.Memory)) new = (mid : Ahead) × Opens opens old mid × HasNext mid new
+NextGives opens old (Err stop.Device) new = Breaks old new
+
+-- nothing came behind the last line; or something did, in a line of this number
+abbrev pub EndingGives : Ahead → Result (Unit {0}) Stop → Ahead → Type 0
+EndingGives old (Ok u) new = Reads old [] new × (new.end.is_over ≡ true)
+EndingGives old (Err (stop.Fault (fault.Line n))) new = (n ≡ old.line) × ((taken : List ℕ) × (taken ≢ []) × Reads old taken new)
+EndingGives old (Err (stop.Fault fault.Memory)) new = ⊥
+EndingGives old (Err stop.Device) new = Breaks old new

@@ -8,21 +8,32 @@ use Rattle.bcode.specs.declared.definition.Definition.{Definition}
 use Rattle.bcode.specs.declared.fault.CodeFault.{CodeFault}
 use Rattle.bcode.specs.declared.fault.CodeFault.TheVariants as fault
 
--- The text begins with the first m lines of some code text.
-pub record Begins (text : List ℕ) (m : ℕ) : Type 0 where
-  pub edition : Edition
+-- The text begins with the first m lines of some code text of this edition.
+pub record BeginsIn (edition : Edition) (text : List ℕ) (m : ℕ) : Type 0 where
   pub definitions : List Definition
   pub within : All IsWithinRanges definitions
   pub enough : m ≤ length (code_lines edition definitions)
   pub rest : List ℕ
   pub same : text ≡ joined (take m (code_lines edition definitions)) ++ rest
 
--- n is one more than the greatest number of first lines of the text that begin a code text.
-pub record IsFaultLine (text : List ℕ) (n : ℕ) : Type 0 where
+-- the same in some edition
+abbrev pub Begins : List ℕ → ℕ → Type 0
+Begins text m = (edition : Edition) × BeginsIn edition text m
+
+-- n is one more than the greatest number of which this holds.
+pub record IsBehind (P : ℕ → Type 0) (n : ℕ) : Type 0 where
   pub good : ℕ
   pub next : n ≡ suc good
-  pub begins : Begins text good
-  pub greatest : (m : ℕ) → Begins text m → m ≤ good
+  pub begins : P good
+  pub greatest : (m : ℕ) → P m → m ≤ good
+
+-- n is one more than the greatest number of first lines of the text that begin a code text
+abbrev pub IsFaultLine : List ℕ → ℕ → Type 0
+IsFaultLine text n = IsBehind (Begins text) n
+
+-- the same of the texts of one edition
+abbrev pub IsFaultLineIn : Edition → List ℕ → ℕ → Type 0
+IsFaultLineIn edition text n = IsBehind (BeginsIn edition text) n
 
 -- Behind some definitions the first line of another one stands.
 pub record HasHeader (text : List ℕ) : Type 0 where

@@ -29,12 +29,17 @@ pub data State : Type 0 where
   expects : List Kind → State
   finished : State
 
+-- the lines behind a first line
+abbrev pub kinds_after : Header → List Kind
+kinds_after (header.Function name parameters s) =
+    replicate s.labels (target s.code) ++ (replicate s.strings string ++ replicate s.code (instruction s))
+kinds_after (header.Simple name values strings) = replicate values (value strings) ++ replicate strings string
+kinds_after (header.Vector name words values strings) = replicate values (value strings) ++ replicate strings string
+kinds_after header.End = []
+
 abbrev pub state_after : Header → State
-state_after (header.Function name parameters s) =
-    expects (replicate s.labels (target s.code) ++ (replicate s.strings string ++ replicate s.code (instruction s)))
-state_after (header.Simple name values strings) = expects (replicate values (value strings) ++ replicate strings string)
-state_after (header.Vector name words values strings) = expects (replicate values (value strings) ++ replicate strings string)
 state_after header.End = finished
+state_after h = expects (kinds_after h)
 
 -- the first line of a definition, or the last line, leads to this state
 abbrev pub LeadsIn : List ℕ → State → Type 0

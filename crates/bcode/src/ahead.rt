@@ -1,16 +1,15 @@
-//! The lines of a text that are still to be read.
-ghost use Rattle.std.specs.Prelude.{◌≡◌, ◌+◌, ◌<◌, ◌≤◌, ◌^◌, ◌==◌, List, ◌∷◌, [], length, decimal};
-ghost use Rattle.bcode.specs.Ahead.{LineGives, LinesGive, ReadsOpening};
-ghost use Rattle.bcode.specs.Definitions.{IsInstrWithin, IsIvalWithin};
-ghost use Rattle.bcode.specs.Headers.{header_text, IsHeaderWithin};
-ghost use Rattle.bcode.specs.Text.{line, instr_line, ival_line};
+//! The lines of a text in memory.
+ghost use Rattle.std.specs.Prelude.{◌≡◌, ◌≢◌, ◌+◌, ◌<◌, true, false, length, []};
+ghost use Rattle.bcode.specs.Ahead.{ahead_in, ReadsOpening};
+ghost use Rattle.bcode.specs.declared.fault.CodeFault.TheVariants as faults;
+ghost use Rattle.bcode.specs.declared.stop.Stop.TheVariants as stops;
 
 use crate::header::{Header, Sizes};
-use crate::limits::WORD_VALUES;
+use crate::line_source::LineSource;
 use crate::lines::{header, instr, ival, number_line};
+use crate::stop::Stop;
 use crate::{CodeFault, Instr, Ival};
 use bword::Edition;
-use std::alloc::Global;
 use std::marker::Model;
 
 /// The text that is still to be read, from the beginning of a line on.
@@ -22,9 +21,9 @@ pub struct Ahead<'a> {
 
 impl<'a> Model for Ahead<'a> {
     ghost use Rattle.std.specs.Prelude.{◌+◌, ◌<◌, ◌^◌, length};
-    ghost use Rattle.bcode.specs.Ahead as ahead;
+    ghost use Rattle.bcode.specs.Ahead.{TextAhead};
 
-    ghost Value = { ahead.Ahead };
+    ghost Value = { TextAhead };
 
     ghost view = { λ a. record { text = a.text.now; line = a.line } };
 
@@ -42,7 +41,8 @@ impl<'a> Ahead<'a> {
 
     /// Whether no byte is left.
     pub fn is_empty(&self) -> bool
-        ensures { result ≡ (length self.now.text == 0) }
+        ensures none { result ≡ true → self.now.text ≡ [] }
+        ensures some { result ≡ false → self.now.text ≢ [] }
     {
         self.text.is_empty()
     }
@@ -56,58 +56,13 @@ impl<'a> Ahead<'a> {
 
     /// The edition of the text, behind whose first line the text goes on if that is the edition's.
     pub fn edition(&mut self) -> Edition
-        ensures { ReadsOpening self.old result self.new }
+        ensures { ReadsOpening (ahead_in self.old) result (ahead_in self.new) }
     {
         let Some(rest) = self.text.strip_prefix(b"B 2\n") else {
             return Edition::One;
         };
         self.advance(rest);
         Edition::Two
-    }
-
-    /// The first line of a definition, or the last one of a code text.
-    pub fn header(&mut self) -> Result<Header, CodeFault>
-        ensures { LineGives header_text IsHeaderWithin self.old result self.new }
-    {
-        let Some((header, rest)) = header(self.text) else {
-            return Err(CodeFault::Line(self.line));
-        };
-        self.advance(rest);
-        Ok(header)
-    }
-
-    /// An initial value, in a definition with this many string words.
-    pub fn ival(&mut self, strings: u16) -> Result<Ival, CodeFault>
-        ensures { LineGives ival_line (IsIvalWithin strings) self.old result self.new }
-    {
-        let Some((value, rest)) = ival(self.text, strings) else {
-            return Err(CodeFault::Line(self.line));
-        };
-        self.advance(rest);
-        Ok(value)
-    }
-
-    /// An instruction, in a function of these sizes.
-    pub fn instr(&mut self, sizes: Sizes) -> Result<Instr, CodeFault>
-        ensures { LineGives instr_line (IsInstrWithin sizes) self.old result self.new }
-    {
-        let Some((instr, rest)) = instr(self.text, sizes) else {
-            return Err(CodeFault::Line(self.line));
-        };
-        self.advance(rest);
-        Ok(instr)
-    }
-
-    /// The number in a line with this letter, which is below the bound.
-    pub fn number(&mut self, letter: u8, below: u32) -> Result<u16, CodeFault>
-        requires { below ≤ WORD_VALUES }
-        ensures { LineGives (λ n. line ((letter ∷ []) ∷ decimal n ∷ [])) (λ n. n < below) self.old result self.new }
-    {
-        let Some((n, rest)) = number_line(self.text, letter, below) else {
-            return Err(CodeFault::Line(self.line));
-        };
-        self.advance(rest);
-        Ok(n)
     }
 
     // Goes on behind a line.
@@ -117,5 +72,50 @@ impl<'a> Ahead<'a> {
     {
         self.text = rest;
         self.line += 1;
+    }
+
+    // All that is left was looked at.
+    fn refuse(&mut self) -> Stop
+        ensures all { self.new ≡ record { text = []; line = self.old.line } }
+        ensures stop { result ≡ stops.Fault (faults.Line self.old.line) }
+    {
+        self.text = &[];
+        Stop::Fault(CodeFault::Line(self.line))
+    }
+}
+
+impl LineSource for Ahead<'_> {
+    ghost ahead = { ahead_in };
+
+    fn header(&mut self) -> Result<Header, Stop> {
+        let Some((header, rest)) = header(self.text) else {
+            return Err(self.refuse());
+        };
+        self.advance(rest);
+        Ok(header)
+    }
+
+    fn ival(&mut self, strings: u16) -> Result<Ival, Stop> {
+        let Some((value, rest)) = ival(self.text, strings) else {
+            return Err(self.refuse());
+        };
+        self.advance(rest);
+        Ok(value)
+    }
+
+    fn instr(&mut self, sizes: Sizes) -> Result<Instr, Stop> {
+        let Some((instr, rest)) = instr(self.text, sizes) else {
+            return Err(self.refuse());
+        };
+        self.advance(rest);
+        Ok(instr)
+    }
+
+    fn number(&mut self, letter: u8, below: u32) -> Result<u16, Stop> {
+        let Some((n, rest)) = number_line(self.text, letter, below) else {
+            return Err(self.refuse());
+        };
+        self.advance(rest);
+        Ok(n)
     }
 }

@@ -20,3 +20,6 @@ pub const MAX_VALUES: usize = 1024;
 
 /// The most instructions of a function.
 pub const MAX_INSTRUCTIONS: usize = 4096;
+
+/// No line of a code text is longer.
+pub const LINE_LEN: usize = 128;

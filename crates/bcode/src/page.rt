@@ -5,6 +5,7 @@ ghost use Rattle.bword.specs.Names.{is_name};
 ghost use Rattle.bcode.specs.Pages.{PageGives};
 ghost use Rattle.bcode.specs.Text.{line, instr_line, ival_line, increment_text, operator_text};
 
+use crate::limits::LINE_LEN;
 use crate::{Increment, Instr, Ival};
 use bword::{BinOp, ByteOut, EndFault, Name};
 use itoa::{Buffer, write_digits};
@@ -12,9 +13,6 @@ use std::marker::Model;
 
 /// The most bytes that go to an end at once.
 pub const PAGE_LEN: usize = 4096;
-
-/// No line of a code text is longer.
-pub const LINE_LEN: usize = 128;
 
 /// Lines that are to be put.
 #[derive(Drop)]

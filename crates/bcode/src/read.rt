@@ -1,6 +1,6 @@
 //! Code texts, read.
-ghost use Rattle.std.specs.Prelude.{◌≡◌, ◌<◌, ◌≤◌, List, ◌∷◌, [], decimal, IfOk, IfErr, MatchResult};
-ghost use Rattle.bcode.specs.Ahead.{LinesGive, BodyGives, DefinitionGives};
+ghost use Rattle.std.specs.Prelude.{◌≡◌, ◌≢◌, ◌<◌, ◌≤◌, List, ◌∷◌, [], decimal, IfOk, IfErr, MatchResult};
+ghost use Rattle.bcode.specs.Ahead.{LinesGive, BodyGives, DefinitionGives, TextGives};
 ghost use Rattle.bcode.specs.Definitions.{IsInstrWithin, IsIvalWithin};
 ghost use Rattle.bcode.specs.Faults.{IsFaultOf};
 ghost use Rattle.bcode.specs.Headers.{IsHeaderWithin};
@@ -12,6 +12,8 @@ ghost use Rattle.bcode.specs.declared.header.Header.TheVariants as headers;
 use crate::ahead::Ahead;
 use crate::header::{Header, Sizes};
 use crate::limits::WORD_VALUES;
+use crate::line_source::LineSource;
+use crate::stop::Stop;
 use crate::{
     CodeFault, Definition, Function, FunctionParts, Instr, Ival, Simple, SimpleParts, Vector,
     VectorParts,
@@ -34,7 +36,7 @@ pub fn read_code(alloc: Global, text: &[u8]) -> Result<Vec<Definition>, CodeFaul
     let mut ahead = Ahead::new(text);
     ahead.edition();
     let mut definitions = Vec::new(alloc);
-    while let Some(definition) = next_definition(alloc, &mut ahead)? {
+    while let Some(definition) = next_of_text(alloc, &mut ahead)? {
         definitions.push(definition)?;
     }
     if !ahead.is_empty() {
@@ -43,44 +45,58 @@ pub fn read_code(alloc: Global, text: &[u8]) -> Result<Vec<Definition>, CodeFaul
     Ok(definitions)
 }
 
-// The definition that comes next, or nothing at the end.
-fn next_definition(alloc: Global, ahead: &mut Ahead<'_>) -> Result<Option<Definition>, CodeFault>
-    ensures { DefinitionGives ahead.old result ahead.new }
+// The definition that comes next in a text in memory, which no read fails of.
+fn next_of_text(alloc: Global, ahead: &mut Ahead<'_>) -> Result<Option<Definition>, CodeFault>
+    ensures { TextGives ahead.old result ahead.new }
 {
-    match ahead.header()? {
+    match next_definition(alloc, ahead) {
+        Ok(next) => Ok(next),
+        Err(Stop::Fault(fault)) => Err(fault),
+        Err(Stop::Device) => unreachable!(),
+    }
+}
+
+/// The definition that comes next, or nothing at the last line.
+pub fn next_definition<L: LineSource>(
+    alloc: Global,
+    lines: &mut L,
+) -> Result<Option<Definition>, Stop>
+    ensures { DefinitionGives (L.ahead lines.old) result (L.ahead lines.new) }
+{
+    match lines.header()? {
         Header::Function {
             name,
             parameters,
             sizes,
-        } => Ok(Some(function(alloc, ahead, name, parameters, sizes)?)),
+        } => Ok(Some(function(alloc, lines, name, parameters, sizes)?)),
         Header::Simple {
             name,
             values,
             strings,
-        } => Ok(Some(simple(alloc, ahead, name, values, strings)?)),
+        } => Ok(Some(simple(alloc, lines, name, values, strings)?)),
         Header::Vector {
             name,
             words,
             values,
             strings,
-        } => Ok(Some(vector(alloc, ahead, name, words, values, strings)?)),
+        } => Ok(Some(vector(alloc, lines, name, words, values, strings)?)),
         Header::End => Ok(None),
     }
 }
 
-fn function(
+fn function<L: LineSource>(
     alloc: Global,
-    ahead: &mut Ahead<'_>,
+    lines: &mut L,
     name: Name,
     parameters: u16,
     sizes: Sizes,
-) -> Result<Definition, CodeFault>
+) -> Result<Definition, Stop>
     requires { IsHeaderWithin (headers.Function name parameters sizes) }
-    ensures { BodyGives (headers.Function name parameters sizes) ahead.old result ahead.new }
+    ensures { BodyGives (headers.Function name parameters sizes) (L.ahead lines.old) result (L.ahead lines.new) }
 {
-    let targets = numbers(alloc, ahead, b't', u32::from(sizes.code), sizes.labels)?;
-    let strings = numbers(alloc, ahead, b'w', WORD_VALUES, sizes.strings)?;
-    let code = instrs(alloc, ahead, sizes, sizes.code)?;
+    let targets = numbers(alloc, lines, b't', u32::from(sizes.code), sizes.labels)?;
+    let strings = numbers(alloc, lines, b'w', WORD_VALUES, sizes.strings)?;
+    let code = instrs(alloc, lines, sizes, sizes.code)?;
     Ok(Definition::Function(Function::from_parts(FunctionParts {
         name,
         parameters,
@@ -91,18 +107,18 @@ fn function(
     })))
 }
 
-fn simple(
+fn simple<L: LineSource>(
     alloc: Global,
-    ahead: &mut Ahead<'_>,
+    lines: &mut L,
     name: Name,
     count: u16,
     strings: u16,
-) -> Result<Definition, CodeFault>
+) -> Result<Definition, Stop>
     requires { IsHeaderWithin (headers.Simple name count strings) }
-    ensures { BodyGives (headers.Simple name count strings) ahead.old result ahead.new }
+    ensures { BodyGives (headers.Simple name count strings) (L.ahead lines.old) result (L.ahead lines.new) }
 {
-    let values = values(alloc, ahead, strings, count)?;
-    let strings = numbers(alloc, ahead, b'w', WORD_VALUES, strings)?;
+    let values = values(alloc, lines, strings, count)?;
+    let strings = numbers(alloc, lines, b'w', WORD_VALUES, strings)?;
     Ok(Definition::Simple(Simple::from_parts(SimpleParts {
         name,
         values,
@@ -110,19 +126,19 @@ fn simple(
     })))
 }
 
-fn vector(
+fn vector<L: LineSource>(
     alloc: Global,
-    ahead: &mut Ahead<'_>,
+    lines: &mut L,
     name: Name,
     words: u16,
     count: u16,
     strings: u16,
-) -> Result<Definition, CodeFault>
+) -> Result<Definition, Stop>
     requires { IsHeaderWithin (headers.Vector name words count strings) }
-    ensures { BodyGives (headers.Vector name words count strings) ahead.old result ahead.new }
+    ensures { BodyGives (headers.Vector name words count strings) (L.ahead lines.old) result (L.ahead lines.new) }
 {
-    let values = values(alloc, ahead, strings, count)?;
-    let strings = numbers(alloc, ahead, b'w', WORD_VALUES, strings)?;
+    let values = values(alloc, lines, strings, count)?;
+    let strings = numbers(alloc, lines, b'w', WORD_VALUES, strings)?;
     Ok(Definition::Vector(Vector::from_parts(VectorParts {
         name,
         words,
@@ -131,49 +147,50 @@ fn vector(
     })))
 }
 
-fn numbers(
+fn numbers<L: LineSource>(
     alloc: Global,
-    ahead: &mut Ahead<'_>,
+    lines: &mut L,
     letter: u8,
     below: u32,
     count: u16,
-) -> Result<Vec<u16>, CodeFault>
-    requires { below ≤ WORD_VALUES }
-    ensures { LinesGive (λ n. line ((letter ∷ []) ∷ decimal n ∷ [])) (λ n. n < below) (λ v. v.items) count ahead.old result ahead.new }
+) -> Result<Vec<u16>, Stop>
+    requires letter { letter ≢ 10 }
+    requires below { below ≤ WORD_VALUES }
+    ensures { LinesGive (λ n. line ((letter ∷ []) ∷ decimal n ∷ [])) (λ n. n < below) (λ v. v.items) count (L.ahead lines.old) result (L.ahead lines.new) }
 {
     let mut numbers = Vec::with_capacity(alloc, usize::from(count))?;
     for _ in 0..count {
-        numbers.push(ahead.number(letter, below)?)?;
+        numbers.push(lines.number(letter, below)?)?;
     }
     Ok(numbers)
 }
 
-fn values(
+fn values<L: LineSource>(
     alloc: Global,
-    ahead: &mut Ahead<'_>,
+    lines: &mut L,
     strings: u16,
     count: u16,
-) -> Result<Vec<Ival>, CodeFault>
-    ensures { LinesGive ival_line (IsIvalWithin strings) (λ v. v.items) count ahead.old result ahead.new }
+) -> Result<Vec<Ival>, Stop>
+    ensures { LinesGive ival_line (IsIvalWithin strings) (λ v. v.items) count (L.ahead lines.old) result (L.ahead lines.new) }
 {
     let mut values = Vec::with_capacity(alloc, usize::from(count))?;
     for _ in 0..count {
-        values.push(ahead.ival(strings)?)?;
+        values.push(lines.ival(strings)?)?;
     }
     Ok(values)
 }
 
-fn instrs(
+fn instrs<L: LineSource>(
     alloc: Global,
-    ahead: &mut Ahead<'_>,
+    lines: &mut L,
     sizes: Sizes,
     count: u16,
-) -> Result<Vec<Instr>, CodeFault>
-    ensures { LinesGive instr_line (IsInstrWithin sizes) (λ v. v.items) count ahead.old result ahead.new }
+) -> Result<Vec<Instr>, Stop>
+    ensures { LinesGive instr_line (IsInstrWithin sizes) (λ v. v.items) count (L.ahead lines.old) result (L.ahead lines.new) }
 {
     let mut instrs = Vec::with_capacity(alloc, usize::from(count))?;
     for _ in 0..count {
-        instrs.push(ahead.instr(sizes)?)?;
+        instrs.push(lines.instr(sizes)?)?;
     }
     Ok(instrs)
 }

@@ -1,5 +1,5 @@
-use bcode::{CodeFault, read_code, write_definition, write_end};
-use bword::MemOut;
+use bcode::{CodeFault, CodeReader, CodeStep, read_code, write_definition, write_end};
+use bword::{Edition, FailIn, MemOut};
 use std::alloc::Global;
 use std::test::Fail;
 
@@ -65,5 +65,68 @@ fn memory_alone_is_refused(rt: HostRuntime) {
 fn texts_of_faults(rt: HostRuntime) -> Result<(), Fail> {
     let text = format!(in rt.alloc(); "{}, {}", CodeFault::Line(3), CodeFault::Memory)?;
     assert_eq!(rt; text.as_str(), "code 3, memory");
+    Ok(())
+}
+
+// What a reader gives of a text, one of whose reads fails: the text of the definitions, and how it stopped.
+fn streamed(
+    alloc: Global,
+    edition: Edition,
+    text: &str,
+    read: u64,
+) -> Result<(MemOut, CodeStep), Fail> {
+    let mut out = MemOut::new(alloc);
+    let mut reader = CodeReader::new(alloc, FailIn::new(text.as_bytes(), read), edition);
+    for _ in 0..text.len() {
+        match reader.next() {
+            CodeStep::Definition(definition) => write_definition(definition.view(), &mut out)?,
+            step => return Ok((out, step)),
+        }
+    }
+    Ok((out, reader.next()))
+}
+
+#[test]
+fn code_read_in_a_stream(rt: HostRuntime) -> Result<(), Fail> {
+    let (out, step) = streamed(rt.alloc(), Edition::One, CODE, 1000)?;
+    assert!(rt; matches!(step, CodeStep::End));
+    assert_eq!(rt;
+        out.bytes(),
+        CODE.strip_suffix("E\n").unwrap_or("").as_bytes()
+    );
+    Ok(())
+}
+
+// Each read fails in turn, the one that sees the end included: the definitions before it are those of the text.
+#[test]
+fn reads_that_fail_in_a_stream(rt: HostRuntime) -> Result<(), Fail> {
+    for read in 0..CODE.len() as u64 + 1 {
+        let (out, step) = streamed(rt.alloc(), Edition::One, CODE, read)?;
+        assert!(rt; matches!(step, CodeStep::Device));
+        assert!(rt; CODE.as_bytes().starts_with(out.bytes()));
+    }
+    Ok(())
+}
+
+// The line of the fault in texts of an edition.
+#[test]
+fn faults_in_a_stream(rt: HostRuntime) -> Result<(), Fail> {
+    for (edition, line, text) in [
+        (Edition::One, 1, ""),
+        (Edition::One, 1, "E"),
+        (Edition::One, 2, "E\nE\n"),
+        (Edition::One, 1, "B 2\nE\n"),
+        (Edition::One, 3, "X a 0 0\nX b 1 0\nc 007\nE\n"),
+        (Edition::Two, 1, "E\n"),
+        (Edition::Two, 2, "B 2\n"),
+        (Edition::Two, 2, "B 2\nB 2\nE\n"),
+        (Edition::Two, 3, "B 2\nE\nE\n"),
+    ] {
+        let (_, step) = streamed(rt.alloc(), edition, text, 1000)?;
+        assert!(rt;
+            matches!(step, CodeStep::Fault(CodeFault::Line(n)) if n == line),
+            "{text}"
+        );
+    }
     Ok(())
 }

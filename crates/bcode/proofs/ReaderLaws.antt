@@ -1,0 +1,244 @@
+-- What reading the next definition does to the reader of a code text.
+use Rattle.std.proofs.Common.{subst, ◌≡◌, ◌≢◌, ℕ, suc, ◌+◌, Bool, true, false, List, [], ◌∷◌, ◌++◌, length, Option, Some, None, Result, Ok, Err, IsErrAnd, refl, sym, ap, ◌∙◌, arith, append_assoc, append-nil, inl, inr, ◌⊎◌}
+use Rattle.std.specs.Prelude.{All}
+use Rattle.std.specs.List.{flat_map}
+use Rattle.std.proofs.lemmas.List.Elements.{All-nil, All-push}
+use Rattle.bword.specs.ByteEnds.{Incoming, CanFollow}
+use Rattle.bword.specs.declared.edition.Edition.{Edition}
+use Rattle.bword.specs.declared.edition.Edition.TheVariants as editions
+use Rattle.bcode.specs.Ahead.{Ahead, Reads, Passes, Breaks, RefusesLine, ReadsDefinition, StopsInside, HasNext, DefinitionGives, Opens, OpeningGives, ReadsLast, NextGives, EndingGives}
+use Rattle.bcode.specs.Faults.{IsFaultLineIn}
+use Rattle.bcode.specs.Readers.{Start, CodeReader, all_ahead, reader_of, opened, opened_lines, Since, to_open, IsOpen, Gave, Ended, Stopped, Refused, Broke, step_of, is_last, StepGives}
+use Rattle.bcode.specs.Stopping.{expects, Stops}
+use Rattle.bcode.specs.Text.{edition_line, opening, opening_lines, header_line, lines_of, text_of, end_text, IsTextOf}
+use Rattle.bcode.specs.Views.{IsWithinRanges}
+use Rattle.bcode.specs.declared.code_step.CodeStep.{CodeStep}
+use Rattle.bcode.specs.declared.definition.Definition.{Definition}
+use Rattle.bcode.specs.declared.fault.CodeFault.TheVariants as fault
+use Rattle.bcode.specs.declared.stop.Stop.{Stop}
+use Rattle.bcode.specs.declared.stop.Stop.TheVariants as stop
+use Rattle.bcode.proofs.AheadLaws.{Reads-append, Passes-none, Passes-append, Breaks-after}
+use Rattle.bcode.proofs.FaultLaws.{definitions_go, fault_line_in, no_code_in, no_opening_line, no_opening_code, passes_more, same_rest, code_spelled, end_stops}
+
+pub is_open_new : (start : Start) → IsOpen (reader_of start (all_ahead start) false false)
+is_open_new start = record {
+  before = [];
+  since = record { within = All-nil IsWithinRanges; unbegun = λ _. refl; passes = Passes-none (all_ahead start); is_open = refl };
+}
+
+-- what a text begins with, and definitions, were read
+abbrev Behind : Start → List Definition → Ahead → Type 0
+Behind start ds at =
+    Passes (all_ahead start) (opening start.edition ++ flat_map text_of ds) (length (opening_lines start.edition) + length (flat_map lines_of ds)) at
+
+abbrev beginning : Edition → Incoming → List ℕ → Start
+beginning edition source lender = record { edition = edition; source = source; lender = lender }
+
+behind_opening : (edition : Edition) (source : Incoming) (lender : List ℕ) (b : Bool) (at mid : Ahead) (ds : List Definition) → Since (reader_of (beginning edition source lender) at b false) ds
+    → Opens (to_open b edition) at mid → Behind (beginning edition source lender) ds mid
+behind_opening editions.One source lender true at mid ds s e = rw e s.passes
+behind_opening editions.Two source lender true at mid ds s e = rw e s.passes
+behind_opening editions.One source lender false at mid ds s e = rw e s.passes
+behind_opening editions.Two source lender false at mid ds s p =
+    let start = beginning editions.Two source lender in
+    let none = s.unbegun refl in
+    let first : Passes (all_ahead start) [] (0 + 0) at = subst (λ (es : List Definition). Passes (all_ahead start) ([] ++ flat_map text_of es) (0 + length (flat_map lines_of es)) at) none s.passes in
+    let all = Passes-append first p in
+    let count : 0 + 0 + 1 ≡ 1 + 0 = omega arith in
+    subst (λ (es : List Definition). Behind start es mid) (sym none) (subst (λ (n : ℕ). Passes (all_ahead start) edition_line n mid) count all)
+
+-- bytes were taken behind those that were read before
+split_there : (edition : Edition) (source : Incoming) (lender : List ℕ) (b : Bool) (at : Ahead) (ds : List Definition) → Since (reader_of (beginning edition source lender) at b false) ds → (taken : List ℕ)
+    → (behind : List ℕ) × (opening edition ++ flat_map text_of ds ++ taken ≡ opened (reader_of (beginning edition source lender) at b false) ++ flat_map text_of ds ++ behind)
+split_there edition source lender true at ds s taken = (taken, refl)
+split_there edition source lender false at ds s taken =
+    (opening edition ++ flat_map text_of ds ++ taken, ap (λ es. flat_map text_of es ++ (opening edition ++ flat_map text_of ds ++ taken)) (sym (s.unbegun refl)))
+
+module _ (edition : Edition) (source : Incoming) (lender : List ℕ) (b : Bool) (at : Ahead) (ds : List Definition) (s : Since (reader_of (beginning edition source lender) at b false) ds) where
+  abbrev start : Start
+  start = beginning edition source lender
+
+  abbrev before : CodeReader
+  before = reader_of start at b false
+
+  abbrev texts : List ℕ
+  texts = opening edition ++ flat_map text_of ds
+
+  abbrev after : Ahead → Bool → CodeReader
+  after new closed = reader_of start new true closed
+
+  gave : (mid new : Ahead) (d : Definition) → Opens (to_open b edition) at mid → ReadsDefinition mid d new → Gave before d (after new false)
+  gave mid new d o read = record {
+    before = ds;
+    since = s;
+    now = record {
+      within = All-push IsWithinRanges ds d s.within read.inside;
+      unbegun = λ e. absurd (cc);
+      passes = passes_more (opening edition) (length (opening_lines edition)) ds d (behind_opening edition source lender b at mid ds s o) read;
+      is_open = refl;
+    };
+  }
+
+  ended : (mid new : Ahead) → Opens (to_open b edition) at mid → ReadsLast mid new → Ended before (after new true)
+  ended mid new o last = record {
+    before = ds;
+    since = s;
+    taken = texts ++ end_text;
+    reads = Reads-append (behind_opening edition source lender b at mid ds s o).reads last.reads;
+    whole = record { within = s.within; spelled = sym (code_spelled edition ds) };
+    over = last.over;
+    closed = refl;
+  }
+
+  stopped_inside : (mid new : Ahead) (n : ℕ) → Opens (to_open b edition) at mid → StopsInside mid n new → Stopped before n (after new true)
+  stopped_inside mid new n o h = record {
+    before = ds;
+    since = s;
+    taken = texts ++ h.stopped.taken;
+    reads = Reads-append behind.reads h.stopped.reads;
+    behind = rest.0;
+    split = rest.1;
+    fault = λ more can. subst (IsFaultLineIn edition (texts ++ h.stopped.taken ++ more)) line
+        (subst (λ (t : List ℕ). IsFaultLineIn edition t (suc good)) (sym (all more)) (fault_line_in edition (later more) known (stops more can)));
+    no_text = λ more can es code. no_code_in edition (later more) known (stops more can) es (subst (λ (t : List ℕ). IsTextOf edition t es) (all more) code);
+    none = λ more can d r inside same.
+        h.none more can d r inside (same_rest texts (h.stopped.taken ++ more) (text_of d ++ r) (sym (append_assoc texts h.stopped.taken more) ∙ same));
+    closed = refl;
+  }
+    where
+      behind : Behind start ds mid
+      behind = behind_opening edition source lender b at mid ds s o
+
+      rest : (behind : List ℕ) × (texts ++ h.stopped.taken ≡ opened before ++ flat_map text_of ds ++ behind)
+      rest = split_there edition source lender b at ds s h.stopped.taken
+
+      known : ℕ
+      known = length (flat_map lines_of ds) + h.stopped.good
+
+      good : ℕ
+      good = length (opening_lines edition) + known
+
+      later : List ℕ → List ℕ
+      later more = flat_map text_of ds ++ (h.stopped.taken ++ more)
+
+      all : (more : List ℕ) → texts ++ h.stopped.taken ++ more ≡ opening edition ++ later more
+      all more = append_assoc texts h.stopped.taken more ∙ append_assoc (opening edition) (flat_map text_of ds) (h.stopped.taken ++ more)
+
+      stops : (more : List ℕ) → CanFollow new.end more → Stops known (expects []) (later more)
+      stops more can = definitions_go ds s.within h.stopped.good (h.stopped.taken ++ more) (h.stopped.stops more can)
+
+      line : suc good ≡ n
+      line = let x = behind.counted in let y = h.stopped.there in omega arith
+
+  refused : (mid new : Ahead) → Opens (to_open b edition) at mid → HasNext mid new → Refused before (after new true)
+  refused mid new o h = record {
+    before = ds;
+    since = s;
+    taken = texts ++ h.taken;
+    reads = Reads-append (behind_opening edition source lender b at mid ds s o).reads h.reads;
+    next = h.next;
+    inside = h.inside;
+    rest = h.rest;
+    spelled = ap (λ l. texts ++ l) h.spelled;
+    closed = refl;
+  }
+
+-- the line that the text begins with was refused
+stopped_opening : (edition : Edition) (source : Incoming) (lender : List ℕ) (b : Bool) (at new : Ahead) (ds : List Definition) (n : ℕ) → Since (reader_of (beginning edition source lender) at b false) ds
+    → to_open b edition ≡ true → RefusesLine {X = Unit {0}} (λ _. edition_line) (λ _. Unit {0}) at n new
+    → Stopped (reader_of (beginning edition source lender) at b false) n (reader_of (beginning edition source lender) new true true)
+stopped_opening editions.One source lender true at new ds n s e r = absurd (cc)
+stopped_opening editions.Two source lender true at new ds n s e r = absurd (cc)
+stopped_opening editions.One source lender false at new ds n s e r = absurd (cc)
+stopped_opening editions.Two source lender false at new ds n s e r = record {
+  before = ds;
+  since = s;
+  taken = flat_map text_of ds ++ r.taken;
+  reads = Reads-append s.passes.reads r.reads;
+  behind = r.taken;
+  split = refl;
+  fault = λ more can. subst (IsFaultLineIn editions.Two (flat_map text_of ds ++ r.taken ++ more)) line (no_opening_line (flat_map text_of ds ++ r.taken ++ more) (none more can));
+  no_text = λ more can es code. no_opening_code (flat_map text_of ds ++ r.taken ++ more) (none more can) es code;
+  none = λ more can d t inside same. none more can (flat_map text_of ds ++ (text_of d ++ t)) (same ∙ append_assoc edition_line (flat_map text_of ds) (text_of d ++ t));
+  closed = refl;
+}
+  where
+    nothing : flat_map text_of ds ≡ []
+    nothing = ap (flat_map text_of) (s.unbegun refl)
+
+    line : 1 ≡ n
+    line = let x = r.here in let y = s.passes.counted in let z = ap (λ es. length (flat_map lines_of es)) (s.unbegun refl) in omega (arith, x, y, z)
+
+    none : (more : List ℕ) → CanFollow new.end more → (rest : List ℕ) → flat_map text_of ds ++ r.taken ++ more ≡ edition_line ++ rest → ⊥
+    none more can rest same = r.none more can tt rest tt (ap (λ t. t ++ r.taken ++ more) (sym nothing) ∙ same)
+
+-- what a call answers and does
+pub next_gives : (edition : Edition) (source : Incoming) (lender : List ℕ) (b : Bool) (at new : Ahead) → IsOpen (reader_of (beginning edition source lender) at b false) → (r : Result (Option Definition) Stop)
+    → NextGives (to_open b edition) at r new
+    → let old = reader_of (beginning edition source lender) at b false in let now = reader_of (beginning edition source lender) new true (is_last (step_of r)) in
+    StepGives old (step_of r) now × (is_last (step_of r) ≡ false → IsOpen now)
+next_gives edition source lender b at new is_open (Ok (Some d)) gives =
+    let g = gave edition source lender b at is_open.before is_open.since gives.0 new d gives.1 gives.2 in
+    (g, λ _. record { before = g.before ++ d ∷ []; since = g.now })
+next_gives edition source lender b at new is_open (Ok None) gives =
+    (ended edition source lender b at is_open.before is_open.since gives.0 new gives.1 gives.2, λ e. absurd (cc))
+next_gives edition source lender b at new is_open (Err (stop.Fault (fault.Line n))) (inl gives) =
+    (stopped_opening edition source lender b at new is_open.before n is_open.since gives.0 gives.1, λ e. absurd (cc))
+next_gives edition source lender b at new is_open (Err (stop.Fault (fault.Line n))) (inr gives) =
+    (stopped_inside edition source lender b at is_open.before is_open.since gives.0 new n gives.1 gives.2, λ e. absurd (cc))
+next_gives edition source lender b at new is_open (Err (stop.Fault fault.Memory)) gives =
+    (refused edition source lender b at is_open.before is_open.since gives.0 new gives.1 gives.2, λ e. absurd (cc))
+next_gives edition source lender b at new is_open (Err stop.Device) gives =
+    (record { before = is_open.before; since = is_open.since; breaks = gives; closed = refl }, λ e. absurd (cc))
+
+pub call_gives : (edition : Edition) (source : Incoming) (lender : List ℕ) (b closed : Bool) (at new : Ahead) → closed ≡ false → (closed ≡ false → IsOpen (reader_of (beginning edition source lender) at b closed))
+    → (opens : Bool) → opens ≡ to_open b edition → (r : Result (Option Definition) Stop) → NextGives opens at r new
+    → (answer : CodeStep) → answer ≡ step_of r → (last : Bool) → last ≡ is_last answer
+    → StepGives (reader_of (beginning edition source lender) at b closed) answer (reader_of (beginning edition source lender) new true last)
+    × (last ≡ false → IsOpen (reader_of (beginning edition source lender) new true last))
+call_gives edition source lender b closed at new closed_is is_open opens opens_is r gives answer answer_is last last_is =
+    let start = beginning edition source lender in
+    let can_come = subst (λ (z : Bool). IsOpen (reader_of start at b z)) closed_is (is_open closed_is) in
+    let base = next_gives edition source lender b at new can_come r (subst (λ (z : Bool). NextGives z at r new) opens_is gives) in
+    let P = λ (z : Bool) (s : CodeStep) (l : Bool). StepGives (reader_of start at b z) s (reader_of start new true l) × (l ≡ false → IsOpen (reader_of start new true l)) in
+    subst (λ (z : Bool). P z answer last) (sym closed_is)
+    (subst (λ (s : CodeStep). P false s last) (sym answer_is)
+    (subst (λ (l : Bool). P false (step_of r) l) (sym (last_is ∙ ap is_last answer_is)) base))
+
+-- the exits of the parts of a call
+
+opens_reads : (opens : Bool) (old mid : Ahead) → Opens opens old mid → (text : List ℕ) × Reads old text mid
+opens_reads true old mid h = (edition_line, h.reads)
+opens_reads false old mid h = ([], subst (λ (a : Ahead). Reads old [] a) (sym h) (Passes-none old).reads)
+
+pub opening_exit : (opens : Bool) (old now : Ahead) (r : Result (Option Definition) Stop) (e : Stop) → IsErrAnd r (λ f. f ≡ e) → OpeningGives opens old (Err e) now → NextGives opens old r now
+opening_exit opens old now (Ok o) e same gives = absurd same
+opening_exit opens old now (Err f) e same gives = subst (λ (s : Stop). NextGives opens old (Err s) now) (sym same) (exit e gives)
+  where
+    exit : (e : Stop) → OpeningGives opens old (Err e) now → NextGives opens old (Err e) now
+    exit (stop.Fault (fault.Line n)) gives = inl gives
+    exit (stop.Fault fault.Memory) gives = absurd gives
+    exit stop.Device gives = gives
+
+pub definition_exit : (opens : Bool) (old mid now : Ahead) (r : Result (Option Definition) Stop) (e : Stop) → Opens opens old mid → IsErrAnd r (λ f. f ≡ e) → DefinitionGives mid (Err e) now → NextGives opens old r now
+definition_exit opens old mid now (Ok o) e h same gives = absurd same
+definition_exit opens old mid now (Err f) e h same gives = subst (λ (s : Stop). NextGives opens old (Err s) now) (sym same) (exit e gives)
+  where
+    exit : (e : Stop) → DefinitionGives mid (Err e) now → NextGives opens old (Err e) now
+    exit (stop.Fault (fault.Line n)) gives = inr (mid, h, gives)
+    exit (stop.Fault fault.Memory) gives = (mid, h, gives)
+    exit stop.Device gives = Breaks-after (opens_reads opens old mid h).1 gives
+
+pub end_exit : (opens : Bool) (old mid end now : Ahead) (r : Result (Option Definition) Stop) (e : Stop) → Opens opens old mid → Passes mid end_text 1 end → IsErrAnd r (λ f. f ≡ e) → EndingGives end (Err e) now
+    → NextGives opens old r now
+end_exit opens old mid end now (Ok o) e h last same gives = absurd same
+end_exit opens old mid end now (Err f) e h last same gives = subst (λ (s : Stop). NextGives opens old (Err s) now) (sym same) (exit e gives)
+  where
+    exit : (e : Stop) → EndingGives end (Err e) now → NextGives opens old (Err e) now
+    exit (stop.Fault (fault.Line n)) gives =
+        inr (mid, h, subst (λ (k : ℕ). StopsInside mid k now) (sym gives.0) (end_stops gives.1.0 last gives.1.2 gives.1.1))
+    exit (stop.Fault fault.Memory) gives = absurd gives
+    exit stop.Device gives = Breaks-after (Reads-append (opens_reads opens old mid h).1 last.reads) gives
+
+pub reads_last : (mid end now : Ahead) → Passes mid end_text 1 end → Reads end [] now × (now.end.is_over ≡ true) → ReadsLast mid now
+reads_last mid end now last h = record { reads = Reads-append last.reads h.0; over = h.1 }

@@ -1,0 +1,146 @@
+-- What a call of the reader of a code text does, counted from when the reader was made.
+use Rattle.std.specs.Prelude.{◌≡◌, ℕ, ◌+◌, Bool, true, false, List, [], ◌∷◌, ◌++◌, length, All, Option, Some, None, Result, Ok, Err, if◌then◌else◌}
+use Rattle.std.specs.List.{flat_map}
+use Rattle.bword.specs.ByteEnds.{Incoming, CanFollow}
+use Rattle.bword.specs.declared.edition.Edition.{Edition}
+use Rattle.bword.specs.declared.edition.Edition.TheVariants as editions
+use Rattle.bcode.specs.Ahead.{Ahead, Reads, Passes, Breaks}
+use Rattle.bcode.specs.Faults.{IsFaultLineIn}
+use Rattle.bcode.specs.Text.{opening, opening_lines, header_line, lines_of, text_of, end_text, IsTextOf}
+use Rattle.bcode.specs.Views.{IsWithinRanges}
+use Rattle.bcode.specs.declared.code_step.CodeStep.{CodeStep}
+use Rattle.bcode.specs.declared.code_step.CodeStep.TheVariants as step
+use Rattle.bcode.specs.declared.definition.Definition.{Definition}
+use Rattle.bcode.specs.declared.fault.CodeFault.TheVariants as fault
+use Rattle.bcode.specs.declared.stop.Stop.{Stop}
+use Rattle.bcode.specs.declared.stop.Stop.TheVariants as stop
+
+-- the edition of a reader, and what its end told when it was made, and which end it is
+pub record Start : Type 0 where
+  pub edition : Edition
+  pub source : Incoming
+  pub lender : List ℕ
+
+-- how a reader began, what is still to be read, whether what its text begins with was read, and whether it has stopped
+pub record CodeReader : Type 0 where
+  pub first : Start
+  pub ahead : Ahead
+  pub is_begun : Bool
+  pub is_closed : Bool
+
+abbrev pub start_of : Edition → Incoming → List ℕ → Start
+start_of edition source lender = record { edition = edition; source = source; lender = lender }
+
+-- all of the text
+abbrev pub all_ahead : Start → Ahead
+all_ahead start = record { end = start.source; lender = start.lender; line = 1 }
+
+abbrev pub reader_of : Start → Ahead → Bool → Bool → CodeReader
+reader_of start ahead is_begun is_closed = record { first = start; ahead = ahead; is_begun = is_begun; is_closed = is_closed }
+
+-- a reader that has read nothing
+abbrev pub new : Start → CodeReader
+new start = reader_of start (all_ahead start) false false
+
+-- what the text begins with, where it was read, and its lines
+abbrev pub opened : CodeReader → List ℕ
+opened r = if r.is_begun then opening r.first.edition else []
+
+abbrev pub opened_lines : CodeReader → List (List ℕ)
+opened_lines r = if r.is_begun then opening_lines r.first.edition else []
+
+-- Since a reader was made, it has taken what its text begins with and the texts of these definitions, and no byte more;
+-- before its first call nothing.
+pub record Since (r : CodeReader) (ds : List Definition) : Type 0 where
+  pub within : All IsWithinRanges ds
+  pub unbegun : r.is_begun ≡ false → ds ≡ []
+  pub passes : Passes (all_ahead r.first) (opened r ++ flat_map text_of ds) (length (opened_lines r) + length (flat_map lines_of ds)) r.ahead
+  pub is_open : r.is_closed ≡ false
+
+-- whether what the text begins with is a line that is still to be read
+abbrev pub to_open : Bool → Edition → Bool
+to_open false editions.Two = true
+to_open _ _ = false
+
+-- more definitions can come
+pub record IsOpen (r : CodeReader) : Type 0 where
+  pub before : List Definition
+  pub since : Since r before
+
+-- d was read: the one behind those that were read before.
+pub record Gave (old : CodeReader) (d : Definition) (new : CodeReader) : Type 0 where
+  pub before : List Definition
+  pub since : Since old before
+  pub now : Since new (before ++ d ∷ [])
+
+-- The definitions that were read before are those of all of the text, whose end was seen.
+pub record Ended (old new : CodeReader) : Type 0 where
+  pub before : List Definition
+  pub since : Since old before
+  pub taken : List ℕ
+  pub reads : Reads (all_ahead old.first) taken new.ahead
+  pub whole : IsTextOf old.first.edition taken before
+  pub over : new.ahead.end.is_over ≡ true
+  pub closed : new.is_closed ≡ true
+
+-- No definition comes whole behind those that were read before.
+abbrev pub NoneWhole : Edition → List ℕ → List Definition → Type 0
+NoneWhole edition text before =
+    (d : Definition) (rest : List ℕ) → IsWithinRanges d → text ≡ opening edition ++ flat_map text_of before ++ (text_of d ++ rest) → ⊥
+
+-- Whatever follows the bytes taken, line n is the first that no text of the edition goes on with.
+pub record Stopped (old : CodeReader) (n : ℕ) (new : CodeReader) : Type 0 where
+  pub before : List Definition
+  pub since : Since old before
+  pub taken : List ℕ
+  pub reads : Reads (all_ahead old.first) taken new.ahead
+  pub behind : List ℕ
+  pub split : taken ≡ opened old ++ flat_map text_of before ++ behind
+  pub fault : (more : List ℕ) → CanFollow new.ahead.end more → IsFaultLineIn old.first.edition (taken ++ more) n
+  pub no_text : (more : List ℕ) → CanFollow new.ahead.end more → (ds : List Definition) → IsTextOf old.first.edition (taken ++ more) ds → ⊥
+  pub none : (more : List ℕ) → CanFollow new.ahead.end more → NoneWhole old.first.edition (taken ++ more) before
+  pub closed : new.is_closed ≡ true
+
+-- Memory was refused behind the first line of a definition.
+pub record Refused (old new : CodeReader) : Type 0 where
+  pub before : List Definition
+  pub since : Since old before
+  pub taken : List ℕ
+  pub reads : Reads (all_ahead old.first) taken new.ahead
+  pub next : Definition
+  pub inside : IsWithinRanges next
+  pub rest : List ℕ
+  pub spelled : taken ≡ opening old.first.edition ++ flat_map text_of before ++ (header_line next ++ rest)
+  pub closed : new.is_closed ≡ true
+
+-- A read failed.
+pub record Broke (old new : CodeReader) : Type 0 where
+  pub before : List Definition
+  pub since : Since old before
+  pub breaks : Breaks old.ahead new.ahead
+  pub closed : new.is_closed ≡ true
+
+-- the answer of a call, and whether it is the last one
+abbrev pub step_of : Result (Option Definition) Stop → CodeStep
+step_of (Ok (Some d)) = step.Definition d
+step_of (Ok None) = step.End
+step_of (Err (stop.Fault f)) = step.Fault f
+step_of (Err stop.Device) = step.Device
+
+abbrev pub is_last : CodeStep → Bool
+is_last (step.Definition d) = false
+is_last _ = true
+
+-- what a call does
+abbrev pub StepGives : CodeReader → CodeStep → CodeReader → Type 0
+StepGives old (step.Definition d) new = Gave old d new
+StepGives old step.End new = Ended old new
+StepGives old (step.Fault (fault.Line n)) new = Stopped old n new
+StepGives old (step.Fault fault.Memory) new = Refused old new
+StepGives old step.Device new = Broke old new
+StepGives old step.Closed new = (old.is_closed ≡ true) × (new ≡ old)
+
+-- the reader is over the same end
+pub record Keeps (old new : CodeReader) : Type 0 where
+  pub first : new.first ≡ old.first
+  pub lender : new.ahead.lender ≡ old.ahead.lender

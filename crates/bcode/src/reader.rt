@@ -1,0 +1,120 @@
+//! The reader of a code text that comes in a stream.
+ghost use Rattle.std.specs.Prelude.{◌≡◌};
+ghost use Rattle.bcode.specs.Ahead.{NextGives, OpeningGives, EndingGives};
+ghost use Rattle.bcode.specs.Readers.{Keeps, StepGives, start_of, to_open};
+ghost use Rattle.bcode.specs.Readers as readers;
+
+use crate::read::next_definition;
+use crate::stop::Stop;
+use crate::stream::Stream;
+use crate::{CodeFault, CodeStep, Definition};
+use bword::{ByteIn, Edition};
+use std::alloc::Global;
+use std::marker::Model;
+use std::snapshot::Snapshot;
+
+/// The definitions of a code text of one edition, read as they come.
+///
+/// It holds the line that it reads and what it has read of one definition.
+#[derive(Drop)]
+pub struct CodeReader<I: ByteIn> {
+    // What the end was at first, for contracts alone: this takes no room.
+    first_input: Snapshot<I>,
+    alloc: Global,
+    edition: Edition,
+    lines: Stream<I>,
+    is_begun: bool,
+    is_closed: bool,
+}
+
+impl<I: ByteIn> Model for CodeReader<I> {
+    ghost use Rattle.std.specs.Prelude.{◌≡◌, false};
+    ghost use Rattle.bcode.specs.Readers.{CodeReader, IsOpen, reader_of, start_of};
+
+    ghost Value = { CodeReader };
+
+    ghost view = { λ r. reader_of
+        (start_of r.edition (I.incoming r.first_input.value) (I.lender r.first_input.value)) r.lines r.is_begun r.is_closed };
+
+    ghost invariant = { λ r. r.is_closed ≡ false → IsOpen (reader_of
+        (start_of r.edition (I.incoming r.first_input.value) (I.lender r.first_input.value)) r.lines r.is_begun r.is_closed) };
+}
+
+impl<I: ByteIn> CodeReader<I> {
+    /// A reader of a text of this edition that has read nothing.
+    pub fn new(alloc: Global, input: I, edition: Edition) -> Self
+        ensures { result ≡ readers.new (start_of edition (I.incoming input) (I.lender input)) }
+    {
+        CodeReader {
+            first_input: Snapshot::of(&input),
+            alloc,
+            edition,
+            lines: Stream::new(input),
+            is_begun: false,
+            is_closed: false,
+        }
+    }
+
+    /// Reads the next definition, to the end of its last line and no byte further.
+    ///
+    /// A line that is longer than any of a code text is at fault when its 128th byte was taken. After the first answer
+    /// that isn't `Definition`, each call answers `Closed` and reads nothing.
+    pub fn next(&mut self) -> CodeStep
+        ensures gives { StepGives self.old result self.new }
+        ensures keeps { Keeps self.old self.new }
+    {
+        if self.is_closed {
+            return CodeStep::Closed;
+        }
+        let opens = self.opens();
+        self.is_begun = true;
+        let step = CodeStep::of(read_next(self.alloc, opens, &mut self.lines));
+        self.is_closed = step.is_last();
+        step
+    }
+
+    // Whether the text begins with a line that is still to be read.
+    fn opens(&self) -> bool
+        ensures { result ≡ to_open self.now.is_begun self.now.first.edition }
+    {
+        match self.edition {
+            Edition::One => false,
+            Edition::Two => !self.is_begun,
+        }
+    }
+}
+
+// The definition that comes next, or nothing at the end. What the text begins with may come first.
+fn read_next<I: ByteIn>(
+    alloc: Global,
+    opens: bool,
+    lines: &mut Stream<I>,
+) -> Result<Option<Definition>, Stop>
+    ensures { NextGives opens lines.old result lines.new }
+{
+    read_opening(opens, lines)?;
+    match next_definition(alloc, lines)? {
+        Some(definition) => Ok(Some(definition)),
+        None => {
+            read_end(lines)?;
+            Ok(None)
+        }
+    }
+}
+
+// The line that the text begins with, if it is still to be read.
+fn read_opening<I: ByteIn>(opens: bool, lines: &mut Stream<I>) -> Result<(), Stop>
+    ensures { OpeningGives opens lines.old result lines.new }
+{
+    if opens { lines.opening() } else { Ok(()) }
+}
+
+// The end of the input, behind the last line.
+fn read_end<I: ByteIn>(lines: &mut Stream<I>) -> Result<(), Stop>
+    ensures { EndingGives lines.old result lines.new }
+{
+    if lines.is_over()? {
+        return Ok(());
+    }
+    Err(Stop::Fault(CodeFault::Line(lines.line())))
+}

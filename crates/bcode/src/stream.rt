@@ -1,0 +1,139 @@
+//! The lines of a text that comes byte by byte.
+ghost use Rattle.std.specs.Prelude.{ℕ, ◌≡◌, ◌≢◌, ◌<◌, ◌≤◌, ◌∷◌, [], decimal};
+ghost use Rattle.bcode.specs.Ahead.{LineGives, EndGives};
+ghost use Rattle.bcode.specs.Definitions.{IsInstrWithin, IsIvalWithin};
+ghost use Rattle.bcode.specs.Headers.{header_text, IsHeaderWithin};
+ghost use Rattle.bcode.specs.Streams.{TakingGives};
+ghost use Rattle.bcode.specs.Text.{line, edition_line, instr_line, ival_line};
+
+use crate::header::{Header, Sizes};
+use crate::limits::{LINE_LEN, WORD_VALUES};
+use crate::line_source::LineSource;
+use crate::lines::{header, instr, ival, number_line};
+use crate::stop::Stop;
+use crate::{CodeFault, Instr, Ival};
+use arrayvec::ArrayVec;
+use bword::{ByteIn, Device};
+use std::marker::Model;
+
+/// A line, or as much of one as tells that it is none of a code text.
+type Line = ArrayVec<u8, LINE_LEN>;
+
+/// The lines of an end, of which it takes each to its last byte and no byte behind it.
+#[derive(Drop)]
+pub struct Stream<I: ByteIn> {
+    input: I,
+    line: u64,
+    // The bytes of the line that was read last.
+    bytes: Line,
+}
+
+impl<I: ByteIn> Model for Stream<I> {
+    ghost use Rattle.std.specs.Prelude.{◌+◌, ◌*◌, ◌≤◌, ◌^◌};
+    ghost use Rattle.bword.specs.ByteEnds.{Incoming};
+    ghost use Rattle.bcode.specs.Ahead.{Ahead};
+
+    ghost Value = { Ahead };
+
+    ghost view = { λ s. record { end = I.incoming s.input; lender = I.lender s.input; line = s.line } };
+
+    // A line has two bytes at least, so that the number of none passes a u64.
+    ghost invariant = { λ s. 2 * s.line + Incoming.bound (I.incoming s.input) ≤ 2 ^ 64 + 1 };
+}
+
+impl<I: ByteIn> Stream<I> {
+    /// All lines of the end.
+    pub fn new(input: I) -> Self
+        ensures { result ≡ record { end = I.incoming input; lender = I.lender input; line = 1 } }
+    {
+        Stream {
+            input,
+            line: 1,
+            bytes: ArrayVec::new(),
+        }
+    }
+
+    /// The number of the next line.
+    pub fn line(&self) -> u64
+        ensures { result ≡ self.now.line }
+    {
+        self.line
+    }
+
+    /// Whether no byte is left; else one is taken.
+    pub fn is_over(&mut self) -> Result<bool, Device>
+        ensures { EndGives self.old result self.new }
+    {
+        Ok(self.input.next()?.is_none())
+    }
+
+    /// The line that a text of the second edition begins with.
+    pub fn opening(&mut self) -> Result<(), Stop>
+        ensures { LineGives (λ _. edition_line) (λ _. Unit {0}) self.old result self.new }
+    {
+        read_line(&mut self.input, &mut self.bytes)?;
+        if !self.bytes.as_slice().starts_with(b"B 2\n") {
+            return Err(Stop::Fault(CodeFault::Line(self.line)));
+        }
+        self.line += 1;
+        Ok(())
+    }
+}
+
+impl<I: ByteIn> LineSource for Stream<I> {
+    ghost ahead = { λ s. s };
+
+    fn header(&mut self) -> Result<Header, Stop> {
+        read_line(&mut self.input, &mut self.bytes)?;
+        let Some((header, _)) = header(self.bytes.as_slice()) else {
+            return Err(Stop::Fault(CodeFault::Line(self.line)));
+        };
+        self.line += 1;
+        Ok(header)
+    }
+
+    fn ival(&mut self, strings: u16) -> Result<Ival, Stop> {
+        read_line(&mut self.input, &mut self.bytes)?;
+        let Some((value, _)) = ival(self.bytes.as_slice(), strings) else {
+            return Err(Stop::Fault(CodeFault::Line(self.line)));
+        };
+        self.line += 1;
+        Ok(value)
+    }
+
+    fn instr(&mut self, sizes: Sizes) -> Result<Instr, Stop> {
+        read_line(&mut self.input, &mut self.bytes)?;
+        let Some((instr, _)) = instr(self.bytes.as_slice(), sizes) else {
+            return Err(Stop::Fault(CodeFault::Line(self.line)));
+        };
+        self.line += 1;
+        Ok(instr)
+    }
+
+    fn number(&mut self, letter: u8, below: u32) -> Result<u16, Stop> {
+        read_line(&mut self.input, &mut self.bytes)?;
+        let Some((n, _)) = number_line(self.bytes.as_slice(), letter, below) else {
+            return Err(Stop::Fault(CodeFault::Line(self.line)));
+        };
+        self.line += 1;
+        Ok(n)
+    }
+}
+
+// Takes a line, or as much of one as tells that it is none of a code text.
+fn read_line<I: ByteIn>(input: &mut I, line: &mut Line) -> Result<(), Device>
+    ensures gives { TakingGives (I.incoming input.old) result line.new.items (I.incoming input.new) }
+    ensures same { I.lender input.new ≡ I.lender input.old }
+{
+    line.clear();
+    while !line.is_full() {
+        let Some(byte) = input.next()? else {
+            break;
+        };
+        line.push(byte);
+        if byte == b'\n' {
+            break;
+        }
+    }
+    Ok(())
+}
