@@ -1,6 +1,6 @@
 -- Closed facts: what command lines ask for, and their faults.
 use Rattle.std.specs.Prelude.{◌≡◌, true, List, [], ◌∷◌, codes, refl}
-use Rattle.clap.specs.Words.{Kinds, Text, fault_of, is_simple, is_simple_and_free, subcommand_of}
+use Rattle.clap.specs.Words.{Text, fault_of, is_simple, is_simple_and_free, subcommand_of}
 use Rattle.clap.specs.declared.error.kind.ErrorKind.TheVariants as kind
 use Rattle.clap.proofs.OnLiterals.{clap_on_literals}
 use Rattle.bword.specs.declared.edition.Edition.TheVariants as editions
@@ -36,7 +36,8 @@ runs_so_long : Asks (codes "b" ∷ codes "run" ∷ codes "--steps" ∷ codes "10
 unfolding clap_on_literals
 runs_so_long = (refl, refl)
 
-goes : Asks (codes "b" ∷ codes "go" ∷ codes "x" ∷ codes "--edition" ∷ codes "2" ∷ []) (go (codes "x") 10000000 editions.Two)
+goes : Asks (codes "b" ∷ codes "go" ∷ codes "x" ∷ codes "--edition" ∷ codes "2" ∷ [])
+    (go (codes "x") 10000000 editions.Two)
 unfolding clap_on_literals
 goes = (refl, refl)
 
@@ -53,15 +54,18 @@ no_command : fault_of command_line (codes "b" ∷ []) ≡ kind.MissingSubcommand
 unfolding clap_on_literals
 no_command = refl
 
-another_command : fault_of command_line (codes "b" ∷ codes "walk" ∷ []) ≡ kind.UnknownArgument ∷ kind.InvalidSubcommand ∷ []
+another_command : fault_of command_line (codes "b" ∷ codes "walk" ∷ [])
+    ≡ kind.UnknownArgument ∷ kind.InvalidSubcommand ∷ []
 unfolding clap_on_literals
 another_command = refl
 
-no_edition : fault_of command_line (codes "b" ∷ codes "compile" ∷ codes "--edition" ∷ codes "3" ∷ []) ≡ kind.ValueValidation ∷ []
+no_edition : fault_of command_line (codes "b" ∷ codes "compile" ∷ codes "--edition" ∷ codes "3" ∷ [])
+    ≡ kind.ValueValidation ∷ []
 unfolding clap_on_literals
 no_edition = refl
 
-no_steps : fault_of command_line (codes "b" ∷ codes "run" ∷ codes "--steps" ∷ codes "0" ∷ codes "x" ∷ []) ≡ kind.ValueValidation ∷ []
+no_steps : fault_of command_line (codes "b" ∷ codes "run" ∷ codes "--steps" ∷ codes "0" ∷ codes "x" ∷ [])
+    ≡ kind.ValueValidation ∷ []
 unfolding clap_on_literals
 no_steps = refl
 

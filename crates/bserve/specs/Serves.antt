@@ -1,6 +1,6 @@
 -- What comes of a command line.
 use Rattle.std.specs.Prelude.{◌≡◌, ◌≢◌, ℕ, List, [], codes, ◌⊎◌}
-use Rattle.clap.specs.Words.{Kinds, IsAmong, Text, fault_of, subcommand_of}
+use Rattle.clap.specs.Words.{IsAmong, Text, fault_of, subcommand_of}
 use Rattle.clap.specs.declared.error.kind.ErrorKind.{ErrorKind}
 use Rattle.clap.specs.declared.error.kind.ErrorKind.TheVariants as kind
 use Rattle.bword.specs.ByteEnds.{Incoming}
@@ -71,8 +71,8 @@ pub record Complains (k : ErrorKind) (ends : Ends) (status : ℕ) : Type 0 where
 abbrev pub Refuses : ErrorKind → Ends → ℕ → Type 0
 Refuses k ends status = Tells k ends status ⊎ Complains k ends status ⊎ IsSilent ends status MEMORY
 
--- Words without a fault get what they ask for. Others are answered for one of their faults, of which help is one. Memory may be
--- refused for either.
+-- Words without a fault get what they ask for. Others are answered for one of their faults, of which help is one.
+-- Memory may be refused for either.
 pub data Serves (words : List Text) (ends : Ends) (status : ℕ) : Type 0 where
   did : fault_of command_line words ≡ [] → Does (asked (subcommand_of command_line words)) ends status
       → Serves words ends status
