@@ -36,7 +36,8 @@ abbrev pub all_ahead : Start → Ahead
 all_ahead start = record { end = start.source; lender = start.lender; line = 1 }
 
 abbrev pub reader_of : Start → Ahead → Bool → Bool → CodeReader
-reader_of start ahead is_begun is_closed = record { first = start; ahead = ahead; is_begun = is_begun; is_closed = is_closed }
+reader_of start ahead is_begun is_closed =
+    record { first = start; ahead = ahead; is_begun = is_begun; is_closed = is_closed }
 
 -- a reader that has read nothing
 abbrev pub new : Start → CodeReader
@@ -54,7 +55,8 @@ opened_lines r = if r.is_begun then opening_lines r.first.edition else []
 pub record Since (r : CodeReader) (ds : List Definition) : Type 0 where
   pub within : All IsWithinRanges ds
   pub unbegun : r.is_begun ≡ false → ds ≡ []
-  pub passes : Passes (all_ahead r.first) (opened r ++ flat_map text_of ds) (length (opened_lines r) + length (flat_map lines_of ds)) r.ahead
+  pub passes : Passes (all_ahead r.first) (opened r ++ flat_map text_of ds)
+      (length (opened_lines r) + length (flat_map lines_of ds)) r.ahead
   pub is_open : r.is_closed ≡ false
 
 -- whether what the text begins with is a line that is still to be read
@@ -86,7 +88,8 @@ pub record Ended (old new : CodeReader) : Type 0 where
 -- No definition comes whole behind those that were read before.
 abbrev pub NoneWhole : Edition → List ℕ → List Definition → Type 0
 NoneWhole edition text before =
-    (d : Definition) (rest : List ℕ) → IsWithinRanges d → text ≡ opening edition ++ flat_map text_of before ++ (text_of d ++ rest) → ⊥
+    (d : Definition) (rest : List ℕ) → IsWithinRanges d
+    → text ≡ opening edition ++ flat_map text_of before ++ (text_of d ++ rest) → ⊥
 
 -- Whatever follows the bytes taken, line n is the first that no text of the edition goes on with.
 pub record Stopped (old : CodeReader) (n : ℕ) (new : CodeReader) : Type 0 where
@@ -97,7 +100,8 @@ pub record Stopped (old : CodeReader) (n : ℕ) (new : CodeReader) : Type 0 wher
   pub behind : List ℕ
   pub split : taken ≡ opened old ++ flat_map text_of before ++ behind
   pub fault : (more : List ℕ) → CanFollow new.ahead.end more → IsFaultLineIn old.first.edition (taken ++ more) n
-  pub no_text : (more : List ℕ) → CanFollow new.ahead.end more → (ds : List Definition) → IsTextOf old.first.edition (taken ++ more) ds → ⊥
+  pub no_text : (more : List ℕ) → CanFollow new.ahead.end more → (ds : List Definition)
+      → IsTextOf old.first.edition (taken ++ more) ds → ⊥
   pub none : (more : List ℕ) → CanFollow new.ahead.end more → NoneWhole old.first.edition (taken ++ more) before
   pub closed : new.is_closed ≡ true
 

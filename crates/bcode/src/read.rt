@@ -156,7 +156,8 @@ fn numbers<L: LineSource>(
 ) -> Result<Vec<u16>, Stop>
     requires letter { letter ≢ 10 }
     requires below { below ≤ WORD_VALUES }
-    ensures { LinesGive (λ n. line ((letter ∷ []) ∷ decimal n ∷ [])) (λ n. n < below) (λ v. v.items) count (L.ahead lines.old) result (L.ahead lines.new) }
+    ensures { LinesGive (λ n. line ((letter ∷ []) ∷ decimal n ∷ [])) (λ n. n < below) (λ v. v.items) count
+        (L.ahead lines.old) result (L.ahead lines.new) }
 {
     let mut numbers = Vec::with_capacity(alloc, usize::from(count))?;
     for _ in 0..count {
@@ -171,7 +172,8 @@ fn values<L: LineSource>(
     strings: u16,
     count: u16,
 ) -> Result<Vec<Ival>, Stop>
-    ensures { LinesGive ival_line (IsIvalWithin strings) (λ v. v.items) count (L.ahead lines.old) result (L.ahead lines.new) }
+    ensures { LinesGive ival_line (IsIvalWithin strings) (λ v. v.items) count (L.ahead lines.old) result
+        (L.ahead lines.new) }
 {
     let mut values = Vec::with_capacity(alloc, usize::from(count))?;
     for _ in 0..count {
@@ -186,7 +188,8 @@ fn instrs<L: LineSource>(
     sizes: Sizes,
     count: u16,
 ) -> Result<Vec<Instr>, Stop>
-    ensures { LinesGive instr_line (IsInstrWithin sizes) (λ v. v.items) count (L.ahead lines.old) result (L.ahead lines.new) }
+    ensures { LinesGive instr_line (IsInstrWithin sizes) (λ v. v.items) count (L.ahead lines.old) result
+        (L.ahead lines.new) }
 {
     let mut instrs = Vec::with_capacity(alloc, usize::from(count))?;
     for _ in 0..count {
