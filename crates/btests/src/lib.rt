@@ -12,6 +12,8 @@ mod drafts;
 #[cfg(test)]
 mod loads;
 #[cfg(test)]
+mod migrations;
+#[cfg(test)]
 mod names;
 #[cfg(test)]
 mod pages;
