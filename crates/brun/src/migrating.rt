@@ -1,6 +1,8 @@
 //! Code texts of the first edition, written as texts of the second.
-ghost use Rattle.std.specs.Prelude.{◌≡◌};
-ghost use Rattle.brun.specs.Migrates.{Migrates};
+ghost use Rattle.std.specs.Prelude.{◌≡◌, []};
+ghost use Rattle.bword.specs.declared.edition.Edition.TheVariants as editions;
+ghost use Rattle.bcode.specs.Readers.{Keeps, Since};
+ghost use Rattle.brun.specs.Migrates.{Migrates, CodeGives, DefinitionsGive, halt_of};
 
 use crate::report::{Report, write_report};
 use bcode::{CodeFault, CodeReader, CodeStep, write_begin, write_definition, write_end};
@@ -10,7 +12,7 @@ use std::alloc::Global;
 
 /// Why no more is written.
 #[derive(Clone, Copy, Debug, PartialEq, Eq)]
-enum Halt {
+pub(crate) enum Halt {
     /// No code text of the first edition goes on with this line.
     Line(u64),
     /// A read or a write failed.
@@ -20,6 +22,8 @@ enum Halt {
 }
 
 impl From<EndFault> for Halt {
+    ghost from_gives = { λ fault halt. halt ≡ halt_of fault };
+
     fn from(fault: EndFault) -> Self {
         match fault {
             EndFault::Device => Halt::Device,
@@ -43,10 +47,7 @@ pub fn migrate<I: ByteIn, O: ByteOut, D: ByteOut>(
       input_behind = I.incoming input.new;
       out = O.outgoing out.old;
       out_behind = O.outgoing out.new;
-      line = D.outgoing diag.old;
-      line_behind = D.outgoing diag.new;
-      status = result;
-    }) }
+    }) (D.outgoing diag.old) (D.outgoing diag.new) result }
     ensures input_lender { I.lender input.new ≡ I.lender input.old }
     ensures out_lender { O.lender out.new ≡ O.lender out.old }
     ensures diag_lender { D.lender diag.new ≡ D.lender diag.old }
@@ -64,9 +65,35 @@ fn migrate_code<I: ByteIn, O: ByteOut>(
     alloc: Global,
     input: &mut I,
     out: &mut O,
-) -> Result<(), Halt> {
+) -> Result<(), Halt>
+    ensures gives { CodeGives (record {
+      input = I.incoming input.old;
+      input_behind = I.incoming input.new;
+      out = O.outgoing out.old;
+      out_behind = O.outgoing out.new;
+    }) result }
+    ensures input_lender { I.lender input.new ≡ I.lender input.old }
+    ensures out_lender { O.lender out.new ≡ O.lender out.old }
+{
     write_begin(Edition::Two, out)?;
     let mut reader = CodeReader::new(alloc, input, Edition::One);
+    let result = write_definitions(&mut reader, out);
+    let input = reader.into_end();
+    let _ = input;
+    result
+}
+
+// Writes each definition that comes, and the last line at the end.
+fn write_definitions<I: ByteIn, O: ByteOut>(
+    reader: &mut CodeReader<I>,
+    out: &mut O,
+) -> Result<(), Halt>
+    requires since { Since reader.old [] }
+    requires edition { reader.old.first.edition ≡ editions.One }
+    ensures gives { DefinitionsGive reader.old (O.outgoing out.old) result reader.new (O.outgoing out.new) }
+    ensures keeps { Keeps reader.old reader.new }
+    ensures out_lender { O.lender out.new ≡ O.lender out.old }
+{
     'definitions: loop {
         match reader.next() {
             CodeStep::Definition(definition) => write_definition(definition.view(), out)?,

@@ -12,8 +12,6 @@ mod drafts;
 #[cfg(test)]
 mod loads;
 #[cfg(test)]
-mod migrations;
-#[cfg(test)]
 mod names;
 #[cfg(test)]
 mod pages;
