@@ -148,7 +148,8 @@ same_vector : (n m : List ℕ) (k l : ℕ) (v w : List Ival) (s t : List ℕ) �
     → let a : Vector = record { name = n; words = k; values = v; strings = s } in let b : Vector = record { name = m; words = l; values = w; strings = t } in a ≡ b
 same_vector n m k l v w s t e1 e2 e3 e4 = rw (e1, e2, e3, e4) refl
 
-same_body : (d e : Definition) (r s : List ℕ) → IsWithinRanges d → IsWithinRanges e → header_of d ≡ header_of e → joined (body_lines d) ++ r ≡ joined (body_lines e) ++ s
+-- two bodies behind one first line are one
+pub same_body : (d e : Definition) (r s : List ℕ) → IsWithinRanges d → IsWithinRanges e → header_of d ≡ header_of e → joined (body_lines d) ++ r ≡ joined (body_lines e) ++ s
     → (d ≡ e) × (r ≡ s)
 same_body (definition.Function f) (definition.Function g) r s in_f in_g header same =
     let name : f.name ≡ g.name = cc in

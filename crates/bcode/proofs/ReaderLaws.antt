@@ -1,5 +1,5 @@
 -- What reading the next definition does to the reader of a code text.
-use Rattle.std.proofs.Common.{subst, ◌≡◌, ◌≢◌, ℕ, suc, ◌+◌, Bool, true, false, List, [], ◌∷◌, ◌++◌, length, Option, Some, None, Result, Ok, Err, IsErrAnd, refl, sym, ap, ◌∙◌, arith, append_assoc, append-nil, inl, inr, ◌⊎◌}
+use Rattle.std.proofs.Common.{subst, ◌≡◌, ◌≢◌, ℕ, suc, ◌+◌, ◌≤◌, Bool, true, false, List, [], ◌∷◌, ◌++◌, length, Option, Some, None, Result, Ok, Err, IsErrAnd, refl, sym, ap, ◌∙◌, arith, append_assoc, append-nil, inl, inr, ◌⊎◌}
 use Rattle.std.specs.Prelude.{All}
 use Rattle.std.specs.List.{flat_map}
 use Rattle.std.proofs.lemmas.List.Elements.{All-nil, All-push}
@@ -18,7 +18,7 @@ use Rattle.bcode.specs.declared.fault.CodeFault.TheVariants as fault
 use Rattle.bcode.specs.declared.stop.Stop.{Stop}
 use Rattle.bcode.specs.declared.stop.Stop.TheVariants as stop
 use Rattle.bcode.proofs.AheadLaws.{Reads-append, Passes-none, Passes-append, Breaks-after}
-use Rattle.bcode.proofs.FaultLaws.{definitions_go, fault_line_in, no_code_in, no_opening_line, no_opening_code, passes_more, same_rest, code_spelled, end_stops}
+use Rattle.bcode.proofs.FaultLaws.{definition_shorter, definitions_go, fault_line_in, no_code_in, no_opening_line, no_opening_code, passes_more, same_rest, code_spelled, end_stops}
 
 pub is_open_new : (start : Start) → IsOpen (reader_of start (all_ahead start) false false)
 is_open_new start = record {
@@ -54,6 +54,10 @@ split_there edition source lender true at ds s taken = (taken, refl)
 split_there edition source lender false at ds s taken =
     (opening edition ++ flat_map text_of ds ++ taken, ap (λ es. flat_map text_of es ++ (opening edition ++ flat_map text_of ds ++ taken)) (sym (s.unbegun refl)))
 
+opens_bound : (opens : Bool) (old mid : Ahead) → Opens opens old mid → mid.end.bound ≤ old.end.bound
+opens_bound true old mid h = let l = h.reads.took.bound in omega arith
+opens_bound false old mid h = rw h (omega arith)
+
 module _ (edition : Edition) (source : Incoming) (lender : List ℕ) (b : Bool) (at : Ahead) (ds : List Definition) (s : Since (reader_of (beginning edition source lender) at b false) ds) where
   abbrev start : Start
   start = beginning edition source lender
@@ -67,22 +71,19 @@ module _ (edition : Edition) (source : Incoming) (lender : List ℕ) (b : Bool) 
   abbrev after : Ahead → Bool → CodeReader
   after new closed = reader_of start new true closed
 
-  gave : (mid new : Ahead) (d : Definition) → Opens (to_open b edition) at mid → ReadsDefinition mid d new → Gave before d (after new false)
+  gave : (mid new : Ahead) (d : Definition) → Opens (to_open b edition) at mid → ReadsDefinition mid d new → Gave ds before d (after new false)
   gave mid new d o read = record {
-    before = ds;
-    since = s;
     now = record {
       within = All-push IsWithinRanges ds d s.within read.inside;
       unbegun = λ e. absurd (cc);
       passes = passes_more (opening edition) (length (opening_lines edition)) ds d (behind_opening edition source lender b at mid ds s o) read;
       is_open = refl;
     };
+    falls = (let l = definition_shorter mid new d read in let k = opens_bound (to_open b edition) at mid o in omega arith);
   }
 
-  ended : (mid new : Ahead) → Opens (to_open b edition) at mid → ReadsLast mid new → Ended before (after new true)
+  ended : (mid new : Ahead) → Opens (to_open b edition) at mid → ReadsLast mid new → Ended ds before (after new true)
   ended mid new o last = record {
-    before = ds;
-    since = s;
     taken = texts ++ end_text;
     reads = Reads-append (behind_opening edition source lender b at mid ds s o).reads last.reads;
     whole = record { within = s.within; spelled = sym (code_spelled edition ds) };
@@ -90,10 +91,8 @@ module _ (edition : Edition) (source : Incoming) (lender : List ℕ) (b : Bool) 
     closed = refl;
   }
 
-  stopped_inside : (mid new : Ahead) (n : ℕ) → Opens (to_open b edition) at mid → StopsInside mid n new → Stopped before n (after new true)
+  stopped_inside : (mid new : Ahead) (n : ℕ) → Opens (to_open b edition) at mid → StopsInside mid n new → Stopped ds before n (after new true)
   stopped_inside mid new n o h = record {
-    before = ds;
-    since = s;
     taken = texts ++ h.stopped.taken;
     reads = Reads-append behind.reads h.stopped.reads;
     behind = rest.0;
@@ -130,10 +129,8 @@ module _ (edition : Edition) (source : Incoming) (lender : List ℕ) (b : Bool) 
       line : suc good ≡ n
       line = let x = behind.counted in let y = h.stopped.there in omega arith
 
-  refused : (mid new : Ahead) → Opens (to_open b edition) at mid → HasNext mid new → Refused before (after new true)
+  refused : (mid new : Ahead) → Opens (to_open b edition) at mid → HasNext mid new → Refused ds before (after new true)
   refused mid new o h = record {
-    before = ds;
-    since = s;
     taken = texts ++ h.taken;
     reads = Reads-append (behind_opening edition source lender b at mid ds s o).reads h.reads;
     next = h.next;
@@ -146,13 +143,11 @@ module _ (edition : Edition) (source : Incoming) (lender : List ℕ) (b : Bool) 
 -- the line that the text begins with was refused
 stopped_opening : (edition : Edition) (source : Incoming) (lender : List ℕ) (b : Bool) (at new : Ahead) (ds : List Definition) (n : ℕ) → Since (reader_of (beginning edition source lender) at b false) ds
     → to_open b edition ≡ true → RefusesLine {X = Unit {0}} (λ _. edition_line) (λ _. Unit {0}) at n new
-    → Stopped (reader_of (beginning edition source lender) at b false) n (reader_of (beginning edition source lender) new true true)
+    → Stopped ds (reader_of (beginning edition source lender) at b false) n (reader_of (beginning edition source lender) new true true)
 stopped_opening editions.One source lender true at new ds n s e r = absurd (cc)
 stopped_opening editions.Two source lender true at new ds n s e r = absurd (cc)
 stopped_opening editions.One source lender false at new ds n s e r = absurd (cc)
 stopped_opening editions.Two source lender false at new ds n s e r = record {
-  before = ds;
-  since = s;
   taken = flat_map text_of ds ++ r.taken;
   reads = Reads-append s.passes.reads r.reads;
   behind = r.taken;
@@ -178,18 +173,18 @@ pub next_gives : (edition : Edition) (source : Incoming) (lender : List ℕ) (b 
     → let old = reader_of (beginning edition source lender) at b false in let now = reader_of (beginning edition source lender) new true (is_last (step_of r)) in
     StepGives old (step_of r) now × (is_last (step_of r) ≡ false → IsOpen now)
 next_gives edition source lender b at new is_open (Ok (Some d)) gives =
-    let g = gave edition source lender b at is_open.before is_open.since gives.0 new d gives.1 gives.2 in
-    (g, λ _. record { before = g.before ++ d ∷ []; since = g.now })
+    let given = λ (ds : List Definition) (s : Since (reader_of (beginning edition source lender) at b false) ds). gave edition source lender b at ds s gives.0 new d gives.1 gives.2 in
+    ((is_open, given), λ _. record { before = is_open.before ++ d ∷ []; since = (given is_open.before is_open.since).now })
 next_gives edition source lender b at new is_open (Ok None) gives =
-    (ended edition source lender b at is_open.before is_open.since gives.0 new gives.1 gives.2, λ e. absurd (cc))
+    ((is_open, λ ds s. ended edition source lender b at ds s gives.0 new gives.1 gives.2), λ e. absurd (cc))
 next_gives edition source lender b at new is_open (Err (stop.Fault (fault.Line n))) (inl gives) =
-    (stopped_opening edition source lender b at new is_open.before n is_open.since gives.0 gives.1, λ e. absurd (cc))
+    ((is_open, λ ds s. stopped_opening edition source lender b at new ds n s gives.0 gives.1), λ e. absurd (cc))
 next_gives edition source lender b at new is_open (Err (stop.Fault (fault.Line n))) (inr gives) =
-    (stopped_inside edition source lender b at is_open.before is_open.since gives.0 new n gives.1 gives.2, λ e. absurd (cc))
+    ((is_open, λ ds s. stopped_inside edition source lender b at ds s gives.0 new n gives.1 gives.2), λ e. absurd (cc))
 next_gives edition source lender b at new is_open (Err (stop.Fault fault.Memory)) gives =
-    (refused edition source lender b at is_open.before is_open.since gives.0 new gives.1 gives.2, λ e. absurd (cc))
+    ((is_open, λ ds s. refused edition source lender b at ds s gives.0 new gives.1 gives.2), λ e. absurd (cc))
 next_gives edition source lender b at new is_open (Err stop.Device) gives =
-    (record { before = is_open.before; since = is_open.since; breaks = gives; closed = refl }, λ e. absurd (cc))
+    ((is_open, λ ds s. record { breaks = gives; closed = refl }), λ e. absurd (cc))
 
 pub call_gives : (edition : Edition) (source : Incoming) (lender : List ℕ) (b closed : Bool) (at new : Ahead) → closed ≡ false → (closed ≡ false → IsOpen (reader_of (beginning edition source lender) at b closed))
     → (opens : Bool) → opens ≡ to_open b edition → (r : Result (Option Definition) Stop) → NextGives opens at r new

@@ -1,5 +1,5 @@
 -- What a call of the reader of a code text does, counted from when the reader was made.
-use Rattle.std.specs.Prelude.{◌≡◌, ℕ, ◌+◌, Bool, true, false, List, [], ◌∷◌, ◌++◌, length, All, Option, Some, None, Result, Ok, Err, if◌then◌else◌}
+use Rattle.std.specs.Prelude.{◌≡◌, ℕ, ◌+◌, ◌<◌, Bool, true, false, List, [], ◌∷◌, ◌++◌, length, All, Option, Some, None, Result, Ok, Err, if◌then◌else◌}
 use Rattle.std.specs.List.{flat_map}
 use Rattle.bword.specs.ByteEnds.{Incoming, CanFollow}
 use Rattle.bword.specs.declared.edition.Edition.{Edition}
@@ -70,15 +70,12 @@ pub record IsOpen (r : CodeReader) : Type 0 where
   pub since : Since r before
 
 -- d was read: the one behind those that were read before.
-pub record Gave (old : CodeReader) (d : Definition) (new : CodeReader) : Type 0 where
-  pub before : List Definition
-  pub since : Since old before
+pub record Gave (before : List Definition) (old : CodeReader) (d : Definition) (new : CodeReader) : Type 0 where
   pub now : Since new (before ++ d ∷ [])
+  pub falls : new.ahead.end.bound < old.ahead.end.bound
 
 -- The definitions that were read before are those of all of the text, whose end was seen.
-pub record Ended (old new : CodeReader) : Type 0 where
-  pub before : List Definition
-  pub since : Since old before
+pub record Ended (before : List Definition) (old new : CodeReader) : Type 0 where
   pub taken : List ℕ
   pub reads : Reads (all_ahead old.first) taken new.ahead
   pub whole : IsTextOf old.first.edition taken before
@@ -92,9 +89,7 @@ NoneWhole edition text before =
     → text ≡ opening edition ++ flat_map text_of before ++ (text_of d ++ rest) → ⊥
 
 -- Whatever follows the bytes taken, line n is the first that no text of the edition goes on with.
-pub record Stopped (old : CodeReader) (n : ℕ) (new : CodeReader) : Type 0 where
-  pub before : List Definition
-  pub since : Since old before
+pub record Stopped (before : List Definition) (old : CodeReader) (n : ℕ) (new : CodeReader) : Type 0 where
   pub taken : List ℕ
   pub reads : Reads (all_ahead old.first) taken new.ahead
   pub behind : List ℕ
@@ -106,9 +101,7 @@ pub record Stopped (old : CodeReader) (n : ℕ) (new : CodeReader) : Type 0 wher
   pub closed : new.is_closed ≡ true
 
 -- Memory was refused behind the first line of a definition.
-pub record Refused (old new : CodeReader) : Type 0 where
-  pub before : List Definition
-  pub since : Since old before
+pub record Refused (before : List Definition) (old new : CodeReader) : Type 0 where
   pub taken : List ℕ
   pub reads : Reads (all_ahead old.first) taken new.ahead
   pub next : Definition
@@ -119,8 +112,6 @@ pub record Refused (old new : CodeReader) : Type 0 where
 
 -- A read failed.
 pub record Broke (old new : CodeReader) : Type 0 where
-  pub before : List Definition
-  pub since : Since old before
   pub breaks : Breaks old.ahead new.ahead
   pub closed : new.is_closed ≡ true
 
@@ -135,14 +126,19 @@ abbrev pub is_last : CodeStep → Bool
 is_last (step.Definition d) = false
 is_last _ = true
 
--- what a call does
+-- what a call does behind these definitions
+abbrev pub GivesBehind : List Definition → CodeReader → CodeStep → CodeReader → Type 0
+GivesBehind before old (step.Definition d) new = Gave before old d new
+GivesBehind before old step.End new = Ended before old new
+GivesBehind before old (step.Fault (fault.Line n)) new = Stopped before old n new
+GivesBehind before old (step.Fault fault.Memory) new = Refused before old new
+GivesBehind before old step.Device new = Broke old new
+GivesBehind before old step.Closed new = ⊥
+
+-- what a call does, whichever definitions were read before
 abbrev pub StepGives : CodeReader → CodeStep → CodeReader → Type 0
-StepGives old (step.Definition d) new = Gave old d new
-StepGives old step.End new = Ended old new
-StepGives old (step.Fault (fault.Line n)) new = Stopped old n new
-StepGives old (step.Fault fault.Memory) new = Refused old new
-StepGives old step.Device new = Broke old new
 StepGives old step.Closed new = (old.is_closed ≡ true) × (new ≡ old)
+StepGives old answer new = IsOpen old × ((before : List Definition) → Since old before → GivesBehind before old answer new)
 
 -- the reader is over the same end
 pub record Keeps (old new : CodeReader) : Type 0 where

@@ -73,6 +73,14 @@ impl<I: ByteIn> CodeReader<I> {
         step
     }
 
+    /// The end, behind the bytes that were taken.
+    pub fn into_end(self) -> I
+        ensures end { I.incoming result ≡ self.ahead.end }
+        ensures lender { I.lender result ≡ self.ahead.lender }
+    {
+        self.lines.into_end()
+    }
+
     // Whether the text begins with a line that is still to be read.
     fn opens(&self) -> bool
         ensures { result ≡ to_open self.now.is_begun self.now.first.edition }

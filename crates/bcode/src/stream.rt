@@ -53,6 +53,14 @@ impl<I: ByteIn> Stream<I> {
         }
     }
 
+    /// The end, behind the lines that were read.
+    pub fn into_end(self) -> I
+        ensures end { I.incoming result ≡ self.end }
+        ensures lender { I.lender result ≡ self.lender }
+    {
+        self.input
+    }
+
     /// The number of the next line.
     pub fn line(&self) -> u64
         ensures { result ≡ self.now.line }

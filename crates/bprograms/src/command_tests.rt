@@ -11,7 +11,7 @@ use std::rt::Files;
 use std::test::Fail;
 
 // What the program answers to the words of a line, where it has this status.
-fn serves(
+pub(crate) fn serves(
     rt: &(impl AllocGlobal + Files + Abort),
     words: &str,
     input: &str,
@@ -160,6 +160,14 @@ b compile hello.b~error: unexpected argument 'hello.b' found
 
 Usage: b compile [OPTIONS] < FILE
 @
+b migrate hello.code~error: unexpected argument 'hello.code' found
+
+Usage: b migrate < FILE
+@
+b migrate --edition 2~error: unexpected argument '--edition' found
+
+Usage: b migrate < FILE
+@
 b compile --edition 3~error: invalid value '3' for '--edition <N>':
 @
 b compile --edition 0~error: invalid value '0' for '--edition <N>':
@@ -201,7 +209,7 @@ b run --steps 5 --no-limit x~error: the argument '--steps <N>' cannot be used wi
 
 #[test]
 fn help(rt: HostRuntime) -> Result<(), Fail> {
-    for words in "b --help,b compile --help,b run --help,b go --help".split(',') {
+    for words in "b --help,b compile --help,b run --help,b go --help,b migrate --help".split(',') {
         let (out, diag) = serves(&rt, words, "", 0)?;
         assert!(rt; diag.bytes().is_empty(), "the line of {words}");
         assert!(rt; !out.bytes().is_empty(), "the output of {words}");

@@ -4,7 +4,7 @@ ghost use Rattle.std.specs.Prelude.{[], true, Some};
 use crate::program_tests::STEPS;
 use crate::run_tests::all_stop;
 use bparse::{Status, compile};
-use brun::{go, run_text};
+use brun::{go, migrate, run_text};
 use bword::{ByteIn, ByteOut, Device, EndFault, FailIn, FailOut, MemOut};
 use std::alloc::Global;
 use std::process::Abort;
@@ -60,11 +60,13 @@ fn answer<O: ByteOut, D: ByteOut>(
     match row.call {
         "compile" => compile(alloc, source, out, line),
         "go" => go(alloc, source, input, out, line, STEPS),
+        "migrate" => migrate(alloc, source, out, line),
         _ => run_text(alloc, row.text.as_bytes(), input, out, line, STEPS),
     }
 }
 
-// Sources without a fault, each of which is read to its end; the end may be asked for again.
+// Sources without a fault, and code texts that are migrated, each of which is read to its end; the end may be asked for
+// again.
 const SOURCES: &str = "\
 compile~n 2000;~~X n 1 0
 c 2000
@@ -118,7 +120,29 @@ compile~a;b;~~X a 0 0
 X b 0 0
 E
 ~~0@
-go~main(){printn(-7/2,10);printn(-7%2,10);}~~-3-1~~0";
+go~main(){printn(-7/2,10);printn(-7%2,10);}~~-3-1~~0@
+migrate~X a 0 0
+E
+~~B 2
+X a 0 0
+E
+~~0@
+migrate~X a 0 0
+V v 2 1 0
+c 7
+F f 0 0 0 0 2
+c 0
+r
+E
+~~B 2
+X a 0 0
+V v 2 1 0
+c 7
+F f 0 0 0 0 2
+c 0
+r
+E
+~~0";
 
 // Sources with a fault, and code texts.
 const STOPPING: &str = "\
@@ -147,6 +171,32 @@ E
 run~F f 0 0 1 0 0
 E
 ~~~code 1
+~132@
+migrate~X a 0 0
+X b 1 0
+c 007
+E
+~~B 2
+X a 0 0
+~code 3
+~132@
+migrate~~~B 2
+~code 1
+~132@
+migrate~B 2
+E
+~~B 2
+~code 1
+~132@
+migrate~E
+E
+~~B 2
+~code 2
+~132@
+migrate~X a 0 0
+~~B 2
+X a 0 0
+~code 2
 ~132";
 
 // How a call ended whose output and line were written into so much room.
@@ -185,11 +235,7 @@ fn each_read_of_a_source_fails(rt: HostRuntime) {
             let mut reads = reads_of(&row);
             reads.source = FailIn::new(row.text.as_bytes(), k as u64);
             let ended = limited(rt.alloc(), &row, &mut reads, row.output.len(), 0);
-            let code = if row.call == "compile" {
-                row.output
-            } else {
-                ""
-            };
+            let code = if row.call == "go" { "" } else { row.output };
             let next = row.text.as_bytes().get(k).copied();
             let is_right = code.as_bytes().starts_with(ended.out.bytes())
                 && ended.is(133, ended.out.bytes(), b"")
@@ -209,6 +255,19 @@ fn no_code_before_the_next_token(rt: HostRuntime) {
         let ended = limited(rt.alloc(), &row, &mut reads, 18, 0);
         let is_right = ended.is(133, b"", b"") || (k == 4 && ended.is(133, b"X a 0 0\n", b""));
         assert!(rt; is_right, "read {k}");
+    }
+}
+
+// A definition that is migrated is written when its last line was read.
+#[test]
+fn each_read_of_a_faulty_text_fails(rt: HostRuntime) {
+    let row = row_of("migrate~X a 0 0\nX b 1 0\nc 007\nE\n");
+    for k in 0..16 {
+        let mut reads = reads_of(&row);
+        reads.source = FailIn::new(row.text.as_bytes(), k);
+        let ended = limited(rt.alloc(), &row, &mut reads, 12, 0);
+        let output: &[u8] = if k < 8 { b"B 2\n" } else { b"B 2\nX a 0 0\n" };
+        assert!(rt; ended.is(133, output, b""), "read {k}");
     }
 }
 

@@ -4,3 +4,6 @@ pub mod GoSteps
 pub mod HeadlineSteps
 pub mod MeantSteps
 pub mod RunSteps
+mod AlikeLaws
+mod TextLaws
+mod MigrateSteps

@@ -1,9 +1,11 @@
 //! Compiling a source and running its program, and running a code text.
 #![tactic(auto)]
 
+mod migrating;
 mod report;
 mod source;
 mod text;
 
+pub use migrating::migrate;
 pub use source::{go, go_edition};
 pub use text::run_text;

@@ -1,3 +1,4 @@
 mod GivenOptions
 mod Locals
 mod Answered
+mod ReadWords

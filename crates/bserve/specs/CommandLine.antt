@@ -58,11 +58,14 @@ run_command = running (new_app (codes "run"))
 abbrev pub go_command : App
 go_command = running (with_rule (new_app (codes "go")) edition_rule)
 
--- `b compile`, `b run` and `b go`, one of which there has to be
+abbrev pub migrate_command : App
+migrate_command = new_app (codes "migrate")
+
+-- `b compile`, `b run`, `b go` and `b migrate`, one of which there has to be
 abbrev pub command_line : App
-command_line = with_subcommand (with_subcommand (with_subcommand
+command_line = with_subcommand (with_subcommand (with_subcommand (with_subcommand
     (on_top (λ s. record s { has_version = true; subcommand_required = true }) (new_app (codes "b")))
-    compile_command.top) run_command.top) go_command.top
+    compile_command.top) run_command.top) go_command.top) migrate_command.top
 
 -- the digits of a number that a u64 holds
 abbrev pub is_number : Text → Bool
@@ -102,11 +105,12 @@ abbrev pub file_in : List Row → Text
 file_in rows = unwrap_or (first_of (codes "FILE") rows) []
 
 -- What is asked for: that a source is compiled, that the code text in a file is run, that the source in a file is
--- compiled and run; or a limit of steps and none, which contradict each other.
+-- compiled and run, that a code text is migrated; or a limit of steps and none, which contradict each other.
 pub data Asked : Type 0 where
   compile : (edition : Edition) → Asked
   run : (file : Text) (steps : ℕ) → Asked
   go : (file : Text) (steps : ℕ) (edition : Edition) → Asked
+  migrate : Asked
   contradiction : Asked
 
 abbrev pub run_asked : Text → Option ℕ → Asked
@@ -121,7 +125,7 @@ go_asked file edition None = contradiction
 abbrev pub asked_by : Text → List Row → Asked
 asked_by name rows = if bytes_eq name (codes "run") then run_asked (file_in rows) (steps_in rows)
     else (if bytes_eq name (codes "go") then go_asked (file_in rows) (edition_in rows) (steps_in rows)
-    else compile (edition_in rows))
+    else (if bytes_eq name (codes "migrate") then migrate else compile (edition_in rows)))
 
 abbrev pub asked : Option (Text × List Row) → Asked
 asked None = compile editions.One
@@ -132,6 +136,7 @@ abbrev pub shown : Option Job → Asked
 shown (Some (job.Compile edition)) = compile edition
 shown (Some (job.Run target)) = run target.file.now target.steps
 shown (Some (job.Go target edition)) = go target.file.now target.steps edition
+shown (Some job.Migrate) = migrate
 shown None = contradiction
 
 abbrev pub target_shown : Target → Text × ℕ

@@ -4,7 +4,7 @@ use Rattle.clap.specs.Words.{Text, fault_of, is_simple, is_simple_and_free, subc
 use Rattle.clap.specs.declared.error.kind.ErrorKind.TheVariants as kind
 use Rattle.clap.proofs.OnLiterals.{clap_on_literals}
 use Rattle.bword.specs.declared.edition.Edition.TheVariants as editions
-use Rattle.bserve.specs.CommandLine.{Asked, asked, command_line, compile, run, go, contradiction}
+use Rattle.bserve.specs.CommandLine.{Asked, asked, command_line, compile, run, go, migrate, contradiction}
 
 pub is_simple_line : is_simple command_line ≡ true
 is_simple_line = refl
@@ -49,6 +49,19 @@ goes_without_limit = (refl, refl)
 contradicts : Asks (codes "b" ∷ codes "go" ∷ codes "--no-limit" ∷ codes "--steps=5" ∷ codes "x" ∷ []) contradiction
 unfolding clap_on_literals
 contradicts = (refl, refl)
+
+migrates : Asks (codes "b" ∷ codes "migrate" ∷ []) migrate
+unfolding clap_on_literals
+migrates = (refl, refl)
+
+migrates_no_file : fault_of command_line (codes "b" ∷ codes "migrate" ∷ codes "x" ∷ []) ≡ kind.UnknownArgument ∷ []
+unfolding clap_on_literals
+migrates_no_file = refl
+
+migrates_one_edition : fault_of command_line (codes "b" ∷ codes "migrate" ∷ codes "--edition=2" ∷ [])
+    ≡ kind.UnknownArgument ∷ []
+unfolding clap_on_literals
+migrates_one_edition = refl
 
 no_command : fault_of command_line (codes "b" ∷ []) ≡ kind.MissingSubcommand ∷ []
 unfolding clap_on_literals

@@ -7,9 +7,10 @@ use Rattle.bword.specs.ByteEnds.{Incoming}
 use Rattle.bparse.specs.Compiles.{Compiles}
 use Rattle.bparse.specs.declared.status.TheConstants.{DONE, DEVICE, MEMORY, WRONG_COMMAND}
 use Rattle.brun.specs.Going.{GoesOff}
+use Rattle.brun.specs.Migrates.{Migrates}
 use Rattle.brun.specs.Reports.{Reported}
 use Rattle.brun.specs.Runs.{Ends, HasNotRun, RunsText}
-use Rattle.bserve.specs.CommandLine.{Asked, asked, command_line, compile, run, go, contradiction}
+use Rattle.bserve.specs.CommandLine.{Asked, asked, command_line, compile, run, go, migrate, contradiction}
 
 -- what is said of words that aren't UTF-8
 abbrev pub unread_line : List ℕ
@@ -45,6 +46,12 @@ Does (compile edition) ends status = Compiles (record {
 Does (run file steps) ends status = HasNoFile ends status ⊎ ((text : List ℕ) × RunsText steps text ends status)
 Does (go file steps edition) ends status =
     HasNoFile ends status ⊎ ((source behind : Incoming) × GoesOff edition steps source behind ends status)
+Does migrate ends status = Migrates (record {
+  input = ends.input;
+  input_behind = ends.input_behind;
+  out = ends.out;
+  out_behind = ends.out_behind;
+}) ends.line ends.line_behind status
 Does contradiction ends status =
     HasNotRun ends × Reported contradiction_line WRONG_COMMAND ends.line ends.line_behind status
 

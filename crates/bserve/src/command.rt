@@ -1,9 +1,9 @@
 //! What the words of a command line ask for.
 ghost use Rattle.std.specs.Prelude.{◌≡◌, [], IfOk, IfErr, false, map, option_map, string_bytes};
 ghost use Rattle.clap.specs.Words.{HasKind, app_of, fault_of, found_of, rows_of, rule_of, subcommand_of, subcommand_rows_of};
-ghost use Rattle.bserve.specs.CommandLine.{IsShaped, asked, command_line, compile_command, edition_in, edition_rule, file_in, file_rule, go_command, is_set_in, no_limit_rule, number_in, run_command, shown, steps_asked, steps_in, steps_rule, target_shown};
+ghost use Rattle.bserve.specs.CommandLine.{IsShaped, asked, command_line, compile_command, edition_in, edition_rule, file_in, file_rule, go_command, is_set_in, migrate_command, no_limit_rule, number_in, run_command, shown, steps_asked, steps_in, steps_rule, target_shown};
 
-use crate::texts::{ABOUT, COMPILE_HELP, GO_HELP, HELP, RUN_HELP, VERSION};
+use crate::texts::{ABOUT, COMPILE_HELP, GO_HELP, HELP, MIGRATE_HELP, RUN_HELP, VERSION};
 use bword::Edition;
 use clap::{Arg, ArgAction, ArgMatches, Command, Error, value_parser};
 use std::alloc::{AllocError, Global};
@@ -20,6 +20,7 @@ pub(crate) enum Job<'a> {
     Compile(Edition),
     Run(Target<'a>),
     Go(Target<'a>, Edition),
+    Migrate,
 }
 
 /// A file to run, and how long.
@@ -48,6 +49,7 @@ pub(crate) fn job_of<'a>(matches: &ArgMatches<'a>) -> Option<Job<'a>>
     match name {
         "run" => Some(Job::Run(target_of(given)?)),
         "go" => Some(Job::Go(target_of(given)?, edition_of(given))),
+        "migrate" => Some(Job::Migrate),
         _ => Some(Job::Compile(edition_of(given))),
     }
 }
@@ -105,7 +107,8 @@ fn command<'a>(alloc: Global) -> Result<Command<'a>, AllocError>
         .subcommand_required(true);
     all.subcommand(compile_command(alloc)?)?
         .subcommand(run_command(alloc)?)?
-        .subcommand(go_command(alloc)?)
+        .subcommand(go_command(alloc)?)?
+        .subcommand(migrate_command(alloc)?)
 }
 
 fn compile_command<'a>(alloc: Global) -> Result<Command<'a>, AllocError>
@@ -139,6 +142,16 @@ fn go_command<'a>(alloc: Global) -> Result<Command<'a>, AllocError>
         .arg(steps_option(alloc))?
         .arg(no_limit_flag(alloc))?
         .arg(file_argument(alloc))
+}
+
+fn migrate_command<'a>(alloc: Global) -> Result<Command<'a>, AllocError>
+    ensures { IfOk result (IsShaped migrate_command) }
+{
+    let command = Command::new(alloc, "migrate")
+        .about("Writes the code text of edition 1 on standard input in edition 2")
+        .override_usage("b migrate < FILE")
+        .after_help(MIGRATE_HELP);
+    Ok(command)
 }
 
 // The option of a command that compiles.

@@ -11,7 +11,7 @@ use crate::command::{Job, Target, job_of, parse};
 use crate::texts::{CONTRADICTION, UNREAD};
 use bparse::compile_edition;
 use bparse::status::{self, Status};
-use brun::{go_edition, run_text};
+use brun::{go_edition, migrate, run_text};
 use bword::{ByteIn, ByteOut, Edition, Reading};
 use clap::Error;
 use clap::error::ErrorKind;
@@ -73,6 +73,7 @@ fn perform<R: AllocGlobal + Files, I: ByteIn, O: ByteOut, D: ByteOut>(
         Some(Job::Compile(edition)) => compile_edition(rt.alloc(), input, out, diag, edition),
         Some(Job::Run(target)) => run_file(rt, target, input, out, diag),
         Some(Job::Go(target, edition)) => go_file(rt, target, edition, input, out, diag),
+        Some(Job::Migrate) => migrate(rt.alloc(), input, out, diag),
         None => refuse_with(CONTRADICTION, diag),
     }
 }

@@ -26,6 +26,7 @@ Examples:
   b go --edition 2 menu.b             the same with a source of edition 2
   b compile < hello.b > hello.code    writes its code text into a file
   b run hello.code                    runs the code text
+  b migrate < hello.code > new.code   writes it as a code text of edition 2
   b go --help                         tells more about a command
 
 There are two editions of the language. In edition 2 break leaves the nearest
@@ -78,6 +79,17 @@ Examples:
   b compile --edition 2 < menu.b > menu.code
 
 Statuses: 0 compiled, 1 a fault of the source, 133 a failed read or write,
+134 refused memory, 135 a wrong command line. b --help has the letters.";
+
+pub(crate) const MIGRATE_HELP: &str = "\
+The code text of edition 2 has one line more, the first, B 2, and means the
+same. Each definition is written when it has been read. Where the line is code,
+those before the wrong line have been written, without the last line, E.
+
+Example:
+  b migrate < hello.code > new.code
+
+Statuses: 0 written, 132 no code text of edition 1, 133 a failed read or write,
 134 refused memory, 135 a wrong command line. b --help has the letters.";
 
 pub(crate) const RUN_HELP: &str = "\

@@ -1,0 +1,245 @@
+-- What the calls of the reader of a code text come to, with what was written behind each.
+use Rattle.std.proofs.Common.{subst, ◌≡◌, ℕ, Bool, true, false, List, [], ◌∷◌, ◌++◌, length, Result, Ok, Err, IsErrAnd, refl, sym, ap, ◌∙◌, arith, append_assoc, append-nil, length-append, inl, inr, if◌then◌else◌}
+use Rattle.std.specs.List.{flat_map}
+use Rattle.std.proofs.Math.Seq.{take-append_seam}
+use Rattle.std.proofs.lemmas.List.Elements.{All-nil}
+use Rattle.bword.specs.ByteEnds.{Incoming, Outgoing, Took, Grew, Writes, Refuses, Began, CanFollow}
+use Rattle.bword.specs.declared.byte_out.EndFault.{EndFault}
+use Rattle.bword.specs.declared.byte_out.EndFault.TheVariants as end_fault
+use Rattle.bword.specs.declared.edition.Edition.{Edition}
+use Rattle.bword.specs.declared.edition.Edition.TheVariants as editions
+use Rattle.bword.proofs.Putting.{Writes-none, Writes-append, Refuses-behind, Refuses-short}
+use Rattle.bword.proofs.Taking.{Took-none, Took-append}
+use Rattle.bcode.specs.Ahead.{Reads}
+use Rattle.bcode.specs.Readers.{CodeReader, all_ahead, opened, Since, Gave, Ended, Stopped, Refused, Broke, Keeps}
+use Rattle.bcode.specs.Text.{opening, header_line, text_of, end_text, IsTextOf}
+use Rattle.bcode.specs.Faults.{IsFaultLineIn}
+use Rattle.bcode.specs.Views.{IsWithinRanges}
+use Rattle.bcode.specs.declared.definition.Definition.{Definition}
+use Rattle.bcode.proofs.AheadLaws.{Grew-after}
+use Rattle.bcode.proofs.FaultLaws.{code_spelled, unique_code}
+use Rattle.brun.specs.Migrates.{rewritten, Becomes, Rewriting, CodeGives, halt_of, first_line, definition, last_line, OutFailed}
+use Rattle.brun.specs.declared.migrating.Halt.{Halt}
+use Rattle.brun.specs.declared.migrating.Halt.TheVariants as halt
+use Rattle.brun.proofs.AlikeLaws.{runs_as}
+use Rattle.brun.proofs.TextLaws.{NoFirst, are_whole, texts_push, rewritten-push, becomes_behind, becomes_whole}
+
+began_written : {a b : Outgoing} {xs : List ℕ} (ys : List ℕ) → Writes a xs b → Began a (xs ++ ys) b
+began_written {a} {b} {xs} ys h = record {
+  count = length xs;
+  within = omega (arith, length-append xs ys);
+  appended = rw (take-append_seam xs ys) h.appended;
+}
+
+began_refused : {a b : Outgoing} {xs : List ℕ} {fault : EndFault} → Refuses a xs fault b → Began a xs b
+began_refused h = record { count = h.count; within = h.within; appended = h.appended }
+
+-- the texts of the definitions alone are what a reader of the first edition has taken
+nothing_opened : (b : Bool) (e : Edition) → e ≡ editions.One → (if b then opening e else []) ≡ []
+nothing_opened true e is = ap opening is
+nothing_opened false e is = refl
+
+opened_one : (r : CodeReader) → r.first.edition ≡ editions.One → opened r ≡ []
+opened_one r one = nothing_opened r.is_begun r.first.edition one
+
+reads_texts : (r : CodeReader) (ds : List Definition) → r.first.edition ≡ editions.One → Since r ds → Reads (all_ahead r.first) (flat_map text_of ds) r.ahead
+reads_texts r ds one s = subst (λ t. Reads (all_ahead r.first) (t ++ flat_map text_of ds) r.ahead) (opened_one r one) s.passes.reads
+
+-- how far the definitions were written
+pub record Passing (old : CodeReader) (opened : Outgoing) (r : CodeReader) (out : Outgoing) : Type 0 where
+  pub definitions : List Definition
+  pub since : Since r definitions
+  pub written : Writes opened (flat_map text_of definitions) out
+  pub keeps : Keeps old r
+
+module _ (old r new : CodeReader) (opened now : Outgoing) (one : old.first.edition ≡ editions.One) (p : Passing old opened r now) (keeps : Keeps r new) where
+  abbrev ds : List Definition
+  ds = p.definitions
+
+  first_one : r.first.edition ≡ editions.One
+  first_one = ap (λ s. s.edition) p.keeps.first ∙ one
+
+  pub keeps_all : Keeps old new
+  keeps_all = record { first = keeps.first ∙ p.keeps.first; lender = keeps.lender ∙ p.keeps.lender }
+
+  -- bytes were taken since the reader was made
+  from_start : (taken : List ℕ) → Reads (all_ahead r.first) taken new.ahead → Reads (all_ahead old.first) taken new.ahead
+  from_start taken h = subst (λ s. Reads (all_ahead s) taken new.ahead) p.keeps.first h
+
+  module _ (out : Outgoing) (begun : Writes out (opening editions.Two) opened) where
+    abbrev at : Outgoing → Rewriting
+    at behind = record { input = old.first.source; input_behind = new.ahead.end; out = out; out_behind = behind }
+
+    written : Writes out (rewritten ds) now
+    written = Writes-append begun p.written
+
+    -- a beginning was written of what comes of texts that begin with the definitions
+    begins : (taken rest : List ℕ) → taken ≡ flat_map text_of ds ++ rest
+        → (more bytes : List ℕ) → Becomes (taken ++ more) bytes → Began out bytes now
+    begins taken rest comes more bytes becomes =
+        let b = becomes_behind (taken ++ more) bytes ds (rest ++ more) p.since.within (ap (λ l. l ++ more) comes ∙ append_assoc (flat_map text_of ds) rest more) becomes in
+        subst (λ t. Began out t now) (sym b.1) (began_written b.0 written)
+
+    pub stopped : (n : ℕ) → Stopped ds r n new → CodeGives (at now) (Err (halt.Line n))
+    stopped n h = (
+      h.taken,
+      (from_start h.taken h.reads).took,
+      record {
+        read = (from_start h.taken h.reads).failures;
+        definitions = ds;
+        cut = λ more can.
+            let fault = subst (λ e. IsFaultLineIn e (h.taken ++ more) n) first_one (h.fault more can) in
+            record {
+              no_text = λ es is. h.no_text more can es (subst (λ e. IsTextOf e (h.taken ++ more) es) (sym first_one) is);
+              fault = fault;
+              whole = are_whole (h.taken ++ more) n ds (h.behind ++ more) fault p.since.within (spelled more) (none more can);
+            };
+        written = written;
+      },
+    )
+      where
+        comes : h.taken ≡ flat_map text_of ds ++ h.behind
+        comes = h.split ∙ ap (λ t. t ++ flat_map text_of ds ++ h.behind) (opened_one r first_one)
+
+        spelled : (more : List ℕ) → h.taken ++ more ≡ flat_map text_of ds ++ (h.behind ++ more)
+        spelled more = ap (λ l. l ++ more) comes ∙ append_assoc (flat_map text_of ds) h.behind more
+
+        none : (more : List ℕ) → CanFollow new.ahead.end more → NoFirst (h.behind ++ more)
+        none more can d rest inside same =
+            h.none more can d rest inside
+            (spelled more ∙ ap (λ l. flat_map text_of ds ++ l) same ∙ ap (λ t. t ++ flat_map text_of ds ++ (text_of d ++ rest)) (sym (ap opening first_one)))
+
+    pub broke : Broke r new → CodeGives (at now) (Err halt.Device)
+    broke h =
+        let before = reads_texts r ds first_one p.since in
+        let same = p.keeps.first in (
+          flat_map text_of ds ++ h.breaks.taken,
+          subst (λ s. Took (all_ahead s).end (flat_map text_of ds ++ h.breaks.taken) new.ahead.end) same (Took-append before.took h.breaks.took),
+          inl record {
+            counted = subst (λ s. Grew (all_ahead s).end.failures new.ahead.end.failures) same (Grew-after _ _ _ before.failures h.breaks.counted);
+            definitions = ds;
+            within = p.since.within;
+            rest = h.breaks.taken;
+            comes = refl;
+            written = written;
+            begun = λ more can bytes becomes. begins (flat_map text_of ds ++ h.breaks.taken) h.breaks.taken refl more bytes becomes;
+          },
+        )
+
+    pub no_room : Refused ds r new → CodeGives (at now) (Err halt.Memory)
+    no_room h = (
+      h.taken,
+      (from_start h.taken h.reads).took,
+      inl record {
+        read = (from_start h.taken h.reads).failures;
+        before = ds;
+        within = p.since.within;
+        next = h.next;
+        inside = h.inside;
+        rest = h.rest;
+        comes = comes;
+        written = written;
+        begun = λ more can bytes becomes. begins h.taken (header_line h.next ++ h.rest) comes more bytes becomes;
+      },
+    )
+      where
+        comes : h.taken ≡ flat_map text_of ds ++ (header_line h.next ++ h.rest)
+        comes = h.spelled ∙ ap (λ t. t ++ flat_map text_of ds ++ (header_line h.next ++ h.rest)) (ap opening first_one)
+
+    -- the last line was written
+    pub ended : (last : Outgoing) → Ended ds r new → Writes now end_text last → CodeGives (at last) (Ok tt)
+    ended last h wrote = (
+      h.taken,
+      (from_start h.taken h.reads).took,
+      record {
+        read = (from_start h.taken h.reads).failures;
+        definitions = ds;
+        whole = whole;
+        over = h.over;
+        text = text;
+        again = again;
+        only = λ es is. unique_code text es ds is (editions.Two, again);
+        runs = (runs_as editions.One editions.Two h.taken text ds whole again, runs_as editions.Two editions.One text h.taken ds again whole);
+        written = Writes-append written wrote;
+      },
+    )
+      where
+        text : List ℕ
+        text = rewritten ds ++ end_text
+
+        whole : IsTextOf editions.One h.taken ds
+        whole = subst (λ e. IsTextOf e h.taken ds) first_one h.whole
+
+        again : IsTextOf editions.Two text ds
+        again = record { within = p.since.within; spelled = sym (code_spelled editions.Two ds) }
+
+    -- or it was refused
+    end_failed : (last : Outgoing) (fault : EndFault) (h : Ended ds r new) → Refuses now end_text fault last → OutFailed (at last) h.taken fault
+    end_failed last fault h refused = record {
+      read = (from_start h.taken h.reads).failures;
+      refused = last_line ds whole h.over record { mid = now; written = written; refused = refused };
+      begun = λ more can bytes becomes.
+          let same : h.taken ++ more ≡ h.taken = ap (λ l. h.taken ++ l) (can h.over) ∙ append-nil h.taken in
+          subst (λ t. Began out t last) (sym (becomes_whole h.taken bytes ds whole (subst (λ t. Becomes t bytes) same becomes))) (began_refused (Refuses-behind written refused));
+    }
+      where
+        whole : IsTextOf editions.One h.taken ds
+        whole = subst (λ e. IsTextOf e h.taken ds) first_one h.whole
+
+    pub end_refused : (last : Outgoing) (fault : EndFault) → Ended ds r new → Refuses now end_text fault last → CodeGives (at last) (Err (halt_of fault))
+    end_refused last end_fault.Device h refused = (h.taken, (from_start h.taken h.reads).took, inr (end_failed last end_fault.Device h refused))
+    end_refused last end_fault.Memory h refused = (h.taken, (from_start h.taken h.reads).took, inr (end_failed last end_fault.Memory h refused))
+
+    -- a definition was refused
+    module _ (d : Definition) (g : Gave ds r d new) where
+      abbrev taken : List ℕ
+      taken = flat_map text_of (ds ++ d ∷ [])
+
+      taken_all : Reads (all_ahead old.first) taken new.ahead
+      taken_all = from_start taken (subst (λ s. Reads (all_ahead s) taken new.ahead) keeps.first (reads_texts new (ds ++ d ∷ []) (ap (λ s. s.edition) keeps.first ∙ first_one) g.now))
+
+      definition_failed : (last : Outgoing) (fault : EndFault) → Refuses now (text_of d) fault last → OutFailed (at last) taken fault
+      definition_failed last fault refused = record {
+        read = taken_all.failures;
+        refused = definition ds d g.now.within refl record { mid = now; written = written; refused = refused };
+        begun = λ more can bytes becomes.
+            let b = becomes_behind (taken ++ more) bytes (ds ++ d ∷ []) more g.now.within refl becomes in
+            subst (λ t. Began out t last) (ap (λ l. l ++ b.0) (sym (rewritten-push ds d)) ∙ sym b.1) (began_refused (Refuses-short b.0 (Refuses-behind written refused)));
+      }
+
+      pub definition_refused : (last : Outgoing) (fault : EndFault) → Refuses now (text_of d) fault last → CodeGives (at last) (Err (halt_of fault))
+      definition_refused last end_fault.Device refused = (taken, taken_all.took, inr (definition_failed last end_fault.Device refused))
+      definition_refused last end_fault.Memory refused = (taken, taken_all.took, inr (definition_failed last end_fault.Memory refused))
+
+  -- a definition more was read and written
+  pub passing_more : (d : Definition) (last : Outgoing) → Gave ds r d new → Writes now (text_of d) last → Passing old opened new last
+  passing_more d last g wrote = record {
+    definitions = ds ++ d ∷ [];
+    since = g.now;
+    written = subst (λ t. Writes opened t last) (sym (texts_push ds d)) (Writes-append p.written wrote);
+    keeps = keeps_all;
+  }
+
+pub passing_none : (r : CodeReader) (out : Outgoing) → Since r [] → Passing r out r out
+passing_none r out s = record { definitions = []; since = s; written = Writes-none out; keeps = record { first = refl; lender = refl } }
+
+-- the exit of a `?` behind a write
+pub refused_exit : (w : Rewriting) (r : Result (Unit {0}) Halt) (fault : EndFault) → IsErrAnd r (λ h. h ≡ halt_of fault) → CodeGives w (Err (halt_of fault)) → CodeGives w r
+refused_exit w (Ok u) fault same gives = absurd same
+refused_exit w (Err h) fault same gives = subst (λ (e : Halt). CodeGives w (Err e)) (sym same) gives
+
+-- the first line was refused, before anything was read
+begin_failed : (input : Incoming) (out behind : Outgoing) (fault : EndFault) → Refuses out (opening editions.Two) fault behind
+    → OutFailed (record { input = input; input_behind = input; out = out; out_behind = behind }) [] fault
+begin_failed input out behind fault refused = record {
+  read = refl;
+  refused = first_line refl refl refused;
+  begun = λ more can bytes becomes.
+      let b = becomes_behind more bytes [] more (All-nil IsWithinRanges) refl becomes in
+      subst (λ t. Began out t behind) (sym b.1) (began_refused (Refuses-short b.0 refused));
+}
+
+pub begin_refused : (input : Incoming) (out behind : Outgoing) (fault : EndFault) → Refuses out (opening editions.Two) fault behind
+    → CodeGives (record { input = input; input_behind = input; out = out; out_behind = behind }) (Err (halt_of fault))
+begin_refused input out behind end_fault.Device refused = ([], Took-none input, inr (begin_failed input out behind end_fault.Device refused))
+begin_refused input out behind end_fault.Memory refused = ([], Took-none input, inr (begin_failed input out behind end_fault.Memory refused))

@@ -1,0 +1,107 @@
+//! Code texts of the first edition, written as texts of the second.
+ghost use Rattle.std.specs.Prelude.{◌≡◌, []};
+ghost use Rattle.bword.specs.declared.edition.Edition.TheVariants as editions;
+ghost use Rattle.bcode.specs.Readers.{Keeps, Since};
+ghost use Rattle.brun.specs.Migrates.{Migrates, CodeGives, DefinitionsGive, halt_of};
+
+use crate::report::{Report, write_report};
+use bcode::{CodeFault, CodeReader, CodeStep, write_begin, write_definition, write_end};
+use bparse::status::{self, Status};
+use bword::{ByteIn, ByteOut, Edition, EndFault};
+use std::alloc::Global;
+
+/// Why no more is written.
+#[derive(Clone, Copy, Debug, PartialEq, Eq)]
+pub(crate) enum Halt {
+    /// No code text of the first edition goes on with this line.
+    Line(u64),
+    /// A read or a write failed.
+    Device,
+    /// Memory was refused.
+    Memory,
+}
+
+impl From<EndFault> for Halt {
+    ghost from_gives = { λ fault halt. halt ≡ halt_of fault };
+
+    fn from(fault: EndFault) -> Self {
+        match fault {
+            EndFault::Device => Halt::Device,
+            EndFault::Memory => Halt::Memory,
+        }
+    }
+}
+
+/// Writes a code text of the first edition as one of the second, each definition when it has been read.
+///
+/// The status is 0; or 132 where it is no such text, with the line that tells where. It is 133 where a read or a write
+/// failed and 134 where memory was refused.
+pub fn migrate<I: ByteIn, O: ByteOut, D: ByteOut>(
+    alloc: Global,
+    input: &mut I,
+    out: &mut O,
+    diag: &mut D,
+) -> Status
+    ensures migrates { Migrates (record {
+      input = I.incoming input.old;
+      input_behind = I.incoming input.new;
+      out = O.outgoing out.old;
+      out_behind = O.outgoing out.new;
+    }) (D.outgoing diag.old) (D.outgoing diag.new) result }
+    ensures input_lender { I.lender input.new ≡ I.lender input.old }
+    ensures out_lender { O.lender out.new ≡ O.lender out.old }
+    ensures diag_lender { D.lender diag.new ≡ D.lender diag.old }
+{
+    match migrate_code(alloc, input, out) {
+        Ok(()) => status::DONE,
+        Err(Halt::Line(line)) => write_report(Report::Code(line), status::REFUSED, diag),
+        Err(Halt::Device) => status::DEVICE,
+        Err(Halt::Memory) => status::MEMORY,
+    }
+}
+
+// Writes the text up to its end, or up to what stops it.
+fn migrate_code<I: ByteIn, O: ByteOut>(
+    alloc: Global,
+    input: &mut I,
+    out: &mut O,
+) -> Result<(), Halt>
+    ensures gives { CodeGives (record {
+      input = I.incoming input.old;
+      input_behind = I.incoming input.new;
+      out = O.outgoing out.old;
+      out_behind = O.outgoing out.new;
+    }) result }
+    ensures input_lender { I.lender input.new ≡ I.lender input.old }
+    ensures out_lender { O.lender out.new ≡ O.lender out.old }
+{
+    write_begin(Edition::Two, out)?;
+    let mut reader = CodeReader::new(alloc, input, Edition::One);
+    let result = write_definitions(&mut reader, out);
+    let input = reader.into_end();
+    let _ = input;
+    result
+}
+
+// Writes each definition that comes, and the last line at the end.
+fn write_definitions<I: ByteIn, O: ByteOut>(
+    reader: &mut CodeReader<I>,
+    out: &mut O,
+) -> Result<(), Halt>
+    requires since { Since reader.old [] }
+    requires edition { reader.old.first.edition ≡ editions.One }
+    ensures gives { DefinitionsGive reader.old (O.outgoing out.old) result reader.new (O.outgoing out.new) }
+    ensures keeps { Keeps reader.old reader.new }
+    ensures out_lender { O.lender out.new ≡ O.lender out.old }
+{
+    'definitions: loop {
+        match reader.next() {
+            CodeStep::Definition(definition) => write_definition(definition.view(), out)?,
+            CodeStep::End => return Ok(write_end(out)?),
+            CodeStep::Fault(CodeFault::Line(line)) => return Err(Halt::Line(line)),
+            CodeStep::Fault(CodeFault::Memory) => return Err(Halt::Memory),
+            CodeStep::Device => return Err(Halt::Device),
+            CodeStep::Closed => unreachable!(),
+        }
+    }
+}
