@@ -2,8 +2,12 @@
 use crate::command_tests::serves;
 use crate::program_tests::STEPS;
 use crate::source_tests::compares;
+use bcode::read_code;
+use bmach::{Image, LoadFault, load};
 use brun::run_text;
-use bword::{MemIn, MemOut};
+use bword::{MemIn, MemOut, Name};
+use std::alloc::Global;
+use std::fs::Files;
 use std::process::Abort;
 use std::test::Fail;
 
@@ -65,6 +69,62 @@ fn code_that_is_migrated(rt: HostRuntime) -> Result<(), Fail> {
         assert_eq!(rt; new.bytes().len(), old.bytes().len().saturating_add(4));
         runs(&rt, old.bytes(), source, output, line, status);
         runs(&rt, new.bytes(), source, output, line, status);
+    }
+    Ok(())
+}
+
+// The code text of a source, and what it is migrated to.
+fn migrated(
+    rt: &(impl AllocGlobal + Files + Abort),
+    source: &str,
+) -> Result<(MemOut, MemOut), Fail> {
+    let (old, _) = serves(rt, "b compile", source, 0)?;
+    let text = str::from_utf8(old.bytes())?;
+    let (new, _) = serves(rt, "b migrate", text, 0)?;
+    Ok((old, new))
+}
+
+fn loaded(alloc: Global, code: &MemOut) -> Result<Result<Image, LoadFault>, Fail> {
+    Ok(load(alloc, read_code(alloc, code.bytes())?))
+}
+
+// The names of the first source with their addresses, behind those of the library.
+const ADDRESSES: [(&str, Option<u16>); 5] = [
+    ("char", Some(1)),
+    ("main", Some(7)),
+    ("v", Some(8)),
+    ("n", Some(20)),
+    ("none", None),
+];
+
+#[test]
+fn the_image_stays(rt: HostRuntime) -> Result<(), Fail> {
+    let (old, new) = migrated(&rt, SOURCES.split('~').next().unwrap_or(""))?;
+    let before = loaded(rt.alloc(), &old)??;
+    let after = loaded(rt.alloc(), &new)??;
+    assert_eq!(rt; [before.data_end(), after.data_end()], [21, 21]);
+    for address in 0..=u16::MAX {
+        assert_eq!(rt; before.word(address), after.word(address), "at {address}");
+    }
+    for (text, address) in ADDRESSES {
+        let name = Name::new(text).ok_or("a name")?;
+        assert_eq!(rt;
+            [before.address(&name), after.address(&name)],
+            [address, address]
+        );
+    }
+    Ok(())
+}
+
+#[test]
+fn the_load_fault_stays(rt: HostRuntime) -> Result<(), Fail> {
+    let (old, new) = migrated(
+        &rt,
+        "f(a) { auto v 1, i; L: v[i] =+ a; switch a { case 2: goto L; } return(i); }",
+    )?;
+    for code in [old, new] {
+        let image = loaded(rt.alloc(), &code)?;
+        assert!(rt; matches!(image, Err(LoadFault::NoMain)));
     }
     Ok(())
 }
