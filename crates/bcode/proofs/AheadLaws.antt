@@ -1,11 +1,11 @@
 -- Lines read from the text ahead.
-use Rattle.std.proofs.Common.{subst, ◌≡◌, ℕ, ◌+◌, ◌<◌, true, List, [], ◌∷◌, ◌++◌, length, Option, Some, None, Result, Ok, Err, IsErrAnd, refl, sym, ap, ◌∙◌, arith, append_assoc, append-nil, length-append, eqb, ⊎_elim}
+use Rattle.std.proofs.Common.{subst, ◌≡◌, ℕ, ◌+◌, ◌<◌, true, List, [], ◌∷◌, ◌++◌, length, Some, None, Result, Ok, Err, IsErrAnd, refl, sym, ap, ◌∙◌, arith, append-nil, length-append, eqb, ⊎_elim}
 use Rattle.std.specs.List.{flat_map}
 use Rattle.std.proofs.lemmas.List.Concat.{flat_map-append}
 use Rattle.std.proofs.lemmas.List.Elements.{All-nil, All-push}
-use Rattle.bword.specs.ByteEnds.{Incoming, Took, Grew, CanFollow}
+use Rattle.bword.specs.ByteEnds.{Grew}
 use Rattle.bword.proofs.Taking.{Took-none, Took-append}
-use Rattle.bcode.specs.Ahead.{Ahead, ahead_of, TextAhead, ahead_in, ReadsOpening, Reads, ReadsSome, Passes, Breaks, ReadsLine, RefusesLine, LineGives, ReadsLines, RefusesLines, LinesGive}
+use Rattle.bcode.specs.Ahead.{Ahead, ahead_of, TextAhead, ahead_in, ReadsOpening, Reads, Passes, Breaks, ReadsLine, RefusesLine, LineGives, ReadsLines, LinesGive}
 use Rattle.bcode.specs.declared.fault.CodeFault.TheVariants as fault
 use Rattle.bcode.specs.Text.{edition_line}
 use Rattle.bword.specs.declared.edition.Edition.TheVariants as editions
@@ -30,7 +30,7 @@ Passes-none at = record { reads = Reads-none at; counted = omega arith }
 pub Passes-append : {a b c : Ahead} {xs ys : List ℕ} {n m : ℕ} → Passes a xs n b → Passes b ys m c → Passes a (xs ++ ys) (n + m) c
 Passes-append h k = record { reads = Reads-append h.reads k.reads; counted = (let x = h.counted in let y = k.counted in omega arith) }
 
-pub Breaks-after : {a b c : Ahead} {xs : List ℕ} → Reads a xs b → Breaks b c → Breaks a c
+unfoldable pub Breaks-after : {a b c : Ahead} {xs : List ℕ} → Reads a xs b → Breaks b c → Breaks a c
 Breaks-after {a} {b} {c} {xs} h k = record {
   taken = xs ++ k.taken;
   took = Took-append h.took k.took;
@@ -122,15 +122,35 @@ module _ {X : Type 0} {spell : X → List ℕ} {within : X → Type 0} where
         refused = refused;
       }
       stopped (stop.Fault fault.Memory) gives = absurd gives
-      stopped stop.Device breaks = Breaks-after before.passes.reads breaks
+      stopped stop.Device broke = record {
+        read = xs;
+        fewer = rw before.all less;
+        inside = before.inside;
+        mid = mid;
+        passes = rw before.all before.passes;
+        broke = broke;
+      }
 
   -- the exit where a line's value has no room
   pub gives_memory : {V : Type 0} (items : V → List X) {old mid : Ahead} {i : ℕ} {xs : List X} {x : X} (count : ℕ) (now : Ahead) (r : Result V Stop)
-      → ReadsLines spell within i old xs mid → ReadsLine spell within mid x now → IsErrAnd r (λ f. f ≡ stop.Fault fault.Memory)
+      → ReadsLines spell within i old xs mid → i < count → ReadsLine spell within mid x now → IsErrAnd r (λ f. f ≡ stop.Fault fault.Memory)
       → LinesGive spell within items count old r now
-  gives_memory items count now (Ok v) before step same = absurd same
-  gives_memory {V} items {old} count now (Err f) before step same =
-      subst (λ (s : Stop). LinesGive spell within items count old (Err s) now) (sym same) (_, Reads-append before.passes.reads step.passes.reads)
+  gives_memory items count now (Ok v) before less step same = absurd same
+  gives_memory {V} items {old} {mid} {i} {xs} {x} count now (Err f) before less step same =
+      let more = ReadsLines-more (xs ++ x ∷ []) before step refl in
+      subst (λ (s : Stop). LinesGive spell within items count old (Err s) now) (sym same) record {
+        read = xs ++ x ∷ [];
+        few = (let n = more.all in omega arith);
+        inside = more.inside;
+        reads = more.passes.reads;
+      }
+
+-- the exit where there is no room for any
+pub gives_none : {X V : Type 0} (spell : X → List ℕ) (within : X → Type 0) (items : V → List X) (old : Ahead) (count : ℕ) (r : Result V Stop) → IsErrAnd r (λ f. f ≡ stop.Fault fault.Memory)
+    → LinesGive spell within items count old r old
+gives_none spell within items old count (Ok v) same = absurd same
+gives_none spell within items old count (Err f) same =
+    subst (λ (s : Stop). LinesGive spell within items count old (Err s) old) (sym same) record { read = []; few = omega arith; inside = All-nil within; reads = Reads-none old }
 
 pub no_opening : (text : List ℕ) (line : ℕ) → ((rest : List ℕ) → text ≡ edition_line ++ rest → ⊥) → ReadsOpening (ahead_of text line) editions.One (ahead_of text line)
 no_opening text line none = (refl, λ rest e. none rest (cc))

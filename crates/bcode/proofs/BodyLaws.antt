@@ -1,16 +1,15 @@
 -- Lines read one kind after another.
-use Rattle.std.proofs.Common.{subst, ◌≡◌, ℕ, suc, ◌+◌, ◌<◌, ◌≤◌, List, [], ◌∷◌, ◌++◌, length, map, replicate, take, Option, Some, None, Result, Ok, Err, IsErrAnd, refl, sym, ap, ◌∙◌, arith, append_assoc, append-nil, length-append}
+use Rattle.std.proofs.Common.{subst, ◌≡◌, ℕ, zero, suc, ◌+◌, ◌<◌, ◌≤◌, List, [], ◌∷◌, ◌++◌, length, map, replicate, take, Option, Result, Ok, Err, IsErrAnd, refl, sym, ap, ◌∙◌, arith, append_assoc, append-nil, length-append}
 use Rattle.std.specs.Prelude.{All}
 use Rattle.std.specs.List.{flat_map}
 use Rattle.std.proofs.Math.Seq.{take-append_seam}
 use Rattle.std.proofs.lemmas.List.{length-replicate, length-map}
 use Rattle.std.proofs.lemmas.List.Concat.{flat_map-append}
-use Rattle.std.proofs.lemmas.List.Elements.{All-nil}
-use Rattle.bword.specs.ByteEnds.{CanFollow}
-use Rattle.bcode.specs.Ahead.{Ahead, Reads, ReadsSome, Passes, Breaks, ReadsLine, RefusesLine, ReadsLines, RefusesLines, LineGives, LinesGive, StopsAhead, StopsAmong, ReadsBody, BodyGives, ReadsDefinition, StopsInside, HasNext, DefinitionGives}
-use Rattle.bcode.specs.Definitions.{IsWord, IsInstrWithin, IsIvalWithin, sizes_of}
+use Rattle.std.proofs.lemmas.List.Elements.{All-nil, All-head, All-tail}
+use Rattle.bcode.specs.Ahead.{Ahead, Reads, Passes, ReadsLine, RefusesLine, BreaksLine, ReadsLines, RefusesLines, BreaksLines, LineGives, LinesGive, StopsAhead, StopsAmong, BreaksAmong, AreFirst, ReadsFirst, EndsAmong, ReadsBody, BodyGives, ReadsDefinition, StopsInside, HasNext, BreaksInside, DefinitionGives}
+use Rattle.bcode.specs.Definitions.{sizes_of}
 use Rattle.bcode.specs.Headers.{header_of, header_text, IsHeaderWithin}
-use Rattle.bcode.specs.Stopping.{Kind, value, target, string, instruction, IsOfKind, State, expects, finished, kinds_after, state_after, Stops}
+use Rattle.bcode.specs.Stopping.{Kind, value, target, string, instruction, IsOfKind, State, expects, kinds_after, state_after, Stops}
 use Rattle.bcode.specs.Text.{joined, header_line, body_lines, lines_of, text_of, end_text, ended_lines, target_line, string_line, ival_line, instr_line}
 use Rattle.bcode.specs.Views.{IsWithinRanges}
 use Rattle.bcode.specs.declared.definition.Definition.{Definition}
@@ -20,10 +19,10 @@ use Rattle.bcode.specs.declared.header.Header.{Header}
 use Rattle.bcode.specs.declared.header.Header.TheVariants as header
 use Rattle.bcode.specs.declared.stop.Stop.{Stop}
 use Rattle.bcode.specs.declared.stop.Stop.TheVariants as stop
-use Rattle.bcode.proofs.AheadLaws.{Reads-none, Reads-append, Passes-append, Breaks-after}
+use Rattle.bcode.proofs.AheadLaws.{Reads-append, Passes-append, Breaks-after}
 use Rattle.bcode.proofs.HeaderLaws.{header_at-exact}
-use Rattle.bcode.proofs.StoppingLaws.{AreGoodKinds, IsGoodState, good_after, sample, same_spelling, greatest_path, Path}
-use Rattle.bcode.proofs.CodeLaws.{made, OfKinds, OfState, stops_behind, stops_last, stops_among, stops_among_last, header_of-text, header_of-within, path_body, ended_path, of_value, of_target, of_string, of_instr}
+use Rattle.bcode.proofs.StoppingLaws.{AreGoodKinds, IsGoodState, good_after, sample, same_spelling, greatest_path}
+use Rattle.bcode.proofs.CodeLaws.{made, OfKinds, OfState, stops_behind, stops_last, stops_among, header_of-text, header_of-within, path_body, ended_path}
 
 -- lines lead from one state to another: what stops behind them stops so many lines later before them
 abbrev pub GoesOn : State → List ℕ → ℕ → State → Type 0
@@ -49,6 +48,20 @@ pub StopsAmong-behind : {a b c : Ahead} {ks ls : List Kind} {text : List ℕ} {c
 unfolding StopsAhead-behind
 StopsAmong-behind p goes all h = record { stopped = StopsAhead-behind p goes h.stopped; among = (let l = h.among in omega arith) }
 
+pub flat_joined : {X : Type 0} (f : X → List ℕ) (xs : List X) → flat_map f xs ≡ joined (map f xs)
+flat_joined f [] = refl
+flat_joined f (x ∷ xs) = ap (λ l. f x ++ l) (flat_joined f xs)
+
+BreaksAmong-behind : {a b c : Ahead} {ks ls : List Kind} {text : List ℕ} {count : ℕ} → Passes a text count b → GoesOn (expects ks) text count (expects ls) → length ks ≡ count + length ls
+    → BreaksAmong ls b c → BreaksAmong ks a c
+unfolding Breaks-after
+BreaksAmong-behind {a} {b} {c} {ks} {ls} {text} {count} p goes all h = record {
+  breaks = Breaks-after p.reads h.breaks;
+  good = count + h.good;
+  stops = goes h.good h.breaks.taken h.stops;
+  among = (let l = h.among in omega arith);
+}
+
 module _ {X : Type 0} (spell : X → List ℕ) (within : X → Type 0) (kind : Kind) (of_kind : (x : X) → within x → IsOfKind kind (spell x)) where
   pub items_go : (xs : List X) (ks : List Kind) → All within xs → GoesOn (expects (replicate (length xs) kind ++ ks)) (flat_map spell xs) (length xs) (expects ks)
   items_go xs ks all n rest stops = stops_behind spell within kind of_kind xs ks n rest all stops
@@ -60,6 +73,18 @@ module _ {X : Type 0} (spell : X → List ℕ) (within : X → Type 0) (kind : K
       → GoesOn (expects (replicate count kind ++ ks)) (flat_map spell xs) count (expects ks)
   goes_on {old} {new} {xs} count ks r =
       subst (λ (c : ℕ). GoesOn (expects (replicate c kind ++ ks)) (flat_map spell xs) c (expects ks)) r.all (items_go xs ks r.inside)
+
+  first_behind : (xs : List X) (ks : List Kind) (ls : List (List ℕ)) → All within xs → AreFirst ls ks → AreFirst (map spell xs ++ ls) (replicate (length xs) kind ++ ks)
+  first_behind [] ks ls all first = first
+  first_behind (x ∷ xs) ks ls all first = (of_kind x (All-head within x xs all), first_behind xs ks ls (All-tail within x xs all) first)
+
+  some_first : (xs : List X) (count : ℕ) (ks : List Kind) → length xs ≤ count → All within xs → AreFirst (map spell xs) (replicate count kind ++ ks)
+  some_first [] count ks few all = tt
+  some_first (x ∷ xs) zero ks few all = absurd (omega arith)
+  some_first (x ∷ xs) (suc count) ks few all = (of_kind x (All-head within x xs all), some_first xs count ks (omega arith) (All-tail within x xs all))
+
+  kinds_length : (count : ℕ) (ks : List Kind) → length (replicate count kind ++ ks) ≡ count + length ks
+  kinds_length count ks = omega (arith, length-append (replicate count kind) ks, length-replicate count kind)
 
   module _ (is_kind : (l : List ℕ) → IsOfKind kind l → (x : X) × within x × (l ≡ spell x)) where
     pub stops_here : {old new : Ahead} (count : ℕ) (ks : List Kind) (n : ℕ) → RefusesLines spell within count old n new → StopsAmong (replicate count kind ++ ks) old n new
@@ -76,26 +101,48 @@ module _ {X : Type 0} (spell : X → List ℕ) (within : X → Type 0) (kind : K
       among = (let f = r.fewer in omega (arith, length-append (replicate count kind) ks, length-replicate count kind));
     }
 
-    pub stops_here_last : {old new : Ahead} (count n : ℕ) → RefusesLines spell within count old n new → StopsAmong (replicate count kind) old n new
-    stops_here_last {old} {new} count n r =
-        subst (λ (ks : List Kind). StopsAmong ks old n new) (append-nil (replicate count kind)) (stops_here count [] n r)
+    breaks_here : {old new : Ahead} (count : ℕ) (ks : List Kind) → BreaksLines spell within count old new → BreaksAmong (replicate count kind ++ ks) old new
+    unfolding Breaks-after
+    breaks_here {old} {new} count ks r = record {
+      breaks = Breaks-after r.passes.reads r.broke.breaks;
+      good = length r.read;
+      stops = stops_among spell within kind of_kind is_kind r.read count ks r.broke.breaks.taken r.fewer r.inside r.broke.none;
+      among = (let f = r.fewer in omega (arith, length-append (replicate count kind) ks, length-replicate count kind));
+    }
+
+    -- lines of one kind, before those of others, were not read
+    pub ends_among : {V : Type 0} (items : V → List X) (old new : Ahead) (count : ℕ) (ks : List Kind) (e : Stop) → LinesGive spell within items count old (Err e) new
+        → EndsAmong (replicate count kind ++ ks) old e new
+    ends_among items old new count ks (stop.Fault (fault.Line n)) r = stops_here count ks n r
+    ends_among items old new count ks (stop.Fault fault.Memory) r = record {
+      lines = map spell r.read;
+      first = some_first r.read count ks r.few r.inside;
+      reads = subst (λ (t : List ℕ). Reads old t new) (flat_joined spell r.read) r.reads;
+    }
+    ends_among items old new count ks stop.Device r = breaks_here count ks r
+
+    pub ends_among_last : {V : Type 0} (items : V → List X) (old new : Ahead) (count : ℕ) (e : Stop) → LinesGive spell within items count old (Err e) new
+        → EndsAmong (replicate count kind) old e new
+    ends_among_last items old new count e r =
+        subst (λ (ks : List Kind). EndsAmong ks old e new) (append-nil (replicate count kind)) (ends_among items old new count [] e r)
+
+  -- lines were not read behind those of a kind
+  pub ends_behind : {a b : Ahead} {xs : List X} (c : Ahead) (count : ℕ) (ks : List Kind) (e : Stop) → ReadsLines spell within count a xs b → EndsAmong ks b e c
+      → EndsAmong (replicate count kind ++ ks) a e c
+  ends_behind c count ks (stop.Fault (fault.Line n)) r h = StopsAmong-behind r.passes (goes_on count ks r) (kinds_length count ks) h
+  ends_behind {a} {b} {xs} c count ks (stop.Fault fault.Memory) r h = record {
+    lines = map spell xs ++ h.lines;
+    first = subst (λ (n : ℕ). AreFirst (map spell xs ++ h.lines) (replicate n kind ++ ks)) r.all (first_behind xs ks h.lines r.inside h.first);
+    reads = subst (λ (t : List ℕ). Reads a t c)
+        (ap (λ l. l ++ joined h.lines) (flat_joined spell xs) ∙ sym (flat_map-append (λ l. l) (map spell xs) h.lines))
+        (Reads-append r.passes.reads h.reads);
+  }
+  ends_behind c count ks stop.Device r h = BreaksAmong-behind r.passes (goes_on count ks r) (kinds_length count ks) h
 
 -- the exit of a `?` behind lines
-pub body_exit : {X V : Type 0} (spell : X → List ℕ) (within : X → Type 0) (items : V → List X) (count : ℕ) (h : Header) {old mid : Ahead} {before : List ℕ} (now : Ahead) (r : Result Definition Stop) (e : Stop)
-    → IsErrAnd r (λ f. f ≡ e) → Reads old before mid → LinesGive spell within items count mid (Err e) now → ((n : ℕ) → RefusesLines spell within count mid n now → StopsAmong (kinds_after h) old n now)
-    → BodyGives h old r now
-body_exit spell within items count h now (Ok d) e same reads gives stops = absurd same
-body_exit spell within items count h {old} {mid} now (Err f) e same reads gives stops =
-    subst (λ (s : Stop). BodyGives h old (Err s) now) (sym same) (exit e gives)
-  where
-    exit : (e : Stop) → LinesGive spell within items count mid (Err e) now → BodyGives h old (Err e) now
-    exit (stop.Fault (fault.Line n)) gives = stops n gives
-    exit (stop.Fault fault.Memory) gives = (_, Reads-append reads gives.1)
-    exit stop.Device gives = Breaks-after reads gives
-
-pub flat_joined : {X : Type 0} (f : X → List ℕ) (xs : List X) → flat_map f xs ≡ joined (map f xs)
-flat_joined f [] = refl
-flat_joined f (x ∷ xs) = ap (λ l. f x ++ l) (flat_joined f xs)
+pub body_exit : (h : Header) (old now : Ahead) (r : Result Definition Stop) (e : Stop) → IsErrAnd r (λ f. f ≡ e) → EndsAmong (kinds_after h) old e now → BodyGives h old r now
+body_exit h old now (Ok d) e same ends = absurd same
+body_exit h old now (Err f) e same ends = subst (λ (s : Stop). BodyGives h old (Err s) now) (sym same) ends
 
 two_joined : {X Y : Type 0} (f : X → List ℕ) (g : Y → List ℕ) (xs : List X) (ys : List Y) → joined (map f xs ++ map g ys) ≡ flat_map f xs ++ flat_map g ys
 two_joined f g xs ys =
@@ -235,6 +282,12 @@ header_stops {old} {new} n r = record {
   none = λ more can d rest inside same. r.none more can (header_of d) (joined (body_lines d) ++ rest) (header_of-within d inside) (same ∙ text_header d rest);
 }
 
+header_breaks : {old new : Ahead} → BreaksLine header_text IsHeaderWithin old new → BreaksInside old new
+header_breaks r = record {
+  breaks = r.breaks;
+  none = λ d rest inside same. r.none (header_of d) (joined (body_lines d) ++ rest) (header_of-within d inside) (same ∙ text_header d rest);
+}
+
 pub header_exit : (old now : Ahead) (r : Result (Option Definition) Stop) (e : Stop) → IsErrAnd r (λ f. f ≡ e) → LineGives header_text IsHeaderWithin old (Err e) now → DefinitionGives old r now
 header_exit old now (Ok o) e same gives = absurd same
 header_exit old now (Err f) e same gives = subst (λ (s : Stop). DefinitionGives old (Err s) now) (sym same) (exit e gives)
@@ -242,7 +295,7 @@ header_exit old now (Err f) e same gives = subst (λ (s : Stop). DefinitionGives
     exit : (e : Stop) → LineGives header_text IsHeaderWithin old (Err e) now → DefinitionGives old (Err e) now
     exit (stop.Fault (fault.Line n)) gives = header_stops n gives
     exit (stop.Fault fault.Memory) gives = absurd gives
-    exit stop.Device gives = gives
+    exit stop.Device gives = header_breaks gives
 
 pub reads_end : {old new : Ahead} → ReadsLine header_text IsHeaderWithin old header.End new → Passes old end_text 1 new
 reads_end r = r.passes
@@ -264,37 +317,54 @@ some_lines (k ∷ ks) good =
     let others = some_lines ks good.1 in
     (first.0 ∷ others.0, (first.1, others.1))
 
-next_from : {old mid now : Ahead} (h : Header) → state_after h ≡ expects (kinds_after h) → ReadsLine header_text IsHeaderWithin old h mid → ReadsSome mid now → HasNext old now
-next_from {old} {mid} {now} h state r others =
-    let lines = some_lines (kinds_after h) (subst IsGoodState state (good_after h r.inside)) in
-    let m = made h lines.0 r.inside (subst (λ (z : State). OfState z lines.0) (sym state) lines.1) in
+completed : (ks : List Kind) → AreGoodKinds ks → (ls : List (List ℕ)) → AreFirst ls ks → (bs : List (List ℕ)) × OfKinds ks (ls ++ bs)
+completed ks good [] first = some_lines ks good
+completed [] good (l ∷ ls) first = absurd first
+completed (k ∷ ks) good (l ∷ ls) first = let others = completed ks good.1 ls first.1 in (others.0, (first.0, others.1))
+
+next_from : {old mid now : Ahead} (h : Header) → state_after h ≡ expects (kinds_after h) → ReadsLine header_text IsHeaderWithin old h mid → ReadsFirst (kinds_after h) mid now → HasNext old now
+next_from {old} {mid} {now} h state r body =
+    let others = completed (kinds_after h) (subst IsGoodState state (good_after h r.inside)) body.lines body.first in
+    let m = made h (body.lines ++ others.0) r.inside (subst (λ (z : State). OfState z (body.lines ++ others.0)) (sym state) others.1) in
+    let first : header_text h ≡ header_line m.definition = ap header_text (sym m.header) ∙ header_of-text m.definition in
+    let lines : joined (body_lines m.definition) ≡ joined body.lines ++ joined others.0 = ap joined (sym m.lines) ∙ flat_map-append (λ l. l) body.lines others.0 in
     record {
-      taken = header_text h ++ others.0;
-      reads = Reads-append r.passes.reads others.1;
+      taken = header_text h ++ joined body.lines;
+      reads = Reads-append r.passes.reads body.reads;
       next = m.definition;
       inside = m.inside;
-      rest = others.0;
-      spelled = ap (λ t. header_text t ++ others.0) (sym m.header) ∙ ap (λ t. t ++ others.0) (header_of-text m.definition);
+      rest = joined body.lines;
+      spelled = ap (λ t. t ++ joined body.lines) first;
+      more = joined others.0;
+      whole = ap (λ t. t ++ joined (body_lines m.definition)) (sym first) ∙ ap (λ t. header_text h ++ t) lines
+          ∙ sym (append_assoc (header_text h) (joined body.lines) (joined others.0));
     }
+
+-- a text that stops among the lines behind a header has no whole definition
+none_among : (h : Header) (good : ℕ) (text : List ℕ) → state_after h ≡ expects (kinds_after h) → IsHeaderWithin h → Stops good (expects (kinds_after h)) text → good < length (kinds_after h)
+    → (d : Definition) (rest : List ℕ) → IsWithinRanges d → header_text h ++ text ≡ text_of d ++ rest → ⊥
+none_among h good text state in_h stops among d rest inside same =
+    let one = same_spelling header_at-exact h (header_of d) text (joined (body_lines d) ++ rest) in_h (header_of-within d inside) (same ∙ text_header d rest) in
+    let here : Stops good (state_after (header_of d)) text = subst (λ (z : State). Stops good z text) (sym state ∙ ap state_after one.0) stops in
+    let least = passes_body d good text rest inside here one.1 in
+    let count = ap (λ z. length (kinds_after z)) one.0 ∙ kinds_count d in
+    omega (arith, count, least, among)
 
 body_stops : {old mid now : Ahead} (h : Header) (n : ℕ) → state_after h ≡ expects (kinds_after h) → ReadsLine header_text IsHeaderWithin old h mid → StopsAmong (kinds_after h) mid n now
     → StopsInside old n now
 unfolding StopsAhead-behind
-body_stops {old} {mid} {now} h n state r s = record {
+body_stops h n state r s = record {
   stopped = StopsAhead-behind r.passes (subst (λ (z : State). GoesOn (expects []) (header_text h) 1 z) state (header_go h r.inside)) s.stopped;
-  none = none;
+  none = λ more can d rest inside same.
+      none_among h s.stopped.good (s.stopped.taken ++ more) state r.inside (s.stopped.stops more can) s.among d rest inside (sym (append_assoc (header_text h) s.stopped.taken more) ∙ same);
 }
-  where
-    none : (more : List ℕ) → CanFollow now.end more → (d : Definition) (rest : List ℕ) → IsWithinRanges d → header_text h ++ s.stopped.taken ++ more ≡ text_of d ++ rest → ⊥
-    none more can d rest inside same =
-        let one = same_spelling header_at-exact h (header_of d) (s.stopped.taken ++ more) (joined (body_lines d) ++ rest) r.inside (header_of-within d inside)
-        (sym (append_assoc (header_text h) s.stopped.taken more) ∙ same ∙ text_header d rest) in
-        let stops : Stops s.stopped.good (state_after (header_of d)) (s.stopped.taken ++ more) =
-        subst (λ (z : State). Stops s.stopped.good z (s.stopped.taken ++ more)) (sym state ∙ ap state_after one.0) (s.stopped.stops more can) in
-        let least = passes_body d s.stopped.good (s.stopped.taken ++ more) rest inside stops one.1 in
-        let count = ap (λ z. length (kinds_after z)) one.0 ∙ kinds_count d in
-        let l = s.among in
-        omega (arith, count, least, l)
+
+body_breaks : {old mid now : Ahead} (h : Header) → state_after h ≡ expects (kinds_after h) → ReadsLine header_text IsHeaderWithin old h mid → BreaksAmong (kinds_after h) mid now → BreaksInside old now
+unfolding Breaks-after
+body_breaks h state r s = record {
+  breaks = Breaks-after r.passes.reads s.breaks;
+  none = none_among h s.good s.breaks.taken state r.inside s.stops s.among;
+}
 
 -- the exit of a `?` behind a header
 pub next_exit : {old mid : Ahead} (h : Header) (now : Ahead) (r : Result (Option Definition) Stop) (e : Stop) → (h ≡ header.End → ⊥)
@@ -305,4 +375,4 @@ next_exit {old} {mid} h now (Err f) e more read same gives = subst (λ (s : Stop
     exit : (e : Stop) → BodyGives h mid (Err e) now → DefinitionGives old (Err e) now
     exit (stop.Fault (fault.Line n)) gives = body_stops h n (state_of h more) read gives
     exit (stop.Fault fault.Memory) gives = next_from h (state_of h more) read gives
-    exit stop.Device gives = Breaks-after read.passes.reads gives
+    exit stop.Device gives = body_breaks h (state_of h more) read gives

@@ -9,7 +9,7 @@ use Rattle.bword.specs.ByteEnds.{Incoming, Took, CanFollow}
 use Rattle.bword.specs.declared.edition.Edition.{Edition}
 use Rattle.bword.specs.declared.edition.Edition.TheVariants as editions
 use Rattle.bcode.specs.Definitions.{Function, Simple, Vector, IsWord, IsInstrWithin, IsIvalWithin, sizes_of}
-use Rattle.bcode.specs.Ahead.{Ahead, ahead_of, TextAhead, ahead_in, Reads, Passes, ReadsOpening, StopsAhead, StopsInside, ReadsDefinition, TextGives}
+use Rattle.bcode.specs.Ahead.{Ahead, ahead_of, TextAhead, ahead_in, Reads, Passes, Breaks, ReadsOpening, StopsAhead, StopsInside, BreaksInside, ReadsDefinition, TextGives}
 use Rattle.bcode.specs.Faults.{BeginsIn, IsFaultLine, IsFaultLineIn, HasHeader, IsFaultOf}
 use Rattle.bcode.specs.Headers.{header_of, header_text}
 use Rattle.bcode.specs.LineReading.{Reader}
@@ -24,12 +24,11 @@ use Rattle.bcode.specs.declared.header.Header.TheVariants as header
 use Rattle.bcode.specs.declared.header.Sizes.{Sizes}
 use Rattle.bcode.specs.declared.instr.Instr.{Instr}
 use Rattle.bcode.specs.declared.instr.Ival.{Ival}
-use Rattle.bcode.proofs.AheadLaws.{Reads-append, Passes-none, Passes-append, no_length, both_empty}
+use Rattle.bcode.proofs.AheadLaws.{Reads-append, Breaks-after, Passes-none, Passes-append, no_length, both_empty}
 use Rattle.bcode.proofs.BodyLaws.{two_kinds, three_kinds, two_goes, three_goes, GoesOn, GoesOn-append, items_go, items_go_last, header_go, not_end, text_header}
 use Rattle.bcode.proofs.CodeLaws.{header_of-text, header_of-within, code_path, path_code, path_ended, ended_path, of_value, of_target, of_string, of_instr}
 use Rattle.bcode.proofs.HeaderLaws.{header_at-exact, end_within}
 use Rattle.bcode.proofs.LineLaws.{IsExact, FitSizes, ival_at-exact, instr_at-exact, number_line_at-exact}
-use Rattle.bcode.proofs.PartLaws.{is_same}
 use Rattle.bcode.proofs.StoppingLaws.{same_spelling, begins_path, greatest_path, no_header, same_after, no_path}
 
 pub fault_line : (text : List ℕ) (good : ℕ) → Stops good opens text → IsFaultLine text (suc good)
@@ -456,6 +455,15 @@ end_stops {at} {end} {new} taken passes reads some = record {
   none = λ more can d rest inside same.
       not_end d (sym (same_spelling header_at-exact header.End (header_of d) (taken ++ more) (joined (body_lines d) ++ rest) end_within (header_of-within d inside)
       (sym (append_assoc end_text taken more) ∙ same ∙ text_header d rest)).0);
+}
+
+-- a read failed behind the last line
+pub end_breaks : {at end new : Ahead} → Passes at end_text 1 end → Breaks end new → BreaksInside at new
+unfolding Breaks-after
+end_breaks passes breaks = record {
+  breaks = Breaks-after passes.reads breaks;
+  none = λ d rest inside same.
+      not_end d (sym (same_spelling header_at-exact header.End (header_of d) breaks.taken (joined (body_lines d) ++ rest) end_within (header_of-within d inside) (same ∙ text_header d rest)).0);
 }
 
 -- a text in memory goes on behind its last line

@@ -1,16 +1,15 @@
 -- What reading the next definition does to the reader of a code text.
-use Rattle.std.proofs.Common.{subst, ◌≡◌, ◌≢◌, ℕ, suc, ◌+◌, ◌≤◌, Bool, true, false, List, [], ◌∷◌, ◌++◌, length, Option, Some, None, Result, Ok, Err, IsErrAnd, refl, sym, ap, ◌∙◌, arith, append_assoc, append-nil, inl, inr, ◌⊎◌}
-use Rattle.std.specs.Prelude.{All}
+use Rattle.std.proofs.Common.{subst, ◌≡◌, ℕ, suc, ◌+◌, ◌≤◌, Bool, true, false, List, [], ◌∷◌, ◌++◌, length, Option, Some, None, Result, Ok, Err, IsErrAnd, refl, sym, ap, ◌∙◌, arith, append_assoc, inl, inr}
 use Rattle.std.specs.List.{flat_map}
 use Rattle.std.proofs.lemmas.List.Elements.{All-nil, All-push}
 use Rattle.bword.specs.ByteEnds.{Incoming, CanFollow}
 use Rattle.bword.specs.declared.edition.Edition.{Edition}
 use Rattle.bword.specs.declared.edition.Edition.TheVariants as editions
-use Rattle.bcode.specs.Ahead.{Ahead, Reads, Passes, Breaks, RefusesLine, ReadsDefinition, StopsInside, HasNext, DefinitionGives, Opens, OpeningGives, ReadsLast, NextGives, EndingGives}
+use Rattle.bcode.specs.Ahead.{Ahead, Reads, Passes, RefusesLine, ReadsDefinition, StopsInside, HasNext, BreaksInside, DefinitionGives, Opens, OpeningGives, opening_line, BreaksNext, ReadsLast, NextGives, EndingGives}
 use Rattle.bcode.specs.Faults.{IsFaultLineIn}
-use Rattle.bcode.specs.Readers.{Start, CodeReader, all_ahead, reader_of, opened, opened_lines, Since, to_open, IsOpen, Gave, Ended, Stopped, Refused, Broke, step_of, is_last, StepGives}
+use Rattle.bcode.specs.Readers.{Start, CodeReader, all_ahead, reader_of, opened, Since, to_open, IsOpen, Gave, Ended, NoneWhole, Stopped, Refused, step_of, is_last, StepGives}
 use Rattle.bcode.specs.Stopping.{expects, Stops}
-use Rattle.bcode.specs.Text.{edition_line, opening, opening_lines, header_line, lines_of, text_of, end_text, IsTextOf}
+use Rattle.bcode.specs.Text.{edition_line, opening, opening_lines, lines_of, text_of, end_text, IsTextOf}
 use Rattle.bcode.specs.Views.{IsWithinRanges}
 use Rattle.bcode.specs.declared.code_step.CodeStep.{CodeStep}
 use Rattle.bcode.specs.declared.definition.Definition.{Definition}
@@ -18,7 +17,8 @@ use Rattle.bcode.specs.declared.fault.CodeFault.TheVariants as fault
 use Rattle.bcode.specs.declared.stop.Stop.{Stop}
 use Rattle.bcode.specs.declared.stop.Stop.TheVariants as stop
 use Rattle.bcode.proofs.AheadLaws.{Reads-append, Passes-none, Passes-append, Breaks-after}
-use Rattle.bcode.proofs.FaultLaws.{definition_shorter, definitions_go, fault_line_in, no_code_in, no_opening_line, no_opening_code, passes_more, same_rest, code_spelled, end_stops}
+use Rattle.bcode.proofs.FaultLaws.{definition_shorter, definitions_go, fault_line_in, no_code_in, no_opening_line, no_opening_code, passes_more, same_rest, code_spelled, end_stops, end_breaks}
+use Rattle.bcode.proofs.StoppingLaws.{same_after}
 
 pub is_open_new : (start : Start) → IsOpen (reader_of start (all_ahead start) false false)
 is_open_new start = record {
@@ -137,8 +137,21 @@ module _ (edition : Edition) (source : Incoming) (lender : List ℕ) (b : Bool) 
     inside = h.inside;
     rest = h.rest;
     spelled = ap (λ l. texts ++ l) h.spelled;
+    more = h.more;
+    whole = h.whole ∙ ap (λ l. l ++ h.more) h.spelled;
     closed = refl;
   }
+
+-- none comes whole behind what was read before, where none does in what was taken then
+none_whole : (edition : Edition) (source : Incoming) (lender : List ℕ) (b : Bool) (at : Ahead) (ds : List Definition) → Since (reader_of (beginning edition source lender) at b false) ds → (taken : List ℕ)
+    → ((d : Definition) (rest : List ℕ) → IsWithinRanges d → taken ≡ opening_line (to_open b edition) ++ (text_of d ++ rest) → ⊥)
+    → NoneWhole edition (opened (reader_of (beginning edition source lender) at b false) ++ flat_map text_of ds ++ taken) ds
+none_whole editions.One source lender true at ds s taken none d rest inside same = none d rest inside (same_rest (opening editions.One ++ flat_map text_of ds) taken (text_of d ++ rest) same)
+none_whole editions.Two source lender true at ds s taken none d rest inside same = none d rest inside (same_rest (opening editions.Two ++ flat_map text_of ds) taken (text_of d ++ rest) same)
+none_whole editions.One source lender false at ds s taken none d rest inside same = none d rest inside (same_rest (flat_map text_of ds) taken (text_of d ++ rest) same)
+none_whole editions.Two source lender false at ds s taken none d rest inside same =
+    let nothing : flat_map text_of ds ≡ [] = ap (flat_map text_of) (s.unbegun refl) in
+    none d rest inside (ap (λ t. t ++ taken) (sym nothing) ∙ same ∙ ap (λ t. opening editions.Two ++ t ++ (text_of d ++ rest)) nothing)
 
 -- the line that the text begins with was refused
 stopped_opening : (edition : Edition) (source : Incoming) (lender : List ℕ) (b : Bool) (at new : Ahead) (ds : List Definition) (n : ℕ) → Since (reader_of (beginning edition source lender) at b false) ds
@@ -184,7 +197,7 @@ next_gives edition source lender b at new is_open (Err (stop.Fault (fault.Line n
 next_gives edition source lender b at new is_open (Err (stop.Fault fault.Memory)) gives =
     ((is_open, λ ds s. refused edition source lender b at ds s gives.0 new gives.1 gives.2), λ e. absurd (cc))
 next_gives edition source lender b at new is_open (Err stop.Device) gives =
-    ((is_open, λ ds s. record { breaks = gives; closed = refl }), λ e. absurd (cc))
+    ((is_open, λ ds s. record { breaks = gives.breaks; none = none_whole edition source lender b at ds s gives.breaks.taken gives.none; closed = refl }), λ e. absurd (cc))
 
 pub call_gives : (edition : Edition) (source : Incoming) (lender : List ℕ) (b closed : Bool) (at new : Ahead) → closed ≡ false → (closed ≡ false → IsOpen (reader_of (beginning edition source lender) at b closed))
     → (opens : Bool) → opens ≡ to_open b edition → (r : Result (Option Definition) Stop) → NextGives opens at r new
@@ -202,9 +215,14 @@ call_gives edition source lender b closed at new closed_is is_open opens opens_i
 
 -- the exits of the parts of a call
 
-opens_reads : (opens : Bool) (old mid : Ahead) → Opens opens old mid → (text : List ℕ) × Reads old text mid
-opens_reads true old mid h = (edition_line, h.reads)
-opens_reads false old mid h = ([], subst (λ (a : Ahead). Reads old [] a) (sym h) (Passes-none old).reads)
+breaks_next : (opens : Bool) (old mid now : Ahead) → Opens opens old mid → BreaksInside mid now → BreaksNext opens old now
+unfolding Breaks-after
+breaks_next true old mid now h broke = record {
+  breaks = Breaks-after h.reads broke.breaks;
+  none = λ d rest inside same. broke.none d rest inside (same_after broke.breaks.taken (text_of d ++ rest) same);
+}
+breaks_next false old mid now h broke =
+    subst (λ (a : Ahead). BreaksNext false a now) h record { breaks = broke.breaks; none = broke.none }
 
 pub opening_exit : (opens : Bool) (old now : Ahead) (r : Result (Option Definition) Stop) (e : Stop) → IsErrAnd r (λ f. f ≡ e) → OpeningGives opens old (Err e) now → NextGives opens old r now
 opening_exit opens old now (Ok o) e same gives = absurd same
@@ -213,7 +231,10 @@ opening_exit opens old now (Err f) e same gives = subst (λ (s : Stop). NextGive
     exit : (e : Stop) → OpeningGives opens old (Err e) now → NextGives opens old (Err e) now
     exit (stop.Fault (fault.Line n)) gives = inl gives
     exit (stop.Fault fault.Memory) gives = absurd gives
-    exit stop.Device gives = gives
+    exit stop.Device gives = record {
+      breaks = gives.1.breaks;
+      none = λ d rest inside same. gives.1.none tt (text_of d ++ rest) tt (same ∙ ap (λ o. opening_line o ++ (text_of d ++ rest)) gives.0);
+    }
 
 pub definition_exit : (opens : Bool) (old mid now : Ahead) (r : Result (Option Definition) Stop) (e : Stop) → Opens opens old mid → IsErrAnd r (λ f. f ≡ e) → DefinitionGives mid (Err e) now → NextGives opens old r now
 definition_exit opens old mid now (Ok o) e h same gives = absurd same
@@ -222,7 +243,7 @@ definition_exit opens old mid now (Err f) e h same gives = subst (λ (s : Stop).
     exit : (e : Stop) → DefinitionGives mid (Err e) now → NextGives opens old (Err e) now
     exit (stop.Fault (fault.Line n)) gives = inr (mid, h, gives)
     exit (stop.Fault fault.Memory) gives = (mid, h, gives)
-    exit stop.Device gives = Breaks-after (opens_reads opens old mid h).1 gives
+    exit stop.Device gives = breaks_next opens old mid now h gives
 
 pub end_exit : (opens : Bool) (old mid end now : Ahead) (r : Result (Option Definition) Stop) (e : Stop) → Opens opens old mid → Passes mid end_text 1 end → IsErrAnd r (λ f. f ≡ e) → EndingGives end (Err e) now
     → NextGives opens old r now
@@ -233,7 +254,7 @@ end_exit opens old mid end now (Err f) e h last same gives = subst (λ (s : Stop
     exit (stop.Fault (fault.Line n)) gives =
         inr (mid, h, subst (λ (k : ℕ). StopsInside mid k now) (sym gives.0) (end_stops gives.1.0 last gives.1.2 gives.1.1))
     exit (stop.Fault fault.Memory) gives = absurd gives
-    exit stop.Device gives = Breaks-after (Reads-append (opens_reads opens old mid h).1 last.reads) gives
+    exit stop.Device gives = breaks_next opens old mid now h (end_breaks last gives)
 
 pub reads_last : (mid end now : Ahead) → Passes mid end_text 1 end → Reads end [] now × (now.end.is_over ≡ true) → ReadsLast mid now
 reads_last mid end now last h = record { reads = Reads-append last.reads h.0; over = h.1 }

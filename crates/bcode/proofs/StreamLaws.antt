@@ -1,13 +1,15 @@
 -- Bytes taken up to a newline.
-use Rattle.std.proofs.Common.{subst, ◌≡◌, ◌≢◌, ℕ, eqb, take, drop, if◌then◌else◌, Bool, ◌+◌, ◌<◌, ◌≤◌, ◌^◌, true, false, List, [], ◌∷◌, ◌++◌, length, decimal, Option, Some, None, Ok, Err, refl, sym, ap, ◌∙◌, arith, append_assoc, append-nil, length-append, ◌⊎◌, inl, inr}
-use Rattle.std.specs.Prelude.{All, is_some, not}
+use Rattle.std.proofs.Common.{subst, ◌≡◌, ◌≢◌, ℕ, eqb, take, drop, if◌then◌else◌, Bool, ◌+◌, ◌<◌, ◌≤◌, true, false, List, [], ◌∷◌, ◌++◌, length, Option, Some, None, Result, Ok, Err, IsErrAnd, refl, sym, ap, ◌∙◌, arith, append_assoc, append-nil, length-append, ◌⊎◌, inl, inr}
+use Rattle.std.specs.Prelude.{is_some, not}
 use Rattle.std.proofs.lemmas.List.Elements.{All-nil, All-push, All-head, All-tail}
-use Rattle.bword.specs.ByteEnds.{Incoming, Took, Grew, NextGives, CanFollow}
+use Rattle.bword.specs.ByteEnds.{Incoming, Took, NextGives, CanFollow}
 use Rattle.bword.proofs.Taking.{Took-none, Took-append, Took-next}
-use Rattle.bcode.specs.Ahead.{Ahead, ReadsLine, RefusesLine, Breaks, SeesEnd}
+use Rattle.bcode.specs.Ahead.{Ahead, ReadsLine, RefusesLine, LineGives, SeesEnd}
 use Rattle.bcode.specs.LineReading.{Reader}
 use Rattle.bcode.specs.Streams.{HasNoNewline, IsWholeLine, TakesLine, FailsInLine}
 use Rattle.bcode.specs.declared.limits.TheConstants.{LINE_LEN}
+use Rattle.bcode.specs.declared.stop.Stop.{Stop}
+use Rattle.bcode.specs.declared.stop.Stop.TheVariants as stop
 use Rattle.bcode.proofs.LineLaws.{IsExact}
 use Rattle.bcode.proofs.PartLaws.{only_if, same_read}
 use Rattle.bcode.proofs.ShapeLaws.{IsLine, edition_line-shape}
@@ -139,8 +141,20 @@ module _ {X : Type 0} {spell : X → List ℕ} {within : X → Type 0} {read : R
             split (inr (clean, inr full)) =
                 newline_behind bytes s.before more rest clean (let few = s.few in omega (arith, full)) text
 
-pub stream_breaks : {old new : Incoming} {lender lender' : List ℕ} (line : ℕ) → FailsInLine old new → lender' ≡ lender → Breaks (at old lender line) (at new lender' line)
-stream_breaks line f same = record { taken = f.taken; took = f.took; counted = f.counted; lender = same }
+-- the exit of a `?` behind a line that was not read to its end
+pub stream_breaks : {X : Type 0} {spell : X → List ℕ} {within : X → Type 0} → ((x : X) → within x → IsLine 128 (spell x)) → {old new : Incoming} {lender lender' : List ℕ} (line : ℕ)
+    → FailsInLine old new → lender' ≡ lender → (r : Result X Stop) → IsErrAnd r (λ s. s ≡ stop.Device) → LineGives spell within (at old lender line) r (at new lender' line)
+stream_breaks shape line f same (Ok x) is = absurd is
+stream_breaks {X} {spell} {within} shape {old} {new} {lender} {lender'} line f same (Err e) is =
+    subst (λ (s : Stop). LineGives spell within (at old lender line) (Err s) (at new lender' line)) (sym is) record {
+      breaks = record { taken = f.taken; took = f.took; counted = f.counted; lender = same };
+      none = none;
+    }
+  where
+    none : (x : X) (rest : List ℕ) → within x → f.taken ≡ spell x ++ rest → ⊥
+    none x rest inside whole =
+        let s = shape x inside in
+        no_newline f.taken s.before rest f.clean (whole ∙ ap (λ l. l ++ rest) s.ends ∙ append_assoc s.before (10 ∷ []) rest)
 
 pub sees_end : {old new : Incoming} {lender lender' : List ℕ} (o : Option ℕ) (b : Bool) (line : ℕ) → is_some o ≡ not b → NextGives old (Ok o) new → lender' ≡ lender
     → SeesEnd (at old lender line) b (at new lender' line)

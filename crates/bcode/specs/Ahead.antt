@@ -1,12 +1,12 @@
 -- What reading some lines takes from where they come from.
-use Rattle.std.specs.Prelude.{◌≡◌, ◌≢◌, ℕ, Bool, true, false, ◌+◌, ◌<◌, List, [], ◌++◌, length, ◌==◌, All, Option, Some, None, Result, Ok, Err, ◌⊎◌}
+use Rattle.std.specs.Prelude.{◌≡◌, ◌≢◌, ℕ, Bool, true, false, ◌+◌, ◌<◌, ◌≤◌, List, [], ◌∷◌, ◌++◌, length, ◌==◌, All, Option, Some, None, Result, Ok, Err, ◌⊎◌}
 use Rattle.std.specs.List.{flat_map}
 use Rattle.bword.specs.ByteEnds.{Incoming, Took, Grew, CanFollow}
 use Rattle.bword.specs.declared.byte_in.Device.{Device}
 use Rattle.bword.specs.declared.edition.Edition.{Edition}
 use Rattle.bword.specs.declared.edition.Edition.TheVariants as editions
 use Rattle.bcode.specs.Headers.{header_of}
-use Rattle.bcode.specs.Stopping.{Kind, State, expects, Stops, kinds_after}
+use Rattle.bcode.specs.Stopping.{Kind, IsOfKind, State, expects, Stops, kinds_after}
 use Rattle.bcode.specs.Text.{joined, lines_of, body_lines, header_line, text_of, end_text, edition_line}
 use Rattle.bcode.specs.Views.{IsWithinRanges}
 use Rattle.bcode.specs.declared.definition.Definition.{Definition}
@@ -56,10 +56,6 @@ pub record Breaks (old new : Ahead) : Type 0 where
   pub counted : Grew old.end.failures new.end.failures
   pub lender : new.lender ≡ old.lender
 
--- some bytes were taken, and no read failed
-abbrev pub ReadsSome : Ahead → Ahead → Type 0
-ReadsSome old new = (taken : List ℕ) × Reads old taken new
-
 module _ {X : Type 0} (spell : X → List ℕ) (within : X → Type 0) where
   -- The line of x was read.
   pub record ReadsLine (old : Ahead) (x : X) (new : Ahead) : Type 0 where
@@ -74,11 +70,16 @@ module _ {X : Type 0} (spell : X → List ℕ) (within : X → Type 0) where
     pub none : (more : List ℕ) → CanFollow new.end more
         → (x : X) (rest : List ℕ) → within x → taken ++ more ≡ spell x ++ rest → ⊥
 
+  -- A read failed, and among the bytes before it no such line is whole.
+  pub record BreaksLine (old new : Ahead) : Type 0 where
+    pub breaks : Breaks old new
+    pub none : (x : X) (rest : List ℕ) → within x → breaks.taken ≡ spell x ++ rest → ⊥
+
   abbrev pub LineGives : Ahead → Result X Stop → Ahead → Type 0
   LineGives old (Ok x) new = ReadsLine old x new
   LineGives old (Err (stop.Fault (fault.Line n))) new = RefusesLine old n new
   LineGives old (Err (stop.Fault fault.Memory)) new = ⊥
-  LineGives old (Err stop.Device) new = Breaks old new
+  LineGives old (Err stop.Device) new = BreaksLine old new
 
   -- The lines of xs were read.
   pub record ReadsLines (count : ℕ) (old : Ahead) (xs : List X) (new : Ahead) : Type 0 where
@@ -95,11 +96,27 @@ module _ {X : Type 0} (spell : X → List ℕ) (within : X → Type 0) where
     pub passes : Passes old (flat_map spell read) (length read) mid
     pub refused : RefusesLine mid n new
 
+  -- A read failed behind fewer such lines.
+  pub record BreaksLines (count : ℕ) (old new : Ahead) : Type 0 where
+    pub read : List X
+    pub fewer : length read < count
+    pub inside : All within read
+    pub mid : Ahead
+    pub passes : Passes old (flat_map spell read) (length read) mid
+    pub broke : BreaksLine mid new
+
+  -- So many such lines at most were read.
+  pub record ReadsSome (count : ℕ) (old new : Ahead) : Type 0 where
+    pub read : List X
+    pub few : length read ≤ count
+    pub inside : All within read
+    pub reads : Reads old (flat_map spell read) new
+
   abbrev pub LinesGive : {V : Type 0} → (V → List X) → ℕ → Ahead → Result V Stop → Ahead → Type 0
   LinesGive items count old (Ok v) new = ReadsLines count old (items v) new
   LinesGive items count old (Err (stop.Fault (fault.Line n))) new = RefusesLines count old n new
-  LinesGive items count old (Err (stop.Fault fault.Memory)) new = ReadsSome old new
-  LinesGive items count old (Err stop.Device) new = Breaks old new
+  LinesGive items count old (Err (stop.Fault fault.Memory)) new = ReadsSome count old new
+  LinesGive items count old (Err stop.Device) new = BreaksLines count old new
 
 -- What a text of this edition begins with was read, or the text begins otherwise and nothing was read.
 abbrev pub ReadsOpening : Ahead → Edition → Ahead → Type 0
@@ -125,11 +142,34 @@ pub record ReadsBody (h : Header) (old : Ahead) (d : Definition) (new : Ahead) :
   pub inside : IsWithinRanges d
   pub passes : Passes old (joined (body_lines d)) (length (body_lines d)) new
 
+-- A read failed in one of the lines of these kinds.
+pub record BreaksAmong (kinds : List Kind) (old new : Ahead) : Type 0 where
+  pub breaks : Breaks old new
+  pub good : ℕ
+  pub stops : Stops good (expects kinds) breaks.taken
+  pub among : good < length kinds
+
+-- lines of the first of these kinds
+abbrev pub AreFirst : List (List ℕ) → List Kind → Type 0
+AreFirst [] kinds = Unit {0}
+AreFirst (l ∷ ls) [] = ⊥
+AreFirst (l ∷ ls) (k ∷ ks) = IsOfKind k l × AreFirst ls ks
+
+-- Lines of the first of these kinds were read.
+pub record ReadsFirst (kinds : List Kind) (old new : Ahead) : Type 0 where
+  pub lines : List (List ℕ)
+  pub first : AreFirst lines kinds
+  pub reads : Reads old (joined lines) new
+
+-- why lines of these kinds were not read
+abbrev pub EndsAmong : List Kind → Ahead → Stop → Ahead → Type 0
+EndsAmong kinds old (stop.Fault (fault.Line n)) new = StopsAmong kinds old n new
+EndsAmong kinds old (stop.Fault fault.Memory) new = ReadsFirst kinds old new
+EndsAmong kinds old stop.Device new = BreaksAmong kinds old new
+
 abbrev pub BodyGives : Header → Ahead → Result Definition Stop → Ahead → Type 0
 BodyGives h old (Ok d) new = ReadsBody h old d new
-BodyGives h old (Err (stop.Fault (fault.Line n))) new = StopsAmong (kinds_after h) old n new
-BodyGives h old (Err (stop.Fault fault.Memory)) new = ReadsSome old new
-BodyGives h old (Err stop.Device) new = Breaks old new
+BodyGives h old (Err why) new = EndsAmong (kinds_after h) old why new
 
 -- The lines of d were read.
 pub record ReadsDefinition (old : Ahead) (d : Definition) (new : Ahead) : Type 0 where
@@ -142,7 +182,7 @@ pub record StopsInside (old : Ahead) (n : ℕ) (new : Ahead) : Type 0 where
   pub none : (more : List ℕ) → CanFollow new.end more
       → (d : Definition) (rest : List ℕ) → IsWithinRanges d → stopped.taken ++ more ≡ text_of d ++ rest → ⊥
 
--- The first line of a definition comes.
+-- A definition comes, of which the first line was read, and nothing behind the last one.
 pub record HasNext (old new : Ahead) : Type 0 where
   pub taken : List ℕ
   pub reads : Reads old taken new
@@ -150,6 +190,13 @@ pub record HasNext (old new : Ahead) : Type 0 where
   pub inside : IsWithinRanges next
   pub rest : List ℕ
   pub spelled : taken ≡ header_line next ++ rest
+  pub more : List ℕ
+  pub whole : text_of next ≡ taken ++ more
+
+-- A read failed before a definition is whole.
+pub record BreaksInside (old new : Ahead) : Type 0 where
+  pub breaks : Breaks old new
+  pub none : (d : Definition) (rest : List ℕ) → IsWithinRanges d → breaks.taken ≡ text_of d ++ rest → ⊥
 
 -- a definition was read, or the last line
 abbrev pub DefinitionGives : Ahead → Result (Option Definition) Stop → Ahead → Type 0
@@ -157,7 +204,7 @@ DefinitionGives old (Ok (Some d)) new = ReadsDefinition old d new
 DefinitionGives old (Ok None) new = Passes old end_text 1 new
 DefinitionGives old (Err (stop.Fault (fault.Line n))) new = StopsInside old n new
 DefinitionGives old (Err (stop.Fault fault.Memory)) new = HasNext old new
-DefinitionGives old (Err stop.Device) new = Breaks old new
+DefinitionGives old (Err stop.Device) new = BreaksInside old new
 
 -- the same in a text in memory, where no read fails
 abbrev pub TextGives : TextAhead → Result (Option Definition) CodeFault → TextAhead → Type 0
@@ -186,12 +233,23 @@ OpeningGives opens old (Ok u) new = Opens opens old new
 OpeningGives opens old (Err (stop.Fault (fault.Line n))) new =
     (opens ≡ true) × RefusesLine {X = Unit {0}} (λ _. edition_line) (λ _. Unit {0}) old n new
 OpeningGives opens old (Err (stop.Fault fault.Memory)) new = ⊥
-OpeningGives opens old (Err stop.Device) new = Breaks old new
+OpeningGives opens old (Err stop.Device) new = (opens ≡ true) × BreaksLine {X = Unit {0}} (λ _. edition_line) (λ _. Unit {0}) old new
 
 -- The last line was read, and the end of the input was seen.
 pub record ReadsLast (old new : Ahead) : Type 0 where
   pub reads : Reads old end_text new
   pub over : new.end.is_over ≡ true
+
+-- the line that may have to come before a definition
+abbrev pub opening_line : Bool → List ℕ
+opening_line true = edition_line
+opening_line false = []
+
+-- A read failed before a definition is whole behind what may have to come before it.
+pub record BreaksNext (opens : Bool) (old new : Ahead) : Type 0 where
+  pub breaks : Breaks old new
+  pub none : (d : Definition) (rest : List ℕ) → IsWithinRanges d
+      → breaks.taken ≡ opening_line opens ++ (text_of d ++ rest) → ⊥
 
 -- what reading the next definition does, where a line may have to come before it
 abbrev pub NextGives : Bool → Ahead → Result (Option Definition) Stop → Ahead → Type 0
@@ -201,7 +259,7 @@ NextGives opens old (Err (stop.Fault (fault.Line n))) new =
     ((opens ≡ true) × RefusesLine {X = Unit {0}} (λ _. edition_line) (λ _. Unit {0}) old n new)
     ⊎ ((mid : Ahead) × Opens opens old mid × StopsInside mid n new)
 NextGives opens old (Err (stop.Fault fault.Memory)) new = (mid : Ahead) × Opens opens old mid × HasNext mid new
-NextGives opens old (Err stop.Device) new = Breaks old new
+NextGives opens old (Err stop.Device) new = BreaksNext opens old new
 
 -- nothing came behind the last line; or something did, in a line of this number
 abbrev pub EndingGives : Ahead → Result (Unit {0}) Stop → Ahead → Type 0

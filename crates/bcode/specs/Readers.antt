@@ -6,7 +6,7 @@ use Rattle.bword.specs.declared.edition.Edition.{Edition}
 use Rattle.bword.specs.declared.edition.Edition.TheVariants as editions
 use Rattle.bcode.specs.Ahead.{Ahead, Reads, Passes, Breaks}
 use Rattle.bcode.specs.Faults.{IsFaultLineIn}
-use Rattle.bcode.specs.Text.{opening, opening_lines, header_line, lines_of, text_of, end_text, IsTextOf}
+use Rattle.bcode.specs.Text.{opening, opening_lines, header_line, lines_of, text_of, IsTextOf}
 use Rattle.bcode.specs.Views.{IsWithinRanges}
 use Rattle.bcode.specs.declared.code_step.CodeStep.{CodeStep}
 use Rattle.bcode.specs.declared.code_step.CodeStep.TheVariants as step
@@ -100,7 +100,7 @@ pub record Stopped (before : List Definition) (old : CodeReader) (n : ℕ) (new 
   pub none : (more : List ℕ) → CanFollow new.ahead.end more → NoneWhole old.first.edition (taken ++ more) before
   pub closed : new.is_closed ≡ true
 
--- Memory was refused behind the first line of a definition.
+-- Memory was refused behind the first line of a definition, behind whose last line no byte was taken.
 pub record Refused (before : List Definition) (old new : CodeReader) : Type 0 where
   pub taken : List ℕ
   pub reads : Reads (all_ahead old.first) taken new.ahead
@@ -108,11 +108,14 @@ pub record Refused (before : List Definition) (old new : CodeReader) : Type 0 wh
   pub inside : IsWithinRanges next
   pub rest : List ℕ
   pub spelled : taken ≡ opening old.first.edition ++ flat_map text_of before ++ (header_line next ++ rest)
+  pub more : List ℕ
+  pub whole : text_of next ≡ header_line next ++ rest ++ more
   pub closed : new.is_closed ≡ true
 
--- A read failed.
-pub record Broke (old new : CodeReader) : Type 0 where
+-- A read failed before a further definition was whole.
+pub record Broke (before : List Definition) (old new : CodeReader) : Type 0 where
   pub breaks : Breaks old.ahead new.ahead
+  pub none : NoneWhole old.first.edition (opened old ++ flat_map text_of before ++ breaks.taken) before
   pub closed : new.is_closed ≡ true
 
 -- the answer of a call, and whether it is the last one
@@ -132,7 +135,7 @@ GivesBehind before old (step.Definition d) new = Gave before old d new
 GivesBehind before old step.End new = Ended before old new
 GivesBehind before old (step.Fault (fault.Line n)) new = Stopped before old n new
 GivesBehind before old (step.Fault fault.Memory) new = Refused before old new
-GivesBehind before old step.Device new = Broke old new
+GivesBehind before old step.Device new = Broke before old new
 GivesBehind before old step.Closed new = ⊥
 
 -- what a call does, whichever definitions were read before

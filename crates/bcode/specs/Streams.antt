@@ -20,9 +20,10 @@ pub record TakesLine (old : Incoming) (bytes : List ℕ) (new : Incoming) : Type
   pub failures : new.failures ≡ old.failures
   pub whole : IsWholeLine bytes ⊎ (HasNoNewline bytes × ((new.is_over ≡ true) ⊎ (length bytes ≡ LINE_LEN)))
 
--- A read failed behind some bytes.
+-- A read failed behind some bytes, none of which is a newline.
 pub record FailsInLine (old new : Incoming) : Type 0 where
   pub taken : List ℕ
+  pub clean : HasNoNewline taken
   pub took : Took old taken new
   pub counted : Grew old.failures new.failures
 

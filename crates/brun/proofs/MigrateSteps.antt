@@ -109,7 +109,7 @@ module _ (old r new : CodeReader) (opened now : Outgoing) (one : old.first.editi
             h.none more can d rest inside
             (spelled more ∙ ap (λ l. flat_map text_of ds ++ l) same ∙ ap (λ t. t ++ flat_map text_of ds ++ (text_of d ++ rest)) (sym (ap opening first_one)))
 
-    pub broke : Broke r new → CodeGives (at now) (Err halt.Device)
+    pub broke : Broke ds r new → CodeGives (at now) (Err halt.Device)
     broke h =
         let before = reads_texts r ds first_one p.since in
         let same = p.keeps.first in (
@@ -121,10 +121,17 @@ module _ (old r new : CodeReader) (opened now : Outgoing) (one : old.first.editi
             within = p.since.within;
             rest = h.breaks.taken;
             comes = refl;
+            none = none;
             written = written;
             begun = λ more can bytes becomes. begins (flat_map text_of ds ++ h.breaks.taken) h.breaks.taken refl more bytes becomes;
           },
         )
+      where
+        none : NoFirst h.breaks.taken
+        none d behind inside same =
+            h.none d behind inside
+            (ap (λ t. t ++ flat_map text_of ds ++ h.breaks.taken) (opened_one r first_one) ∙ ap (λ l. flat_map text_of ds ++ l) same
+            ∙ ap (λ t. t ++ flat_map text_of ds ++ (text_of d ++ behind)) (sym (ap opening first_one)))
 
     pub no_room : Refused ds r new → CodeGives (at now) (Err halt.Memory)
     no_room h = (
@@ -138,6 +145,8 @@ module _ (old r new : CodeReader) (opened now : Outgoing) (one : old.first.editi
         inside = h.inside;
         rest = h.rest;
         comes = comes;
+        more = h.more;
+        whole = h.whole;
         written = written;
         begun = λ more can bytes becomes. begins h.taken (header_line h.next ++ h.rest) comes more bytes becomes;
       },

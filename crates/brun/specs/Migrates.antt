@@ -87,17 +87,19 @@ pub record IsFaulty (w : Rewriting) (taken : List ℕ) (n : ℕ) : Type 0 where
   pub cut : Whatever w taken (λ text. IsCut text n definitions)
   pub written : Writes w.out (rewritten definitions) w.out_behind
 
--- A read failed. What the text begins with was written, and the definitions that were read.
+-- A read failed. What the text begins with was written, and the definitions that were whole: behind them none is.
 pub record InputFailed (w : Rewriting) (taken : List ℕ) : Type 0 where
   pub counted : Grew w.input.failures w.input_behind.failures
   pub definitions : List Definition
   pub within : All IsWithinRanges definitions
   pub rest : List ℕ
   pub comes : taken ≡ flat_map text_of definitions ++ rest
+  pub none : (d : Definition) (behind : List ℕ) → IsWithinRanges d → rest ≡ text_of d ++ behind → ⊥
   pub written : Writes w.out (rewritten definitions) w.out_behind
   pub begun : HasBegun w taken
 
--- What was read of a definition had no room, which no contract sees: its first line was whole.
+-- What was read of a definition had no room, which no contract sees: its first line was whole, and no byte behind its last
+-- line was taken. The definitions before it were written.
 pub record NoRoom (w : Rewriting) (taken : List ℕ) : Type 0 where
   pub read : HasRead w
   pub before : List Definition
@@ -106,6 +108,8 @@ pub record NoRoom (w : Rewriting) (taken : List ℕ) : Type 0 where
   pub inside : IsWithinRanges next
   pub rest : List ℕ
   pub comes : taken ≡ flat_map text_of before ++ (header_line next ++ rest)
+  pub more : List ℕ
+  pub whole : text_of next ≡ header_line next ++ rest ++ more
   pub written : Writes w.out (rewritten before) w.out_behind
   pub begun : HasBegun w taken
 

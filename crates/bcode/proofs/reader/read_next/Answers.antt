@@ -2,8 +2,11 @@ use Rattle.std.proofs.Common.{subst, Option, Ok}
 use Rattle.bcode.specs.Ahead.{Passes, DefinitionGives}
 use Rattle.bcode.specs.Text.{end_text}
 use Rattle.bcode.specs.declared.definition.Definition.{Definition}
-use Rattle.bcode.proofs.ReaderLaws.{definition_exit, end_exit}
+use Rattle.bcode.proofs.ReaderLaws.{opening_exit, definition_exit, end_exit}
 use Rattle.bcode.proofs.reader.read_next.Goals as goal
+
+pub returns-in_err-read_opening : goal.returns-in_err-read_opening
+returns-in_err-read_opening g c = opening_exit _ _ _ _ _ c.from_residual.ensures.1 c.in_err-read_opening.ensures
 
 pub returns-in_err-definition : goal.returns-in_err-definition
 returns-in_err-definition g c = definition_exit _ _ _ _ _ _ c.in_ok-read_opening.ensures c.from_residual-in_err-definition.ensures.1 c.in_err-definition.ensures

@@ -1,6 +1,10 @@
 use Rattle.std.proofs.Common.{arith}
-use Rattle.bcode.proofs.StreamLaws.{stream_reads, stream_falls, stream_refuses, opening-exact, opening-shape, opening-some, opening-none}
+use Rattle.bcode.proofs.StreamLaws.{stream_reads, stream_falls, stream_refuses, stream_breaks, opening-exact, opening-shape, opening-some, opening-none}
 use Rattle.bcode.proofs.stream.Stream.opening.Goals as goal
+
+pub returns-in_err-read_line : goal.returns-in_err-read_line
+returns-in_err-read_line g c =
+    rw (← c.self.view_is) (stream_breaks opening-shape _ c.in_err-read_line.ensures.gives c.in_err-read_line.ensures.same _ c.from_residual.ensures.1)
 
 pub returns-then-not-starts_with : goal.returns-then-not-starts_with
 returns-then-not-starts_with g c =

@@ -1,8 +1,12 @@
 use Rattle.std.proofs.Common.{arith}
 use Rattle.bcode.proofs.LineLaws.{instr_at-exact}
 use Rattle.bcode.proofs.ShapeLaws.{instr_line-shape}
-use Rattle.bcode.proofs.StreamLaws.{stream_reads, stream_falls, stream_refuses}
+use Rattle.bcode.proofs.StreamLaws.{stream_reads, stream_falls, stream_refuses, stream_breaks}
 use Rattle.bcode.proofs.stream.StreamLineSource.instr.Goals as goal
+
+pub returns-in_err-read_line : goal.returns-in_err-read_line
+returns-in_err-read_line g c =
+    rw (← c.self.view_is) (stream_breaks (instr_line-shape c.args.sizes record { frame = omega arith; labels = omega arith; strings = omega arith; code = omega arith }) _ c.in_err-read_line.ensures.gives c.in_err-read_line.ensures.same _ c.from_residual.ensures.1)
 
 pub returns-in_default : goal.returns-in_default
 returns-in_default g c = rw (← c.self.view_is) (stream_refuses (instr_at-exact c.args.sizes record { frame = omega arith; labels = omega arith; strings = omega arith; code = omega arith }) (instr_line-shape c.args.sizes record { frame = omega arith; labels = omega arith; strings = omega arith; code = omega arith }) _ c.in_ok-read_line.ensures.gives c.in_ok-read_line.ensures.same (rw c.as_slice.ensures.value at c.in_default.ensures))
