@@ -51,6 +51,7 @@ impl Probes {
     fn compare(&mut self, x: &Name, y: &Name) -> Ordering
         ensures order { result ≡ slice_cmp nat_cmp x.now y.now }
         ensures counted { self.new ≡ min (self.old + 1) most }
+        ensures grows { self.old ≤ self.new }
     {
         self.count = self.count.saturating_add(1);
         x.cmp(y)
@@ -109,6 +110,7 @@ impl NameTable {
         ensures value { result ≡ value_of name.now self.now }
         ensures few { (digits : ℕ) → length self.now < 2 ^ digits
             → probes.new ≤ probes.old + digits + 1 }
+        ensures grows { probes.old ≤ probes.new }
     {
         if self.pieces.is_empty() {
             return None;
@@ -281,6 +283,7 @@ fn search(entries: &[Entry], name: &Name, probes: &mut Probes) -> Result<usize, 
         (IsGapAt entries.now name.now) }
     ensures few { (digits : ℕ) → length entries.now < 2 ^ digits
         → probes.new ≤ probes.old + digits }
+    ensures grows { probes.old ≤ probes.new }
 {
     let mut low = 0;
     let mut size = entries.len();
@@ -305,6 +308,7 @@ fn is_before(entries: &[Entry], name: &Name, probes: &mut Probes) -> bool
     ensures below { (e : Entry) → slice_get entries.now 0 ≡ Some e
         → result ≡ is_lt (slice_cmp nat_cmp name.now e.name) }
     ensures counted { probes.new ≤ probes.old + 1 }
+    ensures grows { probes.old ≤ probes.new }
 {
     probes.compare(name, &entries[0].name).is_lt()
 }
@@ -316,6 +320,7 @@ fn piece_for(pieces: &[Vec<Entry>], name: &Name, probes: &mut Probes) -> usize
     ensures place { IsPieceFor pieces.now name.now result }
     ensures few { (digits : ℕ) → length pieces.now ≤ 2 ^ digits
         → probes.new ≤ probes.old + digits }
+    ensures grows { probes.old ≤ probes.new }
 {
     let mut low = 0;
     let mut count = pieces.len();
