@@ -20,7 +20,7 @@ use Rattle.blex.proofs.Passing.{Passes-refl, Passes-append}
 use Rattle.blex.proofs.ByteSteps.{room-falls}
 use Rattle.blex.proofs.CommentSteps.{InComment, plain_step}
 
-and-true_both : (a b : Bool) → (a && b) ≡ true → (a ≡ true) × (b ≡ true)
+pub and-true_both : (a b : Bool) → (a && b) ≡ true → (a ≡ true) × (b ≡ true)
 and-true_both true b e = (refl, e)
 and-true_both false b e = cc
 
@@ -31,6 +31,21 @@ take_shown : (ready block : List ℕ) (n : ℕ) → StartsWith ready block → n
 take_shown ready block n h l = rw (← h) (sym (take-take n (length block) ready l))
 
 -- bytes of the block were taken, with none ahead before it
+pub block_taken : {edition : Edition} (line line' : ℕ) (lender lender' : List ℕ) (old new : Incoming) (first second : Option ℕ) (ready block : List ℕ) (n : ℕ)
+    → first ≡ None → second ≡ None → StartsWith ready block → n ≤ length block → TakesReady old (take n ready) new → lender' ≡ lender → line' ≡ line_after line (take n block)
+    → Passes (record { ahead = option_to_list first ++ option_to_list second; line = line; end = old; lender = lender; edition = edition })
+    (take n block) (record { ahead = option_to_list first ++ option_to_list second; line = line'; end = new; lender = lender'; edition = edition })
+block_taken line line' lender lender' old new first second ready block n f s shows within takes same behind = record {
+  taken = take n block;
+  took = rw (take_shown ready block n shows within) at takes.took;
+  split = rw (f, s) (sym (append-nil (take n block)));
+  line = behind;
+  failures = takes.failures;
+  lender = same;
+  edition = refl;
+  near = λ l. l;
+}
+
 pub block_passes : {edition : Edition} (p : ℕ → Bool) (line line' : ℕ) (lender lender' : List ℕ) (old new : Incoming) (first second : Option ℕ) (ready block : List ℕ) (n : ℕ)
     → first ≡ None → second ≡ None → StartsWith ready block → n ≤ length block → TakesReady old (take n ready) new → lender' ≡ lender → line' ≡ line_after line (take n block)
     → list_all p (take n block) ≡ true
@@ -39,16 +54,7 @@ pub block_passes : {edition : Edition} (p : ℕ → Bool) (line line' : ℕ) (le
 block_passes p line line' lender lender' old new first second ready block n f s shows within takes same behind all =
     record {
       run = take n block;
-      passes = record {
-        taken = take n block;
-        took = rw (take_shown ready block n shows within) at takes.took;
-        split = rw (f, s) (sym (append-nil (take n block)));
-        line = behind;
-        failures = takes.failures;
-        lender = same;
-        edition = refl;
-        near = λ l. l;
-      };
+      passes = block_taken line line' lender lender' old new first second ready block n f s shows within takes same behind;
       all = all;
     }
 

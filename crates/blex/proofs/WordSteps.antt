@@ -11,9 +11,10 @@ use Rattle.blex.specs.declared.token.Token.{Token}
 use Rattle.blex.specs.declared.token.Token.TheVariants as token
 use Rattle.blex.specs.declared.token.Letters.TheVariants as letters
 use Rattle.blex.specs.Pieces.{Word, word_of}
+use Rattle.blex.specs.Runs.{TakesName}
 use Rattle.blex.specs.Sources.{Source, Passes}
 use Rattle.blex.specs.Lexing.{PassesPiece, TakesIf}
-use Rattle.blex.proofs.Passing.{Passes-refl, Passes-append}
+use Rattle.blex.proofs.Passing.{Passes-append}
 use Rattle.blex.proofs.ByteSteps.{Passes-then, more_bytes}
 use Rattle.blex.proofs.EachPiece.{word-is, word-stops}
 
@@ -25,8 +26,15 @@ pub record InWord (first : ℕ) (old : Source) (text : List ℕ) (is_long : Bool
   pub text_is : text ≡ take 8 (first ∷ run)
   pub long : is_long ≡ nat_lt 8 (length (first ∷ run))
 
-pub word_start : (first : ℕ) (s : Source) (text : List ℕ) → text ≡ first ∷ [] → InWord first s text false s
-word_start first s text e = record { run = []; passes = Passes-refl s; bytes = refl; text_is = e; long = refl }
+pub word_start : {first : ℕ} {a b : Source} {text text' : List ℕ} {is_long : Bool} → text ≡ first ∷ [] → TakesName a text is_long b text'
+    → InWord first a text' is_long b
+word_start {first} {a} {b} {text} {text'} {is_long} e h = record {
+  run = h.run;
+  passes = h.passes;
+  bytes = h.bytes;
+  text_is = h.kept ∙ ap (λ t. take 8 (t ++ h.run)) e;
+  long = h.long ∙ ap (λ t. nat_lt 8 (length (t ++ h.run))) e;
+}
 
 long_more : (first byte : ℕ) (run : List ℕ) → 8 ≤ length (first ∷ run) → true ≡ nat_lt 8 (length (first ∷ (run ++ byte ∷ [])))
 long_more first byte run h = let l = length-append run (byte ∷ []) in grind (arith, nat_tests)

@@ -20,7 +20,7 @@ pub(crate) fn word<I: ByteIn>(source: &mut Source<I>, first: u8) -> Result<Lexem
 {
     let mut text = ArrayVec::<u8, NAME_LEN>::new();
     text.push(first);
-    let mut is_long = false;
+    let mut is_long = source.take_name_bytes(&mut text);
     while let Some(byte) = name_byte(source)? {
         if text.is_full() {
             is_long = true;

@@ -4,14 +4,14 @@ use Rattle.std.proofs.Math.Nat.{mul-le-mul_right, pow-succ'}
 use Rattle.std.proofs.lemmas.List.{take-append-drop}
 use Rattle.std.proofs.lemmas.Bool.Decides.{nat_tests}
 use Rattle.std.proofs.lemmas.Map.Lookups.{exact_bytes}
-use Rattle.std.specs.Prelude.{nat_le}
+use Rattle.std.specs.Prelude.{nat_eq, nat_le}
 use Rattle.std.specs.Int.{from_be_bytes}
 use Rattle.std.specs.List.{list_all}
-use Rattle.std.specs.Ordering.{nat_cmp, ordering_then, ordering_reverse, MatchOrdering}
-use Rattle.std.specs.Cmp.{ranks, nat_cmp_is}
+use Rattle.std.specs.Ordering.{nat_cmp, is_eq, ordering_then, ordering_reverse, MatchOrdering}
+use Rattle.std.specs.Cmp.{ranks, nat_cmp_is, unsigned_ties}
 use Rattle.std.specs.declared.cmp.Ordering.{Ordering}
 use Rattle.std.specs.declared.cmp.Ordering.TheVariants.{Less, Equal, Greater}
-use Rattle.std.specs.Cmp.Lexicographic.{slice_cmp, nat_list_cmp_total}
+use Rattle.std.specs.Cmp.Lexicographic.{pointwise, slice_cmp, nat_list_cmp_total, texts_ties}
 use Rattle.bword.specs.Names.{is_name, is_name_start, is_name_byte, number_of}
 use Rattle.bword.proofs.NameLemmas.{is_name-length}
 
@@ -126,3 +126,9 @@ array_number bs n size zeros =
     eight bs size
     ∙ ap (number_of 8) (sym (take-append-drop n bs) ∙ ap (λ l. take n bs ++ l) zeros)
     ∙ number_of-zeros 8 (take n bs) (8 - n)
+
+-- names with the same number are the same
+pub number_of-eq : (xs ys : List ℕ) → is_name xs ≡ true → is_name ys ≡ true → nat_eq (number_of 8 xs) (number_of 8 ys) ≡ pointwise nat_eq xs ys
+number_of-eq xs ys h k =
+    unsigned_ties (number_of 8 xs) (number_of 8 ys)
+    ∙ sym (texts_ties xs ys ∙ ap is_eq (number_of-cmp xs ys h k))
