@@ -123,6 +123,18 @@ impl<I: ByteIn, O: ByteOut> Compiler<I, O> {
         self.parser.draft.value_lines()
     }
 
+    /// How many tokens stand before the current one: the one behind the definitions that were written, or the one with
+    /// which no program goes on.
+    pub fn tokens_taken(&self) -> u64 {
+        self.parser.tokens.taken()
+    }
+
+    /// How many tokens stand before the one at which the first fault of the last definition was seen, but for a name
+    /// without a label, a size, and a token with which no program goes on.
+    pub fn token_at_fault(&self) -> u64 {
+        self.parser.draft.token()
+    }
+
     /// Both ends, the input without what was read ahead.
     pub fn into_ends(self) -> (I, O)
         ensures source { I.incoming result.0 ≡ self.tokens.source.end }

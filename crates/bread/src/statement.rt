@@ -162,7 +162,6 @@ fn unheaded<I: ByteIn>(parser: &mut Parser<I>, room: u8) -> Result<(), Halt>
     requires { IsLoaded parser.old.tokens }
     ensures { Compiles (unheaded room) done parser.old.tokens parser.old.draft result parser.new.tokens parser.new.draft }
 {
-    parser.draft.at(parser.tokens.line());
     match parser.tokens.lexeme() {
         Lexeme::OpenBrace => compound(parser, room),
         Lexeme::Semicolon => parser.expect(Mark::Semicolon),
@@ -216,7 +215,7 @@ fn body<I: ByteIn>(parser: &mut Parser<I>, room: u8) -> Result<(), Halt>
     'statements: while goes_on(parser.tokens.lexeme()) {
         statement(parser, room)?;
     }
-    parser.draft.at(parser.tokens.line());
+    parser.note();
     parser.expect(Mark::CloseBrace)
 }
 
@@ -260,7 +259,7 @@ fn repeated<I: ByteIn>(parser: &mut Parser<I>, room: u8) -> Result<(), Halt>
     requires goes_on { is_last (first parser.old.tokens.ahead) ≡ false }
     ensures { Compiles (repeated room) done parser.old.tokens parser.old.draft result parser.new.tokens parser.new.draft }
 {
-    let line = parser.tokens.line();
+    let origin = parser.tokens.origin();
     let top = parser.draft.place();
     let room = parser.enter(room)?;
     condition(parser, room)?;
@@ -269,7 +268,7 @@ fn repeated<I: ByteIn>(parser: &mut Parser<I>, room: u8) -> Result<(), Halt>
     let mark = parser.draft.mark();
     parser.draft.begin_loop();
     statement(parser, room)?;
-    parser.draft.at(line);
+    parser.draft.at(origin);
     close_loop(&mut parser.draft, top, mark);
     skip_to_here(&mut parser.draft, test);
     Ok(())
@@ -281,7 +280,7 @@ fn switched<I: ByteIn>(parser: &mut Parser<I>, room: u8) -> Result<(), Halt>
     requires goes_on { is_last (first parser.old.tokens.ahead) ≡ false }
     ensures { Compiles (switched (level room)) done parser.old.tokens parser.old.draft result parser.new.tokens parser.new.draft }
 {
-    let line = parser.tokens.line();
+    let origin = parser.tokens.origin();
     let room = parser.enter(room)?;
     parser.evaluate(room)?;
     parser.expect(Mark::OpenBrace)?;
@@ -290,7 +289,7 @@ fn switched<I: ByteIn>(parser: &mut Parser<I>, room: u8) -> Result<(), Halt>
     parser.draft.emit(Instr::Jump(0));
     parser.draft.begin_switch();
     body(parser, room)?;
-    parser.draft.at(line);
+    parser.draft.at(origin);
     close_switch(&mut parser.draft, jump, mark);
     Ok(())
 }
