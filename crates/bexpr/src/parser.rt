@@ -117,6 +117,11 @@ impl<I: ByteIn> Parser<I> {
         tokens.into_input()
     }
 
+    /// What comes is made from the current token.
+    pub fn note(&self) {
+        self.draft.at(self.tokens.origin());
+    }
+
     /// Takes a token that must come.
     pub fn expect(&mut self, mark: Mark) -> Result<(), Halt>
         requires { IsLoaded self.old.tokens }
@@ -173,6 +178,7 @@ impl<I: ByteIn> Parser<I> {
         requires no_group { is_open_paren (first self.old.tokens.ahead) ≡ false }
         ensures { (room : ℕ) → Follows (primary (inner room)) (called_at self.new.tokens) self.old.tokens self.old.draft result self.new.tokens self.new.draft }
     {
+        self.note();
         match self.tokens.lexeme() {
             Lexeme::Name(name) => self.mention(name),
             Lexeme::Number(word) => {
@@ -199,6 +205,7 @@ impl<I: ByteIn> Parser<I> {
         ensures tokens { Takes self.old.tokens Lone result self.new.tokens }
         ensures draft { self.new.draft ≡ emitted (instr.Increment increment) (checked form (line_of self.old.tokens.ahead) self.old.draft) }
     {
+        self.note();
         self.draft.want_lvalue(form, self.tokens.line());
         self.draft.emit(Instr::Increment(increment));
         self.take(Form::Lone)
@@ -288,12 +295,14 @@ impl<I: ByteIn> Parser<I> {
         requires { IsLoaded self.old.tokens }
         ensures { Follows (operand (inner room)) false self.old.tokens self.old.draft result self.new.tokens self.new.draft }
     {
+        let origin = self.tokens.origin();
         let line = self.tokens.line();
         let Some(op) = prefix_of(self.tokens.lexeme()) else {
             return self.postfix(room);
         };
         let room = self.enter(room)?;
         let form = self.operand(room)?;
+        self.draft.at(origin);
         Ok(prefix(&mut self.draft, op, line, form))
     }
 
@@ -354,6 +363,7 @@ impl<I: ByteIn> Parser<I> {
         let Some(op) = assigned_at(form, self.tokens.lexeme()) else {
             return self.conditional(room, form);
         };
+        self.note();
         self.draft.want_lvalue(form, line);
         let room = self.enter(room)?;
         self.evaluate(room)?;

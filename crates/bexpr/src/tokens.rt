@@ -9,8 +9,10 @@ ghost use Rattle.bexpr.specs.Tokens.{all_tokens, is_string, IsReady, IsLoaded, L
 ghost use Rattle.bexpr.specs.Marks.{is_mark};
 
 use crate::mark::Mark;
+use bemit::Origin;
 use blex::{About, Diagnostic, Letters, Lexeme, Lexer, Seen};
 use bword::{ByteIn, Device, Edition};
+use std::cell::Cell;
 use std::marker::Model;
 
 /// The tokens to come.
@@ -19,6 +21,8 @@ pub struct Tokens<I: ByteIn> {
     lexer: Lexer<I>,
     current: Option<Seen>,
     behind: Option<Seen>,
+    // How many tokens were taken. No contract speaks of it.
+    taken: Cell<u64>,
 }
 
 impl<I: ByteIn> Model for Tokens<I> {
@@ -45,6 +49,7 @@ impl<I: ByteIn> Tokens<I> {
             lexer: Lexer::with_edition(input, edition),
             current: None,
             behind: None,
+            taken: Cell::new(0),
         }
     }
 
@@ -57,6 +62,7 @@ impl<I: ByteIn> Tokens<I> {
             lexer,
             current: _,
             behind: _,
+            taken: _,
         } = self;
         lexer.into_input()
     }
@@ -86,6 +92,19 @@ impl<I: ByteIn> Tokens<I> {
         match self.current {
             Some(seen) => seen.line,
             None => 0,
+        }
+    }
+
+    /// How many tokens were taken: as many as stand before the current one.
+    pub fn taken(&self) -> u64 {
+        self.taken.get()
+    }
+
+    /// Where the current token stands.
+    pub fn origin(&self) -> Origin {
+        Origin {
+            line: self.line(),
+            token: self.taken(),
         }
     }
 
@@ -164,6 +183,7 @@ impl<I: ByteIn> Tokens<I> {
         ensures ok { OnOk result (Advances self.old self.new) }
         ensures err { OnErr result (Breaks self.old self.new) }
     {
+        self.taken.set(self.taken.get().wrapping_add(1));
         if self.behind.is_some() {
             self.current = self.behind.take();
             return Ok(());

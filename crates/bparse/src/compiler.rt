@@ -1,8 +1,9 @@
 //! The compiler, which writes one definition a call.
-ghost use Rattle.std.specs.Prelude.{◌≡◌, OnOk};
+ghost use Rattle.std.specs.Prelude.{◌≡◌, ◌≤◌, length, OnOk};
 ghost use Rattle.std.specs.Map.{keys_of};
 ghost use Rattle.bword.specs.declared.edition.Edition.TheVariants as editions;
 ghost use Rattle.btree.specs.Reading.{first};
+ghost use Rattle.bemit.specs.Drafts.{most_instructions, most_values};
 ghost use Rattle.bexpr.specs.Tokens.{IsReady, IsLoaded};
 ghost use Rattle.bparse.specs.Compilers.{Keeps, StepGives, start_of};
 ghost use Rattle.bparse.specs.Compilers as compilers;
@@ -103,6 +104,35 @@ impl<I: ByteIn, O: ByteOut> Compiler<I, O> {
                 step
             }
         }
+    }
+
+    /// The source line of each instruction of the definition that was written last. A function alone has some.
+    ///
+    /// An instruction is of the line of the token that it was made from or behind which it was made, the jump back of a
+    /// loop and the tests of a switch are of the line of their keyword.
+    pub fn lines(&self) -> &[u64]
+        ensures { length result.now ≤ most_instructions }
+    {
+        self.parser.draft.lines()
+    }
+
+    /// The source line of each initial value of the definition that was written last.
+    pub fn value_lines(&self) -> &[u64]
+        ensures { length result.now ≤ most_values }
+    {
+        self.parser.draft.value_lines()
+    }
+
+    /// How many tokens stand before the current one: the one behind the definitions that were written, or the one with
+    /// which no program goes on.
+    pub fn tokens_taken(&self) -> u64 {
+        self.parser.tokens.taken()
+    }
+
+    /// How many tokens stand before the one at which the first fault of the last definition was seen, but for a name
+    /// without a label, a size, and a token with which no program goes on.
+    pub fn token_at_fault(&self) -> u64 {
+        self.parser.draft.token()
     }
 
     /// Both ends, the input without what was read ahead.

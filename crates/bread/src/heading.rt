@@ -137,6 +137,7 @@ pub fn heading<I: ByteIn>(parser: &mut Parser<I>) -> Result<bool, Halt>
     requires { IsLoaded parser.old.tokens }
     ensures { FindsHeading parser.old.tokens parser.old.draft result parser.new.tokens parser.new.draft }
 {
+    parser.note();
     match parser.tokens.lexeme() {
         Lexeme::Keyword(keyword) => headed(parser, keyword),
         Lexeme::Name(name) => label(parser, name),

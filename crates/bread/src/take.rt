@@ -20,6 +20,7 @@ pub fn name<I: ByteIn>(parser: &mut Parser<I>) -> Result<Word, Halt>
     ensures tokens { FindsName parser.old.tokens result parser.new.tokens }
     ensures draft { parser.new.draft ≡ parser.old.draft }
 {
+    parser.note();
     let line = parser.tokens.line();
     let name = match parser.tokens.lexeme() {
         Lexeme::Name(name) => name,

@@ -1,0 +1,108 @@
+-- What the compiler and the loader answer over memory is what a source comes to.
+use Rattle.std.proofs.Common.{◌≡◌, ℕ, List, [], ◌∷◌, ◌++◌, map, refl, sym, ap, ◌∙◌, subst, append-nil}
+use Rattle.std.specs.Prelude.{Bool, true, false, Option, Some, None, IfSome}
+use Rattle.bword.specs.declared.edition.Edition.{Edition}
+use Rattle.bword.specs.ByteEnds.{Incoming, Outgoing, Kept, Unread, Took, CanFollow, Writes, incoming_of, outgoing_of}
+use Rattle.bcode.specs.Text.{IsCodeText}
+use Rattle.bcode.specs.declared.definition.Definition.{Definition}
+use Rattle.btree.specs.Code.{code_of}
+use Rattle.btree.specs.Compiled.{Outcome, code_text, line_of}
+use Rattle.bback.proofs.ReadingBack.{reads_back}
+use Rattle.bmach.specs.Layout.{load_fault}
+use Rattle.bmach.specs.declared.fault.LoadFault.{LoadFault}
+use Rattle.bmach.specs.declared.fault.LoadFault.TheVariants as fault
+use Rattle.bmach.specs.Loading.{IsFault}
+use Rattle.bparse.specs.Compiles.{Compiles}
+use Rattle.bparse.specs.declared.status.TheConstants.{REFUSED}
+use Rattle.bcheck.specs.Checks.{Judged, EachTold, Told, Tells, told, shown, first_of, status_told, told_first, load_line}
+use Rattle.bcheck.specs.declared.form.Form.{Form}
+use Rattle.bcheck.specs.declared.verdict.Verdict.{Verdict}
+use Rattle.bcheck.specs.declared.verdict.Verdict.TheVariants as verdict
+
+abbrev nothing_kept : Kept
+nothing_kept = record { bytes = []; refusals = 0 }
+
+abbrev all_unread : List ℕ → Unread
+all_unread source = record { left = source; is_over = false }
+
+-- two texts that were kept, one behind the other, stand in memory so
+both_kept : (a b c : Kept) (first more : List ℕ) → a ≡ nothing_kept → Writes (outgoing_of a) first (outgoing_of b) → Writes (outgoing_of b) more (outgoing_of c) → c.bytes ≡ first ++ more
+both_kept a b c first more e v w = w.appended ∙ ap (λ t. t ++ more) (v.appended ∙ ap (λ (k : Kept). k.bytes ++ first) e)
+
+-- a text that is told is one that begins with the first
+pub tells_both : (a b c : Kept) (first more text : List ℕ) (status : ℕ) (old new : Outgoing) (result : ℕ) → a ≡ nothing_kept
+    → Writes (outgoing_of a) first (outgoing_of b) → Writes (outgoing_of b) more (outgoing_of c) → text ≡ c.bytes
+    → Told text status old new result → Tells first status old new result
+tells_both a b c first more text status old new result e v w is t =
+    told more (subst (λ x. Told x status old new result) (is ∙ both_kept a b c first more e v w) t)
+
+no_more : (taken rest : List ℕ) → taken ++ rest ≡ taken → rest ≡ []
+no_more [] rest h = h
+no_more (x ∷ xs) rest h = no_more xs rest cc
+
+-- what is left of a source can follow what was taken
+follows : (source : List ℕ) (behind : Unread) (taken : List ℕ) → Took (incoming_of (all_unread source)) taken (incoming_of behind) → CanFollow (incoming_of behind) behind.left
+follows source behind taken t over = no_more taken behind.left (sym t.bytes ∙ (t.all refl over ∙ append-nil taken))
+
+-- what compiling a source over memory does
+abbrev Compiling : Edition → Unread → Unread → Kept → Kept → Kept → Kept → ℕ → Type 0
+Compiling edition first behind code_first code line_first line status =
+    Compiles (record { edition = edition; source = incoming_of first; source_behind = incoming_of behind; code = outgoing_of code_first; code_behind = outgoing_of code; line = outgoing_of line_first; line_behind = outgoing_of line; status = status })
+
+faulty_text : (edition : Edition) (source : List ℕ) (behind : Unread) (code line : Kept)
+    → Compiling edition (all_unread source) behind nothing_kept code nothing_kept line 1 → Judged edition source (verdict.Faulty line)
+faulty_text edition source behind code line h =
+    subst (λ s. Judged edition s (verdict.Faulty line)) (sym h.took.bytes)
+    (λ r g.
+    let is = h.faulty refl behind.left (follows source behind h.taken h.took) r g in
+    let line_is : line.bytes ≡ line_of is.fault = is.line.appended in
+    rw (is.stop, line_is) refl)
+
+clean_text : (edition : Edition) (source : List ℕ) (behind : Unread) (code line : Kept) (v : Verdict)
+    → Compiling edition (all_unread source) behind nothing_kept code nothing_kept line 0
+    → ((ds : List Definition) → IsCodeText code.bytes ds → (first_of v, status_told v) ≡ told_first None (load_fault ds))
+    → Judged edition source v
+clean_text edition source behind code line v h told_of =
+    subst (λ s. Judged edition s v) (sym h.took.bytes)
+    (λ r g.
+    let is = h.compiled refl behind.left (follows source behind h.taken h.took) r g in
+    let text : code_text edition r ≡ code.bytes = sym is.code.appended in
+    let back = subst (λ t. IsCodeText t (map code_of g.definitions)) text (edition, reads_back edition 1 (h.taken ++ behind.left) r g is.clean) in
+    rw is.clean (told_of (map code_of g.definitions) back))
+
+pub faulty_judged : (edition : Edition) (source : List ℕ) (first behind : Unread) (code_first code line_first line : Kept) (status : ℕ)
+    → first ≡ all_unread source → code_first ≡ nothing_kept → line_first ≡ nothing_kept → status ≡ 1
+    → Compiling edition first behind code_first code line_first line status → Judged edition source (verdict.Faulty line)
+faulty_judged edition source first behind code_first code line_first line status e f k s h =
+    faulty_text edition source behind code line (rw (e, f, k, s) at h)
+
+pub clean_judged : (edition : Edition) (source : List ℕ) (first behind : Unread) (code_first code line_first line : Kept) (status : ℕ) (v : Verdict)
+    → first ≡ all_unread source → code_first ≡ nothing_kept → line_first ≡ nothing_kept → status ≡ 0
+    → Compiling edition first behind code_first code line_first line status
+    → ((ds : List Definition) → IsCodeText code.bytes ds → (first_of v, status_told v) ≡ told_first None (load_fault ds))
+    → Judged edition source v
+clean_judged edition source first behind code_first code line_first line status v e f k s h told_of =
+    clean_text edition source behind code line v (rw (e, f, k, s) at h) told_of
+
+pub some_judged : (o : Option Verdict) (P Q : Verdict → Type 0) → ((v : Verdict) → P v → Q v) → IfSome o P → IfSome o Q
+some_judged (Some v) P Q f h = f v h
+some_judged None P Q f h = h
+
+-- what is told of the definitions that were read is told of those that the text is of
+pub told_as : (first : Option LoadFault) (items ds : List Definition) → items ≡ ds → load_fault items ≡ first → told_first None first ≡ told_first None (load_fault ds)
+told_as first items ds e h = sym (ap (told_first None) h) ∙ ap (λ es. told_first None (load_fault es)) e
+
+pub told_fault : (f : LoadFault) (items ds : List Definition) → (f ≡ fault.NoMain → ⊥) → (f ≡ fault.Memory → ⊥) → items ≡ ds → IsFault f (load_fault items)
+    → (load_line f, REFUSED) ≡ told_first None (load_fault ds)
+told_fault (fault.Duplicate name) items ds a b e h = told_as (Some (fault.Duplicate name)) items ds e h
+told_fault fault.TooLarge items ds a b e h = told_as (Some fault.TooLarge) items ds e h
+told_fault (fault.Undefined name) items ds a b e h = told_as (Some (fault.Undefined name)) items ds e h
+told_fault fault.NoMain items ds a b e h = absurd (a refl)
+told_fault fault.Memory items ds a b e h = absurd (b refl)
+
+pub checked : (form : Form) (v : Verdict) (edition : Edition) (source first : List ℕ) (status : ℕ) (old new : Outgoing) (result : ℕ)
+    → Judged edition source v → first ≡ shown form (first_of v) → status ≡ status_told v → Tells first status old new result
+    → EachTold edition source (λ p. Tells (shown form p.0) p.1 old new result)
+checked form v edition source first status old new result j f s t =
+    λ r g. subst (λ (p : List ℕ × ℕ). Tells (shown form p.0) p.1 old new result) (j r g)
+    (subst (λ n. Tells (shown form (first_of v)) n old new result) s (subst (λ x. Tells x status old new result) f t))

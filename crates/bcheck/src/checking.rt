@@ -1,0 +1,65 @@
+//! Checking a source.
+ghost use Rattle.std.specs.Prelude.{◌≡◌};
+ghost use Rattle.bcheck.specs.Checks.{Checks, Tells, first_of, shown};
+
+use crate::explain::explain;
+use crate::form::{Form, Request};
+use crate::verdict::{Verdict, judge};
+use bparse::status::{self, Status};
+use bword::{ByteOut, MemOut};
+use std::alloc::Global;
+
+/// Says what is wrong with a source, if something is: first the very line that compiling it or running its code
+/// writes, and then for a reader where and why, and how to mend it. Where nothing is wrong, it tells what is hardly
+/// meant.
+///
+/// The status is 0 where the source compiles and its code loads but for a function `main`; 1 for a fault of the source;
+/// and 132 for code that doesn't load. All is written by one call of the end, and nothing where memory is refused.
+pub fn check<O: ByteOut>(alloc: Global, source: &[u8], asked: Request<'_>, out: &mut O) -> Status
+    ensures checks { Checks (record {
+      edition = asked.entry.edition;
+      form = asked.entry.form;
+      source = source.now;
+      out = O.outgoing out.old;
+      out_behind = O.outgoing out.new;
+      status = result;
+    }) }
+    ensures out_lender { O.lender out.new ≡ O.lender out.old }
+{
+    let Some(verdict) = judge(alloc, source, asked.edition) else {
+        return status::MEMORY;
+    };
+    let Ok(more) = explain(alloc, source, asked, &verdict) else {
+        return status::MEMORY;
+    };
+    let first = shown(asked.form, &verdict);
+    tell(alloc, first, more.as_bytes(), verdict.status(), out)
+}
+
+// What comes first in this form.
+fn shown<'a>(form: Form, verdict: &'a Verdict) -> &'a [u8]
+    ensures { result.now ≡ shown form (first_of verdict.now) }
+{
+    match form {
+        Form::Text => verdict.first(),
+        Form::Json => b"",
+    }
+}
+
+// Writes a text behind another, and answers this status or that of a refused write.
+fn tell<O: ByteOut>(alloc: Global, first: &[u8], more: &[u8], status: Status, out: &mut O) -> Status
+    ensures tells { Tells first.now status (O.outgoing out.old) (O.outgoing out.new) result }
+    ensures out_lender { O.lender out.new ≡ O.lender out.old }
+{
+    let mut text = MemOut::new(alloc);
+    let Ok(()) = text.put(first) else {
+        return status::MEMORY;
+    };
+    let Ok(()) = text.put(more) else {
+        return status::MEMORY;
+    };
+    match out.put(text.bytes()) {
+        Ok(()) => status,
+        Err(fault) => status::of_fault(fault),
+    }
+}

@@ -1,0 +1,115 @@
+//! What is said of a source behind the line of the compiler.
+use crate::advice::Matter;
+use crate::faults::{self, token_named};
+use crate::finding::Finding;
+use crate::form::{Form, Request};
+use crate::mention::first_mention;
+use crate::passes::Pass;
+use crate::patterns::find;
+use crate::spans::{Span, place_of, spans};
+use crate::verdict::Verdict;
+use crate::{json, text};
+use bmach::LoadFault;
+use bparse::Step;
+use bword::Name;
+use std::alloc::{AllocError, Global};
+
+/// What is said of a source with this verdict.
+pub(crate) fn explain(
+    alloc: Global,
+    source: &[u8],
+    asked: Request<'_>,
+    verdict: &Verdict,
+) -> Result<String, AllocError> {
+    let mut said = String::new(alloc);
+    let findings = findings(alloc, source, asked, verdict)?;
+    for finding in findings.as_slice() {
+        match asked.form {
+            Form::Text => text::write(&mut said, source, asked.file, finding)?,
+            Form::Json => json::write(alloc, &mut said, source, asked.file, finding)?,
+        }
+    }
+    Ok(said)
+}
+
+fn findings(
+    alloc: Global,
+    source: &[u8],
+    asked: Request<'_>,
+    verdict: &Verdict,
+) -> Result<Vec<Finding>, AllocError> {
+    let spans = spans(alloc, source, asked.edition)?;
+    let mut findings = Vec::new(alloc);
+    match verdict {
+        Verdict::Clean => warn(alloc, source, asked, &spans, &mut findings)?,
+        Verdict::Faulty(_) => {
+            if let Some(finding) = fault_of(alloc, source, asked, &spans) {
+                findings.push(finding)?;
+            }
+        }
+        Verdict::Unloaded(LoadFault::Undefined(name)) => {
+            findings.push(undefined(alloc, source, asked, &spans, *name)?)?;
+        }
+        Verdict::Unloaded(_) => findings.push(Finding {
+            matter: Matter::DataTooLarge,
+            name: None,
+            place: place_of(&spans, 0),
+        })?,
+    }
+    Ok(findings)
+}
+
+// What is said of the fault that a source has.
+fn fault_of(alloc: Global, source: &[u8], asked: Request<'_>, spans: &[Span]) -> Option<Finding> {
+    let mut pass = Pass::new(alloc, source, asked.edition);
+    for _ in 0..=source.len() {
+        match pass.next() {
+            Step::Written => {}
+            Step::Fault(diagnostic) => {
+                return Some(faults::finding(source, spans, &pass.fault(diagnostic)));
+            }
+            _ => return None,
+        }
+    }
+    None
+}
+
+// What is said of a name that nothing defines.
+fn undefined(
+    alloc: Global,
+    source: &[u8],
+    asked: Request<'_>,
+    spans: &[Span],
+    name: Name,
+) -> Result<Finding, AllocError> {
+    let mention = first_mention(alloc, source, asked.edition, name)?;
+    let token = match mention {
+        Some(mention) => token_named(spans, mention.extent, name, mention.line),
+        None => 0,
+    };
+    Ok(Finding {
+        matter: Matter::NotDefined,
+        name: Some(name),
+        place: place_of(spans, token),
+    })
+}
+
+// Adds what compiles and is hardly meant.
+fn warn(
+    alloc: Global,
+    source: &[u8],
+    asked: Request<'_>,
+    spans: &[Span],
+    findings: &mut Vec<Finding>,
+) -> Result<(), AllocError> {
+    let mut pass = Pass::new(alloc, source, asked.edition);
+    for _ in 0..source.len() {
+        if pass.next() != Step::Written {
+            break;
+        }
+        if pass.is_function() {
+            find(spans, pass.extent, findings)?;
+        }
+    }
+    Ok(())
+}

@@ -1,0 +1,19 @@
+//! What a check is asked for.
+use bword::Edition;
+
+/// How findings are written.
+#[derive(Clone, Copy, Debug, PartialEq, Eq)]
+pub enum Form {
+    /// For people: the line of the compiler, the line of the source with a mark, a sentence and a mend.
+    Text,
+    /// For editors: an object a line.
+    Json,
+}
+
+/// The edition of the source, the name of its file, and how findings are written.
+#[derive(Clone, Copy, Debug)]
+pub struct Request<'a> {
+    pub edition: Edition,
+    pub file: &'a str,
+    pub form: Form,
+}

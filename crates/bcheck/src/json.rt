@@ -1,0 +1,49 @@
+//! Findings for editors: an object a line.
+use crate::finding::Finding;
+use crate::text::{push_named, spot_of};
+use std::alloc::{AllocError, Global};
+
+/// Adds a finding.
+pub(crate) fn write(
+    alloc: Global,
+    text: &mut String,
+    source: &[u8],
+    file: &str,
+    finding: &Finding,
+) -> Result<(), AllocError> {
+    let (code, sentence, mend) = finding.matter.advice();
+    text.push_str("{\"file\":")?;
+    push_quoted(text, file)?;
+    let line = finding.place.line;
+    let column = spot_of(source, &finding.place).column.saturating_add(1);
+    write!(text, ",\"line\":{line},\"column\":{column}")?;
+    text.push_str(if finding.matter.is_warning() {
+        ",\"severity\":\"warning\",\"code\":"
+    } else {
+        ",\"severity\":\"error\",\"code\":"
+    })?;
+    push_quoted(text, code)?;
+    text.push_str(",\"message\":")?;
+    let mut message = String::new(alloc);
+    push_named(&mut message, sentence, finding.name)?;
+    push_quoted(text, &message)?;
+    text.push_str(",\"mend\":")?;
+    let mut how = String::new(alloc);
+    push_named(&mut how, mend, finding.name)?;
+    push_quoted(text, &how)?;
+    text.push_str("}\n")
+}
+
+// Adds a text as a JSON string.
+fn push_quoted(text: &mut String, words: &str) -> Result<(), AllocError> {
+    text.push('"')?;
+    for character in words.chars() {
+        match character {
+            '"' => text.push_str("\\\"")?,
+            '\\' => text.push_str("\\\\")?,
+            '\0'..='\u{1f}' => write!(text, "\\u{:04x}", u32::from(character))?,
+            _ => text.push(character)?,
+        }
+    }
+    text.push('"')
+}

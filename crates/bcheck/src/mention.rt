@@ -1,0 +1,57 @@
+//! Where a name is mentioned first that nothing defines.
+use crate::passes::{Extent, Pass};
+use bcode::{Definition, Instr, Ival, View, read_code};
+use bparse::Step;
+use bword::{Edition, Name};
+use std::alloc::{AllocError, Global};
+
+/// The line of a mention, and the tokens of the definition that it stands in.
+#[derive(Clone, Copy, Debug)]
+pub(crate) struct Mention {
+    pub line: u64,
+    pub extent: Extent,
+}
+
+/// The first mention of an external in the code of a source that compiles, if there is one.
+pub(crate) fn first_mention(
+    alloc: Global,
+    source: &[u8],
+    edition: Edition,
+    name: Name,
+) -> Result<Option<Mention>, AllocError> {
+    let mut pass = Pass::new(alloc, source, edition);
+    for _ in 0..source.len() {
+        if pass.next() != Step::Written {
+            break;
+        }
+    }
+    let code = pass.into_code();
+    let Ok(definitions) = read_code(alloc, code.bytes()) else {
+        return Err(AllocError);
+    };
+    let mut pass = Pass::new(alloc, source, edition);
+    for definition in definitions.as_slice() {
+        if pass.next() != Step::Written {
+            break;
+        }
+        if let Some(place) = place_of(definition, name) {
+            return Ok(Some(Mention {
+                line: pass.line_of(place),
+                extent: pass.extent,
+            }));
+        }
+    }
+    Ok(None)
+}
+
+// The place of the first instruction or initial value that mentions the external.
+fn place_of(definition: &Definition, name: Name) -> Option<usize> {
+    match definition.view() {
+        View::Function { code, .. } => code
+            .iter()
+            .position(|instr| *instr == Instr::External(name)),
+        View::Simple { values, .. } | View::Vector { values, .. } => {
+            values.iter().position(|value| *value == Ival::Name(name))
+        }
+    }
+}

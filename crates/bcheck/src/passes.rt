@@ -1,0 +1,88 @@
+//! The compiler once more, for what its line doesn't tell: which tokens a definition has, and the one at fault.
+use blex::Diagnostic;
+use bparse::{Compiler, Step};
+use bword::{Edition, MemIn, MemOut};
+use std::alloc::Global;
+
+/// The tokens of a definition: from one place among all tokens to another.
+#[derive(Clone, Copy, Debug)]
+pub(crate) struct Extent {
+    pub first: usize,
+    pub end: usize,
+}
+
+/// A fault of the source, and the tokens of its definition as far as they were read.
+#[derive(Clone, Copy, Debug)]
+pub(crate) struct Fault {
+    pub diagnostic: Diagnostic,
+    pub extent: Extent,
+    /// The place of the token that the definition was at when the fault was seen.
+    pub seen_at: usize,
+}
+
+/// A compiler that tells where its definitions stand.
+#[derive(Drop)]
+pub(crate) struct Pass<'a> {
+    compiler: Compiler<MemIn<'a>, MemOut>,
+    /// Of the definition that was read last.
+    pub extent: Extent,
+}
+
+impl<'a> Pass<'a> {
+    pub(crate) fn new(alloc: Global, source: &'a [u8], edition: Edition) -> Self {
+        let out = MemOut::new(alloc);
+        Pass {
+            compiler: Compiler::with_edition(alloc, MemIn::new(source), out, edition),
+            extent: Extent { first: 0, end: 0 },
+        }
+    }
+
+    /// Compiles the next definition.
+    pub(crate) fn next(&mut self) -> Step {
+        let step = self.compiler.next_definition();
+        self.extent = Extent {
+            first: self.extent.end,
+            end: place(self.compiler.tokens_taken()),
+        };
+        step
+    }
+
+    /// The fault that this diagnostic tells of the definition that was read last.
+    pub(crate) fn fault(&self, diagnostic: Diagnostic) -> Fault {
+        Fault {
+            diagnostic,
+            extent: self.extent,
+            seen_at: place(self.compiler.token_at_fault()),
+        }
+    }
+
+    /// Whether the definition that was written last is a function.
+    pub(crate) fn is_function(&self) -> bool {
+        !self.compiler.lines().is_empty()
+    }
+
+    /// The line of an instruction or an initial value of the definition that was written last.
+    pub(crate) fn line_of(&self, place: usize) -> u64 {
+        let lines = if self.is_function() {
+            self.compiler.lines()
+        } else {
+            self.compiler.value_lines()
+        };
+        lines.get(place).copied().unwrap_or(0)
+    }
+
+    /// What was written.
+    pub(crate) fn into_code(self) -> MemOut {
+        let Pass {
+            compiler,
+            extent: _,
+        } = self;
+        let (_, code) = compiler.into_ends();
+        code
+    }
+}
+
+// No source has more tokens than an address can count.
+fn place(count: u64) -> usize {
+    usize::try_from(count).unwrap_or(usize::MAX)
+}

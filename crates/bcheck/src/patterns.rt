@@ -1,0 +1,223 @@
+//! What compiles and is hardly meant, by the tokens of a function.
+use crate::advice::Matter;
+use crate::finding::Finding;
+use crate::passes::Extent;
+use crate::spans::{Span, lexeme_at, place_of};
+use blex::{Keyword, Lexeme};
+use bword::{BinOp, Name};
+use std::alloc::AllocError;
+
+// A token, and what is said of it.
+#[derive(Clone, Copy)]
+struct Found {
+    token: usize,
+    matter: Matter,
+    name: Option<Name>,
+}
+
+/// Adds what is found in a function.
+pub(crate) fn find(
+    spans: &[Span],
+    function: Extent,
+    findings: &mut Vec<Finding>,
+) -> Result<(), AllocError> {
+    let mut is_auto = false;
+    for token in function.first..function.end {
+        match lexeme_at(spans, token) {
+            Lexeme::Keyword(Keyword::Auto) => is_auto = true,
+            Lexeme::Semicolon => is_auto = false,
+            _ => {}
+        }
+        let found = if is_auto {
+            unused(spans, function, token)
+        } else {
+            found_at(spans, function, token)
+        };
+        if let Some(found) = found {
+            findings.push(Finding {
+                matter: found.matter,
+                name: found.name,
+                place: place_of(spans, found.token),
+            })?;
+        }
+    }
+    Ok(())
+}
+
+// What is found of a token that declares nothing.
+fn found_at(spans: &[Span], function: Extent, token: usize) -> Option<Found> {
+    match lexeme_at(spans, token) {
+        Lexeme::Operator(BinOp::And) => doubled(spans, token),
+        Lexeme::Assign(Some(op)) => changes(spans, token, op),
+        Lexeme::Keyword(Keyword::If | Keyword::While) => condition(spans, function, token),
+        Lexeme::String => for_character(spans, token),
+        _ => named(spans, function, token),
+    }
+}
+
+// What is found of a name.
+fn named(spans: &[Span], function: Extent, token: usize) -> Option<Found> {
+    let Lexeme::Name(name) = lexeme_at(spans, token) else {
+        return None;
+    };
+    match lexeme_at(spans, token.wrapping_add(1)) {
+        Lexeme::OpenBracket => past_vector(spans, function, token, name),
+        Lexeme::Semicolon => alone(spans, function, token),
+        _ => None,
+    }
+}
+
+fn said(token: usize, matter: Matter) -> Option<Found> {
+    Some(Found {
+        token,
+        matter,
+        name: None,
+    })
+}
+
+// Whether the next token stands directly behind this one.
+fn is_joined(spans: &[Span], token: usize) -> bool {
+    match (spans.get(token), spans.get(token.wrapping_add(1))) {
+        (Some(span), Some(next)) => span.end() == next.place.start,
+        _ => false,
+    }
+}
+
+// `&&`.
+fn doubled(spans: &[Span], token: usize) -> Option<Found> {
+    let next = lexeme_at(spans, token.wrapping_add(1));
+    if next == Lexeme::Operator(BinOp::And) && is_joined(spans, token) {
+        return said(token, Matter::AndAnd);
+    }
+    None
+}
+
+// `=-`, `=*` and `=&` directly before an operand.
+fn changes(spans: &[Span], token: usize, op: BinOp) -> Option<Found> {
+    if matches!(op, BinOp::Sub | BinOp::Mul | BinOp::And) && is_joined(spans, token) {
+        return said(token, Matter::OperatorAssigns);
+    }
+    None
+}
+
+// An assignment of one token in the parentheses of a condition, and in no others, or one of a comparison there.
+fn condition(spans: &[Span], function: Extent, token: usize) -> Option<Found> {
+    let mut depth: u64 = 0;
+    let mut is_assigned = false;
+    for inner in token.saturating_add(1)..function.end {
+        match lexeme_at(spans, inner) {
+            Lexeme::OpenParen | Lexeme::OpenBracket => depth = depth.saturating_add(1),
+            Lexeme::CloseParen | Lexeme::CloseBracket => depth = depth.saturating_sub(1),
+            Lexeme::Assign(None) => is_assigned = is_closed_behind(spans, inner),
+            Lexeme::Assign(Some(BinOp::Eq)) => is_assigned = true,
+            _ => {}
+        }
+        if is_assigned && depth == 1 {
+            return said(inner, Matter::ConditionAssigns);
+        }
+        if depth == 0 {
+            return None;
+        }
+        is_assigned = false;
+    }
+    None
+}
+
+// Whether a parenthesis closes behind the token behind this one.
+fn is_closed_behind(spans: &[Span], token: usize) -> bool {
+    lexeme_at(spans, token.wrapping_add(2)) == Lexeme::CloseParen
+}
+
+// A string that is compared, or the argument of `putchar`.
+fn for_character(spans: &[Span], token: usize) -> Option<Found> {
+    let before = lexeme_at(spans, token.wrapping_sub(1));
+    let behind = lexeme_at(spans, token.wrapping_add(1));
+    let callee = lexeme_at(spans, token.wrapping_sub(2));
+    let is_put = before == Lexeme::OpenParen && behind == Lexeme::CloseParen && is_putchar(callee);
+    if is_put || compares(before) || compares(behind) {
+        return said(token, Matter::StringForCharacter);
+    }
+    None
+}
+
+fn compares(lexeme: Lexeme) -> bool {
+    matches!(lexeme, Lexeme::Operator(BinOp::Eq | BinOp::Ne))
+}
+
+fn is_putchar(lexeme: Lexeme) -> bool {
+    match lexeme {
+        Lexeme::Name(name) => name.as_str() == "putchar",
+        _ => false,
+    }
+}
+
+// A constant index past the vector that is declared by this name.
+fn past_vector(spans: &[Span], function: Extent, token: usize, name: Name) -> Option<Found> {
+    let Lexeme::Number(index) = lexeme_at(spans, token.wrapping_add(2)) else {
+        return None;
+    };
+    if lexeme_at(spans, token.wrapping_add(3)) != Lexeme::CloseBracket {
+        return None;
+    }
+    if index <= size_of(spans, function, name)? {
+        return None;
+    }
+    Some(Found {
+        token: token.wrapping_add(2),
+        matter: Matter::PastVector,
+        name: Some(name),
+    })
+}
+
+// The constant of a vector that the function declares.
+fn size_of(spans: &[Span], function: Extent, name: Name) -> Option<u16> {
+    let mut is_auto = false;
+    for token in function.first..function.end {
+        let lexeme = lexeme_at(spans, token);
+        match lexeme {
+            Lexeme::Keyword(Keyword::Auto) => is_auto = true,
+            Lexeme::Semicolon => is_auto = false,
+            _ => {}
+        }
+        if is_auto && lexeme == Lexeme::Name(name) {
+            return match lexeme_at(spans, token.wrapping_add(1)) {
+                Lexeme::Number(size) => Some(size),
+                _ => None,
+            };
+        }
+    }
+    None
+}
+
+// A name as a whole statement.
+fn alone(spans: &[Span], function: Extent, token: usize) -> Option<Found> {
+    if token == function.first {
+        return None;
+    }
+    match lexeme_at(spans, token.wrapping_sub(1)) {
+        Lexeme::Semicolon | Lexeme::OpenBrace | Lexeme::CloseBrace | Lexeme::CloseParen => {
+            said(token, Matter::NameAlone)
+        }
+        _ => None,
+    }
+}
+
+// A name in a declaration that stands nowhere else in the function.
+fn unused(spans: &[Span], function: Extent, token: usize) -> Option<Found> {
+    let Lexeme::Name(name) = lexeme_at(spans, token) else {
+        return None;
+    };
+    let tokens = spans.get(function.first..function.end)?;
+    let count = tokens
+        .iter()
+        .filter(|span| span.lexeme == Lexeme::Name(name))
+        .count();
+    if count > 1 {
+        return None;
+    }
+    Some(Found {
+        token,
+        matter: Matter::NeverUsed,
+        name: Some(name),
+    })
+}

@@ -1,0 +1,92 @@
+//! What the compiler and the loader say of a source.
+ghost use Rattle.std.specs.Prelude.{◌≡◌, IfSome, List, map, None};
+ghost use Rattle.bcode.specs.Text.{IsCodeText};
+ghost use Rattle.bcode.specs.declared.definition.Definition.{Definition};
+ghost use Rattle.bmach.specs.Layout.{load_fault};
+ghost use Rattle.bcheck.specs.Checks.{Judged, first_of, load_line, status_told, told_first};
+
+use bcode::read_code;
+use bmach::{LoadFault, load};
+use bparse::compile_edition;
+use bparse::status::{self, Status};
+use bword::{Edition, MemIn, MemOut};
+use std::alloc::Global;
+
+/// What is said of a source.
+#[derive(Drop)]
+pub(crate) enum Verdict {
+    /// It compiles, and its code loads but for a function `main`.
+    Clean,
+    /// It doesn't compile, and this is the line of the compiler.
+    Faulty(MemOut),
+    /// Its code doesn't load.
+    Unloaded(LoadFault),
+}
+
+impl Verdict {
+    /// The line of the compiler, or that of the code.
+    pub(crate) fn first(&self) -> &[u8]
+        ensures { result.now ≡ first_of self.now }
+    {
+        match self {
+            Verdict::Clean => b"",
+            Verdict::Faulty(line) => line.bytes(),
+            Verdict::Unloaded(fault) => load_line(fault),
+        }
+    }
+
+    /// The status.
+    pub(crate) fn status(&self) -> Status
+        ensures { result ≡ status_told self.now }
+    {
+        match self {
+            Verdict::Clean => status::DONE,
+            Verdict::Faulty(_) => status::FAULT,
+            Verdict::Unloaded(_) => status::REFUSED,
+        }
+    }
+}
+
+/// What the compiler and the loader say of a source, unless memory is refused.
+pub(crate) fn judge(alloc: Global, source: &[u8], edition: Edition) -> Option<Verdict>
+    ensures { IfSome result (Judged edition source.now) }
+{
+    let mut code = MemOut::new(alloc);
+    let mut line = MemOut::new(alloc);
+    let mut input = MemIn::new(source);
+    match compile_edition(alloc, &mut input, &mut code, &mut line, edition) {
+        status::DONE => judge_code(alloc, code.bytes()),
+        status::FAULT => Some(Verdict::Faulty(line)),
+        _ => None,
+    }
+}
+
+// What the loader says of a code text.
+fn judge_code(alloc: Global, code: &[u8]) -> Option<Verdict>
+    ensures { IfSome result (λ v. (ds : List Definition) → IsCodeText code.now ds
+        → (first_of v, status_told v) ≡ told_first None (load_fault ds)) }
+{
+    let Ok(definitions) = read_code(alloc, code) else {
+        return None;
+    };
+    let Err(fault) = load(alloc, definitions) else {
+        return Some(Verdict::Clean);
+    };
+    match fault {
+        LoadFault::NoMain => Some(Verdict::Clean),
+        LoadFault::Memory => None,
+        _ => Some(Verdict::Unloaded(fault)),
+    }
+}
+
+// The line of code that doesn't load.
+fn load_line(fault: &LoadFault) -> &'static [u8]
+    ensures { result.now ≡ load_line fault.now }
+{
+    match fault {
+        LoadFault::Duplicate(_) => b"load 1\n",
+        LoadFault::TooLarge => b"load 2\n",
+        LoadFault::Undefined(_) => b"load 3\n",
+        LoadFault::NoMain | LoadFault::Memory => b"",
+    }
+}
