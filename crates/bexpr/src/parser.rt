@@ -173,6 +173,7 @@ impl<I: ByteIn> Parser<I> {
         requires no_group { is_open_paren (first self.old.tokens.ahead) ≡ false }
         ensures { (room : ℕ) → Follows (primary (inner room)) (called_at self.new.tokens) self.old.tokens self.old.draft result self.new.tokens self.new.draft }
     {
+        self.draft.at(self.tokens.line());
         match self.tokens.lexeme() {
             Lexeme::Name(name) => self.mention(name),
             Lexeme::Number(word) => {

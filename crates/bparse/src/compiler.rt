@@ -1,8 +1,9 @@
 //! The compiler, which writes one definition a call.
-ghost use Rattle.std.specs.Prelude.{◌≡◌, OnOk};
+ghost use Rattle.std.specs.Prelude.{◌≡◌, ◌≤◌, length, OnOk};
 ghost use Rattle.std.specs.Map.{keys_of};
 ghost use Rattle.bword.specs.declared.edition.Edition.TheVariants as editions;
 ghost use Rattle.btree.specs.Reading.{first};
+ghost use Rattle.bemit.specs.Drafts.{most_instructions, most_values};
 ghost use Rattle.bexpr.specs.Tokens.{IsReady, IsLoaded};
 ghost use Rattle.bparse.specs.Compilers.{Keeps, StepGives, start_of};
 ghost use Rattle.bparse.specs.Compilers as compilers;
@@ -103,6 +104,23 @@ impl<I: ByteIn, O: ByteOut> Compiler<I, O> {
                 step
             }
         }
+    }
+
+    /// The source line of each instruction of the definition that was written last. A function alone has some.
+    ///
+    /// An instruction is of the line of the token that it was made from or behind which it was made, the jump back of a
+    /// loop and the tests of a switch are of the line of their keyword.
+    pub fn lines(&self) -> &[u64]
+        ensures { length result.now ≤ most_instructions }
+    {
+        self.parser.draft.lines()
+    }
+
+    /// The source line of each initial value of the definition that was written last.
+    pub fn value_lines(&self) -> &[u64]
+        ensures { length result.now ≤ most_values }
+    {
+        self.parser.draft.value_lines()
     }
 
     /// Both ends, the input without what was read ahead.

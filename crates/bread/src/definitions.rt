@@ -159,6 +159,7 @@ fn value<I: ByteIn>(parser: &mut Parser<I>) -> Result<(), Halt>
     requires { IsLoaded parser.old.tokens }
     ensures { Compiles ival (λ v d. ival_done d v) parser.old.tokens parser.old.draft result parser.new.tokens parser.new.draft }
 {
+    parser.draft.at(parser.tokens.line());
     match parser.tokens.lexeme() {
         Lexeme::Number(word) | Lexeme::Character(word) => valued(parser, Ival::Number(word)),
         Lexeme::Name(name) => valued(parser, Ival::Name(name)),

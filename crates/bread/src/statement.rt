@@ -162,6 +162,7 @@ fn unheaded<I: ByteIn>(parser: &mut Parser<I>, room: u8) -> Result<(), Halt>
     requires { IsLoaded parser.old.tokens }
     ensures { Compiles (unheaded room) done parser.old.tokens parser.old.draft result parser.new.tokens parser.new.draft }
 {
+    parser.draft.at(parser.tokens.line());
     match parser.tokens.lexeme() {
         Lexeme::OpenBrace => compound(parser, room),
         Lexeme::Semicolon => parser.expect(Mark::Semicolon),
@@ -215,6 +216,7 @@ fn body<I: ByteIn>(parser: &mut Parser<I>, room: u8) -> Result<(), Halt>
     'statements: while goes_on(parser.tokens.lexeme()) {
         statement(parser, room)?;
     }
+    parser.draft.at(parser.tokens.line());
     parser.expect(Mark::CloseBrace)
 }
 
@@ -258,6 +260,7 @@ fn repeated<I: ByteIn>(parser: &mut Parser<I>, room: u8) -> Result<(), Halt>
     requires goes_on { is_last (first parser.old.tokens.ahead) ≡ false }
     ensures { Compiles (repeated room) done parser.old.tokens parser.old.draft result parser.new.tokens parser.new.draft }
 {
+    let line = parser.tokens.line();
     let top = parser.draft.place();
     let room = parser.enter(room)?;
     condition(parser, room)?;
@@ -266,6 +269,7 @@ fn repeated<I: ByteIn>(parser: &mut Parser<I>, room: u8) -> Result<(), Halt>
     let mark = parser.draft.mark();
     parser.draft.begin_loop();
     statement(parser, room)?;
+    parser.draft.at(line);
     close_loop(&mut parser.draft, top, mark);
     skip_to_here(&mut parser.draft, test);
     Ok(())
@@ -277,6 +281,7 @@ fn switched<I: ByteIn>(parser: &mut Parser<I>, room: u8) -> Result<(), Halt>
     requires goes_on { is_last (first parser.old.tokens.ahead) ≡ false }
     ensures { Compiles (switched (level room)) done parser.old.tokens parser.old.draft result parser.new.tokens parser.new.draft }
 {
+    let line = parser.tokens.line();
     let room = parser.enter(room)?;
     parser.evaluate(room)?;
     parser.expect(Mark::OpenBrace)?;
@@ -285,6 +290,7 @@ fn switched<I: ByteIn>(parser: &mut Parser<I>, room: u8) -> Result<(), Halt>
     parser.draft.emit(Instr::Jump(0));
     parser.draft.begin_switch();
     body(parser, room)?;
+    parser.draft.at(line);
     close_switch(&mut parser.draft, jump, mark);
     Ok(())
 }
