@@ -16,3 +16,4 @@ pub mod Steps
 pub mod Runs
 pub mod Turns
 pub mod Excluded
+pub mod Stepping

@@ -23,6 +23,7 @@ mod quick;
 mod resolve;
 mod runs;
 mod step;
+mod stepper;
 mod text;
 
 pub use fault::LoadFault;
@@ -30,5 +31,7 @@ pub use image::Image;
 use library::Library;
 pub use loader::load;
 pub use outcome::{Outcome, Trap};
+pub use parts::{name_of, size_of};
 pub use resolve::resolving_changes_no_run;
 pub use runs::{run, wrong_runs_are_excluded};
+pub use stepper::{Active, Stepper};

@@ -55,13 +55,14 @@ impl Part {
         ensures { Adds (known_in addresses.now) self.old (definition.Function function.now) result self.new }
     {
         let parts = function.parts();
-        self.words
-            .push(FIRST_ADDRESS + self.functions.len() as u16)?;
+        let value = FIRST_ADDRESS + self.functions.len() as u16;
+        self.words.push(value)?;
         let strings = self.words.len() as u32;
         self.words.extend_from_slice(&parts.strings)?;
         let code = resolved_code(alloc, addresses, strings, self.first_label, &parts.code)?;
         let targets = Vec::from_slice(alloc, &parts.targets)?;
         self.functions.push(LoadedFunction {
+            value,
             parameters: parts.parameters,
             frame: parts.frame,
             targets,

@@ -8,4 +8,4 @@ mod text;
 
 pub use migrating::migrate;
 pub use source::{go, go_edition};
-pub use text::run_text;
+pub use text::{finish, run_text};

@@ -88,8 +88,8 @@ fn run_definitions<I: ByteIn, O: ByteOut, D: ByteOut>(
     finish(outcome, diag)
 }
 
-// The status of an outcome, whose line is written if it has one.
-fn finish<D: ByteOut>(outcome: Outcome, diag: &mut D) -> Status
+/// The status of an outcome, whose line is written if it has one.
+pub fn finish<D: ByteOut>(outcome: Outcome, diag: &mut D) -> Status
     ensures gives { Finishes outcome (D.outgoing diag.old) (D.outgoing diag.new) result }
     ensures diag_lender { D.lender diag.new ≡ D.lender diag.old }
 {

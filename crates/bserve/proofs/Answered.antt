@@ -1,13 +1,12 @@
--- What is answered where memory was refused, and what is done where a code text is migrated.
+-- What is answered where memory was refused, and what is done for a job.
 use Rattle.std.proofs.Common.{subst, ◌≡◌, ◌∙◌, ℕ, Option, Some, sym, ap, inl, inr}
 use Rattle.clap.specs.declared.error.kind.ErrorKind.{ErrorKind}
 use Rattle.clap.specs.declared.error.kind.ErrorKind.TheVariants as kind
 use Rattle.bparse.specs.declared.status.TheConstants.{MEMORY}
 use Rattle.brun.specs.Runs.{Ends}
-use Rattle.bserve.specs.CommandLine.{migrate, shown}
+use Rattle.bserve.specs.CommandLine.{shown}
 use Rattle.bserve.specs.Serves.{Does, IsHelp, IsSilent, Refuses}
 use Rattle.bserve.specs.declared.command.Job.{Job}
-use Rattle.bserve.specs.declared.command.Job.TheVariants as jobs
 
 no_help : (k : ErrorKind) → k ≡ kind.OutOfMemory → IsHelp k → ⊥
 no_help k is (inl help) = cc
@@ -19,6 +18,6 @@ memory_alone k ends status is (inl tells) = absurd (no_help k is tells.help)
 memory_alone k ends status is (inr (inl complains)) = absurd (complains.no_memory is)
 memory_alone k ends status is (inr (inr silent)) = silent
 
-pub migrated : (asked : Option Job) (job : Job) (ends : Ends) (status : ℕ) → asked ≡ Some job → job ≡ jobs.Migrate → Does migrate ends status
+pub answered : (asked : Option Job) (job same_job : Job) (ends : Ends) (status : ℕ) → asked ≡ Some job → job ≡ same_job → Does (shown (Some same_job)) ends status
     → Does (shown asked) ends status
-migrated asked job ends status is same does = subst (λ (o : Option Job). Does (shown o) ends status) (sym (is ∙ ap Some same)) does
+answered asked job same_job ends status is same does = subst (λ (o : Option Job). Does (shown o) ends status) (sym (is ∙ ap Some same)) does

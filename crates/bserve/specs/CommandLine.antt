@@ -1,7 +1,7 @@
 -- The command line, and what its words ask for. How words are cut into options, and which have a fault, are definitions
 -- of `clap`, which reads them.
 use Rattle.std.specs.Prelude.{◌≡◌, ℕ, ◌==◌, ◌&&◌, ◌^◌, Bool, true, false, List, [], length, codes, nat_lt}
-use Rattle.std.specs.Prelude.{Option, Some, None, if◌then◌else◌, option_and_then, unwrap_or}
+use Rattle.std.specs.Prelude.{Option, Some, None, if◌then◌else◌, option_and_then, option_map, unwrap_or}
 use Rattle.std.specs.Char.{digit_value}
 use Rattle.std.specs.List.{list_all}
 use Rattle.std.specs.Option.{option_map_or}
@@ -17,6 +17,7 @@ use Rattle.bword.specs.declared.edition.Edition.{Edition}
 use Rattle.bword.specs.declared.edition.Edition.TheVariants as editions
 use Rattle.bserve.specs.declared.command.Job.{Job}
 use Rattle.bserve.specs.declared.command.Job.TheVariants as job
+use Rattle.bserve.specs.declared.command.Subject.{Subject}
 use Rattle.bserve.specs.declared.command.Target.{Target}
 
 -- an option whose value is a number from 1 to the most
@@ -40,6 +41,9 @@ no_limit_rule = record (new_rule (codes "no-limit")) { long = Some (codes "no-li
 abbrev pub file_rule : Rule
 file_rule = record (new_rule (codes "FILE")) { required = true; action = Some Set }
 
+abbrev pub name_rule : Rule
+name_rule = record (new_rule (codes "NAME")) { action = Some Set }
+
 -- a command with the options of a run
 abbrev pub running : App → App
 running command = with_rule (with_rule (with_rule command steps_rule) no_limit_rule) file_rule
@@ -61,11 +65,24 @@ go_command = running (with_rule (new_app (codes "go")) edition_rule)
 abbrev pub migrate_command : App
 migrate_command = new_app (codes "migrate")
 
--- `b compile`, `b run`, `b go` and `b migrate`, one of which there has to be
+-- a command that tells of a source
+abbrev pub telling : App → App
+telling command = with_rule (with_rule command edition_rule) file_rule
+
+abbrev pub list_command : App
+list_command = with_rule (telling (new_app (codes "list"))) name_rule
+
+abbrev pub map_command : App
+map_command = telling (new_app (codes "map"))
+
+-- the command line without its commands, one of which there has to be
+abbrev pub bare_line : App
+bare_line = on_top (λ s. record s { has_version = true; subcommand_required = true }) (new_app (codes "b"))
+
+-- `b compile`, `b run`, `b go`, `b migrate`, `b list` and `b map`, one of which there has to be
 abbrev pub command_line : App
-command_line = with_subcommand (with_subcommand (with_subcommand (with_subcommand
-    (on_top (λ s. record s { has_version = true; subcommand_required = true }) (new_app (codes "b")))
-    compile_command.top) run_command.top) go_command.top) migrate_command.top
+command_line = with_subcommand (with_subcommand (with_subcommand (with_subcommand (with_subcommand (with_subcommand
+    bare_line compile_command.top) run_command.top) go_command.top) migrate_command.top) list_command.top) map_command.top
 
 -- the digits of a number that a u64 holds
 abbrev pub is_number : Text → Bool
@@ -104,13 +121,19 @@ steps_in rows = steps_asked (number_in (codes "steps") rows) (is_set_in (codes "
 abbrev pub file_in : List Row → Text
 file_in rows = unwrap_or (first_of (codes "FILE") rows) []
 
+abbrev pub name_in : List Row → Option Text
+name_in rows = first_of (codes "NAME") rows
+
 -- What is asked for: that a source is compiled, that the code text in a file is run, that the source in a file is
--- compiled and run, that a code text is migrated; or a limit of steps and none, which contradict each other.
+-- compiled and run, that a code text is migrated, that the code of the source in a file, or of its definitions of a name,
+-- is listed, that its layout is shown; or a limit of steps and none, which contradict each other.
 pub data Asked : Type 0 where
   compile : (edition : Edition) → Asked
   run : (file : Text) (steps : ℕ) → Asked
   go : (file : Text) (steps : ℕ) (edition : Edition) → Asked
   migrate : Asked
+  list : (file : Text) (name : Option Text) (edition : Edition) → Asked
+  map : (file : Text) (edition : Edition) → Asked
   contradiction : Asked
 
 abbrev pub run_asked : Text → Option ℕ → Asked
@@ -125,7 +148,9 @@ go_asked file edition None = contradiction
 abbrev pub asked_by : Text → List Row → Asked
 asked_by name rows = if bytes_eq name (codes "run") then run_asked (file_in rows) (steps_in rows)
     else (if bytes_eq name (codes "go") then go_asked (file_in rows) (edition_in rows) (steps_in rows)
-    else (if bytes_eq name (codes "migrate") then migrate else compile (edition_in rows)))
+    else (if bytes_eq name (codes "migrate") then migrate
+    else (if bytes_eq name (codes "list") then list (file_in rows) (name_in rows) (edition_in rows)
+    else (if bytes_eq name (codes "map") then map (file_in rows) (edition_in rows) else compile (edition_in rows)))))
 
 abbrev pub asked : Option (Text × List Row) → Asked
 asked None = compile editions.One
@@ -137,7 +162,12 @@ shown (Some (job.Compile edition)) = compile edition
 shown (Some (job.Run target)) = run target.file.now target.steps
 shown (Some (job.Go target edition)) = go target.file.now target.steps edition
 shown (Some job.Migrate) = migrate
+shown (Some (job.List subject)) = list subject.file.now (option_map (λ n. n.now) subject.name) subject.edition
+shown (Some (job.Map subject)) = map subject.file.now subject.edition
 shown None = contradiction
 
 abbrev pub target_shown : Target → Text × ℕ
 target_shown target = (target.file.now, target.steps)
+
+abbrev pub subject_shown : Subject → Text × Option Text × Edition
+subject_shown subject = (subject.file.now, option_map (λ n. n.now) subject.name, subject.edition)

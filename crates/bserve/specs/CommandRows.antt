@@ -1,10 +1,10 @@
 -- Closed facts: what command lines ask for, and their faults.
-use Rattle.std.specs.Prelude.{◌≡◌, true, List, [], ◌∷◌, codes, refl}
+use Rattle.std.specs.Prelude.{◌≡◌, true, List, [], ◌∷◌, Some, None, codes, refl}
 use Rattle.clap.specs.Words.{Text, fault_of, is_simple, is_simple_and_free, subcommand_of}
 use Rattle.clap.specs.declared.error.kind.ErrorKind.TheVariants as kind
 use Rattle.clap.proofs.OnLiterals.{clap_on_literals}
 use Rattle.bword.specs.declared.edition.Edition.TheVariants as editions
-use Rattle.bserve.specs.CommandLine.{Asked, asked, command_line, compile, run, go, migrate, contradiction}
+use Rattle.bserve.specs.CommandLine.{Asked, asked, command_line, compile, run, go, migrate, list, map, contradiction}
 
 pub is_simple_line : is_simple command_line ≡ true
 is_simple_line = refl
@@ -62,6 +62,27 @@ migrates_one_edition : fault_of command_line (codes "b" ∷ codes "migrate" ∷ 
     ≡ kind.UnknownArgument ∷ []
 unfolding clap_on_literals
 migrates_one_edition = refl
+
+lists : Asks (codes "b" ∷ codes "list" ∷ codes "x" ∷ []) (list (codes "x") None editions.One)
+unfolding clap_on_literals
+lists = (refl, refl)
+
+lists_one : Asks (codes "b" ∷ codes "list" ∷ codes "--edition" ∷ codes "2" ∷ codes "x" ∷ codes "f" ∷ [])
+    (list (codes "x") (Some (codes "f")) editions.Two)
+unfolding clap_on_literals
+lists_one = (refl, refl)
+
+lists_no_file : fault_of command_line (codes "b" ∷ codes "list" ∷ []) ≡ kind.MissingRequiredArgument ∷ []
+unfolding clap_on_literals
+lists_no_file = refl
+
+maps : Asks (codes "b" ∷ codes "map" ∷ codes "x" ∷ codes "--edition=2" ∷ []) (map (codes "x") editions.Two)
+unfolding clap_on_literals
+maps = (refl, refl)
+
+maps_no_name : fault_of command_line (codes "b" ∷ codes "map" ∷ codes "x" ∷ codes "f" ∷ []) ≡ kind.UnknownArgument ∷ []
+unfolding clap_on_literals
+maps_no_name = refl
 
 no_command : fault_of command_line (codes "b" ∷ []) ≡ kind.MissingSubcommand ∷ []
 unfolding clap_on_literals

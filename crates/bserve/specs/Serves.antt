@@ -1,5 +1,5 @@
 -- What comes of a command line.
-use Rattle.std.specs.Prelude.{◌≡◌, ◌≢◌, ℕ, List, [], codes, ◌⊎◌}
+use Rattle.std.specs.Prelude.{◌≡◌, ◌≢◌, ℕ, List, [], ◌++◌, codes, ◌⊎◌}
 use Rattle.clap.specs.Words.{IsAmong, Text, fault_of, subcommand_of}
 use Rattle.clap.specs.declared.error.kind.ErrorKind.{ErrorKind}
 use Rattle.clap.specs.declared.error.kind.ErrorKind.TheVariants as kind
@@ -10,7 +10,10 @@ use Rattle.brun.specs.Going.{GoesOff}
 use Rattle.brun.specs.Migrates.{Migrates}
 use Rattle.brun.specs.Reports.{Reported}
 use Rattle.brun.specs.Runs.{Ends, HasNotRun, RunsText}
-use Rattle.bserve.specs.CommandLine.{Asked, asked, command_line, compile, run, go, migrate, contradiction}
+use Rattle.blist.specs.Listings.{Lists}
+use Rattle.blist.specs.Maps.{Maps}
+use Rattle.blist.specs.Told as told
+use Rattle.bserve.specs.CommandLine.{Asked, asked, command_line, compile, run, go, migrate, list, map, contradiction}
 
 -- what is said of words that aren't UTF-8
 abbrev pub unread_line : List ℕ
@@ -30,6 +33,20 @@ pub record IsSilent (ends : Ends) (status answer : ℕ) : Type 0 where
 -- The file could not be opened or read.
 abbrev pub HasNoFile : Ends → ℕ → Type 0
 HasNoFile ends status = IsSilent ends status DEVICE ⊎ IsSilent ends status MEMORY
+
+-- what is said of a file that can't be opened or read
+abbrev pub no_file_line : List ℕ → List ℕ
+no_file_line file = codes "error: the file '" ++ file ++ codes "' can't be read\n"
+
+-- The file could not be opened or read, and its name was told, unless memory was refused.
+abbrev pub NamesFile : List ℕ → Ends → ℕ → Type 0
+NamesFile file ends status =
+    HasNotRun ends × Reported (no_file_line file) DEVICE ends.line ends.line_behind status ⊎ IsSilent ends status MEMORY
+
+-- the ends of a command that tells of a source
+abbrev pub telling_ends : Ends → told.Ends
+telling_ends ends =
+    record { out = ends.out; out_behind = ends.out_behind; line = ends.line; line_behind = ends.line_behind }
 
 -- what was asked for is done; no contract can say what a file holds
 abbrev pub Does : Asked → Ends → ℕ → Type 0
@@ -52,6 +69,10 @@ Does migrate ends status = Migrates (record {
   out = ends.out;
   out_behind = ends.out_behind;
 }) ends.line ends.line_behind status
+Does (list file name edition) ends status = NamesFile file ends status
+    ⊎ ((source : List ℕ) × (ends.input_behind ≡ ends.input) × Lists edition source name (telling_ends ends) status)
+Does (map file edition) ends status = NamesFile file ends status
+    ⊎ ((source : List ℕ) × (ends.input_behind ≡ ends.input) × Maps edition source (telling_ends ends) status)
 Does contradiction ends status =
     HasNotRun ends × Reported contradiction_line WRONG_COMMAND ends.line ends.line_behind status
 

@@ -1,9 +1,11 @@
 //! What the words of a command line ask for.
-ghost use Rattle.std.specs.Prelude.{◌≡◌, [], IfOk, IfErr, false, map, option_map, string_bytes};
+ghost use Rattle.std.specs.Prelude.{◌≡◌, [], None, IfOk, IfErr, false, map, option_map, string_bytes};
 ghost use Rattle.clap.specs.Words.{HasKind, app_of, fault_of, found_of, rows_of, rule_of, subcommand_of, subcommand_rows_of};
-ghost use Rattle.bserve.specs.CommandLine.{IsShaped, asked, command_line, compile_command, edition_in, edition_rule, file_in, file_rule, go_command, is_set_in, migrate_command, no_limit_rule, number_in, run_command, shown, steps_asked, steps_in, steps_rule, target_shown};
+ghost use Rattle.bserve.specs.CommandLine.{IsShaped, asked, bare_line, command_line, compile_command, edition_in, edition_rule, file_in, file_rule, go_command, is_set_in, list_command, map_command, migrate_command, name_in, name_rule, no_limit_rule, number_in, run_command, shown, steps_asked, steps_in, steps_rule, subject_shown, target_shown};
 
-use crate::texts::{ABOUT, COMPILE_HELP, GO_HELP, HELP, MIGRATE_HELP, RUN_HELP, VERSION};
+use crate::texts::{
+    ABOUT, COMPILE_HELP, GO_HELP, HELP, LIST_HELP, MAP_HELP, MIGRATE_HELP, RUN_HELP, VERSION,
+};
 use bword::Edition;
 use clap::{Arg, ArgAction, ArgMatches, Command, Error, value_parser};
 use std::alloc::{AllocError, Global};
@@ -21,6 +23,16 @@ pub(crate) enum Job<'a> {
     Run(Target<'a>),
     Go(Target<'a>, Edition),
     Migrate,
+    List(Subject<'a>),
+    Map(Subject<'a>),
+}
+
+/// A source that is told of, and of its definitions those of a name alone, if there is one.
+#[derive(Clone, Copy)]
+pub(crate) struct Subject<'a> {
+    pub(crate) file: &'a str,
+    pub(crate) name: Option<&'a str>,
+    pub(crate) edition: Edition,
 }
 
 /// A file to run, and how long.
@@ -50,6 +62,8 @@ pub(crate) fn job_of<'a>(matches: &ArgMatches<'a>) -> Option<Job<'a>>
         "run" => Some(Job::Run(target_of(given)?)),
         "go" => Some(Job::Go(target_of(given)?, edition_of(given))),
         "migrate" => Some(Job::Migrate),
+        "list" => Some(Job::List(subject_of(given))),
+        "map" => Some(Job::Map(unnamed(given))),
         _ => Some(Job::Compile(edition_of(given))),
     }
 }
@@ -60,6 +74,31 @@ fn edition_of(given: &ArgMatches<'_>) -> Edition
     match number_of(given, "edition") {
         Some(2) => Edition::Two,
         _ => Edition::One,
+    }
+}
+
+fn subject_of<'a>(given: &ArgMatches<'a>) -> Subject<'a>
+    ensures { subject_shown result ≡ (file_in (rows_of (found_of given.now)), name_in (rows_of (found_of given.now)), edition_in (rows_of (found_of given.now))) }
+{
+    let file = given.get_str("FILE").unwrap_or("");
+    let name = given.get_str("NAME");
+    let edition = edition_of(given);
+    Subject {
+        file,
+        name,
+        edition,
+    }
+}
+
+fn unnamed<'a>(given: &ArgMatches<'a>) -> Subject<'a>
+    ensures { subject_shown result ≡ (file_in (rows_of (found_of given.now)), None, edition_in (rows_of (found_of given.now))) }
+{
+    let file = given.get_str("FILE").unwrap_or("");
+    let edition = edition_of(given);
+    Subject {
+        file,
+        name: None,
+        edition,
     }
 }
 
@@ -99,16 +138,26 @@ fn is_set(given: &ArgMatches<'_>, id: &str) -> bool
 fn command<'a>(alloc: Global) -> Result<Command<'a>, AllocError>
     ensures { IfOk result (λ c. app_of c ≡ command_line) }
 {
+    let all = bare_command(alloc)?;
+    all.subcommand(compile_command(alloc)?)?
+        .subcommand(run_command(alloc)?)?
+        .subcommand(go_command(alloc)?)?
+        .subcommand(migrate_command(alloc)?)?
+        .subcommand(list_command(alloc)?)?
+        .subcommand(map_command(alloc)?)
+}
+
+// The command line without its commands.
+fn bare_command<'a>(alloc: Global) -> Result<Command<'a>, AllocError>
+    ensures { IfOk result (λ c. app_of c ≡ bare_line) }
+{
     let all = Command::new(alloc, "b")
         .bin_name("b")?
         .about(ABOUT)
         .version(VERSION)
         .after_help(HELP)
         .subcommand_required(true);
-    all.subcommand(compile_command(alloc)?)?
-        .subcommand(run_command(alloc)?)?
-        .subcommand(go_command(alloc)?)?
-        .subcommand(migrate_command(alloc)?)
+    Ok(all)
 }
 
 fn compile_command<'a>(alloc: Global) -> Result<Command<'a>, AllocError>
@@ -154,6 +203,27 @@ fn migrate_command<'a>(alloc: Global) -> Result<Command<'a>, AllocError>
     Ok(command)
 }
 
+fn list_command<'a>(alloc: Global) -> Result<Command<'a>, AllocError>
+    ensures { IfOk result (IsShaped list_command) }
+{
+    Command::new(alloc, "list")
+        .about("Lists the code of the source in FILE, with the lines it comes from")
+        .after_help(LIST_HELP)
+        .arg(edition_option(alloc))?
+        .arg(file_argument(alloc))?
+        .arg(name_argument(alloc))
+}
+
+fn map_command<'a>(alloc: Global) -> Result<Command<'a>, AllocError>
+    ensures { IfOk result (IsShaped map_command) }
+{
+    Command::new(alloc, "map")
+        .about("Shows where each name of the source in FILE lies in memory")
+        .after_help(MAP_HELP)
+        .arg(edition_option(alloc))?
+        .arg(file_argument(alloc))
+}
+
 // The option of a command that compiles.
 fn edition_option<'a>(alloc: Global) -> Arg<'a>
     ensures rule { rule_of result ≡ edition_rule }
@@ -197,4 +267,13 @@ fn file_argument<'a>(alloc: Global) -> Arg<'a>
         .required(true)
         .action(ArgAction::Set)
         .help("The file to run")
+}
+
+fn name_argument<'a>(alloc: Global) -> Arg<'a>
+    ensures rule { rule_of result ≡ name_rule }
+    ensures local { result.global ≡ false }
+{
+    Arg::new(alloc, "NAME")
+        .action(ArgAction::Set)
+        .help("The definition to list; all of them if not given")
 }

@@ -27,6 +27,8 @@ Examples:
   b compile < hello.b > hello.code    writes its code text into a file
   b run hello.code                    runs the code text
   b migrate < hello.code > new.code   writes it as a code text of edition 2
+  b list hello.b                      lists its code beside the source
+  b map hello.b                       shows where its names lie in memory
   b go --help                         tells more about a command
 
 There are two editions of the language. In edition 2 break leaves the nearest
@@ -91,6 +93,31 @@ Example:
 
 Statuses: 0 written, 132 no code text of edition 1, 133 a failed read or write,
 134 refused memory, 135 a wrong command line. b --help has the letters.";
+
+pub(crate) const LIST_HELP: &str = "\
+The first column is the place of an instruction in its function, or @ and an
+address of memory; then come the line of the source, the line of the code text,
+the source, and the name of an automatic or a label. NAME is a definition of
+the source.
+
+Examples:
+  b list hello.b
+  b list hello.b main
+
+Statuses: 0 listed, 1 a fault of the source, 132 code that doesn't load,
+133 a failed read or write, 134 refused memory, 135 a wrong command line, or
+no definition NAME. b --help has the letters.";
+
+pub(crate) const MAP_HELP: &str = "\
+A row has the address of a name, how many words it has, and the first ones as
+they are before the run. The frame of main begins at the data end.
+
+Example:
+  b map hello.b
+
+Statuses: 0 shown, 1 a fault of the source, 132 code that doesn't load,
+133 a failed read or write, 134 refused memory, 135 a wrong command line.
+b --help has the letters.";
 
 pub(crate) const RUN_HELP: &str = "\
 The program has standard input and output. A step is one instruction.

@@ -1,6 +1,15 @@
-use Rattle.bserve.proofs.Answered.{migrated}
+use Rattle.bserve.specs.declared.command.Job.TheVariants as jobs
+use Rattle.bserve.proofs.Answered.{answered}
 use Rattle.bserve.proofs.serving.perform.Goals as goal
 
 pub returns-in-Some-Migrate-clause-does : goal.returns-in-Some-Migrate-clause-does
 returns-in-Some-Migrate-clause-does g c =
-    migrated c.args.job c.in-Some-Migrate.field-0 _ _ c.in-Some-Migrate.is (rw c.in-Some-Migrate.is at c.in-Some-Migrate.field-0-is) c.migrate.ensures.migrates
+    answered c.args.job c.in-Some-Migrate.field-0 jobs.Migrate _ _ c.in-Some-Migrate.is (rw c.in-Some-Migrate.is at c.in-Some-Migrate.field-0-is) c.migrate.ensures.migrates
+
+pub returns-in-Some-List-clause-does : goal.returns-in-Some-List-clause-does
+returns-in-Some-List-clause-does g c =
+    answered c.args.job c.in-Some-List.field-0 (jobs.List c.in-Some-List.subject) _ _ c.in-Some-List.is (rw c.in-Some-List.is at c.in-Some-List.field-0-is) (c.list_file.ensures.does _)
+
+pub returns-in-Some-Map-clause-does : goal.returns-in-Some-Map-clause-does
+returns-in-Some-Map-clause-does g c =
+    answered c.args.job c.in-Some-Map.field-0 (jobs.Map c.in-Some-Map.subject) _ _ c.in-Some-Map.is (rw c.in-Some-Map.is at c.in-Some-Map.field-0-is) (c.map_file.ensures.does _)

@@ -1,0 +1,96 @@
+-- Rows of a listing, one behind another.
+use Rattle.std.proofs.Common.{◌≡◌, ◌∙◌, ◌+◌, ◌<◌, ℕ, Bool, true, false, List, [], ◌∷◌, ◌++◌, map, filter, get_or, length, take, drop, ap, ap₂, append-nil, append_assoc, refl, subst, sym}
+use Rattle.std.specs.List.{flat_map}
+use Rattle.std.specs.Prelude.{codes}
+use Rattle.std.proofs.lemmas.List.{map-append, take_more}
+use Rattle.std.proofs.lemmas.List.Elements.{filter-append}
+use Rattle.std.proofs.lemmas.List.Concat.{flat_map-append}
+use Rattle.std.specs.Prelude.{Option}
+use Rattle.bcode.specs.Text.{lines_of}
+use Rattle.bcode.specs.declared.definition.Definition.{Definition}
+use Rattle.blist.specs.Listings.{Adds, AreRows, Extends, Row, is_wanted, row_text, wanted, without_newline}
+
+pub adds_nothing : (old : List ℕ) → Adds old [] old
+adds_nothing old = ([], record { rows = []; lines_are = refl; text_is = refl }, sym (append-nil old))
+
+pub adds_both : (old mid new : List ℕ) (ls ks : List (List ℕ)) → Adds old ls mid → Adds mid ks new → Adds old (ls ++ ks) new
+adds_both old mid new ls ks first second = (
+  first.0 ++ second.0,
+  record {
+    rows = first.1.rows ++ second.1.rows;
+    lines_are = map-append (λ r. r.line) first.1.rows second.1.rows ∙ ap₂ (λ a b. a ++ b) first.1.lines_are second.1.lines_are;
+    text_is = ap₂ (λ a b. a ++ b) first.1.text_is second.1.text_is ∙ sym (flat_map-append row_text first.1.rows second.1.rows);
+  },
+  second.2 ∙ ap (λ t. t ++ second.0) first.2 ∙ append_assoc old first.0 second.0,
+)
+
+pub adds_row : (old : List ℕ) (margin line beside : List ℕ) → Adds old (line ∷ []) ((((old ++ margin) ++ without_newline line) ++ beside) ++ codes "\n")
+adds_row old margin line beside = (
+  row_text (record { margin = margin; line = line; beside = beside }),
+  record {
+    rows = record { margin = margin; line = line; beside = beside } ∷ [];
+    lines_are = refl;
+    text_is = sym (append-nil (row_text (record { margin = margin; line = line; beside = beside })));
+  },
+  simp append_assoc,
+)
+
+pub extends_nothing : (old : List ℕ) → Extends old old
+extends_nothing old = ([], sym (append-nil old))
+
+pub extends_both : (old mid new : List ℕ) → Extends old mid → Extends mid new → Extends old new
+extends_both old mid new a b = (a.0 ++ b.0, b.1 ∙ ap (λ t. t ++ b.0) a.1 ∙ append_assoc old a.0 b.0)
+
+-- the row of one more element, whose line stands on a page
+pub adds_more : {X : Type 0} (f : X → List ℕ) (old mid new : List ℕ) (xs : List X) (i : ℕ) (x : X) (first page : List ℕ) → i < length xs → x ≡ get_or xs i x → first ≡ [] → page ≡ first ++ f x
+    → Adds old (map f (take i xs)) mid → Adds mid (page ∷ []) new → Adds old (map f (take (i + 1) xs)) new
+adds_more f old mid new xs i x first page lt is empty line before row =
+    let lines : map f (take (i + 1) xs) ≡ map f (take i xs) ++ f x ∷ [] =
+    ap (map f) (take_more xs i x lt) ∙ map-append f (take i xs) (get_or xs i x ∷ []) ∙ ap (λ y. map f (take i xs) ++ f y ∷ []) (sym is) in
+    let same : page ≡ f x = line ∙ ap (λ p. p ++ f x) empty in
+    subst (λ ls. Adds old ls new) (sym lines) (adds_both old mid new _ _ before (subst (λ p. Adds mid (p ∷ []) new) same row))
+
+-- the parts of a row, one behind another
+pub row_added : (old t1 t2 t3 t4 t5 code page : List ℕ) → Extends old t1 → Extends t1 t2 → t3 ≡ t2 ++ code → code ≡ without_newline page → Extends t3 t4 → t5 ≡ t4 ++ codes "\n" → Adds old (page ∷ []) t5
+row_added old t1 t2 t3 t4 t5 code page a b three same d end =
+    let two : t2 ≡ old ++ (a.0 ++ b.0) = b.1 ∙ ap (λ x. x ++ b.0) a.1 ∙ append_assoc old a.0 b.0 in
+    let all : t5 ≡ (((old ++ (a.0 ++ b.0)) ++ without_newline page) ++ d.0) ++ codes "\n" =
+    end ∙ ap (λ x. x ++ codes "\n") (d.1 ∙ ap (λ x. x ++ d.0) (three ∙ ap₂ (λ x y. x ++ y) two same)) in
+    subst (λ t. Adds old (page ∷ []) t) (sym all) (adds_row old (a.0 ++ b.0) page d.0)
+
+pub function_rows : (old t1 t2 t3 t4 page h : List ℕ) (xs ys zs : List (List ℕ)) → page ≡ h → Adds old (page ∷ []) t1 → Adds t1 xs t2 → Adds t2 ys t3 → Adds t3 zs t4 → Adds old (h ∷ ((xs ++ ys) ++ zs)) t4
+function_rows old t1 t2 t3 t4 page h xs ys zs same a b c d =
+    adds_both old t1 t4 (h ∷ []) ((xs ++ ys) ++ zs) (subst (λ p. Adds old (p ∷ []) t1) same a)
+    (adds_both t1 t3 t4 (xs ++ ys) zs (adds_both t1 t2 t3 xs ys b c) d)
+
+pub data_rows : (old t1 t2 t3 page h : List ℕ) (xs ys : List (List ℕ)) → page ≡ h → Adds old (page ∷ []) t1 → Adds t1 xs t2 → Adds t2 ys t3 → Adds old (h ∷ (xs ++ ys)) t3
+data_rows old t1 t2 t3 page h xs ys same a b c =
+    adds_both old t1 t3 (h ∷ []) (xs ++ ys) (subst (λ p. Adds old (p ∷ []) t1) same a) (adds_both t1 t2 t3 xs ys b c)
+
+-- one definition more, if it is wanted
+pub wanted_more : (name : Option (List ℕ)) (old mid new : List ℕ) (ds : List Definition) (i : ℕ) (d : Definition) → i < length ds → d ≡ get_or ds i d
+    → Adds old (flat_map lines_of (wanted name (take i ds))) mid → Adds mid (flat_map lines_of (wanted name (d ∷ []))) new → Adds old (flat_map lines_of (wanted name (take (i + 1) ds))) new
+wanted_more name old mid new ds i d lt is before one =
+    let p = is_wanted name in
+    let lines : flat_map lines_of (filter p (take (i + 1) ds)) ≡ flat_map lines_of (filter p (take i ds)) ++ flat_map lines_of (filter p (d ∷ [])) =
+    ap (λ x. flat_map lines_of (filter p x)) (take_more ds i d lt ∙ ap (λ y. take i ds ++ y ∷ []) (sym is))
+    ∙ ap (flat_map lines_of) (filter-append p (take i ds) (d ∷ []))
+    ∙ flat_map-append lines_of (filter p (take i ds)) (filter p (d ∷ [])) in
+    subst (λ ls. Adds old ls new) (sym lines) (adds_both old mid new _ _ before one)
+
+-- one piece more of a text
+pub piece : (t t' t'' a b : List ℕ) → t' ≡ t ++ a → t'' ≡ t' ++ b → t'' ≡ t ++ (a ++ b)
+piece t t' t'' a b p q = q ∙ ap (λ x. x ++ b) p ∙ append_assoc t a b
+
+-- the text of one element more
+pub each_more : {X : Type 0} (f : X → List ℕ) (head text new : List ℕ) (xs : List X) (i : ℕ) (x : X) → i < length xs → x ≡ get_or xs i x → text ≡ head ++ flat_map f (take i xs) → new ≡ text ++ f x
+    → new ≡ head ++ flat_map f (take (i + 1) xs)
+each_more f head text new xs i x lt is before one =
+    let all : flat_map f (take (i + 1) xs) ≡ flat_map f (take i xs) ++ f x =
+    ap (flat_map f) (take_more xs i x lt ∙ ap (λ y. take i xs ++ y ∷ []) (sym is))
+    ∙ flat_map-append f (take i xs) (x ∷ []) ∙ ap (λ y. flat_map f (take i xs) ++ y) (append-nil (f x)) in
+    one ∙ ap (λ t. t ++ f x) before ∙ append_assoc head (flat_map f (take i xs)) (f x) ∙ ap (λ y. head ++ y) (sym all)
+
+-- what stands on a page
+pub page_is : (first page text line : List ℕ) → first ≡ [] → page ≡ first ++ text → text ≡ line → page ≡ line
+page_is first page text line empty is same = is ∙ ap (λ x. x ++ text) empty ∙ same

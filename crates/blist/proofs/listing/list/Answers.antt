@@ -1,0 +1,25 @@
+use Rattle.std.proofs.Common.{◌≡◌, ◌∙◌, ℕ, List, [], refl, subst}
+use Rattle.std.specs.Prelude.{option_map}
+use Rattle.bcode.specs.declared.definition.Definition.{Definition}
+use Rattle.blist.specs.Listings.{listed, no_memory, stopped, unnamed, wanted}
+use Rattle.blist.specs.Told.{Told}
+use Rattle.blist.proofs.listing.list.Goals as goal
+
+pub returns-in-Err-clause-lists : goal.returns-in-Err-clause-lists
+returns-in-Err-clause-lists g c = stopped c.in-Err.ensures.gives refl
+
+pub returns-then-is_none_wanted-clause-lists : goal.returns-then-is_none_wanted-clause-lists
+returns-then-is_none_wanted-clause-lists g c =
+    unnamed (g.D.ByteOut.outgoing c.read_program.new.diag) c.in-Ok.program.definitions.items c.in-Ok.program.image c.in-Ok.ensures.gives
+    (subst (λ (ds : List Definition). wanted (option_map (λ n. n.now) c.args.name) ds ≡ []) c.deref.ensures.value (c.is_none_wanted.ensures c.if-is_none_wanted.true))
+    c.tell.ensures.told refl
+
+pub returns-in-Ok-listing-clause-lists : goal.returns-in-Ok-listing-clause-lists
+returns-in-Ok-listing-clause-lists g c =
+    let rows = c.in-Ok-listing.ensures in
+    listed c.in-Ok.program.definitions.items c.in-Ok.program.image rows.0 c.in-Ok.ensures.gives rows.1
+    (subst (λ (t : List ℕ). Told t 0 (g.O.ByteOut.outgoing c.args.out.now) (g.O.ByteOut.outgoing c.tell-in-Ok-listing.new.out) c.tell-in-Ok-listing.result)
+    (c.as_slice.ensures ∙ rows.2) c.tell-in-Ok-listing.ensures.told)
+
+pub returns-clause-lists : goal.returns-clause-lists
+returns-clause-lists g c = no_memory c.in-Ok.program.definitions.items c.in-Ok.program.image c.in-Ok.ensures.gives refl refl

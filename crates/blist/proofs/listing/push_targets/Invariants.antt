@@ -1,0 +1,7 @@
+use Rattle.std.proofs.Common.{map, take}
+use Rattle.bcode.specs.Text.{target_line}
+use Rattle.blist.specs.Listings.{Adds}
+use Rattle.blist.proofs.listing.push_targets.Given as goal
+
+abbrev pub invariant-loop-index : goal.invariant-loop-index
+invariant-loop-index l = Adds l.fn.text (map target_line (take l.index l.targets)) l.text

@@ -1,0 +1,5 @@
+pub mod Columns
+pub mod Told
+pub mod Programs
+pub mod Maps
+pub mod Listings

@@ -1,0 +1,65 @@
+-- The code of a source, as it is listed.
+use Rattle.std.specs.Prelude.{◌≡◌, ℕ, ◌+◌, ◌-◌, Bool, true, List, [], ◌∷◌, ◌++◌, codes, decimal, map, filter, length, take, All, Option, Some, None}
+use Rattle.std.specs.List.{flat_map}
+use Rattle.std.specs.Str.{bytes_eq}
+use Rattle.bword.specs.declared.edition.Edition.{Edition}
+use Rattle.bword.specs.ByteEnds.{Outgoing}
+use Rattle.bcode.specs.Text.{lines_of}
+use Rattle.bcode.specs.declared.definition.Definition.{Definition}
+use Rattle.bparse.specs.declared.status.TheConstants.{DONE, MEMORY, WRONG_COMMAND}
+use Rattle.bmach.specs.Layout.{shape_of}
+use Rattle.bmach.specs.Machine.{Image}
+use Rattle.blist.specs.declared.listing.TheConstants.{HEADING, UNDEFINED}
+use Rattle.blist.specs.Programs.{IsProgram, NoProgram}
+use Rattle.blist.specs.Told.{Ends, Told}
+
+-- a row: what stands before a line of code, the line with its newline, and what stands beside it
+pub record Row : Type 0 where
+  pub margin : List ℕ
+  pub line : List ℕ
+  pub beside : List ℕ
+
+-- a line without its newline
+abbrev pub without_newline : List ℕ → List ℕ
+without_newline line = take (length line - 1) line
+
+abbrev pub row_text : Row → List ℕ
+row_text r = r.margin ++ without_newline r.line ++ r.beside ++ codes "\n"
+
+-- These lines of code are the rows of the text, in order.
+pub record AreRows (lines : List (List ℕ)) (text : List ℕ) : Type 0 where
+  pub rows : List Row
+  pub lines_are : map (λ r. r.line) rows ≡ lines
+  pub text_is : text ≡ flat_map row_text rows
+
+-- The rows of these lines were added to a text.
+abbrev pub Adds : List ℕ → List (List ℕ) → List ℕ → Type 0
+Adds old lines new = (text : List ℕ) × AreRows lines text × (new ≡ old ++ text)
+
+-- a text was added to another one
+abbrev pub Extends : List ℕ → List ℕ → Type 0
+Extends old new = (text : List ℕ) × (new ≡ old ++ text)
+
+-- whether a definition is wanted: of a name those alone that have it
+abbrev pub is_wanted : Option (List ℕ) → Definition → Bool
+is_wanted None d = true
+is_wanted (Some name) d = bytes_eq (shape_of d).name name
+
+abbrev pub wanted : Option (List ℕ) → List Definition → List Definition
+wanted name ds = filter (is_wanted name) ds
+
+-- What is written for a source: the lines of the code of what is wanted, each in its row; or nothing but why there are
+-- none.
+pub data Lists (edition : Edition) (source : List ℕ) (name : Option (List ℕ)) (ends : Ends) (status : ℕ) : Type 0 where
+  listed : (ds : List Definition) (image : Image) (text : List ℕ)
+      → IsProgram edition source ends.line ends.line_behind ds image
+      → AreRows (flat_map lines_of (wanted name ds)) text
+      → Told (HEADING.now ++ text) DONE ends.out ends.out_behind status → Lists edition source name ends status
+  unnamed : (mid : Outgoing) (ds : List Definition) (image : Image)
+      → IsProgram edition source ends.line mid ds image → wanted name ds ≡ []
+      → Told UNDEFINED.now WRONG_COMMAND mid ends.line_behind status → ends.out_behind ≡ ends.out
+      → Lists edition source name ends status
+  stopped : NoProgram edition source ends.line ends.line_behind status → ends.out_behind ≡ ends.out
+      → Lists edition source name ends status
+  no_memory : (ds : List Definition) (image : Image) → IsProgram edition source ends.line ends.line_behind ds image
+      → ends.out_behind ≡ ends.out → status ≡ MEMORY → Lists edition source name ends status

@@ -1,0 +1,120 @@
+//! The layout of memory.
+ghost use Rattle.std.specs.Prelude.{◌≡◌, ◌++◌, IfOk, OnOk};
+ghost use Rattle.bmach.specs.Layout.{shape_of};
+ghost use Rattle.blist.specs.Maps.{Maps, dots, kind_text, map_row, map_text, words_from};
+
+use crate::program::read_program;
+use crate::telling::tell;
+use crate::text::Text;
+use bcode::Definition;
+use bmach::{Image, name_of, size_of};
+use bparse::status::{self, Status};
+use bword::{ByteOut, Edition};
+use std::alloc::{AllocError, Global};
+
+/// How many words of a name are shown.
+const SHOWN: u16 = 6;
+
+/// The columns, and the words that each program has.
+const HEADING: &[u8] = b"\
+  word  name      kind      words  values
+     0            unused        1  0
+     1  char      library       1  1
+     2  lchar     library       1  2
+     3  getchar   library       1  3
+     4  putchar   library       1  4
+     5  printn    library       1  5
+     6  exit      library       1  6
+";
+
+/// Writes where each name of a source lies, how many words it has and its first ones, and where the data end.
+///
+/// The status is 0, or as `go` has it where the source doesn't compile or load.
+pub fn map<O: ByteOut, D: ByteOut>(
+    alloc: Global,
+    source: &[u8],
+    edition: Edition,
+    out: &mut O,
+    diag: &mut D,
+) -> Status
+    ensures maps { Maps edition source.now (record {
+      out = O.outgoing out.old;
+      out_behind = O.outgoing out.new;
+      line = D.outgoing diag.old;
+      line_behind = D.outgoing diag.new;
+    }) result }
+    ensures out_lender { O.lender out.new ≡ O.lender out.old }
+    ensures diag_lender { D.lender diag.new ≡ D.lender diag.old }
+{
+    let program = match read_program(alloc, source, edition, diag) {
+        Ok(program) => program,
+        Err(status) => return status,
+    };
+    match map_text(alloc, &program.image, &program.definitions) {
+        Ok(text) => tell(text.as_slice(), status::DONE, out),
+        Err(_) => status::MEMORY,
+    }
+}
+
+fn map_text(alloc: Global, image: &Image, definitions: &[Definition]) -> Result<Text, AllocError>
+    ensures { IfOk result (λ text. text ≡ map_text image.now definitions.now) }
+{
+    let mut text = Text::new(alloc);
+    text.push(HEADING)?;
+    for definition in definitions {
+        push_row(&mut text, image, definition)?;
+    }
+    text.push(b"data end ")?;
+    text.push_number(u64::from(image.data_end()))?;
+    text.push(b"\n")?;
+    Ok(text)
+}
+
+fn push_row(text: &mut Text, image: &Image, definition: &Definition) -> Result<(), AllocError>
+    ensures { OnOk result (text.new ≡ text.old ++ map_row image.now (shape_of definition.now)) }
+{
+    let name = name_of(definition);
+    let address = image.address(&name).unwrap_or(0);
+    let words = size_of(definition);
+    text.push_right_number(6, u64::from(address))?;
+    text.push(b"  ")?;
+    text.push_left(10, name.as_bytes())?;
+    text.push_left(8, kind(definition))?;
+    text.push_right_number(7, u64::from(words))?;
+    text.push(b" ")?;
+    push_words(text, image, address, words.min(SHOWN))?;
+    push_dots(text, words)?;
+    text.push(b"\n")
+}
+
+// Whether there are more words than are shown.
+fn push_dots(text: &mut Text, words: u16) -> Result<(), AllocError>
+    ensures { OnOk result (text.new ≡ text.old ++ dots words) }
+{
+    if words > SHOWN {
+        text.push(b" ..")
+    } else {
+        text.push(b"")
+    }
+}
+
+// So many words from an address on.
+fn push_words(text: &mut Text, image: &Image, address: u16, count: u16) -> Result<(), AllocError>
+    ensures { OnOk result (text.new ≡ text.old ++ words_from image.now address count) }
+{
+    for index in 0..count {
+        text.push(b" ")?;
+        text.push_number(u64::from(image.word(address.wrapping_add(index))))?;
+    }
+    Ok(())
+}
+
+fn kind(definition: &Definition) -> &'static [u8]
+    ensures { result.now ≡ kind_text (shape_of definition.now).kind }
+{
+    match definition {
+        Definition::Function(_) => b"function",
+        Definition::Simple(_) => b"simple",
+        Definition::Vector(_) => b"vector",
+    }
+}

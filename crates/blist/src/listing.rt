@@ -1,0 +1,363 @@
+//! The code of a source, with what it comes from.
+ghost use Rattle.std.specs.Prelude.{◌≡◌, [], ◌∷◌, ◌++◌, true, IfOk, OnOk, map, option_map};
+ghost use Rattle.std.specs.List.{flat_map};
+ghost use Rattle.bcode.specs.Text.{header_line, instr_line, ival_line, lines_of, string_line, target_line};
+ghost use Rattle.bcode.specs.Parts.{function_of, simple_of, vector_of};
+ghost use Rattle.bcode.specs.declared.definition.Definition.TheVariants as definition;
+ghost use Rattle.blist.specs.Listings.{Adds, AreRows, Lists, is_wanted, wanted};
+
+use crate::frames::Frame;
+use crate::program::{Names, Program, read_program};
+use crate::rows::{Named, Spot, Told, push_row};
+use crate::source_lines::SourceLines;
+use crate::telling::tell;
+use crate::text::Text;
+use bcode::{
+    Definition, FunctionParts, Instr, Ival, Page, SimpleParts, VectorParts, push_header_line,
+    push_instr_line, push_ival_line, push_number_line,
+};
+use bmach::name_of;
+use bparse::status::{self, Status};
+use bword::{ByteOut, Edition};
+use std::alloc::{AllocError, Global};
+
+/// The columns of a listing.
+const HEADING: &[u8] =
+    b" place  line  code          source                                  name\n";
+
+/// What is said of a name that the source doesn't define.
+const UNDEFINED: &[u8] = b"error: the source has no definition of this NAME\n";
+
+/// Writes the code of a source, or of its definitions of one name, with the line of the source that each instruction
+/// comes from.
+///
+/// The status is 0, or as `go` has it where the source doesn't compile or load. It is 135 where no definition has the
+/// name, and a line says so.
+pub fn list<O: ByteOut, D: ByteOut>(
+    alloc: Global,
+    source: &[u8],
+    edition: Edition,
+    name: Option<&str>,
+    out: &mut O,
+    diag: &mut D,
+) -> Status
+    ensures lists { Lists edition source.now (option_map (λ n. n.now) name.entry) (record {
+      out = O.outgoing out.old;
+      out_behind = O.outgoing out.new;
+      line = D.outgoing diag.old;
+      line_behind = D.outgoing diag.new;
+    }) result }
+    ensures out_lender { O.lender out.new ≡ O.lender out.old }
+    ensures diag_lender { D.lender diag.new ≡ D.lender diag.old }
+{
+    let program = match read_program(alloc, source, edition, diag) {
+        Ok(program) => program,
+        Err(status) => return status,
+    };
+    if is_none_wanted(&program.definitions, name) {
+        return tell(UNDEFINED, status::WRONG_COMMAND, diag);
+    }
+    match listing(alloc, &program, source, name) {
+        Ok(text) => tell(text.as_slice(), status::DONE, out),
+        Err(_) => status::MEMORY,
+    }
+}
+
+fn is_none_wanted(definitions: &[Definition], name: Option<&str>) -> bool
+    ensures { result ≡ true → wanted (option_map (λ n. n.now) name.entry) definitions.now ≡ [] }
+{
+    for definition in definitions {
+        if is_wanted(definition, name) {
+            return false;
+        }
+    }
+    true
+}
+
+fn is_wanted(definition: &Definition, name: Option<&str>) -> bool
+    ensures { result ≡ is_wanted (option_map (λ n. n.now) name.entry) definition.now }
+{
+    match name {
+        None => true,
+        Some(name) => name_of(definition).as_str() == name,
+    }
+}
+
+fn listing(
+    alloc: Global,
+    program: &Program,
+    source: &[u8],
+    name: Option<&str>,
+) -> Result<Text, AllocError>
+    ensures { IfOk result (Adds HEADING.now (flat_map lines_of (wanted (option_map (λ n. n.now) name.entry) program.now.definitions.items))) }
+{
+    let sources = SourceLines::new(alloc, source)?;
+    let mut text = Text::new(alloc);
+    text.push(HEADING)?;
+    let mut frames = program.names.frames.as_slice();
+    let mut lines = program.names.lines.as_slice();
+    for definition in &program.definitions {
+        let told = Sources {
+            lines: &lines[..lines.len().min(lines_in(definition))],
+            frame: frames.first(),
+            texts: &sources,
+        };
+        let address = program.image.address(&name_of(definition)).unwrap_or(0);
+        push_wanted(&mut text, definition, name, address, told)?;
+        lines = lines.get(lines_in(definition)..).unwrap_or(&[]);
+        if let Definition::Function(_) = definition {
+            frames = frames.get(1..).unwrap_or(&[]);
+        }
+    }
+    Ok(text)
+}
+
+// What is known of the source of a definition.
+#[derive(Clone, Copy)]
+struct Sources<'a> {
+    // The line of each instruction or initial value.
+    lines: &'a [u64],
+    // The names of a function.
+    frame: Option<&'a Frame>,
+    texts: &'a SourceLines<'a>,
+}
+
+// How many instructions or initial values a definition has.
+fn lines_in(definition: &Definition) -> usize {
+    match definition {
+        Definition::Function(function) => function.parts().code.len(),
+        Definition::Simple(simple) => simple.parts().values.len(),
+        Definition::Vector(vector) => vector.parts().values.len(),
+    }
+}
+
+// The rows of a definition at an address, if it is wanted.
+fn push_wanted(
+    text: &mut Text,
+    definition: &Definition,
+    name: Option<&str>,
+    address: u16,
+    told: Sources<'_>,
+) -> Result<(), AllocError>
+    ensures { OnOk result (Adds text.old (flat_map lines_of (wanted (option_map (λ n. n.now) name.entry) (definition.now ∷ []))) text.new) }
+{
+    if is_wanted(definition, name) {
+        push_definition(text, definition, address, told)
+    } else {
+        Ok(())
+    }
+}
+
+// The rows of a definition at an address.
+fn push_definition(
+    text: &mut Text,
+    definition: &Definition,
+    address: u16,
+    told: Sources<'_>,
+) -> Result<(), AllocError>
+    ensures { OnOk result (Adds text.old (lines_of definition.now) text.new) }
+{
+    match definition {
+        Definition::Function(function) => push_function(text, function.parts(), address, told),
+        Definition::Simple(simple) => push_simple(text, simple.parts(), address, told),
+        Definition::Vector(vector) => push_vector(text, vector.parts(), address, told),
+    }
+}
+
+fn push_function(
+    text: &mut Text,
+    parts: &FunctionParts,
+    address: u16,
+    told: Sources<'_>,
+) -> Result<(), AllocError>
+    ensures { OnOk result (Adds text.old (lines_of (definition.Function (function_of parts.now))) text.new) }
+{
+    let counts = [
+        usize::from(parts.parameters),
+        usize::from(parts.frame),
+        parts.targets.len(),
+        parts.strings.len(),
+        parts.code.len(),
+    ];
+    let mut page = Page::new();
+    push_header_line(&mut page, b'F', parts.name, &counts);
+    push_header(text, &page, address)?;
+    push_targets(text, &parts.targets, told.frame)?;
+    push_strings(text, &parts.strings, address.wrapping_add(1))?;
+    push_code(text, &parts.code, told)
+}
+
+fn push_simple(
+    text: &mut Text,
+    parts: &SimpleParts,
+    address: u16,
+    told: Sources<'_>,
+) -> Result<(), AllocError>
+    ensures { OnOk result (Adds text.old (lines_of (definition.Simple (simple_of parts.now))) text.new) }
+{
+    let counts = [parts.values.len(), parts.strings.len()];
+    let mut page = Page::new();
+    push_header_line(&mut page, b'X', parts.name, &counts);
+    push_header(text, &page, address)?;
+    push_values(text, &parts.values, address, told.lines)?;
+    let words = low_word(parts.values.len().max(1));
+    push_strings(text, &parts.strings, address.wrapping_add(words))
+}
+
+fn push_vector(
+    text: &mut Text,
+    parts: &VectorParts,
+    address: u16,
+    told: Sources<'_>,
+) -> Result<(), AllocError>
+    ensures { OnOk result (Adds text.old (lines_of (definition.Vector (vector_of parts.now))) text.new) }
+{
+    let counts = [
+        usize::from(parts.words),
+        parts.values.len(),
+        parts.strings.len(),
+    ];
+    let mut page = Page::new();
+    push_header_line(&mut page, b'V', parts.name, &counts);
+    push_header(text, &page, address)?;
+    let first = address.wrapping_add(1);
+    push_values(text, &parts.values, first, told.lines)?;
+    let words = low_word(parts.values.len()).max(parts.words);
+    push_strings(text, &parts.strings, first.wrapping_add(words))
+}
+
+// A number modulo 65536, as addresses are reckoned.
+fn low_word(number: usize) -> u16 {
+    (number % 65536) as u16
+}
+
+fn push_header(text: &mut Text, page: &Page, address: u16) -> Result<(), AllocError>
+    ensures { OnOk result (Adds text.old (page.now ∷ []) text.new) }
+{
+    let told = Told {
+        spot: Spot::Address(address),
+        line: None,
+        source: b"",
+        named: Named::Nothing,
+    };
+    push_row(text, page, told)
+}
+
+// The targets of labels.
+fn push_targets(text: &mut Text, targets: &[u16], frame: Option<&Frame>) -> Result<(), AllocError>
+    ensures { OnOk result (Adds text.old (map target_line targets.now) text.new) }
+{
+    for (index, target) in targets.iter().enumerate() {
+        let mut page = Page::new();
+        push_number_line(&mut page, b't', *target);
+        let told = Told {
+            spot: Spot::Nowhere,
+            line: None,
+            source: b"",
+            named: label_in(frame, index),
+        };
+        push_row(text, &page, told)?;
+    }
+    Ok(())
+}
+
+// String words, which lie from an address on.
+fn push_strings(text: &mut Text, words: &[u16], address: u16) -> Result<(), AllocError>
+    ensures { OnOk result (Adds text.old (map string_line words.now) text.new) }
+{
+    for (index, word) in words.iter().enumerate() {
+        let mut page = Page::new();
+        push_number_line(&mut page, b'w', *word);
+        let told = Told {
+            spot: Spot::Address(address.wrapping_add(low_word(index))),
+            line: None,
+            source: b"",
+            named: Named::Characters(*word),
+        };
+        push_row(text, &page, told)?;
+    }
+    Ok(())
+}
+
+// Initial values with their lines, which lie from an address on.
+fn push_values(
+    text: &mut Text,
+    values: &[Ival],
+    address: u16,
+    lines: &[u64],
+) -> Result<(), AllocError>
+    ensures { OnOk result (Adds text.old (map ival_line values.now) text.new) }
+{
+    for (index, value) in values.iter().enumerate() {
+        let mut page = Page::new();
+        push_ival_line(&mut page, *value);
+        let told = Told {
+            spot: Spot::Address(address.wrapping_add(low_word(index))),
+            line: lines.get(index).copied(),
+            source: b"",
+            named: Named::Nothing,
+        };
+        push_row(text, &page, told)?;
+    }
+    Ok(())
+}
+
+// Instructions with their lines, the text of each line beside the first one that comes from it.
+fn push_code(text: &mut Text, code: &[Instr], told: Sources<'_>) -> Result<(), AllocError>
+    ensures { OnOk result (Adds text.old (map instr_line code.now) text.new) }
+{
+    let mut before = None;
+    for (place, instr) in code.iter().enumerate() {
+        let line = told.lines.get(place).copied();
+        let source = source_text(told.texts, before, line);
+        before = line;
+        let mut page = Page::new();
+        push_instr_line(&mut page, instr);
+        let told = Told {
+            spot: Spot::Place(low_word(place)),
+            line,
+            source,
+            named: named(told.frame, instr),
+        };
+        push_row(text, &page, told)?;
+    }
+    Ok(())
+}
+
+// The text of a line, unless it is the line before.
+fn source_text<'a>(texts: &SourceLines<'a>, before: Option<u64>, line: Option<u64>) -> &'a [u8] {
+    match line {
+        Some(line) if before != Some(line) => texts.text(line),
+        _ => b"",
+    }
+}
+
+// The name of what an instruction speaks of.
+fn named(frame: Option<&Frame>, instr: &Instr) -> Named {
+    match instr {
+        Instr::Automatic(offset) => word_in(frame, *offset),
+        Instr::Label(number) => label_in(frame, usize::from(*number)),
+        _ => Named::Nothing,
+    }
+}
+
+fn word_in(frame: Option<&Frame>, offset: u16) -> Named {
+    let Some(frame) = frame else {
+        return Named::Nothing;
+    };
+    match frame.word(u32::from(offset)) {
+        Some((name, false)) => Named::Name(name),
+        Some((name, true)) => Named::First(name),
+        None => Named::Nothing,
+    }
+}
+
+fn label_in(frame: Option<&Frame>, number: usize) -> Named {
+    let Some(frame) = frame else {
+        return Named::Nothing;
+    };
+    match frame.labels.get(number) {
+        Some(name) => Named::Name(*name),
+        None => Named::Nothing,
+    }
+}

@@ -1,0 +1,37 @@
+//! The lines of a source.
+use std::alloc::{AllocError, Global};
+
+/// Where the lines of a source lie.
+#[derive(Drop)]
+pub struct SourceLines<'a> {
+    source: &'a [u8],
+    // Where each line begins, and where one would begin behind the source.
+    starts: Vec<usize>,
+}
+
+impl<'a> SourceLines<'a> {
+    pub fn new(alloc: Global, source: &'a [u8]) -> Result<Self, AllocError> {
+        let mut starts = Vec::new(alloc);
+        starts.push(0)?;
+        for (index, byte) in source.iter().enumerate() {
+            if *byte == b'\n' {
+                starts.push(index + 1)?;
+            }
+        }
+        starts.push(source.len())?;
+        Ok(SourceLines { source, starts })
+    }
+
+    /// The text of a line, from 1, without the blanks around it.
+    pub fn text(&self, line: u64) -> &'a [u8] {
+        let last = line as usize;
+        if last == 0 || last >= self.starts.len() {
+            return b"";
+        }
+        let source = self.source;
+        match source.get(self.starts[last - 1]..self.starts[last]) {
+            Some(text) => text.trim_ascii(),
+            None => b"",
+        }
+    }
+}

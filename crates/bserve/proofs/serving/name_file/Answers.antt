@@ -1,0 +1,10 @@
+use Rattle.std.proofs.Common.{◌∙◌, ℕ, List, inl, refl, subst}
+use Rattle.brun.specs.Reports.{Reported}
+use Rattle.bserve.proofs.serving.name_file.Goals as goal
+
+pub returns-in-Ok-clause-names : goal.returns-in-Ok-clause-names
+returns-in-Ok-clause-names g c unread out =
+    inl (
+      record { unread = refl; silent = refl },
+      subst (λ (t : List ℕ). Reported t 133 (g.D.ByteOut.outgoing c.args.diag.now) (g.D.ByteOut.outgoing c.tell.new.end) c.tell.result) (c.as_str.ensures.value ∙ c.in-Ok.ensures) c.tell.ensures.gives,
+    )
