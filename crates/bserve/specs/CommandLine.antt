@@ -15,6 +15,9 @@ use Rattle.clap.specs.declared.builder.action.ArgAction.TheVariants.{Set, SetTru
 use Rattle.clap.specs.declared.builder.value_parser.ValueParser.TheVariants as parser
 use Rattle.bword.specs.declared.edition.Edition.{Edition}
 use Rattle.bword.specs.declared.edition.Edition.TheVariants as editions
+use Rattle.bcheck.specs.declared.form.Form.{Form}
+use Rattle.bcheck.specs.declared.form.Form.TheVariants as form
+use Rattle.bcheck.specs.declared.form.Request.{Request}
 use Rattle.bserve.specs.declared.command.Job.{Job}
 use Rattle.bserve.specs.declared.command.Job.TheVariants as job
 use Rattle.bserve.specs.declared.command.Target.{Target}
@@ -40,6 +43,9 @@ no_limit_rule = record (new_rule (codes "no-limit")) { long = Some (codes "no-li
 abbrev pub file_rule : Rule
 file_rule = record (new_rule (codes "FILE")) { required = true; action = Some Set }
 
+abbrev pub json_rule : Rule
+json_rule = record (new_rule (codes "json")) { long = Some (codes "json"); action = Some SetTrue }
+
 -- a command with the options of a run
 abbrev pub running : App → App
 running command = with_rule (with_rule (with_rule command steps_rule) no_limit_rule) file_rule
@@ -61,11 +67,14 @@ go_command = running (with_rule (new_app (codes "go")) edition_rule)
 abbrev pub migrate_command : App
 migrate_command = new_app (codes "migrate")
 
--- `b compile`, `b run`, `b go` and `b migrate`, one of which there has to be
+abbrev pub check_command : App
+check_command = with_rule (with_rule (with_rule (new_app (codes "check")) edition_rule) json_rule) file_rule
+
+-- `b compile`, `b run`, `b go`, `b migrate` and `b check`, one of which there has to be
 abbrev pub command_line : App
-command_line = with_subcommand (with_subcommand (with_subcommand (with_subcommand
+command_line = with_subcommand (with_subcommand (with_subcommand (with_subcommand (with_subcommand
     (on_top (λ s. record s { has_version = true; subcommand_required = true }) (new_app (codes "b")))
-    compile_command.top) run_command.top) go_command.top) migrate_command.top
+    compile_command.top) run_command.top) go_command.top) migrate_command.top) check_command.top
 
 -- the digits of a number that a u64 holds
 abbrev pub is_number : Text → Bool
@@ -104,13 +113,19 @@ steps_in rows = steps_asked (number_in (codes "steps") rows) (is_set_in (codes "
 abbrev pub file_in : List Row → Text
 file_in rows = unwrap_or (first_of (codes "FILE") rows) []
 
+-- in which form findings are told
+abbrev pub form_in : List Row → Form
+form_in rows = if is_set_in (codes "json") rows then form.Json else form.Text
+
 -- What is asked for: that a source is compiled, that the code text in a file is run, that the source in a file is
--- compiled and run, that a code text is migrated; or a limit of steps and none, which contradict each other.
+-- compiled and run, that a code text is migrated, that the source in a file is checked; or a limit of steps and none,
+-- which contradict each other.
 pub data Asked : Type 0 where
   compile : (edition : Edition) → Asked
   run : (file : Text) (steps : ℕ) → Asked
   go : (file : Text) (steps : ℕ) (edition : Edition) → Asked
   migrate : Asked
+  check : (file : Text) (edition : Edition) (form : Form) → Asked
   contradiction : Asked
 
 abbrev pub run_asked : Text → Option ℕ → Asked
@@ -125,7 +140,9 @@ go_asked file edition None = contradiction
 abbrev pub asked_by : Text → List Row → Asked
 asked_by name rows = if bytes_eq name (codes "run") then run_asked (file_in rows) (steps_in rows)
     else (if bytes_eq name (codes "go") then go_asked (file_in rows) (edition_in rows) (steps_in rows)
-    else (if bytes_eq name (codes "migrate") then migrate else compile (edition_in rows)))
+    else (if bytes_eq name (codes "migrate") then migrate
+    else (if bytes_eq name (codes "check") then check (file_in rows) (edition_in rows) (form_in rows)
+    else compile (edition_in rows))))
 
 abbrev pub asked : Option (Text × List Row) → Asked
 asked None = compile editions.One
@@ -137,7 +154,11 @@ shown (Some (job.Compile edition)) = compile edition
 shown (Some (job.Run target)) = run target.file.now target.steps
 shown (Some (job.Go target edition)) = go target.file.now target.steps edition
 shown (Some job.Migrate) = migrate
+shown (Some (job.Check request)) = check request.file.now request.edition request.form
 shown None = contradiction
 
 abbrev pub target_shown : Target → Text × ℕ
 target_shown target = (target.file.now, target.steps)
+
+abbrev pub request_shown : Request → Text × Edition × Form
+request_shown request = (request.file.now, request.edition, request.form)

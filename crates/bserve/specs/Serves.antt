@@ -1,5 +1,5 @@
 -- What comes of a command line.
-use Rattle.std.specs.Prelude.{◌≡◌, ◌≢◌, ℕ, List, [], codes, ◌⊎◌}
+use Rattle.std.specs.Prelude.{◌≡◌, ◌≢◌, ℕ, List, [], ◌++◌, codes, ◌⊎◌}
 use Rattle.clap.specs.Words.{IsAmong, Text, fault_of, subcommand_of}
 use Rattle.clap.specs.declared.error.kind.ErrorKind.{ErrorKind}
 use Rattle.clap.specs.declared.error.kind.ErrorKind.TheVariants as kind
@@ -10,7 +10,8 @@ use Rattle.brun.specs.Going.{GoesOff}
 use Rattle.brun.specs.Migrates.{Migrates}
 use Rattle.brun.specs.Reports.{Reported}
 use Rattle.brun.specs.Runs.{Ends, HasNotRun, RunsText}
-use Rattle.bserve.specs.CommandLine.{Asked, asked, command_line, compile, run, go, migrate, contradiction}
+use Rattle.bcheck.specs.Checks.{Checks}
+use Rattle.bserve.specs.CommandLine.{Asked, asked, command_line, compile, run, go, migrate, check, contradiction}
 
 -- what is said of words that aren't UTF-8
 abbrev pub unread_line : List ℕ
@@ -30,6 +31,15 @@ pub record IsSilent (ends : Ends) (status answer : ℕ) : Type 0 where
 -- The file could not be opened or read.
 abbrev pub HasNoFile : Ends → ℕ → Type 0
 HasNoFile ends status = IsSilent ends status DEVICE ⊎ IsSilent ends status MEMORY
+
+-- what is said of a file that can't be opened or read
+abbrev pub no_file_line : List ℕ → List ℕ
+no_file_line file = codes "error: the file '" ++ file ++ codes "' can't be read\n"
+
+-- The file could not be opened or read, and its name was told, unless memory was refused.
+abbrev pub NamesFile : List ℕ → Ends → ℕ → Type 0
+NamesFile file ends status =
+    HasNotRun ends × Reported (no_file_line file) DEVICE ends.line ends.line_behind status ⊎ IsSilent ends status MEMORY
 
 -- what was asked for is done; no contract can say what a file holds
 abbrev pub Does : Asked → Ends → ℕ → Type 0
@@ -52,6 +62,15 @@ Does migrate ends status = Migrates (record {
   out = ends.out;
   out_behind = ends.out_behind;
 }) ends.line ends.line_behind status
+Does (check file edition form) ends status = NamesFile file ends status
+    ⊎ ((source : List ℕ) × (ends.input_behind ≡ ends.input) × (ends.line_behind ≡ ends.line) × Checks (record {
+      edition = edition;
+      form = form;
+      source = source;
+      out = ends.out;
+      out_behind = ends.out_behind;
+      status = status;
+    }))
 Does contradiction ends status =
     HasNotRun ends × Reported contradiction_line WRONG_COMMAND ends.line ends.line_behind status
 

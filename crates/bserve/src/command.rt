@@ -1,9 +1,12 @@
 //! What the words of a command line ask for.
 ghost use Rattle.std.specs.Prelude.{◌≡◌, [], IfOk, IfErr, false, map, option_map, string_bytes};
 ghost use Rattle.clap.specs.Words.{HasKind, app_of, fault_of, found_of, rows_of, rule_of, subcommand_of, subcommand_rows_of};
-ghost use Rattle.bserve.specs.CommandLine.{IsShaped, asked, command_line, compile_command, edition_in, edition_rule, file_in, file_rule, go_command, is_set_in, migrate_command, no_limit_rule, number_in, run_command, shown, steps_asked, steps_in, steps_rule, target_shown};
+ghost use Rattle.bserve.specs.CommandLine.{IsShaped, asked, check_command, command_line, compile_command, edition_in, edition_rule, file_in, file_rule, form_in, go_command, is_set_in, json_rule, migrate_command, no_limit_rule, number_in, request_shown, run_command, shown, steps_asked, steps_in, steps_rule, target_shown};
 
-use crate::texts::{ABOUT, COMPILE_HELP, GO_HELP, HELP, MIGRATE_HELP, RUN_HELP, VERSION};
+use crate::texts::{
+    ABOUT, CHECK_HELP, COMPILE_HELP, GO_HELP, HELP, MIGRATE_HELP, RUN_HELP, VERSION,
+};
+use bcheck::{Form, Request};
 use bword::Edition;
 use clap::{Arg, ArgAction, ArgMatches, Command, Error, value_parser};
 use std::alloc::{AllocError, Global};
@@ -21,6 +24,7 @@ pub(crate) enum Job<'a> {
     Run(Target<'a>),
     Go(Target<'a>, Edition),
     Migrate,
+    Check(Request<'a>),
 }
 
 /// A file to run, and how long.
@@ -50,6 +54,7 @@ pub(crate) fn job_of<'a>(matches: &ArgMatches<'a>) -> Option<Job<'a>>
         "run" => Some(Job::Run(target_of(given)?)),
         "go" => Some(Job::Go(target_of(given)?, edition_of(given))),
         "migrate" => Some(Job::Migrate),
+        "check" => Some(Job::Check(request_of(given))),
         _ => Some(Job::Compile(edition_of(given))),
     }
 }
@@ -60,6 +65,27 @@ fn edition_of(given: &ArgMatches<'_>) -> Edition
     match number_of(given, "edition") {
         Some(2) => Edition::Two,
         _ => Edition::One,
+    }
+}
+
+fn request_of<'a>(given: &ArgMatches<'a>) -> Request<'a>
+    ensures { request_shown result ≡ (file_in (rows_of (found_of given.now)), edition_in (rows_of (found_of given.now)), form_in (rows_of (found_of given.now))) }
+{
+    let file = given.get_str("FILE").unwrap_or("");
+    Request {
+        edition: edition_of(given),
+        file,
+        form: form_of(given),
+    }
+}
+
+fn form_of(given: &ArgMatches<'_>) -> Form
+    ensures { result ≡ form_in (rows_of (found_of given.now)) }
+{
+    if is_set(given, "json") {
+        Form::Json
+    } else {
+        Form::Text
     }
 }
 
@@ -108,7 +134,8 @@ fn command<'a>(alloc: Global) -> Result<Command<'a>, AllocError>
     all.subcommand(compile_command(alloc)?)?
         .subcommand(run_command(alloc)?)?
         .subcommand(go_command(alloc)?)?
-        .subcommand(migrate_command(alloc)?)
+        .subcommand(migrate_command(alloc)?)?
+        .subcommand(check_command(alloc)?)
 }
 
 fn compile_command<'a>(alloc: Global) -> Result<Command<'a>, AllocError>
@@ -154,6 +181,17 @@ fn migrate_command<'a>(alloc: Global) -> Result<Command<'a>, AllocError>
     Ok(command)
 }
 
+fn check_command<'a>(alloc: Global) -> Result<Command<'a>, AllocError>
+    ensures { IfOk result (IsShaped check_command) }
+{
+    Command::new(alloc, "check")
+        .about("Tells what is wrong in the source in FILE, where, and how to mend it")
+        .after_help(CHECK_HELP)
+        .arg(edition_option(alloc))?
+        .arg(json_flag(alloc))?
+        .arg(file_argument(alloc))
+}
+
 // The option of a command that compiles.
 fn edition_option<'a>(alloc: Global) -> Arg<'a>
     ensures rule { rule_of result ≡ edition_rule }
@@ -189,6 +227,16 @@ fn no_limit_flag<'a>(alloc: Global) -> Arg<'a>
         .help("As many steps as it takes")
 }
 
+fn json_flag<'a>(alloc: Global) -> Arg<'a>
+    ensures rule { rule_of result ≡ json_rule }
+    ensures local { result.global ≡ false }
+{
+    Arg::new(alloc, "json")
+        .long("json")
+        .action(ArgAction::SetTrue)
+        .help("An object a line, for an editor")
+}
+
 fn file_argument<'a>(alloc: Global) -> Arg<'a>
     ensures rule { rule_of result ≡ file_rule }
     ensures local { result.global ≡ false }
@@ -196,5 +244,5 @@ fn file_argument<'a>(alloc: Global) -> Arg<'a>
     Arg::new(alloc, "FILE")
         .required(true)
         .action(ArgAction::Set)
-        .help("The file to run")
+        .help("The file")
 }

@@ -1,21 +1,22 @@
 //! Serving a command line.
-ghost use Rattle.std.specs.Prelude.{◌≡◌, ◌⊎◌, map, string_bytes};
+ghost use Rattle.std.specs.Prelude.{◌≡◌, ◌⊎◌, IfOk, map, string_bytes};
 ghost use Rattle.clap.specs.Words.{kind_of};
-ghost use Rattle.bword.specs.ByteEnds.{Incoming};
+ghost use Rattle.bword.specs.ByteEnds.{Incoming, Outgoing};
 ghost use Rattle.bparse.specs.declared.status.TheConstants.{DEVICE, MEMORY, WRONG_COMMAND};
 ghost use Rattle.brun.specs.Reports.{Reported};
-ghost use Rattle.bserve.specs.CommandLine.{go, run, shown};
-ghost use Rattle.bserve.specs.Serves.{Does, Refuses, Serves, unread_line};
+ghost use Rattle.bserve.specs.CommandLine.{check, go, run, shown};
+ghost use Rattle.bserve.specs.Serves.{Does, NamesFile, Refuses, Serves, no_file_line, unread_line};
 
 use crate::command::{Job, Target, job_of, parse};
 use crate::texts::{CONTRADICTION, UNREAD};
+use bcheck::{Request, check};
 use bparse::compile_edition;
 use bparse::status::{self, Status};
 use brun::{go_edition, migrate, run_text};
 use bword::{ByteIn, ByteOut, Edition, Reading};
 use clap::Error;
 use clap::error::ErrorKind;
-use std::alloc::Global;
+use std::alloc::{AllocError, Global};
 use std::io::Read;
 use std::rt::Files;
 use std::{fs, io};
@@ -74,6 +75,7 @@ fn perform<R: AllocGlobal + Files, I: ByteIn, O: ByteOut, D: ByteOut>(
         Some(Job::Run(target)) => run_file(rt, target, input, out, diag),
         Some(Job::Go(target, edition)) => go_file(rt, target, edition, input, out, diag),
         Some(Job::Migrate) => migrate(rt.alloc(), input, out, diag),
+        Some(Job::Check(request)) => check_file(rt, request, out, diag),
         None => refuse_with(CONTRADICTION, diag),
     }
 }
@@ -137,6 +139,60 @@ fn go_file<R: AllocGlobal + Files, I: ByteIn, O: ByteOut, D: ByteOut>(
         ),
         Err(error) => status_of(&error),
     }
+}
+
+// Checks the source in a file.
+fn check_file<R: AllocGlobal + Files, O: ByteOut, D: ByteOut>(
+    rt: &R,
+    request: Request<'_>,
+    out: &mut O,
+    diag: &mut D,
+) -> Status
+    ensures does { (unread : Incoming) → Does (check request.entry.file.now request.entry.edition request.entry.form) (record {
+      input = unread;
+      input_behind = unread;
+      out = O.outgoing out.old;
+      out_behind = O.outgoing out.new;
+      line = D.outgoing diag.old;
+      line_behind = D.outgoing diag.new;
+    }) result }
+    ensures out_lender { O.lender out.new ≡ O.lender out.old }
+    ensures diag_lender { D.lender diag.new ≡ D.lender diag.old }
+{
+    match fs::read(rt, request.file) {
+        Ok(source) => check(rt.alloc(), source.as_slice(), request, out),
+        Err(error) => name_file(rt.alloc(), request.file, &error, diag),
+    }
+}
+
+// Tells that a file can't be opened or read.
+fn name_file<D: ByteOut>(alloc: Global, file: &str, error: &io::Error, diag: &mut D) -> Status
+    ensures names { (unread : Incoming) (out : Outgoing) → NamesFile file.now (record {
+      input = unread;
+      input_behind = unread;
+      out = out;
+      out_behind = out;
+      line = D.outgoing diag.old;
+      line_behind = D.outgoing diag.new;
+    }) result }
+    ensures diag_lender { D.lender diag.new ≡ D.lender diag.old }
+{
+    if status_of(error) == status::MEMORY {
+        return status::MEMORY;
+    }
+    match no_file_line(alloc, file) {
+        Ok(text) => tell(text.as_str(), status::DEVICE, diag),
+        Err(_) => status::MEMORY,
+    }
+}
+
+fn no_file_line(alloc: Global, file: &str) -> Result<String, AllocError>
+    ensures { IfOk result (λ text. string_bytes text ≡ no_file_line file.now) }
+{
+    let mut text = String::from_str(alloc, "error: the file '")?;
+    text.push_str(file)?;
+    text.push_str("' can't be read\n")?;
+    Ok(text)
 }
 
 // A file that is closed at its end: a run whose standard input is closed doesn't find it in that place.
