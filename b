@@ -95,13 +95,16 @@ find_file() {
     [ "$count" -eq 1 ] || place=0
 }
 
+# Whether the words ask for what names its file.
+names_its_file() { [[ ${1-} == check ]]; }
+
 # Whether the words may ask for a code text.
 asks_for_code() { [[ $* =~ ^(migrate|compile(' --edition'[ =][0-9+]*[12])?)(' --')?$ ]]; }
 
 # Gives the answer of an unproved run, whose status is then in `status`. Returns 1 where there is none.
 answer_unproved() {
     local place words=("$@") file= data=() behind=
-    ! asks_for_code "$@" || return 1
+    ! asks_for_code "$@" && ! names_its_file "$@" || return 1
     find_file "$@"
     if [ "$place" -gt 0 ]; then
         behind=", and then the proof goes on"

@@ -1,12 +1,12 @@
 -- What the compiler and the loader answer over memory is what a source comes to.
 use Rattle.std.proofs.Common.{◌≡◌, ℕ, List, [], ◌∷◌, ◌++◌, map, refl, sym, ap, ◌∙◌, subst, append-nil}
-use Rattle.std.specs.Prelude.{Bool, true, false, Option, Some, None, IfSome}
+use Rattle.std.specs.Prelude.{false, Option, Some, None, IfSome}
 use Rattle.bword.specs.declared.edition.Edition.{Edition}
-use Rattle.bword.specs.ByteEnds.{Incoming, Outgoing, Kept, Unread, Took, CanFollow, Writes, incoming_of, outgoing_of}
+use Rattle.bword.specs.ByteEnds.{Outgoing, Kept, Unread, Took, CanFollow, Writes, incoming_of, outgoing_of}
 use Rattle.bcode.specs.Text.{IsCodeText}
 use Rattle.bcode.specs.declared.definition.Definition.{Definition}
 use Rattle.btree.specs.Code.{code_of}
-use Rattle.btree.specs.Compiled.{Outcome, code_text, line_of}
+use Rattle.btree.specs.Compiled.{code_text, line_of}
 use Rattle.bback.proofs.ReadingBack.{reads_back}
 use Rattle.bmach.specs.Layout.{load_fault}
 use Rattle.bmach.specs.declared.fault.LoadFault.{LoadFault}

@@ -1,5 +1,5 @@
 -- What is written of a source that is checked.
-use Rattle.std.specs.Prelude.{◌≡◌, ℕ, List, [], ◌++◌, codes, map, Option, Some, None, ◌⊎◌}
+use Rattle.std.specs.Prelude.{◌≡◌, ℕ, List, [], ◌++◌, codes, map, Option, Some, None}
 use Rattle.bword.specs.declared.edition.Edition.{Edition}
 use Rattle.bword.specs.ByteEnds.{Outgoing, Writes, Refuses}
 use Rattle.bword.specs.declared.byte_out.EndFault.{EndFault}

@@ -24,6 +24,7 @@ pub(crate) enum Matter {
     NotLvalue,
     NoAddress,
     Unknown,
+    OtherEdition,
     TooManyNames,
     TooManyCases,
     TooLarge,
@@ -152,6 +153,11 @@ impl Matter {
                 "un",
                 "@ is neither declared nor a label",
                 "auto @; for a word of the function, extrn @; for an external",
+            ),
+            Matter::OtherEdition => (
+                "un",
+                "in edition 1 @ is a name, neither declared nor a label",
+                "b check --edition 2 takes it for the statement",
             ),
             Matter::TooManyNames => (
                 ">s",

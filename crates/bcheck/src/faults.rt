@@ -94,9 +94,16 @@ fn matter_of(diagnostic: &Diagnostic, spans: &[Span], token: usize, first: Optio
         (Letters::NotLvalue, _) => Matter::NotLvalue,
         (Letters::TooManyNames, _) => Matter::TooManyNames,
         (Letters::TooManyCases, _) => Matter::TooManyCases,
+        (Letters::Undefined, About::Name(name)) if is_word_of_edition_two(name) =>
+            Matter::OtherEdition,
         (Letters::Undefined, _) => Matter::Unknown,
         (Letters::TooLarge, _) => Matter::TooLarge,
     }
+}
+
+// Whether edition 2 has this name as a keyword.
+fn is_word_of_edition_two(name: Name) -> bool {
+    matches!(name.as_bytes(), b"break" | b"default")
 }
 
 // What is said of a token with which no program goes on.

@@ -318,6 +318,26 @@ x.b:1:26: error: the switch has a case of this value already
 }
 
 #[test]
+fn words_of_the_second_edition(rt: HostRuntime) {
+    let rows = "\
+f() while(1) break;
+~1~un break 1
+x.b:1:14: error: in edition 1 break is a name, neither declared nor a label
+    f() while(1) break;
+                 ^^^^^
+  mend: b check --edition 2 takes it for the statement
+@
+f() { goto default; }
+~1~un default 1
+x.b:1:12: error: in edition 1 default is a name, neither declared nor a label
+    f() { goto default; }
+               ^^^^^^^
+  mend: b check --edition 2 takes it for the statement
+";
+    all_told(&rt, Edition::One, Form::Text, rows);
+}
+
+#[test]
 fn faults_of_the_second_edition(rt: HostRuntime) {
     let rows = "\
 f() default: ;

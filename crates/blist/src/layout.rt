@@ -16,8 +16,7 @@ use std::alloc::{AllocError, Global};
 const SHOWN: u16 = 6;
 
 /// The columns, and the words that each program has.
-const HEADING: &[u8] = b"\
-  word  name      kind      words  values
+const HEADING: &[u8] = b"  word  name      kind      words  values
      0            unused        1  0
      1  char      library       1  1
      2  lchar     library       1  2

@@ -150,6 +150,43 @@ b go break.b --edition 2~~sx break 1
 }
 
 #[test]
+fn checks(rt: HostRuntime) -> Result<(), Fail> {
+    fs::write(&rt, "hello.b", HELLO.as_bytes())?;
+    fs::write(&rt, "break.b", b"f() break;")?;
+    let rows = "\
+b check hello.b~~~0
+@
+b check --json hello.b~~~0
+@
+b check break.b~un break 1
+break.b:1:5: error: in edition 1 break is a name, neither declared nor a label
+    f() break;
+        ^^^^^
+  mend: b check --edition 2 takes it for the statement
+~~1
+@
+b check --edition 2 break.b~sx break 1
+break.b:1:5: error: no loop and no switch is around this break
+    f() break;
+        ^^^^^
+  mend: return; leaves the function
+~~1
+@
+b check --edition=2 --json break.b~\
+{\"file\":\"break.b\",\"line\":1,\"column\":5,\"severity\":\"error\",\"code\":\"sx break\",\
+\"message\":\"no loop and no switch is around this break\",\"mend\":\"return; leaves the function\"}
+~~1
+@
+b check none.b~~error: the file 'none.b' can't be read
+~133
+";
+    all_answer(&rt, rows)?;
+    fs::remove_file(&rt, "hello.b")?;
+    fs::remove_file(&rt, "break.b")?;
+    Ok(())
+}
+
+#[test]
 fn wrong_command_lines(rt: HostRuntime) -> Result<(), Fail> {
     let rows = "\
 b~error: 'b' requires a subcommand but one was not provided
@@ -163,6 +200,8 @@ Usage: b compile [OPTIONS] < FILE
 b migrate hello.code~error: unexpected argument 'hello.code' found
 
 Usage: b migrate < FILE
+@
+b check --steps 5 x~error: unexpected argument '--steps' found
 @
 b migrate --edition 2~error: unexpected argument '--edition' found
 
@@ -209,7 +248,9 @@ b run --steps 5 --no-limit x~error: the argument '--steps <N>' cannot be used wi
 
 #[test]
 fn help(rt: HostRuntime) -> Result<(), Fail> {
-    for words in "b --help,b compile --help,b run --help,b go --help,b migrate --help".split(',') {
+    for words in "b --help,b compile --help,b run --help,b go --help,b migrate --help,b check --help".split(
+        ',',
+    ) {
         let (out, diag) = serves(&rt, words, "", 0)?;
         assert!(rt; diag.bytes().is_empty(), "the line of {words}");
         assert!(rt; !out.bytes().is_empty(), "the output of {words}");

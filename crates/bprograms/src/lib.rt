@@ -18,6 +18,8 @@ mod in_order_tests;
 #[cfg(test)]
 mod language_tests;
 #[cfg(test)]
+mod list_tests;
+#[cfg(test)]
 mod migrate_tests;
 #[cfg(test)]
 mod program_tests;

@@ -15,6 +15,9 @@ use Rattle.clap.specs.declared.builder.action.ArgAction.TheVariants.{Set, SetTru
 use Rattle.clap.specs.declared.builder.value_parser.ValueParser.TheVariants as parser
 use Rattle.bword.specs.declared.edition.Edition.{Edition}
 use Rattle.bword.specs.declared.edition.Edition.TheVariants as editions
+use Rattle.bcheck.specs.declared.form.Form.{Form}
+use Rattle.bcheck.specs.declared.form.Form.TheVariants as form
+use Rattle.bcheck.specs.declared.form.Request.{Request}
 use Rattle.bserve.specs.declared.command.Job.{Job}
 use Rattle.bserve.specs.declared.command.Job.TheVariants as job
 use Rattle.bserve.specs.declared.command.Subject.{Subject}
@@ -43,6 +46,9 @@ file_rule = record (new_rule (codes "FILE")) { required = true; action = Some Se
 
 abbrev pub name_rule : Rule
 name_rule = record (new_rule (codes "NAME")) { action = Some Set }
+
+abbrev pub json_rule : Rule
+json_rule = record (new_rule (codes "json")) { long = Some (codes "json"); action = Some SetTrue }
 
 -- a command with the options of a run
 abbrev pub running : App → App
@@ -75,14 +81,18 @@ list_command = with_rule (telling (new_app (codes "list"))) name_rule
 abbrev pub map_command : App
 map_command = telling (new_app (codes "map"))
 
+abbrev pub check_command : App
+check_command = with_rule (telling (new_app (codes "check"))) json_rule
+
 -- the command line without its commands, one of which there has to be
 abbrev pub bare_line : App
 bare_line = on_top (λ s. record s { has_version = true; subcommand_required = true }) (new_app (codes "b"))
 
--- `b compile`, `b run`, `b go`, `b migrate`, `b list` and `b map`, one of which there has to be
+-- `b compile`, `b run`, `b go`, `b migrate`, `b list`, `b map` and `b check`, one of which there has to be
 abbrev pub command_line : App
 command_line = with_subcommand (with_subcommand (with_subcommand (with_subcommand (with_subcommand (with_subcommand
-    bare_line compile_command.top) run_command.top) go_command.top) migrate_command.top) list_command.top) map_command.top
+    (with_subcommand bare_line compile_command.top) run_command.top) go_command.top) migrate_command.top) list_command.top)
+    map_command.top) check_command.top
 
 -- the digits of a number that a u64 holds
 abbrev pub is_number : Text → Bool
@@ -124,9 +134,14 @@ file_in rows = unwrap_or (first_of (codes "FILE") rows) []
 abbrev pub name_in : List Row → Option Text
 name_in rows = first_of (codes "NAME") rows
 
+-- in which form findings are told
+abbrev pub form_in : List Row → Form
+form_in rows = if is_set_in (codes "json") rows then form.Json else form.Text
+
 -- What is asked for: that a source is compiled, that the code text in a file is run, that the source in a file is
 -- compiled and run, that a code text is migrated, that the code of the source in a file, or of its definitions of a name,
--- is listed, that its layout is shown; or a limit of steps and none, which contradict each other.
+-- is listed, that its layout is shown, that the source in a file is checked; or a limit of steps and none, which
+-- contradict each other.
 pub data Asked : Type 0 where
   compile : (edition : Edition) → Asked
   run : (file : Text) (steps : ℕ) → Asked
@@ -134,6 +149,7 @@ pub data Asked : Type 0 where
   migrate : Asked
   list : (file : Text) (name : Option Text) (edition : Edition) → Asked
   map : (file : Text) (edition : Edition) → Asked
+  check : (file : Text) (edition : Edition) (form : Form) → Asked
   contradiction : Asked
 
 abbrev pub run_asked : Text → Option ℕ → Asked
@@ -150,7 +166,9 @@ asked_by name rows = if bytes_eq name (codes "run") then run_asked (file_in rows
     else (if bytes_eq name (codes "go") then go_asked (file_in rows) (edition_in rows) (steps_in rows)
     else (if bytes_eq name (codes "migrate") then migrate
     else (if bytes_eq name (codes "list") then list (file_in rows) (name_in rows) (edition_in rows)
-    else (if bytes_eq name (codes "map") then map (file_in rows) (edition_in rows) else compile (edition_in rows)))))
+    else (if bytes_eq name (codes "map") then map (file_in rows) (edition_in rows)
+    else (if bytes_eq name (codes "check") then check (file_in rows) (edition_in rows) (form_in rows)
+    else compile (edition_in rows))))))
 
 abbrev pub asked : Option (Text × List Row) → Asked
 asked None = compile editions.One
@@ -164,6 +182,7 @@ shown (Some (job.Go target edition)) = go target.file.now target.steps edition
 shown (Some job.Migrate) = migrate
 shown (Some (job.List subject)) = list subject.file.now (option_map (λ n. n.now) subject.name) subject.edition
 shown (Some (job.Map subject)) = map subject.file.now subject.edition
+shown (Some (job.Check request)) = check request.file.now request.edition request.form
 shown None = contradiction
 
 abbrev pub target_shown : Target → Text × ℕ
@@ -171,3 +190,6 @@ target_shown target = (target.file.now, target.steps)
 
 abbrev pub subject_shown : Subject → Text × Option Text × Edition
 subject_shown subject = (subject.file.now, option_map (λ n. n.now) subject.name, subject.edition)
+
+abbrev pub request_shown : Request → Text × Edition × Form
+request_shown request = (request.file.now, request.edition, request.form)

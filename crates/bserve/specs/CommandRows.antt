@@ -4,7 +4,9 @@ use Rattle.clap.specs.Words.{Text, fault_of, is_simple, is_simple_and_free, subc
 use Rattle.clap.specs.declared.error.kind.ErrorKind.TheVariants as kind
 use Rattle.clap.proofs.OnLiterals.{clap_on_literals}
 use Rattle.bword.specs.declared.edition.Edition.TheVariants as editions
-use Rattle.bserve.specs.CommandLine.{Asked, asked, command_line, compile, run, go, migrate, list, map, contradiction}
+use Rattle.bcheck.specs.declared.form.Form.TheVariants as form
+use Rattle.bserve.specs.CommandLine.{Asked, asked, command_line}
+use Rattle.bserve.specs.CommandLine.{compile, run, go, migrate, list, map, check, contradiction}
 
 pub is_simple_line : is_simple command_line ≡ true
 is_simple_line = refl
@@ -83,6 +85,19 @@ maps = (refl, refl)
 maps_no_name : fault_of command_line (codes "b" ∷ codes "map" ∷ codes "x" ∷ codes "f" ∷ []) ≡ kind.UnknownArgument ∷ []
 unfolding clap_on_literals
 maps_no_name = refl
+
+checks : Asks (codes "b" ∷ codes "check" ∷ codes "x" ∷ []) (check (codes "x") editions.One form.Text)
+unfolding clap_on_literals
+checks = (refl, refl)
+
+checks_for_editors : Asks (codes "b" ∷ codes "check" ∷ codes "--json" ∷ codes "--edition" ∷ codes "2" ∷ codes "x" ∷ [])
+    (check (codes "x") editions.Two form.Json)
+unfolding clap_on_literals
+checks_for_editors = (refl, refl)
+
+checks_no_file : fault_of command_line (codes "b" ∷ codes "check" ∷ []) ≡ kind.MissingRequiredArgument ∷ []
+unfolding clap_on_literals
+checks_no_file = refl
 
 no_command : fault_of command_line (codes "b" ∷ []) ≡ kind.MissingSubcommand ∷ []
 unfolding clap_on_literals

@@ -10,10 +10,12 @@ use Rattle.brun.specs.Going.{GoesOff}
 use Rattle.brun.specs.Migrates.{Migrates}
 use Rattle.brun.specs.Reports.{Reported}
 use Rattle.brun.specs.Runs.{Ends, HasNotRun, RunsText}
+use Rattle.bcheck.specs.Checks.{Checks}
 use Rattle.blist.specs.Listings.{Lists}
 use Rattle.blist.specs.Maps.{Maps}
 use Rattle.blist.specs.Told as told
-use Rattle.bserve.specs.CommandLine.{Asked, asked, command_line, compile, run, go, migrate, list, map, contradiction}
+use Rattle.bserve.specs.CommandLine.{Asked, asked, command_line}
+use Rattle.bserve.specs.CommandLine.{compile, run, go, migrate, list, map, check, contradiction}
 
 -- what is said of words that aren't UTF-8
 abbrev pub unread_line : List ℕ
@@ -73,6 +75,15 @@ Does (list file name edition) ends status = NamesFile file ends status
     ⊎ ((source : List ℕ) × (ends.input_behind ≡ ends.input) × Lists edition source name (telling_ends ends) status)
 Does (map file edition) ends status = NamesFile file ends status
     ⊎ ((source : List ℕ) × (ends.input_behind ≡ ends.input) × Maps edition source (telling_ends ends) status)
+Does (check file edition form) ends status = NamesFile file ends status
+    ⊎ ((source : List ℕ) × (ends.input_behind ≡ ends.input) × (ends.line_behind ≡ ends.line) × Checks (record {
+      edition = edition;
+      form = form;
+      source = source;
+      out = ends.out;
+      out_behind = ends.out_behind;
+      status = status;
+    }))
 Does contradiction ends status =
     HasNotRun ends × Reported contradiction_line WRONG_COMMAND ends.line ends.line_behind status
 

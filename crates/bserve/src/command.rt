@@ -1,11 +1,13 @@
 //! What the words of a command line ask for.
 ghost use Rattle.std.specs.Prelude.{◌≡◌, [], None, IfOk, IfErr, false, map, option_map, string_bytes};
 ghost use Rattle.clap.specs.Words.{HasKind, app_of, fault_of, found_of, rows_of, rule_of, subcommand_of, subcommand_rows_of};
-ghost use Rattle.bserve.specs.CommandLine.{IsShaped, asked, bare_line, command_line, compile_command, edition_in, edition_rule, file_in, file_rule, go_command, is_set_in, list_command, map_command, migrate_command, name_in, name_rule, no_limit_rule, number_in, run_command, shown, steps_asked, steps_in, steps_rule, subject_shown, target_shown};
+ghost use Rattle.bserve.specs.CommandLine.{IsShaped, asked, bare_line, check_command, command_line, compile_command, edition_in, edition_rule, file_in, file_rule, form_in, go_command, is_set_in, json_rule, list_command, map_command, migrate_command, name_in, name_rule, no_limit_rule, number_in, request_shown, run_command, shown, steps_asked, steps_in, steps_rule, subject_shown, target_shown};
 
 use crate::texts::{
-    ABOUT, COMPILE_HELP, GO_HELP, HELP, LIST_HELP, MAP_HELP, MIGRATE_HELP, RUN_HELP, VERSION,
+    ABOUT, CHECK_HELP, COMPILE_HELP, GO_HELP, HELP, LIST_HELP, MAP_HELP, MIGRATE_HELP, RUN_HELP,
+    VERSION,
 };
+use bcheck::{Form, Request};
 use bword::Edition;
 use clap::{Arg, ArgAction, ArgMatches, Command, Error, value_parser};
 use std::alloc::{AllocError, Global};
@@ -25,6 +27,7 @@ pub(crate) enum Job<'a> {
     Migrate,
     List(Subject<'a>),
     Map(Subject<'a>),
+    Check(Request<'a>),
 }
 
 /// A source that is told of, and of its definitions those of a name alone, if there is one.
@@ -64,6 +67,7 @@ pub(crate) fn job_of<'a>(matches: &ArgMatches<'a>) -> Option<Job<'a>>
         "migrate" => Some(Job::Migrate),
         "list" => Some(Job::List(subject_of(given))),
         "map" => Some(Job::Map(unnamed(given))),
+        "check" => Some(Job::Check(request_of(given))),
         _ => Some(Job::Compile(edition_of(given))),
     }
 }
@@ -99,6 +103,29 @@ fn unnamed<'a>(given: &ArgMatches<'a>) -> Subject<'a>
         file,
         name: None,
         edition,
+    }
+}
+
+fn request_of<'a>(given: &ArgMatches<'a>) -> Request<'a>
+    ensures { request_shown result ≡ (file_in (rows_of (found_of given.now)), edition_in (rows_of (found_of given.now)), form_in (rows_of (found_of given.now))) }
+{
+    let file = given.get_str("FILE").unwrap_or("");
+    let edition = edition_of(given);
+    let form = form_of(given);
+    Request {
+        edition,
+        file,
+        form,
+    }
+}
+
+fn form_of(given: &ArgMatches<'_>) -> Form
+    ensures { result ≡ form_in (rows_of (found_of given.now)) }
+{
+    if is_set(given, "json") {
+        Form::Json
+    } else {
+        Form::Text
     }
 }
 
@@ -144,7 +171,8 @@ fn command<'a>(alloc: Global) -> Result<Command<'a>, AllocError>
         .subcommand(go_command(alloc)?)?
         .subcommand(migrate_command(alloc)?)?
         .subcommand(list_command(alloc)?)?
-        .subcommand(map_command(alloc)?)
+        .subcommand(map_command(alloc)?)?
+        .subcommand(check_command(alloc)?)
 }
 
 // The command line without its commands.
@@ -224,6 +252,17 @@ fn map_command<'a>(alloc: Global) -> Result<Command<'a>, AllocError>
         .arg(file_argument(alloc))
 }
 
+fn check_command<'a>(alloc: Global) -> Result<Command<'a>, AllocError>
+    ensures { IfOk result (IsShaped check_command) }
+{
+    Command::new(alloc, "check")
+        .about("Tells what is wrong in the source in FILE, where, and how to mend it")
+        .after_help(CHECK_HELP)
+        .arg(edition_option(alloc))?
+        .arg(file_argument(alloc))?
+        .arg(json_flag(alloc))
+}
+
 // The option of a command that compiles.
 fn edition_option<'a>(alloc: Global) -> Arg<'a>
     ensures rule { rule_of result ≡ edition_rule }
@@ -259,6 +298,16 @@ fn no_limit_flag<'a>(alloc: Global) -> Arg<'a>
         .help("As many steps as it takes")
 }
 
+fn json_flag<'a>(alloc: Global) -> Arg<'a>
+    ensures rule { rule_of result ≡ json_rule }
+    ensures local { result.global ≡ false }
+{
+    Arg::new(alloc, "json")
+        .long("json")
+        .action(ArgAction::SetTrue)
+        .help("An object a line, for an editor")
+}
+
 fn file_argument<'a>(alloc: Global) -> Arg<'a>
     ensures rule { rule_of result ≡ file_rule }
     ensures local { result.global ≡ false }
@@ -266,7 +315,7 @@ fn file_argument<'a>(alloc: Global) -> Arg<'a>
     Arg::new(alloc, "FILE")
         .required(true)
         .action(ArgAction::Set)
-        .help("The file to run")
+        .help("The file")
 }
 
 fn name_argument<'a>(alloc: Global) -> Arg<'a>

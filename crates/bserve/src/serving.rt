@@ -4,11 +4,12 @@ ghost use Rattle.clap.specs.Words.{kind_of};
 ghost use Rattle.bword.specs.ByteEnds.{Incoming, Outgoing};
 ghost use Rattle.bparse.specs.declared.status.TheConstants.{DEVICE, MEMORY, WRONG_COMMAND};
 ghost use Rattle.brun.specs.Reports.{Reported};
-ghost use Rattle.bserve.specs.CommandLine.{go, list, map, run, shown};
+ghost use Rattle.bserve.specs.CommandLine.{check, go, list, map, run, shown};
 ghost use Rattle.bserve.specs.Serves.{Does, NamesFile, Refuses, Serves, no_file_line, unread_line};
 
 use crate::command::{Job, Subject, Target, job_of, parse};
 use crate::texts::{CONTRADICTION, UNREAD};
+use bcheck::{Request, check};
 use blist::{list, map};
 use bparse::compile_edition;
 use bparse::status::{self, Status};
@@ -77,6 +78,7 @@ fn perform<R: AllocGlobal + Files, I: ByteIn, O: ByteOut, D: ByteOut>(
         Some(Job::Migrate) => migrate(rt.alloc(), input, out, diag),
         Some(Job::List(subject)) => list_file(rt, subject, out, diag),
         Some(Job::Map(subject)) => map_file(rt, subject, out, diag),
+        Some(Job::Check(request)) => check_file(rt, request, out, diag),
         None => refuse_with(CONTRADICTION, diag),
     }
 }
@@ -194,6 +196,30 @@ fn map_file<R: AllocGlobal + Files, O: ByteOut, D: ByteOut>(
     match fs::read(rt, subject.file) {
         Ok(source) => map(rt.alloc(), source.as_slice(), subject.edition, out, diag),
         Err(error) => name_file(rt.alloc(), subject.file, &error, diag),
+    }
+}
+
+// Checks the source in a file.
+fn check_file<R: AllocGlobal + Files, O: ByteOut, D: ByteOut>(
+    rt: &R,
+    request: Request<'_>,
+    out: &mut O,
+    diag: &mut D,
+) -> Status
+    ensures does { (unread : Incoming) → Does (check request.entry.file.now request.entry.edition request.entry.form) (record {
+      input = unread;
+      input_behind = unread;
+      out = O.outgoing out.old;
+      out_behind = O.outgoing out.new;
+      line = D.outgoing diag.old;
+      line_behind = D.outgoing diag.new;
+    }) result }
+    ensures out_lender { O.lender out.new ≡ O.lender out.old }
+    ensures diag_lender { D.lender diag.new ≡ D.lender diag.old }
+{
+    match fs::read(rt, request.file) {
+        Ok(source) => check(rt.alloc(), source.as_slice(), request, out),
+        Err(error) => name_file(rt.alloc(), request.file, &error, diag),
     }
 }
 

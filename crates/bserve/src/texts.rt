@@ -29,6 +29,7 @@ Examples:
   b migrate < hello.code > new.code   writes it as a code text of edition 2
   b list hello.b                      lists its code beside the source
   b map hello.b                       shows where its names lie in memory
+  b check hello.b                     tells what is wrong, where, how to mend it
   b go --help                         tells more about a command
 
 There are two editions of the language. In edition 2 break leaves the nearest
@@ -116,6 +117,20 @@ Example:
   b map hello.b
 
 Statuses: 0 shown, 1 a fault of the source, 132 code that doesn't load,
+133 a failed read or write, 134 refused memory, 135 a wrong command line.
+b --help has the letters.";
+
+pub(crate) const CHECK_HELP: &str = "\
+The first line is that of b compile, or load 2 or load 3 where b run has it.
+Behind it stand the place, the line of the source with a mark, and the mend.
+What compiles and is hardly meant is told as a warning. A source without a
+function main has no fault here.
+
+Examples:
+  b check hello.b
+  b check --json --edition 2 menu.b
+
+Statuses: 0 no fault, 1 a fault of the source, 132 code that doesn't load,
 133 a failed read or write, 134 refused memory, 135 a wrong command line.
 b --help has the letters.";
 

@@ -13,3 +13,7 @@ returns-in-Some-List-clause-does g c =
 pub returns-in-Some-Map-clause-does : goal.returns-in-Some-Map-clause-does
 returns-in-Some-Map-clause-does g c =
     answered c.args.job c.in-Some-Map.field-0 (jobs.Map c.in-Some-Map.subject) _ _ c.in-Some-Map.is (rw c.in-Some-Map.is at c.in-Some-Map.field-0-is) (c.map_file.ensures.does _)
+
+pub returns-in-Some-Check-clause-does : goal.returns-in-Some-Check-clause-does
+returns-in-Some-Check-clause-does g c =
+    answered c.args.job c.in-Some-Check.field-0 (jobs.Check c.in-Some-Check.request) _ _ c.in-Some-Check.is (rw c.in-Some-Check.is at c.in-Some-Check.field-0-is) (c.check_file.ensures.does _)
