@@ -1,14 +1,15 @@
 -- The code of an expression whose tokens are sound is within the ranges of its function.
 use Rattle.std.proofs.Common.{◌≡◌, true, ℕ, zero, suc, ◌+◌, ◌-◌, ◌<◌, ◌≤◌, List, [], ◌∷◌, length, length-append, arith}
 use Rattle.std.specs.Prelude.{Option, Some, None}
-use Rattle.bword.specs.Names.{is_name}
+use Rattle.bword.specs.Words.{is_name}
 use Rattle.bword.specs.declared.operators.BinOp.{BinOp}
-use Rattle.bcode.specs.Definitions.{IsInstrWithin, IsWord}
-use Rattle.bcode.specs.declared.header.Sizes.{Sizes}
-use Rattle.bcode.specs.declared.instr.Instr.{Instr}
-use Rattle.btree.specs.Expression.{Constant, Number, Character, Expr, Arguments, PrefixOp, PostfixOp, Negate, Not, Indirection, Address, PreIncrement, PreDecrement, PostIncrement, PostDecrement, Named, Literal, Text, Grouped, Indexed, Called, Postfixed, Prefixed, Binary, Conditional, Assigned, No_arguments, Another, constant_token, spell, spell_arguments, comma_behind, words, argument_words, rank, or_rank, conditional_rank, rvalue_rank, Deeper, Fits, ArgumentsFit}
-use Rattle.btree.specs.Scan.{value_of}
-use Rattle.btree.specs.Code.{Meaning, In_frame, Outside, At_label, Names, name_address, name_word, assignment, argument_count, word_code, address_code, argument_code}
+use Rattle.blang.specs.CodeParts.{IsInstrWithin, IsWord}
+use Rattle.blang.specs.declared.code.Sizes.{Sizes}
+use Rattle.blang.specs.declared.code.Instr.{Instr}
+use Rattle.blang.specs.Trees.{Constant, Number, Character, Expr, Arguments, PrefixOp, PostfixOp, Negate, Not, Indirection, Address, PreIncrement, PreDecrement, PostIncrement, PostDecrement, Named, Literal, Text, Grouped, Indexed, Called, Postfixed, Prefixed, Binary, Conditional, Assigned, No_arguments, Another, constant_token, spell, spell_arguments, comma_behind}
+use Rattle.blang.specs.WellFormed.{words, argument_words, rank, or_rank, conditional_rank, rvalue_rank, Deeper, Fits, ArgumentsFit}
+use Rattle.blang.specs.Scan.{value_of}
+use Rattle.blang.specs.Code.{Meaning, In_frame, Outside, At_label, Names, name_address, name_word, assignment, argument_count, word_code, address_code, argument_code}
 use Rattle.bback.proofs.Holds.{Holds, Holds-nil, Holds-cons, Holds-first, Holds-rest, Holds-append, Holds-front, Holds-back}
 use Rattle.bback.proofs.Tokens.{IsSound, AreSound}
 

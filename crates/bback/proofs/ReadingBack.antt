@@ -3,16 +3,14 @@ use Rattle.std.proofs.Common.{◌≡◌, ℕ, List, [], ◌∷◌, ◌++◌, map
 use Rattle.std.specs.Prelude.{Option, Some, None}
 use Rattle.std.specs.List.{flat_map}
 use Rattle.std.proofs.lemmas.Grind.{flat_map-append}
-use Rattle.bcode.specs.Text.{lines_of, joined, opening, opening_lines, end_text, ended_lines}
-use Rattle.bcode.specs.Views.{IsWithinRanges}
-use Rattle.blex.specs.declared.diagnostic.Diagnostic.{Diagnostic}
-use Rattle.blex.specs.declared.token.Placed.{Placed}
-use Rattle.btree.specs.Lines.{kept}
-use Rattle.btree.specs.Definition.{Definition, spell_definition}
-use Rattle.btree.specs.Scan.{word_of}
-use Rattle.btree.specs.Code.{code_of, fault_of}
-use Rattle.btree.specs.Program.{spell_all, AllFormed}
-use Rattle.btree.specs.Compiled.{Defined, Outcome, outcome_with, outcome_of, text_of, ending, code_text}
+use Rattle.blang.specs.Text.{lines_of, joined, opening, opening_lines, end_text, ended_lines, IsWithinRanges}
+use Rattle.blang.specs.declared.token.Diagnostic.{Diagnostic}
+use Rattle.blang.specs.declared.token.Placed.{Placed}
+use Rattle.blang.specs.Trees.{kept, Definition, spell_definition, spell_all}
+use Rattle.blang.specs.Scan.{word_of}
+use Rattle.blang.specs.Code.{code_of, fault_of}
+use Rattle.blang.specs.WellFormed.{AllFormed}
+use Rattle.blang.specs.Compiles.{Defined, Outcome, outcome_with, outcome_of, text_of, ending, code_text}
 use Rattle.btree.proofs.KeptLemmas.{bare-kept}
 use Rattle.bback.specs.Laws.{ReadsBack}
 use Rattle.bback.proofs.Holds.{Holds, Holds-nil, Holds-cons, Holds-first, Holds-rest, Holds-front, Holds-back, Holds-All}

@@ -2,7 +2,8 @@
 use Rattle.std.proofs.Common.{◌≡◌, ℕ, ◌+◌, ◌<◌, ◌≤◌, Bool, true, false, List, [], ◌∷◌, ◌++◌, length, ap, arith, length-append, if◌then◌else◌, Option, Some}
 use Rattle.std.specs.Prelude.{sum_by}
 use Rattle.std.proofs.lemmas.List.Sums.{sum_by-append, sum_by-cons}
-use Rattle.btree.specs.Scope.{Kind, Automatic, External, Unlabelled, Labelled, Entry, most_names, same_name, kind_of, with_kind}
+use Rattle.blang.specs.Scan.{Kind, Automatic, External, Unlabelled, Labelled, Entry, most_names, kind_of, with_kind}
+use Rattle.bword.specs.Words.{same_name}
 use Rattle.btree.proofs.ScopeLaws.{length-with_kind}
 use Rattle.btree.proofs.ScanSteps.{Entered, Relabelled}
 use Rattle.bback.proofs.Holds.{Holds, Holds-nil, Holds-cons, Holds-first, Holds-rest, Holds-append, Holds-weaker}

@@ -7,16 +7,15 @@ use Rattle.std.specs.List.{list_all}
 use Rattle.std.specs.Option.{option_map, option_or}
 use Rattle.std.proofs.lemmas.List.Elements.{All-from_recursion}
 use Rattle.std.proofs.lemmas.Map.Entries.{All-lookup}
-use Rattle.bword.specs.Names.{is_name, is_name_start, is_name_byte}
+use Rattle.bword.specs.Words.{is_name, is_name_start, is_name_byte}
 use Rattle.bword.specs.declared.edition.Edition.{Edition}
 use Rattle.bword.specs.declared.operators.BinOp.{BinOp}
-use Rattle.bcode.specs.Definitions.{IsWord}
-use Rattle.blex.specs.declared.token.Keyword.{Keyword}
-use Rattle.blex.specs.declared.token.Token.{Token}
-use Rattle.blex.specs.declared.token.Token.TheVariants as token
-use Rattle.blex.specs.declared.token.Placed.{Placed}
-use Rattle.blex.specs.Pieces.{Piece, Space, Word, Quoted, Open, Starred, Closed, Wrong, Past, is_blank, is_digit, is_digit_of, value_of, is_text, alone, piece_when, keyword_of, keyword_or_name, word_of, number_when, number_in, number_of, after_close, comment_of, plain_of, escapes, escape_of, with_character, with_byte, quoted, constant_of, character_token, string_token, operator_of, assignment_of, others, other_of, fixed_of, fixed_or_stray, whole}
-use Rattle.blex.specs.Tokens.{longest, line_after, is_last, piece_first, cut, tokens_from}
+use Rattle.blang.specs.CodeParts.{IsWord}
+use Rattle.blang.specs.declared.token.Keyword.{Keyword}
+use Rattle.blang.specs.declared.token.Token.{Token}
+use Rattle.blang.specs.declared.token.Token.TheVariants as token
+use Rattle.blang.specs.declared.token.Placed.{Placed}
+use Rattle.blang.specs.Cut.{Piece, Space, Word, Quoted, Open, Starred, Closed, Wrong, Past, is_blank, is_digit, is_digit_of, value_of, is_text, alone, piece_when, keyword_of, keyword_or_name, word_of, number_when, number_in, number_of, after_close, comment_of, plain_of, escapes, escape_of, with_character, with_byte, quoted, constant_of, character_token, string_token, operator_of, assignment_of, others, other_of, fixed_of, fixed_or_stray, whole, longest, line_after, is_last, piece_first, cut, tokens_from}
 use Rattle.bback.proofs.Holds.{Holds, Holds-nil, Holds-cons, Holds-append}
 
 abbrev pub IsByte : ℕ → Type 0

@@ -1,10 +1,10 @@
 -- What is written for a source without a fault can be read back.
 use Rattle.std.specs.Prelude.{◌≡◌, ℕ, List, [], map, None}
 use Rattle.bword.specs.declared.edition.Edition.{Edition}
-use Rattle.bcode.specs.Text.{IsTextOf}
-use Rattle.blex.specs.Tokens.{tokens_from}
-use Rattle.btree.specs.Code.{code_of}
-use Rattle.btree.specs.Compiled.{Outcome, Goes, code_text}
+use Rattle.blang.specs.Text.{IsTextOf}
+use Rattle.blang.specs.Cut.{tokens_from}
+use Rattle.blang.specs.Code.{code_of}
+use Rattle.blang.specs.Compiles.{Outcome, Goes, code_text}
 
 -- the text is the code text of the definitions of the source
 abbrev pub ReadsBack : Type 0

@@ -3,17 +3,16 @@ use Rattle.std.proofs.Common.{◌≡◌, ℕ, List, [], ◌∷◌, ◌++◌, map
 use Rattle.std.specs.Prelude.{false, Option, Some, None, IfSome}
 use Rattle.bword.specs.declared.edition.Edition.{Edition}
 use Rattle.bword.specs.ByteEnds.{Outgoing, Kept, Unread, Took, CanFollow, Writes, incoming_of, outgoing_of}
-use Rattle.bcode.specs.Text.{IsCodeText}
-use Rattle.bcode.specs.declared.definition.Definition.{Definition}
-use Rattle.btree.specs.Code.{code_of}
-use Rattle.btree.specs.Compiled.{code_text, line_of}
+use Rattle.blang.specs.Text.{IsCodeText}
+use Rattle.blang.specs.declared.code.Definition.{Definition}
+use Rattle.blang.specs.Code.{code_of}
+use Rattle.blang.specs.Compiles.{code_text, line_of, Compiles}
 use Rattle.bback.proofs.ReadingBack.{reads_back}
-use Rattle.bmach.specs.Layout.{load_fault}
-use Rattle.bmach.specs.declared.fault.LoadFault.{LoadFault}
-use Rattle.bmach.specs.declared.fault.LoadFault.TheVariants as fault
+use Rattle.blang.specs.Layout.{load_fault}
+use Rattle.blang.specs.declared.run.LoadFault.{LoadFault}
+use Rattle.blang.specs.declared.run.LoadFault.TheVariants as fault
 use Rattle.bmach.specs.Loading.{IsFault}
-use Rattle.bparse.specs.Compiles.{Compiles}
-use Rattle.bparse.specs.declared.status.TheConstants.{REFUSED}
+use Rattle.blang.specs.declared.status.TheConstants.{REFUSED}
 use Rattle.bcheck.specs.Checks.{Judged, EachTold, Told, Tells, told, shown, first_of, status_told, told_first, load_line}
 use Rattle.bcheck.specs.declared.form.Form.{Form}
 use Rattle.bcheck.specs.declared.verdict.Verdict.{Verdict}

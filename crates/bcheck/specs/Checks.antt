@@ -2,16 +2,15 @@
 use Rattle.std.specs.Prelude.{◌≡◌, ℕ, List, [], ◌++◌, codes, map, Option, Some, None}
 use Rattle.bword.specs.declared.edition.Edition.{Edition}
 use Rattle.bword.specs.ByteEnds.{Outgoing, Writes, Refuses}
-use Rattle.bword.specs.declared.byte_out.EndFault.{EndFault}
-use Rattle.blex.specs.Tokens.{tokens_from}
-use Rattle.blex.specs.declared.diagnostic.Diagnostic.{Diagnostic}
-use Rattle.btree.specs.Code.{code_of}
-use Rattle.btree.specs.Compiled.{Outcome, Goes, line_of}
-use Rattle.bmach.specs.Layout.{load_fault}
-use Rattle.bmach.specs.declared.fault.LoadFault.{LoadFault}
-use Rattle.bmach.specs.declared.fault.LoadFault.TheVariants as fault
-use Rattle.bparse.specs.Statuses.{status_of}
-use Rattle.bparse.specs.declared.status.TheConstants.{DONE, FAULT, REFUSED, MEMORY}
+use Rattle.bword.specs.declared.ends.EndFault.{EndFault}
+use Rattle.blang.specs.Cut.{tokens_from}
+use Rattle.blang.specs.declared.token.Diagnostic.{Diagnostic}
+use Rattle.blang.specs.Code.{code_of}
+use Rattle.blang.specs.Compiles.{Outcome, Goes, line_of, status_of}
+use Rattle.blang.specs.Layout.{load_fault}
+use Rattle.blang.specs.declared.run.LoadFault.{LoadFault}
+use Rattle.blang.specs.declared.run.LoadFault.TheVariants as fault
+use Rattle.blang.specs.declared.status.TheConstants.{DONE, FAULT, REFUSED, MEMORY}
 use Rattle.bcheck.specs.declared.form.Form.{Form}
 use Rattle.bcheck.specs.declared.form.Form.TheVariants as form
 use Rattle.bcheck.specs.declared.verdict.Verdict.{Verdict}

@@ -5,7 +5,7 @@ ghost use Rattle.bcheck.specs.Checks.{Checks, Tells, first_of, shown};
 use crate::explain::explain;
 use crate::form::{Form, Request};
 use crate::verdict::{Verdict, judge};
-use bparse::status::{self, Status};
+use blang::status::{self, Status};
 use bword::{ByteOut, MemOut};
 use std::alloc::Global;
 

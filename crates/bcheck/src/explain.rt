@@ -9,7 +9,7 @@ use crate::patterns::find;
 use crate::spans::{Span, place_of, spans};
 use crate::verdict::Verdict;
 use crate::{json, text};
-use bmach::LoadFault;
+use blang::LoadFault;
 use bparse::Step;
 use bword::Name;
 use std::alloc::{AllocError, Global};

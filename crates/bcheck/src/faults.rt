@@ -3,7 +3,8 @@ use crate::advice::Matter;
 use crate::finding::Finding;
 use crate::passes::{Extent, Fault};
 use crate::spans::{Span, lexeme_at, place_of};
-use blex::{About, Diagnostic, Keyword, Letters, Lexeme};
+use blang::{About, Diagnostic, Keyword, Letters};
+use blex::Lexeme;
 use bword::{BinOp, Name};
 
 /// What is said of a fault.

@@ -1,6 +1,7 @@
 //! Where a name is mentioned first that nothing defines.
 use crate::passes::{Extent, Pass};
-use bcode::{Definition, Instr, Ival, View, read_code};
+use bcode::read_code;
+use blang::{Definition, Instr, Ival, View};
 use bparse::Step;
 use bword::{Edition, Name};
 use std::alloc::{AllocError, Global};

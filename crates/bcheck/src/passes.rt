@@ -1,5 +1,5 @@
 //! The compiler once more, for what its line doesn't tell: which tokens a definition has, and the one at fault.
-use blex::Diagnostic;
+use blang::Diagnostic;
 use bparse::{Compiler, Step};
 use bword::{Edition, MemIn, MemOut};
 use std::alloc::Global;

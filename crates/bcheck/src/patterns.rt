@@ -3,7 +3,8 @@ use crate::advice::Matter;
 use crate::finding::Finding;
 use crate::passes::Extent;
 use crate::spans::{Span, lexeme_at, place_of};
-use blex::{Keyword, Lexeme};
+use blang::Keyword;
+use blex::Lexeme;
 use bword::{BinOp, Name};
 use std::alloc::AllocError;
 

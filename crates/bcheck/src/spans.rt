@@ -1,6 +1,7 @@
 //! The tokens of a source, and where each stands.
 use crate::finding::Place;
-use blex::{Keyword, Letters, Lexeme, Lexer};
+use blang::{Keyword, Letters};
+use blex::{Lexeme, Lexer};
 use bword::{BinOp, Edition, MemIn, is_name_byte};
 use std::alloc::{AllocError, Global};
 

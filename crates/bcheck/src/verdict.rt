@@ -1,14 +1,15 @@
 //! What the compiler and the loader say of a source.
 ghost use Rattle.std.specs.Prelude.{◌≡◌, IfSome, List, map, None};
-ghost use Rattle.bcode.specs.Text.{IsCodeText};
-ghost use Rattle.bcode.specs.declared.definition.Definition.{Definition};
-ghost use Rattle.bmach.specs.Layout.{load_fault};
+ghost use Rattle.blang.specs.Text.{IsCodeText};
+ghost use Rattle.blang.specs.declared.code.Definition.{Definition};
+ghost use Rattle.blang.specs.Layout.{load_fault};
 ghost use Rattle.bcheck.specs.Checks.{Judged, first_of, load_line, status_told, told_first};
 
 use bcode::read_code;
-use bmach::{LoadFault, load};
+use blang::LoadFault;
+use blang::status::{self, Status};
+use bmach::load;
 use bparse::compile_edition;
-use bparse::status::{self, Status};
 use bword::{Edition, MemIn, MemOut};
 use std::alloc::Global;
 

@@ -7,7 +7,7 @@ use Rattle.bword.specs.ByteEnds.{Grew}
 use Rattle.bword.proofs.Taking.{Took-none, Took-append}
 use Rattle.bcode.specs.Ahead.{Ahead, ahead_of, TextAhead, ahead_in, ReadsOpening, Reads, Passes, Breaks, ReadsLine, RefusesLine, LineGives, ReadsLines, LinesGive}
 use Rattle.bcode.specs.declared.fault.CodeFault.TheVariants as fault
-use Rattle.bcode.specs.Text.{edition_line}
+use Rattle.blang.specs.Text.{edition_line}
 use Rattle.bword.specs.declared.edition.Edition.TheVariants as editions
 use Rattle.bcode.specs.declared.stop.Stop.{Stop}
 use Rattle.bcode.specs.declared.stop.Stop.TheVariants as stop

@@ -7,13 +7,12 @@ use Rattle.std.proofs.lemmas.List.{length-replicate, length-map}
 use Rattle.std.proofs.lemmas.List.Concat.{flat_map-append}
 use Rattle.std.proofs.lemmas.List.Elements.{All-nil, All-head, All-tail}
 use Rattle.bcode.specs.Ahead.{Ahead, Reads, Passes, ReadsLine, RefusesLine, BreaksLine, ReadsLines, RefusesLines, BreaksLines, LineGives, LinesGive, StopsAhead, StopsAmong, BreaksAmong, AreFirst, ReadsFirst, EndsAmong, ReadsBody, BodyGives, ReadsDefinition, StopsInside, HasNext, BreaksInside, DefinitionGives}
-use Rattle.bcode.specs.Definitions.{sizes_of}
+use Rattle.blang.specs.CodeParts.{sizes_of}
 use Rattle.bcode.specs.Headers.{header_of, header_text, IsHeaderWithin}
 use Rattle.bcode.specs.Stopping.{Kind, value, target, string, instruction, IsOfKind, State, expects, kinds_after, state_after, Stops}
-use Rattle.bcode.specs.Text.{joined, header_line, body_lines, lines_of, text_of, end_text, ended_lines, target_line, string_line, ival_line, instr_line}
-use Rattle.bcode.specs.Views.{IsWithinRanges}
-use Rattle.bcode.specs.declared.definition.Definition.{Definition}
-use Rattle.bcode.specs.declared.definition.Definition.TheVariants as definition
+use Rattle.blang.specs.Text.{joined, header_line, body_lines, lines_of, text_of, end_text, ended_lines, target_line, string_line, ival_line, instr_line, IsWithinRanges}
+use Rattle.blang.specs.declared.code.Definition.{Definition}
+use Rattle.blang.specs.declared.code.Definition.TheVariants as definition
 use Rattle.bcode.specs.declared.fault.CodeFault.TheVariants as fault
 use Rattle.bcode.specs.declared.header.Header.{Header}
 use Rattle.bcode.specs.declared.header.Header.TheVariants as header

@@ -4,22 +4,21 @@ use Rattle.std.specs.Prelude.{All, IsTrue}
 use Rattle.std.specs.List.{flat_map}
 use Rattle.std.proofs.lemmas.List.Elements.{All-nil, All-cons, All-head, All-tail}
 use Rattle.std.proofs.lemmas.Bool.Decides.{nat_tests}
-use Rattle.bword.specs.Names.{is_name}
+use Rattle.bword.specs.Words.{is_name}
 use Rattle.bword.specs.declared.edition.Edition.{Edition}
 use Rattle.bword.specs.declared.edition.Edition.TheVariants as editions
-use Rattle.bcode.specs.Definitions.{Function, Simple, Vector, IsWord, IsInstrWithin, IsIvalWithin, IsFunctionWithinRanges, IsSimpleWithinRanges, IsVectorWithinRanges, sizes_of}
+use Rattle.blang.specs.CodeParts.{Function, Simple, Vector, IsWord, IsInstrWithin, IsIvalWithin, IsFunctionWithinRanges, IsSimpleWithinRanges, IsVectorWithinRanges, sizes_of}
 use Rattle.bcode.specs.Headers.{header_of, header_text, function_fits, simple_fits, vector_fits, IsHeaderWithin}
 use Rattle.bcode.specs.Stopping.{Kind, value, target, string, instruction, IsOfKind, State, opens, expects, finished, state_after, Leads, Stops}
-use Rattle.bcode.specs.Text.{end_text, header_line, body_lines, lines_of, edition_line, ended_lines, code_lines, target_line, string_line, ival_line, instr_line}
-use Rattle.bcode.specs.Views.{IsWithinRanges}
-use Rattle.bcode.specs.declared.limits.TheConstants.{MAX_INSTRUCTIONS, MAX_LABELS, MAX_PARAMETERS, MAX_STRING_WORDS, MAX_VALUES, MAX_WORDS}
-use Rattle.bcode.specs.declared.definition.Definition.{Definition}
-use Rattle.bcode.specs.declared.definition.Definition.TheVariants as definition
+use Rattle.blang.specs.Text.{end_text, header_line, body_lines, lines_of, edition_line, ended_lines, code_lines, target_line, string_line, ival_line, instr_line, IsWithinRanges}
+use Rattle.blang.specs.declared.limits.TheConstants.{MAX_INSTRUCTIONS, MAX_LABELS, MAX_PARAMETERS, MAX_STRING_WORDS, MAX_VALUES, MAX_WORDS}
+use Rattle.blang.specs.declared.code.Definition.{Definition}
+use Rattle.blang.specs.declared.code.Definition.TheVariants as definition
 use Rattle.bcode.specs.declared.header.Header.{Header}
 use Rattle.bcode.specs.declared.header.Header.TheVariants as header
-use Rattle.bcode.specs.declared.header.Sizes.{Sizes}
-use Rattle.bcode.specs.declared.instr.Instr.{Instr}
-use Rattle.bcode.specs.declared.instr.Ival.{Ival}
+use Rattle.blang.specs.declared.code.Sizes.{Sizes}
+use Rattle.blang.specs.declared.code.Instr.{Instr}
+use Rattle.blang.specs.declared.code.Ival.{Ival}
 use Rattle.bcode.proofs.HeaderLaws.{end_within}
 use Rattle.bcode.proofs.StoppingLaws.{Path}
 

@@ -8,22 +8,21 @@ use Rattle.std.specs.Io.KnownBytes.{Consumes}
 use Rattle.bword.specs.ByteEnds.{Incoming, Took, CanFollow}
 use Rattle.bword.specs.declared.edition.Edition.{Edition}
 use Rattle.bword.specs.declared.edition.Edition.TheVariants as editions
-use Rattle.bcode.specs.Definitions.{Function, Simple, Vector, IsWord, IsInstrWithin, IsIvalWithin, sizes_of}
+use Rattle.blang.specs.CodeParts.{Function, Simple, Vector, IsWord, IsInstrWithin, IsIvalWithin, sizes_of}
 use Rattle.bcode.specs.Ahead.{Ahead, ahead_of, TextAhead, ahead_in, Reads, Passes, Breaks, ReadsOpening, StopsAhead, StopsInside, BreaksInside, ReadsDefinition, TextGives}
 use Rattle.bcode.specs.Faults.{BeginsIn, IsFaultLine, IsFaultLineIn, HasHeader, IsFaultOf}
 use Rattle.bcode.specs.Headers.{header_of, header_text}
 use Rattle.bcode.specs.LineReading.{Reader}
 use Rattle.bcode.specs.Stopping.{State, opens, expects, value, target, string, instruction, state_after, Leads, Stops}
-use Rattle.bcode.specs.Text.{joined, end_text, header_line, body_lines, lines_of, text_of, edition_line, opening, opening_lines, ended_lines, code_lines, IsTextOf, IsCodeText, target_line, string_line, ival_line, instr_line}
-use Rattle.bcode.specs.Views.{IsWithinRanges}
-use Rattle.bcode.specs.declared.definition.Definition.{Definition}
-use Rattle.bcode.specs.declared.definition.Definition.TheVariants as definition
+use Rattle.blang.specs.Text.{joined, end_text, header_line, body_lines, lines_of, text_of, edition_line, opening, opening_lines, ended_lines, code_lines, IsTextOf, IsCodeText, target_line, string_line, ival_line, instr_line, IsWithinRanges}
+use Rattle.blang.specs.declared.code.Definition.{Definition}
+use Rattle.blang.specs.declared.code.Definition.TheVariants as definition
 use Rattle.bcode.specs.declared.fault.CodeFault.{CodeFault}
 use Rattle.bcode.specs.declared.fault.CodeFault.TheVariants as fault
 use Rattle.bcode.specs.declared.header.Header.TheVariants as header
-use Rattle.bcode.specs.declared.header.Sizes.{Sizes}
-use Rattle.bcode.specs.declared.instr.Instr.{Instr}
-use Rattle.bcode.specs.declared.instr.Ival.{Ival}
+use Rattle.blang.specs.declared.code.Sizes.{Sizes}
+use Rattle.blang.specs.declared.code.Instr.{Instr}
+use Rattle.blang.specs.declared.code.Ival.{Ival}
 use Rattle.bcode.proofs.AheadLaws.{Reads-append, Breaks-after, Passes-none, Passes-append, no_length, both_empty}
 use Rattle.bcode.proofs.BodyLaws.{two_kinds, three_kinds, two_goes, three_goes, GoesOn, GoesOn-append, items_go, items_go_last, header_go, not_end, text_header}
 use Rattle.bcode.proofs.CodeLaws.{header_of-text, header_of-within, code_path, path_code, path_ended, ended_path, of_value, of_target, of_string, of_instr}

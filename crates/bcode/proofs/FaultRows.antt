@@ -9,7 +9,7 @@ use Rattle.bcode.specs.Headers.{header_text}
 use Rattle.bcode.specs.LineReading.{header_at, any_header_at, sizes_at, function_header_at, simple_header_at, vector_header_at, ended, instr_at, ival_at, number_line_at, operand_at, name_operand_at, operator_at, less_at, greater_at, increment_at, case_at, Reader}
 use Rattle.bcode.specs.Reading.{expect, number_at, number_from, name_at}
 use Rattle.bcode.specs.Stopping.{Kind, value, target, string, instruction, State, opens, expects, finished, state_after, Leads, IsOfKind, Stops}
-use Rattle.bcode.specs.Text.{edition_line, target_line, string_line, instr_line, ival_line}
+use Rattle.blang.specs.Text.{edition_line, target_line, string_line, instr_line, ival_line}
 use Rattle.bcode.specs.declared.header.Header.{Header}
 use Rattle.bcode.proofs.FaultLaws.{fault_line}
 use Rattle.bcode.proofs.HeaderLaws.{header_at-exact}

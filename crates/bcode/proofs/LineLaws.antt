@@ -1,19 +1,20 @@
 -- What is read as a line is its text, and its text is read as it.
 use Rattle.std.proofs.Common.{subst, length, drop, ◌≡◌, ℕ, ◌^◌, ◌<◌, ◌≤◌, Bool, true, false, cond, eqb, List, [], ◌∷◌, ◌++◌, decimal, Option, Some, None, refl, sym, ap, ◌∙◌, arith, append_assoc, IsTrue}
-use Rattle.bword.specs.Names.{is_name}
+use Rattle.bword.specs.Words.{is_name}
 use Rattle.bword.specs.declared.operators.BinOp.{BinOp}
 use Rattle.bword.specs.declared.operators.BinOp.TheVariants as op
-use Rattle.bcode.specs.Definitions.{IsWord, IsInstrWithin, IsIvalWithin}
+use Rattle.blang.specs.CodeParts.{IsWord, IsInstrWithin, IsIvalWithin}
 use Rattle.bcode.specs.LineReading.{Reader, mapped, choose, by_first, ended, operand_at, name_operand_at, less_at, greater_at, operator_at, operator_readers, increment_at, increment_readers, case_at, instr_at, instr_readers, ival_at, ival_readers, number_line_at}
 use Rattle.bcode.specs.Reading.{◌>>=◌, expect, number_at, name_at}
-use Rattle.bcode.specs.Text.{line, operator_text, increment_text, instr_line, ival_line}
-use Rattle.bcode.specs.declared.header.Sizes.{Sizes}
-use Rattle.bcode.specs.declared.instr.Increment.{Increment}
-use Rattle.bcode.specs.declared.instr.Increment.TheVariants as increment
-use Rattle.bcode.specs.declared.instr.Instr.{Instr}
-use Rattle.bcode.specs.declared.instr.Instr.TheVariants as instr
-use Rattle.bcode.specs.declared.instr.Ival.{Ival}
-use Rattle.bcode.specs.declared.instr.Ival.TheVariants as ival
+use Rattle.blang.specs.Text.{line, increment_text, instr_line, ival_line}
+use Rattle.bword.specs.Words.{operator_text}
+use Rattle.blang.specs.declared.code.Sizes.{Sizes}
+use Rattle.blang.specs.declared.code.Increment.{Increment}
+use Rattle.blang.specs.declared.code.Increment.TheVariants as increment
+use Rattle.blang.specs.declared.code.Instr.{Instr}
+use Rattle.blang.specs.declared.code.Instr.TheVariants as instr
+use Rattle.blang.specs.declared.code.Ival.{Ival}
+use Rattle.blang.specs.declared.code.Ival.TheVariants as ival
 use Rattle.bcode.proofs.PartLaws.{bind_some, same_read, is_same, expect-sound, expect-again, number_at-sound, number_at-again, name_at-sound, name_at-again}
 
 -- a reader reads just these texts of these values

@@ -4,10 +4,10 @@ use Rattle.std.specs.List.{flat_map}
 use Rattle.std.proofs.lemmas.List.{map-append, take_more, take-append-drop}
 use Rattle.std.proofs.lemmas.List.Concat.{flat_map-append}
 use Rattle.bword.specs.ByteEnds.{Outgoing, Refuses, PutGives}
-use Rattle.bword.specs.declared.byte_out.EndFault.{EndFault}
+use Rattle.bword.specs.declared.ends.EndFault.{EndFault}
 use Rattle.bword.proofs.Putting.{gives_last, gives_same, Writes-none, Writes-append, Refuses-behind, Refuses-short}
 use Rattle.bcode.specs.Pages.{Passes, PageGives}
-use Rattle.bcode.specs.Text.{line, joined}
+use Rattle.blang.specs.Text.{line, joined}
 
 pub Passes-none : (a : Outgoing) (page : List ℕ) → Passes a page [] a page
 Passes-none a page = record { sent = []; written = Writes-none a; rest = append-nil page }

@@ -9,7 +9,7 @@ use Rattle.std.specs.Prelude.{◌==◌, not}
 use Rattle.std.proofs.lemmas.Bool.{false≢true}
 use Rattle.std.proofs.lemmas.Bool.Decides.{nat_tests}
 use Rattle.std.proofs.lemmas.Fmt.{decimal_digit, decimal_step, decimal_by_steps}
-use Rattle.bword.specs.Names.{is_name, is_name_start, is_name_byte}
+use Rattle.bword.specs.Words.{is_name, is_name_start, is_name_byte}
 use Rattle.bcode.specs.Reading.{◌>>=◌, expect, number_from, number_at, name_at}
 
 pub bind_some : {A B : Type 0} (o : Option A) (f : A → Option B) (y : B) → (o >>= f) ≡ Some y → (x : A) × (o ≡ Some x) × (f x ≡ Some y)

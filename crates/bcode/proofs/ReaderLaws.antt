@@ -9,10 +9,9 @@ use Rattle.bcode.specs.Ahead.{Ahead, Reads, Passes, RefusesLine, ReadsDefinition
 use Rattle.bcode.specs.Faults.{IsFaultLineIn}
 use Rattle.bcode.specs.Readers.{Start, CodeReader, all_ahead, reader_of, opened, Since, to_open, IsOpen, Gave, Ended, NoneWhole, Stopped, Refused, step_of, is_last, StepGives}
 use Rattle.bcode.specs.Stopping.{expects, Stops}
-use Rattle.bcode.specs.Text.{edition_line, opening, opening_lines, lines_of, text_of, end_text, IsTextOf}
-use Rattle.bcode.specs.Views.{IsWithinRanges}
+use Rattle.blang.specs.Text.{edition_line, opening, opening_lines, lines_of, text_of, end_text, IsTextOf, IsWithinRanges}
 use Rattle.bcode.specs.declared.code_step.CodeStep.{CodeStep}
-use Rattle.bcode.specs.declared.definition.Definition.{Definition}
+use Rattle.blang.specs.declared.code.Definition.{Definition}
 use Rattle.bcode.specs.declared.fault.CodeFault.TheVariants as fault
 use Rattle.bcode.specs.declared.stop.Stop.{Stop}
 use Rattle.bcode.specs.declared.stop.Stop.TheVariants as stop

@@ -6,22 +6,23 @@ use Rattle.std.proofs.lemmas.List.Elements.{All-nil, All-cons, All-push, All-app
 use Rattle.std.proofs.lemmas.Bool.{false≢true}
 use Rattle.std.proofs.lemmas.Bool.Decides.{nat_tests}
 use Rattle.std.proofs.lemmas.Fmt.{decimal_by_steps, length-decimal-le, decimal_nonempty}
-use Rattle.bword.specs.Names.{is_name, is_name_start, is_name_byte}
+use Rattle.bword.specs.Words.{is_name, is_name_start, is_name_byte}
 use Rattle.bword.specs.declared.operators.BinOp.{BinOp}
 use Rattle.bword.specs.declared.operators.BinOp.TheVariants as op
-use Rattle.bcode.specs.Definitions.{IsWord, IsInstrWithin, IsIvalWithin}
+use Rattle.blang.specs.CodeParts.{IsWord, IsInstrWithin, IsIvalWithin}
 use Rattle.bcode.specs.Headers.{header_text, IsHeaderWithin}
 use Rattle.bcode.specs.Streams.{HasNoNewline}
-use Rattle.bcode.specs.Text.{line, edition_line, operator_text, increment_text, instr_line, ival_line}
+use Rattle.blang.specs.Text.{line, edition_line, increment_text, instr_line, ival_line}
+use Rattle.bword.specs.Words.{operator_text}
 use Rattle.bcode.specs.declared.header.Header.{Header}
 use Rattle.bcode.specs.declared.header.Header.TheVariants as header
-use Rattle.bcode.specs.declared.header.Sizes.{Sizes}
-use Rattle.bcode.specs.declared.instr.Increment.{Increment}
-use Rattle.bcode.specs.declared.instr.Increment.TheVariants as increment
-use Rattle.bcode.specs.declared.instr.Instr.{Instr}
-use Rattle.bcode.specs.declared.instr.Instr.TheVariants as instr
-use Rattle.bcode.specs.declared.instr.Ival.{Ival}
-use Rattle.bcode.specs.declared.instr.Ival.TheVariants as ival
+use Rattle.blang.specs.declared.code.Sizes.{Sizes}
+use Rattle.blang.specs.declared.code.Increment.{Increment}
+use Rattle.blang.specs.declared.code.Increment.TheVariants as increment
+use Rattle.blang.specs.declared.code.Instr.{Instr}
+use Rattle.blang.specs.declared.code.Instr.TheVariants as instr
+use Rattle.blang.specs.declared.code.Ival.{Ival}
+use Rattle.blang.specs.declared.code.Ival.TheVariants as ival
 use Rattle.bcode.proofs.HeaderLaws.{function_words, simple_words, vector_words}
 use Rattle.bcode.proofs.LineLaws.{FitSizes}
 

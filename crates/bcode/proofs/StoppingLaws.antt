@@ -3,12 +3,12 @@ use Rattle.std.proofs.Common.{subst, ◌≡◌, ℕ, zero, suc, ◌^◌, ◌<◌
 use Rattle.bcode.specs.Headers.{header_text, IsHeaderWithin}
 use Rattle.bcode.specs.LineReading.{Reader}
 use Rattle.bcode.specs.Stopping.{Kind, value, target, string, instruction, IsOfKind, State, opens, expects, finished, state_after, LeadsIn, Leads, Stops}
-use Rattle.bcode.specs.Text.{joined, end_text, edition_line, target_line, string_line, ival_line, instr_line}
+use Rattle.blang.specs.Text.{joined, end_text, edition_line, target_line, string_line, ival_line, instr_line}
 use Rattle.bcode.specs.declared.header.Header.{Header}
 use Rattle.bcode.specs.declared.header.Header.TheVariants as header
-use Rattle.bcode.specs.declared.header.Sizes.{Sizes}
-use Rattle.bcode.specs.declared.instr.Instr.TheVariants as instr
-use Rattle.bcode.specs.declared.instr.Ival.TheVariants as ival
+use Rattle.blang.specs.declared.code.Sizes.{Sizes}
+use Rattle.blang.specs.declared.code.Instr.TheVariants as instr
+use Rattle.blang.specs.declared.code.Ival.TheVariants as ival
 use Rattle.bcode.proofs.HeaderLaws.{header_at-exact, AreWords, function_words, some_code, simple_words, vector_words, end_within}
 use Rattle.bcode.proofs.LineLaws.{IsExact, FitSizes, ival_at-exact, instr_at-exact, number_line_at-exact}
 use Rattle.bcode.proofs.PartLaws.{same_read}

@@ -7,7 +7,7 @@ use Rattle.bword.proofs.Taking.{Took-none, Took-append, Took-next}
 use Rattle.bcode.specs.Ahead.{Ahead, ReadsLine, RefusesLine, LineGives, SeesEnd}
 use Rattle.bcode.specs.LineReading.{Reader}
 use Rattle.bcode.specs.Streams.{HasNoNewline, IsWholeLine, TakesLine, FailsInLine}
-use Rattle.bcode.specs.declared.limits.TheConstants.{LINE_LEN}
+use Rattle.blang.specs.declared.limits.TheConstants.{LINE_LEN}
 use Rattle.bcode.specs.declared.stop.Stop.{Stop}
 use Rattle.bcode.specs.declared.stop.Stop.TheVariants as stop
 use Rattle.bcode.proofs.LineLaws.{IsExact}
@@ -16,7 +16,7 @@ use Rattle.bcode.proofs.ShapeLaws.{IsLine, edition_line-shape}
 use Rattle.std.specs.Cmp.Lexicographic.{pointwise}
 use Rattle.std.proofs.lemmas.Bool.Decides.{Decides-eqb}
 use Rattle.std.proofs.lemmas.Slice.Eq.{starts_is}
-use Rattle.bcode.specs.Text.{edition_line}
+use Rattle.blang.specs.Text.{edition_line}
 
 abbrev Other : ℕ → Type 0
 Other b = b ≢ 10

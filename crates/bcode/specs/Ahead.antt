@@ -2,14 +2,13 @@
 use Rattle.std.specs.Prelude.{◌≡◌, ◌≢◌, ℕ, Bool, true, false, ◌+◌, ◌<◌, ◌≤◌, List, [], ◌∷◌, ◌++◌, length, ◌==◌, All, Option, Some, None, Result, Ok, Err, ◌⊎◌}
 use Rattle.std.specs.List.{flat_map}
 use Rattle.bword.specs.ByteEnds.{Incoming, Took, Grew, CanFollow}
-use Rattle.bword.specs.declared.byte_in.Device.{Device}
+use Rattle.bword.specs.declared.ends.Device.{Device}
 use Rattle.bword.specs.declared.edition.Edition.{Edition}
 use Rattle.bword.specs.declared.edition.Edition.TheVariants as editions
 use Rattle.bcode.specs.Headers.{header_of}
 use Rattle.bcode.specs.Stopping.{Kind, IsOfKind, State, expects, Stops, kinds_after}
-use Rattle.bcode.specs.Text.{joined, lines_of, body_lines, header_line, text_of, end_text, edition_line}
-use Rattle.bcode.specs.Views.{IsWithinRanges}
-use Rattle.bcode.specs.declared.definition.Definition.{Definition}
+use Rattle.blang.specs.Text.{joined, lines_of, body_lines, header_line, text_of, end_text, edition_line, IsWithinRanges}
+use Rattle.blang.specs.declared.code.Definition.{Definition}
 use Rattle.bcode.specs.declared.fault.CodeFault.{CodeFault}
 use Rattle.bcode.specs.declared.fault.CodeFault.TheVariants as fault
 use Rattle.bcode.specs.declared.header.Header.{Header}

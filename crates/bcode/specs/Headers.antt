@@ -1,14 +1,14 @@
 -- What the first line of a definition tells of it.
 use Rattle.std.specs.Prelude.{ℕ, ◌&&◌, ◌||◌, ◌==◌, nat_le, Bool, true, List, [], ◌∷◌, codes, decimal, length, IsTrue}
-use Rattle.bword.specs.Names.{is_name}
-use Rattle.bcode.specs.Definitions.{sizes_of}
-use Rattle.bcode.specs.Text.{line}
-use Rattle.bcode.specs.declared.limits.TheConstants.{MAX_INSTRUCTIONS, MAX_LABELS, MAX_PARAMETERS, MAX_STRING_WORDS, MAX_VALUES, MAX_WORDS}
-use Rattle.bcode.specs.declared.definition.Definition.{Definition}
-use Rattle.bcode.specs.declared.definition.Definition.TheVariants as definition
+use Rattle.bword.specs.Words.{is_name}
+use Rattle.blang.specs.CodeParts.{sizes_of}
+use Rattle.blang.specs.Text.{line}
+use Rattle.blang.specs.declared.limits.TheConstants.{MAX_INSTRUCTIONS, MAX_LABELS, MAX_PARAMETERS, MAX_STRING_WORDS, MAX_VALUES, MAX_WORDS}
+use Rattle.blang.specs.declared.code.Definition.{Definition}
+use Rattle.blang.specs.declared.code.Definition.TheVariants as definition
 use Rattle.bcode.specs.declared.header.Header.{Header}
 use Rattle.bcode.specs.declared.header.Header.TheVariants as header
-use Rattle.bcode.specs.declared.header.Sizes.{Sizes}
+use Rattle.blang.specs.declared.code.Sizes.{Sizes}
 
 abbrev pub header_of : Definition → Header
 header_of (definition.Function f) = header.Function f.name f.parameters (sizes_of f)

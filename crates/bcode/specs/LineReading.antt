@@ -4,16 +4,16 @@ use Rattle.bword.specs.declared.operators.BinOp.{BinOp}
 use Rattle.bword.specs.declared.operators.BinOp.TheVariants as op
 use Rattle.bcode.specs.Reading.{◌>>=◌, expect, number_at, name_at}
 use Rattle.bcode.specs.Headers.{header_fits}
-use Rattle.bcode.specs.declared.limits.TheConstants.{WORD_VALUES}
+use Rattle.blang.specs.declared.limits.TheConstants.{WORD_VALUES}
 use Rattle.bcode.specs.declared.header.Header.{Header}
 use Rattle.bcode.specs.declared.header.Header.TheVariants as header
-use Rattle.bcode.specs.declared.header.Sizes.{Sizes}
-use Rattle.bcode.specs.declared.instr.Increment.{Increment}
-use Rattle.bcode.specs.declared.instr.Increment.TheVariants as increment
-use Rattle.bcode.specs.declared.instr.Instr.{Instr}
-use Rattle.bcode.specs.declared.instr.Instr.TheVariants as instr
-use Rattle.bcode.specs.declared.instr.Ival.{Ival}
-use Rattle.bcode.specs.declared.instr.Ival.TheVariants as ival
+use Rattle.blang.specs.declared.code.Sizes.{Sizes}
+use Rattle.blang.specs.declared.code.Increment.{Increment}
+use Rattle.blang.specs.declared.code.Increment.TheVariants as increment
+use Rattle.blang.specs.declared.code.Instr.{Instr}
+use Rattle.blang.specs.declared.code.Instr.TheVariants as instr
+use Rattle.blang.specs.declared.code.Ival.{Ival}
+use Rattle.blang.specs.declared.code.Ival.TheVariants as ival
 
 abbrev pub Reader : Type 0 → Type 0
 Reader X = List ℕ → Option (X × List ℕ)

@@ -2,7 +2,7 @@
 use Rattle.std.specs.Prelude.{◌≡◌, ℕ, ◌^◌, true, false, List, [], ◌∷◌, map, length, replicate, is_some, codes, refl}
 use Rattle.bcode.specs.LineReading.{header_at, any_header_at, sizes_at, function_header_at, simple_header_at, vector_header_at, ended, instr_at, ival_at, number_line_at, operand_at, name_operand_at, operator_at, less_at, greater_at, increment_at, case_at}
 use Rattle.bcode.specs.Reading.{expect, number_at, number_from, name_at}
-use Rattle.bcode.specs.declared.header.Sizes.{Sizes}
+use Rattle.blang.specs.declared.code.Sizes.{Sizes}
 
 abbrev first_lines : List (List ℕ)
 first_lines =

@@ -1,7 +1,7 @@
 -- What goes to an end by way of a page, which is put when it is full.
 use Rattle.std.specs.Prelude.{◌≡◌, ℕ, List, ◌++◌, Result, Ok, Err}
 use Rattle.bword.specs.ByteEnds.{Outgoing, Writes, Refuses}
-use Rattle.bword.specs.declared.byte_out.EndFault.{EndFault}
+use Rattle.bword.specs.declared.ends.EndFault.{EndFault}
 
 -- A beginning of the old page and the text was written, and the rest is the new page.
 pub record Passes (old : Outgoing) (page text : List ℕ) (new : Outgoing) (page' : List ℕ) : Type 0 where

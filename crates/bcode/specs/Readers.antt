@@ -6,11 +6,10 @@ use Rattle.bword.specs.declared.edition.Edition.{Edition}
 use Rattle.bword.specs.declared.edition.Edition.TheVariants as editions
 use Rattle.bcode.specs.Ahead.{Ahead, Reads, Passes, Breaks}
 use Rattle.bcode.specs.Faults.{IsFaultLineIn}
-use Rattle.bcode.specs.Text.{opening, opening_lines, header_line, lines_of, text_of, IsTextOf}
-use Rattle.bcode.specs.Views.{IsWithinRanges}
+use Rattle.blang.specs.Text.{opening, opening_lines, header_line, lines_of, text_of, IsTextOf, IsWithinRanges}
 use Rattle.bcode.specs.declared.code_step.CodeStep.{CodeStep}
 use Rattle.bcode.specs.declared.code_step.CodeStep.TheVariants as step
-use Rattle.bcode.specs.declared.definition.Definition.{Definition}
+use Rattle.blang.specs.declared.code.Definition.{Definition}
 use Rattle.bcode.specs.declared.fault.CodeFault.TheVariants as fault
 use Rattle.bcode.specs.declared.stop.Stop.{Stop}
 use Rattle.bcode.specs.declared.stop.Stop.TheVariants as stop

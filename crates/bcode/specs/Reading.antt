@@ -2,8 +2,8 @@
 use Rattle.std.specs.Prelude.{◌≡◌, ℕ, ◌+◌, ◌*◌, ◌-◌, ◌==◌, nat_lt, if◌then◌else◌, List, [], ◌∷◌, take, drop, Option, Some, None}
 use Rattle.std.specs.Char.{is_ascii_digit}
 use Rattle.std.specs.List.{position}
-use Rattle.bword.specs.Names.{is_name}
-use Rattle.bcode.specs.declared.limits.TheConstants.{WORD_VALUES}
+use Rattle.bword.specs.Words.{is_name}
+use Rattle.blang.specs.declared.limits.TheConstants.{WORD_VALUES}
 
 infixl 10 ◌>>=◌
 abbrev pub ◌>>=◌ : {A B : Type 0} → Option A → (A → Option B) → Option B

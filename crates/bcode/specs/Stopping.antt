@@ -1,13 +1,13 @@
 -- A text as lines, each of which a state expects or not.
 use Rattle.std.specs.Prelude.{◌≡◌, ℕ, zero, suc, ◌<◌, List, [], ◌∷◌, ◌++◌, replicate, ◌⊎◌}
-use Rattle.bcode.specs.Definitions.{IsWord, IsInstrWithin, IsIvalWithin}
+use Rattle.blang.specs.CodeParts.{IsWord, IsInstrWithin, IsIvalWithin}
 use Rattle.bcode.specs.Headers.{header_text, IsHeaderWithin}
-use Rattle.bcode.specs.Text.{edition_line, target_line, string_line, instr_line, ival_line}
+use Rattle.blang.specs.Text.{edition_line, target_line, string_line, instr_line, ival_line}
 use Rattle.bcode.specs.declared.header.Header.{Header}
 use Rattle.bcode.specs.declared.header.Header.TheVariants as header
-use Rattle.bcode.specs.declared.header.Sizes.{Sizes}
-use Rattle.bcode.specs.declared.instr.Instr.{Instr}
-use Rattle.bcode.specs.declared.instr.Ival.{Ival}
+use Rattle.blang.specs.declared.code.Sizes.{Sizes}
+use Rattle.blang.specs.declared.code.Instr.{Instr}
+use Rattle.blang.specs.declared.code.Ival.{Ival}
 
 -- what a line inside a definition can be
 pub data Kind : Type 0 where

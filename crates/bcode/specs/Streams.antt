@@ -1,8 +1,8 @@
 -- Lines of bytes that come one by one.
 use Rattle.std.specs.Prelude.{◌≡◌, ◌≢◌, ℕ, true, List, [], ◌∷◌, ◌++◌, length, All, Result, Ok, Err, ◌⊎◌}
 use Rattle.bword.specs.ByteEnds.{Incoming, Took, Grew}
-use Rattle.bword.specs.declared.byte_in.Device.{Device}
-use Rattle.bcode.specs.declared.limits.TheConstants.{LINE_LEN}
+use Rattle.bword.specs.declared.ends.Device.{Device}
+use Rattle.blang.specs.declared.limits.TheConstants.{LINE_LEN}
 
 -- no byte is a newline
 abbrev pub HasNoNewline : List ℕ → Type 0

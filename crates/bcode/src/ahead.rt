@@ -4,11 +4,12 @@ ghost use Rattle.bcode.specs.Ahead.{ahead_in, ReadsOpening};
 ghost use Rattle.bcode.specs.declared.fault.CodeFault.TheVariants as faults;
 ghost use Rattle.bcode.specs.declared.stop.Stop.TheVariants as stops;
 
-use crate::header::{Header, Sizes};
+use crate::header::Header;
 use crate::line_source::LineSource;
 use crate::lines::{header, instr, ival, number_line};
 use crate::stop::Stop;
 use crate::{CodeFault, Instr, Ival};
+use blang::Sizes;
 use bword::Edition;
 use std::marker::Model;
 

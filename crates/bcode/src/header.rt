@@ -2,19 +2,10 @@
 ghost use Rattle.std.specs.Prelude.{◌≡◌};
 ghost use Rattle.bcode.specs.Headers.{function_fits, header_fits, simple_fits, vector_fits};
 
-use crate::limits::{
-    MAX_INSTRUCTIONS, MAX_LABELS, MAX_PARAMETERS, MAX_STRING_WORDS, MAX_VALUES, MAX_WORDS,
+use blang::{
+    MAX_INSTRUCTIONS, MAX_LABELS, MAX_PARAMETERS, MAX_STRING_WORDS, MAX_VALUES, MAX_WORDS, Sizes,
 };
 use bword::Name;
-
-/// How many frame words, labels, string words and instructions a function has.
-#[derive(Clone, Copy)]
-pub struct Sizes {
-    pub frame: u16,
-    pub labels: u16,
-    pub strings: u16,
-    pub code: u16,
-}
 
 /// What the first line of a definition tells of it; or the last line of a code text.
 #[derive(Clone, Copy)]

@@ -1,14 +1,14 @@
 //! Where lines of code come from.
 ghost use Rattle.std.specs.Prelude.{ℕ, ◌≡◌, ◌≢◌, ◌<◌, ◌≤◌, ◌∷◌, [], decimal};
 ghost use Rattle.bcode.specs.Ahead.{Ahead, LineGives};
-ghost use Rattle.bcode.specs.Definitions.{IsInstrWithin, IsIvalWithin};
+ghost use Rattle.blang.specs.CodeParts.{IsInstrWithin, IsIvalWithin};
 ghost use Rattle.bcode.specs.Headers.{header_text, IsHeaderWithin};
-ghost use Rattle.bcode.specs.Text.{line, instr_line, ival_line};
+ghost use Rattle.blang.specs.Text.{line, instr_line, ival_line};
 
-use crate::header::{Header, Sizes};
-use crate::limits::WORD_VALUES;
+use crate::header::Header;
 use crate::stop::Stop;
 use crate::{Instr, Ival};
+use blang::{Sizes, WORD_VALUES};
 
 /// The lines of a text, each read as what it has to be.
 pub trait LineSource {

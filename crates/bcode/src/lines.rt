@@ -21,10 +21,10 @@ ghost use Rattle.bcode.specs.LineReading.{
 };
 ghost use Rattle.bcode.specs.Reading.{Gives};
 
-use crate::header::{Header, Sizes};
-use crate::limits::WORD_VALUES;
+use crate::header::Header;
 use crate::parts::{expect, name, number};
 use crate::{Increment, Instr, Ival};
+use blang::{Sizes, WORD_VALUES};
 use bword::{BinOp, Name};
 
 // The text behind the end of a line, beside what stood in the line.

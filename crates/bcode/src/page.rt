@@ -1,12 +1,13 @@
 //! Lines put together in a page.
 ghost use Rattle.std.specs.Prelude.{◌≡◌, ◌+◌, ◌<◌, ◌≤◌, [], ◌∷◌, ◌++◌, length, map, decimal, codes, IsTrue, OnOk};
 ghost use Rattle.bword.specs.ByteEnds.{PutGives};
-ghost use Rattle.bword.specs.Names.{is_name};
+ghost use Rattle.bword.specs.Words.{is_name};
 ghost use Rattle.bcode.specs.Pages.{PageGives};
-ghost use Rattle.bcode.specs.Text.{line, instr_line, ival_line, increment_text, operator_text};
+ghost use Rattle.blang.specs.Text.{line, instr_line, ival_line, increment_text};
+ghost use Rattle.bword.specs.Words.{operator_text};
 
-use crate::limits::LINE_LEN;
 use crate::{Increment, Instr, Ival};
+use blang::LINE_LEN;
 use bword::{BinOp, ByteOut, EndFault, Name};
 use itoa::{Buffer, write_digits};
 use std::marker::Model;

@@ -3,7 +3,7 @@ ghost use Rattle.std.specs.Prelude.{◌≡◌, ◌≤◌, ◌<◌, ◌-◌, ◌=
 ghost use Rattle.std.specs.Char.{is_ascii_digit};
 ghost use Rattle.bcode.specs.Reading.{Gives, expect, number_from, number_at, name_at};
 
-use crate::limits::WORD_VALUES;
+use blang::WORD_VALUES;
 use bword::Name;
 
 /// The text behind this byte, where it begins with it.

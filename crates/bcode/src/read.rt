@@ -1,23 +1,23 @@
 //! Code texts, read.
 ghost use Rattle.std.specs.Prelude.{◌≡◌, ◌≢◌, ◌<◌, ◌≤◌, List, ◌∷◌, [], decimal, IfOk, IfErr, MatchResult};
 ghost use Rattle.bcode.specs.Ahead.{LinesGive, BodyGives, DefinitionGives, TextGives};
-ghost use Rattle.bcode.specs.Definitions.{IsInstrWithin, IsIvalWithin};
+ghost use Rattle.blang.specs.CodeParts.{IsInstrWithin, IsIvalWithin};
 ghost use Rattle.bcode.specs.Faults.{IsFaultOf};
 ghost use Rattle.bcode.specs.Headers.{IsHeaderWithin};
-ghost use Rattle.bcode.specs.Text.{line, instr_line, ival_line, IsCodeText};
-ghost use Rattle.bcode.specs.declared.definition.Definition.{Definition};
+ghost use Rattle.blang.specs.Text.{line, instr_line, ival_line, IsCodeText};
+ghost use Rattle.blang.specs.declared.code.Definition.{Definition};
 ghost use Rattle.bcode.specs.declared.fault.CodeFault.TheVariants.{Memory};
 ghost use Rattle.bcode.specs.declared.header.Header.TheVariants as headers;
 
 use crate::ahead::Ahead;
-use crate::header::{Header, Sizes};
-use crate::limits::WORD_VALUES;
+use crate::header::Header;
 use crate::line_source::LineSource;
 use crate::stop::Stop;
 use crate::{
     CodeFault, Definition, Function, FunctionParts, Instr, Ival, Simple, SimpleParts, Vector,
     VectorParts,
 };
+use blang::{Sizes, WORD_VALUES};
 use bword::Name;
 use std::alloc::Global;
 

@@ -1,18 +1,18 @@
 //! The lines of a text that comes byte by byte.
 ghost use Rattle.std.specs.Prelude.{ℕ, ◌≡◌, ◌≢◌, ◌<◌, ◌≤◌, ◌∷◌, [], decimal};
 ghost use Rattle.bcode.specs.Ahead.{LineGives, EndGives};
-ghost use Rattle.bcode.specs.Definitions.{IsInstrWithin, IsIvalWithin};
+ghost use Rattle.blang.specs.CodeParts.{IsInstrWithin, IsIvalWithin};
 ghost use Rattle.bcode.specs.Headers.{header_text, IsHeaderWithin};
 ghost use Rattle.bcode.specs.Streams.{TakingGives};
-ghost use Rattle.bcode.specs.Text.{line, edition_line, instr_line, ival_line};
+ghost use Rattle.blang.specs.Text.{line, edition_line, instr_line, ival_line};
 
-use crate::header::{Header, Sizes};
-use crate::limits::{LINE_LEN, WORD_VALUES};
+use crate::header::Header;
 use crate::line_source::LineSource;
 use crate::lines::{header, instr, ival, number_line};
 use crate::stop::Stop;
 use crate::{CodeFault, Instr, Ival};
 use arrayvec::ArrayVec;
+use blang::{LINE_LEN, Sizes, WORD_VALUES};
 use bword::{ByteIn, Device};
 use std::marker::Model;
 

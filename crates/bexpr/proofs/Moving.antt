@@ -1,8 +1,8 @@
 -- How reading goes on: from reader to reader, or to a halt.
 use Rattle.std.proofs.Common.{◌≡◌, ℕ, Bool, List, ◌∷◌, ◌++◌, Result, Ok, Err, IsErrAnd, refl, sym, ap, ◌∙◌, subst}
 use Rattle.bword.specs.declared.edition.Edition.{Edition}
-use Rattle.blex.specs.declared.token.Placed.{Placed}
-use Rattle.btree.specs.Expression.{Expr}
+use Rattle.blang.specs.declared.token.Placed.{Placed}
+use Rattle.blang.specs.Trees.{Expr}
 use Rattle.btree.specs.Reading.{Read, Reader, Got, Stop, ◌>>=◌, first, line_of, after}
 use Rattle.bemit.specs.Drafts.{Draft}
 use Rattle.bemit.specs.declared.form.Form.{Form}

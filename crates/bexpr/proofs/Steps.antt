@@ -2,14 +2,16 @@
 use Rattle.std.proofs.Common.{◌≡◌, ℕ, zero, suc, ◌+◌, ◌-◌, ◌<◌, List, Bool, true, false, Option, Some, None, Result, Ok, Err, min, refl, sym, ap, ◌∙◌, subst, arith, add-one}
 use Rattle.bword.specs.declared.operators.BinOp.{BinOp}
 use Rattle.bword.specs.declared.operators.BinOp.TheVariants as op
-use Rattle.blex.specs.declared.token.Token.{Token}
-use Rattle.blex.specs.declared.token.Token.TheVariants as token
-use Rattle.blex.specs.declared.token.Placed.{Placed}
-use Rattle.blex.specs.Pieces.{string_token}
-use Rattle.bcode.specs.declared.instr.Instr.TheVariants as instr
-use Rattle.bcode.specs.declared.instr.Increment.TheVariants as increment
-use Rattle.btree.specs.Expression as tree
-use Rattle.btree.specs.Expression.{Expr, Arguments, Number, Character, Named, Literal, Text, Grouped, Indexed, Called, Postfixed, Prefixed, Binary, Conditional, Assigned, No_arguments, Another, words, argument_words, or_rank, rank, is_operand}
+use Rattle.blang.specs.declared.token.Token.{Token}
+use Rattle.blang.specs.declared.token.Token.TheVariants as token
+use Rattle.blang.specs.declared.token.Placed.{Placed}
+use Rattle.blang.specs.Cut.{string_token}
+use Rattle.blang.specs.declared.code.Instr.TheVariants as instr
+use Rattle.blang.specs.declared.code.Increment.TheVariants as increment
+use Rattle.blang.specs.Trees as tree
+use Rattle.blang.specs.Trees.{Expr, Arguments, Number, Character, Named, Literal, Text, Grouped, Indexed, Called, Postfixed, Prefixed, Binary, Conditional, Assigned, No_arguments, Another}
+use Rattle.blang.specs.WellFormed.{words, argument_words, or_rank, rank}
+use Rattle.btree.specs.Expression.{is_operand}
 use Rattle.btree.specs.Reading.{Reader, Got, Stop, ◌>>=◌, first, line_of, after, expect, many}
 use Rattle.blex.specs.Lexemes.{token_of_lexeme}
 use Rattle.blex.specs.declared.lexeme.Lexeme.{Lexeme}
@@ -17,11 +19,11 @@ use Rattle.blex.specs.declared.lexeme.Lexeme.TheVariants as lexeme
 use Rattle.btree.specs.ExpressionReader as reading
 use Rattle.btree.specs.ExpressionReader.{is_close_paren, is_close_bracket, is_question, is_colon, op_at, suffix, Index, Call, Step, comma, always, prefix_op, Operand, Choice, Rvalue, Inner, primary, primary_at, another, arguments, call, postfix_with, postfix, operand, chain, choices, conditional, assigns, rvalue_from, inner, reader}
 use Rattle.btree.specs.StatementReader.{is_open_paren}
-use Rattle.btree.specs.Code.{argument_count, assignment}
+use Rattle.blang.specs.Code.{argument_count, assignment}
 use Rattle.btree.proofs.Fine.{many_none, many_some}
 use Rattle.btree.proofs.ExpressionFine.{closing, has_room, Good, suffix_loop, comma_loop, reader_fine, reader_one}
 use Rattle.bemit.specs.Drafts.{Draft, emitted, place_of, filled, stringed, offset_of, named, name_form, checked}
-use Rattle.btree.specs.Scope.{Kind, Automatic, External, Unlabelled, Labelled, kind_of}
+use Rattle.blang.specs.Scan.{Kind, Automatic, External, Unlabelled, Labelled, kind_of}
 use Rattle.bemit.specs.Drafts as drafts
 use Rattle.bemit.specs.Effects.{form, loads, loaded, held, passed, evaluated, stepping, prefixed, ways, most_arguments}
 use Rattle.bemit.specs.declared.form.Form.{Form}

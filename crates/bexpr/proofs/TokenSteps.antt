@@ -7,19 +7,20 @@ use Rattle.blex.specs.Lexemes.{token_of_lexeme}
 use Rattle.blex.specs.declared.lexeme.Lexeme.{Lexeme}
 use Rattle.blex.specs.declared.lexeme.Lexeme.TheVariants as lexeme
 use Rattle.blex.specs.declared.lexeme.Seen.{Seen}
-use Rattle.blex.specs.Lexers.{Lexer, LexGives, GivesAt, OpenGives, is_last, progress_behind}
+use Rattle.blex.specs.Lexers.{Lexer, LexGives, GivesAt, OpenGives, progress_behind}
+use Rattle.blang.specs.Cut.{is_last, last_of, token_first, tokens_from}
 use Rattle.blex.specs.Sources as S
 use Rattle.blex.specs.declared.lexer.LexStop.{LexStop}
 use Rattle.blex.specs.declared.lexer.LexStop.TheVariants as stop
-use Rattle.blex.specs.Tokens.{last_of, token_first, tokens_from}
 use Rattle.blex.specs.declared.lexer.Progress.{Progress}
 use Rattle.blex.specs.declared.lexer.Progress.TheVariants as progress
-use Rattle.blex.specs.declared.token.Last.{Last}
-use Rattle.blex.specs.declared.token.Token.{Token}
-use Rattle.blex.specs.declared.token.Placed.{Placed}
+use Rattle.blang.specs.declared.token.Last.{Last}
+use Rattle.blang.specs.declared.token.Token.{Token}
+use Rattle.blang.specs.declared.token.Placed.{Placed}
 use Rattle.blex.proofs.Passing.{Took-none, Took-append, Grew-after}
 use Rattle.btree.specs.Reading.{first, after}
-use Rattle.bexpr.specs.Tokens.{Tokens, both, is_string, token_seen, tokens_of, tokens_with, CanFollow, IsReady, IsReadyWith, IsLoaded, weight, work, Reads, last_ahead, EndsWith, LooksAt, Moves, Breaks, Same, Keeps, Looks, Behind, Advances, LooksOn}
+use Rattle.bexpr.specs.Tokens.{Tokens, both, is_string, token_seen, tokens_of, tokens_with, IsReady, IsReadyWith, IsLoaded, weight, work, Reads, last_ahead, EndsWith, LooksAt, Moves, Breaks, Same, Keeps, Looks, Behind, Advances, LooksOn}
+use Rattle.bword.specs.ByteEnds.{CanFollow}
 
 nil_both : (xs ys : List ℕ) → xs ≡ [] → ys ≡ [] → xs ++ ys ≡ []
 nil_both xs ys h k = rw (h, k) refl

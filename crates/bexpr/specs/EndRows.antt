@@ -4,11 +4,11 @@ use Rattle.std.specs.List.{flat_map}
 use Rattle.bword.specs.declared.edition.Edition.{Edition}
 use Rattle.bword.specs.declared.edition.Edition.TheVariants as editions
 use Rattle.bword.specs.declared.operators.BinOp.TheVariants as op
-use Rattle.blex.specs.Pieces.{Piece, Word, whole, word_of, keyword_of, number_in, with_byte, operator_of, other_of, fixed_of, string_token}
-use Rattle.blex.specs.declared.token.Token.{Token}
-use Rattle.blex.specs.declared.token.Token.TheVariants as token
-use Rattle.blex.specs.declared.token.Keyword.TheVariants as keyword
-use Rattle.blex.specs.declared.token.Letters.TheVariants as letters
+use Rattle.blang.specs.Cut.{Piece, Word, whole, word_of, keyword_of, number_in, with_byte, operator_of, other_of, fixed_of, string_token}
+use Rattle.blang.specs.declared.token.Token.{Token}
+use Rattle.blang.specs.declared.token.Token.TheVariants as token
+use Rattle.blang.specs.declared.token.Keyword.TheVariants as keyword
+use Rattle.blang.specs.declared.token.Letters.TheVariants as letters
 use Rattle.bexpr.specs.Tokens.{EndsWith}
 
 -- the bytes, and all that they end with

@@ -1,7 +1,7 @@
 -- Tokens that stand at fixed places.
 use Rattle.std.specs.Prelude.{Bool, true, false}
-use Rattle.blex.specs.declared.token.Token.{Token}
-use Rattle.blex.specs.declared.token.Token.TheVariants as token
+use Rattle.blang.specs.declared.token.Token.{Token}
+use Rattle.blang.specs.declared.token.Token.TheVariants as token
 use Rattle.btree.specs.ExpressionReader.{is_close_paren, is_close_bracket, is_question, is_colon}
 use Rattle.btree.specs.StatementReader.{is_open_paren, is_open_brace, is_close_brace, is_semicolon, is_else}
 use Rattle.bexpr.specs.declared.mark.Mark.{Mark}

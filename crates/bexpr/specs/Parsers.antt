@@ -1,15 +1,16 @@
 -- What the calls of the parser do with the tokens and with the draft.
 use Rattle.std.specs.Prelude.{◌≡◌, ℕ, ◌+◌, ◌<◌, nat_le, if◌then◌else◌, min, Bool, Option, Some, None, Result, Ok, Err}
 use Rattle.bword.specs.declared.operators.BinOp.{BinOp}
-use Rattle.blex.specs.declared.token.Token.{Token}
-use Rattle.blex.specs.declared.token.Token.TheVariants as token
-use Rattle.btree.specs.Expression as tree
-use Rattle.btree.specs.Expression.{Expr, Arguments, Called}
+use Rattle.blang.specs.declared.token.Token.{Token}
+use Rattle.blang.specs.declared.token.Token.TheVariants as token
+use Rattle.blang.specs.Trees as tree
+use Rattle.blang.specs.WellFormed as tree_wellformed
+use Rattle.blang.specs.Trees.{Expr, Arguments, Called}
 use Rattle.btree.specs.Reading.{Reader, Got, Stop, first, expect}
 use Rattle.btree.specs.ExpressionReader as reader
 use Rattle.btree.specs.ExpressionReader.{inner}
 use Rattle.btree.specs.StatementReader.{is_open_paren}
-use Rattle.btree.specs.Code.{argument_count}
+use Rattle.blang.specs.Code.{argument_count}
 use Rattle.bemit.specs.Drafts.{Draft}
 use Rattle.bemit.specs.Effects.{form, held, passed, evaluated, most_arguments}
 use Rattle.bemit.specs.declared.form.Form.{Form}
@@ -129,5 +130,5 @@ assigned_at form _ = None
 
 -- the binary operator that a token is, if it binds at most so loosely
 abbrev pub op_within : ℕ → Token → Option BinOp
-op_within loosest (token.Operator op) = if nat_le (tree.rank op) loosest then Some op else None
+op_within loosest (token.Operator op) = if nat_le (tree_wellformed.rank op) loosest then Some op else None
 op_within loosest _ = None

@@ -4,17 +4,16 @@ use Rattle.bword.specs.ByteEnds.{Incoming, Grew}
 pub use Rattle.bword.specs.ByteEnds.{CanFollow}
 use Rattle.bword.specs.declared.edition.Edition.{Edition}
 use Rattle.std.specs.Option.{option_map}
-use Rattle.blex.specs.Sources.{Source, Took, room}
+use Rattle.blex.specs.Sources.{Source, room}
+use Rattle.bword.specs.ByteEnds.{Took}
 use Rattle.blex.specs.Lexemes.{placed_of}
-use Rattle.blex.specs.Lexers.{is_last}
-use Rattle.blex.specs.Pieces.{Word, whole}
-use Rattle.blex.specs.Tokens.{token_first, tokens_from}
+use Rattle.blang.specs.Cut.{is_last, Word, whole, token_first, tokens_from}
 use Rattle.blex.specs.declared.lexer.Progress.{Progress}
 use Rattle.blex.specs.declared.lexer.Progress.TheVariants as progress
 use Rattle.blex.specs.declared.lexeme.Seen.{Seen}
-use Rattle.blex.specs.declared.token.Token.{Token}
-use Rattle.blex.specs.declared.token.Token.TheVariants as token
-use Rattle.blex.specs.declared.token.Placed.{Placed}
+use Rattle.blang.specs.declared.token.Token.{Token}
+use Rattle.blang.specs.declared.token.Token.TheVariants as token
+use Rattle.blang.specs.declared.token.Placed.{Placed}
 use Rattle.btree.specs.Reading.{Reader, first, line_of, after}
 
 -- the source behind the tokens that are ahead, what its lexer has come to, and the text of its last string

@@ -3,7 +3,8 @@ ghost use Rattle.std.specs.Prelude.{ℕ, List, ◌≡◌};
 ghost use Rattle.blex.specs.Lexemes.{token_of_lexeme};
 ghost use Rattle.bexpr.specs.Marks.{is_mark};
 
-use blex::{Keyword, Lexeme};
+use blang::Keyword;
+use blex::Lexeme;
 
 /// A token by which alone reading goes on.
 #[derive(Clone, Copy, Debug, PartialEq, Eq)]

@@ -1,7 +1,7 @@
 //! Operators by their tokens.
 ghost use Rattle.std.specs.Prelude.{ℕ, List, ◌≡◌};
 ghost use Rattle.blex.specs.Lexemes.{token_of_lexeme};
-ghost use Rattle.btree.specs.Expression.{rank};
+ghost use Rattle.blang.specs.WellFormed.{rank};
 ghost use Rattle.btree.specs.ExpressionReader.{prefix_op, suffix};
 ghost use Rattle.bexpr.specs.Parsers.{op_within, some_prefix, some_suffix};
 

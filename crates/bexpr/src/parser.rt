@@ -1,27 +1,27 @@
 //! Reading an expression and compiling it at once.
 ghost use Rattle.std.specs.Prelude.{◌≡◌, ◌+◌, ◌≤◌, false, ℕ, List, Some, OnOk};
-ghost use Rattle.blex.specs.Lexers.{is_last};
+ghost use Rattle.blang.specs.Cut.{is_last};
 ghost use Rattle.blex.specs.Lexemes.{token_of_lexeme};
 ghost use Rattle.btree.specs.Reading.{first, line_of};
-ghost use Rattle.btree.specs.Expression.{or_rank};
+ghost use Rattle.blang.specs.WellFormed.{or_rank};
 ghost use Rattle.btree.specs.ExpressionReader.{Rvalue, inner, primary, postfix, postfix_with, call, operand, chain, conditional, reader, suffix};
 ghost use Rattle.btree.specs.StatementReader.{is_open_paren};
-ghost use Rattle.btree.specs.Code.{assignment};
-ghost use Rattle.bcode.specs.declared.instr.Instr.TheVariants as instr;
+ghost use Rattle.blang.specs.Code.{assignment};
+ghost use Rattle.blang.specs.declared.code.Instr.TheVariants as instr;
 ghost use Rattle.bemit.specs.Drafts.{fresh, emitted, checked};
 ghost use Rattle.bemit.specs.Effects.{loads, prefixed};
 ghost use Rattle.bexpr.specs.Marks.{is_mark};
 ghost use Rattle.bexpr.specs.Tokens.{all_tokens, IsLoaded, IsSingle, work};
 ghost use Rattle.bemit.specs.declared.form.Form.TheVariants.{Lone};
-ghost use Rattle.blex.specs.declared.token.Token.TheVariants as token;
+ghost use Rattle.blang.specs.declared.token.Token.TheVariants as token;
 ghost use Rattle.bexpr.specs.Parsers.{called_at, prefix_meant, prefix_form, suffix_meant, assigned_at, Follows, Continues, Evaluates, Passes, Expects, Enters, Takes};
 
 use crate::halt::Halt;
 use crate::mark::Mark;
 use crate::operators::{Prefix, Suffix, operator_within, prefix_of, rank_of, suffix_of};
 use crate::tokens::Tokens;
-use bcode::{Increment, Instr};
 use bemit::{Draft, Form};
+use blang::{Increment, Instr};
 use blex::Lexeme;
 use bword::{BinOp, ByteIn, Edition, Name};
 

@@ -1,16 +1,16 @@
 //! The tokens of a source, two of which may be ahead.
 ghost use Rattle.std.specs.Prelude.{◌≡◌, false, OnOk, OnErr};
 ghost use Rattle.blex.specs.Lexemes.{token_of_lexeme};
-ghost use Rattle.blex.specs.Lexers.{is_last};
-ghost use Rattle.blex.specs.Tokens.{placed};
-ghost use Rattle.btree.specs.Program.{fault_at};
+ghost use Rattle.blang.specs.Cut.{is_last, placed};
+ghost use Rattle.blang.specs.WellFormed.{fault_at};
 ghost use Rattle.btree.specs.Reading.{first, line_of, after};
 ghost use Rattle.bexpr.specs.Tokens.{all_tokens, is_string, IsReady, IsLoaded, Looks, LooksOn, Advances, Breaks};
 ghost use Rattle.bexpr.specs.Marks.{is_mark};
 
 use crate::mark::Mark;
 use bemit::Origin;
-use blex::{About, Diagnostic, Letters, Lexeme, Lexer, Seen};
+use blang::{About, Diagnostic, Letters};
+use blex::{Lexeme, Lexer, Seen};
 use bword::{ByteIn, Device, Edition};
 use std::cell::Cell;
 use std::marker::Model;

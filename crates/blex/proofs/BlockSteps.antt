@@ -12,9 +12,8 @@ use Rattle.std.proofs.lemmas.List.{take-take}
 use Rattle.std.proofs.lemmas.List.Sums.{sum_by-cons}
 use Rattle.bword.specs.declared.edition.Edition.{Edition}
 use Rattle.bword.specs.ByteEnds.{most, Incoming, TakesReady}
-use Rattle.blex.specs.Pieces.{after_close}
+use Rattle.blang.specs.Cut.{after_close, line_after, next_line}
 use Rattle.blex.specs.Sources.{Source, Passes, room}
-use Rattle.blex.specs.Tokens.{line_after, next_line}
 use Rattle.blex.specs.Runs.{PassesRun, is_no_star}
 use Rattle.blex.proofs.Passing.{Passes-refl, Passes-append}
 use Rattle.blex.proofs.ByteSteps.{room-falls}

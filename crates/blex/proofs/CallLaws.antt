@@ -2,13 +2,13 @@
 use Rattle.std.proofs.Common.{◌≡◌, ℕ, suc, Bool, true, false, List, [], ◌∷◌, ◌++◌, length, Option, Some, None, Ok, refl, sym, ap, ◌∙◌, arith, append_assoc, append-nil, subst, ◌⊎◌, inl, inr, ⊎_elim}
 use Rattle.std.specs.Io.KnownBytes.{Consumes}
 use Rattle.bword.specs.ByteEnds.{Incoming, Took, CanFollow}
-use Rattle.blex.specs.declared.token.Last.{Last}
-use Rattle.blex.specs.declared.token.Last.TheVariants as last
-use Rattle.blex.specs.declared.token.Token.{Token}
-use Rattle.blex.specs.declared.token.Token.TheVariants as token
-use Rattle.blex.specs.declared.token.Placed.{Placed}
+use Rattle.blang.specs.declared.token.Last.{Last}
+use Rattle.blang.specs.declared.token.Last.TheVariants as last
+use Rattle.blang.specs.declared.token.Token.{Token}
+use Rattle.blang.specs.declared.token.Token.TheVariants as token
+use Rattle.blang.specs.declared.token.Placed.{Placed}
 use Rattle.blex.specs.declared.lexer.Progress.TheVariants as progress
-use Rattle.blex.specs.Tokens.{tokens_from, token_first, token_of, last_of, placed, line_after}
+use Rattle.blang.specs.Cut.{tokens_from, token_first, token_of, last_of, placed, line_after}
 use Rattle.blex.specs.Sources.{Passes, CanCome}
 use Rattle.blex.specs.Lexing.{PassesToken}
 use Rattle.blex.specs.Lexers.{Lexer, GivesAt, new, progress_behind}

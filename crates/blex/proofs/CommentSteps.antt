@@ -2,19 +2,19 @@
 use Rattle.std.proofs.Common.{subst, ◌≡◌, ℕ, Bool, true, false, ◌&&◌, ◌==◌, ◌≢◌, List, [], ◌∷◌, ◌++◌, take, Option, Some, None, Result, Ok, Err, refl, sym, ap, ◌∙◌, arith, append_assoc, append-nil, if◌then◌else◌, ◌⊎◌, inl, inr}
 use Rattle.std.proofs.lemmas.Bool.Decides.{nat_tests}
 use Rattle.std.specs.Prelude.{option_to_list, is_some}
-use Rattle.blex.specs.declared.token.Token.{Token}
-use Rattle.blex.specs.declared.token.Token.TheVariants as token
-use Rattle.blex.specs.declared.token.Letters.TheVariants as letters
+use Rattle.blang.specs.declared.token.Token.{Token}
+use Rattle.blang.specs.declared.token.Token.TheVariants as token
+use Rattle.blang.specs.declared.token.Letters.TheVariants as letters
 use Rattle.std.specs.Prelude.{IfOk}
 use Rattle.std.specs.Option.{option_map}
-use Rattle.bword.specs.declared.byte_in.Device.{Device}
+use Rattle.bword.specs.declared.ends.Device.{Device}
 use Rattle.bword.specs.declared.edition.Edition.{Edition}
 use Rattle.blex.specs.declared.lexeme.Lexeme.{Lexeme}
 use Rattle.blex.specs.Lexemes.{token_of_lexeme}
-use Rattle.blex.specs.Pieces.{is_blank, is_digit, after_close, whole}
+use Rattle.blang.specs.Cut.{is_blank, is_digit, after_close, whole}
 use Rattle.blex.specs.Sources.{Source, Passes, Breaks, Ends}
 use Rattle.blex.specs.Lexing.{piece_of, PassesPiece, PassesComment, TakesIf, Stops, BeginsFixed}
-use Rattle.bword.specs.Names.{is_name_start}
+use Rattle.bword.specs.Words.{is_name_start}
 use Rattle.blex.proofs.Passing.{Passes-refl, Passes-append, Breaks-after, CanCome-none}
 use Rattle.blex.proofs.ByteSteps.{Passes-then}
 use Rattle.blex.proofs.EachPiece.{whole-blank, blank-stops, comment-is, comment-stops, open_comment-is, whole-fixed, whole-slash}

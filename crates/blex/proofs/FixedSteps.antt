@@ -2,10 +2,10 @@
 use Rattle.std.proofs.Common.{subst, ◌≡◌, ℕ, zero, suc, ◌+◌, List, [], ◌∷◌, ◌++◌, length, take, drop, Option, Some, None, refl, sym, ap, ◌∙◌, arith, append-nil}
 use Rattle.std.proofs.Math.Seq.{take-append-add, take-append_seam}
 use Rattle.std.specs.Prelude.{option_to_list}
-use Rattle.blex.specs.declared.token.Token.{Token}
-use Rattle.blex.specs.declared.token.Token.TheVariants as token
-use Rattle.blex.specs.declared.token.Letters.TheVariants as letters
-use Rattle.blex.specs.Pieces.{Piece, Word, whole, alone, fixed_of, fixed_or_stray}
+use Rattle.blang.specs.declared.token.Token.{Token}
+use Rattle.blang.specs.declared.token.Token.TheVariants as token
+use Rattle.blang.specs.declared.token.Letters.TheVariants as letters
+use Rattle.blang.specs.Cut.{Piece, Word, whole, alone, fixed_of, fixed_or_stray}
 use Rattle.blex.specs.Sources.{Source, Passes, Begins, BeginsTwo, CanCome}
 use Rattle.blex.specs.Lexing.{PassesPiece, BeginsFixed, Stops, NoneOfThree, fixed_of_two, fixed_of_three}
 use Rattle.blex.proofs.Passing.{Passes-refl, Passes-append, CanCome-behind, CanCome-none, CanCome-some}

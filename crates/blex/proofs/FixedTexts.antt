@@ -6,12 +6,12 @@ use Rattle.std.specs.Prelude.{nat_le}
 use Rattle.std.specs.List.{list_all, find}
 use Rattle.std.specs.Map.{lookup}
 use Rattle.std.specs.Option.{option_or}
-use Rattle.bword.specs.Operators.{operators, operator_text}
+use Rattle.bword.specs.Words.{operators, operator_text}
 use Rattle.bword.specs.declared.operators.BinOp.{BinOp}
 use Rattle.bword.specs.declared.operators.BinOp.TheVariants as op
-use Rattle.blex.specs.declared.token.Token.{Token}
+use Rattle.blang.specs.declared.token.Token.{Token}
 use Rattle.blex.specs.Lexing.{NoneOfThree, begins_two}
-use Rattle.blex.specs.Pieces.{is_text, others, operator_of, assignment_of, other_of, fixed_of}
+use Rattle.blang.specs.Cut.{is_text, others, operator_of, assignment_of, other_of, fixed_of}
 
 is_text-longer : (xs ys : List ℕ) → length ys < length xs → is_text xs ys ≡ false
 is_text-longer [] ys h = absurd (omega arith)

@@ -9,11 +9,11 @@ use Rattle.std.specs.List.{list_all, prefix_len}
 use Rattle.std.specs.Option.{unwrap_or}
 use Rattle.std.specs.Result.{IsOk, OnOk}
 use Rattle.bword.specs.ByteEnds.{Incoming, TakesReady}
-use Rattle.bword.specs.Names.{is_name_byte}
+use Rattle.bword.specs.Words.{is_name_byte}
 use Rattle.bword.specs.declared.edition.Edition.{Edition}
 use Rattle.blex.specs.Runs.{PassesRun, TakesName}
 use Rattle.blex.specs.Sources.{Source, Passes}
-use Rattle.blex.specs.Tokens.{line_after, next_line}
+use Rattle.blang.specs.Cut.{line_after, next_line}
 use Rattle.blex.proofs.BlockSteps.{and-true_both, block_taken}
 use Rattle.blex.proofs.Passing.{Passes-refl}
 

@@ -8,8 +8,8 @@ use Rattle.std.proofs.lemmas.List.Folds.{list_all-append}
 use Rattle.std.proofs.lemmas.List.Sums.{fold-append}
 use Rattle.std.proofs.Math.Bool.{and-true}
 use Rattle.std.proofs.Math.Nat.{zero-mul, mul-le-mul_left, mul-le-mul_right}
-use Rattle.blex.specs.declared.token.Token.{Token}
-use Rattle.blex.specs.Pieces.{Word, is_digit, is_digit_of, value_of, base_of, number_in, number_when}
+use Rattle.blang.specs.declared.token.Token.{Token}
+use Rattle.blang.specs.Cut.{Word, is_digit, is_digit_of, value_of, base_of, number_in, number_when}
 use Rattle.blex.specs.Sources.{Source, Passes}
 use Rattle.blex.specs.Lexing.{PassesPiece, TakesIf}
 use Rattle.blex.proofs.Passing.{Passes-refl, Passes-append}

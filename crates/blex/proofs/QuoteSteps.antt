@@ -3,10 +3,10 @@ use Rattle.std.proofs.Common.{◌≡◌, ℕ, ◌<◌, Bool, true, false, ◌==�
 use Rattle.std.proofs.lemmas.Bool.Decides.{nat_tests}
 use Rattle.std.specs.Prelude.{option_to_list}
 use Rattle.bword.specs.declared.edition.Edition.{Edition}
-use Rattle.blex.specs.declared.token.Token.{Token}
-use Rattle.blex.specs.declared.token.Token.TheVariants as token
-use Rattle.blex.specs.declared.token.Letters.TheVariants as letters
-use Rattle.blex.specs.Pieces.{whole, Quoted, Open, Starred, Closed, Wrong, Past, quoted, with_byte, with_character, plain_of, escape_of, constant_of}
+use Rattle.blang.specs.declared.token.Token.{Token}
+use Rattle.blang.specs.declared.token.Token.TheVariants as token
+use Rattle.blang.specs.declared.token.Letters.TheVariants as letters
+use Rattle.blang.specs.Cut.{whole, Quoted, Open, Starred, Closed, Wrong, Past, quoted, with_byte, with_character, plain_of, escape_of, constant_of}
 use Rattle.blex.specs.Sources.{Source, Passes, Ends}
 use Rattle.blex.specs.Lexing.{PassesPiece, PassesCharacter, PassesQuoted, ReadsCharacter, IsCutOff, Stops}
 use Rattle.blex.proofs.Passing.{Passes-refl, Passes-append}

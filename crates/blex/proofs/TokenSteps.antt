@@ -2,12 +2,11 @@
 use Rattle.std.proofs.Common.{subst, ◌≡◌, ℕ, ◌<◌, true, false, List, [], ◌∷◌, ◌++◌, length, Option, Some, None, refl, sym, ap, ◌∙◌, arith, append_assoc, append-nil, length-append}
 use Rattle.std.specs.Prelude.{option_to_list}
 use Rattle.bword.specs.declared.edition.Edition.{Edition}
-use Rattle.blex.specs.declared.token.Token.{Token}
-use Rattle.blex.specs.declared.token.Token.TheVariants as token
-use Rattle.blex.specs.declared.token.Placed.{Placed}
-use Rattle.blex.specs.Pieces.{Word, whole}
+use Rattle.blang.specs.declared.token.Token.{Token}
+use Rattle.blang.specs.declared.token.Token.TheVariants as token
+use Rattle.blang.specs.declared.token.Placed.{Placed}
+use Rattle.blang.specs.Cut.{Word, whole, is_last, placed, piece_first, tokens_from}
 use Rattle.blex.specs.Sources.{Source, Passes, Breaks, Ends, room}
-use Rattle.blex.specs.Tokens.{is_last, placed, piece_first, tokens_from}
 use Rattle.blex.specs.Lexing.{PassesPiece, PassesToken, piece_of, ComesBehind, Stops}
 use Rattle.blex.proofs.Passing.{Passes-refl, Passes-append, Breaks-after}
 use Rattle.blex.proofs.ByteSteps.{Passes-then, room-falls, none_passed}

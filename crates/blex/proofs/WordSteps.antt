@@ -5,12 +5,12 @@ use Rattle.std.specs.Prelude.{nat_lt, nat_le}
 use Rattle.std.specs.List.{list_all}
 use Rattle.std.proofs.lemmas.Grind.{common_steps}
 use Rattle.std.proofs.lemmas.List.{take-append-le, length-take}
-use Rattle.bword.specs.Names.{is_name, is_name_start, is_name_byte}
+use Rattle.bword.specs.Words.{is_name, is_name_start, is_name_byte}
 use Rattle.bword.specs.declared.edition.Edition.{Edition}
-use Rattle.blex.specs.declared.token.Token.{Token}
-use Rattle.blex.specs.declared.token.Token.TheVariants as token
-use Rattle.blex.specs.declared.token.Letters.TheVariants as letters
-use Rattle.blex.specs.Pieces.{Word, word_of}
+use Rattle.blang.specs.declared.token.Token.{Token}
+use Rattle.blang.specs.declared.token.Token.TheVariants as token
+use Rattle.blang.specs.declared.token.Letters.TheVariants as letters
+use Rattle.blang.specs.Cut.{Word, word_of}
 use Rattle.blex.specs.Runs.{TakesName}
 use Rattle.blex.specs.Sources.{Source, Passes}
 use Rattle.blex.specs.Lexing.{PassesPiece, TakesIf}

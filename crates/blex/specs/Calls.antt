@@ -2,10 +2,9 @@
 use Rattle.std.specs.Prelude.{◌≡◌, ℕ, zero, suc, ◌≤◌, false, List, [], ◌∷◌, ◌++◌, length, Some, Ok, if◌then◌else◌}
 use Rattle.bword.specs.ByteEnds.{Incoming, Took, CanFollow}
 use Rattle.bword.specs.declared.edition.Edition.{Edition}
-use Rattle.blex.specs.declared.token.Token.TheVariants as token
-use Rattle.blex.specs.declared.token.Placed.{Placed}
-use Rattle.blex.specs.Pieces.{Word, whole}
-use Rattle.blex.specs.Tokens.{placed, is_last, line_after, tokens_from}
+use Rattle.blang.specs.declared.token.Token.TheVariants as token
+use Rattle.blang.specs.declared.token.Placed.{Placed}
+use Rattle.blang.specs.Cut.{Word, whole, placed, is_last, line_after, tokens_from}
 use Rattle.blex.specs.Lexers.{Lexer, LexGives, new}
 
 -- Calls, one after the other, gave these tokens, and none failed.

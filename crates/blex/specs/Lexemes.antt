@@ -3,12 +3,11 @@ use Rattle.std.specs.Prelude.{◌≡◌, ℕ, List, Option}
 use Rattle.std.specs.Option.{option_map}
 use Rattle.blex.specs.declared.lexeme.Lexeme.{Lexeme}
 use Rattle.blex.specs.declared.lexeme.Lexeme.TheVariants as lexeme
-use Rattle.blex.specs.declared.token.Token.{Token}
-use Rattle.blex.specs.declared.token.Token.TheVariants as token
+use Rattle.blang.specs.declared.token.Token.{Token}
+use Rattle.blang.specs.declared.token.Token.TheVariants as token
 use Rattle.blex.specs.declared.lexeme.Seen.{Seen}
-use Rattle.blex.specs.declared.token.Placed.{Placed}
-use Rattle.blex.specs.Pieces.{string_token}
-use Rattle.blex.specs.Tokens.{placed}
+use Rattle.blang.specs.declared.token.Placed.{Placed}
+use Rattle.blang.specs.Cut.{string_token, placed}
 
 -- the token of a lexeme, and of the characters where it is a string
 abbrev pub token_of_lexeme : Lexeme → List ℕ → Token

@@ -1,7 +1,7 @@
 -- Runs of bytes that a source passes at once.
 use Rattle.std.specs.Prelude.{◌≡◌, ℕ, ◌==◌, Bool, true, not, List, ◌++◌, length, take, nat_lt}
 use Rattle.std.specs.List.{list_all}
-use Rattle.bword.specs.Names.{is_name_byte}
+use Rattle.bword.specs.Words.{is_name_byte}
 use Rattle.blex.specs.Sources.{Source, Passes}
 
 -- The source has passed bytes that pass the test, maybe none.

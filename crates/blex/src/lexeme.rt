@@ -1,11 +1,11 @@
 //! Tokens with the characters of a string kept apart.
 ghost use Rattle.std.specs.Prelude.{ℕ, List, ◌≡◌, ◌≢◌};
 ghost use Rattle.blex.specs.declared.lexeme.Lexeme.TheVariants as lexeme;
-ghost use Rattle.blex.specs.Lexemes.{token_of_lexeme};
-ghost use Rattle.blex.specs.Tokens.{last_of};
+ghost use Rattle.blex.specs.Lexemes.{token_of_lexeme, StandsFor};
+ghost use Rattle.blang.specs.Cut.{last_of, token_of};
 
-use crate::token::{Keyword, Last, Letters, STRING_LEN, Token};
 use arrayvec::ArrayVec;
+use blang::{Keyword, Last, Letters, STRING_LEN, Token};
 use bword::{BinOp, Name};
 
 /// A token with the characters of a string kept apart, so that it is small and `Copy`.
@@ -91,5 +91,15 @@ impl Lexeme {
             Lexeme::End => Some(Last::End),
             _ => None,
         }
+    }
+}
+
+/// The last token as a lexeme.
+pub(crate) fn lexeme_of(last: Last) -> Lexeme
+    ensures { StandsFor result (token_of last) }
+{
+    match last {
+        Last::Bad(letters) => Lexeme::Bad(letters),
+        Last::End => Lexeme::End,
     }
 }

@@ -1,13 +1,13 @@
 //! Numbers.
 ghost use Rattle.std.specs.Prelude.{◌≡◌, IfOk, OnErr, true};
-ghost use Rattle.blex.specs.Pieces.{is_digit, base_of, number_when};
+ghost use Rattle.blang.specs.Cut.{is_digit, base_of, number_when};
 ghost use Rattle.blex.specs.Sources.{Breaks};
 ghost use Rattle.blex.specs.Lexing.{PassesLexeme, TakesIf};
 ghost use Rattle.blex.specs.Lexemes.{StandsFor};
 
 use crate::lexeme::Lexeme;
 use crate::source::Source;
-use crate::token::Letters;
+use blang::Letters;
 use bword::{ByteIn, Device};
 
 /// The rest of the number that begins with this digit.

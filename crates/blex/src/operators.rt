@@ -1,13 +1,13 @@
 //! Tokens whose text is always the same.
 ghost use Rattle.std.specs.Prelude.{ℕ, List, ◌≡◌, [], ◌∷◌, false, Some, IfOk, IfSome, OnErr};
-ghost use Rattle.blex.specs.Pieces.{Word, operator_of, other_of, fixed_of, fixed_or_stray};
+ghost use Rattle.blang.specs.Cut.{Word, operator_of, other_of, fixed_of, fixed_or_stray};
 ghost use Rattle.blex.specs.Sources.{Breaks};
 ghost use Rattle.blex.specs.Lexing.{PassesLexeme, BeginsFixed, IsAlone, NoneOfThree, begins_two, fixed_of_two, fixed_of_three};
 ghost use Rattle.blex.specs.Lexemes.{MayStandFor, token_of_lexeme};
 
 use crate::lexeme::Lexeme;
 use crate::source::Source;
-use crate::token::Letters;
+use blang::Letters;
 use bword::{BinOp, ByteIn, Device};
 
 /// The rest of the operator or the punctuation that begins with this byte, or none of it where nothing fits.
@@ -23,7 +23,7 @@ pub(crate) fn operator<I: ByteIn>(source: &mut Source<I>, first: u8) -> Result<L
 }
 
 // The token of this byte, if no longer one begins with it.
-#[tactic(auto, unfolding(crate::specs::Pieces::operator_of, crate::specs::Pieces::other_of, crate::specs::Pieces::fixed_of))]
+#[tactic(auto, unfolding(blang::specs::Cut::operator_of, blang::specs::Cut::other_of, blang::specs::Cut::fixed_of))]
 fn alone(byte: u8) -> Option<Lexeme>
     ensures { IfSome result (IsAlone byte) }
 {
@@ -110,7 +110,7 @@ fn one_or_stray(first: u8) -> Lexeme
 }
 
 // The binary operator of this one byte.
-#[tactic(auto, unfolding(crate::specs::Pieces::operator_of))]
+#[tactic(auto, unfolding(blang::specs::Cut::operator_of))]
 fn operator_of_one(byte: u8) -> Option<BinOp>
     ensures { result ≡ operator_of (byte ∷ []) }
 {
@@ -129,7 +129,7 @@ fn operator_of_one(byte: u8) -> Option<BinOp>
 }
 
 // The binary operator of these two bytes.
-#[tactic(auto, unfolding(crate::specs::Pieces::operator_of))]
+#[tactic(auto, unfolding(blang::specs::Cut::operator_of))]
 fn operator_of_two(first: u8, second: u8) -> Option<BinOp>
     ensures { result ≡ operator_of (first ∷ second ∷ []) }
 {
@@ -144,7 +144,7 @@ fn operator_of_two(first: u8, second: u8) -> Option<BinOp>
     }
 }
 
-#[tactic(auto, unfolding(crate::specs::Pieces::other_of))]
+#[tactic(auto, unfolding(blang::specs::Cut::other_of))]
 fn other_of_one(byte: u8) -> Option<Lexeme>
     ensures { MayStandFor result (other_of (byte ∷ [])) }
 {
@@ -165,7 +165,7 @@ fn other_of_one(byte: u8) -> Option<Lexeme>
     }
 }
 
-#[tactic(auto, unfolding(crate::specs::Pieces::fixed_of))]
+#[tactic(auto, unfolding(blang::specs::Cut::fixed_of))]
 fn fixed_of_one(byte: u8) -> Option<Lexeme>
     ensures { MayStandFor result (fixed_of (byte ∷ [])) }
 {
@@ -175,7 +175,7 @@ fn fixed_of_one(byte: u8) -> Option<Lexeme>
     }
 }
 
-#[tactic(auto, unfolding(crate::specs::Pieces::fixed_of, crate::specs::Pieces::other_of))]
+#[tactic(auto, unfolding(blang::specs::Cut::fixed_of, blang::specs::Cut::other_of))]
 fn fixed_of_two(first: u8, second: Option<u8>) -> Option<Lexeme>
     ensures { MayStandFor result (fixed_of_two first second) }
 {

@@ -1,14 +1,14 @@
 //! Constants in quotes.
 ghost use Rattle.std.specs.Prelude.{◌≡◌, [], IfOk, OnErr, Some};
-ghost use Rattle.blex.specs.Pieces.{plain_of, escape_of, character_token};
+ghost use Rattle.blang.specs.Cut.{plain_of, escape_of, character_token};
 ghost use Rattle.blex.specs.Sources.{Breaks};
 ghost use Rattle.blex.specs.Lexemes.{StandsFor, token_of_lexeme};
 ghost use Rattle.blex.specs.Lexing.{PassesPiece, PassesLexeme, PassesCharacter, PassesQuoted};
 
 use crate::lexeme::Lexeme;
 use crate::source::Source;
-use crate::token::{Letters, STRING_LEN};
 use arrayvec::ArrayVec;
+use blang::{Letters, STRING_LEN};
 use bword::{ByteIn, Device};
 
 /// The rest of the character constant whose opening quote was read.
@@ -100,7 +100,7 @@ fn plain(byte: u8) -> Option<u8>
 }
 
 // The byte of an escape with this one behind its star.
-#[tactic(auto, unfolding(crate::specs::Pieces::escape_of))]
+#[tactic(auto, unfolding(blang::specs::Cut::escape_of))]
 fn escape(byte: u8) -> Option<u8>
     ensures { result ≡ escape_of byte }
 {

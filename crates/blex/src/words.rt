@@ -1,15 +1,15 @@
 //! Keywords and names.
 ghost use Rattle.std.specs.Prelude.{◌≡◌, IfOk, OnErr, IsTrue, true, Some, None, if◌then◌else◌};
-ghost use Rattle.bword.specs.Names.{is_name, is_name_start, is_name_byte};
-ghost use Rattle.blex.specs.Pieces.{word_of, keyword_of, is_text};
+ghost use Rattle.bword.specs.Words.{is_name, is_name_start, is_name_byte};
+ghost use Rattle.blang.specs.Cut.{word_of, keyword_of, is_text};
 ghost use Rattle.blex.specs.Sources.{Breaks};
 ghost use Rattle.blex.specs.Lexing.{PassesLexeme, TakesIf};
 ghost use Rattle.blex.specs.Lexemes.{StandsFor};
 
 use crate::lexeme::Lexeme;
 use crate::source::Source;
-use crate::token::{Keyword, Letters};
 use arrayvec::ArrayVec;
+use blang::{Keyword, Letters};
 use bword::{ByteIn, Device, Edition, NAME_LEN, Name, is_name_byte};
 
 /// The rest of the word that begins with this byte.
@@ -50,7 +50,7 @@ fn name_byte<I: ByteIn>(source: &mut Source<I>) -> Result<Option<u8>, Device>
 }
 
 // The keyword or the name that this is.
-#[tactic(auto, unfolding(crate::specs::Pieces::word_of))]
+#[tactic(auto, unfolding(blang::specs::Cut::word_of))]
 fn keyword_or_name(edition: Edition, text: &[u8]) -> Lexeme
     requires { IsTrue (is_name text.now) }
     ensures { StandsFor result (word_of edition text.now) }
@@ -61,7 +61,7 @@ fn keyword_or_name(edition: Edition, text: &[u8]) -> Lexeme
     }
 }
 
-#[tactic(auto, unfolding(crate::specs::Pieces::keyword_of))]
+#[tactic(auto, unfolding(blang::specs::Cut::keyword_of))]
 fn keyword(edition: Edition, text: &[u8]) -> Option<Keyword>
     ensures { result ≡ keyword_of edition text.now }
 {

@@ -6,8 +6,8 @@ use Rattle.std.proofs.lemmas.List.{map-append, take_more}
 use Rattle.std.proofs.lemmas.List.Elements.{filter-append}
 use Rattle.std.proofs.lemmas.List.Concat.{flat_map-append}
 use Rattle.std.specs.Prelude.{Option}
-use Rattle.bcode.specs.Text.{lines_of}
-use Rattle.bcode.specs.declared.definition.Definition.{Definition}
+use Rattle.blang.specs.Text.{lines_of}
+use Rattle.blang.specs.declared.code.Definition.{Definition}
 use Rattle.blist.specs.Listings.{Adds, AreRows, Extends, Row, is_wanted, row_text, wanted, without_newline}
 
 pub adds_nothing : (old : List ℕ) → Adds old [] old

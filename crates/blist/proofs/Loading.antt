@@ -3,19 +3,19 @@ use Rattle.std.proofs.Common.{◌≡◌, ◌∙◌, ℕ, List, [], Option, Some,
 use Rattle.std.specs.Prelude.{MatchResult}
 use Rattle.bword.specs.declared.edition.Edition.{Edition}
 use Rattle.bword.specs.ByteEnds.{Incoming, Outgoing, Kept, Unread, incoming_of, outgoing_of}
-use Rattle.bcode.specs.Text.{IsCodeText}
-use Rattle.bcode.specs.declared.definition.Definition.{Definition}
+use Rattle.blang.specs.Text.{IsCodeText}
+use Rattle.blang.specs.declared.code.Definition.{Definition}
 use Rattle.bcode.specs.Faults.{IsFaultOf}
 use Rattle.bcode.specs.declared.fault.CodeFault.{CodeFault}
 use Rattle.bcode.specs.declared.fault.CodeFault.TheVariants as code_fault
 use Rattle.bcode.proofs.FaultLaws.{unique_code}
-use Rattle.bmach.specs.Layout.{load_fault}
+use Rattle.blang.specs.Layout.{load_fault}
 use Rattle.bmach.specs.Loading.{IsFault}
-use Rattle.bmach.specs.Machine.{Image}
+use Rattle.blang.specs.Machine.{Image}
 use Rattle.bmach.specs.Resolved.{IsLoadedFrom}
-use Rattle.bmach.specs.declared.fault.LoadFault.{LoadFault}
-use Rattle.bmach.specs.declared.fault.LoadFault.TheVariants as fault
-use Rattle.bparse.specs.Compiles.{Compiles}
+use Rattle.blang.specs.declared.run.LoadFault.{LoadFault}
+use Rattle.blang.specs.declared.run.LoadFault.TheVariants as fault
+use Rattle.blang.specs.Compiles.{Compiles}
 use Rattle.blist.specs.declared.program.Program.{Program}
 use Rattle.blist.specs.Programs.{IsCompiled, IsThisProgram, LoadGives, NoProgram, IsNotLoaded, IsUnread, TellsFault, load_line, unread_status, faulty, unread, refused, no_memory, not_read, not_loaded}
 use Rattle.blist.specs.Told.{Told}

@@ -4,11 +4,11 @@ use Rattle.std.specs.List.{flat_map}
 use Rattle.std.specs.Str.{bytes_eq}
 use Rattle.bword.specs.declared.edition.Edition.{Edition}
 use Rattle.bword.specs.ByteEnds.{Outgoing}
-use Rattle.bcode.specs.Text.{lines_of}
-use Rattle.bcode.specs.declared.definition.Definition.{Definition}
-use Rattle.bparse.specs.declared.status.TheConstants.{DONE, MEMORY, WRONG_COMMAND}
-use Rattle.bmach.specs.Layout.{shape_of}
-use Rattle.bmach.specs.Machine.{Image}
+use Rattle.blang.specs.Text.{lines_of}
+use Rattle.blang.specs.declared.code.Definition.{Definition}
+use Rattle.blang.specs.declared.status.TheConstants.{DONE, MEMORY, WRONG_COMMAND}
+use Rattle.blang.specs.Layout.{shape_of}
+use Rattle.blang.specs.Machine.{Image}
 use Rattle.blist.specs.declared.listing.TheConstants.{HEADING, UNDEFINED}
 use Rattle.blist.specs.Programs.{IsProgram, NoProgram}
 use Rattle.blist.specs.Told.{Ends, Told}

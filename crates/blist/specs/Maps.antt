@@ -3,10 +3,10 @@ use Rattle.std.specs.Prelude.{◌≡◌, ℕ, zero, suc, ◌+◌, ◌%◌, List,
 use Rattle.std.specs.List.{flat_map}
 use Rattle.bword.specs.declared.edition.Edition.{Edition}
 use Rattle.bword.specs.ByteEnds.{Outgoing}
-use Rattle.bcode.specs.declared.definition.Definition.{Definition}
-use Rattle.bparse.specs.declared.status.TheConstants.{DONE, MEMORY}
-use Rattle.bmach.specs.Layout.{Function, Kind, Shape, Simple, Vector, address_in, shape_of, size_of}
-use Rattle.bmach.specs.Machine.{Image}
+use Rattle.blang.specs.declared.code.Definition.{Definition}
+use Rattle.blang.specs.declared.status.TheConstants.{DONE, MEMORY}
+use Rattle.blang.specs.Layout.{Function, Kind, Shape, Simple, Vector, address_in, shape_of, size_of}
+use Rattle.blang.specs.Machine.{Image}
 use Rattle.blist.specs.declared.layout.TheConstants.{HEADING, SHOWN}
 use Rattle.blist.specs.Columns.{left, right}
 use Rattle.blist.specs.Programs.{IsProgram, NoProgram}

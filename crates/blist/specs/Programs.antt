@@ -3,18 +3,18 @@ use Rattle.std.specs.Prelude.{◌≡◌, ℕ, List, [], codes, false, Option, So
 use Rattle.bword.specs.declared.edition.Edition.{Edition}
 use Rattle.bword.specs.ByteEnds.{Incoming, Outgoing, Kept, incoming_of, outgoing_of}
 use Rattle.bcode.specs.Faults.{IsFaultLine}
-use Rattle.bcode.specs.Text.{IsCodeText}
-use Rattle.bcode.specs.declared.definition.Definition.{Definition}
+use Rattle.blang.specs.Text.{IsCodeText}
+use Rattle.blang.specs.declared.code.Definition.{Definition}
 use Rattle.bcode.specs.declared.fault.CodeFault.{CodeFault}
 use Rattle.bcode.specs.declared.fault.CodeFault.TheVariants as code_fault
-use Rattle.bparse.specs.Compiles.{Compiles}
-use Rattle.bparse.specs.declared.status.TheConstants.{MEMORY, REFUSED}
-use Rattle.bmach.specs.Layout.{load_fault}
+use Rattle.blang.specs.Compiles.{Compiles}
+use Rattle.blang.specs.declared.status.TheConstants.{MEMORY, REFUSED}
+use Rattle.blang.specs.Layout.{load_fault}
 use Rattle.bmach.specs.Loading.{IsFault}
-use Rattle.bmach.specs.Machine.{Image}
+use Rattle.blang.specs.Machine.{Image}
 use Rattle.bmach.specs.Resolved.{IsLoadedFrom}
-use Rattle.bmach.specs.declared.fault.LoadFault.{LoadFault}
-use Rattle.bmach.specs.declared.fault.LoadFault.TheVariants as fault
+use Rattle.blang.specs.declared.run.LoadFault.{LoadFault}
+use Rattle.blang.specs.declared.run.LoadFault.TheVariants as fault
 use Rattle.blist.specs.declared.program.Program.{Program}
 use Rattle.blist.specs.Told.{Told}
 

@@ -1,8 +1,8 @@
 -- Texts that are written whole.
 use Rattle.std.specs.Prelude.{◌≡◌, ℕ, List, ◌⊎◌}
 use Rattle.bword.specs.ByteEnds.{Outgoing, Writes, Refuses}
-use Rattle.bword.specs.declared.byte_out.EndFault.{EndFault}
-use Rattle.bparse.specs.Statuses.{status_of}
+use Rattle.bword.specs.declared.ends.EndFault.{EndFault}
+use Rattle.blang.specs.Compiles.{status_of}
 
 -- A beginning of the text was written, and the status is that of the refused write.
 pub record IsCut (text : List ℕ) (old new : Outgoing) (status : ℕ) : Type 0 where

@@ -1,5 +1,6 @@
 //! The names of the words and labels of functions, as their tokens tell them.
-use blex::{Keyword, Lexeme, Lexer};
+use blang::Keyword;
+use blex::{Lexeme, Lexer};
 use bword::{Edition, MemIn, Name};
 use std::alloc::{AllocError, Global};
 

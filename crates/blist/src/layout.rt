@@ -1,14 +1,14 @@
 //! The layout of memory.
 ghost use Rattle.std.specs.Prelude.{◌≡◌, ◌++◌, IfOk, OnOk};
-ghost use Rattle.bmach.specs.Layout.{shape_of};
+ghost use Rattle.blang.specs.Layout.{shape_of};
 ghost use Rattle.blist.specs.Maps.{Maps, dots, kind_text, map_row, map_text, words_from};
 
 use crate::program::read_program;
 use crate::telling::tell;
 use crate::text::Text;
-use bcode::Definition;
+use blang::Definition;
+use blang::status::{self, Status};
 use bmach::{Image, name_of, size_of};
-use bparse::status::{self, Status};
 use bword::{ByteOut, Edition};
 use std::alloc::{AllocError, Global};
 

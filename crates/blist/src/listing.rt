@@ -1,9 +1,9 @@
 //! The code of a source, with what it comes from.
 ghost use Rattle.std.specs.Prelude.{◌≡◌, [], ◌∷◌, ◌++◌, true, IfOk, OnOk, map, option_map};
 ghost use Rattle.std.specs.List.{flat_map};
-ghost use Rattle.bcode.specs.Text.{header_line, instr_line, ival_line, lines_of, string_line, target_line};
-ghost use Rattle.bcode.specs.Parts.{function_of, simple_of, vector_of};
-ghost use Rattle.bcode.specs.declared.definition.Definition.TheVariants as definition;
+ghost use Rattle.blang.specs.Text.{header_line, instr_line, ival_line, lines_of, string_line, target_line};
+ghost use Rattle.blang.specs.CodeParts.{function_of, simple_of, vector_of};
+ghost use Rattle.blang.specs.declared.code.Definition.TheVariants as definition;
 ghost use Rattle.blist.specs.Listings.{Adds, AreRows, Lists, is_wanted, wanted};
 
 use crate::frames::Frame;
@@ -12,12 +12,10 @@ use crate::rows::{Named, Spot, Told, push_row};
 use crate::source_lines::SourceLines;
 use crate::telling::tell;
 use crate::text::Text;
-use bcode::{
-    Definition, FunctionParts, Instr, Ival, Page, SimpleParts, VectorParts, push_header_line,
-    push_instr_line, push_ival_line, push_number_line,
-};
+use bcode::{Page, push_header_line, push_instr_line, push_ival_line, push_number_line};
+use blang::status::{self, Status};
+use blang::{Definition, FunctionParts, Instr, Ival, SimpleParts, VectorParts};
 use bmach::name_of;
-use bparse::status::{self, Status};
 use bword::{ByteOut, Edition};
 use std::alloc::{AllocError, Global};
 

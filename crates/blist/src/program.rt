@@ -1,13 +1,14 @@
 //! A source that is compiled and loaded, with what is told of it.
 ghost use Rattle.std.specs.Prelude.{◌≡◌, MatchResult};
-ghost use Rattle.bcode.specs.Text.{IsCodeText};
+ghost use Rattle.blang.specs.Text.{IsCodeText};
 ghost use Rattle.blist.specs.Programs.{IsThisProgram, IsUnread, LoadGives, NoProgram, TellsFault, unread_status};
 
 use crate::frames::{Frame, frames_of};
 use crate::telling::tell;
-use bcode::{CodeFault, Definition, read_code};
-use bmach::{Image, LoadFault, load};
-use bparse::status::{self, Status};
+use bcode::{CodeFault, read_code};
+use blang::status::{self, Status};
+use blang::{Definition, LoadFault};
+use bmach::{Image, load};
 use bparse::{Compiler, Step, compile_edition};
 use bword::{ByteOut, Edition, MemIn, MemOut};
 use std::alloc::{AllocError, Global};

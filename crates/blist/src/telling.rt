@@ -2,7 +2,7 @@
 ghost use Rattle.std.specs.Prelude.{◌≡◌};
 ghost use Rattle.blist.specs.Told.{Told};
 
-use bparse::status::{self, Status};
+use blang::status::{self, Status};
 use bword::ByteOut;
 
 /// Writes a text, and answers this status or that of a refused write.

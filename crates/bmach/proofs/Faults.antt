@@ -3,12 +3,12 @@ use Rattle.std.proofs.Common.{◌≡◌, ℕ, suc, ◌+◌, Bool, true, false, c
 use Rattle.std.specs.Prelude.{zip, find, option_and_then, slice_get, ◌||◌}
 use Rattle.std.specs.List.{list_any}
 use Rattle.std.proofs.Math.Seq.{drop-cons}
-use Rattle.bcode.specs.declared.definition.Definition.{Definition}
-use Rattle.bcode.specs.declared.definition.Definition.TheVariants as definition
-use Rattle.bmach.specs.declared.fault.LoadFault.{LoadFault}
-use Rattle.bmach.specs.declared.fault.LoadFault.TheVariants as fault
-use Rattle.bmach.specs.Layout.{Shape, shape_of, spot_behind, spots_behind, first_some, is_main, functions_in}
-use Rattle.bmach.specs.Machine.{loaded_at}
+use Rattle.blang.specs.declared.code.Definition.{Definition}
+use Rattle.blang.specs.declared.code.Definition.TheVariants as definition
+use Rattle.blang.specs.declared.run.LoadFault.{LoadFault}
+use Rattle.blang.specs.declared.run.LoadFault.TheVariants as fault
+use Rattle.blang.specs.Layout.{Shape, shape_of, spot_behind, spots_behind, first_some, is_main, functions_in}
+use Rattle.blang.specs.Machine.{loaded_at}
 use Rattle.bmach.specs.Loading.{IsFault, main_from}
 use Rattle.bmach.proofs.Whole.{functions_behind}
 

@@ -3,7 +3,7 @@ use Rattle.std.proofs.Common.{◌≡◌, ℕ, ◌+◌, ◌<◌, ◌≤◌, true,
 use Rattle.std.specs.Prelude.{nat_lt, not, ◌||◌}
 use Rattle.std.proofs.lemmas.Bool.Decides.{nat_tests}
 use Rattle.std.proofs.lemmas.List.Sums.{sum_by-append}
-use Rattle.bmach.specs.Layout.{Shape, size_of, labels_in, data_end, label_count}
+use Rattle.blang.specs.Layout.{Shape, size_of, labels_in, data_end, label_count}
 use Rattle.bmach.specs.Loading.{fits}
 
 fits_from : (end labels : ℕ) → end ≤ 65536 → labels ≤ 65535 → not (nat_lt 65536 end || nat_lt 65535 labels) ≡ true

@@ -3,11 +3,10 @@ use Rattle.std.proofs.Common.{◌≡◌, ℕ, Bool, true, false, List, [], ◌�
 use Rattle.std.specs.Prelude.{flat_map, option_map, slice_get, not, ◌||◌, nat_lt, zip}
 use Rattle.std.specs.List.{list_any}
 use Rattle.std.proofs.lemmas.Option.{slice_get-map}
-use Rattle.bcode.specs.declared.definition.Definition.{Definition}
-use Rattle.bmach.specs.declared.fault.LoadFault.{LoadFault}
-use Rattle.bmach.specs.declared.fault.LoadFault.TheVariants as fault
-use Rattle.bmach.specs.World.{words}
-use Rattle.bmach.specs.Layout.{shape_of, names_of, names_in, duplicate_behind, data_end, label_count, first_undefined, addresses, address_in, Addresses, library_addresses, first_some, some_if, is_main, load_fault, spots, definition_words}
+use Rattle.blang.specs.declared.code.Definition.{Definition}
+use Rattle.blang.specs.declared.run.LoadFault.{LoadFault}
+use Rattle.blang.specs.declared.run.LoadFault.TheVariants as fault
+use Rattle.blang.specs.Layout.{words, shape_of, names_of, names_in, duplicate_behind, data_end, label_count, first_undefined, addresses, address_in, Addresses, library_addresses, first_some, some_if, is_main, load_fault, spots, definition_words}
 use Rattle.bmach.specs.Resolved.{resolved_function, IsLoadedFrom}
 use Rattle.bmach.specs.Loading.{Part, IsFault, fits, first_part, main_from, undefined_fault}
 use Rattle.bmach.proofs.Whole.{whole, functions_behind, length-words}

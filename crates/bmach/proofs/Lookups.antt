@@ -7,7 +7,8 @@ use Rattle.std.specs.Ordering.{nat_cmp}
 use Rattle.std.specs.Cmp.Lexicographic.{slice_cmp, texts_ties, nat_list_eq_equiv, bytes_decides}
 use Rattle.std.specs.BTreeMap.{is_at}
 use Rattle.std.specs.Map.{lookup}
-use Rattle.bmach.specs.Layout.{same_name, Addresses, address_in, duplicate_behind}
+use Rattle.bword.specs.Words.{same_name}
+use Rattle.blang.specs.Layout.{Addresses, address_in, duplicate_behind}
 use Rattle.bmach.specs.Loading.{Knows}
 
 pub lookup-append : {K X : Type 0} (test : K → Bool) (xs ys : List (K × X)) → lookup test (xs ++ ys) ≡ option_or (lookup test xs) (lookup test ys)

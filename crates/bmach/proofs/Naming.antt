@@ -5,8 +5,9 @@ use Rattle.std.specs.List.{list_any}
 use Rattle.std.specs.Option.{option_or}
 use Rattle.std.proofs.lemmas.List.{map-append, take_more}
 use Rattle.std.proofs.Math.Seq.{split_at}
-use Rattle.bcode.specs.declared.definition.Definition.{Definition}
-use Rattle.bmach.specs.Layout.{Shape, shape_of, same_name, names_of, Addresses, address_in, addresses, duplicate_behind, data_end, spots, library_addresses}
+use Rattle.blang.specs.declared.code.Definition.{Definition}
+use Rattle.blang.specs.Layout.{Shape, shape_of, names_of, Addresses, address_in, addresses, duplicate_behind, data_end, spots, library_addresses}
+use Rattle.bword.specs.Words.{same_name}
 use Rattle.bmach.proofs.Lookups.{lookup-append, is_some-lookup-zip, duplicate_behind-append}
 use Rattle.bmach.proofs.Spots.{wrapped, length-wrapped, addresses_fit}
 

@@ -1,7 +1,7 @@
 -- Words filled up with zeros.
 use Rattle.std.proofs.Common.{◌≡◌, ℕ, ◌+◌, ◌-◌, List, ◌++◌, length, take, replicate, ap, ◌∙◌, append_assoc, arith, length-append, max}
 use Rattle.std.proofs.lemmas.List.{take_all}
-use Rattle.bmach.specs.Layout.{padded}
+use Rattle.blang.specs.Layout.{padded}
 
 -- the words so far and values behind them, filled up to the least number of values
 pub padded_behind : (old values : List ℕ) (least end count : ℕ) → end ≡ length old + max least (length values) → count ≡ length (old ++ values) → take end (old ++ values) ++ replicate (end - count) 0 ≡ old ++ padded least values

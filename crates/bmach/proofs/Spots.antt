@@ -4,8 +4,8 @@ use Rattle.std.specs.Prelude.{zip}
 use Rattle.std.proofs.Math.Nat.{mod-eq_of_lt}
 use Rattle.std.proofs.lemmas.List.{map-append, length-map}
 use Rattle.std.proofs.lemmas.List.Sums.{sum_by-append}
-use Rattle.bcode.specs.declared.instr.Ival.{Ival}
-use Rattle.bmach.specs.Layout.{Kind, Function, Simple, Vector, Shape, Spot, size_of, words_before_strings, data_end, spot_behind, spots_behind, spots, names_of, Addresses}
+use Rattle.blang.specs.declared.code.Ival.{Ival}
+use Rattle.blang.specs.Layout.{Kind, Function, Simple, Vector, Shape, Spot, size_of, words_before_strings, data_end, spot_behind, spots_behind, spots, names_of, Addresses}
 
 pub spots_behind-push : (before ds : List Shape) (d : Shape) → spots_behind before (ds ++ d ∷ []) ≡ spots_behind before ds ++ spot_behind (before ++ ds) d ∷ []
 spots_behind-push before [] d = ap (λ b. spot_behind b d ∷ []) (sym (append-nil before))

@@ -6,11 +6,11 @@ use Rattle.std.proofs.lemmas.List.{map-append, length-map, length-replicate}
 use Rattle.std.proofs.lemmas.List.Sums.{sum_by-append, sum_by-le-sum_by}
 use Rattle.std.proofs.lemmas.List.Elements.{filter_map-append}
 use Rattle.std.proofs.lemmas.Grind.{flat_map-append}
-use Rattle.bcode.specs.declared.instr.Ival.{Ival}
-use Rattle.bcode.specs.declared.definition.Definition.{Definition}
-use Rattle.bcode.specs.declared.definition.Definition.TheVariants as definition
-use Rattle.bmach.specs.Layout.{Kind, Function, Simple, Vector, Shape, shape_of, Spot, size_of, words_before_strings, functions_in, labels_in, data_end, function_count, label_count, spot_behind, spots_behind, spots, definition_words, words_of_kind, value_word, padded}
-use Rattle.bmach.specs.Machine.{Loaded, loaded_at}
+use Rattle.blang.specs.declared.code.Ival.{Ival}
+use Rattle.blang.specs.declared.code.Definition.{Definition}
+use Rattle.blang.specs.declared.code.Definition.TheVariants as definition
+use Rattle.blang.specs.Layout.{Kind, Function, Simple, Vector, Shape, shape_of, Spot, size_of, words_before_strings, functions_in, labels_in, data_end, function_count, label_count, spot_behind, spots_behind, spots, definition_words, words_of_kind, value_word, padded}
+use Rattle.blang.specs.Machine.{Loaded, loaded_at}
 use Rattle.bmach.specs.Resolved.{resolved_function}
 use Rattle.bmach.specs.Loading.{Part, first_part, next_spot, loaded_functions, with_definition}
 use Rattle.bmach.proofs.Spots.{spots_behind-push, length-spots_behind, zip-push}

@@ -1,9 +1,3 @@
-pub mod World
-pub mod Rows
-pub mod Layout
-pub mod LayoutRows
-pub mod Machine
-pub mod MachineRows
 pub mod StepRows
 pub mod Resolved
 pub mod Operations
@@ -13,7 +7,6 @@ pub mod Parts
 pub mod Taken
 pub mod Split
 pub mod Steps
-pub mod Runs
 pub mod Turns
 pub mod Excluded
 pub mod Stepping

@@ -1,13 +1,13 @@
 -- What the loader's parts do.
 use Rattle.std.specs.Prelude.{◌≡◌, ℕ, ◌+◌, ◌||◌, not, Bool, List, [], ◌∷◌, ◌++◌, length, nat_lt, Option, Some, None, option_map, if◌then◌else◌}
-use Rattle.bcode.specs.declared.definition.Definition.{Definition}
-use Rattle.bmach.specs.declared.fault.LoadFault.{LoadFault}
-use Rattle.bmach.specs.declared.fault.LoadFault.TheVariants as fault
-use Rattle.bmach.specs.World.{words}
-use Rattle.bmach.specs.Layout.{Shape, Spot, same_name, shape_of, words_before_strings, functions_in, labels_in, data_end, label_count, definition_words, is_main, first_undefined, Addresses, address_in, library_addresses}
-use Rattle.bmach.specs.Machine.{Loaded, loaded_at}
+use Rattle.blang.specs.declared.code.Definition.{Definition}
+use Rattle.blang.specs.declared.run.LoadFault.{LoadFault}
+use Rattle.blang.specs.declared.run.LoadFault.TheVariants as fault
+use Rattle.blang.specs.Layout.{words, Shape, Spot, shape_of, words_before_strings, functions_in, labels_in, data_end, label_count, definition_words, is_main, first_undefined, Addresses, address_in, library_addresses}
+use Rattle.bword.specs.Words.{same_name}
+use Rattle.blang.specs.Machine.{Loaded, loaded_at}
 use Rattle.bmach.specs.Resolved.{resolved_function}
-use Rattle.bmach.specs.declared.limits.TheConstants.{MAX_PROGRAM_LABELS}
+use Rattle.blang.specs.declared.limits.TheConstants.{MAX_PROGRAM_LABELS}
 
 -- a fault is want of memory, or this one
 abbrev pub IsFault : LoadFault → Option LoadFault → Type 0

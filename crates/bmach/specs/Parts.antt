@@ -1,10 +1,10 @@
 -- What the loader has so far.
 use Rattle.std.specs.Prelude.{◌≡◌, ℕ, List, map, Option, None, Result, MatchResult}
-use Rattle.bcode.specs.declared.definition.Definition.{Definition}
-use Rattle.bmach.specs.declared.fault.LoadFault.{LoadFault}
+use Rattle.blang.specs.declared.code.Definition.{Definition}
+use Rattle.blang.specs.declared.run.LoadFault.{LoadFault}
 use Rattle.bmach.specs.declared.part.Part.{Part as LoadedPart}
 use Rattle.bmach.specs.Images.{loaded_of}
-use Rattle.bmach.specs.Layout.{first_undefined, names_in}
+use Rattle.blang.specs.Layout.{first_undefined, names_in}
 use Rattle.bmach.specs.Loading.{IsFault, Part, undefined_fault, with_definition}
 
 abbrev pub part_of : LoadedPart → Part

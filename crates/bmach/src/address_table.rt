@@ -1,7 +1,7 @@
 //! Names with their addresses.
 ghost use Rattle.std.specs.Prelude.{◌≡◌, [], is_none, IfOk, OnErr};
 ghost use Rattle.std.specs.Bool.{OnTrue};
-ghost use Rattle.bmach.specs.Layout.{address_in};
+ghost use Rattle.blang.specs.Layout.{address_in};
 ghost use Rattle.bmach.specs.Loading.{Knows};
 
 use bnames::{NameTable, Probes};

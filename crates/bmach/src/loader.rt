@@ -1,18 +1,17 @@
 //! The loader.
 ghost use Rattle.std.specs.Prelude.{◌≡◌, ◌≤◌, [], IfOk, IfErr, IsTrue, IsErrOf, MatchResult, None, OnOk, flat_map, fold, map};
-ghost use Rattle.bmach.specs.declared.fault.LoadFault.TheVariants as fault;
-ghost use Rattle.bmach.specs.Layout.{data_end, first_undefined, label_count, load_fault, names_in, shape_of};
+ghost use Rattle.blang.specs.declared.run.LoadFault.TheVariants as fault;
+ghost use Rattle.blang.specs.Layout.{data_end, first_undefined, label_count, load_fault, names_in, shape_of};
 ghost use Rattle.bmach.specs.Loading.{IsFault, first_part, fits, known_in, main_from, undefined_fault, with_definition};
 ghost use Rattle.bmach.specs.Parts.{part_of};
 ghost use Rattle.bmach.specs.Resolved.{IsLoadedFrom};
 
 use crate::address_table::Addresses;
 use crate::addresses::{FIRST_ADDRESS, addresses_of};
-use crate::limits::{MAX_PROGRAM_LABELS, STORE_WORDS};
 use crate::part::Part;
 use crate::parts::{functions_in, is_main, labels_in, size_of};
 use crate::{Image, LoadFault};
-use bcode::Definition;
+use blang::{Definition, MAX_PROGRAM_LABELS, STORE_WORDS};
 use std::alloc::Global;
 
 /// Word 0 and the library's externals, whose words are their values.

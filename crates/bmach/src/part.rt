@@ -1,7 +1,7 @@
 //! What was loaded so far.
 ghost use Rattle.std.specs.Prelude.{◌+◌, ◌≤◌, length};
-ghost use Rattle.bcode.specs.declared.definition.Definition.TheVariants as definition;
-ghost use Rattle.bmach.specs.Layout.{labels_in, shape_of, size_of};
+ghost use Rattle.blang.specs.declared.code.Definition.TheVariants as definition;
+ghost use Rattle.blang.specs.Layout.{labels_in, shape_of, size_of};
 ghost use Rattle.bmach.specs.Loading.{known_in};
 ghost use Rattle.bmach.specs.Parts.{Adds};
 
@@ -10,7 +10,7 @@ use crate::address_table::Addresses;
 use crate::addresses::FIRST_ADDRESS;
 use crate::image::LoadedFunction;
 use crate::resolve::{push_values, resolved_code};
-use bcode::{Definition, Function, Simple, Vector};
+use blang::{Definition, Function, Simple, Vector};
 use std::alloc::Global;
 
 /// The words and functions of the definitions so far.

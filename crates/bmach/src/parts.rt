@@ -1,8 +1,8 @@
 //! What the loader asks of one definition.
 ghost use Rattle.std.specs.Prelude.{◌≡◌, ◌≤◌};
-ghost use Rattle.bmach.specs.Layout.{functions_in, is_main, labels_in, shape_of, size_of};
+ghost use Rattle.blang.specs.Layout.{functions_in, is_main, labels_in, shape_of, size_of};
 
-use bcode::Definition;
+use blang::Definition;
 use bword::Name;
 
 pub fn name_of(definition: &Definition) -> Name

@@ -1,14 +1,14 @@
 //! Operations that look at one call alone.
 ghost use Rattle.std.specs.Prelude.{◌≡◌, ℕ, ◌+◌, ◌^◌, ◌<◌, ◌∷◌, List, IfOk, OnOk, slice_set};
-ghost use Rattle.bcode.specs.declared.instr.Instr.TheVariants as instr;
-ghost use Rattle.bmach.specs.Machine as machine;
-ghost use Rattle.bmach.specs.Machine.{Running, at_place, label_target, left_word, stored_word};
+ghost use Rattle.blang.specs.declared.code.Instr.TheVariants as instr;
+ghost use Rattle.blang.specs.Machine as machine;
+ghost use Rattle.blang.specs.Machine.{Running, at_place, label_target, left_word, stored_word};
 ghost use Rattle.bmach.specs.Steps.{Acts, Paced, call_of};
-ghost use Rattle.bmach.specs.World.{World};
+ghost use Rattle.blang.specs.Layout.{World};
 
 use crate::Trap;
 use crate::machine::{Call, Pace};
-use bcode::Increment;
+use blang::Increment;
 use bword::{BinOp, Store, binary, negate, not};
 use std::alloc::AllocError;
 

@@ -1,7 +1,7 @@
 //! What the library writes.
 ghost use Rattle.std.specs.Prelude.{◌≡◌, ◌≤◌, false, drop};
 ghost use Rattle.std.specs.Fmt.{digits};
-ghost use Rattle.bmach.specs.World.{character_bytes, printed};
+ghost use Rattle.blang.specs.Layout.{character_bytes, printed};
 
 use crate::number::Base;
 

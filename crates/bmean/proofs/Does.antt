@@ -1,8 +1,8 @@
 -- From a state the machine does what an answer says.
 use Rattle.std.proofs.Common.{◌≡◌, ◌≢◌, ℕ, zero, suc, ◌+◌, ◌≤◌, refl, sym, ap, ◌∙◌, subst, arith}
-use Rattle.bmach.specs.World.{World, Reply}
-use Rattle.bmach.specs.Machine.{Image, State, Running, Halted, Stuck, step, steps, on_reply}
-use Rattle.bmean.specs.Answer.{Answer, Gives, Ends, Wants, and_then, answer_of}
+use Rattle.blang.specs.Layout.{World, Reply}
+use Rattle.blang.specs.Machine.{Image, State, Running, Halted, Stuck, step, steps, on_reply}
+use Rattle.blang.specs.Value.{Answer, Gives, Ends, Wants, and_then, answer_of}
 
 -- a run that isn't over, in this world
 abbrev pub IsAt : State → World → Type 0

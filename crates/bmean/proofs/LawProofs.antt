@@ -1,12 +1,11 @@
 -- The laws of a program, from those of its image.
 use Rattle.std.proofs.Common.{◌≡◌, ℕ, List, sym, ap, ◌∙◌, subst, map}
-use Rattle.btree.specs.Definition.{Definition}
-use Rattle.btree.specs.Code.{code_of}
-use Rattle.bmach.specs.Machine.{Image, State, image_of, run}
+use Rattle.blang.specs.Trees.{Definition}
+use Rattle.blang.specs.Code.{code_of}
+use Rattle.blang.specs.Machine.{Image, State, image_of, run}
 use Rattle.bmach.specs.Resolved.{state_resolved, IsLoadedFrom}
-use Rattle.bmean.specs.Answer.{Answer}
-use Rattle.bmean.specs.Meaning.{program_of}
-use Rattle.bmean.specs.Laws.{Loads, meant}
+use Rattle.blang.specs.Value.{Answer}
+use Rattle.blang.specs.Meaning.{program_of, Loads, meant}
 use Rattle.bmean.proofs.Whole.{Agree, agree}
 use Rattle.bmean.proofs.Loads.{image_is, has_main}
 use Rattle.bmean.proofs.LoadedImages.{Resolves, loaded_run, halted_before, stuck_before, running_before, running_behind}

@@ -1,12 +1,11 @@
 -- A machine with an image that was loaded from code runs as the one with that code.
 use Rattle.std.proofs.Common.{◌≡◌, ℕ, zero, suc, ◌+◌, List, [], ◌∷◌, Option, Some, None, refl, ap, ◌∙◌, map}
 use Rattle.std.specs.Prelude.{slice_get, unwrap_or}
-use Rattle.bcode.specs.declared.definition.Definition.{Definition}
-use Rattle.bcode.specs.declared.instr.Instr.{Instr}
-use Rattle.bcode.specs.declared.instr.Instr.TheVariants as instr
-use Rattle.bmach.specs.World.{World, Ending, callee_of, refusal, words}
-use Rattle.bmach.specs.Layout.{address_in, padded}
-use Rattle.bmach.specs.Machine.{Loaded, Image, Call, State, Running, Halted, Stuck, at_place, take_call, call_of, act, act_if, step, steps, first_world, begun, started, image_of, run}
+use Rattle.blang.specs.declared.code.Definition.{Definition}
+use Rattle.blang.specs.declared.code.Instr.{Instr}
+use Rattle.blang.specs.declared.code.Instr.TheVariants as instr
+use Rattle.blang.specs.Layout.{World, Ending, callee_of, refusal, words, address_in, padded}
+use Rattle.blang.specs.Machine.{Loaded, Image, Call, State, Running, Halted, Stuck, at_place, take_call, call_of, act, act_if, step, steps, first_world, begun, started, image_of, run}
 use Rattle.bmach.specs.Resolved.{call_resolved, resolved, state_resolved, IsLoadedFrom}
 
 module _ (image other : Image) (functions : image.functions ≡ other.functions) (addresses : (x : List ℕ) → address_in image.addresses x ≡ address_in other.addresses x) where

@@ -3,19 +3,17 @@ use Rattle.std.proofs.Common.{◌≡◌, ℕ, suc, List, [], ◌∷◌, ◌++◌
 use Rattle.std.specs.Prelude.{zip, find, filter_map, not, nat_lt, ◌||◌}
 use Rattle.std.specs.List.{cons_option, flat_map, list_any}
 use Rattle.std.specs.Option.{option_map, option_and_then}
-use Rattle.bcode.specs.declared.definition.Definition as coded
-use Rattle.bcode.specs.declared.instr.Instr.{Instr}
-use Rattle.btree.specs.Definition.{Definition}
-use Rattle.btree.specs.Code.{Names, names_in, statement_strings, label_places, code_of}
-use Rattle.bmach.specs.declared.fault.LoadFault.{LoadFault}
-use Rattle.bmach.specs.declared.fault.LoadFault.TheVariants as fault
-use Rattle.bmach.specs.World.{words}
-use Rattle.bmach.specs.Layout.{Kind, Shape, Spot, spot_behind, spots_behind, spots, data_end, first_words, addresses, first_some, some_if, duplicate_behind, label_count, address_in, first_undefined, load_fault}
-use Rattle.bmach.specs.Layout as layout
-use Rattle.bmach.specs.Machine.{Loaded, Image, loaded_at, image_of}
-use Rattle.bmean.specs.Remaining.{Remaining, labels}
-use Rattle.bmean.specs.Program.{Function, scope_of}
-use Rattle.bmean.specs.Meaning.{shape_of, function_at, is_main, program_of}
+use Rattle.blang.specs.declared.code.Definition as coded
+use Rattle.blang.specs.declared.code.Instr.{Instr}
+use Rattle.blang.specs.Trees.{Definition}
+use Rattle.blang.specs.Code.{Names, names_in, statement_strings, label_places, code_of}
+use Rattle.blang.specs.declared.run.LoadFault.{LoadFault}
+use Rattle.blang.specs.declared.run.LoadFault.TheVariants as fault
+use Rattle.blang.specs.Layout.{words, Kind, Shape, Spot, spot_behind, spots_behind, spots, data_end, first_words, addresses, first_some, some_if, duplicate_behind, label_count, address_in, first_undefined, load_fault}
+use Rattle.blang.specs.Layout as layout
+use Rattle.blang.specs.Machine.{Loaded, Image, loaded_at, image_of}
+use Rattle.blang.specs.Value.{Remaining, labels, Function, scope_of}
+use Rattle.blang.specs.Meaning.{shape_of, function_at, is_main, program_of}
 use Rattle.bmean.proofs.Stands.{EachLeads, whole_code, labels_of_body_lead}
 use Rattle.bmean.proofs.Values.{loaded_code, image_code}
 use Rattle.bmean.proofs.Names.{names_of_is}

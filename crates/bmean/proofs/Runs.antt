@@ -3,15 +3,15 @@ use Rattle.std.proofs.Common.{◌≡◌, ℕ, zero, suc, ◌+◌, ◌-◌, ◌�
 use Rattle.std.specs.Prelude.{slice_get, ◌==◌, if◌then◌else◌}
 use Rattle.std.proofs.lemmas.Bool.{cases_lt}
 use Rattle.bword.specs.Words.{binary_of}
-use Rattle.bcode.specs.declared.instr.Instr.{Instr}
-use Rattle.bcode.specs.declared.instr.Instr.TheVariants as instr
-use Rattle.bmach.specs.declared.library.Library.{Library}
-use Rattle.bmach.specs.declared.library.Library.TheVariants.{Char, Lchar, Getchar, Putchar, Printn, Exit}
-use Rattle.bmach.specs.declared.outcome.Trap.{Trap}
-use Rattle.bmach.specs.World.{World, Reply, Gives, Ends, word_at, with_word, with_words, parameter_words, next_byte, is_base, argument, printed, with_output, library, Trapped, Callee, NoFunction, OfLibrary, OfProgram, callee_of, refusal}
-use Rattle.bmach.specs.declared.outcome.Trap.TheVariants.{BadBase}
-use Rattle.bmach.specs.Machine.{Loaded, Image, Call, State, Running, Halted, Stuck, take_one, take_two, on_reply, operator_reply, label_target, at_place, returned, gone_to, called, call_of, act, act_if, step, steps}
-use Rattle.bmean.specs.Laws.{IsBeginningOf}
+use Rattle.blang.specs.declared.code.Instr.{Instr}
+use Rattle.blang.specs.declared.code.Instr.TheVariants as instr
+use Rattle.blang.specs.declared.run.Library.{Library}
+use Rattle.blang.specs.declared.run.Library.TheVariants.{Char, Lchar, Getchar, Putchar, Printn, Exit}
+use Rattle.blang.specs.declared.run.Trap.{Trap}
+use Rattle.blang.specs.Layout.{World, Reply, Gives, Ends, word_at, with_word, with_words, parameter_words, next_byte, is_base, argument, printed, with_output, library, Trapped, Callee, NoFunction, OfLibrary, OfProgram, callee_of, refusal}
+use Rattle.blang.specs.declared.run.Trap.TheVariants.{BadBase}
+use Rattle.blang.specs.Machine.{Loaded, Image, Call, State, Running, Halted, Stuck, take_one, take_two, on_reply, operator_reply, label_target, at_place, returned, gone_to, called, call_of, act, act_if, step, steps}
+use Rattle.blang.specs.Meaning.{IsBeginningOf}
 use Rattle.bmean.proofs.Does.{IsAt, steps_add}
 
 -- the world of a state

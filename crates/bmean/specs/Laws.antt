@@ -1,20 +1,12 @@
 -- The laws that join the meaning of a program and the run of its code.
-use Rattle.std.specs.Prelude.{◌≡◌, ◌≢◌, ℕ, ◌+◌, ◌≤◌, List, ◌++◌, map, None}
-use Rattle.btree.specs.Definition.{Definition}
-use Rattle.btree.specs.Code.{code_of}
-use Rattle.bmach.specs.World.{World, Ending}
-use Rattle.bmach.specs.Layout.{load_fault}
-use Rattle.bmach.specs.Machine.{Image, Call, State, Running, Halted, Stuck, image_of, run}
+use Rattle.std.specs.Prelude.{◌≡◌, ◌≢◌, ℕ, ◌+◌, ◌≤◌, List, map}
 use Rattle.bmach.specs.Resolved.{IsLoadedFrom}
-use Rattle.bmean.specs.Answer.{Answer, Gives, Ends, Wants}
-use Rattle.bmean.specs.Meaning.{program_of, meaning}
-
--- what definitions mean
-abbrev pub meant : List Definition → List ℕ → ℕ → Answer ⊥
-meant ds input n = meaning (program_of ds) input n
-
-abbrev pub Loads : List Definition → Type 0
-Loads ds = load_fault (map code_of ds) ≡ None
+use Rattle.blang.specs.Trees.{Definition}
+use Rattle.blang.specs.Code.{code_of}
+use Rattle.blang.specs.Layout.{World, Ending}
+use Rattle.blang.specs.Machine.{Image, Call, State, Running, Halted, Stuck, image_of, run}
+use Rattle.blang.specs.Value.{Answer, Ends, Wants}
+use Rattle.blang.specs.Meaning.{IsBeginningOf, Loads, meant, world_of}
 
 -- a law of the states of a machine, by the number of steps, and the answers of a program, by its fuel
 abbrev pub Law : Type 1
@@ -42,14 +34,6 @@ MeantIsDone state answer =
 -- The machine is never stuck.
 abbrev pub NeverStuck : Law
 NeverStuck state answer = (n : ℕ) (w : World) → state n ≢ Stuck w
-
-abbrev pub world_of : Answer ⊥ → World
-world_of (Gives v w) = w
-world_of (Ends e w) = w
-world_of (Wants w) = w
-
-abbrev pub IsBeginningOf : List ℕ → List ℕ → Type 0
-IsBeginningOf xs ys = (more : List ℕ) × (xs ++ more ≡ ys)
 
 -- What was written before a halt is a beginning of what the meaning writes with one fuel more than the steps.
 abbrev pub WritesAsMeant : Law

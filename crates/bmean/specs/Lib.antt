@@ -1,10 +1,4 @@
-pub mod Answer
 pub mod Remaining
-pub mod Program
-pub mod Value
-pub mod GoingOn
-pub mod Meaning
 pub mod Sentences
 pub mod Laws
-pub mod Rows
 pub mod RunRows

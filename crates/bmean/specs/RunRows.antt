@@ -3,20 +3,18 @@ use Rattle.std.specs.Prelude.{◌≡◌, ℕ, zero, suc, List, [], ◌∷◌, ma
 use Rattle.bword.specs.declared.edition.Edition.{Edition}
 use Rattle.bword.specs.declared.edition.Edition.TheVariants as editions
 use Rattle.std.specs.Fmt.{digits}
-use Rattle.blex.specs.Pieces.{whole, word_of, keyword_of, number_in, with_byte, escape_of, operator_of, other_of, fixed_of}
-use Rattle.blex.specs.Tokens.{tokens_from, cut, longest, greatest}
-use Rattle.blex.specs.declared.token.Placed.{Placed}
+use Rattle.blang.specs.Cut.{whole, word_of, keyword_of, number_in, with_byte, escape_of, operator_of, other_of, fixed_of, tokens_from, cut, longest, greatest}
+use Rattle.blang.specs.declared.token.Placed.{Placed}
 use Rattle.btree.specs.Reading.{Got, Stop}
-use Rattle.btree.specs.Definition.{Definition}
+use Rattle.blang.specs.Trees.{Definition}
 use Rattle.btree.specs.DefinitionReader.{definition}
-use Rattle.btree.specs.Code.{code_of}
-use Rattle.bmach.specs.declared.outcome.Outcome.{Outcome}
-use Rattle.bmach.specs.declared.outcome.Outcome.TheVariants.{Exit, Trap, Limit}
-use Rattle.bmach.specs.declared.outcome.Trap.TheVariants as trap
-use Rattle.bmach.specs.Machine.{State, Halted, image_of, run}
-use Rattle.bmach.specs.Runs.{outcome_of, world_of}
-use Rattle.bmean.specs.Answer.{Answer, Gives, Ends, Wants}
-use Rattle.bmean.specs.Laws.{meant}
+use Rattle.blang.specs.Code.{code_of}
+use Rattle.blang.specs.declared.run.Outcome.{Outcome}
+use Rattle.blang.specs.declared.run.Outcome.TheVariants.{Exit, Trap, Limit}
+use Rattle.blang.specs.declared.run.Trap.TheVariants as trap
+use Rattle.blang.specs.Machine.{State, Halted, image_of, run, outcome_of, world_of}
+use Rattle.blang.specs.Value.{Answer, Gives, Ends, Wants}
+use Rattle.blang.specs.Meaning.{meant}
 
 -- at most so many definitions, read one behind another
 abbrev read_all : ℕ → List Placed → List Definition

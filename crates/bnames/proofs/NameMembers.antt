@@ -7,7 +7,7 @@ use Rattle.std.specs.Map.{keys_of}
 use Rattle.std.specs.BTreeMap.{is_at}
 use Rattle.std.specs.Ordering.{nat_cmp}
 use Rattle.std.specs.Cmp.Lexicographic.{slice_cmp, texts_ties, nat_list_eq_equiv}
-use Rattle.bword.specs.Names.{same_name}
+use Rattle.bword.specs.Words.{same_name}
 use Rattle.bnames.specs.NameTables.{Knows, value_of}
 
 same_name-is_at : (x y : List ℕ) → is_at (slice_cmp nat_cmp x) y ≡ same_name x y

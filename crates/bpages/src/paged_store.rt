@@ -24,7 +24,7 @@ pub struct PagedStore {
 impl PagedStore {
     ghost use Rattle.std.specs.Prelude.{◌≡◌, ℕ, ◌<◌, true, false, IfOk, OnOk, OnErr};
     ghost use Rattle.std.specs.FinSet as set;
-    ghost use Rattle.bword.specs.Stores.{zeros};
+    ghost use Rattle.bword.specs.Words.{zeros};
     ghost use Rattle.bpages.specs.Pages.{place_of};
     ghost use Rattle.bpages.specs.PagedStores.{words_of, pages_of};
 

@@ -3,16 +3,14 @@ use Rattle.std.proofs.Common.{◌≡◌, ℕ, ◌+◌, ◌≤◌, Bool, true, fa
 use Rattle.std.specs.Prelude.{nat_lt, nat_le, ◌&&◌}
 use Rattle.std.specs.List.{list_any}
 use Rattle.std.proofs.lemmas.Bool.Decides.{nat_tests}
-use Rattle.blex.specs.declared.diagnostic.Diagnostic.{Diagnostic}
-use Rattle.blex.specs.declared.token.Letters.TheVariants as letters
-use Rattle.bcode.specs.declared.definition.Definition as coded
-use Rattle.btree.specs.Expression.{Word}
-use Rattle.btree.specs.Statement.{Stmt}
-use Rattle.btree.specs.Definition.{Definition, Simple, Vector, Function}
-use Rattle.btree.specs.Scope.{Entry, Kind, Automatic, kind_of, declared, entered, same_name, fault, name_fault, most_names}
-use Rattle.btree.specs.Scan.{Event, Declaration, Scope, no_scope, scanned, step, with_names, words_of, function_events, function_scope, statement_events, scope_fault, inner_fault, scan, word_of}
+use Rattle.blang.specs.declared.token.Diagnostic.{Diagnostic}
+use Rattle.blang.specs.declared.token.Letters.TheVariants as letters
+use Rattle.blang.specs.declared.code.Definition as coded
+use Rattle.blang.specs.Trees.{Word, Stmt, Definition, Simple, Vector, Function}
+use Rattle.blang.specs.Scan.{Entry, Kind, Automatic, kind_of, declared, entered, fault, name_fault, most_names, Event, Declaration, Scope, no_scope, scanned, step, with_names, words_of, function_events, function_scope, statement_events, scope_fault, inner_fault, scan, word_of}
+use Rattle.bword.specs.Words.{same_name}
 use Rattle.std.specs.List.{flat_map}
-use Rattle.btree.specs.Code.{ival_code, ival_strings, code_of, fits, fault_of, fault_behind, vector_words}
+use Rattle.blang.specs.Code.{ival_code, ival_strings, code_of, fits, fault_of, fault_behind, vector_words}
 use Rattle.bparse.specs.Sizes.{IsSmall}
 
 abbrev parameter : Word → Event

@@ -4,19 +4,18 @@ use Rattle.std.proofs.Common.{◌≡◌, ℕ, ◌+◌, ◌<◌, ◌≤◌, Bool,
 use Rattle.bword.specs.declared.edition.Edition.{Edition}
 use Rattle.std.proofs.lemmas.List.{take-append-le}
 use Rattle.bword.specs.ByteEnds.{Incoming, Outgoing, Took, Grew, Writes, Refuses}
-use Rattle.bword.specs.declared.byte_out.EndFault.{EndFault}
-use Rattle.bword.specs.declared.byte_out.EndFault.TheVariants as end_fault
+use Rattle.bword.specs.declared.ends.EndFault.{EndFault}
+use Rattle.bword.specs.declared.ends.EndFault.TheVariants as end_fault
 use Rattle.blex.proofs.Passing.{Took-none}
 use Rattle.bword.proofs.Putting.{Writes-append, Refuses-behind, Refuses-short}
-use Rattle.bcode.specs.Text.{joined, opening}
-use Rattle.blex.specs.declared.diagnostic.Diagnostic.{Diagnostic}
-use Rattle.btree.specs.Compiled.{Outcome, ending, code_text, line_of, text_of}
-use Rattle.btree.specs.Definition.{Definition}
-use Rattle.bparse.specs.Compilers.{Compiler, Keeps, Behind, Opens, Since, Wrote, Stopped, Broke, Whatever, StepGives, opened, unopened}
+use Rattle.blang.specs.Text.{joined, opening}
+use Rattle.blang.specs.declared.token.Diagnostic.{Diagnostic}
+use Rattle.blang.specs.Compiles.{Outcome, ending, code_text, line_of, text_of, Whatever, Run, HasWritten, SourceFailed, OpeningRefused, CodeRefused, LineRefused, NamesRefused, EndRefused, Compiles, status_of, HasCode}
+use Rattle.blang.specs.Trees.{Definition}
+use Rattle.bparse.specs.Compilers.{Compiler, Keeps, Behind, Opens, Since, Wrote, Stopped, Broke, StepGives, opened, unopened}
 use Rattle.bparse.specs.Compilers as compilers
-use Rattle.bparse.specs.Compiles.{Run, HasWritten, SourceFailed, OpeningRefused, CodeRefused, LineRefused, NamesRefused, EndRefused, Compiles, LastGives, CodeGives}
-use Rattle.bparse.specs.Statuses.{status_of}
-use Rattle.bparse.specs.Steps.{HasCode, next_text, to_begin}
+use Rattle.bparse.specs.Compiles.{LastGives, CodeGives}
+use Rattle.bparse.specs.Steps.{next_text, to_begin}
 use Rattle.bparse.specs.declared.step.Step.{Step}
 use Rattle.bparse.specs.declared.step.Step.TheVariants as step
 use Rattle.bparse.proofs.SinceSteps.{joined-append, written_begun}

@@ -1,31 +1,32 @@
 -- What the steps of the compiler make of what was read.
 use Rattle.std.proofs.Common.{◌≡◌, ℕ, ◌+◌, ◌<◌, ◌≤◌, Bool, true, false, List, [], ◌∷◌, ◌++◌, length, take, Option, Some, None, Result, Ok, Err, IsErrAnd, refl, sym, ap, ◌∙◌, subst, append_assoc, arith, inl, inr, if◌then◌else◌}
 use Rattle.bword.specs.declared.edition.Edition.{Edition}
-use Rattle.bcode.specs.Text.{end_text}
+use Rattle.blang.specs.Text.{end_text}
 use Rattle.bword.specs.ByteEnds.{Incoming, Outgoing, Grew, Writes, Refuses}
-use Rattle.bword.specs.declared.byte_out.EndFault.{EndFault}
-use Rattle.bword.specs.declared.byte_out.EndFault.TheVariants as fault
+use Rattle.bword.specs.declared.ends.EndFault.{EndFault}
+use Rattle.bword.specs.declared.ends.EndFault.TheVariants as fault
 use Rattle.bword.proofs.Putting.{Writes-none}
-use Rattle.blex.specs.Lexers.{is_last}
-use Rattle.blex.specs.Tokens.{placed, token_first, tokens_from}
-use Rattle.blex.specs.declared.token.Token.TheVariants as token
-use Rattle.blex.specs.declared.token.Placed.{Placed}
-use Rattle.blex.specs.declared.diagnostic.Diagnostic.{Diagnostic}
-use Rattle.btree.specs.Compiled.{AreNames, Defined, Outcome, Goes, ending, text_of}
-use Rattle.btree.specs.Code.{fault_of}
-use Rattle.btree.specs.Definition.{Definition}
+use Rattle.blang.specs.Cut.{is_last, placed, token_first, tokens_from}
+use Rattle.blang.specs.declared.token.Token.TheVariants as token
+use Rattle.blang.specs.declared.token.Placed.{Placed}
+use Rattle.blang.specs.declared.token.Diagnostic.{Diagnostic}
+use Rattle.btree.specs.Compiled.{AreNames}
+use Rattle.blang.specs.Compiles.{Defined, Outcome, Goes, ending, text_of, HasCode}
+use Rattle.blang.specs.Code.{fault_of}
+use Rattle.blang.specs.Trees.{Definition}
 use Rattle.btree.specs.DefinitionReader.{definition}
-use Rattle.btree.specs.Program.{fault_at}
+use Rattle.blang.specs.WellFormed.{fault_at}
 use Rattle.btree.specs.Reading.{Got, Stop, first, line_of}
-use Rattle.btree.specs.Scan.{word_of}
+use Rattle.blang.specs.Scan.{word_of}
 use Rattle.btree.proofs.Membership.{by_membership}
 use Rattle.btree.proofs.Outcomes.{Ended}
 use Rattle.btree.proofs.GoesLaws.{tokens_from-ended, ended_cons, goes_once, goes_some, goes_end}
 use Rattle.btree.proofs.GoesReads.{goes_behind_read, goes_fault_read, goes_stop_read}
-use Rattle.bexpr.specs.Tokens.{Tokens, tokens_of, tokens_with, CanFollow, IsLoaded, IsSingle, Looks, LooksAt, Moves, work, Reads, Breaks}
+use Rattle.bexpr.specs.Tokens.{Tokens, tokens_of, tokens_with, IsLoaded, IsSingle, Looks, LooksAt, Moves, work, Reads, Breaks}
+use Rattle.bword.specs.ByteEnds.{CanFollow}
 use Rattle.bexpr.proofs.TokenSteps.{Reads-append, LooksAt-append, CanFollow-append}
 use Rattle.blex.proofs.Passing.{Grew-after}
-use Rattle.bparse.specs.Steps.{Point, point, Comes, next_text, HasCode, Writing, Stopping, Breaking, ReadFails, OutRefuses, NamesRefuse, Gives, step_of}
+use Rattle.bparse.specs.Steps.{Point, point, Comes, next_text, Writing, Stopping, Breaking, ReadFails, OutRefuses, NamesRefuse, Gives, step_of}
 use Rattle.bparse.specs.declared.step.Step.{Step}
 use Rattle.bparse.specs.declared.step.Step.TheVariants as step
 

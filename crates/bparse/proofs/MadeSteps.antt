@@ -1,15 +1,16 @@
 -- What a pass made of a definition is what its tree has.
 use Rattle.std.proofs.Common.{◌≡◌, ℕ, List, [], ◌∷◌, ◌++◌, Bool, true, false, Option, Some, None, refl, sym, ap, ◌∙◌, subst}
-use Rattle.blex.specs.declared.diagnostic.Diagnostic.{Diagnostic}
-use Rattle.blex.specs.declared.token.Token.{Token}
-use Rattle.blex.specs.declared.token.Token.TheVariants as token
-use Rattle.bcode.specs.declared.definition.Definition as coded
-use Rattle.btree.specs.Code.{code_of, fault_of}
-use Rattle.btree.specs.Compiled.{Defined}
-use Rattle.btree.specs.Definition.{Definition, IsFormed}
+use Rattle.blang.specs.declared.token.Diagnostic.{Diagnostic}
+use Rattle.blang.specs.declared.token.Token.{Token}
+use Rattle.blang.specs.declared.token.Token.TheVariants as token
+use Rattle.blang.specs.declared.code.Definition as coded
+use Rattle.blang.specs.Code.{code_of, fault_of}
+use Rattle.blang.specs.Compiles.{Defined}
+use Rattle.blang.specs.Trees.{Definition}
+use Rattle.blang.specs.WellFormed.{IsFormed}
 use Rattle.btree.specs.DefinitionReader.{definition}
 use Rattle.btree.specs.Reading.{Got}
-use Rattle.btree.specs.Scan.{word_of}
+use Rattle.blang.specs.Scan.{word_of}
 use Rattle.btree.proofs.LawProofs.{definition_read}
 use Rattle.bemit.specs.Drafts.{Draft, Going, fault_in, resolved, started}
 use Rattle.bemit.specs.Effects.{code_with, definition_done}

@@ -5,12 +5,13 @@ use Rattle.std.proofs.lemmas.List.Folds.{list_any-append}
 use Rattle.std.specs.Prelude.{is_none, is_some}
 use Rattle.std.specs.Bool.{OnTrue}
 use Rattle.std.specs.Map.{keys_of}
-use Rattle.blex.specs.declared.token.Letters.TheVariants as letters
-use Rattle.btree.specs.Code.{code_of, fault_behind, fault_of}
-use Rattle.btree.specs.Compiled.{AreNames, Defined, has}
-use Rattle.btree.specs.Definition.{Definition}
-use Rattle.btree.specs.Scan.{inner_fault, word_of}
-use Rattle.btree.specs.Scope.{name_fault, same_name}
+use Rattle.blang.specs.declared.token.Letters.TheVariants as letters
+use Rattle.blang.specs.Code.{code_of, fault_behind, fault_of}
+use Rattle.btree.specs.Compiled.{AreNames, has}
+use Rattle.blang.specs.Compiles.{Defined}
+use Rattle.blang.specs.Trees.{Definition}
+use Rattle.blang.specs.Scan.{inner_fault, word_of, name_fault}
+use Rattle.bword.specs.Words.{same_name}
 use Rattle.bnames.specs.NameTables.{Knows, value_of}
 use Rattle.bnames.proofs.NameMembers.{is_some-value_of, members_more}
 

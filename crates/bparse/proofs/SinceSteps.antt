@@ -4,19 +4,19 @@ use Rattle.bword.specs.declared.edition.Edition.{Edition}
 use Rattle.std.proofs.lemmas.List.{map-append}
 use Rattle.std.proofs.lemmas.Grind.{flat_map-append}
 use Rattle.bword.specs.ByteEnds.{Incoming, Outgoing, Took, Grew, Writes, Refuses}
-use Rattle.bword.specs.declared.byte_out.EndFault.{EndFault}
-use Rattle.bword.specs.declared.byte_out.EndFault.TheVariants as end_fault
+use Rattle.bword.specs.declared.ends.EndFault.{EndFault}
+use Rattle.bword.specs.declared.ends.EndFault.TheVariants as end_fault
 use Rattle.bword.proofs.Putting.{Writes-none, Writes-append}
-use Rattle.bcode.specs.Text.{joined, opening}
+use Rattle.blang.specs.Text.{joined, opening}
 use Rattle.blex.proofs.Passing.{Took-none, Took-append}
-use Rattle.blex.specs.Tokens.{tokens_from}
-use Rattle.blex.specs.declared.diagnostic.Diagnostic.{Diagnostic}
-use Rattle.blex.specs.declared.token.Placed.{Placed}
-use Rattle.btree.specs.Compiled.{AreNames, Outcome, Goes, ending, text_of}
-use Rattle.btree.specs.Definition.{Definition, IsFormed, spell_definition}
+use Rattle.blang.specs.Cut.{tokens_from}
+use Rattle.blang.specs.declared.token.Diagnostic.{Diagnostic}
+use Rattle.blang.specs.declared.token.Placed.{Placed}
+use Rattle.btree.specs.Compiled.{AreNames}
+use Rattle.blang.specs.Compiles.{Outcome, Goes, ending, text_of}
+use Rattle.blang.specs.Trees.{Definition, spell_definition, kept, spell_all}
+use Rattle.blang.specs.WellFormed.{IsFormed, AllFormed}
 use Rattle.btree.specs.DefinitionReader.{definition}
-use Rattle.btree.specs.Lines.{kept}
-use Rattle.btree.specs.Program.{AllFormed, spell_all}
 use Rattle.btree.specs.Reading.{Got}
 use Rattle.btree.specs.Unread.{kept_read}
 use Rattle.btree.proofs.Membership.{are_names_behind, are_names_push}
@@ -25,7 +25,8 @@ use Rattle.btree.proofs.GoesReads.{Taken, got_taken}
 use Rattle.btree.proofs.LawProofs.{definition_read}
 use Rattle.btree.proofs.ProgramLaws.{read_there}
 use Rattle.btree.proofs.StatementUnread.{lines_unread}
-use Rattle.bexpr.specs.Tokens.{tokens_of, CanFollow, IsReady, EndsWith, last_ahead}
+use Rattle.bexpr.specs.Tokens.{tokens_of, IsReady, EndsWith, last_ahead}
+use Rattle.bword.specs.ByteEnds.{CanFollow}
 use Rattle.bexpr.proofs.TokenSteps.{EndsWith-append}
 use Rattle.bparse.specs.Steps.{Point, point, name_of, Writing, Stopping, Breaking, ReadFails, OutRefuses, NamesRefuse, BeginRefuses, GivesBehind, GivesNext, Gives, step_of, to_begin}
 use Rattle.bparse.specs.Compilers.{Start, Compiler, compiler_of, Spelled, Behind, Opens, Since, IsOpen, Wrote, Stopped, Broke, StepGives}

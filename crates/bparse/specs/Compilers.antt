@@ -1,21 +1,21 @@
 -- What a call of the compiler does, counted from when the compiler was made.
 use Rattle.std.specs.Prelude.{◌≡◌, ◌≢◌, ℕ, ◌≤◌, ◌<◌, Bool, true, false, List, [], ◌∷◌, ◌++◌, length, map, Option, Some, None, ◌⊎◌, if◌then◌else◌}
-use Rattle.bword.specs.declared.edition.Edition.{Edition}
-use Rattle.bword.specs.ByteEnds.{Incoming, Outgoing, Took, Grew, Writes, Refuses}
-use Rattle.bword.specs.declared.byte_out.EndFault.{EndFault}
-use Rattle.bword.specs.declared.byte_out.EndFault.TheVariants as end_fault
-use Rattle.bcode.specs.Text.{joined, opening}
-use Rattle.blex.specs.Tokens.{tokens_from}
-use Rattle.blex.specs.declared.diagnostic.Diagnostic.{Diagnostic}
-use Rattle.blex.specs.declared.token.Placed.{Placed}
-use Rattle.btree.specs.Compiled.{AreNames, Defined, Outcome, Goes, ending, text_of}
-use Rattle.btree.specs.Definition.{Definition}
-use Rattle.btree.specs.Lines.{kept}
-use Rattle.btree.specs.Program.{AllFormed, spell_all}
-use Rattle.bexpr.specs.Tokens.{Tokens, all_tokens, tokens_of, CanFollow, EndsWith, IsReady, IsSingle, last_ahead, work}
-use Rattle.bparse.specs.Steps.{name_of, next_text, to_begin, HasCode}
+use Rattle.btree.specs.Compiled.{AreNames}
+use Rattle.bexpr.specs.Tokens.{Tokens, all_tokens, tokens_of, EndsWith, IsReady, IsSingle, last_ahead, work}
+use Rattle.bparse.specs.Steps.{name_of, next_text, to_begin}
 use Rattle.bparse.specs.declared.step.Step.{Step}
 use Rattle.bparse.specs.declared.step.Step.TheVariants as step
+use Rattle.bword.specs.declared.edition.Edition.{Edition}
+use Rattle.bword.specs.ByteEnds.{Incoming, Outgoing, Took, Grew, Writes, Refuses, CanFollow}
+use Rattle.bword.specs.declared.ends.EndFault.{EndFault}
+use Rattle.bword.specs.declared.ends.EndFault.TheVariants as end_fault
+use Rattle.blang.specs.Text.{joined, opening}
+use Rattle.blang.specs.Cut.{tokens_from}
+use Rattle.blang.specs.declared.token.Diagnostic.{Diagnostic}
+use Rattle.blang.specs.declared.token.Placed.{Placed}
+use Rattle.blang.specs.Compiles.{Defined, Outcome, Goes, ending, text_of, HasCode, Whatever}
+use Rattle.blang.specs.Trees.{Definition, kept, spell_all}
+use Rattle.blang.specs.WellFormed.{AllFormed}
 
 -- the edition of a compiler, what its input and its output end told when it was made, and which they are
 pub record Start : Type 0 where
@@ -67,11 +67,6 @@ unopened c = to_begin c.is_begun c.first.edition
 pub record Opens (c : Compiler) (out : Outgoing) : Type 0 where
   pub written : Writes c.out (unopened c) out
   pub nothing : unopened c ≡ [] → out ≡ c.out
-
--- each source that begins with the bytes that were taken, or the one whose end was seen, comes to this
-abbrev pub Whatever : Edition → List ℕ → Incoming → (Outcome → Type 0) → Type 0
-Whatever edition taken end P =
-    (more : List ℕ) → CanFollow end more → (r : Outcome) → Goes [] (tokens_from edition 1 (taken ++ more)) r → P r
 
 -- The tokens are those of these definitions, and then the others.
 pub record Spelled (ds : List Definition) (tokens others : List Placed) : Type 0 where

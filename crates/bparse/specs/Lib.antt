@@ -1,5 +1,4 @@
 pub mod Compilers
 pub mod Compiles
 pub mod Sizes
-pub mod Statuses
 pub mod Steps

@@ -1,7 +1,7 @@
 -- Definitions whose counts fit the words of a view.
 use Rattle.std.specs.Prelude.{ℕ, ◌≤◌, length}
-use Rattle.btree.specs.Definition.{Definition, Simple, Vector, Function}
-use Rattle.btree.specs.Code.{vector_words}
+use Rattle.blang.specs.Trees.{Definition, Simple, Vector, Function}
+use Rattle.blang.specs.Code.{vector_words}
 
 -- the words of a vector, or the parameters of a function, are no more than a view can count
 abbrev pub IsSmall : Definition → Type 0

@@ -1,21 +1,22 @@
 -- What reading and writing one definition does.
 use Rattle.std.specs.Prelude.{◌≡◌, ◌≢◌, ℕ, ◌<◌, Bool, false, true, List, [], ◌∷◌, ◌++◌, Option, Some, None, Result, Ok, Err, ◌⊎◌}
-use Rattle.bword.specs.declared.edition.Edition.{Edition}
-use Rattle.bword.specs.ByteEnds.{Outgoing, Grew, Writes, Refuses}
-use Rattle.bword.specs.declared.byte_out.EndFault.{EndFault}
-use Rattle.bword.specs.declared.byte_out.EndFault.TheVariants as end_fault
-use Rattle.bcode.specs.Text.{opening}
-use Rattle.blex.specs.declared.diagnostic.Diagnostic.{Diagnostic}
-use Rattle.blex.specs.declared.token.Token.{Token}
-use Rattle.blex.specs.declared.token.Token.TheVariants as token
-use Rattle.btree.specs.Compiled.{AreNames, Defined, Outcome, Goes, ending, text_of}
-use Rattle.btree.specs.Definition.{Definition}
+use Rattle.btree.specs.Compiled.{AreNames}
 use Rattle.btree.specs.DefinitionReader.{definition}
 use Rattle.btree.specs.Reading.{Got}
-use Rattle.btree.specs.Scan.{word_of}
-use Rattle.bexpr.specs.Tokens.{Tokens, tokens_of, CanFollow, IsSingle, Reads, LooksAt, work}
+use Rattle.bexpr.specs.Tokens.{Tokens, tokens_of, IsSingle, Reads, LooksAt, work}
 use Rattle.bparse.specs.declared.step.Step.{Step}
 use Rattle.bparse.specs.declared.step.Step.TheVariants as step
+use Rattle.bword.specs.declared.edition.Edition.{Edition}
+use Rattle.bword.specs.ByteEnds.{Outgoing, Grew, Writes, Refuses, CanFollow}
+use Rattle.bword.specs.declared.ends.EndFault.{EndFault}
+use Rattle.bword.specs.declared.ends.EndFault.TheVariants as end_fault
+use Rattle.blang.specs.Text.{opening}
+use Rattle.blang.specs.declared.token.Diagnostic.{Diagnostic}
+use Rattle.blang.specs.declared.token.Token.{Token}
+use Rattle.blang.specs.Compiles.{Defined, Outcome, Goes, ending, text_of, HasCode}
+use Rattle.blang.specs.Trees.{Definition}
+use Rattle.blang.specs.Scan.{word_of}
+use Rattle.blang.specs.declared.token.Token.TheVariants as token
 
 -- the tokens to come, the names defined so far and the output
 pub record Point : Type 0 where
@@ -42,10 +43,6 @@ EachComing old taken new P =
 abbrev pub next_text : List (List ℕ) → Option Diagnostic → List ℕ
 next_text [] stop = ending stop
 next_text (text ∷ texts) stop = text
-
--- there is code: a definition's, or the last line
-abbrev pub HasCode : Outcome → Type 0
-HasCode r = r.code ≡ [] → r.stop ≡ None
 
 -- A definition was read, which these tokens spell, and written.
 pub record Writing (old new : Point) : Type 0 where

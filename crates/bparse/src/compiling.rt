@@ -1,12 +1,13 @@
 //! Compiling a whole source.
 ghost use Rattle.std.specs.Prelude.{◌≡◌, false};
 ghost use Rattle.bword.specs.declared.edition.Edition.TheVariants as editions;
-ghost use Rattle.bparse.specs.Compiles.{Compiles, CodeGives, LastGives};
+ghost use Rattle.blang.specs.Compiles.{Compiles};
+ghost use Rattle.bparse.specs.Compiles.{CodeGives, LastGives};
 
 use crate::compiler::Compiler;
 use crate::diagnostic::write_diagnostic;
-use crate::status::{self, Status};
 use crate::step::Step;
+use blang::status::{self, Status};
 use bword::{ByteIn, ByteOut, Edition};
 use std::alloc::Global;
 

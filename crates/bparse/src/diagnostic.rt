@@ -1,10 +1,10 @@
 //! The line of a diagnostic.
 ghost use Rattle.std.specs.Prelude.{◌≡◌, ◌≤◌, length};
 ghost use Rattle.bword.specs.ByteEnds.{PutGives};
-ghost use Rattle.btree.specs.Compiled.{letters_text, line_of};
+ghost use Rattle.blang.specs.Compiles.{letters_text, line_of};
 
 use arrayvec::ArrayString;
-use blex::{About, Diagnostic, Letters};
+use blang::{About, Diagnostic, Letters};
 use bword::{ByteOut, EndFault};
 use itoa::Buffer;
 

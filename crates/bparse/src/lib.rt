@@ -4,11 +4,10 @@
 mod compiler;
 mod compiling;
 mod diagnostic;
-pub mod status;
 mod step;
 mod view;
 
+pub use blang::status::{self, Status};
 pub use compiler::Compiler;
 pub use compiling::{compile, compile_edition};
-pub use status::Status;
 pub use step::Step;

@@ -3,7 +3,7 @@ ghost use Rattle.std.specs.Prelude.{◌≡◌};
 ghost use Rattle.bparse.specs.declared.step.Step.TheVariants.{Device, Memory};
 ghost use Rattle.bparse.specs.Steps.{step_of};
 
-use blex::Diagnostic;
+use blang::Diagnostic;
 use bword::{Device, EndFault, NoMemory};
 
 /// What became of the next definition.

@@ -1,14 +1,14 @@
 //! What was made of a definition, as it is written.
 ghost use Rattle.std.specs.Prelude.{◌≡◌};
-ghost use Rattle.bcode.specs.Views.{definition_of};
+ghost use Rattle.blang.specs.Text.{definition_of};
 ghost use Rattle.bemit.specs.Effects.{code_with};
 ghost use Rattle.bemit.specs.Views.{IfMade};
-ghost use Rattle.btree.specs.Definition.{Definition};
+ghost use Rattle.blang.specs.Trees.{Definition};
 ghost use Rattle.bread.specs.Headers.{Heads};
 ghost use Rattle.bparse.specs.Sizes.{IsSmall};
 
-use bcode::View;
 use bemit::Draft;
+use blang::View;
 use bread::{Header, Kind};
 
 /// The definition that begins so.

@@ -2,19 +2,19 @@
 use Rattle.std.proofs.Common.{◌≡◌, ℕ, ◌+◌, ◌<◌, min, max, Bool, true, false, List, [], ◌∷◌, ◌++◌, length, length-append, fold, Option, None, Result, Ok, Err, IsErrAnd, ◌⊎◌, inl, inr, refl, sym, ap, ◌∙◌, subst, arith, if◌then◌else◌}
 use Rattle.std.specs.Prelude.{nat_lt}
 use Rattle.std.proofs.lemmas.Bool.Decides.{nat_tests}
-use Rattle.blex.specs.declared.token.Token.{Token}
-use Rattle.blex.specs.declared.token.Token.TheVariants as token
-use Rattle.blex.specs.declared.token.Placed.{Placed}
-use Rattle.bcode.specs.declared.instr.Ival as coded
-use Rattle.bcode.specs.declared.instr.Ival.TheVariants as ival_code
-use Rattle.bcode.specs.declared.instr.Instr.TheVariants as instr
-use Rattle.btree.specs.Expression.{Word, Number, Character}
+use Rattle.blang.specs.declared.token.Token.{Token}
+use Rattle.blang.specs.declared.token.Token.TheVariants as token
+use Rattle.blang.specs.declared.token.Placed.{Placed}
+use Rattle.blang.specs.declared.code.Ival as coded
+use Rattle.blang.specs.declared.code.Ival.TheVariants as ival_code
+use Rattle.blang.specs.declared.code.Instr.TheVariants as instr
+use Rattle.blang.specs.Trees.{Word, Number, Character, Ival, Ival_constant, Ival_name, Definition, Simple, Vector, Function}
 use Rattle.btree.specs.Reading.{Read, Reader, Got, Stop, ◌>>=◌, first, line_of, after, expect}
 use Rattle.btree.specs.ExpressionReader.{is_close_paren, is_close_bracket}
 use Rattle.btree.specs.Commas.{list_reader}
-use Rattle.btree.specs.Code.{constant_of}
+use Rattle.blang.specs.Code.{constant_of}
 use Rattle.btree.specs.StatementReader.{is_semicolon, name, size, statement}
-use Rattle.btree.specs.Definition.{Ival, Ival_constant, Ival_name, Definition, Simple, Vector, Function, values_words, nesting_limit}
+use Rattle.blang.specs.WellFormed.{values_words, nesting_limit}
 use Rattle.btree.specs.DefinitionReader.{ival_at, ival, valued, vector, function_body, function, behind_name_at, behind_name, definition}
 use Rattle.btree.proofs.Fine.{Fine}
 use Rattle.btree.proofs.ExpressionFine.{Closer}

@@ -1,13 +1,12 @@
 -- A statement behind a heading is read as one without it is.
 use Rattle.std.proofs.Common.{◌≡◌, ℕ, zero, suc, List, [], ◌∷◌, length, Bool, true, false, sym, ap, ◌∙◌, refl, Option, Some, None}
-use Rattle.blex.specs.declared.token.Token.{Token}
-use Rattle.blex.specs.declared.token.Token.TheVariants as token
-use Rattle.blex.specs.declared.token.Placed.{Placed}
-use Rattle.btree.specs.Expression.{Word}
+use Rattle.blang.specs.declared.token.Token.{Token}
+use Rattle.blang.specs.declared.token.Token.TheVariants as token
+use Rattle.blang.specs.declared.token.Placed.{Placed}
+use Rattle.blang.specs.Trees.{Word, Heading, Auto, Extrn, Label, Case, Default, Stmt, Headed, Evaluate}
 use Rattle.btree.specs.Reading.{Read, Got, Stop, Reader, ◌>>=◌, first, line_of, after, expect, turns, many}
 use Rattle.btree.specs.ExpressionReader.{is_colon}
 use Rattle.btree.specs.Commas.{list_reader}
-use Rattle.btree.specs.Statement.{Heading, Auto, Extrn, Label, Case, Default, Stmt, Headed, Evaluate}
 use Rattle.btree.specs.StatementReader.{is_semicolon, name, constant, declared, Headings, No_heading, Then, headed, Lead, no_lead, with_heading, Step, Declares, Imports, Selects, Defaults, Mentions, Labels, step_at, lead_step, lead_turn, lead, stmt_at, stmt_behind, level, ended, statement}
 use Rattle.btree.proofs.Fine.{many_some, many_none}
 use Rattle.btree.proofs.StatementFine.{lasting, lead_loop}

@@ -1,17 +1,15 @@
 -- How the calls that read headings go on.
 use Rattle.std.proofs.Common.{◌≡◌, ℕ, ◌<◌, Bool, true, false, List, [], ◌∷◌, ◌++◌, if◌then◌else◌, Option, Some, None, Result, Ok, Err, IsErrAnd, refl, sym, ap, ◌∙◌, arith, subst}
 use Rattle.bword.specs.declared.edition.Edition.{Edition}
-use Rattle.blex.specs.Lexers.{is_last}
-use Rattle.blex.specs.Tokens.{token_first}
-use Rattle.blex.specs.declared.token.Token.{Token}
-use Rattle.blex.specs.declared.token.Token.TheVariants as token
-use Rattle.blex.specs.declared.token.Keyword.TheVariants as keyword
-use Rattle.blex.specs.declared.token.Placed.{Placed}
-use Rattle.btree.specs.Expression.{Word}
+use Rattle.blang.specs.Cut.{is_last, token_first}
+use Rattle.blang.specs.declared.token.Token.{Token}
+use Rattle.blang.specs.declared.token.Token.TheVariants as token
+use Rattle.blang.specs.declared.token.Keyword.TheVariants as keyword
+use Rattle.blang.specs.declared.token.Placed.{Placed}
+use Rattle.blang.specs.Trees.{Word, Heading, Auto, Extrn, Label, Case, Default}
 use Rattle.btree.specs.Reading.{Read, Reader, Got, Stop, ◌>>=◌, first, line_of, after, expect}
 use Rattle.btree.specs.ExpressionReader.{is_colon}
 use Rattle.btree.specs.Commas.{list_reader}
-use Rattle.btree.specs.Statement.{Heading, Auto, Extrn, Label, Case, Default}
 use Rattle.btree.specs.StatementReader.{is_semicolon, name, size, constant, declared, no_lead, with_heading, Step, Declares, Imports, Selects, Defaults, step_at, lead_turn}
 use Rattle.bemit.specs.Drafts.{Draft, selected, defaulted, imported, labelled}
 use Rattle.bemit.specs.Drafts as drafts

@@ -1,9 +1,9 @@
 -- Reading things with commas between them, one after the other.
 use Rattle.std.proofs.Common.{◌≡◌, ◌<◌, Bool, true, false, List, [], ◌∷◌, ◌++◌, Some, None, refl, sym, ap, ◌∙◌, arith, fold, Result, Ok, Err}
 use Rattle.std.proofs.lemmas.List.Sums.{fold-append}
-use Rattle.blex.specs.declared.token.Token.{Token}
-use Rattle.blex.specs.declared.token.Token.TheVariants as token
-use Rattle.blex.specs.declared.token.Placed.{Placed}
+use Rattle.blang.specs.declared.token.Token.{Token}
+use Rattle.blang.specs.declared.token.Token.TheVariants as token
+use Rattle.blang.specs.declared.token.Placed.{Placed}
 use Rattle.btree.specs.Reading.{Reader, Got, ◌>>=◌, first, after, expect, many}
 use Rattle.btree.specs.ExpressionReader.{comma, always}
 use Rattle.btree.specs.Commas.{comma_item, list_reader}

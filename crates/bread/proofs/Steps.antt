@@ -1,7 +1,7 @@
 -- How readings go on from call to call.
 use Rattle.std.proofs.Common.{◌≡◌, ℕ, List, ◌∷◌, ◌++◌, Result, Ok, Err, IsErrAnd, refl, sym, subst}
 use Rattle.bword.specs.declared.edition.Edition.{Edition}
-use Rattle.blex.specs.declared.token.Placed.{Placed}
+use Rattle.blang.specs.declared.token.Placed.{Placed}
 use Rattle.btree.specs.Reading.{Reader, Got, ◌>>=◌, first, line_of}
 use Rattle.bemit.specs.Drafts.{Draft}
 use Rattle.bexpr.specs.Tokens.{Tokens, tokens_of, tokens_with, IsLoaded, Moves, Runs, Breaks}

@@ -2,14 +2,14 @@
 use Rattle.std.proofs.Common.{◌≡◌, ℕ, ◌<◌, ◌≤◌, List, None, Ok, refl, ap, ◌∙◌, ◌⊎◌, inl, inr, arith}
 use Rattle.blex.specs.declared.lexeme.Lexeme.{Lexeme}
 use Rattle.blex.specs.declared.lexeme.Lexeme.TheVariants as lexeme
-use Rattle.blex.specs.declared.token.Token.{Token}
-use Rattle.blex.specs.declared.token.Token.TheVariants as token
-use Rattle.blex.specs.declared.token.Keyword.{Keyword}
-use Rattle.blex.specs.declared.token.Keyword.TheVariants as keyword
-use Rattle.blex.specs.declared.token.Placed.{Placed}
+use Rattle.blang.specs.declared.token.Token.{Token}
+use Rattle.blang.specs.declared.token.Token.TheVariants as token
+use Rattle.blang.specs.declared.token.Keyword.{Keyword}
+use Rattle.blang.specs.declared.token.Keyword.TheVariants as keyword
+use Rattle.blang.specs.declared.token.Placed.{Placed}
 use Rattle.blex.specs.Lexemes.{token_of_lexeme}
 use Rattle.blex.proofs.LexemeSteps.{token_here}
-use Rattle.btree.specs.Expression.{Number, Character}
+use Rattle.blang.specs.Trees.{Number, Character}
 use Rattle.btree.specs.Reading.{Got, Stop, first}
 use Rattle.btree.specs.StatementReader.{constant_at, name_at, size_at, step_at}
 use Rattle.btree.specs.DefinitionReader.{ival_at}

@@ -1,10 +1,9 @@
 -- What the calls that read statements and definitions do with the tokens and with the draft.
 use Rattle.std.specs.Prelude.{◌≡◌, ℕ, ◌<◌, Bool, true, false, Option, Result, Ok, Err}
-use Rattle.btree.specs.Expression.{Constant}
+use Rattle.blang.specs.Trees.{Constant, Heading}
 use Rattle.btree.specs.Reading.{Reader, Got}
-use Rattle.btree.specs.Statement.{Heading}
 use Rattle.btree.specs.StatementReader.{name, size, constant}
-use Rattle.btree.specs.Scan.{value_of}
+use Rattle.blang.specs.Scan.{value_of}
 use Rattle.bemit.specs.Drafts.{Draft}
 use Rattle.bemit.specs.Effects.{headed}
 use Rattle.bexpr.specs.Tokens.{Tokens, IsLoaded, IsSingle, Moves, Runs, Breaks, work}

@@ -1,17 +1,15 @@
 -- What the calls that read definitions do with the tokens and with the draft.
 use Rattle.std.specs.Prelude.{◌≡◌, ℕ, ◌<◌, min, Bool, List, [], length, Result, Ok, Err, if◌then◌else◌}
-use Rattle.bcode.specs.declared.instr.Ival.{Ival}
-use Rattle.btree.specs.Expression.{Word}
+use Rattle.blang.specs.declared.code.Ival.{Ival}
+use Rattle.blang.specs.Trees.{Word, Definition}
 use Rattle.btree.specs.Reading.{Reader, Got, ◌>>=◌, first, after, expect}
 use Rattle.btree.specs.ExpressionReader.{is_close_paren}
 use Rattle.btree.specs.Commas.{list_reader}
 use Rattle.btree.specs.StatementReader.{is_semicolon, name}
-use Rattle.btree.specs.Definition as tree
-use Rattle.btree.specs.Definition.{Definition}
+use Rattle.blang.specs.Trees as tree
 use Rattle.btree.specs.DefinitionReader.{ival, definition}
-use Rattle.blex.specs.declared.token.Letters.TheVariants as letters
-use Rattle.btree.specs.Scope.{name_fault}
-use Rattle.btree.specs.Scan.{word_of}
+use Rattle.blang.specs.declared.token.Letters.TheVariants as letters
+use Rattle.blang.specs.Scan.{name_fault, word_of}
 use Rattle.bemit.specs.Drafts.{Draft, Faulty, fresh, valued, started}
 use Rattle.bemit.specs.Effects.{definition_done}
 use Rattle.bexpr.specs.Tokens.{Tokens, IsLoaded, IsSingle, Runs, Breaks, Advances, work}

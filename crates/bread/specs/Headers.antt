@@ -1,8 +1,8 @@
 -- What is kept of a definition beside its code.
 use Rattle.std.specs.Prelude.{◌≡◌, ℕ, min, length}
-use Rattle.btree.specs.Definition.{Definition, Simple, Vector, Function}
-use Rattle.btree.specs.Code.{vector_words}
-use Rattle.btree.specs.Scan.{word_of}
+use Rattle.blang.specs.Trees.{Definition, Simple, Vector, Function}
+use Rattle.blang.specs.Code.{vector_words}
+use Rattle.blang.specs.Scan.{word_of}
 use Rattle.bread.specs.declared.header.TheConstants.{MOST_COUNTED}
 use Rattle.bread.specs.declared.header.Header.{Header}
 use Rattle.bread.specs.declared.header.Kind.{Kind}

@@ -1,10 +1,10 @@
 -- Reading what stands before a statement, one heading at a time.
 use Rattle.std.specs.Prelude.{◌≡◌, ℕ, List}
-use Rattle.blex.specs.declared.token.Placed.{Placed}
+use Rattle.blang.specs.declared.token.Placed.{Placed}
 use Rattle.btree.specs.Reading.{Got, Stop, Reader, ◌>>=◌, first, expect}
 use Rattle.btree.specs.ExpressionReader.{is_colon}
 use Rattle.btree.specs.Commas.{list_reader}
-use Rattle.btree.specs.Statement.{Heading, Auto, Extrn, Case, Default, Stmt, Headed}
+use Rattle.blang.specs.Trees.{Heading, Auto, Extrn, Case, Default, Stmt, Headed}
 use Rattle.btree.specs.StatementReader.{is_semicolon, name, constant, declared, stmt_at, level, statement}
 
 -- a heading behind its keyword

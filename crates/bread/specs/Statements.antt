@@ -1,12 +1,11 @@
 -- Parts of statements, as the calls read them.
 use Rattle.std.specs.Prelude.{◌≡◌, ℕ, suc, ◌+◌, ◌≤◌, Result, Ok, Err}
-use Rattle.btree.specs.Expression.{Expr}
+use Rattle.blang.specs.Trees.{Expr, Stmt, Stmts, Nothing, Break, ReturnValue}
 use Rattle.btree.specs.Reading.{Got, Reader, ◌>>=◌, after, expect, many}
 use Rattle.btree.specs.ExpressionReader.{is_close_paren, always, Rvalue, reader}
-use Rattle.btree.specs.Statement.{Stmt, Stmts, Nothing, Break, ReturnValue}
 use Rattle.btree.specs.StatementReader.{is_open_paren, is_close_brace, is_semicolon, goes_on, one_more, level, tested, chosen, looped, else_part}
-use Rattle.bcode.specs.declared.instr.Instr.{Instr}
-use Rattle.bcode.specs.declared.instr.Instr.TheVariants as instr
+use Rattle.blang.specs.declared.code.Instr.{Instr}
+use Rattle.blang.specs.declared.code.Instr.TheVariants as instr
 use Rattle.bemit.specs.Drafts as drafts
 use Rattle.bemit.specs.Drafts.{Draft, emitted, filled, place_of, breaks_filled, arms_size}
 use Rattle.bemit.specs.Effects.{evaluated, done}

@@ -1,9 +1,9 @@
 //! Reading a definition and compiling it at once.
 ghost use Rattle.std.specs.Prelude.{◌≡◌, ◌+◌, false, None};
 ghost use Rattle.std.specs.Map.{keys_of};
-ghost use Rattle.blex.specs.Lexers.{is_last};
+ghost use Rattle.blang.specs.Cut.{is_last};
 ghost use Rattle.btree.specs.Reading.{first};
-ghost use Rattle.btree.specs.Code.{constant_of};
+ghost use Rattle.blang.specs.Code.{constant_of};
 ghost use Rattle.btree.specs.DefinitionReader.{ival, behind_name, vector, function};
 ghost use Rattle.btree.specs.StatementReader.{name};
 ghost use Rattle.bemit.specs.Drafts as drafts;
@@ -15,12 +15,11 @@ ghost use Rattle.bread.specs.Definitions.{TakesValue, values, parameters, FindsL
 use crate::header::{Header, Kind, MOST_COUNTED};
 use crate::statement::statement;
 use crate::take::{Word, name, size};
-use bcode::{Instr, Ival};
 use bemit::Draft;
 use bexpr::{Halt, Mark, Parser};
-use blex::{About, Diagnostic, Letters, Lexeme};
+use blang::{About, Diagnostic, Instr, Ival, Letters, MAX_NESTING};
+use blex::Lexeme;
 use bnames::{NameTable, Probes};
-use btree::MAX_NESTING;
 use bword::ByteIn;
 
 // The greatest level of nesting.

@@ -1,6 +1,6 @@
 //! What stands before a statement.
 ghost use Rattle.std.specs.Prelude.{◌≡◌};
-ghost use Rattle.blex.specs.declared.token.Token.TheVariants as token;
+ghost use Rattle.blang.specs.declared.token.Token.TheVariants as token;
 ghost use Rattle.btree.specs.Reading.{first};
 ghost use Rattle.btree.specs.StatementReader.{name, declared};
 ghost use Rattle.bemit.specs.Drafts as drafts;
@@ -12,7 +12,8 @@ ghost use Rattle.bread.specs.Compiling.{alone, Compiles, FindsHeading};
 
 use crate::take::{constant, name, size};
 use bexpr::{Halt, Mark, Parser};
-use blex::{Keyword, Lexeme};
+use blang::Keyword;
+use blex::Lexeme;
 use bword::{ByteIn, Name};
 
 // A name of `auto`.

@@ -1,14 +1,14 @@
 //! Reading a statement and compiling it at once.
 ghost use Rattle.std.specs.Prelude.{ℕ, List, ◌≡◌, ◌+◌, ◌≤◌, false, Some};
 ghost use Rattle.std.specs.Option.{is_some};
-ghost use Rattle.blex.specs.Lexers.{is_last};
+ghost use Rattle.blang.specs.Cut.{is_last};
 ghost use Rattle.blex.specs.Lexemes.{token_of_lexeme};
-ghost use Rattle.blex.specs.declared.token.Token.TheVariants as token;
+ghost use Rattle.blang.specs.declared.token.Token.TheVariants as token;
 ghost use Rattle.btree.specs.Reading.{first};
-ghost use Rattle.btree.specs.Statement.{Goto};
+ghost use Rattle.blang.specs.Trees.{Goto};
 ghost use Rattle.btree.specs.StatementReader.{level, goes_on, statement, returned, compound, switched};
 ghost use Rattle.btree.specs.StatementReader as reader;
-ghost use Rattle.bcode.specs.declared.instr.Instr.TheVariants as instr;
+ghost use Rattle.blang.specs.declared.code.Instr.TheVariants as instr;
 ghost use Rattle.bemit.specs.Drafts.{most_instructions, place_of, filled, breaks_filled};
 ghost use Rattle.bemit.specs.Effects.{evaluated, done, all_done};
 ghost use Rattle.bexpr.specs.Tokens.{IsLoaded, IsSingle};
@@ -17,10 +17,10 @@ ghost use Rattle.bread.specs.Compiling.{alone, Compiles};
 ghost use Rattle.bread.specs.Statements.{behind, ended, evaluated_to, broken, return_value, condition, conditional, repeated, statements, closed_loop, closed_switch, Chooses};
 
 use crate::heading::heading;
-use bcode::Instr;
 use bemit::Draft;
 use bexpr::{Halt, Mark, Parser};
-use blex::{Keyword, Lexeme};
+use blang::{Instr, Keyword};
+use blex::Lexeme;
 use bword::ByteIn;
 
 // A rvalue and a semicolon, and then an instruction.

@@ -7,9 +7,8 @@ use Rattle.bword.specs.declared.edition.Edition.{Edition}
 use Rattle.bword.specs.declared.edition.Edition.TheVariants as editions
 use Rattle.bcode.specs.Faults.{HasHeader}
 use Rattle.bcode.specs.Headers.{header_of, header_text}
-use Rattle.bcode.specs.Text.{joined, opening, code_lines, header_line, body_lines, text_of, end_text, IsTextOf}
-use Rattle.bcode.specs.Views.{IsWithinRanges}
-use Rattle.bcode.specs.declared.definition.Definition.{Definition}
+use Rattle.blang.specs.Text.{joined, opening, code_lines, header_line, body_lines, text_of, end_text, IsTextOf, IsWithinRanges}
+use Rattle.blang.specs.declared.code.Definition.{Definition}
 use Rattle.bcode.specs.declared.header.Header.TheVariants as header
 use Rattle.bcode.proofs.BodyLaws.{text_header, not_end}
 use Rattle.bcode.proofs.CodeLaws.{header_of-text, header_of-within}

@@ -3,19 +3,17 @@ use Rattle.std.proofs.Common.{◌≡◌, ◌≢◌, ℕ, zero, suc, ◌+◌, ◌
 use Rattle.std.specs.Prelude.{slice_get, ◌==◌, if◌then◌else◌, nat_lt}
 use Rattle.bword.specs.ByteEnds.{Incoming, Outgoing}
 use Rattle.bword.specs.Words.{binary_of}
-use Rattle.bcode.specs.declared.definition.Definition.{Definition}
-use Rattle.bcode.specs.declared.instr.Instr.{Instr}
-use Rattle.bcode.specs.declared.instr.Instr.TheVariants as instr
-use Rattle.bmach.specs.declared.library.Library.{Library}
-use Rattle.bmach.specs.declared.library.Library.TheVariants.{Char, Lchar, Getchar, Putchar, Printn, Exit}
-use Rattle.bmach.specs.declared.outcome.Outcome.{Outcome}
-use Rattle.bmach.specs.declared.outcome.Outcome.TheVariants as outcome
-use Rattle.bmach.specs.declared.outcome.Trap.{Trap}
-use Rattle.bmach.specs.declared.outcome.Trap.TheVariants as trap
-use Rattle.bmach.specs.World.{words, World, Reply, Gives, Ends, next_byte, is_base, argument, library, Ending, Exited, Trapped, Callee, NoFunction, OfLibrary, OfProgram, callee_of, refusal}
-use Rattle.bmach.specs.Machine.{Loaded, Image, Call, State, Running, Halted, Stuck, take_one, take_two, on_reply, operator_reply, label_target, at_place, returned, gone_to, called, call_of, act, act_if, step, steps, begun, started, first_world, image_of, run}
-use Rattle.bmach.specs.Runs.{outcome_of, RunGives}
-use Rattle.brun.specs.Runs.{IsOwnStatus, machine}
+use Rattle.blang.specs.declared.code.Definition.{Definition}
+use Rattle.blang.specs.declared.code.Instr.{Instr}
+use Rattle.blang.specs.declared.code.Instr.TheVariants as instr
+use Rattle.blang.specs.declared.run.Library.{Library}
+use Rattle.blang.specs.declared.run.Library.TheVariants.{Char, Lchar, Getchar, Putchar, Printn, Exit}
+use Rattle.blang.specs.declared.run.Outcome.{Outcome}
+use Rattle.blang.specs.declared.run.Outcome.TheVariants as outcome
+use Rattle.blang.specs.declared.run.Trap.{Trap}
+use Rattle.blang.specs.declared.run.Trap.TheVariants as trap
+use Rattle.blang.specs.Layout.{words, World, Reply, Gives, Ends, next_byte, is_base, argument, library, Ending, Exited, Trapped, Callee, NoFunction, OfLibrary, OfProgram, callee_of, refusal}
+use Rattle.blang.specs.Machine.{Loaded, Image, Call, State, Running, Halted, Stuck, take_one, take_two, on_reply, operator_reply, label_target, at_place, returned, gone_to, called, call_of, act, act_if, step, steps, begun, started, first_world, image_of, run, outcome_of, RunGives, IsOwnStatus, machine}
 
 abbrev pub IsProper : Ending → Type 0
 IsProper (Exited n) = n < 128

@@ -4,35 +4,26 @@ use Rattle.bword.specs.declared.edition.Edition.{Edition}
 use Rattle.bword.specs.declared.edition.Edition.TheVariants as editions
 use Rattle.std.specs.Io.KnownBytes.{Appends}
 use Rattle.bword.specs.ByteEnds.{Incoming, Outgoing, Grew, Refuses, CanFollow}
-use Rattle.bword.specs.declared.byte_out.EndFault.{EndFault}
-use Rattle.bword.specs.declared.byte_out.EndFault.TheVariants as end_fault
-use Rattle.bcode.specs.Text.{opening}
-use Rattle.blex.specs.Tokens.{tokens_from}
-use Rattle.blex.specs.declared.diagnostic.Diagnostic.{Diagnostic}
-use Rattle.btree.specs.Code.{code_of}
-use Rattle.btree.specs.Compiled as compiled
-use Rattle.btree.specs.Compiled.{Goes, line_of}
+use Rattle.bword.specs.declared.ends.EndFault.{EndFault}
+use Rattle.bword.specs.declared.ends.EndFault.TheVariants as end_fault
+use Rattle.blang.specs.Text.{opening}
+use Rattle.blang.specs.Cut.{tokens_from}
+use Rattle.blang.specs.declared.token.Diagnostic.{Diagnostic}
+use Rattle.blang.specs.Code.{code_of}
+use Rattle.blang.specs.Compiles as compiled
+use Rattle.blang.specs.Compiles.{Goes, line_of, Run, NamesRefused, EndRefused, status_of}
 use Rattle.btree.specs.SourceRows.{fault_text, ComesIn}
 use Rattle.btree.proofs.SourceRows.{edition_rows}
-use Rattle.btree.specs.Definition.{Definition}
-use Rattle.btree.specs.Expression.{Number, Named, Literal, Called, No_arguments, Another}
-use Rattle.btree.specs.Statement.{Evaluate, Compound, Stmts, Nothing, More}
-use Rattle.bmach.specs.Machine.{State, Halted, image_of}
-use Rattle.bmach.specs.Runs as runs
-use Rattle.bmach.specs.Runs.{outcome_of}
-use Rattle.bmach.specs.World.{World, Ending, Exited, Trapped}
-use Rattle.bmach.specs.declared.outcome.Outcome.{Outcome}
-use Rattle.bmach.specs.declared.outcome.Outcome.TheVariants as outcome
-use Rattle.bmean.specs.Laws.{Loads}
-use Rattle.bparse.specs.Compiles.{Run, NamesRefused, EndRefused}
-use Rattle.bparse.specs.Statuses.{status_of}
-use Rattle.brun.specs.Going.{RunsProgram, GoesOff}
-use Rattle.brun.specs.Going as going
-use Rattle.brun.specs.Meant.{DoesAsMeant}
-use Rattle.brun.specs.Reports.{Reported, report_text}
-use Rattle.brun.specs.declared.report.Report.TheVariants as report
-use Rattle.brun.specs.Headline.{Tells, NothingFailed, RunAnswers}
-use Rattle.brun.specs.Runs.{Ends, Finishes, machine}
+use Rattle.blang.specs.Trees.{Definition, Number, Named, Literal, Called, No_arguments, Another, Evaluate, Compound, Stmts, Nothing, More}
+use Rattle.blang.specs.Machine.{State, Halted, image_of, outcome_of, Reported, report_text, RunEnds, Finishes, machine}
+use Rattle.blang.specs.Machine as runs
+use Rattle.blang.specs.Layout.{World, Ending, Exited, Trapped}
+use Rattle.blang.specs.declared.run.Outcome.{Outcome}
+use Rattle.blang.specs.declared.run.Outcome.TheVariants as outcome
+use Rattle.blang.specs.Meaning.{Loads}
+use Rattle.blang.specs.Headline.{RunsProgram, GoesOff, DoesAsMeant, Tells, NothingFailed, RunAnswers}
+use Rattle.blang.specs.Headline as going
+use Rattle.blang.specs.declared.run.Report.TheVariants as report
 use Rattle.brun.proofs.HeadlineSteps.{headline, rest_of, other_stop}
 use Rattle.brun.proofs.MeantSteps.{halted_later}
 
@@ -72,7 +63,7 @@ all_written : (o p : Outgoing) (bytes all : List ℕ) → o.written ≡ Some [] 
 all_written o p bytes all e f a = subst (λ x. Appends (Some []) x bytes) f (subst (λ x. Appends x p.written bytes) e a)
 
 -- Over ends that tell their bytes, with no input, where nothing fails and the source has no fault.
-module _ (edition : Edition) (source source_behind : Incoming) (ends : Ends) (status : ℕ) (text : List ℕ) (tells : Tells source text) (told : Tells ends.input [])
+module _ (edition : Edition) (source source_behind : Incoming) (ends : RunEnds) (status : ℕ) (text : List ℕ) (tells : Tells source text) (told : Tells ends.input [])
     (healthy : NothingFailed source source_behind ends status) (r : compiled.Outcome) (g : Goes [] (tokens_from edition 1 text) r) (clean : r.stop ≡ None) where
   answers : (steps : ℕ) (ds : List Definition) → g.definitions ≡ ds → Loads ds → GoesOff edition steps source source_behind ends status → RunAnswers ds [] steps ends status
   answers steps ds same loads h =
@@ -107,7 +98,7 @@ first_byte [] = 0
 first_byte (b ∷ bytes) = b
 
 -- `f() break;` has a fault in each edition, which has a line of its own there.
-module _ (steps : ℕ) (source source_behind : Incoming) (ends : Ends) (status : ℕ) (tells : Tells source (codes "f() break;")) (told : Tells ends.input [])
+module _ (steps : ℕ) (source source_behind : Incoming) (ends : RunEnds) (status : ℕ) (tells : Tells source (codes "f() break;")) (told : Tells ends.input [])
     (healthy : NothingFailed source source_behind ends status) (before : ends.line.written ≡ Some []) (behind : List ℕ) (is : ends.line_behind.written ≡ Some behind) where
   line_in : (edition : Edition) (code line : List ℕ) (c : ComesIn edition (codes "f() break;") code line) → GoesOff edition steps source source_behind ends status → (line ≡ [] → ⊥) → behind ≡ line
   line_in edition code line c h some = at_stop c.outcome.stop refl c.line_is
@@ -140,7 +131,7 @@ end_refused run taken more first follows r g none fault stop (inr (inl o)) = abs
 end_refused run taken more first follows r g none fault stop (inr (inr (inl c))) = other_stop r.stop fault ((c.code more follows r g).0 none) stop
 end_refused run taken more first follows r g none fault stop (inr (inr (inr l))) = (l.written more follows r g).line.counted.0
 
-pub refused_without_code : (steps : ℕ) (source source_behind : Incoming) (ends : Ends) (status : ℕ) (text : List ℕ) → Tells source text
+pub refused_without_code : (steps : ℕ) (source source_behind : Incoming) (ends : RunEnds) (status : ℕ) (text : List ℕ) → Tells source text
     → (r : compiled.Outcome) → Goes [] (tokens_from editions.One 1 text) r → r.code ≡ [] → (fault : Diagnostic) → r.stop ≡ Some fault
     → GoesOff editions.One steps source source_behind ends status → status ≡ 134 → Grew ends.line.refusals ends.line_behind.refusals
 refused_without_code steps source source_behind ends status text tells r g none fault stop (going.stopped kept not_zero quiet h) is =
@@ -161,11 +152,11 @@ told_device line answer o p status less (inr r) is = by_kind r.fault r.refuses r
     by_kind end_fault.Memory h s = let bad : 133 ≡ 134 = sym is ∙ s in absurd (omega (arith, bad))
 
 -- A run has the status 133 only where a read of its input, or a write of its output or of its line failed.
-abbrev AnyFailed : Ends → Type 0
+abbrev AnyFailed : RunEnds → Type 0
 AnyFailed ends =
     Grew ends.input.failures ends.input_behind.failures ⊎ Grew ends.out.failures ends.out_behind.failures ⊎ Grew ends.line.failures ends.line_behind.failures
 
-finished : (steps : ℕ) (ds : List Definition) (ends : Ends) (status : ℕ) (result : Outcome) → DoesAsMeant ds steps ends.input ends.input_behind ends.out ends.out_behind result
+finished : (steps : ℕ) (ds : List Definition) (ends : RunEnds) (status : ℕ) (result : Outcome) → DoesAsMeant ds steps ends.input ends.input_behind ends.out ends.out_behind result
     → Finishes result ends.line ends.line_behind status → status ≡ 133 → AnyFailed ends
 finished steps ds ends status (outcome.Exit n) h f is = let own = h.own_status n refl in let same : n ≡ 133 = sym f.1 ∙ is in absurd (omega (arith, own, same))
 finished steps ds ends status (outcome.Trap kind) h f is = inr (inr (told_device (report_text (report.Trap kind)) 130 ends.line ends.line_behind status (omega arith) f is))
@@ -173,7 +164,7 @@ finished steps ds ends status outcome.Limit h f is = inr (inr (told_device (repo
 finished steps ds ends status outcome.Device h f is = ⊎_elim inl (λ o. inr (inl o)) h.made.reason
 finished steps ds ends status outcome.Memory h f is = let bad : 134 ≡ 133 = sym f.1 ∙ is in absurd (omega (arith, bad))
 
-pub only_failed : (steps : ℕ) (ds : List Definition) (ends : Ends) (status : ℕ) → RunsProgram steps ds ends status → status ≡ 133 → AnyFailed ends
+pub only_failed : (steps : ℕ) (ds : List Definition) (ends : RunEnds) (status : ℕ) → RunsProgram steps ds ends status → status ≡ 133 → AnyFailed ends
 only_failed steps ds ends status (going.refused f n load number quiet line) is = inr (inr (told_device (report_text (report.Load n)) 132 ends.line ends.line_behind status (omega arith) line is))
 only_failed steps ds ends status (going.ran result loads does finish) is = finished steps ds ends status result does finish is
 only_failed steps ds ends status (going.no_memory quiet silent s) is = let bad : 134 ≡ 133 = sym s ∙ is in absurd (omega (arith, bad))

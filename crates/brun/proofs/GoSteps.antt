@@ -2,25 +2,25 @@
 use Rattle.std.proofs.Common.{◌≡◌, ℕ, List, [], ◌++◌, map, refl, sym, subst}
 use Rattle.bword.specs.declared.edition.Edition.{Edition}
 use Rattle.bword.specs.ByteEnds.{Incoming, Outgoing, Kept, Writes, outgoing_of}
-use Rattle.bcode.specs.Text.{IsCodeText}
+use Rattle.blang.specs.Text.{IsCodeText}
 use Rattle.bcode.proofs.FaultLaws.{unique_code}
-use Rattle.btree.specs.Code.{code_of}
-use Rattle.btree.specs.Compiled.{code_text}
-use Rattle.btree.specs.Definition.{Definition}
+use Rattle.blang.specs.Code.{code_of}
+use Rattle.blang.specs.Compiles.{code_text, Compiles}
+use Rattle.blang.specs.Trees.{Definition}
 use Rattle.bback.proofs.ReadingBack.{reads_back}
-use Rattle.bparse.specs.Compiles.{Compiles}
 use Rattle.brun.proofs.MeantSteps.{does_as_meant}
-use Rattle.brun.specs.Going.{RunsProgram, RunsSource, GoesOff, no_code}
-use Rattle.brun.specs.Going as going
-use Rattle.brun.specs.Runs.{Ends, HasNotRun, RunsDefinitions, RunsText}
+use Rattle.blang.specs.Headline.{RunsProgram, RunsSource, GoesOff, no_code}
+use Rattle.blang.specs.Headline as going
+use Rattle.blang.specs.Machine.{RunEnds, HasNotRun}
+use Rattle.brun.specs.Runs.{RunsDefinitions, RunsText}
 use Rattle.brun.specs.Runs as runs
 
-program_runs : (steps : ℕ) (ds : List Definition) (ends : Ends) (status : ℕ) → RunsDefinitions steps (map code_of ds) ends status → RunsProgram steps ds ends status
+program_runs : (steps : ℕ) (ds : List Definition) (ends : RunEnds) (status : ℕ) → RunsDefinitions steps (map code_of ds) ends status → RunsProgram steps ds ends status
 program_runs steps ds ends status (runs.refused f n h k quiet told) = going.refused f n h k quiet told
 program_runs steps ds ends status (runs.ran outcome loads gives own finish) = going.ran outcome loads (does_as_meant ds loads steps _ _ _ _ outcome gives own) finish
 program_runs steps ds ends status (runs.no_memory some quiet silent is) = going.no_memory quiet silent is
 
-text_runs : (steps : ℕ) (text : List ℕ) (ds : List Definition) (ends : Ends) (status : ℕ) → IsCodeText text (map code_of ds) → RunsText steps text ends status → RunsProgram steps ds ends status
+text_runs : (steps : ℕ) (text : List ℕ) (ds : List Definition) (ends : RunEnds) (status : ℕ) → IsCodeText text (map code_of ds) → RunsText steps text ends status → RunsProgram steps ds ends status
 text_runs steps text ds ends status is (runs.unread n f no_code quiet told) = absurd (no_code (map code_of ds) is)
 text_runs steps text ds ends status is (runs.read es read done) = program_runs steps ds ends status (subst (λ x. RunsDefinitions steps x ends status) (unique_code text es (map code_of ds) read is) done)
 text_runs steps text ds ends status is (runs.no_room header quiet silent s) = going.no_memory quiet silent s
@@ -29,7 +29,7 @@ text_runs steps text ds ends status is (runs.no_room header quiet silent s) = go
 kept_text : (m : Kept) (text : List ℕ) → Writes no_code text (outgoing_of m) → text ≡ m.bytes
 kept_text m text w = sym w.appended
 
-pub source_runs : (edition : Edition) (steps : ℕ) (source source_behind : Incoming) (ends : Ends) (status : ℕ) (m : Kept) (line : Outgoing)
+pub source_runs : (edition : Edition) (steps : ℕ) (source source_behind : Incoming) (ends : RunEnds) (status : ℕ) (m : Kept) (line : Outgoing)
     → Compiles (record { edition = edition; source = source; source_behind = source_behind; code = no_code; code_behind = outgoing_of m; line = ends.line; line_behind = line; status = 0 })
     → RunsText steps m.bytes (record ends { line = line }) status → RunsSource edition steps source source_behind ends status
 source_runs edition steps source source_behind ends status m line h done = record {
@@ -51,12 +51,12 @@ Compiling edition source source_behind first last line line_behind status =
 abbrev nothing_kept : Kept
 nothing_kept = record { bytes = []; refusals = 0 }
 
-pub goes_stopped : (edition : Edition) (steps : ℕ) (source source_behind : Incoming) (ends : Ends) (first last : Kept) (status : ℕ) → first ≡ nothing_kept → (status ≡ 0 → ⊥) → HasNotRun ends
+pub goes_stopped : (edition : Edition) (steps : ℕ) (source source_behind : Incoming) (ends : RunEnds) (first last : Kept) (status : ℕ) → first ≡ nothing_kept → (status ≡ 0 → ⊥) → HasNotRun ends
     → Compiling edition source source_behind first last ends.line ends.line_behind status → GoesOff edition steps source source_behind ends status
 goes_stopped edition steps source source_behind ends first last status e not_zero quiet h =
     going.stopped last not_zero quiet (subst (λ m. Compiling edition source source_behind m last ends.line ends.line_behind status) e h)
 
-pub goes_ran : (edition : Edition) (steps : ℕ) (source source_behind : Incoming) (ends : Ends) (first last : Kept) (line : Outgoing) (compiled status : ℕ) (text : List ℕ) → first ≡ nothing_kept → compiled ≡ 0 → text ≡ last.bytes
+pub goes_ran : (edition : Edition) (steps : ℕ) (source source_behind : Incoming) (ends : RunEnds) (first last : Kept) (line : Outgoing) (compiled status : ℕ) (text : List ℕ) → first ≡ nothing_kept → compiled ≡ 0 → text ≡ last.bytes
     → Compiling edition source source_behind first last ends.line line compiled → RunsText steps text (record ends { line = line }) status → GoesOff edition steps source source_behind ends status
 goes_ran edition steps source source_behind ends first last line compiled status text e zero same h done =
     going.ran (source_runs edition steps source source_behind ends status last line

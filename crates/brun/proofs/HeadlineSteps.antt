@@ -3,31 +3,25 @@ use Rattle.std.proofs.Common.{◌≡◌, ◌≢◌, ℕ, ◌+◌, ◌≤◌, Lis
 use Rattle.bword.specs.declared.edition.Edition.{Edition}
 use Rattle.std.specs.Io.KnownBytes.{Appends, Consumes}
 use Rattle.bword.specs.ByteEnds.{Incoming, Outgoing, Kept, Grew, Took, Writes, Refuses, CanFollow, outgoing_of}
-use Rattle.bword.specs.declared.byte_out.EndFault.{EndFault}
-use Rattle.bword.specs.declared.byte_out.EndFault.TheVariants as end_fault
-use Rattle.blex.specs.Tokens.{tokens_from}
-use Rattle.blex.specs.declared.diagnostic.Diagnostic.{Diagnostic}
-use Rattle.btree.specs.Code.{code_of}
-use Rattle.btree.specs.Compiled as compiled
-use Rattle.btree.specs.Compiled.{Goes, line_of}
-use Rattle.btree.specs.Definition.{Definition}
-use Rattle.bparse.specs.Compiles.{Run, Compiles, SourceFailed, EndRefused}
-use Rattle.bparse.specs.Statuses.{status_of}
-use Rattle.bmach.specs.Machine.{State, Running, Halted, Stuck, image_of}
-use Rattle.bmach.specs.Runs as runs
-use Rattle.bmach.specs.Runs.{Shows, Comes, RunGives, outcome_of}
-use Rattle.bmach.specs.World.{World, Ending, Exited, Trapped}
-use Rattle.bmach.specs.declared.fault.LoadFault.{LoadFault}
-use Rattle.bmach.specs.declared.outcome.Outcome.{Outcome}
-use Rattle.bmach.specs.declared.outcome.Outcome.TheVariants as outcome
-use Rattle.bmean.specs.Laws.{Loads}
+use Rattle.bword.specs.declared.ends.EndFault.{EndFault}
+use Rattle.bword.specs.declared.ends.EndFault.TheVariants as end_fault
+use Rattle.blang.specs.Cut.{tokens_from}
+use Rattle.blang.specs.declared.token.Diagnostic.{Diagnostic}
+use Rattle.blang.specs.Code.{code_of}
+use Rattle.blang.specs.Compiles as compiled
+use Rattle.blang.specs.Compiles.{Goes, line_of, Run, Compiles, SourceFailed, EndRefused, status_of}
+use Rattle.blang.specs.Trees.{Definition}
+use Rattle.blang.specs.Machine.{State, Running, Halted, Stuck, image_of, Shows, Comes, RunGives, outcome_of, Reported, report_text, load_number, RunEnds, Finishes, HasNotRun, machine}
+use Rattle.blang.specs.Machine as runs
+use Rattle.blang.specs.Layout.{World, Ending, Exited, Trapped}
+use Rattle.blang.specs.declared.run.LoadFault.{LoadFault}
+use Rattle.blang.specs.declared.run.Outcome.{Outcome}
+use Rattle.blang.specs.declared.run.Outcome.TheVariants as outcome
+use Rattle.blang.specs.Meaning.{Loads}
 use Rattle.bmean.proofs.LawProofs.{code_agrees}
-use Rattle.brun.specs.Going.{RunsProgram, RunsSource, GoesOff}
-use Rattle.brun.specs.Going as going
-use Rattle.brun.specs.Headline.{Tells, NothingFailed, Says, line_at, status_at, IsEnd, IsLimit, RunAnswers, GoAnswers, Headline}
-use Rattle.brun.specs.Reports.{Reported, report_text, load_number}
-use Rattle.brun.specs.Runs.{Ends, Finishes, HasNotRun, machine}
-use Rattle.brun.specs.declared.report.Report.TheVariants as report
+use Rattle.blang.specs.Headline.{RunsProgram, RunsSource, GoesOff, Tells, NothingFailed, Says, line_at, status_at, IsEnd, IsLimit, RunAnswers, GoAnswers, Headline}
+use Rattle.blang.specs.Headline as going
+use Rattle.blang.specs.declared.run.Report.TheVariants as report
 use Rattle.brun.proofs.MeantSteps.{halted_later}
 
 -- what an end that tells its bytes has left
@@ -106,7 +100,7 @@ status_same : (e : Ending) (w : World) → status_in (outcome_of (Halted e w)) �
 status_same (Exited n) w = refl
 status_same (Trapped kind) w = refl
 
-module _ (ds : List Definition) (loads : Loads ds) (steps : ℕ) (ends : Ends) (status : ℕ) (input : List ℕ) (told : Tells ends.input input) where
+module _ (ds : List Definition) (loads : Loads ds) (steps : ℕ) (ends : RunEnds) (status : ℕ) (input : List ℕ) (told : Tells ends.input input) where
   abbrev state : ℕ → State
   state n = machine (map code_of ds) input n
 
@@ -188,12 +182,12 @@ no_zero (inl less) = omega arith
 no_zero (inr same) = omega (arith, same.0)
 
 -- what compiling does to the source, the kept code and the line
-abbrev compiling : (edition : Edition) (source source_behind : Incoming) (ends : Ends) (status : ℕ) (kept : Kept) → Run
+abbrev compiling : (edition : Edition) (source source_behind : Incoming) (ends : RunEnds) (status : ℕ) (kept : Kept) → Run
 compiling edition source source_behind ends status kept =
     record { edition = edition; source = source; source_behind = source_behind; code = going.no_code; code_behind = outgoing_of kept; line = ends.line; line_behind = ends.line_behind; status = status }
 
 -- A source that isn't compiled where nothing fails has a fault.
-module _ (edition : Edition) (source source_behind : Incoming) (ends : Ends) (status : ℕ) (healthy : NothingFailed source source_behind ends status) (kept : Kept) where
+module _ (edition : Edition) (source source_behind : Incoming) (ends : RunEnds) (status : ℕ) (healthy : NothingFailed source source_behind ends status) (kept : Kept) where
   -- what follows the bytes taken, and the outcome with it
   module _ (h : Compiles (compiling edition source source_behind ends status kept)) (more : List ℕ) (follows : CanFollow source_behind more) (r : compiled.Outcome) (g : Goes [] (tokens_from edition 1 (h.taken ++ more)) r) where
     not_device : status ≡ 133 → ⊥
@@ -223,7 +217,7 @@ other_stop stop fault e f = absurd (no (sym e ∙ f))
     no : None ≢ Some fault
     no e = cc
 
-unread_says : (ends : Ends) (status : ℕ) (input line : List ℕ) (answer : ℕ) → Tells ends.input input → HasNotRun ends → Writes ends.line line ends.line_behind → status ≡ answer → Says ends status input [] line answer
+unread_says : (ends : RunEnds) (status : ℕ) (input line : List ℕ) (answer : ℕ) → Tells ends.input input → HasNotRun ends → Writes ends.line line ends.line_behind → status ≡ answer → Says ends status input [] line answer
 unread_says ends status input line answer told quiet written is = record {
   unread = ap (λ (i : Incoming). i.left) quiet.unread ∙ told.left;
   written = writes_nothing ends.out ends.out_behind quiet.silent;
@@ -232,7 +226,7 @@ unread_says ends status input line answer told quiet written is = record {
 }
 
 -- a program that was or wasn't run, where its source has no fault
-program_answers : (r : compiled.Outcome) (ds : List Definition) (input : List ℕ) (steps : ℕ) (source source_behind : Incoming) (ends : Ends) (status : ℕ)
+program_answers : (r : compiled.Outcome) (ds : List Definition) (input : List ℕ) (steps : ℕ) (source source_behind : Incoming) (ends : RunEnds) (status : ℕ)
     → Tells ends.input input → NothingFailed source source_behind ends status → r.stop ≡ None → RunsProgram steps ds ends status → GoAnswers r ds input steps ends status
 program_answers r ds input steps source source_behind ends status told healthy clean (going.refused f n load number quiet line) = record {
   faulty = λ fault e. other_stop r.stop fault clean e;
@@ -258,7 +252,7 @@ program_answers r ds input steps source source_behind ends status told healthy c
     no_load f e = cc
 program_answers r ds input steps source source_behind ends status told healthy clean (going.no_memory quiet silent is) = absurd (healthy.not_refused is)
 
-pub headline : (edition : Edition) (steps : ℕ) (source source_behind : Incoming) (ends : Ends) (status : ℕ) → GoesOff edition steps source source_behind ends status → Headline edition steps source source_behind ends status
+pub headline : (edition : Edition) (steps : ℕ) (source source_behind : Incoming) (ends : RunEnds) (status : ℕ) → GoesOff edition steps source source_behind ends status → Headline edition steps source source_behind ends status
 headline edition steps source source_behind ends status (going.stopped kept not_zero quiet h) text input tells told healthy r g =
     let rest = rest_of source source_behind h.taken text h.took tells in
     let behind = subst (λ t. Goes [] (tokens_from edition 1 t) r) (sym rest.whole) g in

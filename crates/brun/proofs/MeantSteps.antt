@@ -1,20 +1,19 @@
 -- A run does what its program means.
 use Rattle.std.proofs.Common.{◌≡◌, ◌≢◌, ℕ, zero, suc, ◌+◌, ◌-◌, ◌≤◌, List, [], ◌++◌, map, refl, sym, ap, ◌∙◌, subst, arith, append-nil}
 use Rattle.bword.specs.ByteEnds.{Incoming, Outgoing}
-use Rattle.btree.specs.Code.{code_of}
-use Rattle.btree.specs.Definition.{Definition}
-use Rattle.bmach.specs.Machine.{Image, Call, State, Running, Halted, Stuck, step, steps, started, first_world, image_of, run}
-use Rattle.bmach.specs.Runs.{CanFollow, Began, Shows, outcome_of, Comes, Breaks, RunGives}
-use Rattle.bmach.specs.Runs as runs
-use Rattle.bmach.specs.World.{World, Ending, Exited, Trapped}
-use Rattle.bmach.specs.declared.outcome.Outcome.{Outcome}
-use Rattle.bmach.specs.declared.outcome.Outcome.TheVariants as outcome
-use Rattle.bmach.specs.declared.outcome.Trap.{Trap}
-use Rattle.bmach.specs.declared.outcome.Trap.TheVariants as trap
-use Rattle.bmean.specs.Laws.{Loads, meant, world_of, IsBeginningOf}
+use Rattle.blang.specs.Code.{code_of}
+use Rattle.blang.specs.Trees.{Definition}
+use Rattle.blang.specs.Machine.{Image, Call, State, Running, Halted, Stuck, step, steps, started, first_world, image_of, run, Shows, outcome_of, Comes, Breaks, RunGives, IsOwnStatus, machine}
+use Rattle.bword.specs.ByteEnds.{CanFollow, Began}
+use Rattle.blang.specs.Machine as runs
+use Rattle.blang.specs.Layout.{World, Ending, Exited, Trapped}
+use Rattle.blang.specs.declared.run.Outcome.{Outcome}
+use Rattle.blang.specs.declared.run.Outcome.TheVariants as outcome
+use Rattle.blang.specs.declared.run.Trap.{Trap}
+use Rattle.blang.specs.declared.run.Trap.TheVariants as trap
+use Rattle.blang.specs.Meaning.{Loads, meant, world_of, IsBeginningOf}
 use Rattle.bmean.proofs.LawProofs.{code_agrees}
-use Rattle.brun.specs.Runs.{IsOwnStatus, machine}
-use Rattle.brun.specs.Meant.{EndsSo, GoesOn, BreaksOff, RunsAsMeant, DoesAsMeant}
+use Rattle.blang.specs.Headline.{EndsSo, GoesOn, BreaksOff, RunsAsMeant, DoesAsMeant}
 use Rattle.brun.proofs.Endings.{HaltsProperly, run_proper, no_stuck_outcome}
 
 -- what halted stays so

@@ -4,18 +4,17 @@ use Rattle.std.specs.List.{flat_map}
 use Rattle.std.proofs.Math.Seq.{take-append_seam}
 use Rattle.std.proofs.lemmas.List.Elements.{All-nil}
 use Rattle.bword.specs.ByteEnds.{Incoming, Outgoing, Took, Grew, Writes, Refuses, Began, CanFollow}
-use Rattle.bword.specs.declared.byte_out.EndFault.{EndFault}
-use Rattle.bword.specs.declared.byte_out.EndFault.TheVariants as end_fault
+use Rattle.bword.specs.declared.ends.EndFault.{EndFault}
+use Rattle.bword.specs.declared.ends.EndFault.TheVariants as end_fault
 use Rattle.bword.specs.declared.edition.Edition.{Edition}
 use Rattle.bword.specs.declared.edition.Edition.TheVariants as editions
 use Rattle.bword.proofs.Putting.{Writes-none, Writes-append, Refuses-behind, Refuses-short}
 use Rattle.bword.proofs.Taking.{Took-none, Took-append}
 use Rattle.bcode.specs.Ahead.{Reads}
 use Rattle.bcode.specs.Readers.{CodeReader, all_ahead, opened, Since, Gave, Ended, Stopped, Refused, Broke, Keeps}
-use Rattle.bcode.specs.Text.{opening, header_line, text_of, end_text, IsTextOf}
+use Rattle.blang.specs.Text.{opening, header_line, text_of, end_text, IsTextOf, IsWithinRanges}
 use Rattle.bcode.specs.Faults.{IsFaultLineIn}
-use Rattle.bcode.specs.Views.{IsWithinRanges}
-use Rattle.bcode.specs.declared.definition.Definition.{Definition}
+use Rattle.blang.specs.declared.code.Definition.{Definition}
 use Rattle.bcode.proofs.AheadLaws.{Grew-after}
 use Rattle.bcode.proofs.FaultLaws.{code_spelled, unique_code}
 use Rattle.brun.specs.Migrates.{rewritten, Becomes, Rewriting, CodeGives, halt_of, first_line, definition, last_line, OutFailed}

@@ -8,9 +8,8 @@ use Rattle.std.proofs.lemmas.List.Elements.{All-head, All-tail, All-push}
 use Rattle.bword.specs.declared.edition.Edition.TheVariants as editions
 use Rattle.bcode.specs.Faults.{BeginsIn, IsFaultLineIn}
 use Rattle.bcode.specs.Headers.{header_of}
-use Rattle.bcode.specs.Text.{joined, opening, body_lines, lines_of, text_of, end_text, IsTextOf}
-use Rattle.bcode.specs.Views.{IsWithinRanges}
-use Rattle.bcode.specs.declared.definition.Definition.{Definition}
+use Rattle.blang.specs.Text.{joined, opening, body_lines, lines_of, text_of, end_text, IsTextOf, IsWithinRanges}
+use Rattle.blang.specs.declared.code.Definition.{Definition}
 use Rattle.bcode.specs.declared.header.Header.TheVariants as header
 use Rattle.bcode.proofs.BodyLaws.{text_header, not_end}
 use Rattle.bcode.proofs.CodeLaws.{header_of-within}

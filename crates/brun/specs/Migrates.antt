@@ -2,20 +2,19 @@
 use Rattle.std.specs.Prelude.{◌≡◌, ℕ, ◌<◌, ◌≤◌, true, List, [], ◌∷◌, ◌++◌, length, All, Result, Ok, Err, ◌⊎◌}
 use Rattle.std.specs.List.{flat_map}
 use Rattle.bword.specs.ByteEnds.{Incoming, Outgoing, Took, Grew, Writes, Refuses, Began, CanFollow}
-use Rattle.bword.specs.declared.byte_out.EndFault.{EndFault}
-use Rattle.bword.specs.declared.byte_out.EndFault.TheVariants as end_fault
+use Rattle.bword.specs.declared.ends.EndFault.{EndFault}
+use Rattle.bword.specs.declared.ends.EndFault.TheVariants as end_fault
 use Rattle.bword.specs.declared.edition.Edition.TheVariants as editions
 use Rattle.bcode.specs.Faults.{IsFaultLineIn}
 use Rattle.bcode.specs.Readers.{CodeReader}
-use Rattle.bcode.specs.Text.{opening, header_line, lines_of, text_of, end_text, IsTextOf, IsCodeText}
-use Rattle.bcode.specs.Views.{IsWithinRanges}
-use Rattle.bcode.specs.declared.definition.Definition.{Definition}
-use Rattle.bparse.specs.declared.status.TheConstants.{DONE, REFUSED, DEVICE, MEMORY}
-use Rattle.brun.specs.Reports.{Reported, report_text}
-use Rattle.brun.specs.Runs.{Ends, RunsText}
+use Rattle.blang.specs.Text.{opening, header_line, lines_of, text_of, end_text, IsTextOf, IsCodeText, IsWithinRanges}
+use Rattle.blang.specs.declared.code.Definition.{Definition}
+use Rattle.blang.specs.declared.status.TheConstants.{DONE, REFUSED, DEVICE, MEMORY}
+use Rattle.blang.specs.Machine.{Reported, report_text, RunEnds}
+use Rattle.brun.specs.Runs.{RunsText}
 use Rattle.brun.specs.declared.migrating.Halt.{Halt}
 use Rattle.brun.specs.declared.migrating.Halt.TheVariants as halt
-use Rattle.brun.specs.declared.report.Report.TheVariants as report
+use Rattle.blang.specs.declared.run.Report.TheVariants as report
 
 -- the text of these definitions in the second edition, without the last line
 abbrev pub rewritten : List Definition → List ℕ
@@ -65,7 +64,7 @@ HasBegun w taken =
 -- What comes of a run of the one text can come of a run of the other.
 abbrev pub RunsAs : List ℕ → List ℕ → Type 0
 RunsAs text other =
-    (steps : ℕ) (ends : Ends) (status : ℕ) → RunsText steps text ends status → RunsText steps other ends status
+    (steps : ℕ) (ends : RunEnds) (status : ℕ) → RunsText steps text ends status → RunsText steps other ends status
 
 -- The text was one of the first edition, whose end was seen. The same definitions were written in the second: they alone
 -- are read from what was written, and they run as before.

@@ -2,19 +2,19 @@
 use Rattle.std.specs.Prelude.{◌≡◌, ℕ, [], ◌∷◌, map, codes, Some, None, refl}
 use Rattle.std.specs.Fmt.{digits}
 use Rattle.bword.specs.ByteEnds.{Outgoing}
-use Rattle.bword.specs.declared.byte_out.EndFault.TheVariants as end_fault
+use Rattle.bword.specs.declared.ends.EndFault.TheVariants as end_fault
 use Rattle.bcode.specs.declared.fault.CodeFault.TheVariants as code_fault
-use Rattle.bparse.specs.Statuses.{status_of}
-use Rattle.bparse.specs.declared.status.TheConstants.{DONE, FAULT, TRAP, LIMIT, REFUSED, DEVICE, MEMORY, WRONG_COMMAND}
-use Rattle.bmach.specs.World.{Exited, Trapped}
-use Rattle.bmach.specs.declared.fault.LoadFault.TheVariants as fault
-use Rattle.bmach.specs.declared.outcome.Outcome.TheVariants as outcome
-use Rattle.bmach.specs.declared.outcome.Trap.{Trap}
-use Rattle.bmach.specs.declared.outcome.Trap.TheVariants as trap
-use Rattle.brun.specs.Headline.{line_at, status_at}
-use Rattle.brun.specs.Reports.{Reported, report_text, load_number}
-use Rattle.brun.specs.Runs.{Finishes, Unread, NotLoaded}
-use Rattle.brun.specs.declared.report.Report.TheVariants as report
+use Rattle.blang.specs.Compiles.{status_of}
+use Rattle.blang.specs.declared.status.TheConstants.{DONE, FAULT, TRAP, LIMIT, REFUSED, DEVICE, MEMORY, WRONG_COMMAND}
+use Rattle.blang.specs.Layout.{Exited, Trapped}
+use Rattle.blang.specs.declared.run.LoadFault.TheVariants as fault
+use Rattle.blang.specs.declared.run.Outcome.TheVariants as outcome
+use Rattle.blang.specs.declared.run.Trap.{Trap}
+use Rattle.blang.specs.declared.run.Trap.TheVariants as trap
+use Rattle.blang.specs.Headline.{line_at, status_at}
+use Rattle.blang.specs.Machine.{Reported, report_text, load_number, Finishes, NotLoaded}
+use Rattle.brun.specs.Runs.{Unread}
+use Rattle.blang.specs.declared.run.Report.TheVariants as report
 
 statuses : (DONE ∷ FAULT ∷ TRAP ∷ LIMIT ∷ REFUSED ∷ DEVICE ∷ MEMORY ∷ WRONG_COMMAND ∷ [])
     ≡ (0 ∷ 1 ∷ 130 ∷ 131 ∷ 132 ∷ 133 ∷ 134 ∷ 135 ∷ [])

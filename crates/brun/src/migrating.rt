@@ -4,9 +4,10 @@ ghost use Rattle.bword.specs.declared.edition.Edition.TheVariants as editions;
 ghost use Rattle.bcode.specs.Readers.{Keeps, Since};
 ghost use Rattle.brun.specs.Migrates.{Migrates, CodeGives, DefinitionsGive, halt_of};
 
-use crate::report::{Report, write_report};
+use crate::report::write_report;
 use bcode::{CodeFault, CodeReader, CodeStep, write_begin, write_definition, write_end};
-use bparse::status::{self, Status};
+use blang::Report;
+use blang::status::{self, Status};
 use bword::{ByteIn, ByteOut, Edition, EndFault};
 use std::alloc::Global;
 

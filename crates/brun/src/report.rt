@@ -1,27 +1,15 @@
 //! The line that tells why a run has no end of its own.
 ghost use Rattle.std.specs.Prelude.{◌≡◌, ◌≤◌, length};
-ghost use Rattle.brun.specs.Reports.{Reported, report_text, letters_of, load_number};
+ghost use Rattle.blang.specs.Machine.{Reported, report_text, letters_of, load_number};
 
 use arrayvec::ArrayString;
-use bmach::{LoadFault, Trap};
-use bparse::status::{self, Status};
+use blang::status::{self, Status};
+use blang::{LoadFault, Report, Trap};
 use bword::ByteOut;
 use itoa::Buffer;
 
 /// Room for the longest line.
 const LINE_LEN: usize = 64;
-
-/// What a line tells.
-#[derive(Clone, Copy, Debug, PartialEq, Eq)]
-pub(crate) enum Report {
-    /// No code text goes on with this line.
-    Code(u64),
-    /// The number of the reason why a code text doesn't load, from 1.
-    Load(u8),
-    Trap(Trap),
-    /// No halt within the limit of steps.
-    Limit,
-}
 
 /// Writes the line, and answers this status or that of a refused write.
 pub(crate) fn write_report<D: ByteOut>(report: Report, status: Status, diag: &mut D) -> Status

@@ -1,12 +1,11 @@
 //! Compiling a source and running its program.
 ghost use Rattle.std.specs.Prelude.{◌≡◌};
 ghost use Rattle.bword.specs.declared.edition.Edition.TheVariants as editions;
-ghost use Rattle.brun.specs.Going.{GoesOff};
-ghost use Rattle.brun.specs.Headline.{Headline};
+ghost use Rattle.blang.specs.Headline.{GoesOff, Headline};
 
 use crate::text::run_text;
+use blang::status::{self, Status};
 use bparse::compile_edition;
-use bparse::status::{self, Status};
 use bword::{ByteIn, ByteOut, Edition, MemOut};
 use std::alloc::Global;
 

@@ -1,12 +1,14 @@
 //! Running a code text.
 ghost use Rattle.std.specs.Prelude.{◌≡◌};
-ghost use Rattle.brun.specs.Runs.{Finishes, RunsDefinitions, RunsText, Unread};
+ghost use Rattle.blang.specs.Machine.{Finishes};
+ghost use Rattle.brun.specs.Runs.{RunsDefinitions, RunsText, Unread};
 
-use crate::report::{Report, number_of, write_report};
-use bcode::{CodeFault, Definition, read_code};
-use bmach::{Outcome, load, run};
+use crate::report::{number_of, write_report};
+use bcode::{CodeFault, read_code};
+use blang::status::{self, Status};
+use blang::{Definition, Outcome, Report};
+use bmach::{load, run};
 use bpages::PagedStore;
-use bparse::status::{self, Status};
 use bword::{ByteIn, ByteOut};
 use std::alloc::Global;
 

@@ -4,12 +4,12 @@ use Rattle.clap.specs.Words.{IsAmong, Text, fault_of, subcommand_of}
 use Rattle.clap.specs.declared.error.kind.ErrorKind.{ErrorKind}
 use Rattle.clap.specs.declared.error.kind.ErrorKind.TheVariants as kind
 use Rattle.bword.specs.ByteEnds.{Incoming}
-use Rattle.bparse.specs.Compiles.{Compiles}
-use Rattle.bparse.specs.declared.status.TheConstants.{DONE, DEVICE, MEMORY, WRONG_COMMAND}
-use Rattle.brun.specs.Going.{GoesOff}
+use Rattle.blang.specs.Compiles.{Compiles}
+use Rattle.blang.specs.declared.status.TheConstants.{DONE, DEVICE, MEMORY, WRONG_COMMAND}
+use Rattle.blang.specs.Headline.{GoesOff}
 use Rattle.brun.specs.Migrates.{Migrates}
-use Rattle.brun.specs.Reports.{Reported}
-use Rattle.brun.specs.Runs.{Ends, HasNotRun, RunsText}
+use Rattle.blang.specs.Machine.{Reported, RunEnds, HasNotRun}
+use Rattle.brun.specs.Runs.{RunsText}
 use Rattle.bcheck.specs.Checks.{Checks}
 use Rattle.blist.specs.Listings.{Lists}
 use Rattle.blist.specs.Maps.{Maps}
@@ -27,13 +27,13 @@ contradiction_line =
     codes "error: the argument '--steps <N>' cannot be used with '--no-limit'\n\nFor more information, try '--help'.\n"
 
 -- Nothing was read or written, and this is the status.
-pub record IsSilent (ends : Ends) (status answer : ℕ) : Type 0 where
+pub record IsSilent (ends : RunEnds) (status answer : ℕ) : Type 0 where
   pub unread : HasNotRun ends
   pub no_line : ends.line_behind ≡ ends.line
   pub status_is : status ≡ answer
 
 -- The file could not be opened or read.
-abbrev pub HasNoFile : Ends → ℕ → Type 0
+abbrev pub HasNoFile : RunEnds → ℕ → Type 0
 HasNoFile ends status = IsSilent ends status DEVICE ⊎ IsSilent ends status MEMORY
 
 -- what is said of a file that can't be opened or read
@@ -41,17 +41,17 @@ abbrev pub no_file_line : List ℕ → List ℕ
 no_file_line file = codes "error: the file '" ++ file ++ codes "' can't be read\n"
 
 -- The file could not be opened or read, and its name was told, unless memory was refused.
-abbrev pub NamesFile : List ℕ → Ends → ℕ → Type 0
+abbrev pub NamesFile : List ℕ → RunEnds → ℕ → Type 0
 NamesFile file ends status =
     HasNotRun ends × Reported (no_file_line file) DEVICE ends.line ends.line_behind status ⊎ IsSilent ends status MEMORY
 
 -- the ends of a command that tells of a source
-abbrev pub telling_ends : Ends → told.Ends
+abbrev pub telling_ends : RunEnds → told.Ends
 telling_ends ends =
     record { out = ends.out; out_behind = ends.out_behind; line = ends.line; line_behind = ends.line_behind }
 
 -- what was asked for is done; no contract can say what a file holds
-abbrev pub Does : Asked → Ends → ℕ → Type 0
+abbrev pub Does : Asked → RunEnds → ℕ → Type 0
 Does (compile edition) ends status = Compiles (record {
   edition = edition;
   source = ends.input;
@@ -91,7 +91,7 @@ abbrev pub IsHelp : ErrorKind → Type 0
 IsHelp k = (k ≡ kind.DisplayHelp) ⊎ (k ≡ kind.DisplayVersion)
 
 -- A text was written to the output, for a reason of this kind: help or the version was asked for.
-pub record Tells (k : ErrorKind) (ends : Ends) (status : ℕ) : Type 0 where
+pub record Tells (k : ErrorKind) (ends : RunEnds) (status : ℕ) : Type 0 where
   pub help : IsHelp k
   pub unread : ends.input_behind ≡ ends.input
   pub no_line : ends.line_behind ≡ ends.line
@@ -99,7 +99,7 @@ pub record Tells (k : ErrorKind) (ends : Ends) (status : ℕ) : Type 0 where
   pub told : Reported text DONE ends.out ends.out_behind status
 
 -- A text was written beside the output, for a reason of another kind.
-pub record Complains (k : ErrorKind) (ends : Ends) (status : ℕ) : Type 0 where
+pub record Complains (k : ErrorKind) (ends : RunEnds) (status : ℕ) : Type 0 where
   pub no_help : IsHelp k → ⊥
   pub no_memory : k ≢ kind.OutOfMemory
   pub unread : HasNotRun ends
@@ -107,12 +107,12 @@ pub record Complains (k : ErrorKind) (ends : Ends) (status : ℕ) : Type 0 where
   pub told : Reported text WRONG_COMMAND ends.line ends.line_behind status
 
 -- what is answered for a reason of this kind
-abbrev pub Refuses : ErrorKind → Ends → ℕ → Type 0
+abbrev pub Refuses : ErrorKind → RunEnds → ℕ → Type 0
 Refuses k ends status = Tells k ends status ⊎ Complains k ends status ⊎ IsSilent ends status MEMORY
 
 -- Words without a fault get what they ask for. Others are answered for one of their faults, of which help is one.
 -- Memory may be refused for either.
-pub data Serves (words : List Text) (ends : Ends) (status : ℕ) : Type 0 where
+pub data Serves (words : List Text) (ends : RunEnds) (status : ℕ) : Type 0 where
   did : fault_of command_line words ≡ [] → Does (asked (subcommand_of command_line words)) ends status
       → Serves words ends status
   refused : (k : ErrorKind) → IsAmong k (fault_of command_line words) → Refuses k ends status → Serves words ends status

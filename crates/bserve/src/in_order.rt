@@ -1,7 +1,7 @@
 //! The streams of a process, kept in order: what was written is shown before more input is fetched, and before a line
 //! is written beside it.
 use crate::serving::{refuse_words, serve};
-use bparse::status::{self, Status};
+use blang::status::{self, Status};
 use bword::{Reading, Writing};
 use std::alloc::Global;
 use std::cell::RefCell;

@@ -2,17 +2,17 @@
 ghost use Rattle.std.specs.Prelude.{◌≡◌, ◌⊎◌, IfOk, map as map_each, option_map, string_bytes};
 ghost use Rattle.clap.specs.Words.{kind_of};
 ghost use Rattle.bword.specs.ByteEnds.{Incoming, Outgoing};
-ghost use Rattle.bparse.specs.declared.status.TheConstants.{DEVICE, MEMORY, WRONG_COMMAND};
-ghost use Rattle.brun.specs.Reports.{Reported};
+ghost use Rattle.blang.specs.declared.status.TheConstants.{DEVICE, MEMORY, WRONG_COMMAND};
+ghost use Rattle.blang.specs.Machine.{Reported};
 ghost use Rattle.bserve.specs.CommandLine.{check, go, list, map, run, shown};
 ghost use Rattle.bserve.specs.Serves.{Does, NamesFile, Refuses, Serves, no_file_line, unread_line};
 
 use crate::command::{Job, Subject, Target, job_of, parse};
 use crate::texts::{CONTRADICTION, UNREAD};
 use bcheck::{Request, check};
+use blang::status::{self, Status};
 use blist::{list, map};
 use bparse::compile_edition;
-use bparse::status::{self, Status};
 use brun::{go_edition, migrate, run_text};
 use bword::{ByteIn, ByteOut, Edition, Reading};
 use clap::Error;

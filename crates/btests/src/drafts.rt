@@ -1,8 +1,8 @@
-use bcode::Instr;
 use bemit::{
     Binding, Branch, CaseFault, CodeBuffer, DeclareFault, Declared, DefaultFault, EmitFault,
     MentionFault, Scope, Undefined,
 };
+use blang::Instr;
 use bword::Name;
 use std::test::Fail;
 

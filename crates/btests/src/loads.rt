@@ -1,6 +1,7 @@
 //! Code texts, loaded.
 use bcode::read_code;
-use bmach::{Image, LoadFault, load};
+use blang::LoadFault;
+use bmach::{Image, load};
 use bword::Name;
 use std::alloc::Global;
 use std::process::Abort;

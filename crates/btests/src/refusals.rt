@@ -3,7 +3,8 @@ ghost use Rattle.std.specs.Prelude.{true};
 ghost use Rattle.bword.specs.FlatStores.{words_of};
 
 use bcode::read_code;
-use bmach::{Outcome, load, run};
+use blang::Outcome;
+use bmach::{load, run};
 use bword::{FlatStore, MemIn, MemOut, NoMemory, Store};
 use std::test::Fail;
 

@@ -2,7 +2,8 @@
 use crate::devices::{Narrow, Script};
 use arrayvec::ArrayVec;
 use bcode::read_code;
-use bmach::{Outcome, load, run};
+use blang::Outcome;
+use bmach::{load, run};
 use bword::{ByteIn, ByteOut, FlatStore, MemIn, MemOut, Reading, Writing};
 use std::alloc::Global;
 use std::test::Fail;

@@ -1,12 +1,13 @@
 -- Readers of things with commas between them read on, are sound, and read a spelling again.
 use Rattle.std.proofs.Common.{◌≡◌, ℕ, List, [], ◌∷◌, ◌++◌, sym, ap, ◌∙◌, refl, subst, append_assoc, Some, None}
-use Rattle.blex.specs.declared.token.Token.{Token}
-use Rattle.blex.specs.declared.token.Token.TheVariants as token
-use Rattle.blex.specs.declared.token.Placed.{Placed}
-use Rattle.btree.specs.Lines.{mark, kept_tokens}
+use Rattle.blang.specs.declared.token.Token.{Token}
+use Rattle.blang.specs.declared.token.Token.TheVariants as token
+use Rattle.blang.specs.declared.token.Placed.{Placed}
+use Rattle.blang.specs.Trees.{mark, kept_tokens, comma_spelling, list_spelling}
 use Rattle.btree.specs.Reading.{Read, Got, Stop, Reader, ◌>>=◌, first, many}
 use Rattle.btree.specs.ExpressionReader.{comma, always}
-use Rattle.btree.specs.Commas.{comma_spelling, list_spelling, IsNonempty, EachBehind, comma_item, list_reader}
+use Rattle.blang.specs.WellFormed.{IsNonempty, EachBehind}
+use Rattle.btree.specs.Commas.{comma_item, list_reader}
 use Rattle.btree.proofs.Fine.{Fine, then_fine, map_fine, enters, Loop, opened_loop, many_none, many_some, many_start, many_fine}
 use Rattle.btree.proofs.ExpressionFine.{Closer, closing}
 use Rattle.btree.proofs.ExpressionSound.{Sound, sound_turns}

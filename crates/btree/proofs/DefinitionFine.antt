@@ -1,16 +1,14 @@
 -- The reader of definitions reads on from what it has, and can be ended from wherever it stops.
 use Rattle.std.proofs.Common.{◌≡◌, List, [], ◌∷◌, Bool, true, false, ap, ◌∙◌, refl, inl, inr}
-use Rattle.blex.specs.declared.token.Token.{Token}
-use Rattle.blex.specs.declared.token.Token.TheVariants as token
-use Rattle.blex.specs.declared.token.Placed.{Placed}
-use Rattle.btree.specs.Lines.{mark}
-use Rattle.btree.specs.Expression.{Word, Number, Character}
+use Rattle.blang.specs.declared.token.Token.{Token}
+use Rattle.blang.specs.declared.token.Token.TheVariants as token
+use Rattle.blang.specs.declared.token.Placed.{Placed}
+use Rattle.blang.specs.Trees.{mark, Word, Number, Character, Empty, Ival, Ival_constant, Ival_text, Ival_name, Definition, Simple, Vector, Function}
 use Rattle.btree.specs.Reading.{Got, ◌>>=◌, first, expect}
 use Rattle.btree.specs.ExpressionReader.{is_close_paren, is_close_bracket}
 use Rattle.btree.specs.Commas.{list_reader}
-use Rattle.btree.specs.Statement.{Empty}
 use Rattle.btree.specs.StatementReader.{is_semicolon, name, size, statement}
-use Rattle.btree.specs.Definition.{Ival, Ival_constant, Ival_text, Ival_name, Definition, Simple, Vector, Function, values_words, nesting_limit}
+use Rattle.blang.specs.WellFormed.{values_words, nesting_limit}
 use Rattle.btree.specs.DefinitionReader.{ival, valued, vector, function_body, function, behind_name_at, behind_name, definition}
 use Rattle.btree.proofs.Fine.{Near, Any, Fine, Start, bind_fine, shift, stuck, same, got_fine, map_fine, expect_then, expect_start, closed_fine}
 use Rattle.btree.proofs.ExpressionFine.{one}

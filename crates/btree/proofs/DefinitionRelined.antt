@@ -3,13 +3,12 @@ use Rattle.std.proofs.Common.{◌≡◌, ◌+◌, List, [], ◌∷◌, ◌++◌,
 use Rattle.std.specs.Prelude.{map}
 use Rattle.std.proofs.lemmas.List.Sums.{sum_by-append}
 use Rattle.std.proofs.Common.{arith}
-use Rattle.blex.specs.declared.token.Token.TheVariants as token
-use Rattle.blex.specs.declared.token.Placed.{Placed}
-use Rattle.btree.specs.Lines.{mark, placed, kept_tokens, bare, string_token}
-use Rattle.btree.specs.Expression.{Constant, Number, Character}
-use Rattle.btree.specs.Commas.{comma_spelling, list_spelling, EachBehind}
-use Rattle.btree.specs.Statement.{size_spelling, name_spelling, spell_statement}
-use Rattle.btree.specs.Definition.{Ival, Ival_constant, Ival_text, Ival_name, Definition, Simple, Vector, Function, ival_spelling, ival_words, spell_values, spell_definition, values_words, IvalFits, nesting_limit, IsFormed, is_open}
+use Rattle.blang.specs.declared.token.Token.TheVariants as token
+use Rattle.blang.specs.declared.token.Placed.{Placed}
+use Rattle.blang.specs.Trees.{mark, kept_tokens, bare, Constant, Number, Character, comma_spelling, list_spelling, size_spelling, name_spelling, spell_statement, Ival, Ival_constant, Ival_text, Ival_name, Definition, Simple, Vector, Function, ival_spelling, spell_values, spell_definition}
+use Rattle.blang.specs.Cut.{placed, string_token}
+use Rattle.blang.specs.WellFormed.{EachBehind, ival_words, values_words, IvalFits, nesting_limit, IsFormed}
+use Rattle.btree.specs.Definition.{is_open}
 use Rattle.btree.proofs.Relined.{cut_token, cut_append, nothing_kept, Items, list_twin}
 use Rattle.btree.proofs.StatementRelined.{name_twin, size_kept, StatementTwin, statement_twin}
 

@@ -1,16 +1,16 @@
 -- A definition that is read is spelled by the tokens that it took, and is well formed.
 use Rattle.std.proofs.Common.{◌≡◌, ℕ, List, [], ◌∷◌, ◌++◌, Bool, true, false, sym, ap, ◌∙◌, refl, subst, append_assoc, Option}
-use Rattle.blex.specs.declared.token.Token.{Token}
-use Rattle.blex.specs.declared.token.Token.TheVariants as token
-use Rattle.blex.specs.declared.token.Placed.{Placed}
-use Rattle.btree.specs.Lines.{mark, placed, kept, kept_tokens}
-use Rattle.btree.specs.Expression.{Word, name_token}
+use Rattle.blang.specs.declared.token.Token.{Token}
+use Rattle.blang.specs.declared.token.Token.TheVariants as token
+use Rattle.blang.specs.declared.token.Placed.{Placed}
+use Rattle.blang.specs.Trees.{mark, kept, kept_tokens, Word, name_token, list_spelling, Stmt, size_spelling, name_spelling, spell_statement, Ival, Definition, Simple, Vector, Function, ival_spelling, spell_values, spell_definition}
+use Rattle.blang.specs.Cut.{placed}
 use Rattle.btree.specs.Reading.{Read, Got, Stop, ◌>>=◌, first, expect}
 use Rattle.btree.specs.ExpressionReader.{is_close_paren, is_close_bracket}
-use Rattle.btree.specs.Commas.{list_spelling, IsNonempty, EachBehind, list_reader}
-use Rattle.btree.specs.Statement.{Stmt, size_spelling, name_spelling, spell_statement, Sits}
+use Rattle.blang.specs.WellFormed.{IsNonempty, EachBehind, Sits, values_words, IvalFits, nesting_limit, IsFormed}
+use Rattle.btree.specs.Commas.{list_reader}
 use Rattle.btree.specs.StatementReader.{is_semicolon, is_else, name, size, statement}
-use Rattle.btree.specs.Definition.{Ival, Definition, Simple, Vector, Function, ival_spelling, spell_values, spell_definition, values_words, IvalFits, nesting_limit, IsFormed, is_open}
+use Rattle.btree.specs.Definition.{is_open}
 use Rattle.btree.specs.DefinitionReader.{ival_at, ival, valued, vector, function_body, function, behind_name_at, behind_name, definition}
 use Rattle.btree.proofs.ExpressionSound.{Sound, by_first, only_paren}
 use Rattle.btree.proofs.StatementSound.{Spelled, statement_sound, name_sound, size_sound, expect_rule, only_semicolon}

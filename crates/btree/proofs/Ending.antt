@@ -1,14 +1,11 @@
 -- A spelling that is cut anywhere can be ended, by the tree up to there and the shortest parts behind it.
 use Rattle.std.proofs.Common.{◌≡◌, ℕ, suc, ◌+◌, ◌-◌, ◌≤◌, false, List, [], ◌∷◌, ◌++◌, map, sym, ap, ◌∙◌, refl, subst, append_assoc, arith, Option, Some, None}
-use Rattle.blex.specs.declared.token.Keyword.TheVariants as keyword
-use Rattle.blex.specs.declared.token.Token.TheVariants as token
-use Rattle.blex.specs.declared.token.Placed.{Placed}
-use Rattle.btree.specs.Lines.{mark, placed}
-use Rattle.btree.specs.Expression.{Expr, Arguments, Number, Named, Literal, Text, Grouped, Indexed, Called, Postfixed, Prefixed, Binary, Conditional, Assigned, No_arguments, Another, name_token, prefix_token, postfix_token, spell, spell_arguments, words, argument_words, rank, or_rank, conditional_rank, rvalue_rank, Fits, ArgumentsFit}
-use Rattle.btree.specs.Commas.{list_spelling}
-use Rattle.btree.specs.Statement.{Stmt, Headed, Compound, If, IfElse, While, Switch, Goto, Break, Return, ReturnValue, Evaluate, Empty, Stmts, Nothing, More, is_open, keyword_mark, name_spelling, spell_heading, spell_condition, spell_statement, spell_body, statement_words, body_words, Sits, AllSit}
-use Rattle.btree.specs.Definition.{Definition, Simple, Vector, Function, spell_definition}
-use Rattle.btree.specs.Program.{spell_all}
+use Rattle.blang.specs.declared.token.Keyword.TheVariants as keyword
+use Rattle.blang.specs.declared.token.Token.TheVariants as token
+use Rattle.blang.specs.declared.token.Placed.{Placed}
+use Rattle.blang.specs.Trees.{mark, Expr, Arguments, Number, Named, Literal, Text, Grouped, Indexed, Called, Postfixed, Prefixed, Binary, Conditional, Assigned, No_arguments, Another, name_token, prefix_token, postfix_token, spell, spell_arguments, list_spelling, Stmt, Headed, Compound, If, IfElse, While, Switch, Goto, Break, Return, ReturnValue, Evaluate, Empty, Stmts, Nothing, More, keyword_mark, name_spelling, spell_heading, spell_condition, spell_statement, spell_body, Definition, Simple, Vector, Function, spell_definition, spell_all}
+use Rattle.blang.specs.Cut.{placed}
+use Rattle.blang.specs.WellFormed.{words, argument_words, rank, or_rank, conditional_rank, rvalue_rank, Fits, ArgumentsFit, is_open, statement_words, body_words, Sits, AllSit}
 use Rattle.btree.specs.Levels.{Leveled, on, tokens, levels, argument_levels, condition_levels, statement_levels, body_levels, definition_levels, program_levels, IsFormedIn, AllFormedIn, NoneAbove, CanBeEnded}
 use Rattle.btree.proofs.CommaLaws.{append-nil}
 use Rattle.btree.proofs.ExpressionSound.{looser}

@@ -4,11 +4,13 @@ use Rattle.std.specs.Prelude.{nat_eq, if◌then◌else◌}
 use Rattle.std.proofs.lemmas.Bool.{eqb-true, eq-eqb}
 use Rattle.bword.specs.declared.operators.BinOp.{BinOp}
 use Rattle.bword.specs.declared.operators.BinOp.TheVariants as op
-use Rattle.blex.specs.declared.token.Token.{Token}
-use Rattle.blex.specs.declared.token.Token.TheVariants as token
-use Rattle.blex.specs.declared.token.Placed.{Placed}
-use Rattle.btree.specs.Lines.{mark, placed}
-use Rattle.btree.specs.Expression.{Word, Constant, Number, Character, Expr, Arguments, PrefixOp, Negate, Not, Indirection, Address, PreIncrement, PreDecrement, PostfixOp, PostIncrement, PostDecrement, Named, Literal, Text, Grouped, Indexed, Called, Postfixed, Prefixed, Binary, Conditional, Assigned, No_arguments, Another, prefix_token, postfix_token, spell, spell_arguments, words, argument_words, rank, or_rank, conditional_rank, rvalue_rank, IsPostfix, Deeper, Fits, ArgumentsFit, is_operand}
+use Rattle.blang.specs.declared.token.Token.{Token}
+use Rattle.blang.specs.declared.token.Token.TheVariants as token
+use Rattle.blang.specs.declared.token.Placed.{Placed}
+use Rattle.blang.specs.Trees.{mark, Word, Constant, Number, Character, Expr, Arguments, PrefixOp, Negate, Not, Indirection, Address, PreIncrement, PreDecrement, PostfixOp, PostIncrement, PostDecrement, Named, Literal, Text, Grouped, Indexed, Called, Postfixed, Prefixed, Binary, Conditional, Assigned, No_arguments, Another, prefix_token, postfix_token, spell, spell_arguments}
+use Rattle.blang.specs.Cut.{placed}
+use Rattle.blang.specs.WellFormed.{words, argument_words, rank, or_rank, conditional_rank, rvalue_rank, IsPostfix, Deeper, Fits, ArgumentsFit}
+use Rattle.btree.specs.Expression.{is_operand}
 use Rattle.btree.specs.Reading.{Got, Reader, ◌>>=◌, first, expect, many}
 use Rattle.btree.specs.ExpressionReader.{is_close_paren, is_close_bracket, is_question, is_colon, prefix_op, having_rank, op_at, Suffix, Index, Call, Step, suffix, comma, always, Choice, Rvalue, another, arguments, postfix_with, postfix, operand, operation, chain, conditional, assigns, rvalue_from, inner, reader}
 use Rattle.btree.proofs.Fine.{Loop, many_none, many_some}

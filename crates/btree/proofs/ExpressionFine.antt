@@ -1,11 +1,11 @@
 -- Each reader of expressions reads on from what it has, and can be ended from wherever it stops.
 use Rattle.std.proofs.Common.{◌≡◌, ℕ, zero, suc, ◌+◌, List, [], ◌∷◌, Bool, true, false, sym, ap, ◌∙◌, refl, inl, inr, Option, Some, None}
 use Rattle.bword.specs.declared.operators.BinOp.{BinOp}
-use Rattle.blex.specs.declared.token.Token.{Token}
-use Rattle.blex.specs.declared.token.Token.TheVariants as token
-use Rattle.blex.specs.declared.token.Placed.{Placed}
-use Rattle.btree.specs.Lines.{mark}
-use Rattle.btree.specs.Expression.{Word, name_token, Expr, Arguments, PrefixOp, Number, Character, Named, Literal, Text, Grouped, Indexed, Called, Postfixed, Prefixed, Binary, Conditional, Assigned, No_arguments, Another, words, argument_words, or_rank}
+use Rattle.blang.specs.declared.token.Token.{Token}
+use Rattle.blang.specs.declared.token.Token.TheVariants as token
+use Rattle.blang.specs.declared.token.Placed.{Placed}
+use Rattle.blang.specs.Trees.{mark, Word, name_token, Expr, Arguments, PrefixOp, Number, Character, Named, Literal, Text, Grouped, Indexed, Called, Postfixed, Prefixed, Binary, Conditional, Assigned, No_arguments, Another}
+use Rattle.blang.specs.WellFormed.{words, argument_words, or_rank}
 use Rattle.btree.specs.Reading.{Got, Stop, Reader, ◌>>=◌, first, line_of, expect, many}
 use Rattle.btree.specs.ExpressionReader.{is_close_paren, is_close_bracket, is_question, is_colon, prefix_op, op_at, Suffix, Index, Call, Step, suffix, comma, always, Kind, Operand, Choice, Rvalue, Inner, group, primary, another, arguments, call, postfix_with, postfix, prefixed, operand, operation, chain, choices, conditional, assigns, assigned, rvalue_from, read_at, inner, reader}
 use Rattle.btree.proofs.Fine.{Near, Any, Fine, Closing, Start, startable, then_fine, shift, idle, stuck, same, same_eats, got_fine, map_fine, expect_then, expect_start, closed_fine, closed_eats, Opened, stops, enters, opened_fine, Loop, opened_loop, many_none, many_start, many_fine}

@@ -2,10 +2,11 @@
 use Rattle.std.proofs.Common.{◌≡◌, ℕ, zero, suc, ◌+◌, ◌-◌, List, [], ◌∷◌, ◌++◌, sym, ap, refl, subst, Option}
 use Rattle.std.specs.Prelude.{map}
 use Rattle.bword.specs.declared.operators.BinOp.{BinOp}
-use Rattle.blex.specs.declared.token.Token.TheVariants as token
-use Rattle.blex.specs.declared.token.Placed.{Placed}
-use Rattle.btree.specs.Lines.{mark, placed, kept, kept_tokens, bare, string_token}
-use Rattle.btree.specs.Expression.{Word, Constant, Number, Character, Expr, Arguments, PrefixOp, PostfixOp, PostIncrement, PostDecrement, Named, Literal, Text, Grouped, Indexed, Called, Postfixed, Prefixed, Binary, Conditional, Assigned, No_arguments, Another, prefix_token, postfix_token, comma_behind, spell, spell_arguments, words, argument_words, rank, or_rank, conditional_rank, rvalue_rank, IsPostfix, Deeper, Fits, ArgumentsFit}
+use Rattle.blang.specs.declared.token.Token.TheVariants as token
+use Rattle.blang.specs.declared.token.Placed.{Placed}
+use Rattle.blang.specs.Trees.{mark, kept, kept_tokens, bare, Word, Constant, Number, Character, Expr, Arguments, PrefixOp, PostfixOp, PostIncrement, PostDecrement, Named, Literal, Text, Grouped, Indexed, Called, Postfixed, Prefixed, Binary, Conditional, Assigned, No_arguments, Another, prefix_token, postfix_token, comma_behind, spell, spell_arguments}
+use Rattle.blang.specs.Cut.{placed, string_token}
+use Rattle.blang.specs.WellFormed.{words, argument_words, rank, or_rank, conditional_rank, rvalue_rank, IsPostfix, Deeper, Fits, ArgumentsFit}
 use Rattle.btree.proofs.ExpressionSound.{prefix_kept}
 use Rattle.btree.proofs.Relined.{cut_token, cut_append, nothing_kept}
 

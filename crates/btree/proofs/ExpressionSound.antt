@@ -4,11 +4,13 @@ use Rattle.std.specs.Prelude.{nat_eq, if◌then◌else◌}
 use Rattle.std.proofs.lemmas.Bool.{eqb-true}
 use Rattle.bword.specs.declared.operators.BinOp.{BinOp}
 use Rattle.bword.specs.declared.operators.BinOp.TheVariants as op
-use Rattle.blex.specs.declared.token.Token.{Token}
-use Rattle.blex.specs.declared.token.Token.TheVariants as token
-use Rattle.blex.specs.declared.token.Placed.{Placed}
-use Rattle.btree.specs.Lines.{mark, placed, kept, kept_tokens}
-use Rattle.btree.specs.Expression.{Expr, Arguments, PrefixOp, Negate, Not, Indirection, Address, PreIncrement, PreDecrement, PostIncrement, PostDecrement, Named, Literal, Text, Grouped, Indexed, Called, Postfixed, Prefixed, Binary, Conditional, Assigned, No_arguments, Another, prefix_token, comma_behind, spell, spell_arguments, words, argument_words, rank, or_rank, conditional_rank, rvalue_rank, IsPostfix, Deeper, Fits, ArgumentsFit, is_operand}
+use Rattle.blang.specs.declared.token.Token.{Token}
+use Rattle.blang.specs.declared.token.Token.TheVariants as token
+use Rattle.blang.specs.declared.token.Placed.{Placed}
+use Rattle.blang.specs.Trees.{mark, kept, kept_tokens, Expr, Arguments, PrefixOp, Negate, Not, Indirection, Address, PreIncrement, PreDecrement, PostIncrement, PostDecrement, Named, Literal, Text, Grouped, Indexed, Called, Postfixed, Prefixed, Binary, Conditional, Assigned, No_arguments, Another, prefix_token, comma_behind, spell, spell_arguments}
+use Rattle.blang.specs.Cut.{placed}
+use Rattle.blang.specs.WellFormed.{words, argument_words, rank, or_rank, conditional_rank, rvalue_rank, IsPostfix, Deeper, Fits, ArgumentsFit}
+use Rattle.btree.specs.Expression.{is_operand}
 use Rattle.btree.specs.Reading.{Read, Got, Stop, Reader, ◌>>=◌, first, expect, turns, many}
 use Rattle.btree.specs.ExpressionReader.{is_close_paren, is_close_bracket, is_colon, prefix_op, having_rank, op_at, Suffix, Index, Call, Step, suffix, comma, always, Kind, Operand, Choice, Rvalue, Inner, primary, another, arguments, call, postfix_with, postfix, prefixed, operand, operation, chain, choices, conditional, assigns, assigned, rvalue_from, read_at, inner, reader}
 

@@ -1,9 +1,9 @@
 -- What a reader does depends on what it takes and one token more, and what stopped it can be ended otherwise.
 use Rattle.std.proofs.Common.{◌≡◌, ℕ, zero, suc, ◌<◌, ◌≤◌, List, [], ◌∷◌, ◌++◌, length, Bool, true, false, sym, ap, ◌∙◌, refl, subst, append_assoc, length-append, inl, inr, Option, Some, None, arith}
-use Rattle.blex.specs.declared.token.Token.{Token}
-use Rattle.blex.specs.declared.token.Token.TheVariants as token
-use Rattle.blex.specs.declared.token.Placed.{Placed}
-use Rattle.btree.specs.Lines.{mark}
+use Rattle.blang.specs.declared.token.Token.{Token}
+use Rattle.blang.specs.declared.token.Token.TheVariants as token
+use Rattle.blang.specs.declared.token.Placed.{Placed}
+use Rattle.blang.specs.Trees.{mark}
 pub use Rattle.btree.specs.ReadingOn.{Near, Fine, goes, halts}
 use Rattle.btree.specs.Reading.{Read, Got, Stop, Reader, ◌>>=◌, first, expect, turns, many}
 

@@ -2,22 +2,20 @@
 use Rattle.std.proofs.Common.{◌≡◌, ℕ, zero, suc, ◌<◌, ◌≤◌, Bool, true, false, List, [], ◌∷◌, ◌++◌, map, length, sym, ap, ◌∙◌, refl, subst, length-append, ◌⊎◌, inl, inr, arith}
 use Rattle.std.proofs.lemmas.List.{length-map}
 use Rattle.std.specs.Prelude.{Option, Some, None, take, drop, if◌then◌else◌}
-use Rattle.blex.specs.declared.token.Token.{Token}
-use Rattle.blex.specs.declared.token.Token.TheVariants as token
-use Rattle.blex.specs.declared.token.Placed.{Placed}
-use Rattle.blex.specs.declared.diagnostic.Diagnostic.{Diagnostic}
-use Rattle.blex.specs.Pieces.{Piece, Space, Word, whole}
+use Rattle.blang.specs.declared.token.Token.{Token}
+use Rattle.blang.specs.declared.token.Token.TheVariants as token
+use Rattle.blang.specs.declared.token.Placed.{Placed}
+use Rattle.blang.specs.declared.token.Diagnostic.{Diagnostic}
+use Rattle.blang.specs.Cut.{Piece, Space, Word, whole, placed, is_last, piece_first, cut, tokens_from, line_after, longest}
 use Rattle.bword.specs.declared.edition.Edition.{Edition}
-use Rattle.blex.specs.Tokens.{placed, is_last, piece_first, cut, tokens_from, line_after, longest}
-use Rattle.btree.specs.Lines.{kept, bare}
+use Rattle.blang.specs.Trees.{kept, bare, Definition, spell_definition}
 use Rattle.btree.specs.Reading.{Got, Stop}
 use Rattle.btree.specs.ReadingOn.{Fine, goes, halts, Closer}
-use Rattle.btree.specs.Definition.{Definition, spell_definition}
 use Rattle.btree.specs.DefinitionReader.{definition}
-use Rattle.btree.specs.Scan.{word_of}
-use Rattle.btree.specs.Code.{fault_of}
-use Rattle.btree.specs.Program.{Parted, fault_at}
-use Rattle.btree.specs.Compiled.{Defined, Outcome, outcome_of, outcome_with, text_of, Goes}
+use Rattle.blang.specs.Scan.{word_of}
+use Rattle.blang.specs.Code.{fault_of}
+use Rattle.blang.specs.WellFormed.{Parted, fault_at}
+use Rattle.blang.specs.Compiles.{Defined, Outcome, outcome_of, outcome_with, text_of, Goes}
 use Rattle.btree.specs.Laws.{EachSourceComes, OutcomesAreEqual}
 use Rattle.btree.proofs.CommaLaws.{append-nil}
 use Rattle.btree.proofs.GoingOn.{GoOn, definition_goes_on}

@@ -2,19 +2,18 @@
 use Rattle.std.proofs.Common.{◌≡◌, List, [], ◌∷◌, ◌++◌, map, sym, ap, ◌∙◌, refl, subst, inl}
 use Rattle.std.proofs.lemmas.List.{map-append}
 use Rattle.std.specs.Prelude.{Some, None}
-use Rattle.blex.specs.declared.token.Token.TheVariants as token
-use Rattle.blex.specs.declared.token.Placed.{Placed}
-use Rattle.blex.specs.declared.diagnostic.Diagnostic.{Diagnostic}
-use Rattle.btree.specs.Lines.{kept}
+use Rattle.blang.specs.declared.token.Token.TheVariants as token
+use Rattle.blang.specs.declared.token.Placed.{Placed}
+use Rattle.blang.specs.declared.token.Diagnostic.{Diagnostic}
+use Rattle.blang.specs.Trees.{kept, Definition, spell_definition}
 use Rattle.btree.specs.Reading.{Got, Stop}
 use Rattle.btree.specs.ReadingOn.{Fine, goes, halts, Closer}
-use Rattle.btree.specs.Definition.{Definition, spell_definition}
 use Rattle.btree.specs.DefinitionReader.{definition}
-use Rattle.btree.specs.Scan.{word_of}
-use Rattle.btree.specs.Code.{fault_of}
-use Rattle.btree.specs.Program.{fault_at}
+use Rattle.blang.specs.Scan.{word_of}
+use Rattle.blang.specs.Code.{fault_of}
+use Rattle.blang.specs.WellFormed.{fault_at}
 use Rattle.btree.specs.Unread.{kept_read}
-use Rattle.btree.specs.Compiled.{Defined, Outcome, text_of, Goes}
+use Rattle.blang.specs.Compiles.{Defined, Outcome, text_of, Goes}
 use Rattle.btree.proofs.LawProofs.{reads_on}
 use Rattle.btree.proofs.GoingOn.{GoOn, definition_goes_on}
 use Rattle.btree.proofs.ProgramLaws.{read_there}

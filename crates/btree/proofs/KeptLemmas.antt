@@ -1,8 +1,8 @@
 -- Tokens with what trees keep of them, and lists that are split.
 use Rattle.std.proofs.Common.{◌≡◌, Bool, true, false, List, [], ◌∷◌, ◌++◌, map, ap, ◌∙◌, refl, sym, if◌then◌else◌}
-use Rattle.blex.specs.declared.token.Token.{Token}
-use Rattle.blex.specs.declared.token.Placed.{Placed}
-use Rattle.btree.specs.Lines.{mark, kept, kept_tokens, bare, keeps_line}
+use Rattle.blang.specs.declared.token.Token.{Token}
+use Rattle.blang.specs.declared.token.Placed.{Placed}
+use Rattle.blang.specs.Trees.{mark, kept, kept_tokens, bare, keeps_line}
 
 bare_if : (b : Bool) (p : Placed) → bare (if b then p else mark p.token) ≡ bare p
 bare_if true p = refl

@@ -1,15 +1,13 @@
 -- The laws of reading a definition, from those of its readers.
 use Rattle.std.proofs.Common.{◌≡◌, List, [], ◌∷◌, ◌++◌, sym, ap, ◌∙◌, refl, subst, inl}
-use Rattle.blex.specs.declared.token.Token.TheVariants as token
-use Rattle.blex.specs.declared.token.Placed.{Placed}
-use Rattle.btree.specs.Lines.{kept_tokens}
-use Rattle.btree.specs.Expression.{spell, rvalue_rank, Fits}
+use Rattle.blang.specs.declared.token.Token.TheVariants as token
+use Rattle.blang.specs.declared.token.Placed.{Placed}
+use Rattle.blang.specs.Trees.{kept_tokens, spell, spell_statement, Definition, Simple, Vector, Function, spell_definition}
+use Rattle.blang.specs.WellFormed.{rvalue_rank, Fits, Sits}
 use Rattle.btree.specs.Reading.{Got, Stop}
 use Rattle.btree.specs.ReadingOn.{Fine, goes, halts, Closer}
 use Rattle.btree.specs.ExpressionReader.{Rvalue, reader}
-use Rattle.btree.specs.Statement.{spell_statement, Sits}
 use Rattle.btree.specs.StatementReader.{statement}
-use Rattle.btree.specs.Definition.{Definition, Simple, Vector, Function, spell_definition}
 use Rattle.btree.specs.DefinitionReader.{definition}
 use Rattle.btree.specs.Laws.{ReadsSpelling, DefinitionRead, StatementRead, ExpressionRead, ReadsAgain, GoesOnWithElse, HasTwin, ReadsOn, BeginsWithName, OneExpression, OneStatement, OneDefinition}
 use Rattle.btree.proofs.KeptLemmas.{kept-twice}

@@ -3,15 +3,16 @@ use Rattle.std.proofs.Common.{◌≡◌, ℕ, List, [], ◌∷◌, ◌++◌, ◌
 use Rattle.std.proofs.lemmas.List.Folds.{list_any-append}
 use Rattle.std.specs.Prelude.{◌||◌}
 use Rattle.std.specs.List.{list_any}
-use Rattle.blex.specs.declared.token.Letters.TheVariants as letters
-use Rattle.blex.specs.declared.token.Placed.{Placed}
-use Rattle.blex.specs.declared.diagnostic.Diagnostic.{Diagnostic}
-use Rattle.btree.specs.Compiled.{AreNames, Defined, Goes, Outcome, has, outcome_of, outcome_with, text_of}
+use Rattle.blang.specs.declared.token.Letters.TheVariants as letters
+use Rattle.blang.specs.declared.token.Placed.{Placed}
+use Rattle.blang.specs.declared.token.Diagnostic.{Diagnostic}
+use Rattle.btree.specs.Compiled.{AreNames, has}
+use Rattle.blang.specs.Compiles.{Defined, Goes, Outcome, outcome_of, outcome_with, text_of}
 use Rattle.btree.specs.Laws.{ByMembership}
-use Rattle.btree.specs.Code.{code_of, fault_behind, fault_of}
-use Rattle.btree.specs.Definition.{Definition}
-use Rattle.btree.specs.Scan.{inner_fault, word_of}
-use Rattle.btree.specs.Scope.{name_fault, same_name}
+use Rattle.blang.specs.Code.{code_of, fault_behind, fault_of}
+use Rattle.blang.specs.Trees.{Definition}
+use Rattle.blang.specs.Scan.{inner_fault, word_of, name_fault}
+use Rattle.bword.specs.Words.{same_name}
 
 -- a name more
 pub has-push : (x y : List ℕ) (names : Defined) → has x (names ++ y ∷ []) ≡ (has x names || has x (y ∷ []))

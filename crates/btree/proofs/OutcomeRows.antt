@@ -1,13 +1,11 @@
 -- What comes of some sources, step by step.
 use Rattle.std.proofs.Common.{[], ◌∷◌, ◌++◌, refl}
-use Rattle.blex.specs.declared.token.Token.TheVariants as token
-use Rattle.blex.specs.declared.token.Keyword.TheVariants as keyword
-use Rattle.blex.specs.declared.token.Letters.TheVariants as letters
-use Rattle.btree.specs.Lines.{mark, placed}
-use Rattle.btree.specs.Expression.{Word, Literal, Number}
-use Rattle.btree.specs.Statement.{If, IfElse, Empty, keyword_mark}
-use Rattle.btree.specs.Definition.{Simple}
-use Rattle.btree.specs.Scope.{name_fault}
+use Rattle.blang.specs.declared.token.Token.TheVariants as token
+use Rattle.blang.specs.declared.token.Keyword.TheVariants as keyword
+use Rattle.blang.specs.declared.token.Letters.TheVariants as letters
+use Rattle.blang.specs.Trees.{mark, Word, Literal, Number, If, IfElse, Empty, keyword_mark, Simple}
+use Rattle.blang.specs.Cut.{placed}
+use Rattle.blang.specs.Scan.{name_fault}
 use Rattle.btree.specs.Rows.{name, word, assign, function, body}
 use Rattle.btree.specs.CodeRows.{number, semicolon}
 use Rattle.btree.specs.OutcomeRows.{OutcomeRows, open_function, else_empty, last}

@@ -2,16 +2,15 @@
 use Rattle.std.proofs.Common.{◌≡◌, ◌≤◌, true, List, [], ◌∷◌, ◌++◌, map, length, sym, ap, ◌∙◌, refl, subst, append_assoc, ◌⊎◌, inl, inr, arith}
 use Rattle.std.proofs.lemmas.List.{append_cancel_right}
 use Rattle.std.specs.Prelude.{Option, Some, None}
-use Rattle.blex.specs.declared.token.Token.{Token}
-use Rattle.blex.specs.declared.token.Token.TheVariants as token
-use Rattle.blex.specs.declared.token.Placed.{Placed}
-use Rattle.blex.specs.declared.diagnostic.Diagnostic.{Diagnostic}
-use Rattle.blex.specs.Tokens.{is_last}
-use Rattle.btree.specs.Lines.{mark, kept, bare}
+use Rattle.blang.specs.declared.token.Token.{Token}
+use Rattle.blang.specs.declared.token.Token.TheVariants as token
+use Rattle.blang.specs.declared.token.Placed.{Placed}
+use Rattle.blang.specs.declared.token.Diagnostic.{Diagnostic}
+use Rattle.blang.specs.Cut.{is_last}
+use Rattle.blang.specs.Trees.{mark, kept, bare, Definition, spell_definition, spell_all}
 use Rattle.btree.specs.Reading.{Got, first}
-use Rattle.btree.specs.Definition.{Definition, spell_definition, IsFormed}
+use Rattle.blang.specs.WellFormed.{IsFormed, AllFormed, IsProgram, Begins, IsViable, StopsAt, Parts, Parted}
 use Rattle.btree.specs.DefinitionReader.{definition}
-use Rattle.btree.specs.Program.{spell_all, AllFormed, IsProgram, Begins, IsViable, StopsAt, Parts, Parted}
 use Rattle.btree.proofs.Relined.{kept-append}
 use Rattle.btree.proofs.GoingOn.{GoOn}
 use Rattle.btree.proofs.KeptLemmas.{bare-kept, map_bare-kept, map_bare-mark, split_map, Order, together, sooner, later, order}

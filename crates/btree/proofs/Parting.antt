@@ -2,15 +2,13 @@
 use Rattle.std.proofs.Common.{◌≡◌, ◌≤◌, List, [], ◌∷◌, ◌++◌, map, length, sym, ap, ◌∙◌, refl, subst, append_assoc, ◌⊎◌, inl, inr, arith}
 use Rattle.std.proofs.lemmas.List.{append_cancel_right}
 use Rattle.std.specs.Prelude.{Some, None}
-use Rattle.blex.specs.declared.token.Token.TheVariants as token
-use Rattle.blex.specs.declared.token.Placed.{Placed}
-use Rattle.btree.specs.Lines.{mark, kept, kept_tokens, bare}
-use Rattle.btree.specs.Expression.{name_token}
+use Rattle.blang.specs.declared.token.Token.TheVariants as token
+use Rattle.blang.specs.declared.token.Placed.{Placed}
+use Rattle.blang.specs.Trees.{mark, kept, kept_tokens, bare, name_token, Definition, spell_definition, spell_all}
 use Rattle.btree.specs.Reading.{Got, Stop, first}
 use Rattle.btree.specs.ReadingOn.{Fine, goes, halts, Closer}
-use Rattle.btree.specs.Definition.{Definition, spell_definition, IsFormed}
+use Rattle.blang.specs.WellFormed.{IsFormed, AllFormed, IsProgram, Begins, IsViable, StopsAt, IsPart, Parts, Parted, fault_at}
 use Rattle.btree.specs.DefinitionReader.{definition}
-use Rattle.btree.specs.Program.{spell_all, AllFormed, IsProgram, Begins, IsViable, StopsAt, IsPart, Parts, Parted, fault_at}
 use Rattle.btree.proofs.CommaLaws.{append-nil}
 use Rattle.btree.proofs.Relined.{kept-append}
 use Rattle.btree.proofs.KeptLemmas.{bare-kept, map_bare-kept, map_bare-mark, kept-twice}

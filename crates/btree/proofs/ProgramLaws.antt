@@ -2,20 +2,18 @@
 use Rattle.std.proofs.Common.{◌≡◌, Bool, true, false, List, [], ◌∷◌, ◌++◌, map, sym, ap, ◌∙◌, refl, subst, append_assoc, ◌⊎◌, inl, inr}
 use Rattle.std.proofs.lemmas.List.{map-append, append_cancel_right}
 use Rattle.std.specs.Prelude.{Option, Some, None}
-use Rattle.blex.specs.declared.token.Keyword.TheVariants as keyword
-use Rattle.blex.specs.declared.token.Token.{Token}
-use Rattle.blex.specs.declared.token.Token.TheVariants as token
-use Rattle.blex.specs.declared.token.Placed.{Placed}
-use Rattle.blex.specs.declared.diagnostic.Diagnostic.{Diagnostic}
-use Rattle.blex.specs.Tokens.{is_last}
-use Rattle.btree.specs.Lines.{mark, kept, bare}
-use Rattle.btree.specs.Expression.{name_token}
+use Rattle.blang.specs.declared.token.Keyword.TheVariants as keyword
+use Rattle.blang.specs.declared.token.Token.{Token}
+use Rattle.blang.specs.declared.token.Token.TheVariants as token
+use Rattle.blang.specs.declared.token.Placed.{Placed}
+use Rattle.blang.specs.declared.token.Diagnostic.{Diagnostic}
+use Rattle.blang.specs.Cut.{is_last}
+use Rattle.blang.specs.Trees.{mark, kept, bare, name_token, keyword_mark, Definition, spell_definition, spell_all}
 use Rattle.btree.specs.Reading.{Got, first}
-use Rattle.btree.specs.Statement.{keyword_mark}
 use Rattle.btree.specs.StatementReader.{is_else}
-use Rattle.btree.specs.Definition.{Definition, spell_definition, IsFormed, is_open}
+use Rattle.blang.specs.WellFormed.{IsFormed, AllFormed, IsProgram, Begins, IsViable, StopsAt, IsPart}
+use Rattle.btree.specs.Definition.{is_open}
 use Rattle.btree.specs.DefinitionReader.{definition}
-use Rattle.btree.specs.Program.{spell_all, AllFormed, IsProgram, Begins, IsViable, StopsAt, IsPart}
 use Rattle.btree.proofs.CommaLaws.{append-nil}
 use Rattle.btree.proofs.Relined.{kept-append}
 use Rattle.btree.proofs.GoingOn.{GoOn, GoOn-append, definition_goes_on}

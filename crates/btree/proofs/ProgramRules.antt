@@ -1,11 +1,10 @@
 -- Programs stand for tokens in one way, and have one way of parts.
 use Rattle.std.proofs.Common.{◌≡◌, List, [], ◌∷◌, ◌++◌, map, length, sym, ap, ◌∙◌, refl, arith}
-use Rattle.blex.specs.Tokens.{tokens_from}
-use Rattle.btree.specs.Lines.{bare}
+use Rattle.blang.specs.Cut.{tokens_from}
+use Rattle.blang.specs.Trees.{bare, Definition, Simple, Vector, Function, spell_definition, spell_all}
 use Rattle.btree.specs.Reading.{Got}
-use Rattle.btree.specs.Definition.{Definition, Simple, Vector, Function, spell_definition, nesting_limit}
+use Rattle.blang.specs.WellFormed.{nesting_limit, AllFormed}
 use Rattle.btree.specs.DefinitionReader.{definition}
-use Rattle.btree.specs.Program.{spell_all, AllFormed}
 use Rattle.btree.specs.Levels.{AllFormedIn}
 use Rattle.btree.specs.ProgramRules.{OneProgram, FormedWithin, HasParts, OneWay}
 use Rattle.btree.proofs.KeptLemmas.{Order, together, sooner, later, order}

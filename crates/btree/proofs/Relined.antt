@@ -1,11 +1,12 @@
 -- A tree whose bare spelling is that of some placed tokens has a twin with the lines of those tokens.
 use Rattle.std.proofs.Common.{◌≡◌, ℕ, List, [], ◌∷◌, ◌++◌, sym, ap, refl}
 use Rattle.std.specs.Prelude.{map}
-use Rattle.blex.specs.declared.token.Token.{Token}
-use Rattle.blex.specs.declared.token.Placed.{Placed}
-use Rattle.blex.specs.declared.token.Token.TheVariants as token
-use Rattle.btree.specs.Lines.{mark, placed, kept, kept_tokens, bare}
-use Rattle.btree.specs.Commas.{comma_spelling, list_spelling, IsNonempty}
+use Rattle.blang.specs.declared.token.Token.{Token}
+use Rattle.blang.specs.declared.token.Placed.{Placed}
+use Rattle.blang.specs.declared.token.Token.TheVariants as token
+use Rattle.blang.specs.Trees.{mark, kept, kept_tokens, bare, comma_spelling, list_spelling}
+use Rattle.blang.specs.Cut.{placed}
+use Rattle.blang.specs.WellFormed.{IsNonempty}
 
 pub kept-append : (a b : List Placed) → kept_tokens (a ++ b) ≡ kept_tokens a ++ kept_tokens b
 kept-append [] b = refl

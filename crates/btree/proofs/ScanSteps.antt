@@ -5,10 +5,10 @@ use Rattle.std.specs.List.{list_any}
 use Rattle.std.specs.Option.{option_or}
 use Rattle.std.specs.Cmp.Lexicographic.{nat_list_eq_equiv}
 use Rattle.std.proofs.lemmas.Bool.Decides.{nat_tests}
-use Rattle.blex.specs.declared.diagnostic.Diagnostic.{Diagnostic}
-use Rattle.btree.specs.Expression.{Word, Expr}
-use Rattle.btree.specs.Scope.{Kind, Automatic, External, Unlabelled, Labelled, Entry, most_names, kind_of, same_name, entered, declared, kind_mentioned, mentioned, with_kind, labelled}
-use Rattle.btree.specs.Scan.{Event, Declaration, Import, Mention, LabelHere, CaseHere, DefaultHere, BreakHere, Lvalue, Scope, words_of, Around, most_cases, is_lvalue, with_names, selected, defaulted, can_break, step, scanned}
+use Rattle.blang.specs.declared.token.Diagnostic.{Diagnostic}
+use Rattle.blang.specs.Trees.{Word, Expr}
+use Rattle.blang.specs.Scan.{Kind, Automatic, External, Unlabelled, Labelled, Entry, most_names, kind_of, entered, declared, kind_mentioned, mentioned, with_kind, labelled, Event, Declaration, Import, Mention, LabelHere, CaseHere, DefaultHere, BreakHere, Lvalue, Scope, words_of, Around, most_cases, is_lvalue, with_names, selected, defaulted, can_break, step, scanned}
+use Rattle.bword.specs.Words.{same_name}
 use Rattle.btree.proofs.ScopeLaws.{kind_of-push}
 
 -- What becomes of a table.

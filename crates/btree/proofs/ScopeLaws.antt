@@ -3,7 +3,8 @@ use Rattle.std.proofs.Common.{◌≡◌, ℕ, suc, List, [], ◌∷◌, ◌++◌
 use Rattle.std.specs.Prelude.{if◌then◌else◌}
 use Rattle.std.specs.Option.{option_or}
 use Rattle.std.specs.Cmp.Lexicographic.{nat_list_eq_equiv}
-use Rattle.btree.specs.Scope.{Entry, Kind, same_name, kind_of, with_kind}
+use Rattle.blang.specs.Scan.{Entry, Kind, kind_of, with_kind}
+use Rattle.bword.specs.Words.{same_name}
 
 or_if : (b : Bool) (k : Kind) (o p q : Option Kind) → o ≡ option_or p q → (if b then Some k else o) ≡ option_or (if b then Some k else p) q
 or_if true k o p q e = refl

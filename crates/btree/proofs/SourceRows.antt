@@ -3,19 +3,18 @@ use Rattle.std.proofs.Common.{◌≡◌, ℕ, zero, suc, List, [], ◌∷◌, �
 use Rattle.bword.specs.declared.edition.Edition.{Edition}
 use Rattle.std.specs.Prelude.{codes, Option, Some, None}
 use Rattle.std.specs.Fmt.{digits}
-use Rattle.blex.specs.Pieces.{whole, word_of as word_token, keyword_of, number_in, with_byte, escape_of, operator_of, other_of, fixed_of}
-use Rattle.blex.specs.declared.token.Token.{Token}
-use Rattle.blex.specs.declared.token.Token.TheVariants as token
-use Rattle.blex.specs.declared.token.Placed.{Placed}
-use Rattle.blex.specs.declared.diagnostic.Diagnostic.{Diagnostic}
-use Rattle.blex.specs.Tokens.{tokens_from, cut, longest, greatest}
+use Rattle.blang.specs.Cut.{whole, word_of as word_token, keyword_of, number_in, with_byte, escape_of, operator_of, other_of, fixed_of, tokens_from, cut, longest, greatest}
+use Rattle.blang.specs.declared.token.Token.{Token}
+use Rattle.blang.specs.declared.token.Token.TheVariants as token
+use Rattle.blang.specs.declared.token.Placed.{Placed}
+use Rattle.blang.specs.declared.token.Diagnostic.{Diagnostic}
 use Rattle.btree.specs.Reading.{Read, Got, Stop, first}
-use Rattle.btree.specs.Definition.{Definition}
+use Rattle.blang.specs.Trees.{Definition}
 use Rattle.btree.specs.DefinitionReader.{definition}
-use Rattle.btree.specs.Scan.{word_of}
-use Rattle.btree.specs.Code.{fault_of}
-use Rattle.btree.specs.Program.{fault_at}
-use Rattle.btree.specs.Compiled.{Defined, Outcome, text_of, Goes, code_text}
+use Rattle.blang.specs.Scan.{word_of}
+use Rattle.blang.specs.Code.{fault_of}
+use Rattle.blang.specs.WellFormed.{fault_at}
+use Rattle.blang.specs.Compiles.{Defined, Outcome, text_of, Goes, code_text}
 use Rattle.btree.specs.SourceRows.{fault_text, ComesIn, Comes, ComesInTwo, WorkedRows, FunctionRows, FaultRows, PlaceRows, EditionRows}
 use Rattle.btree.proofs.Outcomes.{Ended}
 use Rattle.btree.proofs.GoesLaws.{goes_end, tokens_from-ended}

@@ -1,13 +1,13 @@
 -- Reading a definition from the left, with one token ahead.
 use Rattle.std.specs.Prelude.{ℕ, List, [], if◌then◌else◌}
-use Rattle.blex.specs.declared.token.Token.{Token}
-use Rattle.blex.specs.declared.token.Token.TheVariants as token
-use Rattle.btree.specs.Expression.{Word, Number, Character}
+use Rattle.blang.specs.declared.token.Token.{Token}
+use Rattle.blang.specs.declared.token.Token.TheVariants as token
+use Rattle.blang.specs.Trees.{Word, Number, Character, Ival, Ival_constant, Ival_text, Ival_name, Definition, Simple, Vector, Function}
 use Rattle.btree.specs.Reading.{Got, Stop, Reader, ◌>>=◌, first, line_of, after, expect}
 use Rattle.btree.specs.ExpressionReader.{is_close_paren, is_close_bracket}
 use Rattle.btree.specs.Commas.{list_reader}
 use Rattle.btree.specs.StatementReader.{is_semicolon, name, size, statement}
-use Rattle.btree.specs.Definition.{Ival, Ival_constant, Ival_text, Ival_name, Definition, Simple, Vector, Function, values_words, nesting_limit}
+use Rattle.blang.specs.WellFormed.{values_words, nesting_limit}
 
 abbrev pub ival_at : ℕ → Token → Reader Ival
 ival_at off (token.Number n) ts = Got (Ival_constant (Number n)) (after ts)

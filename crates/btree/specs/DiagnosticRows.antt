@@ -1,21 +1,21 @@
 -- Closed facts: the lines of diagnostics, and each size limit with what is one past it.
 use Rattle.std.specs.Prelude.{◌≡◌, ℕ, zero, suc, List, [], ◌∷◌, ◌++◌, map, replicate, codes, true, false, None, refl}
 use Rattle.std.specs.Fmt.{digits}
-use Rattle.blex.specs.declared.token.Letters.{Letters}
-use Rattle.blex.specs.declared.token.Letters.TheVariants as letters
-use Rattle.blex.specs.declared.token.Token.TheVariants as token
-use Rattle.blex.specs.declared.token.Keyword.TheVariants as keyword
-use Rattle.blex.specs.declared.token.Placed.{Placed}
-use Rattle.blex.specs.declared.diagnostic.About.{About}
-use Rattle.blex.specs.declared.diagnostic.About.TheVariants as about
-use Rattle.bcode.specs.declared.instr.Instr.TheVariants as instr
-use Rattle.bcode.specs.declared.instr.Ival.TheVariants as ival
-use Rattle.bcode.specs.declared.definition.Definition as coded
-use Rattle.bcode.specs.declared.definition.Definition.TheVariants as code
-use Rattle.btree.specs.Lines.{mark, placed}
-use Rattle.btree.specs.Statement.{keyword_mark}
-use Rattle.btree.specs.Code.{fits}
-use Rattle.btree.specs.Compiled.{line_of}
+use Rattle.blang.specs.declared.token.Letters.{Letters}
+use Rattle.blang.specs.declared.token.Letters.TheVariants as letters
+use Rattle.blang.specs.declared.token.Token.TheVariants as token
+use Rattle.blang.specs.declared.token.Keyword.TheVariants as keyword
+use Rattle.blang.specs.declared.token.Placed.{Placed}
+use Rattle.blang.specs.declared.token.About.{About}
+use Rattle.blang.specs.declared.token.About.TheVariants as about
+use Rattle.blang.specs.declared.code.Instr.TheVariants as instr
+use Rattle.blang.specs.declared.code.Ival.TheVariants as ival
+use Rattle.blang.specs.declared.code.Definition as coded
+use Rattle.blang.specs.declared.code.Definition.TheVariants as code
+use Rattle.blang.specs.Trees.{mark, keyword_mark}
+use Rattle.blang.specs.Cut.{placed}
+use Rattle.blang.specs.Code.{fits}
+use Rattle.blang.specs.Compiles.{line_of}
 use Rattle.btree.specs.CodeRows.{number, semicolon, braced, function_f, fault_in, not_read, name_fault, lone_fault, case_fault, case_token, default_on, cases_below, names_below}
 
 -- all letters, in the order of their type

@@ -1,21 +1,21 @@
 -- The laws of reading a definition, and of what comes of a source.
 use Rattle.std.specs.Prelude.{◌≡◌, ℕ, map, List, [], ◌∷◌, ◌++◌, true, false}
-use Rattle.blex.specs.declared.token.Token.TheVariants as token
-use Rattle.blex.specs.declared.token.Keyword.TheVariants as keyword
-use Rattle.blex.specs.declared.token.Placed.{Placed}
+use Rattle.blang.specs.declared.token.Token.TheVariants as token
+use Rattle.blang.specs.declared.token.Keyword.TheVariants as keyword
+use Rattle.blang.specs.declared.token.Placed.{Placed}
 use Rattle.bword.specs.declared.edition.Edition.{Edition}
-use Rattle.blex.specs.Tokens.{tokens_from}
-use Rattle.btree.specs.Lines.{mark, kept_tokens, bare}
-use Rattle.btree.specs.Expression.{Word, Expr, name_token, spell, rvalue_rank, Fits}
+use Rattle.blang.specs.Cut.{tokens_from}
+use Rattle.blang.specs.Trees.{mark, kept_tokens, bare, Word, Expr, name_token, spell, Stmt, spell_statement, keyword_mark, Definition, spell_definition}
+use Rattle.blang.specs.WellFormed.{rvalue_rank, Fits, Sits, IsFormed}
 use Rattle.btree.specs.Reading.{Got, first}
 use Rattle.btree.specs.ReadingOn.{Fine, Closer}
-use Rattle.btree.specs.Statement.{Stmt, spell_statement, Sits, keyword_mark}
-use Rattle.btree.specs.Statement as statements
+use Rattle.blang.specs.WellFormed as statements
 use Rattle.btree.specs.ExpressionReader.{Rvalue, reader}
 use Rattle.btree.specs.StatementReader.{is_else, statement}
-use Rattle.btree.specs.Definition.{Definition, spell_definition, IsFormed, is_open}
+use Rattle.btree.specs.Definition.{is_open}
 use Rattle.btree.specs.DefinitionReader.{definition}
-use Rattle.btree.specs.Compiled.{Defined, Outcome, Goes, has}
+use Rattle.blang.specs.Compiles.{Defined, Outcome, Goes}
+use Rattle.btree.specs.Compiled.{has}
 
 -- What a definition is read as is spelled by the tokens that were taken, and well formed.
 abbrev pub ReadsSpelling : Type 0

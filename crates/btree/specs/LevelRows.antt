@@ -1,8 +1,6 @@
 -- The level of each token of two functions.
 use Rattle.std.specs.Prelude.{◌≡◌, ℕ, List, [], ◌∷◌, map, None, refl}
-use Rattle.btree.specs.Expression.{Number, Expr, Literal, Indexed, Called, Prefixed, Negate, Conditional, Assigned, No_arguments, Another}
-use Rattle.btree.specs.Statement.{Stmt, If, Switch, Evaluate, Nothing, More}
-use Rattle.btree.specs.Definition.{Function}
+use Rattle.blang.specs.Trees.{Number, Expr, Literal, Indexed, Called, Prefixed, Negate, Conditional, Assigned, No_arguments, Another, Stmt, If, Switch, Evaluate, Nothing, More, Function}
 use Rattle.btree.specs.Rows.{word, var}
 use Rattle.btree.specs.Levels.{program_levels}
 

@@ -1,14 +1,11 @@
 -- Levels of nesting, token by token: the level at which a token stands, or which it opens.
 use Rattle.std.specs.Prelude.{◌≡◌, ℕ, suc, ◌≤◌, List, [], ◌∷◌, ◌++◌, map}
-use Rattle.blex.specs.declared.token.Token.TheVariants as token
-use Rattle.blex.specs.declared.token.Keyword.TheVariants as keyword
-use Rattle.blex.specs.declared.token.Placed.{Placed}
-use Rattle.btree.specs.Lines.{mark, placed, string_token}
-use Rattle.btree.specs.Expression.{Expr, Arguments, Named, Literal, Text, Grouped, Indexed, Called, Postfixed, Prefixed, Binary, Conditional, Assigned, No_arguments, Another, name_token, constant_token, prefix_token, postfix_token, comma_behind}
-use Rattle.btree.specs.Commas.{list_spelling}
-use Rattle.btree.specs.Statement.{Stmt, Headed, Compound, If, IfElse, While, Switch, Goto, Break, Return, ReturnValue, Evaluate, Empty, Stmts, Nothing, More, Sits, keyword_mark, name_spelling, spell_heading}
-use Rattle.btree.specs.Definition.{Definition, Simple, Vector, Function, spell_definition, IsFormed}
-use Rattle.btree.specs.Program.{spell_all}
+use Rattle.blang.specs.declared.token.Token.TheVariants as token
+use Rattle.blang.specs.declared.token.Keyword.TheVariants as keyword
+use Rattle.blang.specs.declared.token.Placed.{Placed}
+use Rattle.blang.specs.Trees.{mark, Expr, Arguments, Named, Literal, Text, Grouped, Indexed, Called, Postfixed, Prefixed, Binary, Conditional, Assigned, No_arguments, Another, name_token, constant_token, prefix_token, postfix_token, comma_behind, list_spelling, Stmt, Headed, Compound, If, IfElse, While, Switch, Goto, Break, Return, ReturnValue, Evaluate, Empty, Stmts, Nothing, More, keyword_mark, name_spelling, spell_heading, Definition, Simple, Vector, Function, spell_definition, spell_all}
+use Rattle.blang.specs.Cut.{placed, string_token}
+use Rattle.blang.specs.WellFormed.{Sits, IsFormed}
 
 pub record Leveled : Type 0 where
   pub token : Placed

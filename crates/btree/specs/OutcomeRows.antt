@@ -1,19 +1,19 @@
 -- What comes of some sources.
 use Rattle.std.specs.Prelude.{ℕ, List, [], ◌∷◌, ◌++◌}
-use Rattle.bcode.specs.declared.instr.Instr.{Instr}
-use Rattle.bcode.specs.declared.instr.Instr.TheVariants as instr
-use Rattle.bcode.specs.declared.definition.Definition.TheVariants as code
-use Rattle.bcode.specs.Text.{text_of}
-use Rattle.blex.specs.declared.token.Letters.TheVariants as letters
-use Rattle.blex.specs.declared.token.Token.{Token}
-use Rattle.blex.specs.declared.token.Token.TheVariants as token
-use Rattle.blex.specs.declared.token.Keyword.TheVariants as keyword
-use Rattle.blex.specs.declared.token.Placed.{Placed}
-use Rattle.btree.specs.Lines.{mark, placed}
-use Rattle.btree.specs.Statement.{keyword_mark}
+use Rattle.blang.specs.declared.code.Instr.{Instr}
+use Rattle.blang.specs.declared.code.Instr.TheVariants as instr
+use Rattle.blang.specs.declared.code.Definition.TheVariants as code
+use Rattle.blang.specs.Text.{text_of}
+use Rattle.blang.specs.declared.token.Letters.TheVariants as letters
+use Rattle.blang.specs.declared.token.Token.{Token}
+use Rattle.blang.specs.declared.token.Token.TheVariants as token
+use Rattle.blang.specs.declared.token.Keyword.TheVariants as keyword
+use Rattle.blang.specs.declared.token.Placed.{Placed}
+use Rattle.blang.specs.Trees.{mark, keyword_mark}
+use Rattle.blang.specs.Cut.{placed}
 use Rattle.btree.specs.Rows.{name, assign, function}
 use Rattle.btree.specs.CodeRows.{number, semicolon, parenthesized, name_fault, lone_fault}
-use Rattle.btree.specs.Compiled.{Goes}
+use Rattle.blang.specs.Compiles.{Goes}
 
 -- `f() if(1) ;`
 abbrev pub open_function : List Placed

@@ -1,12 +1,11 @@
 -- Laws of programs: one stands for tokens, and there is one way of parts.
 use Rattle.bword.specs.declared.edition.Edition.{Edition}
 use Rattle.std.specs.Prelude.{◌≡◌, ℕ, List, Option}
-use Rattle.blex.specs.declared.token.Placed.{Placed}
-use Rattle.blex.specs.declared.diagnostic.Diagnostic.{Diagnostic}
-use Rattle.blex.specs.Tokens.{tokens_from}
-use Rattle.btree.specs.Lines.{kept_tokens}
-use Rattle.btree.specs.Definition.{Definition, nesting_limit}
-use Rattle.btree.specs.Program.{spell_all, AllFormed, Parted}
+use Rattle.blang.specs.declared.token.Placed.{Placed}
+use Rattle.blang.specs.declared.token.Diagnostic.{Diagnostic}
+use Rattle.blang.specs.Cut.{tokens_from}
+use Rattle.blang.specs.Trees.{kept_tokens, Definition, spell_all}
+use Rattle.blang.specs.WellFormed.{nesting_limit, AllFormed, Parted}
 use Rattle.btree.specs.Levels.{AllFormedIn}
 
 -- A well-formed program stands for tokens that are its spelling, with the lines that trees keep.

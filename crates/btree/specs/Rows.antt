@@ -2,16 +2,15 @@
 use Rattle.std.specs.Prelude.{◌≡◌, ℕ, zero, suc, List, [], ◌∷◌, ◌++◌, Some, None, replicate}
 use Rattle.bword.specs.declared.operators.BinOp.{BinOp}
 use Rattle.bword.specs.declared.operators.BinOp.TheVariants as op
-use Rattle.blex.specs.declared.token.Token.TheVariants as token
-use Rattle.blex.specs.declared.token.Keyword.TheVariants as keyword
-use Rattle.blex.specs.declared.token.Placed.{Placed}
-use Rattle.btree.specs.Lines.{mark, placed, string_token}
-use Rattle.btree.specs.Expression.{Word, Number, Expr, Named, Literal, Text, Grouped, Indexed, Called, Postfixed, Prefixed, Binary, Conditional, Assigned, No_arguments, Another, Negate, Indirection, PostIncrement, name_token}
+use Rattle.blang.specs.declared.token.Token.TheVariants as token
+use Rattle.blang.specs.declared.token.Keyword.TheVariants as keyword
+use Rattle.blang.specs.declared.token.Placed.{Placed}
+use Rattle.blang.specs.Trees.{mark, Word, Number, Expr, Named, Literal, Text, Grouped, Indexed, Called, Postfixed, Prefixed, Binary, Conditional, Assigned, No_arguments, Another, Negate, Indirection, PostIncrement, name_token, Stmt, Headed, Label, Case, Auto, Extrn, If, IfElse, While, Switch, Goto, ReturnValue, Evaluate, Empty, Nothing, More, keyword_mark, Definition, Vector, Function, Ival_text, Ival_name}
+use Rattle.blang.specs.Cut.{placed, string_token}
 use Rattle.btree.specs.Reading.{Got, Stop, Reader}
 use Rattle.btree.specs.ExpressionReader.{Rvalue, reader}
-use Rattle.btree.specs.Statement.{Stmt, Headed, Label, Case, Auto, Extrn, If, IfElse, While, Switch, Goto, ReturnValue, Evaluate, Empty, Nothing, More, keyword_mark}
 use Rattle.btree.specs.StatementReader.{statement}
-use Rattle.btree.specs.Definition.{Definition, Vector, Function, Ival_text, Ival_name, nesting_limit}
+use Rattle.blang.specs.WellFormed.{nesting_limit}
 use Rattle.btree.specs.DefinitionReader.{definition}
 
 -- names of one letter on line 1, and the tokens that they are

@@ -2,9 +2,9 @@
 use Rattle.std.specs.Prelude.{◌≡◌, ℕ, List, [], codes, Option, Some, None}
 use Rattle.bword.specs.declared.edition.Edition.{Edition}
 use Rattle.bword.specs.declared.edition.Edition.TheVariants as editions
-use Rattle.blex.specs.declared.diagnostic.Diagnostic.{Diagnostic}
-use Rattle.blex.specs.Tokens.{tokens_from}
-use Rattle.btree.specs.Compiled.{Outcome, Goes, code_text, line_of}
+use Rattle.blang.specs.declared.token.Diagnostic.{Diagnostic}
+use Rattle.blang.specs.Cut.{tokens_from}
+use Rattle.blang.specs.Compiles.{Outcome, Goes, code_text, line_of}
 
 -- the line of a diagnostic, if there is one
 abbrev pub fault_text : Option Diagnostic → List ℕ

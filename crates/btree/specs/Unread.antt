@@ -1,7 +1,7 @@
 -- Lines that trees don't keep are never read.
 use Rattle.std.specs.Prelude.{◌≡◌, List}
-use Rattle.blex.specs.declared.token.Placed.{Placed}
-use Rattle.btree.specs.Lines.{kept_tokens}
+use Rattle.blang.specs.declared.token.Placed.{Placed}
+use Rattle.blang.specs.Trees.{kept_tokens}
 use Rattle.btree.specs.Reading.{Read, Got, Stop, Reader}
 use Rattle.btree.specs.DefinitionReader.{definition}
 

@@ -1,7 +1,7 @@
 -- What an end over memory answers, as it never fails.
 use Rattle.std.proofs.Common.{◌≡◌, ℕ, Option, Some, None, Result, Ok, Err, sym, ap, ◌∙◌, arith, ⊎_elim}
 use Rattle.std.specs.Prelude.{slice_get}
-use Rattle.bword.specs.declared.byte_in.Device.{Device}
+use Rattle.bword.specs.declared.ends.Device.{Device}
 use Rattle.bword.specs.ByteEnds.{Unread, NextGives, incoming_of}
 
 pub unfailing_answer : (old new : Unread) (r : Result (Option ℕ) Device) → NextGives (incoming_of old) r (incoming_of new) → r ≡ Ok (slice_get old.left 0)

@@ -4,7 +4,7 @@ use Rattle.std.proofs.Math.Seq.{drop-cons, take-suc, take-nil}
 use Rattle.std.proofs.Math.ListN.{drop_of_length-le}
 use Rattle.std.proofs.lemmas.List.{get_or-take}
 use Rattle.std.specs.Io.KnownBytes.{Consumes, Keeps, prepend_known}
-use Rattle.bword.specs.declared.byte_in.Device.{Device}
+use Rattle.bword.specs.declared.ends.Device.{Device}
 use Rattle.bword.specs.ByteEnds.{most, Incoming, Streamed, streamed_of, Takes, TakesReady, NextGives, GivesReady}
 use Rattle.bword.proofs.Taking.{Took-none, Took-append, Took-next}
 

@@ -12,7 +12,7 @@ use Rattle.std.specs.Cmp.{ranks, nat_cmp_is, unsigned_ties}
 use Rattle.std.specs.declared.cmp.Ordering.{Ordering}
 use Rattle.std.specs.declared.cmp.Ordering.TheVariants.{Less, Equal, Greater}
 use Rattle.std.specs.Cmp.Lexicographic.{pointwise, slice_cmp, nat_list_cmp_total, texts_ties}
-use Rattle.bword.specs.Names.{is_name, is_name_start, is_name_byte, number_of}
+use Rattle.bword.specs.Words.{is_name, is_name_start, is_name_byte, number_of}
 use Rattle.bword.proofs.NameLemmas.{is_name-length}
 
 -- bytes that are no zeros

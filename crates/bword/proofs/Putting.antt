@@ -3,8 +3,8 @@ use Rattle.std.proofs.Common.{◌≡◌, ℕ, ◌+◌, List, [], ◌++◌, lengt
 use Rattle.std.proofs.KnownBytes.{Appends-nil, Appends-trans}
 use Rattle.std.proofs.Math.Seq.{take-append-add}
 use Rattle.std.proofs.lemmas.List.{take-append-le}
-use Rattle.bword.specs.declared.byte_out.EndFault.{EndFault}
-use Rattle.bword.specs.declared.byte_out.EndFault.TheVariants as fault
+use Rattle.bword.specs.declared.ends.EndFault.{EndFault}
+use Rattle.bword.specs.declared.ends.EndFault.TheVariants as fault
 use Rattle.bword.specs.ByteEnds.{Outgoing, Writes, Refuses, CountsFault, PutGives}
 
 pub Writes-none : (a : Outgoing) → Writes a [] a

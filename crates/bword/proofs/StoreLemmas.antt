@@ -1,7 +1,7 @@
 -- Stores of zeros.
 use Rattle.std.proofs.Common.{◌≡◌, ℕ, zero, suc, ◌<◌, List, replicate, get_or, lit<, ap, ◌∙◌}
 use Rattle.std.proofs.lemmas.List.{length-replicate}
-use Rattle.bword.specs.Stores.{IsStore, zeros}
+use Rattle.bword.specs.Words.{IsStore, zeros}
 
 replicate-zero : (n a : ℕ) → get_or (replicate n 0) a 0 < 65536
 replicate-zero zero a = lit< tt

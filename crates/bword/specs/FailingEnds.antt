@@ -1,9 +1,9 @@
 -- Ends over memory that fail at a stated place.
 use Rattle.std.specs.Prelude.{◌≡◌, ℕ, ◌+◌, ◌-◌, ◌<◌, ◌≤◌, min, ◌==◌, Bool, if◌then◌else◌, List, [], ◌++◌, take, length, slice_get, Option, Some, None, is_some, Result, Ok, Err}
 use Rattle.std.proofs.Common.{arith}
-use Rattle.bword.specs.declared.byte_in.Device.{Device}
-use Rattle.bword.specs.declared.byte_out.EndFault.{EndFault}
-use Rattle.bword.specs.declared.byte_out.EndFault.TheVariants as fault
+use Rattle.bword.specs.declared.ends.Device.{Device}
+use Rattle.bword.specs.declared.ends.EndFault.{EndFault}
+use Rattle.bword.specs.declared.ends.EndFault.TheVariants as fault
 use Rattle.bword.specs.ByteEnds.{most, Incoming, Outgoing}
 
 -- What is left of a list, whether its end was answered, and how many calls come before the one that fails, which is

@@ -1,9 +1,9 @@
 -- Which call of a failing end fails, and what it keeps.
 use Rattle.std.specs.Prelude.{◌≡◌, ℕ, List, [], ◌∷◌, map, codes, true, Option, Some, None, Result, Ok, Err, refl}
 use Rattle.std.proofs.Common.{arith}
-use Rattle.bword.specs.declared.byte_in.Device.{Device}
-use Rattle.bword.specs.declared.byte_out.EndFault.{EndFault}
-use Rattle.bword.specs.declared.byte_out.EndFault.TheVariants as fault
+use Rattle.bword.specs.declared.ends.Device.{Device}
+use Rattle.bword.specs.declared.ends.EndFault.{EndFault}
+use Rattle.bword.specs.declared.ends.EndFault.TheVariants as fault
 use Rattle.bword.specs.ByteEnds.{most}
 use Rattle.bword.specs.FailingEnds.{FailingOut, failing_in, one_call_less, next_answer, PutsWithin}
 

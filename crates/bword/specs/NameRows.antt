@@ -1,7 +1,7 @@
 -- Which texts are names.
 use Rattle.std.specs.Prelude.{◌≡◌, ℕ, Bool, true, false, List, [], ◌∷◌, ◌++◌, map, length, replicate, filter, codes, refl}
 use Rattle.std.specs.List.{range_with_len}
-use Rattle.bword.specs.Names.{is_name, is_name_start, is_name_byte, same_name}
+use Rattle.bword.specs.Words.{is_name, is_name_start, is_name_byte, same_name}
 
 names : map is_name (codes "a" ∷ codes "_" ∷ codes "Z" ∷ codes "a9" ∷ codes "_0_A" ∷ codes "abcdefgh" ∷
     codes "x1234567" ∷ []) ≡

@@ -1,6 +1,6 @@
 -- Strings in a store of four words, of which word 2 holds `ab`.
 use Rattle.std.specs.Prelude.{◌≡◌, ℕ, List, [], ◌∷◌, map, refl}
-use Rattle.bword.specs.Stores.{byte_address, char_of, with_char}
+use Rattle.bword.specs.Words.{byte_address, char_of, with_char}
 
 abbrev words : List ℕ
 words = 7 ∷ 8 ∷ 25185 ∷ 515 ∷ []

@@ -2,8 +2,7 @@
 use Rattle.std.specs.Prelude.{◌≡◌, ℕ, List, [], ◌∷◌, map, codes, Option, Some, None, refl}
 use Rattle.bword.specs.declared.operators.BinOp.{BinOp}
 use Rattle.bword.specs.declared.operators.BinOp.TheVariants as op
-use Rattle.bword.specs.Operators.{operators, operator_text}
-use Rattle.bword.specs.Words.{binary_of, negate_of, not_of}
+use Rattle.bword.specs.Words.{operators, operator_text, binary_of, negate_of, not_of}
 
 -- two operands, and what each of some operators makes of them
 abbrev Row : Type 0

@@ -1,6 +1,6 @@
 //! A store in one piece.
 ghost use Rattle.std.specs.Prelude.{◌≡◌, IfOk, replicate};
-ghost use Rattle.bword.specs.Stores.{IsStore};
+ghost use Rattle.bword.specs.Words.{IsStore};
 
 use crate::store::STORE_LEN;
 use crate::{NoMemory, Store};
@@ -15,7 +15,7 @@ pub struct FlatStore {
 
 impl FlatStore {
     ghost use Rattle.std.specs.Prelude.{◌≡◌, IfOk};
-    ghost use Rattle.bword.specs.Stores.{zeros};
+    ghost use Rattle.bword.specs.Words.{zeros};
     ghost use Rattle.bword.specs.FlatStores.{words_of};
 
     /// A store whose words are all 0.

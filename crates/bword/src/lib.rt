@@ -2,9 +2,8 @@
 //! go to, and names.
 #![tactic(auto)]
 
-mod byte_in;
-mod byte_out;
 mod edition;
+mod ends;
 mod failing;
 mod flat_store;
 mod memory;
@@ -13,9 +12,8 @@ mod operators;
 mod store;
 mod streams;
 
-pub use byte_in::{ByteIn, Device};
-pub use byte_out::{ByteOut, EndFault};
 pub use edition::Edition;
+pub use ends::{ByteIn, ByteOut, Device, EndFault};
 pub use failing::{FailIn, FailOut};
 pub use flat_store::FlatStore;
 pub use memory::{MemIn, MemOut};

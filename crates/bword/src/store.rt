@@ -1,6 +1,6 @@
 //! Stores of words, and the bytes of their strings.
 ghost use Rattle.std.specs.Prelude.{◌≡◌, ℕ, Bool, List, IsFalse, IsOk, OnOk, OnErr, slice_index, slice_set};
-ghost use Rattle.bword.specs.Stores.{IsStore, byte_address, byte_of, char_of, with_byte, with_char};
+ghost use Rattle.bword.specs.Words.{IsStore, byte_address, byte_of, char_of, with_byte, with_char};
 
 /// How many words a store has.
 pub const STORE_LEN: usize = 65536;

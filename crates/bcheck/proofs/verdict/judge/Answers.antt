@@ -1,5 +1,5 @@
 use Rattle.std.proofs.Common.{subst, sym}
-use Rattle.bcode.specs.Text.{IsCodeText}
+use Rattle.blang.specs.Text.{IsCodeText}
 use Rattle.bcheck.proofs.CheckSteps.{clean_judged, faulty_judged, some_judged}
 use Rattle.bcheck.proofs.verdict.judge.Goals as goal
 

@@ -1,5 +1,5 @@
 use Rattle.std.proofs.Common.{subst}
-use Rattle.bmach.specs.Layout.{load_fault}
+use Rattle.blang.specs.Layout.{load_fault}
 use Rattle.bmach.specs.Loading.{IsFault}
 use Rattle.bcheck.proofs.CheckSteps.{told_as, told_fault}
 use Rattle.bcheck.proofs.verdict.judge_code.Goals as goal

@@ -1,12 +1,12 @@
 use Rattle.std.proofs.Common.{subst, sym, ◌≡◌, ℕ, ◌<◌, true, Vec, Global, Err, ap, replicate, ◌++◌}
 use Rattle.std.specs.Prelude.{All}
 use Rattle.bcode.specs.Ahead.{ReadsLines, LinesGive}
-use Rattle.bcode.specs.Definitions.{IsWord, IsInstrWithin}
+use Rattle.blang.specs.CodeParts.{IsWord, IsInstrWithin}
 use Rattle.bcode.specs.Headers.{function_fits}
-use Rattle.bcode.specs.declared.header.Sizes.{Sizes}
+use Rattle.blang.specs.declared.code.Sizes.{Sizes}
 use Rattle.bcode.specs.Stopping.{target, string, instruction}
-use Rattle.bcode.specs.Text.{target_line, string_line, instr_line}
-use Rattle.bcode.specs.declared.instr.Instr.{Instr}
+use Rattle.blang.specs.Text.{target_line, string_line, instr_line}
+use Rattle.blang.specs.declared.code.Instr.{Instr}
 use Rattle.bcode.specs.declared.header.Header.TheVariants as header
 use Rattle.bcode.proofs.BodyLaws.{ends_among, ends_among_last, ends_behind, body_exit, three_passed}
 use Rattle.bcode.proofs.CodeLaws.{of_target, of_string, of_instr, same_sizes, function_within}

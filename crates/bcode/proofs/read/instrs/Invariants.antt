@@ -1,6 +1,6 @@
 use Rattle.bcode.specs.Ahead.{ReadsLines}
-use Rattle.bcode.specs.Definitions.{IsInstrWithin}
-use Rattle.bcode.specs.Text.{instr_line}
+use Rattle.blang.specs.CodeParts.{IsInstrWithin}
+use Rattle.blang.specs.Text.{instr_line}
 use Rattle.bcode.proofs.read.instrs.Given as goal
 
 abbrev pub invariant-loop : goal.invariant-loop

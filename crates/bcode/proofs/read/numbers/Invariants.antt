@@ -1,6 +1,6 @@
 use Rattle.std.proofs.Common.{◌∷◌, [], ◌<◌, decimal}
 use Rattle.bcode.specs.Ahead.{ReadsLines}
-use Rattle.bcode.specs.Text.{line}
+use Rattle.blang.specs.Text.{line}
 use Rattle.bcode.proofs.read.numbers.Given as goal
 
 abbrev pub invariant-loop : goal.invariant-loop

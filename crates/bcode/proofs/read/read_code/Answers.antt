@@ -1,7 +1,7 @@
 use Rattle.std.proofs.Common.{subst, ◌≢◌, ℕ, List, [], ap, Some, Option, Ok, Vec, Global, ◌≡◌, sym, ◌∙◌}
 use Rattle.bcode.specs.Ahead.{ahead_in, DefinitionGives, Passes, ReadsDefinition}
-use Rattle.bcode.specs.Text.{end_text}
-use Rattle.bcode.specs.declared.definition.Definition.{Definition}
+use Rattle.blang.specs.Text.{end_text}
+use Rattle.blang.specs.declared.code.Definition.{Definition}
 use Rattle.bcode.proofs.FaultLaws.{unique_code, exit_only, exit_fault, push_fault, knows_opening, knows_more, definition_shorter, end_fault, end_no_code, whole_code}
 use Rattle.bcode.proofs.read.read_code.Goals as goal
 

@@ -1,9 +1,9 @@
 use Rattle.std.proofs.Common.{subst, sym, Vec, Global, ℕ, refl, replicate}
 use Rattle.std.specs.Prelude.{All}
-use Rattle.bcode.specs.Definitions.{IsWord, IsIvalWithin}
+use Rattle.blang.specs.CodeParts.{IsWord, IsIvalWithin}
 use Rattle.bcode.specs.Stopping.{value, string}
-use Rattle.bcode.specs.Text.{string_line, ival_line}
-use Rattle.bcode.specs.declared.instr.Ival.{Ival}
+use Rattle.blang.specs.Text.{string_line, ival_line}
+use Rattle.blang.specs.declared.code.Ival.{Ival}
 use Rattle.bcode.proofs.BodyLaws.{ends_among, ends_among_last, ends_behind, body_exit, two_passed}
 use Rattle.bcode.proofs.CodeLaws.{of_value, of_string, simple_within}
 use Rattle.bcode.proofs.read.simple.Goals as goal

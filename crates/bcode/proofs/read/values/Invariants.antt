@@ -1,6 +1,6 @@
 use Rattle.bcode.specs.Ahead.{ReadsLines}
-use Rattle.bcode.specs.Definitions.{IsIvalWithin}
-use Rattle.bcode.specs.Text.{ival_line}
+use Rattle.blang.specs.CodeParts.{IsIvalWithin}
+use Rattle.blang.specs.Text.{ival_line}
 use Rattle.bcode.proofs.read.values.Given as goal
 
 abbrev pub invariant-loop : goal.invariant-loop

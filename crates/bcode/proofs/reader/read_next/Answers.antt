@@ -1,7 +1,7 @@
 use Rattle.std.proofs.Common.{subst, Option, Ok}
 use Rattle.bcode.specs.Ahead.{Passes, DefinitionGives}
-use Rattle.bcode.specs.Text.{end_text}
-use Rattle.bcode.specs.declared.definition.Definition.{Definition}
+use Rattle.blang.specs.Text.{end_text}
+use Rattle.blang.specs.declared.code.Definition.{Definition}
 use Rattle.bcode.proofs.ReaderLaws.{opening_exit, definition_exit, end_exit}
 use Rattle.bcode.proofs.reader.read_next.Goals as goal
 

@@ -1,5 +1,5 @@
 use Rattle.std.proofs.Common.{map, sym, ◌++◌}
-use Rattle.bcode.specs.Text.{joined, target_line, string_line, instr_line}
+use Rattle.blang.specs.Text.{joined, target_line, string_line, instr_line}
 use Rattle.bcode.proofs.Paging.{Passes-append, Refuses-after, joined-three, page_first, page_short, page_second, page_same}
 use Rattle.bcode.proofs.write.write_function_body.Goals as goal
 

@@ -1,5 +1,5 @@
 use Rattle.std.proofs.Common.{◌∙◌}
-use Rattle.bcode.specs.Text.{instr_line}
+use Rattle.blang.specs.Text.{instr_line}
 use Rattle.bcode.proofs.Paging.{page_err, Passes-more, Refuses-more}
 use Rattle.bcode.proofs.write.write_instrs.Goals as goal
 

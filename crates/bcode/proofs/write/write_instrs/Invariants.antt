@@ -1,6 +1,6 @@
 use Rattle.std.proofs.Common.{take, map, ◌≡◌}
 use Rattle.bcode.specs.Pages.{Passes}
-use Rattle.bcode.specs.Text.{joined, instr_line}
+use Rattle.blang.specs.Text.{joined, instr_line}
 use Rattle.bcode.proofs.write.write_instrs.Given as goal
 
 abbrev pub invariant-loop-instr : goal.invariant-loop-instr

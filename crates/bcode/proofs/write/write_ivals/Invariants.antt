@@ -1,6 +1,6 @@
 use Rattle.std.proofs.Common.{take, map, ◌≡◌}
 use Rattle.bcode.specs.Pages.{Passes}
-use Rattle.bcode.specs.Text.{joined, ival_line}
+use Rattle.blang.specs.Text.{joined, ival_line}
 use Rattle.bcode.proofs.write.write_ivals.Given as goal
 
 abbrev pub invariant-loop-value : goal.invariant-loop-value

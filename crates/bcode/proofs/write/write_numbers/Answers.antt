@@ -1,6 +1,6 @@
 use Rattle.std.proofs.Common.{◌∷◌, [], decimal, get_or, ◌∙◌}
 use Rattle.std.proofs.lemmas.List.{get_or_default}
-use Rattle.bcode.specs.Text.{line}
+use Rattle.blang.specs.Text.{line}
 use Rattle.bcode.proofs.Paging.{page_err, Passes-more, Refuses-more}
 use Rattle.bcode.proofs.write.write_numbers.Goals as goal
 

@@ -1,6 +1,6 @@
 use Rattle.std.proofs.Common.{take, ◌∷◌, [], map, decimal, ◌≡◌}
 use Rattle.bcode.specs.Pages.{Passes}
-use Rattle.bcode.specs.Text.{line, joined}
+use Rattle.blang.specs.Text.{line, joined}
 use Rattle.bcode.proofs.write.write_numbers.Given as goal
 
 abbrev pub invariant-loop-number : goal.invariant-loop-number

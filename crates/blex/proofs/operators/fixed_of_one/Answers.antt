@@ -1,4 +1,4 @@
-use Rattle.blex.specs.Pieces.{fixed_of}
+use Rattle.blang.specs.Cut.{fixed_of}
 use Rattle.blex.proofs.FixedTexts.{assignment_of-one}
 use Rattle.blex.proofs.operators.fixed_of_one.Goals as goal
 

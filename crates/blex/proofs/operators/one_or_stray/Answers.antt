@@ -1,5 +1,5 @@
 use Rattle.std.proofs.Common.{ap, sym, []}
-use Rattle.blex.specs.Pieces.{fixed_or_stray}
+use Rattle.blang.specs.Cut.{fixed_or_stray}
 use Rattle.blex.proofs.operators.one_or_stray.Goals as goal
 
 pub returns-in-None : goal.returns-in-None

@@ -1,4 +1,4 @@
-use Rattle.blex.specs.Pieces.{character_token}
+use Rattle.blang.specs.Cut.{character_token}
 use Rattle.blex.proofs.EachPiece.{whole-character}
 use Rattle.blex.proofs.QuoteSteps.{constant_closed, constant_wrong}
 use Rattle.blex.proofs.quotes.character_constant.Goals as goal

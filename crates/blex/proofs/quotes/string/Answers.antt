@@ -1,5 +1,5 @@
-use Rattle.blex.specs.declared.token.TheConstants.{STRING_LEN}
-use Rattle.blex.specs.Pieces.{string_token}
+use Rattle.blang.specs.declared.token.TheConstants.{STRING_LEN}
+use Rattle.blang.specs.Cut.{string_token}
 use Rattle.blex.proofs.EachPiece.{whole-string}
 use Rattle.blex.proofs.QuoteSteps.{constant_closed, constant_wrong}
 use Rattle.blex.proofs.quotes.string.Goals as goal

@@ -1,8 +1,8 @@
 use Rattle.std.proofs.Common.{◌≡◌, ◌∙◌, ◌++◌, List, ap, ap₂, arith, codes, decimal}
 use Rattle.std.proofs.lemmas.List.{take_all}
 use Rattle.std.specs.List.{flat_map}
-use Rattle.bcode.specs.declared.definition.Definition.{Definition}
-use Rattle.bmach.specs.Layout.{shape_of}
+use Rattle.blang.specs.declared.code.Definition.{Definition}
+use Rattle.blang.specs.Layout.{shape_of}
 use Rattle.blist.specs.declared.layout.TheConstants.{HEADING}
 use Rattle.blist.specs.Maps.{map_row}
 use Rattle.blist.proofs.AddedRows.{each_more}

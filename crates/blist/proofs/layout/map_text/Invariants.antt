@@ -1,6 +1,6 @@
 use Rattle.std.proofs.Common.{◌≡◌, ◌++◌, take}
 use Rattle.std.specs.List.{flat_map}
-use Rattle.bmach.specs.Layout.{shape_of}
+use Rattle.blang.specs.Layout.{shape_of}
 use Rattle.blist.specs.declared.layout.TheConstants.{HEADING}
 use Rattle.blist.specs.Maps.{map_row}
 use Rattle.blist.proofs.layout.map_text.Given as goal

@@ -1,7 +1,7 @@
 use Rattle.std.proofs.Common.{◌≡◌, ◌∙◌, ◌++◌, ap, codes, decimal}
 use Rattle.std.specs.Prelude.{min, unwrap_or}
 use Rattle.std.proofs.lemmas.Result.{on_ok_weaker}
-use Rattle.bmach.specs.Layout.{shape_of, size_of}
+use Rattle.blang.specs.Layout.{shape_of, size_of}
 use Rattle.blist.specs.Columns.{left, right}
 use Rattle.blist.specs.Maps.{address_of, dots, words_from}
 use Rattle.blist.proofs.AddedRows.{piece}

@@ -1,6 +1,6 @@
 use Rattle.std.proofs.Common.{◌≡◌, ◌∙◌, ℕ, List, [], refl, subst}
 use Rattle.std.specs.Prelude.{option_map}
-use Rattle.bcode.specs.declared.definition.Definition.{Definition}
+use Rattle.blang.specs.declared.code.Definition.{Definition}
 use Rattle.blist.specs.Listings.{listed, no_memory, stopped, unnamed, wanted}
 use Rattle.blist.specs.Told.{Told}
 use Rattle.blist.proofs.listing.list.Goals as goal

@@ -1,7 +1,7 @@
 use Rattle.std.proofs.Common.{◌∙◌, ◌<◌, ℕ, List, ap, get_or, length, subst}
 use Rattle.std.specs.Borrow.{Bor}
 use Rattle.std.specs.Prelude.{Option, option_map}
-use Rattle.bcode.specs.declared.definition.Definition.{Definition}
+use Rattle.blang.specs.declared.code.Definition.{Definition}
 use Rattle.blist.specs.declared.listing.TheConstants.{HEADING}
 use Rattle.blist.proofs.AddedRows.{wanted_more}
 use Rattle.blist.proofs.listing.listing.Goals as goal

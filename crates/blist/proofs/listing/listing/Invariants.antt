@@ -1,6 +1,6 @@
 use Rattle.std.proofs.Common.{take, option_map}
 use Rattle.std.specs.List.{flat_map}
-use Rattle.bcode.specs.Text.{lines_of}
+use Rattle.blang.specs.Text.{lines_of}
 use Rattle.blist.specs.Listings.{Adds, wanted}
 use Rattle.blist.specs.declared.listing.TheConstants.{HEADING}
 use Rattle.blist.proofs.listing.listing.Given as goal

@@ -1,4 +1,4 @@
-use Rattle.bcode.specs.Text.{instr_line}
+use Rattle.blang.specs.Text.{instr_line}
 use Rattle.blist.proofs.AddedRows.{adds_more}
 use Rattle.blist.proofs.listing.push_code.Goals as goal
 

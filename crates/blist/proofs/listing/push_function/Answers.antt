@@ -1,8 +1,8 @@
 use Rattle.std.proofs.Common.{◌≡◌, ◌∙◌, [], ◌∷◌, codes, decimal, map, subst}
 use Rattle.std.proofs.lemmas.Result.{on_ok_weaker}
-use Rattle.bcode.specs.Parts.{function_of}
-use Rattle.bcode.specs.Text.{header_line, instr_line, line, string_line, target_line}
-use Rattle.bcode.specs.declared.definition.Definition.TheVariants as definition
+use Rattle.blang.specs.CodeParts.{function_of}
+use Rattle.blang.specs.Text.{header_line, instr_line, line, string_line, target_line}
+use Rattle.blang.specs.declared.code.Definition.TheVariants as definition
 use Rattle.blist.specs.Listings.{Adds}
 use Rattle.blist.proofs.AddedRows.{function_rows, page_is}
 use Rattle.blist.proofs.listing.push_function.Goals as goal

@@ -1,8 +1,8 @@
 use Rattle.std.proofs.Common.{◌≡◌, ◌∙◌, [], ◌∷◌, codes, decimal, map, subst}
 use Rattle.std.proofs.lemmas.Result.{on_ok_weaker}
-use Rattle.bcode.specs.Parts.{simple_of}
-use Rattle.bcode.specs.Text.{header_line, ival_line, line, string_line}
-use Rattle.bcode.specs.declared.definition.Definition.TheVariants as definition
+use Rattle.blang.specs.CodeParts.{simple_of}
+use Rattle.blang.specs.Text.{header_line, ival_line, line, string_line}
+use Rattle.blang.specs.declared.code.Definition.TheVariants as definition
 use Rattle.blist.specs.Listings.{Adds}
 use Rattle.blist.proofs.AddedRows.{data_rows, page_is}
 use Rattle.blist.proofs.listing.push_simple.Goals as goal

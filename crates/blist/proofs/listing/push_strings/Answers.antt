@@ -1,6 +1,6 @@
 use Rattle.std.proofs.Common.{get_or}
 use Rattle.std.proofs.lemmas.List.{get_or_default}
-use Rattle.bcode.specs.Text.{string_line}
+use Rattle.blang.specs.Text.{string_line}
 use Rattle.blist.proofs.AddedRows.{adds_more}
 use Rattle.blist.proofs.listing.push_strings.Goals as goal
 

@@ -1,5 +1,5 @@
 use Rattle.std.proofs.Common.{map, take}
-use Rattle.bcode.specs.Text.{target_line}
+use Rattle.blang.specs.Text.{target_line}
 use Rattle.blist.specs.Listings.{Adds}
 use Rattle.blist.proofs.listing.push_targets.Given as goal
 

@@ -1,4 +1,4 @@
-use Rattle.bcode.specs.Text.{ival_line}
+use Rattle.blang.specs.Text.{ival_line}
 use Rattle.blist.proofs.AddedRows.{adds_more}
 use Rattle.blist.proofs.listing.push_values.Goals as goal
 

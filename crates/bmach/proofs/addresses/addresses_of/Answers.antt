@@ -3,8 +3,9 @@ use Rattle.std.proofs.Math.Nat.{mod-add-mod}
 use Rattle.std.proofs.lemmas.List.{take_all}
 use Rattle.std.specs.Prelude.{is_none, is_some, option_map}
 use Rattle.std.specs.Bool.{OnTrue}
-use Rattle.bmach.specs.declared.fault.LoadFault.TheVariants as fault
-use Rattle.bmach.specs.Layout.{same_name, shape_of, address_in, data_end, duplicate_behind, names_of}
+use Rattle.blang.specs.declared.run.LoadFault.TheVariants as fault
+use Rattle.bword.specs.Words.{same_name}
+use Rattle.blang.specs.Layout.{shape_of, address_in, data_end, duplicate_behind, names_of}
 use Rattle.bmach.proofs.Lookups.{address_in-push}
 use Rattle.bmach.proofs.Spots.{wrapped, wrapped-push, data_end-push}
 use Rattle.bmach.proofs.Naming.{shapes_more, shapes_split, new_name, old_name, all_known}

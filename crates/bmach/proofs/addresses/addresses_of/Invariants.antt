@@ -1,5 +1,5 @@
 use Rattle.std.proofs.Common.{◌≡◌, ℕ, ◌%◌, List, [], map, take, None}
-use Rattle.bmach.specs.Layout.{address_in, data_end, duplicate_behind, names_of, shape_of}
+use Rattle.blang.specs.Layout.{address_in, data_end, duplicate_behind, names_of, shape_of}
 use Rattle.bmach.proofs.Spots.{wrapped}
 use Rattle.bmach.proofs.addresses.addresses_of.Given as goal
 

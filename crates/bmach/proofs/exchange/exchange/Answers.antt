@@ -1,8 +1,8 @@
 use Rattle.std.proofs.Common.{◌+◌, Ok, drop}
-use Rattle.bmach.specs.Machine.{at_place, with_operand}
+use Rattle.blang.specs.Machine.{at_place, with_operand}
 use Rattle.bmach.specs.Steps.{call_of, world_with}
 use Rattle.bmach.specs.Turns.{reading, running, writing}
-use Rattle.bmach.specs.World.{character_bytes}
+use Rattle.blang.specs.Layout.{character_bytes}
 use Rattle.bmach.proofs.Turning.{turn_exchange, turn_over}
 use Rattle.bmach.proofs.exchange.exchange.Goals as goal
 

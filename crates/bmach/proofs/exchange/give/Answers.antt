@@ -1,6 +1,5 @@
 use Rattle.std.proofs.Common.{refl}
-use Rattle.bmach.specs.Machine.{with_operand}
-use Rattle.bmach.specs.Runs.{NoneFailed}
+use Rattle.blang.specs.Machine.{with_operand, NoneFailed}
 use Rattle.bmach.specs.Steps.{call_of}
 use Rattle.bmach.specs.Turns.{running}
 use Rattle.bmach.proofs.Turning.{goes_fails, goes_on}

@@ -1,6 +1,6 @@
 use Rattle.std.proofs.Common.{◌≡◌, ◌+◌, suc, map, take, drop, inl, inr, ⊎_elim, sym, ap, ◌∙◌, arith}
 use Rattle.std.proofs.lemmas.List.{take_all}
-use Rattle.bmach.specs.Layout.{data_end, label_count, labels_in, shape_of, size_of}
+use Rattle.blang.specs.Layout.{data_end, label_count, labels_in, shape_of, size_of}
 use Rattle.bmach.specs.Loading.{fits}
 use Rattle.bmach.proofs.Spots.{data_end-push}
 use Rattle.bmach.proofs.Fitting.{fits_if, label_count-push, too_large}

@@ -1,5 +1,5 @@
 use Rattle.std.proofs.Common.{◌≡◌, ◌≤◌, map, take}
-use Rattle.bmach.specs.Layout.{data_end, label_count, shape_of}
+use Rattle.blang.specs.Layout.{data_end, label_count, shape_of}
 use Rattle.bmach.proofs.loader.fits.Given as goal
 
 abbrev pub invariant-loop-definition : goal.invariant-loop-definition

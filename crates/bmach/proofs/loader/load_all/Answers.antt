@@ -3,8 +3,8 @@ use Rattle.std.specs.Prelude.{flat_map, fold}
 use Rattle.std.proofs.lemmas.List.{length-map, map-append, append-nil, append_assoc, nil_from_length}
 use Rattle.std.proofs.lemmas.List.Sums.{fold-append}
 use Rattle.std.proofs.lemmas.Result.{err_from_is_err_and}
-use Rattle.bcode.specs.declared.definition.Definition.{Definition}
-use Rattle.bmach.specs.Layout.{data_end, label_count, labels_in, names_in, shape_of, size_of, first_undefined}
+use Rattle.blang.specs.declared.code.Definition.{Definition}
+use Rattle.blang.specs.Layout.{data_end, label_count, labels_in, names_in, shape_of, size_of, first_undefined}
 use Rattle.bmach.specs.Loading.{Part, IsFault, first_part, fits, known_in, undefined_fault, with_definition}
 use Rattle.bmach.specs.Images.{loaded_of}
 use Rattle.bmach.proofs.Fitting.{one_more_fits}

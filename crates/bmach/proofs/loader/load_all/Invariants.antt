@@ -1,6 +1,6 @@
 use Rattle.std.proofs.Common.{◌≡◌, ◌++◌, None}
 use Rattle.std.specs.Prelude.{flat_map, fold}
-use Rattle.bmach.specs.Layout.{first_undefined, names_in}
+use Rattle.blang.specs.Layout.{first_undefined, names_in}
 use Rattle.bmach.specs.Loading.{first_part, known_in, with_definition}
 use Rattle.bmach.specs.Parts.{part_of}
 use Rattle.bmach.proofs.loader.load_all.Given as goal

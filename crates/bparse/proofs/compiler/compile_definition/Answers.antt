@@ -8,7 +8,7 @@ use Rattle.bword.specs.ByteEnds.{Writes, Refuses}
 use Rattle.btree.specs.DefinitionReader.{definition}
 use Rattle.bexpr.specs.Parsers.{Halts}
 use Rattle.bparse.proofs.MadeSteps.{drafted, end_of, not_end, tree_formed, fault_some, fault_none, viewed}
-use Rattle.bcode.specs.Text.{text_of}
+use Rattle.blang.specs.Text.{text_of}
 use Rattle.bparse.proofs.compiler.compile_definition.Goals as goal
 
 pub returns-in_err-look-clause-gives : goal.returns-in_err-look-clause-gives

@@ -1,5 +1,5 @@
 use Rattle.std.proofs.Common.{refl, sym, ◌∙◌}
-use Rattle.btree.specs.Statement.{Auto}
+use Rattle.blang.specs.Trees.{Auto}
 use Rattle.btree.specs.StatementReader.{is_semicolon, declared}
 use Rattle.btree.proofs.StatementFine.{declared_fine}
 use Rattle.bemit.specs.Drafts.{imported}

@@ -1,5 +1,5 @@
 use Rattle.std.proofs.Common.{refl, sym, ◌∙◌}
-use Rattle.btree.specs.Statement.{Extrn}
+use Rattle.blang.specs.Trees.{Extrn}
 use Rattle.btree.specs.StatementReader.{is_semicolon, name}
 use Rattle.btree.proofs.StatementFine.{name_fine}
 use Rattle.bemit.specs.Drafts.{imported}

@@ -1,5 +1,5 @@
 use Rattle.std.proofs.Common.{◌∙◌, ap, None, refl}
-use Rattle.blex.specs.declared.token.Token.TheVariants as token
+use Rattle.blang.specs.declared.token.Token.TheVariants as token
 use Rattle.btree.specs.StatementReader.{step_at}
 use Rattle.bread.specs.Headings.{IsUnheaded}
 use Rattle.bread.proofs.Steps.{run_seen}

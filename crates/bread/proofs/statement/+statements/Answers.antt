@@ -1,12 +1,12 @@
 use Rattle.std.proofs.Common.{◌+◌, sym, ap, ◌∙◌}
 use Rattle.std.specs.Option.{is_some}
-use Rattle.blex.specs.declared.token.Token.TheVariants as token
+use Rattle.blang.specs.declared.token.Token.TheVariants as token
 use Rattle.blex.proofs.LexemeSteps.{token_here, lexeme_here}
-use Rattle.btree.specs.Expression.{words}
-use Rattle.btree.specs.Statement.{Goto, statement_words, body_words}
+use Rattle.blang.specs.WellFormed.{words, statement_words, body_words}
+use Rattle.blang.specs.Trees.{Goto}
 use Rattle.btree.specs.StatementReader.{compound, switched, chosen, looped, goes_on, level}
 use Rattle.btree.specs.StatementReader as reader
-use Rattle.bcode.specs.declared.instr.Instr.TheVariants as instr
+use Rattle.blang.specs.declared.code.Instr.TheVariants as instr
 use Rattle.bemit.specs.Drafts.{filled}
 use Rattle.bemit.specs.Effects.{evaluated, done}
 use Rattle.bread.specs.Headings.{unheaded}

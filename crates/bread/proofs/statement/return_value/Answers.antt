@@ -1,5 +1,5 @@
 use Rattle.std.proofs.Common.{◌∙◌, ap}
-use Rattle.bcode.specs.declared.instr.Instr.TheVariants as instr
+use Rattle.blang.specs.declared.code.Instr.TheVariants as instr
 use Rattle.bemit.specs.Drafts.{emitted}
 use Rattle.bread.proofs.Steps.{compiles_err}
 use Rattle.bread.proofs.Takings.{falls_after, both_fall}

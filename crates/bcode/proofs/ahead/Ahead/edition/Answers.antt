@@ -1,7 +1,7 @@
 use Rattle.std.proofs.Common.{◌≡◌, ◌++◌, length, refl, arith, ap, length-append}
 use Rattle.std.proofs.lemmas.Bool.Decides.{Decides-eqb}
 use Rattle.std.proofs.lemmas.Slice.Eq.{strip_prefix_is}
-use Rattle.bcode.specs.Text.{edition_line}
+use Rattle.blang.specs.Text.{edition_line}
 use Rattle.bcode.proofs.AheadLaws.{passes_text, no_opening}
 use Rattle.bcode.proofs.ahead.Ahead.edition.Goals as goal
 

@@ -1,5 +1,5 @@
 use Rattle.std.proofs.Common.{arith, ℕ, ◌≢◌, ◌<◌, ◌≤◌, ◌^◌, ◌∷◌, [], decimal}
-use Rattle.bcode.specs.Text.{line}
+use Rattle.blang.specs.Text.{line}
 use Rattle.bcode.proofs.LineLaws.{number_line_at-exact}
 use Rattle.bcode.proofs.ShapeLaws.{IsLine, number_line-shape}
 use Rattle.bcode.proofs.StreamLaws.{stream_reads, stream_falls, stream_refuses, stream_breaks}

@@ -1,5 +1,5 @@
 use Rattle.std.proofs.Common.{◌≡◌, None, not, ap, ◌∙◌, sym, subst}
-use Rattle.btree.specs.Scan.{rest_of}
+use Rattle.blang.specs.Scan.{rest_of}
 use Rattle.bemit.specs.Buffers.{Buffer}
 use Rattle.bemit.specs.Switches.{AreNumbered}
 use Rattle.bemit.proofs.DraftLemmas.{no_fault, innermost-first, IsSound-arms, numbered-ended, ended-is}

@@ -1,5 +1,5 @@
 use Rattle.std.proofs.Common.{◌+◌, ◌-◌, ◌<◌, false, Some, Ok, sym, ap, ◌∙◌, refl, arith}
-use Rattle.btree.specs.Expression.{PostIncrement, PostDecrement, Literal, Number}
+use Rattle.blang.specs.Trees.{PostIncrement, PostDecrement, Literal, Number}
 use Rattle.btree.specs.ExpressionReader.{inner, primary, postfix, postfix_with, call, operand, chain, conditional, reader, Rvalue, Index, Call, Step, suffix, prefix_op}
 use Rattle.btree.specs.Reading.{first}
 use Rattle.bemit.specs.Drafts.{emitted}

@@ -3,7 +3,7 @@ use Rattle.std.proofs.lemmas.Map.Views.{IfSome-lookup_from_All}
 use Rattle.std.specs.BTreeMap.{is_at}
 use Rattle.std.specs.Ordering.{nat_cmp}
 use Rattle.std.specs.Cmp.Lexicographic.{slice_cmp}
-use Rattle.bmach.specs.Layout.{address_in}
+use Rattle.blang.specs.Layout.{address_in}
 use Rattle.bmach.proofs.Lookups.{lookup-is_at}
 use Rattle.bmach.proofs.address_table.Addresses.get.Goals as goal
 

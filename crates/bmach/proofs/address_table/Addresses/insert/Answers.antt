@@ -8,7 +8,7 @@ use Rattle.std.specs.Ordering.{nat_cmp}
 use Rattle.std.specs.Cmp.Lexicographic.{slice_cmp}
 use Rattle.bnames.specs.NameTables.{value_of, with_name}
 use Rattle.bnames.specs.NameTables as table
-use Rattle.bmach.specs.Layout.{Addresses, address_in}
+use Rattle.blang.specs.Layout.{Addresses, address_in}
 use Rattle.bmach.specs.Loading.{Knows}
 use Rattle.bmach.proofs.Lookups.{lookup-is_at, knows}
 use Rattle.bmach.proofs.address_table.Addresses.insert.Goals as goal

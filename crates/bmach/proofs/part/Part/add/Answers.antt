@@ -1,5 +1,5 @@
 use Rattle.std.proofs.Common.{sym, subst}
-use Rattle.bcode.specs.declared.definition.Definition.{Definition}
+use Rattle.blang.specs.declared.code.Definition.{Definition}
 use Rattle.bmach.specs.Loading.{known_in}
 use Rattle.bmach.specs.Parts.{Adds}
 use Rattle.bmach.proofs.part.Part.add.Goals as goal

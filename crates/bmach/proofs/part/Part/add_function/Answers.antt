@@ -1,10 +1,10 @@
 use Rattle.std.proofs.Common.{◌≡◌, ◌+◌, [], ◌∷◌, ◌++◌, map, length, Ok, sym, ap, subst, ◌∙◌, append_assoc}
 use Rattle.std.specs.Prelude.{flat_map}
 use Rattle.std.proofs.lemmas.List.{map-append, length-map}
-use Rattle.bcode.specs.Definitions as definitions
-use Rattle.bcode.specs.declared.definition.Definition.TheVariants as definition
+use Rattle.blang.specs.CodeParts as definitions
+use Rattle.blang.specs.declared.code.Definition.TheVariants as definition
 use Rattle.bmach.specs.Parts.{Adds}
-use Rattle.bmach.specs.Layout.{first_undefined, name_in_instr}
+use Rattle.blang.specs.Layout.{first_undefined, name_in_instr}
 use Rattle.bmach.specs.Loading.{known_in}
 use Rattle.bmach.specs.Images.{loaded_of}
 use Rattle.bmach.specs.Operations.{instr_of}

@@ -1,10 +1,10 @@
 use Rattle.std.proofs.Common.{◌≡◌, ◌+◌, ◌-◌, [], ◌++◌, map, length, take, replicate, max, Ok, sym, ap, subst, ◌∙◌, append_assoc, append-nil, arith}
 use Rattle.std.specs.Prelude.{flat_map, vec_len}
 use Rattle.std.proofs.lemmas.List.{length-map}
-use Rattle.bcode.specs.Definitions as definitions
-use Rattle.bcode.specs.declared.definition.Definition.TheVariants as definition
+use Rattle.blang.specs.CodeParts as definitions
+use Rattle.blang.specs.declared.code.Definition.TheVariants as definition
 use Rattle.bmach.specs.Parts.{Adds}
-use Rattle.bmach.specs.Layout.{first_undefined, name_in_value, value_word, padded}
+use Rattle.blang.specs.Layout.{first_undefined, name_in_value, value_word, padded}
 use Rattle.bmach.specs.Loading.{known_in}
 use Rattle.bmach.specs.Images.{loaded_of}
 use Rattle.bmach.proofs.Padding.{padded_behind}

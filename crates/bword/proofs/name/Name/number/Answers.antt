@@ -1,5 +1,5 @@
 use Rattle.std.proofs.Common.{ap, ◌∙◌}
-use Rattle.bword.specs.Names.{number_of}
+use Rattle.bword.specs.Words.{number_of}
 use Rattle.bword.proofs.NameNumbers.{array_number}
 use Rattle.bword.proofs.name.Name.number.Goals as goal
 

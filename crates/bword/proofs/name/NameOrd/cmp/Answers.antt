@@ -1,6 +1,6 @@
 use Rattle.std.proofs.Common.{ap, ◌∙◌, sym}
 use Rattle.std.specs.Ordering.{nat_cmp}
-use Rattle.bword.specs.Names.{number_of}
+use Rattle.bword.specs.Words.{number_of}
 use Rattle.bword.proofs.NameNumbers.{number_of-cmp}
 use Rattle.bword.proofs.name.NameOrd.cmp.Goals as goal
 

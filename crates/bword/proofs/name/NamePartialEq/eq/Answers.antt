@@ -1,6 +1,6 @@
 use Rattle.std.proofs.Common.{ap, ◌∙◌}
 use Rattle.std.specs.Prelude.{nat_eq}
-use Rattle.bword.specs.Names.{number_of}
+use Rattle.bword.specs.Words.{number_of}
 use Rattle.bword.proofs.NameNumbers.{number_of-eq}
 use Rattle.bword.proofs.name.NamePartialEq.eq.Goals as goal
 

@@ -1,0 +1,189 @@
+-- What comes of a source: its code text and its diagnostic, and what the compiler writes and answers.
+use Rattle.std.specs.Prelude.{◌≡◌, ℕ, List, [], ◌∷◌, ◌++◌, length, codes, decimal, Option, Some, None, ◌≢◌, ◌≤◌, ◌<◌, ◌⊎◌, take}
+use Rattle.bword.specs.declared.edition.Edition.{Edition}
+use Rattle.bword.specs.declared.ends.EndFault.{EndFault}
+use Rattle.bword.specs.ByteEnds.{Incoming, Outgoing, Took, Grew, Writes, Refuses, CanFollow}
+use Rattle.bword.specs.declared.ends.EndFault.TheVariants as end_fault
+use Rattle.blang.specs.Text.{joined, opening, end_text}
+use Rattle.blang.specs.declared.token.Letters.{Letters}
+use Rattle.blang.specs.declared.token.Placed.{Placed}
+use Rattle.blang.specs.declared.token.About.{About}
+use Rattle.blang.specs.declared.token.Diagnostic.{Diagnostic}
+use Rattle.blang.specs.Trees.{Definition}
+use Rattle.blang.specs.Scan.{word_of}
+use Rattle.blang.specs.Code.{code_of, fault_of}
+use Rattle.blang.specs.WellFormed.{Parted}
+use Rattle.blang.specs.Cut.{tokens_from}
+use Rattle.blang.specs.Text as text
+use Rattle.blang.specs.declared.token.Letters.TheVariants as letters
+use Rattle.blang.specs.declared.token.About.TheVariants as about
+
+-- the names defined so far
+abbrev pub Defined : Type 0
+Defined = List (List ℕ)
+
+abbrev pub text_of : Definition → List ℕ
+text_of d = text.text_of (code_of d)
+
+-- the texts of definitions, and the diagnostic, if there is one
+pub record Outcome : Type 0 where
+  pub code : List (List ℕ)
+  pub stop : Option Diagnostic
+
+-- a definition with or without a fault, and what comes of those behind it
+abbrev pub outcome_with : Option Diagnostic → List ℕ → Outcome → Outcome
+outcome_with (Some fault) text later = record { code = []; stop = Some fault }
+outcome_with None text later = record { code = text ∷ later.code; stop = later.stop }
+
+-- what comes of definitions: the texts up to the first fault, or all of them
+abbrev pub outcome_of : Defined → List Definition → Option Diagnostic → Outcome
+outcome_of names [] stop = record { code = []; stop = stop }
+outcome_of names (d ∷ ds) stop =
+    outcome_with (fault_of names d) (text_of d) (outcome_of (names ++ (word_of d).text ∷ []) ds stop)
+
+-- What comes of these tokens, where these names are defined before.
+pub record Goes (names : Defined) (tokens : List Placed) (outcome : Outcome) : Type 0 where
+  pub definitions : List Definition
+  pub stop : Option Diagnostic
+  pub parted : Parted tokens definitions stop
+  pub outcome_is : outcome ≡ outcome_of names definitions stop
+
+-- the line behind the texts, where nothing is wrong
+abbrev pub ending : Option Diagnostic → List ℕ
+ending None = end_text
+ending (Some fault) = []
+
+-- the whole code text, in an edition
+abbrev pub code_text : Edition → Outcome → List ℕ
+code_text edition outcome = opening edition ++ (joined outcome.code ++ ending outcome.stop)
+
+abbrev pub letters_text : Letters → List ℕ
+letters_text letters.OpenComment = codes "*/"
+letters_text letters.Character = codes "ch"
+letters_text letters.LongName = codes "nm"
+letters_text letters.Constant = codes "ct"
+letters_text letters.Syntax = codes "sx"
+letters_text letters.Redeclared = codes "rd"
+letters_text letters.NotLvalue = codes "lv"
+letters_text letters.TooManyNames = codes ">s"
+letters_text letters.TooManyCases = codes ">c"
+letters_text letters.Undefined = codes "un"
+letters_text letters.TooLarge = codes ">e"
+
+abbrev pub about_text : About → List ℕ
+about_text about.Nothing = []
+about_text about.Case = codes " case"
+about_text about.Break = codes " break"
+about_text about.Default = codes " default"
+about_text (about.Name name) = codes " " ++ name
+
+-- the line of a diagnostic
+abbrev pub line_of : Diagnostic → List ℕ
+line_of d = letters_text d.letters ++ about_text d.about ++ codes " " ++ decimal d.line ++ codes "\n"
+
+abbrev pub status_of : EndFault → ℕ
+status_of end_fault.Device = 133
+status_of end_fault.Memory = 134
+
+-- each source that begins with the bytes that were taken, or the one whose end was seen, comes to this
+abbrev pub Whatever : Edition → List ℕ → Incoming → (Outcome → Type 0) → Type 0
+Whatever edition taken end P =
+    (more : List ℕ) → CanFollow end more → (r : Outcome) → Goes [] (tokens_from edition 1 (taken ++ more)) r → P r
+
+-- there is code: a definition's, or the last line
+abbrev pub HasCode : Outcome → Type 0
+HasCode r = r.code ≡ [] → r.stop ≡ None
+
+-- the edition, the input and the two outputs, before and after, and the status
+pub record Run : Type 0 where
+  pub edition : Edition
+  pub source : Incoming
+  pub source_behind : Incoming
+  pub code : Outgoing
+  pub code_behind : Outgoing
+  pub line : Outgoing
+  pub line_behind : Outgoing
+  pub status : ℕ
+
+-- no read failed
+abbrev pub AllRead : Run → Type 0
+AllRead run = run.source_behind.failures ≡ run.source.failures
+
+-- no line was written, and no count of its end has changed
+abbrev pub IsSilent : Run → Type 0
+IsSilent run = run.line_behind ≡ run.line
+
+-- The code was written.
+pub record IsCompiled (run : Run) (r : Outcome) : Type 0 where
+  pub read : AllRead run
+  pub clean : r.stop ≡ None
+  pub code : Writes run.code (code_text run.edition r) run.code_behind
+  pub silent : IsSilent run
+
+-- The code before a fault was written, and the line of the fault.
+pub record IsFaulty (run : Run) (r : Outcome) : Type 0 where
+  pub read : AllRead run
+  pub fault : Diagnostic
+  pub stop : r.stop ≡ Some fault
+  pub code : Writes run.code (code_text run.edition r) run.code_behind
+  pub line : Writes run.line (line_of fault) run.line_behind
+
+-- what the text begins with and the texts of so many definitions were written, and nothing else
+abbrev pub HasWritten : Run → ℕ → Outcome → Type 0
+HasWritten run count r = Writes run.code (opening run.edition ++ joined (take count r.code)) run.code_behind
+
+-- A read failed. The texts of some definitions were written, and no line.
+pub record SourceFailed (run : Run) (taken : List ℕ) : Type 0 where
+  pub counted : Grew run.source.failures run.source_behind.failures
+  pub count : ℕ
+  pub code : Whatever run.edition taken run.source_behind (λ r. (count ≤ length r.code) × HasWritten run count r)
+  pub silent : IsSilent run
+
+-- The code's end refused so what the text begins with, before anything was read.
+pub record OpeningRefused (run : Run) (taken : List ℕ) (fault : EndFault) : Type 0 where
+  pub unread : (taken ≡ []) × (run.source_behind ≡ run.source)
+  pub some : opening run.edition ≢ []
+  pub code : Refuses run.code (opening run.edition) fault run.code_behind
+  pub silent : IsSilent run
+
+-- The code's end refused so. What the text begins with was written, a beginning of the rest, and no line.
+pub record CodeRefused (run : Run) (taken : List ℕ) (fault : EndFault) : Type 0 where
+  pub read : AllRead run
+  pub opened : Outgoing
+  pub begun : Writes run.code (opening run.edition) opened
+  pub code : Whatever run.edition taken run.source_behind
+      (λ r. HasCode r × Refuses opened (joined r.code ++ ending r.stop) fault run.code_behind)
+  pub silent : IsSilent run
+
+-- Code was written whole, and of the line that stops it a beginning, since its end refused so.
+pub record LineCutOff (run : Run) (fault : EndFault) (r : Outcome) : Type 0 where
+  pub diagnostic : Diagnostic
+  pub stop : r.stop ≡ Some diagnostic
+  pub code : Writes run.code (code_text run.edition r) run.code_behind
+  pub line : Refuses run.line (line_of diagnostic) fault run.line_behind
+
+-- The line's end refused so.
+pub record LineRefused (run : Run) (taken : List ℕ) (fault : EndFault) : Type 0 where
+  pub read : AllRead run
+  pub written : Whatever run.edition taken run.source_behind (LineCutOff run fault)
+
+-- The list of names was refused its growth, which no contract sees. A definition comes, of which nothing was written.
+pub record NamesRefused (run : Run) (taken : List ℕ) : Type 0 where
+  pub read : AllRead run
+  pub count : ℕ
+  pub code : Whatever run.edition taken run.source_behind (λ r. (count < length r.code) × HasWritten run count r)
+  pub silent : IsSilent run
+
+-- an end refused so
+abbrev pub EndRefused : Run → List ℕ → EndFault → Type 0
+EndRefused run taken fault = OpeningRefused run taken fault ⊎ CodeRefused run taken fault ⊎ LineRefused run taken fault
+
+-- What was written and answered is what comes of the source. Of an end that refused, the count of just that kind grew.
+pub record Compiles (run : Run) : Type 0 where
+  pub taken : List ℕ
+  pub took : Took run.source taken run.source_behind
+  pub compiled : run.status ≡ 0 → Whatever run.edition taken run.source_behind (IsCompiled run)
+  pub faulty : run.status ≡ 1 → Whatever run.edition taken run.source_behind (IsFaulty run)
+  pub failed : run.status ≡ 133 → SourceFailed run taken ⊎ EndRefused run taken end_fault.Device
+  pub refused : run.status ≡ 134 → NamesRefused run taken ⊎ EndRefused run taken end_fault.Memory
+  pub no_other : (run.status ≡ 0) ⊎ (run.status ≡ 1) ⊎ (run.status ≡ 133) ⊎ (run.status ≡ 134)

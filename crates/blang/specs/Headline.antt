@@ -1,0 +1,193 @@
+-- What a run has to do with the meaning of its program, and what comes of a source that is compiled and run; where
+-- nothing fails, the whole promise of `go_edition`, over ends that tell their bytes.
+use Rattle.std.specs.Prelude.{◌≡◌, ◌≢◌, ℕ, ◌+◌, ◌≤◌, List, ◌++◌, map, [], Some, None}
+use Rattle.bword.specs.ByteEnds.{Incoming, Outgoing, Took, Writes, CanFollow, Began, Kept, outgoing_of, Grew}
+use Rattle.bword.specs.declared.edition.Edition.{Edition}
+use Rattle.blang.specs.Code.{code_of}
+use Rattle.blang.specs.Trees.{Definition}
+use Rattle.blang.specs.Machine.{State, Halted, Shows, AnyFailed, NoneFailed, RunGives, IsOwnStatus, machine, load_number, RunEnds, HasNotRun, NotLoaded, Finishes, report_text}
+use Rattle.blang.specs.Layout.{World, Ending, load_fault, Exited, Trapped}
+use Rattle.blang.specs.declared.run.Outcome.{Outcome}
+use Rattle.blang.specs.Value.{Answer, Ends, Wants}
+use Rattle.blang.specs.Meaning.{meant, world_of, IsBeginningOf, Loads}
+use Rattle.blang.specs.Cut.{tokens_from}
+use Rattle.blang.specs.Compiles.{Goes, Compiles, line_of}
+use Rattle.blang.specs.declared.status.TheConstants.{DONE, MEMORY, FAULT, TRAP, LIMIT, REFUSED}
+use Rattle.blang.specs.declared.run.LoadFault.{LoadFault}
+use Rattle.blang.specs.declared.token.Diagnostic.{Diagnostic}
+use Rattle.blang.specs.declared.run.Outcome.TheVariants as outcome
+use Rattle.blang.specs.declared.run.Trap.TheVariants as trap
+use Rattle.blang.specs.Compiles as compiled
+use Rattle.blang.specs.Machine as runs
+use Rattle.blang.specs.Value as answer
+use Rattle.blang.specs.declared.run.Report.TheVariants as report
+
+-- The program ends, with this outcome, this input left and this output.
+pub record Meets (result : Outcome) (left output : List ℕ) (answer : Answer ⊥) : Type 0 where
+  pub ending : Ending
+  pub world : World
+  pub ends : answer ≡ Ends ending world
+  pub shows : Shows result left output (Halted ending world)
+
+-- The program ends so with one fuel more than the steps, on each input that begins with the bytes that were taken.
+pub record EndsSo (ds : List Definition) (steps : ℕ) (i j : Incoming) (o p : Outgoing) (result : Outcome) : Type 0 where
+  pub taken : List ℕ
+  pub took : Took i taken j
+  pub no_failure : j.failures ≡ i.failures
+  pub output : List ℕ
+  pub written : Writes o output p
+  pub ends : (more : List ℕ) → CanFollow j more → Meets result more output (meant ds (taken ++ more) (steps + 1))
+
+-- The machine halts so at some step, and not within so many.
+pub record HaltsLater (state : ℕ → State) (steps : ℕ) (e : Ending) (w : World) : Type 0 where
+  pub step : ℕ
+  pub halts : state step ≡ Halted e w
+  pub not_within : (n : ℕ) → n ≤ steps → state n ≢ Halted e w
+
+-- A beginning of what the program writes was written. Where the program ends, its code takes more steps.
+pub record GoesOn (ds : List Definition) (steps : ℕ) (i j : Incoming) (o p : Outgoing) : Type 0 where
+  pub taken : List ℕ
+  pub took : Took i taken j
+  pub no_failure : j.failures ≡ i.failures
+  pub output : List ℕ
+  pub written : Writes o output p
+  pub begins : (more : List ℕ) → CanFollow j more
+      → IsBeginningOf output (world_of (meant ds (taken ++ more) (steps + 1))).output
+  pub later : (more : List ℕ) → CanFollow j more → (n : ℕ) (e : Ending) (w : World)
+      → meant ds (taken ++ more) n ≡ Ends e w → HaltsLater (machine (map code_of ds) (taken ++ more)) steps e w
+
+-- A beginning was written of what the program writes.
+pub record BreaksOff (ds : List Definition) (steps : ℕ) (i j : Incoming) (o p : Outgoing) (why : Type 0) : Type 0 where
+  pub taken : List ℕ
+  pub took : Took i taken j
+  pub made : ℕ
+  pub within : made ≤ steps
+  pub began : (more : List ℕ) → CanFollow j more
+      → (text : List ℕ) × IsBeginningOf text (world_of (meant ds (taken ++ more) (made + 1))).output × Began o text p
+  pub reason : why
+
+-- what a run of so many steps does, by its outcome
+abbrev pub RunsAsMeant : List Definition → ℕ → (i j : Incoming) (o p : Outgoing) → Outcome → Type 0
+RunsAsMeant ds steps i j o p (outcome.Exit status) = EndsSo ds steps i j o p (outcome.Exit status)
+RunsAsMeant ds steps i j o p (outcome.Trap kind) = EndsSo ds steps i j o p (outcome.Trap kind)
+RunsAsMeant ds steps i j o p outcome.Limit = GoesOn ds steps i j o p
+RunsAsMeant ds steps i j o p outcome.Device = BreaksOff ds steps i j o p (AnyFailed i j o p)
+RunsAsMeant ds steps i j o p outcome.Memory = BreaksOff ds steps i j o p (NoneFailed i j o p)
+
+-- Just so many steps of the program's code were made, or those up to its halt, and what they did is what the program
+-- means. The code was never stuck, and a status of the program's own is below 128.
+pub record DoesAsMeant (ds : List Definition) (steps : ℕ) (i j : Incoming) (o p : Outgoing) (result : Outcome)
+    : Type 0 where
+  pub made : RunGives (machine (map code_of ds)) steps i j o p result
+  pub meant : RunsAsMeant ds steps i j o p result
+  pub not_stuck : result ≢ outcome.Trap trap.Stuck
+  pub own_status : IsOwnStatus result
+
+-- A program whose code doesn't load is reported. Any other is run, for so many steps at most, and does what it means.
+pub data RunsProgram (steps : ℕ) (ds : List Definition) (ends : RunEnds) (status : ℕ) : Type 0 where
+  refused : (f : LoadFault) (n : ℕ) → load_fault (map code_of ds) ≡ Some f → load_number f ≡ Some n → HasNotRun ends
+      → NotLoaded n ends.line ends.line_behind status → RunsProgram steps ds ends status
+  ran : (outcome : Outcome) → Loads ds
+      → DoesAsMeant ds steps ends.input ends.input_behind ends.out ends.out_behind outcome
+      → Finishes outcome ends.line ends.line_behind status → RunsProgram steps ds ends status
+  no_memory : HasNotRun ends → ends.line_behind ≡ ends.line → status ≡ MEMORY → RunsProgram steps ds ends status
+
+-- the output end that keeps the code
+abbrev pub no_code : Outgoing
+no_code = outgoing_of (record { bytes = []; refusals = 0 })
+
+-- The source was compiled in the edition, and its program run.
+pub record RunsSource (edition : Edition) (steps : ℕ) (source source_behind : Incoming) (ends : RunEnds) (status : ℕ)
+    : Type 0 where
+  pub taken : List ℕ
+  pub took : Took source taken source_behind
+  pub runs : (more : List ℕ) → CanFollow source_behind more
+      → (r : compiled.Outcome) → (g : Goes [] (tokens_from edition 1 (taken ++ more)) r)
+      → (source_behind.failures ≡ source.failures) × (r.stop ≡ None) × RunsProgram steps g.definitions ends status
+
+-- A source that isn't compiled in the edition, for a fault or a failure, is not run. The code is kept in memory, which
+-- fails for want of memory alone.
+pub data GoesOff (edition : Edition) (steps : ℕ) (source source_behind : Incoming) (ends : RunEnds) (status : ℕ)
+    : Type 0 where
+  stopped : (kept : Kept) → (status ≡ DONE → ⊥) → HasNotRun ends
+      → Compiles (record {
+        edition = edition;
+        source = source;
+        source_behind = source_behind;
+        code = no_code;
+        code_behind = outgoing_of kept;
+        line = ends.line;
+        line_behind = ends.line_behind;
+        status = status;
+      })
+      → GoesOff edition steps source source_behind ends status
+  ran : RunsSource edition steps source source_behind ends status
+      → GoesOff edition steps source source_behind ends status
+
+-- An end tells that it gives these bytes.
+pub record Tells (end : Incoming) (bytes : List ℕ) : Type 0 where
+  pub left : end.left ≡ Some bytes
+  pub follow : CanFollow end bytes
+
+-- No read and no write failed, and memory was not refused.
+pub record NothingFailed (source source_behind : Incoming) (ends : RunEnds) (status : ℕ) : Type 0 where
+  pub source_read : Grew source.failures source_behind.failures → ⊥
+  pub input_read : Grew ends.input.failures ends.input_behind.failures → ⊥
+  pub output_written : Grew ends.out.failures ends.out_behind.failures → ⊥
+  pub line_written : Grew ends.line.failures ends.line_behind.failures → ⊥
+  pub not_refused : status ≢ MEMORY
+
+-- So much input is left, these bytes and this line were written, and this is the status.
+pub record Says (ends : RunEnds) (status : ℕ) (left output line : List ℕ) (answer : ℕ) : Type 0 where
+  pub unread : ends.input_behind.left ≡ Some left
+  pub written : Writes ends.out output ends.out_behind
+  pub told : Writes ends.line line ends.line_behind
+  pub answered : status ≡ answer
+
+-- the line and the status of a program that ends
+abbrev pub line_at : Ending → List ℕ
+line_at (Exited n) = []
+line_at (Trapped kind) = report_text (report.Trap kind)
+
+abbrev pub status_at : Ending → ℕ
+status_at (Exited n) = n
+status_at (Trapped kind) = TRAP
+
+-- The program ends so.
+pub record IsEnd
+    (ds : List Definition) (input : List ℕ) (fuel : ℕ) (e : Ending) (w : World) (ends : RunEnds) (status : ℕ)
+    : Type 0 where
+  pub means : meant ds input fuel ≡ answer.Ends e w
+  pub says : Says ends status w.input w.output (line_at e) (status_at e)
+
+-- The limit was reached, with what just so many steps write, a beginning of what the program writes.
+pub record IsLimit (ds : List Definition) (input : List ℕ) (steps : ℕ) (ends : RunEnds) (status : ℕ) : Type 0 where
+  pub world : World
+  pub shows : runs.Shows outcome.Limit world.input world.output (machine (map code_of ds) input steps)
+  pub begins : IsBeginningOf world.output (world_of (meant ds input (steps + 1))).output
+  pub says : Says ends status world.input world.output (report_text report.Limit) LIMIT
+
+-- Where the code halts within so many steps, that is the end which the program means, and it is what was written and
+-- answered. Else the limit is reached, as it always is where the program wants more fuel at every number.
+pub record RunAnswers (ds : List Definition) (input : List ℕ) (steps : ℕ) (ends : RunEnds) (status : ℕ) : Type 0 where
+  pub halts : (n : ℕ) → n ≤ steps → (e : Ending) (w : World) → machine (map code_of ds) input n ≡ Halted e w
+      → IsEnd ds input (n + 1) e w ends status
+  pub limited : ((n : ℕ) → n ≤ steps → (e : Ending) (w : World) → machine (map code_of ds) input n ≢ Halted e w)
+      → IsLimit ds input steps ends status
+  pub endless : ((n : ℕ) → (w : World) × (meant ds input n ≡ Wants w)) → IsLimit ds input steps ends status
+
+-- A source with a fault gets its line, and so does code that doesn't load. Any other program is run.
+pub record GoAnswers
+    (r : compiled.Outcome) (ds : List Definition) (input : List ℕ) (steps : ℕ) (ends : RunEnds) (status : ℕ)
+    : Type 0 where
+  pub faulty : (fault : Diagnostic) → r.stop ≡ Some fault → Says ends status input [] (line_of fault) FAULT
+  pub refused : r.stop ≡ None → (f : LoadFault) (n : ℕ) → load_fault (map code_of ds) ≡ Some f → load_number f ≡ Some n
+      → Says ends status input [] (report_text (report.Load n)) REFUSED
+  pub runs : r.stop ≡ None → Loads ds → RunAnswers ds input steps ends status
+
+-- For the outcome in the edition of the bytes that the source gives, and its program on the bytes that the input gives.
+abbrev pub Headline : Edition → (steps : ℕ) (source source_behind : Incoming) (ends : RunEnds) (status : ℕ) → Type 0
+Headline edition steps source source_behind ends status =
+    (text input : List ℕ) → Tells source text → Tells ends.input input → NothingFailed source source_behind ends status
+    → (r : compiled.Outcome) (g : Goes [] (tokens_from edition 1 text) r)
+    → GoAnswers r g.definitions input steps ends status

@@ -1,0 +1,284 @@
+-- Programs as trees, and the value of an expression.
+use Rattle.std.specs.Prelude.{ℕ, Option, Some, None, List, [], ◌∷◌, ◌++◌, suc, if◌then◌else◌, ◌+◌, ◌%◌, length, Bool, not, unwrap_or, ◌==◌}
+use Rattle.bword.specs.declared.operators.BinOp.{BinOp}
+use Rattle.bword.specs.Words.{binary_of, same_name, negate_of, not_of}
+use Rattle.bword.specs.declared.operators.BinOp.TheVariants as op
+use Rattle.blang.specs.declared.run.Trap.{Trap}
+use Rattle.blang.specs.declared.run.Trap.TheVariants.{ZeroDivisor, NotAFunction}
+use Rattle.blang.specs.Layout.{World, word_at, with_word, Ending, Trapped, Reply, Addresses, words, with_words, stepped, library, Callee, NoFunction, OfLibrary, OfProgram, callee_of, refusal, parameter_words, address_in}
+use Rattle.blang.specs.Scan.{value_of, Kind, Automatic, Labelled, kind_of, Scope, function_scope}
+use Rattle.blang.specs.Code.{Arms, Names, Meaning, In_frame, Outside, At_label, clean}
+use Rattle.blang.specs.Trees.{Heading, Label, Case, Default, Stmt, Headed, Compound, If, IfElse, While, Switch, Goto, Break, Return, ReturnValue, Evaluate, Empty, Stmts, Nothing, More, Word, Expr, Arguments, Negate, Not, Indirection, Address, PreIncrement, PreDecrement, PostIncrement, PostDecrement, Named, Literal, Text, Grouped, Indexed, Called, Postfixed, Prefixed, Binary, Conditional, Assigned, No_arguments, Another}
+
+-- a result, an end of the run, or want of fuel, each with its world
+pub data Answer (A : Type 0) : Type 0 where
+  Gives : A → World → Answer A
+  Ends : Ending → World → Answer A
+  Wants : World → Answer A
+
+abbrev pub Computation : Type 0 → Type 0
+Computation A = World → Answer A
+
+-- goes on with a result
+abbrev pub and_then : {A B : Type 0} → Answer A → (A → Computation B) → Answer B
+and_then (Gives a w) next = next a w
+and_then (Ends e w) next = Ends e w
+and_then (Wants w) next = Wants w
+
+infixl 10 ◌>>=◌
+abbrev pub ◌>>=◌ : {A B : Type 0} → Computation A → (A → Computation B) → Computation B
+◌>>=◌ first next w = and_then (first w) next
+
+abbrev pub gives : {A : Type 0} → A → Computation A
+gives a w = Gives a w
+
+abbrev pub trap : {A : Type 0} → Trap → Computation A
+trap t w = Ends (Trapped t) w
+
+abbrev pub fetch : ℕ → Computation ℕ
+fetch a w = Gives (word_at w a) w
+
+-- stores a word, and gives it
+abbrev pub store : ℕ → ℕ → Computation ℕ
+store a v w = Gives v (with_word w a v)
+
+-- an operator makes nothing of a zero divisor
+abbrev pub operated : Option ℕ → Computation ℕ
+operated (Some v) = gives v
+operated None = trap ZeroDivisor
+
+-- what an operator makes of two words
+abbrev pub operate : BinOp → ℕ → ℕ → Computation ℕ
+operate op x y = operated (binary_of op x y)
+
+-- the reply of the library
+abbrev pub answer_of : Reply → Answer ℕ
+answer_of (Reply.Gives v w) = Gives v w
+answer_of (Reply.Ends e w) = Ends e w
+
+-- a statement still to do, or a mark, which ends what a break drops: behind a loop's body, or a switch's
+pub data Item : Type 0 where
+  Do : (s : Stmt) → Item
+  Loop_mark : Item
+  Switch_mark : Item
+
+-- what is still to do in a call, the next one first
+abbrev pub Remaining : Type 0
+Remaining = List Item
+
+-- a heading's own label, case or default, with what is done there
+abbrev pub heading_label : Heading → Remaining → List (List ℕ × Remaining)
+heading_label (Label w) there = (w.text, there) ∷ []
+heading_label _ there = []
+
+abbrev pub heading_arm : Heading → Remaining → Arms Remaining
+heading_arm (Case line c) there = (Some (value_of c), there) ∷ []
+heading_arm (Default line) there = (None, there) ∷ []
+heading_arm _ there = []
+
+abbrev mutual
+  -- Each label of a statement, in source order: its name, the statement there and what remains after it,
+  -- where this remains after the whole. Behind the body of a while come a mark and the while again, behind that of
+  -- a switch a mark.
+  pub labels : Stmt → Remaining → List (List ℕ × Remaining)
+  labels (Headed h s) rest = heading_label h (Do s ∷ rest) ++ labels s rest
+  labels (Compound body) rest = body_labels body rest
+  labels (If e s) rest = labels s rest
+  labels (IfElse e s other) rest = labels s rest ++ labels other rest
+  labels (While e s) rest = labels s (Loop_mark ∷ Do (While e s) ∷ rest)
+  labels (Switch e body) rest = body_labels body (Switch_mark ∷ rest)
+  labels (Goto e) rest = []
+  labels (Break line) rest = []
+  labels Return rest = []
+  labels (ReturnValue e) rest = []
+  labels (Evaluate e) rest = []
+  labels Empty rest = []
+
+  pub body_labels : Stmts → Remaining → List (List ℕ × Remaining)
+  body_labels Nothing rest = []
+  body_labels (More before s) rest = body_labels before (Do s ∷ rest) ++ labels s rest
+
+abbrev mutual
+  -- The same of the arms of the switch around a statement. A switch keeps its own.
+  pub arms : Stmt → Remaining → Arms Remaining
+  arms (Headed h s) rest = heading_arm h (Do s ∷ rest) ++ arms s rest
+  arms (Compound body) rest = body_arms body rest
+  arms (If e s) rest = arms s rest
+  arms (IfElse e s other) rest = arms s rest ++ arms other rest
+  arms (While e s) rest = arms s (Loop_mark ∷ Do (While e s) ∷ rest)
+  arms (Switch e body) rest = []
+  arms (Goto e) rest = []
+  arms (Break line) rest = []
+  arms Return rest = []
+  arms (ReturnValue e) rest = []
+  arms (Evaluate e) rest = []
+  arms Empty rest = []
+
+  pub body_arms : Stmts → Remaining → Arms Remaining
+  body_arms Nothing rest = []
+  body_arms (More before s) rest = body_arms before (Do s ∷ rest) ++ arms s rest
+
+-- a function, the address of its first string word and the value of its first label
+pub record Function : Type 0 where
+  pub parameters : List Word
+  pub body : Stmt
+  pub strings : ℕ
+  pub first_label : ℕ
+
+-- the functions in order, the main one, the words up to the data end, and the addresses of names
+pub record Program : Type 0 where
+  pub functions : List Function
+  pub main : Option Function
+  pub words : List ℕ
+  pub data_end : ℕ
+  pub addresses : Addresses
+
+abbrev pub scope_of : Function → Scope
+scope_of f = clean (function_scope f.parameters f.body)
+
+abbrev pub frame_words : Function → ℕ
+frame_words f = (scope_of f).frame
+
+abbrev pub labels_of : Function → List (List ℕ × Remaining)
+labels_of f = labels f.body []
+
+-- a label's number is how many labels stand before it
+abbrev pub number_of : List ℕ → List (List ℕ × Remaining) → ℕ
+number_of x [] = 0
+number_of x (l ∷ ls) = if same_name l.0 x then 0 else suc (number_of x ls)
+
+-- what a name stands for: a word of the frame, a label, or an external
+abbrev pub stands_for : List (List ℕ × Remaining) → List ℕ → Option Kind → Meaning
+stands_for labels x (Some (Automatic word)) = In_frame word
+stands_for labels x (Some (Labelled number)) = At_label (number_of x labels)
+stands_for labels x _ = Outside
+
+abbrev pub names_of : Function → Names
+names_of f x = stands_for (labels_of f) x (kind_of x (scope_of f).names)
+
+-- the function that is executed, where its frame starts, and how many calls are active
+pub record Frame : Type 0 where
+  pub function : Function
+  pub start : ℕ
+  pub active : ℕ
+
+-- an evaluator of expressions, and of what remains of a call
+pub record Evaluator : Type 0 where
+  pub value : Frame → Expr → Computation ℕ
+  pub go_on : Frame → Remaining → Computation ℕ
+
+-- the evaluator with one fuel less, or none where no fuel is left
+abbrev pub Fuel : Type 0
+Fuel = Option Evaluator
+
+abbrev pub spend : {A : Type 0} → Fuel → (Evaluator → Computation A) → Computation A
+spend None next w = Wants w
+spend (Some less) next w = next less w
+
+abbrev pub is_true : ℕ → Bool
+is_true x = not (x == 0)
+
+module _ (program : Program) (fuel : Fuel) (frame : Frame) where
+  -- a call that isn't refused stores its parameters and spends one fuel
+  abbrev pub entered : Option Trap → Function → List ℕ → (start : ℕ) → Computation ℕ
+  entered (Some t) f args start = trap t
+  entered None f args start =
+      spend fuel (λ less w. less.go_on (record { function = f; start = start; active = frame.active + 1 })
+      (Do f.body ∷ []) (with_words w start (parameter_words (length f.parameters) args)))
+
+  -- the frame of a called function begins behind the caller's
+  abbrev pub called : Callee Function → List ℕ → Computation ℕ
+  called NoFunction args = trap NotAFunction
+  called (OfLibrary f) args = λ w. answer_of (library f args w)
+  called (OfProgram f) args =
+      let start = frame.start + frame_words frame.function in
+      entered (refusal frame.active (start + frame_words f)) f args start
+
+  abbrev pub name_address : Meaning → List ℕ → Computation ℕ
+  name_address (In_frame k) x = gives ((frame.start + k) % words)
+  name_address Outside x = gives (unwrap_or (address_in program.addresses x) 0)
+  name_address (At_label k) x = gives ((frame.function.first_label + k) % words)
+
+  -- a label is its own value
+  abbrev pub name_value : Meaning → List ℕ → Computation ℕ
+  name_value (In_frame k) x = name_address (In_frame k) x >>= fetch
+  name_value Outside x = name_address Outside x >>= fetch
+  name_value (At_label k) x = name_address (At_label k) x
+
+  abbrev mutual
+    pub value : Expr → Computation ℕ
+    value (Named w) = name_value (names_of frame.function w.text) w.text
+    value (Literal c) = gives (value_of c)
+    value (Text bytes offset) = gives ((frame.function.strings + offset) % words)
+    value (Grouped e) = value e
+    value (Indexed e f) = do
+      x ← value e
+      y ← value f
+      fetch ((x + y) % words)
+    value (Called e args) = do
+      f ← value e
+      vs ← values args
+      called (callee_of program.functions f) vs
+    value (Postfixed PostIncrement line e) = do
+      a ← address e
+      x ← fetch a
+      v ← store a (stepped op.Add x)
+      gives x
+    value (Postfixed PostDecrement line e) = do
+      a ← address e
+      x ← fetch a
+      v ← store a (stepped op.Sub x)
+      gives x
+    value (Prefixed Negate line e) = do
+      x ← value e
+      gives (negate_of x)
+    value (Prefixed Not line e) = do
+      x ← value e
+      gives (not_of x)
+    value (Prefixed Indirection line e) = do
+      a ← value e
+      fetch a
+    value (Prefixed Address line e) = address e
+    value (Prefixed PreIncrement line e) = do
+      a ← address e
+      x ← fetch a
+      store a (stepped op.Add x)
+    value (Prefixed PreDecrement line e) = do
+      a ← address e
+      x ← fetch a
+      store a (stepped op.Sub x)
+    value (Binary op line e f) = do
+      left ← value e
+      right ← value f
+      operate op left right
+    value (Conditional e f g) = do
+      x ← value e
+      if is_true x then value f else value g
+    value (Assigned None line e f) = do
+      a ← address e
+      v ← value f
+      store a v
+    value (Assigned (Some op) line e f) = do
+      a ← address e
+      new ← value f
+      old ← fetch a
+      v ← operate op old new
+      store a v
+
+    -- of an lvalue; of anything else, which a scan refuses, 0
+    pub address : Expr → Computation ℕ
+    address (Named w) = name_address (names_of frame.function w.text) w.text
+    address (Grouped e) = address e
+    address (Prefixed Indirection line e) = value e
+    address (Indexed e f) = do
+      x ← value e
+      y ← value f
+      gives ((x + y) % words)
+    address _ = gives 0
+
+    pub values : Arguments → Computation (List ℕ)
+    values No_arguments = gives []
+    values (Another before e) = do
+      vs ← values before
+      v ← value e
+      gives (vs ++ v ∷ [])
