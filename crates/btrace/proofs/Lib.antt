@@ -1,0 +1,2 @@
+pub mod RowParts
+pub mod Shown

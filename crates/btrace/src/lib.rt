@@ -1,0 +1,8 @@
+//! The steps of a program, written for people.
+#![tactic(auto)]
+
+mod rows;
+mod tables;
+mod tracing;
+
+pub use tracing::{Wanted, trace};
