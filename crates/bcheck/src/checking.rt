@@ -1,6 +1,6 @@
 //! Checking a source.
 ghost use Rattle.std.specs.Prelude.{◌≡◌};
-ghost use Rattle.bcheck.specs.Checks.{Checks, Tells, first_of, shown};
+ghost use Rattle.bcheck.specs.Checks.{Checks, TellsFirst, verdict_line, shown_in_form};
 
 use crate::explain::explain;
 use crate::form::{Form, Request};
@@ -38,7 +38,7 @@ pub fn check<O: ByteOut>(alloc: Global, source: &[u8], asked: Request<'_>, out: 
 
 // What comes first in this form.
 fn shown<'a>(form: Form, verdict: &'a Verdict) -> &'a [u8]
-    ensures { result.now ≡ shown form (first_of verdict.now) }
+    ensures { result.now ≡ shown_in_form form (verdict_line verdict.now) }
 {
     match form {
         Form::Text => verdict.first(),
@@ -48,7 +48,7 @@ fn shown<'a>(form: Form, verdict: &'a Verdict) -> &'a [u8]
 
 // Writes a text behind another, and answers this status or that of a refused write.
 fn tell<O: ByteOut>(alloc: Global, first: &[u8], more: &[u8], status: Status, out: &mut O) -> Status
-    ensures tells { Tells first.now status (O.outgoing out.old) (O.outgoing out.new) result }
+    ensures tells { TellsFirst first.now status (O.outgoing out.old) (O.outgoing out.new) result }
     ensures out_lender { O.lender out.new ≡ O.lender out.old }
 {
     let mut text = MemOut::new(alloc);

@@ -3,7 +3,7 @@ ghost use Rattle.std.specs.Prelude.{◌≡◌, IfSome, List, map, None};
 ghost use Rattle.blang.specs.Text.{IsCodeText};
 ghost use Rattle.blang.specs.declared.code.Definition.{Definition};
 ghost use Rattle.blang.specs.Layout.{load_fault};
-ghost use Rattle.bcheck.specs.Checks.{Judged, first_of, load_line, status_told, told_first};
+ghost use Rattle.bcheck.specs.Checks.{Judged, verdict_line, load_line, status_told, told_first};
 
 use bcode::read_code;
 use blang::LoadFault;
@@ -27,7 +27,7 @@ pub(crate) enum Verdict {
 impl Verdict {
     /// The line of the compiler, or that of the code.
     pub(crate) fn first(&self) -> &[u8]
-        ensures { result.now ≡ first_of self.now }
+        ensures { result.now ≡ verdict_line self.now }
     {
         match self {
             Verdict::Clean => b"",
@@ -65,7 +65,7 @@ pub(crate) fn judge(alloc: Global, source: &[u8], edition: Edition) -> Option<Ve
 // What the loader says of a code text.
 fn judge_code(alloc: Global, code: &[u8]) -> Option<Verdict>
     ensures { IfSome result (λ v. (ds : List Definition) → IsCodeText code.now ds
-        → (first_of v, status_told v) ≡ told_first None (load_fault ds)) }
+        → (verdict_line v, status_told v) ≡ told_first None (load_fault ds)) }
 {
     let Ok(definitions) = read_code(alloc, code) else {
         return None;

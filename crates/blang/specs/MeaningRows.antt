@@ -2,13 +2,13 @@
 use Rattle.std.specs.Prelude.{◌≡◌, ℕ, List, [], ◌∷◌, map, codes, Option, Some, None, refl}
 use Rattle.std.specs.Fmt.{digits}
 use Rattle.bword.specs.declared.operators.BinOp.TheVariants as op
-use Rattle.blang.specs.Trees.{Word, Number, Character, Expr, Arguments, Address, Not, PreIncrement, PostIncrement, PostDecrement, Named, Literal, Text, Grouped, Indexed, Called, Postfixed, Prefixed, Binary, Conditional, Assigned, No_arguments, Another, Auto, Extrn, Label, Case, Default, Stmt, Headed, Compound, If, While, Switch, Goto, Break, ReturnValue, Evaluate, Empty, Stmts, Nothing, More, Definition, Ival_constant}
+use Rattle.blang.specs.Trees.{Identifier, Number, Character, Expr, Arguments, Address, Not, PreIncrement, PostIncrement, PostDecrement, Named, Literal, Text, Grouped, Indexed, Called, Postfixed, Prefixed, Binary, Conditional, Assigned, No_arguments, Another, Auto, Extrn, Label, Case, Default, Stmt, Headed, Compound, If, While, Switch, Goto, Break, ReturnValue, Evaluate, Empty, Stmts, Nothing, More, Definition, Ival_constant}
 use Rattle.blang.specs.declared.run.Trap.TheVariants.{ZeroDivisor, NotAFunction, NotALabel, NoRoom, TooDeep}
 use Rattle.blang.specs.Layout.{Ending, Exited, Trapped}
 use Rattle.blang.specs.Value.{Answer, Gives, Ends, Wants}
 use Rattle.blang.specs.Meaning.{meant}
 
-abbrev word : List ℕ → Word
+abbrev word : List ℕ → Identifier
 word x = record { text = x; line = 1 }
 
 abbrev name : List ℕ → Expr
@@ -177,9 +177,9 @@ unfolding digits
 external_words = refl
 
 -- main(){putchar(char("hi",1)); printn("a",10);}: each string has its own words, behind the function's
-string_words : does (main (putchar (call (codes "char") (Text (codes "hi") 0 ∷ number 1 ∷ [])) ∷ printn (Text (codes "a") 2) ∷ []) ∷ []) [] 0 ≡ (Some (Exited 0), codes "i10")
+words_of_strings : does (main (putchar (call (codes "char") (Text (codes "hi") 0 ∷ number 1 ∷ [])) ∷ printn (Text (codes "a") 2) ∷ []) ∷ []) [] 0 ≡ (Some (Exited 0), codes "i10")
 unfolding digits
-string_words = refl
+words_of_strings = refl
 
 -- main(){auto i; i=0; a: {auto v 0; if(v-&v) putchar('1'); v=&v;} if(i++<1) goto a;}: v is set each time
 sets_vector : does (main (auto (codes "i") None (set (codes "i") (number 0)) ∷ label (codes "a") (block (auto (codes "v") (Some 0) (If (Binary op.Sub 1 (name (codes "v")) (Prefixed Address 1 (name (codes "v")))) (putchar (number 49))) ∷ set (codes "v") (Prefixed Address 1 (name (codes "v"))) ∷ [])) ∷ If (Binary op.Lt 1 (Postfixed PostIncrement 1 (name (codes "i"))) (number 1)) (Goto (name (codes "a"))) ∷ []) ∷ []) [] 1 ≡ (Some (Exited 0), codes "11")

@@ -28,22 +28,22 @@ text_words bytes = (length bytes + 2) / 2
 
 -- the string words of an expression
 abbrev mutual
-  pub words : Expr → ℕ
-  words (Named w) = 0
-  words (Literal c) = 0
-  words (Text bytes offset) = text_words bytes
-  words (Grouped e) = words e
-  words (Indexed e f) = words e + words f
-  words (Called e args) = words e + argument_words args
-  words (Postfixed op line e) = words e
-  words (Prefixed op line e) = words e
-  words (Binary op line e f) = words e + words f
-  words (Conditional e f g) = words e + words f + words g
-  words (Assigned op line e f) = words e + words f
+  pub string_words : Expr → ℕ
+  string_words (Named w) = 0
+  string_words (Literal c) = 0
+  string_words (Text bytes offset) = text_words bytes
+  string_words (Grouped e) = string_words e
+  string_words (Indexed e f) = string_words e + string_words f
+  string_words (Called e args) = string_words e + argument_words args
+  string_words (Postfixed op line e) = string_words e
+  string_words (Prefixed op line e) = string_words e
+  string_words (Binary op line e f) = string_words e + string_words f
+  string_words (Conditional e f g) = string_words e + string_words f + string_words g
+  string_words (Assigned op line e f) = string_words e + string_words f
 
   pub argument_words : Arguments → ℕ
   argument_words No_arguments = 0
-  argument_words (Another before e) = argument_words before + words e
+  argument_words (Another before e) = argument_words before + string_words e
 
 -- how loosely an operator binds: 0 is an operand of a prefix operator, then the binary operators
 abbrev pub rank : BinOp → ℕ
@@ -101,18 +101,18 @@ abbrev mutual
   Fits (Text bytes offset) loose room off = offset ≡ off
   Fits (Grouped e) loose room off = Deeper (λ k. Fits e rvalue_rank k off) room
   Fits (Indexed e f) loose room off =
-      IsPostfix e × Fits e 0 room off × Deeper (λ k. Fits f rvalue_rank k (off + words e)) room
+      IsPostfix e × Fits e 0 room off × Deeper (λ k. Fits f rvalue_rank k (off + string_words e)) room
   Fits (Called e args) loose room off =
-      IsPostfix e × Fits e 0 room off × Deeper (λ k. ArgumentsFit args k (off + words e)) room
+      IsPostfix e × Fits e 0 room off × Deeper (λ k. ArgumentsFit args k (off + string_words e)) room
   Fits (Postfixed op line e) loose room off = IsPostfix e × Fits e 0 room off
   Fits (Prefixed op line e) loose room off = Deeper (λ k. Fits e 0 k off) room
   Fits (Binary op line e f) loose room off =
-      (rank op ≤ loose) × Fits e (rank op) room off × Fits f (rank op - 1) room (off + words e)
+      (rank op ≤ loose) × Fits e (rank op) room off × Fits f (rank op - 1) room (off + string_words e)
   Fits (Conditional e f g) loose room off =
       (conditional_rank ≤ loose) × Fits e or_rank room off
-      × Deeper (λ k. Fits f rvalue_rank k (off + words e) × Fits g conditional_rank k (off + words e + words f)) room
+      × Deeper (λ k. Fits f rvalue_rank k (off + string_words e) × Fits g conditional_rank k (off + string_words e + string_words f)) room
   Fits (Assigned op line e f) loose room off =
-      (rvalue_rank ≤ loose) × Fits e 0 room off × Deeper (λ k. Fits f rvalue_rank k (off + words e)) room
+      (rvalue_rank ≤ loose) × Fits e 0 room off × Deeper (λ k. Fits f rvalue_rank k (off + string_words e)) room
 
   pub ArgumentsFit : Arguments → ℕ → ℕ → Type 0
   ArgumentsFit No_arguments room off = Unit {0}
@@ -124,15 +124,15 @@ abbrev mutual
   pub statement_words : Stmt → ℕ
   statement_words (Headed h s) = statement_words s
   statement_words (Compound body) = body_words body
-  statement_words (If e s) = words e + statement_words s
-  statement_words (IfElse e s other) = words e + statement_words s + statement_words other
-  statement_words (While e s) = words e + statement_words s
-  statement_words (Switch e body) = words e + body_words body
-  statement_words (Goto e) = words e
+  statement_words (If e s) = string_words e + statement_words s
+  statement_words (IfElse e s other) = string_words e + statement_words s + statement_words other
+  statement_words (While e s) = string_words e + statement_words s
+  statement_words (Switch e body) = string_words e + body_words body
+  statement_words (Goto e) = string_words e
   statement_words (Break line) = 0
   statement_words Return = 0
-  statement_words (ReturnValue e) = words e
-  statement_words (Evaluate e) = words e
+  statement_words (ReturnValue e) = string_words e
+  statement_words (Evaluate e) = string_words e
   statement_words Empty = 0
 
   pub body_words : Stmts → ℕ
@@ -167,13 +167,13 @@ abbrev mutual
   pub Sits : Stmt → ℕ → ℕ → Type 0
   Sits (Headed h s) room off = IsHeading h × Sits s room off
   Sits (Compound body) room off = Deeper (λ k. AllSit body k off) room
-  Sits (If e s) room off = Deeper (λ k. Fits e rvalue_rank k off × Sits s k (off + words e)) room
+  Sits (If e s) room off = Deeper (λ k. Fits e rvalue_rank k off × Sits s k (off + string_words e)) room
   Sits (IfElse e s other) room off =
       (is_open s ≡ false)
-      × Deeper (λ k. Fits e rvalue_rank k off × Sits s k (off + words e)
-      × Sits other k (off + words e + statement_words s)) room
-  Sits (While e s) room off = Deeper (λ k. Fits e rvalue_rank k off × Sits s k (off + words e)) room
-  Sits (Switch e body) room off = Deeper (λ k. Fits e rvalue_rank k off × AllSit body k (off + words e)) room
+      × Deeper (λ k. Fits e rvalue_rank k off × Sits s k (off + string_words e)
+      × Sits other k (off + string_words e + statement_words s)) room
+  Sits (While e s) room off = Deeper (λ k. Fits e rvalue_rank k off × Sits s k (off + string_words e)) room
+  Sits (Switch e body) room off = Deeper (λ k. Fits e rvalue_rank k off × AllSit body k (off + string_words e)) room
   Sits (Goto e) room off = Fits e rvalue_rank room off
   Sits (Break line) room off = Unit {0}
   Sits Return room off = Unit {0}
@@ -220,27 +220,27 @@ pub record IsProgram (tokens : List Token) : Type 0 where
   pub spelled : map bare (spell_all definitions) ≡ tokens
 
 -- a beginning of them
-pub record Begins (tokens : List Token) : Type 0 where
+pub record BeginsProgram (tokens : List Token) : Type 0 where
   pub more : List Token
   pub program : IsProgram (tokens ++ more)
 
 -- a program goes on so with the next token, or ends where the source does
 abbrev pub IsViable : List Token → Token → Type 0
 IsViable before token.End = IsProgram before
-IsViable before t = Begins (before ++ t ∷ [])
+IsViable before t = BeginsProgram (before ++ t ∷ [])
 
 -- the letters of a token with which no program goes on
-abbrev pub letters_of : Token → Letters
-letters_of (token.Bad l) = l
-letters_of _ = letters.Syntax
+abbrev pub token_letters : Token → Letters
+token_letters (token.Bad l) = l
+token_letters _ = letters.Syntax
 
 abbrev pub fault_at : Placed → Diagnostic
-fault_at p = record { letters = letters_of p.token; about = about.Nothing; line = p.line }
+fault_at p = record { letters = token_letters p.token; about = about.Nothing; line = p.line }
 
 -- A program begins with the tokens before this one. It ends there, or none goes on with this one.
 abbrev pub StopsAt : List Token → Placed → Option Diagnostic → Type 0
 StopsAt before at None = (at.token ≡ token.End) × IsProgram before
-StopsAt before at (Some d) = Begins before × (IsViable before at.token → ⊥) × (d ≡ fault_at at)
+StopsAt before at (Some d) = BeginsProgram before × (IsViable before at.token → ⊥) × (d ≡ fault_at at)
 
 -- nothing, or a proper beginning of a definition
 abbrev pub IsPart : List Token → Type 0

@@ -13,11 +13,11 @@ Calls old [] after = after ≡ old
 Calls old (p ∷ ps) after = (between : Lexer) × LexGives old (Ok p) between × Calls between ps after
 
 -- the first n tokens, the last of which comes again where there are no more
-abbrev pub first : ℕ → List Placed → List Placed
-first zero ts = []
-first (suc n) [] = []
-first (suc n) (t ∷ []) = t ∷ first n (t ∷ [])
-first (suc n) (t ∷ u ∷ us) = t ∷ first n (u ∷ us)
+abbrev pub first_tokens : ℕ → List Placed → List Placed
+first_tokens zero ts = []
+first_tokens (suc n) [] = []
+first_tokens (suc n) (t ∷ []) = t ∷ first_tokens n (t ∷ [])
+first_tokens (suc n) (t ∷ u ∷ us) = t ∷ first_tokens n (u ∷ us)
 
 -- tokens without those that come again
 abbrev pub once : List Placed → List Placed
@@ -40,10 +40,10 @@ pub record GaveFirst (edition : Edition) (end : Incoming) (answers : List Placed
   pub near : length l.source.ahead ≤ 2
   -- they are the first tokens of every source that begins so
   pub any : (more : List ℕ) → CanFollow l.source.end more
-      → first (length answers) (tokens_from edition 1 ((passed ++ l.source.ahead) ++ more)) ≡ answers
+      → first_tokens (length answers) (tokens_from edition 1 ((passed ++ l.source.ahead) ++ more)) ≡ answers
   -- and of the bytes that the end tells
   pub told : (bytes : List ℕ) → end.left ≡ Some bytes → end.is_over ≡ false
-      → first (length answers) (tokens_from edition 1 bytes) ≡ answers
+      → first_tokens (length answers) (tokens_from edition 1 bytes) ≡ answers
   pub failures : l.source.end.failures ≡ end.failures
 
 -- Calls of a new lexer give the first tokens of its source.

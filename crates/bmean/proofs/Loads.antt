@@ -6,19 +6,19 @@ use Rattle.std.specs.Option.{option_map, option_and_then}
 use Rattle.blang.specs.declared.code.Definition as coded
 use Rattle.blang.specs.declared.code.Instr.{Instr}
 use Rattle.blang.specs.Trees.{Definition}
-use Rattle.blang.specs.Code.{Names, names_in, statement_strings, label_places, code_of}
+use Rattle.blang.specs.Code.{Environment, environment_of, statement_strings, label_places, code_of}
 use Rattle.blang.specs.declared.run.LoadFault.{LoadFault}
 use Rattle.blang.specs.declared.run.LoadFault.TheVariants as fault
-use Rattle.blang.specs.Layout.{words, Kind, Shape, Spot, spot_behind, spots_behind, spots, data_end, first_words, addresses, first_some, some_if, duplicate_behind, label_count, address_in, first_undefined, load_fault}
+use Rattle.blang.specs.Layout.{store_words, DefinitionKind, Shape, Spot, spot_behind, spots_behind, spots, data_end, first_words, addresses, first_some, some_if, duplicate_behind, label_count, address_in, first_undefined, load_fault}
 use Rattle.blang.specs.Layout as layout
 use Rattle.blang.specs.Machine.{Loaded, Image, loaded_at, image_of}
-use Rattle.blang.specs.Value.{Remaining, labels, Function, scope_of}
+use Rattle.blang.specs.Value.{Remaining, labels, SourceFunction, scope_of}
 use Rattle.blang.specs.Meaning.{shape_of, function_at, is_main, program_of}
 use Rattle.bmean.proofs.Stands.{EachLeads, whole_code, labels_of_body_lead}
 use Rattle.bmean.proofs.Values.{loaded_code, image_code}
 use Rattle.bmean.proofs.Names.{names_of_is}
 
-each_length : (names : Names) (code : List Instr) (rs : List (List ℕ × Remaining)) (ps : List ℕ) → EachLeads names code rs ps → length ps ≡ length rs
+each_length : (names : Environment) (code : List Instr) (rs : List (List ℕ × Remaining)) (ps : List ℕ) → EachLeads names code rs ps → length ps ≡ length rs
 each_length names code [] [] h = refl
 each_length names code [] (p ∷ ps) h = elim h [ ]
 each_length names code (r ∷ rs) [] h = elim h [ ]
@@ -28,9 +28,9 @@ same_shape : (d : Definition) → layout.shape_of (code_of d) ≡ shape_of d
 same_shape (Definition.Simple w values) = refl
 same_shape (Definition.Vector w size values) = refl
 same_shape (Definition.Function w parameters body) =
-    let f : Function = record { parameters = parameters; body = body; strings = 0; first_label = 0 } in
-    let names = names_in (scope_of f).names in
-    ap (λ n. record { kind = Kind.Function n; name = w.text; values = []; strings = statement_strings body }) (each_length names (whole_code names body) (labels body []) (label_places names body 0) (labels_of_body_lead names body))
+    let f : SourceFunction = record { parameters = parameters; body = body; strings = 0; first_label = 0 } in
+    let names = environment_of (scope_of f).names in
+    ap (λ n. record { kind = DefinitionKind.Function n; name = w.text; values = []; strings = statement_strings body }) (each_length names (whole_code names body) (labels body []) (label_places names body 0) (labels_of_body_lead names body))
 
 same_shapes : (ds : List Definition) → map layout.shape_of (map code_of ds) ≡ map shape_of ds
 same_shapes [] = refl
@@ -41,7 +41,7 @@ loaded_at_is : (s : Spot) (d : Definition) → loaded_at (s, code_of d) ≡ opti
 loaded_at_is s (Definition.Simple w values) = refl
 loaded_at_is s (Definition.Vector w size values) = refl
 loaded_at_is s (Definition.Function w parameters body) =
-    let f : Function = record { parameters = parameters; body = body; strings = s.strings; first_label = s.first_label } in
+    let f : SourceFunction = record { parameters = parameters; body = body; strings = s.strings; first_label = s.first_label } in
     ap (λ names. Some (record {
       parameters = length parameters;
       frame = (scope_of f).frame;
@@ -113,23 +113,23 @@ some_main : (ds : List Definition) → load_fault (map code_of ds) ≡ None → 
 some_main ds e =
     let codes = map code_of ds in
     let shapes = map layout.shape_of codes in
-    passed_test (list_any layout.is_main codes) (last_of_four (option_map fault.Duplicate (duplicate_behind [] (layout.names_of shapes))) (some_if (nat_lt words (data_end shapes) || nat_lt 65535 (label_count shapes)) fault.TooLarge) (option_map fault.Undefined (first_undefined (address_in (addresses shapes)) (flat_map layout.names_in codes))) (some_if (not (list_any layout.is_main codes)) fault.NoMain) e)
+    passed_test (list_any layout.is_main codes) (last_of_four (option_map fault.Duplicate (duplicate_behind [] (layout.defined_names shapes))) (some_if (nat_lt store_words (data_end shapes) || nat_lt 65535 (label_count shapes)) fault.TooLarge) (option_map fault.Undefined (first_undefined (address_in (addresses shapes)) (flat_map layout.names_in codes))) (some_if (not (list_any layout.is_main codes)) fault.NoMain) e)
 
-main_is_function : (s : Spot) (d : Definition) → is_main d ≡ true → (f : Function) × (function_at (s, d) ≡ Some f)
+main_is_function : (s : Spot) (d : Definition) → is_main d ≡ true → (f : SourceFunction) × (function_at (s, d) ≡ Some f)
 main_is_function s (Definition.Simple w values) e = cc
 main_is_function s (Definition.Vector w size values) e = cc
 main_is_function s (Definition.Function w parameters body) e = (_, refl)
 
-found_if : (b : Bool) (s : Spot) (d : Definition) (o : Option TreeAt) (c : Bool) → is_main d ≡ b → (c ≡ true → (f : Function) × (option_and_then function_at o ≡ Some f)) → b || c ≡ true → (f : Function) × (option_and_then function_at (cond b (Some (s, d)) o) ≡ Some f)
+found_if : (b : Bool) (s : Spot) (d : Definition) (o : Option TreeAt) (c : Bool) → is_main d ≡ b → (c ≡ true → (f : SourceFunction) × (option_and_then function_at o ≡ Some f)) → b || c ≡ true → (f : SourceFunction) × (option_and_then function_at (cond b (Some (s, d)) o) ≡ Some f)
 found_if true s d o c m h e = main_is_function s d m
 found_if false s d o c m h e = h e
 
-main_found : (before : List Shape) (ds : List Definition) → list_any layout.is_main (map code_of ds) ≡ true → (f : Function) × (option_and_then function_at (find (λ p. is_main p.1) (zip (spots_behind before (map shape_of ds)) ds)) ≡ Some f)
+main_found : (before : List Shape) (ds : List Definition) → list_any layout.is_main (map code_of ds) ≡ true → (f : SourceFunction) × (option_and_then function_at (find (λ p. is_main p.1) (zip (spots_behind before (map shape_of ds)) ds)) ≡ Some f)
 main_found before [] e = cc
 main_found before (d ∷ ds) e =
     let behind = before ++ shape_of d ∷ [] in
     found_if (is_main d) (spot_behind before (shape_of d)) d (find (λ p. is_main p.1) (zip (spots_behind behind (map shape_of ds)) ds)) (list_any layout.is_main (map code_of ds)) refl (main_found behind ds)
     (subst (λ b. b || list_any layout.is_main (map code_of ds) ≡ true) (is_main_same d) e)
 
-pub has_main : (ds : List Definition) → load_fault (map code_of ds) ≡ None → (f : Function) × ((program_of ds).main ≡ Some f)
+pub has_main : (ds : List Definition) → load_fault (map code_of ds) ≡ None → (f : SourceFunction) × ((program_of ds).main ≡ Some f)
 has_main ds e = main_found [] ds (some_main ds e)

@@ -6,7 +6,7 @@ use Rattle.blang.specs.Code.{code_of}
 use Rattle.blang.specs.Layout.{World, Ending}
 use Rattle.blang.specs.Machine.{Image, Call, State, Running, Halted, Stuck, image_of, run}
 use Rattle.blang.specs.Value.{Answer, Ends, Wants}
-use Rattle.blang.specs.Meaning.{IsBeginningOf, Loads, meant, world_of}
+use Rattle.blang.specs.Meaning.{IsBeginningOf, Loads, meant, answer_world}
 
 -- a law of the states of a machine, by the number of steps, and the answers of a program, by its fuel
 abbrev pub Law : Type 1
@@ -38,7 +38,7 @@ NeverStuck state answer = (n : ℕ) (w : World) → state n ≢ Stuck w
 -- What was written before a halt is a beginning of what the meaning writes with one fuel more than the steps.
 abbrev pub WritesAsMeant : Law
 WritesAsMeant state answer =
-    (n : ℕ) (call : Call) (below : List Call) (w : World) → state n ≡ Running call below w → IsBeginningOf w.output (world_of (answer (n + 1))).output
+    (n : ℕ) (call : Call) (below : List Call) (w : World) → state n ≡ Running call below w → IsBeginningOf w.output (answer_world (answer (n + 1))).output
 
 -- Where the meaning wants more fuel than n, the machine after n steps or more hasn't halted, and has written the same.
 abbrev pub WantsAsItRuns : Law

@@ -3,7 +3,7 @@ use Rattle.std.specs.Prelude.{◌≡◌, ℕ, zero, suc, List, [], ◌∷◌, ma
 use Rattle.bword.specs.declared.edition.Edition.{Edition}
 use Rattle.bword.specs.declared.edition.Edition.TheVariants as editions
 use Rattle.std.specs.Fmt.{digits}
-use Rattle.blang.specs.Cut.{whole, word_of, keyword_of, number_in, with_byte, escape_of, operator_of, other_of, fixed_of, tokens_from, cut, longest, greatest}
+use Rattle.blang.specs.Cut.{whole, word_token, keyword_of, number_in, with_quoted_byte, escape_of, operator_of, other_of, fixed_of, tokens_from, cut, longest, greatest}
 use Rattle.blang.specs.declared.token.Placed.{Placed}
 use Rattle.btree.specs.Reading.{Got, Stop}
 use Rattle.blang.specs.Trees.{Definition}
@@ -12,7 +12,7 @@ use Rattle.blang.specs.Code.{code_of}
 use Rattle.blang.specs.declared.run.Outcome.{Outcome}
 use Rattle.blang.specs.declared.run.Outcome.TheVariants.{Exit, Trap, Limit}
 use Rattle.blang.specs.declared.run.Trap.TheVariants as trap
-use Rattle.blang.specs.Machine.{State, Halted, image_of, run, outcome_of, world_of}
+use Rattle.blang.specs.Machine.{State, Halted, image_of, run, state_outcome, state_world}
 use Rattle.blang.specs.Value.{Answer, Gives, Ends, Wants}
 use Rattle.blang.specs.Meaning.{meant}
 
@@ -27,11 +27,11 @@ definitions edition source = read_all 8 (tokens_from edition 1 source)
 -- how a program ends, where want of fuel is the limit, and what it has written
 abbrev answered : Answer ⊥ → Outcome × List ℕ
 answered (Gives v w) = elim v [ ]
-answered (Ends e w) = (outcome_of (Halted e w), w.output)
+answered (Ends e w) = (state_outcome (Halted e w), w.output)
 answered (Wants w) = (Limit, w.output)
 
 abbrev reached : State → Outcome × List ℕ
-reached s = (outcome_of s, (world_of s).output)
+reached s = (state_outcome s, (state_world s).output)
 
 -- the meaning with so much fuel, and the machine after so many steps
 abbrev both_in : Edition → List ℕ → (input : List ℕ) → ℕ → List (Outcome × List ℕ)
@@ -59,7 +59,7 @@ record Jumps : Type 0 where
   label_elsewhere : both (codes "f(l){goto l;} main(){f(x); x: ;}") [] 400 ≡ replicate 2 (Trap trap.NotALabel, [])
 
 jumps : Jumps
-unfolding tokens_from cut longest greatest whole word_of keyword_of number_in with_byte escape_of operator_of other_of fixed_of digits
+unfolding tokens_from cut longest greatest whole word_token keyword_of number_in with_quoted_byte escape_of operator_of other_of fixed_of digits
 jumps = record {
   into_loop = refl;
   back = refl;
@@ -88,7 +88,7 @@ record Switches : Type 0 where
       ≡ replicate 2 (Exit 0, codes "b")
 
 switches : Switches
-unfolding tokens_from cut longest greatest whole word_of keyword_of number_in with_byte escape_of operator_of other_of fixed_of digits
+unfolding tokens_from cut longest greatest whole word_token keyword_of number_in with_quoted_byte escape_of operator_of other_of fixed_of digits
 switches = record {
   falls_through = refl;
   no_case = refl;
@@ -133,7 +133,7 @@ record Breaks : Type 0 where
       ≡ replicate 2 (Exit 0, codes "wdwo")
 
 breaks : Breaks
-unfolding tokens_from cut longest greatest whole word_of keyword_of number_in with_byte escape_of operator_of other_of fixed_of digits
+unfolding tokens_from cut longest greatest whole word_token keyword_of number_in with_quoted_byte escape_of operator_of other_of fixed_of digits
 breaks = record {
   default_falls_through = refl;
   case_before_default = refl;
@@ -158,7 +158,7 @@ record Strings : Type 0 where
       ≡ replicate 2 (Exit 0, codes "ba")
 
 strings : Strings
-unfolding tokens_from cut longest greatest whole word_of keyword_of number_in with_byte escape_of operator_of other_of fixed_of digits
+unfolding tokens_from cut longest greatest whole word_token keyword_of number_in with_quoted_byte escape_of operator_of other_of fixed_of digits
 strings = record {
   string = refl;
   two_strings = refl;
@@ -181,7 +181,7 @@ record Externals : Type 0 where
   no_function : both (codes "main(){extrn n; n();} n 0;") [] 400 ≡ replicate 2 (Trap trap.NotAFunction, [])
 
 externals : Externals
-unfolding tokens_from cut longest greatest whole word_of keyword_of number_in with_byte escape_of operator_of other_of fixed_of digits
+unfolding tokens_from cut longest greatest whole word_token keyword_of number_in with_quoted_byte escape_of operator_of other_of fixed_of digits
 externals = record {
   addresses = refl;
   values = refl;
@@ -204,7 +204,7 @@ record Frames : Type 0 where
   no_room : both (codes "main(){auto v 32000; main();}") [] 400 ≡ replicate 2 (Trap trap.NoRoom, [])
 
 frames : Frames
-unfolding tokens_from cut longest greatest whole word_of keyword_of number_in with_byte escape_of operator_of other_of fixed_of digits
+unfolding tokens_from cut longest greatest whole word_token keyword_of number_in with_quoted_byte escape_of operator_of other_of fixed_of digits
 frames = record {
   frame_kept = refl;
   vector = refl;
@@ -227,7 +227,7 @@ record Calls : Type 0 where
   exits_at_most : both (codes "main() exit(65535);") [] 400 ≡ replicate 2 (Exit 127, [])
 
 calls : Calls
-unfolding tokens_from cut longest greatest whole word_of keyword_of number_in with_byte escape_of operator_of other_of fixed_of digits
+unfolding tokens_from cut longest greatest whole word_token keyword_of number_in with_quoted_byte escape_of operator_of other_of fixed_of digits
 calls = record {
   arguments = refl;
   left_first = refl;
@@ -256,7 +256,7 @@ record Arithmetic : Type 0 where
   base_11 : both (codes "main(){printn(5,11);}") [] 400 ≡ replicate 2 (Trap trap.BadBase, [])
 
 arithmetic : Arithmetic
-unfolding tokens_from cut longest greatest whole word_of keyword_of number_in with_byte escape_of operator_of other_of fixed_of digits
+unfolding tokens_from cut longest greatest whole word_token keyword_of number_in with_quoted_byte escape_of operator_of other_of fixed_of digits
 arithmetic = record {
   assigned = refl;
   toward_zero = refl;
@@ -279,7 +279,7 @@ record Input : Type 0 where
       ≡ replicate 2 (Exit 0, codes "44")
 
 input : Input
-unfolding tokens_from cut longest greatest whole word_of keyword_of number_in with_byte escape_of operator_of other_of fixed_of digits
+unfolding tokens_from cut longest greatest whole word_token keyword_of number_in with_quoted_byte escape_of operator_of other_of fixed_of digits
 input = record {
   copies = refl;
   copies_nothing = refl;
@@ -293,7 +293,7 @@ record Limits : Type 0 where
   endless : both (codes "main(){putchar('a'); while(1) ;}") [] 100 ≡ replicate 2 (Limit, codes "a")
 
 limits : Limits
-unfolding tokens_from cut longest greatest whole word_of keyword_of number_in with_byte escape_of operator_of other_of fixed_of digits
+unfolding tokens_from cut longest greatest whole word_token keyword_of number_in with_quoted_byte escape_of operator_of other_of fixed_of digits
 limits = record {
   two_steps = refl;
   endless = refl;

@@ -51,8 +51,8 @@ abbrev pub json_rule : Rule
 json_rule = record (new_rule (codes "json")) { long = Some (codes "json"); action = Some SetTrue }
 
 -- a command with the options of a run
-abbrev pub running : App → App
-running command = with_rule (with_rule (with_rule command steps_rule) no_limit_rule) file_rule
+abbrev pub with_run_options : App → App
+with_run_options command = with_rule (with_rule (with_rule command steps_rule) no_limit_rule) file_rule
 
 -- The command is so shaped, and so is it as a part of another one.
 pub record IsShaped (app : App) (command : Command) : Type 0 where
@@ -63,10 +63,10 @@ abbrev pub compile_command : App
 compile_command = with_rule (new_app (codes "compile")) edition_rule
 
 abbrev pub run_command : App
-run_command = running (new_app (codes "run"))
+run_command = with_run_options (new_app (codes "run"))
 
 abbrev pub go_command : App
-go_command = running (with_rule (new_app (codes "go")) edition_rule)
+go_command = with_run_options (with_rule (new_app (codes "go")) edition_rule)
 
 abbrev pub migrate_command : App
 migrate_command = new_app (codes "migrate")
@@ -100,19 +100,19 @@ is_number digits = nat_lt 0 (length digits) && list_all (λ d. nat_lt (digit_val
     && nat_lt (digits_value 10 digits) (2 ^ 64)
 
 -- the number that a text writes
-abbrev pub number_of : Text → Option ℕ
-number_of text = let digits = without_leading_plus text in
+abbrev pub written_number : Text → Option ℕ
+written_number text = let digits = without_leading_plus text in
     if is_number digits then Some (digits_value 10 digits) else None
 
 -- the number that an option has among what was found
-abbrev pub number_in : Text → List Row → Option ℕ
-number_in id rows = option_and_then number_of (one_of id rows)
+abbrev pub option_number : Text → List Row → Option ℕ
+option_number id rows = option_and_then written_number (one_of id rows)
 
 abbrev pub edition_numbered : Option ℕ → Edition
 edition_numbered number = if unwrap_or number 1 == 2 then editions.Two else editions.One
 
 abbrev pub edition_in : List Row → Edition
-edition_in rows = edition_numbered (number_in (codes "edition") rows)
+edition_in rows = edition_numbered (option_number (codes "edition") rows)
 
 -- whether a flag is among what was found
 abbrev pub is_set_in : Text → List Row → Bool
@@ -126,7 +126,7 @@ steps_asked None true = Some 18446744073709551615
 steps_asked None false = Some 10000000
 
 abbrev pub steps_in : List Row → Option ℕ
-steps_in rows = steps_asked (number_in (codes "steps") rows) (is_set_in (codes "no-limit") rows)
+steps_in rows = steps_asked (option_number (codes "steps") rows) (is_set_in (codes "no-limit") rows)
 
 abbrev pub file_in : List Row → Text
 file_in rows = unwrap_or (first_of (codes "FILE") rows) []
@@ -175,15 +175,15 @@ asked None = compile editions.One
 asked (Some command) = asked_by command.0 command.1
 
 -- what a job is of what can be asked for; none is the contradiction
-abbrev pub shown : Option Job → Asked
-shown (Some (job.Compile edition)) = compile edition
-shown (Some (job.Run target)) = run target.file.now target.steps
-shown (Some (job.Go target edition)) = go target.file.now target.steps edition
-shown (Some job.Migrate) = migrate
-shown (Some (job.List subject)) = list subject.file.now (option_map (λ n. n.now) subject.name) subject.edition
-shown (Some (job.Map subject)) = map subject.file.now subject.edition
-shown (Some (job.Check request)) = check request.file.now request.edition request.form
-shown None = contradiction
+abbrev pub asked_of : Option Job → Asked
+asked_of (Some (job.Compile edition)) = compile edition
+asked_of (Some (job.Run target)) = run target.file.now target.steps
+asked_of (Some (job.Go target edition)) = go target.file.now target.steps edition
+asked_of (Some job.Migrate) = migrate
+asked_of (Some (job.List subject)) = list subject.file.now (option_map (λ n. n.now) subject.name) subject.edition
+asked_of (Some (job.Map subject)) = map subject.file.now subject.edition
+asked_of (Some (job.Check request)) = check request.file.now request.edition request.form
+asked_of None = contradiction
 
 abbrev pub target_shown : Target → Text × ℕ
 target_shown target = (target.file.now, target.steps)

@@ -1,7 +1,7 @@
 //! What the words of a command line ask for.
 ghost use Rattle.std.specs.Prelude.{◌≡◌, [], None, IfOk, IfErr, false, map, option_map, string_bytes};
 ghost use Rattle.clap.specs.Words.{HasKind, app_of, fault_of, found_of, rows_of, rule_of, subcommand_of, subcommand_rows_of};
-ghost use Rattle.bserve.specs.CommandLine.{IsShaped, asked, bare_line, check_command, command_line, compile_command, edition_in, edition_rule, file_in, file_rule, form_in, go_command, is_set_in, json_rule, list_command, map_command, migrate_command, name_in, name_rule, no_limit_rule, number_in, request_shown, run_command, shown, steps_asked, steps_in, steps_rule, subject_shown, target_shown};
+ghost use Rattle.bserve.specs.CommandLine.{IsShaped, asked, bare_line, check_command, command_line, compile_command, edition_in, edition_rule, file_in, file_rule, form_in, go_command, is_set_in, json_rule, list_command, map_command, migrate_command, name_in, name_rule, no_limit_rule, option_number, request_shown, run_command, asked_of, steps_asked, steps_in, steps_rule, subject_shown, target_shown};
 
 use crate::texts::{
     ABOUT, CHECK_HELP, COMPILE_HELP, GO_HELP, HELP, LIST_HELP, MAP_HELP, MIGRATE_HELP, RUN_HELP,
@@ -56,7 +56,7 @@ pub(crate) fn parse<'a>(alloc: Global, words: &'a [String]) -> Result<ArgMatches
 
 /// What was found asks for this, or for a limit of steps and none.
 pub(crate) fn job_of<'a>(matches: &ArgMatches<'a>) -> Option<Job<'a>>
-    ensures { shown result ≡ asked (subcommand_rows_of matches.now) }
+    ensures { asked_of result ≡ asked (subcommand_rows_of matches.now) }
 {
     let Some((name, given)) = matches.subcommand() else {
         return Some(Job::Compile(Edition::One));
@@ -151,7 +151,7 @@ fn steps_of(asked: Option<u64>, is_without_limit: bool) -> Option<u64>
 }
 
 fn number_of(given: &ArgMatches<'_>, id: &str) -> Option<u64>
-    ensures { result ≡ number_in id.now (rows_of (found_of given.now)) }
+    ensures { result ≡ option_number id.now (rows_of (found_of given.now)) }
 {
     given.get_one::<u64>(id)
 }

@@ -4,8 +4,8 @@ ghost use Rattle.clap.specs.Words.{kind_of};
 ghost use Rattle.bword.specs.ByteEnds.{Incoming, Outgoing};
 ghost use Rattle.blang.specs.declared.status.TheConstants.{DEVICE, MEMORY, WRONG_COMMAND};
 ghost use Rattle.blang.specs.Machine.{Reported};
-ghost use Rattle.bserve.specs.CommandLine.{check, go, list, map, run, shown};
-ghost use Rattle.bserve.specs.Serves.{Does, NamesFile, Refuses, Serves, no_file_line, unread_line};
+ghost use Rattle.bserve.specs.CommandLine.{check, go, list, map, run, asked_of};
+ghost use Rattle.bserve.specs.Serves.{Does, NamesFile, RefusesWords, Serves, no_file_line, unread_line};
 
 use crate::command::{Job, Subject, Target, job_of, parse};
 use crate::texts::{CONTRADICTION, UNREAD};
@@ -59,7 +59,7 @@ fn perform<R: AllocGlobal + Files, I: ByteIn, O: ByteOut, D: ByteOut>(
     out: &mut O,
     diag: &mut D,
 ) -> Status
-    ensures does { Does (shown job.entry) (record {
+    ensures does { Does (asked_of job.entry) (record {
       input = I.incoming input.old;
       input_behind = I.incoming input.new;
       out = O.outgoing out.old;
@@ -312,7 +312,7 @@ fn tell<W: ByteOut>(text: &str, status: Status, end: &mut W) -> Status
 
 // Writes help to the output, and what is wrong beside it.
 fn refuse<O: ByteOut, D: ByteOut>(alloc: Global, error: Error, out: &mut O, diag: &mut D) -> Status
-    ensures refuses { (unread : Incoming) → Refuses (kind_of error) (record {
+    ensures refuses { (unread : Incoming) → RefusesWords (kind_of error) (record {
       input = unread;
       input_behind = unread;
       out = O.outgoing out.old;

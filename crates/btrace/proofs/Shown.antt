@@ -9,18 +9,18 @@ use Rattle.bword.proofs.Taking.{Took-append, Took-none}
 use Rattle.blang.specs.declared.code.Definition.{Definition}
 use Rattle.blang.specs.declared.status.TheConstants.{DONE}
 use Rattle.blist.specs.Listings.{Extends}
-use Rattle.blist.specs.Programs.{IsProgram}
+use Rattle.blist.specs.Programs.{HasProgram}
 use Rattle.blist.specs.Told.{Told}
 use Rattle.blang.specs.Machine.{RunEnds, Image, State, run, step, steps, States}
 use Rattle.bmach.specs.Steps.{world_with}
-use Rattle.bmach.specs.Stepping.{Begins, Paused, machine_at}
-use Rattle.bmach.specs.Turns.{Goes, TurnGives}
+use Rattle.bmach.specs.Stepping.{IsUnstarted, Paused, machine_at}
+use Rattle.bmach.specs.Turns.{MovesOn, TurnGives}
 use Rattle.blang.specs.declared.run.Outcome.{Outcome}
 use Rattle.blang.specs.declared.run.Outcome.TheVariants as outcome
 use Rattle.bmach.proofs.Running.{at_limit, behind, one_more, run_over, same_run}
 use Rattle.bmach.proofs.Turning.{follows, goes_on}
 use Rattle.btrace.specs.declared.rows.TheConstants.{HEADING}
-use Rattle.btrace.specs.Traces.{AddsStep, AreShown, IsTraced, Row, Shows, ShowsStep, StepsGive, TellsEnd, Traces, nothing_written, rows_text, steps_from, traced}
+use Rattle.btrace.specs.Traces.{AddsStep, AreShown, IsTraced, TraceRow, ShowsRows, ShowsStep, StepsGive, TellsEnd, Traces, nothing_written, rows_text, steps_from, traced}
 
 pub traced_none : (first : Paused) (i : Incoming) (o : Outgoing) (text : List ℕ) → IsTraced first 0 first i i o o text text
 traced_none first i o text = record {
@@ -31,9 +31,9 @@ traced_none first i o text = record {
   shown = λ more can. All-nil _;
 }
 
-turned : (first now new : Paused) {j m : Incoming} {p q : Outgoing} → now.image ≡ first.image → Goes (λ left before. step now.image (machine_at now left before)) (machine_at new) j m p q
-    → Goes (λ left before. step first.image (machine_at now left before)) (machine_at new) j m p q
-turned first now new {j} {m} {p} {q} same g = subst (λ (x : Image). Goes (λ left before. step x (machine_at now left before)) (machine_at new) j m p q) same g
+turned : (first now new : Paused) {j m : Incoming} {p q : Outgoing} → now.image ≡ first.image → MovesOn (λ left before. step now.image (machine_at now left before)) (machine_at new) j m p q
+    → MovesOn (λ left before. step first.image (machine_at now left before)) (machine_at new) j m p q
+turned first now new {j} {m} {p} {q} same g = subst (λ (x : Image). MovesOn (λ left before. step x (machine_at now left before)) (machine_at new) j m p q) same g
 
 -- what was taken with the step in which the run was over
 took_over : (now new : Paused) {j m : Incoming} (p q : Outgoing) (r : Outcome) → TurnGives now.image (machine_at now) (machine_at new) j m p q (Err r) → (taken : List ℕ) × Took j taken m
@@ -44,14 +44,14 @@ took_over now new p q outcome.Device g = (g.taken, g.took)
 took_over now new p q outcome.Memory g = (g.2.taken, g.2.took)
 
 -- the row of a step behind rows
-with_row : (rows : List Row) (made : ℕ) (row old text text' : List ℕ) → text ≡ old ++ rows_text rows → text' ≡ text ++ row → text' ≡ old ++ rows_text (rows ++ record { made = made; text = row } ∷ [])
+with_row : (rows : List TraceRow) (made : ℕ) (row old text text' : List ℕ) → text ≡ old ++ rows_text rows → text' ≡ text ++ row → text' ≡ old ++ rows_text (rows ++ record { made = made; text = row } ∷ [])
 with_row rows made row old text text' before e =
     e ∙ ap (λ x. x ++ row) before ∙ append_assoc old (rows_text rows) row
-    ∙ ap (λ x. old ++ x) (ap (λ x. rows_text rows ++ x) (sym (append-nil row)) ∙ sym (flat_map-append (λ (r : Row). r.text) rows (record { made = made; text = row } ∷ [])))
+    ∙ ap (λ x. old ++ x) (ap (λ x. rows_text rows ++ x) (sym (append-nil row)) ∙ sym (flat_map-append (λ (r : TraceRow). r.text) rows (record { made = made; text = row } ∷ [])))
 
 -- the rows with those of a step, if it is shown
 abbrev Step : (first now : Paused) (made : ℕ) (i m : Incoming) (old text' : List ℕ) (taken : List ℕ) → Type 0
-Step first now made i m old text' taken = (rows : List Row) × (text' ≡ old ++ rows_text rows) × ((more : List ℕ) → CanFollow m more → AreShown (steps_from first (taken ++ more)) rows)
+Step first now made i m old text' taken = (rows : List TraceRow) × (text' ≡ old ++ rows_text rows) × ((more : List ℕ) → CanFollow m more → AreShown (steps_from first (taken ++ more)) rows)
 
 module _ (first now : Paused) (made : ℕ) (i j m : Incoming) (o p : Outgoing) (old text text' : List ℕ) where
   stepped : (t : IsTraced first made now i j o p old text) (taken : List ℕ) → Took j taken m → AddsStep (made + 1) now.call text text' → Step first now made i m old text' (t.goes.taken ++ taken)
@@ -69,7 +69,7 @@ module _ (first now : Paused) (made : ℕ) (i j m : Incoming) (o p : Outgoing) (
         ap (λ (xs : List ℕ). steps_from first xs made) (append_assoc t.goes.taken taken more) ∙ t.goes.comes (taken ++ more) [] (follows took can) in
         let shows : ShowsStep (made + 1) (steps_from first input made) one.0 =
         record { call = now.call; below = now.below; world = world_with now.store (taken ++ more) t.goes.output; state_is = there; tells = one.1 } in
-        let P : Row → Type 0 = λ r. ShowsStep (r.made + 1) (steps_from first input r.made) r.text in
+        let P : TraceRow → Type 0 = λ r. ShowsStep (r.made + 1) (steps_from first input r.made) r.text in
         All-append P t.rows (record { made = made; text = one.0 } ∷ [])
         (subst (λ (xs : List ℕ). AreShown (steps_from first xs) t.rows) (sym (append_assoc t.goes.taken taken more)) (t.shown (taken ++ more) (follows took can)))
         (All-cons P (record { made = made; text = one.0 }) [] shows (All-nil P)),
@@ -106,7 +106,7 @@ module _ (first now : Paused) (made : ℕ) (i j m : Incoming) (o p : Outgoing) (
       (subst (λ (x : Image). TurnGives x (machine_at now) (machine_at new) j m p q (Err r)) t.image_is g)
 
   pub over_shows : (new : Paused) (q : Outgoing) (r : Outcome) → IsTraced first made now i j o p old text → TurnGives now.image (machine_at now) (machine_at new) j m p q (Err r)
-      → AddsStep (made + 1) now.call text text' → (text'' : List ℕ) → Extends text' text'' → Shows (steps_from first) i m old text''
+      → AddsStep (made + 1) now.call text text' → (text'' : List ℕ) → Extends text' text'' → ShowsRows (steps_from first) i m old text''
   over_shows new q r t g row text'' end =
       let last = took_over now new p q r g in
       let s = stepped t last.0 last.1 row in
@@ -123,7 +123,7 @@ module _ (first now : Paused) (made : ℕ) (i j m : Incoming) (o p : Outgoing) (
 pub all_give : (first now : Paused) (made : ℕ) (i j : Incoming) (o p : Outgoing) (old text : List ℕ) → IsTraced first made now i j o p old text → StepsGive first made i j o p outcome.Limit
 all_give first now made i j o p old text t = at_limit first.image made (machine_at first) now.call now.below now.store t.goes
 
-pub all_show : (first now : Paused) (made : ℕ) (i j : Incoming) (o p : Outgoing) (old text : List ℕ) → IsTraced first made now i j o p old text → Shows (steps_from first) i j old text
+pub all_show : (first now : Paused) (made : ℕ) (i j : Incoming) (o p : Outgoing) (old text : List ℕ) → IsTraced first made now i j o p old text → ShowsRows (steps_from first) i j old text
 all_show first now made i j o p old text t = record {
   rows = t.rows;
   ending = [];
@@ -134,13 +134,13 @@ all_show first now made i j o p old text t = record {
 }
 
 -- the run of an image from its beginning on
-pub run_from : (image : Image) (p : Paused) → Begins image p → (input : List ℕ) (n : ℕ) → run image input n ≡ steps_from p input n
+pub run_from : (image : Image) (p : Paused) → IsUnstarted image p → (input : List ℕ) (n : ℕ) → run image input n ≡ steps_from p input n
 run_from image p b input n = ap (steps image n) (b.first input) ∙ ap (λ (x : Image). steps x n (machine_at p input [])) (sym b.image_is)
 
-shown_by : (f g : ℕ → State) (rows : List Row) → ((n : ℕ) → f n ≡ g n) → AreShown g rows → AreShown f rows
-shown_by f g rows e h = All-weaker (λ (r : Row). ShowsStep (r.made + 1) (g r.made) r.text) (λ (r : Row). ShowsStep (r.made + 1) (f r.made) r.text) (λ r s. record { call = s.call; below = s.below; world = s.world; state_is = e r.made ∙ s.state_is; tells = s.tells }) rows h
+shown_by : (f g : ℕ → State) (rows : List TraceRow) → ((n : ℕ) → f n ≡ g n) → AreShown g rows → AreShown f rows
+shown_by f g rows e h = All-weaker (λ (r : TraceRow). ShowsStep (r.made + 1) (g r.made) r.text) (λ (r : TraceRow). ShowsStep (r.made + 1) (f r.made) r.text) (λ r s. record { call = s.call; below = s.below; world = s.world; state_is = e r.made ∙ s.state_is; tells = s.tells }) rows h
 
-pub shows_run : (f g : States) (i j : Incoming) (old new : List ℕ) → ((input : List ℕ) (n : ℕ) → f input n ≡ g input n) → Shows g i j old new → Shows f i j old new
+pub shows_run : (f g : States) (i j : Incoming) (old new : List ℕ) → ((input : List ℕ) (n : ℕ) → f input n ≡ g input n) → ShowsRows g i j old new → ShowsRows f i j old new
 shows_run f g i j old new e s = record {
   rows = s.rows;
   ending = s.ending;
@@ -152,12 +152,12 @@ shows_run f g i j old new e s = record {
 
 -- the trace of a program that has begun
 pub traced_whole : (edition : Edition) (source : List ℕ) (n : ℕ) (ends : RunEnds) (status : ℕ) (mid : Outgoing) (ds : List Definition) (image : Image) (p : Paused) (result : Outcome) (begun text told_text : List ℕ) (output : Kept) (told : ℕ)
-    → IsProgram edition source ends.line mid ds image → Begins image p → StepsGive p n ends.input ends.input_behind nothing_written (outgoing_of output) result
-    → begun ≡ [] → Shows (steps_from p) ends.input ends.input_behind (begun ++ HEADING.now) text → told_text ≡ text → Told told_text DONE ends.out ends.out_behind told
+    → HasProgram edition source ends.line mid ds image → IsUnstarted image p → StepsGive p n ends.input ends.input_behind nothing_written (outgoing_of output) result
+    → begun ≡ [] → ShowsRows (steps_from p) ends.input ends.input_behind (begun ++ HEADING.now) text → told_text ≡ text → Told told_text DONE ends.out ends.out_behind told
     → TellsEnd told result mid ends.line_behind status → Traces edition source n ends status
 traced_whole edition source n ends status mid ds image p result begun text told_text output told is begins gives none shows same tells end =
     traced mid ds image result text output told is
     (same_run (run image) (steps_from p) n ends.input ends.input_behind nothing_written (outgoing_of output) result (run_from image p begins) gives)
     (shows_run (run image) (steps_from p) ends.input ends.input_behind HEADING.now text (run_from image p begins)
-    (subst (λ (t : List ℕ). Shows (steps_from p) ends.input ends.input_behind (t ++ HEADING.now) text) none shows))
+    (subst (λ (t : List ℕ). ShowsRows (steps_from p) ends.input ends.input_behind (t ++ HEADING.now) text) none shows))
     (subst (λ (t : List ℕ). Told t DONE ends.out ends.out_behind told) same tells) end

@@ -7,11 +7,11 @@ use Rattle.blang.specs.declared.code.Definition.{Definition}
 use Rattle.blang.specs.declared.status.TheConstants.{DONE, MEMORY}
 use Rattle.blang.specs.Machine.{Call, Image, Running, State, run, steps, RunGives, States, RunEnds, Finishes}
 use Rattle.bmach.specs.Stepping.{BeginsNot, Paused, machine_at}
-use Rattle.bmach.specs.Turns.{Goes}
+use Rattle.bmach.specs.Turns.{MovesOn}
 use Rattle.blang.specs.declared.run.Outcome.{Outcome}
 use Rattle.blang.specs.Layout.{World}
 use Rattle.blist.specs.Columns.{right}
-use Rattle.blist.specs.Programs.{IsProgram, NoProgram}
+use Rattle.blist.specs.Programs.{HasProgram, NoProgram}
 use Rattle.blist.specs.Told.{Told}
 use Rattle.btrace.specs.declared.rows.TheConstants.{HEADING, SHOWN}
 
@@ -43,21 +43,21 @@ abbrev pub AddsStep : ℕ → Call → List ℕ → List ℕ → Type 0
 AddsStep number call old new = (new ≡ old) ⊎ ((row : List ℕ) × TellsStep number call row × (new ≡ old ++ row))
 
 -- a row, and how many steps were made before it
-pub record Row : Type 0 where
+pub record TraceRow : Type 0 where
   pub made : ℕ
   pub text : List ℕ
 
 -- each row shows the state behind so many steps
-abbrev pub AreShown : (ℕ → State) → List Row → Type 0
+abbrev pub AreShown : (ℕ → State) → List TraceRow → Type 0
 AreShown states rows = All (λ r. ShowsStep (r.made + 1) (states r.made) r.text) rows
 
-abbrev pub rows_text : List Row → List ℕ
+abbrev pub rows_text : List TraceRow → List ℕ
 rows_text rows = flat_map (λ r. r.text) rows
 
 -- These rows were added to a text, and an ending. They show this machine, whose input is what was taken and what may
 -- follow.
-pub record Shows (states : States) (i j : Incoming) (old new : List ℕ) : Type 0 where
-  pub rows : List Row
+pub record ShowsRows (states : States) (i j : Incoming) (old new : List ℕ) : Type 0 where
+  pub rows : List TraceRow
   pub ending : List ℕ
   pub text_is : new ≡ old ++ rows_text rows ++ ending
   pub taken : List ℕ
@@ -72,8 +72,8 @@ steps_from p input n = steps p.image n (machine_at p input [])
 pub record IsTraced (first : Paused) (made : ℕ) (now : Paused) (i j : Incoming) (o q : Outgoing) (old new : List ℕ)
     : Type 0 where
   pub image_is : now.image ≡ first.image
-  pub goes : Goes (λ left before. steps first.image made (machine_at first left before)) (machine_at now) i j o q
-  pub rows : List Row
+  pub goes : MovesOn (λ left before. steps first.image made (machine_at first left before)) (machine_at now) i j o q
+  pub rows : List TraceRow
   pub text_is : new ≡ old ++ rows_text rows
   pub shown : (more : List ℕ) → CanFollow j more → AreShown (steps_from first (goes.taken ++ more)) rows
 
@@ -95,16 +95,16 @@ StepsGive p n i j o q result = RunGives (steps_from p) n i j o q result
 -- did not begin; or there is none, and nothing but why was written; or memory was refused.
 pub data Traces (edition : Edition) (source : List ℕ) (steps : ℕ) (ends : RunEnds) (status : ℕ) : Type 0 where
   traced : (mid : Outgoing) (ds : List Definition) (image : Image) (result : Outcome) (text : List ℕ) (output : Kept)
-      (told : ℕ) → IsProgram edition source ends.line mid ds image
+      (told : ℕ) → HasProgram edition source ends.line mid ds image
       → RunGives (run image) steps ends.input ends.input_behind nothing_written (outgoing_of output) result
-      → Shows (run image) ends.input ends.input_behind HEADING.now text
+      → ShowsRows (run image) ends.input ends.input_behind HEADING.now text
       → Told text DONE ends.out ends.out_behind told → TellsEnd told result mid ends.line_behind status
       → Traces edition source steps ends status
   not_begun : (mid : Outgoing) (ds : List Definition) (image : Image) (result : Outcome)
-      → IsProgram edition source ends.line mid ds image → BeginsNot image result
+      → HasProgram edition source ends.line mid ds image → BeginsNot image result
       → Finishes result mid ends.line_behind status → ends.out_behind ≡ ends.out → ends.input_behind ≡ ends.input
       → Traces edition source steps ends status
   stopped : NoProgram edition source ends.line ends.line_behind status → ends.out_behind ≡ ends.out
       → ends.input_behind ≡ ends.input → Traces edition source steps ends status
-  no_memory : (ds : List Definition) (image : Image) → IsProgram edition source ends.line ends.line_behind ds image
+  no_memory : (ds : List Definition) (image : Image) → HasProgram edition source ends.line ends.line_behind ds image
       → ends.out_behind ≡ ends.out → status ≡ MEMORY → Traces edition source steps ends status

@@ -4,7 +4,7 @@ ghost use Rattle.bmach.specs.Stepping.{machine_at};
 ghost use Rattle.bmach.specs.Turns.{TurnGives};
 ghost use Rattle.blist.specs.Listings.{Extends};
 ghost use Rattle.bword.specs.ByteEnds.{Kept, outgoing_of};
-ghost use Rattle.btrace.specs.Traces.{AddsStep, Shows, StepsGive, Traces, nothing_written, steps_from};
+ghost use Rattle.btrace.specs.Traces.{AddsStep, ShowsRows, StepsGive, Traces, nothing_written, steps_from};
 
 use crate::rows::{HEADING, change_of, push_change, push_step, push_trap, push_written};
 use crate::tables::Tables;
@@ -85,7 +85,7 @@ fn trace_program<S: Store + Drop, I: ByteIn>(
 ) -> Result<Outcome, AllocError>
     ensures gives { IfOk result (λ outcome. (output : Kept) × StepsGive stepper.entry wanted.entry.steps
         (I.incoming input.old) (I.incoming input.new) nothing_written (outgoing_of output) outcome) }
-    ensures shows { OnOk result (Shows (steps_from stepper.entry) (I.incoming input.old) (I.incoming input.new) (text.old ++ HEADING.now) text.new) }
+    ensures shows { OnOk result (ShowsRows (steps_from stepper.entry) (I.incoming input.old) (I.incoming input.new) (text.old ++ HEADING.now) text.new) }
     ensures same { I.lender input.new ≡ I.lender input.old }
 {
     let tables = Tables::new(alloc, program)?;
@@ -105,7 +105,7 @@ fn trace_steps<S: Store + Drop, I: ByteIn>(
 ) -> Result<Outcome, AllocError>
     ensures gives { IfOk result (StepsGive stepper.entry wanted.entry.steps
         (I.incoming input.old) (I.incoming input.new) (outgoing_of written.old) (outgoing_of written.new)) }
-    ensures shows { OnOk result (Shows (steps_from stepper.entry) (I.incoming input.old) (I.incoming input.new) text.old text.new) }
+    ensures shows { OnOk result (ShowsRows (steps_from stepper.entry) (I.incoming input.old) (I.incoming input.new) text.old text.new) }
     ensures same { I.lender input.new ≡ I.lender input.old }
 {
     for made in 0..wanted.steps {

@@ -8,7 +8,7 @@ use Rattle.blang.specs.declared.token.Placed.{Placed}
 use Rattle.blang.specs.Trees.{mark, kept_tokens, bare, Constant, Number, Character, comma_spelling, list_spelling, size_spelling, name_spelling, spell_statement, Ival, Ival_constant, Ival_text, Ival_name, Definition, Simple, Vector, Function, ival_spelling, spell_values, spell_definition}
 use Rattle.blang.specs.Cut.{placed, string_token}
 use Rattle.blang.specs.WellFormed.{EachBehind, ival_words, values_words, IvalFits, nesting_limit, IsFormed}
-use Rattle.btree.specs.Definition.{is_open}
+use Rattle.btree.specs.Definition.{is_open_definition}
 use Rattle.btree.proofs.Relined.{cut_token, cut_append, nothing_kept, Items, list_twin}
 use Rattle.btree.proofs.StatementRelined.{name_twin, size_kept, StatementTwin, statement_twin}
 
@@ -77,7 +77,7 @@ pub record DefinitionTwin (d : Definition) (ps : List Placed) : Type 0 where
   pub tree : Definition
   pub spelled : spell_definition tree ≡ kept_tokens ps
   pub formed : IsFormed d → IsFormed tree
-  pub same_open : is_open tree ≡ is_open d
+  pub same_open : is_open_definition tree ≡ is_open_definition d
 
 pub definition_twin : (d : Definition) (ps : List Placed) → map bare (spell_definition d) ≡ map bare ps → DefinitionTwin d ps
 definition_twin (Simple w values) ps h = cut_token (token.Name w.text) w.line (spell_values values) ps h (λ line r hr k.

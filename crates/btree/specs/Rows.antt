@@ -5,7 +5,7 @@ use Rattle.bword.specs.declared.operators.BinOp.TheVariants as op
 use Rattle.blang.specs.declared.token.Token.TheVariants as token
 use Rattle.blang.specs.declared.token.Keyword.TheVariants as keyword
 use Rattle.blang.specs.declared.token.Placed.{Placed}
-use Rattle.blang.specs.Trees.{mark, Word, Number, Expr, Named, Literal, Text, Grouped, Indexed, Called, Postfixed, Prefixed, Binary, Conditional, Assigned, No_arguments, Another, Negate, Indirection, PostIncrement, name_token, Stmt, Headed, Label, Case, Auto, Extrn, If, IfElse, While, Switch, Goto, ReturnValue, Evaluate, Empty, Nothing, More, keyword_mark, Definition, Vector, Function, Ival_text, Ival_name}
+use Rattle.blang.specs.Trees.{mark, Identifier, Number, Expr, Named, Literal, Text, Grouped, Indexed, Called, Postfixed, Prefixed, Binary, Conditional, Assigned, No_arguments, Another, Negate, Indirection, PostIncrement, name_token, Stmt, Headed, Label, Case, Auto, Extrn, If, IfElse, While, Switch, Goto, ReturnValue, Evaluate, Empty, Nothing, More, keyword_mark, Definition, Vector, Function, Ival_text, Ival_name}
 use Rattle.blang.specs.Cut.{placed, string_token}
 use Rattle.btree.specs.Reading.{Got, Stop, Reader}
 use Rattle.btree.specs.ExpressionReader.{Rvalue, reader}
@@ -14,7 +14,7 @@ use Rattle.blang.specs.WellFormed.{nesting_limit}
 use Rattle.btree.specs.DefinitionReader.{definition}
 
 -- names of one letter on line 1, and the tokens that they are
-abbrev pub word : ℕ → Word
+abbrev pub word : ℕ → Identifier
 word letter = record { text = letter ∷ []; line = 1 }
 
 abbrev pub var : ℕ → Expr

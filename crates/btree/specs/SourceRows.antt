@@ -4,7 +4,7 @@ use Rattle.bword.specs.declared.edition.Edition.{Edition}
 use Rattle.bword.specs.declared.edition.Edition.TheVariants as editions
 use Rattle.blang.specs.declared.token.Diagnostic.{Diagnostic}
 use Rattle.blang.specs.Cut.{tokens_from}
-use Rattle.blang.specs.Compiles.{Outcome, Goes, code_text, line_of}
+use Rattle.blang.specs.Compiles.{Compilation, CompilesTo, code_text, line_of}
 
 -- the line of a diagnostic, if there is one
 abbrev pub fault_text : Option Diagnostic → List ℕ
@@ -13,8 +13,8 @@ fault_text (Some d) = line_of d
 
 -- This code text and this line come of the source in an edition, and nothing else does.
 pub record ComesIn (edition : Edition) (source code line : List ℕ) : Type 0 where
-  pub outcome : Outcome
-  pub goes : Goes [] (tokens_from edition 1 source) outcome
+  pub outcome : Compilation
+  pub goes : CompilesTo [] (tokens_from edition 1 source) outcome
   pub code_is : code_text edition outcome ≡ code
   pub line_is : fault_text outcome.stop ≡ line
 

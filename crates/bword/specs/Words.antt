@@ -123,10 +123,10 @@ is_name [] = false
 is_name (b ∷ bs) = is_name_start b && (nat_le (length bs) 7 && list_all is_name_byte bs)
 
 -- the number of n bytes, the first of which counts most; those behind the last are zeros
-abbrev pub number_of : ℕ → List ℕ → ℕ
-number_of zero bs = 0
-number_of (suc n) [] = 0
-number_of (suc n) (b ∷ bs) = b * 256 ^ n + number_of n bs
+abbrev pub number_of_bytes : ℕ → List ℕ → ℕ
+number_of_bytes zero bs = 0
+number_of_bytes (suc n) [] = 0
+number_of_bytes (suc n) (b ∷ bs) = b * 256 ^ n + number_of_bytes n bs
 
 -- The bytes of an array of eight are its first n and zeros, where the rest are zeros.
 pub name_len_inverse : (xs : List ℕ) (n : ℕ) → n ≤ 8 → length xs ≡ 8 → length (take n xs) ≡ n
