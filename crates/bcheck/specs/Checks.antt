@@ -79,4 +79,5 @@ shown_in_form form.Json line = []
 
 -- What is written begins with the line of the source, and the status is the source's.
 abbrev pub Checks : Check → Type 0
-Checks c = EachTold c.edition c.source (λ told. TellsFirst (shown_in_form c.form told.0) told.1 c.out c.out_behind c.status)
+Checks c =
+    EachTold c.edition c.source (λ told. TellsFirst (shown_in_form c.form told.0) told.1 c.out c.out_behind c.status)

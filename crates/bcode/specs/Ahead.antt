@@ -1,5 +1,6 @@
 -- What reading some lines takes from where they come from.
-use Rattle.std.specs.Prelude.{◌≡◌, ◌≢◌, ℕ, Bool, true, false, ◌+◌, ◌<◌, ◌≤◌, List, [], ◌∷◌, ◌++◌, length, ◌==◌, All, Option, Some, None, Result, Ok, Err, ◌⊎◌}
+use Rattle.std.specs.Prelude.{◌≡◌, ◌≢◌, ℕ, Bool, true, false, ◌+◌, ◌<◌, ◌≤◌, List, [], ◌∷◌, ◌++◌, length, ◌==◌, All}
+use Rattle.std.specs.Prelude.{Option, Some, None, Result, Ok, Err, ◌⊎◌}
 use Rattle.std.specs.List.{flat_map}
 use Rattle.bword.specs.ByteEnds.{Incoming, Took, Grew, CanFollow}
 use Rattle.bword.specs.declared.ends.Device.{Device}
@@ -7,7 +8,8 @@ use Rattle.bword.specs.declared.edition.Edition.{Edition}
 use Rattle.bword.specs.declared.edition.Edition.TheVariants as editions
 use Rattle.bcode.specs.Headers.{header_of}
 use Rattle.bcode.specs.Stopping.{LineKind, IsOfKind, LineState, expects, IsStuckAfter, kinds_after}
-use Rattle.blang.specs.Text.{joined, lines_of, body_lines, header_line, definition_text, end_text, edition_line, IsWithinRanges}
+use Rattle.blang.specs.Text.{joined, lines_of, body_lines, header_line, definition_text, end_text, edition_line}
+use Rattle.blang.specs.Text.{IsWithinRanges}
 use Rattle.blang.specs.declared.code.Definition.{Definition}
 use Rattle.bcode.specs.declared.fault.CodeFault.{CodeFault}
 use Rattle.bcode.specs.declared.fault.CodeFault.TheVariants as fault
@@ -232,7 +234,8 @@ OpeningGives opens old (Ok u) new = OpeningRead opens old new
 OpeningGives opens old (Err (stop.Fault (fault.Line n))) new =
     (opens ≡ true) × RefusesLine {X = Unit {0}} (λ _. edition_line) (λ _. Unit {0}) old n new
 OpeningGives opens old (Err (stop.Fault fault.Memory)) new = ⊥
-OpeningGives opens old (Err stop.Device) new = (opens ≡ true) × BreaksLine {X = Unit {0}} (λ _. edition_line) (λ _. Unit {0}) old new
+OpeningGives opens old (Err stop.Device) new = (opens ≡ true)
+    × BreaksLine {X = Unit {0}} (λ _. edition_line) (λ _. Unit {0}) old new
 
 -- The last line was read, and the end of the input was seen.
 pub record ReadsLast (old new : Ahead) : Type 0 where
@@ -257,12 +260,14 @@ DefinitionGives opens old (Ok None) new = (mid : Ahead) × OpeningRead opens old
 DefinitionGives opens old (Err (stop.Fault (fault.Line n))) new =
     ((opens ≡ true) × RefusesLine {X = Unit {0}} (λ _. edition_line) (λ _. Unit {0}) old n new)
     ⊎ ((mid : Ahead) × OpeningRead opens old mid × StopsInside mid n new)
-DefinitionGives opens old (Err (stop.Fault fault.Memory)) new = (mid : Ahead) × OpeningRead opens old mid × HasNext mid new
+DefinitionGives opens old (Err (stop.Fault fault.Memory)) new = (mid : Ahead) × OpeningRead opens old mid
+    × HasNext mid new
 DefinitionGives opens old (Err stop.Device) new = BreaksNext opens old new
 
 -- nothing came behind the last line; or something did, in a line of this number
 abbrev pub EndingGives : Ahead → Result (Unit {0}) Stop → Ahead → Type 0
 EndingGives old (Ok u) new = TakesBytes old [] new × (new.end.is_over ≡ true)
-EndingGives old (Err (stop.Fault (fault.Line n))) new = (n ≡ old.line) × ((taken : List ℕ) × (taken ≢ []) × TakesBytes old taken new)
+EndingGives old (Err (stop.Fault (fault.Line n))) new = (n ≡ old.line)
+    × ((taken : List ℕ) × (taken ≢ []) × TakesBytes old taken new)
 EndingGives old (Err (stop.Fault fault.Memory)) new = ⊥
 EndingGives old (Err stop.Device) new = BytesFail old new

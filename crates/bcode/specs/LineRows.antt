@@ -1,6 +1,8 @@
 -- Which lines are read, each range at its limit and one past it.
 use Rattle.std.specs.Prelude.{◌≡◌, ℕ, ◌^◌, true, false, List, [], ◌∷◌, map, length, replicate, is_some, codes, refl}
-use Rattle.bcode.specs.LineReading.{header_at, any_header_at, sizes_at, function_header_at, simple_header_at, vector_header_at, line_ended, instr_at, ival_line_at, number_line_at, operand_at, name_operand_at, operator_at, less_at, greater_at, increment_at, case_at}
+use Rattle.bcode.specs.LineReading.{header_at, any_header_at, sizes_at, function_header_at, simple_header_at}
+use Rattle.bcode.specs.LineReading.{vector_header_at, line_ended, instr_at, ival_line_at, number_line_at, operand_at}
+use Rattle.bcode.specs.LineReading.{name_operand_at, operator_at, less_at, greater_at, increment_at, case_at}
 use Rattle.bcode.specs.Reading.{expect_byte, number_at, number_from, name_text_at}
 use Rattle.blang.specs.declared.code.Sizes.{Sizes}
 

@@ -1,5 +1,6 @@
 -- What a call of the reader of a code text does, counted from when the reader was made.
-use Rattle.std.specs.Prelude.{◌≡◌, ℕ, ◌+◌, ◌<◌, Bool, true, false, List, [], ◌∷◌, ◌++◌, length, All, Option, Some, None, Result, Ok, Err, if◌then◌else◌}
+use Rattle.std.specs.Prelude.{◌≡◌, ℕ, ◌+◌, ◌<◌, Bool, true, false, List, [], ◌∷◌, ◌++◌, length, All, Option, Some, None}
+use Rattle.std.specs.Prelude.{Result, Ok, Err, if◌then◌else◌}
 use Rattle.std.specs.List.{flat_map}
 use Rattle.bword.specs.ByteEnds.{Incoming, CanFollow}
 use Rattle.bword.specs.declared.edition.Edition.{Edition}
@@ -140,7 +141,8 @@ GivesBehind before old step.Closed new = ⊥
 -- what a call does, whichever definitions were read before
 abbrev pub StepGives : CodeReader → CodeStep → CodeReader → Type 0
 StepGives old step.Closed new = (old.is_closed ≡ true) × (new ≡ old)
-StepGives old answer new = MoreCanBeRead old × ((before : List Definition) → HasTaken old before → GivesBehind before old answer new)
+StepGives old answer new =
+    MoreCanBeRead old × ((before : List Definition) → HasTaken old before → GivesBehind before old answer new)
 
 -- the reader is over the same end
 pub record SameReader (old new : CodeReader) : Type 0 where

@@ -1,5 +1,6 @@
 -- Reading the parts of a line from the front of a text: what was read, and the text behind it.
-use Rattle.std.specs.Prelude.{◌≡◌, ℕ, ◌+◌, ◌*◌, ◌-◌, ◌==◌, nat_lt, if◌then◌else◌, List, [], ◌∷◌, take, drop, Option, Some, None}
+use Rattle.std.specs.Prelude.{◌≡◌, ℕ, ◌+◌, ◌*◌, ◌-◌, ◌==◌, nat_lt, if◌then◌else◌, List, [], ◌∷◌, take, drop, Option}
+use Rattle.std.specs.Prelude.{Some, None}
 use Rattle.std.specs.Char.{is_ascii_digit}
 use Rattle.std.specs.List.{position}
 use Rattle.bword.specs.Words.{is_name}
@@ -36,4 +37,6 @@ number_at end below (b ∷ bs) = if is_ascii_digit b then number_from end below 
 
 -- a name, and the byte that ends it
 unfoldable pub name_text_at : ℕ → List ℕ → Option (List ℕ × List ℕ)
-name_text_at end bytes = position (λ b. b == end) bytes >>= λ n. if is_name (take n bytes) then Some (take n bytes, drop (n + 1) bytes) else None
+name_text_at end bytes =
+    position (λ b. b == end) bytes >>= λ n. if is_name (take n bytes) then Some (take n bytes, drop (n + 1) bytes) else
+    None

@@ -60,4 +60,5 @@ pub record Stuck (from : LineState) (text : List ℕ) : Type 0 where
 -- after n lines the text is stuck
 abbrev pub IsStuckAfter : ℕ → LineState → List ℕ → Type 0
 IsStuckAfter zero from text = Stuck from text
-IsStuckAfter (suc n) from text = (l : List ℕ) × (to : LineState) × (rest : List ℕ) × Leads from l to × (text ≡ l ++ rest) × IsStuckAfter n to rest
+IsStuckAfter (suc n) from text = (l : List ℕ) × (to : LineState) × (rest : List ℕ) × Leads from l to
+    × (text ≡ l ++ rest) × IsStuckAfter n to rest

@@ -11,13 +11,12 @@ use Rattle.blang.specs.declared.code.Increment.TheVariants as increment
 use Rattle.blang.specs.Trees as tree
 use Rattle.blang.specs.Trees.{Expr, Arguments, Number, Character, Named, Literal, Text, Grouped, Indexed, Called, Postfixed, Prefixed, Binary, Conditional, Assigned, No_arguments, Another}
 use Rattle.blang.specs.WellFormed.{string_words, argument_words, or_rank, rank}
-use Rattle.btree.specs.Expression.{is_operand}
 use Rattle.btree.specs.Reading.{Reader, Got, Stop, ◌>>=◌, first, line_ahead, after, expect, many}
 use Rattle.blex.specs.Lexemes.{token_of_lexeme}
 use Rattle.blex.specs.declared.lexeme.Lexeme.{Lexeme}
 use Rattle.blex.specs.declared.lexeme.Lexeme.TheVariants as lexeme
 use Rattle.btree.specs.ExpressionReader as reading
-use Rattle.btree.specs.ExpressionReader.{is_close_paren, is_close_bracket, is_question, is_colon, op_at, suffix, Index, Call, Step, comma, always, prefix_op, Operand, Choice, Rvalue, Inner, primary, primary_at, another, arguments, call, postfix_with, postfix, operand, chain, choices, conditional, assigns, rvalue_from, inner, reader}
+use Rattle.btree.specs.ExpressionReader.{is_close_paren, is_close_bracket, is_question, is_colon, op_at, suffix, Index, Call, Step, comma, always, prefix_op, Operand, Choice, Rvalue, Inner, primary, primary_at, another, arguments, call, postfix_with, postfix, operand, chain, choices, conditional, assigns, rvalue_from, inner, reader, is_operand}
 use Rattle.btree.specs.StatementReader.{is_open_paren}
 use Rattle.blang.specs.Code.{argument_count, assignment}
 use Rattle.btree.proofs.Fine.{many_none, many_some}

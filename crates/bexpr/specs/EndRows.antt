@@ -4,7 +4,8 @@ use Rattle.std.specs.List.{flat_map}
 use Rattle.bword.specs.declared.edition.Edition.{Edition}
 use Rattle.bword.specs.declared.edition.Edition.TheVariants as editions
 use Rattle.bword.specs.declared.operators.BinOp.TheVariants as op
-use Rattle.blang.specs.Cut.{Piece, Word, whole, word_token, keyword_of, number_in, with_quoted_byte, operator_of, other_of, fixed_of, string_token}
+use Rattle.blang.specs.Cut.{Piece, Word, whole, word_token, keyword_of, number_in, with_quoted_byte, operator_of}
+use Rattle.blang.specs.Cut.{other_of, fixed_of, string_token}
 use Rattle.blang.specs.declared.token.Token.{Token}
 use Rattle.blang.specs.declared.token.Token.TheVariants as token
 use Rattle.blang.specs.declared.token.Keyword.TheVariants as keyword

@@ -1,5 +1,6 @@
 -- The tokens of a source, of which some are ahead, and what taking them does.
-use Rattle.std.specs.Prelude.{◌≡◌, ℕ, ◌+◌, ◌≤◌, ◌⊎◌, Bool, true, false, List, [], ◌∷◌, ◌++◌, length, Option, Some, None, if◌then◌else◌}
+use Rattle.std.specs.Prelude.{◌≡◌, ℕ, ◌+◌, ◌≤◌, ◌⊎◌, Bool, true, false, List, [], ◌∷◌, ◌++◌, length, Option, Some, None}
+use Rattle.std.specs.Prelude.{if◌then◌else◌}
 use Rattle.bword.specs.ByteEnds.{Incoming, Grew}
 pub use Rattle.bword.specs.ByteEnds.{CanFollow}
 use Rattle.bword.specs.declared.edition.Edition.{Edition}

@@ -1,13 +1,20 @@
 -- The code of a definition. Places are absolute in a function.
-use Rattle.std.specs.Prelude.{ℕ, ◌+◌, ◌*◌, ◌&&◌, List, [], ◌∷◌, ◌++◌, length, map, max, nat_le, Bool, Option, Some, None, Result, Ok, Err, if◌then◌else◌}
+use Rattle.std.specs.Prelude.{ℕ, ◌+◌, ◌*◌, ◌&&◌, List, [], ◌∷◌, ◌++◌, length, map, max, nat_le, Bool, Option, Some}
+use Rattle.std.specs.Prelude.{None, Result, Ok, Err, if◌then◌else◌}
 use Rattle.std.specs.List.{flat_map}
 use Rattle.bword.specs.declared.operators.BinOp.{BinOp}
 use Rattle.bword.specs.declared.operators.BinOp.TheVariants as op
 use Rattle.blang.specs.declared.token.Diagnostic.{Diagnostic}
 use Rattle.blang.specs.declared.limits.TheConstants.{MAX_INSTRUCTIONS, MAX_STRING_WORDS, MAX_VALUES, MAX_WORDS}
 use Rattle.blang.specs.declared.code.Instr.{Instr}
-use Rattle.blang.specs.Trees.{Expr, Arguments, Negate, Not, Indirection, Address, PreIncrement, PreDecrement, PostIncrement, PostDecrement, Named, Literal, Text, Grouped, Indexed, Called, Postfixed, Prefixed, Binary, Conditional, Assigned, No_arguments, Another, Heading, Auto, Extrn, Label, Case, Default, Stmt, Headed, Compound, If, IfElse, While, Switch, Goto, Break, Return, ReturnValue, Evaluate, Empty, Stmts, Nothing, More, Ival, Ival_constant, Ival_text, Ival_name, Definition, Simple, Vector, Function}
-use Rattle.blang.specs.Scan.{Entry, NameKind, Automatic, Labelled, kind_of, fault, Scope, no_scope, constant_value, function_scope, scan, identifier_of}
+use Rattle.blang.specs.Trees.{Expr, Arguments, Negate, Not, Indirection, Address, PreIncrement, PreDecrement}
+use Rattle.blang.specs.Trees.{PostIncrement, PostDecrement, Named, Literal, Text, Grouped, Indexed, Called, Postfixed}
+use Rattle.blang.specs.Trees.{Prefixed, Binary, Conditional, Assigned, No_arguments, Another, Heading, Auto, Extrn}
+use Rattle.blang.specs.Trees.{Label, Case, Default, Stmt, Headed, Compound, If, IfElse, While, Switch, Goto, Break}
+use Rattle.blang.specs.Trees.{Return, ReturnValue, Evaluate, Empty, Stmts, Nothing, More, Ival, Ival_constant}
+use Rattle.blang.specs.Trees.{Ival_text, Ival_name, Definition, Simple, Vector, Function}
+use Rattle.blang.specs.Scan.{Entry, NameKind, Automatic, Labelled, kind_of, fault, Scope, no_scope, constant_value}
+use Rattle.blang.specs.Scan.{function_scope, scan, identifier_of}
 use Rattle.blang.specs.declared.token.Letters.TheVariants as letters
 use Rattle.blang.specs.declared.code.Instr.TheVariants as instr
 use Rattle.blang.specs.declared.code.Increment.TheVariants as increment

@@ -1,5 +1,6 @@
 -- What comes of a source: its code text and its diagnostic, and what the compiler writes and answers.
-use Rattle.std.specs.Prelude.{◌≡◌, ℕ, List, [], ◌∷◌, ◌++◌, length, codes, decimal, Option, Some, None, ◌≢◌, ◌≤◌, ◌<◌, ◌⊎◌, take}
+use Rattle.std.specs.Prelude.{◌≡◌, ℕ, List, [], ◌∷◌, ◌++◌, length, codes, decimal, Option, Some, None, ◌≢◌, ◌≤◌, ◌<◌}
+use Rattle.std.specs.Prelude.{◌⊎◌, take}
 use Rattle.bword.specs.declared.edition.Edition.{Edition}
 use Rattle.bword.specs.declared.ends.EndFault.{EndFault}
 use Rattle.bword.specs.ByteEnds.{Incoming, Outgoing, Took, Grew, Writes, Refuses, CanFollow}
@@ -39,7 +40,8 @@ compilation_with None text later = record { code = text ∷ later.code; stop = l
 abbrev pub compilation_of : Defined → List Definition → Option Diagnostic → Compilation
 compilation_of names [] stop = record { code = []; stop = stop }
 compilation_of names (d ∷ ds) stop =
-    compilation_with (fault_of names d) (compiled_text d) (compilation_of (names ++ (identifier_of d).text ∷ []) ds stop)
+    compilation_with (fault_of names d) (compiled_text d)
+        (compilation_of (names ++ (identifier_of d).text ∷ []) ds stop)
 
 -- What comes of these tokens, where these names are defined before.
 pub record CompilesTo (names : Defined) (tokens : List Placed) (outcome : Compilation) : Type 0 where
@@ -88,7 +90,8 @@ status_of end_fault.Memory = 134
 -- each source that begins with the bytes that were taken, or the one whose end was seen, comes to this
 abbrev pub Whatever : Edition → List ℕ → Incoming → (Compilation → Type 0) → Type 0
 Whatever edition taken end P =
-    (more : List ℕ) → CanFollow end more → (r : Compilation) → CompilesTo [] (tokens_from edition 1 (taken ++ more)) r → P r
+    (more : List ℕ) → CanFollow end more → (r : Compilation) → CompilesTo [] (tokens_from edition 1 (taken ++ more)) r
+        → P r
 
 -- there is code: a definition's, or the last line
 abbrev pub HasCode : Compilation → Type 0

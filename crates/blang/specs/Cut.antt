@@ -1,5 +1,7 @@
 -- The cut of a source into tokens: what a whole piece of it is, and each piece the longest at its place.
-use Rattle.std.specs.Prelude.{ℕ, ◌+◌, ◌-◌, ◌*◌, Bool, ◌&&◌, ◌||◌, ◌==◌, nat_le, nat_lt, List, [], ◌∷◌, ◌++◌, length, take, drop, fold, codes, nat_eq, Option, Some, None, if◌then◌else◌, suc, zero, min, is_some}
+use Rattle.std.specs.Prelude.{ℕ, ◌+◌, ◌-◌, ◌*◌, Bool, ◌&&◌, ◌||◌, ◌==◌, nat_le, nat_lt, List, [], ◌∷◌, ◌++◌, length}
+use Rattle.std.specs.Prelude.{take, drop, fold, codes, nat_eq, Option, Some, None, if◌then◌else◌, suc, zero, min}
+use Rattle.std.specs.Prelude.{is_some}
 use Rattle.std.specs.List.{list_all, find}
 use Rattle.std.specs.Map.{lookup}
 use Rattle.std.specs.Option.{option_map, option_or}

@@ -1,12 +1,15 @@
 -- How sources are cut, one source a line.
-use Rattle.std.specs.Prelude.{◌≡◌, ℕ, List, [], ◌∷◌, ◌++◌, map, length, filter, replicate, codes, refl, is_some, Some, None}
+use Rattle.std.specs.Prelude.{◌≡◌, ℕ, List, [], ◌∷◌, ◌++◌, map, length, filter, replicate, codes, refl, is_some, Some}
+use Rattle.std.specs.Prelude.{None}
 use Rattle.std.specs.List.{range_with_len}
 use Rattle.bword.specs.ByteEnds.{most}
 use Rattle.bword.specs.declared.edition.Edition.{Edition}
 use Rattle.bword.specs.declared.edition.Edition.TheVariants as editions
 use Rattle.bword.specs.declared.operators.BinOp.TheVariants as op
 use Rattle.blang.specs.declared.token.Token.{Token}
-use Rattle.blang.specs.Cut.{Word, whole, is_blank, word_token, keyword_of, number_in, with_quoted_byte, plain_of, escape_of, operator_of, other_of, fixed_of, string_token, tokens_from, placed, cut, longest, greatest}
+use Rattle.blang.specs.Cut.{Word, whole, is_blank, word_token, keyword_of, number_in, with_quoted_byte, plain_of}
+use Rattle.blang.specs.Cut.{escape_of, operator_of, other_of, fixed_of, string_token, tokens_from, placed, cut, longest}
+use Rattle.blang.specs.Cut.{greatest}
 use Rattle.blang.specs.declared.token.Token.TheVariants as token
 use Rattle.blang.specs.declared.token.Keyword.TheVariants as keyword
 use Rattle.blang.specs.declared.token.Letters.TheVariants as letters
@@ -74,7 +77,8 @@ keywords = refl
 
 -- the words of the second edition, where the others stay, are names in the first
 keywords_of_two : map (tokens_in editions.Two) (codes "break" ∷ codes "default" ∷ codes "case" ∷ []) ≡
-    (token.Keyword keyword.Break ∷ token.End ∷ []) ∷ (token.Keyword keyword.Default ∷ token.End ∷ []) ∷ (token.Keyword keyword.Case ∷ token.End ∷ []) ∷ []
+    (token.Keyword keyword.Break ∷ token.End ∷ []) ∷ (token.Keyword keyword.Default ∷ token.End ∷ [])
+        ∷ (token.Keyword keyword.Case ∷ token.End ∷ []) ∷ []
 unfolding tokens_from cut longest greatest whole word_token keyword_of
 keywords_of_two = refl
 

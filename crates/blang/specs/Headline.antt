@@ -5,7 +5,8 @@ use Rattle.bword.specs.ByteEnds.{Incoming, Outgoing, Took, Writes, CanFollow, Be
 use Rattle.bword.specs.declared.edition.Edition.{Edition}
 use Rattle.blang.specs.Code.{code_of}
 use Rattle.blang.specs.Trees.{Definition}
-use Rattle.blang.specs.Machine.{State, Halted, Shows, AnyFailed, NoneFailed, RunGives, IsOwnStatus, machine, load_number, RunEnds, HasNotRun, NotLoaded, Finishes, report_text}
+use Rattle.blang.specs.Machine.{State, Halted, Shows, AnyFailed, NoneFailed, RunGives, IsOwnStatus, machine}
+use Rattle.blang.specs.Machine.{load_number, RunEnds, HasNotRun, NotLoaded, Finishes, report_text}
 use Rattle.blang.specs.Layout.{World, Ending, load_fault, Exited, Trapped}
 use Rattle.blang.specs.declared.run.Outcome.{Outcome}
 use Rattle.blang.specs.Value.{Answer, Ends, Wants}
@@ -63,7 +64,8 @@ pub record BreaksOff (ds : List Definition) (steps : ℕ) (i j : Incoming) (o p 
   pub made : ℕ
   pub within : made ≤ steps
   pub began : (more : List ℕ) → CanFollow j more
-      → (text : List ℕ) × IsBeginningOf text (answer_world (meant ds (taken ++ more) (made + 1))).output × Began o text p
+      → (text : List ℕ) × IsBeginningOf text (answer_world (meant ds (taken ++ more) (made + 1))).output
+          × Began o text p
   pub reason : why
 
 -- what a run of so many steps does, by its outcome

@@ -1,12 +1,20 @@
 -- What a program means, on an input and with so much fuel: going on with the statements that remain.
-use Rattle.std.specs.Prelude.{ℕ, zero, suc, ◌+◌, ◌-◌, ◌%◌, List, [], ◌∷◌, Option, Some, None, option_map, unwrap_or, nat_lt, slice_get, ◌==◌, if◌then◌else◌, map, length, zip, find, filter_map, codes, Bool, false, option_and_then, ◌≡◌, ◌++◌}
+use Rattle.std.specs.Prelude.{ℕ, zero, suc, ◌+◌, ◌-◌, ◌%◌, List, [], ◌∷◌, Option, Some, None, option_map, unwrap_or}
+use Rattle.std.specs.Prelude.{nat_lt, slice_get, ◌==◌, if◌then◌else◌, map, length, zip, find, filter_map, codes, Bool}
+use Rattle.std.specs.Prelude.{false, option_and_then, ◌≡◌, ◌++◌}
 use Rattle.std.specs.List.{flat_map}
 use Rattle.bword.specs.Words.{same_name}
-use Rattle.blang.specs.Trees.{Declared, Heading, Auto, Extrn, Label, Case, Default, Stmt, Headed, Compound, If, IfElse, While, Switch, Goto, Break, Return, ReturnValue, Evaluate, Empty, Stmts, Nothing, More, Definition}
-use Rattle.blang.specs.Code.{Environment, Referent, In_frame, Arms, default_in, ival_code, ival_strings, statement_strings, vector_words, code_of}
+use Rattle.blang.specs.Trees.{Declared, Heading, Auto, Extrn, Label, Case, Default, Stmt, Headed, Compound, If, IfElse}
+use Rattle.blang.specs.Trees.{While, Switch, Goto, Break, Return, ReturnValue, Evaluate, Empty, Stmts, Nothing, More}
+use Rattle.blang.specs.Trees.{Definition}
+use Rattle.blang.specs.Code.{Environment, Referent, In_frame, Arms, default_in, ival_code, ival_strings}
+use Rattle.blang.specs.Code.{statement_strings, vector_words, code_of}
 use Rattle.blang.specs.declared.run.Trap.TheVariants.{NotALabel}
-use Rattle.blang.specs.Layout.{store_words, World, with_word, Exited, Trapped, refusal, DefinitionKind, Shape, Spot, spots, data_end, first_words, addresses, padded, load_fault}
-use Rattle.blang.specs.Value.{Computation, ◌>>=◌, gives, trap, Remaining, Do, Loop_mark, Switch_mark, body_arms, Program, environment_in, labels_of, Frame, Evaluator, Fuel, spend, is_true, value, Answer, Gives, Ends, Wants, labels, SourceFunction, frame_words}
+use Rattle.blang.specs.Layout.{store_words, World, with_word, Exited, Trapped, refusal, DefinitionKind, Shape, Spot}
+use Rattle.blang.specs.Layout.{spots, data_end, first_words, addresses, padded, load_fault}
+use Rattle.blang.specs.Value.{Computation, ◌>>=◌, gives, trap, Remaining, Do, Loop_mark, Switch_mark, body_arms}
+use Rattle.blang.specs.Value.{Program, environment_in, labels_of, Frame, Evaluator, Fuel, spend, is_true, value, Answer}
+use Rattle.blang.specs.Value.{Gives, Ends, Wants, labels, SourceFunction, frame_words}
 use Rattle.blang.specs.declared.run.Trap.{Trap}
 
 -- the own word of a vector is the address of the word after it
@@ -109,7 +117,8 @@ fuel_of program (suc n) = Some (evaluator program (fuel_of program n))
 -- what the layout looks at
 abbrev pub shape_of : Definition → Shape
 shape_of (Definition.Simple w values) =
-    record { kind = DefinitionKind.Simple; name = w.text; values = map ival_code values; strings = flat_map ival_strings values }
+    record { kind = DefinitionKind.Simple; name = w.text; values = map ival_code values; strings = flat_map ival_strings
+        values }
 shape_of (Definition.Vector w size values) =
     record {
       kind = DefinitionKind.Vector (vector_words size values);

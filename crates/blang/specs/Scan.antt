@@ -1,11 +1,17 @@
 -- The first fault of a definition beside its syntax: its names in their one table, its cases, defaults, breaks and
 -- lvalues, in source order.
-use Rattle.std.specs.Prelude.{ℕ, List, [], ◌∷◌, ◌++◌, length, Bool, true, false, nat_lt, Option, Some, None, Result, Ok, Err, if◌then◌else◌, ◌+◌, ◌-◌, map, nat_eq}
+use Rattle.std.specs.Prelude.{ℕ, List, [], ◌∷◌, ◌++◌, length, Bool, true, false, nat_lt, Option, Some, None, Result, Ok}
+use Rattle.std.specs.Prelude.{Err, if◌then◌else◌, ◌+◌, ◌-◌, map, nat_eq}
 use Rattle.std.specs.List.{list_any}
 use Rattle.bword.specs.Words.{same_name}
 use Rattle.blang.specs.declared.token.Letters.{Letters}
 use Rattle.blang.specs.declared.token.Diagnostic.{Diagnostic}
-use Rattle.blang.specs.Trees.{Identifier, Constant, Number, Character, Expr, Arguments, PrefixOp, Negate, Not, Indirection, Address, PreIncrement, PreDecrement, Named, Literal, Text, Grouped, Indexed, Called, Postfixed, Prefixed, Binary, Conditional, Assigned, No_arguments, Another, Heading, Auto, Extrn, Label, Case, Default, Stmt, Headed, Compound, If, IfElse, While, Switch, Goto, Break, Return, ReturnValue, Evaluate, Empty, Stmts, Nothing, More, Definition, Simple, Vector, Function}
+use Rattle.blang.specs.Trees.{Identifier, Constant, Number, Character, Expr, Arguments, PrefixOp, Negate, Not}
+use Rattle.blang.specs.Trees.{Indirection, Address, PreIncrement, PreDecrement, Named, Literal, Text, Grouped, Indexed}
+use Rattle.blang.specs.Trees.{Called, Postfixed, Prefixed, Binary, Conditional, Assigned, No_arguments, Another}
+use Rattle.blang.specs.Trees.{Heading, Auto, Extrn, Label, Case, Default, Stmt, Headed, Compound, If, IfElse, While}
+use Rattle.blang.specs.Trees.{Switch, Goto, Break, Return, ReturnValue, Evaluate, Empty, Stmts, Nothing, More}
+use Rattle.blang.specs.Trees.{Definition, Simple, Vector, Function}
 use Rattle.blang.specs.declared.limits.TheConstants.{MAX_NAMES, MAX_CASES}
 use Rattle.blang.specs.declared.token.About.{About}
 use Rattle.blang.specs.declared.token.Letters.TheVariants as letters

@@ -42,12 +42,15 @@ function : definition_text (definition.Function record {
   frame = 5;
   targets = 4 ∷ [];
   strings = [];
-  code = instr.Automatic 1 ∷ instr.Automatic 2 ∷ instr.Store ∷ instr.Pop ∷ instr.Automatic 1 ∷ instr.Load ∷ instr.Automatic 4
+  code =
+      instr.Automatic 1 ∷ instr.Automatic 2 ∷ instr.Store ∷ instr.Pop ∷ instr.Automatic 1 ∷ instr.Load ∷ instr.Automatic
+      4
       ∷ instr.Load ∷ instr.Binary op.Add ∷ instr.Automatic 0 ∷ instr.Load ∷ instr.Modify op.Add ∷ instr.Pop
       ∷ instr.Automatic 0 ∷ instr.Load ∷ instr.Jump 19 ∷ instr.Label 0 ∷ instr.Goto ∷ instr.Jump 21
       ∷ instr.JumpIfCase 2 16 ∷ instr.Pop ∷ instr.Automatic 4 ∷ instr.Load ∷ instr.Return ∷ instr.Constant 0
       ∷ instr.Return ∷ [];
-}) ≡ codes "F f 1 5 1 0 26\nt 4\na 1\na 2\nw\np\na 1\nv\na 4\nv\nb +\na 0\nv\nm +\np\na 0\nv\nj 19\nl 0\ng\nj 21\ne 2 16\np\na 4\nv\nr\nc 0\nr\n"
+}) ≡ codes
+    "F f 1 5 1 0 26\nt 4\na 1\na 2\nw\np\na 1\nv\na 4\nv\nb +\na 0\nv\nm +\np\na 0\nv\nj 19\nl 0\ng\nj 21\ne 2 16\np\na 4\nv\nr\nc 0\nr\n"
 unfolding digits
 function = refl
 

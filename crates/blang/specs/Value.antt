@@ -1,14 +1,21 @@
 -- Programs as trees, and the value of an expression.
-use Rattle.std.specs.Prelude.{ℕ, Option, Some, None, List, [], ◌∷◌, ◌++◌, suc, if◌then◌else◌, ◌+◌, ◌%◌, length, Bool, not, unwrap_or, ◌==◌}
+use Rattle.std.specs.Prelude.{ℕ, Option, Some, None, List, [], ◌∷◌, ◌++◌, suc, if◌then◌else◌, ◌+◌, ◌%◌, length, Bool}
+use Rattle.std.specs.Prelude.{not, unwrap_or, ◌==◌}
 use Rattle.bword.specs.declared.operators.BinOp.{BinOp}
 use Rattle.bword.specs.Words.{binary_of, same_name, negate_of, not_of}
 use Rattle.bword.specs.declared.operators.BinOp.TheVariants as op
 use Rattle.blang.specs.declared.run.Trap.{Trap}
 use Rattle.blang.specs.declared.run.Trap.TheVariants.{ZeroDivisor, NotAFunction}
-use Rattle.blang.specs.Layout.{World, word_at, with_word, Ending, Trapped, Reply, Addresses, store_words, with_words, stepped, library, Callee, NoFunction, OfLibrary, OfProgram, callee_of, refusal, parameter_words, address_in}
+use Rattle.blang.specs.Layout.{World, word_at, with_word, Ending, Trapped, Reply, Addresses, store_words, with_words}
+use Rattle.blang.specs.Layout.{stepped, library, Callee, NoFunction, OfLibrary, OfProgram, callee_of, refusal}
+use Rattle.blang.specs.Layout.{parameter_words, address_in}
 use Rattle.blang.specs.Scan.{constant_value, NameKind, Automatic, Labelled, kind_of, Scope, function_scope}
 use Rattle.blang.specs.Code.{Arms, Environment, Referent, In_frame, Outside, At_label, clean}
-use Rattle.blang.specs.Trees.{Heading, Label, Case, Default, Stmt, Headed, Compound, If, IfElse, While, Switch, Goto, Break, Return, ReturnValue, Evaluate, Empty, Stmts, Nothing, More, Identifier, Expr, Arguments, Negate, Not, Indirection, Address, PreIncrement, PreDecrement, PostIncrement, PostDecrement, Named, Literal, Text, Grouped, Indexed, Called, Postfixed, Prefixed, Binary, Conditional, Assigned, No_arguments, Another}
+use Rattle.blang.specs.Trees.{Heading, Label, Case, Default, Stmt, Headed, Compound, If, IfElse, While, Switch, Goto}
+use Rattle.blang.specs.Trees.{Break, Return, ReturnValue, Evaluate, Empty, Stmts, Nothing, More, Identifier, Expr}
+use Rattle.blang.specs.Trees.{Arguments, Negate, Not, Indirection, Address, PreIncrement, PreDecrement, PostIncrement}
+use Rattle.blang.specs.Trees.{PostDecrement, Named, Literal, Text, Grouped, Indexed, Called, Postfixed, Prefixed}
+use Rattle.blang.specs.Trees.{Binary, Conditional, Assigned, No_arguments, Another}
 
 -- a result, an end of the run, or want of fuel, each with its world
 pub data Answer (A : Type 0) : Type 0 where

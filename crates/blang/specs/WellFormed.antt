@@ -1,11 +1,17 @@
 -- Which trees are well formed (how operators and `else` bind, how deep trees nest, where strings lie), and where the
 -- tokens of a source stop being those of a program.
-use Rattle.std.specs.Prelude.{List, [], ◌∷◌, ◌++◌, ◌≡◌, ℕ, zero, suc, ◌+◌, ◌-◌, ◌/◌, ◌≤◌, length, Bool, true, false, Option, Some, None, sum_by, map, ◌⊎◌}
+use Rattle.std.specs.Prelude.{List, [], ◌∷◌, ◌++◌, ◌≡◌, ℕ, zero, suc, ◌+◌, ◌-◌, ◌/◌, ◌≤◌, length, Bool, true, false}
+use Rattle.std.specs.Prelude.{Option, Some, None, sum_by, map, ◌⊎◌}
 use Rattle.bword.specs.declared.operators.BinOp.{BinOp}
 use Rattle.bword.specs.declared.operators.BinOp.TheVariants as op
 use Rattle.blang.specs.declared.token.Placed.{Placed}
 use Rattle.blang.specs.declared.token.Token.{Token}
-use Rattle.blang.specs.Trees.{Another, Arguments, Assigned, Binary, Called, Conditional, Expr, Grouped, Indexed, Literal, Named, No_arguments, Postfixed, Prefixed, Text, Auto, Break, Case, Compound, Default, Empty, Evaluate, Extrn, Goto, Headed, Heading, If, IfElse, Label, More, Nothing, Return, ReturnValue, Stmt, Stmts, Switch, While, Definition, Function, Ival, Ival_constant, Ival_name, Ival_text, Simple, Vector, spell_definition, kept, bare, spell_all}
+use Rattle.blang.specs.Trees.{Another, Arguments, Assigned, Binary, Called, Conditional, Expr, Grouped, Indexed}
+use Rattle.blang.specs.Trees.{Literal, Named, No_arguments, Postfixed, Prefixed, Text, Auto, Break, Case, Compound}
+use Rattle.blang.specs.Trees.{Default, Empty, Evaluate, Extrn, Goto, Headed, Heading, If, IfElse, Label, More, Nothing}
+use Rattle.blang.specs.Trees.{Return, ReturnValue, Stmt, Stmts, Switch, While, Definition, Function, Ival}
+use Rattle.blang.specs.Trees.{Ival_constant, Ival_name, Ival_text, Simple, Vector, spell_definition, kept, bare}
+use Rattle.blang.specs.Trees.{spell_all}
 use Rattle.blang.specs.declared.limits.TheConstants.{MAX_NESTING}
 use Rattle.blang.specs.declared.token.Letters.{Letters}
 use Rattle.blang.specs.declared.token.Diagnostic.{Diagnostic}
@@ -110,7 +116,8 @@ abbrev mutual
       (rank op ≤ loose) × Fits e (rank op) room off × Fits f (rank op - 1) room (off + string_words e)
   Fits (Conditional e f g) loose room off =
       (conditional_rank ≤ loose) × Fits e or_rank room off
-      × Deeper (λ k. Fits f rvalue_rank k (off + string_words e) × Fits g conditional_rank k (off + string_words e + string_words f)) room
+      × Deeper (λ k. Fits f rvalue_rank k (off + string_words e)
+          × Fits g conditional_rank k (off + string_words e + string_words f)) room
   Fits (Assigned op line e f) loose room off =
       (rvalue_rank ≤ loose) × Fits e 0 room off × Deeper (λ k. Fits f rvalue_rank k (off + string_words e)) room
 

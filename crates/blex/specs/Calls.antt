@@ -27,7 +27,8 @@ once (t ∷ ts) = t ∷ (if is_last t.token then [] else once ts)
 -- The bytes are these tokens, with space before each and nothing behind the last one.
 abbrev pub Spells : Edition → ℕ → List Placed → List ℕ → Type 0
 Spells edition line [] bytes = bytes ≡ []
-Spells edition line (t ∷ ts) bytes = (space : List ℕ) × (text : List ℕ) × (rest : List ℕ) × (bytes ≡ (space ++ text) ++ rest)
+Spells edition line (t ∷ ts) bytes = (space : List ℕ) × (text : List ℕ) × (rest : List ℕ)
+    × (bytes ≡ (space ++ text) ++ rest)
     × (tokens_from edition line space ≡ placed token.End t.line ∷ []) × (whole edition text ≡ Some (Word t.token))
     × Spells edition (line_after line (space ++ text)) ts rest
 

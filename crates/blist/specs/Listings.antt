@@ -1,5 +1,6 @@
 -- The code of a source, as it is listed.
-use Rattle.std.specs.Prelude.{◌≡◌, ℕ, ◌+◌, ◌-◌, Bool, true, List, [], ◌∷◌, ◌++◌, codes, decimal, map, filter, length, take, All, Option, Some, None}
+use Rattle.std.specs.Prelude.{◌≡◌, ℕ, ◌+◌, ◌-◌, Bool, true, List, [], ◌∷◌, ◌++◌, codes, decimal, map, filter, length}
+use Rattle.std.specs.Prelude.{take, All, Option, Some, None}
 use Rattle.std.specs.List.{flat_map}
 use Rattle.std.specs.Str.{bytes_eq}
 use Rattle.bword.specs.declared.edition.Edition.{Edition}
@@ -50,7 +51,8 @@ wanted name ds = filter (is_wanted name) ds
 
 -- What is written for a source: the lines of the code of what is wanted, each in its row; or nothing but why there are
 -- none.
-pub data Lists (edition : Edition) (source : List ℕ) (name : Option (List ℕ)) (ends : ToldEnds) (status : ℕ) : Type 0 where
+pub data Lists (edition : Edition) (source : List ℕ) (name : Option (List ℕ)) (ends : ToldEnds) (status : ℕ) : Type 0
+    where
   listed : (ds : List Definition) (image : Image) (text : List ℕ)
       → HasProgram edition source ends.line ends.line_behind ds image
       → AreRows (flat_map lines_of (wanted name ds)) text

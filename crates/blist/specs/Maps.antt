@@ -1,5 +1,6 @@
 -- The layout of memory, as it is shown.
-use Rattle.std.specs.Prelude.{◌≡◌, ℕ, zero, suc, ◌+◌, ◌%◌, List, [], ◌∷◌, ◌++◌, codes, decimal, map, min, nat_lt, unwrap_or, slice_index, if◌then◌else◌}
+use Rattle.std.specs.Prelude.{◌≡◌, ℕ, zero, suc, ◌+◌, ◌%◌, List, [], ◌∷◌, ◌++◌, codes, decimal, map, min, nat_lt}
+use Rattle.std.specs.Prelude.{unwrap_or, slice_index, if◌then◌else◌}
 use Rattle.std.specs.List.{flat_map}
 use Rattle.bword.specs.declared.edition.Edition.{Edition}
 use Rattle.bword.specs.ByteEnds.{Outgoing}
@@ -40,7 +41,8 @@ map_row image d =
 
 abbrev pub map_text : Image → List Definition → List ℕ
 map_text image ds =
-    HEADING.now ++ flat_map (λ d. map_row image (shape_of d)) ds ++ codes "data end " ++ decimal image.data_end ++ codes "\n"
+    HEADING.now ++ flat_map (λ d. map_row image (shape_of d)) ds ++ codes "data end " ++ decimal image.data_end
+        ++ codes "\n"
 
 -- What is written for a source: its layout; or nothing but why there is none.
 pub data Maps (edition : Edition) (source : List ℕ) (ends : ToldEnds) (status : ℕ) : Type 0 where

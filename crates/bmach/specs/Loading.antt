@@ -1,9 +1,12 @@
 -- What the loader's parts do.
-use Rattle.std.specs.Prelude.{◌≡◌, ℕ, ◌+◌, ◌||◌, not, Bool, List, [], ◌∷◌, ◌++◌, length, nat_lt, Option, Some, None, option_map, if◌then◌else◌}
+use Rattle.std.specs.Prelude.{◌≡◌, ℕ, ◌+◌, ◌||◌, not, Bool, List, [], ◌∷◌, ◌++◌, length, nat_lt, Option, Some, None}
+use Rattle.std.specs.Prelude.{option_map, if◌then◌else◌}
 use Rattle.blang.specs.declared.code.Definition.{Definition}
 use Rattle.blang.specs.declared.run.LoadFault.{LoadFault}
 use Rattle.blang.specs.declared.run.LoadFault.TheVariants as fault
-use Rattle.blang.specs.Layout.{store_words, Shape, Spot, shape_of, words_before_strings, functions_in, labels_in, data_end, label_count, definition_words, is_main, first_undefined, Addresses, address_in, library_addresses}
+use Rattle.blang.specs.Layout.{store_words, Shape, Spot, shape_of, words_before_strings, functions_in, labels_in}
+use Rattle.blang.specs.Layout.{data_end, label_count, definition_words, is_main, first_undefined, Addresses, address_in}
+use Rattle.blang.specs.Layout.{library_addresses}
 use Rattle.bword.specs.Words.{same_name}
 use Rattle.blang.specs.Machine.{Loaded, loaded_at}
 use Rattle.bmach.specs.Resolved.{resolved_function}

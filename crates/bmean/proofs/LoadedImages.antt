@@ -4,8 +4,8 @@ use Rattle.std.specs.Prelude.{slice_get, unwrap_or}
 use Rattle.blang.specs.declared.code.Definition.{Definition}
 use Rattle.blang.specs.declared.code.Instr.{Instr}
 use Rattle.blang.specs.declared.code.Instr.TheVariants as instr
-use Rattle.blang.specs.Layout.{World, Ending, callee_of, refusal, store_words, address_in, padded}
-use Rattle.blang.specs.Machine.{Loaded, Image, Call, State, Running, Halted, Stuck, at_place, take_call, callee_called, act, act_if, step, steps, first_world, main_begun, machine_started, image_of, run}
+use Rattle.blang.specs.Layout.{World, Ending, callee_of, refusal, store_words, address_in, padded, first_world}
+use Rattle.blang.specs.Machine.{Loaded, Image, Call, State, Running, Halted, Stuck, at_place, take_call, callee_called, act, act_if, step, steps, main_begun, machine_started, image_of, run}
 use Rattle.bmach.specs.Resolved.{call_resolved, resolved, state_resolved, IsLoadedFrom}
 
 module _ (image other : Image) (functions : image.functions ≡ other.functions) (addresses : (x : List ℕ) → address_in image.addresses x ≡ address_in other.addresses x) where

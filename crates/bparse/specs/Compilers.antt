@@ -1,5 +1,6 @@
 -- What a call of the compiler does, counted from when the compiler was made.
-use Rattle.std.specs.Prelude.{◌≡◌, ◌≢◌, ℕ, ◌≤◌, ◌<◌, Bool, true, false, List, [], ◌∷◌, ◌++◌, length, map, Option, Some, None, ◌⊎◌, if◌then◌else◌}
+use Rattle.std.specs.Prelude.{◌≡◌, ◌≢◌, ℕ, ◌≤◌, ◌<◌, Bool, true, false, List, [], ◌∷◌, ◌++◌, length, map, Option, Some}
+use Rattle.std.specs.Prelude.{None, ◌⊎◌, if◌then◌else◌}
 use Rattle.btree.specs.Compiled.{AreNames}
 use Rattle.bexpr.specs.Tokens.{Tokens, all_tokens, tokens_of, EndsWith, IsReady, IsSingle, last_ahead, work}
 use Rattle.bparse.specs.Steps.{name_of, next_text, to_begin}
@@ -124,8 +125,10 @@ pub record StoppedBehind (old : Compiler) (stop : Option Diagnostic) (new : Comp
   pub taken : List ℕ
   pub took : Took new.first.source taken new.tokens.source.end
   pub failures : new.tokens.source.end.failures ≡ new.first.source.failures
-  pub written : Writes new.first.out (opening new.first.edition ++ (joined (map compiled_text before) ++ ending stop)) new.out
-  pub comes : Whatever new.first.edition taken new.tokens.source.end (λ r. (r.code ≡ map compiled_text before) × (r.stop ≡ stop))
+  pub written : Writes new.first.out (opening new.first.edition ++ (joined (map compiled_text before) ++ ending stop))
+      new.out
+  pub comes : Whatever new.first.edition taken new.tokens.source.end
+      (λ r. (r.code ≡ map compiled_text before) × (r.stop ≡ stop))
   pub closed : new.is_closed ≡ true
 
 -- A call broke off, and this holds of what comes behind the definitions written before.
@@ -134,13 +137,15 @@ pub record BrokeOff (old : Compiler) (P : Compilation → Type 0) (new : Compile
   pub since : HasWrittenSince old before
   pub taken : List ℕ
   pub took : Took new.first.source taken new.tokens.source.end
-  pub comes : Whatever new.first.edition taken new.tokens.source.end (λ r. (rest : Compilation) × GoesOnBehind before rest r × P rest)
+  pub comes : Whatever new.first.edition taken new.tokens.source.end
+      (λ r. (rest : Compilation) × GoesOnBehind before rest r × P rest)
   pub closed : new.is_closed ≡ true
 
 -- a read failed, and no definition was written
 abbrev pub ReadFailed : Compiler → Compiler → Type 0
 ReadFailed old new =
-    BrokeOff old (λ rest. Unit {0}) new × Grew new.first.source.failures new.tokens.source.end.failures × OpeningWritten old new.out
+    BrokeOff old (λ rest. Unit {0}) new × Grew new.first.source.failures new.tokens.source.end.failures
+        × OpeningWritten old new.out
 
 -- the output refused what the text begins with, before anything was read
 pub record BeginRefused (old : Compiler) (fault : EndFault) (new : Compiler) : Type 0 where
@@ -169,8 +174,10 @@ abbrev pub CompilerGives : Compiler → Step → Compiler → Type 0
 CompilerGives old step.Written new = Wrote old new
 CompilerGives old step.Finished new = StoppedBehind old None new
 CompilerGives old (step.Fault fault) new = StoppedBehind old (Some fault) new
-CompilerGives old step.Device new = ReadFailed old new ⊎ OutRefused old end_fault.Device new ⊎ BeginRefused old end_fault.Device new
-CompilerGives old step.Memory new = GrowthRefused old new ⊎ OutRefused old end_fault.Memory new ⊎ BeginRefused old end_fault.Memory new
+CompilerGives old step.Device new =
+    ReadFailed old new ⊎ OutRefused old end_fault.Device new ⊎ BeginRefused old end_fault.Device new
+CompilerGives old step.Memory new =
+    GrowthRefused old new ⊎ OutRefused old end_fault.Memory new ⊎ BeginRefused old end_fault.Memory new
 CompilerGives old step.Closed new = (old.is_closed ≡ true) × (new ≡ old)
 
 -- the compiler is over the same ends

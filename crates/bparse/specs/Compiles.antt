@@ -16,7 +16,8 @@ pub record LastGives (first : Compiler) (answer : Step) (new : Compiler) : Type 
   pub keeps : SameCompiler old new
 
 -- What compiling all of the source in an edition answers, between these ends.
-pub record CodeGives (edition : Edition) (i : Incoming) (o : Outgoing) (answer : Step) (j : Incoming) (p : Outgoing) : Type 0 where
+pub record CodeGives (edition : Edition) (i : Incoming) (o : Outgoing) (answer : Step) (j : Incoming)
+    (p : Outgoing) : Type 0 where
   pub first : Compiler
   pub last : Compiler
   pub gives : LastGives first answer last

@@ -1,5 +1,6 @@
 -- What reading and writing one definition does.
-use Rattle.std.specs.Prelude.{◌≡◌, ◌≢◌, ℕ, ◌<◌, Bool, false, true, List, [], ◌∷◌, ◌++◌, Option, Some, None, Result, Ok, Err, ◌⊎◌}
+use Rattle.std.specs.Prelude.{◌≡◌, ◌≢◌, ℕ, ◌<◌, Bool, false, true, List, [], ◌∷◌, ◌++◌, Option, Some, None, Result, Ok}
+use Rattle.std.specs.Prelude.{Err, ◌⊎◌}
 use Rattle.btree.specs.Compiled.{AreNames}
 use Rattle.btree.specs.DefinitionReader.{definition}
 use Rattle.btree.specs.Reading.{Got}
@@ -58,7 +59,8 @@ pub record Writing (old new : Point) : Type 0 where
   pub single : IsSingle new.tokens
   pub falls : work new.tokens < work old.tokens
   pub comes : (more : List ℕ) → CanFollow new.tokens.source.end more → (r : Compilation)
-      → CompilesTo new.names (tokens_of new.tokens more) r → SourceComesTo old taken more (record { code = compiled_text tree ∷ r.code; stop = r.stop })
+      → CompilesTo new.names (tokens_of new.tokens more) r
+          → SourceComesTo old taken more (record { code = compiled_text tree ∷ r.code; stop = r.stop })
 
 -- Nothing more comes, and the text's last line was written, or nothing where there is a fault.
 pub record Stopping (old : Point) (stop : Option Diagnostic) (new : Point) : Type 0 where
@@ -66,7 +68,8 @@ pub record Stopping (old : Point) (stop : Option Diagnostic) (new : Point) : Typ
   pub reads : TakesAhead old.tokens.source taken new.tokens.source
   pub failures : new.tokens.source.end.failures ≡ old.tokens.source.end.failures
   pub written : Writes old.out (ending stop) new.out
-  pub comes : (more : List ℕ) → CanFollow new.tokens.source.end more → SourceComesTo old taken more (record { code = []; stop = stop })
+  pub comes : (more : List ℕ) → CanFollow new.tokens.source.end more
+      → SourceComesTo old taken more (record { code = []; stop = stop })
 
 -- A call broke off, and this holds of what comes.
 pub record Breaking (old : Point) (P : Compilation → Type 0) (new : Point) : Type 0 where
@@ -77,7 +80,8 @@ pub record Breaking (old : Point) (P : Compilation → Type 0) (new : Point) : T
 -- a read failed, and nothing was written
 abbrev pub ReadFails : Point → Point → Type 0
 ReadFails old new =
-    Breaking old (λ r. Unit {0}) new × Grew old.tokens.source.end.failures new.tokens.source.end.failures × (new.out ≡ old.out)
+    Breaking old (λ r. Unit {0}) new × Grew old.tokens.source.end.failures new.tokens.source.end.failures
+        × (new.out ≡ old.out)
 
 -- the output refused what is written next
 abbrev pub OutRefuses : Point → EndFault → Point → Type 0
@@ -88,7 +92,8 @@ OutRefuses old fault new =
 -- the list of names was refused memory before a definition was written
 abbrev pub NamesRefuse : Point → Point → Type 0
 NamesRefuse old new =
-    Breaking old (λ r. r.code ≡ [] → ⊥) new × (new.tokens.source.end.failures ≡ old.tokens.source.end.failures) × (new.out ≡ old.out)
+    Breaking old (λ r. r.code ≡ [] → ⊥) new × (new.tokens.source.end.failures ≡ old.tokens.source.end.failures)
+        × (new.out ≡ old.out)
 
 -- what a call does: it writes a definition, or stops
 abbrev pub PointGives : Point → Result (Unit {0}) Step → Point → Type 0

@@ -14,7 +14,8 @@ use Rattle.bread.specs.declared.take.Word as take
 use Rattle.bread.specs.Headings.{IsHeadedBy, IsUnheaded, StopsHeading}
 
 -- Something was read, and compiled onto a draft.
-pub record PartTaken {A : Type 0} (reader : Reader A) (effect : A → Draft → Draft) (start : Draft) (old new : Tokens) (draft : Draft) : Type 0 where
+pub record PartTaken {A : Type 0} (reader : Reader A) (effect : A → Draft → Draft) (start : Draft) (old new : Tokens)
+    (draft : Draft) : Type 0 where
   pub tree : A
   pub runs : Runs old new reader (λ v. Got tree v)
   pub made : draft ≡ effect tree start
@@ -24,13 +25,16 @@ abbrev pub untold : {A : Type 0} → Reader A → Unit {0} → Reader A
 untold reader o = reader
 
 -- What reads it does so, whatever it is told of what stands before, and takes a token.
-abbrev pub CompilesPart : {I A : Type 0} → (I → Reader A) → (A → Draft → Draft) → Tokens → Draft → Result (Unit {0}) Halt → Tokens → Draft → Type 0
-CompilesPart {I = I} reader effect old start (Ok u) new draft = ((i : I) → PartTaken (reader i) effect start old new draft) × IsSingle new × (work new < work old)
+abbrev pub CompilesPart : {I A : Type 0} → (I → Reader A) → (A → Draft → Draft) → Tokens → Draft
+    → Result (Unit {0}) Halt → Tokens → Draft → Type 0
+CompilesPart {I = I} reader effect old start (Ok u) new
+    draft = ((i : I) → PartTaken (reader i) effect start old new draft) × IsSingle new × (work new < work old)
 CompilesPart {I = I} reader effect old start (Err halt) new draft = (i : I) → Halts (reader i) old halt new
 
 -- A name was taken.
 abbrev pub FindsName : Tokens → Result take.Word Halt → Tokens → Type 0
-FindsName old (Ok w) new = Runs old new name (λ v. Got (record { text = w.name; line = w.line }) v) × IsSingle new × (work new < work old)
+FindsName old (Ok w) new = Runs old new name (λ v. Got (record { text = w.name; line = w.line }) v) × IsSingle new
+    × (work new < work old)
 FindsName old (Err halt) new = Halts name old halt new
 
 -- A constant was taken, if one came.

@@ -31,26 +31,33 @@ definition_begun w is_defined = if is_defined then Faulty (name_fault letters.Re
 
 -- initial values, perhaps none, and a semicolon
 abbrev pub initial_value_list : Reader (List tree.Ival)
-initial_value_list ts = if is_semicolon (first ts) then Got [] (after ts) else list_reader ival ts >>= (λ vs r. expect is_semicolon r >>= λ o. Got vs)
+initial_value_list ts =
+    if is_semicolon (first ts) then Got [] (after ts) else list_reader ival
+    ts >>= (λ vs r. expect is_semicolon r >>= λ o. Got vs)
 
 -- names, perhaps none, and a closing parenthesis
 abbrev pub parameters : Reader (List Identifier)
-parameters ts = if is_close_paren (first ts) then Got [] (after ts) else list_reader (λ before. name) ts >>= (λ ws r. expect is_close_paren r >>= λ o. Got ws)
+parameters ts =
+    if is_close_paren (first ts) then Got [] (after ts) else list_reader (λ before. name)
+    ts >>= (λ ws r. expect is_close_paren r >>= λ o. Got ws)
 
 -- A list was read, compiled and counted.
-pub record TookList {A : Type 0} (reader : Reader (List A)) (effect : List A → Draft → Draft) (most : ℕ) (start : Draft) (old new : Tokens) (draft : Draft) (count : ℕ) : Type 0 where
+pub record TookList {A : Type 0} (reader : Reader (List A)) (effect : List A → Draft → Draft) (most : ℕ) (start : Draft)
+    (old new : Tokens) (draft : Draft) (count : ℕ) : Type 0 where
   pub items : List A
   pub runs : Runs old new reader (λ v. Got items v)
   pub made : draft ≡ effect items start
   pub count_is : count ≡ min (length items) most
   pub single : IsSingle new
 
-abbrev pub FindsList : {A : Type 0} → Reader (List A) → (List A → Draft → Draft) → ℕ → Tokens → Draft → Result ℕ Halt → Tokens → Draft → Type 0
+abbrev pub FindsList : {A : Type 0} → Reader (List A) → (List A → Draft → Draft) → ℕ → Tokens → Draft → Result ℕ Halt
+    → Tokens → Draft → Type 0
 FindsList reader effect most old start (Ok count) new draft = TookList reader effect most start old new draft count
 FindsList reader effect most old start (Err why) new draft = Halts reader old why new
 
 -- What stands behind the name of a definition was read and compiled.
-pub record TookKind (reader : Reader Definition) (w : Identifier) (start : Draft) (old new : Tokens) (draft : Draft) (kind : Kind) : Type 0 where
+pub record TookKind (reader : Reader Definition) (w : Identifier) (start : Draft) (old new : Tokens) (draft : Draft)
+    (kind : Kind) : Type 0 where
   pub tree : Definition
   pub runs : Runs old new reader (λ v. Got tree v)
   pub made : draft ≡ definition_done tree start
@@ -59,11 +66,13 @@ pub record TookKind (reader : Reader Definition) (w : Identifier) (start : Draft
 
 -- whatever the name is
 abbrev pub FindsKind : (Identifier → Reader Definition) → Tokens → Draft → Result Kind Halt → Tokens → Draft → Type 0
-FindsKind reader old start (Ok kind) new draft = ((w : Identifier) → TookKind (reader w) w start old new draft kind) × IsSingle new
+FindsKind reader old start (Ok kind) new draft = ((w : Identifier) → TookKind (reader w) w start old new draft kind)
+    × IsSingle new
 FindsKind reader old start (Err why) new draft = (w : Identifier) → Halts (reader w) old why new
 
 -- A definition was read and compiled, behind definitions of these names.
-pub record TookDefinition (names : List (List ℕ)) (old : Tokens) (header : Header) (new : Tokens) (draft : Draft) : Type 0 where
+pub record TookDefinition (names : List (List ℕ)) (old : Tokens) (header : Header) (new : Tokens) (draft : Draft) : Type
+    0 where
   pub tree : Definition
   pub moves : Runs old new definition (λ v. Got tree v)
   pub heads : Heads header tree

@@ -3,10 +3,10 @@ use Rattle.std.proofs.Common.{◌≡◌, ◌≢◌, ℕ, zero, suc, ◌+◌, ◌
 use Rattle.bword.specs.ByteEnds.{Incoming, Outgoing}
 use Rattle.blang.specs.Code.{code_of}
 use Rattle.blang.specs.Trees.{Definition}
-use Rattle.blang.specs.Machine.{Image, Call, State, Running, Halted, Stuck, step, steps, machine_started, first_world, image_of, run, Shows, state_outcome, ComesTo, StopsShort, RunGives, IsOwnStatus, machine}
+use Rattle.blang.specs.Machine.{Image, Call, State, Running, Halted, Stuck, step, steps, machine_started, image_of, run, Shows, state_outcome, ComesTo, StopsShort, RunGives, IsOwnStatus, machine}
 use Rattle.bword.specs.ByteEnds.{CanFollow, Began}
 use Rattle.blang.specs.Machine as runs
-use Rattle.blang.specs.Layout.{World, Ending, Exited, Trapped}
+use Rattle.blang.specs.Layout.{World, Ending, Exited, Trapped, first_world}
 use Rattle.blang.specs.declared.run.Outcome.{Outcome}
 use Rattle.blang.specs.declared.run.Outcome.TheVariants as outcome
 use Rattle.blang.specs.declared.run.Trap.{Trap}

@@ -7,7 +7,8 @@ use Rattle.bword.specs.declared.ends.EndFault.TheVariants as end_fault
 use Rattle.bword.specs.declared.edition.Edition.TheVariants as editions
 use Rattle.bcode.specs.Faults.{IsFaultLineIn}
 use Rattle.bcode.specs.Readers.{CodeReader}
-use Rattle.blang.specs.Text.{opening, header_line, lines_of, definition_text, end_text, IsTextOf, IsCodeText, IsWithinRanges}
+use Rattle.blang.specs.Text.{opening, header_line, lines_of, definition_text, end_text, IsTextOf, IsCodeText}
+use Rattle.blang.specs.Text.{IsWithinRanges}
 use Rattle.blang.specs.declared.code.Definition.{Definition}
 use Rattle.blang.specs.declared.status.TheConstants.{DONE, REFUSED, DEVICE, MEMORY}
 use Rattle.blang.specs.Machine.{Reported, report_text, RunEnds}
@@ -26,7 +27,8 @@ pub record AreWhole (text : List ℕ) (n : ℕ) (ds : List Definition) : Type 0 
   pub rest : List ℕ
   pub begins : text ≡ flat_map definition_text ds ++ rest
   pub among : length (flat_map lines_of ds) < n
-  pub all : (es : List Definition) (behind : List ℕ) → All IsWithinRanges es → text ≡ flat_map definition_text es ++ behind
+  pub all : (es : List Definition) (behind : List ℕ) → All IsWithinRanges es → text
+      ≡ flat_map definition_text es ++ behind
       → length (flat_map lines_of es) < n → length es ≤ length ds
 
 -- The text is none of the first edition: no such text goes on with line n, before which these definitions are whole.

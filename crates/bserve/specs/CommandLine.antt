@@ -91,7 +91,8 @@ bare_line = on_top (λ s. record s { has_version = true; subcommand_required = t
 -- `b compile`, `b run`, `b go`, `b migrate`, `b list`, `b map` and `b check`, one of which there has to be
 abbrev pub command_line : App
 command_line = with_subcommand (with_subcommand (with_subcommand (with_subcommand (with_subcommand (with_subcommand
-    (with_subcommand bare_line compile_command.top) run_command.top) go_command.top) migrate_command.top) list_command.top)
+    (with_subcommand bare_line compile_command.top) run_command.top) go_command.top) migrate_command.top)
+        list_command.top)
     map_command.top) check_command.top
 
 -- the digits of a number that a u64 holds

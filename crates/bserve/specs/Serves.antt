@@ -43,7 +43,8 @@ no_file_line file = codes "error: the file '" ++ file ++ codes "' can't be read\
 -- The file could not be opened or read, and its name was told, unless memory was refused.
 abbrev pub NamesFile : List ℕ → RunEnds → ℕ → Type 0
 NamesFile file ends status =
-    HasNotRun ends × Reported (no_file_line file) DEVICE ends.line ends.line_behind status ⊎ SaysNothing ends status MEMORY
+    HasNotRun ends × Reported (no_file_line file) DEVICE ends.line ends.line_behind status
+        ⊎ SaysNothing ends status MEMORY
 
 -- the ends of a command that tells of a source
 abbrev pub telling_ends : RunEnds → told.ToldEnds
@@ -115,5 +116,6 @@ RefusesWords k ends status = AnswersHelp k ends status ⊎ Complains k ends stat
 pub data Serves (words : List Text) (ends : RunEnds) (status : ℕ) : Type 0 where
   did : fault_of command_line words ≡ [] → Does (asked (subcommand_of command_line words)) ends status
       → Serves words ends status
-  refused : (k : ErrorKind) → IsAmong k (fault_of command_line words) → RefusesWords k ends status → Serves words ends status
+  refused : (k : ErrorKind) → IsAmong k (fault_of command_line words) → RefusesWords k ends status
+      → Serves words ends status
   no_memory : SaysNothing ends status MEMORY → Serves words ends status

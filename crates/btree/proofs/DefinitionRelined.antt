@@ -8,7 +8,7 @@ use Rattle.blang.specs.declared.token.Placed.{Placed}
 use Rattle.blang.specs.Trees.{mark, kept_tokens, bare, Constant, Number, Character, comma_spelling, list_spelling, size_spelling, name_spelling, spell_statement, Ival, Ival_constant, Ival_text, Ival_name, Definition, Simple, Vector, Function, ival_spelling, spell_values, spell_definition}
 use Rattle.blang.specs.Cut.{placed, string_token}
 use Rattle.blang.specs.WellFormed.{EachBehind, ival_words, values_words, IvalFits, nesting_limit, IsFormed}
-use Rattle.btree.specs.Definition.{is_open_definition}
+use Rattle.btree.specs.DefinitionReader.{is_open_definition}
 use Rattle.btree.proofs.Relined.{cut_token, cut_append, nothing_kept, Items, list_twin}
 use Rattle.btree.proofs.StatementRelined.{name_twin, size_kept, StatementTwin, statement_twin}
 

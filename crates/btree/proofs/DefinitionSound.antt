@@ -10,8 +10,7 @@ use Rattle.btree.specs.ExpressionReader.{is_close_paren, is_close_bracket}
 use Rattle.blang.specs.WellFormed.{IsNonempty, EachBehind, Sits, values_words, IvalFits, nesting_limit, IsFormed}
 use Rattle.btree.specs.Commas.{list_reader}
 use Rattle.btree.specs.StatementReader.{is_semicolon, is_else, name, size, statement}
-use Rattle.btree.specs.Definition.{is_open_definition}
-use Rattle.btree.specs.DefinitionReader.{ival_at, ival, valued, vector, function_body, function, behind_name_at, behind_name, definition}
+use Rattle.btree.specs.DefinitionReader.{ival_at, ival, valued, vector, function_body, function, behind_name_at, behind_name, definition, is_open_definition}
 use Rattle.btree.proofs.ExpressionSound.{Sound, by_first, only_paren}
 use Rattle.btree.proofs.StatementSound.{Spelled, statement_sound, name_sound, size_sound, expect_rule, only_semicolon}
 use Rattle.btree.proofs.CommaLaws.{list_sound}

@@ -10,9 +10,8 @@ use Rattle.blang.specs.declared.token.Placed.{Placed}
 use Rattle.blang.specs.Trees.{mark, Identifier, Constant, Number, Character, Expr, Arguments, PrefixOp, Negate, Not, Indirection, Address, PreIncrement, PreDecrement, PostfixOp, PostIncrement, PostDecrement, Named, Literal, Text, Grouped, Indexed, Called, Postfixed, Prefixed, Binary, Conditional, Assigned, No_arguments, Another, prefix_token, postfix_token, spell, spell_arguments}
 use Rattle.blang.specs.Cut.{placed}
 use Rattle.blang.specs.WellFormed.{string_words, argument_words, rank, or_rank, conditional_rank, rvalue_rank, IsPostfix, Deeper, Fits, ArgumentsFit}
-use Rattle.btree.specs.Expression.{is_operand}
 use Rattle.btree.specs.Reading.{Got, Reader, ◌>>=◌, first, expect, many}
-use Rattle.btree.specs.ExpressionReader.{is_close_paren, is_close_bracket, is_question, is_colon, prefix_op, having_rank, op_at, Suffix, Index, Call, Step, suffix, comma, always, Choice, Rvalue, another, arguments, postfix_with, postfix, operand, operation, chain, conditional, assigns, rvalue_from, inner, reader}
+use Rattle.btree.specs.ExpressionReader.{is_close_paren, is_close_bracket, is_question, is_colon, prefix_op, having_rank, op_at, Suffix, Index, Call, Step, suffix, comma, always, Choice, Rvalue, another, arguments, postfix_with, postfix, operand, operation, chain, conditional, assigns, rvalue_from, inner, reader, is_operand}
 use Rattle.btree.proofs.Fine.{Loop, many_none, many_some}
 use Rattle.btree.proofs.ExpressionFine.{closing, Good, has_room, suffix_loop, comma_loop, op_loop, reader_fine, reader_one}
 

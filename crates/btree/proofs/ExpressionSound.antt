@@ -10,9 +10,8 @@ use Rattle.blang.specs.declared.token.Placed.{Placed}
 use Rattle.blang.specs.Trees.{mark, kept, kept_tokens, Expr, Arguments, PrefixOp, Negate, Not, Indirection, Address, PreIncrement, PreDecrement, PostIncrement, PostDecrement, Named, Literal, Text, Grouped, Indexed, Called, Postfixed, Prefixed, Binary, Conditional, Assigned, No_arguments, Another, prefix_token, comma_behind, spell, spell_arguments}
 use Rattle.blang.specs.Cut.{placed}
 use Rattle.blang.specs.WellFormed.{string_words, argument_words, rank, or_rank, conditional_rank, rvalue_rank, IsPostfix, Deeper, Fits, ArgumentsFit}
-use Rattle.btree.specs.Expression.{is_operand}
 use Rattle.btree.specs.Reading.{Read, Got, Stop, Reader, ◌>>=◌, first, expect, turns, many}
-use Rattle.btree.specs.ExpressionReader.{is_close_paren, is_close_bracket, is_colon, prefix_op, having_rank, op_at, Suffix, Index, Call, Step, suffix, comma, always, ExpressionKind, Operand, Choice, Rvalue, Inner, primary, another, arguments, call, postfix_with, postfix, prefixed, operand, operation, chain, choices, conditional, assigns, assigned, rvalue_from, read_at, inner, reader}
+use Rattle.btree.specs.ExpressionReader.{is_close_paren, is_close_bracket, is_colon, prefix_op, having_rank, op_at, Suffix, Index, Call, Step, suffix, comma, always, ExpressionKind, Operand, Choice, Rvalue, Inner, primary, another, arguments, call, postfix_with, postfix, prefixed, operand, operation, chain, choices, conditional, assigns, assigned, rvalue_from, read_at, inner, reader, is_operand}
 
 -- the tokens are the spelling of what was read, and what is left
 abbrev pub Sound : {A : Type 0} → (A → List Placed) → (A → Type 0) → List Placed → Read A → Type 0

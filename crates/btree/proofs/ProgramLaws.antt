@@ -12,8 +12,7 @@ use Rattle.blang.specs.Trees.{mark, kept, bare, name_token, keyword_mark, Defini
 use Rattle.btree.specs.Reading.{Got, first}
 use Rattle.btree.specs.StatementReader.{is_else}
 use Rattle.blang.specs.WellFormed.{IsFormed, AllFormed, IsProgram, BeginsProgram, IsViable, StopsAt, IsPart}
-use Rattle.btree.specs.Definition.{is_open_definition}
-use Rattle.btree.specs.DefinitionReader.{definition}
+use Rattle.btree.specs.DefinitionReader.{definition, is_open_definition}
 use Rattle.btree.proofs.CommaLaws.{append-nil}
 use Rattle.btree.proofs.Relined.{kept-append}
 use Rattle.btree.proofs.GoingOn.{GoOn, GoOn-append, definition_goes_on}

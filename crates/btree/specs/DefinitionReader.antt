@@ -1,13 +1,14 @@
 -- Reading a definition from the left, with one token ahead.
-use Rattle.std.specs.Prelude.{ℕ, List, [], if◌then◌else◌}
+use Rattle.std.specs.Prelude.{ℕ, Bool, false, List, [], if◌then◌else◌}
 use Rattle.blang.specs.declared.token.Token.{Token}
 use Rattle.blang.specs.declared.token.Token.TheVariants as token
-use Rattle.blang.specs.Trees.{Identifier, Number, Character, Ival, Ival_constant, Ival_text, Ival_name, Definition, Simple, Vector, Function}
+use Rattle.blang.specs.Trees.{Identifier, Number, Character, Ival, Ival_constant, Ival_text, Ival_name, Definition}
+use Rattle.blang.specs.Trees.{Simple, Vector, Function}
 use Rattle.btree.specs.Reading.{Got, Stop, Reader, ◌>>=◌, first, line_ahead, after, expect}
 use Rattle.btree.specs.ExpressionReader.{is_close_paren, is_close_bracket}
 use Rattle.btree.specs.Commas.{list_reader}
 use Rattle.btree.specs.StatementReader.{is_semicolon, name, size, statement}
-use Rattle.blang.specs.WellFormed.{values_words, nesting_limit}
+use Rattle.blang.specs.WellFormed.{values_words, nesting_limit, is_open}
 
 abbrev pub ival_at : ℕ → Token → Reader Ival
 ival_at off (token.Number n) ts = Got (Ival_constant (Number n)) (after ts)
@@ -51,3 +52,8 @@ behind_name w ts = behind_name_at w (first ts) ts
 
 abbrev pub definition : Reader Definition
 definition ts = name ts >>= behind_name
+
+-- whether an else behind it would be its own
+abbrev pub is_open_definition : Definition → Bool
+is_open_definition (Function w parameters body) = is_open body
+is_open_definition _ = false

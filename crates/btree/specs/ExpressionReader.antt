@@ -4,10 +4,19 @@ use Rattle.bword.specs.declared.operators.BinOp.{BinOp}
 use Rattle.bword.specs.declared.operators.BinOp.TheVariants as op
 use Rattle.blang.specs.declared.token.Token.{Token}
 use Rattle.blang.specs.declared.token.Token.TheVariants as token
-use Rattle.blang.specs.Trees.{Expr, Arguments, PrefixOp, Negate, Not, Indirection, Address, PreIncrement, PreDecrement, PostfixOp, PostIncrement, PostDecrement, Number, Character, Named, Literal, Text, Grouped, Indexed, Called, Postfixed, Prefixed, Binary, Conditional, Assigned, No_arguments, Another}
+use Rattle.blang.specs.Trees.{Expr, Arguments, PrefixOp, Negate, Not, Indirection, Address, PreIncrement, PreDecrement}
+use Rattle.blang.specs.Trees.{PostfixOp, PostIncrement, PostDecrement, Number, Character, Named, Literal, Text, Grouped}
+use Rattle.blang.specs.Trees.{Indexed, Called, Postfixed, Prefixed, Binary, Conditional, Assigned, No_arguments}
+use Rattle.blang.specs.Trees.{Another}
 use Rattle.blang.specs.WellFormed.{string_words, argument_words, rank, or_rank}
-use Rattle.btree.specs.Expression.{is_operand}
 use Rattle.btree.specs.Reading.{Got, Stop, Reader, ◌>>=◌, at_some, first, line_ahead, after, expect, many}
+
+-- an expression that no binary operator, conditional or assignment joins
+abbrev pub is_operand : Expr → Bool
+is_operand (Binary op line e f) = false
+is_operand (Conditional e f g) = false
+is_operand (Assigned op line e f) = false
+is_operand _ = true
 
 abbrev pub is_close_paren : Token → Bool
 is_close_paren token.CloseParen = true
@@ -121,7 +130,8 @@ abbrev pub postfix : Inner → ℕ → Reader Expr
 postfix inner off ts = primary inner off ts >>= many (always suffix) (postfix_with inner off)
 
 abbrev pub prefixed : Inner → ℕ → PrefixOp → Reader Expr
-prefixed inner off op ts = inner.enter ts >>= λ o r. inner.read Operand off r >>= λ e. Got (Prefixed op (line_ahead ts) e)
+prefixed inner off op ts =
+    inner.enter ts >>= λ o r. inner.read Operand off r >>= λ e. Got (Prefixed op (line_ahead ts) e)
 
 abbrev pub operand : Inner → ℕ → Reader Expr
 operand inner off ts = at_some (prefix_op (first ts)) (λ op. prefixed inner off op ts) (postfix inner off ts)

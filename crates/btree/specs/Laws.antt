@@ -5,15 +5,15 @@ use Rattle.blang.specs.declared.token.Keyword.TheVariants as keyword
 use Rattle.blang.specs.declared.token.Placed.{Placed}
 use Rattle.bword.specs.declared.edition.Edition.{Edition}
 use Rattle.blang.specs.Cut.{tokens_from}
-use Rattle.blang.specs.Trees.{mark, kept_tokens, bare, Identifier, Expr, name_token, spell, Stmt, spell_statement, keyword_mark, Definition, spell_definition}
+use Rattle.blang.specs.Trees.{mark, kept_tokens, bare, Identifier, Expr, name_token, spell, Stmt, spell_statement}
+use Rattle.blang.specs.Trees.{keyword_mark, Definition, spell_definition}
 use Rattle.blang.specs.WellFormed.{rvalue_rank, Fits, Sits, IsFormed}
 use Rattle.btree.specs.Reading.{Got, first}
 use Rattle.btree.specs.ReadingOn.{Fine, Closer}
 use Rattle.blang.specs.WellFormed as statements
 use Rattle.btree.specs.ExpressionReader.{Rvalue, reader}
 use Rattle.btree.specs.StatementReader.{is_else, statement}
-use Rattle.btree.specs.Definition.{is_open_definition}
-use Rattle.btree.specs.DefinitionReader.{definition}
+use Rattle.btree.specs.DefinitionReader.{definition, is_open_definition}
 use Rattle.blang.specs.Compiles.{Defined, Compilation, CompilesTo}
 use Rattle.btree.specs.Compiled.{has}
 
@@ -58,7 +58,8 @@ GoesOnWithElse =
 abbrev pub HasTwin : Type 0
 HasTwin =
     (d : Definition) (tokens : List Placed) → IsFormed d → map bare (spell_definition d) ≡ map bare tokens
-    → (d2 : Definition) × IsFormed d2 × (is_open_definition d2 ≡ is_open_definition d) × (spell_definition d2 ≡ kept_tokens tokens)
+    → (d2 : Definition) × IsFormed d2 × (is_open_definition d2 ≡ is_open_definition d)
+        × (spell_definition d2 ≡ kept_tokens tokens)
 
 -- Reading a definition depends on the tokens taken and one more, and can be ended wherever it stops.
 abbrev pub ReadsOn : Type 0
@@ -87,10 +88,12 @@ EachSourceComes =
 
 -- what comes of tokens looks at the names before them by membership alone
 abbrev pub ByMembership : Type 0
-ByMembership = (names these : Defined) (tokens : List Placed) (r : Compilation) → ((x : List ℕ) → has x names ≡ has x these) →
+ByMembership =
+    (names these : Defined) (tokens : List Placed) (r : Compilation) → ((x : List ℕ) → has x names ≡ has x these) →
     CompilesTo names tokens r → CompilesTo these tokens r
 
 -- the same tokens come to the same
 abbrev pub OutcomesAreEqual : Type 0
 OutcomesAreEqual =
-    (names : Defined) (tokens : List Placed) (r q : Compilation) → CompilesTo names tokens r → CompilesTo names tokens q → r ≡ q
+    (names : Defined) (tokens : List Placed) (r q : Compilation) → CompilesTo names tokens r → CompilesTo names tokens q
+        → r ≡ q

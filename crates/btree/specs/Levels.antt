@@ -3,7 +3,12 @@ use Rattle.std.specs.Prelude.{◌≡◌, ℕ, suc, ◌≤◌, List, [], ◌∷�
 use Rattle.blang.specs.declared.token.Token.TheVariants as token
 use Rattle.blang.specs.declared.token.Keyword.TheVariants as keyword
 use Rattle.blang.specs.declared.token.Placed.{Placed}
-use Rattle.blang.specs.Trees.{mark, Expr, Arguments, Named, Literal, Text, Grouped, Indexed, Called, Postfixed, Prefixed, Binary, Conditional, Assigned, No_arguments, Another, name_token, constant_token, prefix_token, postfix_token, comma_behind, list_spelling, Stmt, Headed, Compound, If, IfElse, While, Switch, Goto, Break, Return, ReturnValue, Evaluate, Empty, Stmts, Nothing, More, keyword_mark, name_spelling, spell_heading, Definition, Simple, Vector, Function, spell_definition, spell_all}
+use Rattle.blang.specs.Trees.{mark, Expr, Arguments, Named, Literal, Text, Grouped, Indexed, Called, Postfixed}
+use Rattle.blang.specs.Trees.{Prefixed, Binary, Conditional, Assigned, No_arguments, Another, name_token}
+use Rattle.blang.specs.Trees.{constant_token, prefix_token, postfix_token, comma_behind, list_spelling, Stmt, Headed}
+use Rattle.blang.specs.Trees.{Compound, If, IfElse, While, Switch, Goto, Break, Return, ReturnValue, Evaluate, Empty}
+use Rattle.blang.specs.Trees.{Stmts, Nothing, More, keyword_mark, name_spelling, spell_heading, Definition, Simple}
+use Rattle.blang.specs.Trees.{Vector, Function, spell_definition, spell_all}
 use Rattle.blang.specs.Cut.{placed, string_token}
 use Rattle.blang.specs.WellFormed.{Sits, IsFormed}
 
