@@ -53,9 +53,9 @@ greater_at bytes =
 abbrev pub operator_readers : List (ℕ × LineReader BinOp)
 operator_readers =
     (124, line_ended op.Or) ∷ (38, line_ended op.And) ∷ (61, λ rest. expect_byte 61 rest >>= line_ended op.Eq)
-        ∷ (33, λ rest. expect_byte 61 rest >>= line_ended op.Ne)
+    ∷ (33, λ rest. expect_byte 61 rest >>= line_ended op.Ne)
     ∷ (60, less_at) ∷ (62, greater_at) ∷ (45, line_ended op.Sub) ∷ (43, line_ended op.Add) ∷ (37, line_ended op.Rem)
-        ∷ (42, line_ended op.Mul)
+    ∷ (42, line_ended op.Mul)
     ∷ (47, line_ended op.Div) ∷ []
 
 unfoldable pub operator_at : LineReader BinOp
@@ -64,7 +64,7 @@ operator_at bytes = expect_byte 32 bytes >>= by_first operator_readers
 abbrev pub increment_readers : List (ℕ × LineReader Increment)
 increment_readers =
     (48, line_ended increment.PreIncrement) ∷ (49, line_ended increment.PreDecrement)
-        ∷ (50, line_ended increment.PostIncrement)
+    ∷ (50, line_ended increment.PostIncrement)
     ∷ (51, line_ended increment.PostDecrement) ∷ []
 
 unfoldable pub increment_at : LineReader Increment
@@ -80,18 +80,18 @@ case_at below bytes = do
 abbrev pub instr_readers : Sizes → List (ℕ × LineReader Instr)
 instr_readers sizes =
     (99, λ rest. mapped instr.Constant (operand_at (WORD_VALUES) rest))
-        ∷ (120, λ rest. mapped instr.External (name_operand_at rest))
+    ∷ (120, λ rest. mapped instr.External (name_operand_at rest))
     ∷ (97, λ rest. mapped instr.Automatic (operand_at sizes.frame rest))
-        ∷ (115, λ rest. mapped instr.Text (operand_at sizes.strings rest))
+    ∷ (115, λ rest. mapped instr.Text (operand_at sizes.strings rest))
     ∷ (108, λ rest. mapped instr.Label (operand_at sizes.labels rest)) ∷ (118, line_ended instr.Load)
-        ∷ (119, line_ended instr.Store)
+    ∷ (119, line_ended instr.Store)
     ∷ (98, λ rest. mapped instr.Binary (operator_at rest)) ∷ (109, λ rest. mapped instr.Modify (operator_at rest))
-        ∷ (110, line_ended instr.Negate)
+    ∷ (110, line_ended instr.Negate)
     ∷ (104, line_ended instr.Not) ∷ (105, λ rest. mapped instr.Increment (increment_at rest))
     ∷ (106, λ rest. mapped instr.Jump (operand_at sizes.code rest))
-        ∷ (122, λ rest. mapped instr.JumpIfZero (operand_at sizes.code rest))
+    ∷ (122, λ rest. mapped instr.JumpIfZero (operand_at sizes.code rest))
     ∷ (103, line_ended instr.Goto) ∷ (101, case_at sizes.code)
-        ∷ (107, λ rest. mapped instr.Call (operand_at (WORD_VALUES) rest))
+    ∷ (107, λ rest. mapped instr.Call (operand_at (WORD_VALUES) rest))
     ∷ (114, line_ended instr.Return) ∷ (112, line_ended instr.Pop) ∷ []
 
 unfoldable pub instr_at : Sizes → LineReader Instr
@@ -100,7 +100,7 @@ instr_at sizes bytes = by_first (instr_readers sizes) bytes
 abbrev pub ival_readers : ℕ → List (ℕ × LineReader Ival)
 ival_readers strings =
     (99, λ rest. mapped ival.Number (operand_at (WORD_VALUES) rest))
-        ∷ (120, λ rest. mapped ival.Name (name_operand_at rest))
+    ∷ (120, λ rest. mapped ival.Name (name_operand_at rest))
     ∷ (115, λ rest. mapped ival.Text (operand_at strings rest)) ∷ []
 
 unfoldable pub ival_line_at : ℕ → LineReader Ival

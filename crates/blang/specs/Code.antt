@@ -9,10 +9,10 @@ use Rattle.blang.specs.declared.limits.TheConstants.{MAX_INSTRUCTIONS, MAX_STRIN
 use Rattle.blang.specs.declared.code.Instr.{Instr}
 use Rattle.blang.specs.Trees.{Expr, Arguments, Negate, Not, Indirection, Address, PreIncrement, PreDecrement}
 use Rattle.blang.specs.Trees.{PostIncrement, PostDecrement, Named, Literal, Text, Grouped, Indexed, Called, Postfixed}
-use Rattle.blang.specs.Trees.{Prefixed, Binary, Conditional, Assigned, No_arguments, Another, Heading, Auto, Extrn}
-use Rattle.blang.specs.Trees.{Label, Case, Default, Stmt, Headed, Compound, If, IfElse, While, Switch, Goto, Break}
-use Rattle.blang.specs.Trees.{Return, ReturnValue, Evaluate, Empty, Stmts, Nothing, More, Ival, Ival_constant}
-use Rattle.blang.specs.Trees.{Ival_text, Ival_name, Definition, Simple, Vector, Function}
+use Rattle.blang.specs.Trees.{Prefixed, Binary, Conditional, Assigned, No_arguments, Another, Heading, Auto, Label}
+use Rattle.blang.specs.Trees.{Case, Default, Stmt, Headed, Compound, If, IfElse, While, Switch, Goto, Break, Return}
+use Rattle.blang.specs.Trees.{ReturnValue, Evaluate, Empty, Stmts, Nothing, More, Ival, Ival_constant, Ival_text}
+use Rattle.blang.specs.Trees.{Ival_name, Definition, Simple, Vector, Function}
 use Rattle.blang.specs.Scan.{Entry, NameKind, Automatic, Labelled, kind_of, fault, Scope, no_scope, constant_value}
 use Rattle.blang.specs.Scan.{function_scope, scan, identifier_of}
 use Rattle.blang.specs.declared.token.Letters.TheVariants as letters
@@ -62,6 +62,12 @@ assignment (Some op) = instr.Modify op
 -- the arms of a switch in source order: each constant, or none for a default, and what it leads to
 abbrev pub Arms : Type 0 → Type 0
 Arms A = List (Option ℕ × A)
+
+-- a heading's own arm, which leads there
+abbrev pub heading_arm : {A : Type 0} → Heading → A → Arms A
+heading_arm (Case line c) there = (Some (constant_value c), there) ∷ []
+heading_arm (Default line) there = (None, there) ∷ []
+heading_arm _ there = []
 
 -- what the first default leads to
 abbrev pub default_in : {A : Type 0} → Arms A → Option A
@@ -139,20 +145,12 @@ module _ (names : Environment) where
 
   abbrev pub heading_code : Heading → List Instr
   heading_code (Auto declared) = flat_map (λ d. vector_code (names d.word.text) d.size) declared
-  heading_code (Extrn ws) = []
-  heading_code (Label w) = []
-  heading_code (Case line c) = []
-  heading_code (Default line) = []
+  heading_code _ = []
 
   -- the place of a heading's own label, case or default
   abbrev pub heading_label_places : Heading → ℕ → List ℕ
   heading_label_places (Label w) p = p ∷ []
   heading_label_places _ p = []
-
-  abbrev pub heading_arm : Heading → ℕ → Arms ℕ
-  heading_arm (Case line c) p = (Some (constant_value c), p) ∷ []
-  heading_arm (Default line) p = (None, p) ∷ []
-  heading_arm _ p = []
 
   -- the place behind a statement that stands at p, and the arms of the switch around it
   abbrev mutual
@@ -184,7 +182,6 @@ module _ (names : Environment) where
         let q = p + length (word_code e p) + 1 in
         arm_places s q ++ arm_places other (statement_end s q + 1)
     arm_places (While e s) p = arm_places s (p + length (word_code e p) + 1)
-    arm_places (Switch e body) p = []
     arm_places _ p = []
 
     pub body_arm_places : Stmts → (p : ℕ) → Arms ℕ
@@ -251,8 +248,6 @@ packed (x ∷ y ∷ bytes) = (x + 256 * y) ∷ packed bytes
 
 abbrev mutual
   pub strings : Expr → List ℕ
-  strings (Named w) = []
-  strings (Literal c) = []
   strings (Text bytes offset) = packed bytes
   strings (Grouped e) = strings e
   strings (Indexed e f) = strings e ++ strings f
@@ -262,6 +257,7 @@ abbrev mutual
   strings (Binary op line e f) = strings e ++ strings f
   strings (Conditional e f g) = strings e ++ (strings f ++ strings g)
   strings (Assigned op line e f) = strings e ++ strings f
+  strings _ = []
 
   pub argument_strings : Arguments → List ℕ
   argument_strings No_arguments = []
@@ -276,20 +272,17 @@ abbrev mutual
   statement_strings (While e s) = strings e ++ statement_strings s
   statement_strings (Switch e body) = strings e ++ body_strings body
   statement_strings (Goto e) = strings e
-  statement_strings (Break line) = []
-  statement_strings Return = []
   statement_strings (ReturnValue e) = strings e
   statement_strings (Evaluate e) = strings e
-  statement_strings Empty = []
+  statement_strings _ = []
 
   pub body_strings : Stmts → List ℕ
   body_strings Nothing = []
   body_strings (More before s) = body_strings before ++ statement_strings s
 
 abbrev pub ival_strings : Ival → List ℕ
-ival_strings (Ival_constant c) = []
 ival_strings (Ival_text bytes offset) = packed bytes
-ival_strings (Ival_name w) = []
+ival_strings _ = []
 
 abbrev pub ival_code : Ival → coded_value.Ival
 ival_code (Ival_constant c) = ival.Number (constant_value c)

@@ -41,7 +41,7 @@ abbrev pub compilation_of : Defined → List Definition → Option Diagnostic �
 compilation_of names [] stop = record { code = []; stop = stop }
 compilation_of names (d ∷ ds) stop =
     compilation_with (fault_of names d) (compiled_text d)
-        (compilation_of (names ++ (identifier_of d).text ∷ []) ds stop)
+    (compilation_of (names ++ (identifier_of d).text ∷ []) ds stop)
 
 -- What comes of these tokens, where these names are defined before.
 pub record CompilesTo (names : Defined) (tokens : List Placed) (outcome : Compilation) : Type 0 where
@@ -91,7 +91,7 @@ status_of end_fault.Memory = 134
 abbrev pub Whatever : Edition → List ℕ → Incoming → (Compilation → Type 0) → Type 0
 Whatever edition taken end P =
     (more : List ℕ) → CanFollow end more → (r : Compilation) → CompilesTo [] (tokens_from edition 1 (taken ++ more)) r
-        → P r
+    → P r
 
 -- there is code: a definition's, or the last line
 abbrev pub HasCode : Compilation → Type 0

@@ -78,7 +78,7 @@ keywords = refl
 -- the words of the second edition, where the others stay, are names in the first
 keywords_of_two : map (tokens_in editions.Two) (codes "break" ∷ codes "default" ∷ codes "case" ∷ []) ≡
     (token.Keyword keyword.Break ∷ token.End ∷ []) ∷ (token.Keyword keyword.Default ∷ token.End ∷ [])
-        ∷ (token.Keyword keyword.Case ∷ token.End ∷ []) ∷ []
+    ∷ (token.Keyword keyword.Case ∷ token.End ∷ []) ∷ []
 unfolding tokens_from cut longest greatest whole word_token keyword_of
 keywords_of_two = refl
 

@@ -65,16 +65,15 @@ pub record BreaksOff (ds : List Definition) (steps : ℕ) (i j : Incoming) (o p 
   pub within : made ≤ steps
   pub began : (more : List ℕ) → CanFollow j more
       → (text : List ℕ) × IsBeginningOf text (answer_world (meant ds (taken ++ more) (made + 1))).output
-          × Began o text p
+      × Began o text p
   pub reason : why
 
 -- what a run of so many steps does, by its outcome
 abbrev pub RunsAsMeant : List Definition → ℕ → (i j : Incoming) (o p : Outgoing) → Outcome → Type 0
-RunsAsMeant ds steps i j o p (outcome.Exit status) = EndsSo ds steps i j o p (outcome.Exit status)
-RunsAsMeant ds steps i j o p (outcome.Trap kind) = EndsSo ds steps i j o p (outcome.Trap kind)
 RunsAsMeant ds steps i j o p outcome.Limit = ReachesLimit ds steps i j o p
 RunsAsMeant ds steps i j o p outcome.Device = BreaksOff ds steps i j o p (AnyFailed i j o p)
 RunsAsMeant ds steps i j o p outcome.Memory = BreaksOff ds steps i j o p (NoneFailed i j o p)
+RunsAsMeant ds steps i j o p result = EndsSo ds steps i j o p result
 
 -- Just so many steps of the program's code were made, or those up to its halt, and what they did is what the program
 -- means. The code was never stuck, and a status of the program's own is below 128.

@@ -13,7 +13,7 @@ use Rattle.blang.specs.declared.run.LoadFault.TheVariants as fault
 abbrev function : List ℕ → List ℕ → List ℕ → List Instr → Definition
 function name targets strings code =
     definition.Function
-        (record { name = name; parameters = 0; frame = 0; targets = targets; strings = strings; code = code })
+    (record { name = name; parameters = 0; frame = 0; targets = targets; strings = strings; code = code })
 
 abbrev simple : List ℕ → List Ival → List ℕ → Definition
 simple name values strings = definition.Simple (record { name = name; values = values; strings = strings })

@@ -1,17 +1,12 @@
 -- What a program means, on an input and with so much fuel: going on with the statements that remain.
 use Rattle.std.specs.Prelude.{ℕ, zero, suc, ◌+◌, ◌-◌, ◌%◌, List, [], ◌∷◌, Option, Some, None, option_map, unwrap_or}
-use Rattle.std.specs.Prelude.{nat_lt, slice_get, ◌==◌, if◌then◌else◌, map, length, zip, find, filter_map, codes, Bool}
-use Rattle.std.specs.Prelude.{false, option_and_then, ◌≡◌, ◌++◌}
-use Rattle.std.specs.List.{flat_map}
-use Rattle.bword.specs.Words.{same_name}
-use Rattle.blang.specs.Trees.{Declared, Heading, Auto, Extrn, Label, Case, Default, Stmt, Headed, Compound, If, IfElse}
-use Rattle.blang.specs.Trees.{While, Switch, Goto, Break, Return, ReturnValue, Evaluate, Empty, Stmts, Nothing, More}
-use Rattle.blang.specs.Trees.{Definition}
-use Rattle.blang.specs.Code.{Environment, Referent, In_frame, Arms, default_in, ival_code, ival_strings}
-use Rattle.blang.specs.Code.{statement_strings, vector_words, code_of}
+use Rattle.std.specs.Prelude.{nat_lt, slice_get, ◌==◌, if◌then◌else◌, map, ◌≡◌, ◌++◌}
+use Rattle.blang.specs.Trees.{Declared, Heading, Auto, Stmt, Headed, Compound, If, IfElse, While, Switch, Goto, Break}
+use Rattle.blang.specs.Trees.{Return, ReturnValue, Evaluate, Empty, Stmts, Nothing, More, Definition}
+use Rattle.blang.specs.Code.{Environment, Referent, In_frame, Arms, default_in, code_of}
 use Rattle.blang.specs.declared.run.Trap.TheVariants.{NotALabel}
-use Rattle.blang.specs.Layout.{store_words, World, with_word, Exited, Trapped, refusal, DefinitionKind, Shape, Spot}
-use Rattle.blang.specs.Layout.{spots, data_end, first_words, addresses, padded, load_fault}
+use Rattle.blang.specs.Layout.{store_words, World, with_word, Exited, Trapped, refusal, Spot, laid_out, first_world}
+use Rattle.blang.specs.Layout.{shape_of, is_main, load_fault}
 use Rattle.blang.specs.Value.{Computation, ◌>>=◌, gives, trap, Remaining, Do, Loop_mark, Switch_mark, body_arms}
 use Rattle.blang.specs.Value.{Program, environment_in, labels_of, Frame, Evaluator, Fuel, spend, is_true, value, Answer}
 use Rattle.blang.specs.Value.{Gives, Ends, Wants, labels, SourceFunction, frame_words}
@@ -29,10 +24,7 @@ with_vectors names (d ∷ ds) start w = with_vectors names ds start (with_vector
 -- control passes a heading
 abbrev pub heading_passed : Heading → Frame → World → World
 heading_passed (Auto declared) frame w = with_vectors (environment_in frame.function) declared frame.start w
-heading_passed (Extrn names) frame w = w
-heading_passed (Label x) frame w = w
-heading_passed (Case line c) frame w = w
-heading_passed (Default line) frame w = w
+heading_passed _ frame w = w
 
 -- what the first case with this constant leads to, or else something other
 abbrev pub case_in : ℕ → Arms Remaining → (other : Remaining) → Remaining
@@ -56,7 +48,9 @@ gone_to_label fuel frame (Some there) = spend fuel (λ less. less.go_on frame th
 
 module _ (program : Program) (fuel : Fuel) (frame : Frame) where
   abbrev mutual
-    -- Does a statement and what is next, which are the statements that remain, or what is done behind a break.
+    -- Does a statement. What remains behind it is kept twice: as statements, which a jump or a loop goes on with, and as
+    -- what is done next, or behind a break. That both come to the same is the law `statements_are_done_in_place`
+    -- (`bmean`): going on with a statement is going on with what it puts in front of the rest.
     pub take_up : Stmt → Remaining → (next out : Computation ℕ) → Computation ℕ
     take_up (Headed h s) rest next out = λ w. take_up s rest next out (heading_passed h frame w)
     take_up (Compound body) rest next out = take_up_body body rest next out
@@ -80,9 +74,7 @@ module _ (program : Program) (fuel : Fuel) (frame : Frame) where
     take_up (Break line) rest next out = out
     take_up Return rest next out = gives 0
     take_up (ReturnValue e) rest next out = value program fuel frame e
-    take_up (Evaluate e) rest next out = do
-      v ← value program fuel frame e
-      next
+    take_up (Evaluate e) rest next out = value program fuel frame e >>= λ v. next
     take_up Empty rest next out = next
 
     pub take_up_body : Stmts → Remaining → (next out : Computation ℕ) → Computation ℕ
@@ -114,49 +106,14 @@ abbrev pub fuel_of : Program → ℕ → Fuel
 fuel_of program zero = None
 fuel_of program (suc n) = Some (evaluator program (fuel_of program n))
 
--- what the layout looks at
-abbrev pub shape_of : Definition → Shape
-shape_of (Definition.Simple w values) =
-    record { kind = DefinitionKind.Simple; name = w.text; values = map ival_code values; strings = flat_map ival_strings
-        values }
-shape_of (Definition.Vector w size values) =
-    record {
-      kind = DefinitionKind.Vector (vector_words size values);
-      name = w.text;
-      values = map ival_code values;
-      strings = flat_map ival_strings values;
-    }
-shape_of (Definition.Function w parameters body) =
-    record {
-      kind = DefinitionKind.Function (length (labels body []));
-      name = w.text;
-      values = [];
-      strings = statement_strings body;
-    }
-
 abbrev pub function_at : Spot × Definition → Option SourceFunction
 function_at (s, Definition.Function w parameters body) =
     Some (record { parameters = parameters; body = body; strings = s.strings; first_label = s.first_label })
 function_at (s, d) = None
 
-abbrev pub is_main : Definition → Bool
-is_main (Definition.Function w parameters body) = same_name w.text (codes "main")
-is_main _ = false
-
+-- definitions lie as their code does
 abbrev pub program_of : List Definition → Program
-program_of ds =
-    let shapes = map shape_of ds in
-    let placed = zip (spots shapes) ds in
-    record {
-      functions = filter_map function_at placed;
-      main = option_and_then function_at (find (λ p. is_main p.1) placed);
-      words = first_words shapes;
-      data_end = data_end shapes;
-      addresses = addresses shapes;
-    }
-
-abbrev pub first_world : Program → List ℕ → World
-first_world program input = record { store = padded store_words program.words; input = input; output = [] }
+program_of ds = laid_out (λ d. shape_of (code_of d)) (λ d. is_main (code_of d)) function_at ds
 
 -- a return of the main function exits with status 0
 abbrev pub exited : Answer ℕ → Answer ⊥

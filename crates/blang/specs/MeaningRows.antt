@@ -332,20 +332,20 @@ counted e = Postfixed PostIncrement 1 e
 abbrev digits_of_e : List Definition
 digits_of_e =
     main (Headed (Extrn (map word (codes "putchar" ∷ codes "n" ∷ codes "v" ∷ [])))
-        (Headed (Auto
-        (map (λ x. record { word = word x; size = None }) (codes "i" ∷ codes "c" ∷ codes "col" ∷ codes "a" ∷ [])))
-        (set (codes "i") (Assigned None 1 col (number 0))))
+    (Headed (Auto
+    (map (λ x. record { word = word x; size = None }) (codes "i" ∷ codes "c" ∷ codes "col" ∷ codes "a" ∷ [])))
+    (set (codes "i") (Assigned None 1 col (number 0))))
     ∷ While (Binary op.Lt 1 i n) (Evaluate (Assigned None 1 (Indexed (name (codes "v")) (counted i)) (number 1)))
     ∷ While (Binary op.Lt 1 col n) (block (set (codes "a") (Binary op.Add 1 n (number 1))
     ∷ set (codes "c") (Assigned None 1 i (number 0))
     ∷ While (Binary op.Lt 1 i n)
-        (block (Evaluate (Assigned (Some op.Add) 1 c (Binary op.Mul 1 (Indexed (name (codes "v")) i) (number 10)))
+    (block (Evaluate (Assigned (Some op.Add) 1 c (Binary op.Mul 1 (Indexed (name (codes "v")) i) (number 10)))
     ∷ Evaluate (Assigned None 1 (Indexed (name (codes "v")) (counted i)) (Binary op.Rem 1 c a))
     ∷ Evaluate (Assigned (Some op.Div) 1 c (Postfixed PostDecrement 1 a))
     ∷ []))
     ∷ putchar (Binary op.Add 1 c (number 48))
     ∷ If (Prefixed Not 1 (Grouped (Binary op.Rem 1 (Prefixed PreIncrement 1 col) (number 5))))
-        (putchar (Conditional (Binary op.Rem 1 col (number 50)) (number 32) (number 10)))
+    (putchar (Conditional (Binary op.Rem 1 col (number 50)) (number 32) (number 10)))
     ∷ []))
     ∷ putchar (number 2570)
     ∷ [])

@@ -7,11 +7,10 @@ use Rattle.bword.specs.Words.{same_name}
 use Rattle.blang.specs.declared.token.Letters.{Letters}
 use Rattle.blang.specs.declared.token.Diagnostic.{Diagnostic}
 use Rattle.blang.specs.Trees.{Identifier, Constant, Number, Character, Expr, Arguments, PrefixOp, Negate, Not}
-use Rattle.blang.specs.Trees.{Indirection, Address, PreIncrement, PreDecrement, Named, Literal, Text, Grouped, Indexed}
-use Rattle.blang.specs.Trees.{Called, Postfixed, Prefixed, Binary, Conditional, Assigned, No_arguments, Another}
-use Rattle.blang.specs.Trees.{Heading, Auto, Extrn, Label, Case, Default, Stmt, Headed, Compound, If, IfElse, While}
-use Rattle.blang.specs.Trees.{Switch, Goto, Break, Return, ReturnValue, Evaluate, Empty, Stmts, Nothing, More}
-use Rattle.blang.specs.Trees.{Definition, Simple, Vector, Function}
+use Rattle.blang.specs.Trees.{Indirection, Named, Grouped, Indexed, Called, Postfixed, Prefixed, Binary, Conditional}
+use Rattle.blang.specs.Trees.{Assigned, No_arguments, Another, Heading, Auto, Extrn, Label, Case, Default, Stmt, Headed}
+use Rattle.blang.specs.Trees.{Compound, If, IfElse, While, Switch, Goto, Break, ReturnValue, Evaluate, Stmts, Nothing}
+use Rattle.blang.specs.Trees.{More, Definition, Simple, Vector, Function}
 use Rattle.blang.specs.declared.limits.TheConstants.{MAX_NAMES, MAX_CASES}
 use Rattle.blang.specs.declared.token.About.{About}
 use Rattle.blang.specs.declared.token.Letters.TheVariants as letters
@@ -115,15 +114,11 @@ abbrev pub prefix_events : PrefixOp → ℕ → Expr → List Event
 prefix_events Negate line e = []
 prefix_events Not line e = []
 prefix_events Indirection line e = []
-prefix_events Address line e = Lvalue line e ∷ []
-prefix_events PreIncrement line e = Lvalue line e ∷ []
-prefix_events PreDecrement line e = Lvalue line e ∷ []
+prefix_events _ line e = Lvalue line e ∷ []
 
 abbrev mutual
   pub events : Expr → List Event
   events (Named w) = Mention false w ∷ []
-  events (Literal c) = []
-  events (Text bytes offset) = []
   events (Grouped e) = events e
   events (Indexed e f) = events e ++ events f
   events (Called (Named w) args) = Mention true w ∷ argument_events args
@@ -133,6 +128,7 @@ abbrev mutual
   events (Binary op line e f) = events e ++ events f
   events (Conditional e f g) = events e ++ (events f ++ events g)
   events (Assigned op line e f) = events e ++ (Lvalue line e ∷ events f)
+  events _ = []
 
   pub argument_events : Arguments → List Event
   argument_events No_arguments = []
@@ -159,10 +155,9 @@ abbrev mutual
   statement_events (Switch e body) = events e ++ (SwitchBegins ∷ (body_events body ++ (SwitchEnds ∷ [])))
   statement_events (Goto e) = events e
   statement_events (Break line) = BreakHere line ∷ []
-  statement_events Return = []
   statement_events (ReturnValue e) = events e
   statement_events (Evaluate e) = events e
-  statement_events Empty = []
+  statement_events _ = []
 
   pub body_events : Stmts → List Event
   body_events Nothing = []
@@ -278,9 +273,8 @@ scope_fault (Ok s) = undefined s.names
 scope_fault (Err d) = Some d
 
 abbrev pub inner_fault : Definition → Option Diagnostic
-inner_fault (Simple w values) = None
-inner_fault (Vector w size values) = None
 inner_fault (Function w parameters body) = scope_fault (function_scope parameters body)
+inner_fault _ = None
 
 abbrev pub identifier_of : Definition → Identifier
 identifier_of (Simple w values) = w

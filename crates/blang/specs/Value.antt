@@ -6,16 +6,16 @@ use Rattle.bword.specs.Words.{binary_of, same_name, negate_of, not_of}
 use Rattle.bword.specs.declared.operators.BinOp.TheVariants as op
 use Rattle.blang.specs.declared.run.Trap.{Trap}
 use Rattle.blang.specs.declared.run.Trap.TheVariants.{ZeroDivisor, NotAFunction}
-use Rattle.blang.specs.Layout.{World, word_at, with_word, Ending, Trapped, Reply, Addresses, store_words, with_words}
-use Rattle.blang.specs.Layout.{stepped, library, Callee, NoFunction, OfLibrary, OfProgram, callee_of, refusal}
-use Rattle.blang.specs.Layout.{parameter_words, address_in}
+use Rattle.blang.specs.Layout.{World, word_at, with_word, Ending, Trapped, Reply, store_words, with_words, stepped}
+use Rattle.blang.specs.Layout.{library, Callee, NoFunction, OfLibrary, OfProgram, callee_of, refusal, parameter_words}
+use Rattle.blang.specs.Layout.{address_in, LaidOut}
 use Rattle.blang.specs.Scan.{constant_value, NameKind, Automatic, Labelled, kind_of, Scope, function_scope}
-use Rattle.blang.specs.Code.{Arms, Environment, Referent, In_frame, Outside, At_label, clean}
-use Rattle.blang.specs.Trees.{Heading, Label, Case, Default, Stmt, Headed, Compound, If, IfElse, While, Switch, Goto}
-use Rattle.blang.specs.Trees.{Break, Return, ReturnValue, Evaluate, Empty, Stmts, Nothing, More, Identifier, Expr}
-use Rattle.blang.specs.Trees.{Arguments, Negate, Not, Indirection, Address, PreIncrement, PreDecrement, PostIncrement}
-use Rattle.blang.specs.Trees.{PostDecrement, Named, Literal, Text, Grouped, Indexed, Called, Postfixed, Prefixed}
-use Rattle.blang.specs.Trees.{Binary, Conditional, Assigned, No_arguments, Another}
+use Rattle.blang.specs.Code.{Arms, heading_arm, Environment, Referent, In_frame, Outside, At_label, clean}
+use Rattle.blang.specs.Trees.{Heading, Label, Stmt, Headed, Compound, If, IfElse, While, Switch, Stmts}
+use Rattle.blang.specs.Trees.{Nothing, More, Identifier, Expr, Arguments, Negate, Not, Indirection, Address}
+use Rattle.blang.specs.Trees.{PreIncrement, PreDecrement, PostIncrement, PostDecrement, Named, Literal, Text, Grouped}
+use Rattle.blang.specs.Trees.{Indexed, Called, Postfixed, Prefixed, Binary, Conditional, Assigned, No_arguments}
+use Rattle.blang.specs.Trees.{Another}
 
 -- a result, an end of the run, or want of fuel, each with its world
 pub data Answer (A : Type 0) : Type 0 where
@@ -78,11 +78,6 @@ abbrev pub heading_label : Heading → Remaining → List (List ℕ × Remaining
 heading_label (Label w) there = (w.text, there) ∷ []
 heading_label _ there = []
 
-abbrev pub heading_arm : Heading → Remaining → Arms Remaining
-heading_arm (Case line c) there = (Some (constant_value c), there) ∷ []
-heading_arm (Default line) there = (None, there) ∷ []
-heading_arm _ there = []
-
 abbrev mutual
   -- Each label of a statement, in source order: its name, the statement there and what remains after it,
   -- where this remains after the whole. Behind the body of a while come a mark and the while again, behind that of
@@ -94,12 +89,7 @@ abbrev mutual
   labels (IfElse e s other) rest = labels s rest ++ labels other rest
   labels (While e s) rest = labels s (Loop_mark ∷ Do (While e s) ∷ rest)
   labels (Switch e body) rest = body_labels body (Switch_mark ∷ rest)
-  labels (Goto e) rest = []
-  labels (Break line) rest = []
-  labels Return rest = []
-  labels (ReturnValue e) rest = []
-  labels (Evaluate e) rest = []
-  labels Empty rest = []
+  labels _ rest = []
 
   pub body_labels : Stmts → Remaining → List (List ℕ × Remaining)
   body_labels Nothing rest = []
@@ -113,13 +103,7 @@ abbrev mutual
   arms (If e s) rest = arms s rest
   arms (IfElse e s other) rest = arms s rest ++ arms other rest
   arms (While e s) rest = arms s (Loop_mark ∷ Do (While e s) ∷ rest)
-  arms (Switch e body) rest = []
-  arms (Goto e) rest = []
-  arms (Break line) rest = []
-  arms Return rest = []
-  arms (ReturnValue e) rest = []
-  arms (Evaluate e) rest = []
-  arms Empty rest = []
+  arms _ rest = []
 
   pub body_arms : Stmts → Remaining → Arms Remaining
   body_arms Nothing rest = []
@@ -132,13 +116,9 @@ pub record SourceFunction : Type 0 where
   pub strings : ℕ
   pub first_label : ℕ
 
--- the functions in order, the main one, the words up to the data end, and the addresses of names
-pub record Program : Type 0 where
-  pub functions : List SourceFunction
-  pub main : Option SourceFunction
-  pub words : List ℕ
-  pub data_end : ℕ
-  pub addresses : Addresses
+-- what the meaning looks at in a program
+abbrev pub Program : Type 0
+Program = LaidOut SourceFunction
 
 abbrev pub scope_of : SourceFunction → Scope
 scope_of f = clean (function_scope f.parameters f.body)
@@ -236,15 +216,9 @@ module _ (program : Program) (fuel : Fuel) (frame : Frame) where
       x ← fetch a
       v ← store a (stepped op.Sub x)
       gives x
-    value (Prefixed Negate line e) = do
-      x ← value e
-      gives (negate_of x)
-    value (Prefixed Not line e) = do
-      x ← value e
-      gives (not_of x)
-    value (Prefixed Indirection line e) = do
-      a ← value e
-      fetch a
+    value (Prefixed Negate line e) = value e >>= λ x. gives (negate_of x)
+    value (Prefixed Not line e) = value e >>= λ x. gives (not_of x)
+    value (Prefixed Indirection line e) = value e >>= fetch
     value (Prefixed Address line e) = address e
     value (Prefixed PreIncrement line e) = do
       a ← address e

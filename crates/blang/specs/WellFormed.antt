@@ -7,11 +7,9 @@ use Rattle.bword.specs.declared.operators.BinOp.TheVariants as op
 use Rattle.blang.specs.declared.token.Placed.{Placed}
 use Rattle.blang.specs.declared.token.Token.{Token}
 use Rattle.blang.specs.Trees.{Another, Arguments, Assigned, Binary, Called, Conditional, Expr, Grouped, Indexed}
-use Rattle.blang.specs.Trees.{Literal, Named, No_arguments, Postfixed, Prefixed, Text, Auto, Break, Case, Compound}
-use Rattle.blang.specs.Trees.{Default, Empty, Evaluate, Extrn, Goto, Headed, Heading, If, IfElse, Label, More, Nothing}
-use Rattle.blang.specs.Trees.{Return, ReturnValue, Stmt, Stmts, Switch, While, Definition, Function, Ival}
-use Rattle.blang.specs.Trees.{Ival_constant, Ival_name, Ival_text, Simple, Vector, spell_definition, kept, bare}
-use Rattle.blang.specs.Trees.{spell_all}
+use Rattle.blang.specs.Trees.{No_arguments, Postfixed, Prefixed, Text, Auto, Compound, Evaluate, Extrn, Goto, Headed}
+use Rattle.blang.specs.Trees.{Heading, If, IfElse, More, Nothing, ReturnValue, Stmt, Stmts, Switch, While, Definition}
+use Rattle.blang.specs.Trees.{Function, Ival, Ival_text, Simple, Vector, spell_definition, kept, bare, spell_all}
 use Rattle.blang.specs.declared.limits.TheConstants.{MAX_NESTING}
 use Rattle.blang.specs.declared.token.Letters.{Letters}
 use Rattle.blang.specs.declared.token.Diagnostic.{Diagnostic}
@@ -35,8 +33,6 @@ text_words bytes = (length bytes + 2) / 2
 -- the string words of an expression
 abbrev mutual
   pub string_words : Expr → ℕ
-  string_words (Named w) = 0
-  string_words (Literal c) = 0
   string_words (Text bytes offset) = text_words bytes
   string_words (Grouped e) = string_words e
   string_words (Indexed e f) = string_words e + string_words f
@@ -46,6 +42,7 @@ abbrev mutual
   string_words (Binary op line e f) = string_words e + string_words f
   string_words (Conditional e f g) = string_words e + string_words f + string_words g
   string_words (Assigned op line e f) = string_words e + string_words f
+  string_words _ = 0
 
   pub argument_words : Arguments → ℕ
   argument_words No_arguments = 0
@@ -81,17 +78,11 @@ rvalue_rank = 9
 
 -- a primary, with any number of indices, arguments and operators behind it
 abbrev pub IsPostfix : Expr → Type 0
-IsPostfix (Named w) = Unit {0}
-IsPostfix (Literal c) = Unit {0}
-IsPostfix (Text bytes offset) = Unit {0}
-IsPostfix (Grouped e) = Unit {0}
-IsPostfix (Indexed e f) = Unit {0}
-IsPostfix (Called e args) = Unit {0}
-IsPostfix (Postfixed op line e) = Unit {0}
 IsPostfix (Prefixed op line e) = ⊥
 IsPostfix (Binary op line e f) = ⊥
 IsPostfix (Conditional e f g) = ⊥
 IsPostfix (Assigned op line e f) = ⊥
+IsPostfix _ = Unit {0}
 
 -- what stands one level deeper fits the room that is left there
 abbrev pub Deeper : (ℕ → Type 0) → ℕ → Type 0
@@ -102,8 +93,6 @@ Deeper Inside (suc room) = Inside room
 -- and the offsets of its strings count up from this one.
 abbrev mutual
   pub Fits : Expr → ℕ → ℕ → ℕ → Type 0
-  Fits (Named w) loose room off = Unit {0}
-  Fits (Literal c) loose room off = Unit {0}
   Fits (Text bytes offset) loose room off = offset ≡ off
   Fits (Grouped e) loose room off = Deeper (λ k. Fits e rvalue_rank k off) room
   Fits (Indexed e f) loose room off =
@@ -117,9 +106,10 @@ abbrev mutual
   Fits (Conditional e f g) loose room off =
       (conditional_rank ≤ loose) × Fits e or_rank room off
       × Deeper (λ k. Fits f rvalue_rank k (off + string_words e)
-          × Fits g conditional_rank k (off + string_words e + string_words f)) room
+      × Fits g conditional_rank k (off + string_words e + string_words f)) room
   Fits (Assigned op line e f) loose room off =
       (rvalue_rank ≤ loose) × Fits e 0 room off × Deeper (λ k. Fits f rvalue_rank k (off + string_words e)) room
+  Fits _ loose room off = Unit {0}
 
   pub ArgumentsFit : Arguments → ℕ → ℕ → Type 0
   ArgumentsFit No_arguments room off = Unit {0}
@@ -136,11 +126,9 @@ abbrev mutual
   statement_words (While e s) = string_words e + statement_words s
   statement_words (Switch e body) = string_words e + body_words body
   statement_words (Goto e) = string_words e
-  statement_words (Break line) = 0
-  statement_words Return = 0
   statement_words (ReturnValue e) = string_words e
   statement_words (Evaluate e) = string_words e
-  statement_words Empty = 0
+  statement_words _ = 0
 
   pub body_words : Stmts → ℕ
   body_words Nothing = 0
@@ -149,24 +137,15 @@ abbrev mutual
 -- whether an else behind it would be its own
 abbrev pub is_open : Stmt → Bool
 is_open (Headed h s) = is_open s
-is_open (Compound body) = false
 is_open (If e s) = true
 is_open (IfElse e s other) = is_open other
 is_open (While e s) = is_open s
-is_open (Switch e body) = false
-is_open (Goto e) = false
-is_open (Break line) = false
-is_open Return = false
-is_open (ReturnValue e) = false
-is_open (Evaluate e) = false
-is_open Empty = false
+is_open _ = false
 
 abbrev pub IsHeading : Heading → Type 0
 IsHeading (Auto declared) = IsNonempty declared
 IsHeading (Extrn names) = IsNonempty names
-IsHeading (Label w) = Unit {0}
-IsHeading (Case line c) = Unit {0}
-IsHeading (Default line) = Unit {0}
+IsHeading _ = Unit {0}
 
 -- Its nesting needs no more levels than this room, each else belongs to the nearest if that has none,
 -- and the offsets of its strings count up from this one.
@@ -182,20 +161,17 @@ abbrev mutual
   Sits (While e s) room off = Deeper (λ k. Fits e rvalue_rank k off × Sits s k (off + string_words e)) room
   Sits (Switch e body) room off = Deeper (λ k. Fits e rvalue_rank k off × AllSit body k (off + string_words e)) room
   Sits (Goto e) room off = Fits e rvalue_rank room off
-  Sits (Break line) room off = Unit {0}
-  Sits Return room off = Unit {0}
   Sits (ReturnValue e) room off = Fits e rvalue_rank room off
   Sits (Evaluate e) room off = Fits e rvalue_rank room off
-  Sits Empty room off = Unit {0}
+  Sits _ room off = Unit {0}
 
   pub AllSit : Stmts → ℕ → ℕ → Type 0
   AllSit Nothing room off = Unit {0}
   AllSit (More before s) room off = AllSit before room off × Sits s room (off + body_words before)
 
 abbrev pub ival_words : Ival → ℕ
-ival_words (Ival_constant c) = 0
 ival_words (Ival_text bytes offset) = text_words bytes
-ival_words (Ival_name w) = 0
+ival_words _ = 0
 
 -- the string words of initial values
 abbrev pub values_words : List Ival → ℕ
@@ -203,9 +179,8 @@ values_words values = sum_by ival_words values
 
 -- a string's offset is the string words before it
 abbrev pub IvalFits : List Ival → Ival → Type 0
-IvalFits before (Ival_constant c) = Unit {0}
 IvalFits before (Ival_text bytes offset) = offset ≡ values_words before
-IvalFits before (Ival_name w) = Unit {0}
+IvalFits before _ = Unit {0}
 
 -- the greatest level of nesting
 abbrev pub nesting_limit : ℕ

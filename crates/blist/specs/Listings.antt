@@ -52,16 +52,16 @@ wanted name ds = filter (is_wanted name) ds
 -- What is written for a source: the lines of the code of what is wanted, each in its row; or nothing but why there are
 -- none.
 pub data Lists (edition : Edition) (source : List ℕ) (name : Option (List ℕ)) (ends : ToldEnds) (status : ℕ) : Type 0
-    where
-  listed : (ds : List Definition) (image : Image) (text : List ℕ)
-      → HasProgram edition source ends.line ends.line_behind ds image
-      → AreRows (flat_map lines_of (wanted name ds)) text
-      → Told (HEADING.now ++ text) DONE ends.out ends.out_behind status → Lists edition source name ends status
-  unnamed : (mid : Outgoing) (ds : List Definition) (image : Image)
-      → HasProgram edition source ends.line mid ds image → wanted name ds ≡ []
-      → Told UNDEFINED.now WRONG_COMMAND mid ends.line_behind status → ends.out_behind ≡ ends.out
-      → Lists edition source name ends status
-  stopped : NoProgram edition source ends.line ends.line_behind status → ends.out_behind ≡ ends.out
-      → Lists edition source name ends status
-  no_memory : (ds : List Definition) (image : Image) → HasProgram edition source ends.line ends.line_behind ds image
-      → ends.out_behind ≡ ends.out → status ≡ MEMORY → Lists edition source name ends status
+  where
+    listed : (ds : List Definition) (image : Image) (text : List ℕ)
+        → HasProgram edition source ends.line ends.line_behind ds image
+        → AreRows (flat_map lines_of (wanted name ds)) text
+        → Told (HEADING.now ++ text) DONE ends.out ends.out_behind status → Lists edition source name ends status
+    unnamed : (mid : Outgoing) (ds : List Definition) (image : Image)
+        → HasProgram edition source ends.line mid ds image → wanted name ds ≡ []
+        → Told UNDEFINED.now WRONG_COMMAND mid ends.line_behind status → ends.out_behind ≡ ends.out
+        → Lists edition source name ends status
+    stopped : NoProgram edition source ends.line ends.line_behind status → ends.out_behind ≡ ends.out
+        → Lists edition source name ends status
+    no_memory : (ds : List Definition) (image : Image) → HasProgram edition source ends.line ends.line_behind ds image
+        → ends.out_behind ≡ ends.out → status ≡ MEMORY → Lists edition source name ends status

@@ -42,7 +42,7 @@ map_row image d =
 abbrev pub map_text : Image → List Definition → List ℕ
 map_text image ds =
     HEADING.now ++ flat_map (λ d. map_row image (shape_of d)) ds ++ codes "data end " ++ decimal image.data_end
-        ++ codes "\n"
+    ++ codes "\n"
 
 -- What is written for a source: its layout; or nothing but why there is none.
 pub data Maps (edition : Edition) (source : List ℕ) (ends : ToldEnds) (status : ℕ) : Type 0 where

@@ -60,7 +60,7 @@ load_line fault.Memory = None
 abbrev pub TellsFault : LoadFault → Outgoing → Outgoing → ℕ → Type 0
 TellsFault f line line_behind status =
     MatchOption (load_line f) ((line_behind ≡ line) × (status ≡ MEMORY))
-        (λ text. Told text REFUSED line line_behind status)
+    (λ text. Told text REFUSED line line_behind status)
 
 -- Why there is no program: the source is faulty or was not compiled, and the line and the status are those of the
 -- compiler; its code is no code text, which never comes; it doesn't load, and that is told; or memory was refused.
@@ -97,6 +97,6 @@ pub data IsNotLoaded (code : List ℕ) (line line_behind : Outgoing) (status : �
 abbrev pub LoadGives : List ℕ → Outgoing → Result Program ℕ → Outgoing → Type 0
 LoadGives code line (Ok p) line_behind =
     IsCodeText code p.definitions.items × (load_fault p.definitions.items ≡ None)
-        × IsLoadedFrom p.definitions.items p.image
+    × IsLoadedFrom p.definitions.items p.image
     × (line_behind ≡ line)
 LoadGives code line (Err status) line_behind = IsNotLoaded code line line_behind status

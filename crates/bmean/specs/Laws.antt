@@ -16,13 +16,13 @@ Law = (state : ℕ → State) → (answer : ℕ → Answer ⊥) → Type 0
 abbrev pub OfCode : Law → Type 0
 OfCode Holds =
     (ds : List Definition) → Loads ds → (input : List ℕ)
-        → Holds (run (image_of (map code_of ds)) input) (meant ds input)
+    → Holds (run (image_of (map code_of ds)) input) (meant ds input)
 
 -- The same of a machine with an image that was loaded from that code.
 abbrev pub OfImage : Law → Type 0
 OfImage Holds =
     (ds : List Definition) (image : Image) → Loads ds → IsLoadedFrom (map code_of ds) image → (input : List ℕ)
-        → Holds (run image input) (meant ds input)
+    → Holds (run image input) (meant ds input)
 
 -- Where the machine halts, the meaning ends so with one fuel more than its steps.
 abbrev pub HaltsAsMeant : Law
@@ -41,13 +41,13 @@ NeverStuck state answer = (n : ℕ) (w : World) → state n ≢ Stuck w
 abbrev pub WritesAsMeant : Law
 WritesAsMeant state answer =
     (n : ℕ) (call : Call) (below : List Call) (w : World) → state n ≡ Running call below w
-        → IsBeginningOf w.output (answer_world (answer (n + 1))).output
+    → IsBeginningOf w.output (answer_world (answer (n + 1))).output
 
 -- Where the meaning wants more fuel than n, the machine after n steps or more hasn't halted, and has written the same.
 abbrev pub WantsAsItRuns : Law
 WantsAsItRuns state answer =
     (n : ℕ) (w : World) → answer n ≡ Wants w
-        → (m : ℕ) × (call : Call) × (below : List Call) × (n ≤ m) × (state m ≡ Running call below w)
+    → (m : ℕ) × (call : Call) × (below : List Call) × (n ≤ m) × (state m ≡ Running call below w)
 
 -- Where it wants more fuel at every n, the machine never halts.
 abbrev pub RunsWithoutEnd : Law
@@ -58,4 +58,4 @@ RunsWithoutEnd state answer =
 abbrev pub EndsForGood : Type 0
 EndsForGood =
     (ds : List Definition) (input : List ℕ) (n m : ℕ) (e : Ending) (w : World) → n ≤ m → meant ds input n ≡ Ends e w
-        → meant ds input m ≡ Ends e w
+    → meant ds input m ≡ Ends e w

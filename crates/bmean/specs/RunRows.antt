@@ -79,7 +79,7 @@ record Switches : Type 0 where
       ≡ replicate 2 (Exit 0, codes ".")
   inner_switch :
       both (codes
-          "main(){switch 2 {case 1: putchar('1'); case 2: switch 1 {case 2: putchar('x'); case 1: putchar('y');} case 3: putchar('z');}}") [] 400
+      "main(){switch 2 {case 1: putchar('1'); case 2: switch 1 {case 2: putchar('x'); case 1: putchar('y');} case 3: putchar('z');}}") [] 400
       ≡ replicate 2 (Exit 0, codes "yz")
   inner_case : both (codes "main(){switch 3 {case 1: switch 1 {case 3: putchar('x');} case 3: putchar('z');}}") [] 400
       ≡ replicate 2 (Exit 0, codes "z")
@@ -112,33 +112,33 @@ record Breaks : Type 0 where
       ≡ replicate 2 (Exit 0, codes "d.")
   leaves_the_switch :
       both_in_two
-          (codes "main(){auto i; i=0; while(i<2) { switch i { case 0: break; default: putchar('x'); } i++; }}") [] 400
+      (codes "main(){auto i; i=0; while(i<2) { switch i { case 0: break; default: putchar('x'); } i++; }}") [] 400
       ≡ replicate 2 (Exit 0, codes "x")
   loop_behind :
       both_in_two (codes "main(){auto i; i=0; while(i<2) {i++; putchar('a'); break; while(1) ;} putchar('k');}") [] 400
       ≡ replicate 2 (Exit 0, codes "ak")
   loop_behind_a_label :
       both_in_two
-          (codes "main(){auto i; i=0; goto in; while(i<2) {i++; putchar('a'); in: break; while(1) ;} putchar('k');}") []
-          400
+      (codes "main(){auto i; i=0; goto in; while(i<2) {i++; putchar('a'); in: break; while(1) ;} putchar('k');}") []
+      400
       ≡ replicate 2 (Exit 0, codes "k")
   case_in_loop :
       both_in_two (codes "main(){switch 1 {while(1) {case 1: putchar('a'); break;} putchar('b');} putchar('c');}") []
-          400
+      400
       ≡ replicate 2 (Exit 0, codes "abc")
   goto_to_a_break : both_in_two (codes "main(){goto in; switch 1 { case 1: in: break; } putchar('k');}") [] 400
       ≡ replicate 2 (Exit 0, codes "k")
   goto_into_both :
       both_in_two
-          (codes "main(){goto in; switch 0 {case 1: while(1) {putchar('b'); in: break;} putchar('c'); break; default: putchar('d');} putchar('e');}") [] 400
+      (codes "main(){goto in; switch 0 {case 1: while(1) {putchar('b'); in: break;} putchar('c'); break; default: putchar('d');} putchar('e');}") [] 400
       ≡ replicate 2 (Exit 0, codes "ce")
   three_deep :
       both_in_two
-          (codes "main(){auto i; i=0; switch 1 {case 1: while(1) {switch i {default: i++; break; case 3: putchar('x');} putchar('w'); if(i==2) break;} putchar('s'); break; default: putchar('x');} putchar('.');}") [] 400
+      (codes "main(){auto i; i=0; switch 1 {case 1: while(1) {switch i {default: i++; break; case 3: putchar('x');} putchar('w'); if(i==2) break;} putchar('s'); break; default: putchar('x');} putchar('.');}") [] 400
       ≡ replicate 2 (Exit 0, codes "wws.")
   in_and_out :
       both_in_two
-          (codes "main(){auto i; i=0; goto in; switch 1 {case 1: while(i<3) {switch i {default: putchar('d'); in: i++; break; case 2: goto out;} putchar('w');} putchar('x'); default: ;} out: putchar('o');}") [] 400
+      (codes "main(){auto i; i=0; goto in; switch 1 {case 1: while(i<3) {switch i {default: putchar('d'); in: i++; break; case 2: goto out;} putchar('w');} putchar('x'); default: ;} out: putchar('o');}") [] 400
       ≡ replicate 2 (Exit 0, codes "wdwo")
 
 breaks : Breaks
@@ -161,8 +161,8 @@ breaks = record {
 record Strings : Type 0 where
   string :
       both (codes
-          "main(){auto s; s=\"hi\"; lchar(s,0,'H'); putchar(char(s,0)); putchar(char(s,1)); printn(char(s,2),10);}") []
-          400
+      "main(){auto s; s=\"hi\"; lchar(s,0,'H'); putchar(char(s,0)); putchar(char(s,1)); printn(char(s,2),10);}") []
+      400
       ≡ replicate 2 (Exit 0, codes "Hi4")
   two_strings :
       both (codes "main(){auto s, t; s=\"a\"; t=\"a\"; lchar(s,0,'b'); putchar(char(s,0)); putchar(char(t,0));}") [] 400
@@ -186,7 +186,7 @@ record Externals : Type 0 where
       ≡ replicate 2 (Exit 0, codes "xy")
   hides_printn :
       both (codes
-          "printn(n,b) { extrn putchar; auto a; if(a=n/b) printn(a, b); putchar(n%b + '0'); } main() { printn(1972,10); }") [] 400
+      "printn(n,b) { extrn putchar; auto a; if(a=n/b) printn(a, b); putchar(n%b + '0'); } main() { printn(1972,10); }") [] 400
       ≡ replicate 2 (Exit 0, codes "1972")
   function_value : both (codes "f(x) putchar(x); main(){extrn f; auto g; g=f; g('q');}") [] 400
       ≡ replicate 2 (Exit 0, codes "q")

@@ -182,7 +182,7 @@ broken_makes line = record {
     whole m = λ i. record { code = m.code ++ instr.Jump 0 ∷ []; strings = sym (append-nil m.strings) i; values = m.values; targets = sym (append-nil m.targets) i; arms = sym (add_arms-none m.arms) i; breaks = m.breaks ++ length m.code ∷ [] }
 
 abbrev pub heading_parts : Environment → Heading → Parts
-heading_parts names h = record { code = λ p. heading_code names h; strings = []; targets = heading_label_places names h; arms = heading_arm names h; breaks = λ p. [] }
+heading_parts names h = record { code = λ p. heading_code names h; strings = []; targets = heading_label_places names h; arms = heading_arm h; breaks = λ p. [] }
 
 pub heading_makes : {names : Environment} {room off : ℕ} (h : Heading) → Makes names (headed h) (heading_events h) room off (heading_parts names h)
 heading_makes {names = names} (Auto ds) = retold (heading_parts names (Auto ds)) (λ p. record { code = refl; strings = refl; targets = refl; arms = refl; breaks = refl }) (autos_make ds)

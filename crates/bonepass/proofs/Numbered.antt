@@ -186,13 +186,6 @@ module _ (es : List Entry) (names names2 : Environment) (renamed : (x : List ℕ
   heading_length : (h : Heading) → length (heading_code names h) ≡ length (heading_code names2 h)
   heading_length h = same_length _ _ (heading_numbered h)
 
-  heading_arm_same : (h : Heading) (p : ℕ) → heading_arm names h p ≡ heading_arm names2 h p
-  heading_arm_same (Auto ds) p = refl
-  heading_arm_same (Extrn ws) p = refl
-  heading_arm_same (Label w) p = refl
-  heading_arm_same (Case line c) p = refl
-  heading_arm_same (Default line) p = refl
-
   heading_label_same : (h : Heading) (p : ℕ) → heading_label_places names h p ≡ heading_label_places names2 h p
   heading_label_same (Auto ds) p = refl
   heading_label_same (Extrn ws) p = refl
@@ -227,7 +220,7 @@ module _ (es : List Entry) (names names2 : Environment) (renamed : (x : List ℕ
     body_ends_same (More before s) p = ends_same s _ ∙ ap (statement_end names2 s) (body_ends_same before p)
 
     arms_same : (s : Stmt) (p : ℕ) → arm_places names s p ≡ arm_places names2 s p
-    arms_same (Headed h s) p = ap₂ (λ x y. x ++ y) (heading_arm_same h p) (arms_same s _ ∙ ap (λ n. arm_places names2 s (p + n)) (heading_length h))
+    arms_same (Headed h s) p = ap (λ y. heading_arm h p ++ y) (arms_same s _ ∙ ap (λ n. arm_places names2 s (p + n)) (heading_length h))
     arms_same (Compound body) p = body_arms_same body p
     arms_same (If e s) p = arms_same s _ ∙ ap (λ n. arm_places names2 s (p + n + 1)) (word_length e p)
     arms_same (IfElse e s other) p =

@@ -16,5 +16,5 @@ OnePass =
     (defined : List (List ℕ)) (d : Definition) → IsFormed d
     → (fault_in (identifier_of d).line (pass_over defined d) ≡ fault_of defined d)
     × (fault_of defined d ≡ None
-        → (s : Scope) × (m : Made) × (draft_resolved (pass_over defined d) ≡ Going s (Some m))
-        × (code_with d s.frame m ≡ code_of d))
+    → (s : Scope) × (m : Made) × (draft_resolved (pass_over defined d) ≡ Going s (Some m))
+    × (code_with d s.frame m ≡ code_of d))

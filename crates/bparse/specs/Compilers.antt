@@ -145,7 +145,7 @@ pub record BrokeOff (old : Compiler) (P : Compilation → Type 0) (new : Compile
 abbrev pub ReadFailed : Compiler → Compiler → Type 0
 ReadFailed old new =
     BrokeOff old (λ rest. Unit {0}) new × Grew new.first.source.failures new.tokens.source.end.failures
-        × OpeningWritten old new.out
+    × OpeningWritten old new.out
 
 -- the output refused what the text begins with, before anything was read
 pub record BeginRefused (old : Compiler) (fault : EndFault) (new : Compiler) : Type 0 where

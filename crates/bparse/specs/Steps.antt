@@ -60,7 +60,7 @@ pub record Writing (old new : Point) : Type 0 where
   pub falls : work new.tokens < work old.tokens
   pub comes : (more : List ℕ) → CanFollow new.tokens.source.end more → (r : Compilation)
       → CompilesTo new.names (tokens_of new.tokens more) r
-          → SourceComesTo old taken more (record { code = compiled_text tree ∷ r.code; stop = r.stop })
+      → SourceComesTo old taken more (record { code = compiled_text tree ∷ r.code; stop = r.stop })
 
 -- Nothing more comes, and the text's last line was written, or nothing where there is a fault.
 pub record Stopping (old : Point) (stop : Option Diagnostic) (new : Point) : Type 0 where
@@ -81,7 +81,7 @@ pub record Breaking (old : Point) (P : Compilation → Type 0) (new : Point) : T
 abbrev pub ReadFails : Point → Point → Type 0
 ReadFails old new =
     Breaking old (λ r. Unit {0}) new × Grew old.tokens.source.end.failures new.tokens.source.end.failures
-        × (new.out ≡ old.out)
+    × (new.out ≡ old.out)
 
 -- the output refused what is written next
 abbrev pub OutRefuses : Point → EndFault → Point → Type 0
@@ -93,7 +93,7 @@ OutRefuses old fault new =
 abbrev pub NamesRefuse : Point → Point → Type 0
 NamesRefuse old new =
     Breaking old (λ r. r.code ≡ [] → ⊥) new × (new.tokens.source.end.failures ≡ old.tokens.source.end.failures)
-        × (new.out ≡ old.out)
+    × (new.out ≡ old.out)
 
 -- what a call does: it writes a definition, or stops
 abbrev pub PointGives : Point → Result (Unit {0}) Step → Point → Type 0

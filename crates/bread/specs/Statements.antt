@@ -58,8 +58,8 @@ statements room off ts =
 abbrev pub Chooses : ℕ → ℕ → Tokens → Draft → Result (Unit {0}) Halt → Tokens → Draft → Type 0
 Chooses room test old start (Ok u) new draft =
     ((off : ℕ) (e : Expr) (s : Stmt) (d : Draft) → test ≡ place_of (evaluated e d) → start
-        ≡ done s (emitted (instr.JumpIfZero 0) (evaluated e d))
-        → PartTaken (else_part (level (suc room)) off e s) done d old new draft) × IsSingle new × (work new ≤ work old)
+    ≡ done s (emitted (instr.JumpIfZero 0) (evaluated e d))
+    → PartTaken (else_part (level (suc room)) off e s) done d old new draft) × IsSingle new × (work new ≤ work old)
 Chooses room test old start (Err halt) new draft = (off : ℕ) (e : Expr) (s : Stmt)
     → Halts (else_part (level (suc room)) off e s) old halt new
 

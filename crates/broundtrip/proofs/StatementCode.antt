@@ -35,7 +35,7 @@ abbrev IsArmWithin : Sizes → Option ℕ × ℕ → Type 0
 IsArmWithin sizes arm = IsConstant arm.0 × (arm.1 < sizes.code)
 
 module _ (names : Environment) (sizes : Sizes) where
-  heading_arm_within : (h : Heading) (p : ℕ) → AreSound (spell_heading h) → p < sizes.code → Holds (IsArmWithin sizes) (heading_arm names h p)
+  heading_arm_within : (h : Heading) (p : ℕ) → AreSound (spell_heading h) → p < sizes.code → Holds (IsArmWithin sizes) (heading_arm h p)
   heading_arm_within (Case line c) p s l = Holds-cons (word-value_of c (Holds-first (Holds-rest s)), l) Holds-nil
   heading_arm_within (Default line) p s l = Holds-cons (tt, l) Holds-nil
   heading_arm_within (Auto declared) p s l = Holds-nil

@@ -10,5 +10,5 @@ use Rattle.blang.specs.Compiles.{Compilation, CompilesTo, code_text}
 abbrev pub ReadsBack : Type 0
 ReadsBack =
     (edition : Edition) (line : ℕ) (bytes : List ℕ) (r : Compilation)
-        (g : CompilesTo [] (tokens_from edition line bytes) r)
+    (g : CompilesTo [] (tokens_from edition line bytes) r)
     → r.stop ≡ None → IsTextOf edition (code_text edition r) (map code_of g.definitions)

@@ -92,7 +92,7 @@ bare_line = on_top (λ s. record s { has_version = true; subcommand_required = t
 abbrev pub command_line : App
 command_line = with_subcommand (with_subcommand (with_subcommand (with_subcommand (with_subcommand (with_subcommand
     (with_subcommand bare_line compile_command.top) run_command.top) go_command.top) migrate_command.top)
-        list_command.top)
+    list_command.top)
     map_command.top) check_command.top
 
 -- the digits of a number that a u64 holds

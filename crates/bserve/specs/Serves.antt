@@ -44,7 +44,7 @@ no_file_line file = codes "error: the file '" ++ file ++ codes "' can't be read\
 abbrev pub NamesFile : List ℕ → RunEnds → ℕ → Type 0
 NamesFile file ends status =
     HasNotRun ends × Reported (no_file_line file) DEVICE ends.line ends.line_behind status
-        ⊎ SaysNothing ends status MEMORY
+    ⊎ SaysNothing ends status MEMORY
 
 -- the ends of a command that tells of a source
 abbrev pub telling_ends : RunEnds → told.ToldEnds

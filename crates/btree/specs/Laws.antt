@@ -59,7 +59,7 @@ abbrev pub HasTwin : Type 0
 HasTwin =
     (d : Definition) (tokens : List Placed) → IsFormed d → map bare (spell_definition d) ≡ map bare tokens
     → (d2 : Definition) × IsFormed d2 × (is_open_definition d2 ≡ is_open_definition d)
-        × (spell_definition d2 ≡ kept_tokens tokens)
+    × (spell_definition d2 ≡ kept_tokens tokens)
 
 -- Reading a definition depends on the tokens taken and one more, and can be ended wherever it stops.
 abbrev pub ReadsOn : Type 0
@@ -96,4 +96,4 @@ ByMembership =
 abbrev pub OutcomesAreEqual : Type 0
 OutcomesAreEqual =
     (names : Defined) (tokens : List Placed) (r q : Compilation) → CompilesTo names tokens r → CompilesTo names tokens q
-        → r ≡ q
+    → r ≡ q

@@ -36,17 +36,26 @@ pub record OutcomeRows : Type 0 where
   -- `a;` and on line 2 `a;`
   pub defined_twice : CompilesTo []
       ((name 97 ∷ semicolon ∷ []) ++ placed (token.Name (97 ∷ [])) 2 ∷ last token.Semicolon)
-      (record { code = definition_text (code.Simple (record { name = 97 ∷ []; values = []; strings = [] }))
-      ∷ []; stop = name_fault letters.Redeclared 97 2 })
+      (record {
+        code = definition_text (code.Simple (record { name = 97 ∷ []; values = []; strings = [] }))
+            ∷ [];
+        stop = name_fault letters.Redeclared 97 2;
+      })
   -- `f() if(1) ;` and on line 2 `5`
   pub behind_a_function : CompilesTo [] (open_function ++ last (token.Number 5))
-      (record { code = text_of_f (instr.Constant 1 ∷ instr.JumpIfZero 2 ∷ instr.Constant 0 ∷ instr.Return ∷ [])
-      ∷ []; stop = lone_fault letters.Syntax 2 })
+      (record {
+        code = text_of_f (instr.Constant 1 ∷ instr.JumpIfZero 2 ∷ instr.Constant 0 ∷ instr.Return ∷ [])
+            ∷ [];
+        stop = lone_fault letters.Syntax 2;
+      })
   -- `f() if(1) ; else ;` and on line 2 `5`: the `else` is the function's
   pub behind_an_else : CompilesTo [] ((open_function ++ else_empty) ++ last (token.Number 5))
-      (record { code = text_of_f
-      (instr.Constant 1 ∷ instr.JumpIfZero 3 ∷ instr.Jump 3 ∷ instr.Constant 0 ∷ instr.Return ∷ [])
-      ∷ []; stop = lone_fault letters.Syntax 2 })
+      (record {
+        code = text_of_f
+            (instr.Constant 1 ∷ instr.JumpIfZero 3 ∷ instr.Jump 3 ∷ instr.Constant 0 ∷ instr.Return ∷ [])
+            ∷ [];
+        stop = lone_fault letters.Syntax 2;
+      })
   -- `f() { 1=2;` and on line 2 `)`: no scan of what is no whole definition
   pub in_a_function : CompilesTo []
       (function (mark token.OpenBrace ∷ number 1 ∷ assign ∷ number 2 ∷ semicolon ∷ []) ++ last token.CloseParen)
