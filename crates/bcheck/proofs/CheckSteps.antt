@@ -1,6 +1,6 @@
 -- What the compiler and the loader answer over memory is what a source comes to.
 use Rattle.std.proofs.Common.{◌≡◌, ℕ, List, [], ◌∷◌, ◌++◌, map, refl, sym, ap, ◌∙◌, subst, append-nil}
-use Rattle.std.specs.Prelude.{false, Option, Some, None, IfSome}
+use Rattle.std.specs.Prelude.{false, unwrap_or, Option, Some, None, IfSome}
 use Rattle.bword.specs.declared.edition.Edition.{Edition}
 use Rattle.bword.specs.ByteEnds.{Outgoing, Kept, Unread, Took, CanFollow, Writes, incoming_of, outgoing_of}
 use Rattle.blang.specs.Text.{IsCodeText}
@@ -13,7 +13,9 @@ use Rattle.blang.specs.declared.run.LoadFault.{LoadFault}
 use Rattle.blang.specs.declared.run.LoadFault.TheVariants as fault
 use Rattle.bmach.specs.Loading.{IsFault}
 use Rattle.blang.specs.declared.status.TheConstants.{REFUSED}
-use Rattle.bcheck.specs.Checks.{Judged, EachTold, ToldWhole, TellsFirst, told, shown_in_form, verdict_line, status_told, told_first, load_line}
+use Rattle.bcheck.specs.Checks.{Judged, EachTold, TellsFirst, told, shown_in_form, verdict_line, status_told, told_first}
+use Rattle.blist.specs.Programs.{load_line}
+use Rattle.blist.specs.Told.{Told}
 use Rattle.bcheck.specs.declared.form.Form.{Form}
 use Rattle.bcheck.specs.declared.verdict.Verdict.{Verdict}
 use Rattle.bcheck.specs.declared.verdict.Verdict.TheVariants as verdict
@@ -31,9 +33,9 @@ both_kept a b c first more e v w = w.appended ∙ ap (λ t. t ++ more) (v.append
 -- a text that is told is one that begins with the first
 pub tells_both : (a b c : Kept) (first more text : List ℕ) (status : ℕ) (old new : Outgoing) (result : ℕ) → a ≡ nothing_kept
     → Writes (outgoing_of a) first (outgoing_of b) → Writes (outgoing_of b) more (outgoing_of c) → text ≡ c.bytes
-    → ToldWhole text status old new result → TellsFirst first status old new result
+    → Told text status old new result → TellsFirst first status old new result
 tells_both a b c first more text status old new result e v w is t =
-    told more (subst (λ x. ToldWhole x status old new result) (is ∙ both_kept a b c first more e v w) t)
+    told more (subst (λ x. Told x status old new result) (is ∙ both_kept a b c first more e v w) t)
 
 no_more : (taken rest : List ℕ) → taken ++ rest ≡ taken → rest ≡ []
 no_more [] rest h = h
@@ -92,7 +94,7 @@ pub told_as : (first : Option LoadFault) (items ds : List Definition) → items 
 told_as first items ds e h = sym (ap (told_first None) h) ∙ ap (λ es. told_first None (load_fault es)) e
 
 pub told_fault : (f : LoadFault) (items ds : List Definition) → (f ≡ fault.NoMain → ⊥) → (f ≡ fault.Memory → ⊥) → items ≡ ds → IsFault f (load_fault items)
-    → (load_line f, REFUSED) ≡ told_first None (load_fault ds)
+    → (unwrap_or (load_line f) [], REFUSED) ≡ told_first None (load_fault ds)
 told_fault (fault.Duplicate name) items ds a b e h = told_as (Some (fault.Duplicate name)) items ds e h
 told_fault fault.TooLarge items ds a b e h = told_as (Some fault.TooLarge) items ds e h
 told_fault (fault.Undefined name) items ds a b e h = told_as (Some (fault.Undefined name)) items ds e h

@@ -6,6 +6,7 @@ use crate::explain::explain;
 use crate::form::{Form, Request};
 use crate::verdict::{Verdict, judge};
 use blang::status::{self, Status};
+use blist::tell;
 use bword::{ByteOut, MemOut};
 use std::alloc::Global;
 
@@ -33,7 +34,7 @@ pub fn check<O: ByteOut>(alloc: Global, source: &[u8], asked: Request<'_>, out: 
         return status::MEMORY;
     };
     let first = shown(asked.form, &verdict);
-    tell(alloc, first, more.as_bytes(), verdict.status(), out)
+    tell_both(alloc, first, more.as_bytes(), verdict.status(), out)
 }
 
 // What comes first in this form.
@@ -47,7 +48,13 @@ fn shown<'a>(form: Form, verdict: &'a Verdict) -> &'a [u8]
 }
 
 // Writes a text behind another, and answers this status or that of a refused write.
-fn tell<O: ByteOut>(alloc: Global, first: &[u8], more: &[u8], status: Status, out: &mut O) -> Status
+fn tell_both<O: ByteOut>(
+    alloc: Global,
+    first: &[u8],
+    more: &[u8],
+    status: Status,
+    out: &mut O,
+) -> Status
     ensures tells { TellsFirst first.now status (O.outgoing out.old) (O.outgoing out.new) result }
     ensures out_lender { O.lender out.new ≡ O.lender out.old }
 {
@@ -58,8 +65,5 @@ fn tell<O: ByteOut>(alloc: Global, first: &[u8], more: &[u8], status: Status, ou
     let Ok(()) = text.put(more) else {
         return status::MEMORY;
     };
-    match out.put(text.bytes()) {
-        Ok(()) => status,
-        Err(fault) => status::of_fault(fault),
-    }
+    tell(text.bytes(), status, out)
 }

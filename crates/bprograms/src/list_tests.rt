@@ -1,7 +1,11 @@
 //! Listings and maps of sources, docs/CODE.md's among them.
 use crate::command_tests::serves;
 use crate::source_tests::compares;
+use bserve::serve;
+use bword::{ByteOut, MemIn, MemOut};
 use std::fs;
+use std::process::Abort;
+use std::rt::Files;
 use std::test::Fail;
 
 // The source whose code and layout the page shows.
@@ -73,5 +77,63 @@ fn listings_and_maps(rt: HostRuntime) -> Result<(), Fail> {
         let (out, diag) = serves(&rt, words, "", status.parse::<u8>().unwrap_or(0))?;
         compares(&rt, words, &out, output, &diag, line);
     }
+    for file in ["layout.b", "fault.b", "alone.b"] {
+        fs::remove_file(&rt, file)?;
+    }
+    Ok(())
+}
+
+// The words of a command as they are served.
+fn words_of(rt: &(impl AllocGlobal + Abort), words: &str) -> Result<Vec<String>, Fail> {
+    let mut strings = Vec::new(rt.alloc());
+    for word in words.split(' ') {
+        strings.push(String::from_str(rt.alloc(), word)?)?;
+    }
+    Ok(strings)
+}
+
+// What a piece of a page has behind its margin of four blanks.
+fn without_margin(rt: &(impl AllocGlobal + Abort), piece: &str) -> Result<String, Fail> {
+    let mut text = String::new(rt.alloc());
+    for line in piece.lines() {
+        text.push_str(line.strip_prefix("    ").unwrap_or(line))?;
+        text.push('\n')?;
+    }
+    Ok(text)
+}
+
+// The page of mistakes: a piece with a margin is a source, or a command with what it writes.
+#[test]
+fn the_class(rt: HostRuntime) -> Result<(), Fail> {
+    let page = fs::read_to_string(&rt, "CLASS.md")?;
+    for piece in page.split("\n\n").filter(|piece| piece.starts_with("    ")) {
+        let text = without_margin(&rt, piece)?;
+        match text.strip_prefix("$ ./") {
+            None => fs::write(&rt, "x.b", text.as_bytes())?,
+            Some(rest) => {
+                let (words, output) = rest.split_once('\n').unwrap_or((rest, ""));
+                is_written(&rt, words, output)?;
+            }
+        }
+    }
+    fs::remove_file(&rt, "x.b")?;
+    Ok(())
+}
+
+// Whether a command writes this, its line last.
+fn is_written(
+    rt: &(impl AllocGlobal + Files + Abort),
+    words: &str,
+    output: &str,
+) -> Result<(), Fail> {
+    let strings = words_of(rt, words)?;
+    let mut said = MemOut::new(rt.alloc());
+    let mut line = MemOut::new(rt.alloc());
+    serve(rt, strings.as_slice(), &mut MemIn::new(b""), &mut said, &mut line);
+    let Ok(()) = said.put(line.bytes()) else {
+        return Err(Fail);
+    };
+    let text = str::from_utf8(said.bytes()).unwrap_or("");
+    assert_eq!(rt; text.trim_end(), output.trim_end(), "what {words} writes");
     Ok(())
 }
