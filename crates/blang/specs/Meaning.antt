@@ -2,13 +2,12 @@
 use Rattle.std.specs.Prelude.{ℕ, zero, suc, ◌+◌, ◌-◌, ◌%◌, List, [], ◌∷◌, Option, Some, None, option_map, unwrap_or}
 use Rattle.std.specs.Prelude.{nat_lt, slice_get, ◌==◌, if◌then◌else◌, map, length, zip, find, filter_map, codes, Bool}
 use Rattle.std.specs.Prelude.{false, option_and_then, ◌≡◌, ◌++◌}
-use Rattle.std.specs.List.{flat_map}
 use Rattle.bword.specs.Words.{same_name}
 use Rattle.blang.specs.Trees.{Declared, Heading, Auto, Extrn, Label, Case, Default, Stmt, Headed, Compound, If, IfElse}
 use Rattle.blang.specs.Trees.{While, Switch, Goto, Break, Return, ReturnValue, Evaluate, Empty, Stmts, Nothing, More}
 use Rattle.blang.specs.Trees.{Definition}
-use Rattle.blang.specs.Code.{Environment, Referent, In_frame, Arms, default_in, ival_code, ival_strings}
-use Rattle.blang.specs.Code.{statement_strings, vector_words, code_of}
+use Rattle.blang.specs.Code.{Environment, Referent, In_frame, Arms, default_in, ival_code, strings_of, vector_words}
+use Rattle.blang.specs.Code.{code_of}
 use Rattle.blang.specs.declared.run.Trap.TheVariants.{NotALabel}
 use Rattle.blang.specs.Layout.{store_words, World, with_word, Exited, Trapped, refusal, DefinitionKind, Shape, Spot}
 use Rattle.blang.specs.Layout.{spots, data_end, first_words, addresses, padded, load_fault}
@@ -117,21 +116,25 @@ fuel_of program (suc n) = Some (evaluator program (fuel_of program n))
 -- what the layout looks at
 abbrev pub shape_of : Definition → Shape
 shape_of (Definition.Simple w values) =
-    record { kind = DefinitionKind.Simple; name = w.text; values = map ival_code values; strings = flat_map ival_strings
-        values }
+    record {
+      kind = DefinitionKind.Simple;
+      name = w.text;
+      values = map ival_code values;
+      strings = strings_of (Definition.Simple w values);
+    }
 shape_of (Definition.Vector w size values) =
     record {
       kind = DefinitionKind.Vector (vector_words size values);
       name = w.text;
       values = map ival_code values;
-      strings = flat_map ival_strings values;
+      strings = strings_of (Definition.Vector w size values);
     }
 shape_of (Definition.Function w parameters body) =
     record {
       kind = DefinitionKind.Function (length (labels body []));
       name = w.text;
       values = [];
-      strings = statement_strings body;
+      strings = strings_of (Definition.Function w parameters body);
     }
 
 abbrev pub function_at : Spot × Definition → Option SourceFunction

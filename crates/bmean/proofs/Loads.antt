@@ -6,7 +6,7 @@ use Rattle.std.specs.Option.{option_map, option_and_then}
 use Rattle.blang.specs.declared.code.Definition as coded
 use Rattle.blang.specs.declared.code.Instr.{Instr}
 use Rattle.blang.specs.Trees.{Definition}
-use Rattle.blang.specs.Code.{Environment, environment_of, statement_strings, label_places, code_of}
+use Rattle.blang.specs.Code.{Environment, environment_of, strings_of, label_places, code_of}
 use Rattle.blang.specs.declared.run.LoadFault.{LoadFault}
 use Rattle.blang.specs.declared.run.LoadFault.TheVariants as fault
 use Rattle.blang.specs.Layout.{store_words, DefinitionKind, Shape, Spot, spot_behind, spots_behind, spots, data_end, first_words, addresses, first_some, some_if, duplicate_behind, label_count, address_in, first_undefined, load_fault}
@@ -30,7 +30,7 @@ same_shape (Definition.Vector w size values) = refl
 same_shape (Definition.Function w parameters body) =
     let f : SourceFunction = record { parameters = parameters; body = body; strings = 0; first_label = 0 } in
     let names = environment_of (scope_of f).names in
-    ap (λ n. record { kind = DefinitionKind.Function n; name = w.text; values = []; strings = statement_strings body }) (each_length names (whole_code names body) (labels body []) (label_places names body 0) (labels_of_body_lead names body))
+    ap (λ n. record { kind = DefinitionKind.Function n; name = w.text; values = []; strings = strings_of (Definition.Function w parameters body) }) (each_length names (whole_code names body) (labels body []) (label_places names body 0) (labels_of_body_lead names body))
 
 same_shapes : (ds : List Definition) → map layout.shape_of (map code_of ds) ≡ map shape_of ds
 same_shapes [] = refl
