@@ -10,7 +10,8 @@ use Rattle.blang.specs.declared.code.Instr.TheVariants as instr
 use Rattle.blang.specs.declared.code.Increment.TheVariants as increment
 use Rattle.blang.specs.Trees as tree
 use Rattle.blang.specs.Trees.{Expr, Arguments, Number, Character, Named, Literal, Text, Grouped, Indexed, Called, Postfixed, Prefixed, Binary, Conditional, Assigned, No_arguments, Another}
-use Rattle.blang.specs.WellFormed.{string_words, argument_words, or_rank, rank}
+use Rattle.blang.specs.WellFormed.{or_rank, rank}
+use Rattle.btree.specs.Fitting.{words, argument_words}
 use Rattle.btree.specs.Reading.{Reader, Got, Stop, ◌>>=◌, first, line_ahead, after, expect, many}
 use Rattle.blex.specs.Lexemes.{token_of_lexeme}
 use Rattle.blex.specs.declared.lexeme.Lexeme.{Lexeme}
@@ -55,7 +56,7 @@ abbrev pub suffixes : ℕ → ℕ → Expr → Reader Expr
 suffixes room off e ts = many (always suffix) (postfix_with (inner room) off) e ts
 
 abbrev pub more_arguments : ℕ → ℕ → Expr → Arguments → Reader Expr
-more_arguments room off e args ts = many (always comma) (another (inner (suc room)) (off + string_words e)) args ts >>= λ args r. expect is_close_paren r >>= λ o. Got (Called e args)
+more_arguments room off e args ts = many (always comma) (another (inner (suc room)) (off + words e)) args ts >>= λ args r. expect is_close_paren r >>= λ o. Got (Called e args)
 
 pub record InPostfix (room : ℕ) (old : Tokens) (before : Draft) (new : Tokens) (draft : Draft) (found : Form) : Type 0 where
   pub so_far : (offset : ℕ) → SoFar (postfix (inner room) offset) (suffixes room offset) before (called_at new) old new draft found
@@ -190,26 +191,26 @@ module _ (room : ℕ) (a m : Tokens) (start draft : Draft) (found : Form) (s : I
 
 -- an index
 module _ (room k : ℕ) (a b : Tokens) (enters : (room ≡ k + 1) × Advances a b) where
-  index_runs : (off : ℕ) (e : Expr) → Runs a b (postfix_with (inner room) off Index e) (λ v. reader k Rvalue (off + string_words e) v >>= λ f r. expect is_close_bracket r >>= λ o. Got (Indexed e f))
+  index_runs : (off : ℕ) (e : Expr) → Runs a b (postfix_with (inner room) off Index e) (λ v. reader k Rvalue (off + words e) v >>= λ f r. expect is_close_bracket r >>= λ o. Got (Indexed e f))
   index_runs off e = run_past enters.1 (λ u f n. ap (λ i. postfix_with i off Index e u) (at_room room k enters.0))
 
   pub index_stops : (c : Tokens) (why : Halt) → ((off : ℕ) → Halts (reader k Rvalue off) b why c) → (off : ℕ) (e : Expr) → Halts (postfix_with (inner room) off Index e) a why c
-  index_stops c why h off e = halt_behind (reader k Rvalue (off + string_words e)) (λ f r. expect is_close_bracket r >>= λ o. Got (Indexed e f)) why c (index_runs off e) (h (off + string_words e))
+  index_stops c why h off e = halt_behind (reader k Rvalue (off + words e)) (λ f r. expect is_close_bracket r >>= λ o. Got (Indexed e f)) why c (index_runs off e) (h (off + words e))
 
   module _ (c : Tokens) (mid draft : Draft) (t : (off : ℕ) → TookWord (reader k Rvalue off) mid b c draft) where
-    bracket_runs : (off : ℕ) (e : Expr) → Runs a c (postfix_with (inner room) off Index e) (λ v. expect is_close_bracket v >>= λ o. Got (Indexed e (t (off + string_words e)).tree))
-    bracket_runs off e = run_then (index_runs off e) (run_bind (λ f r. expect is_close_bracket r >>= λ o. Got (Indexed e f)) (t (off + string_words e)).runs)
+    bracket_runs : (off : ℕ) (e : Expr) → Runs a c (postfix_with (inner room) off Index e) (λ v. expect is_close_bracket v >>= λ o. Got (Indexed e (t (off + words e)).tree))
+    bracket_runs off e = run_then (index_runs off e) (run_bind (λ f r. expect is_close_bracket r >>= λ o. Got (Indexed e f)) (t (off + words e)).runs)
 
     pub index_open : (d : Tokens) (why : Halt) → Halts (expect is_close_bracket) c why d → (off : ℕ) (e : Expr) → Halts (postfix_with (inner room) off Index e) a why d
-    index_open d why h off e = halt_behind (expect is_close_bracket) (λ o. Got (Indexed e (t (off + string_words e)).tree)) why d (bracket_runs off e) h
+    index_open d why h off e = halt_behind (expect is_close_bracket) (λ o. Got (Indexed e (t (off + words e)).tree)) why d (bracket_runs off e) h
 
     pub index_took : (d : Tokens) (before loads_ before_emit behind : Draft) (given : Form) → called_at a ≡ false → loads_ ≡ loads given before → mid ≡ loads_ → Runs c d (expect is_close_bracket) (λ v. Got tt v) × IsSingle d × (work d < work c) → before_emit ≡ draft → behind ≡ emitted (instr.Binary op.Add) before_emit
         → ((off : ℕ) (e : Expr) (start : Draft) → before ≡ held (called_at a) e start → given ≡ form e before → ExpressionTaken (postfix_with (inner room) off Index e) start (called_at d) a d behind Place) × IsSingle d
     index_took d before loads_ before_emit behind given nc l em x eb eo = (
       (λ off e start h f. record {
-        tree = Indexed e (t (off + string_words e)).tree;
-        runs = run_then (bracket_runs off e) (run_bind (λ o. Got (Indexed e (t (off + string_words e)).tree)) x.0);
-        made = eo ∙ ap (emitted (instr.Binary op.Add)) (eb ∙ (t (off + string_words e)).made ∙ ap (evaluated (t (off + string_words e)).tree) (em ∙ word_is before loads_ start given false e l (h ∙ ap (λ y. held y e start) nc) f));
+        tree = Indexed e (t (off + words e)).tree;
+        runs = run_then (bracket_runs off e) (run_bind (λ o. Got (Indexed e (t (off + words e)).tree)) x.0);
+        made = eo ∙ ap (emitted (instr.Binary op.Add)) (eb ∙ (t (off + words e)).made ∙ ap (evaluated (t (off + words e)).tree) (em ∙ word_is before loads_ start given false e l (h ∙ ap (λ y. held y e start) nc) f));
         form_is = refl;
       }),
       x.1,
@@ -341,21 +342,21 @@ module _ (room loosest : ℕ) (a m : Tokens) (start draft : Draft) (found : Form
   )
 
   module _ (p : BinOp) (is : op_within loosest (first m.ahead) ≡ Some p) (j : ℕ) (tighter : rank p ≡ suc j) (b : Tokens) (ad : Advances m b) where
-    operator_read : (off : ℕ) (e : Expr) (u : List Placed) → first u ≡ first m.ahead → line_ahead u ≡ line_ahead m.ahead → climb room loosest off e u ≡ (chain (inner room) j (off + string_words e) (after u) >>= λ f. climb room loosest off (Binary p (line_ahead m.ahead) e f))
+    operator_read : (off : ℕ) (e : Expr) (u : List Placed) → first u ≡ first m.ahead → line_ahead u ≡ line_ahead m.ahead → climb room loosest off e u ≡ (chain (inner room) j (off + words e) (after u) >>= λ f. climb room loosest off (Binary p (line_ahead m.ahead) e f))
     operator_read off e u f n =
         let w = within_some loosest (first m.ahead) p is in
         climb_some room loosest j off p e u (f ∙ w.0) tighter (omega (arith, w.1, tighter))
-        ∙ ap (λ i. chain (inner room) j (off + string_words e) (after u) >>= λ f. climb room loosest off (Binary p i e f)) n
+        ∙ ap (λ i. chain (inner room) j (off + words e) (after u) >>= λ f. climb room loosest off (Binary p i e f)) n
 
-    operator_runs : (off : ℕ) → Runs a b (chain (inner room) loosest off) (λ v. chain (inner room) j (off + string_words (s.so_far off).tree) v >>= λ f. climb room loosest off (Binary p (line_ahead m.ahead) (s.so_far off).tree f))
+    operator_runs : (off : ℕ) → Runs a b (chain (inner room) loosest off) (λ v. chain (inner room) j (off + words (s.so_far off).tree) v >>= λ f. climb room loosest off (Binary p (line_ahead m.ahead) (s.so_far off).tree f))
     operator_runs off = run_then (s.so_far off).runs (run_past ad (λ u f n. operator_read off (s.so_far off).tree u f n))
 
     pub right_stops : (c : Tokens) (why : Halt) → ((off : ℕ) → Halts (chain (inner room) j off) b why c) → (off : ℕ) → Halts (chain (inner room) loosest off) a why c
-    right_stops c why k off = halt_behind (chain (inner room) j (off + string_words (s.so_far off).tree)) (λ f. climb room loosest off (Binary p (line_ahead m.ahead) (s.so_far off).tree f)) why c (operator_runs off) (k (off + string_words (s.so_far off).tree))
+    right_stops c why k off = halt_behind (chain (inner room) j (off + words (s.so_far off).tree)) (λ f. climb room loosest off (Binary p (line_ahead m.ahead) (s.so_far off).tree f)) why c (operator_runs off) (k (off + words (s.so_far off).tree))
 
     pub chain_goes : (c : Tokens) (mid last loads_ behind : Draft) (given : Form) → mid ≡ loads found draft → ((off : ℕ) → ExpressionTaken (chain (inner room) j off) mid false b c last given) × IsSingle c → loads_ ≡ loads given last → behind ≡ emitted (instr.Binary p) loads_ → InChain room loosest a start c behind Joined
     chain_goes c mid last loads_ behind given l k l2 m2 = record {
-      so_far = λ off. let x = s.so_far off in let t = k.0 (off + string_words x.tree) in record {
+      so_far = λ off. let x = s.so_far off in let t = k.0 (off + words x.tree) in record {
         tree = Binary p (line_ahead m.ahead) x.tree t.tree;
         runs = run_then (operator_runs off) (run_bind (λ f. climb room loosest off (Binary p (line_ahead m.ahead) x.tree f)) t.runs);
         made = m2 ∙ ap (emitted (instr.Binary p)) (word_is last loads_ mid given false t.tree l2 t.made t.form_is ∙ ap (evaluated t.tree) (word_is draft mid start found false x.tree l x.made x.form_is));
@@ -381,28 +382,28 @@ call_at k off e u = ap (λ i. call i off e u) (at_room (k + 1) k refl)
 none_read : (k off : ℕ) (e : Expr) (u : List Placed) → is_close_paren (first u) ≡ true → call (inner (suc k)) off e u ≡ Got (Called e No_arguments) (after u)
 none_read k off e u h = rw h refl
 
-some_read : (k off : ℕ) (e : Expr) (u : List Placed) → is_close_paren (first u) ≡ false → call (inner (suc k)) off e u ≡ (reader k Rvalue (off + string_words e) u >>= λ f. more_arguments k off e (Another No_arguments f))
-some_read k off e u h = rw h (bind_twice (reader k Rvalue (off + string_words e) u) (λ f. many (always comma) (another (inner (suc k)) (off + string_words e)) (Another No_arguments f)) (λ args r. expect is_close_paren r >>= λ o. Got (Called e args)))
+some_read : (k off : ℕ) (e : Expr) (u : List Placed) → is_close_paren (first u) ≡ false → call (inner (suc k)) off e u ≡ (reader k Rvalue (off + words e) u >>= λ f. more_arguments k off e (Another No_arguments f))
+some_read k off e u h = rw h (bind_twice (reader k Rvalue (off + words e) u) (λ f. many (always comma) (another (inner (suc k)) (off + words e)) (Another No_arguments f)) (λ args r. expect is_close_paren r >>= λ o. Got (Called e args)))
 
-comma_read : (k off : ℕ) (e : Expr) (args : Arguments) (u : List Placed) → comma (first u) ≡ Some tt → more_arguments k off e args u ≡ (reader k Rvalue (off + string_words e + argument_words args) (after u) >>= λ f. more_arguments k off e (Another args f))
+comma_read : (k off : ℕ) (e : Expr) (args : Arguments) (u : List Placed) → comma (first u) ≡ Some tt → more_arguments k off e args u ≡ (reader k Rvalue (off + words e + argument_words args) (after u) >>= λ f. more_arguments k off e (Another args f))
 comma_read k off e args u h =
-    ap (λ x. x >>= λ args r. expect is_close_paren r >>= λ o. Got (Called e args)) (many_some closing (always comma) (another (inner (suc k)) (off + string_words e)) (comma_loop (inner (suc k)) (has_room (suc k)) (is_full k) (off + string_words e)) tt args u h)
-    ∙ bind_twice (another (inner (suc k)) (off + string_words e) tt args u) (many (always comma) (another (inner (suc k)) (off + string_words e))) (λ args r. expect is_close_paren r >>= λ o. Got (Called e args))
-    ∙ bind_twice (reader k Rvalue (off + string_words e + argument_words args) (after u)) (λ f. Got (Another args f)) (more_arguments k off e)
+    ap (λ x. x >>= λ args r. expect is_close_paren r >>= λ o. Got (Called e args)) (many_some closing (always comma) (another (inner (suc k)) (off + words e)) (comma_loop (inner (suc k)) (has_room (suc k)) (is_full k) (off + words e)) tt args u h)
+    ∙ bind_twice (another (inner (suc k)) (off + words e) tt args u) (many (always comma) (another (inner (suc k)) (off + words e))) (λ args r. expect is_close_paren r >>= λ o. Got (Called e args))
+    ∙ bind_twice (reader k Rvalue (off + words e + argument_words args) (after u)) (λ f. Got (Another args f)) (more_arguments k off e)
 
 pub no_arguments : (k : ℕ) (a b : Tokens) (draft : Draft) → is_close_paren (first a.ahead) ≡ true → Advances a b → ((off : ℕ) (e : Expr) → TookArguments (call (inner (k + 1)) off e) e draft a b draft 0) × IsSingle b
 no_arguments k a b draft h ad = ((λ off e. record { arguments = No_arguments; runs = run_past ad (λ u f n. call_at k off e u ∙ none_read k off e u (ap is_close_paren f ∙ h)); made = refl; count_is = refl }), ad.single)
 
 module _ (k : ℕ) (a : Tokens) (l : IsLoaded a) (h : is_close_paren (first a.ahead) ≡ false) where
-  first_runs : (off : ℕ) (e : Expr) → Runs a a (call (inner (k + 1)) off e) (λ v. reader k Rvalue (off + string_words e) v >>= λ f. more_arguments k off e (Another No_arguments f))
+  first_runs : (off : ℕ) (e : Expr) → Runs a a (call (inner (k + 1)) off e) (λ v. reader k Rvalue (off + words e) v >>= λ f. more_arguments k off e (Another No_arguments f))
   first_runs off e = run_here l (λ u f n. call_at k off e u ∙ some_read k off e u (ap is_close_paren f ∙ h))
 
   pub first_stops : (c : Tokens) (why : Halt) → ((off : ℕ) → Halts (reader k Rvalue off) a why c) → (off : ℕ) (e : Expr) → Halts (call (inner (k + 1)) off e) a why c
-  first_stops c why s off e = halt_behind (reader k Rvalue (off + string_words e)) (λ f. more_arguments k off e (Another No_arguments f)) why c (first_runs off e) (s (off + string_words e))
+  first_stops c why s off e = halt_behind (reader k Rvalue (off + words e)) (λ f. more_arguments k off e (Another No_arguments f)) why c (first_runs off e) (s (off + words e))
 
   pub arguments_begin : (b : Tokens) (start draft : Draft) → ((off : ℕ) → TookWord (reader k Rvalue off) start a b draft) × IsSingle b → InArguments k a start b draft 1
   arguments_begin b start draft t = record {
-    so_far = λ off e. let x = t.0 (off + string_words e) in record {
+    so_far = λ off e. let x = t.0 (off + words e) in record {
       arguments = Another No_arguments x.tree;
       runs = run_then (first_runs off e) (run_bind (λ f. more_arguments k off e (Another No_arguments f)) x.runs);
       made = x.made;
@@ -424,15 +425,15 @@ module _ (k : ℕ) (a m : Tokens) (start draft : Draft) (count : ℕ) (s : InArg
   comma_stops b why br w off e = halt_device (call (inner (k + 1)) off e) why w (Moves-breaks (s.so_far off e).runs br)
 
   module _ (b : Tokens) (is : is_comma (first m.ahead) ≡ true) (ad : Advances m b) where
-    comma_runs : (off : ℕ) (e : Expr) → Runs a b (call (inner (k + 1)) off e) (λ v. reader k Rvalue (off + string_words e + argument_words (s.so_far off e).arguments) v >>= λ f. more_arguments k off e (Another (s.so_far off e).arguments f))
+    comma_runs : (off : ℕ) (e : Expr) → Runs a b (call (inner (k + 1)) off e) (λ v. reader k Rvalue (off + words e + argument_words (s.so_far off e).arguments) v >>= λ f. more_arguments k off e (Another (s.so_far off e).arguments f))
     comma_runs off e = run_then (s.so_far off e).runs (run_past ad (λ u f n. comma_read k off e (s.so_far off e).arguments u (ap comma f ∙ comma_is (first m.ahead) is)))
 
     pub more_stops : (c : Tokens) (why : Halt) → ((off : ℕ) → Halts (reader k Rvalue off) b why c) → (off : ℕ) (e : Expr) → Halts (call (inner (k + 1)) off e) a why c
-    more_stops c why h off e = halt_behind (reader k Rvalue (off + string_words e + argument_words (s.so_far off e).arguments)) (λ f. more_arguments k off e (Another (s.so_far off e).arguments f)) why c (comma_runs off e) (h (off + string_words e + argument_words (s.so_far off e).arguments))
+    more_stops c why h off e = halt_behind (reader k Rvalue (off + words e + argument_words (s.so_far off e).arguments)) (λ f. more_arguments k off e (Another (s.so_far off e).arguments f)) why c (comma_runs off e) (h (off + words e + argument_words (s.so_far off e).arguments))
 
     pub arguments_go : (c : Tokens) (behind : Draft) (next : ℕ) → ((off : ℕ) → TookWord (reader k Rvalue off) draft b c behind) × IsSingle c → next ≡ min (count + 1) 65535 → InArguments k a start c behind next
     arguments_go c behind next t n = record {
-      so_far = λ off e. let x = s.so_far off e in let y = t.0 (off + string_words e + argument_words x.arguments) in record {
+      so_far = λ off e. let x = s.so_far off e in let y = t.0 (off + words e + argument_words x.arguments) in record {
         arguments = Another x.arguments y.tree;
         runs = run_then (comma_runs off e) (run_bind (λ f. more_arguments k off e (Another x.arguments f)) y.runs);
         made = y.made ∙ ap (evaluated y.tree) x.made;
@@ -446,7 +447,7 @@ module _ (k : ℕ) (a m : Tokens) (start draft : Draft) (count : ℕ) (s : InArg
 
   module _ (none : is_comma (first m.ahead) ≡ false) where
     end_runs : (off : ℕ) (e : Expr) → Runs a m (call (inner (k + 1)) off e) (λ v. expect is_close_paren v >>= λ o. Got (Called e (s.so_far off e).arguments))
-    end_runs off e = run_then (s.so_far off e).runs (run_here s.single.0 (λ u f n. ap (λ x. x >>= λ args r. expect is_close_paren r >>= λ o. Got (Called e args)) (many_none (always comma) (another (inner (suc k)) (off + string_words e)) (s.so_far off e).arguments u (ap comma f ∙ no_comma_is (first m.ahead) none))))
+    end_runs off e = run_then (s.so_far off e).runs (run_here s.single.0 (λ u f n. ap (λ x. x >>= λ args r. expect is_close_paren r >>= λ o. Got (Called e args)) (many_none (always comma) (another (inner (suc k)) (off + words e)) (s.so_far off e).arguments u (ap comma f ∙ no_comma_is (first m.ahead) none))))
 
     pub end_stops : (c : Tokens) (why : Halt) → Halts (expect is_close_paren) m why c → (off : ℕ) (e : Expr) → Halts (call (inner (k + 1)) off e) a why c
     end_stops c why h off e = halt_behind (expect is_close_paren) (λ o. Got (Called e (s.so_far off e).arguments)) why c (end_runs off e) h
@@ -463,42 +464,42 @@ module _ (k : ℕ) (a m : Tokens) (start draft : Draft) (count : ℕ) (s : InArg
     )
 
 -- a conditional
-choice_read : (room k off : ℕ) (e : Expr) (u : List Placed) → room ≡ k + 1 → is_question (first u) ≡ true → conditional (inner room) off e u ≡ (reader k Rvalue (off + string_words e) (after u) >>= λ f r. expect is_colon r >>= λ o r. reader k Choice (off + string_words e + string_words f) r >>= λ g. Got (Conditional e f g))
+choice_read : (room k off : ℕ) (e : Expr) (u : List Placed) → room ≡ k + 1 → is_question (first u) ≡ true → conditional (inner room) off e u ≡ (reader k Rvalue (off + words e) (after u) >>= λ f r. expect is_colon r >>= λ o r. reader k Choice (off + words e + words f) r >>= λ g. Got (Conditional e f g))
 choice_read room k off e u h q = ap (λ i. conditional i off e u) (at_room room k h) ∙ rw q refl
 
 pub conditional_none : (room : ℕ) (a : Tokens) (before : Draft) (given : Form) → IsSingle a → is_question (first a.ahead) ≡ false → ((off : ℕ) (e : Expr) (start : Draft) → before ≡ held false e start → given ≡ form e before → ExpressionTaken (conditional (inner room) off e) start false a a before given) × IsSingle a
 conditional_none room a before given l q = ((λ off e start h f. record { tree = e; runs = run_here l.0 (λ u g n. rw (ap is_question g ∙ q) refl); made = h; form_is = f }), l)
 
 module _ (room k : ℕ) (a b : Tokens) (enters : (room ≡ k + 1) × Advances a b) (q : is_question (first a.ahead) ≡ true) where
-  test_runs : (off : ℕ) (e : Expr) → Runs a b (conditional (inner room) off e) (λ v. reader k Rvalue (off + string_words e) v >>= λ f r. expect is_colon r >>= λ o r. reader k Choice (off + string_words e + string_words f) r >>= λ g. Got (Conditional e f g))
+  test_runs : (off : ℕ) (e : Expr) → Runs a b (conditional (inner room) off e) (λ v. reader k Rvalue (off + words e) v >>= λ f r. expect is_colon r >>= λ o r. reader k Choice (off + words e + words f) r >>= λ g. Got (Conditional e f g))
   test_runs off e = run_past enters.1 (λ u f n. choice_read room k off e u enters.0 (ap is_question f ∙ q))
 
   pub arm_stops : (c : Tokens) (why : Halt) → ((off : ℕ) → Halts (reader k Rvalue off) b why c) → (off : ℕ) (e : Expr) → Halts (conditional (inner room) off e) a why c
-  arm_stops c why h off e = halt_behind (reader k Rvalue (off + string_words e)) (λ f r. expect is_colon r >>= λ o r. reader k Choice (off + string_words e + string_words f) r >>= λ g. Got (Conditional e f g)) why c (test_runs off e) (h (off + string_words e))
+  arm_stops c why h off e = halt_behind (reader k Rvalue (off + words e)) (λ f r. expect is_colon r >>= λ o r. reader k Choice (off + words e + words f) r >>= λ g. Got (Conditional e f g)) why c (test_runs off e) (h (off + words e))
 
   module _ (c : Tokens) (start1 draft1 : Draft) (t : (off : ℕ) → TookWord (reader k Rvalue off) start1 b c draft1) where
-    arm_runs : (off : ℕ) (e : Expr) → Runs a c (conditional (inner room) off e) (λ v. expect is_colon v >>= λ o r. reader k Choice (off + string_words e + string_words (t (off + string_words e)).tree) r >>= λ g. Got (Conditional e (t (off + string_words e)).tree g))
-    arm_runs off e = run_then (test_runs off e) (run_bind (λ f r. expect is_colon r >>= λ o r. reader k Choice (off + string_words e + string_words f) r >>= λ g. Got (Conditional e f g)) (t (off + string_words e)).runs)
+    arm_runs : (off : ℕ) (e : Expr) → Runs a c (conditional (inner room) off e) (λ v. expect is_colon v >>= λ o r. reader k Choice (off + words e + words (t (off + words e)).tree) r >>= λ g. Got (Conditional e (t (off + words e)).tree g))
+    arm_runs off e = run_then (test_runs off e) (run_bind (λ f r. expect is_colon r >>= λ o r. reader k Choice (off + words e + words f) r >>= λ g. Got (Conditional e f g)) (t (off + words e)).runs)
 
     pub colon_stops : (d : Tokens) (why : Halt) → Halts (expect is_colon) c why d → (off : ℕ) (e : Expr) → Halts (conditional (inner room) off e) a why d
-    colon_stops d why h off e = halt_behind (expect is_colon) (λ o r. reader k Choice (off + string_words e + string_words (t (off + string_words e)).tree) r >>= λ g. Got (Conditional e (t (off + string_words e)).tree g)) why d (arm_runs off e) h
+    colon_stops d why h off e = halt_behind (expect is_colon) (λ o r. reader k Choice (off + words e + words (t (off + words e)).tree) r >>= λ g. Got (Conditional e (t (off + words e)).tree g)) why d (arm_runs off e) h
 
     module _ (d : Tokens) (x : Runs c d (expect is_colon) (λ v. Got tt v)) where
-      colon_runs : (off : ℕ) (e : Expr) → Runs a d (conditional (inner room) off e) (λ v. (chain (inner k) or_rank (off + string_words e + string_words (t (off + string_words e)).tree) v >>= conditional (inner k) (off + string_words e + string_words (t (off + string_words e)).tree)) >>= λ g. Got (Conditional e (t (off + string_words e)).tree g))
-      colon_runs off e = run_then (arm_runs off e) (run_bind (λ o r. reader k Choice (off + string_words e + string_words (t (off + string_words e)).tree) r >>= λ g. Got (Conditional e (t (off + string_words e)).tree g)) x)
+      colon_runs : (off : ℕ) (e : Expr) → Runs a d (conditional (inner room) off e) (λ v. (chain (inner k) or_rank (off + words e + words (t (off + words e)).tree) v >>= conditional (inner k) (off + words e + words (t (off + words e)).tree)) >>= λ g. Got (Conditional e (t (off + words e)).tree g))
+      colon_runs off e = run_then (arm_runs off e) (run_bind (λ o r. reader k Choice (off + words e + words (t (off + words e)).tree) r >>= λ g. Got (Conditional e (t (off + words e)).tree g)) x)
 
       pub chain_stops : (m : Tokens) (why : Halt) → ((off : ℕ) → Halts (chain (inner k) or_rank off) d why m) → (off : ℕ) (e : Expr) → Halts (conditional (inner room) off e) a why m
-      chain_stops m why h off e = let i = off + string_words e + string_words (t (off + string_words e)).tree in
-          halt_behind (λ v. chain (inner k) or_rank i v >>= conditional (inner k) i) (λ g. Got (Conditional e (t (off + string_words e)).tree g)) why m (colon_runs off e) (halt_bind d (chain (inner k) or_rank i) (conditional (inner k) i) why m (h i))
+      chain_stops m why h off e = let i = off + words e + words (t (off + words e)).tree in
+          halt_behind (λ v. chain (inner k) or_rank i v >>= conditional (inner k) i) (λ g. Got (Conditional e (t (off + words e)).tree g)) why m (colon_runs off e) (halt_bind d (chain (inner k) or_rank i) (conditional (inner k) i) why m (h i))
 
       module _ (m : Tokens) (start2 draft2 : Draft) (form2 : Form) (y : (off : ℕ) → ExpressionTaken (chain (inner k) or_rank off) start2 false d m draft2 form2) where
-        rest_runs : (off : ℕ) (e : Expr) → Runs a m (conditional (inner room) off e) (λ v. conditional (inner k) (off + string_words e + string_words (t (off + string_words e)).tree) (y (off + string_words e + string_words (t (off + string_words e)).tree)).tree v >>= λ g. Got (Conditional e (t (off + string_words e)).tree g))
-        rest_runs off e = let i = off + string_words e + string_words (t (off + string_words e)).tree in
-            run_then (colon_runs off e) (run_bind (λ g. Got (Conditional e (t (off + string_words e)).tree g)) (run_bind (conditional (inner k) i) (y i).runs))
+        rest_runs : (off : ℕ) (e : Expr) → Runs a m (conditional (inner room) off e) (λ v. conditional (inner k) (off + words e + words (t (off + words e)).tree) (y (off + words e + words (t (off + words e)).tree)).tree v >>= λ g. Got (Conditional e (t (off + words e)).tree g))
+        rest_runs off e = let i = off + words e + words (t (off + words e)).tree in
+            run_then (colon_runs off e) (run_bind (λ g. Got (Conditional e (t (off + words e)).tree g)) (run_bind (conditional (inner k) i) (y i).runs))
 
         pub rest_stops : (n : Tokens) (why : Halt) → ((off : ℕ) (e : Expr) → Halts (conditional (inner k) off e) m why n) → (off : ℕ) (e : Expr) → Halts (conditional (inner room) off e) a why n
-        rest_stops n why h off e = let i = off + string_words e + string_words (t (off + string_words e)).tree in
-            halt_behind (conditional (inner k) i (y i).tree) (λ g. Got (Conditional e (t (off + string_words e)).tree g)) why n (rest_runs off e) (h i (y i).tree)
+        rest_stops n why h off e = let i = off + words e + words (t (off + words e)).tree in
+            halt_behind (conditional (inner k) i (y i).tree) (λ g. Got (Conditional e (t (off + words e)).tree g)) why n (rest_runs off e) (h i (y i).tree)
 
         pub conditional_took : (n : Tokens) (before loads_ jumps colon jump draft3 loads3 behind : Draft) (given form3 : Form) (test end second last : ℕ)
             → ((off : ℕ) (e : Expr) (start : Draft) → draft2 ≡ held false e start → form2 ≡ form e draft2 → ExpressionTaken (conditional (inner k) off e) start false m n draft3 form3) × IsSingle n
@@ -507,8 +508,8 @@ module _ (room k : ℕ) (a b : Tokens) (enters : (room ≡ k + 1) × Advances a 
             → ((off : ℕ) (e : Expr) (start : Draft) → before ≡ held false e start → given ≡ form e before → ExpressionTaken (conditional (inner room) off e) start false a n behind Joined) × IsSingle n
         conditional_took n before loads_ jumps colon jump draft3 loads3 behind given form3 test end second last z l1 ej e1 e2 e3 e4 e5 e6 e7 l2 e8 e9 = (
           (λ off e start h f.
-              let i = off + string_words e + string_words (t (off + string_words e)).tree in
-              let w = t (off + string_words e) in
+              let i = off + words e + words (t (off + words e)).tree in
+              let w = t (off + words e) in
               let g = z.0 i (y i).tree start2 (y i).made (y i).form_is in
               record {
                 tree = Conditional e w.tree g.tree;
@@ -587,24 +588,24 @@ module _ (room : ℕ) (a b : Tokens) (start draft : Draft) (found : Form) (t : (
     rvalue_goes c behind (Err why) k = λ off. halt_then why c (condition off) (k off (t.0 off).tree)
 
   module _ (p : Option BinOp) (is : assigned_at found (first b.ahead) ≡ Some p) where
-    assign_runs : (off : ℕ) → Runs a b (reader room Rvalue off) (λ v. (inner room).enter v >>= λ o r. (inner room).read Rvalue (off + string_words (t.0 off).tree) r >>= λ f. Got (Assigned p (line_ahead b.ahead) (t.0 off).tree f))
+    assign_runs : (off : ℕ) → Runs a b (reader room Rvalue off) (λ v. (inner room).enter v >>= λ o r. (inner room).read Rvalue (off + words (t.0 off).tree) r >>= λ f. Got (Assigned p (line_ahead b.ahead) (t.0 off).tree f))
     assign_runs off = run_then (chained off) (run_here t.1.0 (λ u f n.
         rw (ap (assigns (t.0 off).tree) f ∙ assigns_form (t.0 off).tree draft found (first b.ahead) (t.0 off).form_is ∙ is)
-        (ap (λ i. (inner room).enter u >>= λ o r. (inner room).read Rvalue (off + string_words (t.0 off).tree) r >>= λ f. Got (Assigned p i (t.0 off).tree f)) n)))
+        (ap (λ i. (inner room).enter u >>= λ o r. (inner room).read Rvalue (off + words (t.0 off).tree) r >>= λ f. Got (Assigned p i (t.0 off).tree f)) n)))
 
     pub assign_full : (c : Tokens) (why : Halt) → Halts (inner room).enter b why c → (off : ℕ) → Halts (reader room Rvalue off) a why c
-    assign_full c why h off = halt_behind (inner room).enter (λ o r. (inner room).read Rvalue (off + string_words (t.0 off).tree) r >>= λ f. Got (Assigned p (line_ahead b.ahead) (t.0 off).tree f)) why c (assign_runs off) h
+    assign_full c why h off = halt_behind (inner room).enter (λ o r. (inner room).read Rvalue (off + words (t.0 off).tree) r >>= λ f. Got (Assigned p (line_ahead b.ahead) (t.0 off).tree f)) why c (assign_runs off) h
 
     module _ (k : ℕ) (c : Tokens) (enters : (room ≡ k + 1) × Advances b c) where
-      value_runs : (off : ℕ) → Runs a c (reader room Rvalue off) (λ v. reader k Rvalue (off + string_words (t.0 off).tree) v >>= λ f. Got (Assigned p (line_ahead b.ahead) (t.0 off).tree f))
-      value_runs off = run_then (assign_runs off) (run_past enters.1 (λ u f n. ap (λ i. i.enter u >>= λ o r. i.read Rvalue (off + string_words (t.0 off).tree) r >>= λ f. Got (Assigned p (line_ahead b.ahead) (t.0 off).tree f)) (at_room room k enters.0)))
+      value_runs : (off : ℕ) → Runs a c (reader room Rvalue off) (λ v. reader k Rvalue (off + words (t.0 off).tree) v >>= λ f. Got (Assigned p (line_ahead b.ahead) (t.0 off).tree f))
+      value_runs off = run_then (assign_runs off) (run_past enters.1 (λ u f n. ap (λ i. i.enter u >>= λ o r. i.read Rvalue (off + words (t.0 off).tree) r >>= λ f. Got (Assigned p (line_ahead b.ahead) (t.0 off).tree f)) (at_room room k enters.0)))
 
       pub assign_stops : (d : Tokens) (why : Halt) → ((off : ℕ) → Halts (reader k Rvalue off) c why d) → (off : ℕ) → Halts (reader room Rvalue off) a why d
-      assign_stops d why h off = halt_behind (reader k Rvalue (off + string_words (t.0 off).tree)) (λ f. Got (Assigned p (line_ahead b.ahead) (t.0 off).tree f)) why d (value_runs off) (h (off + string_words (t.0 off).tree))
+      assign_stops d why h off = halt_behind (reader k Rvalue (off + words (t.0 off).tree)) (λ f. Got (Assigned p (line_ahead b.ahead) (t.0 off).tree f)) why d (value_runs off) (h (off + words (t.0 off).tree))
 
       pub assign_took : (d : Tokens) (wants mid last behind : Draft) (line : ℕ) → line ≡ line_ahead b.ahead → wants ≡ checked found line draft → mid ≡ wants → ((off : ℕ) → TookWord (reader k Rvalue off) mid c d last) × IsSingle d → behind ≡ emitted (assignment p) last → ((off : ℕ) → ExpressionTaken (reader room Rvalue off) start false a d behind Joined) × IsSingle d
       assign_took d wants mid last behind line n m em v eo = (
-        (λ off. let x = t.0 off in let w = v.0 (off + string_words x.tree) in record {
+        (λ off. let x = t.0 off in let w = v.0 (off + words x.tree) in record {
           tree = Assigned p (line_ahead b.ahead) x.tree w.tree;
           runs = run_then (value_runs off) (run_bind (λ f. Got (Assigned p (line_ahead b.ahead) x.tree f)) w.runs);
           made = eo ∙ ap (emitted (assignment p)) (w.made ∙ ap (evaluated w.tree) (em ∙ m ∙ ap (λ i. checked found i draft) n ∙ ap (λ y. checked y (line_ahead b.ahead) draft) x.form_is ∙ ap (λ y. checked (form x.tree y) (line_ahead b.ahead) y) x.made));

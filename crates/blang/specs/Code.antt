@@ -1,6 +1,6 @@
 -- The code of a definition. Places are absolute in a function.
-use Rattle.std.specs.Prelude.{ℕ, ◌+◌, ◌*◌, ◌&&◌, List, [], ◌∷◌, ◌++◌, length, map, max, nat_le, Bool, Option, Some}
-use Rattle.std.specs.Prelude.{None, Result, Ok, Err, if◌then◌else◌}
+use Rattle.std.specs.Prelude.{ℕ, ◌+◌, ◌&&◌, List, [], ◌∷◌, ◌++◌, length, map, max, nat_le, Bool, Option, Some, None}
+use Rattle.std.specs.Prelude.{Result, Ok, Err, if◌then◌else◌}
 use Rattle.std.specs.List.{flat_map}
 use Rattle.bword.specs.declared.operators.BinOp.{BinOp}
 use Rattle.bword.specs.declared.operators.BinOp.TheVariants as op
@@ -9,10 +9,11 @@ use Rattle.blang.specs.declared.limits.TheConstants.{MAX_INSTRUCTIONS, MAX_STRIN
 use Rattle.blang.specs.declared.code.Instr.{Instr}
 use Rattle.blang.specs.Trees.{Expr, Arguments, Negate, Not, Indirection, Address, PreIncrement, PreDecrement}
 use Rattle.blang.specs.Trees.{PostIncrement, PostDecrement, Named, Literal, Text, Grouped, Indexed, Called, Postfixed}
-use Rattle.blang.specs.Trees.{Prefixed, Binary, Conditional, Assigned, No_arguments, Another, Heading, Auto, Label}
-use Rattle.blang.specs.Trees.{Case, Default, Stmt, Headed, Compound, If, IfElse, While, Switch, Goto, Break, Return}
-use Rattle.blang.specs.Trees.{ReturnValue, Evaluate, Empty, Stmts, Nothing, More, Ival, Ival_constant, Ival_text}
-use Rattle.blang.specs.Trees.{Ival_name, Definition, Simple, Vector, Function}
+use Rattle.blang.specs.Trees.{Prefixed, Binary, Conditional, Assigned, No_arguments, Another, Heading, Auto, Extrn}
+use Rattle.blang.specs.Trees.{Label, Case, Default, Stmt, Headed, Compound, If, IfElse, While, Switch, Goto, Break}
+use Rattle.blang.specs.Trees.{Return, ReturnValue, Evaluate, Empty, Stmts, Nothing, More, Ival, Ival_constant}
+use Rattle.blang.specs.Trees.{Ival_text, Ival_name, Definition, Simple, Vector, Function}
+use Rattle.blang.specs.WellFormed.{packed, texts_of}
 use Rattle.blang.specs.Scan.{Entry, NameKind, Automatic, Labelled, kind_of, fault, Scope, no_scope, constant_value}
 use Rattle.blang.specs.Scan.{function_scope, scan, identifier_of}
 use Rattle.blang.specs.declared.token.Letters.TheVariants as letters
@@ -240,49 +241,9 @@ module _ (names : Environment) where
     body_label_places Nothing p = []
     body_label_places (More before s) p = body_label_places before p ++ label_places s (body_end before p)
 
--- the characters and a final 4, two to a word, the even one in the low byte
-abbrev pub packed : List ℕ → List ℕ
-packed [] = 4 ∷ []
-packed (x ∷ []) = (x + 256 * 4) ∷ []
-packed (x ∷ y ∷ bytes) = (x + 256 * y) ∷ packed bytes
-
-abbrev mutual
-  pub strings : Expr → List ℕ
-  strings (Text bytes offset) = packed bytes
-  strings (Grouped e) = strings e
-  strings (Indexed e f) = strings e ++ strings f
-  strings (Called e args) = strings e ++ argument_strings args
-  strings (Postfixed op line e) = strings e
-  strings (Prefixed op line e) = strings e
-  strings (Binary op line e f) = strings e ++ strings f
-  strings (Conditional e f g) = strings e ++ (strings f ++ strings g)
-  strings (Assigned op line e f) = strings e ++ strings f
-  strings _ = []
-
-  pub argument_strings : Arguments → List ℕ
-  argument_strings No_arguments = []
-  argument_strings (Another before e) = argument_strings before ++ strings e
-
-abbrev mutual
-  pub statement_strings : Stmt → List ℕ
-  statement_strings (Headed h s) = statement_strings s
-  statement_strings (Compound body) = body_strings body
-  statement_strings (If e s) = strings e ++ statement_strings s
-  statement_strings (IfElse e s other) = strings e ++ (statement_strings s ++ statement_strings other)
-  statement_strings (While e s) = strings e ++ statement_strings s
-  statement_strings (Switch e body) = strings e ++ body_strings body
-  statement_strings (Goto e) = strings e
-  statement_strings (ReturnValue e) = strings e
-  statement_strings (Evaluate e) = strings e
-  statement_strings _ = []
-
-  pub body_strings : Stmts → List ℕ
-  body_strings Nothing = []
-  body_strings (More before s) = body_strings before ++ statement_strings s
-
-abbrev pub ival_strings : Ival → List ℕ
-ival_strings (Ival_text bytes offset) = packed bytes
-ival_strings _ = []
+-- the words of the strings of a definition, one behind another
+abbrev pub strings_of : Definition → List ℕ
+strings_of d = flat_map (λ t. packed t.bytes) (texts_of d)
 
 abbrev pub ival_code : Ival → coded_value.Ival
 ival_code (Ival_constant c) = ival.Number (constant_value c)
@@ -304,13 +265,13 @@ clean (Err d) = no_scope
 
 abbrev pub code_of : Definition → coded.Definition
 code_of (Simple w values) =
-    code.Simple (record { name = w.text; values = map ival_code values; strings = flat_map ival_strings values })
+    code.Simple (record { name = w.text; values = map ival_code values; strings = strings_of (Simple w values) })
 code_of (Vector w size values) =
     code.Vector record {
       name = w.text;
       words = vector_words size values;
       values = map ival_code values;
-      strings = flat_map ival_strings values;
+      strings = strings_of (Vector w size values);
     }
 code_of (Function w parameters body) =
     let scope = clean (function_scope parameters body) in
@@ -320,7 +281,7 @@ code_of (Function w parameters body) =
       parameters = length parameters;
       frame = scope.frame;
       targets = label_places names body 0;
-      strings = statement_strings body;
+      strings = strings_of (Function w parameters body);
       code = statement_code names body 0 (statement_end names body 0) ++ (instr.Constant 0 ∷ instr.Return ∷ []);
     })
 

@@ -12,11 +12,13 @@ use Rattle.blang.specs.declared.code.Ival.TheVariants as ival
 use Rattle.blang.specs.declared.code.Definition as coded
 use Rattle.blang.specs.declared.code.Definition.TheVariants as code
 use Rattle.blang.specs.Trees.{Identifier, Text, Stmt, Evaluate, Ival, Ival_constant, Ival_text, Ival_name, Definition, Simple, Vector, Function}
-use Rattle.blang.specs.WellFormed.{EachBehind, Sits, ival_words, values_words, IvalFits, nesting_limit, IsFormed}
+use Rattle.blang.specs.WellFormed.{nesting_limit, IsFormed, packed}
+use Rattle.btree.specs.Fitting.{EachBehind, Sits, ival_words, values_words, IvalFits, statement_strings, ival_strings}
 use Rattle.blang.specs.Scan.{fault, name_fault, undefined, Scope, no_scope, function_events, function_scope, inner_fault, scope_fault, identifier_of, scan}
 use Rattle.bword.specs.Words.{same_name}
-use Rattle.blang.specs.Code.{Environment, environment_of, statement_end, statement_code, label_places, statement_strings, packed, ival_strings, ival_code, vector_words, clean, code_of, fits_limits, fault_of, or_too_large}
+use Rattle.blang.specs.Code.{Environment, environment_of, statement_end, statement_code, label_places, ival_code, vector_words, clean, code_of, fits_limits, fault_of, or_too_large}
 use Rattle.btree.proofs.CodeLaws.{counts_words}
+use Rattle.btree.proofs.Fitting.{simple_strings, vector_strings, function_strings, formed_in}
 use Rattle.btree.proofs.ScanSteps.{scanned-Err}
 use Rattle.bemit.specs.Drafts.{led, Made, Draft, Faulty, Going, no_made, fresh, most_words, within_room, with_made, stringed, offset_of, valued, worded, closed, numbered, draft_resolved, fault_in, started}
 use Rattle.bemit.specs.Drafts as drafts
@@ -133,13 +135,14 @@ function_parts names body = ending (ending (joined no_parts (statement_parts nam
 function_makes : (names : Environment) (w : Identifier) (parameters : List Identifier) (body : Stmt) → Sits body nesting_limit 0 → Makes names (definition_done (Function w parameters body)) (function_events parameters body) nesting_limit 0 (function_parts names body)
 function_makes names w parameters body sits = emits instr.Return (emits (instr.Constant 0) (then_ (parameters_make parameters) (done_makes names body nesting_limit 0 sits) refl))
 
-abbrev function_code : Identifier → List Identifier → Stmt → Scope → coded.Definition
-function_code w parameters body s = code.Function (record {
+-- the code of a function with this scope and these words of its strings
+abbrev function_code : Identifier → List Identifier → Stmt → Scope → List ℕ → coded.Definition
+function_code w parameters body s strings = code.Function (record {
   name = w.text;
   parameters = length parameters;
   frame = s.frame;
   targets = label_places (environment_of s.names) body 0;
-  strings = statement_strings body;
+  strings = strings;
   code = statement_code (environment_of s.names) body 0 (statement_end (environment_of s.names) body 0) ++ (instr.Constant 0 ∷ instr.Return ∷ []);
 })
 
@@ -186,8 +189,8 @@ function_comes w parameters body sits = go (function_scope parameters body) refl
             ∙ map-append (numbered s.names) (statement_code names body 0 0) ends
             ∙ ap (λ l. l ++ ends) (statement_numbered s.names names (environment_of s.names) renamed body 0 0 ∙ closed)
 
-        whole : code_of d ≡ function_code w parameters body s
-        whole = ap (λ r. function_code w parameters body (clean r)) h
+        whole : code_of d ≡ function_code w parameters body s (statement_strings body)
+        whole = λ i. function_code w parameters body (clean (h i)) (function_strings w parameters body i)
 
         long : length (tree ++ ends) ≡ length m.code
         long = ap length (sym coded) ∙ length-map m.code (numbered s.names)
@@ -214,20 +217,37 @@ function_comes w parameters body sits = go (function_scope parameters body) refl
     go (Err f) h = Refused f (ap scope_fault h) (ap (fault_in w.line) (faulty_is (definition_done d fresh) f (scope_is ∙ h)))
     go (Ok s) h = settled s (undefined s.names) h refl
 
+-- the code of an external with these words of its strings
+abbrev simple_code : Identifier → List Ival → List ℕ → coded.Definition
+simple_code w values strings = code.Simple (record { name = w.text; values = map ival_code values; strings = strings })
+
+abbrev vector_code : Identifier → Option ℕ → List Ival → List ℕ → coded.Definition
+vector_code w size values strings =
+    code.Vector (record { name = w.text; words = vector_words size values; values = map ival_code values; strings = strings })
+
 comes : (d : Definition) → IsFormed d → Comes d (definition_done d fresh)
 comes (Simple w values) formed =
     let m : Made = more no_made (map ival_code values) (flat_map ival_strings values) in
-    Coded no_scope m refl refl (values_are values [] no_scope no_made formed refl ∙ ap (λ o. Going no_scope o) (simple_fits m refl)) refl
+    let same = sym (simple_strings w values) in
+    Coded no_scope m refl refl
+    (values_are values [] no_scope no_made (formed_in (Simple w values) formed) refl ∙ ap (λ o. Going no_scope o) (simple_fits m refl)
+    ∙ ap (λ strings. Going no_scope (if fits_limits (simple_code w values strings) then Some m else None)) same)
+    (ap (simple_code w values) same)
 comes (Vector w size values) formed =
     let m : Made = more no_made (map ival_code values) (flat_map ival_strings values) in
-    Coded no_scope m refl refl (ap (worded (vector_words size values)) (values_are values [] no_scope no_made formed refl) ∙ vector_fits m (vector_words size values) refl) refl
-comes (Function w parameters body) formed = function_comes w parameters body formed
+    let same = sym (vector_strings w size values) in
+    Coded no_scope m refl refl
+    (ap (worded (vector_words size values)) (values_are values [] no_scope no_made (formed_in (Vector w size values) formed) refl)
+    ∙ vector_fits m (vector_words size values) refl
+    ∙ ap (λ strings. Going no_scope (if fits_limits (vector_code w size values strings) then Some m else None)) same)
+    (ap (vector_code w size values) same)
+comes (Function w parameters body) formed = function_comes w parameters body (formed_in (Function w parameters body) formed)
 
 -- a first fault stays
 stays : (d : Definition) (f : Diagnostic) → IsFormed d → scope_of (definition_done d (Faulty f)) ≡ Err f
 stays (Simple w values) f formed = values_scope values (Faulty f)
 stays (Vector w size values) f formed = worded_scope (vector_words size values) (values_done values (Faulty f)) ∙ values_scope values (Faulty f)
-stays (Function w parameters body) f formed = (function_makes (environment_of []) w parameters body formed).scans (Faulty f) tt ∙ scanned-Err (function_events parameters body) f
+stays (Function w parameters body) f formed = (function_makes (environment_of []) w parameters body (formed_in (Function w parameters body) formed)).scans (Faulty f) tt ∙ scanned-Err (function_events parameters body) f
 
 abbrev Settles : List (List ℕ) → Definition → Draft → Type 0
 Settles defined d r =

@@ -6,9 +6,10 @@ use Rattle.blang.specs.declared.code.Instr.{Instr}
 use Rattle.blang.specs.declared.code.Instr.TheVariants as instr
 use Rattle.blang.specs.declared.code.Increment.TheVariants as increment
 use Rattle.blang.specs.Trees.{Number, Expr, Arguments, Negate, Not, Indirection, Address, PreIncrement, PreDecrement, PostIncrement, PostDecrement, Named, Literal, Text, Grouped, Indexed, Called, Postfixed, Prefixed, Binary, Conditional, Assigned, No_arguments, Another, Evaluate}
-use Rattle.blang.specs.WellFormed.{string_words, argument_words, Deeper, Fits, ArgumentsFit, rvalue_rank, or_rank, conditional_rank, rank}
+use Rattle.blang.specs.WellFormed.{rvalue_rank, or_rank, conditional_rank, rank}
+use Rattle.btree.specs.Fitting.{words, argument_words, Deeper, Fits, ArgumentsFit, strings, argument_strings}
 use Rattle.blang.specs.Scan.{Lvalue, events, argument_events, constant_value}
-use Rattle.blang.specs.Code.{Environment, Referent, In_frame, Outside, At_label, name_word_code, word_code, address_code, argument_code, argument_count, assignment, strings, argument_strings}
+use Rattle.blang.specs.Code.{Environment, Referent, In_frame, Outside, At_label, name_word_code, word_code, address_code, argument_code, argument_count, assignment}
 use Rattle.btree.proofs.CodeLaws.{counts_words}
 use Rattle.bemit.specs.Drafts.{most_instructions}
 use Rattle.bemit.specs.Effects.{most_arguments, held, passed, evaluated}
@@ -26,7 +27,7 @@ ends_some xs i ys = omega (arith, length-append xs (i ∷ ys))
 behind_some : (xs ys : List Instr) → 1 ≤ length ys → 1 ≤ length (xs ++ ys)
 behind_some xs ys h = omega (arith, length-append xs ys, h)
 
-pub expression_words : (e : Expr) (off : ℕ) → off + string_words e ≡ off + length (strings e)
+pub expression_words : (e : Expr) (off : ℕ) → off + words e ≡ off + length (strings e)
 expression_words e off = ap (λ n. off + n) (sym (counts_words (Evaluate e)))
 
 arguments_words : (args : Arguments) (off : ℕ) → off + argument_words args ≡ off + length (argument_strings args)
@@ -89,15 +90,15 @@ module _ (names : Environment) where
         let i = inside (λ j. Fits e rvalue_rank j off) k h in
         rescanned (events_false e) (held_makes e false rvalue_rank i.0 off room i.1)
     held_makes (Indexed e f) called loose k off room h =
-        let i = inside (λ j. Fits f rvalue_rank j (off + string_words e)) k h.2 in
+        let i = inside (λ j. Fits f rvalue_rank j (off + words e)) k h.2 in
         retold (only (held_code names (Indexed e f)) (strings (Indexed e f))) (λ p. record { code = append_assoc (word_code names e p) (word_code names f _) (instr.Binary op.Add ∷ []); strings = refl; targets = refl; arms = refl; breaks = refl })
-        (emits (instr.Binary op.Add) (then_ (evaluated_by e (held_makes e false 0 k off room h.1)) (evaluated_by f (held_makes f false rvalue_rank i.0 (off + string_words e) room i.1)) (expression_words e off)))
+        (emits (instr.Binary op.Add) (then_ (evaluated_by e (held_makes e false 0 k off room h.1)) (evaluated_by f (held_makes f false rvalue_rank i.0 (off + words e) room i.1)) (expression_words e off)))
     held_makes (Called e args) called loose k off room h =
-        let i = inside (λ j. ArgumentsFit args j (off + string_words e)) k h.2 in
+        let i = inside (λ j. ArgumentsFit args j (off + words e)) k h.2 in
         retold (only (held_code names (Called e args)) (strings (Called e args))) (λ p. record { code = append_assoc (word_code names e p) (argument_code names args _) (instr.Call (argument_count args) ∷ []); strings = refl; targets = refl; arms = refl; breaks = refl })
         (rescanned (events_called e args)
         (emits_known (instr.Call (min (argument_count args) most_arguments)) (instr.Call (argument_count args)) (count_known e args)
-        (then_ (word_makes e true (held_makes e true 0 k off room h.1)) (passed_makes args i.0 (off + string_words e) room i.1) (expression_words e off))))
+        (then_ (word_makes e true (held_makes e true 0 k off room h.1)) (passed_makes args i.0 (off + words e) room i.1) (expression_words e off))))
     held_makes (Postfixed PostIncrement line e) called loose k off room h = emits (instr.Increment increment.PostIncrement) (checked_makes e line (held_makes e false 0 k off room h.1))
     held_makes (Postfixed PostDecrement line e) called loose k off room h = emits (instr.Increment increment.PostDecrement) (checked_makes e line (held_makes e false 0 k off room h.1))
     held_makes (Prefixed Negate line e) called loose k off room h =
@@ -120,16 +121,16 @@ module _ (names : Environment) where
         emits (instr.Increment increment.PreDecrement) (checked_makes e line (held_makes e false 0 i.0 off room i.1))
     held_makes (Binary op line e f) called loose k off room h =
         retold (only (held_code names (Binary op line e f)) (strings (Binary op line e f))) (λ p. record { code = append_assoc (word_code names e p) (word_code names f _) (instr.Binary op ∷ []); strings = refl; targets = refl; arms = refl; breaks = refl })
-        (emits (instr.Binary op) (then_ (evaluated_by e (held_makes e false (rank op) k off room h.1)) (evaluated_by f (held_makes f false (rank op - 1) k (off + string_words e) room h.2)) (expression_words e off)))
+        (emits (instr.Binary op) (then_ (evaluated_by e (held_makes e false (rank op) k off room h.1)) (evaluated_by f (held_makes f false (rank op - 1) k (off + words e) room h.2)) (expression_words e off)))
     held_makes (Conditional e f g) called loose k off room h =
-        let i = inside (λ j. Fits f rvalue_rank j (off + string_words e) × Fits g conditional_rank j (off + string_words e + string_words f)) k h.2 in
+        let i = inside (λ j. Fits f rvalue_rank j (off + words e) × Fits g conditional_rank j (off + words e + words f)) k h.2 in
         retold (only (held_code names (Conditional e f g)) (strings (Conditional e f g))) (λ p. record { code = refl; strings = refl; targets = refl; arms = refl; breaks = refl })
-        (then_ (evaluated_by e (held_makes e false or_rank k off room h.1)) (parts_ways (evaluated_by f (held_makes f false rvalue_rank i.0 (off + string_words e) room i.1.0)) (evaluated_by g (held_makes g false conditional_rank i.0 (off + string_words e + string_words f) room i.1.1)) (expression_words f (off + string_words e))) (expression_words e off))
+        (then_ (evaluated_by e (held_makes e false or_rank k off room h.1)) (parts_ways (evaluated_by f (held_makes f false rvalue_rank i.0 (off + words e) room i.1.0)) (evaluated_by g (held_makes g false conditional_rank i.0 (off + words e + words f) room i.1.1)) (expression_words f (off + words e))) (expression_words e off))
     held_makes (Assigned op line e f) called loose k off room h =
-        let i = inside (λ j. Fits f rvalue_rank j (off + string_words e)) k h.2 in
+        let i = inside (λ j. Fits f rvalue_rank j (off + words e)) k h.2 in
         retold (only (held_code names (Assigned op line e f)) (strings (Assigned op line e f))) (λ p. record { code = append_assoc (address_code names e p) (word_code names f _) (assignment op ∷ []); strings = refl; targets = refl; arms = refl; breaks = refl })
         (rescanned (append_assoc (events e) (Lvalue line e ∷ []) (events f))
-        (emits (assignment op) (then_ (checked_makes e line (held_makes e false 0 k off room h.1)) (evaluated_by f (held_makes f false rvalue_rank i.0 (off + string_words e) room i.1)) (expression_words e off))))
+        (emits (assignment op) (then_ (checked_makes e line (held_makes e false 0 k off room h.1)) (evaluated_by f (held_makes f false rvalue_rank i.0 (off + words e) room i.1)) (expression_words e off))))
 
     passed_makes : (args : Arguments) (k off room : ℕ) → ArgumentsFit args k off → Makes names (passed args) (argument_events args) room off (only (argument_code names args) (argument_strings args))
     passed_makes No_arguments k off room h = idle

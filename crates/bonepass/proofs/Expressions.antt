@@ -7,7 +7,9 @@ use Rattle.blang.specs.declared.code.Instr.TheVariants as instr
 use Rattle.blang.specs.Trees.{Identifier, Expr, Arguments, Indirection, Named, Literal, Text, Grouped, Indexed, Called, Postfixed, Prefixed, Binary, Conditional, Assigned}
 use Rattle.blang.specs.Scan.{Entry, NameKind, Automatic, External, Unlabelled, Labelled, kind_of, Scope, Event, Mention, Lvalue, scan_event, scanned, events, argument_events, is_lvalue, constant_value}
 use Rattle.blang.specs.Scan as scan
-use Rattle.blang.specs.Code.{Environment, Referent, In_frame, Outside, At_label, name_address_code, name_word_code, word_code, address_code, strings, packed}
+use Rattle.blang.specs.Code.{Environment, Referent, In_frame, Outside, At_label, name_address_code, name_word_code, word_code, address_code}
+use Rattle.blang.specs.WellFormed.{packed}
+use Rattle.btree.specs.Fitting.{strings}
 use Rattle.btree.proofs.CodeLaws.{scanned-append}
 use Rattle.btree.proofs.ScanSteps.{mentions, scanned-Err}
 use Rattle.bemit.specs.Drafts.{Made, Draft, Faulty, Going, behind, event_done, emitted, stringed, offset_of, address_instr, address_at, named, draft_names, form_at, grouped, checked, entry_of}

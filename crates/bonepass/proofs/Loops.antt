@@ -5,7 +5,8 @@ use Rattle.blang.specs.declared.code.Instr.{Instr}
 use Rattle.blang.specs.declared.code.Instr.TheVariants as instr
 use Rattle.blang.specs.Trees.{Expr, Stmt, While}
 use Rattle.blang.specs.Scan.{Scope, Event, LoopBegins, LoopEnds, scan_event, scanned, events, statement_events}
-use Rattle.blang.specs.Code.{Environment, word_code, strings, statement_end, statement_code, statement_strings}
+use Rattle.blang.specs.Code.{Environment, word_code, statement_end, statement_code}
+use Rattle.btree.specs.Fitting.{strings, statement_strings}
 use Rattle.btree.proofs.CodeLaws.{scanned-append, statement_ends}
 use Rattle.bemit.specs.Drafts.{Made, Draft, Faulty, Going, most_loops, emitted, place_of, loop_begun, loop_ended}
 use Rattle.bemit.specs.Effects.{skipping, breaking, turning, evaluated, done}

@@ -3,9 +3,10 @@ use Rattle.std.proofs.Common.{◌≡◌, ℕ, zero, suc, ◌+◌, List, ◌∷�
 use Rattle.blang.specs.declared.code.Instr.{Instr}
 use Rattle.blang.specs.declared.code.Instr.TheVariants as instr
 use Rattle.blang.specs.Trees.{Expr, Stmt, Headed, Compound, If, IfElse, While, Switch, Goto, Break, Return, ReturnValue, Evaluate, Empty, Stmts, Nothing, More}
-use Rattle.blang.specs.WellFormed.{string_words, Deeper, Fits, rvalue_rank, statement_words, body_words, Sits, AllSit}
+use Rattle.blang.specs.WellFormed.{rvalue_rank}
+use Rattle.btree.specs.Fitting.{words, Deeper, Fits, statement_words, body_words, Sits, AllSit, strings, statement_strings, body_strings}
 use Rattle.blang.specs.Scan.{Event, statement_events, body_events}
-use Rattle.blang.specs.Code.{Environment, word_code, strings, arms_code, statement_end, arm_places, body_arm_places, statement_code, body_code, label_places, body_label_places, statement_strings, body_strings}
+use Rattle.blang.specs.Code.{Environment, word_code, arms_code, statement_end, arm_places, body_arm_places, statement_code, body_code, label_places, body_label_places}
 use Rattle.btree.proofs.CodeLaws.{counts_words, statement_ends, body_ends}
 use Rattle.bemit.specs.Drafts.{Draft}
 use Rattle.bemit.specs.Effects.{done, all_done}
@@ -100,18 +101,18 @@ module _ (names : Environment) where
         (level (λ k. AllSit body k off) (λ k h. all_make body k off h) room sits)
     done_makes (If e s) room off sits =
         retold (statement_parts names (If e s)) (if_same e s)
-        (level (λ k. Fits e rvalue_rank k off × Sits s k (off + string_words e))
-        (λ k h. then_ (evaluated_makes names e k off k h.0) (skips (done_makes s k (off + string_words e) h.1)) (expression_words e off)) room sits)
+        (level (λ k. Fits e rvalue_rank k off × Sits s k (off + words e))
+        (λ k h. then_ (evaluated_makes names e k off k h.0) (skips (done_makes s k (off + words e) h.1)) (expression_words e off)) room sits)
     done_makes (IfElse e s other) room off sits =
         retold (statement_parts names (IfElse e s other)) (ways_same e s other)
-        (level (λ k. Fits e rvalue_rank k off × Sits s k (off + string_words e) × Sits other k (off + string_words e + statement_words s))
-        (λ k h. then_ (evaluated_makes names e k off k h.0) (parts_ways (done_makes s k (off + string_words e) h.1) (done_makes other k (off + string_words e + statement_words s) h.2) (statement_offset s (off + string_words e))) (expression_words e off)) room sits.1)
+        (level (λ k. Fits e rvalue_rank k off × Sits s k (off + words e) × Sits other k (off + words e + statement_words s))
+        (λ k h. then_ (evaluated_makes names e k off k h.0) (parts_ways (done_makes s k (off + words e) h.1) (done_makes other k (off + words e + statement_words s) h.2) (statement_offset s (off + words e))) (expression_words e off)) room sits.1)
     done_makes (While e s) zero off sits = elim sits [ ]
-    done_makes (While e s) (suc k) off sits = loops e s (evaluated_makes names e k off (suc k) sits.0) (done_makes s k (off + string_words e) sits.1) (expression_words e off)
+    done_makes (While e s) (suc k) off sits = loops e s (evaluated_makes names e k off (suc k) sits.0) (done_makes s k (off + words e) sits.1) (expression_words e off)
     done_makes (Switch e body) zero off sits = elim sits [ ]
     done_makes (Switch e body) (suc k) off sits =
         retold (statement_parts names (Switch e body)) (switch_same e body)
-        (then_ (evaluated_makes names e k off (suc k) sits.0) (switches (body_code names body) (closes body) (all_make body k (off + string_words e) sits.1)) (expression_words e off))
+        (then_ (evaluated_makes names e k off (suc k) sits.0) (switches (body_code names body) (closes body) (all_make body k (off + words e) sits.1)) (expression_words e off))
     done_makes (Goto e) room off sits = emits instr.Goto (evaluated_makes names e room off room sits)
     done_makes (Break line) room off sits = broken_makes line
     done_makes Return room off sits = emits instr.Return (emits (instr.Constant 0) idle)

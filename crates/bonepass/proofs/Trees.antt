@@ -1,6 +1,7 @@
 -- What statements add.
 use Rattle.blang.specs.Trees.{Stmt, Stmts}
-use Rattle.blang.specs.Code.{Environment, statement_code, body_code, arm_places, body_arm_places, label_places, body_label_places, statement_strings, body_strings}
+use Rattle.blang.specs.Code.{Environment, statement_code, body_code, arm_places, body_arm_places, label_places, body_label_places}
+use Rattle.btree.specs.Fitting.{statement_strings, body_strings}
 use Rattle.bonepass.proofs.Breaks.{statement_breaks, body_breaks}
 use Rattle.bonepass.proofs.Parts.{Parts}
 

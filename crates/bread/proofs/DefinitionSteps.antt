@@ -14,7 +14,8 @@ use Rattle.btree.specs.ExpressionReader.{is_close_paren, is_close_bracket}
 use Rattle.btree.specs.Commas.{list_reader}
 use Rattle.blang.specs.Code.{vector_constant}
 use Rattle.btree.specs.StatementReader.{is_semicolon, name, size, statement}
-use Rattle.blang.specs.WellFormed.{values_words, nesting_limit}
+use Rattle.blang.specs.WellFormed.{nesting_limit}
+use Rattle.btree.specs.Fitting.{values_words}
 use Rattle.btree.specs.DefinitionReader.{ival_at, ival, valued, vector, function_body, function, behind_name_at, behind_name, definition}
 use Rattle.btree.proofs.Fine.{Fine}
 use Rattle.btree.proofs.ExpressionFine.{Closer}

@@ -7,7 +7,7 @@ use Rattle.blang.specs.declared.token.Keyword.{Keyword}
 use Rattle.blang.specs.declared.token.Keyword.TheVariants as keyword
 use Rattle.blang.specs.declared.token.Placed.{Placed}
 use Rattle.blang.specs.Trees.{Expr, Heading, Stmt, Headed, Compound, If, IfElse, While, Switch, Goto, Break, Return, ReturnValue, Evaluate, Empty, Stmts, Nothing, More}
-use Rattle.blang.specs.WellFormed.{string_words, statement_words, body_words}
+use Rattle.btree.specs.Fitting.{words, statement_words, body_words}
 use Rattle.btree.specs.Reading.{Read, Reader, Got, Stop, ◌>>=◌, first, line_ahead, after, expect, many}
 use Rattle.btree.specs.ExpressionReader.{is_close_paren, always, Rvalue, reader, inner}
 use Rattle.btree.specs.StatementReader.{is_open_paren, is_open_brace, is_close_brace, is_semicolon, is_else, Headings, No_heading, Then, headed, goes_on, Level, else_part, chosen, looped, one_more, body, compound, switched, tested, returned, stmt_at, level, statement}
@@ -143,26 +143,26 @@ module _ (room k off : ℕ) (old mid : Tokens) (h : (room ≡ k + 1) × Advances
   pub tested_halts : (new : Tokens) (why : Halt) → Halts (condition k off) mid why new → Halts testing old why new
   tested_halts new why c = halts_then old mid new testing (condition k off) (behind (level (suc k)) off) why tested_runs c
 
-  module _ (next : Tokens) (e : Expr) (c : Runs mid next (condition k off) (λ v. Got e v)) (rest : Stmt → Reader Stmt) (is : (ts : List Placed) → behind (level (suc k)) off e ts ≡ (statement k (off + string_words e) ts >>= rest)) where
-    pub tested_on : Runs old next testing (λ v. statement k (off + string_words e) v >>= rest)
-    tested_on = Moves-as (λ u v. testing u ≡ (statement k (off + string_words e) v >>= rest)) (λ u v x. x ∙ is v) (went (behind (level (suc k)) off) tested_runs c)
+  module _ (next : Tokens) (e : Expr) (c : Runs mid next (condition k off) (λ v. Got e v)) (rest : Stmt → Reader Stmt) (is : (ts : List Placed) → behind (level (suc k)) off e ts ≡ (statement k (off + words e) ts >>= rest)) where
+    pub tested_on : Runs old next testing (λ v. statement k (off + words e) v >>= rest)
+    tested_on = Moves-as (λ u v. testing u ≡ (statement k (off + words e) v >>= rest)) (λ u v x. x ∙ is v) (went (behind (level (suc k)) off) tested_runs c)
 
-    pub tested_body_halts : (new : Tokens) (why : Halt) → Halts (statement k (off + string_words e)) next why new → Halts testing old why new
-    tested_body_halts new why x = halts_then old next new testing (statement k (off + string_words e)) rest why tested_on x
+    pub tested_body_halts : (new : Tokens) (why : Halt) → Halts (statement k (off + words e)) next why new → Halts testing old why new
+    tested_body_halts new why x = halts_then old next new testing (statement k (off + words e)) rest why tested_on x
 
 pub tested_enter : (room off : ℕ) (old new : Tokens) (behind : Level → ℕ → Expr → Reader Stmt) (why : Halt) → Halts (inner room).enter old why new → Halts (λ ts. tested (level room) off (behind (level room) off) ts) old why new
 tested_enter room off old new behind why h = enter_halts old new room (λ l o ts. expect is_open_paren ts >>= λ o r. l.expr off r >>= λ e r. expect is_close_paren r >>= λ o. behind l off e) why h
 
 -- an if
-pub conditional_body : (room k off : ℕ) (old mid next new : Tokens) (h : (room ≡ k + 1) × Advances old mid) (e : Expr) (c : Runs mid next (condition k off) (λ v. Got e v)) (why : Halt) → Halts (statement k (off + string_words e)) next why new → Halts (conditional_behind room off) old why new
+pub conditional_body : (room k off : ℕ) (old mid next new : Tokens) (h : (room ≡ k + 1) × Advances old mid) (e : Expr) (c : Runs mid next (condition k off) (λ v. Got e v)) (why : Halt) → Halts (statement k (off + words e)) next why new → Halts (conditional_behind room off) old why new
 conditional_body room k off old mid next new h e c why x = tested_body_halts room k off old mid h chosen next e c (else_part (level (suc k)) off e) (λ ts. refl) new why x
 
 module _ (room k test : ℕ) (old mid next last : Tokens) (start d0 d1 d2 d3 : Draft) (h : (room ≡ k + 1) × Advances old mid) (same : d0 ≡ start) (c : (off : ℕ) → PartTaken (condition k off) evaluated d0 mid next d1) (test_is : test ≡ place_of d1) (jumped : d2 ≡ emitted (instr.JumpIfZero 0) d1) (b : (off : ℕ) → PartTaken (statement k off) done d2 next last d3) (less_b : work last < work next) where
   evaluated_is : (off : ℕ) → d1 ≡ evaluated (c off).tree start
   evaluated_is off = (c off).made ∙ ap (evaluated (c off).tree) same
 
-  body_of : (off : ℕ) → PartTaken (statement k (off + string_words (c off).tree)) done d2 next last d3
-  body_of off = b (off + string_words (c off).tree)
+  body_of : (off : ℕ) → PartTaken (statement k (off + words (c off).tree)) done d2 next last d3
+  body_of off = b (off + words (c off).tree)
 
   pub conditional_ends : (r : Result (Unit {0}) Halt) (new : Tokens) (draft : Draft) → Chooses k test last d3 r new draft → CompilesPart (conditional_behind room) done old start r new draft
   conditional_ends (Ok o) new draft x = (took, x.1, falls_to x.2)
@@ -190,23 +190,23 @@ otherwise_absent k test old start draft l n f = (took, l, omega arith)
     took : (off : ℕ) (e : Expr) (s : Stmt) (d : Draft) → test ≡ place_of (evaluated e d) → start ≡ done s (emitted (instr.JumpIfZero 0) (evaluated e d)) → PartTaken (else_part (level (suc k)) off e s) done d old old draft
     took off e s d t b = record {
       tree = If e s;
-      runs = run_here {g = λ v. Got (If e s) v} l.0 (λ u f m. ap (λ b. if b then statement k (off + string_words e + statement_words s) (after u) >>= (λ other. Got (IfElse e s other)) else Got (If e s) u) (ap is_else f ∙ n));
+      runs = run_here {g = λ v. Got (If e s) v} l.0 (λ u f m. ap (λ b. if b then statement k (off + words e + statement_words s) (after u) >>= (λ other. Got (IfElse e s other)) else Got (If e s) u) (ap is_else f ∙ n));
       made = f ∙ ap (λ p. filled p (instr.JumpIfZero (place_of start)) start) t ∙ ap (λ x. filled (place_of (evaluated e d)) (instr.JumpIfZero (place_of x)) x) b;
     }
 
 module _ (k : ℕ) (old mid : Tokens) (a : Advances old mid) (y : is_else (first old.ahead) ≡ true) where
-  else_runs : (off : ℕ) (e : Expr) (s : Stmt) → Runs old mid (else_part (level (suc k)) off e s) (λ v. statement k (off + string_words e + statement_words s) v >>= λ other. Got (IfElse e s other))
-  else_runs off e s = run_past a (λ u f m. ap (λ b. if b then statement k (off + string_words e + statement_words s) (after u) >>= (λ other. Got (IfElse e s other)) else Got (If e s) u) (ap is_else f ∙ y))
+  else_runs : (off : ℕ) (e : Expr) (s : Stmt) → Runs old mid (else_part (level (suc k)) off e s) (λ v. statement k (off + words e + statement_words s) v >>= λ other. Got (IfElse e s other))
+  else_runs off e s = run_past a (λ u f m. ap (λ b. if b then statement k (off + words e + statement_words s) (after u) >>= (λ other. Got (IfElse e s other)) else Got (If e s) u) (ap is_else f ∙ y))
 
-  pub otherwise_halts : (off : ℕ) (e : Expr) (s : Stmt) (new : Tokens) (why : Halt) → Halts (statement k (off + string_words e + statement_words s)) mid why new → Halts (else_part (level (suc k)) off e s) old why new
-  otherwise_halts off e s new why h = halts_then old mid new (else_part (level (suc k)) off e s) (statement k (off + string_words e + statement_words s)) (λ other. Got (IfElse e s other)) why (else_runs off e s) h
+  pub otherwise_halts : (off : ℕ) (e : Expr) (s : Stmt) (new : Tokens) (why : Halt) → Halts (statement k (off + words e + statement_words s)) mid why new → Halts (else_part (level (suc k)) off e s) old why new
+  otherwise_halts off e s new why h = halts_then old mid new (else_part (level (suc k)) off e s) (statement k (off + words e + statement_words s)) (λ other. Got (IfElse e s other)) why (else_runs off e s) h
 
   pub otherwise_took : (test jump : ℕ) (new : Tokens) (start d1 d2 d3 draft : Draft) → jump ≡ place_of start → d1 ≡ emitted (instr.Jump 0) start → d2 ≡ filled test (instr.JumpIfZero (place_of d1)) d1 → ((off : ℕ) → PartTaken (statement k off) done d2 mid new d3) → IsSingle new → work new < work mid → draft ≡ filled jump (instr.Jump (place_of d3)) d3 → Chooses k test old start (Ok tt) new draft
   otherwise_took test jump new start d1 d2 d3 draft j e1 e2 t l f x = (took, l, let b = a.falls in omega (arith, f))
     where
       took : (off : ℕ) (e : Expr) (s : Stmt) (d : Draft) → test ≡ place_of (evaluated e d) → start ≡ done s (emitted (instr.JumpIfZero 0) (evaluated e d)) → PartTaken (else_part (level (suc k)) off e s) done d old new draft
       took off e s d at b =
-          let o = t (off + string_words e + statement_words s) in
+          let o = t (off + words e + statement_words s) in
           record {
             tree = IfElse e s o.tree;
             runs = went (λ other. Got (IfElse e s other)) (else_runs off e s) o.runs;
@@ -218,7 +218,7 @@ chooses_err k test old start (Ok o) new draft why e h = absurd e
 chooses_err k test old start (Err w) new draft why e h = λ off x s. subst (λ y. Halts (else_part (level (suc k)) off x s) old y new) (sym e) (h off x s)
 
 -- a while
-pub repeated_body : (room k off : ℕ) (old mid next new : Tokens) (h : (room ≡ k + 1) × Advances old mid) (e : Expr) (c : Runs mid next (condition k off) (λ v. Got e v)) (why : Halt) → Halts (statement k (off + string_words e)) next why new → Halts (repeated room off) old why new
+pub repeated_body : (room k off : ℕ) (old mid next new : Tokens) (h : (room ≡ k + 1) × Advances old mid) (e : Expr) (c : Runs mid next (condition k off) (λ v. Got e v)) (why : Halt) → Halts (statement k (off + words e)) next why new → Halts (repeated room off) old why new
 repeated_body room k off old mid next new h e c why x = tested_body_halts room k off old mid h looped next e c (λ s. Got (While e s)) (λ ts. refl) new why x
 
 -- a jump back behind the statement, and one past it
@@ -228,7 +228,7 @@ jumped_back s d f start top test mark d2 d3 g draft t e b m l o j x = x ∙ rw (
 pub repeated_took : (room k top test mark : ℕ) (old mid next new : Tokens) (start d0 d1 d2 d3 d4 d5 draft : Draft) (h : (room ≡ k + 1) × Advances old mid) → top ≡ place_of start → d0 ≡ start → ((off : ℕ) → PartTaken (condition k off) evaluated d0 mid next d1) → test ≡ place_of d1 → d2 ≡ emitted (instr.JumpIfZero 0) d1 → mark ≡ mark_of d2 → d3 ≡ loop_begun d2 → ((off : ℕ) → PartTaken (statement k off) done d3 next new d4) → d5 ≡ closed_loop top mark d4 → draft ≡ filled test (instr.JumpIfZero (place_of d5)) d5 → (off : ℕ) → PartTaken (repeated room off) done start old new draft
 repeated_took room k top test mark old mid next new start d0 d1 d2 d3 d4 d5 draft h t same c at j m l b back x off =
     let w = c off in
-    let s = b (off + string_words w.tree) in
+    let s = b (off + words w.tree) in
     record {
       tree = While w.tree s.tree;
       runs = went (λ s. Got (While w.tree s)) (tested_on room k off old mid h looped next w.tree w.runs (λ s. Got (While w.tree s)) (λ ts. refl)) s.runs;
@@ -250,7 +250,7 @@ compound_ends room k old mid start d0 r new draft h same x =
 
 -- a switch
 abbrev switch_body : Level → ℕ → Expr → Reader Stmt
-switch_body l off e r = expect is_open_brace r >>= λ o. body l (off + string_words e) (Switch e)
+switch_body l off e r = expect is_open_brace r >>= λ o. body l (off + words e) (Switch e)
 
 pub switched_enter : (room off : ℕ) (old new : Tokens) (why : Halt) → Halts (inner room).enter old why new → Halts (switched (level room) off) old why new
 switched_enter room off old new why h = enter_halts old new room (λ l o r. l.expr off r >>= switch_body l off) why h
@@ -267,16 +267,16 @@ module _ (room k off : ℕ) (old mid : Tokens) (h : (room ≡ k + 1) × Advances
     switched_open = went (switch_body (level (suc k)) off) switched_runs c
 
     pub switched_brace : (new : Tokens) (why : Halt) → Halts (expect is_open_brace) next why new → Halts (switched (level room) off) old why new
-    switched_brace new why x = halts_then old next new (switched (level room) off) (expect is_open_brace) (λ o. body (level (suc k)) (off + string_words e) (Switch e)) why switched_open x
+    switched_brace new why x = halts_then old next new (switched (level room) off) (expect is_open_brace) (λ o. body (level (suc k)) (off + words e) (Switch e)) why switched_open x
 
     module _ (last : Tokens) (o : Runs next last (expect is_open_brace) (λ v. Got tt v)) where
-      switched_body : Runs old last (switched (level room) off) (λ v. statements k (off + string_words e) v >>= λ ss. Got (Switch e ss))
-      switched_body = Moves-as (λ u v. switched (level room) off u ≡ (statements k (off + string_words e) v >>= λ ss. Got (Switch e ss))) (λ u v x. x ∙ body_map k (off + string_words e) (Switch e) v) (went (λ o. body (level (suc k)) (off + string_words e) (Switch e)) switched_open o)
+      switched_body : Runs old last (switched (level room) off) (λ v. statements k (off + words e) v >>= λ ss. Got (Switch e ss))
+      switched_body = Moves-as (λ u v. switched (level room) off u ≡ (statements k (off + words e) v >>= λ ss. Got (Switch e ss))) (λ u v x. x ∙ body_map k (off + words e) (Switch e) v) (went (λ o. body (level (suc k)) (off + words e) (Switch e)) switched_open o)
 
-      pub switched_body_halts : (new : Tokens) (why : Halt) → Halts (statements k (off + string_words e)) last why new → Halts (switched (level room) off) old why new
-      switched_body_halts new why x = halts_then old last new (switched (level room) off) (statements k (off + string_words e)) (λ ss. Got (Switch e ss)) why switched_body x
+      pub switched_body_halts : (new : Tokens) (why : Halt) → Halts (statements k (off + words e)) last why new → Halts (switched (level room) off) old why new
+      switched_body_halts new why x = halts_then old last new (switched (level room) off) (statements k (off + words e)) (λ ss. Got (Switch e ss)) why switched_body x
 
-      pub switched_took : (jump mark : ℕ) (new : Tokens) (start d1 d2 d3 d4 draft : Draft) → d1 ≡ evaluated e start → mark ≡ mark_of d1 → jump ≡ place_of d1 → d2 ≡ emitted (instr.Jump 0) d1 → d3 ≡ begun d2 → PartTaken (statements k (off + string_words e)) all_done d3 last new d4 → draft ≡ closed_switch jump mark d4 → PartTaken (switched (level room) off) done start old new draft
+      pub switched_took : (jump mark : ℕ) (new : Tokens) (start d1 d2 d3 d4 draft : Draft) → d1 ≡ evaluated e start → mark ≡ mark_of d1 → jump ≡ place_of d1 → d2 ≡ emitted (instr.Jump 0) d1 → d3 ≡ begun d2 → PartTaken (statements k (off + words e)) all_done d3 last new d4 → draft ≡ closed_switch jump mark d4 → PartTaken (switched (level room) off) done start old new draft
       switched_took jump mark new start d1 d2 d3 d4 draft v m j e2 e3 b x = record { tree = Switch e b.tree; runs = went (λ ss. Got (Switch e ss)) switched_body b.runs; made = x ∙ rw (b.made, e3, e2, j, m, v) refl }
 
 -- the loop of a body

@@ -1,11 +1,11 @@
 -- The code of a definition without a fault is within its ranges.
-use Rattle.std.proofs.Common.{◌≡◌, ℕ, ◌+◌, ◌<◌, ◌≤◌, Bool, true, false, ◌&&◌, List, [], ◌∷◌, ◌++◌, length, length-append, refl, sym, subst, arith, if◌then◌else◌, Option, Some, None, Result, Ok, Err}
+use Rattle.std.proofs.Common.{◌≡◌, ℕ, ◌+◌, ◌<◌, ◌≤◌, Bool, true, false, ◌&&◌, List, [], ◌∷◌, ◌++◌, map, length, length-append, refl, sym, ap, ◌∙◌, subst, arith, if◌then◌else◌, Option, Some, None, Result, Ok, Err}
 use Rattle.std.specs.Prelude.{nat_le}
 use Rattle.std.specs.List.{list_any}
 use Rattle.std.proofs.lemmas.Bool.Decides.{nat_tests}
 use Rattle.std.proofs.lemmas.List.{length-map}
 use Rattle.bword.specs.Words.{is_name}
-use Rattle.blang.specs.CodeParts.{Function, sizes_of, IsFunctionWithinRanges}
+use Rattle.blang.specs.CodeParts.{Function, IsWord, IsIvalWithin, sizes_of, IsFunctionWithinRanges}
 use Rattle.blang.specs.Text.{IsWithinRanges}
 use Rattle.blang.specs.declared.code.Sizes.{Sizes}
 use Rattle.blang.specs.declared.code.Instr.TheVariants as instr
@@ -13,11 +13,13 @@ use Rattle.blang.specs.declared.code.Definition as coded
 use Rattle.blang.specs.declared.code.Definition.TheVariants as code
 use Rattle.blang.specs.declared.token.Diagnostic.{Diagnostic}
 use Rattle.blang.specs.Trees.{Identifier, Stmt, size_spelling, name_spelling, spell_statement, list_spelling, Definition, Simple, Vector, Function as function, ival_spelling, spell_definition}
-use Rattle.blang.specs.WellFormed.{Sits, nesting_limit, IsFormed}
+use Rattle.blang.specs.WellFormed.{nesting_limit, IsFormed}
+use Rattle.btree.specs.Fitting.{Sits, statement_words}
 use Rattle.blang.specs.Scan.{NameKind, Automatic, External, Unlabelled, Labelled, kind_of, Event, Declaration, Import, Mention, LabelHere, CaseHere, DefaultHere, BreakHere, Lvalue, LoopBegins, LoopEnds, SwitchBegins, SwitchEnds, Scope, no_scope, scan, statement_events, function_events, function_scope, scope_fault}
 use Rattle.bword.specs.Words.{same_name}
-use Rattle.blang.specs.Code.{Referent, In_frame, Outside, At_label, referent_of, environment_of, statement_end, statement_code, statement_strings, label_places, ival_code, vector_words, clean, code_of, fits_limits, or_too_large, fault_of}
+use Rattle.blang.specs.Code.{Referent, In_frame, Outside, At_label, referent_of, environment_of, statement_end, statement_code, label_places, ival_code, vector_words, strings_of, clean, code_of, fits_limits, or_too_large, fault_of}
 use Rattle.btree.proofs.CodeLaws.{counts_words, statement_ends}
+use Rattle.btree.proofs.Fitting.{simple_strings, vector_strings, function_strings, formed_in}
 use Rattle.broundtrip.proofs.Holds.{Holds, Holds-nil, Holds-cons, Holds-first, Holds-rest, Holds-append, Holds-front, Holds-back, Holds-weaker, Holds-All}
 use Rattle.broundtrip.proofs.Tokens.{AreSound}
 use Rattle.broundtrip.proofs.ExpressionCode.{IsMeaningWithin}
@@ -78,7 +80,7 @@ function_code w parameters body scope =
       parameters = length parameters;
       frame = scope.frame;
       targets = label_places names body 0;
-      strings = statement_strings body;
+      strings = strings_of (function w parameters body);
       code = statement_code names body 0 (statement_end names body 0) ++ (instr.Constant 0 ∷ instr.Return ∷ []);
     }
 
@@ -101,6 +103,7 @@ function_within w parameters body s clean fit named sound sits =
     let declared = parameters_declared parameters (statement_events body) in
     let labels : s.labels ≡ length f.targets = omega (arith, labels_in-parameters parameters (statement_events body), labels_in-statement_events names body 0) in
     let end = statement_end names body 0 in
+    let words_of_strings : length f.strings ≡ statement_words body = ap length (function_strings w parameters body) ∙ counts_words body in
     let short : end < length f.code = omega (arith, statement_ends names body 0 end, length-append (statement_code names body 0 end) (instr.Constant 0 ∷ instr.Return ∷ [])) in
     let meant : (x : List ℕ) → IsMeaningWithin sizes (names x) =
     λ x. meaning_within sizes (kind_of x s.names) (λ k q. subst (λ n. IsKindWithin s.frame n k) labels (kind_within s.frame s.labels x s.names table.within k q)) in
@@ -114,9 +117,9 @@ function_within w parameters body s clean fit named sound sits =
       few_strings = limits.1;
       few_instrs = limits.0;
       targets = Holds-All (label_places_within names sizes body 0 short);
-      strings = Holds-All (statement_strings_within body sound);
+      strings = Holds-All (subst (Holds IsWord) (sym (function_strings w parameters body)) (statement_strings_within body sound));
       code = Holds-All (Holds-append
-          (statement_code_within names sizes meant limits.0 body 0 end nesting_limit 0 sound sits vectors short short (omega (arith, counts_words body)))
+          (statement_code_within names sizes meant limits.0 body 0 end nesting_limit 0 sound sits vectors short short (omega (arith, words_of_strings)))
           (Holds-cons (omega arith) (Holds-cons tt Holds-nil)));
     }
 
@@ -142,8 +145,8 @@ definition_within defined (Simple w values) h formed sound =
       named = Holds-first sound;
       few_values = l.0;
       few_strings = l.1;
-      values = Holds-All (initial_values_within values v formed);
-      strings = Holds-All (values_strings_within values v);
+      values = Holds-All (subst (λ ss. Holds (IsIvalWithin (length ss)) (map ival_code values)) (sym (simple_strings w values)) (initial_values_within values v (formed_in (Simple w values) formed)));
+      strings = Holds-All (subst (Holds IsWord) (sym (simple_strings w values)) (values_strings_within values v));
     }
 definition_within defined (Vector w size values) h formed sound =
     let n = no_fault (scan defined (Vector w size values)) w.line (code_of (Vector w size values)) h in
@@ -157,8 +160,8 @@ definition_within defined (Vector w size values) h formed sound =
       few_words = l.2;
       few_values = l.0;
       few_strings = l.1;
-      values = Holds-All (initial_values_within values v formed);
-      strings = Holds-All (values_strings_within values v);
+      values = Holds-All (subst (λ ss. Holds (IsIvalWithin (length ss)) (map ival_code values)) (sym (vector_strings w size values)) (initial_values_within values v (formed_in (Vector w size values) formed)));
+      strings = Holds-All (subst (Holds IsWord) (sym (vector_strings w size values)) (values_strings_within values v));
     }
 definition_within defined (function w parameters body) h formed sound = go (function_scope parameters body) refl
   where
@@ -174,4 +177,4 @@ definition_within defined (function w parameters body) h formed sound = go (func
         let fit = subst (λ r. fits_limits (code.Function (function_code w parameters body (clean r))) ≡ true) e n.1 in
         let body_sound = Holds-rest (Holds-back (list_spelling name_spelling parameters) _ (Holds-rest (Holds-rest sound))) in
         subst (λ r. IsFunctionWithinRanges (function_code w parameters body (clean r))) (sym e)
-        (function_within w parameters body s e fit (Holds-first sound) body_sound formed)
+        (function_within w parameters body s e fit (Holds-first sound) body_sound (formed_in (function w parameters body) formed))

@@ -7,7 +7,8 @@ use Rattle.blang.specs.CodeParts.{IsInstrWithin, IsWord}
 use Rattle.blang.specs.declared.code.Sizes.{Sizes}
 use Rattle.blang.specs.declared.code.Instr.{Instr}
 use Rattle.blang.specs.Trees.{Constant, Number, Character, Expr, Arguments, PrefixOp, PostfixOp, Negate, Not, Indirection, Address, PreIncrement, PreDecrement, PostIncrement, PostDecrement, Named, Literal, Text, Grouped, Indexed, Called, Postfixed, Prefixed, Binary, Conditional, Assigned, No_arguments, Another, constant_token, spell, spell_arguments, comma_behind}
-use Rattle.blang.specs.WellFormed.{string_words, argument_words, rank, or_rank, conditional_rank, rvalue_rank, Deeper, Fits, ArgumentsFit}
+use Rattle.blang.specs.WellFormed.{rank, or_rank, conditional_rank, rvalue_rank}
+use Rattle.btree.specs.Fitting.{words, argument_words, Deeper, Fits, ArgumentsFit}
 use Rattle.blang.specs.Scan.{constant_value}
 use Rattle.blang.specs.Code.{Referent, In_frame, Outside, At_label, Environment, name_address_code, name_word_code, assignment, argument_count, word_code, address_code, argument_code}
 use Rattle.broundtrip.proofs.Holds.{Holds, Holds-nil, Holds-cons, Holds-first, Holds-rest, Holds-append, Holds-front, Holds-back}
@@ -106,7 +107,7 @@ module _ (names : Environment) (sizes : Sizes) (meant : (x : List ℕ) → IsMea
 
   mutual
     pub word_code_within : (e : Expr) (p loose room off : ℕ) → AreSound (spell e) → Fits e loose room off → p + length (word_code names e p) < sizes.code
-        → off + string_words e ≤ sizes.strings → Within (word_code names e p)
+        → off + words e ≤ sizes.strings → Within (word_code names e p)
     word_code_within (Named w) p loose room off s f l o = name_word_within (names w.text) w.text (meant w.text) (Holds-first s)
     word_code_within (Literal c) p loose room off s f l o = Holds-cons (word-value_of c (Holds-first s)) Holds-nil
     word_code_within (Text bytes offset) p loose room off s f l o = Holds-cons (let e : offset ≡ off = f in omega arith) Holds-nil
@@ -118,14 +119,14 @@ module _ (names : Environment) (sizes : Sizes) (meant : (x : List ℕ) → IsMea
         let q = p + length (word_code names e p) in
         Holds-append (word_code_within e p 0 room off (Holds-front (spell e) _ s) h.1 (omega (arith, length-append {A = Instr})) (omega arith))
         (Holds-append
-        (word_code_within f q rvalue_rank d.0 (off + string_words e) (Holds-front (spell f) _ (Holds-rest (Holds-back (spell e) _ s))) d.1 (omega (arith, length-append {A = Instr})) (omega arith))
+        (word_code_within f q rvalue_rank d.0 (off + words e) (Holds-front (spell f) _ (Holds-rest (Holds-back (spell e) _ s))) d.1 (omega (arith, length-append {A = Instr})) (omega arith))
         (Holds-cons tt (Holds-cons tt Holds-nil)))
     word_code_within (Called e args) p loose room off s h l o =
         let d = deeper _ room h.2 in
         let q = p + length (word_code names e p) in
         Holds-append (word_code_within e p 0 room off (Holds-front (spell e) _ s) h.1 (omega (arith, length-append {A = Instr})) (omega arith))
         (Holds-append
-        (argument_code_within args q d.0 (off + string_words e) (Holds-front (spell_arguments args) _ (Holds-rest (Holds-back (spell e) _ s))) d.1 (omega (arith, length-append {A = Instr})) (omega arith))
+        (argument_code_within args q d.0 (off + words e) (Holds-front (spell_arguments args) _ (Holds-rest (Holds-back (spell e) _ s))) d.1 (omega (arith, length-append {A = Instr})) (omega arith))
         (Holds-cons (omega (arith, length-append {A = Instr}, argument_count-le names args q)) Holds-nil))
     word_code_within (Postfixed op line e) p loose room off s h l o =
         postfixed_within op line e p (address_code_within e p 0 room off (Holds-front (spell e) _ s) h.1 (omega (arith, postfixed_length op line e p)) o)
@@ -138,7 +139,7 @@ module _ (names : Environment) (sizes : Sizes) (meant : (x : List ℕ) → IsMea
         let q = p + length (word_code names e p) in
         Holds-append (word_code_within e p (rank op) room off (Holds-front (spell e) _ s) h.1 (omega (arith, length-append {A = Instr})) (omega arith))
         (Holds-append
-        (word_code_within f q (rank op - 1) room (off + string_words e) (Holds-rest (Holds-back (spell e) _ s)) h.2 (omega (arith, length-append {A = Instr})) (omega arith))
+        (word_code_within f q (rank op - 1) room (off + words e) (Holds-rest (Holds-back (spell e) _ s)) h.2 (omega (arith, length-append {A = Instr})) (omega arith))
         (Holds-cons tt Holds-nil))
     word_code_within (Conditional e f g) p loose room off s h l o =
         let d = deeper _ room h.2 in
@@ -149,19 +150,19 @@ module _ (names : Environment) (sizes : Sizes) (meant : (x : List ℕ) → IsMea
         let behind = Holds-rest (Holds-back (spell e) _ s) in
         Holds-append (word_code_within e p or_rank room off (Holds-front (spell e) _ s) h.1 (omega (arith, length-append {A = Instr})) (omega arith))
         (Holds-cons (omega (arith, length-append {A = Instr}))
-        (Holds-append (word_code_within f q rvalue_rank d.0 (off + string_words e) (Holds-front (spell f) _ behind) d.1.0 (omega (arith, length-append {A = Instr})) (omega arith))
+        (Holds-append (word_code_within f q rvalue_rank d.0 (off + words e) (Holds-front (spell f) _ behind) d.1.0 (omega (arith, length-append {A = Instr})) (omega arith))
         (Holds-cons (omega (arith, length-append {A = Instr}))
-        (word_code_within g a conditional_rank d.0 (off + string_words e + string_words f) (Holds-rest (Holds-back (spell f) _ behind)) d.1.1 (omega (arith, length-append {A = Instr})) (omega arith)))))
+        (word_code_within g a conditional_rank d.0 (off + words e + words f) (Holds-rest (Holds-back (spell f) _ behind)) d.1.1 (omega (arith, length-append {A = Instr})) (omega arith)))))
     word_code_within (Assigned op line e f) p loose room off s h l o =
         let d = deeper _ room h.2 in
         let q = p + length (address_code names e p) in
         Holds-append (address_code_within e p 0 room off (Holds-front (spell e) _ s) h.1 (omega (arith, length-append {A = Instr})) (omega arith))
         (Holds-append
-        (word_code_within f q rvalue_rank d.0 (off + string_words e) (Holds-rest (Holds-back (spell e) _ s)) d.1 (omega (arith, length-append {A = Instr})) (omega arith))
+        (word_code_within f q rvalue_rank d.0 (off + words e) (Holds-rest (Holds-back (spell e) _ s)) d.1 (omega (arith, length-append {A = Instr})) (omega arith))
         (assignment_within op))
 
     address_code_within : (e : Expr) (p loose room off : ℕ) → AreSound (spell e) → Fits e loose room off → p + length (address_code names e p) < sizes.code
-        → off + string_words e ≤ sizes.strings → Within (address_code names e p)
+        → off + words e ≤ sizes.strings → Within (address_code names e p)
     address_code_within (Named w) p loose room off s f l o = name_address_within (names w.text) w.text (meant w.text) (Holds-first s)
     address_code_within (Grouped e) p loose room off s f l o =
         let d = deeper _ room f in
@@ -174,7 +175,7 @@ module _ (names : Environment) (sizes : Sizes) (meant : (x : List ℕ) → IsMea
         let q = p + length (word_code names e p) in
         Holds-append (word_code_within e p 0 room off (Holds-front (spell e) _ s) h.1 (omega (arith, length-append {A = Instr})) (omega arith))
         (Holds-append
-        (word_code_within f q rvalue_rank d.0 (off + string_words e) (Holds-front (spell f) _ (Holds-rest (Holds-back (spell e) _ s))) d.1 (omega (arith, length-append {A = Instr})) (omega arith))
+        (word_code_within f q rvalue_rank d.0 (off + words e) (Holds-front (spell f) _ (Holds-rest (Holds-back (spell e) _ s))) d.1 (omega (arith, length-append {A = Instr})) (omega arith))
         (Holds-cons tt Holds-nil))
     address_code_within _ p loose room off s h l o = Holds-cons (omega arith) Holds-nil
 

@@ -6,7 +6,8 @@ use Rattle.blang.specs.CodeParts.{IsInstrWithin, IsWord}
 use Rattle.blang.specs.declared.code.Sizes.{Sizes}
 use Rattle.blang.specs.declared.code.Instr.{Instr}
 use Rattle.blang.specs.Trees.{Expr, spell, Declared, Heading, Auto, Extrn, Label, Case, Default, Stmt, Headed, Compound, If, IfElse, While, Switch, Goto, Break, Return, ReturnValue, Evaluate, Empty, Stmts, Nothing, More, spell_heading, spell_condition, spell_statement, spell_body}
-use Rattle.blang.specs.WellFormed.{string_words, rvalue_rank, Fits, statement_words, body_words, Sits, AllSit}
+use Rattle.blang.specs.WellFormed.{rvalue_rank}
+use Rattle.btree.specs.Fitting.{words, Fits, statement_words, body_words, Sits, AllSit}
 use Rattle.blang.specs.Scan.{Event, Declaration, events, heading_events, statement_events, body_events}
 use Rattle.blang.specs.Code.{Referent, In_frame, Outside, At_label, Environment, word_code, vector_code, Arms, default_in, heading_code, tests_code, default_code, heading_arm, heading_label_places, statement_end, body_end, statement_code, body_code, arm_places, body_arm_places, label_places, body_label_places}
 use Rattle.btree.proofs.CodeLaws.{statement_ends, body_ends}
@@ -147,7 +148,7 @@ module _ (names : Environment) (sizes : Sizes) (meant : (x : List ℕ) → IsMea
 
   -- a rvalue
   rvalue_within : (e : Expr) (p room off : ℕ) → AreSound (spell e) → Fits e rvalue_rank room off → p + length (word_code names e p) < sizes.code
-      → off + string_words e ≤ sizes.strings → Within (word_code names e p)
+      → off + words e ≤ sizes.strings → Within (word_code names e p)
   rvalue_within e p room off = word_code_within names sizes meant few e p rvalue_rank room off
 
   condition-sound : (e : Expr) → AreSound (spell_condition e) → AreSound (spell e)
@@ -168,7 +169,7 @@ module _ (names : Environment) (sizes : Sizes) (meant : (x : List ℕ) → IsMea
         Holds-append
         (rvalue_within e p d.0 off (condition-sound e (Holds-front (spell_condition e) _ (Holds-rest t))) d.1.0 (omega (arith, from_statement names sizes s q)) (omega arith))
         (Holds-cons l
-        (statement_code_within s q out d.0 (off + string_words e) (Holds-back (spell_condition e) _ (Holds-rest t)) d.1.1 (Holds-back (events e) _ v) l k (omega arith)))
+        (statement_code_within s q out d.0 (off + words e) (Holds-back (spell_condition e) _ (Holds-rest t)) d.1.1 (Holds-back (events e) _ v) l k (omega arith)))
     statement_code_within (IfElse e s other) p out room off t f v l k o =
         let d = deeper _ room f.1 in
         let q = p + length (word_code names e p) + 1 in
@@ -180,10 +181,10 @@ module _ (names : Environment) (sizes : Sizes) (meant : (x : List ℕ) → IsMea
         (rvalue_within e p d.0 off (condition-sound e (Holds-front (spell_condition e) _ (Holds-rest t))) d.1.0 (omega (arith, from_statement names sizes s q)) (omega arith))
         (Holds-cons within
         (Holds-append
-        (statement_code_within s q out d.0 (off + string_words e) (Holds-front (spell_statement s) _ behind) d.1.1 (Holds-front (statement_events s) _ later)
+        (statement_code_within s q out d.0 (off + words e) (Holds-front (spell_statement s) _ behind) d.1.1 (Holds-front (statement_events s) _ later)
         (omega arith) k (omega arith))
         (Holds-cons l
-        (statement_code_within other a out d.0 (off + string_words e + statement_words s) (Holds-rest (Holds-back (spell_statement s) _ behind)) d.1.2
+        (statement_code_within other a out d.0 (off + words e + statement_words s) (Holds-rest (Holds-back (spell_statement s) _ behind)) d.1.2
         (Holds-back (statement_events s) _ later) l k (omega arith)))))
     statement_code_within (While e s) p out room off t f v l k o =
         let d = deeper _ room f in
@@ -192,7 +193,7 @@ module _ (names : Environment) (sizes : Sizes) (meant : (x : List ℕ) → IsMea
         (rvalue_within e p d.0 off (condition-sound e (Holds-front (spell_condition e) _ (Holds-rest t))) d.1.0 (omega (arith, from_statement names sizes s q)) (omega arith))
         (Holds-cons l
         (Holds-append
-        (statement_code_within s q (statement_end names s q + 1) d.0 (off + string_words e) (Holds-back (spell_condition e) _ (Holds-rest t)) d.1.1
+        (statement_code_within s q (statement_end names s q + 1) d.0 (off + words e) (Holds-back (spell_condition e) _ (Holds-rest t)) d.1.1
         (Holds-front (statement_events s) _ (Holds-rest (Holds-back (events e) _ v))) (omega arith) l (omega arith))
         (Holds-cons (omega (arith, from_statement names sizes s q)) Holds-nil)))
     statement_code_within (Switch e body) p out room off t f v l k o =
@@ -206,7 +207,7 @@ module _ (names : Environment) (sizes : Sizes) (meant : (x : List ℕ) → IsMea
         (rvalue_within e p d.0 off (Holds-front (spell e) _ (Holds-rest t)) d.1.0 (omega (arith, from_body names sizes body q)) (omega arith))
         (Holds-cons (omega arith)
         (Holds-append
-        (body_code_within body q _ d.0 (off + string_words e) inner d.1.1 (Holds-front (body_events body) _ (Holds-rest (Holds-back (events e) _ v))) ends l (omega arith))
+        (body_code_within body q _ d.0 (off + words e) inner d.1.1 (Holds-front (body_events body) _ (Holds-rest (Holds-back (events e) _ v))) ends l (omega arith))
         (Holds-cons l
         (Holds-append (tests_code_within arms arms_within) (default_code_within arms arms_within)))))
     statement_code_within (Goto e) p out room off t f v l k o =

@@ -5,8 +5,9 @@ use Rattle.std.proofs.lemmas.List.Sums.{sum_by-append, sum_by-cons}
 use Rattle.blang.specs.CodeParts.{IsWord, IsIvalWithin}
 use Rattle.blang.specs.declared.token.Placed.{Placed}
 use Rattle.blang.specs.Trees.{Expr, Arguments, Named, Literal, Text, Grouped, Indexed, Called, Postfixed, Prefixed, Binary, Conditional, Assigned, No_arguments, Another, comma_behind, spell, spell_arguments, comma_spelling, list_spelling, Stmt, Headed, Compound, If, IfElse, While, Switch, Goto, Break, Return, ReturnValue, Evaluate, Empty, Stmts, Nothing, More, spell_heading, spell_condition, spell_statement, spell_body, Ival, Ival_constant, Ival_text, Ival_name, ival_spelling}
-use Rattle.blang.specs.WellFormed.{EachBehind, ival_words, values_words, IvalFits}
-use Rattle.blang.specs.Code.{packed, strings, argument_strings, statement_strings, body_strings, ival_strings, ival_code}
+use Rattle.btree.specs.Fitting.{EachBehind, ival_words, values_words, IvalFits, strings, argument_strings, statement_strings, body_strings, ival_strings}
+use Rattle.blang.specs.Code.{ival_code}
+use Rattle.blang.specs.WellFormed.{packed}
 use Rattle.btree.proofs.CodeLaws.{counts_words}
 use Rattle.broundtrip.proofs.Holds.{Holds, Holds-nil, Holds-cons, Holds-first, Holds-rest, Holds-append, Holds-front, Holds-back}
 use Rattle.broundtrip.proofs.Tokens.{IsByte, AreSound}

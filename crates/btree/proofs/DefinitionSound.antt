@@ -7,13 +7,15 @@ use Rattle.blang.specs.Trees.{mark, kept, kept_tokens, Identifier, name_token, l
 use Rattle.blang.specs.Cut.{placed}
 use Rattle.btree.specs.Reading.{Read, Got, Stop, ◌>>=◌, first, expect}
 use Rattle.btree.specs.ExpressionReader.{is_close_paren, is_close_bracket}
-use Rattle.blang.specs.WellFormed.{IsNonempty, EachBehind, Sits, values_words, IvalFits, nesting_limit, IsFormed}
+use Rattle.blang.specs.WellFormed.{IsNonempty, nesting_limit, IsFormed}
+use Rattle.btree.specs.Fitting.{EachBehind, Sits, values_words, IvalFits}
 use Rattle.btree.specs.Commas.{list_reader}
 use Rattle.btree.specs.StatementReader.{is_semicolon, is_else, name, size, statement}
 use Rattle.btree.specs.DefinitionReader.{ival_at, ival, valued, vector, function_body, function, behind_name_at, behind_name, definition, is_open_definition}
 use Rattle.btree.proofs.ExpressionSound.{Sound, by_first, only_paren}
 use Rattle.btree.proofs.StatementSound.{Spelled, statement_sound, name_sound, size_sound, expect_rule, only_semicolon}
 use Rattle.btree.proofs.CommaLaws.{list_sound}
+use Rattle.btree.proofs.Fitting.{in_formed}
 
 only_bracket : (t : Token) → is_close_bracket t ≡ true → t ≡ token.CloseBracket
 only_bracket token.CloseBracket h = refl
@@ -51,14 +53,14 @@ vector_sound w ts = go (size ts) (size_sound ts)
     go (Stop r) s = tt
     go (Got n r) s = expect_rule (SpelledDefinition (name_token w ∷ mark token.OpenBracket ∷ kept_tokens ts)) (λ r. tt) is_close_bracket token.CloseBracket only_bracket refl (λ line. refl) (valued (Vector w n)) (kept_tokens ts) (size_spelling n) r s.0
         (λ r2 eq. subst (λ l. SpelledDefinition l (valued (Vector w n) r2)) (ap (λ l. name_token w ∷ mark token.OpenBracket ∷ l) (append_assoc (size_spelling n) (mark token.CloseBracket ∷ []) (kept_tokens r2) ∙ sym eq))
-        (valued_sound (name_token w ∷ mark token.OpenBracket ∷ (size_spelling n ++ (mark token.CloseBracket ∷ []))) (Vector w n) (λ values. ap (λ l. name_token w ∷ mark token.OpenBracket ∷ l) (sym (append_assoc (size_spelling n) (mark token.CloseBracket ∷ []) (spell_values values)))) (λ values f. f) (λ values. refl) r2 (is_semicolon (first r2)) refl))
+        (valued_sound (name_token w ∷ mark token.OpenBracket ∷ (size_spelling n ++ (mark token.CloseBracket ∷ []))) (Vector w n) (λ values. ap (λ l. name_token w ∷ mark token.OpenBracket ∷ l) (sym (append_assoc (size_spelling n) (mark token.CloseBracket ∷ []) (spell_values values)))) (λ values f. in_formed (Vector w n values) f) (λ values. refl) r2 (is_semicolon (first r2)) refl))
 
 body_sound : (w : Identifier) (parameters : List Identifier) (ts : List Placed) → SpelledDefinition (name_token w ∷ mark token.OpenParen ∷ (list_spelling name_spelling parameters ++ (mark token.CloseParen ∷ kept_tokens ts))) (function_body w parameters ts)
 body_sound w parameters ts = go (statement nesting_limit 0 ts) (statement_sound nesting_limit 0 ts)
   where
     go : (x : Read Stmt) → Spelled (λ s. Sits s nesting_limit 0) (kept_tokens ts) x → SpelledDefinition (name_token w ∷ mark token.OpenParen ∷ (list_spelling name_spelling parameters ++ (mark token.CloseParen ∷ kept_tokens ts))) (x >>= λ s. Got (Function w parameters s))
     go (Stop r) p = tt
-    go (Got s r) p = (ap (λ l. name_token w ∷ mark token.OpenParen ∷ l) (ap (λ l. list_spelling name_spelling parameters ++ (mark token.CloseParen ∷ l)) p.0 ∙ sym (append_assoc (list_spelling name_spelling parameters) (mark token.CloseParen ∷ spell_statement s) (kept_tokens r))), p.1, p.2)
+    go (Got s r) p = (ap (λ l. name_token w ∷ mark token.OpenParen ∷ l) (ap (λ l. list_spelling name_spelling parameters ++ (mark token.CloseParen ∷ l)) p.0 ∙ sym (append_assoc (list_spelling name_spelling parameters) (mark token.CloseParen ∷ spell_statement s) (kept_tokens r))), in_formed (Function w parameters s) p.1, p.2)
 
 function_sound : (w : Identifier) (ts : List Placed) (b : Bool) → is_close_paren (first ts) ≡ b → SpelledDefinition (name_token w ∷ mark token.OpenParen ∷ kept_tokens ts) (function w ts)
 function_sound w [] true h = cc
@@ -73,7 +75,7 @@ function_sound w ts false h = rw h (go (list_reader (λ before. name) ts) (list_
 behind_sound_at : (w : Identifier) (t : Token) (line : ℕ) (ts : List Placed) → SpelledDefinition (name_token w ∷ kept_tokens (placed t line ∷ ts)) (behind_name_at w t (placed t line ∷ ts))
 behind_sound_at w token.OpenBracket line ts = vector_sound w ts
 behind_sound_at w token.OpenParen line ts = function_sound w ts (is_close_paren (first ts)) refl
-behind_sound_at w t line ts = valued_sound (name_token w ∷ []) (Simple w) (λ values. refl) (λ values f. f) (λ values. refl) (placed t line ∷ ts) (is_semicolon t) refl
+behind_sound_at w t line ts = valued_sound (name_token w ∷ []) (Simple w) (λ values. refl) (λ values f. in_formed (Simple w values) f) (λ values. refl) (placed t line ∷ ts) (is_semicolon t) refl
 
 behind_sound : (w : Identifier) (ts : List Placed) → SpelledDefinition (name_token w ∷ kept_tokens ts) (behind_name w ts)
 behind_sound w ts = by_first (λ ts. SpelledDefinition (name_token w ∷ kept_tokens ts) (behind_name w ts)) tt (behind_sound_at w) ts

@@ -5,7 +5,8 @@ use Rattle.blang.specs.declared.token.Token.TheVariants as token
 use Rattle.blang.specs.declared.token.Placed.{Placed}
 use Rattle.blang.specs.Trees.{mark, Expr, Arguments, Number, Named, Literal, Text, Grouped, Indexed, Called, Postfixed, Prefixed, Binary, Conditional, Assigned, No_arguments, Another, name_token, prefix_token, postfix_token, spell, spell_arguments, list_spelling, Stmt, Headed, Compound, If, IfElse, While, Switch, Goto, Break, Return, ReturnValue, Evaluate, Empty, Stmts, Nothing, More, keyword_mark, name_spelling, spell_heading, spell_condition, spell_statement, spell_body, Definition, Simple, Vector, Function, spell_definition, spell_all}
 use Rattle.blang.specs.Cut.{placed}
-use Rattle.blang.specs.WellFormed.{string_words, argument_words, rank, or_rank, conditional_rank, rvalue_rank, Fits, ArgumentsFit, is_open, statement_words, body_words, Sits, AllSit}
+use Rattle.blang.specs.WellFormed.{rank, or_rank, conditional_rank, rvalue_rank, is_open}
+use Rattle.btree.specs.Fitting.{words, argument_words, Fits, ArgumentsFit, statement_words, body_words, Sits, AllSit}
 use Rattle.btree.specs.Levels.{Leveled, on, tokens, levels, argument_levels, condition_levels, statement_levels, body_levels, definition_levels, program_levels, IsFormedIn, AllFormedIn, NoneAbove, CanBeEnded}
 use Rattle.btree.proofs.CommaLaws.{append-nil}
 use Rattle.btree.proofs.ExpressionSound.{looser}
@@ -107,19 +108,19 @@ module _ (most : ℕ) where
         (nothing_yet spell (λ x. Fits x loose (most - n) off) one_tree tt)
         (closed spell (λ x. Fits x rvalue_rank (most - suc n) off) (levels e (suc n)) (on n (mark token.CloseParen) ∷ []) e (tokens-levels e (suc n)) (within most e rvalue_rank o.0 (suc n) off o.1) (ended e rvalue_rank o.0 (suc n) off o.1))
     ended (Indexed e f) loose room n off h =
-        let o = opened (λ k. Fits f rvalue_rank k (off + string_words e)) room h.2 in
-        then_part (λ x. spell x ++ mark token.CloseBracket ∷ []) spell (λ x. Fits x rvalue_rank (most - suc n) (off + string_words e)) (λ x. Fits x loose (most - n) off) (λ x. Indexed e x)
+        let o = opened (λ k. Fits f rvalue_rank k (off + words e)) room h.2 in
+        then_part (λ x. spell x ++ mark token.CloseBracket ∷ []) spell (λ x. Fits x rvalue_rank (most - suc n) (off + words e)) (λ x. Fits x loose (most - n) off) (λ x. Indexed e x)
         (levels e n) (on (suc n) (mark token.OpenBracket)) (levels f (suc n) ++ on n (mark token.CloseBracket) ∷ []) (spell e) (tokens-levels e n) (λ x. refl)
-        (λ na le x g. (h.0, within most e 0 room n off h.1 na, deeper (λ k. Fits x rvalue_rank k (off + string_words e)) most n le g))
+        (λ na le x g. (h.0, within most e 0 room n off h.1 na, deeper (λ k. Fits x rvalue_rank k (off + words e)) most n le g))
         (looser_ends 0 loose n off (omega arith) (levels e n) (ended e 0 room n off h.1))
-        (closed spell (λ x. Fits x rvalue_rank (most - suc n) (off + string_words e)) (levels f (suc n)) (on n (mark token.CloseBracket) ∷ []) f (tokens-levels f (suc n)) (within most f rvalue_rank o.0 (suc n) (off + string_words e) o.1) (ended f rvalue_rank o.0 (suc n) (off + string_words e) o.1))
+        (closed spell (λ x. Fits x rvalue_rank (most - suc n) (off + words e)) (levels f (suc n)) (on n (mark token.CloseBracket) ∷ []) f (tokens-levels f (suc n)) (within most f rvalue_rank o.0 (suc n) (off + words e) o.1) (ended f rvalue_rank o.0 (suc n) (off + words e) o.1))
     ended (Called e args) loose room n off h =
-        let o = opened (λ k. ArgumentsFit args k (off + string_words e)) room h.2 in
-        then_part (λ x. spell_arguments x ++ mark token.CloseParen ∷ []) spell (λ x. ArgumentsFit x (most - suc n) (off + string_words e)) (λ x. Fits x loose (most - n) off) (λ x. Called e x)
+        let o = opened (λ k. ArgumentsFit args k (off + words e)) room h.2 in
+        then_part (λ x. spell_arguments x ++ mark token.CloseParen ∷ []) spell (λ x. ArgumentsFit x (most - suc n) (off + words e)) (λ x. Fits x loose (most - n) off) (λ x. Called e x)
         (levels e n) (on (suc n) (mark token.OpenParen)) (argument_levels args (suc n) ++ on n (mark token.CloseParen) ∷ []) (spell e) (tokens-levels e n) (λ x. refl)
-        (λ na le x g. (h.0, within most e 0 room n off h.1 na, deeper (λ k. ArgumentsFit x k (off + string_words e)) most n le g))
+        (λ na le x g. (h.0, within most e 0 room n off h.1 na, deeper (λ k. ArgumentsFit x k (off + words e)) most n le g))
         (looser_ends 0 loose n off (omega arith) (levels e n) (ended e 0 room n off h.1))
-        (closed spell_arguments (λ x. ArgumentsFit x (most - suc n) (off + string_words e)) (argument_levels args (suc n)) (on n (mark token.CloseParen) ∷ []) args (tokens-arguments args (suc n)) (arguments_within most args o.0 (suc n) (off + string_words e) o.1) (arguments_ended args o.0 (suc n) (off + string_words e) o.1))
+        (closed spell_arguments (λ x. ArgumentsFit x (most - suc n) (off + words e)) (argument_levels args (suc n)) (on n (mark token.CloseParen) ∷ []) args (tokens-arguments args (suc n)) (arguments_within most args o.0 (suc n) (off + words e) o.1) (arguments_ended args o.0 (suc n) (off + words e) o.1))
     ended (Postfixed op line e) loose room n off h =
         then_part (λ (x : Unit {0}). []) spell (λ (x : Unit {0}). Unit {0}) (λ x. Fits x loose (most - n) off) (λ (x : Unit {0}). Postfixed op line e)
         (levels e n) (on n (placed (postfix_token op) line)) [] (spell e) (tokens-levels e n) (λ x. refl)
@@ -134,29 +135,29 @@ module _ (most : ℕ) where
         (nothing_yet spell (λ x. Fits x loose (most - n) off) one_tree tt)
         (ended e 0 o.0 (suc n) off o.1)
     ended (Binary op line e f) loose room n off h =
-        then_part spell spell (λ x. Fits x (rank op - 1) (most - n) (off + string_words e)) (λ x. Fits x loose (most - n) off) (λ x. Binary op line e x)
+        then_part spell spell (λ x. Fits x (rank op - 1) (most - n) (off + words e)) (λ x. Fits x loose (most - n) off) (λ x. Binary op line e x)
         (levels e n) (on n (placed (token.Operator op) line)) (levels f n) (spell e) (tokens-levels e n) (λ x. refl)
         (λ na le x g. (h.0, within most e (rank op) room n off h.1 na, g))
         (looser_ends (rank op) loose n off h.0 (levels e n) (ended e (rank op) room n off h.1))
-        (ended f (rank op - 1) room n (off + string_words e) h.2)
+        (ended f (rank op - 1) room n (off + words e) h.2)
     ended (Conditional e f g) loose room n off h =
-        let o = opened (λ k. Fits f rvalue_rank k (off + string_words e) × Fits g conditional_rank k (off + string_words e + string_words f)) room h.2 in
-        then_part (λ (p : Expr × Expr). spell p.0 ++ mark token.Colon ∷ spell p.1) spell (λ (p : Expr × Expr). Fits p.0 rvalue_rank (most - suc n) (off + string_words e) × Fits p.1 conditional_rank (most - suc n) (off + string_words e + string_words p.0)) (λ x. Fits x loose (most - n) off) (λ (p : Expr × Expr). Conditional e p.0 p.1)
+        let o = opened (λ k. Fits f rvalue_rank k (off + words e) × Fits g conditional_rank k (off + words e + words f)) room h.2 in
+        then_part (λ (p : Expr × Expr). spell p.0 ++ mark token.Colon ∷ spell p.1) spell (λ (p : Expr × Expr). Fits p.0 rvalue_rank (most - suc n) (off + words e) × Fits p.1 conditional_rank (most - suc n) (off + words e + words p.0)) (λ x. Fits x loose (most - n) off) (λ (p : Expr × Expr). Conditional e p.0 p.1)
         (levels e n) (on (suc n) (mark token.Question)) (levels f (suc n) ++ on (suc n) (mark token.Colon) ∷ levels g (suc n)) (spell e) (tokens-levels e n) (λ p. refl)
-        (λ na le p k. (h.0, within most e or_rank room n off h.1 na, deeper (λ k. Fits p.0 rvalue_rank k (off + string_words e) × Fits p.1 conditional_rank k (off + string_words e + string_words p.0)) most n le k))
+        (λ na le p k. (h.0, within most e or_rank room n off h.1 na, deeper (λ k. Fits p.0 rvalue_rank k (off + words e) × Fits p.1 conditional_rank k (off + words e + words p.0)) most n le k))
         (looser_ends or_rank loose n off (omega (arith, h.0)) (levels e n) (ended e or_rank room n off h.1))
-        (then_part spell (λ (p : Expr × Expr). spell p.0 ++ mark token.Colon ∷ spell p.1) (λ x. Fits x conditional_rank (most - suc n) (off + string_words e + string_words f)) (λ (p : Expr × Expr). Fits p.0 rvalue_rank (most - suc n) (off + string_words e) × Fits p.1 conditional_rank (most - suc n) (off + string_words e + string_words p.0)) (λ x. (f, x))
+        (then_part spell (λ (p : Expr × Expr). spell p.0 ++ mark token.Colon ∷ spell p.1) (λ x. Fits x conditional_rank (most - suc n) (off + words e + words f)) (λ (p : Expr × Expr). Fits p.0 rvalue_rank (most - suc n) (off + words e) × Fits p.1 conditional_rank (most - suc n) (off + words e + words p.0)) (λ x. (f, x))
         (levels f (suc n)) (on (suc n) (mark token.Colon)) (levels g (suc n)) (spell f) (tokens-levels f (suc n)) (λ x. refl)
-        (λ na le x k. (within most f rvalue_rank o.0 (suc n) (off + string_words e) o.1.0 na, k))
-        (λ u v eq none. with_rest spell (λ (p : Expr × Expr). spell p.0 ++ mark token.Colon ∷ spell p.1) (λ x. Fits x rvalue_rank (most - suc n) (off + string_words e)) (λ (p : Expr × Expr). Fits p.0 rvalue_rank (most - suc n) (off + string_words e) × Fits p.1 conditional_rank (most - suc n) (off + string_words e + string_words p.0)) (λ x. (x, one_tree)) (mark token.Colon ∷ spell one_tree) (λ x. refl) (λ x k. (k, tt)) u (ended f rvalue_rank o.0 (suc n) (off + string_words e) o.1.0 u v eq none))
-        (ended g conditional_rank o.0 (suc n) (off + string_words e + string_words f) o.1.1))
+        (λ na le x k. (within most f rvalue_rank o.0 (suc n) (off + words e) o.1.0 na, k))
+        (λ u v eq none. with_rest spell (λ (p : Expr × Expr). spell p.0 ++ mark token.Colon ∷ spell p.1) (λ x. Fits x rvalue_rank (most - suc n) (off + words e)) (λ (p : Expr × Expr). Fits p.0 rvalue_rank (most - suc n) (off + words e) × Fits p.1 conditional_rank (most - suc n) (off + words e + words p.0)) (λ x. (x, one_tree)) (mark token.Colon ∷ spell one_tree) (λ x. refl) (λ x k. (k, tt)) u (ended f rvalue_rank o.0 (suc n) (off + words e) o.1.0 u v eq none))
+        (ended g conditional_rank o.0 (suc n) (off + words e + words f) o.1.1))
     ended (Assigned op line e f) loose room n off h =
-        let o = opened (λ k. Fits f rvalue_rank k (off + string_words e)) room h.2 in
-        then_part spell spell (λ x. Fits x rvalue_rank (most - suc n) (off + string_words e)) (λ x. Fits x loose (most - n) off) (λ x. Assigned op line e x)
+        let o = opened (λ k. Fits f rvalue_rank k (off + words e)) room h.2 in
+        then_part spell spell (λ x. Fits x rvalue_rank (most - suc n) (off + words e)) (λ x. Fits x loose (most - n) off) (λ x. Assigned op line e x)
         (levels e n) (on (suc n) (placed (token.Assign op) line)) (levels f (suc n)) (spell e) (tokens-levels e n) (λ x. refl)
-        (λ na le x g. (h.0, within most e 0 room n off h.1 na, deeper (λ k. Fits x rvalue_rank k (off + string_words e)) most n le g))
+        (λ na le x g. (h.0, within most e 0 room n off h.1 na, deeper (λ k. Fits x rvalue_rank k (off + words e)) most n le g))
         (looser_ends 0 loose n off (omega arith) (levels e n) (ended e 0 room n off h.1))
-        (ended f rvalue_rank o.0 (suc n) (off + string_words e) o.1)
+        (ended f rvalue_rank o.0 (suc n) (off + words e) o.1)
 
     arguments_ended : (args : Arguments) (room n off : ℕ) → ArgumentsFit args room off → Ends spell_arguments (λ x. ArgumentsFit x (most - n) off) (argument_levels args n)
     arguments_ended No_arguments room n off h = leaf spell_arguments (λ x. ArgumentsFit x (most - n) off) [] No_arguments refl tt
@@ -186,30 +187,30 @@ branched_spelled e (s, None) = refl
 branched_spelled e (s, Some other) = refl
 
 module _ (most : ℕ) where
-  branched_sits : (n off : ℕ) (e : Expr) (b : Stmt × Option Stmt) → suc n ≤ most → Fits e rvalue_rank (most - suc n) off → BranchesSit (most - suc n) (off + string_words e) b → Sits (branched e b) (most - n) off
-  branched_sits n off e (s, None) le f g = deeper (λ k. Fits e rvalue_rank k off × Sits s k (off + string_words e)) most n le (f, g)
-  branched_sits n off e (s, Some other) le f g = (g.0, deeper (λ k. Fits e rvalue_rank k off × Sits s k (off + string_words e) × Sits other k (off + string_words e + statement_words s)) most n le (f, g.1, g.2))
+  branched_sits : (n off : ℕ) (e : Expr) (b : Stmt × Option Stmt) → suc n ≤ most → Fits e rvalue_rank (most - suc n) off → BranchesSit (most - suc n) (off + words e) b → Sits (branched e b) (most - n) off
+  branched_sits n off e (s, None) le f g = deeper (λ k. Fits e rvalue_rank k off × Sits s k (off + words e)) most n le (f, g)
+  branched_sits n off e (s, Some other) le f g = (g.0, deeper (λ k. Fits e rvalue_rank k off × Sits s k (off + words e) × Sits other k (off + words e + statement_words s)) most n le (f, g.1, g.2))
 
   -- a condition, and what depends on it
   conditioned : {B : Type 0} (k : Placed) (tell : B → List Placed) (Good : ℕ → B → Type 0) (make : Expr → B → Stmt) (n off : ℕ)
       → ((e : Expr) (b : B) → spell_statement (make e b) ≡ k ∷ (spell_condition e ++ tell b))
-      → ((e : Expr) (b : B) → suc n ≤ most → Fits e rvalue_rank (most - suc n) off → Good (off + string_words e) b → Sits (make e b) (most - n) off)
+      → ((e : Expr) (b : B) → suc n ≤ most → Fits e rvalue_rank (most - suc n) off → Good (off + words e) b → Sits (make e b) (most - n) off)
       → (least : B) → ((o : ℕ) → Good o least) → (e : Expr) (room : ℕ) → Fits e rvalue_rank room off → Ends most spell (λ x. Fits x rvalue_rank (most - suc n) off) (levels e (suc n))
-      → (behind : List Leveled) → Ends most tell (Good (off + string_words e)) behind
+      → (behind : List Leveled) → Ends most tell (Good (off + words e)) behind
       → Ends most spell_statement (λ x. Sits x (most - n) off) (on (suc n) k ∷ condition_levels e (suc n) n behind)
   conditioned {B} k tell Good make n off spelled sits least least_good e room fits ends behind behind_ends =
-      then_part most (λ (p : Expr × B). spell_condition p.0 ++ tell p.1) spell_statement (λ (p : Expr × B). Fits p.0 rvalue_rank (most - suc n) off × Good (off + string_words p.0) p.1) (λ x. Sits x (most - n) off) (λ (p : Expr × B). make p.0 p.1)
+      then_part most (λ (p : Expr × B). spell_condition p.0 ++ tell p.1) spell_statement (λ (p : Expr × B). Fits p.0 rvalue_rank (most - suc n) off × Good (off + words p.0) p.1) (λ x. Sits x (most - n) off) (λ (p : Expr × B). make p.0 p.1)
       [] (on (suc n) k) (condition_levels e (suc n) n behind) [] refl (λ p. spelled p.0 p.1)
       (λ na le p g. sits p.0 p.1 le g.0 g.1)
       (nothing_yet most spell_statement (λ x. Sits x (most - n) off) Empty tt)
-      (then_part most (λ (p : Expr × B). spell p.0 ++ mark token.CloseParen ∷ tell p.1) (λ (p : Expr × B). spell_condition p.0 ++ tell p.1) (λ (p : Expr × B). Fits p.0 rvalue_rank (most - suc n) off × Good (off + string_words p.0) p.1) (λ (p : Expr × B). Fits p.0 rvalue_rank (most - suc n) off × Good (off + string_words p.0) p.1) (λ (p : Expr × B). p)
+      (then_part most (λ (p : Expr × B). spell p.0 ++ mark token.CloseParen ∷ tell p.1) (λ (p : Expr × B). spell_condition p.0 ++ tell p.1) (λ (p : Expr × B). Fits p.0 rvalue_rank (most - suc n) off × Good (off + words p.0) p.1) (λ (p : Expr × B). Fits p.0 rvalue_rank (most - suc n) off × Good (off + words p.0) p.1) (λ (p : Expr × B). p)
       [] (on n (mark token.OpenParen)) (levels e (suc n) ++ on n (mark token.CloseParen) ∷ behind) [] refl (λ p. ap (λ l. mark token.OpenParen ∷ l) (append_assoc (spell p.0) (mark token.CloseParen ∷ []) (tell p.1)))
       (λ na le p g. g)
-      (nothing_yet most (λ (p : Expr × B). spell_condition p.0 ++ tell p.1) (λ (p : Expr × B). Fits p.0 rvalue_rank (most - suc n) off × Good (off + string_words p.0) p.1) (one_tree, least) (tt, least_good (off + string_words one_tree)))
-      (then_part most tell (λ (p : Expr × B). spell p.0 ++ mark token.CloseParen ∷ tell p.1) (Good (off + string_words e)) (λ (p : Expr × B). Fits p.0 rvalue_rank (most - suc n) off × Good (off + string_words p.0) p.1) (λ b. (e, b))
+      (nothing_yet most (λ (p : Expr × B). spell_condition p.0 ++ tell p.1) (λ (p : Expr × B). Fits p.0 rvalue_rank (most - suc n) off × Good (off + words p.0) p.1) (one_tree, least) (tt, least_good (off + words one_tree)))
+      (then_part most tell (λ (p : Expr × B). spell p.0 ++ mark token.CloseParen ∷ tell p.1) (Good (off + words e)) (λ (p : Expr × B). Fits p.0 rvalue_rank (most - suc n) off × Good (off + words p.0) p.1) (λ b. (e, b))
       (levels e (suc n)) (on n (mark token.CloseParen)) behind (spell e) (tokens-levels e (suc n)) (λ b. refl)
       (λ na le b g. (within most e rvalue_rank room (suc n) off fits na, g))
-      (λ u v eq none. with_rest spell (λ (p : Expr × B). spell p.0 ++ mark token.CloseParen ∷ tell p.1) (λ x. Fits x rvalue_rank (most - suc n) off) (λ (p : Expr × B). Fits p.0 rvalue_rank (most - suc n) off × Good (off + string_words p.0) p.1) (λ x. (x, least)) (mark token.CloseParen ∷ tell least) (λ x. refl) (λ x g. (g, least_good (off + string_words x))) u (ends u v eq none))
+      (λ u v eq none. with_rest spell (λ (p : Expr × B). spell p.0 ++ mark token.CloseParen ∷ tell p.1) (λ x. Fits x rvalue_rank (most - suc n) off) (λ (p : Expr × B). Fits p.0 rvalue_rank (most - suc n) off × Good (off + words p.0) p.1) (λ x. (x, least)) (mark token.CloseParen ∷ tell least) (λ x. refl) (λ x g. (g, least_good (off + words x))) u (ends u v eq none))
       behind_ends))
 
   mutual
@@ -226,33 +227,33 @@ module _ (most : ℕ) where
         (nothing_yet most spell_statement (λ x. Sits x (most - n) off) Empty tt)
         (closed most spell_body (λ x. AllSit x (most - suc n) off) (body_levels body (suc n)) (on n (mark token.CloseBrace) ∷ []) body (tokens-body body (suc n)) (body_within most body o.0 (suc n) off o.1) (body_ended body o.0 (suc n) off o.1))
     statement_ended (If e s) room n off f =
-        let o = opened (λ k. Fits e rvalue_rank k off × Sits s k (off + string_words e)) room f in
-        conditioned (keyword_mark keyword.If) spell_statement (λ o x. Sits x (most - suc n) o) (λ e x. If e x) n off (λ e x. refl) (λ e x le g k. deeper (λ r. Fits e rvalue_rank r off × Sits x r (off + string_words e)) most n le (g, k)) Empty (λ o. tt)
-        e o.0 o.1.0 (ended most e rvalue_rank o.0 (suc n) off o.1.0) (statement_levels s (suc n)) (statement_ended s o.0 (suc n) (off + string_words e) o.1.1)
+        let o = opened (λ k. Fits e rvalue_rank k off × Sits s k (off + words e)) room f in
+        conditioned (keyword_mark keyword.If) spell_statement (λ o x. Sits x (most - suc n) o) (λ e x. If e x) n off (λ e x. refl) (λ e x le g k. deeper (λ r. Fits e rvalue_rank r off × Sits x r (off + words e)) most n le (g, k)) Empty (λ o. tt)
+        e o.0 o.1.0 (ended most e rvalue_rank o.0 (suc n) off o.1.0) (statement_levels s (suc n)) (statement_ended s o.0 (suc n) (off + words e) o.1.1)
     statement_ended (IfElse e s other) room n off f =
-        let o = opened (λ k. Fits e rvalue_rank k off × Sits s k (off + string_words e) × Sits other k (off + string_words e + statement_words s)) room f.1 in
+        let o = opened (λ k. Fits e rvalue_rank k off × Sits s k (off + words e) × Sits other k (off + words e + statement_words s)) room f.1 in
         conditioned (keyword_mark keyword.If) branches_spelling (λ o b. BranchesSit (most - suc n) o b) branched n off branched_spelled (branched_sits n off) (Empty, None) (λ o. tt)
         e o.0 o.1.0 (ended most e rvalue_rank o.0 (suc n) off o.1.0) (statement_levels s (suc n) ++ on n (keyword_mark keyword.Else) ∷ statement_levels other (suc n))
-        (then_part most spell_statement branches_spelling (λ x. Sits x (most - suc n) (off + string_words e + statement_words s)) (BranchesSit (most - suc n) (off + string_words e)) (λ x. (s, Some x))
+        (then_part most spell_statement branches_spelling (λ x. Sits x (most - suc n) (off + words e + statement_words s)) (BranchesSit (most - suc n) (off + words e)) (λ x. (s, Some x))
         (statement_levels s (suc n)) (on n (keyword_mark keyword.Else)) (statement_levels other (suc n)) (spell_statement s) (tokens-statement s (suc n)) (λ x. refl)
-        (λ na le x g. (f.0, statement_within most s o.0 (suc n) (off + string_words e) o.1.1 na, g))
-        (λ u v eq none. with_rest spell_statement branches_spelling (λ x. Sits x (most - suc n) (off + string_words e)) (BranchesSit (most - suc n) (off + string_words e)) (λ x. (x, None)) [] (λ x. sym (append-nil (spell_statement x))) (λ x g. g) u (statement_ended s o.0 (suc n) (off + string_words e) o.1.1 u v eq none))
-        (statement_ended other o.0 (suc n) (off + string_words e + statement_words s) o.1.2))
+        (λ na le x g. (f.0, statement_within most s o.0 (suc n) (off + words e) o.1.1 na, g))
+        (λ u v eq none. with_rest spell_statement branches_spelling (λ x. Sits x (most - suc n) (off + words e)) (BranchesSit (most - suc n) (off + words e)) (λ x. (x, None)) [] (λ x. sym (append-nil (spell_statement x))) (λ x g. g) u (statement_ended s o.0 (suc n) (off + words e) o.1.1 u v eq none))
+        (statement_ended other o.0 (suc n) (off + words e + statement_words s) o.1.2))
     statement_ended (While e s) room n off f =
-        let o = opened (λ k. Fits e rvalue_rank k off × Sits s k (off + string_words e)) room f in
-        conditioned (keyword_mark keyword.While) spell_statement (λ o x. Sits x (most - suc n) o) (λ e x. While e x) n off (λ e x. refl) (λ e x le g k. deeper (λ r. Fits e rvalue_rank r off × Sits x r (off + string_words e)) most n le (g, k)) Empty (λ o. tt)
-        e o.0 o.1.0 (ended most e rvalue_rank o.0 (suc n) off o.1.0) (statement_levels s (suc n)) (statement_ended s o.0 (suc n) (off + string_words e) o.1.1)
+        let o = opened (λ k. Fits e rvalue_rank k off × Sits s k (off + words e)) room f in
+        conditioned (keyword_mark keyword.While) spell_statement (λ o x. Sits x (most - suc n) o) (λ e x. While e x) n off (λ e x. refl) (λ e x le g k. deeper (λ r. Fits e rvalue_rank r off × Sits x r (off + words e)) most n le (g, k)) Empty (λ o. tt)
+        e o.0 o.1.0 (ended most e rvalue_rank o.0 (suc n) off o.1.0) (statement_levels s (suc n)) (statement_ended s o.0 (suc n) (off + words e) o.1.1)
     statement_ended (Switch e body) room n off f =
-        let o = opened (λ k. Fits e rvalue_rank k off × AllSit body k (off + string_words e)) room f in
-        then_part most (λ (p : Expr × Stmts). spell p.0 ++ mark token.OpenBrace ∷ (spell_body p.1 ++ mark token.CloseBrace ∷ [])) spell_statement (λ (p : Expr × Stmts). Fits p.0 rvalue_rank (most - suc n) off × AllSit p.1 (most - suc n) (off + string_words p.0)) (λ x. Sits x (most - n) off) (λ (p : Expr × Stmts). Switch p.0 p.1)
+        let o = opened (λ k. Fits e rvalue_rank k off × AllSit body k (off + words e)) room f in
+        then_part most (λ (p : Expr × Stmts). spell p.0 ++ mark token.OpenBrace ∷ (spell_body p.1 ++ mark token.CloseBrace ∷ [])) spell_statement (λ (p : Expr × Stmts). Fits p.0 rvalue_rank (most - suc n) off × AllSit p.1 (most - suc n) (off + words p.0)) (λ x. Sits x (most - n) off) (λ (p : Expr × Stmts). Switch p.0 p.1)
         [] (on (suc n) (keyword_mark keyword.Switch)) (levels e (suc n) ++ on n (mark token.OpenBrace) ∷ (body_levels body (suc n) ++ on n (mark token.CloseBrace) ∷ [])) [] refl (λ p. refl)
-        (λ na le p g. deeper (λ k. Fits p.0 rvalue_rank k off × AllSit p.1 k (off + string_words p.0)) most n le g)
+        (λ na le p g. deeper (λ k. Fits p.0 rvalue_rank k off × AllSit p.1 k (off + words p.0)) most n le g)
         (nothing_yet most spell_statement (λ x. Sits x (most - n) off) Empty tt)
-        (then_part most (λ b. spell_body b ++ mark token.CloseBrace ∷ []) (λ (p : Expr × Stmts). spell p.0 ++ mark token.OpenBrace ∷ (spell_body p.1 ++ mark token.CloseBrace ∷ [])) (λ b. AllSit b (most - suc n) (off + string_words e)) (λ (p : Expr × Stmts). Fits p.0 rvalue_rank (most - suc n) off × AllSit p.1 (most - suc n) (off + string_words p.0)) (λ b. (e, b))
+        (then_part most (λ b. spell_body b ++ mark token.CloseBrace ∷ []) (λ (p : Expr × Stmts). spell p.0 ++ mark token.OpenBrace ∷ (spell_body p.1 ++ mark token.CloseBrace ∷ [])) (λ b. AllSit b (most - suc n) (off + words e)) (λ (p : Expr × Stmts). Fits p.0 rvalue_rank (most - suc n) off × AllSit p.1 (most - suc n) (off + words p.0)) (λ b. (e, b))
         (levels e (suc n)) (on n (mark token.OpenBrace)) (body_levels body (suc n) ++ on n (mark token.CloseBrace) ∷ []) (spell e) (tokens-levels e (suc n)) (λ b. refl)
         (λ na le b g. (within most e rvalue_rank o.0 (suc n) off o.1.0 na, g))
-        (λ u v eq none. with_rest spell (λ (p : Expr × Stmts). spell p.0 ++ mark token.OpenBrace ∷ (spell_body p.1 ++ mark token.CloseBrace ∷ [])) (λ x. Fits x rvalue_rank (most - suc n) off) (λ (p : Expr × Stmts). Fits p.0 rvalue_rank (most - suc n) off × AllSit p.1 (most - suc n) (off + string_words p.0)) (λ x. (x, Nothing)) (mark token.OpenBrace ∷ mark token.CloseBrace ∷ []) (λ x. refl) (λ x g. (g, tt)) u (ended most e rvalue_rank o.0 (suc n) off o.1.0 u v eq none))
-        (closed most spell_body (λ b. AllSit b (most - suc n) (off + string_words e)) (body_levels body (suc n)) (on n (mark token.CloseBrace) ∷ []) body (tokens-body body (suc n)) (body_within most body o.0 (suc n) (off + string_words e) o.1.1) (body_ended body o.0 (suc n) (off + string_words e) o.1.1)))
+        (λ u v eq none. with_rest spell (λ (p : Expr × Stmts). spell p.0 ++ mark token.OpenBrace ∷ (spell_body p.1 ++ mark token.CloseBrace ∷ [])) (λ x. Fits x rvalue_rank (most - suc n) off) (λ (p : Expr × Stmts). Fits p.0 rvalue_rank (most - suc n) off × AllSit p.1 (most - suc n) (off + words p.0)) (λ x. (x, Nothing)) (mark token.OpenBrace ∷ mark token.CloseBrace ∷ []) (λ x. refl) (λ x g. (g, tt)) u (ended most e rvalue_rank o.0 (suc n) off o.1.0 u v eq none))
+        (closed most spell_body (λ b. AllSit b (most - suc n) (off + words e)) (body_levels body (suc n)) (on n (mark token.CloseBrace) ∷ []) body (tokens-body body (suc n)) (body_within most body o.0 (suc n) (off + words e) o.1.1) (body_ended body o.0 (suc n) (off + words e) o.1.1)))
     statement_ended (Goto e) room n off f =
         then_part most (λ x. spell x ++ mark token.Semicolon ∷ []) spell_statement (λ x. Fits x rvalue_rank (most - n) off) (λ x. Sits x (most - n) off) (λ x. Goto x)
         [] (on n (keyword_mark keyword.Goto)) (levels e n ++ on n (mark token.Semicolon) ∷ []) [] refl (λ x. refl) (λ na le x g. g)

@@ -9,7 +9,8 @@ use Rattle.blang.specs.declared.token.Token.TheVariants as token
 use Rattle.blang.specs.declared.token.Placed.{Placed}
 use Rattle.blang.specs.Trees.{mark, Identifier, Constant, Number, Character, Expr, Arguments, PrefixOp, Negate, Not, Indirection, Address, PreIncrement, PreDecrement, PostfixOp, PostIncrement, PostDecrement, Named, Literal, Text, Grouped, Indexed, Called, Postfixed, Prefixed, Binary, Conditional, Assigned, No_arguments, Another, prefix_token, postfix_token, spell, spell_arguments}
 use Rattle.blang.specs.Cut.{placed}
-use Rattle.blang.specs.WellFormed.{string_words, argument_words, rank, or_rank, conditional_rank, rvalue_rank, IsPostfix, Deeper, Fits, ArgumentsFit}
+use Rattle.blang.specs.WellFormed.{rank, or_rank, conditional_rank, rvalue_rank, IsPostfix}
+use Rattle.btree.specs.Fitting.{words, argument_words, Deeper, Fits, ArgumentsFit}
 use Rattle.btree.specs.Reading.{Got, Reader, ◌>>=◌, first, expect, many}
 use Rattle.btree.specs.ExpressionReader.{is_close_paren, is_close_bracket, is_question, is_colon, prefix_op, having_rank, op_at, Suffix, Index, Call, Step, suffix, comma, always, Choice, Rvalue, another, arguments, postfix_with, postfix, operand, operation, chain, conditional, assigns, rvalue_from, inner, reader, is_operand}
 use Rattle.btree.proofs.Fine.{Loop, many_none, many_some}
@@ -246,7 +247,7 @@ reads_indexed e f re rf = reads_post (Indexed e f) tt (λ r room off h. h) post
     post (suc k) off h rest =
         ap (postfix (inner (suc k)) off) (append_assoc (spell e) (mark token.OpenBracket ∷ (spell f ++ (mark token.CloseBracket ∷ []))) rest)
         ∙ suffix_again e re (suc k) off h.0 h.1 Index (mark token.OpenBracket ∷ ((spell f ++ (mark token.CloseBracket ∷ [])) ++ rest)) rest refl (Indexed e f)
-        (ap (λ x. x >>= λ f r. expect is_close_bracket r >>= λ o. Got (Indexed e f)) (ap (reader k Rvalue (off + string_words e)) (append_assoc (spell f) (mark token.CloseBracket ∷ []) rest) ∙ rf.rvalue k (off + string_words e) h.2 (mark token.CloseBracket ∷ rest) ends_bracket))
+        (ap (λ x. x >>= λ f r. expect is_close_bracket r >>= λ o. Got (Indexed e f)) (ap (reader k Rvalue (off + words e)) (append_assoc (spell f) (mark token.CloseBracket ∷ []) rest) ∙ rf.rvalue k (off + words e) h.2 (mark token.CloseBracket ∷ rest) ends_bracket))
 
 reads_postfixed : (op : PostfixOp) (line : ℕ) (e : Expr) → Reads e → Reads (Postfixed op line e)
 reads_postfixed op line e re = reads_post (Postfixed op line e) tt (λ r room off h. h) (post op)
@@ -289,7 +290,7 @@ reads_called e args re ra = reads_post (Called e args) tt (λ r room off h. h) (
     post (Another before f) ra (suc k) off h rest =
         ap (postfix (inner (suc k)) off) (behind (Another before f) rest)
         ∙ suffix_again e re (suc k) off h.0 h.1 Call (mark token.OpenParen ∷ (spell_arguments (Another before f) ++ (mark token.CloseParen ∷ rest))) rest refl (Called e (Another before f))
-        (rw (not_closing _ (arguments_open (Another before f) tt (mark token.CloseParen ∷ rest))) (ap (λ x. x >>= λ args r. expect is_close_paren r >>= λ o. Got (Called e args)) (ra.again tt k (off + string_words e) h.2 (mark token.CloseParen ∷ rest) ends_close_paren ∙ many_none (always comma) (another (inner (suc k)) (off + string_words e)) (Another before f) (mark token.CloseParen ∷ rest) refl)))
+        (rw (not_closing _ (arguments_open (Another before f) tt (mark token.CloseParen ∷ rest))) (ap (λ x. x >>= λ args r. expect is_close_paren r >>= λ o. Got (Called e args)) (ra.again tt k (off + words e) h.2 (mark token.CloseParen ∷ rest) ends_close_paren ∙ many_none (always comma) (another (inner (suc k)) (off + words e)) (Another before f) (mark token.CloseParen ∷ rest) refl)))
 
 prefix_found : (op : PrefixOp) → prefix_op (prefix_token op) ≡ Some op
 prefix_found Negate = refl
@@ -316,21 +317,21 @@ reads_binary op line e f re rf = record {
 }
   where
     -- where the operator has this rank
-    main : (j room off : ℕ) → suc j ≤ or_rank → rank op ≡ suc j → Fits e (rank op) room off → Fits f (rank op - 1) room (off + string_words e) → (rest : List Placed) → Below j (first rest) → chain (inner room) (suc j) off (spell (Binary op line e f) ++ rest) ≡ rest_of room j off (Binary op line e f) rest
+    main : (j room off : ℕ) → suc j ≤ or_rank → rank op ≡ suc j → Fits e (rank op) room off → Fits f (rank op - 1) room (off + words e) → (rest : List Placed) → Below j (first rest) → chain (inner room) (suc j) off (spell (Binary op line e f) ++ rest) ≡ rest_of room j off (Binary op line e f) rest
     main j room off le ranked he hf rest b =
         let behind : List Placed = placed (token.Operator op) line ∷ (spell f ++ rest) in
         let less : rank op - 1 ≡ j = omega arith in
         ap (chain (inner room) (suc j) off) (append_assoc (spell e) (placed (token.Operator op) line ∷ spell f) rest)
         ∙ re.spine j room off le (subst (λ n. Fits e n room off) ranked he) behind (op_below op j ranked)
         ∙ many_some closing (always (op_at (suc j))) (operation (chain (inner room) j) off) (loop_at room j off) op e behind (op_found op (suc j) ranked)
-        ∙ ap (λ x. (x >>= λ f. Got (Binary op line e f)) >>= rest_of room j off) (rf.chained j room (off + string_words e) (omega arith) (subst (λ n. Fits f n room (off + string_words e)) less hf) rest b)
+        ∙ ap (λ x. (x >>= λ f. Got (Binary op line e f)) >>= rest_of room j off) (rf.chained j room (off + words e) (omega arith) (subst (λ n. Fits f n room (off + words e)) less hf) rest b)
 
-    spine : (j room off : ℕ) → suc j ≤ or_rank → rank op ≤ suc j → Fits e (rank op) room off → Fits f (rank op - 1) room (off + string_words e) → (rest : List Placed) → Below j (first rest) → (rank op ≤ j → Below j (first rest) → chain (inner room) j off (spell (Binary op line e f) ++ rest) ≡ Got (Binary op line e f) rest) → chain (inner room) (suc j) off (spell (Binary op line e f) ++ rest) ≡ rest_of room j off (Binary op line e f) rest
+    spine : (j room off : ℕ) → suc j ≤ or_rank → rank op ≤ suc j → Fits e (rank op) room off → Fits f (rank op - 1) room (off + words e) → (rest : List Placed) → Below j (first rest) → (rank op ≤ j → Below j (first rest) → chain (inner room) j off (spell (Binary op line e f) ++ rest) ≡ Got (Binary op line e f) rest) → chain (inner room) (suc j) off (spell (Binary op line e f) ++ rest) ≡ rest_of room j off (Binary op line e f) rest
     spine j room off le at he hf rest b below_ =
         let cases : (rank op ≤ j) ⊎ (rank op ≡ suc j) = grind arith in
         elim cases [ inl low ↦ spine_up (Binary op line e f) j room off rest (below_ low b) | inr ranked ↦ main j room off le ranked he hf rest b ]
 
-    chained : (r room off : ℕ) → r ≤ or_rank → rank op ≤ r → Fits e (rank op) room off → Fits f (rank op - 1) room (off + string_words e) → (rest : List Placed) → Below r (first rest) → chain (inner room) r off (spell (Binary op line e f) ++ rest) ≡ Got (Binary op line e f) rest
+    chained : (r room off : ℕ) → r ≤ or_rank → rank op ≤ r → Fits e (rank op) room off → Fits f (rank op - 1) room (off + words e) → (rest : List Placed) → Below r (first rest) → chain (inner room) r off (spell (Binary op line e f) ++ rest) ≡ Got (Binary op line e f) rest
     chained zero room off le low he hf rest b = absurd (omega (arith, rank_positive op))
     chained (suc r) room off le low he hf rest b = chain_up (Binary op line e f) r room off rest b (spine r room off le low he hf rest (fewer r (first rest) b) (λ low2 b2. chained r room off (omega arith) low2 he hf rest b2))
 
@@ -343,19 +344,19 @@ reads_conditional e f g re rf rg = record { post = λ p. absurd p; spine = λ j 
     regroup : (rest : List Placed) → spell (Conditional e f g) ++ rest ≡ spell e ++ (mark token.Question ∷ (spell f ++ (mark token.Colon ∷ (spell g ++ rest))))
     regroup rest = append_assoc (spell e) (mark token.Question ∷ (spell f ++ (mark token.Colon ∷ spell g))) rest ∙ ap (λ x. spell e ++ (mark token.Question ∷ x)) (append_assoc (spell f) (mark token.Colon ∷ spell g) rest)
 
-    asked : (k off : ℕ) → Fits f rvalue_rank k (off + string_words e) → Fits g conditional_rank k (off + string_words e + string_words f) → (rest : List Placed) → Ends (first rest) → conditional (inner (suc k)) off e (mark token.Question ∷ (spell f ++ (mark token.Colon ∷ (spell g ++ rest)))) ≡ Got (Conditional e f g) rest
+    asked : (k off : ℕ) → Fits f rvalue_rank k (off + words e) → Fits g conditional_rank k (off + words e + words f) → (rest : List Placed) → Ends (first rest) → conditional (inner (suc k)) off e (mark token.Question ∷ (spell f ++ (mark token.Colon ∷ (spell g ++ rest)))) ≡ Got (Conditional e f g) rest
     asked k off hf hg rest n =
-        ap (λ x. x >>= λ f r. expect is_colon r >>= λ o r. reader k Choice (off + string_words e + string_words f) r >>= λ g. Got (Conditional e f g)) (rf.rvalue k (off + string_words e) hf (mark token.Colon ∷ (spell g ++ rest)) ends_colon)
-        ∙ ap (λ x. x >>= λ g. Got (Conditional e f g)) (rg.side k (off + string_words e + string_words f) hg rest n)
+        ap (λ x. x >>= λ f r. expect is_colon r >>= λ o r. reader k Choice (off + words e + words f) r >>= λ g. Got (Conditional e f g)) (rf.rvalue k (off + words e) hf (mark token.Colon ∷ (spell g ++ rest)) ends_colon)
+        ∙ ap (λ x. x >>= λ g. Got (Conditional e f g)) (rg.side k (off + words e + words f) hg rest n)
 
-    side : (room off : ℕ) → Fits e or_rank room off → Deeper (λ k. Fits f rvalue_rank k (off + string_words e) × Fits g conditional_rank k (off + string_words e + string_words f)) room → (rest : List Placed) → Ends (first rest) → reader room Choice off (spell (Conditional e f g) ++ rest) ≡ Got (Conditional e f g) rest
+    side : (room off : ℕ) → Fits e or_rank room off → Deeper (λ k. Fits f rvalue_rank k (off + words e) × Fits g conditional_rank k (off + words e + words f)) room → (rest : List Placed) → Ends (first rest) → reader room Choice off (spell (Conditional e f g) ++ rest) ≡ Got (Conditional e f g) rest
     side zero off he h rest n = absurd h
     side (suc k) off he h rest n =
         ap (reader (suc k) Choice off) (regroup rest)
         ∙ ap (λ x. x >>= conditional (inner (suc k)) off) (re.chained or_rank (suc k) off (omega arith) he (mark token.Question ∷ (spell f ++ (mark token.Colon ∷ (spell g ++ rest)))) below_question)
         ∙ asked k off h.0 h.1 rest n
 
-    rvalue : (room off : ℕ) → Fits e or_rank room off → Deeper (λ k. Fits f rvalue_rank k (off + string_words e) × Fits g conditional_rank k (off + string_words e + string_words f)) room → (rest : List Placed) → Ends (first rest) → reader room Rvalue off (spell (Conditional e f g) ++ rest) ≡ Got (Conditional e f g) rest
+    rvalue : (room off : ℕ) → Fits e or_rank room off → Deeper (λ k. Fits f rvalue_rank k (off + words e) × Fits g conditional_rank k (off + words e + words f)) room → (rest : List Placed) → Ends (first rest) → reader room Rvalue off (spell (Conditional e f g) ++ rest) ≡ Got (Conditional e f g) rest
     rvalue zero off he h rest n = absurd h
     rvalue (suc k) off he h rest n =
         ap (reader (suc k) Rvalue off) (regroup rest)
@@ -383,12 +384,12 @@ looser _ room off h = h
 reads_assigned : (op : Option BinOp) (line : ℕ) (e f : Expr) → Reads e → Reads f → Reads (Assigned op line e f)
 reads_assigned op line e f re rf = record { post = λ p. absurd p; spine = λ j room off le h. absurd (none_below (suc j) h.0 (omega arith)); chained = λ r room off le h. absurd (none_below r h.0 (omega arith)); side = λ room off h. absurd (none_below 8 h.0 (omega arith)); rvalue = λ room off h. rvalue room off h.1 h.2 }
   where
-    rvalue : (room off : ℕ) → Fits e 0 room off → Deeper (λ k. Fits f rvalue_rank k (off + string_words e)) room → (rest : List Placed) → Ends (first rest) → reader room Rvalue off (spell (Assigned op line e f) ++ rest) ≡ Got (Assigned op line e f) rest
+    rvalue : (room off : ℕ) → Fits e 0 room off → Deeper (λ k. Fits f rvalue_rank k (off + words e)) room → (rest : List Placed) → Ends (first rest) → reader room Rvalue off (spell (Assigned op line e f) ++ rest) ≡ Got (Assigned op line e f) rest
     rvalue zero off he h rest n = absurd h
     rvalue (suc k) off he h rest n =
         ap (reader (suc k) Rvalue off) (append_assoc (spell e) (placed (token.Assign op) line ∷ spell f) rest)
         ∙ ap (λ x. x >>= rvalue_from (inner (suc k)) off) (re.chained or_rank (suc k) off (omega arith) (looser e (suc k) off he) (placed (token.Assign op) line ∷ (spell f ++ rest)) (below_assign op))
-        ∙ rw (fits_operand e (suc k) off he) (ap (λ x. x >>= λ f. Got (Assigned op line e f)) (rf.rvalue k (off + string_words e) h rest n))
+        ∙ rw (fits_operand e (suc k) off he) (ap (λ x. x >>= λ f. Got (Assigned op line e f)) (rf.rvalue k (off + words e) h rest n))
 
 mutual
   reads : (e : Expr) → Reads e

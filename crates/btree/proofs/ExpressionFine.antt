@@ -5,7 +5,8 @@ use Rattle.blang.specs.declared.token.Token.{Token}
 use Rattle.blang.specs.declared.token.Token.TheVariants as token
 use Rattle.blang.specs.declared.token.Placed.{Placed}
 use Rattle.blang.specs.Trees.{mark, Identifier, name_token, Expr, Arguments, PrefixOp, Number, Character, Named, Literal, Text, Grouped, Indexed, Called, Postfixed, Prefixed, Binary, Conditional, Assigned, No_arguments, Another}
-use Rattle.blang.specs.WellFormed.{string_words, argument_words, or_rank}
+use Rattle.blang.specs.WellFormed.{or_rank}
+use Rattle.btree.specs.Fitting.{words, argument_words}
 use Rattle.btree.specs.Reading.{Got, Stop, Reader, ◌>>=◌, first, line_ahead, expect, many}
 use Rattle.btree.specs.ExpressionReader.{is_close_paren, is_close_bracket, is_question, is_colon, prefix_op, op_at, Suffix, Index, Call, Step, suffix, comma, always, ExpressionKind, Operand, Choice, Rvalue, Inner, group, primary, another, arguments, call, postfix_with, postfix, prefixed, operand, operation, chain, choices, conditional, assigns, assigned, rvalue_from, read_at, inner, reader}
 use Rattle.btree.proofs.Fine.{Near, Any, Fine, Closing, Start, startable, then_fine, shift, idle, stuck, same, same_eats, got_fine, map_fine, expect_then, expect_start, closed_fine, closed_eats, Opened, stops, enters, opened_fine, Loop, opened_loop, many_none, many_start, many_fine}
@@ -81,13 +82,13 @@ module _ (inner : Inner) (room : Room inner) where
   call_start off e = record { with_ = mark token.CloseParen ∷ []; value = Called e No_arguments; done = λ k h. refl; front = λ k h. tt }
 
   filled : ℕ → Expr → Reader Expr
-  filled off e ts = arguments inner (off + string_words e) ts >>= λ args r. expect is_close_paren r >>= λ o. Got (Called e args)
+  filled off e ts = arguments inner (off + words e) ts >>= λ args r. expect is_close_paren r >>= λ o. Got (Called e args)
 
   call_fine_at : Good inner → (off : ℕ) (e : Expr) (ts : List Placed) (b : Bool) → is_close_paren (first ts) ≡ b → Fine Closer (call inner off e) ts
   unfolding filled
   call_fine_at good off e [] true h = cc
   call_fine_at good off e (t ∷ ts) true h = shift closing (call inner off e) (λ x. Got (Called e No_arguments) x) t (λ x. rw h refl) ts (got_fine closing (Called e No_arguments) ts)
-  call_fine_at good off e ts false h = same_eats closing (call inner off e) (filled off e) ts (λ new n. rw (ap is_close_paren n ∙ h) refl) (call_start off e) (λ b. closed_eats closing (arguments inner (off + string_words e)) is_close_paren refl (λ args. Called e args) ts (arguments_fine good (off + string_words e) ts) b) (closes_paren (λ args. Called e args) (arguments inner (off + string_words e)) ts (arguments_fine good (off + string_words e) ts))
+  call_fine_at good off e ts false h = same_eats closing (call inner off e) (filled off e) ts (λ new n. rw (ap is_close_paren n ∙ h) refl) (call_start off e) (λ b. closed_eats closing (arguments inner (off + words e)) is_close_paren refl (λ args. Called e args) ts (arguments_fine good (off + words e) ts) b) (closes_paren (λ args. Called e args) (arguments inner (off + words e)) ts (arguments_fine good (off + words e) ts))
 
   no_suffix : (e : Expr) (t : Token) → Closer t → suffix t ≡ None
   no_suffix e token.OpenBracket h = cc
@@ -97,7 +98,7 @@ module _ (inner : Inner) (room : Room inner) where
   no_suffix e _ h = refl
 
   suffix_opened : (off : ℕ) (b : Suffix) (e : Expr) (t : Placed) → Opened closing (postfix_with inner off b e) t
-  suffix_opened off Index e t = entered inner room (λ r. inner.read Rvalue (off + string_words e) r >>= λ f r. expect is_close_bracket r >>= λ o. Got (Indexed e f)) (λ good ts. closed_fine closing Closer (inner.read Rvalue (off + string_words e)) is_close_bracket token.CloseBracket refl refl refl (λ t h. h) (λ f. Indexed e f) ts (good.fine Rvalue (off + string_words e) ts)) t
+  suffix_opened off Index e t = entered inner room (λ r. inner.read Rvalue (off + words e) r >>= λ f r. expect is_close_bracket r >>= λ o. Got (Indexed e f)) (λ good ts. closed_fine closing Closer (inner.read Rvalue (off + words e)) is_close_bracket token.CloseBracket refl refl refl (λ t h. h) (λ f. Indexed e f) ts (good.fine Rvalue (off + words e) ts)) t
   suffix_opened off Call e t = entered inner room (call inner off e) (λ good ts. call_fine_at good off e ts (is_close_paren (first ts)) refl) t
   suffix_opened off (Step op) e t = enters (λ x. Got (Postfixed op t.line e) x) (λ ts. refl) (got_fine closing (Postfixed op t.line e))
 
@@ -150,7 +151,7 @@ module _ (inner : Inner) (room : Room inner) where
   chain_one (suc r) off k h = ap (λ x. x >>= many (always (op_at (suc r))) (operation (chain inner r) off)) (chain_one r off k h) ∙ many_none (always (op_at (suc r))) (operation (chain inner r) off) one_tree k (no_operator (suc r) one_tree (first k) h)
 
   op_loop_of : (r off : ℕ) → ((off : ℕ) (ts : List Placed) → Fine Closer (chain inner r off) ts) → Loop closing (always (op_at (suc r))) (operation (chain inner r) off)
-  op_loop_of r off fine = opened_loop closing (always (op_at (suc r))) (operation (chain inner r) off) (no_operator (suc r)) (λ op e t h. enters (λ x. chain inner r (off + string_words e) x >>= λ f. Got (Binary op t.line e f)) (λ ts. refl) (λ ts. map_fine closing (chain inner r (off + string_words e)) (λ f. Binary op t.line e f) ts (fine (off + string_words e) ts)))
+  op_loop_of r off fine = opened_loop closing (always (op_at (suc r))) (operation (chain inner r) off) (no_operator (suc r)) (λ op e t h. enters (λ x. chain inner r (off + words e) x >>= λ f. Got (Binary op t.line e f)) (λ ts. refl) (λ ts. map_fine closing (chain inner r (off + words e)) (λ f. Binary op t.line e f) ts (fine (off + words e) ts)))
 
   pub chain_fine : (r off : ℕ) (ts : List Placed) → Fine Closer (chain inner r off) ts
   chain_fine zero off ts = operand_fine_at off ts (prefix_op (first ts)) refl
@@ -170,19 +171,19 @@ module _ (inner : Inner) (room : Room inner) where
 
   -- behind the colon
   last : ℕ → Expr → Expr → Reader Expr
-  last off e f r = inner.read Choice (off + string_words e + string_words f) r >>= λ g. Got (Conditional e f g)
+  last off e f r = inner.read Choice (off + words e + words f) r >>= λ g. Got (Conditional e f g)
 
   last_start : Good inner → (off : ℕ) (e f : Expr) → Start closing Any (last off e f)
   unfolding last
-  last_start good off e f = record { with_ = one ∷ []; value = Conditional e f one_tree; done = λ k h. ap (λ x. x >>= λ g. Got (Conditional e f g)) (good.one_is Choice (off + string_words e + string_words f) k h); front = λ k h. tt }
+  last_start good off e f = record { with_ = one ∷ []; value = Conditional e f one_tree; done = λ k h. ap (λ x. x >>= λ g. Got (Conditional e f g)) (good.one_is Choice (off + words e + words f) k h); front = λ k h. tt }
 
   last_fine : Good inner → (off : ℕ) (e f : Expr) (ts : List Placed) → Fine Closer (last off e f) ts
   unfolding last
-  last_fine good off e f ts = map_fine closing (inner.read Choice (off + string_words e + string_words f)) (λ g. Conditional e f g) ts (good.fine Choice (off + string_words e + string_words f) ts)
+  last_fine good off e f ts = map_fine closing (inner.read Choice (off + words e + words f)) (λ g. Conditional e f g) ts (good.fine Choice (off + words e + words f) ts)
 
   choices_fine : Good inner → (off : ℕ) (e : Expr) (ts : List Placed) → Fine Closer (choices inner off e) ts
   unfolding last
-  choices_fine good off e ts = then_fine closing (inner.read Rvalue (off + string_words e)) (λ f r. expect is_colon r >>= λ o. last off e f) (λ f. expect_start closing Closer is_colon token.Colon refl refl (last off e f) (last_start good off e f)) ts (good.fine Rvalue (off + string_words e) ts) (λ f r. expect_then closing is_colon token.Colon refl refl (last off e f) (last_start good off e f) (last_fine good off e f) r)
+  choices_fine good off e ts = then_fine closing (inner.read Rvalue (off + words e)) (λ f r. expect is_colon r >>= λ o. last off e f) (λ f. expect_start closing Closer is_colon token.Colon refl refl (last off e f) (last_start good off e f)) ts (good.fine Rvalue (off + words e) ts) (λ f r. expect_then closing is_colon token.Colon refl refl (last off e f) (last_start good off e f) (last_fine good off e f) r)
 
   conditional_fine_at : (off : ℕ) (e : Expr) (ts : List Placed) (b : Bool) → is_question (first ts) ≡ b → Fine Closer (conditional inner off e) ts
   conditional_fine_at off e ts true h = opened_fine closing (conditional inner off e) (λ x. inner.enter x >>= λ o. choices inner off e) ts (λ n. let m : false ≡ true = sym (ap is_question n) ∙ h in cc) (λ new n. rw (ap is_question n ∙ h) refl) (startable closing (conditional inner off e) (conditional_start off e)) (entered inner room (choices inner off e) (λ good ts. choices_fine good off e ts))
@@ -203,8 +204,8 @@ module _ (inner : Inner) (room : Room inner) where
   assign_opened off e op t = go room
     where
       go : Room inner → Opened closing (assigned inner off e op) t
-      go (full st) = stops (λ ts. ap (λ x. x >>= λ o r. inner.read Rvalue (off + string_words e) r >>= λ f. Got (Assigned op (line_ahead ts) e f)) (st ts))
-      go (some eq good) = enters (λ r. inner.read Rvalue (off + string_words e) r >>= λ f. Got (Assigned op t.line e f)) (λ ts. ap (λ x. x >>= λ o r. inner.read Rvalue (off + string_words e) r >>= λ f. Got (Assigned op t.line e f)) (eq t ts)) (λ ts. map_fine closing (inner.read Rvalue (off + string_words e)) (λ f. Assigned op t.line e f) ts (good.fine Rvalue (off + string_words e) ts))
+      go (full st) = stops (λ ts. ap (λ x. x >>= λ o r. inner.read Rvalue (off + words e) r >>= λ f. Got (Assigned op (line_ahead ts) e f)) (st ts))
+      go (some eq good) = enters (λ r. inner.read Rvalue (off + words e) r >>= λ f. Got (Assigned op t.line e f)) (λ ts. ap (λ x. x >>= λ o r. inner.read Rvalue (off + words e) r >>= λ f. Got (Assigned op t.line e f)) (eq t ts)) (λ ts. map_fine closing (inner.read Rvalue (off + words e)) (λ f. Assigned op t.line e f) ts (good.fine Rvalue (off + words e) ts))
 
   rvalue_from_fine_at : (off : ℕ) (e : Expr) (ts : List Placed) (o : Option (Option BinOp)) → assigns e (first ts) ≡ o → Fine Closer (rvalue_from inner off e) ts
   rvalue_from_fine_at off e ts (Some op) h = opened_fine closing (rvalue_from inner off e) (assigned inner off e op) ts (λ n. let m : None ≡ Some op = sym (no_assign e token.End refl) ∙ ap (assigns e) (sym n) ∙ h in cc) (λ new n. rw (ap (assigns e) n ∙ h) refl) (startable closing (rvalue_from inner off e) (rvalue_from_start off e)) (assign_opened off e op)

@@ -6,14 +6,15 @@ use Rattle.blang.specs.declared.token.Token.TheVariants as token
 use Rattle.blang.specs.declared.token.Placed.{Placed}
 use Rattle.blang.specs.Trees.{mark, kept, kept_tokens, bare, Identifier, Constant, Number, Character, Expr, Arguments, PrefixOp, PostfixOp, PostIncrement, PostDecrement, Named, Literal, Text, Grouped, Indexed, Called, Postfixed, Prefixed, Binary, Conditional, Assigned, No_arguments, Another, prefix_token, postfix_token, comma_behind, spell, spell_arguments}
 use Rattle.blang.specs.Cut.{placed, string_token}
-use Rattle.blang.specs.WellFormed.{string_words, argument_words, rank, or_rank, conditional_rank, rvalue_rank, IsPostfix, Deeper, Fits, ArgumentsFit}
+use Rattle.blang.specs.WellFormed.{rank, or_rank, conditional_rank, rvalue_rank, IsPostfix}
+use Rattle.btree.specs.Fitting.{words, argument_words, Deeper, Fits, ArgumentsFit}
 use Rattle.btree.proofs.ExpressionSound.{prefix_kept}
 use Rattle.btree.proofs.Relined.{cut_token, cut_append, nothing_kept}
 
 -- the twin fits wherever the expression does
 pub record Alike (e e2 : Expr) : Type 0 where
   pub fits : (r room off : ℕ) → Fits e r room off → Fits e2 r room off
-  pub same_words : string_words e2 ≡ string_words e
+  pub same_words : words e2 ≡ words e
   pub postfix : IsPostfix e → IsPostfix e2
 
 pub record Twin (e : Expr) (ps : List Placed) : Type 0 where
@@ -34,7 +35,7 @@ HasTwin e = (ps : List Placed) → map bare (spell e) ≡ map bare ps → Twin e
 abbrev HaveTwin : Arguments → Type 0
 HaveTwin args = (ps : List Placed) → map bare (spell_arguments args) ≡ map bare ps → ArgumentsTwin args ps
 
-pub same_off : {e e2 : Expr} → Alike e e2 → (off : ℕ) → off + string_words e ≡ off + string_words e2
+pub same_off : {e e2 : Expr} → Alike e e2 → (off : ℕ) → off + words e ≡ off + words e2
 same_off a off = ap (λ n. off + n) (sym a.same_words)
 
 pub fits_at : {e e2 : Expr} → Alike e e2 → (r room off off2 : ℕ) → off ≡ off2 → Fits e r room off → Fits e2 r room off2
@@ -76,9 +77,9 @@ indexed_twin e f te tf ps h = cut_append (spell e) (mark token.OpenBracket ∷ (
     let u : Twin f l3 = tf l3 hl3 in
     let s : spell t.tree ≡ kept_tokens l = t.spelled in
     let s2 : spell u.tree ≡ kept_tokens l3 = u.spelled in
-    let w1 : string_words t.tree ≡ string_words e = t.alike.same_words in
-    let w2 : string_words u.tree ≡ string_words f = u.alike.same_words in
-    record { tree = Indexed t.tree u.tree; spelled = let e : spell t.tree ++ (mark token.OpenBracket ∷ (spell u.tree ++ (mark token.CloseBracket ∷ []))) ≡ kept_tokens ps = cc in e; alike = record { fits = λ r room off f. (t.alike.postfix f.0, t.alike.fits 0 room off f.1, deeper_at u.alike rvalue_rank room _ _ (same_off t.alike off) f.2); same_words = let e : string_words t.tree + string_words u.tree ≡ string_words e + string_words f = cc in e; postfix = λ p. p } }))))
+    let w1 : words t.tree ≡ words e = t.alike.same_words in
+    let w2 : words u.tree ≡ words f = u.alike.same_words in
+    record { tree = Indexed t.tree u.tree; spelled = let e : spell t.tree ++ (mark token.OpenBracket ∷ (spell u.tree ++ (mark token.CloseBracket ∷ []))) ≡ kept_tokens ps = cc in e; alike = record { fits = λ r room off f. (t.alike.postfix f.0, t.alike.fits 0 room off f.1, deeper_at u.alike rvalue_rank room _ _ (same_off t.alike off) f.2); same_words = let e : words t.tree + words u.tree ≡ words e + words f = cc in e; postfix = λ p. p } }))))
 
 arguments_deeper : (args : Arguments) (ps : List Placed) (t : ArgumentsTwin args ps) (room off off2 : ℕ) → off ≡ off2 → Deeper (λ k. ArgumentsFit args k off) room → Deeper (λ k. ArgumentsFit t.tree k off2) room
 arguments_deeper args ps t zero off off2 h f = f
@@ -91,9 +92,9 @@ called_twin e args te ta ps h = cut_append (spell e) (mark token.OpenParen ∷ (
     let u : ArgumentsTwin args l3 = ta l3 hl3 in
     let s : spell t.tree ≡ kept_tokens l = t.spelled in
     let s2 : spell_arguments u.tree ≡ kept_tokens l3 = u.spelled in
-    let w1 : string_words t.tree ≡ string_words e = t.alike.same_words in
+    let w1 : words t.tree ≡ words e = t.alike.same_words in
     let w2 : argument_words u.tree ≡ argument_words args = u.same_words in
-    record { tree = Called t.tree u.tree; spelled = let e : spell t.tree ++ (mark token.OpenParen ∷ (spell_arguments u.tree ++ (mark token.CloseParen ∷ []))) ≡ kept_tokens ps = cc in e; alike = record { fits = λ r room off f. (t.alike.postfix f.0, t.alike.fits 0 room off f.1, arguments_deeper args l3 u room _ _ (same_off t.alike off) f.2); same_words = let e : string_words t.tree + argument_words u.tree ≡ string_words e + argument_words args = cc in e; postfix = λ p. p } }))))
+    record { tree = Called t.tree u.tree; spelled = let e : spell t.tree ++ (mark token.OpenParen ∷ (spell_arguments u.tree ++ (mark token.CloseParen ∷ []))) ≡ kept_tokens ps = cc in e; alike = record { fits = λ r room off f. (t.alike.postfix f.0, t.alike.fits 0 room off f.1, arguments_deeper args l3 u room _ _ (same_off t.alike off) f.2); same_words = let e : words t.tree + argument_words u.tree ≡ words e + argument_words args = cc in e; postfix = λ p. p } }))))
 
 postfix_kept : (op : PostfixOp) (line : ℕ) → kept (placed (postfix_token op) line) ≡ placed (postfix_token op) line
 postfix_kept PostIncrement line = refl
@@ -120,9 +121,9 @@ binary_twin op line e f te tf ps h = cut_append (spell e) (placed (token.Operato
     let u : Twin f r2 = tf r2 h2 in
     let s : spell t.tree ≡ kept_tokens l = t.spelled in
     let s2 : spell u.tree ≡ kept_tokens r2 = u.spelled in
-    let w1 : string_words t.tree ≡ string_words e = t.alike.same_words in
-    let w2 : string_words u.tree ≡ string_words f = u.alike.same_words in
-    record { tree = Binary op line2 t.tree u.tree; spelled = let e : spell t.tree ++ (placed (token.Operator op) line2 ∷ spell u.tree) ≡ kept_tokens ps = cc in e; alike = record { fits = λ r room off f. (f.0, t.alike.fits (rank op) room off f.1, fits_at u.alike (rank op - 1) room _ _ (same_off t.alike off) f.2); same_words = let e : string_words t.tree + string_words u.tree ≡ string_words e + string_words f = cc in e; postfix = λ p. p } }))
+    let w1 : words t.tree ≡ words e = t.alike.same_words in
+    let w2 : words u.tree ≡ words f = u.alike.same_words in
+    record { tree = Binary op line2 t.tree u.tree; spelled = let e : spell t.tree ++ (placed (token.Operator op) line2 ∷ spell u.tree) ≡ kept_tokens ps = cc in e; alike = record { fits = λ r room off f. (f.0, t.alike.fits (rank op) room off f.1, fits_at u.alike (rank op - 1) room _ _ (same_off t.alike off) f.2); same_words = let e : words t.tree + words u.tree ≡ words e + words f = cc in e; postfix = λ p. p } }))
 
 conditional_twin : (e f g : Expr) → HasTwin e → HasTwin f → HasTwin g → HasTwin (Conditional e f g)
 conditional_twin e f g te tf tg ps h = cut_append (spell e) (mark token.Question ∷ (spell f ++ (mark token.Colon ∷ spell g))) ps h (λ l r hl hr k. cut_token token.Question 0 (spell f ++ (mark token.Colon ∷ spell g)) r hr (λ line r2 h2 k2. cut_append (spell f) (mark token.Colon ∷ spell g) r2 h2 (λ l3 r3 hl3 h3 k3. cut_token token.Colon 0 (spell g) r3 h3 (λ line r4 h4 k4.
@@ -132,17 +133,17 @@ conditional_twin e f g te tf tg ps h = cut_append (spell e) (mark token.Question
     let s : spell t.tree ≡ kept_tokens l = t.spelled in
     let s2 : spell u.tree ≡ kept_tokens l3 = u.spelled in
     let s3 : spell v.tree ≡ kept_tokens r4 = v.spelled in
-    let w1 : string_words t.tree ≡ string_words e = t.alike.same_words in
-    let w2 : string_words u.tree ≡ string_words f = u.alike.same_words in
-    let w3 : string_words v.tree ≡ string_words g = v.alike.same_words in
-    record { tree = Conditional t.tree u.tree v.tree; spelled = let e : spell t.tree ++ (mark token.Question ∷ (spell u.tree ++ (mark token.Colon ∷ spell v.tree))) ≡ kept_tokens ps = cc in e; alike = record { fits = λ r room off x. (x.0, t.alike.fits or_rank room off x.1, inside t u v room off x.2); same_words = let e : string_words t.tree + string_words u.tree + string_words v.tree ≡ string_words e + string_words f + string_words g = cc in e; postfix = λ p. p } }))))
+    let w1 : words t.tree ≡ words e = t.alike.same_words in
+    let w2 : words u.tree ≡ words f = u.alike.same_words in
+    let w3 : words v.tree ≡ words g = v.alike.same_words in
+    record { tree = Conditional t.tree u.tree v.tree; spelled = let e : spell t.tree ++ (mark token.Question ∷ (spell u.tree ++ (mark token.Colon ∷ spell v.tree))) ≡ kept_tokens ps = cc in e; alike = record { fits = λ r room off x. (x.0, t.alike.fits or_rank room off x.1, inside t u v room off x.2); same_words = let e : words t.tree + words u.tree + words v.tree ≡ words e + words f + words g = cc in e; postfix = λ p. p } }))))
   where
-    inside : {l l3 r4 : List Placed} (t : Twin e l) (u : Twin f l3) (v : Twin g r4) (room off : ℕ) → Deeper (λ k. Fits f rvalue_rank k (off + string_words e) × Fits g conditional_rank k (off + string_words e + string_words f)) room → Deeper (λ k. Fits u.tree rvalue_rank k (off + string_words t.tree) × Fits v.tree conditional_rank k (off + string_words t.tree + string_words u.tree)) room
+    inside : {l l3 r4 : List Placed} (t : Twin e l) (u : Twin f l3) (v : Twin g r4) (room off : ℕ) → Deeper (λ k. Fits f rvalue_rank k (off + words e) × Fits g conditional_rank k (off + words e + words f)) room → Deeper (λ k. Fits u.tree rvalue_rank k (off + words t.tree) × Fits v.tree conditional_rank k (off + words t.tree + words u.tree)) room
     inside t u v zero off x = x
     inside t u v (suc k) off x =
-        let w1 : string_words t.tree ≡ string_words e = t.alike.same_words in
-        let w2 : string_words u.tree ≡ string_words f = u.alike.same_words in
-        (fits_at u.alike rvalue_rank k (off + string_words e) (off + string_words t.tree) (same_off t.alike off) x.0, fits_at v.alike conditional_rank k (off + string_words e + string_words f) (off + string_words t.tree + string_words u.tree) (let q : off + string_words e + string_words f ≡ off + string_words t.tree + string_words u.tree = cc in q) x.1)
+        let w1 : words t.tree ≡ words e = t.alike.same_words in
+        let w2 : words u.tree ≡ words f = u.alike.same_words in
+        (fits_at u.alike rvalue_rank k (off + words e) (off + words t.tree) (same_off t.alike off) x.0, fits_at v.alike conditional_rank k (off + words e + words f) (off + words t.tree + words u.tree) (let q : off + words e + words f ≡ off + words t.tree + words u.tree = cc in q) x.1)
 
 assigned_twin : (op : Option BinOp) (line : ℕ) (e f : Expr) → HasTwin e → HasTwin f → HasTwin (Assigned op line e f)
 assigned_twin op line e f te tf ps h = cut_append (spell e) (placed (token.Assign op) line ∷ spell f) ps h (λ l r hl hr k. cut_token (token.Assign op) line (spell f) r hr (λ line2 r2 h2 k2.
@@ -150,9 +151,9 @@ assigned_twin op line e f te tf ps h = cut_append (spell e) (placed (token.Assig
     let u : Twin f r2 = tf r2 h2 in
     let s : spell t.tree ≡ kept_tokens l = t.spelled in
     let s2 : spell u.tree ≡ kept_tokens r2 = u.spelled in
-    let w1 : string_words t.tree ≡ string_words e = t.alike.same_words in
-    let w2 : string_words u.tree ≡ string_words f = u.alike.same_words in
-    record { tree = Assigned op line2 t.tree u.tree; spelled = let e : spell t.tree ++ (placed (token.Assign op) line2 ∷ spell u.tree) ≡ kept_tokens ps = cc in e; alike = record { fits = λ r room off f. (f.0, t.alike.fits 0 room off f.1, deeper_at u.alike rvalue_rank room _ _ (same_off t.alike off) f.2); same_words = let e : string_words t.tree + string_words u.tree ≡ string_words e + string_words f = cc in e; postfix = λ p. p } }))
+    let w1 : words t.tree ≡ words e = t.alike.same_words in
+    let w2 : words u.tree ≡ words f = u.alike.same_words in
+    record { tree = Assigned op line2 t.tree u.tree; spelled = let e : spell t.tree ++ (placed (token.Assign op) line2 ∷ spell u.tree) ≡ kept_tokens ps = cc in e; alike = record { fits = λ r room off f. (f.0, t.alike.fits 0 room off f.1, deeper_at u.alike rvalue_rank room _ _ (same_off t.alike off) f.2); same_words = let e : words t.tree + words u.tree ≡ words e + words f = cc in e; postfix = λ p. p } }))
 
 another_twin : (before : Arguments) (e : Expr) → HaveTwin before → HasTwin e → HaveTwin (Another before e)
 another_twin before e tb te ps h = cut_append (spell_arguments before) (comma_behind before ++ spell e) ps h (λ l r hl hr k. cut_append (comma_behind before) (spell e) r hr (λ l2 r2 hl2 h2 k2.
@@ -163,8 +164,8 @@ another_twin before e tb te ps h = cut_append (spell_arguments before) (comma_be
     let c : comma_behind t.tree ≡ comma_behind before = t.commas in
     let c2 : comma_behind before ≡ kept_tokens l2 = comma_kept before l2 hl2 in
     let w1 : argument_words t.tree ≡ argument_words before = t.same_words in
-    let w2 : string_words u.tree ≡ string_words e = u.alike.same_words in
-    record { tree = Another t.tree u.tree; spelled = let e : spell_arguments t.tree ++ (comma_behind t.tree ++ spell u.tree) ≡ kept_tokens ps = cc in e; fits = λ room off f. (t.fits room off f.0, fits_at u.alike rvalue_rank room _ _ (ap (λ n. off + n) (sym w1)) f.1); same_words = let e : argument_words t.tree + string_words u.tree ≡ argument_words before + string_words e = cc in e; commas = refl }))
+    let w2 : words u.tree ≡ words e = u.alike.same_words in
+    record { tree = Another t.tree u.tree; spelled = let e : spell_arguments t.tree ++ (comma_behind t.tree ++ spell u.tree) ≡ kept_tokens ps = cc in e; fits = λ room off f. (t.fits room off f.0, fits_at u.alike rvalue_rank room _ _ (ap (λ n. off + n) (sym w1)) f.1); same_words = let e : argument_words t.tree + words u.tree ≡ argument_words before + words e = cc in e; commas = refl }))
   where
     comma_kept : (before : Arguments) (ps : List Placed) → map bare (comma_behind before) ≡ map bare ps → comma_behind before ≡ kept_tokens ps
     comma_kept No_arguments ps h = sym (nothing_kept ps h)

@@ -9,7 +9,8 @@ use Rattle.blang.specs.declared.token.Token.TheVariants as token
 use Rattle.blang.specs.declared.token.Placed.{Placed}
 use Rattle.blang.specs.Trees.{mark, kept, kept_tokens, Expr, Arguments, PrefixOp, Negate, Not, Indirection, Address, PreIncrement, PreDecrement, PostIncrement, PostDecrement, Named, Literal, Text, Grouped, Indexed, Called, Postfixed, Prefixed, Binary, Conditional, Assigned, No_arguments, Another, prefix_token, comma_behind, spell, spell_arguments}
 use Rattle.blang.specs.Cut.{placed}
-use Rattle.blang.specs.WellFormed.{string_words, argument_words, rank, or_rank, conditional_rank, rvalue_rank, IsPostfix, Deeper, Fits, ArgumentsFit}
+use Rattle.blang.specs.WellFormed.{rank, or_rank, conditional_rank, rvalue_rank, IsPostfix}
+use Rattle.btree.specs.Fitting.{words, argument_words, Deeper, Fits, ArgumentsFit}
 use Rattle.btree.specs.Reading.{Read, Got, Stop, Reader, ◌>>=◌, first, expect, turns, many}
 use Rattle.btree.specs.ExpressionReader.{is_close_paren, is_close_bracket, is_colon, prefix_op, having_rank, op_at, Suffix, Index, Call, Step, suffix, comma, always, ExpressionKind, Operand, Choice, Rvalue, Inner, primary, another, arguments, call, postfix_with, postfix, prefixed, operand, operation, chain, choices, conditional, assigns, assigned, rvalue_from, read_at, inner, reader, is_operand}
 
@@ -187,13 +188,13 @@ module _ (room : ℕ) (inner : Inner) (sound : SoundInner room inner) where
   no_arguments off zero o = o
   no_arguments off (suc k) o = tt
 
-  call_filled : (off : ℕ) (e : Expr) (ts : List Placed) → Post off e → Sound spell (Post off) (spell e ++ (mark token.OpenParen ∷ kept_tokens ts)) (arguments inner (off + string_words e) ts >>= λ args r. expect is_close_paren r >>= λ o. Got (Called e args))
+  call_filled : (off : ℕ) (e : Expr) (ts : List Placed) → Post off e → Sound spell (Post off) (spell e ++ (mark token.OpenParen ∷ kept_tokens ts)) (arguments inner (off + words e) ts >>= λ args r. expect is_close_paren r >>= λ o. Got (Called e args))
   unfolding AllFit
-  call_filled off e ts p = shut spell_arguments spell (λ args. Deeper (λ k. ArgumentsFit args k (off + string_words e)) room) (Post off) is_close_paren token.CloseParen only_paren refl (λ line. refl) (λ args. Called e args) (spell e ++ (mark token.OpenParen ∷ kept_tokens ts)) (kept_tokens ts) (arguments inner (off + string_words e) ts) (arguments_sound (off + string_words e) ts)
+  call_filled off e ts p = shut spell_arguments spell (λ args. Deeper (λ k. ArgumentsFit args k (off + words e)) room) (Post off) is_close_paren token.CloseParen only_paren refl (λ line. refl) (λ args. Called e args) (spell e ++ (mark token.OpenParen ∷ kept_tokens ts)) (kept_tokens ts) (arguments inner (off + words e) ts) (arguments_sound (off + words e) ts)
       (λ args r fits eq. (ap (λ x. spell e ++ (mark token.OpenParen ∷ x)) (eq ∙ sym (append_assoc (spell_arguments args) (mark token.CloseParen ∷ []) (kept_tokens r))) ∙ sym (append_assoc (spell e) (mark token.OpenParen ∷ (spell_arguments args ++ (mark token.CloseParen ∷ []))) (kept_tokens r)), (tt, (p.0, p.1, fits))))
 
   call_sound_at : (off : ℕ) (e : Expr) (t : Token) (line : ℕ) (ts : List Placed) → Post off e → Deeper (λ k. Unit {0}) room → Sound spell (Post off) (spell e ++ (mark token.OpenParen ∷ kept_tokens (placed t line ∷ ts))) (call inner off e (placed t line ∷ ts))
-  call_sound_at off e token.CloseParen line ts p o = (sym (append_assoc (spell e) (mark token.OpenParen ∷ mark token.CloseParen ∷ []) (kept_tokens ts)), (tt, (p.0, p.1, no_arguments (off + string_words e) room o)))
+  call_sound_at off e token.CloseParen line ts p o = (sym (append_assoc (spell e) (mark token.OpenParen ∷ mark token.CloseParen ∷ []) (kept_tokens ts)), (tt, (p.0, p.1, no_arguments (off + words e) room o)))
   call_sound_at off e t line ts p o = call_filled off e (placed t line ∷ ts) p
 
   call_sound : (off : ℕ) (e : Expr) (ts : List Placed) → Post off e → Deeper (λ k. Unit {0}) room → Sound spell (Post off) (spell e ++ (mark token.OpenParen ∷ kept_tokens ts)) (call inner off e ts)
@@ -201,8 +202,8 @@ module _ (room : ℕ) (inner : Inner) (sound : SoundInner room inner) where
   call_sound off e (t ∷ ts) p o = call_sound_at off e t.token t.line ts p o
 
   postfix_with_at : (off : ℕ) (b : Suffix) (e : Expr) (t : Token) (line : ℕ) (ts : List Placed) → suffix t ≡ Some b → Post off e → Sound spell (Post off) (spell e ++ kept_tokens (placed t line ∷ ts)) (postfix_with inner off b e (placed t line ∷ ts))
-  postfix_with_at off Index e token.OpenBracket line ts h p = sound.enters (placed token.OpenBracket line) ts Expr spell (Post off) (spell e ++ (mark token.OpenBracket ∷ kept_tokens ts)) (λ r. inner.read Rvalue (off + string_words e) r >>= λ f r. expect is_close_bracket r >>= λ o. Got (Indexed e f)) (λ o.
-      shut spell spell (Below room Rvalue (off + string_words e)) (Post off) is_close_bracket token.CloseBracket only_bracket refl (λ line. refl) (λ f. Indexed e f) (spell e ++ (mark token.OpenBracket ∷ kept_tokens ts)) (kept_tokens ts) (inner.read Rvalue (off + string_words e) ts) (sound.reads Rvalue (off + string_words e) ts)
+  postfix_with_at off Index e token.OpenBracket line ts h p = sound.enters (placed token.OpenBracket line) ts Expr spell (Post off) (spell e ++ (mark token.OpenBracket ∷ kept_tokens ts)) (λ r. inner.read Rvalue (off + words e) r >>= λ f r. expect is_close_bracket r >>= λ o. Got (Indexed e f)) (λ o.
+      shut spell spell (Below room Rvalue (off + words e)) (Post off) is_close_bracket token.CloseBracket only_bracket refl (λ line. refl) (λ f. Indexed e f) (spell e ++ (mark token.OpenBracket ∷ kept_tokens ts)) (kept_tokens ts) (inner.read Rvalue (off + words e) ts) (sound.reads Rvalue (off + words e) ts)
       (λ f r fits eq. (ap (λ x. spell e ++ (mark token.OpenBracket ∷ x)) (eq ∙ sym (append_assoc (spell f) (mark token.CloseBracket ∷ []) (kept_tokens r))) ∙ sym (append_assoc (spell e) (mark token.OpenBracket ∷ (spell f ++ (mark token.CloseBracket ∷ []))) (kept_tokens r)), (tt, (p.0, p.1, fits)))))
   postfix_with_at off Call e token.OpenParen line ts h p = sound.enters (placed token.OpenParen line) ts Expr spell (Post off) (spell e ++ (mark token.OpenParen ∷ kept_tokens ts)) (call inner off e) (λ o. call_sound off e ts p o)
   postfix_with_at off (Step PostIncrement) e token.Increment line ts h p = (sym (append_assoc (spell e) (placed token.Increment line ∷ []) (kept_tokens ts)), (tt, (p.0, p.1)))
@@ -239,39 +240,39 @@ module _ (room : ℕ) (inner : Inner) (sound : SoundInner room inner) where
       go (Some op) h = rw h (prefixed_sound off op ts h)
       go None h = rw h (sound_weaken spell (Post off) (Loose 0 off) (kept_tokens ts) (postfix inner off ts) (λ e p. p.1) (postfix_sound off ts))
 
-  made_binary : (r off : ℕ) (op : BinOp) (line : ℕ) (e : Expr) (ts : List Placed) → Loose (suc r) off e → rank op ≡ suc r → (x : Read Expr) → Sound spell (Loose r (off + string_words e)) ts x → Sound spell (Loose (suc r) off) (spell e ++ (placed (token.Operator op) line ∷ ts)) (x >>= λ f. Got (Binary op line e f))
+  made_binary : (r off : ℕ) (op : BinOp) (line : ℕ) (e : Expr) (ts : List Placed) → Loose (suc r) off e → rank op ≡ suc r → (x : Read Expr) → Sound spell (Loose r (off + words e)) ts x → Sound spell (Loose (suc r) off) (spell e ++ (placed (token.Operator op) line ∷ ts)) (x >>= λ f. Got (Binary op line e f))
   made_binary r off op line e ts p ranked (Got f rest) s =
       let le : rank op ≤ suc r = omega arith in
       let less : r ≡ rank op - 1 = omega arith in
-      (ap (λ x. spell e ++ (placed (token.Operator op) line ∷ x)) s.0 ∙ sym (append_assoc (spell e) (placed (token.Operator op) line ∷ spell f) (kept_tokens rest)), (le, subst (λ n. Fits e n room off) (sym ranked) p, subst (λ n. Fits f n room (off + string_words e)) less s.1))
+      (ap (λ x. spell e ++ (placed (token.Operator op) line ∷ x)) s.0 ∙ sym (append_assoc (spell e) (placed (token.Operator op) line ∷ spell f) (kept_tokens rest)), (le, subst (λ n. Fits e n room off) (sym ranked) p, subst (λ n. Fits f n room (off + words e)) less s.1))
   made_binary r off op line e ts p ranked (Stop rest) s = tt
 
   operation_sound : (r off : ℕ) → ((off : ℕ) (ts : List Placed) → Sound spell (Loose r off) (kept_tokens ts) (chain inner r off ts)) → (op : BinOp) (e : Expr) (ts : List Placed) → op_at (suc r) (first ts) ≡ Some op → Loose (suc r) off e → Sound spell (Loose (suc r) off) (spell e ++ kept_tokens ts) (operation (chain inner r) off op e ts)
   operation_sound r off tighter op e [] h p = cc
-  operation_sound r off tighter op e (t ∷ ts) h p = let f = op_is (suc r) t.token op h in subst (λ x. Sound spell (Loose (suc r) off) (spell e ++ (kept (placed x t.line) ∷ kept_tokens ts)) (chain inner r (off + string_words e) ts >>= λ f. Got (Binary op t.line e f))) (sym f.0) (made_binary r off op t.line e (kept_tokens ts) p f.1 (chain inner r (off + string_words e) ts) (tighter (off + string_words e) ts))
+  operation_sound r off tighter op e (t ∷ ts) h p = let f = op_is (suc r) t.token op h in subst (λ x. Sound spell (Loose (suc r) off) (spell e ++ (kept (placed x t.line) ∷ kept_tokens ts)) (chain inner r (off + words e) ts >>= λ f. Got (Binary op t.line e f))) (sym f.0) (made_binary r off op t.line e (kept_tokens ts) p f.1 (chain inner r (off + words e) ts) (tighter (off + words e) ts))
 
   chain_sound : (r off : ℕ) (ts : List Placed) → Sound spell (Loose r off) (kept_tokens ts) (chain inner r off ts)
   chain_sound zero off ts = operand_sound off ts
   chain_sound (suc r) off ts = sound_bind spell spell (Loose r off) (Loose (suc r) off) (kept_tokens ts) (chain inner r off ts) (many (always (op_at (suc r))) (operation (chain inner r) off)) (chain_sound r off ts) (λ e rest p. sound_turns spell (Loose (suc r) off) (always (op_at (suc r))) (operation (chain inner r) off) (operation_sound r off (chain_sound r)) _ e rest (looser e r (suc r) room off (omega arith) p))
 
-  last_sound_at : (off : ℕ) (e : Expr) → Loose or_rank off e → (ts : List Placed) (f : Expr) (t : Token) (line : ℕ) (rest : List Placed) → ts ≡ spell f ++ kept_tokens (placed t line ∷ rest) → Below room Rvalue (off + string_words e) f → Sound spell (Loose conditional_rank off) (spell e ++ (mark token.Question ∷ ts)) (expect is_colon (placed t line ∷ rest) >>= λ o r. inner.read Choice (off + string_words e + string_words f) r >>= λ g. Got (Conditional e f g))
-  last_sound_at off e p ts f token.Colon line rest eq q = go (inner.read Choice (off + string_words e + string_words f) rest) (sound.reads Choice (off + string_words e + string_words f) rest)
+  last_sound_at : (off : ℕ) (e : Expr) → Loose or_rank off e → (ts : List Placed) (f : Expr) (t : Token) (line : ℕ) (rest : List Placed) → ts ≡ spell f ++ kept_tokens (placed t line ∷ rest) → Below room Rvalue (off + words e) f → Sound spell (Loose conditional_rank off) (spell e ++ (mark token.Question ∷ ts)) (expect is_colon (placed t line ∷ rest) >>= λ o r. inner.read Choice (off + words e + words f) r >>= λ g. Got (Conditional e f g))
+  last_sound_at off e p ts f token.Colon line rest eq q = go (inner.read Choice (off + words e + words f) rest) (sound.reads Choice (off + words e + words f) rest)
     where
-      go : (x : Read Expr) → Sound spell (Below room Choice (off + string_words e + string_words f)) (kept_tokens rest) x → Sound spell (Loose conditional_rank off) (spell e ++ (mark token.Question ∷ ts)) (x >>= λ g. Got (Conditional e f g))
+      go : (x : Read Expr) → Sound spell (Below room Choice (off + words e + words f)) (kept_tokens rest) x → Sound spell (Loose conditional_rank off) (spell e ++ (mark token.Question ∷ ts)) (x >>= λ g. Got (Conditional e f g))
       go (Got g r) s =
           let le : 8 ≤ 8 = omega arith in
-          (ap (λ x. spell e ++ (mark token.Question ∷ x)) (eq ∙ ap (λ x. spell f ++ (mark token.Colon ∷ x)) s.0 ∙ sym (append_assoc (spell f) (mark token.Colon ∷ spell g) (kept_tokens r))) ∙ sym (append_assoc (spell e) (mark token.Question ∷ (spell f ++ (mark token.Colon ∷ spell g))) (kept_tokens r)), (le, p, both_deeper (λ k. Fits f rvalue_rank k (off + string_words e)) (λ k. Fits g conditional_rank k (off + string_words e + string_words f)) room q s.1))
+          (ap (λ x. spell e ++ (mark token.Question ∷ x)) (eq ∙ ap (λ x. spell f ++ (mark token.Colon ∷ x)) s.0 ∙ sym (append_assoc (spell f) (mark token.Colon ∷ spell g) (kept_tokens r))) ∙ sym (append_assoc (spell e) (mark token.Question ∷ (spell f ++ (mark token.Colon ∷ spell g))) (kept_tokens r)), (le, p, both_deeper (λ k. Fits f rvalue_rank k (off + words e)) (λ k. Fits g conditional_rank k (off + words e + words f)) room q s.1))
       go (Stop r) s = tt
   last_sound_at off e p ts f _ line rest eq q = tt
 
-  last_sound : (off : ℕ) (e : Expr) → Loose or_rank off e → (ts : List Placed) (f : Expr) (rest : List Placed) → ts ≡ spell f ++ kept_tokens rest → Below room Rvalue (off + string_words e) f → Sound spell (Loose conditional_rank off) (spell e ++ (mark token.Question ∷ ts)) (expect is_colon rest >>= λ o r. inner.read Choice (off + string_words e + string_words f) r >>= λ g. Got (Conditional e f g))
+  last_sound : (off : ℕ) (e : Expr) → Loose or_rank off e → (ts : List Placed) (f : Expr) (rest : List Placed) → ts ≡ spell f ++ kept_tokens rest → Below room Rvalue (off + words e) f → Sound spell (Loose conditional_rank off) (spell e ++ (mark token.Question ∷ ts)) (expect is_colon rest >>= λ o r. inner.read Choice (off + words e + words f) r >>= λ g. Got (Conditional e f g))
   last_sound off e p ts f [] eq q = tt
   last_sound off e p ts f (t ∷ rest) eq q = last_sound_at off e p ts f t.token t.line rest eq q
 
   conditional_sound_at : (off : ℕ) (e : Expr) (t : Token) (line : ℕ) (ts : List Placed) → Loose or_rank off e → Sound spell (Loose conditional_rank off) (spell e ++ kept_tokens (placed t line ∷ ts)) (conditional inner off e (placed t line ∷ ts))
-  conditional_sound_at off e token.Question line ts p = sound.enters (placed token.Question line) ts Expr spell (Loose conditional_rank off) (spell e ++ (mark token.Question ∷ kept_tokens ts)) (choices inner off e) (λ o. go (inner.read Rvalue (off + string_words e) ts) (sound.reads Rvalue (off + string_words e) ts))
+  conditional_sound_at off e token.Question line ts p = sound.enters (placed token.Question line) ts Expr spell (Loose conditional_rank off) (spell e ++ (mark token.Question ∷ kept_tokens ts)) (choices inner off e) (λ o. go (inner.read Rvalue (off + words e) ts) (sound.reads Rvalue (off + words e) ts))
     where
-      go : (x : Read Expr) → Sound spell (Below room Rvalue (off + string_words e)) (kept_tokens ts) x → Sound spell (Loose conditional_rank off) (spell e ++ (mark token.Question ∷ kept_tokens ts)) (x >>= λ f r. expect is_colon r >>= λ o r. inner.read Choice (off + string_words e + string_words f) r >>= λ g. Got (Conditional e f g))
+      go : (x : Read Expr) → Sound spell (Below room Rvalue (off + words e)) (kept_tokens ts) x → Sound spell (Loose conditional_rank off) (spell e ++ (mark token.Question ∷ kept_tokens ts)) (x >>= λ f r. expect is_colon r >>= λ o r. inner.read Choice (off + words e + words f) r >>= λ g. Got (Conditional e f g))
       go (Got f r) s = last_sound off e p (kept_tokens ts) f r s.0 s.1
       go (Stop r) s = tt
   conditional_sound_at off e _ line ts p = (refl, looser e or_rank conditional_rank room off (omega arith) p)
@@ -289,7 +290,7 @@ module _ (room : ℕ) (inner : Inner) (sound : SoundInner room inner) where
       go false q = let m = rw q at h in cc
   assigns_is e _ o h = cc
 
-  made_assigned : (off : ℕ) (op : Option BinOp) (line : ℕ) (e : Expr) (tail : List Placed) → Fits e 0 room off → (x : Read Expr) → Sound spell (Below room Rvalue (off + string_words e)) tail x → Sound spell (Loose rvalue_rank off) (spell e ++ (placed (token.Assign op) line ∷ tail)) (x >>= λ f. Got (Assigned op line e f))
+  made_assigned : (off : ℕ) (op : Option BinOp) (line : ℕ) (e : Expr) (tail : List Placed) → Fits e 0 room off → (x : Read Expr) → Sound spell (Below room Rvalue (off + words e)) tail x → Sound spell (Loose rvalue_rank off) (spell e ++ (placed (token.Assign op) line ∷ tail)) (x >>= λ f. Got (Assigned op line e f))
   made_assigned off op line e tail q (Got f r) s =
       let le : 9 ≤ 9 = omega arith in
       (ap (λ x. spell e ++ (placed (token.Assign op) line ∷ x)) s.0 ∙ sym (append_assoc (spell e) (placed (token.Assign op) line ∷ spell f) (kept_tokens r)), (le, q, s.1))
@@ -299,7 +300,7 @@ module _ (room : ℕ) (inner : Inner) (sound : SoundInner room inner) where
   assigned_sound off op e [] h p = let i = assigns_is e token.End op h in let n : token.End ≡ token.Assign op = i.1 in cc
   assigned_sound off op e (t ∷ us) h p =
       let i = assigns_is e t.token op h in
-      sound.enters t us Expr spell (Loose rvalue_rank off) (spell e ++ kept_tokens (t ∷ us)) (λ r. inner.read Rvalue (off + string_words e) r >>= λ f. Got (Assigned op t.line e f)) (λ o. subst (λ x. Sound spell (Loose rvalue_rank off) (spell e ++ (kept (placed x t.line) ∷ kept_tokens us)) (inner.read Rvalue (off + string_words e) us >>= λ f. Got (Assigned op t.line e f))) (sym i.1) (made_assigned off op t.line e (kept_tokens us) (operand_fits e or_rank room off i.0 p) (inner.read Rvalue (off + string_words e) us) (sound.reads Rvalue (off + string_words e) us)))
+      sound.enters t us Expr spell (Loose rvalue_rank off) (spell e ++ kept_tokens (t ∷ us)) (λ r. inner.read Rvalue (off + words e) r >>= λ f. Got (Assigned op t.line e f)) (λ o. subst (λ x. Sound spell (Loose rvalue_rank off) (spell e ++ (kept (placed x t.line) ∷ kept_tokens us)) (inner.read Rvalue (off + words e) us >>= λ f. Got (Assigned op t.line e f))) (sym i.1) (made_assigned off op t.line e (kept_tokens us) (operand_fits e or_rank room off i.0 p) (inner.read Rvalue (off + words e) us) (sound.reads Rvalue (off + words e) us)))
 
   rvalue_from_sound : (off : ℕ) (e : Expr) (ts : List Placed) → Loose or_rank off e → Sound spell (Loose rvalue_rank off) (spell e ++ kept_tokens ts) (rvalue_from inner off e ts)
   rvalue_from_sound off e ts p = go (assigns e (first ts)) refl

@@ -6,7 +6,8 @@ use Rattle.blang.specs.declared.token.Token.TheVariants as token
 use Rattle.blang.specs.declared.token.Placed.{Placed}
 use Rattle.blang.specs.Trees.{mark, Expr, Arguments, Named, Literal, Text, Grouped, Indexed, Called, Postfixed, Prefixed, Binary, Conditional, Assigned, No_arguments, Another, name_token, prefix_token, postfix_token, comma_behind, spell, spell_arguments, list_spelling, Stmt, Headed, Compound, If, IfElse, While, Switch, Goto, Break, Return, ReturnValue, Evaluate, Empty, Stmts, Nothing, More, keyword_mark, name_spelling, spell_heading, spell_condition, spell_statement, spell_body, Definition, Simple, Vector, Function, spell_definition}
 use Rattle.blang.specs.Cut.{placed}
-use Rattle.blang.specs.WellFormed.{string_words, argument_words, rank, or_rank, conditional_rank, rvalue_rank, Deeper, Fits, ArgumentsFit, statement_words, body_words, Sits, AllSit}
+use Rattle.blang.specs.WellFormed.{rank, or_rank, conditional_rank, rvalue_rank}
+use Rattle.btree.specs.Fitting.{words, argument_words, Deeper, Fits, ArgumentsFit, statement_words, body_words, Sits, AllSit}
 use Rattle.btree.specs.Levels.{Leveled, on, tokens, levels, argument_levels, condition_levels, statement_levels, body_levels, definition_levels, program_levels, IsFormedIn, NoneAbove, LevelsOfTokens, NeedsLevels, HasLevels}
 
 pub tokens-append : (us vs : List Leveled) → tokens (us ++ vs) ≡ tokens us ++ tokens vs
@@ -97,31 +98,31 @@ module _ (most : ℕ) where
         let s = none_split most (levels e (suc n)) _ none.1 in
         deeper (λ k. Fits e rvalue_rank k off) most n none.0 (within e rvalue_rank o.0 (suc n) off o.1 s.0)
     within (Indexed e f) loose room n off h none =
-        let o = opened (λ k. Fits f rvalue_rank k (off + string_words e)) room h.2 in
+        let o = opened (λ k. Fits f rvalue_rank k (off + words e)) room h.2 in
         let s = none_split most (levels e n) _ none in
         let t = none_split most (levels f (suc n)) _ s.1.1 in
-        (h.0, within e 0 room n off h.1 s.0, deeper (λ k. Fits f rvalue_rank k (off + string_words e)) most n s.1.0 (within f rvalue_rank o.0 (suc n) (off + string_words e) o.1 t.0))
+        (h.0, within e 0 room n off h.1 s.0, deeper (λ k. Fits f rvalue_rank k (off + words e)) most n s.1.0 (within f rvalue_rank o.0 (suc n) (off + words e) o.1 t.0))
     within (Called e args) loose room n off h none =
-        let o = opened (λ k. ArgumentsFit args k (off + string_words e)) room h.2 in
+        let o = opened (λ k. ArgumentsFit args k (off + words e)) room h.2 in
         let s = none_split most (levels e n) _ none in
         let t = none_split most (argument_levels args (suc n)) _ s.1.1 in
-        (h.0, within e 0 room n off h.1 s.0, deeper (λ k. ArgumentsFit args k (off + string_words e)) most n s.1.0 (arguments_within args o.0 (suc n) (off + string_words e) o.1 t.0))
+        (h.0, within e 0 room n off h.1 s.0, deeper (λ k. ArgumentsFit args k (off + words e)) most n s.1.0 (arguments_within args o.0 (suc n) (off + words e) o.1 t.0))
     within (Postfixed op line e) loose room n off h none = let s = none_split most (levels e n) _ none in (h.0, within e 0 room n off h.1 s.0)
     within (Prefixed op line e) loose room n off h none =
         let o = opened (λ k. Fits e 0 k off) room h in
         deeper (λ k. Fits e 0 k off) most n none.0 (within e 0 o.0 (suc n) off o.1 none.1)
     within (Binary op line e f) loose room n off h none =
         let s = none_split most (levels e n) _ none in
-        (h.0, within e (rank op) room n off h.1 s.0, within f (rank op - 1) room n (off + string_words e) h.2 s.1.1)
+        (h.0, within e (rank op) room n off h.1 s.0, within f (rank op - 1) room n (off + words e) h.2 s.1.1)
     within (Conditional e f g) loose room n off h none =
-        let o = opened (λ k. Fits f rvalue_rank k (off + string_words e) × Fits g conditional_rank k (off + string_words e + string_words f)) room h.2 in
+        let o = opened (λ k. Fits f rvalue_rank k (off + words e) × Fits g conditional_rank k (off + words e + words f)) room h.2 in
         let s = none_split most (levels e n) _ none in
         let t = none_split most (levels f (suc n)) _ s.1.1 in
-        (h.0, within e or_rank room n off h.1 s.0, deeper (λ k. Fits f rvalue_rank k (off + string_words e) × Fits g conditional_rank k (off + string_words e + string_words f)) most n s.1.0 (within f rvalue_rank o.0 (suc n) (off + string_words e) o.1.0 t.0, within g conditional_rank o.0 (suc n) (off + string_words e + string_words f) o.1.1 t.1.1))
+        (h.0, within e or_rank room n off h.1 s.0, deeper (λ k. Fits f rvalue_rank k (off + words e) × Fits g conditional_rank k (off + words e + words f)) most n s.1.0 (within f rvalue_rank o.0 (suc n) (off + words e) o.1.0 t.0, within g conditional_rank o.0 (suc n) (off + words e + words f) o.1.1 t.1.1))
     within (Assigned op line e f) loose room n off h none =
-        let o = opened (λ k. Fits f rvalue_rank k (off + string_words e)) room h.2 in
+        let o = opened (λ k. Fits f rvalue_rank k (off + words e)) room h.2 in
         let s = none_split most (levels e n) _ none in
-        (h.0, within e 0 room n off h.1 s.0, deeper (λ k. Fits f rvalue_rank k (off + string_words e)) most n s.1.0 (within f rvalue_rank o.0 (suc n) (off + string_words e) o.1 s.1.1))
+        (h.0, within e 0 room n off h.1 s.0, deeper (λ k. Fits f rvalue_rank k (off + words e)) most n s.1.0 (within f rvalue_rank o.0 (suc n) (off + words e) o.1 s.1.1))
 
     pub arguments_within : (args : Arguments) (room n off : ℕ) → ArgumentsFit args room off → NoneAbove most (argument_levels args n) → ArgumentsFit args (most - n) off
     arguments_within No_arguments room n off h none = tt
@@ -141,23 +142,23 @@ module _ (most : ℕ) where
         let t = none_split most (body_levels body (suc n)) _ none.1 in
         deeper (λ k. AllSit body k off) most n none.0 (body_within body o.0 (suc n) off o.1 t.0)
     statement_within (If e s) room n off f none =
-        let o = opened (λ k. Fits e rvalue_rank k off × Sits s k (off + string_words e)) room f in
+        let o = opened (λ k. Fits e rvalue_rank k off × Sits s k (off + words e)) room f in
         let t = condition_none e (suc n) n (statement_levels s (suc n)) none.1 in
-        deeper (λ k. Fits e rvalue_rank k off × Sits s k (off + string_words e)) most n none.0 (within e rvalue_rank o.0 (suc n) off o.1.0 t.0, statement_within s o.0 (suc n) (off + string_words e) o.1.1 t.1)
+        deeper (λ k. Fits e rvalue_rank k off × Sits s k (off + words e)) most n none.0 (within e rvalue_rank o.0 (suc n) off o.1.0 t.0, statement_within s o.0 (suc n) (off + words e) o.1.1 t.1)
     statement_within (IfElse e s other) room n off f none =
-        let o = opened (λ k. Fits e rvalue_rank k off × Sits s k (off + string_words e) × Sits other k (off + string_words e + statement_words s)) room f.1 in
+        let o = opened (λ k. Fits e rvalue_rank k off × Sits s k (off + words e) × Sits other k (off + words e + statement_words s)) room f.1 in
         let t = condition_none e (suc n) n _ none.1 in
         let t2 = none_split most (statement_levels s (suc n)) _ t.1 in
-        (f.0, deeper (λ k. Fits e rvalue_rank k off × Sits s k (off + string_words e) × Sits other k (off + string_words e + statement_words s)) most n none.0 (within e rvalue_rank o.0 (suc n) off o.1.0 t.0, statement_within s o.0 (suc n) (off + string_words e) o.1.1 t2.0, statement_within other o.0 (suc n) (off + string_words e + statement_words s) o.1.2 t2.1.1))
+        (f.0, deeper (λ k. Fits e rvalue_rank k off × Sits s k (off + words e) × Sits other k (off + words e + statement_words s)) most n none.0 (within e rvalue_rank o.0 (suc n) off o.1.0 t.0, statement_within s o.0 (suc n) (off + words e) o.1.1 t2.0, statement_within other o.0 (suc n) (off + words e + statement_words s) o.1.2 t2.1.1))
     statement_within (While e s) room n off f none =
-        let o = opened (λ k. Fits e rvalue_rank k off × Sits s k (off + string_words e)) room f in
+        let o = opened (λ k. Fits e rvalue_rank k off × Sits s k (off + words e)) room f in
         let t = condition_none e (suc n) n (statement_levels s (suc n)) none.1 in
-        deeper (λ k. Fits e rvalue_rank k off × Sits s k (off + string_words e)) most n none.0 (within e rvalue_rank o.0 (suc n) off o.1.0 t.0, statement_within s o.0 (suc n) (off + string_words e) o.1.1 t.1)
+        deeper (λ k. Fits e rvalue_rank k off × Sits s k (off + words e)) most n none.0 (within e rvalue_rank o.0 (suc n) off o.1.0 t.0, statement_within s o.0 (suc n) (off + words e) o.1.1 t.1)
     statement_within (Switch e body) room n off f none =
-        let o = opened (λ k. Fits e rvalue_rank k off × AllSit body k (off + string_words e)) room f in
+        let o = opened (λ k. Fits e rvalue_rank k off × AllSit body k (off + words e)) room f in
         let t = none_split most (levels e (suc n)) _ none.1 in
         let t2 = none_split most (body_levels body (suc n)) _ t.1.1 in
-        deeper (λ k. Fits e rvalue_rank k off × AllSit body k (off + string_words e)) most n none.0 (within e rvalue_rank o.0 (suc n) off o.1.0 t.0, body_within body o.0 (suc n) (off + string_words e) o.1.1 t2.0)
+        deeper (λ k. Fits e rvalue_rank k off × AllSit body k (off + words e)) most n none.0 (within e rvalue_rank o.0 (suc n) off o.1.0 t.0, body_within body o.0 (suc n) (off + words e) o.1.1 t2.0)
     statement_within (Goto e) room n off f none = let t = none_split most (levels e n) _ none.1 in within e rvalue_rank room n off f t.0
     statement_within (Break line) room n off f none = tt
     statement_within Return room n off f none = tt
@@ -204,15 +205,15 @@ module _ (most : ℕ) where
         let up : suc n ≤ most = omega (arith, o.1) in
         (up, none_join most (levels e (suc n)) _ (has e rvalue_rank o.0 (suc n) off o.1 o.2) (low, tt))
     has (Indexed e f) loose room n off le h =
-        let o = one_deeper (λ k. Fits f rvalue_rank k (off + string_words e)) room n most le h.2 in
+        let o = one_deeper (λ k. Fits f rvalue_rank k (off + words e)) room n most le h.2 in
         let low : n ≤ most = omega arith in
         let up : suc n ≤ most = omega (arith, o.1) in
-        none_join most (levels e n) _ (has e 0 room n off le h.1) (up, none_join most (levels f (suc n)) _ (has f rvalue_rank o.0 (suc n) (off + string_words e) o.1 o.2) (low, tt))
+        none_join most (levels e n) _ (has e 0 room n off le h.1) (up, none_join most (levels f (suc n)) _ (has f rvalue_rank o.0 (suc n) (off + words e) o.1 o.2) (low, tt))
     has (Called e args) loose room n off le h =
-        let o = one_deeper (λ k. ArgumentsFit args k (off + string_words e)) room n most le h.2 in
+        let o = one_deeper (λ k. ArgumentsFit args k (off + words e)) room n most le h.2 in
         let low : n ≤ most = omega arith in
         let up : suc n ≤ most = omega (arith, o.1) in
-        none_join most (levels e n) _ (has e 0 room n off le h.1) (up, none_join most (argument_levels args (suc n)) _ (arguments_have args o.0 (suc n) (off + string_words e) o.1 o.2) (low, tt))
+        none_join most (levels e n) _ (has e 0 room n off le h.1) (up, none_join most (argument_levels args (suc n)) _ (arguments_have args o.0 (suc n) (off + words e) o.1 o.2) (low, tt))
     has (Postfixed op line e) loose room n off le h = let low : n ≤ most = omega arith in none_join most (levels e n) _ (has e 0 room n off le h.1) (low, tt)
     has (Prefixed op line e) loose room n off le h =
         let o = one_deeper (λ k. Fits e 0 k off) room n most le h in
@@ -220,15 +221,15 @@ module _ (most : ℕ) where
         (up, has e 0 o.0 (suc n) off o.1 o.2)
     has (Binary op line e f) loose room n off le h =
         let low : n ≤ most = omega arith in
-        none_join most (levels e n) _ (has e (rank op) room n off le h.1) (low, has f (rank op - 1) room n (off + string_words e) le h.2)
+        none_join most (levels e n) _ (has e (rank op) room n off le h.1) (low, has f (rank op - 1) room n (off + words e) le h.2)
     has (Conditional e f g) loose room n off le h =
-        let o = one_deeper (λ k. Fits f rvalue_rank k (off + string_words e) × Fits g conditional_rank k (off + string_words e + string_words f)) room n most le h.2 in
+        let o = one_deeper (λ k. Fits f rvalue_rank k (off + words e) × Fits g conditional_rank k (off + words e + words f)) room n most le h.2 in
         let up : suc n ≤ most = omega (arith, o.1) in
-        none_join most (levels e n) _ (has e or_rank room n off le h.1) (up, none_join most (levels f (suc n)) _ (has f rvalue_rank o.0 (suc n) (off + string_words e) o.1 o.2.0) (up, has g conditional_rank o.0 (suc n) (off + string_words e + string_words f) o.1 o.2.1))
+        none_join most (levels e n) _ (has e or_rank room n off le h.1) (up, none_join most (levels f (suc n)) _ (has f rvalue_rank o.0 (suc n) (off + words e) o.1 o.2.0) (up, has g conditional_rank o.0 (suc n) (off + words e + words f) o.1 o.2.1))
     has (Assigned op line e f) loose room n off le h =
-        let o = one_deeper (λ k. Fits f rvalue_rank k (off + string_words e)) room n most le h.2 in
+        let o = one_deeper (λ k. Fits f rvalue_rank k (off + words e)) room n most le h.2 in
         let up : suc n ≤ most = omega (arith, o.1) in
-        none_join most (levels e n) _ (has e 0 room n off le h.1) (up, has f rvalue_rank o.0 (suc n) (off + string_words e) o.1 o.2)
+        none_join most (levels e n) _ (has e 0 room n off le h.1) (up, has f rvalue_rank o.0 (suc n) (off + words e) o.1 o.2)
 
     pub arguments_have : (args : Arguments) (room n off : ℕ) → n + room ≤ most → ArgumentsFit args room off → NoneAbove most (argument_levels args n)
     arguments_have No_arguments room n off le h = tt
@@ -248,25 +249,25 @@ module _ (most : ℕ) where
         let up : suc n ≤ most = omega (arith, o.1) in
         (up, none_join most (body_levels body (suc n)) _ (body_has body o.0 (suc n) off o.1 o.2) (low, tt))
     statement_has (If e s) room n off le f =
-        let o = one_deeper (λ k. Fits e rvalue_rank k off × Sits s k (off + string_words e)) room n most le f in
+        let o = one_deeper (λ k. Fits e rvalue_rank k off × Sits s k (off + words e)) room n most le f in
         let low : n ≤ most = omega arith in
         let up : suc n ≤ most = omega (arith, o.1) in
-        (up, has_condition e (suc n) n _ low (has e rvalue_rank o.0 (suc n) off o.1 o.2.0) (statement_has s o.0 (suc n) (off + string_words e) o.1 o.2.1))
+        (up, has_condition e (suc n) n _ low (has e rvalue_rank o.0 (suc n) off o.1 o.2.0) (statement_has s o.0 (suc n) (off + words e) o.1 o.2.1))
     statement_has (IfElse e s other) room n off le f =
-        let o = one_deeper (λ k. Fits e rvalue_rank k off × Sits s k (off + string_words e) × Sits other k (off + string_words e + statement_words s)) room n most le f.1 in
+        let o = one_deeper (λ k. Fits e rvalue_rank k off × Sits s k (off + words e) × Sits other k (off + words e + statement_words s)) room n most le f.1 in
         let low : n ≤ most = omega arith in
         let up : suc n ≤ most = omega (arith, o.1) in
-        (up, has_condition e (suc n) n _ low (has e rvalue_rank o.0 (suc n) off o.1 o.2.0) (none_join most (statement_levels s (suc n)) _ (statement_has s o.0 (suc n) (off + string_words e) o.1 o.2.1) (low, statement_has other o.0 (suc n) (off + string_words e + statement_words s) o.1 o.2.2)))
+        (up, has_condition e (suc n) n _ low (has e rvalue_rank o.0 (suc n) off o.1 o.2.0) (none_join most (statement_levels s (suc n)) _ (statement_has s o.0 (suc n) (off + words e) o.1 o.2.1) (low, statement_has other o.0 (suc n) (off + words e + statement_words s) o.1 o.2.2)))
     statement_has (While e s) room n off le f =
-        let o = one_deeper (λ k. Fits e rvalue_rank k off × Sits s k (off + string_words e)) room n most le f in
+        let o = one_deeper (λ k. Fits e rvalue_rank k off × Sits s k (off + words e)) room n most le f in
         let low : n ≤ most = omega arith in
         let up : suc n ≤ most = omega (arith, o.1) in
-        (up, has_condition e (suc n) n _ low (has e rvalue_rank o.0 (suc n) off o.1 o.2.0) (statement_has s o.0 (suc n) (off + string_words e) o.1 o.2.1))
+        (up, has_condition e (suc n) n _ low (has e rvalue_rank o.0 (suc n) off o.1 o.2.0) (statement_has s o.0 (suc n) (off + words e) o.1 o.2.1))
     statement_has (Switch e body) room n off le f =
-        let o = one_deeper (λ k. Fits e rvalue_rank k off × AllSit body k (off + string_words e)) room n most le f in
+        let o = one_deeper (λ k. Fits e rvalue_rank k off × AllSit body k (off + words e)) room n most le f in
         let low : n ≤ most = omega arith in
         let up : suc n ≤ most = omega (arith, o.1) in
-        (up, none_join most (levels e (suc n)) _ (has e rvalue_rank o.0 (suc n) off o.1 o.2.0) (low, none_join most (body_levels body (suc n)) _ (body_has body o.0 (suc n) (off + string_words e) o.1 o.2.1) (low, tt)))
+        (up, none_join most (levels e (suc n)) _ (has e rvalue_rank o.0 (suc n) off o.1 o.2.0) (low, none_join most (body_levels body (suc n)) _ (body_has body o.0 (suc n) (off + words e) o.1 o.2.1) (low, tt)))
     statement_has (Goto e) room n off le f = let low : n ≤ most = omega arith in (low, none_join most (levels e n) _ (has e rvalue_rank room n off le f) (low, tt))
     statement_has (Break line) room n off le f = let low : n ≤ most = omega arith in (low, (low, tt))
     statement_has Return room n off le f = let low : n ≤ most = omega arith in (low, (low, tt))

@@ -8,7 +8,8 @@ use Rattle.btree.specs.Reading.{Got, Stop, Reader, ◌>>=◌, first, line_ahead,
 use Rattle.btree.specs.ExpressionReader.{is_close_paren, is_close_bracket}
 use Rattle.btree.specs.Commas.{list_reader}
 use Rattle.btree.specs.StatementReader.{is_semicolon, name, size, statement}
-use Rattle.blang.specs.WellFormed.{values_words, nesting_limit, is_open}
+use Rattle.blang.specs.WellFormed.{nesting_limit, is_open}
+use Rattle.btree.specs.Fitting.{values_words}
 
 abbrev pub ival_at : ℕ → Token → Reader Ival
 ival_at off (token.Number n) ts = Got (Ival_constant (Number n)) (after ts)

@@ -8,7 +8,8 @@ use Rattle.blang.specs.Trees.{Expr, Arguments, PrefixOp, Negate, Not, Indirectio
 use Rattle.blang.specs.Trees.{PostfixOp, PostIncrement, PostDecrement, Number, Character, Named, Literal, Text, Grouped}
 use Rattle.blang.specs.Trees.{Indexed, Called, Postfixed, Prefixed, Binary, Conditional, Assigned, No_arguments}
 use Rattle.blang.specs.Trees.{Another}
-use Rattle.blang.specs.WellFormed.{string_words, argument_words, rank, or_rank}
+use Rattle.blang.specs.WellFormed.{rank, or_rank}
+use Rattle.btree.specs.Fitting.{words, argument_words}
 use Rattle.btree.specs.Reading.{Got, Stop, Reader, ◌>>=◌, at_some, first, line_ahead, after, expect, many}
 
 -- an expression that no binary operator, conditional or assignment joins
@@ -117,11 +118,11 @@ abbrev pub call : Inner → ℕ → Expr → Reader Expr
 call inner off e ts =
     if is_close_paren (first ts)
     then Got (Called e No_arguments) (after ts)
-    else arguments inner (off + string_words e) ts >>= λ args r. expect is_close_paren r >>= λ o. Got (Called e args)
+    else arguments inner (off + words e) ts >>= λ args r. expect is_close_paren r >>= λ o. Got (Called e args)
 
 abbrev pub postfix_with : Inner → ℕ → Suffix → Expr → Reader Expr
 postfix_with inner off Index e ts =
-    inner.enter ts >>= λ o r. inner.read Rvalue (off + string_words e) r >>= λ f r. expect is_close_bracket r
+    inner.enter ts >>= λ o r. inner.read Rvalue (off + words e) r >>= λ f r. expect is_close_bracket r
     >>= λ o. Got (Indexed e f)
 postfix_with inner off Call e ts = inner.enter ts >>= λ o. call inner off e
 postfix_with inner off (Step op) e ts = Got (Postfixed op (line_ahead ts) e) (after ts)
@@ -138,7 +139,7 @@ operand inner off ts = at_some (prefix_op (first ts)) (λ op. prefixed inner off
 
 -- one more operator of a rank, and what stands behind it
 abbrev pub operation : (ℕ → Reader Expr) → ℕ → BinOp → Expr → Reader Expr
-operation tighter off op e ts = tighter (off + string_words e) (after ts) >>= λ f. Got (Binary op (line_ahead ts) e f)
+operation tighter off op e ts = tighter (off + words e) (after ts) >>= λ f. Got (Binary op (line_ahead ts) e f)
 
 -- operands and the binary operators up to this rank
 abbrev pub chain : Inner → ℕ → ℕ → Reader Expr
@@ -148,8 +149,8 @@ chain inner (suc r) off ts = chain inner r off ts >>= many (always (op_at (suc r
 -- behind the question mark
 abbrev pub choices : Inner → ℕ → Expr → Reader Expr
 choices inner off e ts =
-    inner.read Rvalue (off + string_words e) ts >>= λ f r. expect is_colon r
-    >>= λ o r. inner.read Choice (off + string_words e + string_words f) r >>= λ g. Got (Conditional e f g)
+    inner.read Rvalue (off + words e) ts >>= λ f r. expect is_colon r
+    >>= λ o r. inner.read Choice (off + words e + words f) r >>= λ g. Got (Conditional e f g)
 
 abbrev pub conditional : Inner → ℕ → Expr → Reader Expr
 conditional inner off e ts = if is_question (first ts) then inner.enter ts >>= (λ o. choices inner off e) else Got e ts
@@ -161,7 +162,7 @@ assigns e _ = None
 
 abbrev pub assigned : Inner → ℕ → Expr → Option BinOp → Reader Expr
 assigned inner off e op ts =
-    inner.enter ts >>= λ o r. inner.read Rvalue (off + string_words e) r >>= λ f. Got (Assigned op (line_ahead ts) e f)
+    inner.enter ts >>= λ o r. inner.read Rvalue (off + words e) r >>= λ f. Got (Assigned op (line_ahead ts) e f)
 
 abbrev pub rvalue_from : Inner → ℕ → Expr → Reader Expr
 rvalue_from inner off e ts =

@@ -7,7 +7,8 @@ use Rattle.bword.specs.declared.edition.Edition.{Edition}
 use Rattle.blang.specs.Cut.{tokens_from}
 use Rattle.blang.specs.Trees.{mark, kept_tokens, bare, Identifier, Expr, name_token, spell, Stmt, spell_statement}
 use Rattle.blang.specs.Trees.{keyword_mark, Definition, spell_definition}
-use Rattle.blang.specs.WellFormed.{rvalue_rank, Fits, Sits, IsFormed}
+use Rattle.blang.specs.WellFormed.{rvalue_rank, IsFormed}
+use Rattle.btree.specs.Fitting.{Fits, Sits}
 use Rattle.btree.specs.Reading.{Got, first}
 use Rattle.btree.specs.ReadingOn.{Fine, Closer}
 use Rattle.blang.specs.WellFormed as statements

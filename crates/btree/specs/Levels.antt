@@ -10,7 +10,7 @@ use Rattle.blang.specs.Trees.{Compound, If, IfElse, While, Switch, Goto, Break, 
 use Rattle.blang.specs.Trees.{Stmts, Nothing, More, keyword_mark, name_spelling, spell_heading, Definition, Simple}
 use Rattle.blang.specs.Trees.{Vector, Function, spell_definition, spell_all}
 use Rattle.blang.specs.Cut.{placed, string_token}
-use Rattle.blang.specs.WellFormed.{Sits, IsFormed}
+use Rattle.btree.specs.Fitting.{EachBehind, Sits, IvalFits}
 
 pub record Leveled : Type 0 where
   pub token : Placed
@@ -94,8 +94,8 @@ program_levels (d ∷ ds) = definition_levels d ++ program_levels ds
 
 -- well formed, with another greatest level
 abbrev pub IsFormedIn : ℕ → Definition → Type 0
-IsFormedIn most (Simple w values) = IsFormed (Simple w values)
-IsFormedIn most (Vector w size values) = IsFormed (Vector w size values)
+IsFormedIn most (Simple w values) = EachBehind IvalFits [] values
+IsFormedIn most (Vector w size values) = EachBehind IvalFits [] values
 IsFormedIn most (Function w parameters body) = Sits body most 0
 
 abbrev pub AllFormedIn : ℕ → List Definition → Type 0

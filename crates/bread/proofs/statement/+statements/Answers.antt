@@ -2,7 +2,7 @@ use Rattle.std.proofs.Common.{◌+◌, sym, ap, ◌∙◌}
 use Rattle.std.specs.Option.{is_some}
 use Rattle.blang.specs.declared.token.Token.TheVariants as token
 use Rattle.blex.proofs.LexemeSteps.{token_here, lexeme_here}
-use Rattle.blang.specs.WellFormed.{string_words, statement_words, body_words}
+use Rattle.btree.specs.Fitting.{words, statement_words, body_words}
 use Rattle.blang.specs.Trees.{Goto}
 use Rattle.btree.specs.StatementReader.{compound, switched, chosen, looped, goes_on, level}
 use Rattle.btree.specs.StatementReader as reader
@@ -83,7 +83,7 @@ pub conditional-returns-in_err-condition : goal.conditional-returns-in_err-condi
 conditional-returns-in_err-condition g t c = compiles_err _ _ _ _ c.from_residual-in_err-condition.result _ _ c.in_err-condition.field-0.0 c.from_residual-in_err-condition.ensures.1 (λ i. tested_halts c.args.room c.in_ok-room.room i _ _ c.in_ok-room.ensures.tokens chosen _ c.in_err-condition.field-0.0 (c.in_err-condition.ensures i))
 
 pub conditional-returns-in_err-statement : goal.conditional-returns-in_err-statement
-conditional-returns-in_err-statement g t c = compiles_err _ _ _ _ c.from_residual-in_err-statement.result _ _ c.in_err-statement.field-0.0 c.from_residual-in_err-statement.ensures.1 (λ i. let w = c.in_ok-condition.ensures.0 i in conditional_body c.args.room c.in_ok-room.room i _ _ _ _ c.in_ok-room.ensures.tokens w.tree w.runs c.in_err-statement.field-0.0 (c.in_err-statement.ensures (i + string_words w.tree)))
+conditional-returns-in_err-statement g t c = compiles_err _ _ _ _ c.from_residual-in_err-statement.result _ _ c.in_err-statement.field-0.0 c.from_residual-in_err-statement.ensures.1 (λ i. let w = c.in_ok-condition.ensures.0 i in conditional_body c.args.room c.in_ok-room.room i _ _ _ _ c.in_ok-room.ensures.tokens w.tree w.runs c.in_err-statement.field-0.0 (c.in_err-statement.ensures (i + words w.tree)))
 
 pub repeated-returns-in_err-room : goal.repeated-returns-in_err-room
 repeated-returns-in_err-room g t c = compiles_err _ _ _ _ c.from_residual.result _ _ c.in_err-room.field-0.0 c.from_residual.ensures.1 (λ i. tested_enter c.args.room i _ _ looped c.in_err-room.field-0.0 c.in_err-room.ensures.tokens)
@@ -92,7 +92,7 @@ pub repeated-returns-in_err-condition : goal.repeated-returns-in_err-condition
 repeated-returns-in_err-condition g t c = compiles_err _ _ _ _ c.from_residual-in_err-condition.result _ _ c.in_err-condition.field-0.0 c.from_residual-in_err-condition.ensures.1 (λ i. tested_halts c.args.room c.in_ok-room.room i _ _ c.in_ok-room.ensures.tokens looped _ c.in_err-condition.field-0.0 (c.in_err-condition.ensures i))
 
 pub repeated-returns-in_err-statement : goal.repeated-returns-in_err-statement
-repeated-returns-in_err-statement g t c = compiles_err _ _ _ _ c.from_residual-in_err-statement.result _ _ c.in_err-statement.field-0.0 c.from_residual-in_err-statement.ensures.1 (λ i. let w = c.in_ok-condition.ensures.0 i in repeated_body c.args.room c.in_ok-room.room i _ _ _ _ c.in_ok-room.ensures.tokens w.tree w.runs c.in_err-statement.field-0.0 (c.in_err-statement.ensures (i + string_words w.tree)))
+repeated-returns-in_err-statement g t c = compiles_err _ _ _ _ c.from_residual-in_err-statement.result _ _ c.in_err-statement.field-0.0 c.from_residual-in_err-statement.ensures.1 (λ i. let w = c.in_ok-condition.ensures.0 i in repeated_body c.args.room c.in_ok-room.room i _ _ _ _ c.in_ok-room.ensures.tokens w.tree w.runs c.in_err-statement.field-0.0 (c.in_err-statement.ensures (i + words w.tree)))
 
 pub conditional-returns : goal.conditional-returns
 conditional-returns g t c = conditional_ends c.args.room c.in_ok-room.room c.place-test.result _ _ _ _ _ _ _ _ _ c.in_ok-room.ensures.tokens c.in_ok-room.ensures.draft c.in_ok-condition.ensures.0 c.place-test.ensures c.emit.ensures c.in_ok-statement.ensures.0 c.in_ok-statement.ensures.2 c.otherwise.result _ _ c.otherwise.ensures
@@ -104,7 +104,7 @@ pub otherwise-returns-then-not-is_at : goal.otherwise-returns-then-not-is_at
 otherwise-returns-then-not-is_at g t c = otherwise_absent c.args.room c.args.test _ _ _ c.requires (sym c.is_at.ensures ∙ c.if-not-is_at.true) c.skip_to_here.ensures
 
 pub otherwise-returns-in_err-statement : goal.otherwise-returns-in_err-statement
-otherwise-returns-in_err-statement g t c = chooses_err c.args.room c.args.test _ _ c.from_residual-in_err-statement.result _ _ c.in_err-statement.field-0.0 c.from_residual-in_err-statement.ensures.1 (λ i e s. otherwise_halts c.args.room _ _ c.in_ok-advance.ensures.ok (sym c.is_at.ensures ∙ c.if-not-is_at.false) i e s _ c.in_err-statement.field-0.0 (c.in_err-statement.ensures (i + string_words e + statement_words s)))
+otherwise-returns-in_err-statement g t c = chooses_err c.args.room c.args.test _ _ c.from_residual-in_err-statement.result _ _ c.in_err-statement.field-0.0 c.from_residual-in_err-statement.ensures.1 (λ i e s. otherwise_halts c.args.room _ _ c.in_ok-advance.ensures.ok (sym c.is_at.ensures ∙ c.if-not-is_at.false) i e s _ c.in_err-statement.field-0.0 (c.in_err-statement.ensures (i + words e + statement_words s)))
 
 pub otherwise-returns : goal.otherwise-returns
 otherwise-returns g t c = let e = c.in_ok-statement.ensures in otherwise_took c.args.room _ _ c.in_ok-advance.ensures.ok (sym c.is_at.ensures ∙ c.if-not-is_at.false) c.args.test c.place-jump.result _ _ _ _ _ _ c.place-jump.ensures c.emit.ensures c.skip_to_here-2.ensures e.0 e.1 e.2 (c.fill.ensures ∙ ap (λ p. filled c.place-jump.result (instr.Jump p) c.statement.new.parser.draft) c.place-end.ensures)
@@ -119,7 +119,7 @@ pub switched-returns-in_err-expect : goal.switched-returns-in_err-expect
 switched-returns-in_err-expect g t c = compiles_err _ _ _ _ c.from_residual-in_err-expect.result _ _ c.in_err-expect.field-0.0 c.from_residual-in_err-expect.ensures.1 (λ i. let w = c.in_ok-evaluate.ensures.0 i in switched_brace c.args.room c.in_ok-room.room i _ _ c.in_ok-room.ensures.tokens _ w.tree w.runs _ c.in_err-expect.field-0.0 c.in_err-expect.ensures.tokens)
 
 pub switched-returns-in_err-body : goal.switched-returns-in_err-body
-switched-returns-in_err-body g t c = compiles_err _ _ _ _ c.from_residual-in_err-body.result _ _ c.in_err-body.field-0.0 c.from_residual-in_err-body.ensures.1 (λ i. let w = c.in_ok-evaluate.ensures.0 i in switched_body_halts c.args.room c.in_ok-room.room i _ _ c.in_ok-room.ensures.tokens _ w.tree w.runs _ c.in_ok-expect.ensures.tokens.0 _ c.in_err-body.field-0.0 (c.in_err-body.ensures (i + string_words w.tree)))
+switched-returns-in_err-body g t c = compiles_err _ _ _ _ c.from_residual-in_err-body.result _ _ c.in_err-body.field-0.0 c.from_residual-in_err-body.ensures.1 (λ i. let w = c.in_ok-evaluate.ensures.0 i in switched_body_halts c.args.room c.in_ok-room.room i _ _ c.in_ok-room.ensures.tokens _ w.tree w.runs _ c.in_ok-expect.ensures.tokens.0 _ c.in_err-body.field-0.0 (c.in_err-body.ensures (i + words w.tree)))
 
 pub switched-returns : goal.switched-returns
-switched-returns g t c = ((λ i. let w = c.in_ok-evaluate.ensures.0 i in switched_took c.args.room c.in_ok-room.room i _ _ c.in_ok-room.ensures.tokens _ w.tree w.runs _ c.in_ok-expect.ensures.tokens.0 c.place-jump.result _ _ _ _ _ _ _ _ (c.in_ok-expect.ensures.draft ∙ w.made ∙ ap (evaluated w.tree) c.in_ok-room.ensures.draft) c.mark-mark.ensures c.place-jump.ensures c.emit.ensures c.begin_switch.ensures (c.in_ok-body.ensures.0 (i + string_words w.tree)) c.close_switch.ensures), c.in_ok-body.ensures.1, both_fall (falls_before (less c.in_ok-room.ensures.tokens.1) (c.in_ok-evaluate.ensures.0 0).runs.falls) (both_fall c.in_ok-expect.ensures.tokens.2 c.in_ok-body.ensures.2))
+switched-returns g t c = ((λ i. let w = c.in_ok-evaluate.ensures.0 i in switched_took c.args.room c.in_ok-room.room i _ _ c.in_ok-room.ensures.tokens _ w.tree w.runs _ c.in_ok-expect.ensures.tokens.0 c.place-jump.result _ _ _ _ _ _ _ _ (c.in_ok-expect.ensures.draft ∙ w.made ∙ ap (evaluated w.tree) c.in_ok-room.ensures.draft) c.mark-mark.ensures c.place-jump.ensures c.emit.ensures c.begin_switch.ensures (c.in_ok-body.ensures.0 (i + words w.tree)) c.close_switch.ensures), c.in_ok-body.ensures.1, both_fall (falls_before (less c.in_ok-room.ensures.tokens.1) (c.in_ok-evaluate.ensures.0 0).runs.falls) (both_fall c.in_ok-expect.ensures.tokens.2 c.in_ok-body.ensures.2))
