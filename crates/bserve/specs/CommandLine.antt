@@ -140,8 +140,8 @@ abbrev pub form_in : List Row → Form
 form_in rows = if is_set_in (codes "json") rows then form.Json else form.Text
 
 -- What is asked for: that a source is compiled, that the code text in a file is run, that the source in a file is
--- compiled and run, that a code text is migrated, that the code of the source in a file, or of its definitions of a name,
--- is listed, that its layout is shown, that the source in a file is checked; or a limit of steps and none, which
+-- compiled and run, that a code text is migrated, that the code of the source in a file, or of its definitions of a
+-- name, is listed, that its layout is shown, that the source in a file is checked; or a limit of steps and none, which
 -- contradict each other.
 pub data Asked : Type 0 where
   compile : (edition : Edition) → Asked
