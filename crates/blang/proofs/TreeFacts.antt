@@ -1,10 +1,10 @@
 -- Closed facts: trees that are well formed or not, and where a source stops being a program's.
-use Rattle.std.proofs.Common.{◌≡◌, ◌≤◌, ℕ, zero, suc, true, false, List, [], ◌∷◌, map, codes, Option, None, Some, refl, sym, subst, arith, inl}
+use Rattle.std.proofs.Common.{◌≡◌, ◌≤◌, ℕ, zero, suc, true, false, List, [], ◌∷◌, map, codes, Option, None, Some, refl, sym, subst, arith, inl, leb-true}
 use Rattle.bword.specs.declared.operators.BinOp.TheVariants as op
 use Rattle.blang.specs.declared.token.Token.{Token}
 use Rattle.blang.specs.declared.token.Placed.{Placed}
 use Rattle.blang.specs.declared.token.Diagnostic.{Diagnostic}
-use Rattle.blang.specs.Trees.{Number, Negate, PostIncrement, Expr, Arguments, Literal, Text, Grouped, Indexed, Called, Postfixed, Prefixed, Binary, Conditional, Assigned, No_arguments, Another, Heading, Label, Stmt, Headed, Compound, If, IfElse, While, Switch, Goto, ReturnValue, Evaluate, Empty, Stmts, Nothing, More, Ival_constant, Ival_text, Definition, Simple, Function, spell_definition}
+use Rattle.blang.specs.Trees.{Number, Negate, PostIncrement, Expr, Arguments, Literal, Text, Grouped, Indexed, Called, Postfixed, Prefixed, Binary, Conditional, Assigned, No_arguments, Another, Heading, Label, Stmt, Headed, Compound, If, IfElse, While, Switch, Goto, ReturnValue, Evaluate, Empty, Nothing, More, Ival_constant, Ival_text, Definition, Simple, Function, spell_definition}
 use Rattle.blang.specs.WellFormed.{rvalue_rank, Binds, StatementBinds, nesting, statement_nesting, TextAt, texts, statement_texts, IsFormed, IsViable, StopsAt, Parts, Parted}
 use Rattle.blang.specs.Code.{strings_of}
 
@@ -19,14 +19,14 @@ times e f = Binary op.Mul 1 e f
 
 -- 1-1-1 binds to the left, and not to the right
 pub binds_left : Binds (minus (minus one one) one) rvalue_rank
-binds_left = let two : 2 ≤ 2 = omega arith in let nine : 2 ≤ 9 = omega arith in (nine, (two, tt, tt), tt)
+binds_left = (leb-true _ _ refl, (leb-true _ _ refl, tt, tt), tt)
 
 pub binds_right : Binds (minus one (minus one one)) rvalue_rank → ⊥
 binds_right f = let no : 2 ≤ 1 = f.2.0 in omega arith
 
 -- a product may be a part of a difference, and a difference no part of a product
 pub product_in_difference : Binds (minus one (times one one)) rvalue_rank
-product_in_difference = let one : 1 ≤ 1 = omega arith in let nine : 2 ≤ 9 = omega arith in (nine, tt, (one, tt, tt))
+product_in_difference = (leb-true _ _ refl, tt, (leb-true _ _ refl, tt, tt))
 
 pub difference_in_product : Binds (times (minus one one) one) rvalue_rank → ⊥
 difference_in_product f = let no : 2 ≤ 1 = f.1.0 in omega arith
@@ -53,7 +53,7 @@ f body = Function (record { text = codes "f"; line = 1 }) [] body
 
 -- 200 levels are within the limit, and one more isn't
 pub deepest : IsFormed (f (Evaluate (grouped 200 one)))
-deepest = let limit : 200 ≤ 200 = omega arith in (tt, limit, tt)
+deepest = (tt, leb-true _ _ refl, tt)
 
 pub too_deep : IsFormed (f (Evaluate (grouped 201 one))) → ⊥
 too_deep h = let no : 201 ≤ 200 = h.1 in omega arith
@@ -115,7 +115,7 @@ abbrev behind_abc : ℕ → Definition
 behind_abc n = f (Evaluate (minus (Text (codes "abc") 0) (Text (codes "c") n)))
 
 pub second_string : IsFormed (behind_abc 2)
-second_string = let two : 2 ≤ 9 = omega arith in let limit : 0 ≤ 200 = omega arith in ((two, tt, tt), limit, (refl, (refl, tt)))
+second_string = ((leb-true _ _ refl, tt, tt), leb-true _ _ refl, (refl, (refl, tt)))
 
 pub second_string_too_near : IsFormed (behind_abc 1) → ⊥
 second_string_too_near h = let no : ◌≡◌ {A = ℕ} 1 2 = h.2.1.0 in omega arith

@@ -4,7 +4,7 @@ use Rattle.std.specs.List.{flat_map}
 use Rattle.std.proofs.lemmas.List.Concat.{flat_map-append}
 use Rattle.std.proofs.lemmas.List.Sums.{sum_by-append, sum_by-cons}
 use Rattle.blang.specs.Trees.{Identifier, Expr, Arguments, Named, Literal, Text, Grouped, Indexed, Called, Postfixed, Prefixed, Binary, Conditional, Assigned, No_arguments, Another, Stmt, Headed, Compound, If, IfElse, While, Switch, Goto, Break, Return, ReturnValue, Evaluate, Empty, Stmts, Nothing, More, Ival, Ival_constant, Ival_text, Ival_name, Definition, Simple, Vector, Function}
-use Rattle.blang.specs.WellFormed.{rank, or_rank, conditional_rank, rvalue_rank, Binds, ArgumentsBind, StatementBinds, BodyBinds, nesting, argument_nesting, statement_nesting, body_nesting, nesting_limit, TextAt, texts, argument_texts, statement_texts, body_texts, value_texts, texts_of, packed, OffsetsFrom, IsFormed}
+use Rattle.blang.specs.WellFormed.{rank, or_rank, conditional_rank, rvalue_rank, Binds, ArgumentsBind, StatementBinds, BodyBinds, nesting, argument_nesting, statement_nesting, body_nesting, nesting_limit, TextAt, texts, argument_texts, statement_texts, body_texts, value_texts, packed, OffsetsFrom, IsFormed}
 use Rattle.blang.specs.Code.{strings_of}
 use Rattle.btree.specs.Fitting.{EachBehind, words, argument_words, Deeper, Fits, ArgumentsFit, statement_words, body_words, Sits, AllSit, ival_words, values_words, IvalFits, strings, argument_strings, statement_strings, body_strings, ival_strings}
 use Rattle.btree.specs.Levels.{IsFormedIn}

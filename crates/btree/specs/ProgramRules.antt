@@ -17,7 +17,7 @@ pub record IsSpelling (ds : List Definition) (tokens : List Placed) : Type 0 whe
 abbrev pub OneProgram : Type 0
 OneProgram = (ds es : List Definition) (tokens : List Placed) → IsSpelling ds tokens → IsSpelling es tokens → ds ≡ es
 
--- A program is well formed where it needs no more levels than the limit.
+-- The three rules of a well-formed program are those that a reader meets, with as many levels as the limit.
 abbrev pub FormedWithin : Type 0
 FormedWithin = (ds : List Definition) → (AllFormed ds → AllFormedIn nesting_limit ds) × (AllFormedIn nesting_limit ds
     → AllFormed ds)
