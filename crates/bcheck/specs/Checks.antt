@@ -49,7 +49,7 @@ Judged edition source v = EachTold edition source (λ told. (verdict_line v, sta
 
 -- A text that begins with this one was told with this status; or memory was refused, and nothing was written.
 pub data TellsFirst (first : List ℕ) (status : ℕ) (old new : Outgoing) (result : ℕ) : Type 0 where
-  told : (more : List ℕ) → ToldWhole (first ++ more) status old new result → TellsFirst first status old new result
+  told : (more : List ℕ) → Told (first ++ more) status old new result → TellsFirst first status old new result
   no_memory : new ≡ old → result ≡ MEMORY → TellsFirst first status old new result
 
 -- a source and the output, before and after, and the status

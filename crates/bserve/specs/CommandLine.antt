@@ -50,6 +50,9 @@ name_rule = record (new_rule (codes "NAME")) { action = Some Set }
 abbrev pub json_rule : Rule
 json_rule = record (new_rule (codes "json")) { long = Some (codes "json"); action = Some SetTrue }
 
+abbrev pub svg_rule : Rule
+svg_rule = record (new_rule (codes "svg")) { long = Some (codes "svg"); action = Some SetTrue }
+
 -- a command with the options of a run
 abbrev pub with_run_options : App → App
 with_run_options command = with_rule (with_rule (with_rule command steps_rule) no_limit_rule) file_rule
@@ -79,7 +82,7 @@ abbrev pub list_command : App
 list_command = with_rule (telling (new_app (codes "list"))) name_rule
 
 abbrev pub map_command : App
-map_command = telling (new_app (codes "map"))
+map_command = with_rule (with_rule (telling (new_app (codes "map"))) svg_rule) steps_rule
 
 abbrev pub check_command : App
 check_command = with_rule (telling (new_app (codes "check"))) json_rule
@@ -141,8 +144,8 @@ form_in rows = if is_set_in (codes "json") rows then form.Json else form.Text
 
 -- What is asked for: that a source is compiled, that the code text in a file is run, that the source in a file is
 -- compiled and run, that a code text is migrated, that the code of the source in a file, or of its definitions of a
--- name, is listed, that its layout is shown, that the source in a file is checked; or a limit of steps and none, which
--- contradict each other.
+-- name, is listed, that its layout is shown, that its memory is drawn, after so many steps if there is a number, that
+-- the source in a file is checked; or a limit of steps and none, which contradict each other.
 pub data Asked : Type 0 where
   compile : (edition : Edition) → Asked
   run : (file : Text) (steps : ℕ) → Asked
@@ -150,6 +153,7 @@ pub data Asked : Type 0 where
   migrate : Asked
   list : (file : Text) (name : Option Text) (edition : Edition) → Asked
   map : (file : Text) (edition : Edition) → Asked
+  draw : (file : Text) (edition : Edition) (steps : Option ℕ) → Asked
   check : (file : Text) (edition : Edition) (form : Form) → Asked
   contradiction : Asked
 
@@ -161,13 +165,20 @@ abbrev pub go_asked : Text → Edition → Option ℕ → Asked
 go_asked file edition (Some steps) = go file steps edition
 go_asked file edition None = contradiction
 
+-- a picture is asked for by its flag, or by a number of steps
+abbrev pub map_asked : Text → Edition → Bool → Option ℕ → Asked
+map_asked file edition false None = map file edition
+map_asked file edition false (Some steps) = draw file edition (Some steps)
+map_asked file edition true steps = draw file edition steps
+
 -- what a command asks for, by its name and what was found of its options
 abbrev pub asked_by : Text → List Row → Asked
 asked_by name rows = if bytes_eq name (codes "run") then run_asked (file_in rows) (steps_in rows)
     else (if bytes_eq name (codes "go") then go_asked (file_in rows) (edition_in rows) (steps_in rows)
     else (if bytes_eq name (codes "migrate") then migrate
     else (if bytes_eq name (codes "list") then list (file_in rows) (name_in rows) (edition_in rows)
-    else (if bytes_eq name (codes "map") then map (file_in rows) (edition_in rows)
+    else (if bytes_eq name (codes "map") then map_asked (file_in rows) (edition_in rows) (is_set_in (codes "svg") rows)
+    (option_number (codes "steps") rows)
     else (if bytes_eq name (codes "check") then check (file_in rows) (edition_in rows) (form_in rows)
     else compile (edition_in rows))))))
 
@@ -183,6 +194,7 @@ asked_of (Some (job.Go target edition)) = go target.file.now target.steps editio
 asked_of (Some job.Migrate) = migrate
 asked_of (Some (job.List subject)) = list subject.file.now (option_map (λ n. n.now) subject.name) subject.edition
 asked_of (Some (job.Map subject)) = map subject.file.now subject.edition
+asked_of (Some (job.Draw subject steps)) = draw subject.file.now subject.edition steps
 asked_of (Some (job.Check request)) = check request.file.now request.edition request.form
 asked_of None = contradiction
 

@@ -6,7 +6,7 @@ use Rattle.clap.proofs.OnLiterals.{clap_on_literals}
 use Rattle.bword.specs.declared.edition.Edition.TheVariants as editions
 use Rattle.bcheck.specs.declared.form.Form.TheVariants as form
 use Rattle.bserve.specs.CommandLine.{Asked, asked, command_line}
-use Rattle.bserve.specs.CommandLine.{compile, run, go, migrate, list, map, check, contradiction}
+use Rattle.bserve.specs.CommandLine.{compile, run, go, migrate, list, map, draw, check, contradiction}
 
 pub is_simple_line : is_simple command_line ≡ true
 is_simple_line = refl
@@ -85,6 +85,20 @@ maps = (refl, refl)
 maps_no_name : fault_of command_line (codes "b" ∷ codes "map" ∷ codes "x" ∷ codes "f" ∷ []) ≡ kind.UnknownArgument ∷ []
 unfolding clap_on_literals
 maps_no_name = refl
+
+draws : Asks (codes "b" ∷ codes "map" ∷ codes "--svg" ∷ codes "x" ∷ []) (draw (codes "x") editions.One None)
+unfolding clap_on_literals
+draws = (refl, refl)
+
+draws_a_run : Asks (codes "b" ∷ codes "map" ∷ codes "x" ∷ codes "--svg" ∷ codes "--steps=40" ∷ [])
+    (draw (codes "x") editions.One (Some 40))
+unfolding clap_on_literals
+draws_a_run = (refl, refl)
+
+draws_by_a_number : Asks (codes "b" ∷ codes "map" ∷ codes "--edition=2" ∷ codes "--steps" ∷ codes "40" ∷ codes "x" ∷ [])
+    (draw (codes "x") editions.Two (Some 40))
+unfolding clap_on_literals
+draws_by_a_number = (refl, refl)
 
 checks : Asks (codes "b" ∷ codes "check" ∷ codes "x" ∷ []) (check (codes "x") editions.One form.Text)
 unfolding clap_on_literals

@@ -14,8 +14,9 @@ use Rattle.bcheck.specs.Checks.{Checks}
 use Rattle.blist.specs.Listings.{Lists}
 use Rattle.blist.specs.Maps.{Maps}
 use Rattle.blist.specs.Told as told
+use Rattle.bdraw.specs.Draws.{Draws}
 use Rattle.bserve.specs.CommandLine.{Asked, asked, command_line}
-use Rattle.bserve.specs.CommandLine.{compile, run, go, migrate, list, map, check, contradiction}
+use Rattle.bserve.specs.CommandLine.{compile, run, go, migrate, list, map, draw, check, contradiction}
 
 -- what is said of words that aren't UTF-8
 abbrev pub unread_line : List ℕ
@@ -76,6 +77,8 @@ Does (list file name edition) ends status = NamesFile file ends status
     ⊎ ((source : List ℕ) × (ends.input_behind ≡ ends.input) × Lists edition source name (telling_ends ends) status)
 Does (map file edition) ends status = NamesFile file ends status
     ⊎ ((source : List ℕ) × (ends.input_behind ≡ ends.input) × Maps edition source (telling_ends ends) status)
+Does (draw file edition steps) ends status =
+    NamesFile file ends status ⊎ ((source : List ℕ) × Draws edition source steps ends status)
 Does (check file edition form) ends status = NamesFile file ends status
     ⊎ ((source : List ℕ) × (ends.input_behind ≡ ends.input) × (ends.line_behind ≡ ends.line) × Checks (record {
       edition = edition;

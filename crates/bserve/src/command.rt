@@ -1,7 +1,7 @@
 //! What the words of a command line ask for.
-ghost use Rattle.std.specs.Prelude.{◌≡◌, [], None, IfOk, IfErr, false, map, option_map, string_bytes};
+ghost use Rattle.std.specs.Prelude.{◌≡◌, [], None, Some, IfOk, IfErr, codes, false, map, option_map, string_bytes};
 ghost use Rattle.clap.specs.Words.{HasKind, app_of, fault_of, found_of, rows_of, rule_of, subcommand_of, subcommand_rows_of};
-ghost use Rattle.bserve.specs.CommandLine.{IsShaped, asked, bare_line, check_command, command_line, compile_command, edition_in, edition_rule, file_in, file_rule, form_in, go_command, is_set_in, json_rule, list_command, map_command, migrate_command, name_in, name_rule, no_limit_rule, option_number, request_shown, run_command, asked_of, steps_asked, steps_in, steps_rule, subject_shown, target_shown};
+ghost use Rattle.bserve.specs.CommandLine.{IsShaped, asked, bare_line, check_command, command_line, compile_command, edition_in, edition_rule, file_in, file_rule, form_in, go_command, is_set_in, json_rule, list_command, map_asked, map_command, migrate_command, name_in, name_rule, no_limit_rule, option_number, request_shown, run_command, asked_of, steps_asked, steps_in, steps_rule, subject_shown, svg_rule, target_shown};
 
 use crate::texts::{
     ABOUT, CHECK_HELP, COMPILE_HELP, GO_HELP, HELP, LIST_HELP, MAP_HELP, MIGRATE_HELP, RUN_HELP,
@@ -27,6 +27,8 @@ pub(crate) enum Job<'a> {
     Migrate,
     List(Subject<'a>),
     Map(Subject<'a>),
+    /// A picture of memory, after so many steps if a number is given.
+    Draw(Subject<'a>, Option<u64>),
     Check(Request<'a>),
 }
 
@@ -66,7 +68,7 @@ pub(crate) fn job_of<'a>(matches: &ArgMatches<'a>) -> Option<Job<'a>>
         "go" => Some(Job::Go(target_of(given)?, edition_of(given))),
         "migrate" => Some(Job::Migrate),
         "list" => Some(Job::List(subject_of(given))),
-        "map" => Some(Job::Map(unnamed(given))),
+        "map" => Some(map_of(given)),
         "check" => Some(Job::Check(request_of(given))),
         _ => Some(Job::Compile(edition_of(given))),
     }
@@ -91,6 +93,17 @@ fn subject_of<'a>(given: &ArgMatches<'a>) -> Subject<'a>
         file,
         name,
         edition,
+    }
+}
+
+// A number of steps asks for a picture, too.
+fn map_of<'a>(given: &ArgMatches<'a>) -> Job<'a>
+    ensures { asked_of (Some result) ≡ map_asked (file_in (rows_of (found_of given.now))) (edition_in (rows_of (found_of given.now))) (is_set_in (codes "svg") (rows_of (found_of given.now))) (option_number (codes "steps") (rows_of (found_of given.now))) }
+{
+    let subject = unnamed(given);
+    match (is_set(given, "svg"), number_of(given, "steps")) {
+        (false, None) => Job::Map(subject),
+        (_, steps) => Job::Draw(subject, steps),
     }
 }
 
@@ -249,7 +262,9 @@ fn map_command<'a>(alloc: Global) -> Result<Command<'a>, AllocError>
         .about("Shows where each name of the source in FILE lies in memory")
         .after_help(MAP_HELP)
         .arg(edition_option(alloc))?
-        .arg(file_argument(alloc))
+        .arg(file_argument(alloc))?
+        .arg(svg_flag(alloc))?
+        .arg(moment_option(alloc))
 }
 
 fn check_command<'a>(alloc: Global) -> Result<Command<'a>, AllocError>
@@ -306,6 +321,28 @@ fn json_flag<'a>(alloc: Global) -> Arg<'a>
         .long("json")
         .action(ArgAction::SetTrue)
         .help("An object a line, for an editor")
+}
+
+fn svg_flag<'a>(alloc: Global) -> Arg<'a>
+    ensures rule { rule_of result ≡ svg_rule }
+    ensures local { result.global ≡ false }
+{
+    Arg::new(alloc, "svg")
+        .long("svg")
+        .action(ArgAction::SetTrue)
+        .help("A picture as an SVG file")
+}
+
+fn moment_option<'a>(alloc: Global) -> Arg<'a>
+    ensures rule { rule_of result ≡ steps_rule }
+    ensures local { result.global ≡ false }
+{
+    Arg::new(alloc, "steps")
+        .long("steps")
+        .value_name("N")
+        .action(ArgAction::Set)
+        .value_parser(value_parser!(u64).range(1..=MOST_STEPS))
+        .help("The picture after so many steps, from 1 to 4000000000")
 }
 
 fn file_argument<'a>(alloc: Global) -> Arg<'a>

@@ -4,12 +4,13 @@ ghost use Rattle.clap.specs.Words.{kind_of};
 ghost use Rattle.bword.specs.ByteEnds.{Incoming, Outgoing};
 ghost use Rattle.blang.specs.declared.status.TheConstants.{DEVICE, MEMORY, WRONG_COMMAND};
 ghost use Rattle.blang.specs.Machine.{Reported};
-ghost use Rattle.bserve.specs.CommandLine.{check, go, list, map, run, asked_of};
+ghost use Rattle.bserve.specs.CommandLine.{check, draw, go, list, map, run, asked_of};
 ghost use Rattle.bserve.specs.Serves.{Does, NamesFile, RefusesWords, Serves, no_file_line, unread_line};
 
 use crate::command::{Job, Subject, Target, job_of, parse};
 use crate::texts::{CONTRADICTION, UNREAD};
 use bcheck::{Request, check};
+use bdraw::draw;
 use blang::status::{self, Status};
 use blist::{list, map};
 use bparse::compile_edition;
@@ -78,6 +79,7 @@ fn perform<R: AllocGlobal + Files, I: ByteIn, O: ByteOut, D: ByteOut>(
         Some(Job::Migrate) => migrate(rt.alloc(), input, out, diag),
         Some(Job::List(subject)) => list_file(rt, subject, out, diag),
         Some(Job::Map(subject)) => map_file(rt, subject, out, diag),
+        Some(Job::Draw(subject, steps)) => draw_file(rt, subject, steps, input, out, diag),
         Some(Job::Check(request)) => check_file(rt, request, out, diag),
         None => refuse_with(CONTRADICTION, diag),
     }
@@ -195,6 +197,41 @@ fn map_file<R: AllocGlobal + Files, O: ByteOut, D: ByteOut>(
 {
     match fs::read(rt, subject.file) {
         Ok(source) => map(rt.alloc(), source.as_slice(), subject.edition, out, diag),
+        Err(error) => name_file(rt.alloc(), subject.file, &error, diag),
+    }
+}
+
+// Draws the memory of the source in a file.
+fn draw_file<R: AllocGlobal + Files, I: ByteIn, O: ByteOut, D: ByteOut>(
+    rt: &R,
+    subject: Subject<'_>,
+    steps: Option<u64>,
+    input: &mut I,
+    out: &mut O,
+    diag: &mut D,
+) -> Status
+    ensures does { Does (draw subject.entry.file.now subject.entry.edition steps) (record {
+      input = I.incoming input.old;
+      input_behind = I.incoming input.new;
+      out = O.outgoing out.old;
+      out_behind = O.outgoing out.new;
+      line = D.outgoing diag.old;
+      line_behind = D.outgoing diag.new;
+    }) result }
+    ensures input_lender { I.lender input.new ≡ I.lender input.old }
+    ensures out_lender { O.lender out.new ≡ O.lender out.old }
+    ensures diag_lender { D.lender diag.new ≡ D.lender diag.old }
+{
+    match fs::read(rt, subject.file) {
+        Ok(source) => draw(
+            rt.alloc(),
+            source.as_slice(),
+            subject.edition,
+            steps,
+            input,
+            out,
+            diag,
+        ),
         Err(error) => name_file(rt.alloc(), subject.file, &error, diag),
     }
 }

@@ -29,6 +29,7 @@ Examples:
   b migrate < hello.code > new.code   writes it as a code text of edition 2
   b list hello.b                      lists its code beside the source
   b map hello.b                       shows where its names lie in memory
+  b map --svg hello.b > hello.svg     draws it as a picture
   b check hello.b                     tells what is wrong, where, how to mend it
   b go --help                         tells more about a command
 
@@ -113,8 +114,15 @@ pub(crate) const MAP_HELP: &str = "\
 A row has the address of a name, how many words it has, and the first ones as
 they are before the run. The frame of main begins at the data end.
 
-Example:
+With --svg the same is drawn as a picture, at most 48 names and nine words of
+each. With --steps N it is the memory after N steps of the program, with the
+frames of the active calls; the program reads standard input, and what it
+writes is not written.
+
+Examples:
   b map hello.b
+  b map --svg hello.b > hello.svg
+  b map --svg --steps 40 hello.b > hello.svg
 
 Statuses: 0 shown, 1 a fault of the source, 132 code that doesn't load,
 133 a failed read or write, 134 refused memory, 135 a wrong command line.
