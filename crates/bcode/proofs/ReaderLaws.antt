@@ -5,7 +5,7 @@ use Rattle.std.proofs.lemmas.List.Elements.{All-nil, All-push}
 use Rattle.bword.specs.ByteEnds.{Incoming, CanFollow}
 use Rattle.bword.specs.declared.edition.Edition.{Edition}
 use Rattle.bword.specs.declared.edition.Edition.TheVariants as editions
-use Rattle.bcode.specs.Ahead.{Ahead, TakesBytes, TakesText, RefusesLine, ReadsDefinition, StopsInside, HasNext, BreaksInside, DefinitionGives, OpeningRead, OpeningGives, opening_line, BreaksNext, ReadsLast, EndingGives}
+use Rattle.bcode.specs.Ahead.{Ahead, TakesBytes, TakesText, RefusesLine, ReadsDefinition, StopsInside, HasNext, BreaksInside, DefinitionGives, OpeningRead, OpeningGives, opening_line, BreaksNext, ReadsLast, NextDefinitionGives, EndingGives}
 use Rattle.bcode.specs.Faults.{IsFaultLineIn}
 use Rattle.bcode.specs.Readers.{ReaderStart, CodeReader, all_ahead, reader_of, opening_read, HasTaken, to_open, MoreCanBeRead, Gave, TextEnded, NoneWhole, StoppedAtLine, MemoryRefused, code_step, is_last_step, StepGives}
 use Rattle.bcode.specs.Stopping.{expects, IsStuckAfter}
@@ -181,7 +181,7 @@ stopped_opening editions.Two source lender false at new ds n s e r = record {
 
 -- what a call answers and does
 pub next_gives : (edition : Edition) (source : Incoming) (lender : List ℕ) (b : Bool) (at new : Ahead) → MoreCanBeRead (reader_of (beginning edition source lender) at b false) → (r : Result (Option Definition) Stop)
-    → DefinitionGives (to_open b edition) at r new
+    → NextDefinitionGives (to_open b edition) at r new
     → let old = reader_of (beginning edition source lender) at b false in let now = reader_of (beginning edition source lender) new true (is_last_step (code_step r)) in
     StepGives old (code_step r) now × (is_last_step (code_step r) ≡ false → MoreCanBeRead now)
 next_gives edition source lender b at new is_open (Ok (Some d)) gives =
@@ -199,14 +199,14 @@ next_gives edition source lender b at new is_open (Err stop.Device) gives =
     ((is_open, λ ds s. record { breaks = gives.breaks; none = none_whole edition source lender b at ds s gives.breaks.taken gives.none; closed = refl }), λ e. absurd (cc))
 
 pub call_gives : (edition : Edition) (source : Incoming) (lender : List ℕ) (b closed : Bool) (at new : Ahead) → closed ≡ false → (closed ≡ false → MoreCanBeRead (reader_of (beginning edition source lender) at b closed))
-    → (opens : Bool) → opens ≡ to_open b edition → (r : Result (Option Definition) Stop) → DefinitionGives opens at r new
+    → (opens : Bool) → opens ≡ to_open b edition → (r : Result (Option Definition) Stop) → NextDefinitionGives opens at r new
     → (answer : CodeStep) → answer ≡ code_step r → (last : Bool) → last ≡ is_last_step answer
     → StepGives (reader_of (beginning edition source lender) at b closed) answer (reader_of (beginning edition source lender) new true last)
     × (last ≡ false → MoreCanBeRead (reader_of (beginning edition source lender) new true last))
 call_gives edition source lender b closed at new closed_is is_open opens opens_is r gives answer answer_is last last_is =
     let start = beginning edition source lender in
     let can_come = subst (λ (z : Bool). MoreCanBeRead (reader_of start at b z)) closed_is (is_open closed_is) in
-    let base = next_gives edition source lender b at new can_come r (subst (λ (z : Bool). DefinitionGives z at r new) opens_is gives) in
+    let base = next_gives edition source lender b at new can_come r (subst (λ (z : Bool). NextDefinitionGives z at r new) opens_is gives) in
     let P = λ (z : Bool) (s : CodeStep) (l : Bool). StepGives (reader_of start at b z) s (reader_of start new true l) × (l ≡ false → MoreCanBeRead (reader_of start new true l)) in
     subst (λ (z : Bool). P z answer last) (sym closed_is)
     (subst (λ (s : CodeStep). P false s last) (sym answer_is)
@@ -223,11 +223,11 @@ breaks_next true old mid now h broke = record {
 breaks_next false old mid now h broke =
     subst (λ (a : Ahead). BreaksNext false a now) h record { breaks = broke.breaks; none = broke.none }
 
-pub opening_exit : (opens : Bool) (old now : Ahead) (r : Result (Option Definition) Stop) (e : Stop) → IsErrAnd r (λ f. f ≡ e) → OpeningGives opens old (Err e) now → DefinitionGives opens old r now
+pub opening_exit : (opens : Bool) (old now : Ahead) (r : Result (Option Definition) Stop) (e : Stop) → IsErrAnd r (λ f. f ≡ e) → OpeningGives opens old (Err e) now → NextDefinitionGives opens old r now
 opening_exit opens old now (Ok o) e same gives = absurd same
-opening_exit opens old now (Err f) e same gives = subst (λ (s : Stop). DefinitionGives opens old (Err s) now) (sym same) (exit e gives)
+opening_exit opens old now (Err f) e same gives = subst (λ (s : Stop). NextDefinitionGives opens old (Err s) now) (sym same) (exit e gives)
   where
-    exit : (e : Stop) → OpeningGives opens old (Err e) now → DefinitionGives opens old (Err e) now
+    exit : (e : Stop) → OpeningGives opens old (Err e) now → NextDefinitionGives opens old (Err e) now
     exit (stop.Fault (fault.Line n)) gives = inl gives
     exit (stop.Fault fault.Memory) gives = absurd gives
     exit stop.Device gives = record {
@@ -235,21 +235,21 @@ opening_exit opens old now (Err f) e same gives = subst (λ (s : Stop). Definiti
       none = λ d rest inside same. gives.1.none tt (definition_text d ++ rest) tt (same ∙ ap (λ o. opening_line o ++ (definition_text d ++ rest)) gives.0);
     }
 
-pub definition_exit : (opens : Bool) (old mid now : Ahead) (r : Result (Option Definition) Stop) (e : Stop) → OpeningRead opens old mid → IsErrAnd r (λ f. f ≡ e) → DefinitionGives mid (Err e) now → DefinitionGives opens old r now
+pub definition_exit : (opens : Bool) (old mid now : Ahead) (r : Result (Option Definition) Stop) (e : Stop) → OpeningRead opens old mid → IsErrAnd r (λ f. f ≡ e) → DefinitionGives mid (Err e) now → NextDefinitionGives opens old r now
 definition_exit opens old mid now (Ok o) e h same gives = absurd same
-definition_exit opens old mid now (Err f) e h same gives = subst (λ (s : Stop). DefinitionGives opens old (Err s) now) (sym same) (exit e gives)
+definition_exit opens old mid now (Err f) e h same gives = subst (λ (s : Stop). NextDefinitionGives opens old (Err s) now) (sym same) (exit e gives)
   where
-    exit : (e : Stop) → DefinitionGives mid (Err e) now → DefinitionGives opens old (Err e) now
+    exit : (e : Stop) → DefinitionGives mid (Err e) now → NextDefinitionGives opens old (Err e) now
     exit (stop.Fault (fault.Line n)) gives = inr (mid, h, gives)
     exit (stop.Fault fault.Memory) gives = (mid, h, gives)
     exit stop.Device gives = breaks_next opens old mid now h gives
 
 pub end_exit : (opens : Bool) (old mid end now : Ahead) (r : Result (Option Definition) Stop) (e : Stop) → OpeningRead opens old mid → TakesText mid end_text 1 end → IsErrAnd r (λ f. f ≡ e) → EndingGives end (Err e) now
-    → DefinitionGives opens old r now
+    → NextDefinitionGives opens old r now
 end_exit opens old mid end now (Ok o) e h last same gives = absurd same
-end_exit opens old mid end now (Err f) e h last same gives = subst (λ (s : Stop). DefinitionGives opens old (Err s) now) (sym same) (exit e gives)
+end_exit opens old mid end now (Err f) e h last same gives = subst (λ (s : Stop). NextDefinitionGives opens old (Err s) now) (sym same) (exit e gives)
   where
-    exit : (e : Stop) → EndingGives end (Err e) now → DefinitionGives opens old (Err e) now
+    exit : (e : Stop) → EndingGives end (Err e) now → NextDefinitionGives opens old (Err e) now
     exit (stop.Fault (fault.Line n)) gives =
         inr (mid, h, subst (λ (k : ℕ). StopsInside mid k now) (sym gives.0) (end_stops gives.1.0 last gives.1.2 gives.1.1))
     exit (stop.Fault fault.Memory) gives = absurd gives

@@ -254,15 +254,15 @@ pub record BreaksNext (opens : Bool) (old new : Ahead) : Type 0 where
       → breaks.taken ≡ opening_line opens ++ (definition_text d ++ rest) → ⊥
 
 -- what reading the next definition does, where a line may have to come before it
-abbrev pub DefinitionGives : Bool → Ahead → Result (Option Definition) Stop → Ahead → Type 0
-DefinitionGives opens old (Ok (Some d)) new = (mid : Ahead) × OpeningRead opens old mid × ReadsDefinition mid d new
-DefinitionGives opens old (Ok None) new = (mid : Ahead) × OpeningRead opens old mid × ReadsLast mid new
-DefinitionGives opens old (Err (stop.Fault (fault.Line n))) new =
+abbrev pub NextDefinitionGives : Bool → Ahead → Result (Option Definition) Stop → Ahead → Type 0
+NextDefinitionGives opens old (Ok (Some d)) new = (mid : Ahead) × OpeningRead opens old mid × ReadsDefinition mid d new
+NextDefinitionGives opens old (Ok None) new = (mid : Ahead) × OpeningRead opens old mid × ReadsLast mid new
+NextDefinitionGives opens old (Err (stop.Fault (fault.Line n))) new =
     ((opens ≡ true) × RefusesLine {X = Unit {0}} (λ _. edition_line) (λ _. Unit {0}) old n new)
     ⊎ ((mid : Ahead) × OpeningRead opens old mid × StopsInside mid n new)
-DefinitionGives opens old (Err (stop.Fault fault.Memory)) new = (mid : Ahead) × OpeningRead opens old mid
+NextDefinitionGives opens old (Err (stop.Fault fault.Memory)) new = (mid : Ahead) × OpeningRead opens old mid
     × HasNext mid new
-DefinitionGives opens old (Err stop.Device) new = BreaksNext opens old new
+NextDefinitionGives opens old (Err stop.Device) new = BreaksNext opens old new
 
 -- nothing came behind the last line; or something did, in a line of this number
 abbrev pub EndingGives : Ahead → Result (Unit {0}) Stop → Ahead → Type 0

@@ -28,7 +28,7 @@ use blang::{Sizes, WORD_VALUES};
 use bword::{BinOp, Name};
 
 // The text behind the end of a line, beside what stood in the line.
-#[tactic(auto, unfolding(crate::specs::LineReading::ended))]
+#[tactic(auto, unfolding(crate::specs::LineReading::line_ended))]
 fn ended<T: Drop>(value: T, text: &[u8]) -> Option<(T, &[u8])>
     ensures { Gives (λ r. (r.0, r.1.now)) result (line_ended value text.now) }
 {
@@ -159,7 +159,7 @@ pub fn instr(text: &[u8], sizes: Sizes) -> Option<(Instr, &[u8])>
 }
 
 /// An initial value of a definition with this many string words.
-#[tactic(auto, unfolding(crate::specs::LineReading::ival_at))]
+#[tactic(auto, unfolding(crate::specs::LineReading::ival_line_at))]
 pub fn ival(text: &[u8], strings: u16) -> Option<(Ival, &[u8])>
     ensures { Gives (λ r. (r.0, r.1.now)) result (ival_line_at strings text.now) }
 {

@@ -7,7 +7,7 @@ use blang::WORD_VALUES;
 use bword::Name;
 
 /// The text behind this byte, where it begins with it.
-#[tactic(auto, unfolding(crate::specs::Reading::expect))]
+#[tactic(auto, unfolding(crate::specs::Reading::expect_byte))]
 pub fn expect(text: &[u8], byte: u8) -> Option<&[u8]>
     ensures { Gives (λ rest. rest.now) result (expect_byte byte text.now) }
 {
@@ -56,7 +56,7 @@ fn digit(byte: u8) -> Option<u32>
 }
 
 /// A name, and the text behind the byte that ends it.
-#[tactic(auto, unfolding(crate::specs::Reading::name_at))]
+#[tactic(auto, unfolding(crate::specs::Reading::name_text_at))]
 pub fn name(text: &[u8], end: u8) -> Option<(Name, &[u8])>
     ensures { Gives (λ r. (r.0, r.1.now)) result (name_text_at end text.now) }
 {

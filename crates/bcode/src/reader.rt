@@ -1,6 +1,6 @@
 //! The reader of a code text that comes in a stream.
 ghost use Rattle.std.specs.Prelude.{◌≡◌};
-ghost use Rattle.bcode.specs.Ahead.{DefinitionGives, OpeningGives, EndingGives};
+ghost use Rattle.bcode.specs.Ahead.{NextDefinitionGives, OpeningGives, EndingGives};
 ghost use Rattle.bcode.specs.Readers.{SameReader, StepGives, reader_start, to_open};
 ghost use Rattle.bcode.specs.Readers as readers;
 
@@ -98,7 +98,7 @@ fn read_next<I: ByteIn>(
     opens: bool,
     lines: &mut Stream<I>,
 ) -> Result<Option<Definition>, Stop>
-    ensures { DefinitionGives opens lines.old result lines.new }
+    ensures { NextDefinitionGives opens lines.old result lines.new }
 {
     read_opening(opens, lines)?;
     match next_definition(alloc, lines)? {

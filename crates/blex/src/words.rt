@@ -50,7 +50,7 @@ fn name_byte<I: ByteIn>(source: &mut Source<I>) -> Result<Option<u8>, Device>
 }
 
 // The keyword or the name that this is.
-#[tactic(auto, unfolding(blang::specs::Cut::word_of))]
+#[tactic(auto, unfolding(blang::specs::Cut::word_token))]
 fn keyword_or_name(edition: Edition, text: &[u8]) -> Lexeme
     requires { IsTrue (is_name text.now) }
     ensures { IsLexemeOf result (word_token edition text.now) }

@@ -26,8 +26,8 @@ pub record CompilerStart : Type 0 where
   pub out : Outgoing
   pub out_lender : List ℕ
 
--- how a compiler began, the tokens to come, the names defined so far, the output now, whether what its text begins with is
--- written, and whether it has stopped
+-- how a compiler began, the tokens to come, the names defined so far, the output now, whether what its text begins with
+-- is written, and whether it has stopped
 pub record Compiler : Type 0 where
   pub first : CompilerStart
   pub tokens : Tokens
@@ -80,10 +80,10 @@ pub record GoesOnBehind (ds : List Definition) (rest outcome : Compilation) : Ty
   pub code : outcome.code ≡ map compiled_text ds ++ rest.code
   pub stop : outcome.stop ≡ rest.stop
 
--- Since a compiler was made, it has written what its text begins with and the texts of these definitions, and nothing else;
--- before its first call nothing, and nothing was taken. The definitions are the first ones of the source, none has a fault,
--- and the tokens to come are those directly behind them. Of the bytes taken, all but two at most were passed, and these end
--- with the last token that is held.
+-- Since a compiler was made, it has written what its text begins with and the texts of these definitions, and nothing
+-- else; before its first call nothing, and nothing was taken. The definitions are the first ones of the source, none
+-- has a fault, and the tokens to come are those directly behind them. Of the bytes taken, all but two at most were
+-- passed, and these end with the last token that is held.
 pub record HasWrittenSince (c : Compiler) (ds : List Definition) : Type 0 where
   pub taken : List ℕ
   pub took : Took c.first.source taken c.tokens.source.end

@@ -54,7 +54,8 @@ statements room off ts =
     many (always goes_on) (one_more (level (suc room)) off) Nothing ts >>= λ ss r. expect is_close_brace r >>= λ o. Got
     ss
 
--- An `else` and its statement were read behind the first statement, or there is none, and the test jumps round what it must.
+-- An `else` and its statement were read behind the first statement, or there is none, and the test jumps round what it
+-- must.
 abbrev pub Chooses : ℕ → ℕ → Tokens → Draft → Result (Unit {0}) Halt → Tokens → Draft → Type 0
 Chooses room test old start (Ok u) new draft =
     ((off : ℕ) (e : Expr) (s : Stmt) (d : Draft) → test ≡ place_of (evaluated e d) → start
@@ -67,7 +68,8 @@ Chooses room test old start (Err halt) new draft = (off : ℕ) (e : Expr) (s : S
 abbrev pub closed_loop : ℕ → ℕ → Draft → Draft
 closed_loop top mark b = let t = drafts.loop_ended (emitted (instr.Jump top) b) in breaks_filled mark (place_of t) t
 
--- the end of a switch behind its statements, where the jump to its tests is at this place and its breaks are those since this mark
+-- the end of a switch behind its statements, where the jump to its tests is at this place and its breaks are those
+-- since this mark
 abbrev pub closed_switch : ℕ → ℕ → Draft → Draft
 closed_switch jump mark b =
     let a = place_of b + 1 in

@@ -68,8 +68,8 @@ abbrev pub RunsAs : List ℕ → List ℕ → Type 0
 RunsAs text other =
     (steps : ℕ) (ends : RunEnds) (status : ℕ) → RunsText steps text ends status → RunsText steps other ends status
 
--- The text was one of the first edition, whose end was seen. The same definitions were written in the second: they alone
--- are read from what was written, and they run as before.
+-- The text was one of the first edition, whose end was seen. The same definitions were written in the second: they
+-- alone are read from what was written, and they run as before.
 pub record IsMigrated (w : Rewriting) (taken : List ℕ) : Type 0 where
   pub read : HasRead w
   pub definitions : List Definition
@@ -99,8 +99,8 @@ pub record InputFailed (w : Rewriting) (taken : List ℕ) : Type 0 where
   pub written : Writes w.out (rewritten definitions) w.out_behind
   pub begun : HasBegun w taken
 
--- What was read of a definition had no room, which no contract sees: its first line was whole, and no byte behind its last
--- line was taken. The definitions before it were written.
+-- What was read of a definition had no room, which no contract sees: its first line was whole, and no byte behind its
+-- last line was taken. The definitions before it were written.
 pub record NoRoom (w : Rewriting) (taken : List ℕ) : Type 0 where
   pub read : HasRead w
   pub before : List Definition

@@ -14,8 +14,9 @@ use Rattle.bcheck.specs.Checks.{Checks}
 use Rattle.blist.specs.Listings.{Lists}
 use Rattle.blist.specs.Maps.{Maps}
 use Rattle.blist.specs.Told as told
+use Rattle.btrace.specs.Traces.{Traces}
 use Rattle.bserve.specs.CommandLine.{Asked, asked, command_line}
-use Rattle.bserve.specs.CommandLine.{compile, run, go, migrate, list, map, check, contradiction}
+use Rattle.bserve.specs.CommandLine.{compile, run, go, migrate, list, map, check, trace, contradiction}
 
 -- what is said of words that aren't UTF-8
 abbrev pub unread_line : List ℕ
@@ -85,6 +86,8 @@ Does (check file edition form) ends status = NamesFile file ends status
       out_behind = ends.out_behind;
       status = status;
     }))
+Does (trace file steps from function edition) ends status = NamesFile file ends status
+    ⊎ ((source : List ℕ) × Traces edition source steps from function ends status)
 Does contradiction ends status =
     HasNotRun ends × Reported contradiction_line WRONG_COMMAND ends.line ends.line_behind status
 
