@@ -62,7 +62,7 @@ impl Part {
         let code = resolved_code(alloc, addresses, strings, self.first_label, &parts.code)?;
         let targets = Vec::from_slice(alloc, &parts.targets)?;
         self.functions.push(LoadedFunction {
-            value,
+            strings,
             parameters: parts.parameters,
             frame: parts.frame,
             targets,

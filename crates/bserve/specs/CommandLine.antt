@@ -22,6 +22,8 @@ use Rattle.bserve.specs.declared.command.Job.{Job}
 use Rattle.bserve.specs.declared.command.Job.TheVariants as job
 use Rattle.bserve.specs.declared.command.Subject.{Subject}
 use Rattle.bserve.specs.declared.command.Target.{Target}
+use Rattle.bserve.specs.declared.command.Walk.{Walk}
+use Rattle.btrace.specs.declared.tracing.Wanted.{Wanted}
 
 -- an option whose value is a number from 1 to the most
 abbrev pub number_rule : Text → ℕ → Rule
@@ -52,6 +54,13 @@ json_rule = record (new_rule (codes "json")) { long = Some (codes "json"); actio
 
 abbrev pub svg_rule : Rule
 svg_rule = record (new_rule (codes "svg")) { long = Some (codes "svg"); action = Some SetTrue }
+
+abbrev pub from_rule : Rule
+from_rule = number_rule (codes "from") 4000000000
+
+abbrev pub function_rule : Rule
+function_rule =
+    record (new_rule (codes "function")) { long = Some (codes "function"); action = Some Set; value_names = 1 }
 
 -- a command with the options of a run
 abbrev pub with_run_options : App → App
@@ -87,16 +96,19 @@ map_command = with_rule (with_rule (telling (new_app (codes "map"))) svg_rule) s
 abbrev pub check_command : App
 check_command = with_rule (telling (new_app (codes "check"))) json_rule
 
+abbrev pub trace_command : App
+trace_command =
+    with_rule (with_rule (with_rule (telling (new_app (codes "trace"))) steps_rule) from_rule) function_rule
+
 -- the command line without its commands, one of which there has to be
 abbrev pub bare_line : App
 bare_line = on_top (λ s. record s { has_version = true; subcommand_required = true }) (new_app (codes "b"))
 
--- `b compile`, `b run`, `b go`, `b migrate`, `b list`, `b map` and `b check`, one of which there has to be
+-- `b compile`, `b run`, `b go`, `b migrate`, `b list`, `b map`, `b check` and `b trace`, one of which there has to be
 abbrev pub command_line : App
 command_line = with_subcommand (with_subcommand (with_subcommand (with_subcommand (with_subcommand (with_subcommand
-    (with_subcommand bare_line compile_command.top) run_command.top) go_command.top) migrate_command.top)
-    list_command.top)
-    map_command.top) check_command.top
+    (with_subcommand (with_subcommand bare_line compile_command.top) run_command.top) go_command.top)
+    migrate_command.top) list_command.top) map_command.top) check_command.top) trace_command.top
 
 -- the digits of a number that a u64 holds
 abbrev pub is_number : Text → Bool
@@ -132,11 +144,21 @@ steps_asked None false = Some 10000000
 abbrev pub steps_in : List Row → Option ℕ
 steps_in rows = steps_asked (option_number (codes "steps") rows) (is_set_in (codes "no-limit") rows)
 
+-- the steps of a trace, and the first one that is shown
+abbrev pub trace_steps_in : List Row → ℕ
+trace_steps_in rows = unwrap_or (option_number (codes "steps") rows) 1000
+
+abbrev pub from_in : List Row → ℕ
+from_in rows = unwrap_or (option_number (codes "from") rows) 1
+
 abbrev pub file_in : List Row → Text
 file_in rows = unwrap_or (first_of (codes "FILE") rows) []
 
 abbrev pub name_in : List Row → Option Text
 name_in rows = first_of (codes "NAME") rows
+
+abbrev pub function_in : List Row → Option Text
+function_in rows = first_of (codes "function") rows
 
 -- in which form findings are told
 abbrev pub form_in : List Row → Form
@@ -145,7 +167,8 @@ form_in rows = if is_set_in (codes "json") rows then form.Json else form.Text
 -- What is asked for: that a source is compiled, that the code text in a file is run, that the source in a file is
 -- compiled and run, that a code text is migrated, that the code of the source in a file, or of its definitions of a
 -- name, is listed, that its layout is shown, that its memory is drawn, after so many steps if there is a number, that
--- the source in a file is checked; or a limit of steps and none, which contradict each other.
+-- the source in a file is checked, that so many steps of its program are made and those from a number on, or of a
+-- function, are shown; or a limit of steps and none, which contradict each other.
 pub data Asked : Type 0 where
   compile : (edition : Edition) → Asked
   run : (file : Text) (steps : ℕ) → Asked
@@ -155,6 +178,7 @@ pub data Asked : Type 0 where
   map : (file : Text) (edition : Edition) → Asked
   draw : (file : Text) (edition : Edition) (steps : Option ℕ) → Asked
   check : (file : Text) (edition : Edition) (form : Form) → Asked
+  trace : (file : Text) (steps from : ℕ) (function : Option Text) (edition : Edition) → Asked
   contradiction : Asked
 
 abbrev pub run_asked : Text → Option ℕ → Asked
@@ -180,7 +204,9 @@ asked_by name rows = if bytes_eq name (codes "run") then run_asked (file_in rows
     else (if bytes_eq name (codes "map") then map_asked (file_in rows) (edition_in rows) (is_set_in (codes "svg") rows)
     (option_number (codes "steps") rows)
     else (if bytes_eq name (codes "check") then check (file_in rows) (edition_in rows) (form_in rows)
-    else compile (edition_in rows))))))
+    else (if bytes_eq name (codes "trace")
+    then trace (file_in rows) (trace_steps_in rows) (from_in rows) (function_in rows) (edition_in rows)
+    else compile (edition_in rows)))))))
 
 abbrev pub asked : Option (Text × List Row) → Asked
 asked None = compile editions.One
@@ -196,6 +222,8 @@ asked_of (Some (job.List subject)) = list subject.file.now (option_map (λ n. n.
 asked_of (Some (job.Map subject)) = map subject.file.now subject.edition
 asked_of (Some (job.Draw subject steps)) = draw subject.file.now subject.edition steps
 asked_of (Some (job.Check request)) = check request.file.now request.edition request.form
+asked_of (Some (job.Trace walk)) =
+    trace walk.file.now walk.wanted.steps walk.wanted.from (option_map (λ n. n.now) walk.wanted.function) walk.edition
 asked_of None = contradiction
 
 abbrev pub target_shown : Target → Text × ℕ
@@ -206,3 +234,9 @@ subject_shown subject = (subject.file.now, option_map (λ n. n.now) subject.name
 
 abbrev pub request_shown : Request → Text × Edition × Form
 request_shown request = (request.file.now, request.edition, request.form)
+
+abbrev pub wanted_shown : Wanted → ℕ × ℕ × Option Text
+wanted_shown wanted = (wanted.steps, wanted.from, option_map (λ n. n.now) wanted.function)
+
+abbrev pub walk_shown : Walk → Text × Edition × (ℕ × ℕ × Option Text)
+walk_shown walk = (walk.file.now, walk.edition, wanted_shown walk.wanted)

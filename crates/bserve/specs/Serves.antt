@@ -15,8 +15,9 @@ use Rattle.blist.specs.Listings.{Lists}
 use Rattle.blist.specs.Maps.{Maps}
 use Rattle.blist.specs.Told as told
 use Rattle.bdraw.specs.Draws.{Draws}
+use Rattle.btrace.specs.Traces.{Traces}
 use Rattle.bserve.specs.CommandLine.{Asked, asked, command_line}
-use Rattle.bserve.specs.CommandLine.{compile, run, go, migrate, list, map, draw, check, contradiction}
+use Rattle.bserve.specs.CommandLine.{compile, run, go, migrate, list, map, draw, check, trace, contradiction}
 
 -- what is said of words that aren't UTF-8
 abbrev pub unread_line : List ℕ
@@ -88,6 +89,8 @@ Does (check file edition form) ends status = NamesFile file ends status
       out_behind = ends.out_behind;
       status = status;
     }))
+Does (trace file steps from function edition) ends status = NamesFile file ends status
+    ⊎ ((source : List ℕ) × Traces edition source steps from function ends status)
 Does contradiction ends status =
     HasNotRun ends × Reported contradiction_line WRONG_COMMAND ends.line ends.line_behind status
 
