@@ -147,7 +147,8 @@ goes_to_default : map (λ s. does (defaulted s) [] 1) (9 ∷ 2 ∷ 1 ∷ [])
     ≡ (Some (Exited 0), codes "d2") ∷ (Some (Exited 0), codes "2") ∷ (Some (Exited 0), codes "1d2") ∷ []
 goes_to_default = refl
 
--- main(){auto i; i=0; while(i<2) {switch i {case 0: break; default: putchar('x');} i++;}}: the switch is left, not the loop
+-- main(){auto i; i=0; while(i<2) {switch i {case 0: break; default: putchar('x');} i++;}}: the switch is left, not the
+-- loop
 breaks_a_switch : does
     (main (auto (codes "i") None (set (codes "i") (number 0)) ∷ While (Binary op.Lt 1 (name (codes "i")) (number 2))
     (block (Switch (name (codes "i"))
@@ -169,7 +170,8 @@ breaks_behind_a_goto : does
     ≡ (Some (Exited 0), codes "k")
 breaks_behind_a_goto = refl
 
--- main(){goto in; while(1) {putchar('a'); in: while(1) {break;} putchar('b'); break;} putchar('c');}: each leaves its own
+-- main(){goto in; while(1) {putchar('a'); in: while(1) {break;} putchar('b'); break;} putchar('c');}: each leaves its
+-- own
 breaks_in_and_out : does
     (main (Goto (name (codes "in")) ∷ While (number 1)
     (block (putchar (number 97) ∷ label (codes "in") (While (number 1) (block (Break 1 ∷ []))) ∷ putchar (number 98)
@@ -221,7 +223,8 @@ parameters = refl
 too_deep : does (main (Evaluate (call (codes "main") []) ∷ []) ∷ []) [] 4095 ≡ (Some (Trapped TooDeep), [])
 too_deep = refl
 
--- printn(n,b){extrn putchar; auto a; if(a=n/b) printn(a,b); putchar(n%b+'0');} main(){printn(1972,10);}: the library's is hidden
+-- printn(n,b){extrn putchar; auto a; if(a=n/b) printn(a,b); putchar(n%b+'0');} main(){printn(1972,10);}: the library's
+-- is hidden
 hides_printn : does
     (function (codes "printn") (codes "n" ∷ codes "b" ∷ [])
     (Headed (Extrn (word (codes "putchar") ∷ []))
@@ -288,7 +291,8 @@ case_in_loop : does
     ∷ putchar (number 46) ∷ []) ∷ []) [] 5 ≡ (Some (Exited 0), codes "aa.")
 case_in_loop = refl
 
--- main(){auto i; i=0; goto in; while(i<2) {i++; putchar('a'); in: break; while(1) ;} putchar('k');}: a break skips a loop
+-- main(){auto i; i=0; goto in; while(i<2) {i++; putchar('a'); in: break; while(1) ;} putchar('k');}: a break skips a
+-- loop
 skips_a_loop : does
     (main (auto (codes "i") None (set (codes "i") (number 0)) ∷ Goto (name (codes "in")) ∷ While
     (Binary op.Lt 1 (name (codes "i")) (number 2))
@@ -308,8 +312,8 @@ value_fuel : map
     ∷ []) []) (0 ∷ 1 ∷ 2 ∷ []) ≡ (None, []) ∷ (None, []) ∷ (Some (Exited 0), []) ∷ []
 value_fuel = refl
 
--- main() { extrn putchar, n, v; auto i, c, col, a; i = col = 0; while(i<n) v[i++] = 1; while(col<n) { a = n+1; c = i = 0;
--- while(i<n) { c =+ v[i]*10; v[i++] = c%a; c =/ a--; } putchar(c+'0'); if(!(++col%5)) putchar(col%50?' ':'*n'); }
+-- main() { extrn putchar, n, v; auto i, c, col, a; i = col = 0; while(i<n) v[i++] = 1; while(col<n) { a = n+1; c = i =
+-- 0; while(i<n) { c =+ v[i]*10; v[i++] = c%a; c =/ a--; } putchar(c+'0'); if(!(++col%5)) putchar(col%50?' ':'*n'); }
 -- putchar('*n*n'); } v[10]; n 10;
 abbrev n : Expr
 n = name (codes "n")
