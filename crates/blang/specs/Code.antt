@@ -148,7 +148,7 @@ module _ (names : Environment) where
   heading_code (Auto declared) = flat_map (λ d. vector_code (names d.word.text) d.size) declared
   heading_code _ = []
 
-  -- the place of a heading's own label, case or default
+  -- the place of a heading's own label
   abbrev pub heading_label_places : Heading → ℕ → List ℕ
   heading_label_places (Label w) p = p ∷ []
   heading_label_places _ p = []

@@ -48,8 +48,8 @@ gone_to_label fuel frame (Some there) = spend fuel (λ less. less.go_on frame th
 
 module _ (program : Program) (fuel : Fuel) (frame : Frame) where
   abbrev mutual
-    -- Does a statement. What remains behind it is kept twice: as statements, which a jump or a loop goes on with, and as
-    -- what is done next, or behind a break. That both come to the same is the law `statements_are_done_in_place`
+    -- Does a statement. What remains behind it is kept twice: as statements, which a jump or a loop goes on with, and
+    -- as what is done next, or behind a break. That both come to the same is the law `statements_are_done_in_place`
     -- (`bmean`): going on with a statement is going on with what it puts in front of the rest.
     pub take_up : Stmt → Remaining → (next out : Computation ℕ) → Computation ℕ
     take_up (Headed h s) rest next out = λ w. take_up s rest next out (heading_passed h frame w)

@@ -73,7 +73,7 @@ pub data Item : Type 0 where
 abbrev pub Remaining : Type 0
 Remaining = List Item
 
--- a heading's own label, case or default, with what is done there
+-- a heading's own label, with what is done there
 abbrev pub heading_label : Heading → Remaining → List (List ℕ × Remaining)
 heading_label (Label w) there = (w.text, there) ∷ []
 heading_label _ there = []
