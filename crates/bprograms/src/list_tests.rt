@@ -1,5 +1,6 @@
 //! Listings and maps of sources, docs/CODE.md's among them.
 use crate::command_tests::serves;
+use crate::kept_pages::{CLASS, PICTURE};
 use crate::source_tests::compares;
 use bserve::serve;
 use bword::{ByteOut, FailIn, FailOut, MemIn, MemOut};
@@ -114,9 +115,8 @@ b map --steps 1000 m.b~memory where the run is over, after 82 steps; filled is w
 #[test]
 fn pictures(rt: HostRuntime) -> Result<(), Fail> {
     fs::write(&rt, "m.b", MEMORY.as_bytes())?;
-    let kept = fs::read(&rt, "memory.svg")?;
     let (out, _) = serves(&rt, "b map --svg --steps 48 m.b", "", 0)?;
-    assert_eq!(rt; out.bytes(), kept.as_slice(), "the picture of the page");
+    assert_eq!(rt; out.bytes(), PICTURE.as_bytes(), "the picture of the page");
     for row in PICTURES.split('\n') {
         let mut parts = row.split('~');
         let words = parts.next().unwrap_or("");
@@ -179,7 +179,11 @@ fn words_of(rt: &(impl AllocGlobal + Abort), words: &str) -> Result<Vec<String>,
 // A picture goes out in one piece; of one that is cut off a beginning is there, and the status is 133.
 #[test]
 fn each_write_of_a_picture_fails(rt: HostRuntime) -> Result<(), Fail> {
-    fs::write(&rt, "m.b", b"v[3] 1, 2; main() v[2] = getchar();")?;
+    fs::write(
+        &rt,
+        "m.b",
+        b"v[3] 1, 2; main() { extrn v; v[2] = getchar(); }",
+    )?;
     let words = words_of(&rt, "b map --steps 9 m.b")?;
     let (whole, _) = serves(&rt, "b map --steps 9 m.b", "", 0)?;
     let mut line = MemOut::new(rt.alloc());
@@ -225,8 +229,10 @@ fn without_margin(rt: &(impl AllocGlobal + Abort), piece: &str) -> Result<String
 // The page of mistakes: a piece with a margin is a source, or a command with what it writes.
 #[test]
 fn the_class(rt: HostRuntime) -> Result<(), Fail> {
-    let page = fs::read_to_string(&rt, "CLASS.md")?;
-    for piece in page.split("\n\n").filter(|piece| piece.starts_with("    ")) {
+    for piece in CLASS
+        .split("\n\n")
+        .filter(|piece| piece.starts_with("    "))
+    {
         let text = without_margin(&rt, piece)?;
         match text.strip_prefix("$ ./") {
             None => fs::write(&rt, "x.b", text.as_bytes())?,
@@ -256,9 +262,8 @@ fn is_written(
         &mut said,
         &mut line,
     );
-    let Ok(()) = said.put(line.bytes()) else {
-        return Err(Fail);
-    };
+    let is_kept = said.put(line.bytes()).is_ok();
+    assert!(rt; is_kept, "the line of {words} is kept");
     let text = str::from_utf8(said.bytes()).unwrap_or("");
     assert_eq!(rt; text.trim_end(), output.trim_end(), "what {words} writes");
     Ok(())
