@@ -27,3 +27,5 @@ mod program_tests;
 mod run_tests;
 #[cfg(test)]
 mod source_tests;
+#[cfg(test)]
+mod trace_tests;
