@@ -29,3 +29,5 @@ mod program_tests;
 mod run_tests;
 #[cfg(test)]
 mod source_tests;
+#[cfg(test)]
+mod trace_tests;
