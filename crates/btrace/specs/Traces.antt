@@ -71,9 +71,9 @@ rows_text rows = flat_map (λ r. r.text) rows
 
 -- Each step that is to be shown has a row, in order, and nothing else has one.
 pub record AreShown (fs : List Placed) (which : Which) (states : ℕ → State) (made : ℕ) (rows : List TraceRow) : Type 0
-    where
-  pub all : map (λ r. r.made) rows ≡ shown_of which states made
-  pub each : All (λ r. ShowsStep fs states r.made r.text) rows
+  where
+    pub all : map (λ r. r.made) rows ≡ shown_of which states made
+    pub each : All (λ r. ShowsStep fs states r.made r.text) rows
 
 -- A text tells where a run was over: at this place of this function, and which calls led there.
 pub record TellsPlace (fs : List Placed) (strings place : ℕ) (text : List ℕ) : Type 0 where
@@ -122,10 +122,10 @@ pub record ShowsRows (fs : List Placed) (which : Which) (states : States) (steps
 
 -- A step was shown before it was made, with these words as they are behind it and these bytes written.
 pub record AddsStep (fs : List Placed) (number : ℕ) (call : Call) (store bytes : List ℕ) (old new : List ℕ) : Type 0
-    where
-  pub line : ℕ
-  pub changed : List ℕ
-  pub text_is : new ≡ old ++ (step_row fs number call line ++ changed_text store changed ++ written_row bytes)
+  where
+    pub line : ℕ
+    pub changed : List ℕ
+    pub text_is : new ≡ old ++ (step_row fs number call line ++ changed_text store changed ++ written_row bytes)
 
 -- a step that was the last
 abbrev pub AddsLast : List Placed → (number : ℕ) → Call → (bytes : List ℕ) → List ℕ → List ℕ → Type 0
@@ -185,7 +185,7 @@ pub data Traces (edition : Edition) (source : List ℕ) (steps from : ℕ) (name
       → HasProgram edition source ends.line mid ds image
       → which_of (functions_of ds) from name ≡ Some which → BeginsNot image result
       → Finishes result mid ends.line_behind status → HasNoTrace ends
-          → Traces edition source steps from name ends status
+      → Traces edition source steps from name ends status
   unnamed : (mid : Outgoing) (ds : List Definition) (image : Image) → HasProgram edition source ends.line mid ds image
       → which_of (functions_of ds) from name ≡ None
       → Told UNNAMED.now WRONG_COMMAND mid ends.line_behind status → HasNoTrace ends
