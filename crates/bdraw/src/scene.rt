@@ -3,12 +3,15 @@ ghost use Rattle.std.specs.Prelude.{◌≡◌, ℕ, List, slice_index};
 
 use blang::{Definition, FunctionParts};
 use blist::Program;
-use bmach::{Active, Image, Stepper};
+use bmach::{Active, Image, Stepper, size_of};
 use bword::Store;
 use std::alloc::{AllocError, Global};
 
 /// The most active calls that are drawn.
 const MOST_CALLS: usize = 16;
+
+/// The address of the first definition.
+const FIRST_ADDRESS: u32 = 7;
 
 /// Words that can be looked at.
 pub trait Memory {
@@ -91,16 +94,17 @@ pub fn calls_of<S: Store + Drop>(
 
 /// The function of a call, and its number among those of the program.
 pub fn function_of<'a>(program: &'a Program, call: Active) -> Option<(usize, &'a FunctionParts)> {
-    // The first function has the value 7.
-    let wanted = usize::from(call.value.saturating_sub(7));
+    let mut address = FIRST_ADDRESS;
     let mut number: usize = 0;
     for definition in &program.definitions {
         if let Definition::Function(function) = definition {
-            if number == wanted {
+            // Its string words stand behind its own word.
+            if call.strings == address.saturating_add(1) {
                 return Some((number, function.parts()));
             }
             number = number.saturating_add(1);
         }
+        address = address.saturating_add(u32::from(size_of(definition)));
     }
     None
 }
