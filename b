@@ -96,7 +96,7 @@ find_file() {
 }
 
 # Whether the words ask for what names its file.
-names_its_file() { [[ ${1-} == @(list|map|check) ]]; }
+names_its_file() { [[ ${1-} == @(list|map|check|trace) ]]; }
 
 # Whether the words may ask for a code text.
 asks_for_code() { [[ $* =~ ^(migrate|compile(' --edition'[ =][0-9+]*[12])?)(' --')?$ ]]; }

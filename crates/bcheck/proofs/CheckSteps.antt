@@ -1,19 +1,21 @@
 -- What the compiler and the loader answer over memory is what a source comes to.
 use Rattle.std.proofs.Common.{◌≡◌, ℕ, List, [], ◌∷◌, ◌++◌, map, refl, sym, ap, ◌∙◌, subst, append-nil}
-use Rattle.std.specs.Prelude.{false, Option, Some, None, IfSome}
+use Rattle.std.specs.Prelude.{false, unwrap_or, Option, Some, None, IfSome}
 use Rattle.bword.specs.declared.edition.Edition.{Edition}
 use Rattle.bword.specs.ByteEnds.{Outgoing, Kept, Unread, Took, CanFollow, Writes, incoming_of, outgoing_of}
 use Rattle.blang.specs.Text.{IsCodeText}
 use Rattle.blang.specs.declared.code.Definition.{Definition}
 use Rattle.blang.specs.Code.{code_of}
 use Rattle.blang.specs.Compiles.{code_text, line_of, Compiles}
-use Rattle.bback.proofs.ReadingBack.{reads_back}
+use Rattle.broundtrip.proofs.ReadingBack.{reads_back}
 use Rattle.blang.specs.Layout.{load_fault}
 use Rattle.blang.specs.declared.run.LoadFault.{LoadFault}
 use Rattle.blang.specs.declared.run.LoadFault.TheVariants as fault
 use Rattle.bmach.specs.Loading.{IsFault}
 use Rattle.blang.specs.declared.status.TheConstants.{REFUSED}
-use Rattle.bcheck.specs.Checks.{Judged, EachTold, Told, Tells, told, shown, first_of, status_told, told_first, load_line}
+use Rattle.bcheck.specs.Checks.{Judged, EachTold, TellsFirst, told, shown_in_form, verdict_line, status_told, told_first}
+use Rattle.blist.specs.Programs.{load_line}
+use Rattle.blist.specs.Told.{Told}
 use Rattle.bcheck.specs.declared.form.Form.{Form}
 use Rattle.bcheck.specs.declared.verdict.Verdict.{Verdict}
 use Rattle.bcheck.specs.declared.verdict.Verdict.TheVariants as verdict
@@ -31,7 +33,7 @@ both_kept a b c first more e v w = w.appended ∙ ap (λ t. t ++ more) (v.append
 -- a text that is told is one that begins with the first
 pub tells_both : (a b c : Kept) (first more text : List ℕ) (status : ℕ) (old new : Outgoing) (result : ℕ) → a ≡ nothing_kept
     → Writes (outgoing_of a) first (outgoing_of b) → Writes (outgoing_of b) more (outgoing_of c) → text ≡ c.bytes
-    → Told text status old new result → Tells first status old new result
+    → Told text status old new result → TellsFirst first status old new result
 tells_both a b c first more text status old new result e v w is t =
     told more (subst (λ x. Told x status old new result) (is ∙ both_kept a b c first more e v w) t)
 
@@ -59,7 +61,7 @@ faulty_text edition source behind code line h =
 
 clean_text : (edition : Edition) (source : List ℕ) (behind : Unread) (code line : Kept) (v : Verdict)
     → Compiling edition (all_unread source) behind nothing_kept code nothing_kept line 0
-    → ((ds : List Definition) → IsCodeText code.bytes ds → (first_of v, status_told v) ≡ told_first None (load_fault ds))
+    → ((ds : List Definition) → IsCodeText code.bytes ds → (verdict_line v, status_told v) ≡ told_first None (load_fault ds))
     → Judged edition source v
 clean_text edition source behind code line v h told_of =
     subst (λ s. Judged edition s v) (sym h.took.bytes)
@@ -78,7 +80,7 @@ faulty_judged edition source first behind code_first code line_first line status
 pub clean_judged : (edition : Edition) (source : List ℕ) (first behind : Unread) (code_first code line_first line : Kept) (status : ℕ) (v : Verdict)
     → first ≡ all_unread source → code_first ≡ nothing_kept → line_first ≡ nothing_kept → status ≡ 0
     → Compiling edition first behind code_first code line_first line status
-    → ((ds : List Definition) → IsCodeText code.bytes ds → (first_of v, status_told v) ≡ told_first None (load_fault ds))
+    → ((ds : List Definition) → IsCodeText code.bytes ds → (verdict_line v, status_told v) ≡ told_first None (load_fault ds))
     → Judged edition source v
 clean_judged edition source first behind code_first code line_first line status v e f k s h told_of =
     clean_text edition source behind code line v (rw (e, f, k, s) at h) told_of
@@ -92,7 +94,7 @@ pub told_as : (first : Option LoadFault) (items ds : List Definition) → items 
 told_as first items ds e h = sym (ap (told_first None) h) ∙ ap (λ es. told_first None (load_fault es)) e
 
 pub told_fault : (f : LoadFault) (items ds : List Definition) → (f ≡ fault.NoMain → ⊥) → (f ≡ fault.Memory → ⊥) → items ≡ ds → IsFault f (load_fault items)
-    → (load_line f, REFUSED) ≡ told_first None (load_fault ds)
+    → (unwrap_or (load_line f) [], REFUSED) ≡ told_first None (load_fault ds)
 told_fault (fault.Duplicate name) items ds a b e h = told_as (Some (fault.Duplicate name)) items ds e h
 told_fault fault.TooLarge items ds a b e h = told_as (Some fault.TooLarge) items ds e h
 told_fault (fault.Undefined name) items ds a b e h = told_as (Some (fault.Undefined name)) items ds e h
@@ -100,8 +102,8 @@ told_fault fault.NoMain items ds a b e h = absurd (a refl)
 told_fault fault.Memory items ds a b e h = absurd (b refl)
 
 pub checked : (form : Form) (v : Verdict) (edition : Edition) (source first : List ℕ) (status : ℕ) (old new : Outgoing) (result : ℕ)
-    → Judged edition source v → first ≡ shown form (first_of v) → status ≡ status_told v → Tells first status old new result
-    → EachTold edition source (λ p. Tells (shown form p.0) p.1 old new result)
+    → Judged edition source v → first ≡ shown_in_form form (verdict_line v) → status ≡ status_told v → TellsFirst first status old new result
+    → EachTold edition source (λ p. TellsFirst (shown_in_form form p.0) p.1 old new result)
 checked form v edition source first status old new result j f s t =
-    λ r g. subst (λ (p : List ℕ × ℕ). Tells (shown form p.0) p.1 old new result) (j r g)
-    (subst (λ n. Tells (shown form (first_of v)) n old new result) s (subst (λ x. Tells x status old new result) f t))
+    λ r g. subst (λ (p : List ℕ × ℕ). TellsFirst (shown_in_form form p.0) p.1 old new result) (j r g)
+    (subst (λ n. TellsFirst (shown_in_form form (verdict_line v)) n old new result) s (subst (λ x. TellsFirst x status old new result) f t))

@@ -1,43 +1,37 @@
 -- What is written of a source that is checked.
-use Rattle.std.specs.Prelude.{◌≡◌, ℕ, List, [], ◌++◌, codes, map, Option, Some, None}
+use Rattle.std.specs.Prelude.{◌≡◌, ℕ, List, [], ◌++◌, map, Option, Some, None, unwrap_or}
 use Rattle.bword.specs.declared.edition.Edition.{Edition}
-use Rattle.bword.specs.ByteEnds.{Outgoing, Writes, Refuses}
-use Rattle.bword.specs.declared.ends.EndFault.{EndFault}
+use Rattle.bword.specs.ByteEnds.{Outgoing}
 use Rattle.blang.specs.Cut.{tokens_from}
 use Rattle.blang.specs.declared.token.Diagnostic.{Diagnostic}
 use Rattle.blang.specs.Code.{code_of}
-use Rattle.blang.specs.Compiles.{Outcome, Goes, line_of, status_of}
+use Rattle.blang.specs.Compiles.{Compilation, CompilesTo, line_of}
 use Rattle.blang.specs.Layout.{load_fault}
 use Rattle.blang.specs.declared.run.LoadFault.{LoadFault}
 use Rattle.blang.specs.declared.run.LoadFault.TheVariants as fault
 use Rattle.blang.specs.declared.status.TheConstants.{DONE, FAULT, REFUSED, MEMORY}
+use Rattle.blist.specs.Programs.{load_line}
+use Rattle.blist.specs.Told.{Told}
 use Rattle.bcheck.specs.declared.form.Form.{Form}
 use Rattle.bcheck.specs.declared.form.Form.TheVariants as form
 use Rattle.bcheck.specs.declared.verdict.Verdict.{Verdict}
 use Rattle.bcheck.specs.declared.verdict.Verdict.TheVariants as verdict
 
--- the line of code that doesn't load; a program without a function main is no fault
-abbrev pub load_line : LoadFault → List ℕ
-load_line (fault.Duplicate name) = codes "load 1\n"
-load_line fault.TooLarge = codes "load 2\n"
-load_line (fault.Undefined name) = codes "load 3\n"
-load_line fault.NoMain = []
-load_line fault.Memory = []
-
-abbrev pub load_status : LoadFault → ℕ
-load_status fault.NoMain = DONE
-load_status _ = REFUSED
+-- the line and the status of code that doesn't load; a program without a function main is no fault
+abbrev pub told_of : LoadFault → List ℕ × ℕ
+told_of fault.NoMain = ([], DONE)
+told_of f = (unwrap_or (load_line f) [], REFUSED)
 
 -- the line and the status of a source with this diagnostic, or, without one, of code with this fault
 abbrev pub told_first : Option Diagnostic → Option LoadFault → List ℕ × ℕ
 told_first (Some diagnostic) fault = (line_of diagnostic, FAULT)
-told_first None (Some f) = (load_line f, load_status f)
+told_first None (Some f) = told_of f
 told_first None None = ([], DONE)
 
-abbrev pub first_of : Verdict → List ℕ
-first_of verdict.Clean = []
-first_of (verdict.Faulty line) = line.bytes
-first_of (verdict.Unloaded f) = load_line f
+abbrev pub verdict_line : Verdict → List ℕ
+verdict_line verdict.Clean = []
+verdict_line (verdict.Faulty line) = line.bytes
+verdict_line (verdict.Unloaded f) = unwrap_or (load_line f) []
 
 abbrev pub status_told : Verdict → ℕ
 status_told verdict.Clean = DONE
@@ -47,21 +41,16 @@ status_told (verdict.Unloaded f) = REFUSED
 -- the line and the status of whatever a source comes to in an edition
 abbrev pub EachTold : Edition → List ℕ → (List ℕ × ℕ → Type 0) → Type 0
 EachTold edition source P =
-    (r : Outcome) (g : Goes [] (tokens_from edition 1 source) r)
+    (r : Compilation) (g : CompilesTo [] (tokens_from edition 1 source) r)
     → P (told_first r.stop (load_fault (map code_of g.definitions)))
 
 abbrev pub Judged : Edition → List ℕ → Verdict → Type 0
-Judged edition source v = EachTold edition source (λ told. (first_of v, status_told v) ≡ told)
-
--- The text was written and this is the status, or a beginning of it and the status is that of the refused write.
-pub data Told (text : List ℕ) (status : ℕ) (old new : Outgoing) (result : ℕ) : Type 0 where
-  written : Writes old text new → result ≡ status → Told text status old new result
-  refused : (f : EndFault) → Refuses old text f new → result ≡ status_of f → Told text status old new result
+Judged edition source v = EachTold edition source (λ told. (verdict_line v, status_told v) ≡ told)
 
 -- A text that begins with this one was told with this status; or memory was refused, and nothing was written.
-pub data Tells (first : List ℕ) (status : ℕ) (old new : Outgoing) (result : ℕ) : Type 0 where
-  told : (more : List ℕ) → Told (first ++ more) status old new result → Tells first status old new result
-  no_memory : new ≡ old → result ≡ MEMORY → Tells first status old new result
+pub data TellsFirst (first : List ℕ) (status : ℕ) (old new : Outgoing) (result : ℕ) : Type 0 where
+  told : (more : List ℕ) → Told (first ++ more) status old new result → TellsFirst first status old new result
+  no_memory : new ≡ old → result ≡ MEMORY → TellsFirst first status old new result
 
 -- a source and the output, before and after, and the status
 pub record Check : Type 0 where
@@ -73,10 +62,11 @@ pub record Check : Type 0 where
   pub status : ℕ
 
 -- For people the line of the compiler, or of the code that doesn't load, comes first; for editors it is an object's.
-abbrev pub shown : Form → List ℕ → List ℕ
-shown form.Text line = line
-shown form.Json line = []
+abbrev pub shown_in_form : Form → List ℕ → List ℕ
+shown_in_form form.Text line = line
+shown_in_form form.Json line = []
 
 -- What is written begins with the line of the source, and the status is the source's.
 abbrev pub Checks : Check → Type 0
-Checks c = EachTold c.edition c.source (λ told. Tells (shown c.form told.0) told.1 c.out c.out_behind c.status)
+Checks c =
+    EachTold c.edition c.source (λ told. TellsFirst (shown_in_form c.form told.0) told.1 c.out c.out_behind c.status)

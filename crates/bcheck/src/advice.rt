@@ -36,6 +36,8 @@ pub(crate) enum Matter {
     PastVector,
     StringForCharacter,
     NameAlone,
+    ManyArguments,
+    NoReturn,
     NeverUsed,
 }
 
@@ -50,6 +52,8 @@ impl Matter {
                 | Matter::PastVector
                 | Matter::StringForCharacter
                 | Matter::NameAlone
+                | Matter::ManyArguments
+                | Matter::NoReturn
                 | Matter::NeverUsed
         )
     }
@@ -157,7 +161,7 @@ impl Matter {
             Matter::OtherEdition => (
                 "un",
                 "in edition 1 @ is a name, neither declared nor a label",
-                "b check --edition 2 takes it for the statement",
+                "--edition 2 makes it a keyword; in edition 1 declare it, or put a label",
             ),
             Matter::TooManyNames => (
                 ">s",
@@ -213,6 +217,16 @@ impl Matter {
                 "no",
                 "this statement does nothing",
                 "a call has parentheses: f();",
+            ),
+            Matter::ManyArguments => (
+                "ar",
+                "this call has more arguments than @ has parameters",
+                "the last ones are lost: take them out, or name them in @",
+            ),
+            Matter::NoReturn => (
+                "rt",
+                "the value of @ is used, and @ returns none",
+                "return(x); in @ gives the value x; without it the value is 0",
             ),
             Matter::NeverUsed => (
                 "us",

@@ -1,11 +1,12 @@
 //! Checking a source.
 ghost use Rattle.std.specs.Prelude.{◌≡◌};
-ghost use Rattle.bcheck.specs.Checks.{Checks, Tells, first_of, shown};
+ghost use Rattle.bcheck.specs.Checks.{Checks, TellsFirst, verdict_line, shown_in_form};
 
 use crate::explain::explain;
 use crate::form::{Form, Request};
 use crate::verdict::{Verdict, judge};
 use blang::status::{self, Status};
+use blist::tell;
 use bword::{ByteOut, MemOut};
 use std::alloc::Global;
 
@@ -33,12 +34,12 @@ pub fn check<O: ByteOut>(alloc: Global, source: &[u8], asked: Request<'_>, out: 
         return status::MEMORY;
     };
     let first = shown(asked.form, &verdict);
-    tell(alloc, first, more.as_bytes(), verdict.status(), out)
+    tell_both(alloc, first, more.as_bytes(), verdict.status(), out)
 }
 
 // What comes first in this form.
 fn shown<'a>(form: Form, verdict: &'a Verdict) -> &'a [u8]
-    ensures { result.now ≡ shown form (first_of verdict.now) }
+    ensures { result.now ≡ shown_in_form form (verdict_line verdict.now) }
 {
     match form {
         Form::Text => verdict.first(),
@@ -47,8 +48,14 @@ fn shown<'a>(form: Form, verdict: &'a Verdict) -> &'a [u8]
 }
 
 // Writes a text behind another, and answers this status or that of a refused write.
-fn tell<O: ByteOut>(alloc: Global, first: &[u8], more: &[u8], status: Status, out: &mut O) -> Status
-    ensures tells { Tells first.now status (O.outgoing out.old) (O.outgoing out.new) result }
+fn tell_both<O: ByteOut>(
+    alloc: Global,
+    first: &[u8],
+    more: &[u8],
+    status: Status,
+    out: &mut O,
+) -> Status
+    ensures tells { TellsFirst first.now status (O.outgoing out.old) (O.outgoing out.new) result }
     ensures out_lender { O.lender out.new ≡ O.lender out.old }
 {
     let mut text = MemOut::new(alloc);
@@ -58,8 +65,5 @@ fn tell<O: ByteOut>(alloc: Global, first: &[u8], more: &[u8], status: Status, ou
     let Ok(()) = text.put(more) else {
         return status::MEMORY;
     };
-    match out.put(text.bytes()) {
-        Ok(()) => status,
-        Err(fault) => status::of_fault(fault),
-    }
+    tell(text.bytes(), status, out)
 }

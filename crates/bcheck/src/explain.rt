@@ -4,7 +4,7 @@ use crate::faults::{self, token_named};
 use crate::finding::Finding;
 use crate::form::{Form, Request};
 use crate::mention::first_mention;
-use crate::passes::Pass;
+use crate::passes::{Extent, Pass};
 use crate::patterns::find;
 use crate::spans::{Span, place_of, spans};
 use crate::verdict::Verdict;
@@ -102,14 +102,24 @@ fn warn(
     spans: &[Span],
     findings: &mut Vec<Finding>,
 ) -> Result<(), AllocError> {
+    let functions = functions(alloc, source, asked)?;
+    for function in functions.as_slice() {
+        find(spans, functions.as_slice(), *function, findings)?;
+    }
+    Ok(())
+}
+
+// The functions of a source that compiles.
+fn functions(alloc: Global, source: &[u8], asked: Request<'_>) -> Result<Vec<Extent>, AllocError> {
+    let mut functions = Vec::new(alloc);
     let mut pass = Pass::new(alloc, source, asked.edition);
     for _ in 0..source.len() {
         if pass.next() != Step::Written {
             break;
         }
         if pass.is_function() {
-            find(spans, pass.extent, findings)?;
+            functions.push(pass.extent)?;
         }
     }
-    Ok(())
+    Ok(functions)
 }

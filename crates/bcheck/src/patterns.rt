@@ -16,9 +16,10 @@ struct Found {
     name: Option<Name>,
 }
 
-/// Adds what is found in a function.
+/// Adds what is found in one of the functions of a source.
 pub(crate) fn find(
     spans: &[Span],
+    functions: &[Extent],
     function: Extent,
     findings: &mut Vec<Finding>,
 ) -> Result<(), AllocError> {
@@ -32,7 +33,7 @@ pub(crate) fn find(
         let found = if is_auto {
             unused(spans, function, token)
         } else {
-            found_at(spans, function, token)
+            found_at(spans, functions, function, token)
         };
         if let Some(found) = found {
             findings.push(Finding {
@@ -46,23 +47,24 @@ pub(crate) fn find(
 }
 
 // What is found of a token that declares nothing.
-fn found_at(spans: &[Span], function: Extent, token: usize) -> Option<Found> {
+fn found_at(spans: &[Span], functions: &[Extent], function: Extent, token: usize) -> Option<Found> {
     match lexeme_at(spans, token) {
         Lexeme::Operator(BinOp::And) => doubled(spans, token),
         Lexeme::Assign(Some(op)) => changes(spans, token, op),
         Lexeme::Keyword(Keyword::If | Keyword::While) => condition(spans, function, token),
         Lexeme::String => for_character(spans, token),
-        _ => named(spans, function, token),
+        _ => named(spans, functions, function, token),
     }
 }
 
 // What is found of a name.
-fn named(spans: &[Span], function: Extent, token: usize) -> Option<Found> {
+fn named(spans: &[Span], functions: &[Extent], function: Extent, token: usize) -> Option<Found> {
     let Lexeme::Name(name) = lexeme_at(spans, token) else {
         return None;
     };
     match lexeme_at(spans, token.wrapping_add(1)) {
         Lexeme::OpenBracket => past_vector(spans, function, token, name),
+        Lexeme::OpenParen => called(spans, functions, function, token, name),
         Lexeme::Semicolon => alone(spans, function, token),
         _ => None,
     }
@@ -188,6 +190,100 @@ fn size_of(spans: &[Span], function: Extent, name: Name) -> Option<u16> {
         }
     }
     None
+}
+
+// What is found of a call of a function of the source.
+fn called(
+    spans: &[Span],
+    functions: &[Extent],
+    function: Extent,
+    token: usize,
+    name: Name,
+) -> Option<Found> {
+    if token == function.first || is_local(spans, function, name) {
+        return None;
+    }
+    let callee = function_named(spans, functions, name)?;
+    let matter = if count_in(spans, token) > count_in(spans, callee.first) {
+        Matter::ManyArguments
+    } else if is_value(spans, token) && !returns(spans, callee) {
+        Matter::NoReturn
+    } else {
+        return None;
+    };
+    Some(Found {
+        token,
+        matter,
+        name: Some(name),
+    })
+}
+
+fn function_named(spans: &[Span], functions: &[Extent], name: Name) -> Option<Extent> {
+    for function in functions {
+        if lexeme_at(spans, function.first) == Lexeme::Name(name) {
+            return Some(*function);
+        }
+    }
+    None
+}
+
+// Whether a call that begins with this token is a part of an expression, and no statement.
+fn is_value(spans: &[Span], token: usize) -> bool {
+    !matches!(
+        lexeme_at(spans, token.wrapping_sub(1)),
+        Lexeme::Semicolon
+            | Lexeme::OpenBrace
+            | Lexeme::CloseBrace
+            | Lexeme::CloseParen
+            | Lexeme::Colon
+            | Lexeme::Keyword(_)
+    )
+}
+
+// Whether a function has a return with a value.
+fn returns(spans: &[Span], function: Extent) -> bool {
+    for token in function.first..function.end {
+        let next = lexeme_at(spans, token.wrapping_add(1));
+        if lexeme_at(spans, token) == Lexeme::Keyword(Keyword::Return)
+            && next == Lexeme::OpenParen
+        {
+            return true;
+        }
+    }
+    false
+}
+
+// Whether a function declares the name as a parameter or an automatic.
+fn is_local(spans: &[Span], function: Extent, name: Name) -> bool {
+    let mut declares = true;
+    for token in function.first.saturating_add(1)..function.end {
+        match lexeme_at(spans, token) {
+            Lexeme::Keyword(Keyword::Auto) => declares = true,
+            Lexeme::Semicolon | Lexeme::CloseParen => declares = false,
+            lexeme if declares && lexeme == Lexeme::Name(name) => return true,
+            _ => {}
+        }
+    }
+    false
+}
+
+// How many things stand in the parentheses behind a name, parted by commas.
+fn count_in(spans: &[Span], name: usize) -> u64 {
+    let mut depth: u64 = 0;
+    let mut count: u64 = 0;
+    for token in name.saturating_add(1)..spans.len() {
+        match lexeme_at(spans, token) {
+            Lexeme::OpenParen | Lexeme::OpenBracket => depth = depth.saturating_add(1),
+            Lexeme::CloseParen | Lexeme::CloseBracket => depth = depth.saturating_sub(1),
+            Lexeme::Comma if depth == 1 => count = count.saturating_add(1),
+            _ => {}
+        }
+        if depth == 0 {
+            let is_empty = token == name.saturating_add(2);
+            return if is_empty { 0 } else { count.saturating_add(1) };
+        }
+    }
+    count
 }
 
 // A name as a whole statement.

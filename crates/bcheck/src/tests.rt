@@ -325,14 +325,14 @@ f() while(1) break;
 x.b:1:14: error: in edition 1 break is a name, neither declared nor a label
     f() while(1) break;
                  ^^^^^
-  mend: b check --edition 2 takes it for the statement
+  mend: --edition 2 makes it a keyword; in edition 1 declare it, or put a label
 @
 f() { goto default; }
 ~1~un default 1
 x.b:1:12: error: in edition 1 default is a name, neither declared nor a label
     f() { goto default; }
                ^^^^^^^
-  mend: b check --edition 2 takes it for the statement
+  mend: --edition 2 makes it a keyword; in edition 1 declare it, or put a label
 ";
     all_told(&rt, Edition::One, Form::Text, rows);
 }
@@ -480,11 +480,27 @@ f(x) { x; f(); }
            ^
   mend: a call has parentheses: f();
 @
-f() { auto a, b; f(a); }
-~0~x.b:1:15: warning: b is declared and never used
-    f() { auto a, b; f(a); }
-                  ^
+f(x) { auto a, b; f(a); }
+~0~x.b:1:16: warning: b is declared and never used
+    f(x) { auto a, b; f(a); }
+                   ^
   mend: take it out, or look for another spelling of it
+@
+f() g(1, f(2), 3); g(x, y) ;
+~0~x.b:1:5: warning: this call has more arguments than g has parameters
+    f() g(1, f(2), 3); g(x, y) ;
+        ^
+  mend: the last ones are lost: take them out, or name them in g
+x.b:1:10: warning: this call has more arguments than f has parameters
+    f() g(1, f(2), 3); g(x, y) ;
+             ^
+  mend: the last ones are lost: take them out, or name them in f
+@
+f(x) x = 2; main() printn(f(1), 10);
+~0~x.b:1:27: warning: the value of f is used, and f returns none
+    f(x) x = 2; main() printn(f(1), 10);
+                              ^
+  mend: return(x); in f gives the value x; without it the value is 0
 ";
     all_told(&rt, Edition::One, Form::Text, rows);
 }
@@ -494,17 +510,19 @@ fn near_misses(rt: HostRuntime) {
     let rows = "\
 f(x) { x =- 1; x = -1; x =& x; x=+1; }
 ~0~@
-f(x, y) { if((x = y)) f(); while(x = f()) f(); if(x = y / 2) f(); if(x == y) f(); if(f(x = y)) f(); }
+f(x, y) { if((x = y)) f(); while(x = f()) f(); if(x = y / 2) f(); if(x == y) f(); if(f(x = y)) f(); return(x); }
 ~0~@
 f(x, y) if(x & &y) f();
 ~0~@
-f() { auto v 5; v[5] = 1; f(v[f()]); }
+f(x) { auto v 5; v[5] = 1; f(v[f()]); return(1); }
 ~0~@
 f(x) { if(x == 'a') f(\"a\"); putchar('a'); }
 ~0~@
 f(x) { (x); f(); goto x1; x1: x ? x : x; return(x); }
 ~0~@
 n; m 5; v[3]; f() { auto a; a = 1; }
+~0~@
+f(x) { auto g; g(1, 2); x(1, 2); printn(1, 2, 3); n(1); f(g[x]); f(); } g() ; n;
 ~0~";
     all_told(&rt, Edition::One, Form::Text, rows);
 }

@@ -3,11 +3,12 @@ ghost use Rattle.std.specs.Prelude.{◌≡◌, IfSome, List, map, None};
 ghost use Rattle.blang.specs.Text.{IsCodeText};
 ghost use Rattle.blang.specs.declared.code.Definition.{Definition};
 ghost use Rattle.blang.specs.Layout.{load_fault};
-ghost use Rattle.bcheck.specs.Checks.{Judged, first_of, load_line, status_told, told_first};
+ghost use Rattle.bcheck.specs.Checks.{Judged, verdict_line, status_told, told_first};
 
 use bcode::read_code;
 use blang::LoadFault;
 use blang::status::{self, Status};
+use blist::load_line;
 use bmach::load;
 use bparse::compile_edition;
 use bword::{Edition, MemIn, MemOut};
@@ -27,12 +28,12 @@ pub(crate) enum Verdict {
 impl Verdict {
     /// The line of the compiler, or that of the code.
     pub(crate) fn first(&self) -> &[u8]
-        ensures { result.now ≡ first_of self.now }
+        ensures { result.now ≡ verdict_line self.now }
     {
         match self {
             Verdict::Clean => b"",
             Verdict::Faulty(line) => line.bytes(),
-            Verdict::Unloaded(fault) => load_line(fault),
+            Verdict::Unloaded(fault) => load_line(fault).unwrap_or(b""),
         }
     }
 
@@ -65,7 +66,7 @@ pub(crate) fn judge(alloc: Global, source: &[u8], edition: Edition) -> Option<Ve
 // What the loader says of a code text.
 fn judge_code(alloc: Global, code: &[u8]) -> Option<Verdict>
     ensures { IfSome result (λ v. (ds : List Definition) → IsCodeText code.now ds
-        → (first_of v, status_told v) ≡ told_first None (load_fault ds)) }
+        → (verdict_line v, status_told v) ≡ told_first None (load_fault ds)) }
 {
     let Ok(definitions) = read_code(alloc, code) else {
         return None;
@@ -77,17 +78,5 @@ fn judge_code(alloc: Global, code: &[u8]) -> Option<Verdict>
         LoadFault::NoMain => Some(Verdict::Clean),
         LoadFault::Memory => None,
         _ => Some(Verdict::Unloaded(fault)),
-    }
-}
-
-// The line of code that doesn't load.
-fn load_line(fault: &LoadFault) -> &'static [u8]
-    ensures { result.now ≡ load_line fault.now }
-{
-    match fault {
-        LoadFault::Duplicate(_) => b"load 1\n",
-        LoadFault::TooLarge => b"load 2\n",
-        LoadFault::Undefined(_) => b"load 3\n",
-        LoadFault::NoMain | LoadFault::Memory => b"",
     }
 }

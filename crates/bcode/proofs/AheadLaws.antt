@@ -5,32 +5,32 @@ use Rattle.std.proofs.lemmas.List.Concat.{flat_map-append}
 use Rattle.std.proofs.lemmas.List.Elements.{All-nil, All-push}
 use Rattle.bword.specs.ByteEnds.{Grew}
 use Rattle.bword.proofs.Taking.{Took-none, Took-append}
-use Rattle.bcode.specs.Ahead.{Ahead, ahead_of, TextAhead, ahead_in, ReadsOpening, Reads, Passes, Breaks, ReadsLine, RefusesLine, LineGives, ReadsLines, LinesGive}
+use Rattle.bcode.specs.Ahead.{Ahead, ahead_of, TextAhead, ahead_in, ReadsOpening, TakesBytes, TakesText, BytesFail, ReadsLine, RefusesLine, LineGives, ReadsLines, LinesGive}
 use Rattle.bcode.specs.declared.fault.CodeFault.TheVariants as fault
 use Rattle.blang.specs.Text.{edition_line}
 use Rattle.bword.specs.declared.edition.Edition.TheVariants as editions
 use Rattle.bcode.specs.declared.stop.Stop.{Stop}
 use Rattle.bcode.specs.declared.stop.Stop.TheVariants as stop
-use Rattle.bcode.specs.LineReading.{Reader}
+use Rattle.bcode.specs.LineReading.{LineReader}
 use Rattle.bcode.proofs.LineLaws.{IsExact}
 use Rattle.bcode.proofs.PartLaws.{is_same}
 
 pub Grew-after : (a b c : ℕ) → b ≡ a → Grew b c → Grew a c
 Grew-after a b c e g = rw e at g
 
-pub Reads-none : (at : Ahead) → Reads at [] at
+pub Reads-none : (at : Ahead) → TakesBytes at [] at
 Reads-none at = record { took = Took-none at.end; failures = refl; lender = refl }
 
-pub Reads-append : {a b c : Ahead} {xs ys : List ℕ} → Reads a xs b → Reads b ys c → Reads a (xs ++ ys) c
+pub Reads-append : {a b c : Ahead} {xs ys : List ℕ} → TakesBytes a xs b → TakesBytes b ys c → TakesBytes a (xs ++ ys) c
 Reads-append h k = record { took = Took-append h.took k.took; failures = k.failures ∙ h.failures; lender = k.lender ∙ h.lender }
 
-pub Passes-none : (at : Ahead) → Passes at [] 0 at
+pub Passes-none : (at : Ahead) → TakesText at [] 0 at
 Passes-none at = record { reads = Reads-none at; counted = omega arith }
 
-pub Passes-append : {a b c : Ahead} {xs ys : List ℕ} {n m : ℕ} → Passes a xs n b → Passes b ys m c → Passes a (xs ++ ys) (n + m) c
+pub Passes-append : {a b c : Ahead} {xs ys : List ℕ} {n m : ℕ} → TakesText a xs n b → TakesText b ys m c → TakesText a (xs ++ ys) (n + m) c
 Passes-append h k = record { reads = Reads-append h.reads k.reads; counted = (let x = h.counted in let y = k.counted in omega arith) }
 
-unfoldable pub Breaks-after : {a b c : Ahead} {xs : List ℕ} → Reads a xs b → Breaks b c → Breaks a c
+unfoldable pub Breaks-after : {a b c : Ahead} {xs : List ℕ} → TakesBytes a xs b → BytesFail b c → BytesFail a c
 Breaks-after {a} {b} {c} {xs} h k = record {
   taken = xs ++ k.taken;
   took = Took-append h.took k.took;
@@ -52,7 +52,7 @@ behind_none : (text taken rest : List ℕ) → text ≡ taken ++ rest → eqb (l
 behind_none text taken rest same e =
     let h = both_empty taken rest (sym same ∙ no_length text e) in (h.0, rw h.1 refl)
 
-pub reads_text : (text taken rest : List ℕ) (line line' : ℕ) → text ≡ taken ++ rest → Reads (ahead_of text line) taken (ahead_of rest line')
+pub reads_text : (text taken rest : List ℕ) (line line' : ℕ) → text ≡ taken ++ rest → TakesBytes (ahead_of text line) taken (ahead_of rest line')
 reads_text text taken rest line line' same = record {
   took = record {
     bytes = same;
@@ -64,10 +64,10 @@ reads_text text taken rest line line' same = record {
   lender = refl;
 }
 
-pub passes_text : (text taken rest : List ℕ) (line : ℕ) → text ≡ taken ++ rest → Passes (ahead_of text line) taken 1 (ahead_of rest (line + 1))
+pub passes_text : (text taken rest : List ℕ) (line : ℕ) → text ≡ taken ++ rest → TakesText (ahead_of text line) taken 1 (ahead_of rest (line + 1))
 passes_text text taken rest line same = record { reads = reads_text text taken rest line (line + 1) same; counted = refl }
 
-module _ {X : Type 0} {spell : X → List ℕ} {within : X → Type 0} {read : Reader X} (exact : IsExact spell within read) where
+module _ {X : Type 0} {spell : X → List ℕ} {within : X → Type 0} {read : LineReader X} (exact : IsExact spell within read) where
   pub reads_line : (text : List ℕ) (line : ℕ) (x : X) (rest : List ℕ) → read text ≡ Some (x, rest)
       → ReadsLine spell within (ahead_of text line) x (ahead_of rest (line + 1))
   reads_line text line x rest e =
@@ -156,5 +156,5 @@ pub no_opening : (text : List ℕ) (line : ℕ) → ((rest : List ℕ) → text 
 no_opening text line none = (refl, λ rest e. none rest (cc))
 
 -- no read of a text in memory fails
-pub no_break : (old new : TextAhead) → Breaks (ahead_in old) (ahead_in new) → ⊥
+pub no_break : (old new : TextAhead) → BytesFail (ahead_in old) (ahead_in new) → ⊥
 no_break old new h = ⊎_elim (λ less. omega arith) (λ most. absurd (let a = most.0 in omega arith)) h.counted

@@ -9,7 +9,7 @@ use Rattle.bword.specs.declared.edition.Edition.{Edition}
 use Rattle.bword.specs.declared.edition.Edition.TheVariants as editions
 use Rattle.blang.specs.CodeParts.{Function, Simple, Vector, IsWord, IsInstrWithin, IsIvalWithin, IsFunctionWithinRanges, IsSimpleWithinRanges, IsVectorWithinRanges, sizes_of}
 use Rattle.bcode.specs.Headers.{header_of, header_text, function_fits, simple_fits, vector_fits, IsHeaderWithin}
-use Rattle.bcode.specs.Stopping.{Kind, value, target, string, instruction, IsOfKind, State, opens, expects, finished, state_after, Leads, Stops}
+use Rattle.bcode.specs.Stopping.{LineKind, value, target, string, instruction, IsOfKind, LineState, opens, expects, finished, state_after, Leads, IsStuckAfter}
 use Rattle.blang.specs.Text.{end_text, header_line, body_lines, lines_of, edition_line, ended_lines, code_lines, target_line, string_line, ival_line, instr_line, IsWithinRanges}
 use Rattle.blang.specs.declared.limits.TheConstants.{MAX_INSTRUCTIONS, MAX_LABELS, MAX_PARAMETERS, MAX_STRING_WORDS, MAX_VALUES, MAX_WORDS}
 use Rattle.blang.specs.declared.code.Definition.{Definition}
@@ -94,39 +94,39 @@ vector_within v named fit values strings = record {
 }
 
 -- lines of one kind
-module _ {X : Type 0} (spell : X → List ℕ) (within : X → Type 0) (kind : Kind) (of_kind : (x : X) → within x → IsOfKind kind (spell x)) where
-  path_items : (xs : List X) (ks : List Kind) (ls : List (List ℕ)) → All within xs → Path (expects ks) ls
+module _ {X : Type 0} (spell : X → List ℕ) (within : X → Type 0) (kind : LineKind) (of_kind : (x : X) → within x → IsOfKind kind (spell x)) where
+  path_items : (xs : List X) (ks : List LineKind) (ls : List (List ℕ)) → All within xs → Path (expects ks) ls
       → Path (expects (replicate (length xs) kind ++ ks)) (map spell xs ++ ls)
   path_items [] ks ls all path = path
   path_items (x ∷ xs) ks ls all path =
       (expects (replicate (length xs) kind ++ ks), (of_kind x (All-head within x xs all), refl), path_items xs ks ls (All-tail within x xs all) path)
 
   path_last : (xs : List X) (ls : List (List ℕ)) → All within xs → Path (expects []) ls → Path (expects (replicate (length xs) kind)) (map spell xs ++ ls)
-  path_last xs ls all path = subst (λ (ks : List Kind). Path (expects ks) (map spell xs ++ ls)) (append-nil (replicate (length xs) kind)) (path_items xs [] ls all path)
+  path_last xs ls all path = subst (λ (ks : List LineKind). Path (expects ks) (map spell xs ++ ls)) (append-nil (replicate (length xs) kind)) (path_items xs [] ls all path)
 
   -- behind these lines as text
-  pub stops_behind : (xs : List X) (ks : List Kind) (n : ℕ) (rest : List ℕ) → All within xs → Stops n (expects ks) rest
-      → Stops (length xs + n) (expects (replicate (length xs) kind ++ ks)) (flat_map spell xs ++ rest)
+  pub stops_behind : (xs : List X) (ks : List LineKind) (n : ℕ) (rest : List ℕ) → All within xs → IsStuckAfter n (expects ks) rest
+      → IsStuckAfter (length xs + n) (expects (replicate (length xs) kind ++ ks)) (flat_map spell xs ++ rest)
   stops_behind [] ks n rest all stops =
-      let same : n ≡ 0 + n = omega arith in subst (λ (m : ℕ). Stops m (expects ks) rest) same stops
+      let same : n ≡ 0 + n = omega arith in subst (λ (m : ℕ). IsStuckAfter m (expects ks) rest) same stops
   stops_behind (x ∷ xs) ks n rest all stops =
       let same : suc (length xs + n) ≡ suc (length xs) + n = omega arith in
       let others = stops_behind xs ks n rest (All-tail within x xs all) stops in
       let to = expects (replicate (length xs) kind ++ ks) in
-      let first : Stops (suc (length xs + n)) (expects (kind ∷ (replicate (length xs) kind ++ ks))) (spell x ++ flat_map spell xs ++ rest) =
+      let first : IsStuckAfter (suc (length xs + n)) (expects (kind ∷ (replicate (length xs) kind ++ ks))) (spell x ++ flat_map spell xs ++ rest) =
       (spell x, to, flat_map spell xs ++ rest, (of_kind x (All-head within x xs all), refl), append_assoc (spell x) (flat_map spell xs) rest, others) in
-      subst (λ (m : ℕ). Stops m (expects (kind ∷ (replicate (length xs) kind ++ ks))) (spell x ++ flat_map spell xs ++ rest)) same first
+      subst (λ (m : ℕ). IsStuckAfter m (expects (kind ∷ (replicate (length xs) kind ++ ks))) (spell x ++ flat_map spell xs ++ rest)) same first
 
-  pub stops_last : (xs : List X) (n : ℕ) (rest : List ℕ) → All within xs → Stops n (expects []) rest
-      → Stops (length xs + n) (expects (replicate (length xs) kind)) (flat_map spell xs ++ rest)
+  pub stops_last : (xs : List X) (n : ℕ) (rest : List ℕ) → All within xs → IsStuckAfter n (expects []) rest
+      → IsStuckAfter (length xs + n) (expects (replicate (length xs) kind)) (flat_map spell xs ++ rest)
   stops_last xs n rest all stops =
-      subst (λ (ks : List Kind). Stops (length xs + n) (expects ks) (flat_map spell xs ++ rest)) (append-nil (replicate (length xs) kind)) (stops_behind xs [] n rest all stops)
+      subst (λ (ks : List LineKind). IsStuckAfter (length xs + n) (expects ks) (flat_map spell xs ++ rest)) (append-nil (replicate (length xs) kind)) (stops_behind xs [] n rest all stops)
 
   -- fewer lines than are expected, and then none
   module _ (is_kind : (l : List ℕ) → IsOfKind kind l → (x : X) × within x × (l ≡ spell x)) where
-    pub stops_among : (xs : List X) (count : ℕ) (ks : List Kind) (rest : List ℕ) → length xs < count → All within xs
+    pub stops_among : (xs : List X) (count : ℕ) (ks : List LineKind) (rest : List ℕ) → length xs < count → All within xs
         → ((x : X) (behind : List ℕ) → within x → rest ≡ spell x ++ behind → ⊥)
-        → Stops (length xs) (expects (replicate count kind ++ ks)) (flat_map spell xs ++ rest)
+        → IsStuckAfter (length xs) (expects (replicate count kind ++ ks)) (flat_map spell xs ++ rest)
     stops_among xs zero ks rest fewer all none = absurd (omega arith)
     stops_among [] (suc count) ks rest fewer all none = record {
       refused = λ l to behind leads same.
@@ -144,9 +144,9 @@ module _ {X : Type 0} (spell : X → List ℕ) (within : X → Type 0) (kind : K
 
     pub stops_among_last : (xs : List X) (count : ℕ) (rest : List ℕ) → length xs < count → All within xs
         → ((x : X) (behind : List ℕ) → within x → rest ≡ spell x ++ behind → ⊥)
-        → Stops (length xs) (expects (replicate count kind)) (flat_map spell xs ++ rest)
+        → IsStuckAfter (length xs) (expects (replicate count kind)) (flat_map spell xs ++ rest)
     stops_among_last xs count rest fewer all none =
-        subst (λ (ks : List Kind). Stops (length xs) (expects ks) (flat_map spell xs ++ rest)) (append-nil (replicate count kind)) (stops_among xs count [] rest fewer all none)
+        subst (λ (ks : List LineKind). IsStuckAfter (length xs) (expects ks) (flat_map spell xs ++ rest)) (append-nil (replicate count kind)) (stops_among xs count [] rest fewer all none)
 
 pub of_value : (strings : ℕ) (x : Ival) → IsIvalWithin strings x → IsOfKind (value strings) (ival_line x)
 of_value strings x h = (x, h, refl)
@@ -211,18 +211,18 @@ code_path editions.Two ds all = (expects [], inl (refl, refl), ended_path ds all
 
 -- paths are code texts
 
-abbrev pub OfKinds : List Kind → List (List ℕ) → Type 0
+abbrev pub OfKinds : List LineKind → List (List ℕ) → Type 0
 OfKinds [] bs = bs ≡ []
 OfKinds (k ∷ ks) [] = ⊥
 OfKinds (k ∷ ks) (l ∷ ls) = IsOfKind k l × OfKinds ks ls
 
-abbrev pub OfState : State → List (List ℕ) → Type 0
+abbrev pub OfState : LineState → List (List ℕ) → Type 0
 OfState opens bs = ⊥
 OfState (expects ks) bs = OfKinds ks bs
 OfState finished bs = ⊥
 
 -- values whose lines these are
-record Items {X : Type 0} (spell : X → List ℕ) (within : X → Type 0) (n : ℕ) (ks : List Kind) (bs : List (List ℕ)) : Type 0 where
+record Items {X : Type 0} (spell : X → List ℕ) (within : X → Type 0) (n : ℕ) (ks : List LineKind) (bs : List (List ℕ)) : Type 0 where
   values : List X
   behind : List (List ℕ)
   count : length values ≡ n
@@ -230,8 +230,8 @@ record Items {X : Type 0} (spell : X → List ℕ) (within : X → Type 0) (n : 
   lines : bs ≡ map spell values ++ behind
   others : OfKinds ks behind
 
-module _ {X : Type 0} (spell : X → List ℕ) (within : X → Type 0) (kind : Kind) (is_kind : (l : List ℕ) → IsOfKind kind l → (x : X) × within x × (l ≡ spell x)) where
-  items_of : (n : ℕ) (ks : List Kind) (bs : List (List ℕ)) → OfKinds (replicate n kind ++ ks) bs → Items spell within n ks bs
+module _ {X : Type 0} (spell : X → List ℕ) (within : X → Type 0) (kind : LineKind) (is_kind : (l : List ℕ) → IsOfKind kind l → (x : X) × within x × (l ≡ spell x)) where
+  items_of : (n : ℕ) (ks : List LineKind) (bs : List (List ℕ)) → OfKinds (replicate n kind ++ ks) bs → Items spell within n ks bs
   items_of zero ks bs of = record { values = []; behind = bs; count = refl; inside = All-nil within; lines = refl; others = of }
   items_of (suc n) ks [] of = absurd of
   items_of (suc n) ks (l ∷ bs) of =
@@ -248,7 +248,7 @@ module _ {X : Type 0} (spell : X → List ℕ) (within : X → Type 0) (kind : K
 
   last_items : (n : ℕ) (bs : List (List ℕ)) → OfKinds (replicate n kind) bs → (xs : List X) × (length xs ≡ n) × All within xs × (bs ≡ map spell xs)
   last_items n bs of =
-      let same : OfKinds (replicate n kind ++ []) bs = subst (λ (ks : List Kind). OfKinds ks bs) (sym (append-nil (replicate n kind))) of in
+      let same : OfKinds (replicate n kind ++ []) bs = subst (λ (ks : List LineKind). OfKinds ks bs) (sym (append-nil (replicate n kind))) of in
       let all = items_of n [] bs same in
       (all.values, all.count, all.inside, all.lines ∙ ap (λ m. map spell all.values ++ m) all.others ∙ append-nil (map spell all.values))
 
@@ -317,7 +317,7 @@ made (header.Vector name words values strings) bs h of =
 made header.End bs h of = absurd of
 
 -- the lines of a body that is under way, and whole definitions
-record Split (ks : List Kind) (ls : List (List ℕ)) : Type 0 where
+record Split (ks : List LineKind) (ls : List (List ℕ)) : Type 0 where
   body : List (List ℕ)
   definitions : List Definition
   of_kinds : OfKinds ks body
@@ -328,9 +328,9 @@ split_end : (l : List ℕ) (ls : List (List ℕ)) → l ≡ end_text → Path fi
 split_end l [] e path = record { body = []; definitions = []; of_kinds = refl; inside = All-nil IsWithinRanges; lines = ap (λ m. m ∷ []) e }
 split_end l (k ∷ ls) e path = absurd path.1
 
-split_header : (h : Header) (l : List ℕ) (ls : List (List ℕ)) (ks : List Kind) → state_after h ≡ expects ks → IsHeaderWithin h → l ≡ header_text h → Split ks ls → Split [] (l ∷ ls)
+split_header : (h : Header) (l : List ℕ) (ls : List (List ℕ)) (ks : List LineKind) → state_after h ≡ expects ks → IsHeaderWithin h → l ≡ header_text h → Split ks ls → Split [] (l ∷ ls)
 split_header h l ls ks state within e s =
-    let of : OfState (state_after h) s.body = subst (λ (z : State). OfState z s.body) (sym state) s.of_kinds in
+    let of : OfState (state_after h) s.body = subst (λ (z : LineState). OfState z s.body) (sym state) s.of_kinds in
     let m = made h s.body within of in
     record {
       body = [];
@@ -343,19 +343,19 @@ split_header h l ls ks state within e s =
           ∙ sym (append_assoc (body_lines m.definition) (flat_map lines_of s.definitions) (end_text ∷ [])));
     }
 
-split_after : (h : Header) (l : List ℕ) (ls : List (List ℕ)) → ((ks : List Kind) → Path (expects ks) ls → Split ks ls) → IsHeaderWithin h → l ≡ header_text h
+split_after : (h : Header) (l : List ℕ) (ls : List (List ℕ)) → ((ks : List LineKind) → Path (expects ks) ls → Split ks ls) → IsHeaderWithin h → l ≡ header_text h
     → Path (state_after h) ls → Split [] (l ∷ ls)
 split_after (header.Function name parameters s) l ls further within e path = split_header (header.Function name parameters s) l ls _ refl within e (further _ path)
 split_after (header.Simple name values strings) l ls further within e path = split_header (header.Simple name values strings) l ls _ refl within e (further _ path)
 split_after (header.Vector name words values strings) l ls further within e path = split_header (header.Vector name words values strings) l ls _ refl within e (further _ path)
 split_after header.End l ls further within e path = split_end l ls e path
 
-split_path : (ls : List (List ℕ)) (ks : List Kind) → Path (expects ks) ls → Split ks ls
+split_path : (ls : List (List ℕ)) (ks : List LineKind) → Path (expects ks) ls → Split ks ls
 split_path [] ks path = absurd (cc)
 split_path (l ∷ ls) [] path =
-    split_after path.1.0 l ls (split_path ls) path.1.1 path.1.2 (subst (λ (z : State). Path z ls) path.1.3 path.2)
+    split_after path.1.0 l ls (split_path ls) path.1.1 path.1.2 (subst (λ (z : LineState). Path z ls) path.1.3 path.2)
 split_path (l ∷ ls) (k ∷ ks) path =
-    let others = split_path ls ks (subst (λ (z : State). Path z ls) path.1.1 path.2) in
+    let others = split_path ls ks (subst (λ (z : LineState). Path z ls) path.1.1 path.2) in
     record {
       body = l ∷ others.body;
       definitions = others.definitions;
@@ -372,9 +372,9 @@ path_ended ls path =
 abbrev pub Coded : List (List ℕ) → Type 0
 Coded ls = (edition : Edition) × (ds : List Definition) × All IsWithinRanges ds × (ls ≡ code_lines edition ds)
 
-path_opened : (l : List ℕ) (ls : List (List ℕ)) (to : State) → Leads opens l to → Path to ls → Coded (l ∷ ls)
+path_opened : (l : List ℕ) (ls : List (List ℕ)) (to : LineState) → Leads opens l to → Path to ls → Coded (l ∷ ls)
 path_opened l ls to (inl x) path =
-    let ended = path_ended ls (subst (λ (z : State). Path z ls) x.1 path) in
+    let ended = path_ended ls (subst (λ (z : LineState). Path z ls) x.1 path) in
     (editions.Two, ended.0, ended.1, ap (λ z. z ∷ ls) x.0 ∙ ap (λ z. edition_line ∷ z) ended.2)
 path_opened l ls to (inr x) path = let ended = path_ended (l ∷ ls) (to, x, path) in (editions.One, ended.0, ended.1, ended.2)
 

@@ -9,12 +9,12 @@ use Rattle.bword.specs.ByteEnds.{Incoming, Took, CanFollow}
 use Rattle.bword.specs.declared.edition.Edition.{Edition}
 use Rattle.bword.specs.declared.edition.Edition.TheVariants as editions
 use Rattle.blang.specs.CodeParts.{Function, Simple, Vector, IsWord, IsInstrWithin, IsIvalWithin, sizes_of}
-use Rattle.bcode.specs.Ahead.{Ahead, ahead_of, TextAhead, ahead_in, Reads, Passes, Breaks, ReadsOpening, StopsAhead, StopsInside, BreaksInside, ReadsDefinition, TextGives}
+use Rattle.bcode.specs.Ahead.{Ahead, ahead_of, TextAhead, ahead_in, TakesBytes, TakesText, BytesFail, ReadsOpening, StopsAhead, StopsInside, BreaksInside, ReadsDefinition, TextGives}
 use Rattle.bcode.specs.Faults.{BeginsIn, IsFaultLine, IsFaultLineIn, HasHeader, IsFaultOf}
 use Rattle.bcode.specs.Headers.{header_of, header_text}
-use Rattle.bcode.specs.LineReading.{Reader}
-use Rattle.bcode.specs.Stopping.{State, opens, expects, value, target, string, instruction, state_after, Leads, Stops}
-use Rattle.blang.specs.Text.{joined, end_text, header_line, body_lines, lines_of, text_of, edition_line, opening, opening_lines, ended_lines, code_lines, IsTextOf, IsCodeText, target_line, string_line, ival_line, instr_line, IsWithinRanges}
+use Rattle.bcode.specs.LineReading.{LineReader}
+use Rattle.bcode.specs.Stopping.{LineState, opens, expects, value, target, string, instruction, state_after, Leads, IsStuckAfter}
+use Rattle.blang.specs.Text.{joined, end_text, header_line, body_lines, lines_of, definition_text, edition_line, opening, opening_lines, ended_lines, code_lines, IsTextOf, IsCodeText, target_line, string_line, ival_line, instr_line, IsWithinRanges}
 use Rattle.blang.specs.declared.code.Definition.{Definition}
 use Rattle.blang.specs.declared.code.Definition.TheVariants as definition
 use Rattle.bcode.specs.declared.fault.CodeFault.{CodeFault}
@@ -30,7 +30,7 @@ use Rattle.bcode.proofs.HeaderLaws.{header_at-exact, end_within}
 use Rattle.bcode.proofs.LineLaws.{IsExact, FitSizes, ival_at-exact, instr_at-exact, number_line_at-exact}
 use Rattle.bcode.proofs.StoppingLaws.{same_spelling, begins_path, greatest_path, no_header, same_after, no_path}
 
-pub fault_line : (text : List ℕ) (good : ℕ) → Stops good opens text → IsFaultLine text (suc good)
+pub fault_line : (text : List ℕ) (good : ℕ) → IsStuckAfter good opens text → IsFaultLine text (suc good)
 fault_line text good stops =
     let b = begins_path good opens text tt stops in
     let code = path_code b.0 b.1 in
@@ -52,11 +52,11 @@ fault_line text good stops =
           greatest_path good opens text tt stops m (code_lines begins.0 b.definitions) (code_path begins.0 b.definitions b.within) b.enough b.rest b.same;
     }
 
-pub no_code : (text : List ℕ) (good : ℕ) → Stops good opens text → (ds : List Definition) → IsCodeText text ds → ⊥
+pub no_code : (text : List ℕ) (good : ℕ) → IsStuckAfter good opens text → (ds : List Definition) → IsCodeText text ds → ⊥
 no_code text good stops ds code = no_path good opens text tt stops (code_lines code.0 ds) (code_path code.0 ds code.1.within) code.1.spelled
 
 -- the same in one edition, behind what its texts begin with
-pub fault_line_in : (edition : Edition) (text : List ℕ) (good : ℕ) → Stops good (expects []) text → IsFaultLineIn edition (opening edition ++ text) (suc (length (opening_lines edition) + good))
+pub fault_line_in : (edition : Edition) (text : List ℕ) (good : ℕ) → IsStuckAfter good (expects []) text → IsFaultLineIn edition (opening edition ++ text) (suc (length (opening_lines edition) + good))
 fault_line_in editions.One text good stops =
     let b = begins_path good (expects []) text tt stops in
     let code = path_ended b.0 b.1 in
@@ -98,7 +98,7 @@ fault_line_in editions.Two text good stops =
         let least = greatest_path good (expects []) text tt stops m (ended_lines b.definitions) (ended_path b.definitions b.within) enough b.rest same in
         omega arith
 
-pub no_code_in : (edition : Edition) (text : List ℕ) (good : ℕ) → Stops good (expects []) text → (ds : List Definition) → IsTextOf edition (opening edition ++ text) ds → ⊥
+pub no_code_in : (edition : Edition) (text : List ℕ) (good : ℕ) → IsStuckAfter good (expects []) text → (ds : List Definition) → IsTextOf edition (opening edition ++ text) ds → ⊥
 no_code_in editions.One text good stops ds code = no_path good (expects []) text tt stops (ended_lines ds) (ended_path ds code.within) code.spelled
 no_code_in editions.Two text good stops ds code =
     no_path good (expects []) text tt stops (ended_lines ds) (ended_path ds code.within) (same_after text (joined (ended_lines ds)) code.spelled)
@@ -122,7 +122,7 @@ pub no_opening_code : (text : List ℕ) → ((rest : List ℕ) → text ≡ edit
 no_opening_code text none ds code = none (joined (ended_lines ds)) code.spelled
 
 -- lines of as many values
-module _ {X : Type 0} {spell : X → List ℕ} {within : X → Type 0} {read : Reader X} (exact : IsExact spell within read) where
+module _ {X : Type 0} {spell : X → List ℕ} {within : X → Type 0} {read : LineReader X} (exact : IsExact spell within read) where
   same_items : (xs ys : List X) (r s : List ℕ) → length xs ≡ length ys → All within xs → All within ys → flat_map spell xs ++ r ≡ flat_map spell ys ++ s → (xs ≡ ys) × (r ≡ s)
   same_items [] [] r s len all_x all_y same = (refl, same)
   same_items [] (y ∷ ys) r s len all_x all_y same = absurd (cc)
@@ -236,14 +236,14 @@ unique_texts editions.Two editions.Two ds es in_d in_e same = unique_lines ds es
 pub unique_code : (text : List ℕ) (ds es : List Definition) → IsCodeText text ds → IsCodeText text es → ds ≡ es
 unique_code text ds es d e = unique_texts d.0 e.0 ds es d.1.within e.1.within (sym d.1.spelled ∙ e.1.spelled)
 
-pub code_text-joined : (ds : List Definition) → joined (ended_lines ds) ≡ flat_map text_of ds ++ end_text
+pub code_text-joined : (ds : List Definition) → joined (ended_lines ds) ≡ flat_map definition_text ds ++ end_text
 code_text-joined [] = append-nil end_text
 code_text-joined (d ∷ ds) =
     code_text d ds ∙ ap (λ h. h ++ (joined (body_lines d) ++ joined (ended_lines ds))) (header_of-text d)
     ∙ ap (λ l. header_line d ++ (joined (body_lines d) ++ l)) (code_text-joined ds)
-    ∙ ap (λ l. header_line d ++ l) (sym (append_assoc (joined (body_lines d)) (flat_map text_of ds) end_text))
-    ∙ sym (append_assoc (header_line d) (joined (body_lines d) ++ flat_map text_of ds) end_text)
-    ∙ ap (λ l. l ++ end_text) (sym (append_assoc (header_line d) (joined (body_lines d)) (flat_map text_of ds)))
+    ∙ ap (λ l. header_line d ++ l) (sym (append_assoc (joined (body_lines d)) (flat_map definition_text ds) end_text))
+    ∙ sym (append_assoc (header_line d) (joined (body_lines d) ++ flat_map definition_text ds) end_text)
+    ∙ ap (λ l. l ++ end_text) (sym (append_assoc (header_line d) (joined (body_lines d)) (flat_map definition_text ds)))
 
 -- definitions lead from one to the next
 
@@ -268,39 +268,39 @@ body_goes (definition.Vector s) h =
     let w = items_go_last string_line IsWord string of_string s.strings h.strings in
     two_goes ival_line string_line s.values s.strings _ _ (GoesOn-append (state_after (header_of (definition.Vector s))) (expects (replicate k string)) (expects []) _ _ _ _ v w)
 
-definition_goes : (d : Definition) → IsWithinRanges d → GoesOn (expects []) (text_of d) (length (lines_of d)) (expects [])
+definition_goes : (d : Definition) → IsWithinRanges d → GoesOn (expects []) (definition_text d) (length (lines_of d)) (expects [])
 definition_goes d h =
     let all = GoesOn-append (expects []) (state_after (header_of d)) (expects []) (header_text (header_of d)) (joined (body_lines d)) 1 (length (body_lines d))
     (header_go (header_of d) (header_of-within d h)) (body_goes d h) in
     let count : 1 + length (body_lines d) ≡ length (lines_of d) = omega arith in
-    subst (λ (n : ℕ). GoesOn (expects []) (text_of d) n (expects [])) count
+    subst (λ (n : ℕ). GoesOn (expects []) (definition_text d) n (expects [])) count
     (subst (λ (l : List ℕ). GoesOn (expects []) (l ++ joined (body_lines d)) (1 + length (body_lines d)) (expects [])) (header_of-text d) all)
 
-pub definitions_go : (ds : List Definition) → All IsWithinRanges ds → GoesOn (expects []) (flat_map text_of ds) (length (flat_map lines_of ds)) (expects [])
-definitions_go [] all n rest stops = let same : n ≡ 0 + n = omega arith in subst (λ (m : ℕ). Stops m (expects []) rest) same stops
+pub definitions_go : (ds : List Definition) → All IsWithinRanges ds → GoesOn (expects []) (flat_map definition_text ds) (length (flat_map lines_of ds)) (expects [])
+definitions_go [] all n rest stops = let same : n ≡ 0 + n = omega arith in subst (λ (m : ℕ). IsStuckAfter m (expects []) rest) same stops
 definitions_go (d ∷ ds) all n rest stops =
     let count : length (lines_of d) + length (flat_map lines_of ds) ≡ length (flat_map lines_of (d ∷ ds)) = sym (length-append (lines_of d) (flat_map lines_of ds)) in
-    let both = GoesOn-append (expects []) (expects []) (expects []) (text_of d) (flat_map text_of ds) (length (lines_of d)) (length (flat_map lines_of ds))
+    let both = GoesOn-append (expects []) (expects []) (expects []) (definition_text d) (flat_map definition_text ds) (length (lines_of d)) (length (flat_map lines_of ds))
     (definition_goes d (All-head IsWithinRanges d ds all)) (definitions_go ds (All-tail IsWithinRanges d ds all)) in
-    subst (λ (k : ℕ). Stops (k + n) (expects []) (flat_map text_of (d ∷ ds) ++ rest)) count (both n rest stops)
+    subst (λ (k : ℕ). IsStuckAfter (k + n) (expects []) (flat_map definition_text (d ∷ ds) ++ rest)) count (both n rest stops)
 
 -- a text that doesn't begin with the edition's line stops where it stops without one
-still_opens : (n : ℕ) (text : List ℕ) → ((rest : List ℕ) → text ≡ edition_line ++ rest → ⊥) → Stops n (expects []) text → Stops n opens text
+still_opens : (n : ℕ) (text : List ℕ) → ((rest : List ℕ) → text ≡ edition_line ++ rest → ⊥) → IsStuckAfter n (expects []) text → IsStuckAfter n opens text
 still_opens zero text none stuck = record { refused = λ l to rest leads same. refused l to rest leads same; not_finished = λ e same. cc }
   where
-    refused : (l : List ℕ) (to : State) (rest : List ℕ) → Leads opens l to → text ≡ l ++ rest → ⊥
+    refused : (l : List ℕ) (to : LineState) (rest : List ℕ) → Leads opens l to → text ≡ l ++ rest → ⊥
     refused l to rest (inl x) same = none rest (same ∙ ap (λ t. t ++ rest) x.0)
     refused l to rest (inr x) same = stuck.refused l to rest x same
 still_opens (suc n) text none stops = (stops.0, stops.1, stops.2, inr stops.3, stops.4, stops.5)
 
-opens_to : (edition : Edition) (text : List ℕ) (n : ℕ) → (edition ≡ editions.One → (rest : List ℕ) → opening edition ++ text ≡ edition_line ++ rest → ⊥) → Stops n (expects []) text
-    → Stops (length (opening_lines edition) + n) opens (opening edition ++ text)
+opens_to : (edition : Edition) (text : List ℕ) (n : ℕ) → (edition ≡ editions.One → (rest : List ℕ) → opening edition ++ text ≡ edition_line ++ rest → ⊥) → IsStuckAfter n (expects []) text
+    → IsStuckAfter (length (opening_lines edition) + n) opens (opening edition ++ text)
 opens_to editions.One text n none stops =
-    let same : n ≡ 0 + n = omega arith in subst (λ (m : ℕ). Stops m opens text) same (still_opens n text (none refl) stops)
+    let same : n ≡ 0 + n = omega arith in subst (λ (m : ℕ). IsStuckAfter m opens text) same (still_opens n text (none refl) stops)
 opens_to editions.Two text n none stops =
     let same : suc n ≡ 1 + n = omega arith in
-    let first : Stops (suc n) opens (edition_line ++ text) = (edition_line, expects [], text, inl (refl, refl), refl, stops) in
-    subst (λ (m : ℕ). Stops m opens (edition_line ++ text)) same first
+    let first : IsStuckAfter (suc n) opens (edition_line ++ text) = (edition_line, expects [], text, inl (refl, refl), refl, stops) in
+    subst (λ (m : ℕ). IsStuckAfter m opens (edition_line ++ text)) same first
 
 -- reading a text in memory from its beginning
 
@@ -308,7 +308,7 @@ opens_to editions.Two text n none stops =
 pub record Knows (text : List ℕ) (known : List Definition) (at : Ahead) : Type 0 where
   pub edition : Edition
   pub within : All IsWithinRanges known
-  pub passes : Passes (ahead_of text 1) (opening edition ++ flat_map text_of known) (length (opening_lines edition) + length (flat_map lines_of known)) at
+  pub passes : TakesText (ahead_of text 1) (opening edition ++ flat_map definition_text known) (length (opening_lines edition) + length (flat_map lines_of known)) at
   pub first : edition ≡ editions.One → (rest : List ℕ) → text ≡ edition_line ++ rest → ⊥
 
 pub knows_opening : (text : List ℕ) (edition : Edition) (at : Ahead) → ReadsOpening (ahead_of text 1) edition at → Knows text [] at
@@ -321,19 +321,19 @@ knows_opening text editions.One at h = record {
 knows_opening text editions.Two at h = record { edition = editions.Two; within = All-nil IsWithinRanges; passes = h; first = λ e. absurd (cc) }
 
 -- a definition more was passed
-pub passes_more : {start at new : Ahead} (o : List ℕ) (k : ℕ) (known : List Definition) (d : Definition) → Passes start (o ++ flat_map text_of known) (k + length (flat_map lines_of known)) at → ReadsDefinition at d new
-    → Passes start (o ++ flat_map text_of (known ++ d ∷ [])) (k + length (flat_map lines_of (known ++ d ∷ []))) new
+pub passes_more : {start at new : Ahead} (o : List ℕ) (k : ℕ) (known : List Definition) (d : Definition) → TakesText start (o ++ flat_map definition_text known) (k + length (flat_map lines_of known)) at → ReadsDefinition at d new
+    → TakesText start (o ++ flat_map definition_text (known ++ d ∷ [])) (k + length (flat_map lines_of (known ++ d ∷ []))) new
 passes_more {start} {at} {new} o k known d passes read =
-    let texts : flat_map text_of (known ++ d ∷ []) ≡ flat_map text_of known ++ text_of d =
-    flat_map-append text_of known (d ∷ []) ∙ ap (λ l. flat_map text_of known ++ l) (append-nil (text_of d)) in
+    let texts : flat_map definition_text (known ++ d ∷ []) ≡ flat_map definition_text known ++ definition_text d =
+    flat_map-append definition_text known (d ∷ []) ∙ ap (λ l. flat_map definition_text known ++ l) (append-nil (definition_text d)) in
     let lines : flat_map lines_of (known ++ d ∷ []) ≡ flat_map lines_of known ++ lines_of d =
     flat_map-append lines_of known (d ∷ []) ∙ ap (λ l. flat_map lines_of known ++ l) (append-nil (lines_of d)) in
     let all = Passes-append passes read.passes in
     let count : k + length (flat_map lines_of known) + length (lines_of d) ≡ k + length (flat_map lines_of (known ++ d ∷ [])) =
     omega (arith, ap length lines, length-append (flat_map lines_of known) (lines_of d)) in
-    subst (λ (n : ℕ). Passes start (o ++ flat_map text_of (known ++ d ∷ [])) n new) count
-    (subst (λ (t : List ℕ). Passes start t (k + length (flat_map lines_of known) + length (lines_of d)) new)
-    (append_assoc o (flat_map text_of known) (text_of d) ∙ ap (λ t. o ++ t) (sym texts)) all)
+    subst (λ (n : ℕ). TakesText start (o ++ flat_map definition_text (known ++ d ∷ [])) n new) count
+    (subst (λ (t : List ℕ). TakesText start t (k + length (flat_map lines_of known) + length (lines_of d)) new)
+    (append_assoc o (flat_map definition_text known) (definition_text d) ∙ ap (λ t. o ++ t) (sym texts)) all)
 
 pub knows_more : (text : List ℕ) (known more : List Definition) (d : Definition) (at new : Ahead) → Knows text known at → ReadsDefinition at d new → more ≡ known ++ d ∷ [] → Knows text more new
 knows_more text known more d at new h read pushed = rw pushed record {
@@ -359,26 +359,26 @@ follow text taken new (Some more) e h = (more, whole, can (eqb (length text) 0) 
     can true none over = (both_empty taken more (sym whole ∙ no_length text none)).1
     can false some over = sym (same_rest taken [] more (sym (h.all some over) ∙ whole))
 
-left_text : (text taken : List ℕ) (new : Ahead) → Reads (ahead_of text 1) taken new → (more : List ℕ) × (text ≡ taken ++ more) × CanFollow new.end more
+left_text : (text taken : List ℕ) (new : Ahead) → TakesBytes (ahead_of text 1) taken new → (more : List ℕ) × (text ≡ taken ++ more) × CanFollow new.end more
 left_text text taken new h = follow text taken new.end new.end.left refl h.took
 
 -- behind these definitions the text stops
-stops_behind_known : (text : List ℕ) (known : List Definition) (at : Ahead) (rest : List ℕ) (good : ℕ) (h : Knows text known at) → text ≡ opening h.edition ++ flat_map text_of known ++ rest → Stops good (expects []) rest
-    → Stops (length (opening_lines h.edition) + (length (flat_map lines_of known) + good)) opens text
+stops_behind_known : (text : List ℕ) (known : List Definition) (at : Ahead) (rest : List ℕ) (good : ℕ) (h : Knows text known at) → text ≡ opening h.edition ++ flat_map definition_text known ++ rest → IsStuckAfter good (expects []) rest
+    → IsStuckAfter (length (opening_lines h.edition) + (length (flat_map lines_of known) + good)) opens text
 stops_behind_known text known at rest good h same stops =
     let o = opening h.edition in
-    let whole : text ≡ o ++ (flat_map text_of known ++ rest) = same ∙ append_assoc o (flat_map text_of known) rest in
+    let whole : text ≡ o ++ (flat_map definition_text known ++ rest) = same ∙ append_assoc o (flat_map definition_text known) rest in
     let k = length (opening_lines h.edition) + (length (flat_map lines_of known) + good) in
-    subst (λ (t : List ℕ). Stops k opens t) (sym whole)
-    (opens_to h.edition (flat_map text_of known ++ rest) (length (flat_map lines_of known) + good) (λ e r s. h.first e r (whole ∙ s))
+    subst (λ (t : List ℕ). IsStuckAfter k opens t) (sym whole)
+    (opens_to h.edition (flat_map definition_text known ++ rest) (length (flat_map lines_of known) + good) (λ e r s. h.first e r (whole ∙ s))
     (definitions_go known h.within good rest stops))
 
 stop_line : (text : List ℕ) (known : List Definition) (at new : Ahead) (n : ℕ) → Knows text known at → StopsAhead (expects []) at n new
-    → (good : ℕ) × (n ≡ suc good) × Stops good opens text
+    → (good : ℕ) × (n ≡ suc good) × IsStuckAfter good opens text
 stop_line text known at new n h s =
     let reads = Reads-append h.passes.reads s.reads in
     let left = left_text text _ new reads in
-    let o = opening h.edition ++ flat_map text_of known in (
+    let o = opening h.edition ++ flat_map definition_text known in (
       length (opening_lines h.edition) + (length (flat_map lines_of known) + s.good),
       (let x = h.passes.counted in let y = s.there in omega arith),
       stops_behind_known text known at (s.taken ++ left.0) s.good h (left.1 ∙ append_assoc o s.taken left.0) (s.stops left.0 left.2),
@@ -398,12 +398,12 @@ exit_only P text known at new (Err f) (fault.Line n) same gives h ds code = absu
 exit_only P text known at new (Err f) fault.Memory same gives h ds code = same
 
 -- a definition's first line was taken behind these definitions
-header_taken : (text : List ℕ) (known : List Definition) (at new : Ahead) (taken rest : List ℕ) (d : Definition) → Knows text known at → Reads at taken new → IsWithinRanges d → taken ≡ header_line d ++ rest
+header_taken : (text : List ℕ) (known : List Definition) (at new : Ahead) (taken rest : List ℕ) (d : Definition) → Knows text known at → TakesBytes at taken new → IsWithinRanges d → taken ≡ header_line d ++ rest
     → HasHeader text
 header_taken text known at new taken rest d h reads inside spelled =
     let left = left_text text _ new (Reads-append h.passes.reads reads) in
     let o = opening h.edition in
-    let texts = flat_map text_of known in
+    let texts = flat_map definition_text known in
     record {
       edition = h.edition;
       definitions = known;
@@ -429,7 +429,7 @@ pub push_fault : {V : Type 0} (text : List ℕ) (known : List Definition) (d : D
     → ReadsDefinition at d new → Knows text known at → IfErr r (IsFaultOf text)
 push_fault text known d at new (Ok v) same read h = absurd same
 push_fault text known d at new (Err f) same read h =
-    subst (IsFaultOf text) (sym same) (header_taken text known at new (text_of d) (joined (body_lines d)) d h read.passes.reads read.inside refl)
+    subst (IsFaultOf text) (sym same) (header_taken text known at new (definition_text d) (joined (body_lines d)) d h read.passes.reads read.inside refl)
 
 pub definition_shorter : (at new : Ahead) (d : Definition) → ReadsDefinition at d new → new.end.bound < at.end.bound
 definition_shorter at new d read =
@@ -441,14 +441,14 @@ definition_shorter at new d read =
 -- the last line, and what is behind it
 
 -- the text stops behind the last line
-pub end_stops : {at end new : Ahead} (taken : List ℕ) → Passes at end_text 1 end → Reads end taken new → (taken ≢ []) → StopsInside at end.line new
+pub end_stops : {at end new : Ahead} (taken : List ℕ) → TakesText at end_text 1 end → TakesBytes end taken new → (taken ≢ []) → StopsInside at end.line new
 end_stops {at} {end} {new} taken passes reads some = record {
   stopped = record {
     good = 1 + 0;
     there = (let x = passes.counted in omega arith);
     taken = end_text ++ taken;
     reads = Reads-append passes.reads reads;
-    stops = λ more can. subst (λ (l : List ℕ). Stops (1 + 0) (expects []) l) (sym (append_assoc end_text taken more))
+    stops = λ more can. subst (λ (l : List ℕ). IsStuckAfter (1 + 0) (expects []) l) (sym (append_assoc end_text taken more))
         (header_go header.End end_within 0 (taken ++ more) record { refused = λ l to rest leads same. leads; not_finished = λ e same. some (both_empty taken more same).0 });
   };
   none = λ more can d rest inside same.
@@ -457,7 +457,7 @@ end_stops {at} {end} {new} taken passes reads some = record {
 }
 
 -- a read failed behind the last line
-pub end_breaks : {at end new : Ahead} → Passes at end_text 1 end → Breaks end new → BreaksInside at new
+pub end_breaks : {at end new : Ahead} → TakesText at end_text 1 end → BytesFail end new → BreaksInside at new
 unfolding Breaks-after
 end_breaks passes breaks = record {
   breaks = Breaks-after passes.reads breaks;
@@ -466,32 +466,32 @@ end_breaks passes breaks = record {
 }
 
 -- a text in memory goes on behind its last line
-over_line : (text : List ℕ) (known : List Definition) (at new : Ahead) → Knows text known at → Passes at end_text 1 new → (new.end.left ≡ Some [] → ⊥)
-    → (good : ℕ) × (new.line ≡ suc good) × Stops good opens text
+over_line : (text : List ℕ) (known : List Definition) (at new : Ahead) → Knows text known at → TakesText at end_text 1 new → (new.end.left ≡ Some [] → ⊥)
+    → (good : ℕ) × (new.line ≡ suc good) × IsStuckAfter good opens text
 over_line text known at new h passes some =
     let reads = Reads-append h.passes.reads passes.reads in
     let left = left_text text _ new reads in
-    let o = opening h.edition ++ flat_map text_of known in (
+    let o = opening h.edition ++ flat_map definition_text known in (
       length (opening_lines h.edition) + (length (flat_map lines_of known) + (1 + 0)),
       (let x = h.passes.counted in let y = passes.counted in omega arith),
       stops_behind_known text known at (end_text ++ left.0) (1 + 0) h (left.1 ∙ append_assoc o end_text left.0)
           (header_go header.End end_within 0 left.0 record { refused = λ l to rest leads same. leads; not_finished = λ e same. none left.0 left.1 same }),
     )
   where
-    none : (more : List ℕ) → text ≡ opening h.edition ++ flat_map text_of known ++ end_text ++ more → more ≡ [] → ⊥
+    none : (more : List ℕ) → text ≡ opening h.edition ++ flat_map definition_text known ++ end_text ++ more → more ≡ [] → ⊥
     none more whole empty = rest_left new.end.left refl
       where
         rest_left : (left : Option (List ℕ)) → new.end.left ≡ left → ⊥
-        rest_left None e = absurd (subst (λ (o : Option (List ℕ)). Consumes (Some text) o (opening h.edition ++ flat_map text_of known ++ end_text)) e (Reads-append h.passes.reads passes.reads).took.bytes)
+        rest_left None e = absurd (subst (λ (o : Option (List ℕ)). Consumes (Some text) o (opening h.edition ++ flat_map definition_text known ++ end_text)) e (Reads-append h.passes.reads passes.reads).took.bytes)
         rest_left (Some u) e =
-            let there : text ≡ opening h.edition ++ flat_map text_of known ++ end_text ++ u =
-            subst (λ (o : Option (List ℕ)). Consumes (Some text) o (opening h.edition ++ flat_map text_of known ++ end_text)) e (Reads-append h.passes.reads passes.reads).took.bytes in
-            some (e ∙ ap Some (same_rest (opening h.edition ++ flat_map text_of known ++ end_text) u more (sym there ∙ whole) ∙ empty))
+            let there : text ≡ opening h.edition ++ flat_map definition_text known ++ end_text ++ u =
+            subst (λ (o : Option (List ℕ)). Consumes (Some text) o (opening h.edition ++ flat_map definition_text known ++ end_text)) e (Reads-append h.passes.reads passes.reads).took.bytes in
+            some (e ∙ ap Some (same_rest (opening h.edition ++ flat_map definition_text known ++ end_text) u more (sym there ∙ whole) ∙ empty))
 
-pub end_fault : (text : List ℕ) (known : List Definition) (at new : Ahead) → Knows text known at → Passes at end_text 1 new → (new.end.left ≡ Some [] → ⊥) → IsFaultLine text new.line
+pub end_fault : (text : List ℕ) (known : List Definition) (at new : Ahead) → Knows text known at → TakesText at end_text 1 new → (new.end.left ≡ Some [] → ⊥) → IsFaultLine text new.line
 end_fault text known at new h passes some = let t = over_line text known at new h passes some in subst (IsFaultLine text) (sym t.1) (fault_line text t.0 t.2)
 
-pub end_no_code : (text : List ℕ) (known : List Definition) (at new : Ahead) → Knows text known at → Passes at end_text 1 new → (new.end.left ≡ Some [] → ⊥)
+pub end_no_code : (text : List ℕ) (known : List Definition) (at new : Ahead) → Knows text known at → TakesText at end_text 1 new → (new.end.left ≡ Some [] → ⊥)
     → (ds : List Definition) → IsCodeText text ds → ⊥
 end_no_code text known at new h passes some ds code = let t = over_line text known at new h passes some in no_code text t.0 t.2 ds code
 
@@ -499,12 +499,12 @@ opened : (edition : Edition) (ds : List Definition) → joined (code_lines editi
 opened editions.One ds = refl
 opened editions.Two ds = refl
 
-pub code_spelled : (edition : Edition) (ds : List Definition) → joined (code_lines edition ds) ≡ opening edition ++ flat_map text_of ds ++ end_text
-code_spelled edition ds = opened edition ds ∙ ap (λ t. opening edition ++ t) (code_text-joined ds) ∙ sym (append_assoc (opening edition) (flat_map text_of ds) end_text)
+pub code_spelled : (edition : Edition) (ds : List Definition) → joined (code_lines edition ds) ≡ opening edition ++ flat_map definition_text ds ++ end_text
+code_spelled edition ds = opened edition ds ∙ ap (λ t. opening edition ++ t) (code_text-joined ds) ∙ sym (append_assoc (opening edition) (flat_map definition_text ds) end_text)
 
-pub whole_code : (text : List ℕ) (known : List Definition) (at new : Ahead) → Knows text known at → Passes at end_text 1 new → new.end.left ≡ Some [] → IsCodeText text known
+pub whole_code : (text : List ℕ) (known : List Definition) (at new : Ahead) → Knows text known at → TakesText at end_text 1 new → new.end.left ≡ Some [] → IsCodeText text known
 whole_code text known at new h passes none =
-    let before = opening h.edition ++ flat_map text_of known in
+    let before = opening h.edition ++ flat_map definition_text known in
     let all : text ≡ before ++ end_text ++ [] =
     subst (λ (o : Option (List ℕ)). Consumes (Some text) o (before ++ end_text)) none (Reads-append h.passes.reads passes.reads).took.bytes in
     (h.edition, record { within = h.within; spelled = all ∙ append-nil (before ++ end_text) ∙ sym (code_spelled h.edition known) })

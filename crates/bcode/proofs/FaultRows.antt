@@ -6,9 +6,9 @@ use Rattle.std.proofs.lemmas.Bool.Decides.{Decides-eqb}
 use Rattle.std.proofs.lemmas.Slice.Eq.{starts_is}
 use Rattle.bcode.specs.Faults.{IsFaultLine}
 use Rattle.bcode.specs.Headers.{header_text}
-use Rattle.bcode.specs.LineReading.{header_at, any_header_at, sizes_at, function_header_at, simple_header_at, vector_header_at, ended, instr_at, ival_at, number_line_at, operand_at, name_operand_at, operator_at, less_at, greater_at, increment_at, case_at, Reader}
-use Rattle.bcode.specs.Reading.{expect, number_at, number_from, name_at}
-use Rattle.bcode.specs.Stopping.{Kind, value, target, string, instruction, State, opens, expects, finished, state_after, Leads, IsOfKind, Stops}
+use Rattle.bcode.specs.LineReading.{header_at, any_header_at, sizes_at, function_header_at, simple_header_at, vector_header_at, line_ended, instr_at, ival_line_at, number_line_at, operand_at, name_operand_at, operator_at, less_at, greater_at, increment_at, case_at, LineReader}
+use Rattle.bcode.specs.Reading.{expect_byte, number_at, number_from, name_text_at}
+use Rattle.bcode.specs.Stopping.{LineKind, value, target, string, instruction, LineState, opens, expects, finished, state_after, Leads, IsOfKind, IsStuckAfter}
 use Rattle.blang.specs.Text.{edition_line, target_line, string_line, instr_line, ival_line}
 use Rattle.bcode.specs.declared.header.Header.{Header}
 use Rattle.bcode.proofs.FaultLaws.{fault_line}
@@ -23,45 +23,45 @@ abbrev behind : {X : Type 0} → Option (X × List ℕ) → Option (List ℕ)
 behind (Some r) = Some r.1
 behind None = None
 
-abbrev line_behind : Kind → List ℕ → Option (List ℕ)
-line_behind (value strings) text = behind (ival_at strings text)
+abbrev line_behind : LineKind → List ℕ → Option (List ℕ)
+line_behind (value strings) text = behind (ival_line_at strings text)
 line_behind (target code) text = behind (number_line_at 116 code text)
 line_behind string text = behind (number_line_at 119 (2 ^ 16) text)
 line_behind (instruction sizes) text = behind (instr_at sizes text)
 
-abbrev to_expect : List Kind → Option (List ℕ) → Option (State × List ℕ)
+abbrev to_expect : List LineKind → Option (List ℕ) → Option (LineState × List ℕ)
 to_expect ks (Some text) = Some (expects ks, text)
 to_expect ks None = None
 
-abbrev after_header : Option (Header × List ℕ) → Option (State × List ℕ)
+abbrev after_header : Option (Header × List ℕ) → Option (LineState × List ℕ)
 after_header (Some r) = Some (state_after r.0, r.1)
 after_header None = None
 
-abbrev after_opening : Bool → List ℕ → Option (State × List ℕ)
+abbrev after_opening : Bool → List ℕ → Option (LineState × List ℕ)
 after_opening two text = if two then Some (expects [], drop 4 text) else after_header (header_at text)
 
 -- a line further
-abbrev step : State → List ℕ → Option (State × List ℕ)
+abbrev step : LineState → List ℕ → Option (LineState × List ℕ)
 step opens text = after_opening (is_two text) text
 step (expects []) text = after_header (header_at text)
 step (expects (k ∷ ks)) text = to_expect ks (line_behind k text)
 step finished text = None
 
 -- whether the text is stuck after so many lines
-abbrev is_stuck : State → List ℕ → Option (State × List ℕ) → Bool
+abbrev is_stuck : LineState → List ℕ → Option (LineState × List ℕ) → Bool
 is_stuck finished [] o = false
 is_stuck from text (Some r) = false
 is_stuck from text None = true
 
-abbrev on : (State → List ℕ → Bool) → Option (State × List ℕ) → Bool
+abbrev on : (LineState → List ℕ → Bool) → Option (LineState × List ℕ) → Bool
 on test (Some r) = test r.0 r.1
 on test None = false
 
-abbrev stops_at : ℕ → State → List ℕ → Bool
+abbrev stops_at : ℕ → LineState → List ℕ → Bool
 stops_at zero from text = is_stuck from text (step from text)
 stops_at (suc n) from text = on (stops_at n) (step from text)
 
-module _ {X : Type 0} {spell : X → List ℕ} {within : X → Type 0} {read : Reader X} (exact : IsExact spell within read) where
+module _ {X : Type 0} {spell : X → List ℕ} {within : X → Type 0} {read : LineReader X} (exact : IsExact spell within read) where
   line_read : (text rest : List ℕ) → behind (read text) ≡ Some rest → (x : X) × within x × (text ≡ spell x ++ rest)
   line_read text rest e = on_read (read text) refl e
     where
@@ -75,27 +75,27 @@ module _ {X : Type 0} {spell : X → List ℕ} {within : X → Type 0} {read : R
   line_there : (text rest : List ℕ) (x : X) → within x → text ≡ spell x ++ rest → behind (read text) ≡ Some rest
   line_there text rest x inside same = ap behind (ap read same ∙ exact.again x rest inside)
 
-kind_read : (k : Kind) → IsGoodKind k → (text rest : List ℕ) → line_behind k text ≡ Some rest → (l : List ℕ) × IsOfKind k l × (text ≡ l ++ rest)
+kind_read : (k : LineKind) → IsGoodKind k → (text rest : List ℕ) → line_behind k text ≡ Some rest → (l : List ℕ) × IsOfKind k l × (text ≡ l ++ rest)
 kind_read (value strings) good text rest e = let h = line_read (ival_at-exact strings good) text rest e in (ival_line h.0, (h.0, h.1, refl), h.2)
 kind_read (target code) good text rest e = let h = line_read (number_line_at-exact 116 code good.1) text rest e in (target_line h.0, (h.0, h.1, refl), h.2)
 kind_read string good text rest e = let h = line_read (number_line_at-exact 119 (2 ^ 16) (omega arith)) text rest e in (string_line h.0, (h.0, h.1, refl), h.2)
 kind_read (instruction sizes) good text rest e = let h = line_read (instr_at-exact sizes good) text rest e in (instr_line h.0, (h.0, h.1, refl), h.2)
 
-kind_there : (k : Kind) → IsGoodKind k → (l text rest : List ℕ) → IsOfKind k l → text ≡ l ++ rest → line_behind k text ≡ Some rest
+kind_there : (k : LineKind) → IsGoodKind k → (l text rest : List ℕ) → IsOfKind k l → text ≡ l ++ rest → line_behind k text ≡ Some rest
 kind_there (value strings) good l text rest of same = line_there (ival_at-exact strings good) text rest of.0 of.1 (same ∙ ap (λ t. t ++ rest) of.2)
 kind_there (target code) good l text rest of same = line_there (number_line_at-exact 116 code good.1) text rest of.0 of.1 (same ∙ ap (λ t. t ++ rest) of.2)
 kind_there string good l text rest of same = line_there (number_line_at-exact 119 (2 ^ 16) (omega arith)) text rest of.0 of.1 (same ∙ ap (λ t. t ++ rest) of.2)
 kind_there (instruction sizes) good l text rest of same = line_there (instr_at-exact sizes good) text rest of.0 of.1 (same ∙ ap (λ t. t ++ rest) of.2)
 
-expected : (ks : List Kind) (o : Option (List ℕ)) (to : State) (rest : List ℕ) → to_expect ks o ≡ Some (to, rest) → (o ≡ Some rest) × (to ≡ expects ks)
+expected : (ks : List LineKind) (o : Option (List ℕ)) (to : LineState) (rest : List ℕ) → to_expect ks o ≡ Some (to, rest) → (o ≡ Some rest) × (to ≡ expects ks)
 expected ks (Some text) to rest e = let same = same_read (expects ks, text) (to, rest) e in (ap Some same.1, sym same.0)
 expected ks None to rest e = absurd (cc)
 
-headed : (o : Option (Header × List ℕ)) (to : State) (rest : List ℕ) → after_header o ≡ Some (to, rest) → (h : Header) × (o ≡ Some (h, rest)) × (to ≡ state_after h)
+headed : (o : Option (Header × List ℕ)) (to : LineState) (rest : List ℕ) → after_header o ≡ Some (to, rest) → (h : Header) × (o ≡ Some (h, rest)) × (to ≡ state_after h)
 headed (Some r) to rest e = let same = same_read (state_after r.0, r.1) (to, rest) e in (r.0, ap (λ t. Some (r.0, t)) same.1, sym same.0)
 headed None to rest e = absurd (cc)
 
-step_leads : (from : State) (text : List ℕ) (to : State) (rest : List ℕ) → IsGoodState from → step from text ≡ Some (to, rest)
+step_leads : (from : LineState) (text : List ℕ) (to : LineState) (rest : List ℕ) → IsGoodState from → step from text ≡ Some (to, rest)
     → (l : List ℕ) × Leads from l to × (text ≡ l ++ rest)
 step_leads opens text to rest good e = go (is_two text) refl e
   where
@@ -117,7 +117,7 @@ step_leads (expects (k ∷ ks)) text to rest good e =
     (read.0, (read.1, h.1), read.2)
 step_leads finished text to rest good e = absurd (cc)
 
-leads_step : (from : State) (l : List ℕ) (to : State) (text rest : List ℕ) → IsGoodState from → Leads from l to → text ≡ l ++ rest → step from text ≡ Some (to, rest)
+leads_step : (from : LineState) (l : List ℕ) (to : LineState) (text rest : List ℕ) → IsGoodState from → Leads from l to → text ≡ l ++ rest → step from text ≡ Some (to, rest)
 leads_step opens l to text rest good (inl x) same =
     let line : text ≡ edition_line ++ rest = same ∙ ap (λ t. t ++ rest) x.0 in
     let behind_line : drop 4 text ≡ rest = ap (λ t. drop 4 t) line in
@@ -143,7 +143,7 @@ leads_step (expects (k ∷ ks)) l to text rest good leads same =
     ap (to_expect ks) (kind_there k good.0 l text rest leads.0 same) ∙ ap (λ s. Some (s, rest)) (sym leads.1)
 leads_step finished l to text rest good leads same = absurd leads
 
-stuck_step : (from : State) (text : List ℕ) (o : Option (State × List ℕ)) → is_stuck from text o ≡ true → (o ≡ None) × (from ≡ finished → text ≡ [] → ⊥)
+stuck_step : (from : LineState) (text : List ℕ) (o : Option (LineState × List ℕ)) → is_stuck from text o ≡ true → (o ≡ None) × (from ≡ finished → text ≡ [] → ⊥)
 stuck_step finished [] o e = absurd (cc)
 stuck_step finished (b ∷ bs) (Some r) e = absurd (cc)
 stuck_step finished (b ∷ bs) None e = (refl, λ p q. cc)
@@ -152,14 +152,14 @@ stuck_step opens text None e = (refl, λ p q. cc)
 stuck_step (expects ks) text (Some r) e = absurd (cc)
 stuck_step (expects ks) text None e = (refl, λ p q. cc)
 
-stops_behind : (n : ℕ) (from : State) (text : List ℕ) → IsGoodState from → (o : Option (State × List ℕ)) → step from text ≡ o
-    → on (stops_at n) o ≡ true → ((to : State) (rest : List ℕ) → IsGoodState to → stops_at n to rest ≡ true → Stops n to rest) → Stops (suc n) from text
+stops_behind : (n : ℕ) (from : LineState) (text : List ℕ) → IsGoodState from → (o : Option (LineState × List ℕ)) → step from text ≡ o
+    → on (stops_at n) o ≡ true → ((to : LineState) (rest : List ℕ) → IsGoodState to → stops_at n to rest ≡ true → IsStuckAfter n to rest) → IsStuckAfter (suc n) from text
 stops_behind n from text good (Some r) is e onward =
     let h = step_leads from text r.0 r.1 good is in
     (h.0, r.0, r.1, h.1, h.2, onward r.0 r.1 (good_next from h.0 r.0 good h.1) e)
 stops_behind n from text good None is e onward = absurd (cc)
 
-stops : (n : ℕ) (from : State) (text : List ℕ) → IsGoodState from → stops_at n from text ≡ true → Stops n from text
+stops : (n : ℕ) (from : LineState) (text : List ℕ) → IsGoodState from → stops_at n from text ≡ true → IsStuckAfter n from text
 stops zero from text good e =
     let h = stuck_step from text (step from text) e in
     record {
@@ -221,5 +221,5 @@ rows =
     []
 
 faults : AreFaults rows
-unfolding header_at any_header_at sizes_at function_header_at simple_header_at vector_header_at ended instr_at ival_at number_line_at operand_at name_operand_at operator_at less_at greater_at increment_at case_at expect number_at number_from name_at
+unfolding header_at any_header_at sizes_at function_header_at simple_header_at vector_header_at line_ended instr_at ival_line_at number_line_at operand_at name_operand_at operator_at less_at greater_at increment_at case_at expect_byte number_at number_from name_text_at
 faults = faults_there rows refl

@@ -5,8 +5,8 @@ use Rattle.std.proofs.lemmas.Bool.Decides.{nat_tests}
 use Rattle.bword.specs.Words.{is_name}
 use Rattle.blang.specs.CodeParts.{IsWord}
 use Rattle.bcode.specs.Headers.{header_text, function_fits, simple_fits, vector_fits, header_fits, IsNamed, IsHeaderWithin}
-use Rattle.bcode.specs.LineReading.{header_at, any_header_at, header_readers, sizes_at, function_header_at, simple_header_at, vector_header_at, ended}
-use Rattle.bcode.specs.Reading.{expect, number_at, name_at}
+use Rattle.bcode.specs.LineReading.{header_at, any_header_at, header_readers, sizes_at, function_header_at, simple_header_at, vector_header_at, line_ended}
+use Rattle.bcode.specs.Reading.{expect_byte, number_at, name_text_at}
 use Rattle.blang.specs.declared.limits.TheConstants.{WORD_VALUES}
 use Rattle.bcode.specs.declared.header.Header.{Header}
 use Rattle.bcode.specs.declared.header.Header.TheVariants as header
@@ -80,8 +80,8 @@ sizes_at-sound bytes s rest e =
 function_header_entry : IsSoundBehind header_text IsNamed 70 function_header_at
 unfolding function_header_at
 function_header_entry bytes x rest e =
-    let space = bind_some (expect 32 bytes) _ (x, rest) e in
-    let name = bind_some (name_at 32 space.0) _ (x, rest) space.2 in
+    let space = bind_some (expect_byte 32 bytes) _ (x, rest) e in
+    let name = bind_some (name_text_at 32 space.0) _ (x, rest) space.2 in
     let n = name_at-sound 32 space.0 name.0.0 name.0.1 name.1 in
     let parameters = bind_some (number_at 32 WORD_VALUES name.0.1) _ (x, rest) name.2 in
     let parameters_read = number_at-sound 32 WORD_VALUES name.0.1 parameters.0.0 parameters.0.1 parameters.1 in
@@ -97,8 +97,8 @@ function_header_entry bytes x rest e =
 simple_header_entry : IsSoundBehind header_text IsNamed 88 simple_header_at
 unfolding simple_header_at
 simple_header_entry bytes x rest e =
-    let space = bind_some (expect 32 bytes) _ (x, rest) e in
-    let name = bind_some (name_at 32 space.0) _ (x, rest) space.2 in
+    let space = bind_some (expect_byte 32 bytes) _ (x, rest) e in
+    let name = bind_some (name_text_at 32 space.0) _ (x, rest) space.2 in
     let n = name_at-sound 32 space.0 name.0.0 name.0.1 name.1 in
     let values = bind_some (number_at 32 WORD_VALUES name.0.1) _ (x, rest) name.2 in
     let values_read = number_at-sound 32 WORD_VALUES name.0.1 values.0.0 values.0.1 values.1 in
@@ -113,8 +113,8 @@ simple_header_entry bytes x rest e =
 vector_header_entry : IsSoundBehind header_text IsNamed 86 vector_header_at
 unfolding vector_header_at
 vector_header_entry bytes x rest e =
-    let space = bind_some (expect 32 bytes) _ (x, rest) e in
-    let name = bind_some (name_at 32 space.0) _ (x, rest) space.2 in
+    let space = bind_some (expect_byte 32 bytes) _ (x, rest) e in
+    let name = bind_some (name_text_at 32 space.0) _ (x, rest) space.2 in
     let n = name_at-sound 32 space.0 name.0.0 name.0.1 name.1 in
     let words = bind_some (number_at 32 WORD_VALUES name.0.1) _ (x, rest) name.2 in
     let words_read = number_at-sound 32 WORD_VALUES name.0.1 words.0.0 words.0.1 words.1 in
@@ -197,7 +197,7 @@ vector_header_at-again name w v s rest named are =
     ) refl
 
 any_header_at-again : (x : Header) (rest : List ℕ) → IsHeaderWithin x → any_header_at (header_text x ++ rest) ≡ Some (x, rest)
-unfolding any_header_at ended expect
+unfolding any_header_at line_ended expect_byte
 any_header_at-again (header.Function name p s) rest h =
     ap any_header_at (sym (function_text name p s rest)) ∙ function_header_at-again name p s rest h.named (function_words p s h.fits)
 any_header_at-again (header.Simple name v s) rest h = ap any_header_at (sym (simple_text name v s rest)) ∙ simple_header_at-again name v s rest h.named (simple_words v s h.fits)

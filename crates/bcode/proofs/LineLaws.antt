@@ -4,8 +4,8 @@ use Rattle.bword.specs.Words.{is_name}
 use Rattle.bword.specs.declared.operators.BinOp.{BinOp}
 use Rattle.bword.specs.declared.operators.BinOp.TheVariants as op
 use Rattle.blang.specs.CodeParts.{IsWord, IsInstrWithin, IsIvalWithin}
-use Rattle.bcode.specs.LineReading.{Reader, mapped, choose, by_first, ended, operand_at, name_operand_at, less_at, greater_at, operator_at, operator_readers, increment_at, increment_readers, case_at, instr_at, instr_readers, ival_at, ival_readers, number_line_at}
-use Rattle.bcode.specs.Reading.{◌>>=◌, expect, number_at, name_at}
+use Rattle.bcode.specs.LineReading.{LineReader, mapped, choose, by_first, line_ended, operand_at, name_operand_at, less_at, greater_at, operator_at, operator_readers, increment_at, increment_readers, case_at, instr_at, instr_readers, ival_line_at, ival_readers, number_line_at}
+use Rattle.bcode.specs.Reading.{◌>>=◌, expect_byte, number_at, name_text_at}
 use Rattle.blang.specs.Text.{line, increment_text, instr_line, ival_line}
 use Rattle.bword.specs.Words.{operator_text}
 use Rattle.blang.specs.declared.code.Sizes.{Sizes}
@@ -18,7 +18,7 @@ use Rattle.blang.specs.declared.code.Ival.TheVariants as ival
 use Rattle.bcode.proofs.PartLaws.{bind_some, same_read, is_same, expect-sound, expect-again, number_at-sound, number_at-again, name_at-sound, name_at-again}
 
 -- a reader reads just these texts of these values
-pub record IsExact {X : Type 0} (text : X → List ℕ) (within : X → Type 0) (read : Reader X) : Type 0 where
+pub record IsExact {X : Type 0} (text : X → List ℕ) (within : X → Type 0) (read : LineReader X) : Type 0 where
   pub sound : (bytes : List ℕ) (x : X) (rest : List ℕ) → read bytes ≡ Some (x, rest) → within x × (bytes ≡ text x ++ rest)
   pub again : (x : X) (rest : List ℕ) → within x → read (text x ++ rest) ≡ Some (x, rest)
   pub filled : (x : X) → 0 < length (text x)
@@ -32,47 +32,47 @@ mapped_some f None y rest e = absurd (cc)
 
 module _ {X : Type 0} (text : X → List ℕ) (within : X → Type 0) where
   -- what is read behind a byte
-  abbrev pub IsSoundBehind : ℕ → Reader X → Type 0
+  abbrev pub IsSoundBehind : ℕ → LineReader X → Type 0
   IsSoundBehind byte read = (bytes : List ℕ) (x : X) (rest : List ℕ) → read bytes ≡ Some (x, rest) → within x × (byte ∷ bytes ≡ text x ++ rest)
 
-  abbrev pub AllSound : List (ℕ × Reader X) → Type 0
+  abbrev pub AllSound : List (ℕ × LineReader X) → Type 0
   AllSound [] = Unit {0}
   AllSound (r ∷ rs) = IsSoundBehind r.0 r.1 × AllSound rs
 
-  choose-step : (r : ℕ × Reader X) (rs : List (ℕ × Reader X)) (byte : ℕ) (bytes : List ℕ) (x : X) (rest : List ℕ) → IsSoundBehind r.0 r.1
+  choose-step : (r : ℕ × LineReader X) (rs : List (ℕ × LineReader X)) (byte : ℕ) (bytes : List ℕ) (x : X) (rest : List ℕ) → IsSoundBehind r.0 r.1
       → (choose rs byte bytes ≡ Some (x, rest) → within x × (byte ∷ bytes ≡ text x ++ rest))
       → (t : Bool) → eqb byte r.0 ≡ t → cond t (r.1 bytes) (choose rs byte bytes) ≡ Some (x, rest) → within x × (byte ∷ bytes ≡ text x ++ rest)
   choose-step r rs byte bytes x rest first others true same e =
       let h = first bytes x rest e in (h.0, ap (λ b. b ∷ bytes) (is_same byte r.0 same) ∙ h.1)
   choose-step r rs byte bytes x rest first others false same e = others e
 
-  choose-sound : (rs : List (ℕ × Reader X)) → AllSound rs → (byte : ℕ) (bytes : List ℕ) (x : X) (rest : List ℕ)
+  choose-sound : (rs : List (ℕ × LineReader X)) → AllSound rs → (byte : ℕ) (bytes : List ℕ) (x : X) (rest : List ℕ)
       → choose rs byte bytes ≡ Some (x, rest) → within x × (byte ∷ bytes ≡ text x ++ rest)
   choose-sound [] all byte bytes x rest e = absurd (cc)
   choose-sound (r ∷ rs) all byte bytes x rest e =
       choose-step r rs byte bytes x rest all.0 (choose-sound rs all.1 byte bytes x rest) (eqb byte r.0) refl e
 
-  pub by_first-sound : (rs : List (ℕ × Reader X)) → AllSound rs → (bytes : List ℕ) (x : X) (rest : List ℕ)
+  pub by_first-sound : (rs : List (ℕ × LineReader X)) → AllSound rs → (bytes : List ℕ) (x : X) (rest : List ℕ)
       → by_first rs bytes ≡ Some (x, rest) → within x × (bytes ≡ text x ++ rest)
   by_first-sound rs all [] x rest e = absurd (cc)
   by_first-sound rs all (b ∷ bs) x rest e = choose-sound rs all b bs x rest e
 
-ended-sound : {X : Type 0} (x y : X) (bytes rest : List ℕ) → ended x bytes ≡ Some (y, rest) → (x ≡ y) × (bytes ≡ 10 ∷ rest)
-unfolding ended
+ended-sound : {X : Type 0} (x y : X) (bytes rest : List ℕ) → line_ended x bytes ≡ Some (y, rest) → (x ≡ y) × (bytes ≡ 10 ∷ rest)
+unfolding line_ended
 ended-sound x y bytes rest e =
-    let found = bind_some (expect 10 bytes) _ (y, rest) e in
+    let found = bind_some (expect_byte 10 bytes) _ (y, rest) e in
     let read = same_read (x, found.0) (y, rest) found.2 in
     (read.0, expect-sound 10 bytes found.0 found.1 ∙ ap (λ l. 10 ∷ l) read.1)
 
-ended-again : {X : Type 0} (x : X) (rest : List ℕ) → ended x (10 ∷ rest) ≡ Some (x, rest)
-unfolding ended
+ended-again : {X : Type 0} (x : X) (rest : List ℕ) → line_ended x (10 ∷ rest) ≡ Some (x, rest)
+unfolding line_ended
 ended-again x rest = rw (expect-again 10 rest) refl
 
 operand_at-sound : (below : ℕ) (bytes : List ℕ) (n : ℕ) (rest : List ℕ) → operand_at below bytes ≡ Some (n, rest)
     → (n < below) × (bytes ≡ 32 ∷ (decimal n ++ 10 ∷ [] ++ rest))
 unfolding operand_at
 operand_at-sound below bytes n rest e =
-    let found = bind_some (expect 32 bytes) (number_at 10 below) (n, rest) e in
+    let found = bind_some (expect_byte 32 bytes) (number_at 10 below) (n, rest) e in
     let read = number_at-sound 10 below found.0 n rest found.2 in
     (read.0, expect-sound 32 bytes found.0 found.1 ∙ ap (λ l. 32 ∷ l) (read.1 ∙ sym (append_assoc (decimal n) (10 ∷ []) rest)))
 
@@ -85,7 +85,7 @@ operand_at-again below n rest fits less =
 name_operand_at-sound : (bytes name rest : List ℕ) → name_operand_at bytes ≡ Some (name, rest) → IsTrue (is_name name) × (bytes ≡ 32 ∷ (name ++ 10 ∷ [] ++ rest))
 unfolding name_operand_at
 name_operand_at-sound bytes name rest e =
-    let found = bind_some (expect 32 bytes) (name_at 10) (name, rest) e in
+    let found = bind_some (expect_byte 32 bytes) (name_text_at 10) (name, rest) e in
     let read = name_at-sound 10 found.0 name rest found.2 in
     (read.0, expect-sound 32 bytes found.0 found.1 ∙ ap (λ l. 32 ∷ l) (read.1 ∙ sym (append_assoc name (10 ∷ []) rest)))
 
@@ -96,7 +96,7 @@ name_operand_at-again name rest named =
 
 -- the entries of a table
 module _ {X : Type 0} (text : X → List ℕ) (within : X → Type 0) (byte : ℕ) where
-  pub ended_entry : (x : X) → within x → text x ≡ byte ∷ 10 ∷ [] → IsSoundBehind text within byte (ended x)
+  pub ended_entry : (x : X) → within x → text x ≡ byte ∷ 10 ∷ [] → IsSoundBehind text within byte (line_ended x)
   ended_entry x inside same bytes y rest e =
       let read = ended-sound x y bytes rest e in
       let at : within y = subst within read.0 inside in
@@ -118,8 +118,8 @@ module _ {X : Type 0} (text : X → List ℕ) (within : X → Type 0) (byte : �
       let at : within y = subst within found.2 (inside found.0 read.0) in
       (at, ap (λ l. byte ∷ l) read.1 ∙ ap (λ l. l ++ rest) (sym (same found.0)) ∙ ap (λ z. text z ++ rest) found.2)
 
-ival_at-again : (strings : ℕ) → strings ≤ 2 ^ 16 → (x : Ival) (rest : List ℕ) → IsIvalWithin strings x → ival_at strings (ival_line x ++ rest) ≡ Some (x, rest)
-unfolding ival_at
+ival_at-again : (strings : ℕ) → strings ≤ 2 ^ 16 → (x : Ival) (rest : List ℕ) → IsIvalWithin strings x → ival_line_at strings (ival_line x ++ rest) ≡ Some (x, rest)
+unfolding ival_line_at
 ival_at-again strings few (ival.Number n) rest inside = ap (mapped ival.Number) (operand_at-again (2 ^ 16) n rest (omega arith) inside)
 ival_at-again strings few (ival.Name name) rest inside = ap (mapped ival.Name) (name_operand_at-again name rest inside)
 ival_at-again strings few (ival.Text offset) rest inside = ap (mapped ival.Text) (operand_at-again strings offset rest few inside)
@@ -128,8 +128,8 @@ ival_line-filled : (x : Ival) → 0 < length (ival_line x)
 ival_line-filled (ival.Number n) = omega arith
 ival_line-filled _ = omega arith
 
-pub ival_at-exact : (strings : ℕ) → strings ≤ 2 ^ 16 → IsExact ival_line (IsIvalWithin strings) (ival_at strings)
-unfolding ival_at
+pub ival_at-exact : (strings : ℕ) → strings ≤ 2 ^ 16 → IsExact ival_line (IsIvalWithin strings) (ival_line_at strings)
+unfolding ival_line_at
 ival_at-exact strings few = record {
   sound = by_first-sound ival_line (IsIvalWithin strings) (ival_readers strings) (
     number_entry ival_line (IsIvalWithin strings) 99 ival.Number (2 ^ 16) (λ n h. h) (λ n. refl),
@@ -146,7 +146,7 @@ pub number_line_at-exact : (letter below : ℕ) → below ≤ 2 ^ 16 → IsExact
 unfolding number_line_at
 number_line_at-exact letter below fits = record {
   sound = λ bytes n rest e.
-      let found = bind_some (expect letter bytes) (operand_at below) (n, rest) e in
+      let found = bind_some (expect_byte letter bytes) (operand_at below) (n, rest) e in
       let read = operand_at-sound below found.0 n rest found.2 in
       (read.0, expect-sound letter bytes found.0 found.1 ∙ ap (λ l. letter ∷ l) read.1);
   again = λ n rest less.
@@ -160,9 +160,9 @@ abbrev operator_end : BinOp → List ℕ
 operator_end o = operator_text o ++ 10 ∷ []
 
 two_entry : (byte : ℕ) (x : BinOp) → operator_text x ≡ byte ∷ 61 ∷ []
-    → IsSoundBehind operator_end (λ o. Unit {0}) byte (λ rest. expect 61 rest >>= ended x)
+    → IsSoundBehind operator_end (λ o. Unit {0}) byte (λ rest. expect_byte 61 rest >>= line_ended x)
 two_entry byte x same bytes y rest e =
-    let found = bind_some (expect 61 bytes) (ended x) (y, rest) e in
+    let found = bind_some (expect_byte 61 bytes) (line_ended x) (y, rest) e in
     let read = ended-sound x y found.0 rest found.2 in (
       tt,
       ap (λ l. byte ∷ l) (expect-sound 61 bytes found.0 found.1 ∙ ap (λ l. 61 ∷ l) read.1) ∙ ap (λ l. l ++ 10 ∷ [] ++ rest) (sym same)
@@ -187,7 +187,7 @@ one_byte byte x same bytes y rest e =
 less_entry : IsSoundBehind operator_end (λ o. Unit {0}) 60 less_at
 unfolding less_at
 less_entry bytes x rest e =
-    let read = by_first-sound behind_first (BeginsWith 60) ((10, λ r. Some (op.Lt, r)) ∷ (61, ended op.Le) ∷ (60, ended op.Shl) ∷ [])
+    let read = by_first-sound behind_first (BeginsWith 60) ((10, λ r. Some (op.Lt, r)) ∷ (61, line_ended op.Le) ∷ (60, line_ended op.Shl) ∷ [])
     (one_byte 60 op.Lt refl, (ended_entry behind_first (BeginsWith 60) 61 op.Le refl refl, (ended_entry behind_first (BeginsWith 60) 60 op.Shl refl refl, tt)))
     bytes x rest e in
     (tt, ap (λ l. 60 ∷ l) read.1 ∙ ap (λ l. l ++ rest) read.0)
@@ -195,7 +195,7 @@ less_entry bytes x rest e =
 greater_entry : IsSoundBehind operator_end (λ o. Unit {0}) 62 greater_at
 unfolding greater_at
 greater_entry bytes x rest e =
-    let read = by_first-sound behind_first (BeginsWith 62) ((10, λ r. Some (op.Gt, r)) ∷ (61, ended op.Ge) ∷ (62, ended op.Shr) ∷ [])
+    let read = by_first-sound behind_first (BeginsWith 62) ((10, λ r. Some (op.Gt, r)) ∷ (61, line_ended op.Ge) ∷ (62, line_ended op.Shr) ∷ [])
     (one_byte 62 op.Gt refl, (ended_entry behind_first (BeginsWith 62) 61 op.Ge refl refl, (ended_entry behind_first (BeginsWith 62) 62 op.Shr refl refl, tt)))
     bytes x rest e in
     (tt, ap (λ l. 62 ∷ l) read.1 ∙ ap (λ l. l ++ rest) read.0)
@@ -203,7 +203,7 @@ greater_entry bytes x rest e =
 operator_at-sound : (bytes : List ℕ) (x : BinOp) (rest : List ℕ) → operator_at bytes ≡ Some (x, rest) → bytes ≡ 32 ∷ (operator_end x ++ rest)
 unfolding operator_at
 operator_at-sound bytes x rest e =
-    let found = bind_some (expect 32 bytes) (by_first operator_readers) (x, rest) e in
+    let found = bind_some (expect_byte 32 bytes) (by_first operator_readers) (x, rest) e in
     let one = λ (byte : ℕ) (o : BinOp) (same : operator_end o ≡ byte ∷ 10 ∷ []). ended_entry operator_end (λ _. Unit {0}) byte o tt same in
     let read = by_first-sound operator_end (λ _. Unit {0}) operator_readers (
       one 124 op.Or refl,
@@ -228,7 +228,7 @@ operator_at-sound bytes x rest e =
     expect-sound 32 bytes found.0 found.1 ∙ ap (λ l. 32 ∷ l) read.1
 
 operator_at-again : (x : BinOp) (rest : List ℕ) → operator_at (32 ∷ (operator_end x ++ rest)) ≡ Some (x, rest)
-unfolding operator_at less_at greater_at ended expect
+unfolding operator_at less_at greater_at line_ended expect_byte
 operator_at-again op.Or rest = refl
 operator_at-again _ rest = refl
 
@@ -238,7 +238,7 @@ increment_end i = increment_text i ++ 10 ∷ []
 increment_at-sound : (bytes : List ℕ) (x : Increment) (rest : List ℕ) → increment_at bytes ≡ Some (x, rest) → bytes ≡ 32 ∷ (increment_end x ++ rest)
 unfolding increment_at
 increment_at-sound bytes x rest e =
-    let found = bind_some (expect 32 bytes) (by_first increment_readers) (x, rest) e in
+    let found = bind_some (expect_byte 32 bytes) (by_first increment_readers) (x, rest) e in
     let one = λ (byte : ℕ) (i : Increment) (same : increment_end i ≡ byte ∷ 10 ∷ []). ended_entry increment_end (λ _. Unit {0}) byte i tt same in
     let read = by_first-sound increment_end (λ _. Unit {0}) increment_readers
     (one 48 increment.PreIncrement refl, (one 49 increment.PreDecrement refl, (one 50 increment.PostIncrement refl, (one 51 increment.PostDecrement refl, tt))))
@@ -246,7 +246,7 @@ increment_at-sound bytes x rest e =
     expect-sound 32 bytes found.0 found.1 ∙ ap (λ l. 32 ∷ l) read.1
 
 increment_at-again : (x : Increment) (rest : List ℕ) → increment_at (32 ∷ (increment_end x ++ rest)) ≡ Some (x, rest)
-unfolding increment_at ended expect
+unfolding increment_at line_ended expect_byte
 increment_at-again increment.PreIncrement rest = refl
 increment_at-again _ rest = refl
 
@@ -271,7 +271,7 @@ module _ (sizes : Sizes) where
   case_entry : IsSoundBehind instr_line (IsInstrWithin sizes) 101 (case_at sizes.code)
   unfolding case_at
   case_entry bytes y rest e =
-      let space = bind_some (expect 32 bytes) _ (y, rest) e in
+      let space = bind_some (expect_byte 32 bytes) _ (y, rest) e in
       let value = bind_some (number_at 32 (2 ^ 16) space.0) _ (y, rest) space.2 in
       let target = bind_some (number_at 10 sizes.code value.0.1) _ (y, rest) value.2 in
       let v = number_at-sound 32 (2 ^ 16) space.0 value.0.0 value.0.1 value.1 in
@@ -366,7 +366,7 @@ module _ (sizes : Sizes) where
       ) refl
 
   instr_at-again : FitSizes sizes → (x : Instr) (rest : List ℕ) → IsInstrWithin sizes x → instr_at sizes (instr_line x ++ rest) ≡ Some (x, rest)
-  unfolding instr_at ended expect
+  unfolding instr_at line_ended expect_byte
   instr_at-again fit (instr.Constant n) rest inside = ap (mapped instr.Constant) (operand_at-again (2 ^ 16) n rest (omega arith) inside)
   instr_at-again fit (instr.External name) rest inside = ap (mapped instr.External) (name_operand_at-again name rest inside)
   instr_at-again fit (instr.Automatic k) rest inside = ap (mapped instr.Automatic) (operand_at-again sizes.frame k rest fit.frame inside)

@@ -6,13 +6,13 @@ use Rattle.std.proofs.lemmas.List.Concat.{flat_map-append}
 use Rattle.bword.specs.ByteEnds.{Outgoing, Refuses, PutGives}
 use Rattle.bword.specs.declared.ends.EndFault.{EndFault}
 use Rattle.bword.proofs.Putting.{gives_last, gives_same, Writes-none, Writes-append, Refuses-behind, Refuses-short}
-use Rattle.bcode.specs.Pages.{Passes, PageGives}
+use Rattle.bcode.specs.Pages.{PageWritten, PageGives}
 use Rattle.blang.specs.Text.{line, joined}
 
-pub Passes-none : (a : Outgoing) (page : List ℕ) → Passes a page [] a page
+pub Passes-none : (a : Outgoing) (page : List ℕ) → PageWritten a page [] a page
 Passes-none a page = record { sent = []; written = Writes-none a; rest = append-nil page }
 
-pub Passes-append : {a b c : Outgoing} {p q r xs ys : List ℕ} → Passes a p xs b q → Passes b q ys c r → Passes a p (xs ++ ys) c r
+pub Passes-append : {a b c : Outgoing} {p q r xs ys : List ℕ} → PageWritten a p xs b q → PageWritten b q ys c r → PageWritten a p (xs ++ ys) c r
 Passes-append {a} {b} {c} {p} {q} {r} {xs} {ys} h k = record {
   sent = h.sent ++ k.sent;
   written = Writes-append h.written k.written;
@@ -21,11 +21,11 @@ Passes-append {a} {b} {c} {p} {q} {r} {xs} {ys} h k = record {
 }
 
 -- what stands in the page passes with it
-pub Passes-push : {a b : Outgoing} {p q xs : List ℕ} (line : List ℕ) (r : List ℕ) → Passes a p xs b q → r ≡ q ++ line → Passes a p (xs ++ line) b r
+pub Passes-push : {a b : Outgoing} {p q xs : List ℕ} (line : List ℕ) (r : List ℕ) → PageWritten a p xs b q → r ≡ q ++ line → PageWritten a p (xs ++ line) b r
 Passes-push {a} {b} {p} {q} {xs} line r h e =
     rw e (Passes-append h record { sent = []; written = Writes-none b; rest = refl })
 
-pub Refuses-after : {a b c : Outgoing} {p q xs : List ℕ} {e : EndFault} (ys : List ℕ) → Passes a p xs b q → Refuses b (q ++ ys) e c → Refuses a (p ++ (xs ++ ys)) e c
+pub Refuses-after : {a b c : Outgoing} {p q xs : List ℕ} {e : EndFault} (ys : List ℕ) → PageWritten a p xs b q → Refuses b (q ++ ys) e c → Refuses a (p ++ (xs ++ ys)) e c
 Refuses-after {a} {b} {c} {p} {q} {xs} {e} ys h k =
     let same : h.sent ++ (q ++ ys) ≡ p ++ (xs ++ ys) = sym (append_assoc h.sent q ys) ∙ ap (λ l. l ++ ys) (sym h.rest) ∙ append_assoc p xs ys in
     let P : List ℕ → Type 0 = λ l. Refuses a l e c in
@@ -47,14 +47,14 @@ module _ {X : Type 0} (f : X → List ℕ) where
 
   -- one more line
   pub Passes-more : {a b c : Outgoing} {p q r : List ℕ} (s : List ℕ) (xs : List X) (i : ℕ) (x : X) → i < length xs → x ≡ get_or xs i x
-      → Passes a p (joined (map f (take i xs))) b q → Passes b q [] c r → s ≡ r ++ f x → Passes a p (joined (map f (take (i + 1) xs))) c s
+      → PageWritten a p (joined (map f (take i xs))) b q → PageWritten b q [] c r → s ≡ r ++ f x → PageWritten a p (joined (map f (take (i + 1) xs))) c s
   Passes-more {a} {b} {c} {p} {q} {r} s xs i x h e before room pushed =
-      let P : List ℕ → Type 0 = λ l. Passes a p l c s in
-      let all : Passes a p (joined (map f (take i xs)) ++ ([] ++ f x)) c s = Passes-append before (Passes-push (f x) s room pushed) in
+      let P : List ℕ → Type 0 = λ l. PageWritten a p l c s in
+      let all : PageWritten a p (joined (map f (take i xs)) ++ ([] ++ f x)) c s = Passes-append before (Passes-push (f x) s room pushed) in
       subst P (sym (joined_more xs i x h e)) all
 
   -- no room for one more line
-  pub Refuses-more : {a b c : Outgoing} {p q : List ℕ} {e : EndFault} (xs : List X) (i : ℕ) → Passes a p (joined (map f (take i xs))) b q
+  pub Refuses-more : {a b c : Outgoing} {p q : List ℕ} {e : EndFault} (xs : List X) (i : ℕ) → PageWritten a p (joined (map f (take i xs))) b q
       → Refuses b (q ++ []) e c → Refuses a (p ++ joined (map f xs)) e c
   Refuses-more {a} {b} {c} {p} {q} {e} xs i before refused =
       let split : joined (map f xs) ≡ joined (map f (take i xs)) ++ joined (map f (drop i xs)) =
@@ -73,11 +73,11 @@ line-numbers part (n ∷ ns) =
     ∙ simp append_assoc
 
 -- the first line of a text
-pub Passes-first : (a : Outgoing) (line page : List ℕ) → page ≡ line → Passes a [] line a page
+pub Passes-first : (a : Outgoing) (line page : List ℕ) → page ≡ line → PageWritten a [] line a page
 Passes-first a line page e = record { sent = []; written = Writes-none a; rest = sym e }
 
 -- the page that is put last
-pub gives_page : {a b : Outgoing} {q xs : List ℕ} (c : Outgoing) (r : Result (Unit {0}) EndFault) → Passes a [] xs b q → PutGives b q r c → PutGives a xs r c
+pub gives_page : {a b : Outgoing} {q xs : List ℕ} (c : Outgoing) (r : Result (Unit {0}) EndFault) → PageWritten a [] xs b q → PutGives b q r c → PutGives a xs r c
 gives_page {a} {b} {q} {xs} c r h k =
     gives_same a c r (h.sent ++ q) xs (sym h.rest) (gives_last c q r h.written k)
 
@@ -94,7 +94,7 @@ page_short {a} {b} {e} p xs ys h =
 pub page_first : {a b : Outgoing} (p xs ys q : List ℕ) (r : Result (Unit {0}) EndFault) (e : EndFault) → IsErrAnd r (λ y. y ≡ e) → Refuses a (p ++ xs) e b → PageGives a p (xs ++ ys) r b q
 page_first p xs ys q r e h k = page_err p (xs ++ ys) q r e h (page_short p xs ys k)
 
-pub page_second : {a b : Outgoing} {p q xs : List ℕ} (c : Outgoing) (ys s : List ℕ) (r : Result (Unit {0}) EndFault) → Passes a p xs b q → PageGives b q ys r c s → PageGives a p (xs ++ ys) r c s
+pub page_second : {a b : Outgoing} {p q xs : List ℕ} (c : Outgoing) (ys s : List ℕ) (r : Result (Unit {0}) EndFault) → PageWritten a p xs b q → PageGives b q ys r c s → PageGives a p (xs ++ ys) r c s
 page_second c ys s (Ok u) h k = Passes-append h k
 page_second c ys s (Err f) h k = Refuses-after ys h k
 

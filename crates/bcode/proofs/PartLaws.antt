@@ -10,7 +10,7 @@ use Rattle.std.proofs.lemmas.Bool.{false≢true}
 use Rattle.std.proofs.lemmas.Bool.Decides.{nat_tests}
 use Rattle.std.proofs.lemmas.Fmt.{decimal_digit, decimal_step, decimal_by_steps}
 use Rattle.bword.specs.Words.{is_name, is_name_start, is_name_byte}
-use Rattle.bcode.specs.Reading.{◌>>=◌, expect, number_from, number_at, name_at}
+use Rattle.bcode.specs.Reading.{◌>>=◌, expect_byte, number_from, number_at, name_text_at}
 
 pub bind_some : {A B : Type 0} (o : Option A) (f : A → Option B) (y : B) → (o >>= f) ≡ Some y → (x : A) × (o ≡ Some x) × (f x ≡ Some y)
 bind_some (Some x) f y e = (x, refl, e)
@@ -33,8 +33,8 @@ pub only_if : {X : Type 0} (b : Bool) (x : Option X) (y : X) → cond b x None �
 only_if true x y e = (refl, e)
 only_if false x y e = absurd (cc)
 
-pub expect-sound : (byte : ℕ) (bytes rest : List ℕ) → expect byte bytes ≡ Some rest → bytes ≡ byte ∷ rest
-unfolding expect
+pub expect-sound : (byte : ℕ) (bytes rest : List ℕ) → expect_byte byte bytes ≡ Some rest → bytes ≡ byte ∷ rest
+unfolding expect_byte
 expect-sound byte [] rest e = absurd (cc)
 expect-sound byte (b ∷ bs) rest e =
     let h = only_if (eqb b byte) (Some bs) rest e in let same = is_same b byte h.0 in cc
@@ -42,8 +42,8 @@ expect-sound byte (b ∷ bs) rest e =
 eqb-same : (n : ℕ) → eqb n n ≡ true
 eqb-same n = grind (arith, nat_tests)
 
-pub expect-again : (byte : ℕ) (rest : List ℕ) → expect byte (byte ∷ rest) ≡ Some rest
-unfolding expect
+pub expect-again : (byte : ℕ) (rest : List ℕ) → expect_byte byte (byte ∷ rest) ≡ Some rest
+unfolding expect_byte
 expect-again byte rest = rw (eqb-same byte) refl
 
 -- one more digit
@@ -150,8 +150,8 @@ both : (a b : Bool) → (a && b) ≡ true → (a ≡ true) × (b ≡ true)
 both true b e = (refl, e)
 both false b e = absurd (cc)
 
-pub name_at-sound : (end : ℕ) (bytes name rest : List ℕ) → name_at end bytes ≡ Some (name, rest) → IsTrue (is_name name) × (bytes ≡ name ++ end ∷ rest)
-unfolding name_at
+pub name_at-sound : (end : ℕ) (bytes name rest : List ℕ) → name_text_at end bytes ≡ Some (name, rest) → IsTrue (is_name name) × (bytes ≡ name ++ end ∷ rest)
+unfolding name_text_at
 name_at-sound end bytes name rest e =
     let found = bind_some (position (λ b. b == end) bytes) _ (name, rest) e in
     let n = found.0 in
@@ -184,8 +184,8 @@ module _ (end : ℕ) (not_in_name : is_name_byte end ≡ false) where
       let first : is_name_byte b ≡ true = grind (arith, nat_tests) in
       rw (first, k.1) refl
 
-  pub name_at-again : (name rest : List ℕ) → IsTrue (is_name name) → name_at end (name ++ end ∷ rest) ≡ Some (name, rest)
-  unfolding name_at
+  pub name_at-again : (name rest : List ℕ) → IsTrue (is_name name) → name_text_at end (name ++ end ∷ rest) ≡ Some (name, rest)
+  unfolding name_text_at
   name_at-again name rest named =
       let len = first_end name rest (name_bytes name named) in
       let less : ltb (length name) (length (name ++ end ∷ rest)) ≡ true = grind (arith, nat_tests, length-append name (end ∷ rest)) in

@@ -5,11 +5,11 @@ use Rattle.std.proofs.lemmas.List.Elements.{All-nil, All-push}
 use Rattle.bword.specs.ByteEnds.{Incoming, CanFollow}
 use Rattle.bword.specs.declared.edition.Edition.{Edition}
 use Rattle.bword.specs.declared.edition.Edition.TheVariants as editions
-use Rattle.bcode.specs.Ahead.{Ahead, Reads, Passes, RefusesLine, ReadsDefinition, StopsInside, HasNext, BreaksInside, DefinitionGives, Opens, OpeningGives, opening_line, BreaksNext, ReadsLast, NextGives, EndingGives}
+use Rattle.bcode.specs.Ahead.{Ahead, TakesBytes, TakesText, RefusesLine, ReadsDefinition, StopsInside, HasNext, BreaksInside, DefinitionGives, OpeningRead, OpeningGives, opening_line, BreaksNext, ReadsLast, NextDefinitionGives, EndingGives}
 use Rattle.bcode.specs.Faults.{IsFaultLineIn}
-use Rattle.bcode.specs.Readers.{Start, CodeReader, all_ahead, reader_of, opened, Since, to_open, IsOpen, Gave, Ended, NoneWhole, Stopped, Refused, step_of, is_last, StepGives}
-use Rattle.bcode.specs.Stopping.{expects, Stops}
-use Rattle.blang.specs.Text.{edition_line, opening, opening_lines, lines_of, text_of, end_text, IsTextOf, IsWithinRanges}
+use Rattle.bcode.specs.Readers.{ReaderStart, CodeReader, all_ahead, reader_of, opening_read, HasTaken, to_open, MoreCanBeRead, Gave, TextEnded, NoneWhole, StoppedAtLine, MemoryRefused, code_step, is_last_step, StepGives}
+use Rattle.bcode.specs.Stopping.{expects, IsStuckAfter}
+use Rattle.blang.specs.Text.{edition_line, opening, opening_lines, lines_of, definition_text, end_text, IsTextOf, IsWithinRanges}
 use Rattle.bcode.specs.declared.code_step.CodeStep.{CodeStep}
 use Rattle.blang.specs.declared.code.Definition.{Definition}
 use Rattle.bcode.specs.declared.fault.CodeFault.TheVariants as fault
@@ -19,58 +19,58 @@ use Rattle.bcode.proofs.AheadLaws.{Reads-append, Passes-none, Passes-append, Bre
 use Rattle.bcode.proofs.FaultLaws.{definition_shorter, definitions_go, fault_line_in, no_code_in, no_opening_line, no_opening_code, passes_more, same_rest, code_spelled, end_stops, end_breaks}
 use Rattle.bcode.proofs.StoppingLaws.{same_after}
 
-pub is_open_new : (start : Start) → IsOpen (reader_of start (all_ahead start) false false)
+pub is_open_new : (start : ReaderStart) → MoreCanBeRead (reader_of start (all_ahead start) false false)
 is_open_new start = record {
   before = [];
   since = record { within = All-nil IsWithinRanges; unbegun = λ _. refl; passes = Passes-none (all_ahead start); is_open = refl };
 }
 
 -- what a text begins with, and definitions, were read
-abbrev Behind : Start → List Definition → Ahead → Type 0
+abbrev Behind : ReaderStart → List Definition → Ahead → Type 0
 Behind start ds at =
-    Passes (all_ahead start) (opening start.edition ++ flat_map text_of ds) (length (opening_lines start.edition) + length (flat_map lines_of ds)) at
+    TakesText (all_ahead start) (opening start.edition ++ flat_map definition_text ds) (length (opening_lines start.edition) + length (flat_map lines_of ds)) at
 
-abbrev beginning : Edition → Incoming → List ℕ → Start
+abbrev beginning : Edition → Incoming → List ℕ → ReaderStart
 beginning edition source lender = record { edition = edition; source = source; lender = lender }
 
-behind_opening : (edition : Edition) (source : Incoming) (lender : List ℕ) (b : Bool) (at mid : Ahead) (ds : List Definition) → Since (reader_of (beginning edition source lender) at b false) ds
-    → Opens (to_open b edition) at mid → Behind (beginning edition source lender) ds mid
+behind_opening : (edition : Edition) (source : Incoming) (lender : List ℕ) (b : Bool) (at mid : Ahead) (ds : List Definition) → HasTaken (reader_of (beginning edition source lender) at b false) ds
+    → OpeningRead (to_open b edition) at mid → Behind (beginning edition source lender) ds mid
 behind_opening editions.One source lender true at mid ds s e = rw e s.passes
 behind_opening editions.Two source lender true at mid ds s e = rw e s.passes
 behind_opening editions.One source lender false at mid ds s e = rw e s.passes
 behind_opening editions.Two source lender false at mid ds s p =
     let start = beginning editions.Two source lender in
     let none = s.unbegun refl in
-    let first : Passes (all_ahead start) [] (0 + 0) at = subst (λ (es : List Definition). Passes (all_ahead start) ([] ++ flat_map text_of es) (0 + length (flat_map lines_of es)) at) none s.passes in
+    let first : TakesText (all_ahead start) [] (0 + 0) at = subst (λ (es : List Definition). TakesText (all_ahead start) ([] ++ flat_map definition_text es) (0 + length (flat_map lines_of es)) at) none s.passes in
     let all = Passes-append first p in
     let count : 0 + 0 + 1 ≡ 1 + 0 = omega arith in
-    subst (λ (es : List Definition). Behind start es mid) (sym none) (subst (λ (n : ℕ). Passes (all_ahead start) edition_line n mid) count all)
+    subst (λ (es : List Definition). Behind start es mid) (sym none) (subst (λ (n : ℕ). TakesText (all_ahead start) edition_line n mid) count all)
 
 -- bytes were taken behind those that were read before
-split_there : (edition : Edition) (source : Incoming) (lender : List ℕ) (b : Bool) (at : Ahead) (ds : List Definition) → Since (reader_of (beginning edition source lender) at b false) ds → (taken : List ℕ)
-    → (behind : List ℕ) × (opening edition ++ flat_map text_of ds ++ taken ≡ opened (reader_of (beginning edition source lender) at b false) ++ flat_map text_of ds ++ behind)
+split_there : (edition : Edition) (source : Incoming) (lender : List ℕ) (b : Bool) (at : Ahead) (ds : List Definition) → HasTaken (reader_of (beginning edition source lender) at b false) ds → (taken : List ℕ)
+    → (behind : List ℕ) × (opening edition ++ flat_map definition_text ds ++ taken ≡ opening_read (reader_of (beginning edition source lender) at b false) ++ flat_map definition_text ds ++ behind)
 split_there edition source lender true at ds s taken = (taken, refl)
 split_there edition source lender false at ds s taken =
-    (opening edition ++ flat_map text_of ds ++ taken, ap (λ es. flat_map text_of es ++ (opening edition ++ flat_map text_of ds ++ taken)) (sym (s.unbegun refl)))
+    (opening edition ++ flat_map definition_text ds ++ taken, ap (λ es. flat_map definition_text es ++ (opening edition ++ flat_map definition_text ds ++ taken)) (sym (s.unbegun refl)))
 
-opens_bound : (opens : Bool) (old mid : Ahead) → Opens opens old mid → mid.end.bound ≤ old.end.bound
+opens_bound : (opens : Bool) (old mid : Ahead) → OpeningRead opens old mid → mid.end.bound ≤ old.end.bound
 opens_bound true old mid h = let l = h.reads.took.bound in omega arith
 opens_bound false old mid h = rw h (omega arith)
 
-module _ (edition : Edition) (source : Incoming) (lender : List ℕ) (b : Bool) (at : Ahead) (ds : List Definition) (s : Since (reader_of (beginning edition source lender) at b false) ds) where
-  abbrev start : Start
+module _ (edition : Edition) (source : Incoming) (lender : List ℕ) (b : Bool) (at : Ahead) (ds : List Definition) (s : HasTaken (reader_of (beginning edition source lender) at b false) ds) where
+  abbrev start : ReaderStart
   start = beginning edition source lender
 
   abbrev before : CodeReader
   before = reader_of start at b false
 
   abbrev texts : List ℕ
-  texts = opening edition ++ flat_map text_of ds
+  texts = opening edition ++ flat_map definition_text ds
 
   abbrev after : Ahead → Bool → CodeReader
   after new closed = reader_of start new true closed
 
-  gave : (mid new : Ahead) (d : Definition) → Opens (to_open b edition) at mid → ReadsDefinition mid d new → Gave ds before d (after new false)
+  gave : (mid new : Ahead) (d : Definition) → OpeningRead (to_open b edition) at mid → ReadsDefinition mid d new → Gave ds before d (after new false)
   gave mid new d o read = record {
     now = record {
       within = All-push IsWithinRanges ds d s.within read.inside;
@@ -81,7 +81,7 @@ module _ (edition : Edition) (source : Incoming) (lender : List ℕ) (b : Bool) 
     falls = (let l = definition_shorter mid new d read in let k = opens_bound (to_open b edition) at mid o in omega arith);
   }
 
-  ended : (mid new : Ahead) → Opens (to_open b edition) at mid → ReadsLast mid new → Ended ds before (after new true)
+  ended : (mid new : Ahead) → OpeningRead (to_open b edition) at mid → ReadsLast mid new → TextEnded ds before (after new true)
   ended mid new o last = record {
     taken = texts ++ end_text;
     reads = Reads-append (behind_opening edition source lender b at mid ds s o).reads last.reads;
@@ -90,7 +90,7 @@ module _ (edition : Edition) (source : Incoming) (lender : List ℕ) (b : Bool) 
     closed = refl;
   }
 
-  stopped_inside : (mid new : Ahead) (n : ℕ) → Opens (to_open b edition) at mid → StopsInside mid n new → Stopped ds before n (after new true)
+  stopped_inside : (mid new : Ahead) (n : ℕ) → OpeningRead (to_open b edition) at mid → StopsInside mid n new → StoppedAtLine ds before n (after new true)
   stopped_inside mid new n o h = record {
     taken = texts ++ h.stopped.taken;
     reads = Reads-append behind.reads h.stopped.reads;
@@ -100,14 +100,14 @@ module _ (edition : Edition) (source : Incoming) (lender : List ℕ) (b : Bool) 
         (subst (λ (t : List ℕ). IsFaultLineIn edition t (suc good)) (sym (all more)) (fault_line_in edition (later more) known (stops more can)));
     no_text = λ more can es code. no_code_in edition (later more) known (stops more can) es (subst (λ (t : List ℕ). IsTextOf edition t es) (all more) code);
     none = λ more can d r inside same.
-        h.none more can d r inside (same_rest texts (h.stopped.taken ++ more) (text_of d ++ r) (sym (append_assoc texts h.stopped.taken more) ∙ same));
+        h.none more can d r inside (same_rest texts (h.stopped.taken ++ more) (definition_text d ++ r) (sym (append_assoc texts h.stopped.taken more) ∙ same));
     closed = refl;
   }
     where
       behind : Behind start ds mid
       behind = behind_opening edition source lender b at mid ds s o
 
-      rest : (behind : List ℕ) × (texts ++ h.stopped.taken ≡ opened before ++ flat_map text_of ds ++ behind)
+      rest : (behind : List ℕ) × (texts ++ h.stopped.taken ≡ opening_read before ++ flat_map definition_text ds ++ behind)
       rest = split_there edition source lender b at ds s h.stopped.taken
 
       known : ℕ
@@ -117,18 +117,18 @@ module _ (edition : Edition) (source : Incoming) (lender : List ℕ) (b : Bool) 
       good = length (opening_lines edition) + known
 
       later : List ℕ → List ℕ
-      later more = flat_map text_of ds ++ (h.stopped.taken ++ more)
+      later more = flat_map definition_text ds ++ (h.stopped.taken ++ more)
 
       all : (more : List ℕ) → texts ++ h.stopped.taken ++ more ≡ opening edition ++ later more
-      all more = append_assoc texts h.stopped.taken more ∙ append_assoc (opening edition) (flat_map text_of ds) (h.stopped.taken ++ more)
+      all more = append_assoc texts h.stopped.taken more ∙ append_assoc (opening edition) (flat_map definition_text ds) (h.stopped.taken ++ more)
 
-      stops : (more : List ℕ) → CanFollow new.end more → Stops known (expects []) (later more)
+      stops : (more : List ℕ) → CanFollow new.end more → IsStuckAfter known (expects []) (later more)
       stops more can = definitions_go ds s.within h.stopped.good (h.stopped.taken ++ more) (h.stopped.stops more can)
 
       line : suc good ≡ n
       line = let x = behind.counted in let y = h.stopped.there in omega arith
 
-  refused : (mid new : Ahead) → Opens (to_open b edition) at mid → HasNext mid new → Refused ds before (after new true)
+  refused : (mid new : Ahead) → OpeningRead (to_open b edition) at mid → HasNext mid new → MemoryRefused ds before (after new true)
   refused mid new o h = record {
     taken = texts ++ h.taken;
     reads = Reads-append (behind_opening edition source lender b at mid ds s o).reads h.reads;
@@ -142,50 +142,50 @@ module _ (edition : Edition) (source : Incoming) (lender : List ℕ) (b : Bool) 
   }
 
 -- none comes whole behind what was read before, where none does in what was taken then
-none_whole : (edition : Edition) (source : Incoming) (lender : List ℕ) (b : Bool) (at : Ahead) (ds : List Definition) → Since (reader_of (beginning edition source lender) at b false) ds → (taken : List ℕ)
-    → ((d : Definition) (rest : List ℕ) → IsWithinRanges d → taken ≡ opening_line (to_open b edition) ++ (text_of d ++ rest) → ⊥)
-    → NoneWhole edition (opened (reader_of (beginning edition source lender) at b false) ++ flat_map text_of ds ++ taken) ds
-none_whole editions.One source lender true at ds s taken none d rest inside same = none d rest inside (same_rest (opening editions.One ++ flat_map text_of ds) taken (text_of d ++ rest) same)
-none_whole editions.Two source lender true at ds s taken none d rest inside same = none d rest inside (same_rest (opening editions.Two ++ flat_map text_of ds) taken (text_of d ++ rest) same)
-none_whole editions.One source lender false at ds s taken none d rest inside same = none d rest inside (same_rest (flat_map text_of ds) taken (text_of d ++ rest) same)
+none_whole : (edition : Edition) (source : Incoming) (lender : List ℕ) (b : Bool) (at : Ahead) (ds : List Definition) → HasTaken (reader_of (beginning edition source lender) at b false) ds → (taken : List ℕ)
+    → ((d : Definition) (rest : List ℕ) → IsWithinRanges d → taken ≡ opening_line (to_open b edition) ++ (definition_text d ++ rest) → ⊥)
+    → NoneWhole edition (opening_read (reader_of (beginning edition source lender) at b false) ++ flat_map definition_text ds ++ taken) ds
+none_whole editions.One source lender true at ds s taken none d rest inside same = none d rest inside (same_rest (opening editions.One ++ flat_map definition_text ds) taken (definition_text d ++ rest) same)
+none_whole editions.Two source lender true at ds s taken none d rest inside same = none d rest inside (same_rest (opening editions.Two ++ flat_map definition_text ds) taken (definition_text d ++ rest) same)
+none_whole editions.One source lender false at ds s taken none d rest inside same = none d rest inside (same_rest (flat_map definition_text ds) taken (definition_text d ++ rest) same)
 none_whole editions.Two source lender false at ds s taken none d rest inside same =
-    let nothing : flat_map text_of ds ≡ [] = ap (flat_map text_of) (s.unbegun refl) in
-    none d rest inside (ap (λ t. t ++ taken) (sym nothing) ∙ same ∙ ap (λ t. opening editions.Two ++ t ++ (text_of d ++ rest)) nothing)
+    let nothing : flat_map definition_text ds ≡ [] = ap (flat_map definition_text) (s.unbegun refl) in
+    none d rest inside (ap (λ t. t ++ taken) (sym nothing) ∙ same ∙ ap (λ t. opening editions.Two ++ t ++ (definition_text d ++ rest)) nothing)
 
 -- the line that the text begins with was refused
-stopped_opening : (edition : Edition) (source : Incoming) (lender : List ℕ) (b : Bool) (at new : Ahead) (ds : List Definition) (n : ℕ) → Since (reader_of (beginning edition source lender) at b false) ds
+stopped_opening : (edition : Edition) (source : Incoming) (lender : List ℕ) (b : Bool) (at new : Ahead) (ds : List Definition) (n : ℕ) → HasTaken (reader_of (beginning edition source lender) at b false) ds
     → to_open b edition ≡ true → RefusesLine {X = Unit {0}} (λ _. edition_line) (λ _. Unit {0}) at n new
-    → Stopped ds (reader_of (beginning edition source lender) at b false) n (reader_of (beginning edition source lender) new true true)
+    → StoppedAtLine ds (reader_of (beginning edition source lender) at b false) n (reader_of (beginning edition source lender) new true true)
 stopped_opening editions.One source lender true at new ds n s e r = absurd (cc)
 stopped_opening editions.Two source lender true at new ds n s e r = absurd (cc)
 stopped_opening editions.One source lender false at new ds n s e r = absurd (cc)
 stopped_opening editions.Two source lender false at new ds n s e r = record {
-  taken = flat_map text_of ds ++ r.taken;
+  taken = flat_map definition_text ds ++ r.taken;
   reads = Reads-append s.passes.reads r.reads;
   behind = r.taken;
   split = refl;
-  fault = λ more can. subst (IsFaultLineIn editions.Two (flat_map text_of ds ++ r.taken ++ more)) line (no_opening_line (flat_map text_of ds ++ r.taken ++ more) (none more can));
-  no_text = λ more can es code. no_opening_code (flat_map text_of ds ++ r.taken ++ more) (none more can) es code;
-  none = λ more can d t inside same. none more can (flat_map text_of ds ++ (text_of d ++ t)) (same ∙ append_assoc edition_line (flat_map text_of ds) (text_of d ++ t));
+  fault = λ more can. subst (IsFaultLineIn editions.Two (flat_map definition_text ds ++ r.taken ++ more)) line (no_opening_line (flat_map definition_text ds ++ r.taken ++ more) (none more can));
+  no_text = λ more can es code. no_opening_code (flat_map definition_text ds ++ r.taken ++ more) (none more can) es code;
+  none = λ more can d t inside same. none more can (flat_map definition_text ds ++ (definition_text d ++ t)) (same ∙ append_assoc edition_line (flat_map definition_text ds) (definition_text d ++ t));
   closed = refl;
 }
   where
-    nothing : flat_map text_of ds ≡ []
-    nothing = ap (flat_map text_of) (s.unbegun refl)
+    nothing : flat_map definition_text ds ≡ []
+    nothing = ap (flat_map definition_text) (s.unbegun refl)
 
     line : 1 ≡ n
     line = let x = r.here in let y = s.passes.counted in let z = ap (λ es. length (flat_map lines_of es)) (s.unbegun refl) in omega (arith, x, y, z)
 
-    none : (more : List ℕ) → CanFollow new.end more → (rest : List ℕ) → flat_map text_of ds ++ r.taken ++ more ≡ edition_line ++ rest → ⊥
+    none : (more : List ℕ) → CanFollow new.end more → (rest : List ℕ) → flat_map definition_text ds ++ r.taken ++ more ≡ edition_line ++ rest → ⊥
     none more can rest same = r.none more can tt rest tt (ap (λ t. t ++ r.taken ++ more) (sym nothing) ∙ same)
 
 -- what a call answers and does
-pub next_gives : (edition : Edition) (source : Incoming) (lender : List ℕ) (b : Bool) (at new : Ahead) → IsOpen (reader_of (beginning edition source lender) at b false) → (r : Result (Option Definition) Stop)
-    → NextGives (to_open b edition) at r new
-    → let old = reader_of (beginning edition source lender) at b false in let now = reader_of (beginning edition source lender) new true (is_last (step_of r)) in
-    StepGives old (step_of r) now × (is_last (step_of r) ≡ false → IsOpen now)
+pub next_gives : (edition : Edition) (source : Incoming) (lender : List ℕ) (b : Bool) (at new : Ahead) → MoreCanBeRead (reader_of (beginning edition source lender) at b false) → (r : Result (Option Definition) Stop)
+    → NextDefinitionGives (to_open b edition) at r new
+    → let old = reader_of (beginning edition source lender) at b false in let now = reader_of (beginning edition source lender) new true (is_last_step (code_step r)) in
+    StepGives old (code_step r) now × (is_last_step (code_step r) ≡ false → MoreCanBeRead now)
 next_gives edition source lender b at new is_open (Ok (Some d)) gives =
-    let given = λ (ds : List Definition) (s : Since (reader_of (beginning edition source lender) at b false) ds). gave edition source lender b at ds s gives.0 new d gives.1 gives.2 in
+    let given = λ (ds : List Definition) (s : HasTaken (reader_of (beginning edition source lender) at b false) ds). gave edition source lender b at ds s gives.0 new d gives.1 gives.2 in
     ((is_open, given), λ _. record { before = is_open.before ++ d ∷ []; since = (given is_open.before is_open.since).now })
 next_gives edition source lender b at new is_open (Ok None) gives =
     ((is_open, λ ds s. ended edition source lender b at ds s gives.0 new gives.1 gives.2), λ e. absurd (cc))
@@ -198,62 +198,62 @@ next_gives edition source lender b at new is_open (Err (stop.Fault fault.Memory)
 next_gives edition source lender b at new is_open (Err stop.Device) gives =
     ((is_open, λ ds s. record { breaks = gives.breaks; none = none_whole edition source lender b at ds s gives.breaks.taken gives.none; closed = refl }), λ e. absurd (cc))
 
-pub call_gives : (edition : Edition) (source : Incoming) (lender : List ℕ) (b closed : Bool) (at new : Ahead) → closed ≡ false → (closed ≡ false → IsOpen (reader_of (beginning edition source lender) at b closed))
-    → (opens : Bool) → opens ≡ to_open b edition → (r : Result (Option Definition) Stop) → NextGives opens at r new
-    → (answer : CodeStep) → answer ≡ step_of r → (last : Bool) → last ≡ is_last answer
+pub call_gives : (edition : Edition) (source : Incoming) (lender : List ℕ) (b closed : Bool) (at new : Ahead) → closed ≡ false → (closed ≡ false → MoreCanBeRead (reader_of (beginning edition source lender) at b closed))
+    → (opens : Bool) → opens ≡ to_open b edition → (r : Result (Option Definition) Stop) → NextDefinitionGives opens at r new
+    → (answer : CodeStep) → answer ≡ code_step r → (last : Bool) → last ≡ is_last_step answer
     → StepGives (reader_of (beginning edition source lender) at b closed) answer (reader_of (beginning edition source lender) new true last)
-    × (last ≡ false → IsOpen (reader_of (beginning edition source lender) new true last))
+    × (last ≡ false → MoreCanBeRead (reader_of (beginning edition source lender) new true last))
 call_gives edition source lender b closed at new closed_is is_open opens opens_is r gives answer answer_is last last_is =
     let start = beginning edition source lender in
-    let can_come = subst (λ (z : Bool). IsOpen (reader_of start at b z)) closed_is (is_open closed_is) in
-    let base = next_gives edition source lender b at new can_come r (subst (λ (z : Bool). NextGives z at r new) opens_is gives) in
-    let P = λ (z : Bool) (s : CodeStep) (l : Bool). StepGives (reader_of start at b z) s (reader_of start new true l) × (l ≡ false → IsOpen (reader_of start new true l)) in
+    let can_come = subst (λ (z : Bool). MoreCanBeRead (reader_of start at b z)) closed_is (is_open closed_is) in
+    let base = next_gives edition source lender b at new can_come r (subst (λ (z : Bool). NextDefinitionGives z at r new) opens_is gives) in
+    let P = λ (z : Bool) (s : CodeStep) (l : Bool). StepGives (reader_of start at b z) s (reader_of start new true l) × (l ≡ false → MoreCanBeRead (reader_of start new true l)) in
     subst (λ (z : Bool). P z answer last) (sym closed_is)
     (subst (λ (s : CodeStep). P false s last) (sym answer_is)
-    (subst (λ (l : Bool). P false (step_of r) l) (sym (last_is ∙ ap is_last answer_is)) base))
+    (subst (λ (l : Bool). P false (code_step r) l) (sym (last_is ∙ ap is_last_step answer_is)) base))
 
 -- the exits of the parts of a call
 
-breaks_next : (opens : Bool) (old mid now : Ahead) → Opens opens old mid → BreaksInside mid now → BreaksNext opens old now
+breaks_next : (opens : Bool) (old mid now : Ahead) → OpeningRead opens old mid → BreaksInside mid now → BreaksNext opens old now
 unfolding Breaks-after
 breaks_next true old mid now h broke = record {
   breaks = Breaks-after h.reads broke.breaks;
-  none = λ d rest inside same. broke.none d rest inside (same_after broke.breaks.taken (text_of d ++ rest) same);
+  none = λ d rest inside same. broke.none d rest inside (same_after broke.breaks.taken (definition_text d ++ rest) same);
 }
 breaks_next false old mid now h broke =
     subst (λ (a : Ahead). BreaksNext false a now) h record { breaks = broke.breaks; none = broke.none }
 
-pub opening_exit : (opens : Bool) (old now : Ahead) (r : Result (Option Definition) Stop) (e : Stop) → IsErrAnd r (λ f. f ≡ e) → OpeningGives opens old (Err e) now → NextGives opens old r now
+pub opening_exit : (opens : Bool) (old now : Ahead) (r : Result (Option Definition) Stop) (e : Stop) → IsErrAnd r (λ f. f ≡ e) → OpeningGives opens old (Err e) now → NextDefinitionGives opens old r now
 opening_exit opens old now (Ok o) e same gives = absurd same
-opening_exit opens old now (Err f) e same gives = subst (λ (s : Stop). NextGives opens old (Err s) now) (sym same) (exit e gives)
+opening_exit opens old now (Err f) e same gives = subst (λ (s : Stop). NextDefinitionGives opens old (Err s) now) (sym same) (exit e gives)
   where
-    exit : (e : Stop) → OpeningGives opens old (Err e) now → NextGives opens old (Err e) now
+    exit : (e : Stop) → OpeningGives opens old (Err e) now → NextDefinitionGives opens old (Err e) now
     exit (stop.Fault (fault.Line n)) gives = inl gives
     exit (stop.Fault fault.Memory) gives = absurd gives
     exit stop.Device gives = record {
       breaks = gives.1.breaks;
-      none = λ d rest inside same. gives.1.none tt (text_of d ++ rest) tt (same ∙ ap (λ o. opening_line o ++ (text_of d ++ rest)) gives.0);
+      none = λ d rest inside same. gives.1.none tt (definition_text d ++ rest) tt (same ∙ ap (λ o. opening_line o ++ (definition_text d ++ rest)) gives.0);
     }
 
-pub definition_exit : (opens : Bool) (old mid now : Ahead) (r : Result (Option Definition) Stop) (e : Stop) → Opens opens old mid → IsErrAnd r (λ f. f ≡ e) → DefinitionGives mid (Err e) now → NextGives opens old r now
+pub definition_exit : (opens : Bool) (old mid now : Ahead) (r : Result (Option Definition) Stop) (e : Stop) → OpeningRead opens old mid → IsErrAnd r (λ f. f ≡ e) → DefinitionGives mid (Err e) now → NextDefinitionGives opens old r now
 definition_exit opens old mid now (Ok o) e h same gives = absurd same
-definition_exit opens old mid now (Err f) e h same gives = subst (λ (s : Stop). NextGives opens old (Err s) now) (sym same) (exit e gives)
+definition_exit opens old mid now (Err f) e h same gives = subst (λ (s : Stop). NextDefinitionGives opens old (Err s) now) (sym same) (exit e gives)
   where
-    exit : (e : Stop) → DefinitionGives mid (Err e) now → NextGives opens old (Err e) now
+    exit : (e : Stop) → DefinitionGives mid (Err e) now → NextDefinitionGives opens old (Err e) now
     exit (stop.Fault (fault.Line n)) gives = inr (mid, h, gives)
     exit (stop.Fault fault.Memory) gives = (mid, h, gives)
     exit stop.Device gives = breaks_next opens old mid now h gives
 
-pub end_exit : (opens : Bool) (old mid end now : Ahead) (r : Result (Option Definition) Stop) (e : Stop) → Opens opens old mid → Passes mid end_text 1 end → IsErrAnd r (λ f. f ≡ e) → EndingGives end (Err e) now
-    → NextGives opens old r now
+pub end_exit : (opens : Bool) (old mid end now : Ahead) (r : Result (Option Definition) Stop) (e : Stop) → OpeningRead opens old mid → TakesText mid end_text 1 end → IsErrAnd r (λ f. f ≡ e) → EndingGives end (Err e) now
+    → NextDefinitionGives opens old r now
 end_exit opens old mid end now (Ok o) e h last same gives = absurd same
-end_exit opens old mid end now (Err f) e h last same gives = subst (λ (s : Stop). NextGives opens old (Err s) now) (sym same) (exit e gives)
+end_exit opens old mid end now (Err f) e h last same gives = subst (λ (s : Stop). NextDefinitionGives opens old (Err s) now) (sym same) (exit e gives)
   where
-    exit : (e : Stop) → EndingGives end (Err e) now → NextGives opens old (Err e) now
+    exit : (e : Stop) → EndingGives end (Err e) now → NextDefinitionGives opens old (Err e) now
     exit (stop.Fault (fault.Line n)) gives =
         inr (mid, h, subst (λ (k : ℕ). StopsInside mid k now) (sym gives.0) (end_stops gives.1.0 last gives.1.2 gives.1.1))
     exit (stop.Fault fault.Memory) gives = absurd gives
     exit stop.Device gives = breaks_next opens old mid now h (end_breaks last gives)
 
-pub reads_last : (mid end now : Ahead) → Passes mid end_text 1 end → Reads end [] now × (now.end.is_over ≡ true) → ReadsLast mid now
+pub reads_last : (mid end now : Ahead) → TakesText mid end_text 1 end → TakesBytes end [] now × (now.end.is_over ≡ true) → ReadsLast mid now
 reads_last mid end now last h = record { reads = Reads-append last.reads h.0; over = h.1 }

@@ -1,8 +1,8 @@
 -- Where a text stops, and the lines that go on.
 use Rattle.std.proofs.Common.{subst, ◌≡◌, ℕ, zero, suc, ◌^◌, ◌<◌, ◌≤◌, List, [], ◌∷◌, ◌++◌, length, take, replicate, refl, sym, ap, ◌∙◌, arith, append_assoc, inl, inr}
 use Rattle.bcode.specs.Headers.{header_text, IsHeaderWithin}
-use Rattle.bcode.specs.LineReading.{Reader}
-use Rattle.bcode.specs.Stopping.{Kind, value, target, string, instruction, IsOfKind, State, opens, expects, finished, state_after, LeadsIn, Leads, Stops}
+use Rattle.bcode.specs.LineReading.{LineReader}
+use Rattle.bcode.specs.Stopping.{LineKind, value, target, string, instruction, IsOfKind, LineState, opens, expects, finished, state_after, LeadsIn, Leads, IsStuckAfter}
 use Rattle.blang.specs.Text.{joined, end_text, edition_line, target_line, string_line, ival_line, instr_line}
 use Rattle.bcode.specs.declared.header.Header.{Header}
 use Rattle.bcode.specs.declared.header.Header.TheVariants as header
@@ -14,35 +14,35 @@ use Rattle.bcode.proofs.LineLaws.{IsExact, FitSizes, ival_at-exact, instr_at-exa
 use Rattle.bcode.proofs.PartLaws.{same_read}
 
 -- two spellings that a text begins with are one
-pub same_spelling : {X : Type 0} {spell : X → List ℕ} {within : X → Type 0} {read : Reader X} → IsExact spell within read → (x y : X) (rest behind : List ℕ)
+pub same_spelling : {X : Type 0} {spell : X → List ℕ} {within : X → Type 0} {read : LineReader X} → IsExact spell within read → (x y : X) (rest behind : List ℕ)
     → within x → within y → spell x ++ rest ≡ spell y ++ behind → (x ≡ y) × (rest ≡ behind)
 same_spelling {X} {spell} {within} {read} exact x y rest behind in_x in_y same =
     same_read (x, rest) (y, behind) (sym (exact.again x rest in_x) ∙ ap read same ∙ exact.again y behind in_y)
 
 -- a kind that has lines, with numbers that are read as such
-abbrev pub IsGoodKind : Kind → Type 0
+abbrev pub IsGoodKind : LineKind → Type 0
 IsGoodKind (value strings) = strings ≤ 2 ^ 16
 IsGoodKind (target code) = (0 < code) × (code ≤ 2 ^ 16)
 IsGoodKind string = Unit {0}
 IsGoodKind (instruction sizes) = FitSizes sizes
 
-abbrev pub AreGoodKinds : List Kind → Type 0
+abbrev pub AreGoodKinds : List LineKind → Type 0
 AreGoodKinds [] = Unit {0}
 AreGoodKinds (k ∷ ks) = IsGoodKind k × AreGoodKinds ks
 
-abbrev pub IsGoodState : State → Type 0
+abbrev pub IsGoodState : LineState → Type 0
 IsGoodState opens = Unit {0}
 IsGoodState (expects ks) = AreGoodKinds ks
 IsGoodState finished = Unit {0}
 
-good_replicate : (n : ℕ) (k : Kind) (ks : List Kind) → (0 < n → IsGoodKind k) → AreGoodKinds ks → AreGoodKinds (replicate n k ++ ks)
+good_replicate : (n : ℕ) (k : LineKind) (ks : List LineKind) → (0 < n → IsGoodKind k) → AreGoodKinds ks → AreGoodKinds (replicate n k ++ ks)
 good_replicate zero k ks each rest = rest
 good_replicate (suc n) k ks each rest = (each (omega arith), good_replicate n k ks each' rest)
   where
     each' : 0 < n → IsGoodKind k
     each' h = each (omega arith)
 
-good_last : (n : ℕ) (k : Kind) → (0 < n → IsGoodKind k) → AreGoodKinds (replicate n k)
+good_last : (n : ℕ) (k : LineKind) → (0 < n → IsGoodKind k) → AreGoodKinds (replicate n k)
 good_last zero k each = tt
 good_last (suc n) k each = (each (omega arith), good_last n k each')
   where
@@ -72,7 +72,7 @@ good_after (header.Vector name words values strings) h =
     good_replicate values (value strings) _ (λ _. few) (good_last strings string (λ _. tt))
 good_after header.End h = tt
 
-pub good_next : (from : State) (l : List ℕ) (to : State) → IsGoodState from → Leads from l to → IsGoodState to
+pub good_next : (from : LineState) (l : List ℕ) (to : LineState) → IsGoodState from → Leads from l to → IsGoodState to
 good_next opens l to good (inl x) = subst IsGoodState (sym x.1) tt
 good_next opens l to good (inr x) = subst IsGoodState (sym x.3) (good_after x.0 x.1)
 good_next (expects []) l to good leads = subst IsGoodState (sym leads.3) (good_after leads.0 leads.1)
@@ -80,7 +80,7 @@ good_next (expects (k ∷ ks)) l to good leads = subst IsGoodState (sym leads.1)
 good_next finished l to good leads = absurd leads
 
 -- the text behind a line of a kind is one
-same_behind : (k : Kind) (l m rest behind : List ℕ) → IsGoodKind k → IsOfKind k l → IsOfKind k m → l ++ rest ≡ m ++ behind → rest ≡ behind
+same_behind : (k : LineKind) (l m rest behind : List ℕ) → IsGoodKind k → IsOfKind k l → IsOfKind k m → l ++ rest ≡ m ++ behind → rest ≡ behind
 same_behind (value strings) l m rest behind good x y same =
     (same_spelling (ival_at-exact strings good) x.0 y.0 rest behind x.1 y.1 (ap (λ t. t ++ rest) (sym x.2) ∙ same ∙ ap (λ t. t ++ behind) y.2)).1
 same_behind (target code) l m rest behind good x y same =
@@ -103,13 +103,13 @@ no_header header.End rest behind e = first_differs 66 69 _ _ (omega arith) e
 pub same_after : (rest behind : List ℕ) → edition_line ++ rest ≡ edition_line ++ behind → rest ≡ behind
 same_after rest behind e = cc
 
-leads_in_one_way : (l m rest behind : List ℕ) (to other : State) → LeadsIn l to → LeadsIn m other → l ++ rest ≡ m ++ behind → (to ≡ other) × (rest ≡ behind)
+leads_in_one_way : (l m rest behind : List ℕ) (to other : LineState) → LeadsIn l to → LeadsIn m other → l ++ rest ≡ m ++ behind → (to ≡ other) × (rest ≡ behind)
 leads_in_one_way l m rest behind to other x y same =
     let one = same_spelling header_at-exact x.0 y.0 rest behind x.1 y.1 (ap (λ t. t ++ rest) (sym x.2) ∙ same ∙ ap (λ t. t ++ behind) y.2) in
     (x.3 ∙ ap state_after one.0 ∙ sym y.3, one.1)
 
 -- a text goes on in one way
-leads_one_way : (from : State) (l m rest behind : List ℕ) (to other : State) → IsGoodState from → Leads from l to → Leads from m other → l ++ rest ≡ m ++ behind
+leads_one_way : (from : LineState) (l m rest behind : List ℕ) (to other : LineState) → IsGoodState from → Leads from l to → Leads from m other → l ++ rest ≡ m ++ behind
     → (to ≡ other) × (rest ≡ behind)
 leads_one_way opens l m rest behind to other good (inl x) (inl y) same =
     (x.1 ∙ sym y.1, same_after rest behind (ap (λ t. t ++ rest) (sym x.0) ∙ same ∙ ap (λ t. t ++ behind) y.0))
@@ -124,31 +124,31 @@ leads_one_way (expects (k ∷ ks)) l m rest behind to other good x y same =
 leads_one_way finished l m rest behind to other good x y same = absurd x
 
 -- lines that lead to the end
-abbrev pub Path : State → List (List ℕ) → Type 0
+abbrev pub Path : LineState → List (List ℕ) → Type 0
 Path from [] = from ≡ finished
-Path from (l ∷ ls) = (to : State) × Leads from l to × Path to ls
+Path from (l ∷ ls) = (to : LineState) × Leads from l to × Path to ls
 
-pub sample : (k : Kind) → IsGoodKind k → (l : List ℕ) × IsOfKind k l
+pub sample : (k : LineKind) → IsGoodKind k → (l : List ℕ) × IsOfKind k l
 sample (value strings) good = (ival_line (ival.Number 0), (ival.Number 0, omega arith, refl))
 sample (target code) good = (target_line 0, (0, good.0, refl))
 sample string good = (string_line 0, (0, omega arith, refl))
 sample (instruction sizes) good = (instr_line instr.Return, (instr.Return, tt, refl))
 
 -- every state can be ended
-completion : (ks : List Kind) → AreGoodKinds ks → (ls : List (List ℕ)) × Path (expects ks) ls
+completion : (ks : List LineKind) → AreGoodKinds ks → (ls : List (List ℕ)) × Path (expects ks) ls
 completion [] good = (end_text ∷ [], (finished, (header.End, end_within, refl, refl), refl))
 completion (k ∷ ks) good =
     let first = sample k good.0 in
     let others = completion ks good.1 in
     (first.0 ∷ others.0, (expects ks, (first.1, refl), others.1))
 
-ending : (from : State) → IsGoodState from → (ls : List (List ℕ)) × Path from ls
+ending : (from : LineState) → IsGoodState from → (ls : List (List ℕ)) × Path from ls
 ending opens good = (end_text ∷ [], (finished, inr (header.End, end_within, refl, refl), refl))
 ending (expects ks) good = completion ks good
 ending finished good = ([], refl)
 
 -- what was taken can be completed
-pub begins_path : (n : ℕ) (from : State) (text : List ℕ) → IsGoodState from → Stops n from text
+pub begins_path : (n : ℕ) (from : LineState) (text : List ℕ) → IsGoodState from → IsStuckAfter n from text
     → (ls : List (List ℕ)) × Path from ls × (n ≤ length ls) × (rest : List ℕ) × (text ≡ joined (take n ls) ++ rest)
 begins_path zero from text good stuck = let whole = ending from good in (whole.0, whole.1, omega arith, text, refl)
 begins_path (suc n) from text good stops =
@@ -161,7 +161,7 @@ begins_path (suc n) from text good stops =
     )
 
 -- no line more goes on
-pub greatest_path : (n : ℕ) (from : State) (text : List ℕ) → IsGoodState from → Stops n from text
+pub greatest_path : (n : ℕ) (from : LineState) (text : List ℕ) → IsGoodState from → IsStuckAfter n from text
     → (m : ℕ) (ls : List (List ℕ)) → Path from ls → m ≤ length ls → (rest : List ℕ) → text ≡ joined (take m ls) ++ rest → m ≤ n
 greatest_path n from text good stops zero ls path le rest same = omega arith
 greatest_path n from text good stops (suc m) [] path le rest same = absurd (omega arith)
@@ -170,17 +170,17 @@ greatest_path zero from text good stuck (suc m) (l ∷ ls) path le rest same =
 greatest_path (suc n) from text good stops (suc m) (k ∷ ls) path le rest same =
     let one = leads_one_way from stops.0 k stops.2 (joined (take m ls) ++ rest) stops.1 path.0 good stops.3 path.1
     (sym stops.4 ∙ same ∙ append_assoc k (joined (take m ls)) rest) in
-    let there : Path stops.1 ls = subst (λ (s : State). Path s ls) (sym one.0) path.2 in
+    let there : Path stops.1 ls = subst (λ (s : LineState). Path s ls) (sym one.0) path.2 in
     let before = greatest_path n stops.1 stops.2 (good_next from stops.0 stops.1 good stops.3) stops.5 m ls there (omega arith) rest one.1 in
     omega arith
 
 -- such a text leads to no end
-pub no_path : (n : ℕ) (from : State) (text : List ℕ) → IsGoodState from → Stops n from text → (ls : List (List ℕ)) → Path from ls → text ≡ joined ls → ⊥
+pub no_path : (n : ℕ) (from : LineState) (text : List ℕ) → IsGoodState from → IsStuckAfter n from text → (ls : List (List ℕ)) → Path from ls → text ≡ joined ls → ⊥
 no_path zero from text good stuck [] path same = stuck.not_finished path same
 no_path zero from text good stuck (l ∷ ls) path same = stuck.refused l path.0 (joined ls) path.1 same
 no_path (suc n) from text good stops [] path same =
-    let nowhere : Leads finished stops.0 stops.1 = subst (λ (s : State). Leads s stops.0 stops.1) path stops.3 in nowhere
+    let nowhere : Leads finished stops.0 stops.1 = subst (λ (s : LineState). Leads s stops.0 stops.1) path stops.3 in nowhere
 no_path (suc n) from text good stops (k ∷ ls) path same =
     let one = leads_one_way from stops.0 k stops.2 (joined ls) stops.1 path.0 good stops.3 path.1 (sym stops.4 ∙ same) in
-    let there : Path stops.1 ls = subst (λ (s : State). Path s ls) (sym one.0) path.2 in
+    let there : Path stops.1 ls = subst (λ (s : LineState). Path s ls) (sym one.0) path.2 in
     no_path n stops.1 stops.2 (good_next from stops.0 stops.1 good stops.3) stops.5 ls there one.1

@@ -5,7 +5,7 @@ use Rattle.std.proofs.lemmas.List.Elements.{All-nil, All-push, All-head, All-tai
 use Rattle.bword.specs.ByteEnds.{Incoming, Took, NextGives, CanFollow}
 use Rattle.bword.proofs.Taking.{Took-none, Took-append, Took-next}
 use Rattle.bcode.specs.Ahead.{Ahead, ReadsLine, RefusesLine, LineGives, SeesEnd}
-use Rattle.bcode.specs.LineReading.{Reader}
+use Rattle.bcode.specs.LineReading.{LineReader}
 use Rattle.bcode.specs.Streams.{HasNoNewline, IsWholeLine, TakesLine, FailsInLine}
 use Rattle.blang.specs.declared.limits.TheConstants.{LINE_LEN}
 use Rattle.bcode.specs.declared.stop.Stop.{Stop}
@@ -75,7 +75,7 @@ no_newline bytes j rest p same =
 abbrev at : Incoming → List ℕ → ℕ → Ahead
 at end lender line = record { end = end; lender = lender; line = line }
 
-module _ {X : Type 0} {spell : X → List ℕ} {within : X → Type 0} {read : Reader X} (exact : IsExact spell within read) (shape : (x : X) → within x → IsLine 128 (spell x)) where
+module _ {X : Type 0} {spell : X → List ℕ} {within : X → Type 0} {read : LineReader X} (exact : IsExact spell within read) (shape : (x : X) → within x → IsLine 128 (spell x)) where
   module _ {old new : Incoming} {lender lender' : List ℕ} {bytes : List ℕ} (line : ℕ) (t : TakesLine old bytes new) (same_end : lender' ≡ lender) where
     spelled : (x : X) (rest : List ℕ) → within x → bytes ≡ spell x ++ rest → bytes ≡ spell x
     spelled x rest inside same = split t.whole
@@ -185,7 +185,7 @@ two_line text two = (starts_is Decides-eqb text edition_line (is_two text) refl)
 pub line_two : (text rest : List ℕ) → text ≡ edition_line ++ rest → is_two text ≡ true
 line_two text rest e = (starts_is Decides-eqb text edition_line (is_two text) refl).1 rest e
 
-abbrev pub opening_at : Reader (Unit {0})
+abbrev pub opening_at : LineReader (Unit {0})
 opening_at bytes = if is_two bytes then Some (tt, drop 4 bytes) else None
 
 pub opening-exact : IsExact (λ _. edition_line) (λ _. Unit {0}) opening_at

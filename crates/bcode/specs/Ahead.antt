@@ -1,13 +1,15 @@
 -- What reading some lines takes from where they come from.
-use Rattle.std.specs.Prelude.{◌≡◌, ◌≢◌, ℕ, Bool, true, false, ◌+◌, ◌<◌, ◌≤◌, List, [], ◌∷◌, ◌++◌, length, ◌==◌, All, Option, Some, None, Result, Ok, Err, ◌⊎◌}
+use Rattle.std.specs.Prelude.{◌≡◌, ◌≢◌, ℕ, Bool, true, false, ◌+◌, ◌<◌, ◌≤◌, List, [], ◌∷◌, ◌++◌, length, ◌==◌, All}
+use Rattle.std.specs.Prelude.{Option, Some, None, Result, Ok, Err, ◌⊎◌}
 use Rattle.std.specs.List.{flat_map}
 use Rattle.bword.specs.ByteEnds.{Incoming, Took, Grew, CanFollow}
 use Rattle.bword.specs.declared.ends.Device.{Device}
 use Rattle.bword.specs.declared.edition.Edition.{Edition}
 use Rattle.bword.specs.declared.edition.Edition.TheVariants as editions
 use Rattle.bcode.specs.Headers.{header_of}
-use Rattle.bcode.specs.Stopping.{Kind, IsOfKind, State, expects, Stops, kinds_after}
-use Rattle.blang.specs.Text.{joined, lines_of, body_lines, header_line, text_of, end_text, edition_line, IsWithinRanges}
+use Rattle.bcode.specs.Stopping.{LineKind, IsOfKind, LineState, expects, IsStuckAfter, kinds_after}
+use Rattle.blang.specs.Text.{joined, lines_of, body_lines, header_line, definition_text, end_text, edition_line}
+use Rattle.blang.specs.Text.{IsWithinRanges}
 use Rattle.blang.specs.declared.code.Definition.{Definition}
 use Rattle.bcode.specs.declared.fault.CodeFault.{CodeFault}
 use Rattle.bcode.specs.declared.fault.CodeFault.TheVariants as fault
@@ -38,18 +40,18 @@ abbrev pub ahead_in : TextAhead → Ahead
 ahead_in t = ahead_of t.text t.line
 
 -- These bytes were taken, and no read failed.
-pub record Reads (old : Ahead) (taken : List ℕ) (new : Ahead) : Type 0 where
+pub record TakesBytes (old : Ahead) (taken : List ℕ) (new : Ahead) : Type 0 where
   pub took : Took old.end taken new.end
   pub failures : new.end.failures ≡ old.end.failures
   pub lender : new.lender ≡ old.lender
 
 -- A text of so many lines was taken.
-pub record Passes (old : Ahead) (text : List ℕ) (count : ℕ) (new : Ahead) : Type 0 where
-  pub reads : Reads old text new
+pub record TakesText (old : Ahead) (text : List ℕ) (count : ℕ) (new : Ahead) : Type 0 where
+  pub reads : TakesBytes old text new
   pub counted : new.line ≡ old.line + count
 
 -- A read failed behind these bytes.
-pub record Breaks (old new : Ahead) : Type 0 where
+pub record BytesFail (old new : Ahead) : Type 0 where
   pub taken : List ℕ
   pub took : Took old.end taken new.end
   pub counted : Grew old.end.failures new.end.failures
@@ -59,19 +61,19 @@ module _ {X : Type 0} (spell : X → List ℕ) (within : X → Type 0) where
   -- The line of x was read.
   pub record ReadsLine (old : Ahead) (x : X) (new : Ahead) : Type 0 where
     pub inside : within x
-    pub passes : Passes old (spell x) 1 new
+    pub passes : TakesText old (spell x) 1 new
 
   -- No such line comes first, whatever follows the bytes that were taken.
   pub record RefusesLine (old : Ahead) (n : ℕ) (new : Ahead) : Type 0 where
     pub here : n ≡ old.line
     pub taken : List ℕ
-    pub reads : Reads old taken new
+    pub reads : TakesBytes old taken new
     pub none : (more : List ℕ) → CanFollow new.end more
         → (x : X) (rest : List ℕ) → within x → taken ++ more ≡ spell x ++ rest → ⊥
 
   -- A read failed, and among the bytes before it no such line is whole.
   pub record BreaksLine (old new : Ahead) : Type 0 where
-    pub breaks : Breaks old new
+    pub breaks : BytesFail old new
     pub none : (x : X) (rest : List ℕ) → within x → breaks.taken ≡ spell x ++ rest → ⊥
 
   abbrev pub LineGives : Ahead → Result X Stop → Ahead → Type 0
@@ -84,7 +86,7 @@ module _ {X : Type 0} (spell : X → List ℕ) (within : X → Type 0) where
   pub record ReadsLines (count : ℕ) (old : Ahead) (xs : List X) (new : Ahead) : Type 0 where
     pub all : length xs ≡ count
     pub inside : All within xs
-    pub passes : Passes old (flat_map spell xs) count new
+    pub passes : TakesText old (flat_map spell xs) count new
 
   -- Fewer such lines come first.
   pub record RefusesLines (count : ℕ) (old : Ahead) (n : ℕ) (new : Ahead) : Type 0 where
@@ -92,7 +94,7 @@ module _ {X : Type 0} (spell : X → List ℕ) (within : X → Type 0) where
     pub fewer : length read < count
     pub inside : All within read
     pub mid : Ahead
-    pub passes : Passes old (flat_map spell read) (length read) mid
+    pub passes : TakesText old (flat_map spell read) (length read) mid
     pub refused : RefusesLine mid n new
 
   -- A read failed behind fewer such lines.
@@ -101,37 +103,37 @@ module _ {X : Type 0} (spell : X → List ℕ) (within : X → Type 0) where
     pub fewer : length read < count
     pub inside : All within read
     pub mid : Ahead
-    pub passes : Passes old (flat_map spell read) (length read) mid
+    pub passes : TakesText old (flat_map spell read) (length read) mid
     pub broke : BreaksLine mid new
 
   -- So many such lines at most were read.
-  pub record ReadsSome (count : ℕ) (old new : Ahead) : Type 0 where
+  pub record ReadsAtMost (count : ℕ) (old new : Ahead) : Type 0 where
     pub read : List X
     pub few : length read ≤ count
     pub inside : All within read
-    pub reads : Reads old (flat_map spell read) new
+    pub reads : TakesBytes old (flat_map spell read) new
 
   abbrev pub LinesGive : {V : Type 0} → (V → List X) → ℕ → Ahead → Result V Stop → Ahead → Type 0
   LinesGive items count old (Ok v) new = ReadsLines count old (items v) new
   LinesGive items count old (Err (stop.Fault (fault.Line n))) new = RefusesLines count old n new
-  LinesGive items count old (Err (stop.Fault fault.Memory)) new = ReadsSome count old new
+  LinesGive items count old (Err (stop.Fault fault.Memory)) new = ReadsAtMost count old new
   LinesGive items count old (Err stop.Device) new = BreaksLines count old new
 
 -- What a text of this edition begins with was read, or the text begins otherwise and nothing was read.
 abbrev pub ReadsOpening : Ahead → Edition → Ahead → Type 0
-ReadsOpening old editions.Two new = Passes old edition_line 1 new
+ReadsOpening old editions.Two new = TakesText old edition_line 1 new
 ReadsOpening old editions.One new = (new ≡ old) × ((rest : List ℕ) → old.end.left ≡ Some (edition_line ++ rest) → ⊥)
 
 -- The text stops at line n, whatever follows the bytes that were taken.
-pub record StopsAhead (from : State) (old : Ahead) (n : ℕ) (new : Ahead) : Type 0 where
+pub record StopsAhead (from : LineState) (old : Ahead) (n : ℕ) (new : Ahead) : Type 0 where
   pub good : ℕ
   pub there : n ≡ old.line + good
   pub taken : List ℕ
-  pub reads : Reads old taken new
-  pub stops : (more : List ℕ) → CanFollow new.end more → Stops good from (taken ++ more)
+  pub reads : TakesBytes old taken new
+  pub stops : (more : List ℕ) → CanFollow new.end more → IsStuckAfter good from (taken ++ more)
 
 -- The text stops in one of the lines of these kinds.
-pub record StopsAmong (kinds : List Kind) (old : Ahead) (n : ℕ) (new : Ahead) : Type 0 where
+pub record StopsAmong (kinds : List LineKind) (old : Ahead) (n : ℕ) (new : Ahead) : Type 0 where
   pub stopped : StopsAhead (expects kinds) old n new
   pub among : stopped.good < length kinds
 
@@ -139,29 +141,29 @@ pub record StopsAmong (kinds : List Kind) (old : Ahead) (n : ℕ) (new : Ahead) 
 pub record ReadsBody (h : Header) (old : Ahead) (d : Definition) (new : Ahead) : Type 0 where
   pub header : header_of d ≡ h
   pub inside : IsWithinRanges d
-  pub passes : Passes old (joined (body_lines d)) (length (body_lines d)) new
+  pub passes : TakesText old (joined (body_lines d)) (length (body_lines d)) new
 
 -- A read failed in one of the lines of these kinds.
-pub record BreaksAmong (kinds : List Kind) (old new : Ahead) : Type 0 where
-  pub breaks : Breaks old new
+pub record BreaksAmong (kinds : List LineKind) (old new : Ahead) : Type 0 where
+  pub breaks : BytesFail old new
   pub good : ℕ
-  pub stops : Stops good (expects kinds) breaks.taken
+  pub stops : IsStuckAfter good (expects kinds) breaks.taken
   pub among : good < length kinds
 
 -- lines of the first of these kinds
-abbrev pub AreFirst : List (List ℕ) → List Kind → Type 0
+abbrev pub AreFirst : List (List ℕ) → List LineKind → Type 0
 AreFirst [] kinds = Unit {0}
 AreFirst (l ∷ ls) [] = ⊥
 AreFirst (l ∷ ls) (k ∷ ks) = IsOfKind k l × AreFirst ls ks
 
 -- Lines of the first of these kinds were read.
-pub record ReadsFirst (kinds : List Kind) (old new : Ahead) : Type 0 where
+pub record ReadsFirst (kinds : List LineKind) (old new : Ahead) : Type 0 where
   pub lines : List (List ℕ)
   pub first : AreFirst lines kinds
-  pub reads : Reads old (joined lines) new
+  pub reads : TakesBytes old (joined lines) new
 
 -- why lines of these kinds were not read
-abbrev pub EndsAmong : List Kind → Ahead → Stop → Ahead → Type 0
+abbrev pub EndsAmong : List LineKind → Ahead → Stop → Ahead → Type 0
 EndsAmong kinds old (stop.Fault (fault.Line n)) new = StopsAmong kinds old n new
 EndsAmong kinds old (stop.Fault fault.Memory) new = ReadsFirst kinds old new
 EndsAmong kinds old stop.Device new = BreaksAmong kinds old new
@@ -173,34 +175,34 @@ BodyGives h old (Err why) new = EndsAmong (kinds_after h) old why new
 -- The lines of d were read.
 pub record ReadsDefinition (old : Ahead) (d : Definition) (new : Ahead) : Type 0 where
   pub inside : IsWithinRanges d
-  pub passes : Passes old (text_of d) (length (lines_of d)) new
+  pub passes : TakesText old (definition_text d) (length (lines_of d)) new
 
 -- The text stops before a definition is whole.
 pub record StopsInside (old : Ahead) (n : ℕ) (new : Ahead) : Type 0 where
   pub stopped : StopsAhead (expects []) old n new
   pub none : (more : List ℕ) → CanFollow new.end more
-      → (d : Definition) (rest : List ℕ) → IsWithinRanges d → stopped.taken ++ more ≡ text_of d ++ rest → ⊥
+      → (d : Definition) (rest : List ℕ) → IsWithinRanges d → stopped.taken ++ more ≡ definition_text d ++ rest → ⊥
 
 -- A definition comes, of which the first line was read, and nothing behind the last one.
 pub record HasNext (old new : Ahead) : Type 0 where
   pub taken : List ℕ
-  pub reads : Reads old taken new
+  pub reads : TakesBytes old taken new
   pub next : Definition
   pub inside : IsWithinRanges next
   pub rest : List ℕ
   pub spelled : taken ≡ header_line next ++ rest
   pub more : List ℕ
-  pub whole : text_of next ≡ taken ++ more
+  pub whole : definition_text next ≡ taken ++ more
 
 -- A read failed before a definition is whole.
 pub record BreaksInside (old new : Ahead) : Type 0 where
-  pub breaks : Breaks old new
-  pub none : (d : Definition) (rest : List ℕ) → IsWithinRanges d → breaks.taken ≡ text_of d ++ rest → ⊥
+  pub breaks : BytesFail old new
+  pub none : (d : Definition) (rest : List ℕ) → IsWithinRanges d → breaks.taken ≡ definition_text d ++ rest → ⊥
 
 -- a definition was read, or the last line
 abbrev pub DefinitionGives : Ahead → Result (Option Definition) Stop → Ahead → Type 0
 DefinitionGives old (Ok (Some d)) new = ReadsDefinition old d new
-DefinitionGives old (Ok None) new = Passes old end_text 1 new
+DefinitionGives old (Ok None) new = TakesText old end_text 1 new
 DefinitionGives old (Err (stop.Fault (fault.Line n))) new = StopsInside old n new
 DefinitionGives old (Err (stop.Fault fault.Memory)) new = HasNext old new
 DefinitionGives old (Err stop.Device) new = BreaksInside old new
@@ -213,30 +215,31 @@ TextGives old (Err f) new = DefinitionGives (ahead_in old) (Err (stop.Fault f)) 
 -- No byte was left; or one was taken.
 pub record SeesEnd (old : Ahead) (is_over : Bool) (new : Ahead) : Type 0 where
   pub taken : List ℕ
-  pub reads : Reads old taken new
+  pub reads : TakesBytes old taken new
   pub same : new.line ≡ old.line
   pub nothing : is_over ≡ true → (taken ≡ []) × (new.end.is_over ≡ true)
   pub some : is_over ≡ false → taken ≢ []
 
 abbrev pub EndGives : Ahead → Result Bool Device → Ahead → Type 0
 EndGives old (Ok is_over) new = SeesEnd old is_over new
-EndGives old (Err e) new = Breaks old new
+EndGives old (Err e) new = BytesFail old new
 
 -- what a text begins with was read, if that was still to be done
-abbrev pub Opens : Bool → Ahead → Ahead → Type 0
-Opens true old new = Passes old edition_line 1 new
-Opens false old new = new ≡ old
+abbrev pub OpeningRead : Bool → Ahead → Ahead → Type 0
+OpeningRead true old new = TakesText old edition_line 1 new
+OpeningRead false old new = new ≡ old
 
 abbrev pub OpeningGives : Bool → Ahead → Result (Unit {0}) Stop → Ahead → Type 0
-OpeningGives opens old (Ok u) new = Opens opens old new
+OpeningGives opens old (Ok u) new = OpeningRead opens old new
 OpeningGives opens old (Err (stop.Fault (fault.Line n))) new =
     (opens ≡ true) × RefusesLine {X = Unit {0}} (λ _. edition_line) (λ _. Unit {0}) old n new
 OpeningGives opens old (Err (stop.Fault fault.Memory)) new = ⊥
-OpeningGives opens old (Err stop.Device) new = (opens ≡ true) × BreaksLine {X = Unit {0}} (λ _. edition_line) (λ _. Unit {0}) old new
+OpeningGives opens old (Err stop.Device) new = (opens ≡ true)
+    × BreaksLine {X = Unit {0}} (λ _. edition_line) (λ _. Unit {0}) old new
 
 -- The last line was read, and the end of the input was seen.
 pub record ReadsLast (old new : Ahead) : Type 0 where
-  pub reads : Reads old end_text new
+  pub reads : TakesBytes old end_text new
   pub over : new.end.is_over ≡ true
 
 -- the line that may have to come before a definition
@@ -246,23 +249,25 @@ opening_line false = []
 
 -- A read failed before a definition is whole behind what may have to come before it.
 pub record BreaksNext (opens : Bool) (old new : Ahead) : Type 0 where
-  pub breaks : Breaks old new
+  pub breaks : BytesFail old new
   pub none : (d : Definition) (rest : List ℕ) → IsWithinRanges d
-      → breaks.taken ≡ opening_line opens ++ (text_of d ++ rest) → ⊥
+      → breaks.taken ≡ opening_line opens ++ (definition_text d ++ rest) → ⊥
 
 -- what reading the next definition does, where a line may have to come before it
-abbrev pub NextGives : Bool → Ahead → Result (Option Definition) Stop → Ahead → Type 0
-NextGives opens old (Ok (Some d)) new = (mid : Ahead) × Opens opens old mid × ReadsDefinition mid d new
-NextGives opens old (Ok None) new = (mid : Ahead) × Opens opens old mid × ReadsLast mid new
-NextGives opens old (Err (stop.Fault (fault.Line n))) new =
+abbrev pub NextDefinitionGives : Bool → Ahead → Result (Option Definition) Stop → Ahead → Type 0
+NextDefinitionGives opens old (Ok (Some d)) new = (mid : Ahead) × OpeningRead opens old mid × ReadsDefinition mid d new
+NextDefinitionGives opens old (Ok None) new = (mid : Ahead) × OpeningRead opens old mid × ReadsLast mid new
+NextDefinitionGives opens old (Err (stop.Fault (fault.Line n))) new =
     ((opens ≡ true) × RefusesLine {X = Unit {0}} (λ _. edition_line) (λ _. Unit {0}) old n new)
-    ⊎ ((mid : Ahead) × Opens opens old mid × StopsInside mid n new)
-NextGives opens old (Err (stop.Fault fault.Memory)) new = (mid : Ahead) × Opens opens old mid × HasNext mid new
-NextGives opens old (Err stop.Device) new = BreaksNext opens old new
+    ⊎ ((mid : Ahead) × OpeningRead opens old mid × StopsInside mid n new)
+NextDefinitionGives opens old (Err (stop.Fault fault.Memory)) new = (mid : Ahead) × OpeningRead opens old mid
+    × HasNext mid new
+NextDefinitionGives opens old (Err stop.Device) new = BreaksNext opens old new
 
 -- nothing came behind the last line; or something did, in a line of this number
 abbrev pub EndingGives : Ahead → Result (Unit {0}) Stop → Ahead → Type 0
-EndingGives old (Ok u) new = Reads old [] new × (new.end.is_over ≡ true)
-EndingGives old (Err (stop.Fault (fault.Line n))) new = (n ≡ old.line) × ((taken : List ℕ) × (taken ≢ []) × Reads old taken new)
+EndingGives old (Ok u) new = TakesBytes old [] new × (new.end.is_over ≡ true)
+EndingGives old (Err (stop.Fault (fault.Line n))) new = (n ≡ old.line)
+    × ((taken : List ℕ) × (taken ≢ []) × TakesBytes old taken new)
 EndingGives old (Err (stop.Fault fault.Memory)) new = ⊥
-EndingGives old (Err stop.Device) new = Breaks old new
+EndingGives old (Err stop.Device) new = BytesFail old new

@@ -2,7 +2,7 @@
 use Rattle.std.specs.Prelude.{◌≡◌, ℕ, suc, ◌≤◌, List, ◌++◌, length, take, All}
 use Rattle.std.specs.List.{flat_map}
 use Rattle.bword.specs.declared.edition.Edition.{Edition}
-use Rattle.blang.specs.Text.{joined, opening, code_lines, text_of, header_line, IsWithinRanges}
+use Rattle.blang.specs.Text.{joined, opening, code_lines, definition_text, header_line, IsWithinRanges}
 use Rattle.blang.specs.declared.code.Definition.{Definition}
 use Rattle.bcode.specs.declared.fault.CodeFault.{CodeFault}
 use Rattle.bcode.specs.declared.fault.CodeFault.TheVariants as fault
@@ -16,8 +16,8 @@ pub record BeginsIn (edition : Edition) (text : List ℕ) (m : ℕ) : Type 0 whe
   pub same : text ≡ joined (take m (code_lines edition definitions)) ++ rest
 
 -- the same in some edition
-abbrev pub Begins : List ℕ → ℕ → Type 0
-Begins text m = (edition : Edition) × BeginsIn edition text m
+abbrev pub BeginsCodeText : List ℕ → ℕ → Type 0
+BeginsCodeText text m = (edition : Edition) × BeginsIn edition text m
 
 -- n is one more than the greatest number of which this holds.
 pub record IsBehind (P : ℕ → Type 0) (n : ℕ) : Type 0 where
@@ -28,7 +28,7 @@ pub record IsBehind (P : ℕ → Type 0) (n : ℕ) : Type 0 where
 
 -- n is one more than the greatest number of first lines of the text that begin a code text
 abbrev pub IsFaultLine : List ℕ → ℕ → Type 0
-IsFaultLine text n = IsBehind (Begins text) n
+IsFaultLine text n = IsBehind (BeginsCodeText text) n
 
 -- the same of the texts of one edition
 abbrev pub IsFaultLineIn : Edition → List ℕ → ℕ → Type 0
@@ -42,7 +42,7 @@ pub record HasHeader (text : List ℕ) : Type 0 where
   pub within : All IsWithinRanges definitions
   pub next_within : IsWithinRanges next
   pub rest : List ℕ
-  pub same : text ≡ opening edition ++ (flat_map text_of definitions ++ (header_line next ++ rest))
+  pub same : text ≡ opening edition ++ (flat_map definition_text definitions ++ (header_line next ++ rest))
 
 -- why a text was refused
 abbrev pub IsFaultOf : List ℕ → CodeFault → Type 0

@@ -3,7 +3,8 @@ use Rattle.std.specs.Prelude.{ℕ, ◌&&◌, ◌||◌, ◌==◌, nat_le, Bool, t
 use Rattle.bword.specs.Words.{is_name}
 use Rattle.blang.specs.CodeParts.{sizes_of}
 use Rattle.blang.specs.Text.{line}
-use Rattle.blang.specs.declared.limits.TheConstants.{MAX_INSTRUCTIONS, MAX_LABELS, MAX_PARAMETERS, MAX_STRING_WORDS, MAX_VALUES, MAX_WORDS}
+use Rattle.blang.specs.declared.limits.TheConstants.{MAX_INSTRUCTIONS, MAX_LABELS, MAX_PARAMETERS, MAX_STRING_WORDS}
+use Rattle.blang.specs.declared.limits.TheConstants.{MAX_VALUES, MAX_WORDS}
 use Rattle.blang.specs.declared.code.Definition.{Definition}
 use Rattle.blang.specs.declared.code.Definition.TheVariants as definition
 use Rattle.bcode.specs.declared.header.Header.{Header}

@@ -1,7 +1,9 @@
 -- Which lines are read, each range at its limit and one past it.
 use Rattle.std.specs.Prelude.{◌≡◌, ℕ, ◌^◌, true, false, List, [], ◌∷◌, map, length, replicate, is_some, codes, refl}
-use Rattle.bcode.specs.LineReading.{header_at, any_header_at, sizes_at, function_header_at, simple_header_at, vector_header_at, ended, instr_at, ival_at, number_line_at, operand_at, name_operand_at, operator_at, less_at, greater_at, increment_at, case_at}
-use Rattle.bcode.specs.Reading.{expect, number_at, number_from, name_at}
+use Rattle.bcode.specs.LineReading.{header_at, any_header_at, sizes_at, function_header_at, simple_header_at}
+use Rattle.bcode.specs.LineReading.{vector_header_at, line_ended, instr_at, ival_line_at, number_line_at, operand_at}
+use Rattle.bcode.specs.LineReading.{name_operand_at, operator_at, less_at, greater_at, increment_at, case_at}
+use Rattle.bcode.specs.Reading.{expect_byte, number_at, number_from, name_text_at}
 use Rattle.blang.specs.declared.code.Sizes.{Sizes}
 
 abbrev first_lines : List (List ℕ)
@@ -13,8 +15,8 @@ first_lines =
     codes "F f 0 0 1 0 1\n" ∷ codes "E\n" ∷ []
 
 headers : map (λ l. is_some (header_at l)) first_lines ≡ replicate (length first_lines) true
-unfolding header_at any_header_at sizes_at function_header_at simple_header_at vector_header_at ended expect number_at number_from
-    name_at
+unfolding header_at any_header_at sizes_at function_header_at simple_header_at vector_header_at line_ended expect_byte number_at number_from
+    name_text_at
 headers = refl
 
 abbrev no_first_lines : List (List ℕ)
@@ -31,8 +33,8 @@ no_first_lines =
     codes "F f 0 0 0 1025 0\n" ∷ codes "F f 0 0 0 0 4097\n" ∷ codes "F f 0 0 1 0 0\n" ∷ codes "F f 0 0 0 0\n" ∷ []
 
 no_headers : map (λ l. is_some (header_at l)) no_first_lines ≡ replicate (length no_first_lines) false
-unfolding header_at any_header_at sizes_at function_header_at simple_header_at vector_header_at ended expect number_at number_from
-    name_at
+unfolding header_at any_header_at sizes_at function_header_at simple_header_at vector_header_at line_ended expect_byte number_at number_from
+    name_text_at
 no_headers = refl
 
 abbrev sizes : Sizes
@@ -51,8 +53,8 @@ instruction_lines =
     codes "k 65535\n" ∷ codes "r\n" ∷ codes "p\n" ∷ []
 
 instructions : map (λ l. is_some (instr_at sizes l)) instruction_lines ≡ replicate (length instruction_lines) true
-unfolding instr_at operand_at name_operand_at operator_at less_at greater_at increment_at case_at ended expect
-    number_at number_from name_at
+unfolding instr_at operand_at name_operand_at operator_at less_at greater_at increment_at case_at line_ended expect_byte
+    number_at number_from name_text_at
 instructions = refl
 
 abbrev no_instruction_lines : List (List ℕ)
@@ -69,27 +71,27 @@ no_instruction_lines =
 
 no_instructions : map (λ l. is_some (instr_at sizes l)) no_instruction_lines ≡
     replicate (length no_instruction_lines) false
-unfolding instr_at operand_at name_operand_at operator_at less_at greater_at increment_at case_at ended expect
-    number_at number_from name_at
+unfolding instr_at operand_at name_operand_at operator_at less_at greater_at increment_at case_at line_ended expect_byte
+    number_at number_from name_text_at
 no_instructions = refl
 
 -- initial values beside three string words
-values : map (λ l. is_some (ival_at 3 l)) (
+values : map (λ l. is_some (ival_line_at 3 l)) (
     codes "c 65535\n" ∷ codes "x t\n" ∷ codes "s 2\n" ∷ codes "c 65536\n" ∷ codes "c 01\n" ∷ codes "s 3\n" ∷
     codes "a 0\n" ∷ []) ≡
     true ∷ true ∷ true ∷ false ∷ false ∷ false ∷ false ∷ []
-unfolding ival_at operand_at name_operand_at expect number_at number_from name_at
+unfolding ival_line_at operand_at name_operand_at expect_byte number_at number_from name_text_at
 values = refl
 
 -- targets of labels among seven instructions, and string words
 targets : map (λ l. is_some (number_line_at 116 7 l)) (codes "t 6\n" ∷ codes "t 7\n" ∷ codes "t 06\n" ∷
     codes "w 6\n" ∷ []) ≡
     true ∷ false ∷ false ∷ false ∷ []
-unfolding number_line_at operand_at expect number_at number_from
+unfolding number_line_at operand_at expect_byte number_at number_from
 targets = refl
 
 words : map (λ l. is_some (number_line_at 119 (2 ^ 16) l)) (codes "w 65535\n" ∷ codes "w 65536\n" ∷ codes "w 00\n" ∷
     []) ≡
     true ∷ false ∷ false ∷ []
-unfolding number_line_at operand_at expect number_at number_from
+unfolding number_line_at operand_at expect_byte number_at number_from
 words = refl

@@ -3,7 +3,8 @@ use Rattle.std.specs.Prelude.{ℕ, ◌<◌, ◌≤◌, [], length, replicate, co
 use Rattle.std.proofs.Common.{arith}
 use Rattle.std.proofs.lemmas.List.{length-replicate}
 use Rattle.std.proofs.lemmas.List.Elements.{All-nil, All-replicate, All-head}
-use Rattle.blang.specs.CodeParts.{Function, Simple, Vector, IsWord, IsInstrWithin, IsIvalWithin, IsFunctionWithinRanges, IsSimpleWithinRanges, IsVectorWithinRanges, sizes_of}
+use Rattle.blang.specs.CodeParts.{Function, Simple, Vector, IsWord, IsInstrWithin, IsIvalWithin, IsFunctionWithinRanges}
+use Rattle.blang.specs.CodeParts.{IsSimpleWithinRanges, IsVectorWithinRanges, sizes_of}
 use Rattle.blang.specs.declared.code.Sizes.{Sizes}
 use Rattle.blang.specs.declared.code.Instr.{Instr}
 use Rattle.blang.specs.declared.code.Instr.TheVariants as instr

@@ -1,5 +1,6 @@
 -- Reading the parts of a line from the front of a text: what was read, and the text behind it.
-use Rattle.std.specs.Prelude.{◌≡◌, ℕ, ◌+◌, ◌*◌, ◌-◌, ◌==◌, nat_lt, if◌then◌else◌, List, [], ◌∷◌, take, drop, Option, Some, None}
+use Rattle.std.specs.Prelude.{◌≡◌, ℕ, ◌+◌, ◌*◌, ◌-◌, ◌==◌, nat_lt, if◌then◌else◌, List, [], ◌∷◌, take, drop, Option}
+use Rattle.std.specs.Prelude.{Some, None}
 use Rattle.std.specs.Char.{is_ascii_digit}
 use Rattle.std.specs.List.{position}
 use Rattle.bword.specs.Words.{is_name}
@@ -15,9 +16,9 @@ abbrev pub Gives : {A B : Type 0} → (A → B) → Option A → Option B → Ty
 Gives view (Some x) read = read ≡ Some (view x)
 Gives view None read = read ≡ None
 
-unfoldable pub expect : ℕ → List ℕ → Option (List ℕ)
-expect byte [] = None
-expect byte (b ∷ bs) = if b == byte then Some bs else None
+unfoldable pub expect_byte : ℕ → List ℕ → Option (List ℕ)
+expect_byte byte [] = None
+expect_byte byte (b ∷ bs) = if b == byte then Some bs else None
 
 -- the rest of a number, of which this much was read
 unfoldable pub number_from : ℕ → ℕ → ℕ → List ℕ → Option (ℕ × List ℕ)
@@ -35,5 +36,7 @@ number_at end below [] = None
 number_at end below (b ∷ bs) = if is_ascii_digit b then number_from end below (b - 48) bs else None
 
 -- a name, and the byte that ends it
-unfoldable pub name_at : ℕ → List ℕ → Option (List ℕ × List ℕ)
-name_at end bytes = position (λ b. b == end) bytes >>= λ n. if is_name (take n bytes) then Some (take n bytes, drop (n + 1) bytes) else None
+unfoldable pub name_text_at : ℕ → List ℕ → Option (List ℕ × List ℕ)
+name_text_at end bytes =
+    position (λ b. b == end) bytes >>= λ n. if is_name (take n bytes) then Some (take n bytes, drop (n + 1) bytes) else
+    None

@@ -1,6 +1,6 @@
 //! What calls of the reader of a code text answer.
 ghost use Rattle.std.specs.Prelude.{◌≡◌};
-ghost use Rattle.bcode.specs.Readers.{is_last, step_of};
+ghost use Rattle.bcode.specs.Readers.{is_last_step, code_step};
 
 use crate::stop::Stop;
 use crate::{CodeFault, Definition};
@@ -23,7 +23,7 @@ pub enum CodeStep {
 impl CodeStep {
     /// What is answered where the next definition was read so.
     pub(crate) fn of(next: Result<Option<Definition>, Stop>) -> Self
-        ensures { result ≡ step_of next }
+        ensures { result ≡ code_step next }
     {
         match next {
             Ok(Some(definition)) => CodeStep::Definition(definition),
@@ -35,7 +35,7 @@ impl CodeStep {
 
     /// Whether nothing comes behind it.
     pub(crate) fn is_last(&self) -> bool
-        ensures { result ≡ is_last self.now }
+        ensures { result ≡ is_last_step self.now }
     {
         !matches!(self, CodeStep::Definition(_))
     }

@@ -1,7 +1,7 @@
 //! Lines, read from the front of a text.
 ghost use Rattle.std.specs.Prelude.{◌≡◌, ◌≤◌};
 ghost use Rattle.bcode.specs.LineReading.{
-  ended,
+  line_ended,
   operand_at,
   name_operand_at,
   less_at,
@@ -10,7 +10,7 @@ ghost use Rattle.bcode.specs.LineReading.{
   increment_at,
   case_at,
   instr_at,
-  ival_at,
+  ival_line_at,
   number_line_at,
   sizes_at,
   function_header_at,
@@ -28,9 +28,9 @@ use blang::{Sizes, WORD_VALUES};
 use bword::{BinOp, Name};
 
 // The text behind the end of a line, beside what stood in the line.
-#[tactic(auto, unfolding(crate::specs::LineReading::ended))]
+#[tactic(auto, unfolding(crate::specs::LineReading::line_ended))]
 fn ended<T: Drop>(value: T, text: &[u8]) -> Option<(T, &[u8])>
-    ensures { Gives (λ r. (r.0, r.1.now)) result (ended value text.now) }
+    ensures { Gives (λ r. (r.0, r.1.now)) result (line_ended value text.now) }
 {
     let rest = expect(text, b'\n')?;
     Some((value, rest))
@@ -159,9 +159,9 @@ pub fn instr(text: &[u8], sizes: Sizes) -> Option<(Instr, &[u8])>
 }
 
 /// An initial value of a definition with this many string words.
-#[tactic(auto, unfolding(crate::specs::LineReading::ival_at))]
+#[tactic(auto, unfolding(crate::specs::LineReading::ival_line_at))]
 pub fn ival(text: &[u8], strings: u16) -> Option<(Ival, &[u8])>
-    ensures { Gives (λ r. (r.0, r.1.now)) result (ival_at strings text.now) }
+    ensures { Gives (λ r. (r.0, r.1.now)) result (ival_line_at strings text.now) }
 {
     let (letter, rest) = text.split_first()?;
     match *letter {

@@ -1,15 +1,15 @@
 //! The parts of a line, read from the front of a text.
 ghost use Rattle.std.specs.Prelude.{◌≡◌, ◌≤◌, ◌<◌, ◌-◌, ◌==◌, length, position, Some, IfSome, if◌then◌else◌};
 ghost use Rattle.std.specs.Char.{is_ascii_digit};
-ghost use Rattle.bcode.specs.Reading.{Gives, expect, number_from, number_at, name_at};
+ghost use Rattle.bcode.specs.Reading.{Gives, expect_byte, number_from, number_at, name_text_at};
 
 use blang::WORD_VALUES;
 use bword::Name;
 
 /// The text behind this byte, where it begins with it.
-#[tactic(auto, unfolding(crate::specs::Reading::expect))]
+#[tactic(auto, unfolding(crate::specs::Reading::expect_byte))]
 pub fn expect(text: &[u8], byte: u8) -> Option<&[u8]>
-    ensures { Gives (λ rest. rest.now) result (expect byte text.now) }
+    ensures { Gives (λ rest. rest.now) result (expect_byte byte text.now) }
 {
     match text.split_first() {
         Some((first, rest)) if *first == byte => Some(rest),
@@ -56,9 +56,9 @@ fn digit(byte: u8) -> Option<u32>
 }
 
 /// A name, and the text behind the byte that ends it.
-#[tactic(auto, unfolding(crate::specs::Reading::name_at))]
+#[tactic(auto, unfolding(crate::specs::Reading::name_text_at))]
 pub fn name(text: &[u8], end: u8) -> Option<(Name, &[u8])>
-    ensures { Gives (λ r. (r.0, r.1.now)) result (name_at end text.now) }
+    ensures { Gives (λ r. (r.0, r.1.now)) result (name_text_at end text.now) }
 {
     let len = position(text, end)?;
     let name = Name::from_bytes(&text[..len])?;

@@ -1,7 +1,7 @@
 //! The reader of a code text that comes in a stream.
 ghost use Rattle.std.specs.Prelude.{◌≡◌};
-ghost use Rattle.bcode.specs.Ahead.{NextGives, OpeningGives, EndingGives};
-ghost use Rattle.bcode.specs.Readers.{Keeps, StepGives, start_of, to_open};
+ghost use Rattle.bcode.specs.Ahead.{NextDefinitionGives, OpeningGives, EndingGives};
+ghost use Rattle.bcode.specs.Readers.{SameReader, StepGives, reader_start, to_open};
 ghost use Rattle.bcode.specs.Readers as readers;
 
 use crate::read::next_definition;
@@ -29,21 +29,21 @@ pub struct CodeReader<I: ByteIn> {
 
 impl<I: ByteIn> Model for CodeReader<I> {
     ghost use Rattle.std.specs.Prelude.{◌≡◌, false};
-    ghost use Rattle.bcode.specs.Readers.{CodeReader, IsOpen, reader_of, start_of};
+    ghost use Rattle.bcode.specs.Readers.{CodeReader, MoreCanBeRead, reader_of, reader_start};
 
     ghost Value = { CodeReader };
 
     ghost view = { λ r. reader_of
-        (start_of r.edition (I.incoming r.first_input.value) (I.lender r.first_input.value)) r.lines r.is_begun r.is_closed };
+        (reader_start r.edition (I.incoming r.first_input.value) (I.lender r.first_input.value)) r.lines r.is_begun r.is_closed };
 
-    ghost invariant = { λ r. r.is_closed ≡ false → IsOpen (reader_of
-        (start_of r.edition (I.incoming r.first_input.value) (I.lender r.first_input.value)) r.lines r.is_begun r.is_closed) };
+    ghost invariant = { λ r. r.is_closed ≡ false → MoreCanBeRead (reader_of
+        (reader_start r.edition (I.incoming r.first_input.value) (I.lender r.first_input.value)) r.lines r.is_begun r.is_closed) };
 }
 
 impl<I: ByteIn> CodeReader<I> {
     /// A reader of a text of this edition that has read nothing.
     pub fn new(alloc: Global, input: I, edition: Edition) -> Self
-        ensures { result ≡ readers.new (start_of edition (I.incoming input) (I.lender input)) }
+        ensures { result ≡ readers.new (reader_start edition (I.incoming input) (I.lender input)) }
     {
         CodeReader {
             first_input: Snapshot::of(&input),
@@ -61,7 +61,7 @@ impl<I: ByteIn> CodeReader<I> {
     /// that isn't `Definition`, each call answers `Closed` and reads nothing.
     pub fn next(&mut self) -> CodeStep
         ensures gives { StepGives self.old result self.new }
-        ensures keeps { Keeps self.old self.new }
+        ensures keeps { SameReader self.old self.new }
     {
         if self.is_closed {
             return CodeStep::Closed;
@@ -98,7 +98,7 @@ fn read_next<I: ByteIn>(
     opens: bool,
     lines: &mut Stream<I>,
 ) -> Result<Option<Definition>, Stop>
-    ensures { NextGives opens lines.old result lines.new }
+    ensures { NextDefinitionGives opens lines.old result lines.new }
 {
     read_opening(opens, lines)?;
     match next_definition(alloc, lines)? {

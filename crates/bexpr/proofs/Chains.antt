@@ -8,8 +8,9 @@ use Rattle.blang.specs.declared.token.Token.{Token}
 use Rattle.blang.specs.declared.token.Token.TheVariants as token
 use Rattle.blang.specs.declared.token.Placed.{Placed}
 use Rattle.blang.specs.Trees.{Expr, Binary}
-use Rattle.blang.specs.WellFormed.{words, rank}
-use Rattle.btree.specs.Reading.{Read, Reader, Got, Stop, ◌>>=◌, first, line_of, after, turns, many}
+use Rattle.blang.specs.WellFormed.{rank}
+use Rattle.btree.specs.Fitting.{words}
+use Rattle.btree.specs.Reading.{Read, Reader, Got, Stop, ◌>>=◌, first, line_ahead, after, turns, many}
 use Rattle.btree.specs.ExpressionReader.{always, op_at, having_rank, operand, operation, chain, inner}
 use Rattle.btree.proofs.Fine.{Loop, many_none, many_some}
 use Rattle.btree.proofs.ExpressionFine.{closing, has_room, op_loop}
@@ -116,10 +117,10 @@ module _ (room : ℕ) where
   level_past r off tighter (suc n) a ts e rest le past h = go (op_at (suc r) (first ts)) refl (λ a2 r2 le2 past2 h2. level_past r off tighter n a2 r2 e rest le2 past2 h2)
     where
       step : (p : BinOp) → op_at (suc r) (first ts) ≡ Some p → ((a2 : Expr) (r2 : List Placed) → length r2 ≤ n → Past r r2 → turns (always (op_at (suc r))) (operation (chain (inner room) r) off) n a2 r2 ≡ Got e rest → Past (suc r) rest)
-          → (x : Read Expr) → chain (inner room) r (off + words a) (after ts) ≡ x → ((x >>= λ f. Got (Binary p (line_of ts) a f)) >>= turns (always (op_at (suc r))) (operation (chain (inner room) r) off) n) ≡ Got e rest → Past (suc r) rest
+          → (x : Read Expr) → chain (inner room) r (off + words a) (after ts) ≡ x → ((x >>= λ f. Got (Binary p (line_ahead ts) a f)) >>= turns (always (op_at (suc r))) (operation (chain (inner room) r) off) n) ≡ Got e rest → Past (suc r) rest
       step p is ih (Got f r2) eq h2 =
-          let lt : length r2 < length ts = (loop_at r off).takes p a (Binary p (line_of ts) a f) ts r2 is (ap (λ x. x >>= λ f. Got (Binary p (line_of ts) a f)) eq) in
-          ih (Binary p (line_of ts) a f) r2 (omega arith) (tighter (off + words a) (after ts) f r2 eq) h2
+          let lt : length r2 < length ts = (loop_at r off).takes p a (Binary p (line_ahead ts) a f) ts r2 is (ap (λ x. x >>= λ f. Got (Binary p (line_ahead ts) a f)) eq) in
+          ih (Binary p (line_ahead ts) a f) r2 (omega arith) (tighter (off + words a) (after ts) f r2 eq) h2
       step p is ih (Stop r2) eq h2 = cc
 
       go : (o : Option BinOp) → op_at (suc r) (first ts) ≡ o → ((a2 : Expr) (r2 : List Placed) → length r2 ≤ n → Past r r2 → turns (always (op_at (suc r))) (operation (chain (inner room) r) off) n a2 r2 ≡ Got e rest → Past (suc r) rest) → Past (suc r) rest
@@ -145,24 +146,24 @@ module _ (room : ℕ) where
   abbrev operated : ℕ → ℕ → BinOp → ℕ → Expr → (Expr → Reader Expr) → List Placed → Read Expr
   operated j off p line e more ts = chain (inner room) j (off + words e) ts >>= λ f. more (Binary p line e f)
 
-  climb_here : (j off : ℕ) (p : BinOp) (e : Expr) (ts : List Placed) → first ts ≡ token.Operator p → rank p ≡ suc j → climb room (suc j) off e ts ≡ operated j off p (line_of ts) e (climb room (suc j) off) (after ts)
+  climb_here : (j off : ℕ) (p : BinOp) (e : Expr) (ts : List Placed) → first ts ≡ token.Operator p → rank p ≡ suc j → climb room (suc j) off e ts ≡ operated j off p (line_ahead ts) e (climb room (suc j) off) (after ts)
   climb_here j off p e ts is h =
       ap (λ x. x >>= level room j off) (climb_none j off e ts (op_past j ts p is h))
       ∙ many_some closing (always (op_at (suc j))) (operation (chain (inner room) j) off) (loop_at j off) p e ts (op_here j (first ts) p is h)
-      ∙ bind_twice (chain (inner room) j (off + words e) (after ts)) (λ f. Got (Binary p (line_of ts) e f)) (level room j off)
+      ∙ bind_twice (chain (inner room) j (off + words e) (after ts)) (λ f. Got (Binary p (line_ahead ts) e f)) (level room j off)
       ∙ behind (chain (inner room) j (off + words e) (after ts)) refl
     where
-      behind : (x : Read Expr) → chain (inner room) j (off + words e) (after ts) ≡ x → (x >>= λ f. level room j off (Binary p (line_of ts) e f)) ≡ (x >>= λ f. climb room (suc j) off (Binary p (line_of ts) e f))
-      behind (Got f rest) eq = sym (ap (λ x. x >>= level room j off) (climb_none j off (Binary p (line_of ts) e f) rest (chain_past j (off + words e) (after ts) f rest eq)))
+      behind : (x : Read Expr) → chain (inner room) j (off + words e) (after ts) ≡ x → (x >>= λ f. level room j off (Binary p (line_ahead ts) e f)) ≡ (x >>= λ f. climb room (suc j) off (Binary p (line_ahead ts) e f))
+      behind (Got f rest) eq = sym (ap (λ x. x >>= level room j off) (climb_none j off (Binary p (line_ahead ts) e f) rest (chain_past j (off + words e) (after ts) f rest eq)))
       behind (Stop rest) eq = refl
 
   -- the loop takes an operator
-  pub climb_some : (r j off : ℕ) (p : BinOp) (e : Expr) (ts : List Placed) → first ts ≡ token.Operator p → rank p ≡ suc j → suc j ≤ r → climb room r off e ts ≡ operated j off p (line_of ts) e (climb room r off) (after ts)
+  pub climb_some : (r j off : ℕ) (p : BinOp) (e : Expr) (ts : List Placed) → first ts ≡ token.Operator p → rank p ≡ suc j → suc j ≤ r → climb room r off e ts ≡ operated j off p (line_ahead ts) e (climb room r off) (after ts)
   climb_some zero j off p e ts is h le = absurd (omega arith)
   climb_some (suc r) j off p e ts is h le = go (λ lt. climb_some r j off p e ts is h lt) (nat_eq j r) refl
     where
-      go : (suc j ≤ r → climb room r off e ts ≡ operated j off p (line_of ts) e (climb room r off) (after ts)) → (v : Bool) → nat_eq j r ≡ v → climb room (suc r) off e ts ≡ operated j off p (line_of ts) e (climb room (suc r) off) (after ts)
-      go below true s = let same : j ≡ r = eqb-true j r s in subst (λ k. climb room (suc k) off e ts ≡ operated j off p (line_of ts) e (climb room (suc k) off) (after ts)) same (climb_here j off p e ts is h)
+      go : (suc j ≤ r → climb room r off e ts ≡ operated j off p (line_ahead ts) e (climb room r off) (after ts)) → (v : Bool) → nat_eq j r ≡ v → climb room (suc r) off e ts ≡ operated j off p (line_ahead ts) e (climb room (suc r) off) (after ts)
+      go below true s = let same : j ≡ r = eqb-true j r s in subst (λ k. climb room (suc k) off e ts ≡ operated j off p (line_ahead ts) e (climb room (suc k) off) (after ts)) same (climb_here j off p e ts is h)
       go below false s =
           ap (λ x. x >>= level room r off) (below (omega (arith, eqb-false j r s)))
-          ∙ bind_twice (chain (inner room) j (off + words e) (after ts)) (λ f. climb room r off (Binary p (line_of ts) e f)) (level room r off)
+          ∙ bind_twice (chain (inner room) j (off + words e) (after ts)) (λ f. climb room r off (Binary p (line_ahead ts) e f)) (level room r off)

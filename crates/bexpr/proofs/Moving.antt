@@ -3,23 +3,23 @@ use Rattle.std.proofs.Common.{◌≡◌, ℕ, Bool, List, ◌∷◌, ◌++◌, R
 use Rattle.bword.specs.declared.edition.Edition.{Edition}
 use Rattle.blang.specs.declared.token.Placed.{Placed}
 use Rattle.blang.specs.Trees.{Expr}
-use Rattle.btree.specs.Reading.{Read, Reader, Got, Stop, ◌>>=◌, first, line_of, after}
+use Rattle.btree.specs.Reading.{Read, Reader, Got, Stop, ◌>>=◌, first, line_ahead, after}
 use Rattle.bemit.specs.Drafts.{Draft}
 use Rattle.bemit.specs.declared.form.Form.{Form}
 use Rattle.bexpr.specs.declared.halt.Halt.{Halt}
 use Rattle.bexpr.specs.declared.halt.Halt.TheVariants as halt
-use Rattle.bexpr.specs.Tokens.{Tokens, tokens_with, tokens_of, IsLoaded, Moves, Runs, Breaks, Same, Advances}
+use Rattle.bexpr.specs.Tokens.{Tokens, tokens_with, tokens_of, IsLoaded, Moves, Runs, TokensFail, Same, Advances}
 use Rattle.bexpr.specs.Parsers.{Halts, Follows, Continues, Evaluates, Passes}
 use Rattle.bexpr.proofs.TokenSteps.{Moves-append, Moves-as, Moves-breaks, stays_same}
 
 first_with : (ahead : List Placed) (edition : Edition) (line : ℕ) (bytes : List ℕ) (p : Placed) (ps : List Placed) → ahead ≡ p ∷ ps → first (tokens_with ahead edition line bytes) ≡ first ahead
 first_with ahead edition line bytes p ps e = rw e refl
 
-line_with : (ahead : List Placed) (edition : Edition) (line : ℕ) (bytes : List ℕ) (p : Placed) (ps : List Placed) → ahead ≡ p ∷ ps → line_of (tokens_with ahead edition line bytes) ≡ line_of ahead
+line_with : (ahead : List Placed) (edition : Edition) (line : ℕ) (bytes : List ℕ) (p : Placed) (ps : List Placed) → ahead ≡ p ∷ ps → line_ahead (tokens_with ahead edition line bytes) ≡ line_ahead ahead
 line_with ahead edition line bytes p ps e = rw e refl
 
 -- reading goes on where it is
-pub run_here : {A : Type 0} {t : Tokens} {f g : Reader A} → IsLoaded t → ((u : List Placed) → first u ≡ first t.ahead → line_of u ≡ line_of t.ahead → f u ≡ g u) → Runs t t f g
+pub run_here : {A : Type 0} {t : Tokens} {f g : Reader A} → IsLoaded t → ((u : List Placed) → first u ≡ first t.ahead → line_ahead u ≡ line_ahead t.ahead → f u ≡ g u) → Runs t t f g
 run_here {A} {t} {f} {g} l k =
     let s = stays_same t l.near in
     record {
@@ -34,7 +34,7 @@ run_here {A} {t} {f} {g} l k =
     }
 
 -- reading goes on behind the current token
-pub run_past : {A : Type 0} {a b : Tokens} {f g : Reader A} → Advances a b → ((u : List Placed) → first u ≡ first a.ahead → line_of u ≡ line_of a.ahead → f u ≡ g (after u)) → Runs a b f g
+pub run_past : {A : Type 0} {a b : Tokens} {f g : Reader A} → Advances a b → ((u : List Placed) → first u ≡ first a.ahead → line_ahead u ≡ line_ahead a.ahead → f u ≡ g (after u)) → Runs a b f g
 run_past {A} {a} {b} {f} {g} h k = Moves-as (λ u v. f u ≡ g v) (λ u v m. k u m.token m.line ∙ ap g (sym m.rest)) h.moves
 
 pub run_same : {A : Type 0} {a b : Tokens} (f : Reader A) → Moves a b Same → Runs a b f f
@@ -64,10 +64,10 @@ halt_then halt.Fault c m h = (run_then m h.0, h.1)
 halt_then halt.Device c m h = Moves-breaks m h
 
 -- a halt at the current token
-pub halt_here : {A : Type 0} {t : Tokens} {f : Reader A} → IsLoaded t → ((u : List Placed) → first u ≡ first t.ahead → line_of u ≡ line_of t.ahead → f u ≡ Stop u) → Halts f t halt.Fault t
+pub halt_here : {A : Type 0} {t : Tokens} {f : Reader A} → IsLoaded t → ((u : List Placed) → first u ≡ first t.ahead → line_ahead u ≡ line_ahead t.ahead → f u ≡ Stop u) → Halts f t halt.Fault t
 halt_here l k = (run_here l k, l)
 
-pub halt_device : {A : Type 0} {a b : Tokens} (f : Reader A) (why : Halt) → why ≡ halt.Device → Breaks a b → Halts f a why b
+pub halt_device : {A : Type 0} {a b : Tokens} (f : Reader A) (why : Halt) → why ≡ halt.Device → TokensFail a b → Halts f a why b
 halt_device {A} {a} {b} f why e h = subst (λ w. Halts f a w b) (sym e) h
 
 -- the exits of a `?`

@@ -10,20 +10,20 @@ use Rattle.blang.specs.declared.code.Instr.TheVariants as instr
 use Rattle.blang.specs.declared.code.Increment.TheVariants as increment
 use Rattle.blang.specs.Trees as tree
 use Rattle.blang.specs.Trees.{Expr, Arguments, Number, Character, Named, Literal, Text, Grouped, Indexed, Called, Postfixed, Prefixed, Binary, Conditional, Assigned, No_arguments, Another}
-use Rattle.blang.specs.WellFormed.{words, argument_words, or_rank, rank}
-use Rattle.btree.specs.Expression.{is_operand}
-use Rattle.btree.specs.Reading.{Reader, Got, Stop, ◌>>=◌, first, line_of, after, expect, many}
+use Rattle.blang.specs.WellFormed.{or_rank, rank}
+use Rattle.btree.specs.Fitting.{words, argument_words}
+use Rattle.btree.specs.Reading.{Reader, Got, Stop, ◌>>=◌, first, line_ahead, after, expect, many}
 use Rattle.blex.specs.Lexemes.{token_of_lexeme}
 use Rattle.blex.specs.declared.lexeme.Lexeme.{Lexeme}
 use Rattle.blex.specs.declared.lexeme.Lexeme.TheVariants as lexeme
 use Rattle.btree.specs.ExpressionReader as reading
-use Rattle.btree.specs.ExpressionReader.{is_close_paren, is_close_bracket, is_question, is_colon, op_at, suffix, Index, Call, Step, comma, always, prefix_op, Operand, Choice, Rvalue, Inner, primary, primary_at, another, arguments, call, postfix_with, postfix, operand, chain, choices, conditional, assigns, rvalue_from, inner, reader}
+use Rattle.btree.specs.ExpressionReader.{is_close_paren, is_close_bracket, is_question, is_colon, op_at, suffix, Index, Call, Step, comma, always, prefix_op, Operand, Choice, Rvalue, Inner, primary, primary_at, another, arguments, call, postfix_with, postfix, operand, chain, choices, conditional, assigns, rvalue_from, inner, reader, is_operand}
 use Rattle.btree.specs.StatementReader.{is_open_paren}
 use Rattle.blang.specs.Code.{argument_count, assignment}
 use Rattle.btree.proofs.Fine.{many_none, many_some}
 use Rattle.btree.proofs.ExpressionFine.{closing, has_room, Good, suffix_loop, comma_loop, reader_fine, reader_one}
 use Rattle.bemit.specs.Drafts.{Draft, emitted, place_of, filled, stringed, offset_of, named, name_form, checked}
-use Rattle.blang.specs.Scan.{Kind, Automatic, External, Unlabelled, Labelled, kind_of}
+use Rattle.blang.specs.Scan.{NameKind, Automatic, External, Unlabelled, Labelled, kind_of}
 use Rattle.bemit.specs.Drafts as drafts
 use Rattle.bemit.specs.Effects.{form, loads, loaded, held, passed, evaluated, stepping, prefixed, ways, most_arguments}
 use Rattle.bemit.specs.declared.form.Form.{Form}
@@ -31,10 +31,10 @@ use Rattle.bemit.specs.declared.form.Form.TheVariants.{Place, Lone, Joined}
 use Rattle.bexpr.specs.declared.halt.Halt.{Halt}
 use Rattle.bexpr.specs.declared.halt.Halt.TheVariants as halt
 use Rattle.bexpr.specs.Marks.{is_comma}
-use Rattle.bexpr.specs.Tokens.{Tokens, IsLoaded, IsSingle, Runs, Breaks, Keeps, Advances, LooksOn, work}
+use Rattle.bexpr.specs.Tokens.{Tokens, IsLoaded, IsSingle, Runs, TokensFail, KeepsAhead, Advances, LooksOn, work}
 use Rattle.bexpr.specs.declared.operators.Prefix.{Prefix}
 use Rattle.bexpr.specs.declared.operators.Prefix.TheVariants as prefixes
-use Rattle.bexpr.specs.Parsers.{assigned_at, op_within, prefix_meant, prefix_form, called_at, Halts, Took, Follows, Continues, TookWord, TookArguments, Takes}
+use Rattle.bexpr.specs.Parsers.{assigned_at, op_within, prefix_meant, prefix_form, called_at, Halts, ExpressionTaken, Follows, Continues, TookWord, TookArguments, TakesCurrent}
 use Rattle.bexpr.proofs.TokenSteps.{Moves-breaks}
 use Rattle.bexpr.proofs.Moving.{run_here, run_past, run_same, run_as, run_then, run_bind, halt_behind, halt_bind, halt_as, bind_twice, halt_then, halt_device}
 use Rattle.bexpr.proofs.Chains.{climb, rank_positive, within_some, within_none, chain_climbs, climb_none, climb_some}
@@ -78,12 +78,12 @@ word_is : (d0 d1 start : Draft) (given : Form) (was : Bool) (e : Expr) → d1 �
 word_is d0 d1 start given was e l h f = l ∙ ap (λ x. loads x d0) f ∙ ap (loaded e) h
 
 -- a name
-name_read : (room off : ℕ) (u : List Placed) (name : List ℕ) (line : ℕ) → first u ≡ token.Name name → line_of u ≡ line → primary (inner room) off u ≡ Got (Named (record { text = name; line = line })) (after u)
+name_read : (room off : ℕ) (u : List Placed) (name : List ℕ) (line : ℕ) → first u ≡ token.Name name → line_ahead u ≡ line → primary (inner room) off u ≡ Got (Named (record { text = name; line = line })) (after u)
 name_read room off u name line h n = rw h (ap (λ k. Got (Named (record { text = name; line = k })) (after u)) n)
 
-pub name_took : (a b : Tokens) (before draft : Draft) (name : List ℕ) (line : ℕ) (called : Bool) (found : Form) → first a.ahead ≡ token.Name name → line ≡ line_of a.ahead → Advances a b → called ≡ called_at b
+pub name_took : (a b : Tokens) (before draft : Draft) (name : List ℕ) (line : ℕ) (called : Bool) (found : Form) → first a.ahead ≡ token.Name name → line ≡ line_ahead a.ahead → Advances a b → called ≡ called_at b
     → draft ≡ named called (record { text = name; line = line }) before → found ≡ name_form name draft
-    → (room : ℕ) → ((offset : ℕ) → Took (primary (inner room) offset) before (called_at b) a b draft found) × IsSingle b
+    → (room : ℕ) → ((offset : ℕ) → ExpressionTaken (primary (inner room) offset) before (called_at b) a b draft found) × IsSingle b
 name_took a b before draft name line called found h n ad c d f room = (
   (λ off. record {
     tree = Named (record { text = name; line = line });
@@ -105,14 +105,14 @@ primary_none lexeme.OpenParen text a b c d e i off u = cc
 primary_none _ text a b c d e i off u = refl
 
 -- a constant or a string
-atom_took : (room : ℕ) (a b : Tokens) (before mid draft : Draft) (r : Result Form Halt) (t : ℕ → Expr) → Takes a Lone r b → draft ≡ mid → ((off : ℕ) (u : List Placed) → first u ≡ first a.ahead → primary (inner room) off u ≡ Got (t off) (after u)) → ((off : ℕ) (called : Bool) → mid ≡ held called (t off) before) → ((off : ℕ) (d : Draft) → form (t off) d ≡ Lone) → Follows (primary (inner room)) (called_at b) a before r b draft
+atom_took : (room : ℕ) (a b : Tokens) (before mid draft : Draft) (r : Result Form Halt) (t : ℕ → Expr) → TakesCurrent a Lone r b → draft ≡ mid → ((off : ℕ) (u : List Placed) → first u ≡ first a.ahead → primary (inner room) off u ≡ Got (t off) (after u)) → ((off : ℕ) (called : Bool) → mid ≡ held called (t off) before) → ((off : ℕ) (d : Draft) → form (t off) d ≡ Lone) → Follows (primary (inner room)) (called_at b) a before r b draft
 atom_took room a b before mid draft (Ok x) t k e read made lone = ((λ off. record { tree = t off; runs = run_past k.0 (λ u h n. read off u h); made = e ∙ made off (called_at b); form_is = k.1 ∙ sym (lone off draft) }), k.0.single)
 atom_took room a b before mid draft (Err why) t k e read made lone = λ off. halt_device (primary (inner room) off) why k.0 k.1
 
-pub number_took : (a b : Tokens) (before mid draft : Draft) (r : Result Form Halt) (n : ℕ) → Takes a Lone r b → draft ≡ mid → first a.ahead ≡ token.Number n → mid ≡ emitted (instr.Constant n) before → (room : ℕ) → Follows (primary (inner room)) (called_at b) a before r b draft
+pub number_took : (a b : Tokens) (before mid draft : Draft) (r : Result Form Halt) (n : ℕ) → TakesCurrent a Lone r b → draft ≡ mid → first a.ahead ≡ token.Number n → mid ≡ emitted (instr.Constant n) before → (room : ℕ) → Follows (primary (inner room)) (called_at b) a before r b draft
 number_took a b before mid draft r n k e h m room = atom_took room a b before mid draft r (λ off. Literal (Number n)) k e (λ off u f. rw (f ∙ h) refl) (λ off c. m) (λ off d. refl)
 
-pub character_took : (a b : Tokens) (before mid draft : Draft) (r : Result Form Halt) (n : ℕ) → Takes a Lone r b → draft ≡ mid → first a.ahead ≡ token.Character n → mid ≡ emitted (instr.Constant n) before → (room : ℕ) → Follows (primary (inner room)) (called_at b) a before r b draft
+pub character_took : (a b : Tokens) (before mid draft : Draft) (r : Result Form Halt) (n : ℕ) → TakesCurrent a Lone r b → draft ≡ mid → first a.ahead ≡ token.Character n → mid ≡ emitted (instr.Constant n) before → (room : ℕ) → Follows (primary (inner room)) (called_at b) a before r b draft
 character_took a b before mid draft r n k e h m room = atom_took room a b before mid draft r (λ off. Literal (Character n)) k e (λ off u f. rw (f ∙ h) refl) (λ off c. m) (λ off d. refl)
 
 -- a group
@@ -131,14 +131,14 @@ module _ (room k : ℕ) (a b : Tokens) (enters : (room ≡ k + 1) × Advances a 
     pub group_stops : (c : Tokens) (why : Halt) → ((off : ℕ) → Halts (reader k Rvalue off) b why c) → (off : ℕ) → Halts (primary (inner room) off) a why c
     group_stops c why h off = halt_behind (reader k Rvalue off) (λ e r. expect is_close_paren r >>= λ o. Got (Grouped e)) why c (group_runs off) (h off)
 
-    module _ (c : Tokens) (start mid draft : Draft) (found : Form) (t : (off : ℕ) → Took (reader k Rvalue off) mid false b c draft found) where
+    module _ (c : Tokens) (start mid draft : Draft) (found : Form) (t : (off : ℕ) → ExpressionTaken (reader k Rvalue off) mid false b c draft found) where
       closing_runs : (off : ℕ) → Runs a c (primary (inner room) off) (λ v. expect is_close_paren v >>= λ o. Got (Grouped (t off).tree))
       closing_runs off = run_then (group_runs off) (run_bind (λ e r. expect is_close_paren r >>= λ o. Got (Grouped e)) (t off).runs)
 
       pub group_open : (d : Tokens) (why : Halt) → Halts (expect is_close_paren) c why d → (off : ℕ) → Halts (primary (inner room) off) a why d
       group_open d why h off = halt_behind (expect is_close_paren) (λ o. Got (Grouped (t off).tree)) why d (closing_runs off) h
 
-      pub group_took : (d : Tokens) (behind : Draft) (given : Form) → mid ≡ start → Runs c d (expect is_close_paren) (λ v. Got tt v) × IsSingle d × (work d < work c) → behind ≡ draft → given ≡ drafts.grouped found → ((off : ℕ) → Took (primary (inner room) off) start (called_at d) a d behind given) × IsSingle d
+      pub group_took : (d : Tokens) (behind : Draft) (given : Form) → mid ≡ start → Runs c d (expect is_close_paren) (λ v. Got tt v) × IsSingle d × (work d < work c) → behind ≡ draft → given ≡ drafts.grouped found → ((off : ℕ) → ExpressionTaken (primary (inner room) off) start (called_at d) a d behind given) × IsSingle d
       group_took d behind given es x eb g = (
         (λ off. record {
           tree = Grouped (t off).tree;
@@ -153,7 +153,7 @@ module _ (room k : ℕ) (a b : Tokens) (enters : (room ≡ k + 1) × Advances a 
 suffix_many : (room off : ℕ) (b : reading.Suffix) (e : Expr) (u : List Placed) → suffix (first u) ≡ Some b → suffixes room off e u ≡ (postfix_with (inner room) off b e u >>= suffixes room off)
 suffix_many room off b e u h = many_some closing (always suffix) (postfix_with (inner room) off) (suffix_loop (inner room) (has_room room) off) b e u h
 
-pub postfix_begins : (room : ℕ) (a b : Tokens) (start draft : Draft) (found : Form) → ((off : ℕ) → Took (primary (inner room) off) start (called_at b) a b draft found) × IsSingle b → InPostfix room a start b draft found
+pub postfix_begins : (room : ℕ) (a b : Tokens) (start draft : Draft) (found : Form) → ((off : ℕ) → ExpressionTaken (primary (inner room) off) start (called_at b) a b draft found) × IsSingle b → InPostfix room a start b draft found
 postfix_begins room a b start draft found t = record {
   so_far = λ off. record { tree = (t.0 off).tree; runs = run_bind (suffixes room off) (t.0 off).runs; made = (t.0 off).made; form_is = (t.0 off).form_is };
   single = t.1;
@@ -164,7 +164,7 @@ no_call token.OpenParen h = cc
 no_call _ h = refl
 
 module _ (room : ℕ) (a m : Tokens) (start draft : Draft) (found : Form) (s : InPostfix room a start m draft found) where
-  pub postfix_ends : suffix (first m.ahead) ≡ None → ((off : ℕ) → Took (postfix (inner room) off) start false a m draft found) × IsSingle m
+  pub postfix_ends : suffix (first m.ahead) ≡ None → ((off : ℕ) → ExpressionTaken (postfix (inner room) off) start false a m draft found) × IsSingle m
   postfix_ends h = (
     (λ off. let t = s.so_far off in record {
       tree = t.tree;
@@ -182,7 +182,7 @@ module _ (room : ℕ) (a m : Tokens) (start draft : Draft) (found : Form) (s : I
     pub postfix_stops : (c : Tokens) (why : Halt) → ((off : ℕ) (e : Expr) → Halts (postfix_with (inner room) off b e) m why c) → (off : ℕ) → Halts (postfix (inner room) off) a why c
     postfix_stops c why k off = halt_behind (postfix_with (inner room) off b (s.so_far off).tree) (suffixes room off) why c (turn_runs off) (k off (s.so_far off).tree)
 
-    pub postfix_goes : (c : Tokens) (behind : Draft) (given : Form) → ((off : ℕ) (e : Expr) (d : Draft) → draft ≡ held (called_at m) e d → found ≡ form e draft → Took (postfix_with (inner room) off b e) d (called_at c) m c behind given) × IsSingle c → InPostfix room a start c behind given
+    pub postfix_goes : (c : Tokens) (behind : Draft) (given : Form) → ((off : ℕ) (e : Expr) (d : Draft) → draft ≡ held (called_at m) e d → found ≡ form e draft → ExpressionTaken (postfix_with (inner room) off b e) d (called_at c) m c behind given) × IsSingle c → InPostfix room a start c behind given
     postfix_goes c behind given k = record {
       so_far = λ off. let x = s.so_far off in let t = k.0 off x.tree start x.made x.form_is in
           record { tree = t.tree; runs = run_then (turn_runs off) (run_bind (suffixes room off) t.runs); made = t.made; form_is = t.form_is };
@@ -205,7 +205,7 @@ module _ (room k : ℕ) (a b : Tokens) (enters : (room ≡ k + 1) × Advances a 
     index_open d why h off e = halt_behind (expect is_close_bracket) (λ o. Got (Indexed e (t (off + words e)).tree)) why d (bracket_runs off e) h
 
     pub index_took : (d : Tokens) (before loads_ before_emit behind : Draft) (given : Form) → called_at a ≡ false → loads_ ≡ loads given before → mid ≡ loads_ → Runs c d (expect is_close_bracket) (λ v. Got tt v) × IsSingle d × (work d < work c) → before_emit ≡ draft → behind ≡ emitted (instr.Binary op.Add) before_emit
-        → ((off : ℕ) (e : Expr) (start : Draft) → before ≡ held (called_at a) e start → given ≡ form e before → Took (postfix_with (inner room) off Index e) start (called_at d) a d behind Place) × IsSingle d
+        → ((off : ℕ) (e : Expr) (start : Draft) → before ≡ held (called_at a) e start → given ≡ form e before → ExpressionTaken (postfix_with (inner room) off Index e) start (called_at d) a d behind Place) × IsSingle d
     index_took d before loads_ before_emit behind given nc l em x eb eo = (
       (λ off e start h f. record {
         tree = Indexed e (t (off + words e)).tree;
@@ -224,7 +224,7 @@ module _ (room k : ℕ) (a b : Tokens) (enters : (room ≡ k + 1) × Advances a 
   call_stops c why h off e = halt_then why c (call_runs off e) (h off e)
 
   pub call_took : (c : Tokens) (before loads_ mid draft behind : Draft) (given : Form) (count : ℕ) → called_at a ≡ true → loads_ ≡ loads given before → mid ≡ loads_ → ((off : ℕ) (e : Expr) → TookArguments (call (inner (k + 1)) off e) e mid b c draft count) × IsSingle c → behind ≡ emitted (instr.Call count) draft
-      → ((off : ℕ) (e : Expr) (start : Draft) → before ≡ held (called_at a) e start → given ≡ form e before → Took (postfix_with (inner room) off Call e) start (called_at c) a c behind Lone) × IsSingle c
+      → ((off : ℕ) (e : Expr) (start : Draft) → before ≡ held (called_at a) e start → given ≡ form e before → ExpressionTaken (postfix_with (inner room) off Call e) start (called_at c) a c behind Lone) × IsSingle c
   call_took c before loads_ mid draft behind given count yes_ l em t eo = (
     (λ off e start h f. let x = t.0 off e in record {
       tree = Called e x.arguments;
@@ -251,29 +251,29 @@ step_called token.OpenParen p h = cc
 step_called _ p h = refl
 
 -- `++` or `--`
-step_took : (room : ℕ) (p : tree.PostfixOp) (a b : Tokens) (before behind : Draft) (given : Form) (r : Result Form Halt) → called_at a ≡ false → Takes a Lone r b → ((line : ℕ) → line ≡ line_of a.ahead → behind ≡ emitted (stepping p) (checked given line before))
+step_took : (room : ℕ) (p : tree.PostfixOp) (a b : Tokens) (before behind : Draft) (given : Form) (r : Result Form Halt) → called_at a ≡ false → TakesCurrent a Lone r b → ((line : ℕ) → line ≡ line_ahead a.ahead → behind ≡ emitted (stepping p) (checked given line before))
     → Continues (λ off e. postfix_with (inner room) off (Step p) e) (called_at a) given (called_at b) a before r b behind
 step_took room p a b before behind given (Ok x) nc k m = (
   (λ off e start h f. record {
-    tree = Postfixed p (line_of a.ahead) e;
+    tree = Postfixed p (line_ahead a.ahead) e;
     runs = run_past k.0 (λ u g n. ap (λ i. Got (Postfixed p i e) (after u)) n);
-    made = m (line_of a.ahead) refl ∙ ap (λ y. emitted (stepping p) (checked y (line_of a.ahead) before)) f ∙ ap (λ d. emitted (stepping p) (checked (form e d) (line_of a.ahead) d)) (h ∙ ap (λ y. held y e start) nc);
+    made = m (line_ahead a.ahead) refl ∙ ap (λ y. emitted (stepping p) (checked y (line_ahead a.ahead) before)) f ∙ ap (λ d. emitted (stepping p) (checked (form e d) (line_ahead a.ahead) d)) (h ∙ ap (λ y. held y e start) nc);
     form_is = k.1;
   }),
   k.0.single,
 )
 step_took room p a b before behind given (Err why) nc k m = λ off e. halt_device (postfix_with (inner room) off (Step p) e) why k.0 k.1
 
-pub text_took : (a b : Tokens) (before mid put draft : Draft) (r : Result Form Halt) (text bytes : List ℕ) (offset : ℕ) → Takes a Lone r b → draft ≡ put → first a.ahead ≡ string_token text → bytes ≡ text → mid ≡ stringed bytes before → offset ≡ offset_of before → put ≡ emitted (instr.Text offset) mid → (room : ℕ) → Follows (primary (inner room)) (called_at b) a before r b draft
+pub text_took : (a b : Tokens) (before mid put draft : Draft) (r : Result Form Halt) (text bytes : List ℕ) (offset : ℕ) → TakesCurrent a Lone r b → draft ≡ put → first a.ahead ≡ string_token text → bytes ≡ text → mid ≡ stringed bytes before → offset ≡ offset_of before → put ≡ emitted (instr.Text offset) mid → (room : ℕ) → Follows (primary (inner room)) (called_at b) a before r b draft
 text_took a b before mid put draft r text bytes offset k e h eb em eo ep room =
     atom_took room a b before put draft r (λ off. Text text off) k e (λ off u f. rw (f ∙ h) refl)
     (λ off c. ep ∙ ap (λ i. emitted (instr.Text i) mid) eo ∙ ap (emitted (instr.Text (offset_of before))) (em ∙ ap (λ x. stringed x before) eb)) (λ off d. refl)
 
-pub increment_took : (room : ℕ) (a b : Tokens) (before behind : Draft) (given : Form) (r : Result Form Halt) → suffix (first a.ahead) ≡ Some (Step tree.PostIncrement) → Takes a Lone r b → behind ≡ emitted (instr.Increment increment.PostIncrement) (checked given (line_of a.ahead) before)
+pub increment_took : (room : ℕ) (a b : Tokens) (before behind : Draft) (given : Form) (r : Result Form Halt) → suffix (first a.ahead) ≡ Some (Step tree.PostIncrement) → TakesCurrent a Lone r b → behind ≡ emitted (instr.Increment increment.PostIncrement) (checked given (line_ahead a.ahead) before)
     → Continues (λ off e. postfix_with (inner room) off (Step tree.PostIncrement) e) (called_at a) given (called_at b) a before r b behind
 increment_took room a b before behind given r h k m = step_took room tree.PostIncrement a b before behind given r (step_called (first a.ahead) tree.PostIncrement h) k (λ line e. m ∙ ap (λ i. emitted (instr.Increment increment.PostIncrement) (checked given i before)) (sym e))
 
-pub decrement_took : (room : ℕ) (a b : Tokens) (before behind : Draft) (given : Form) (r : Result Form Halt) → suffix (first a.ahead) ≡ Some (Step tree.PostDecrement) → Takes a Lone r b → behind ≡ emitted (instr.Increment increment.PostDecrement) (checked given (line_of a.ahead) before)
+pub decrement_took : (room : ℕ) (a b : Tokens) (before behind : Draft) (given : Form) (r : Result Form Halt) → suffix (first a.ahead) ≡ Some (Step tree.PostDecrement) → TakesCurrent a Lone r b → behind ≡ emitted (instr.Increment increment.PostDecrement) (checked given (line_ahead a.ahead) before)
     → Continues (λ off e. postfix_with (inner room) off (Step tree.PostDecrement) e) (called_at a) given (called_at b) a before r b behind
 decrement_took room a b before behind given r h k m = step_took room tree.PostDecrement a b before behind given r (step_called (first a.ahead) tree.PostDecrement h) k (λ line e. m ∙ ap (λ i. emitted (instr.Increment increment.PostDecrement) (checked given i before)) (sym e))
 
@@ -282,24 +282,24 @@ pub operand_none : (room : ℕ) (a b : Tokens) (before behind : Draft) (r : Resu
 operand_none room a b before behind (Ok x) l h k = ((λ off. let t = k.0 off in record { tree = t.tree; runs = run_then (run_here l (λ u f n. rw (ap prefix_op f ∙ h) refl)) t.runs; made = t.made; form_is = t.form_is }), k.1)
 operand_none room a b before behind (Err why) l h k = λ off. halt_then why b (run_here l (λ u f n. rw (ap prefix_op f ∙ h) refl)) (k off)
 
-prefix_read : (room k off line : ℕ) (p : tree.PrefixOp) (u : List Placed) → room ≡ k + 1 → prefix_op (first u) ≡ Some p → line_of u ≡ line → operand (inner room) off u ≡ (operand (inner k) off (after u) >>= λ e. Got (Prefixed p line e))
+prefix_read : (room k off line : ℕ) (p : tree.PrefixOp) (u : List Placed) → room ≡ k + 1 → prefix_op (first u) ≡ Some p → line_ahead u ≡ line → operand (inner room) off u ≡ (operand (inner k) off (after u) >>= λ e. Got (Prefixed p line e))
 prefix_read room k off line p u h f n = ap (λ i. operand i off u) (at_room room k h) ∙ rw f (ap (λ i. operand (inner k) off (after u) >>= λ e. Got (Prefixed p i e)) n)
 
 module _ (room k : ℕ) (p : tree.PrefixOp) (a b : Tokens) (enters : (room ≡ k + 1) × Advances a b) (here : prefix_op (first a.ahead) ≡ Some p) where
-  prefix_runs : (off : ℕ) → Runs a b (operand (inner room) off) (λ v. operand (inner k) off v >>= λ e. Got (Prefixed p (line_of a.ahead) e))
-  prefix_runs off = run_past enters.1 (λ u f n. prefix_read room k off (line_of a.ahead) p u enters.0 (ap prefix_op f ∙ here) n)
+  prefix_runs : (off : ℕ) → Runs a b (operand (inner room) off) (λ v. operand (inner k) off v >>= λ e. Got (Prefixed p (line_ahead a.ahead) e))
+  prefix_runs off = run_past enters.1 (λ u f n. prefix_read room k off (line_ahead a.ahead) p u enters.0 (ap prefix_op f ∙ here) n)
 
   pub prefix_stops : (c : Tokens) (why : Halt) → ((off : ℕ) → Halts (operand (inner k) off) b why c) → (off : ℕ) → Halts (operand (inner room) off) a why c
-  prefix_stops c why h off = halt_behind (operand (inner k) off) (λ e. Got (Prefixed p (line_of a.ahead) e)) why c (prefix_runs off) (h off)
+  prefix_stops c why h off = halt_behind (operand (inner k) off) (λ e. Got (Prefixed p (line_ahead a.ahead) e)) why c (prefix_runs off) (h off)
 
-  pub prefix_took : (c : Tokens) (start mid draft behind : Draft) (given found : Form) (line : ℕ) → mid ≡ start → ((off : ℕ) → Took (operand (inner k) off) mid false b c draft given) × IsSingle c → line ≡ line_of a.ahead → behind ≡ prefixed p line given draft → ((e : Expr) (l : ℕ) (d : Draft) → found ≡ form (Prefixed p l e) d)
-      → ((off : ℕ) → Took (operand (inner room) off) start false a c behind found) × IsSingle c
+  pub prefix_took : (c : Tokens) (start mid draft behind : Draft) (given found : Form) (line : ℕ) → mid ≡ start → ((off : ℕ) → ExpressionTaken (operand (inner k) off) mid false b c draft given) × IsSingle c → line ≡ line_ahead a.ahead → behind ≡ prefixed p line given draft → ((e : Expr) (l : ℕ) (d : Draft) → found ≡ form (Prefixed p l e) d)
+      → ((off : ℕ) → ExpressionTaken (operand (inner room) off) start false a c behind found) × IsSingle c
   prefix_took c start mid draft behind given found line es t n m f = (
     (λ off. let x = t.0 off in record {
-      tree = Prefixed p (line_of a.ahead) x.tree;
-      runs = run_then (prefix_runs off) (run_bind (λ e. Got (Prefixed p (line_of a.ahead) e)) x.runs);
-      made = m ∙ ap (λ i. prefixed p i given draft) n ∙ ap (λ y. prefixed p (line_of a.ahead) y draft) x.form_is ∙ ap (λ d. prefixed p (line_of a.ahead) (form x.tree d) d) (x.made ∙ ap (held false x.tree) es);
-      form_is = f x.tree (line_of a.ahead) behind;
+      tree = Prefixed p (line_ahead a.ahead) x.tree;
+      runs = run_then (prefix_runs off) (run_bind (λ e. Got (Prefixed p (line_ahead a.ahead) e)) x.runs);
+      made = m ∙ ap (λ i. prefixed p i given draft) n ∙ ap (λ y. prefixed p (line_ahead a.ahead) y draft) x.form_is ∙ ap (λ d. prefixed p (line_ahead a.ahead) (form x.tree d) d) (x.made ∙ ap (held false x.tree) es);
+      form_is = f x.tree (line_ahead a.ahead) behind;
     }),
     t.1,
   )
@@ -323,14 +323,14 @@ tighter_rank p n h = omega (arith, h, rank_positive p)
 pub chain_first_stops : (room rank : ℕ) (a c : Tokens) (why : Halt) → ((off : ℕ) → Halts (operand (inner room) off) a why c) → (off : ℕ) → Halts (chain (inner room) rank off) a why c
 chain_first_stops room rank a c why k off = halt_as a why c (chain_climbs room rank off) (halt_bind a (operand (inner room) off) (climb room rank off) why c (k off))
 
-pub chain_begins : (room rank : ℕ) (a b : Tokens) (start draft : Draft) (found : Form) → ((off : ℕ) → Took (operand (inner room) off) start false a b draft found) × IsSingle b → InChain room rank a start b draft found
+pub chain_begins : (room rank : ℕ) (a b : Tokens) (start draft : Draft) (found : Form) → ((off : ℕ) → ExpressionTaken (operand (inner room) off) start false a b draft found) × IsSingle b → InChain room rank a start b draft found
 chain_begins room rank a b start draft found t = record {
   so_far = λ off. let x = t.0 off in record { tree = x.tree; runs = run_as (chain_climbs room rank off) (run_bind (climb room rank off) x.runs); made = x.made; form_is = x.form_is };
   single = t.1;
 }
 
 module _ (room loosest : ℕ) (a m : Tokens) (start draft : Draft) (found : Form) (s : InChain room loosest a start m draft found) where
-  pub chain_ends : op_within loosest (first m.ahead) ≡ None → ((off : ℕ) → Took (chain (inner room) loosest off) start false a m draft found) × IsSingle m
+  pub chain_ends : op_within loosest (first m.ahead) ≡ None → ((off : ℕ) → ExpressionTaken (chain (inner room) loosest off) start false a m draft found) × IsSingle m
   chain_ends none = (
     (λ off. let t = s.so_far off in record {
       tree = t.tree;
@@ -342,34 +342,34 @@ module _ (room loosest : ℕ) (a m : Tokens) (start draft : Draft) (found : Form
   )
 
   module _ (p : BinOp) (is : op_within loosest (first m.ahead) ≡ Some p) (j : ℕ) (tighter : rank p ≡ suc j) (b : Tokens) (ad : Advances m b) where
-    operator_read : (off : ℕ) (e : Expr) (u : List Placed) → first u ≡ first m.ahead → line_of u ≡ line_of m.ahead → climb room loosest off e u ≡ (chain (inner room) j (off + words e) (after u) >>= λ f. climb room loosest off (Binary p (line_of m.ahead) e f))
+    operator_read : (off : ℕ) (e : Expr) (u : List Placed) → first u ≡ first m.ahead → line_ahead u ≡ line_ahead m.ahead → climb room loosest off e u ≡ (chain (inner room) j (off + words e) (after u) >>= λ f. climb room loosest off (Binary p (line_ahead m.ahead) e f))
     operator_read off e u f n =
         let w = within_some loosest (first m.ahead) p is in
         climb_some room loosest j off p e u (f ∙ w.0) tighter (omega (arith, w.1, tighter))
         ∙ ap (λ i. chain (inner room) j (off + words e) (after u) >>= λ f. climb room loosest off (Binary p i e f)) n
 
-    operator_runs : (off : ℕ) → Runs a b (chain (inner room) loosest off) (λ v. chain (inner room) j (off + words (s.so_far off).tree) v >>= λ f. climb room loosest off (Binary p (line_of m.ahead) (s.so_far off).tree f))
+    operator_runs : (off : ℕ) → Runs a b (chain (inner room) loosest off) (λ v. chain (inner room) j (off + words (s.so_far off).tree) v >>= λ f. climb room loosest off (Binary p (line_ahead m.ahead) (s.so_far off).tree f))
     operator_runs off = run_then (s.so_far off).runs (run_past ad (λ u f n. operator_read off (s.so_far off).tree u f n))
 
     pub right_stops : (c : Tokens) (why : Halt) → ((off : ℕ) → Halts (chain (inner room) j off) b why c) → (off : ℕ) → Halts (chain (inner room) loosest off) a why c
-    right_stops c why k off = halt_behind (chain (inner room) j (off + words (s.so_far off).tree)) (λ f. climb room loosest off (Binary p (line_of m.ahead) (s.so_far off).tree f)) why c (operator_runs off) (k (off + words (s.so_far off).tree))
+    right_stops c why k off = halt_behind (chain (inner room) j (off + words (s.so_far off).tree)) (λ f. climb room loosest off (Binary p (line_ahead m.ahead) (s.so_far off).tree f)) why c (operator_runs off) (k (off + words (s.so_far off).tree))
 
-    pub chain_goes : (c : Tokens) (mid last loads_ behind : Draft) (given : Form) → mid ≡ loads found draft → ((off : ℕ) → Took (chain (inner room) j off) mid false b c last given) × IsSingle c → loads_ ≡ loads given last → behind ≡ emitted (instr.Binary p) loads_ → InChain room loosest a start c behind Joined
+    pub chain_goes : (c : Tokens) (mid last loads_ behind : Draft) (given : Form) → mid ≡ loads found draft → ((off : ℕ) → ExpressionTaken (chain (inner room) j off) mid false b c last given) × IsSingle c → loads_ ≡ loads given last → behind ≡ emitted (instr.Binary p) loads_ → InChain room loosest a start c behind Joined
     chain_goes c mid last loads_ behind given l k l2 m2 = record {
       so_far = λ off. let x = s.so_far off in let t = k.0 (off + words x.tree) in record {
-        tree = Binary p (line_of m.ahead) x.tree t.tree;
-        runs = run_then (operator_runs off) (run_bind (λ f. climb room loosest off (Binary p (line_of m.ahead) x.tree f)) t.runs);
+        tree = Binary p (line_ahead m.ahead) x.tree t.tree;
+        runs = run_then (operator_runs off) (run_bind (λ f. climb room loosest off (Binary p (line_ahead m.ahead) x.tree f)) t.runs);
         made = m2 ∙ ap (emitted (instr.Binary p)) (word_is last loads_ mid given false t.tree l2 t.made t.form_is ∙ ap (evaluated t.tree) (word_is draft mid start found false x.tree l x.made x.form_is));
         form_is = refl;
       };
       single = k.1;
     }
 
-pub operator_stops : (room rank : ℕ) (a m b : Tokens) (start draft : Draft) (found : Form) (why : Halt) → InChain room rank a start m draft found → Breaks m b → why ≡ halt.Device → (off : ℕ) → Halts (chain (inner room) rank off) a why b
+pub operator_stops : (room rank : ℕ) (a m b : Tokens) (start draft : Draft) (found : Form) (why : Halt) → InChain room rank a start m draft found → TokensFail m b → why ≡ halt.Device → (off : ℕ) → Halts (chain (inner room) rank off) a why b
 operator_stops room rank a m b start draft found why s br e off = halt_device (chain (inner room) rank off) why e (Moves-breaks (s.so_far off).runs br)
 
 -- the word of an expression
-pub evaluate_took : (room : ℕ) (a b : Tokens) (start draft behind : Draft) (found : Form) → ((off : ℕ) → Took (reader room Rvalue off) start false a b draft found) × IsSingle b → behind ≡ loads found draft → ((off : ℕ) → TookWord (reader room Rvalue off) start a b behind) × IsSingle b
+pub evaluate_took : (room : ℕ) (a b : Tokens) (start draft behind : Draft) (found : Form) → ((off : ℕ) → ExpressionTaken (reader room Rvalue off) start false a b draft found) × IsSingle b → behind ≡ loads found draft → ((off : ℕ) → TookWord (reader room Rvalue off) start a b behind) × IsSingle b
 evaluate_took room a b start draft behind found t l = ((λ off. let x = t.0 off in record { tree = x.tree; runs = x.runs; made = word_is draft behind start found false x.tree l x.made x.form_is }), t.1)
 
 -- arguments
@@ -421,7 +421,7 @@ no_comma_is token.Comma h = cc
 no_comma_is _ h = refl
 
 module _ (k : ℕ) (a m : Tokens) (start draft : Draft) (count : ℕ) (s : InArguments k a start m draft count) where
-  pub comma_stops : (b : Tokens) (why : Halt) → Breaks m b → why ≡ halt.Device → (off : ℕ) (e : Expr) → Halts (call (inner (k + 1)) off e) a why b
+  pub comma_stops : (b : Tokens) (why : Halt) → TokensFail m b → why ≡ halt.Device → (off : ℕ) (e : Expr) → Halts (call (inner (k + 1)) off e) a why b
   comma_stops b why br w off e = halt_device (call (inner (k + 1)) off e) why w (Moves-breaks (s.so_far off e).runs br)
 
   module _ (b : Tokens) (is : is_comma (first m.ahead) ≡ true) (ad : Advances m b) where
@@ -467,7 +467,7 @@ module _ (k : ℕ) (a m : Tokens) (start draft : Draft) (count : ℕ) (s : InArg
 choice_read : (room k off : ℕ) (e : Expr) (u : List Placed) → room ≡ k + 1 → is_question (first u) ≡ true → conditional (inner room) off e u ≡ (reader k Rvalue (off + words e) (after u) >>= λ f r. expect is_colon r >>= λ o r. reader k Choice (off + words e + words f) r >>= λ g. Got (Conditional e f g))
 choice_read room k off e u h q = ap (λ i. conditional i off e u) (at_room room k h) ∙ rw q refl
 
-pub conditional_none : (room : ℕ) (a : Tokens) (before : Draft) (given : Form) → IsSingle a → is_question (first a.ahead) ≡ false → ((off : ℕ) (e : Expr) (start : Draft) → before ≡ held false e start → given ≡ form e before → Took (conditional (inner room) off e) start false a a before given) × IsSingle a
+pub conditional_none : (room : ℕ) (a : Tokens) (before : Draft) (given : Form) → IsSingle a → is_question (first a.ahead) ≡ false → ((off : ℕ) (e : Expr) (start : Draft) → before ≡ held false e start → given ≡ form e before → ExpressionTaken (conditional (inner room) off e) start false a a before given) × IsSingle a
 conditional_none room a before given l q = ((λ off e start h f. record { tree = e; runs = run_here l.0 (λ u g n. rw (ap is_question g ∙ q) refl); made = h; form_is = f }), l)
 
 module _ (room k : ℕ) (a b : Tokens) (enters : (room ≡ k + 1) × Advances a b) (q : is_question (first a.ahead) ≡ true) where
@@ -492,7 +492,7 @@ module _ (room k : ℕ) (a b : Tokens) (enters : (room ≡ k + 1) × Advances a 
       chain_stops m why h off e = let i = off + words e + words (t (off + words e)).tree in
           halt_behind (λ v. chain (inner k) or_rank i v >>= conditional (inner k) i) (λ g. Got (Conditional e (t (off + words e)).tree g)) why m (colon_runs off e) (halt_bind d (chain (inner k) or_rank i) (conditional (inner k) i) why m (h i))
 
-      module _ (m : Tokens) (start2 draft2 : Draft) (form2 : Form) (y : (off : ℕ) → Took (chain (inner k) or_rank off) start2 false d m draft2 form2) where
+      module _ (m : Tokens) (start2 draft2 : Draft) (form2 : Form) (y : (off : ℕ) → ExpressionTaken (chain (inner k) or_rank off) start2 false d m draft2 form2) where
         rest_runs : (off : ℕ) (e : Expr) → Runs a m (conditional (inner room) off e) (λ v. conditional (inner k) (off + words e + words (t (off + words e)).tree) (y (off + words e + words (t (off + words e)).tree)).tree v >>= λ g. Got (Conditional e (t (off + words e)).tree g))
         rest_runs off e = let i = off + words e + words (t (off + words e)).tree in
             run_then (colon_runs off e) (run_bind (λ g. Got (Conditional e (t (off + words e)).tree g)) (run_bind (conditional (inner k) i) (y i).runs))
@@ -502,10 +502,10 @@ module _ (room k : ℕ) (a b : Tokens) (enters : (room ≡ k + 1) × Advances a 
             halt_behind (conditional (inner k) i (y i).tree) (λ g. Got (Conditional e (t (off + words e)).tree g)) why n (rest_runs off e) (h i (y i).tree)
 
         pub conditional_took : (n : Tokens) (before loads_ jumps colon jump draft3 loads3 behind : Draft) (given form3 : Form) (test end second last : ℕ)
-            → ((off : ℕ) (e : Expr) (start : Draft) → draft2 ≡ held false e start → form2 ≡ form e draft2 → Took (conditional (inner k) off e) start false m n draft3 form3) × IsSingle n
+            → ((off : ℕ) (e : Expr) (start : Draft) → draft2 ≡ held false e start → form2 ≡ form e draft2 → ExpressionTaken (conditional (inner k) off e) start false m n draft3 form3) × IsSingle n
             → loads_ ≡ loads given before → jumps ≡ loads_ → test ≡ place_of jumps → start1 ≡ emitted (instr.JumpIfZero 0) jumps → colon ≡ draft1 → end ≡ place_of colon → jump ≡ emitted (instr.Jump 0) colon → second ≡ place_of jump
             → start2 ≡ filled test (instr.JumpIfZero second) jump → loads3 ≡ loads form3 draft3 → last ≡ place_of loads3 → behind ≡ filled end (instr.Jump last) loads3
-            → ((off : ℕ) (e : Expr) (start : Draft) → before ≡ held false e start → given ≡ form e before → Took (conditional (inner room) off e) start false a n behind Joined) × IsSingle n
+            → ((off : ℕ) (e : Expr) (start : Draft) → before ≡ held false e start → given ≡ form e before → ExpressionTaken (conditional (inner room) off e) start false a n behind Joined) × IsSingle n
         conditional_took n before loads_ jumps colon jump draft3 loads3 behind given form3 test end second last z l1 ej e1 e2 e3 e4 e5 e6 e7 l2 e8 e9 = (
           (λ off e start h f.
               let i = off + words e + words (t (off + words e)).tree in
@@ -531,7 +531,7 @@ stands Place = true
 stands Lone = true
 stands Joined = false
 
-name_stands : (k : Option Kind) → stands (drafts.form_at k) ≡ true
+name_stands : (k : Option NameKind) → stands (drafts.form_at k) ≡ true
 name_stands None = refl
 name_stands (Some (Automatic w)) = refl
 name_stands (Some External) = refl
@@ -544,7 +544,7 @@ group_stands Lone = refl
 group_stands Joined = refl
 
 operand_stands : (e : Expr) (d : Draft) → is_operand e ≡ stands (form e d)
-operand_stands (Named w) d = sym (name_stands (kind_of w.text (drafts.names_of d)))
+operand_stands (Named w) d = sym (name_stands (kind_of w.text (drafts.draft_names d)))
 operand_stands (Literal c) d = refl
 operand_stands (Text bytes offset) d = refl
 operand_stands (Grouped e) d = sym (group_stands (form e d))
@@ -575,7 +575,7 @@ assigns_form e d found t h = assigns_at e found t (operand_stands e d ∙ ap sta
 pub rvalue_stops : (room : ℕ) (a c : Tokens) (why : Halt) → ((off : ℕ) → Halts (chain (inner room) or_rank off) a why c) → (off : ℕ) → Halts (reader room Rvalue off) a why c
 rvalue_stops room a c why h off = halt_bind a (chain (inner room) or_rank off) (rvalue_from (inner room) off) why c (h off)
 
-module _ (room : ℕ) (a b : Tokens) (start draft : Draft) (found : Form) (t : ((off : ℕ) → Took (chain (inner room) or_rank off) start false a b draft found) × IsSingle b) where
+module _ (room : ℕ) (a b : Tokens) (start draft : Draft) (found : Form) (t : ((off : ℕ) → ExpressionTaken (chain (inner room) or_rank off) start false a b draft found) × IsSingle b) where
   chained : (off : ℕ) → Runs a b (reader room Rvalue off) (rvalue_from (inner room) off (t.0 off).tree)
   chained off = run_bind (rvalue_from (inner room) off) (t.0 off).runs
 
@@ -588,27 +588,27 @@ module _ (room : ℕ) (a b : Tokens) (start draft : Draft) (found : Form) (t : (
     rvalue_goes c behind (Err why) k = λ off. halt_then why c (condition off) (k off (t.0 off).tree)
 
   module _ (p : Option BinOp) (is : assigned_at found (first b.ahead) ≡ Some p) where
-    assign_runs : (off : ℕ) → Runs a b (reader room Rvalue off) (λ v. (inner room).enter v >>= λ o r. (inner room).read Rvalue (off + words (t.0 off).tree) r >>= λ f. Got (Assigned p (line_of b.ahead) (t.0 off).tree f))
+    assign_runs : (off : ℕ) → Runs a b (reader room Rvalue off) (λ v. (inner room).enter v >>= λ o r. (inner room).read Rvalue (off + words (t.0 off).tree) r >>= λ f. Got (Assigned p (line_ahead b.ahead) (t.0 off).tree f))
     assign_runs off = run_then (chained off) (run_here t.1.0 (λ u f n.
         rw (ap (assigns (t.0 off).tree) f ∙ assigns_form (t.0 off).tree draft found (first b.ahead) (t.0 off).form_is ∙ is)
         (ap (λ i. (inner room).enter u >>= λ o r. (inner room).read Rvalue (off + words (t.0 off).tree) r >>= λ f. Got (Assigned p i (t.0 off).tree f)) n)))
 
     pub assign_full : (c : Tokens) (why : Halt) → Halts (inner room).enter b why c → (off : ℕ) → Halts (reader room Rvalue off) a why c
-    assign_full c why h off = halt_behind (inner room).enter (λ o r. (inner room).read Rvalue (off + words (t.0 off).tree) r >>= λ f. Got (Assigned p (line_of b.ahead) (t.0 off).tree f)) why c (assign_runs off) h
+    assign_full c why h off = halt_behind (inner room).enter (λ o r. (inner room).read Rvalue (off + words (t.0 off).tree) r >>= λ f. Got (Assigned p (line_ahead b.ahead) (t.0 off).tree f)) why c (assign_runs off) h
 
     module _ (k : ℕ) (c : Tokens) (enters : (room ≡ k + 1) × Advances b c) where
-      value_runs : (off : ℕ) → Runs a c (reader room Rvalue off) (λ v. reader k Rvalue (off + words (t.0 off).tree) v >>= λ f. Got (Assigned p (line_of b.ahead) (t.0 off).tree f))
-      value_runs off = run_then (assign_runs off) (run_past enters.1 (λ u f n. ap (λ i. i.enter u >>= λ o r. i.read Rvalue (off + words (t.0 off).tree) r >>= λ f. Got (Assigned p (line_of b.ahead) (t.0 off).tree f)) (at_room room k enters.0)))
+      value_runs : (off : ℕ) → Runs a c (reader room Rvalue off) (λ v. reader k Rvalue (off + words (t.0 off).tree) v >>= λ f. Got (Assigned p (line_ahead b.ahead) (t.0 off).tree f))
+      value_runs off = run_then (assign_runs off) (run_past enters.1 (λ u f n. ap (λ i. i.enter u >>= λ o r. i.read Rvalue (off + words (t.0 off).tree) r >>= λ f. Got (Assigned p (line_ahead b.ahead) (t.0 off).tree f)) (at_room room k enters.0)))
 
       pub assign_stops : (d : Tokens) (why : Halt) → ((off : ℕ) → Halts (reader k Rvalue off) c why d) → (off : ℕ) → Halts (reader room Rvalue off) a why d
-      assign_stops d why h off = halt_behind (reader k Rvalue (off + words (t.0 off).tree)) (λ f. Got (Assigned p (line_of b.ahead) (t.0 off).tree f)) why d (value_runs off) (h (off + words (t.0 off).tree))
+      assign_stops d why h off = halt_behind (reader k Rvalue (off + words (t.0 off).tree)) (λ f. Got (Assigned p (line_ahead b.ahead) (t.0 off).tree f)) why d (value_runs off) (h (off + words (t.0 off).tree))
 
-      pub assign_took : (d : Tokens) (wants mid last behind : Draft) (line : ℕ) → line ≡ line_of b.ahead → wants ≡ checked found line draft → mid ≡ wants → ((off : ℕ) → TookWord (reader k Rvalue off) mid c d last) × IsSingle d → behind ≡ emitted (assignment p) last → ((off : ℕ) → Took (reader room Rvalue off) start false a d behind Joined) × IsSingle d
+      pub assign_took : (d : Tokens) (wants mid last behind : Draft) (line : ℕ) → line ≡ line_ahead b.ahead → wants ≡ checked found line draft → mid ≡ wants → ((off : ℕ) → TookWord (reader k Rvalue off) mid c d last) × IsSingle d → behind ≡ emitted (assignment p) last → ((off : ℕ) → ExpressionTaken (reader room Rvalue off) start false a d behind Joined) × IsSingle d
       assign_took d wants mid last behind line n m em v eo = (
         (λ off. let x = t.0 off in let w = v.0 (off + words x.tree) in record {
-          tree = Assigned p (line_of b.ahead) x.tree w.tree;
-          runs = run_then (value_runs off) (run_bind (λ f. Got (Assigned p (line_of b.ahead) x.tree f)) w.runs);
-          made = eo ∙ ap (emitted (assignment p)) (w.made ∙ ap (evaluated w.tree) (em ∙ m ∙ ap (λ i. checked found i draft) n ∙ ap (λ y. checked y (line_of b.ahead) draft) x.form_is ∙ ap (λ y. checked (form x.tree y) (line_of b.ahead) y) x.made));
+          tree = Assigned p (line_ahead b.ahead) x.tree w.tree;
+          runs = run_then (value_runs off) (run_bind (λ f. Got (Assigned p (line_ahead b.ahead) x.tree f)) w.runs);
+          made = eo ∙ ap (emitted (assignment p)) (w.made ∙ ap (evaluated w.tree) (em ∙ m ∙ ap (λ i. checked found i draft) n ∙ ap (λ y. checked y (line_ahead b.ahead) draft) x.form_is ∙ ap (λ y. checked (form x.tree y) (line_ahead b.ahead) y) x.made));
           form_is = refl;
         }),
         v.1,

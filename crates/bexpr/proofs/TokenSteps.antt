@@ -19,20 +19,20 @@ use Rattle.blang.specs.declared.token.Token.{Token}
 use Rattle.blang.specs.declared.token.Placed.{Placed}
 use Rattle.blex.proofs.Passing.{Took-none, Took-append, Grew-after}
 use Rattle.btree.specs.Reading.{first, after}
-use Rattle.bexpr.specs.Tokens.{Tokens, both, is_string, token_seen, tokens_of, tokens_with, IsReady, IsReadyWith, IsLoaded, weight, work, Reads, last_ahead, EndsWith, LooksAt, Moves, Breaks, Same, Keeps, Looks, Behind, Advances, LooksOn}
+use Rattle.bexpr.specs.Tokens.{Tokens, both, is_string, token_seen, tokens_of, tokens_with, IsReady, IsReadyWith, IsLoaded, weight, work, TakesAhead, last_ahead, EndsWith, LooksAt, Moves, TokensFail, Same, KeepsAhead, Looks, AreBehind, Advances, LooksOn}
 use Rattle.bword.specs.ByteEnds.{CanFollow}
 
 nil_both : (xs ys : List ℕ) → xs ≡ [] → ys ≡ [] → xs ++ ys ≡ []
 nil_both xs ys h k = rw (h, k) refl
 
 -- what can follow behind can follow before
-pub CanFollow-append : {a b c : Source} {xs ys : List ℕ} → Reads a xs b → Reads b ys c → (more : List ℕ) → CanFollow c.end more → CanFollow b.end (ys ++ more)
+pub CanFollow-append : {a b c : Source} {xs ys : List ℕ} → TakesAhead a xs b → TakesAhead b ys c → (more : List ℕ) → CanFollow c.end more → CanFollow b.end (ys ++ more)
 CanFollow-append {a} {b} {c} {xs} {ys} h k more f = λ over. let o = k.took.over over in nil_both ys more o.0 (f o.1)
 
-pub Reads-none : (s : Source) → length s.ahead ≤ 2 → Reads s [] s
+pub Reads-none : (s : Source) → length s.ahead ≤ 2 → TakesAhead s [] s
 Reads-none s n = record { took = Took-none s.end; lender = refl; near = n }
 
-pub Reads-append : {a b c : Source} {xs ys : List ℕ} → Reads a xs b → Reads b ys c → Reads a (xs ++ ys) c
+pub Reads-append : {a b c : Source} {xs ys : List ℕ} → TakesAhead a xs b → TakesAhead b ys c → TakesAhead a (xs ++ ys) c
 Reads-append h k = record { took = Took-append h.took k.took; lender = k.lender ∙ h.lender; near = k.near }
 
 pub EndsWith-append : {t : Token} (xs : List ℕ) {ys : List ℕ} → EndsWith t ys → EndsWith t (xs ++ ys)
@@ -75,7 +75,7 @@ Moves-append {a} {b} {c} {P} {Q} R both_are h k = record {
 pub Moves-as : {a b : Tokens} {P : List Placed → List Placed → Type 0} (R : List Placed → List Placed → Type 0) → ((u v : List Placed) → P u v → R u v) → Moves a b P → Moves a b R
 Moves-as R f h = record { taken = h.taken; reads = h.reads; looked = h.looked; failures = h.failures; falls = h.falls; come = λ more c. f _ _ (h.come more c) }
 
-pub Moves-breaks : {a b c : Tokens} {P : List Placed → List Placed → Type 0} → Moves a b P → Breaks b c → Breaks a c
+pub Moves-breaks : {a b c : Tokens} {P : List Placed → List Placed → Type 0} → Moves a b P → TokensFail b c → TokensFail a c
 Moves-breaks h k = record { taken = h.taken ++ k.taken; reads = Reads-append h.reads k.reads; counted = Grew-after _ _ _ h.failures k.counted }
 
 none_of : (o : Option Last) → is_some o ≡ false → o ≡ None
@@ -110,7 +110,7 @@ module _ (old new : Lexer) (at : Placed) (gives : LexGives old (Ok at) new) (nea
       ∙ passes.cut (new.source.ahead ++ more) (record { more = more; split = refl; over = f })
       ∙ ap (λ e. token_first at.token at.line (tokens_from e new.source.line (new.source.ahead ++ more))) (sym passes.passes.edition)
 
-  reads : Reads old.source passes.passes.taken new.source
+  reads : TakesAhead old.source passes.passes.taken new.source
   reads = record { took = passes.passes.took; lender = passes.passes.lender; near = near }
 
   less_or_same : room new.source ≤ room old.source
@@ -159,11 +159,11 @@ module _ (old new : Lexer) (at : Placed) (gives : LexGives old (Ok at) new) (nea
     second_is = refl;
   }
 
-broken_at : (s : LexStop) (old new : Lexer) → OpenGives old.source (Err s) new.source new.progress → S.Breaks old.source new.source
+broken_at : (s : LexStop) (old new : Lexer) → OpenGives old.source (Err s) new.source new.progress → S.SourceFails old.source new.source
 broken_at stop.Device old new h = h.0
 broken_at stop.Closed old new h = absurd h
 
-pub lex_breaks : (s : LexStop) (old new : Lexer) (ps qs : List Placed) → LexGives old (Err s) new → old.progress ≡ progress.Open → length new.source.ahead ≤ 2 → Breaks (tokens_at old ps) (tokens_at new qs)
+pub lex_breaks : (s : LexStop) (old new : Lexer) (ps qs : List Placed) → LexGives old (Err s) new → old.progress ≡ progress.Open → length new.source.ahead ≤ 2 → TokensFail (tokens_at old ps) (tokens_at new qs)
 lex_breaks s old new ps qs gives opened near =
     let broken = broken_at s old new (subst (λ p. GivesAt p old (Err s) new) opened gives) in
     record { taken = broken.taken; reads = record { took = broken.took; lender = broken.lender; near = near }; counted = broken.counted }
@@ -194,9 +194,9 @@ ahead_none current behind e = ap (λ o. both o behind) e
 
 -- where the view of a lexer and what is ahead is these tokens
 module _ (old : Tokens) (lexer : Lexer) (current behind : Option Placed) (view : tokens_at lexer (both current behind) ≡ old) (near : length lexer.source.ahead ≤ 2) where
-  pub look_breaks : IsReady old → (s : LexStop) (new : Lexer) (ps : List Placed) → LexGives lexer (Err s) new → length new.source.ahead ≤ 2 → is_some current ≡ false → Breaks old (tokens_at new ps)
+  pub look_breaks : IsReady old → (s : LexStop) (new : Lexer) (ps : List Placed) → LexGives lexer (Err s) new → length new.source.ahead ≤ 2 → is_some current ≡ false → TokensFail old (tokens_at new ps)
   look_breaks ready s new ps gives near2 none =
-      subst (λ o. Breaks o (tokens_at new ps)) view
+      subst (λ o. TokensFail o (tokens_at new ps)) view
       (lex_breaks s lexer new (both current behind) ps gives (subst (λ o. IsReadyWith (both o behind) lexer.progress) (none_is current none) (subst IsReady (sym view) ready)) near2)
 
   pub looked : IsReady old → (new : Lexer) (at : Placed) → LexGives lexer (Ok at) new → length new.source.ahead ≤ 2 → (is_last at.token ≡ false → room new.source < room lexer.source) → is_some current ≡ false → (next : Option Placed) → next ≡ None → Looks old (tokens_at new (both (Some at) next))
@@ -205,7 +205,7 @@ module _ (old : Tokens) (lexer : Lexer) (current behind : Option Placed) (view :
       (subst (λ b. Looks (tokens_at lexer []) (tokens_at new (both (Some at) b))) (sym no_behind)
       (looks_next lexer new at gives near2 less (subst (λ o. IsReadyWith (both o behind) lexer.progress) (none_is current none) (subst IsReady (sym view) ready))))
 
-  keeps_all : (ps : List Placed) → Keeps ps ps
+  keeps_all : (ps : List Placed) → KeepsAhead ps ps
   keeps_all [] = tt
   keeps_all (p ∷ ps) = (refl, refl)
 
@@ -236,10 +236,10 @@ module _ (old : Tokens) (lexer : Lexer) (current behind : Option Placed) (view :
   pub stays_plain : is_string (first old.ahead) ≡ false → is_string (first (both current behind)) ≡ false
   stays_plain h = ap (λ t. is_string (first t.ahead)) view ∙ h
 
-  pub look_on_breaks : IsLoaded old → is_last (first old.ahead) ≡ false → (s : LexStop) (new : Lexer) (ps : List Placed) → LexGives lexer (Err s) new → length new.source.ahead ≤ 2 → is_some behind ≡ false → Breaks old (tokens_at new ps)
+  pub look_on_breaks : IsLoaded old → is_last (first old.ahead) ≡ false → (s : LexStop) (new : Lexer) (ps : List Placed) → LexGives lexer (Err s) new → length new.source.ahead ≤ 2 → is_some behind ≡ false → TokensFail old (tokens_at new ps)
   look_on_breaks l h s new ps gives near2 none =
       let f = at_front current behind (here l) (goes h) (none_is behind none) in
-      subst (λ o. Breaks o (tokens_at new ps)) view (lex_breaks s lexer new (both current behind) ps gives f.2 near2)
+      subst (λ o. TokensFail o (tokens_at new ps)) view (lex_breaks s lexer new (both current behind) ps gives f.2 near2)
 
   on_from : (new : Lexer) (at : Placed) → LexGives lexer (Ok at) new → length new.source.ahead ≤ 2 → (is_last at.token ≡ false → room new.source < room lexer.source) → (p : Placed) → lexer.progress ≡ progress.Open → (o b : Option Placed) → o ≡ Some p → b ≡ None → LooksOn (tokens_at lexer (both o b)) (tokens_at new (both o (Some at)))
   on_from new at gives near2 less p opened o b e k = rw (e, k) (looks_on lexer new at gives near2 less opened p)
@@ -271,7 +271,7 @@ module _ (old : Tokens) (lexer : Lexer) (current behind : Option Placed) (view :
   last_stays p q [] e = cc
   last_stays p q (r ∷ rs) e = e
 
-  stepped : (p : Placed) (ps : List Placed) → is_last p.token ≡ false → Moves (tokens_at lexer (p ∷ ps)) (tokens_at lexer ps) (Behind (p ∷ ps))
+  stepped : (p : Placed) (ps : List Placed) → is_last p.token ≡ false → Moves (tokens_at lexer (p ∷ ps)) (tokens_at lexer ps) (AreBehind (p ∷ ps))
   stepped p ps h = record {
     taken = [];
     reads = Reads-none lexer.source near;
@@ -284,12 +284,12 @@ module _ (old : Tokens) (lexer : Lexer) (current behind : Option Placed) (view :
   lighter_by : (p : Placed) (ps : List Placed) → is_last p.token ≡ false → work (tokens_at lexer ps) + 1 ≤ work (tokens_at lexer (p ∷ ps))
   lighter_by p ps h = let w : weight p.token ≡ 1 = ap (λ b. if b then 0 else 1) h in omega (arith, w)
 
-  behind_same : (ps u v w : List Placed) → Behind ps u v → v ≡ w → Behind ps u w
+  behind_same : (ps u v w : List Placed) → AreBehind ps u v → v ≡ w → AreBehind ps u w
   behind_same ps u v w h e = record { rest = sym e ∙ h.rest; token = h.token; line = h.line }
 
   advanced_at : (p : Placed) (ps : List Placed) (new : Tokens) → is_last p.token ≡ false → after ps ≡ [] → Looks (tokens_at lexer ps) new → Advances (tokens_at lexer (p ∷ ps)) new
   advanced_at p ps new h alone l = record {
-    moves = Moves-append (Behind (p ∷ ps)) (behind_same (p ∷ ps)) (stepped p ps h) l.moves;
+    moves = Moves-append (AreBehind (p ∷ ps)) (behind_same (p ∷ ps)) (stepped p ps h) l.moves;
     single = (l.loaded, l.alone ∙ alone);
     keeps = l.keeps;
     falls = let a = lighter_by p ps h in let b = l.moves.falls in omega arith;
@@ -304,12 +304,12 @@ module _ (old : Tokens) (lexer : Lexer) (current behind : Option Placed) (view :
   advanced l h o b new e k looks =
       subst (λ t. Advances t new) view (advanced_from current behind new (here l) (goes h) (subst (λ x. Looks (tokens_at lexer (both x None)) new) e (subst (λ x. Looks (tokens_at lexer (both o x)) new) k looks)))
 
-  breaks_from : (o b : Option Placed) (new : Tokens) → IsLoaded (tokens_at lexer (both o b)) → is_last (first (both o b)) ≡ false → Breaks (tokens_at lexer (both b None)) new → Breaks (tokens_at lexer (both o b)) new
+  breaks_from : (o b : Option Placed) (new : Tokens) → IsLoaded (tokens_at lexer (both o b)) → is_last (first (both o b)) ≡ false → TokensFail (tokens_at lexer (both b None)) new → TokensFail (tokens_at lexer (both o b)) new
   breaks_from o b new l h k = record { taken = k.taken; reads = k.reads; counted = k.counted }
 
-  pub advance_breaks : IsLoaded old → is_last (first old.ahead) ≡ false → (o b : Option Placed) (new : Tokens) → o ≡ behind → b ≡ None → Breaks (tokens_at lexer (both o b)) new → Breaks old new
+  pub advance_breaks : IsLoaded old → is_last (first old.ahead) ≡ false → (o b : Option Placed) (new : Tokens) → o ≡ behind → b ≡ None → TokensFail (tokens_at lexer (both o b)) new → TokensFail old new
   advance_breaks l h o b new e k breaks =
-      subst (λ t. Breaks t new) view (breaks_from current behind new (here l) (goes h) (subst (λ x. Breaks (tokens_at lexer (both x None)) new) e (subst (λ x. Breaks (tokens_at lexer (both o x)) new) k breaks)))
+      subst (λ t. TokensFail t new) view (breaks_from current behind new (here l) (goes h) (subst (λ x. TokensFail (tokens_at lexer (both x None)) new) e (subst (λ x. TokensFail (tokens_at lexer (both o x)) new) k breaks)))
 
   pub advanced_ok : {T E : Type 0} → IsLoaded old → is_last (first old.ahead) ≡ false → (o b : Option Placed) (new : Tokens) → o ≡ behind → b ≡ None → (r : Result T E) → OnOk r (Looks (tokens_at lexer (both o b)) new) → OnOk r (Advances old new)
   advanced_ok l h o b new e k (Ok x) looks = advanced l h o b new e k looks

@@ -15,7 +15,7 @@ use Rattle.bemit.specs.Drafts.{Draft}
 use Rattle.bemit.specs.Effects.{form, held, passed, evaluated, most_arguments}
 use Rattle.bemit.specs.declared.form.Form.{Form}
 use Rattle.bemit.specs.declared.form.Form.TheVariants.{Place, Lone, Joined}
-use Rattle.bexpr.specs.Tokens.{Tokens, IsLoaded, IsSingle, Runs, Breaks, Advances, work}
+use Rattle.bexpr.specs.Tokens.{Tokens, IsLoaded, IsSingle, Runs, TokensFail, Advances, work}
 use Rattle.bexpr.specs.declared.halt.Halt.{Halt}
 use Rattle.bexpr.specs.declared.halt.Halt.TheVariants as halt
 use Rattle.bexpr.specs.declared.operators.Prefix.{Prefix}
@@ -26,14 +26,14 @@ use Rattle.bexpr.specs.declared.operators.Suffix.TheVariants as suffixes
 -- Reading stops at the current token, or a read failed.
 abbrev pub Halts : {A : Type 0} → Reader A → Tokens → Halt → Tokens → Type 0
 Halts reader old halt.Fault new = Runs old new reader (λ v. Stop v) × IsLoaded new
-Halts reader old halt.Device new = Breaks old new
+Halts reader old halt.Device new = TokensFail old new
 
 -- a name is called if an opening parenthesis is the current token behind it
 abbrev pub called_at : Tokens → Bool
 called_at t = is_open_paren (first t.ahead)
 
 -- An expression was read, and compiled onto a draft.
-pub record Took (reader : Reader Expr) (start : Draft) (called : Bool) (old new : Tokens)
+pub record ExpressionTaken (reader : Reader Expr) (start : Draft) (called : Bool) (old new : Tokens)
     (draft : Draft) (found : Form) : Type 0 where
   pub tree : Expr
   pub runs : Runs old new reader (λ v. Got tree v)
@@ -43,7 +43,7 @@ pub record Took (reader : Reader Expr) (start : Draft) (called : Bool) (old new 
 -- what reads an expression does so, whatever the offset of its strings is
 abbrev pub Follows : (ℕ → Reader Expr) → Bool → Tokens → Draft → Result Form Halt → Tokens → Draft → Type 0
 Follows reader called old before (Ok found) new draft =
-    ((offset : ℕ) → Took (reader offset) before called old new draft found) × IsSingle new
+    ((offset : ℕ) → ExpressionTaken (reader offset) before called old new draft found) × IsSingle new
 Follows reader called old before (Err halt) new draft = (offset : ℕ) → Halts (reader offset) old halt new
 
 -- what reads on behind an expression does so, whatever that is, where the draft holds it
@@ -51,7 +51,7 @@ abbrev pub Continues : (ℕ → Expr → Reader Expr) → Bool → Form → Bool
     → Result Form Halt → Tokens → Draft → Type 0
 Continues reader was given called old before (Ok found) new draft =
     ((offset : ℕ) (e : Expr) (start : Draft) → before ≡ held was e start → given ≡ form e before
-    → Took (reader offset e) start called old new draft found) × IsSingle new
+    → ExpressionTaken (reader offset e) start called old new draft found) × IsSingle new
 Continues reader was given called old before (Err halt) new draft =
     (offset : ℕ) (e : Expr) → Halts (reader offset e) old halt new
 
@@ -91,9 +91,9 @@ Enters room old (Ok left) new = (room ≡ left + 1) × Advances old new
 Enters room old (Err halt) new = Halts (inner room).enter old halt new
 
 -- the current token was taken, and this answered
-abbrev pub Takes : Tokens → Form → Result Form Halt → Tokens → Type 0
-Takes old given (Ok found) new = Advances old new × (found ≡ given)
-Takes old given (Err why) new = (why ≡ halt.Device) × Breaks old new
+abbrev pub TakesCurrent : Tokens → Form → Result Form Halt → Tokens → Type 0
+TakesCurrent old given (Ok found) new = Advances old new × (found ≡ given)
+TakesCurrent old given (Err why) new = (why ≡ halt.Device) × TokensFail old new
 
 abbrev pub prefix_meant : Prefix → tree.PrefixOp
 prefix_meant prefixes.Negate = tree.Negate

@@ -1,5 +1,6 @@
 -- The tokens of a source, of which some are ahead, and what taking them does.
-use Rattle.std.specs.Prelude.{◌≡◌, ℕ, ◌+◌, ◌≤◌, ◌⊎◌, Bool, true, false, List, [], ◌∷◌, ◌++◌, length, Option, Some, None, if◌then◌else◌}
+use Rattle.std.specs.Prelude.{◌≡◌, ℕ, ◌+◌, ◌≤◌, ◌⊎◌, Bool, true, false, List, [], ◌∷◌, ◌++◌, length, Option, Some, None}
+use Rattle.std.specs.Prelude.{if◌then◌else◌}
 use Rattle.bword.specs.ByteEnds.{Incoming, Grew}
 pub use Rattle.bword.specs.ByteEnds.{CanFollow}
 use Rattle.bword.specs.declared.edition.Edition.{Edition}
@@ -14,7 +15,7 @@ use Rattle.blex.specs.declared.lexeme.Seen.{Seen}
 use Rattle.blang.specs.declared.token.Token.{Token}
 use Rattle.blang.specs.declared.token.Token.TheVariants as token
 use Rattle.blang.specs.declared.token.Placed.{Placed}
-use Rattle.btree.specs.Reading.{Reader, first, line_of, after}
+use Rattle.btree.specs.Reading.{Reader, first, line_ahead, after}
 
 -- the source behind the tokens that are ahead, what its lexer has come to, and the text of its last string
 pub record Tokens : Type 0 where
@@ -91,7 +92,7 @@ abbrev pub work : Tokens → ℕ
 work t = room t.source + weights t.ahead
 
 -- These bytes were taken from the end, and at most two of them not looked at yet.
-pub record Reads (old : Source) (taken : List ℕ) (new : Source) : Type 0 where
+pub record TakesAhead (old : Source) (taken : List ℕ) (new : Source) : Type 0 where
   pub took : Took old.end taken new.end
   pub lender : new.lender ≡ old.lender
   pub near : length new.ahead ≤ 2
@@ -121,7 +122,7 @@ pub record LooksAt (old : Tokens) (taken : List ℕ) (new : Tokens) : Type 0 whe
 -- still gives.
 pub record Moves (old new : Tokens) (P : List Placed → List Placed → Type 0) : Type 0 where
   pub taken : List ℕ
-  pub reads : Reads old.source taken new.source
+  pub reads : TakesAhead old.source taken new.source
   pub looked : LooksAt old taken new
   pub failures : new.source.end.failures ≡ old.source.end.failures
   pub falls : work new ≤ work old
@@ -132,9 +133,9 @@ abbrev pub Runs : {A : Type 0} → Tokens → Tokens → Reader A → Reader A �
 Runs old new before now = Moves old new (λ u v. before u ≡ now v)
 
 -- A read failed.
-pub record Breaks (old new : Tokens) : Type 0 where
+pub record TokensFail (old new : Tokens) : Type 0 where
   pub taken : List ℕ
-  pub reads : Reads old.source taken new.source
+  pub reads : TakesAhead old.source taken new.source
   pub counted : Grew old.source.end.failures new.source.end.failures
 
 -- the same tokens come
@@ -142,28 +143,28 @@ abbrev pub Same : List Placed → List Placed → Type 0
 Same u v = u ≡ v
 
 -- The current token, and where it is there the one behind it, are ahead as they were.
-abbrev pub Keeps : List Placed → List Placed → Type 0
-Keeps [] new = Unit {0}
-Keeps (p ∷ ps) new = (first new ≡ p.token) × (line_of new ≡ p.line)
+abbrev pub KeepsAhead : List Placed → List Placed → Type 0
+KeepsAhead [] new = Unit {0}
+KeepsAhead (p ∷ ps) new = (first new ≡ p.token) × (line_ahead new ≡ p.line)
 
 -- The tokens are as they were, and the current one is ahead.
 pub record Looks (old new : Tokens) : Type 0 where
   pub moves : Moves old new Same
   pub loaded : IsLoaded new
   pub alone : after new.ahead ≡ after old.ahead
-  pub keeps : Keeps old.ahead new.ahead
+  pub keeps : KeepsAhead old.ahead new.ahead
 
 -- These tokens are those behind the current one.
-pub record Behind (ahead u v : List Placed) : Type 0 where
+pub record AreBehind (ahead u v : List Placed) : Type 0 where
   pub rest : v ≡ after u
   pub token : first u ≡ first ahead
-  pub line : line_of u ≡ line_of ahead
+  pub line : line_ahead u ≡ line_ahead ahead
 
 -- The current token was taken, and the next one is ahead.
 pub record Advances (old new : Tokens) : Type 0 where
-  pub moves : Moves old new (Behind old.ahead)
+  pub moves : Moves old new (AreBehind old.ahead)
   pub single : IsSingle new
-  pub keeps : Keeps (after old.ahead) new.ahead
+  pub keeps : KeepsAhead (after old.ahead) new.ahead
   pub falls : work new + 1 ≤ work old
 
 -- The tokens are as they were, and the one behind the current one is ahead.
@@ -171,6 +172,6 @@ pub record LooksOn (old new : Tokens) : Type 0 where
   pub moves : Moves old new Same
   pub loaded : IsLoaded new
   pub first_is : first new.ahead ≡ first old.ahead
-  pub line_is : line_of new.ahead ≡ line_of old.ahead
+  pub line_is : line_ahead new.ahead ≡ line_ahead old.ahead
   pub second : Placed
   pub second_is : after new.ahead ≡ second ∷ []

@@ -2,7 +2,7 @@
 ghost use Rattle.std.specs.Prelude.{◌≡◌, ◌+◌, ◌≤◌, false, ℕ, List, Some, OnOk};
 ghost use Rattle.blang.specs.Cut.{is_last};
 ghost use Rattle.blex.specs.Lexemes.{token_of_lexeme};
-ghost use Rattle.btree.specs.Reading.{first, line_of};
+ghost use Rattle.btree.specs.Reading.{first, line_ahead};
 ghost use Rattle.blang.specs.WellFormed.{or_rank};
 ghost use Rattle.btree.specs.ExpressionReader.{Rvalue, inner, primary, postfix, postfix_with, call, operand, chain, conditional, reader, suffix};
 ghost use Rattle.btree.specs.StatementReader.{is_open_paren};
@@ -14,7 +14,7 @@ ghost use Rattle.bexpr.specs.Marks.{is_mark};
 ghost use Rattle.bexpr.specs.Tokens.{all_tokens, IsLoaded, IsSingle, work};
 ghost use Rattle.bemit.specs.declared.form.Form.TheVariants.{Lone};
 ghost use Rattle.blang.specs.declared.token.Token.TheVariants as token;
-ghost use Rattle.bexpr.specs.Parsers.{called_at, prefix_meant, prefix_form, suffix_meant, assigned_at, Follows, Continues, Evaluates, Passes, Expects, Enters, Takes};
+ghost use Rattle.bexpr.specs.Parsers.{called_at, prefix_meant, prefix_form, suffix_meant, assigned_at, Follows, Continues, Evaluates, Passes, Expects, Enters, TakesCurrent};
 
 use crate::halt::Halt;
 use crate::mark::Mark;
@@ -153,7 +153,7 @@ impl<I: ByteIn> Parser<I> {
     fn take(&mut self, form: Form) -> Result<Form, Halt>
         requires loaded { IsLoaded self.old.tokens }
         requires goes_on { is_last (first self.old.tokens.ahead) ≡ false }
-        ensures tokens { Takes self.old.tokens form result self.new.tokens }
+        ensures tokens { TakesCurrent self.old.tokens form result self.new.tokens }
         ensures draft { self.new.draft ≡ self.old.draft }
     {
         self.tokens.advance()?;
@@ -202,8 +202,8 @@ impl<I: ByteIn> Parser<I> {
     fn step(&mut self, increment: Increment, form: Form) -> Result<Form, Halt>
         requires loaded { IsLoaded self.old.tokens }
         requires goes_on { is_last (first self.old.tokens.ahead) ≡ false }
-        ensures tokens { Takes self.old.tokens Lone result self.new.tokens }
-        ensures draft { self.new.draft ≡ emitted (instr.Increment increment) (checked form (line_of self.old.tokens.ahead) self.old.draft) }
+        ensures tokens { TakesCurrent self.old.tokens Lone result self.new.tokens }
+        ensures draft { self.new.draft ≡ emitted (instr.Increment increment) (checked form (line_ahead self.old.tokens.ahead) self.old.draft) }
     {
         self.note();
         self.draft.want_lvalue(form, self.tokens.line());

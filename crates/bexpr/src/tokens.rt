@@ -3,8 +3,8 @@ ghost use Rattle.std.specs.Prelude.{◌≡◌, false, OnOk, OnErr};
 ghost use Rattle.blex.specs.Lexemes.{token_of_lexeme};
 ghost use Rattle.blang.specs.Cut.{is_last, placed};
 ghost use Rattle.blang.specs.WellFormed.{fault_at};
-ghost use Rattle.btree.specs.Reading.{first, line_of, after};
-ghost use Rattle.bexpr.specs.Tokens.{all_tokens, is_string, IsReady, IsLoaded, Looks, LooksOn, Advances, Breaks};
+ghost use Rattle.btree.specs.Reading.{first, line_ahead, after};
+ghost use Rattle.bexpr.specs.Tokens.{all_tokens, is_string, IsReady, IsLoaded, Looks, LooksOn, Advances, TokensFail};
 ghost use Rattle.bexpr.specs.Marks.{is_mark};
 
 use crate::mark::Mark;
@@ -87,7 +87,7 @@ impl<I: ByteIn> Tokens<I> {
 
     /// The line of the current token.
     pub fn line(&self) -> u64
-        ensures { result ≡ line_of self.now.ahead }
+        ensures { result ≡ line_ahead self.now.ahead }
     {
         match self.current {
             Some(seen) => seen.line,
@@ -111,7 +111,7 @@ impl<I: ByteIn> Tokens<I> {
     /// What is wrong where no program goes on with the current token.
     pub fn fault(&self) -> Diagnostic
         requires { IsLoaded self.now }
-        ensures { result ≡ fault_at (placed (first self.now.ahead) (line_of self.now.ahead)) }
+        ensures { result ≡ fault_at (placed (first self.now.ahead) (line_ahead self.now.ahead)) }
     {
         let letters = match self.lexeme() {
             Lexeme::Bad(letters) => letters,
@@ -138,7 +138,7 @@ impl<I: ByteIn> Tokens<I> {
     pub fn look(&mut self) -> Result<(), Device>
         requires { IsReady self.old }
         ensures ok { OnOk result (Looks self.old self.new) }
-        ensures err { OnErr result (Breaks self.old self.new) }
+        ensures err { OnErr result (TokensFail self.old self.new) }
     {
         if self.current.is_none() {
             let Ok(seen) = self.lexer.next_lexeme() else {
@@ -155,7 +155,7 @@ impl<I: ByteIn> Tokens<I> {
         requires goes_on { is_last (first self.old.ahead) ≡ false }
         requires no_string { is_string (first self.old.ahead) ≡ false }
         ensures ok { OnOk result (LooksOn self.old self.new) }
-        ensures err { OnErr result (Breaks self.old self.new) }
+        ensures err { OnErr result (TokensFail self.old self.new) }
     {
         if self.behind.is_none() {
             let Ok(seen) = self.lexer.next_lexeme() else {
@@ -181,7 +181,7 @@ impl<I: ByteIn> Tokens<I> {
         requires loaded { IsLoaded self.old }
         requires goes_on { is_last (first self.old.ahead) ≡ false }
         ensures ok { OnOk result (Advances self.old self.new) }
-        ensures err { OnErr result (Breaks self.old self.new) }
+        ensures err { OnErr result (TokensFail self.old self.new) }
     {
         self.taken.set(self.taken.get().wrapping_add(1));
         if self.behind.is_some() {

@@ -2,7 +2,8 @@
 -- The parts of a definition, with lists in place of vectors.
 use Rattle.std.specs.Prelude.{ℕ, ◌<◌, ◌≤◌, List, length, All, IsTrue}
 use Rattle.bword.specs.Words.{is_name}
-use Rattle.blang.specs.declared.limits.TheConstants.{MAX_INSTRUCTIONS, MAX_LABELS, MAX_PARAMETERS, MAX_STRING_WORDS, MAX_VALUES, MAX_WORDS, WORD_VALUES}
+use Rattle.blang.specs.declared.limits.TheConstants.{MAX_INSTRUCTIONS, MAX_LABELS, MAX_PARAMETERS, MAX_STRING_WORDS}
+use Rattle.blang.specs.declared.limits.TheConstants.{MAX_VALUES, MAX_WORDS, WORD_VALUES}
 use Rattle.blang.specs.declared.code.Sizes.{Sizes}
 use Rattle.blang.specs.declared.code.Instr.{Instr}
 use Rattle.blang.specs.declared.code.Ival.{Ival}

@@ -1,5 +1,6 @@
 -- What comes of a source: its code text and its diagnostic, and what the compiler writes and answers.
-use Rattle.std.specs.Prelude.{◌≡◌, ℕ, List, [], ◌∷◌, ◌++◌, length, codes, decimal, Option, Some, None, ◌≢◌, ◌≤◌, ◌<◌, ◌⊎◌, take}
+use Rattle.std.specs.Prelude.{◌≡◌, ℕ, List, [], ◌∷◌, ◌++◌, length, codes, decimal, Option, Some, None, ◌≢◌, ◌≤◌, ◌<◌}
+use Rattle.std.specs.Prelude.{◌⊎◌, take}
 use Rattle.bword.specs.declared.edition.Edition.{Edition}
 use Rattle.bword.specs.declared.ends.EndFault.{EndFault}
 use Rattle.bword.specs.ByteEnds.{Incoming, Outgoing, Took, Grew, Writes, Refuses, CanFollow}
@@ -10,7 +11,7 @@ use Rattle.blang.specs.declared.token.Placed.{Placed}
 use Rattle.blang.specs.declared.token.About.{About}
 use Rattle.blang.specs.declared.token.Diagnostic.{Diagnostic}
 use Rattle.blang.specs.Trees.{Definition}
-use Rattle.blang.specs.Scan.{word_of}
+use Rattle.blang.specs.Scan.{identifier_of}
 use Rattle.blang.specs.Code.{code_of, fault_of}
 use Rattle.blang.specs.WellFormed.{Parted}
 use Rattle.blang.specs.Cut.{tokens_from}
@@ -22,31 +23,32 @@ use Rattle.blang.specs.declared.token.About.TheVariants as about
 abbrev pub Defined : Type 0
 Defined = List (List ℕ)
 
-abbrev pub text_of : Definition → List ℕ
-text_of d = text.text_of (code_of d)
+abbrev pub compiled_text : Definition → List ℕ
+compiled_text d = text.definition_text (code_of d)
 
 -- the texts of definitions, and the diagnostic, if there is one
-pub record Outcome : Type 0 where
+pub record Compilation : Type 0 where
   pub code : List (List ℕ)
   pub stop : Option Diagnostic
 
 -- a definition with or without a fault, and what comes of those behind it
-abbrev pub outcome_with : Option Diagnostic → List ℕ → Outcome → Outcome
-outcome_with (Some fault) text later = record { code = []; stop = Some fault }
-outcome_with None text later = record { code = text ∷ later.code; stop = later.stop }
+abbrev pub compilation_with : Option Diagnostic → List ℕ → Compilation → Compilation
+compilation_with (Some fault) text later = record { code = []; stop = Some fault }
+compilation_with None text later = record { code = text ∷ later.code; stop = later.stop }
 
 -- what comes of definitions: the texts up to the first fault, or all of them
-abbrev pub outcome_of : Defined → List Definition → Option Diagnostic → Outcome
-outcome_of names [] stop = record { code = []; stop = stop }
-outcome_of names (d ∷ ds) stop =
-    outcome_with (fault_of names d) (text_of d) (outcome_of (names ++ (word_of d).text ∷ []) ds stop)
+abbrev pub compilation_of : Defined → List Definition → Option Diagnostic → Compilation
+compilation_of names [] stop = record { code = []; stop = stop }
+compilation_of names (d ∷ ds) stop =
+    compilation_with (fault_of names d) (compiled_text d)
+    (compilation_of (names ++ (identifier_of d).text ∷ []) ds stop)
 
 -- What comes of these tokens, where these names are defined before.
-pub record Goes (names : Defined) (tokens : List Placed) (outcome : Outcome) : Type 0 where
+pub record CompilesTo (names : Defined) (tokens : List Placed) (outcome : Compilation) : Type 0 where
   pub definitions : List Definition
   pub stop : Option Diagnostic
   pub parted : Parted tokens definitions stop
-  pub outcome_is : outcome ≡ outcome_of names definitions stop
+  pub outcome_is : outcome ≡ compilation_of names definitions stop
 
 -- the line behind the texts, where nothing is wrong
 abbrev pub ending : Option Diagnostic → List ℕ
@@ -54,7 +56,7 @@ ending None = end_text
 ending (Some fault) = []
 
 -- the whole code text, in an edition
-abbrev pub code_text : Edition → Outcome → List ℕ
+abbrev pub code_text : Edition → Compilation → List ℕ
 code_text edition outcome = opening edition ++ (joined outcome.code ++ ending outcome.stop)
 
 abbrev pub letters_text : Letters → List ℕ
@@ -86,12 +88,13 @@ status_of end_fault.Device = 133
 status_of end_fault.Memory = 134
 
 -- each source that begins with the bytes that were taken, or the one whose end was seen, comes to this
-abbrev pub Whatever : Edition → List ℕ → Incoming → (Outcome → Type 0) → Type 0
+abbrev pub Whatever : Edition → List ℕ → Incoming → (Compilation → Type 0) → Type 0
 Whatever edition taken end P =
-    (more : List ℕ) → CanFollow end more → (r : Outcome) → Goes [] (tokens_from edition 1 (taken ++ more)) r → P r
+    (more : List ℕ) → CanFollow end more → (r : Compilation) → CompilesTo [] (tokens_from edition 1 (taken ++ more)) r
+    → P r
 
 -- there is code: a definition's, or the last line
-abbrev pub HasCode : Outcome → Type 0
+abbrev pub HasCode : Compilation → Type 0
 HasCode r = r.code ≡ [] → r.stop ≡ None
 
 -- the edition, the input and the two outputs, before and after, and the status
@@ -114,14 +117,14 @@ abbrev pub IsSilent : Run → Type 0
 IsSilent run = run.line_behind ≡ run.line
 
 -- The code was written.
-pub record IsCompiled (run : Run) (r : Outcome) : Type 0 where
+pub record IsCompiled (run : Run) (r : Compilation) : Type 0 where
   pub read : AllRead run
   pub clean : r.stop ≡ None
   pub code : Writes run.code (code_text run.edition r) run.code_behind
   pub silent : IsSilent run
 
 -- The code before a fault was written, and the line of the fault.
-pub record IsFaulty (run : Run) (r : Outcome) : Type 0 where
+pub record IsFaulty (run : Run) (r : Compilation) : Type 0 where
   pub read : AllRead run
   pub fault : Diagnostic
   pub stop : r.stop ≡ Some fault
@@ -129,7 +132,7 @@ pub record IsFaulty (run : Run) (r : Outcome) : Type 0 where
   pub line : Writes run.line (line_of fault) run.line_behind
 
 -- what the text begins with and the texts of so many definitions were written, and nothing else
-abbrev pub HasWritten : Run → ℕ → Outcome → Type 0
+abbrev pub HasWritten : Run → ℕ → Compilation → Type 0
 HasWritten run count r = Writes run.code (opening run.edition ++ joined (take count r.code)) run.code_behind
 
 -- A read failed. The texts of some definitions were written, and no line.
@@ -156,7 +159,7 @@ pub record CodeRefused (run : Run) (taken : List ℕ) (fault : EndFault) : Type 
   pub silent : IsSilent run
 
 -- Code was written whole, and of the line that stops it a beginning, since its end refused so.
-pub record LineCutOff (run : Run) (fault : EndFault) (r : Outcome) : Type 0 where
+pub record LineCutOff (run : Run) (fault : EndFault) (r : Compilation) : Type 0 where
   pub diagnostic : Diagnostic
   pub stop : r.stop ≡ Some diagnostic
   pub code : Writes run.code (code_text run.edition r) run.code_behind

@@ -1,5 +1,7 @@
 -- The cut of a source into tokens: what a whole piece of it is, and each piece the longest at its place.
-use Rattle.std.specs.Prelude.{ℕ, ◌+◌, ◌-◌, ◌*◌, Bool, ◌&&◌, ◌||◌, ◌==◌, nat_le, nat_lt, List, [], ◌∷◌, ◌++◌, length, take, drop, fold, codes, nat_eq, Option, Some, None, if◌then◌else◌, suc, zero, min, is_some}
+use Rattle.std.specs.Prelude.{ℕ, ◌+◌, ◌-◌, ◌*◌, Bool, ◌&&◌, ◌||◌, ◌==◌, nat_le, nat_lt, List, [], ◌∷◌, ◌++◌, length}
+use Rattle.std.specs.Prelude.{take, drop, fold, codes, nat_eq, Option, Some, None, if◌then◌else◌, suc, zero, min}
+use Rattle.std.specs.Prelude.{is_some}
 use Rattle.std.specs.List.{list_all, find}
 use Rattle.std.specs.Map.{lookup}
 use Rattle.std.specs.Option.{option_map, option_or}
@@ -59,8 +61,8 @@ keyword_or_name text (Some k) = token.Keyword k
 keyword_or_name text None = token.Name text
 
 -- a run of letters, underscores and digits: a keyword, else a name of at most eight characters
-unfoldable pub word_of : Edition → List ℕ → Token
-word_of edition text =
+unfoldable pub word_token : Edition → List ℕ → Token
+word_token edition text =
     if nat_le (length text) 8 then keyword_or_name text (keyword_of edition text) else token.Bad letters.LongName
 
 -- Numbers.
@@ -68,8 +70,8 @@ abbrev pub is_digit : ℕ → Bool
 is_digit b = nat_le 48 b && nat_le b 57
 
 -- what digits stand for
-abbrev pub value_of : ℕ → List ℕ → ℕ
-value_of base digits = fold (λ value digit. value * base + (digit - 48)) 0 digits
+abbrev pub digits_value : ℕ → List ℕ → ℕ
+digits_value base digits = fold (λ value digit. value * base + (digit - 48)) 0 digits
 
 -- a digit below the base
 abbrev pub is_digit_of : ℕ → ℕ → Bool
@@ -85,11 +87,11 @@ number_when is_right value = if is_right && nat_le value 65535 then token.Number
 
 -- a run of digits of a base: of that base alone, and at most 65535
 unfoldable pub number_in : ℕ → List ℕ → Token
-number_in base digits = number_when (list_all (is_digit_of base) digits) (value_of base digits)
+number_in base digits = number_when (list_all (is_digit_of base) digits) (digits_value base digits)
 
-abbrev pub number_of : List ℕ → Token
-number_of [] = token.Bad letters.Constant
-number_of (b ∷ bs) = number_in (base_of b) (b ∷ bs)
+abbrev pub number_token : List ℕ → Token
+number_token [] = token.Bad letters.Constant
+number_token (b ∷ bs) = number_in (base_of b) (b ∷ bs)
 
 -- Comments.
 -- what follows the first "*/", if there is one
@@ -136,23 +138,23 @@ with_character characters None = Wrong
 with_character characters (Some b) = Open (characters ++ b ∷ [])
 
 -- the same with a byte more, where there is room for so many characters between these quotes
-unfoldable pub with_byte : ℕ → ℕ → Quoted → ℕ → Quoted
-with_byte quote room (Open characters) b =
+unfoldable pub with_quoted_byte : ℕ → ℕ → Quoted → ℕ → Quoted
+with_quoted_byte quote room (Open characters) b =
     if b == quote then Closed characters else
     if length characters == room then Wrong else
     if b == 42 then Starred characters else
     with_character characters (plain_of b)
-with_byte quote room (Starred characters) b = with_character characters (escape_of b)
-with_byte quote room _ b = Past
+with_quoted_byte quote room (Starred characters) b = with_character characters (escape_of b)
+with_quoted_byte quote room _ b = Past
 
 abbrev pub quoted : ℕ → ℕ → List ℕ → Quoted
-quoted quote room bytes = fold (with_byte quote room) (Open []) bytes
+quoted quote room bytes = fold (with_quoted_byte quote room) (Open []) bytes
 
 -- a constant whose characters are closed; one that is still open, or has a byte that doesn't fit, is wrong
-abbrev pub constant_of : (List ℕ → Token) → Quoted → Option Piece
-constant_of constant (Closed characters) = Some (Word (constant characters))
-constant_of constant Past = None
-constant_of constant _ = Some (Word (token.Bad letters.Constant))
+abbrev pub quoted_constant : (List ℕ → Token) → Quoted → Option Piece
+quoted_constant constant (Closed characters) = Some (Word (constant characters))
+quoted_constant constant Past = None
+quoted_constant constant _ = Some (Word (token.Bad letters.Constant))
 
 -- one character is its byte, of two the first is the high byte
 abbrev pub character_token : List ℕ → Token
@@ -198,10 +200,10 @@ unfoldable pub whole : Edition → List ℕ → Option Piece
 whole edition [] = Some (Word token.End)
 whole edition (b ∷ bs) =
     if is_blank b then alone Space bs else
-    if is_name_start b then piece_when (list_all is_name_byte bs) (Word (word_of edition (b ∷ bs))) else
-    if is_digit b then piece_when (list_all is_digit bs) (Word (number_of (b ∷ bs))) else
-    if b == 39 then constant_of character_token (quoted 39 2 bs) else
-    if b == 34 then constant_of string_token (quoted 34 STRING_LEN bs) else
+    if is_name_start b then piece_when (list_all is_name_byte bs) (Word (word_token edition (b ∷ bs))) else
+    if is_digit b then piece_when (list_all is_digit bs) (Word (number_token (b ∷ bs))) else
+    if b == 39 then quoted_constant character_token (quoted 39 2 bs) else
+    if b == 34 then quoted_constant string_token (quoted 34 STRING_LEN bs) else
     if is_text (take 2 (b ∷ bs)) (codes "/*") then comment_of (after_close (drop 1 bs)) else
     fixed_or_stray (fixed_of (b ∷ bs)) bs
 

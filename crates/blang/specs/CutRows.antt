@@ -1,12 +1,15 @@
 -- How sources are cut, one source a line.
-use Rattle.std.specs.Prelude.{◌≡◌, ℕ, List, [], ◌∷◌, ◌++◌, map, length, filter, replicate, codes, refl, is_some, Some, None}
+use Rattle.std.specs.Prelude.{◌≡◌, ℕ, List, [], ◌∷◌, ◌++◌, map, length, filter, replicate, codes, refl, is_some, Some}
+use Rattle.std.specs.Prelude.{None}
 use Rattle.std.specs.List.{range_with_len}
 use Rattle.bword.specs.ByteEnds.{most}
 use Rattle.bword.specs.declared.edition.Edition.{Edition}
 use Rattle.bword.specs.declared.edition.Edition.TheVariants as editions
 use Rattle.bword.specs.declared.operators.BinOp.TheVariants as op
 use Rattle.blang.specs.declared.token.Token.{Token}
-use Rattle.blang.specs.Cut.{Word, whole, is_blank, word_of, keyword_of, number_in, with_byte, plain_of, escape_of, operator_of, other_of, fixed_of, string_token, tokens_from, placed, cut, longest, greatest}
+use Rattle.blang.specs.Cut.{Word, whole, is_blank, word_token, keyword_of, number_in, with_quoted_byte, plain_of}
+use Rattle.blang.specs.Cut.{escape_of, operator_of, other_of, fixed_of, string_token, tokens_from, placed, cut, longest}
+use Rattle.blang.specs.Cut.{greatest}
 use Rattle.blang.specs.declared.token.Token.TheVariants as token
 use Rattle.blang.specs.declared.token.Keyword.TheVariants as keyword
 use Rattle.blang.specs.declared.token.Letters.TheVariants as letters
@@ -45,7 +48,7 @@ y = name (codes "y")
 blanks : Cut (
     ([], []) ∷ (codes " ", []) ∷ (codes "\t", []) ∷ (codes "\n", []) ∷ (codes "x \t\n y\n", x ∷ y ∷ []) ∷
     [])
-unfolding tokens_from cut longest greatest whole word_of keyword_of
+unfolding tokens_from cut longest greatest whole word_token keyword_of
 blanks = refl
 
 all_blanks : filter is_blank (range_with_len 0 256) ≡ codes "\t\n "
@@ -69,13 +72,14 @@ keywords : Single (
     (codes "goto", token.Keyword keyword.Goto) ∷
     (codes "return", token.Keyword keyword.Return) ∷
     [])
-unfolding tokens_from cut longest greatest whole word_of keyword_of
+unfolding tokens_from cut longest greatest whole word_token keyword_of
 keywords = refl
 
 -- the words of the second edition, where the others stay, are names in the first
 keywords_of_two : map (tokens_in editions.Two) (codes "break" ∷ codes "default" ∷ codes "case" ∷ []) ≡
-    (token.Keyword keyword.Break ∷ token.End ∷ []) ∷ (token.Keyword keyword.Default ∷ token.End ∷ []) ∷ (token.Keyword keyword.Case ∷ token.End ∷ []) ∷ []
-unfolding tokens_from cut longest greatest whole word_of keyword_of
+    (token.Keyword keyword.Break ∷ token.End ∷ []) ∷ (token.Keyword keyword.Default ∷ token.End ∷ [])
+    ∷ (token.Keyword keyword.Case ∷ token.End ∷ []) ∷ []
+unfolding tokens_from cut longest greatest whole word_token keyword_of
 keywords_of_two = refl
 
 abbrev name_texts : List (List ℕ)
@@ -85,11 +89,11 @@ name_texts =
     codes "_if" ∷ codes "break" ∷ codes "default" ∷ []
 
 names : map tokens name_texts ≡ map (λ text. name text ∷ token.End ∷ []) name_texts
-unfolding tokens_from cut longest greatest whole word_of keyword_of
+unfolding tokens_from cut longest greatest whole word_token keyword_of
 names = refl
 
 long_names : Wrong (token.Bad letters.LongName) (codes "abcdefghi" ∷ codes "x12345678" ∷ codes "_________ x" ∷ [])
-unfolding tokens_from cut longest greatest whole word_of keyword_of
+unfolding tokens_from cut longest greatest whole word_token keyword_of
 long_names = refl
 
 -- Numbers.
@@ -106,7 +110,7 @@ numbers : Cut (
     (codes "12x", token.Number 12 ∷ x ∷ []) ∷
     (codes "1 2", token.Number 1 ∷ token.Number 2 ∷ []) ∷
     [])
-unfolding tokens_from cut longest greatest whole word_of keyword_of number_in
+unfolding tokens_from cut longest greatest whole word_token keyword_of number_in
 numbers = refl
 
 wrong_numbers : Wrong (token.Bad letters.Constant) (
@@ -135,7 +139,7 @@ characters : Single (
     (codes "'*n*t'", token.Character 2569) ∷
     (codes "'a**'", token.Character 24874) ∷
     [])
-unfolding tokens_from cut longest greatest whole with_byte escape_of
+unfolding tokens_from cut longest greatest whole with_quoted_byte escape_of
 characters = refl
 
 -- none, three, an escape that there is not, a star, no end, and what may not stand in quotes
@@ -143,7 +147,7 @@ wrong_characters : Wrong (token.Bad letters.Constant) (
     codes "''" ∷ codes "'abc'" ∷ codes "'*a'" ∷ codes "'*1'" ∷ codes "'*N'" ∷ codes "'*'" ∷ codes "'" ∷ codes "'a" ∷
     codes "'\n'" ∷ (39 ∷ 0 ∷ 39 ∷ []) ∷ (39 ∷ 8 ∷ 39 ∷ []) ∷ (39 ∷ 11 ∷ 39 ∷ []) ∷ (39 ∷ 13 ∷ 39 ∷ []) ∷
     (39 ∷ 31 ∷ 39 ∷ []) ∷ (39 ∷ 127 ∷ 39 ∷ []) ∷ (39 ∷ 128 ∷ 39 ∷ []) ∷ (39 ∷ 255 ∷ 39 ∷ []) ∷ [])
-unfolding tokens_from cut longest greatest whole with_byte escape_of
+unfolding tokens_from cut longest greatest whole with_quoted_byte escape_of
 wrong_characters = refl
 
 -- what stands for itself in quotes, and what an escape goes on with
@@ -162,13 +166,13 @@ strings : Single (
     (codes "\"*0*e*(*)*t***'\"", string_token (0 ∷ 4 ∷ codes "{}\t*'")) ∷
     (codes "\"/** x\"", string_token (codes "/* x")) ∷
     [])
-unfolding tokens_from cut longest greatest whole with_byte escape_of
+unfolding tokens_from cut longest greatest whole with_quoted_byte escape_of
 strings = refl
 
 wrong_strings : Wrong (token.Bad letters.Constant) (
     codes "\"" ∷ codes "\"a" ∷ codes "\"*\"" ∷ codes "\"a\n\"" ∷ codes "\"*x\"" ∷ (34 ∷ 127 ∷ 34 ∷ []) ∷ (34 ∷ 128 ∷
     34 ∷ []) ∷ [])
-unfolding tokens_from cut longest greatest whole with_byte escape_of
+unfolding tokens_from cut longest greatest whole with_quoted_byte escape_of
 wrong_strings = refl
 
 -- 254 characters and the quote are a whole string; with the 255th it is wrong, and that is all of the piece
@@ -176,15 +180,15 @@ abbrev many : ℕ → List ℕ
 many count = 34 ∷ replicate count 97
 
 greatest_string : whole editions.One (many 254 ++ codes "\"") ≡ Some (Word (string_token (replicate 254 97)))
-unfolding whole with_byte
+unfolding whole with_quoted_byte
 greatest_string = refl
 
 too_long : whole editions.One (many 255) ≡ Some (Word (token.Bad letters.Constant))
-unfolding whole with_byte
+unfolding whole with_quoted_byte
 too_long = refl
 
 past_the_255th : whole editions.One (many 255 ++ codes "\"") ≡ None
-unfolding whole with_byte
+unfolding whole with_quoted_byte
 past_the_255th = refl
 
 -- Operators and the like.
@@ -265,7 +269,7 @@ longest_pieces : Cut (
     (codes "ifx", name (codes "ifx") ∷ []) ∷
     (codes "if(x", token.Keyword keyword.If ∷ token.OpenParen ∷ x ∷ []) ∷
     [])
-unfolding tokens_from cut longest greatest whole word_of keyword_of number_in operator_of other_of fixed_of
+unfolding tokens_from cut longest greatest whole word_token keyword_of number_in operator_of other_of fixed_of
 longest_pieces = refl
 
 -- Comments.
@@ -279,7 +283,7 @@ comments : Cut (
     (codes "/*/*/x", x ∷ []) ∷
     (47 ∷ 42 ∷ 0 ∷ 255 ∷ codes "\n'\"*/x", x ∷ []) ∷
     [])
-unfolding tokens_from cut longest greatest whole word_of keyword_of operator_of other_of fixed_of
+unfolding tokens_from cut longest greatest whole word_token keyword_of operator_of other_of fixed_of
 comments = refl
 
 open_comments : Wrong (token.Bad letters.OpenComment) (codes "/*/" ∷ codes "/*" ∷ codes "/* x * /" ∷ codes "/*x*" ∷ [])
@@ -289,7 +293,7 @@ open_comments = refl
 -- Behind a piece that fits nothing there are no tokens.
 stops : map tokens (codes "x # y" ∷ codes "x 08 y" ∷ []) ≡
     (x ∷ token.Bad letters.Character ∷ []) ∷ (x ∷ token.Bad letters.Constant ∷ []) ∷ []
-unfolding tokens_from cut longest greatest whole word_of keyword_of number_in operator_of other_of fixed_of
+unfolding tokens_from cut longest greatest whole word_token keyword_of number_in operator_of other_of fixed_of
 stops = refl
 
 -- How far a piece reaches that fits nothing: through its run, the byte in quotes that doesn't fit, its one byte,
@@ -298,7 +302,7 @@ reaches : map (longest editions.One) (
     codes "abcdefghij9_ x" ∷ codes "0899x" ∷ codes "'ab\n'" ∷ codes "'abc'" ∷ codes "'*xy'" ∷ codes "\"a\n\"" ∷
     codes "'a" ∷ codes "\"ab" ∷
     codes "##" ∷ codes "/* x" ∷ []) ≡ 12 ∷ 4 ∷ 4 ∷ 4 ∷ 3 ∷ 3 ∷ 2 ∷ 3 ∷ 1 ∷ 4 ∷ []
-unfolding longest greatest whole word_of keyword_of number_in with_byte escape_of operator_of other_of fixed_of
+unfolding longest greatest whole word_token keyword_of number_in with_quoted_byte escape_of operator_of other_of fixed_of
 reaches = refl
 
 -- Lines: those of the first byte of each token, and of `End`.
@@ -312,10 +316,10 @@ lines_of_tokens : map lines (
     (1 ∷ []) ∷ (2 ∷ []) ∷ (1 ∷ 1 ∷ 1 ∷ []) ∷ (1 ∷ 2 ∷ 2 ∷ []) ∷ (3 ∷ 3 ∷ []) ∷ (2 ∷ 3 ∷ []) ∷ (1 ∷ 3 ∷ 3 ∷ 3 ∷ []) ∷
     (3 ∷ 4 ∷ []) ∷
     (1 ∷ 1 ∷ 2 ∷ 2 ∷ []) ∷ []
-unfolding tokens_from cut longest greatest whole word_of keyword_of with_byte operator_of other_of fixed_of
+unfolding tokens_from cut longest greatest whole word_token keyword_of with_quoted_byte operator_of other_of fixed_of
 lines_of_tokens = refl
 
 -- the last line that has a number stays
 last_line : tokens_from editions.One most (codes "\nx") ≡ placed x most ∷ placed token.End most ∷ []
-unfolding tokens_from cut longest greatest whole word_of keyword_of
+unfolding tokens_from cut longest greatest whole word_token keyword_of
 last_line = refl

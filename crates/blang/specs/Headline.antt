@@ -5,13 +5,14 @@ use Rattle.bword.specs.ByteEnds.{Incoming, Outgoing, Took, Writes, CanFollow, Be
 use Rattle.bword.specs.declared.edition.Edition.{Edition}
 use Rattle.blang.specs.Code.{code_of}
 use Rattle.blang.specs.Trees.{Definition}
-use Rattle.blang.specs.Machine.{State, Halted, Shows, AnyFailed, NoneFailed, RunGives, IsOwnStatus, machine, load_number, RunEnds, HasNotRun, NotLoaded, Finishes, report_text}
+use Rattle.blang.specs.Machine.{State, Halted, Shows, AnyFailed, NoneFailed, RunGives, IsOwnStatus, machine}
+use Rattle.blang.specs.Machine.{load_number, RunEnds, HasNotRun, NotLoaded, Finishes, report_text}
 use Rattle.blang.specs.Layout.{World, Ending, load_fault, Exited, Trapped}
 use Rattle.blang.specs.declared.run.Outcome.{Outcome}
 use Rattle.blang.specs.Value.{Answer, Ends, Wants}
-use Rattle.blang.specs.Meaning.{meant, world_of, IsBeginningOf, Loads}
+use Rattle.blang.specs.Meaning.{meant, answer_world, IsBeginningOf, Loads}
 use Rattle.blang.specs.Cut.{tokens_from}
-use Rattle.blang.specs.Compiles.{Goes, Compiles, line_of}
+use Rattle.blang.specs.Compiles.{CompilesTo, Compiles, line_of}
 use Rattle.blang.specs.declared.status.TheConstants.{DONE, MEMORY, FAULT, TRAP, LIMIT, REFUSED}
 use Rattle.blang.specs.declared.run.LoadFault.{LoadFault}
 use Rattle.blang.specs.declared.token.Diagnostic.{Diagnostic}
@@ -45,14 +46,14 @@ pub record HaltsLater (state : ℕ → State) (steps : ℕ) (e : Ending) (w : Wo
   pub not_within : (n : ℕ) → n ≤ steps → state n ≢ Halted e w
 
 -- A beginning of what the program writes was written. Where the program ends, its code takes more steps.
-pub record GoesOn (ds : List Definition) (steps : ℕ) (i j : Incoming) (o p : Outgoing) : Type 0 where
+pub record ReachesLimit (ds : List Definition) (steps : ℕ) (i j : Incoming) (o p : Outgoing) : Type 0 where
   pub taken : List ℕ
   pub took : Took i taken j
   pub no_failure : j.failures ≡ i.failures
   pub output : List ℕ
   pub written : Writes o output p
   pub begins : (more : List ℕ) → CanFollow j more
-      → IsBeginningOf output (world_of (meant ds (taken ++ more) (steps + 1))).output
+      → IsBeginningOf output (answer_world (meant ds (taken ++ more) (steps + 1))).output
   pub later : (more : List ℕ) → CanFollow j more → (n : ℕ) (e : Ending) (w : World)
       → meant ds (taken ++ more) n ≡ Ends e w → HaltsLater (machine (map code_of ds) (taken ++ more)) steps e w
 
@@ -63,16 +64,16 @@ pub record BreaksOff (ds : List Definition) (steps : ℕ) (i j : Incoming) (o p 
   pub made : ℕ
   pub within : made ≤ steps
   pub began : (more : List ℕ) → CanFollow j more
-      → (text : List ℕ) × IsBeginningOf text (world_of (meant ds (taken ++ more) (made + 1))).output × Began o text p
+      → (text : List ℕ) × IsBeginningOf text (answer_world (meant ds (taken ++ more) (made + 1))).output
+      × Began o text p
   pub reason : why
 
 -- what a run of so many steps does, by its outcome
 abbrev pub RunsAsMeant : List Definition → ℕ → (i j : Incoming) (o p : Outgoing) → Outcome → Type 0
-RunsAsMeant ds steps i j o p (outcome.Exit status) = EndsSo ds steps i j o p (outcome.Exit status)
-RunsAsMeant ds steps i j o p (outcome.Trap kind) = EndsSo ds steps i j o p (outcome.Trap kind)
-RunsAsMeant ds steps i j o p outcome.Limit = GoesOn ds steps i j o p
+RunsAsMeant ds steps i j o p outcome.Limit = ReachesLimit ds steps i j o p
 RunsAsMeant ds steps i j o p outcome.Device = BreaksOff ds steps i j o p (AnyFailed i j o p)
 RunsAsMeant ds steps i j o p outcome.Memory = BreaksOff ds steps i j o p (NoneFailed i j o p)
+RunsAsMeant ds steps i j o p result = EndsSo ds steps i j o p result
 
 -- Just so many steps of the program's code were made, or those up to its halt, and what they did is what the program
 -- means. The code was never stuck, and a status of the program's own is below 128.
@@ -102,7 +103,7 @@ pub record RunsSource (edition : Edition) (steps : ℕ) (source source_behind : 
   pub taken : List ℕ
   pub took : Took source taken source_behind
   pub runs : (more : List ℕ) → CanFollow source_behind more
-      → (r : compiled.Outcome) → (g : Goes [] (tokens_from edition 1 (taken ++ more)) r)
+      → (r : compiled.Compilation) → (g : CompilesTo [] (tokens_from edition 1 (taken ++ more)) r)
       → (source_behind.failures ≡ source.failures) × (r.stop ≡ None) × RunsProgram steps g.definitions ends status
 
 -- A source that isn't compiled in the edition, for a fault or a failure, is not run. The code is kept in memory, which
@@ -164,7 +165,7 @@ pub record IsEnd
 pub record IsLimit (ds : List Definition) (input : List ℕ) (steps : ℕ) (ends : RunEnds) (status : ℕ) : Type 0 where
   pub world : World
   pub shows : runs.Shows outcome.Limit world.input world.output (machine (map code_of ds) input steps)
-  pub begins : IsBeginningOf world.output (world_of (meant ds input (steps + 1))).output
+  pub begins : IsBeginningOf world.output (answer_world (meant ds input (steps + 1))).output
   pub says : Says ends status world.input world.output (report_text report.Limit) LIMIT
 
 -- Where the code halts within so many steps, that is the end which the program means, and it is what was written and
@@ -178,7 +179,7 @@ pub record RunAnswers (ds : List Definition) (input : List ℕ) (steps : ℕ) (e
 
 -- A source with a fault gets its line, and so does code that doesn't load. Any other program is run.
 pub record GoAnswers
-    (r : compiled.Outcome) (ds : List Definition) (input : List ℕ) (steps : ℕ) (ends : RunEnds) (status : ℕ)
+    (r : compiled.Compilation) (ds : List Definition) (input : List ℕ) (steps : ℕ) (ends : RunEnds) (status : ℕ)
     : Type 0 where
   pub faulty : (fault : Diagnostic) → r.stop ≡ Some fault → Says ends status input [] (line_of fault) FAULT
   pub refused : r.stop ≡ None → (f : LoadFault) (n : ℕ) → load_fault (map code_of ds) ≡ Some f → load_number f ≡ Some n
@@ -189,5 +190,5 @@ pub record GoAnswers
 abbrev pub Headline : Edition → (steps : ℕ) (source source_behind : Incoming) (ends : RunEnds) (status : ℕ) → Type 0
 Headline edition steps source source_behind ends status =
     (text input : List ℕ) → Tells source text → Tells ends.input input → NothingFailed source source_behind ends status
-    → (r : compiled.Outcome) (g : Goes [] (tokens_from edition 1 text) r)
+    → (r : compiled.Compilation) (g : CompilesTo [] (tokens_from edition 1 text) r)
     → GoAnswers r g.definitions input steps ends status

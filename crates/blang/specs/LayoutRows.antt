@@ -12,7 +12,8 @@ use Rattle.blang.specs.declared.run.LoadFault.TheVariants as fault
 -- a function with this name, these labels' targets, string words and instructions
 abbrev function : List ℕ → List ℕ → List ℕ → List Instr → Definition
 function name targets strings code =
-    definition.Function (record { name = name; parameters = 0; frame = 0; targets = targets; strings = strings; code = code })
+    definition.Function
+    (record { name = name; parameters = 0; frame = 0; targets = targets; strings = strings; code = code })
 
 abbrev simple : List ℕ → List Ival → List ℕ → Definition
 simple name values strings = definition.Simple (record { name = name; values = values; strings = strings })
@@ -54,14 +55,17 @@ first_seven : take 7 (first_words (map shape_of strings)) ≡ 0 ∷ 1 ∷ 2 ∷ 
 first_seven = refl
 
 -- v[2] 1,2,3,4; has as many words as values, and v[2] 1; has zeros behind them
-vector_full : words_of (vector (codes "v") 4 (ival.Number 1 ∷ ival.Number 2 ∷ ival.Number 3 ∷ ival.Number 4 ∷ []) [] ∷ main ∷ []) ≡ 8 ∷ 1 ∷ 2 ∷ 3 ∷ 4 ∷ 7 ∷ []
+vector_full : words_of
+    (vector (codes "v") 4 (ival.Number 1 ∷ ival.Number 2 ∷ ival.Number 3 ∷ ival.Number 4 ∷ []) [] ∷ main ∷ [])
+    ≡ 8 ∷ 1 ∷ 2 ∷ 3 ∷ 4 ∷ 7 ∷ []
 vector_full = refl
 
 vector_zeros : words_of (vector (codes "v") 3 (ival.Number 1 ∷ []) [] ∷ main ∷ []) ≡ 8 ∷ 1 ∷ 0 ∷ 0 ∷ 7 ∷ []
 vector_zeros = refl
 
 -- a vector's string words come after its words; its own name as a value is the address of its own word
-vector_strings : words_of (vector (codes "v") 2 (ival.Text 1 ∷ ival.Name (codes "v") ∷ []) (4 ∷ 1121 ∷ []) ∷ main ∷ []) ≡ 8 ∷ 11 ∷ 7 ∷ 4 ∷ 1121 ∷ 7 ∷ []
+vector_strings : words_of (vector (codes "v") 2 (ival.Text 1 ∷ ival.Name (codes "v") ∷ []) (4 ∷ 1121 ∷ []) ∷ main ∷ [])
+    ≡ 8 ∷ 11 ∷ 7 ∷ 4 ∷ 1121 ∷ 7 ∷ []
 vector_strings = refl
 
 -- exit 5; main(){}
@@ -71,7 +75,9 @@ hidden = simple (codes "exit") (ival.Number 5 ∷ []) [] ∷ main ∷ []
 hidden_address : address_in (addresses (map shape_of hidden)) (codes "exit") ≡ Some 7
 hidden_address = refl
 
-library_address : map (address_in (addresses (map shape_of hidden))) (codes "char" ∷ codes "lchar" ∷ codes "getchar" ∷ codes "putchar" ∷ codes "printn" ∷ codes "main" ∷ codes "none" ∷ []) ≡ Some 1 ∷ Some 2 ∷ Some 3 ∷ Some 4 ∷ Some 5 ∷ Some 8 ∷ None ∷ []
+library_address : map (address_in (addresses (map shape_of hidden)))
+    (codes "char" ∷ codes "lchar" ∷ codes "getchar" ∷ codes "putchar" ∷ codes "printn" ∷ codes "main" ∷ codes "none"
+    ∷ []) ≡ Some 1 ∷ Some 2 ∷ Some 3 ∷ Some 4 ∷ Some 5 ∷ Some 8 ∷ None ∷ []
 library_address = refl
 
 not_hidden : address_in (addresses (map shape_of (main ∷ []))) (codes "exit") ≡ Some 6
@@ -106,36 +112,46 @@ twice : load_fault (simple (codes "n") [] [] ∷ simple (codes "n") [] [] ∷ []
 twice = refl
 
 -- the first that an earlier one has: a; b; b; a;
-twice_first : load_fault (simple (codes "a") [] [] ∷ simple (codes "b") [] [] ∷ simple (codes "b") [] [] ∷ simple (codes "a") [] [] ∷ []) ≡ Some (fault.Duplicate (codes "b"))
+twice_first : load_fault
+    (simple (codes "a") [] [] ∷ simple (codes "b") [] [] ∷ simple (codes "b") [] [] ∷ simple (codes "a") [] [] ∷ [])
+    ≡ Some (fault.Duplicate (codes "b"))
 twice_first = refl
 
 -- v[30000]; w[30000]; x[10000]; main() ;
-too_large : load_fault (vector (codes "v") 30001 [] [] ∷ vector (codes "w") 30001 [] [] ∷ vector (codes "x") 10001 [] [] ∷ main ∷ []) ≡ Some fault.TooLarge
+too_large : load_fault
+    (vector (codes "v") 30001 [] [] ∷ vector (codes "w") 30001 [] [] ∷ vector (codes "x") 10001 [] [] ∷ main ∷ [])
+    ≡ Some fault.TooLarge
 too_large = refl
 
 -- the data may end at 65536, and not behind it
 largest : load_fault (vector (codes "v") 32767 [] [] ∷ vector (codes "w") 32759 [] [] ∷ main ∷ []) ≡ None
 largest = refl
 
-one_too_large : load_fault (vector (codes "v") 32767 [] [] ∷ vector (codes "w") 32760 [] [] ∷ main ∷ []) ≡ Some fault.TooLarge
+one_too_large : load_fault (vector (codes "v") 32767 [] [] ∷ vector (codes "w") 32760 [] [] ∷ main ∷ [])
+    ≡ Some fault.TooLarge
 one_too_large = refl
 
 -- Labels may count to 65535; the first label of a function behind them is 65536.
 many_labels : load_fault (function (codes "f") (replicate 65535 0) [] [] ∷ main ∷ []) ≡ None
 many_labels = refl
 
-too_many_labels : load_fault (function (codes "f") (replicate 65535 0) [] [] ∷ function (codes "main") (0 ∷ []) [] [] ∷ []) ≡ Some fault.TooLarge
+too_many_labels : load_fault
+    (function (codes "f") (replicate 65535 0) [] [] ∷ function (codes "main") (0 ∷ []) [] [] ∷ []) ≡ Some fault.TooLarge
 too_many_labels = refl
 
-label_behind_many : map (λ (s : Spot). s.first_label) (spots (map shape_of (function (codes "f") (replicate 65535 0) [] [] ∷ main ∷ []))) ≡ 1 ∷ 65536 ∷ []
+label_behind_many : map (λ (s : Spot). s.first_label)
+    (spots (map shape_of (function (codes "f") (replicate 65535 0) [] [] ∷ main ∷ []))) ≡ 1 ∷ 65536 ∷ []
 label_behind_many = refl
 
 -- main() g();
-undefined : load_fault (function (codes "main") [] [] (External (codes "g") ∷ Call 0 ∷ Pop ∷ []) ∷ []) ≡ Some (fault.Undefined (codes "g"))
+undefined : load_fault (function (codes "main") [] [] (External (codes "g") ∷ Call 0 ∷ Pop ∷ []) ∷ [])
+    ≡ Some (fault.Undefined (codes "g"))
 undefined = refl
 
 -- the first in the text, in values and instructions alike: n a; main() b();
-undefined_first : load_fault (simple (codes "n") (ival.Name (codes "a") ∷ []) [] ∷ function (codes "main") [] [] (External (codes "b") ∷ []) ∷ []) ≡ Some (fault.Undefined (codes "a"))
+undefined_first : load_fault
+    (simple (codes "n") (ival.Name (codes "a") ∷ []) [] ∷ function (codes "main") [] [] (External (codes "b") ∷ [])
+    ∷ []) ≡ Some (fault.Undefined (codes "a"))
 undefined_first = refl
 
 -- the library defines exit
@@ -150,11 +166,13 @@ no_function : load_fault (simple (codes "main") [] [] ∷ []) ≡ Some fault.NoM
 no_function = refl
 
 -- Of several faults the first kind is given: main g; main; has three of them.
-order_1 : load_fault (simple (codes "main") (ival.Name (codes "g") ∷ []) [] ∷ simple (codes "main") [] [] ∷ []) ≡ Some (fault.Duplicate (codes "main"))
+order_1 : load_fault (simple (codes "main") (ival.Name (codes "g") ∷ []) [] ∷ simple (codes "main") [] [] ∷ [])
+    ≡ Some (fault.Duplicate (codes "main"))
 order_1 = refl
 
 -- v[32766] g; w[32766];
-order_2 : load_fault (vector (codes "v") 32767 (ival.Name (codes "g") ∷ []) [] ∷ vector (codes "w") 32767 [] [] ∷ []) ≡ Some fault.TooLarge
+order_2 : load_fault (vector (codes "v") 32767 (ival.Name (codes "g") ∷ []) [] ∷ vector (codes "w") 32767 [] [] ∷ [])
+    ≡ Some fault.TooLarge
 order_2 = refl
 
 -- n g;

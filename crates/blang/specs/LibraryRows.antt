@@ -3,7 +3,8 @@ use Rattle.std.specs.Prelude.{◌≡◌, [], ◌∷◌, codes, Some, None, refl}
 use Rattle.std.specs.Fmt.{digits}
 use Rattle.blang.specs.declared.run.Library.TheVariants.{Char, Lchar, Getchar, Putchar, Printn, Exit}
 use Rattle.blang.specs.declared.run.Trap.TheVariants.{BadBase, NoRoom, TooDeep}
-use Rattle.blang.specs.Layout.{World, Gives, Ends, Exited, Trapped, library, with_words, callee_of, NoFunction, OfLibrary, OfProgram, refusal, parameter_words}
+use Rattle.blang.specs.Layout.{World, Gives, Ends, Exited, Trapped, library, with_words, callee_of, NoFunction}
+use Rattle.blang.specs.Layout.{OfLibrary, OfProgram, refusal, parameter_words}
 
 -- the string "hi" and its final *e at word 2, the input "ab"
 abbrev world : World

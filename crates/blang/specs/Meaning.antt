@@ -1,30 +1,30 @@
 -- What a program means, on an input and with so much fuel: going on with the statements that remain.
-use Rattle.std.specs.Prelude.{ℕ, zero, suc, ◌+◌, ◌-◌, ◌%◌, List, [], ◌∷◌, Option, Some, None, option_map, unwrap_or, nat_lt, slice_get, ◌==◌, if◌then◌else◌, map, length, zip, find, filter_map, codes, Bool, false, option_and_then, ◌≡◌, ◌++◌}
-use Rattle.std.specs.List.{flat_map}
-use Rattle.bword.specs.Words.{same_name}
-use Rattle.blang.specs.Trees.{Declared, Heading, Auto, Extrn, Label, Case, Default, Stmt, Headed, Compound, If, IfElse, While, Switch, Goto, Break, Return, ReturnValue, Evaluate, Empty, Stmts, Nothing, More, Definition}
-use Rattle.blang.specs.Code.{Names, Meaning, In_frame, Arms, default_in, ival_code, ival_strings, statement_strings, vector_words, code_of}
+use Rattle.std.specs.Prelude.{ℕ, zero, suc, ◌+◌, ◌-◌, ◌%◌, List, [], ◌∷◌, Option, Some, None, option_map, unwrap_or}
+use Rattle.std.specs.Prelude.{nat_lt, slice_get, ◌==◌, if◌then◌else◌, map, ◌≡◌, ◌++◌}
+use Rattle.blang.specs.Trees.{Declared, Heading, Auto, Stmt, Headed, Compound, If, IfElse, While, Switch, Goto, Break}
+use Rattle.blang.specs.Trees.{Return, ReturnValue, Evaluate, Empty, Stmts, Nothing, More, Definition}
+use Rattle.blang.specs.Code.{Environment, Referent, In_frame, Arms, default_in, code_of}
 use Rattle.blang.specs.declared.run.Trap.TheVariants.{NotALabel}
-use Rattle.blang.specs.Layout.{words, World, with_word, Exited, Trapped, refusal, Kind, Shape, Spot, spots, data_end, first_words, addresses, padded, load_fault}
-use Rattle.blang.specs.Value.{Computation, ◌>>=◌, gives, trap, Remaining, Do, Loop_mark, Switch_mark, body_arms, Program, names_of, labels_of, Frame, Evaluator, Fuel, spend, is_true, value, Answer, Gives, Ends, Wants, labels, Function, frame_words}
+use Rattle.blang.specs.Layout.{store_words, World, with_word, Exited, Trapped, refusal, Spot, laid_out, first_world}
+use Rattle.blang.specs.Layout.{shape_of, is_main, load_fault}
+use Rattle.blang.specs.Value.{Computation, ◌>>=◌, gives, trap, Remaining, Do, Loop_mark, Switch_mark, body_arms}
+use Rattle.blang.specs.Value.{Program, environment_in, labels_of, Frame, Evaluator, Fuel, spend, is_true, value, Answer}
+use Rattle.blang.specs.Value.{Gives, Ends, Wants, labels, SourceFunction, frame_words}
 use Rattle.blang.specs.declared.run.Trap.{Trap}
 
 -- the own word of a vector is the address of the word after it
-abbrev pub with_vector : Meaning → Option ℕ → (start : ℕ) → World → World
-with_vector (In_frame k) (Some c) start w = with_word w ((start + k) % words) ((start + (k + 1)) % words)
+abbrev pub with_vector : Referent → Option ℕ → (start : ℕ) → World → World
+with_vector (In_frame k) (Some c) start w = with_word w ((start + k) % store_words) ((start + (k + 1)) % store_words)
 with_vector _ _ start w = w
 
-abbrev pub with_vectors : Names → List Declared → (start : ℕ) → World → World
+abbrev pub with_vectors : Environment → List Declared → (start : ℕ) → World → World
 with_vectors names [] start w = w
 with_vectors names (d ∷ ds) start w = with_vectors names ds start (with_vector (names d.word.text) d.size start w)
 
 -- control passes a heading
-abbrev pub passed : Heading → Frame → World → World
-passed (Auto declared) frame w = with_vectors (names_of frame.function) declared frame.start w
-passed (Extrn names) frame w = w
-passed (Label x) frame w = w
-passed (Case line c) frame w = w
-passed (Default line) frame w = w
+abbrev pub heading_passed : Heading → Frame → World → World
+heading_passed (Auto declared) frame w = with_vectors (environment_in frame.function) declared frame.start w
+heading_passed _ frame w = w
 
 -- what the first case with this constant leads to, or else something other
 abbrev pub case_in : ℕ → Arms Remaining → (other : Remaining) → Remaining
@@ -33,8 +33,8 @@ case_in v ((None, there) ∷ arms) other = case_in v arms other
 case_in v ((Some x, there) ∷ arms) other = if v == x then there else case_in v arms other
 
 -- what a switch with this value goes on with: a case, or else the default, or else what remains
-abbrev pub selected : ℕ → Arms Remaining → Remaining → Remaining
-selected v arms rest = case_in v arms (unwrap_or (default_in arms) rest)
+abbrev pub arm_selected : ℕ → Arms Remaining → Remaining → Remaining
+arm_selected v arms rest = case_in v arms (unwrap_or (default_in arms) rest)
 
 -- what the label with this value leads to, among labels whose values count from the first one on
 abbrev pub label_at : (first value : ℕ) → List (List ℕ × Remaining) → Option Remaining
@@ -42,15 +42,17 @@ label_at first value labels =
     if nat_lt value first then None else option_map (λ l. l.1) (slice_get labels (value - first))
 
 -- a jump to a label of this function spends one fuel
-abbrev pub gone_to : Fuel → Frame → Option Remaining → Computation ℕ
-gone_to fuel frame None = trap NotALabel
-gone_to fuel frame (Some there) = spend fuel (λ less. less.go_on frame there)
+abbrev pub gone_to_label : Fuel → Frame → Option Remaining → Computation ℕ
+gone_to_label fuel frame None = trap NotALabel
+gone_to_label fuel frame (Some there) = spend fuel (λ less. less.go_on frame there)
 
 module _ (program : Program) (fuel : Fuel) (frame : Frame) where
   abbrev mutual
-    -- Does a statement and what is next, which are the statements that remain, or what is done behind a break.
+    -- Does a statement. What remains behind it is kept twice: as statements, which a jump or a loop goes on with, and
+    -- as what is done next, or behind a break. That both come to the same is the law `statements_are_done_in_place`
+    -- (`bmean`): going on with a statement is going on with what it puts in front of the rest.
     pub take_up : Stmt → Remaining → (next out : Computation ℕ) → Computation ℕ
-    take_up (Headed h s) rest next out = λ w. take_up s rest next out (passed h frame w)
+    take_up (Headed h s) rest next out = λ w. take_up s rest next out (heading_passed h frame w)
     take_up (Compound body) rest next out = take_up_body body rest next out
     take_up (If e s) rest next out = do
       x ← value program fuel frame e
@@ -65,16 +67,14 @@ module _ (program : Program) (fuel : Fuel) (frame : Frame) where
     take_up (Switch e body) rest next out =
         spend fuel (λ less. do
           v ← less.value frame e
-          less.go_on frame (selected v (body_arms body (Switch_mark ∷ rest)) rest))
+          less.go_on frame (arm_selected v (body_arms body (Switch_mark ∷ rest)) rest))
     take_up (Goto e) rest next out = do
       v ← value program fuel frame e
-      gone_to fuel frame (label_at frame.function.first_label v (labels_of frame.function))
+      gone_to_label fuel frame (label_at frame.function.first_label v (labels_of frame.function))
     take_up (Break line) rest next out = out
     take_up Return rest next out = gives 0
     take_up (ReturnValue e) rest next out = value program fuel frame e
-    take_up (Evaluate e) rest next out = do
-      v ← value program fuel frame e
-      next
+    take_up (Evaluate e) rest next out = value program fuel frame e >>= λ v. next
     take_up Empty rest next out = next
 
     pub take_up_body : Stmts → Remaining → (next out : Computation ℕ) → Computation ℕ
@@ -106,48 +106,14 @@ abbrev pub fuel_of : Program → ℕ → Fuel
 fuel_of program zero = None
 fuel_of program (suc n) = Some (evaluator program (fuel_of program n))
 
--- what the layout looks at
-abbrev pub shape_of : Definition → Shape
-shape_of (Definition.Simple w values) =
-    record { kind = Kind.Simple; name = w.text; values = map ival_code values; strings = flat_map ival_strings values }
-shape_of (Definition.Vector w size values) =
-    record {
-      kind = Kind.Vector (vector_words size values);
-      name = w.text;
-      values = map ival_code values;
-      strings = flat_map ival_strings values;
-    }
-shape_of (Definition.Function w parameters body) =
-    record {
-      kind = Kind.Function (length (labels body []));
-      name = w.text;
-      values = [];
-      strings = statement_strings body;
-    }
-
-abbrev pub function_at : Spot × Definition → Option Function
+abbrev pub function_at : Spot × Definition → Option SourceFunction
 function_at (s, Definition.Function w parameters body) =
     Some (record { parameters = parameters; body = body; strings = s.strings; first_label = s.first_label })
 function_at (s, d) = None
 
-abbrev pub is_main : Definition → Bool
-is_main (Definition.Function w parameters body) = same_name w.text (codes "main")
-is_main _ = false
-
+-- definitions lie as their code does
 abbrev pub program_of : List Definition → Program
-program_of ds =
-    let shapes = map shape_of ds in
-    let placed = zip (spots shapes) ds in
-    record {
-      functions = filter_map function_at placed;
-      main = option_and_then function_at (find (λ p. is_main p.1) placed);
-      words = first_words shapes;
-      data_end = data_end shapes;
-      addresses = addresses shapes;
-    }
-
-abbrev pub first_world : Program → List ℕ → World
-first_world program input = record { store = padded words program.words; input = input; output = [] }
+program_of ds = laid_out (λ d. shape_of (code_of d)) (λ d. is_main (code_of d)) function_at ds
 
 -- a return of the main function exits with status 0
 abbrev pub exited : Answer ℕ → Answer ⊥
@@ -156,22 +122,22 @@ exited (Ends e w) = Ends e w
 exited (Wants w) = Wants w
 
 -- the call of the main function, whose frame begins at the data end
-abbrev pub main_frame : Program → Function → Frame
+abbrev pub main_frame : Program → SourceFunction → Frame
 main_frame program f = record { function = f; start = program.data_end; active = 1 }
 
 -- the main function begins, unless its frame has no room
-abbrev pub begun : Option Trap → Program → Function → ℕ → World → Answer ⊥
-begun (Some t) program f n w = Ends (Trapped t) w
-begun None program f n w =
+abbrev pub main_meant : Option Trap → Program → SourceFunction → ℕ → World → Answer ⊥
+main_meant (Some t) program f n w = Ends (Trapped t) w
+main_meant None program f n w =
     exited (go_on program (fuel_of program n) (main_frame program f) (Do f.body ∷ []) w)
 
 -- A program without a main function, which doesn't load, never ends.
-abbrev pub started : Program → Option Function → ℕ → World → Answer ⊥
-started program None n w = Wants w
-started program (Some f) n w = begun (refusal 0 (program.data_end + frame_words f)) program f n w
+abbrev pub program_meant : Program → Option SourceFunction → ℕ → World → Answer ⊥
+program_meant program None n w = Wants w
+program_meant program (Some f) n w = main_meant (refusal 0 (program.data_end + frame_words f)) program f n w
 
 abbrev pub meaning : Program → List ℕ → ℕ → Answer ⊥
-meaning program input n = started program program.main n (first_world program input)
+meaning program input n = program_meant program program.main n (first_world program input)
 
 -- what definitions mean
 abbrev pub meant : List Definition → List ℕ → ℕ → Answer ⊥
@@ -180,10 +146,10 @@ meant ds input n = meaning (program_of ds) input n
 abbrev pub Loads : List Definition → Type 0
 Loads ds = load_fault (map code_of ds) ≡ None
 
-abbrev pub world_of : Answer ⊥ → World
-world_of (Gives v w) = w
-world_of (Ends e w) = w
-world_of (Wants w) = w
+abbrev pub answer_world : Answer ⊥ → World
+answer_world (Gives v w) = w
+answer_world (Ends e w) = w
+answer_world (Wants w) = w
 
 abbrev pub IsBeginningOf : List ℕ → List ℕ → Type 0
 IsBeginningOf xs ys = (more : List ℕ) × (xs ++ more ≡ ys)

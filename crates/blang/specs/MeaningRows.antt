@@ -2,13 +2,17 @@
 use Rattle.std.specs.Prelude.{◌≡◌, ℕ, List, [], ◌∷◌, map, codes, Option, Some, None, refl}
 use Rattle.std.specs.Fmt.{digits}
 use Rattle.bword.specs.declared.operators.BinOp.TheVariants as op
-use Rattle.blang.specs.Trees.{Word, Number, Character, Expr, Arguments, Address, Not, PreIncrement, PostIncrement, PostDecrement, Named, Literal, Text, Grouped, Indexed, Called, Postfixed, Prefixed, Binary, Conditional, Assigned, No_arguments, Another, Auto, Extrn, Label, Case, Default, Stmt, Headed, Compound, If, While, Switch, Goto, Break, ReturnValue, Evaluate, Empty, Stmts, Nothing, More, Definition, Ival_constant}
+use Rattle.blang.specs.Trees.{Identifier, Number, Character, Expr, Arguments, Address, Not, PreIncrement, PostIncrement}
+use Rattle.blang.specs.Trees.{PostDecrement, Named, Literal, Text, Grouped, Indexed, Called, Postfixed, Prefixed}
+use Rattle.blang.specs.Trees.{Binary, Conditional, Assigned, No_arguments, Another, Auto, Extrn, Label, Case, Default}
+use Rattle.blang.specs.Trees.{Stmt, Headed, Compound, If, While, Switch, Goto, Break, ReturnValue, Evaluate, Empty}
+use Rattle.blang.specs.Trees.{Stmts, Nothing, More, Definition, Ival_constant}
 use Rattle.blang.specs.declared.run.Trap.TheVariants.{ZeroDivisor, NotAFunction, NotALabel, NoRoom, TooDeep}
 use Rattle.blang.specs.Layout.{Ending, Exited, Trapped}
 use Rattle.blang.specs.Value.{Answer, Gives, Ends, Wants}
 use Rattle.blang.specs.Meaning.{meant}
 
-abbrev word : List ℕ → Word
+abbrev word : List ℕ → Identifier
 word x = record { text = x; line = 1 }
 
 abbrev name : List ℕ → Expr
@@ -80,21 +84,36 @@ exits_200 : does (main (Evaluate (call (codes "exit") (number 200 ∷ [])) ∷ [
 exits_200 = refl
 
 -- f(){auto a; a='7';} g(){auto b; return(b);} main(){f(); putchar(g());}: a frame isn't cleared
-keeps_frames : does (function (codes "f") [] (auto (codes "a") None (set (codes "a") (number 55)) ∷ []) ∷ function (codes "g") [] (auto (codes "b") None (ReturnValue (name (codes "b"))) ∷ []) ∷ main (Evaluate (call (codes "f") []) ∷ putchar (call (codes "g") []) ∷ []) ∷ []) [] 1 ≡ (Some (Exited 0), codes "7")
+keeps_frames : does
+    (function (codes "f") [] (auto (codes "a") None (set (codes "a") (number 55)) ∷ []) ∷ function (codes "g") []
+    (auto (codes "b") None (ReturnValue (name (codes "b"))) ∷ []) ∷ main
+    (Evaluate (call (codes "f") []) ∷ putchar (call (codes "g") []) ∷ []) ∷ []) [] 1 ≡ (Some (Exited 0), codes "7")
 keeps_frames = refl
 
 -- p(x){putchar(x); return(x);} main(){p('a')-p('b');}
-left_first : does (function (codes "p") (codes "x" ∷ []) (putchar (name (codes "x")) ∷ ReturnValue (name (codes "x")) ∷ []) ∷ main (Evaluate (Binary op.Sub 1 (call (codes "p") (number 97 ∷ [])) (call (codes "p") (number 98 ∷ []))) ∷ []) ∷ []) [] 1 ≡ (Some (Exited 0), codes "ab")
+left_first : does
+    (function (codes "p") (codes "x" ∷ []) (putchar (name (codes "x")) ∷ ReturnValue (name (codes "x")) ∷ []) ∷ main
+    (Evaluate (Binary op.Sub 1 (call (codes "p") (number 97 ∷ [])) (call (codes "p") (number 98 ∷ []))) ∷ []) ∷ []) [] 1
+    ≡ (Some (Exited 0), codes "ab")
 left_first = refl
 
 -- n 1; f(){extrn n; n=5; return(1);} main(){extrn n; n =+ f(); printn(n,10);}
-reads_behind : does (Definition.Simple (word (codes "n")) (Ival_constant (Number 1) ∷ []) ∷ function (codes "f") [] (Headed (Extrn (word (codes "n") ∷ [])) (set (codes "n") (number 5)) ∷ ReturnValue (number 1) ∷ []) ∷ main (Headed (Extrn (word (codes "n") ∷ [])) (Evaluate (Assigned (Some op.Add) 1 (name (codes "n")) (call (codes "f") []))) ∷ printn (name (codes "n")) ∷ []) ∷ []) [] 1 ≡ (Some (Exited 0), codes "6")
+reads_behind : does
+    (Definition.Simple (word (codes "n")) (Ival_constant (Number 1) ∷ []) ∷ function (codes "f") []
+    (Headed (Extrn (word (codes "n") ∷ [])) (set (codes "n") (number 5)) ∷ ReturnValue (number 1) ∷ []) ∷ main
+    (Headed (Extrn (word (codes "n") ∷ []))
+    (Evaluate (Assigned (Some op.Add) 1 (name (codes "n")) (call (codes "f") []))) ∷ printn (name (codes "n")) ∷ [])
+    ∷ []) [] 1 ≡ (Some (Exited 0), codes "6")
 unfolding digits
 reads_behind = refl
 
 -- main(){auto i; i=0; goto in; while(i<3){in: putchar('a'+i); i++;}}
 abbrev into_loop : List Definition
-into_loop = main (auto (codes "i") None (set (codes "i") (number 0)) ∷ Goto (name (codes "in")) ∷ While (Binary op.Lt 1 (name (codes "i")) (number 3)) (block (label (codes "in") (putchar (Binary op.Add 1 (number 97) (name (codes "i")))) ∷ Evaluate (Postfixed PostIncrement 1 (name (codes "i"))) ∷ [])) ∷ []) ∷ []
+into_loop =
+    main (auto (codes "i") None (set (codes "i") (number 0)) ∷ Goto (name (codes "in")) ∷ While
+    (Binary op.Lt 1 (name (codes "i")) (number 3))
+    (block (label (codes "in") (putchar (Binary op.Add 1 (number 97) (name (codes "i")))) ∷ Evaluate
+    (Postfixed PostIncrement 1 (name (codes "i"))) ∷ [])) ∷ []) ∷ []
 
 goes_into_loop : does into_loop [] 4 ≡ (Some (Exited 0), codes "abc")
 goes_into_loop = refl
@@ -107,36 +126,63 @@ goes_into_loop_0 = refl
 
 -- main(){switch s {case 1: putchar('1'); case 2: putchar('2'); case 3: putchar('3');} putchar('.');}
 abbrev switched : ℕ → List Definition
-switched s = main (Switch (number s) (statements_behind Nothing (case 1 (putchar (number 49)) ∷ case 2 (putchar (number 50)) ∷ case 3 (putchar (number 51)) ∷ [])) ∷ putchar (number 46) ∷ []) ∷ []
+switched s =
+    main (Switch (number s)
+    (statements_behind Nothing
+    (case 1 (putchar (number 49)) ∷ case 2 (putchar (number 50)) ∷ case 3 (putchar (number 51)) ∷ [])) ∷ putchar
+    (number 46) ∷ []) ∷ []
 
-falls_through : map (λ s. does (switched s) [] 1) (2 ∷ 9 ∷ []) ≡ (Some (Exited 0), codes "23.") ∷ (Some (Exited 0), codes ".") ∷ []
+falls_through : map (λ s. does (switched s) [] 1) (2 ∷ 9 ∷ [])
+    ≡ (Some (Exited 0), codes "23.") ∷ (Some (Exited 0), codes ".") ∷ []
 falls_through = refl
 
 -- main(){switch s {case 1: putchar('1'); default: putchar('d'); case 2: putchar('2');}}
 abbrev defaulted : ℕ → List Definition
-defaulted s = main (Switch (number s) (statements_behind Nothing (case 1 (putchar (number 49)) ∷ default (putchar (number 100)) ∷ case 2 (putchar (number 50)) ∷ [])) ∷ []) ∷ []
+defaulted s =
+    main (Switch (number s)
+    (statements_behind Nothing
+    (case 1 (putchar (number 49)) ∷ default (putchar (number 100)) ∷ case 2 (putchar (number 50)) ∷ [])) ∷ []) ∷ []
 
-goes_to_default : map (λ s. does (defaulted s) [] 1) (9 ∷ 2 ∷ 1 ∷ []) ≡ (Some (Exited 0), codes "d2") ∷ (Some (Exited 0), codes "2") ∷ (Some (Exited 0), codes "1d2") ∷ []
+goes_to_default : map (λ s. does (defaulted s) [] 1) (9 ∷ 2 ∷ 1 ∷ [])
+    ≡ (Some (Exited 0), codes "d2") ∷ (Some (Exited 0), codes "2") ∷ (Some (Exited 0), codes "1d2") ∷ []
 goes_to_default = refl
 
--- main(){auto i; i=0; while(i<2) {switch i {case 0: break; default: putchar('x');} i++;}}: the switch is left, not the loop
-breaks_a_switch : does (main (auto (codes "i") None (set (codes "i") (number 0)) ∷ While (Binary op.Lt 1 (name (codes "i")) (number 2)) (block (Switch (name (codes "i")) (statements_behind Nothing (case 0 (Break 1) ∷ default (putchar (number 120)) ∷ [])) ∷ Evaluate (Postfixed PostIncrement 1 (name (codes "i"))) ∷ [])) ∷ []) ∷ []) [] 5 ≡ (Some (Exited 0), codes "x")
+-- main(){auto i; i=0; while(i<2) {switch i {case 0: break; default: putchar('x');} i++;}}: the switch is left, not the
+-- loop
+breaks_a_switch : does
+    (main (auto (codes "i") None (set (codes "i") (number 0)) ∷ While (Binary op.Lt 1 (name (codes "i")) (number 2))
+    (block (Switch (name (codes "i"))
+    (statements_behind Nothing (case 0 (Break 1) ∷ default (putchar (number 120)) ∷ [])) ∷ Evaluate
+    (Postfixed PostIncrement 1 (name (codes "i"))) ∷ [])) ∷ []) ∷ []) [] 5 ≡ (Some (Exited 0), codes "x")
 breaks_a_switch = refl
 
 -- main(){auto i; i=0; while(i<1) {i++; break; while(1) ;} putchar('k');}: a break leaves the loop with one fuel in all
-breaks_a_loop : does (main (auto (codes "i") None (set (codes "i") (number 0)) ∷ While (Binary op.Lt 1 (name (codes "i")) (number 1)) (block (Evaluate (Postfixed PostIncrement 1 (name (codes "i"))) ∷ Break 1 ∷ While (number 1) Empty ∷ [])) ∷ putchar (number 107) ∷ []) ∷ []) [] 1 ≡ (Some (Exited 0), codes "k")
+breaks_a_loop : does
+    (main (auto (codes "i") None (set (codes "i") (number 0)) ∷ While (Binary op.Lt 1 (name (codes "i")) (number 1))
+    (block (Evaluate (Postfixed PostIncrement 1 (name (codes "i"))) ∷ Break 1 ∷ While (number 1) Empty ∷ [])) ∷ putchar
+    (number 107) ∷ []) ∷ []) [] 1 ≡ (Some (Exited 0), codes "k")
 breaks_a_loop = refl
 
 -- main(){goto in; switch 1 {case 1: in: break;} putchar('k');}
-breaks_behind_a_goto : does (main (Goto (name (codes "in")) ∷ Switch (number 1) (statements_behind Nothing (case 1 (label (codes "in") (Break 1)) ∷ [])) ∷ putchar (number 107) ∷ []) ∷ []) [] 1 ≡ (Some (Exited 0), codes "k")
+breaks_behind_a_goto : does
+    (main (Goto (name (codes "in")) ∷ Switch (number 1)
+    (statements_behind Nothing (case 1 (label (codes "in") (Break 1)) ∷ [])) ∷ putchar (number 107) ∷ []) ∷ []) [] 1
+    ≡ (Some (Exited 0), codes "k")
 breaks_behind_a_goto = refl
 
--- main(){goto in; while(1) {putchar('a'); in: while(1) {break;} putchar('b'); break;} putchar('c');}: each leaves its own
-breaks_in_and_out : does (main (Goto (name (codes "in")) ∷ While (number 1) (block (putchar (number 97) ∷ label (codes "in") (While (number 1) (block (Break 1 ∷ []))) ∷ putchar (number 98) ∷ Break 1 ∷ [])) ∷ putchar (number 99) ∷ []) ∷ []) [] 2 ≡ (Some (Exited 0), codes "bc")
+-- main(){goto in; while(1) {putchar('a'); in: while(1) {break;} putchar('b'); break;} putchar('c');}: each leaves its
+-- own
+breaks_in_and_out : does
+    (main (Goto (name (codes "in")) ∷ While (number 1)
+    (block (putchar (number 97) ∷ label (codes "in") (While (number 1) (block (Break 1 ∷ []))) ∷ putchar (number 98)
+    ∷ Break 1 ∷ [])) ∷ putchar (number 99) ∷ []) ∷ []) [] 2 ≡ (Some (Exited 0), codes "bc")
 breaks_in_and_out = refl
 
 -- f(){a: b: ;} main(){auto i; i=d; c: printn(i,10); d: ;}: labels count over the whole program
-label_values : does (function (codes "f") [] (label (codes "a") (label (codes "b") Empty) ∷ []) ∷ main (auto (codes "i") None (set (codes "i") (name (codes "d"))) ∷ label (codes "c") (printn (name (codes "i"))) ∷ label (codes "d") Empty ∷ []) ∷ []) [] 0 ≡ (Some (Exited 0), codes "4")
+label_values : does
+    (function (codes "f") [] (label (codes "a") (label (codes "b") Empty) ∷ []) ∷ main
+    (auto (codes "i") None (set (codes "i") (name (codes "d"))) ∷ label (codes "c") (printn (name (codes "i"))) ∷ label
+    (codes "d") Empty ∷ []) ∷ []) [] 0 ≡ (Some (Exited 0), codes "4")
 unfolding digits
 label_values = refl
 
@@ -144,77 +190,130 @@ label_values = refl
 goes_nowhere : does (main (Goto (number 9) ∷ []) ∷ []) [] 0 ≡ (Some (Trapped NotALabel), [])
 goes_nowhere = refl
 
-goes_elsewhere : does (function (codes "f") (codes "l" ∷ []) (Goto (name (codes "l")) ∷ []) ∷ main (Evaluate (call (codes "f") (name (codes "x") ∷ [])) ∷ label (codes "x") Empty ∷ []) ∷ []) [] 1 ≡ (Some (Trapped NotALabel), [])
+goes_elsewhere : does
+    (function (codes "f") (codes "l" ∷ []) (Goto (name (codes "l")) ∷ []) ∷ main
+    (Evaluate (call (codes "f") (name (codes "x") ∷ [])) ∷ label (codes "x") Empty ∷ []) ∷ []) [] 1
+    ≡ (Some (Trapped NotALabel), [])
 goes_elsewhere = refl
 
 -- main(){extrn n; n();} n 0;
-calls_0 : does (main (Headed (Extrn (word (codes "n") ∷ [])) (Evaluate (call (codes "n") [])) ∷ []) ∷ Definition.Simple (word (codes "n")) (Ival_constant (Number 0) ∷ []) ∷ []) [] 0 ≡ (Some (Trapped NotAFunction), [])
+calls_0 : does
+    (main (Headed (Extrn (word (codes "n") ∷ [])) (Evaluate (call (codes "n") [])) ∷ []) ∷ Definition.Simple
+    (word (codes "n")) (Ival_constant (Number 0) ∷ []) ∷ []) [] 0 ≡ (Some (Trapped NotAFunction), [])
 calls_0 = refl
 
 -- main(){putchar('.'); printn(1/0,10);}
-divides_by_0 : does (main (putchar (number 46) ∷ printn (Binary op.Div 1 (number 1) (number 0)) ∷ []) ∷ []) [] 0 ≡ (Some (Trapped ZeroDivisor), codes ".")
+divides_by_0 : does (main (putchar (number 46) ∷ printn (Binary op.Div 1 (number 1) (number 0)) ∷ []) ∷ []) [] 0
+    ≡ (Some (Trapped ZeroDivisor), codes ".")
 divides_by_0 = refl
 
 -- main(){auto v 32000; main();}
-no_room : does (main (auto (codes "v") (Some 32000) (Evaluate (call (codes "main") [])) ∷ []) ∷ []) [] 1 ≡ (Some (Trapped NoRoom), [])
+no_room : does (main (auto (codes "v") (Some 32000) (Evaluate (call (codes "main") [])) ∷ []) ∷ []) [] 1
+    ≡ (Some (Trapped NoRoom), [])
 no_room = refl
 
 -- f(a,b) return(b); main(){putchar(f(1)+'0'); putchar(f('a','b','c'));}
-parameters : does (function (codes "f") (codes "a" ∷ codes "b" ∷ []) (ReturnValue (name (codes "b")) ∷ []) ∷ main (putchar (Binary op.Add 1 (call (codes "f") (number 1 ∷ [])) (number 48)) ∷ putchar (call (codes "f") (number 97 ∷ number 98 ∷ number 99 ∷ [])) ∷ []) ∷ []) [] 1 ≡ (Some (Exited 0), codes "0b")
+parameters : does
+    (function (codes "f") (codes "a" ∷ codes "b" ∷ []) (ReturnValue (name (codes "b")) ∷ []) ∷ main
+    (putchar (Binary op.Add 1 (call (codes "f") (number 1 ∷ [])) (number 48)) ∷ putchar
+    (call (codes "f") (number 97 ∷ number 98 ∷ number 99 ∷ [])) ∷ []) ∷ []) [] 1 ≡ (Some (Exited 0), codes "0b")
 parameters = refl
 
 -- main(){main();}
 too_deep : does (main (Evaluate (call (codes "main") []) ∷ []) ∷ []) [] 4095 ≡ (Some (Trapped TooDeep), [])
 too_deep = refl
 
--- printn(n,b){extrn putchar; auto a; if(a=n/b) printn(a,b); putchar(n%b+'0');} main(){printn(1972,10);}: the library's is hidden
-hides_printn : does (function (codes "printn") (codes "n" ∷ codes "b" ∷ []) (Headed (Extrn (word (codes "putchar") ∷ [])) (auto (codes "a") None (If (Assigned None 1 (name (codes "a")) (Binary op.Div 1 (name (codes "n")) (name (codes "b")))) (Evaluate (call (codes "printn") (name (codes "a") ∷ name (codes "b") ∷ []))))) ∷ putchar (Binary op.Add 1 (Binary op.Rem 1 (name (codes "n")) (name (codes "b"))) (number 48)) ∷ []) ∷ main (printn (number 1972) ∷ []) ∷ []) [] 4 ≡ (Some (Exited 0), codes "1972")
+-- printn(n,b){extrn putchar; auto a; if(a=n/b) printn(a,b); putchar(n%b+'0');} main(){printn(1972,10);}: the library's
+-- is hidden
+hides_printn : does
+    (function (codes "printn") (codes "n" ∷ codes "b" ∷ [])
+    (Headed (Extrn (word (codes "putchar") ∷ []))
+    (auto (codes "a") None
+    (If (Assigned None 1 (name (codes "a")) (Binary op.Div 1 (name (codes "n")) (name (codes "b"))))
+    (Evaluate (call (codes "printn") (name (codes "a") ∷ name (codes "b") ∷ []))))) ∷ putchar
+    (Binary op.Add 1 (Binary op.Rem 1 (name (codes "n")) (name (codes "b"))) (number 48)) ∷ []) ∷ main
+    (printn (number 1972) ∷ []) ∷ []) [] 4 ≡ (Some (Exited 0), codes "1972")
 hides_printn = refl
 
 -- n 5; v[1]; main(){extrn n,v; printn(&n,10); putchar(' '); printn(v,10);}
-external_words : does (Definition.Simple (word (codes "n")) (Ival_constant (Number 5) ∷ []) ∷ Definition.Vector (word (codes "v")) (Some 1) [] ∷ main (Headed (Extrn (word (codes "n") ∷ word (codes "v") ∷ [])) (printn (Prefixed Address 1 (name (codes "n")))) ∷ putchar (number 32) ∷ printn (name (codes "v")) ∷ []) ∷ []) [] 0 ≡ (Some (Exited 0), codes "7 9")
+external_words : does
+    (Definition.Simple (word (codes "n")) (Ival_constant (Number 5) ∷ []) ∷ Definition.Vector (word (codes "v"))
+    (Some 1) [] ∷ main
+    (Headed (Extrn (word (codes "n") ∷ word (codes "v") ∷ [])) (printn (Prefixed Address 1 (name (codes "n"))))
+    ∷ putchar (number 32) ∷ printn (name (codes "v")) ∷ []) ∷ []) [] 0 ≡ (Some (Exited 0), codes "7 9")
 unfolding digits
 external_words = refl
 
 -- main(){putchar(char("hi",1)); printn("a",10);}: each string has its own words, behind the function's
-string_words : does (main (putchar (call (codes "char") (Text (codes "hi") 0 ∷ number 1 ∷ [])) ∷ printn (Text (codes "a") 2) ∷ []) ∷ []) [] 0 ≡ (Some (Exited 0), codes "i10")
+words_of_strings : does
+    (main (putchar (call (codes "char") (Text (codes "hi") 0 ∷ number 1 ∷ [])) ∷ printn (Text (codes "a") 2) ∷ [])
+    ∷ []) [] 0 ≡ (Some (Exited 0), codes "i10")
 unfolding digits
-string_words = refl
+words_of_strings = refl
 
 -- main(){auto i; i=0; a: {auto v 0; if(v-&v) putchar('1'); v=&v;} if(i++<1) goto a;}: v is set each time
-sets_vector : does (main (auto (codes "i") None (set (codes "i") (number 0)) ∷ label (codes "a") (block (auto (codes "v") (Some 0) (If (Binary op.Sub 1 (name (codes "v")) (Prefixed Address 1 (name (codes "v")))) (putchar (number 49))) ∷ set (codes "v") (Prefixed Address 1 (name (codes "v"))) ∷ [])) ∷ If (Binary op.Lt 1 (Postfixed PostIncrement 1 (name (codes "i"))) (number 1)) (Goto (name (codes "a"))) ∷ []) ∷ []) [] 1 ≡ (Some (Exited 0), codes "11")
+sets_vector : does
+    (main (auto (codes "i") None (set (codes "i") (number 0)) ∷ label (codes "a")
+    (block (auto (codes "v") (Some 0)
+    (If (Binary op.Sub 1 (name (codes "v")) (Prefixed Address 1 (name (codes "v")))) (putchar (number 49))) ∷ set
+    (codes "v") (Prefixed Address 1 (name (codes "v"))) ∷ [])) ∷ If
+    (Binary op.Lt 1 (Postfixed PostIncrement 1 (name (codes "i"))) (number 1)) (Goto (name (codes "a"))) ∷ []) ∷ []) []
+    1 ≡ (Some (Exited 0), codes "11")
 sets_vector = refl
 
 -- main(){auto c; while((c=getchar())!='*e') putchar(c);}
-copies : does (main (auto (codes "c") None (While (Binary op.Ne 1 (Assigned None 1 (name (codes "c")) (call (codes "getchar") [])) (Literal (Character 4))) (putchar (name (codes "c")))) ∷ []) ∷ []) (codes "hi") 3 ≡ (Some (Exited 0), codes "hi")
+copies : does
+    (main (auto (codes "c") None
+    (While (Binary op.Ne 1 (Assigned None 1 (name (codes "c")) (call (codes "getchar") [])) (Literal (Character 4)))
+    (putchar (name (codes "c")))) ∷ []) ∷ []) (codes "hi") 3 ≡ (Some (Exited 0), codes "hi")
 copies = refl
 
 -- main(){auto v 1, w 1; exit(w-v);}: each vector is set
-sets_vectors : does (main (Headed (Auto (record { word = word (codes "v"); size = Some 1 } ∷ record { word = word (codes "w"); size = Some 1 } ∷ [])) (Evaluate (call (codes "exit") (Binary op.Sub 1 (name (codes "w")) (name (codes "v")) ∷ []))) ∷ []) ∷ []) [] 0 ≡ (Some (Exited 3), [])
+sets_vectors : does
+    (main (Headed
+    (Auto (record { word = word (codes "v"); size = Some 1 } ∷ record { word = word (codes "w"); size = Some 1 } ∷ []))
+    (Evaluate (call (codes "exit") (Binary op.Sub 1 (name (codes "w")) (name (codes "v")) ∷ []))) ∷ []) ∷ []) [] 0
+    ≡ (Some (Exited 3), [])
 sets_vectors = refl
 
 -- main(){auto x; exit(&x);}: the frame of main begins at the data end
-first_frame : does (main (auto (codes "x") None (Evaluate (call (codes "exit") (Prefixed Address 1 (name (codes "x")) ∷ []))) ∷ []) ∷ []) [] 0 ≡ (Some (Exited 8), [])
+first_frame : does
+    (main (auto (codes "x") None (Evaluate (call (codes "exit") (Prefixed Address 1 (name (codes "x")) ∷ []))) ∷ [])
+    ∷ []) [] 0 ≡ (Some (Exited 8), [])
 first_frame = refl
 
 -- main(){auto i; i=0; switch 1 {while(i<2) {case 1: putchar('a'); i++;}} putchar('.');}
-case_in_loop : does (main (auto (codes "i") None (set (codes "i") (number 0)) ∷ Switch (number 1) (statements_behind Nothing (While (Binary op.Lt 1 (name (codes "i")) (number 2)) (block (case 1 (putchar (number 97)) ∷ Evaluate (Postfixed PostIncrement 1 (name (codes "i"))) ∷ [])) ∷ [])) ∷ putchar (number 46) ∷ []) ∷ []) [] 5 ≡ (Some (Exited 0), codes "aa.")
+case_in_loop : does
+    (main (auto (codes "i") None (set (codes "i") (number 0)) ∷ Switch (number 1)
+    (statements_behind Nothing
+    (While (Binary op.Lt 1 (name (codes "i")) (number 2))
+    (block (case 1 (putchar (number 97)) ∷ Evaluate (Postfixed PostIncrement 1 (name (codes "i"))) ∷ [])) ∷ []))
+    ∷ putchar (number 46) ∷ []) ∷ []) [] 5 ≡ (Some (Exited 0), codes "aa.")
 case_in_loop = refl
 
--- main(){auto i; i=0; goto in; while(i<2) {i++; putchar('a'); in: break; while(1) ;} putchar('k');}: a break skips a loop
-skips_a_loop : does (main (auto (codes "i") None (set (codes "i") (number 0)) ∷ Goto (name (codes "in")) ∷ While (Binary op.Lt 1 (name (codes "i")) (number 2)) (block (Evaluate (Postfixed PostIncrement 1 (name (codes "i"))) ∷ putchar (number 97) ∷ label (codes "in") (Break 1) ∷ While (number 1) Empty ∷ [])) ∷ putchar (number 107) ∷ []) ∷ []) [] 1 ≡ (Some (Exited 0), codes "k")
+-- main(){auto i; i=0; goto in; while(i<2) {i++; putchar('a'); in: break; while(1) ;} putchar('k');}: a break skips a
+-- loop
+skips_a_loop : does
+    (main (auto (codes "i") None (set (codes "i") (number 0)) ∷ Goto (name (codes "in")) ∷ While
+    (Binary op.Lt 1 (name (codes "i")) (number 2))
+    (block (Evaluate (Postfixed PostIncrement 1 (name (codes "i"))) ∷ putchar (number 97) ∷ label (codes "in") (Break 1)
+    ∷ While (number 1) Empty ∷ [])) ∷ putchar (number 107) ∷ []) ∷ []) [] 1 ≡ (Some (Exited 0), codes "k")
 skips_a_loop = refl
 
 -- f() return(0); main() while(f()) ;: the call has what fuel the while left
-condition_fuel : map (does (function (codes "f") [] (ReturnValue (number 0) ∷ []) ∷ main (While (call (codes "f") []) Empty ∷ []) ∷ []) []) (0 ∷ 1 ∷ 2 ∷ []) ≡ (None, []) ∷ (None, []) ∷ (Some (Exited 0), []) ∷ []
+condition_fuel : map
+    (does (function (codes "f") [] (ReturnValue (number 0) ∷ []) ∷ main (While (call (codes "f") []) Empty ∷ [])
+    ∷ []) []) (0 ∷ 1 ∷ 2 ∷ []) ≡ (None, []) ∷ (None, []) ∷ (Some (Exited 0), []) ∷ []
 condition_fuel = refl
 
 -- the same of a switch
-value_fuel : map (does (function (codes "f") [] (ReturnValue (number 0) ∷ []) ∷ main (Switch (call (codes "f") []) Nothing ∷ []) ∷ []) []) (0 ∷ 1 ∷ 2 ∷ []) ≡ (None, []) ∷ (None, []) ∷ (Some (Exited 0), []) ∷ []
+value_fuel : map
+    (does (function (codes "f") [] (ReturnValue (number 0) ∷ []) ∷ main (Switch (call (codes "f") []) Nothing ∷ [])
+    ∷ []) []) (0 ∷ 1 ∷ 2 ∷ []) ≡ (None, []) ∷ (None, []) ∷ (Some (Exited 0), []) ∷ []
 value_fuel = refl
 
--- main() { extrn putchar, n, v; auto i, c, col, a; i = col = 0; while(i<n) v[i++] = 1; while(col<n) { a = n+1; c = i = 0;
--- while(i<n) { c =+ v[i]*10; v[i++] = c%a; c =/ a--; } putchar(c+'0'); if(!(++col%5)) putchar(col%50?' ':'*n'); }
+-- main() { extrn putchar, n, v; auto i, c, col, a; i = col = 0; while(i<n) v[i++] = 1; while(col<n) { a = n+1; c = i =
+-- 0; while(i<n) { c =+ v[i]*10; v[i++] = c%a; c =/ a--; } putchar(c+'0'); if(!(++col%5)) putchar(col%50?' ':'*n'); }
 -- putchar('*n*n'); } v[10]; n 10;
 abbrev n : Expr
 n = name (codes "n")
@@ -236,16 +335,21 @@ counted e = Postfixed PostIncrement 1 e
 
 abbrev digits_of_e : List Definition
 digits_of_e =
-    main (Headed (Extrn (map word (codes "putchar" ∷ codes "n" ∷ codes "v" ∷ []))) (Headed (Auto (map (λ x. record { word = word x; size = None }) (codes "i" ∷ codes "c" ∷ codes "col" ∷ codes "a" ∷ []))) (set (codes "i") (Assigned None 1 col (number 0))))
+    main (Headed (Extrn (map word (codes "putchar" ∷ codes "n" ∷ codes "v" ∷ [])))
+    (Headed (Auto
+    (map (λ x. record { word = word x; size = None }) (codes "i" ∷ codes "c" ∷ codes "col" ∷ codes "a" ∷ [])))
+    (set (codes "i") (Assigned None 1 col (number 0))))
     ∷ While (Binary op.Lt 1 i n) (Evaluate (Assigned None 1 (Indexed (name (codes "v")) (counted i)) (number 1)))
     ∷ While (Binary op.Lt 1 col n) (block (set (codes "a") (Binary op.Add 1 n (number 1))
     ∷ set (codes "c") (Assigned None 1 i (number 0))
-    ∷ While (Binary op.Lt 1 i n) (block (Evaluate (Assigned (Some op.Add) 1 c (Binary op.Mul 1 (Indexed (name (codes "v")) i) (number 10)))
+    ∷ While (Binary op.Lt 1 i n)
+    (block (Evaluate (Assigned (Some op.Add) 1 c (Binary op.Mul 1 (Indexed (name (codes "v")) i) (number 10)))
     ∷ Evaluate (Assigned None 1 (Indexed (name (codes "v")) (counted i)) (Binary op.Rem 1 c a))
     ∷ Evaluate (Assigned (Some op.Div) 1 c (Postfixed PostDecrement 1 a))
     ∷ []))
     ∷ putchar (Binary op.Add 1 c (number 48))
-    ∷ If (Prefixed Not 1 (Grouped (Binary op.Rem 1 (Prefixed PreIncrement 1 col) (number 5)))) (putchar (Conditional (Binary op.Rem 1 col (number 50)) (number 32) (number 10)))
+    ∷ If (Prefixed Not 1 (Grouped (Binary op.Rem 1 (Prefixed PreIncrement 1 col) (number 5))))
+    (putchar (Conditional (Binary op.Rem 1 col (number 50)) (number 32) (number 10)))
     ∷ []))
     ∷ putchar (number 2570)
     ∷ [])

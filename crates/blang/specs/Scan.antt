@@ -1,29 +1,34 @@
 -- The first fault of a definition beside its syntax: its names in their one table, its cases, defaults, breaks and
 -- lvalues, in source order.
-use Rattle.std.specs.Prelude.{ℕ, List, [], ◌∷◌, ◌++◌, length, Bool, true, false, nat_lt, Option, Some, None, Result, Ok, Err, if◌then◌else◌, ◌+◌, ◌-◌, map, nat_eq}
+use Rattle.std.specs.Prelude.{ℕ, List, [], ◌∷◌, ◌++◌, length, Bool, true, false, nat_lt, Option, Some, None, Result, Ok}
+use Rattle.std.specs.Prelude.{Err, if◌then◌else◌, ◌+◌, ◌-◌, map, nat_eq}
 use Rattle.std.specs.List.{list_any}
 use Rattle.bword.specs.Words.{same_name}
 use Rattle.blang.specs.declared.token.Letters.{Letters}
 use Rattle.blang.specs.declared.token.Diagnostic.{Diagnostic}
-use Rattle.blang.specs.Trees.{Word, Constant, Number, Character, Expr, Arguments, PrefixOp, Negate, Not, Indirection, Address, PreIncrement, PreDecrement, Named, Literal, Text, Grouped, Indexed, Called, Postfixed, Prefixed, Binary, Conditional, Assigned, No_arguments, Another, Heading, Auto, Extrn, Label, Case, Default, Stmt, Headed, Compound, If, IfElse, While, Switch, Goto, Break, Return, ReturnValue, Evaluate, Empty, Stmts, Nothing, More, Definition, Simple, Vector, Function}
+use Rattle.blang.specs.Trees.{Identifier, Constant, Number, Character, Expr, Arguments, PrefixOp, Negate, Not}
+use Rattle.blang.specs.Trees.{Indirection, Named, Grouped, Indexed, Called, Postfixed, Prefixed, Binary, Conditional}
+use Rattle.blang.specs.Trees.{Assigned, No_arguments, Another, Heading, Auto, Extrn, Label, Case, Default, Stmt, Headed}
+use Rattle.blang.specs.Trees.{Compound, If, IfElse, While, Switch, Goto, Break, ReturnValue, Evaluate, Stmts, Nothing}
+use Rattle.blang.specs.Trees.{More, Definition, Simple, Vector, Function}
 use Rattle.blang.specs.declared.limits.TheConstants.{MAX_NAMES, MAX_CASES}
 use Rattle.blang.specs.declared.token.About.{About}
 use Rattle.blang.specs.declared.token.Letters.TheVariants as letters
 use Rattle.blang.specs.declared.token.About.TheVariants as about
 
-pub data Kind : Type 0 where
-  Automatic : (word : ℕ) → Kind
-  External : Kind
+pub data NameKind : Type 0 where
+  Automatic : (word : ℕ) → NameKind
+  External : NameKind
   -- an internal name, with the line of its first mention, and with the number of its label
-  Unlabelled : (line : ℕ) → Kind
-  Labelled : (number : ℕ) → Kind
+  Unlabelled : (line : ℕ) → NameKind
+  Labelled : (number : ℕ) → NameKind
 
 pub record Entry : Type 0 where
   pub name : List ℕ
-  pub kind : Kind
+  pub kind : NameKind
 
 -- what the table says of a name
-abbrev pub kind_of : List ℕ → List Entry → Option Kind
+abbrev pub kind_of : List ℕ → List Entry → Option NameKind
 kind_of x [] = None
 kind_of x (e ∷ es) = if same_name e.name x then Some e.kind else kind_of x es
 
@@ -34,52 +39,52 @@ most_names = MAX_NAMES
 abbrev pub fault : Letters → ℕ → Diagnostic
 fault l line = record { letters = l; about = about.Nothing; line = line }
 
-abbrev pub name_fault : Letters → Word → Diagnostic
+abbrev pub name_fault : Letters → Identifier → Diagnostic
 name_fault l w = record { letters = l; about = about.Name w.text; line = w.line }
 
 -- one more name, where there is room
-abbrev pub entered : Word → Kind → List Entry → Result (List Entry) Diagnostic
-entered w k es =
+abbrev pub with_entry : Identifier → NameKind → List Entry → Result (List Entry) Diagnostic
+with_entry w k es =
     if nat_lt (length es) most_names
     then Ok (es ++ record { name = w.text; kind = k } ∷ [])
     else Err (fault letters.TooManyNames w.line)
 
 -- a name is declared once
-abbrev pub declared : Word → Kind → List Entry → Result (List Entry) Diagnostic
-declared w k es = declared_at (kind_of w.text es)
+abbrev pub with_declaration : Identifier → NameKind → List Entry → Result (List Entry) Diagnostic
+with_declaration w k es = declared_at (kind_of w.text es)
   where
-    declared_at : Option Kind → Result (List Entry) Diagnostic
+    declared_at : Option NameKind → Result (List Entry) Diagnostic
     declared_at (Some old) = Err (name_fault letters.Redeclared w)
-    declared_at None = entered w k es
+    declared_at None = with_entry w k es
 
 -- the first mention enters a name: as external where it is called, else as internal
-abbrev pub kind_mentioned : Bool → ℕ → Kind
+abbrev pub kind_mentioned : Bool → ℕ → NameKind
 kind_mentioned true line = External
 kind_mentioned false line = Unlabelled line
 
-abbrev pub mentioned : Bool → Word → List Entry → Result (List Entry) Diagnostic
-mentioned called w es = mentioned_at (kind_of w.text es)
+abbrev pub with_mention : Bool → Identifier → List Entry → Result (List Entry) Diagnostic
+with_mention called w es = mentioned_at (kind_of w.text es)
   where
-    mentioned_at : Option Kind → Result (List Entry) Diagnostic
+    mentioned_at : Option NameKind → Result (List Entry) Diagnostic
     mentioned_at (Some old) = Ok es
-    mentioned_at None = entered w (kind_mentioned called w.line) es
+    mentioned_at None = with_entry w (kind_mentioned called w.line) es
 
 -- the table with another kind for a name
-abbrev pub with_kind : List ℕ → Kind → List Entry → List Entry
+abbrev pub with_kind : List ℕ → NameKind → List Entry → List Entry
 with_kind x k [] = []
 with_kind x k (e ∷ es) = if same_name e.name x then record { name = e.name; kind = k } ∷ es else e ∷ with_kind x k es
 
 -- a label's name may be new, or internal without a label
-abbrev pub labelled : Word → ℕ → List Entry → Result (List Entry) Diagnostic
-labelled w number es = labelled_at (kind_of w.text es)
+abbrev pub with_label : Identifier → ℕ → List Entry → Result (List Entry) Diagnostic
+with_label w number es = labelled_at (kind_of w.text es)
   where
-    labelled_at : Option Kind → Result (List Entry) Diagnostic
-    labelled_at None = entered w (Labelled number) es
+    labelled_at : Option NameKind → Result (List Entry) Diagnostic
+    labelled_at None = with_entry w (Labelled number) es
     labelled_at (Some (Unlabelled line)) = Ok (with_kind w.text (Labelled number) es)
     labelled_at (Some _) = Err (name_fault letters.Redeclared w)
 
 -- the fault of an internal name without a label, or one behind it
-abbrev pub undefined_at : List ℕ → Kind → Option Diagnostic → Option Diagnostic
+abbrev pub undefined_at : List ℕ → NameKind → Option Diagnostic → Option Diagnostic
 undefined_at x (Unlabelled line) behind = Some (name_fault letters.Undefined (record { text = x; line = line }))
 undefined_at x _ behind = behind
 
@@ -91,10 +96,10 @@ undefined (e ∷ es) = undefined_at e.name e.kind (undefined es)
 -- what may be a fault
 pub data Event : Type 0 where
   -- an automatic name, and the constant of its vector
-  Declaration : (w : Word) → (size : Option ℕ) → Event
-  Import : (w : Word) → Event
-  Mention : (called : Bool) → (w : Word) → Event
-  LabelHere : (w : Word) → Event
+  Declaration : (w : Identifier) → (size : Option ℕ) → Event
+  Import : (w : Identifier) → Event
+  Mention : (called : Bool) → (w : Identifier) → Event
+  LabelHere : (w : Identifier) → Event
   CaseHere : (line value : ℕ) → Event
   DefaultHere : (line : ℕ) → Event
   BreakHere : (line : ℕ) → Event
@@ -109,15 +114,11 @@ abbrev pub prefix_events : PrefixOp → ℕ → Expr → List Event
 prefix_events Negate line e = []
 prefix_events Not line e = []
 prefix_events Indirection line e = []
-prefix_events Address line e = Lvalue line e ∷ []
-prefix_events PreIncrement line e = Lvalue line e ∷ []
-prefix_events PreDecrement line e = Lvalue line e ∷ []
+prefix_events _ line e = Lvalue line e ∷ []
 
 abbrev mutual
   pub events : Expr → List Event
   events (Named w) = Mention false w ∷ []
-  events (Literal c) = []
-  events (Text bytes offset) = []
   events (Grouped e) = events e
   events (Indexed e f) = events e ++ events f
   events (Called (Named w) args) = Mention true w ∷ argument_events args
@@ -127,20 +128,21 @@ abbrev mutual
   events (Binary op line e f) = events e ++ events f
   events (Conditional e f g) = events e ++ (events f ++ events g)
   events (Assigned op line e f) = events e ++ (Lvalue line e ∷ events f)
+  events _ = []
 
   pub argument_events : Arguments → List Event
   argument_events No_arguments = []
   argument_events (Another before e) = argument_events before ++ events e
 
-abbrev pub value_of : Constant → ℕ
-value_of (Number n) = n
-value_of (Character n) = n
+abbrev pub constant_value : Constant → ℕ
+constant_value (Number n) = n
+constant_value (Character n) = n
 
 abbrev pub heading_events : Heading → List Event
 heading_events (Auto declared) = map (λ d. Declaration d.word d.size) declared
 heading_events (Extrn names) = map Import names
 heading_events (Label w) = LabelHere w ∷ []
-heading_events (Case line c) = CaseHere line (value_of c) ∷ []
+heading_events (Case line c) = CaseHere line (constant_value c) ∷ []
 heading_events (Default line) = DefaultHere line ∷ []
 
 abbrev mutual
@@ -153,10 +155,9 @@ abbrev mutual
   statement_events (Switch e body) = events e ++ (SwitchBegins ∷ (body_events body ++ (SwitchEnds ∷ [])))
   statement_events (Goto e) = events e
   statement_events (Break line) = BreakHere line ∷ []
-  statement_events Return = []
   statement_events (ReturnValue e) = events e
   statement_events (Evaluate e) = events e
-  statement_events Empty = []
+  statement_events _ = []
 
   pub body_events : Stmts → List Event
   body_events Nothing = []
@@ -167,8 +168,8 @@ pub record Around : Type 0 where
   pub constants : List ℕ
   pub has_default : Bool
 
-abbrev pub no_arms : Around
-no_arms = record { constants = []; has_default = false }
+abbrev pub empty_switch : Around
+empty_switch = record { constants = []; has_default = false }
 
 -- a function up to a place: its names, frame words and labels, the switches around, from the innermost on, how many
 -- loops are around, and how many cases it has
@@ -183,7 +184,7 @@ pub record Scope : Type 0 where
 abbrev pub no_scope : Scope
 no_scope = record { names = []; frame = 0; labels = 0; switches = []; loops = 0; cases = 0 }
 
-abbrev pub is_place : Option Kind → Bool
+abbrev pub is_place : Option NameKind → Bool
 is_place (Some (Automatic word)) = true
 is_place (Some External) = true
 is_place _ = false
@@ -196,9 +197,9 @@ is_lvalue names (Prefixed Indirection line e) = true
 is_lvalue names _ = false
 
 -- a name by itself, or a vector of constant c: its own word and c + 1 more
-abbrev pub words_of : Option ℕ → ℕ
-words_of None = 1
-words_of (Some c) = 1 + (c + 1)
+abbrev pub automatic_words : Option ℕ → ℕ
+automatic_words None = 1
+automatic_words (Some c) = 1 + (c + 1)
 
 -- a scope with other names, where there is no fault
 abbrev pub with_names : Scope → Result (List Entry) Diagnostic → Result Scope Diagnostic
@@ -215,18 +216,18 @@ abbrev pub with_constant : ℕ → Around → Around
 with_constant value around = record around { constants = around.constants ++ value ∷ [] }
 
 -- a case of the innermost switch
-abbrev pub selected : ℕ → ℕ → Scope → List Around → Result Scope Diagnostic
-selected line value s [] = Err (word_fault letters.Syntax about.Case line)
-selected line value s (around ∷ others) =
+abbrev pub scan_case : ℕ → ℕ → Scope → List Around → Result Scope Diagnostic
+scan_case line value s [] = Err (word_fault letters.Syntax about.Case line)
+scan_case line value s (around ∷ others) =
     if list_any (nat_eq value) around.constants then Err (word_fault letters.Redeclared about.Case line) else
     if nat_lt s.cases most_cases
     then Ok (record s { switches = with_constant value around ∷ others; cases = s.cases + 1 })
     else Err (fault letters.TooManyCases line)
 
 -- the default of the innermost switch
-abbrev pub defaulted : ℕ → Scope → List Around → Result Scope Diagnostic
-defaulted line s [] = Err (word_fault letters.Syntax about.Default line)
-defaulted line s (around ∷ others) =
+abbrev pub scan_default : ℕ → Scope → List Around → Result Scope Diagnostic
+scan_default line s [] = Err (word_fault letters.Syntax about.Default line)
+scan_default line s (around ∷ others) =
     if around.has_default then Err (word_fault letters.Redeclared about.Default line) else
     Ok (record s { switches = record around { has_default = true } ∷ others })
 
@@ -239,31 +240,31 @@ rest_of [] = []
 rest_of (x ∷ xs) = xs
 
 -- the scope behind an event, or its fault
-abbrev pub step : Event → Scope → Result Scope Diagnostic
-step (Declaration w size) s =
-    with_names (record s { frame = s.frame + words_of size }) (declared w (Automatic s.frame) s.names)
-step (Import w) s = with_names s (declared w External s.names)
-step (Mention called w) s = with_names s (mentioned called w s.names)
-step (LabelHere w) s = with_names (record s { labels = s.labels + 1 }) (labelled w s.labels s.names)
-step (CaseHere line value) s = selected line value s s.switches
-step (Lvalue line e) s = if is_lvalue s.names e then Ok s else Err (fault letters.NotLvalue line)
-step (DefaultHere line) s = defaulted line s s.switches
-step (BreakHere line) s = if can_break s then Ok s else Err (word_fault letters.Syntax about.Break line)
-step LoopBegins s = Ok (record s { loops = s.loops + 1 })
-step LoopEnds s = Ok (record s { loops = s.loops - 1 })
-step SwitchBegins s = Ok (record s { switches = no_arms ∷ s.switches })
-step SwitchEnds s = Ok (record s { switches = rest_of s.switches })
+abbrev pub scan_event : Event → Scope → Result Scope Diagnostic
+scan_event (Declaration w size) s =
+    with_names (record s { frame = s.frame + automatic_words size }) (with_declaration w (Automatic s.frame) s.names)
+scan_event (Import w) s = with_names s (with_declaration w External s.names)
+scan_event (Mention called w) s = with_names s (with_mention called w s.names)
+scan_event (LabelHere w) s = with_names (record s { labels = s.labels + 1 }) (with_label w s.labels s.names)
+scan_event (CaseHere line value) s = scan_case line value s s.switches
+scan_event (Lvalue line e) s = if is_lvalue s.names e then Ok s else Err (fault letters.NotLvalue line)
+scan_event (DefaultHere line) s = scan_default line s s.switches
+scan_event (BreakHere line) s = if can_break s then Ok s else Err (word_fault letters.Syntax about.Break line)
+scan_event LoopBegins s = Ok (record s { loops = s.loops + 1 })
+scan_event LoopEnds s = Ok (record s { loops = s.loops - 1 })
+scan_event SwitchBegins s = Ok (record s { switches = empty_switch ∷ s.switches })
+scan_event SwitchEnds s = Ok (record s { switches = rest_of s.switches })
 
 -- the first fault stays
 abbrev pub scanned : List Event → Result Scope Diagnostic → Result Scope Diagnostic
 scanned [] r = r
-scanned (e ∷ es) (Ok s) = scanned es (step e s)
+scanned (e ∷ es) (Ok s) = scanned es (scan_event e s)
 scanned (e ∷ es) (Err d) = Err d
 
-abbrev pub function_events : List Word → Stmt → List Event
+abbrev pub function_events : List Identifier → Stmt → List Event
 function_events parameters body = map (λ w. Declaration w None) parameters ++ statement_events body
 
-abbrev pub function_scope : List Word → Stmt → Result Scope Diagnostic
+abbrev pub function_scope : List Identifier → Stmt → Result Scope Diagnostic
 function_scope parameters body = scanned (function_events parameters body) (Ok no_scope)
 
 -- a name without a label is a fault behind all others
@@ -272,17 +273,16 @@ scope_fault (Ok s) = undefined s.names
 scope_fault (Err d) = Some d
 
 abbrev pub inner_fault : Definition → Option Diagnostic
-inner_fault (Simple w values) = None
-inner_fault (Vector w size values) = None
 inner_fault (Function w parameters body) = scope_fault (function_scope parameters body)
+inner_fault _ = None
 
-abbrev pub word_of : Definition → Word
-word_of (Simple w values) = w
-word_of (Vector w size values) = w
-word_of (Function w parameters body) = w
+abbrev pub identifier_of : Definition → Identifier
+identifier_of (Simple w values) = w
+identifier_of (Vector w size values) = w
+identifier_of (Function w parameters body) = w
 
 -- the first fault of a definition behind definitions of these names
 abbrev pub scan : List (List ℕ) → Definition → Option Diagnostic
 scan defined d =
-    if list_any (same_name (word_of d).text) defined then Some (name_fault letters.Redeclared (word_of d))
+    if list_any (same_name (identifier_of d).text) defined then Some (name_fault letters.Redeclared (identifier_of d))
     else inner_fault d

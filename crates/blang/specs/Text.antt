@@ -110,8 +110,8 @@ lines_of d = header_line d ∷ body_lines d
 abbrev pub joined : List (List ℕ) → List ℕ
 joined lines = flat_map (λ l. l) lines
 
-abbrev pub text_of : Definition → List ℕ
-text_of d = joined (lines_of d)
+abbrev pub definition_text : Definition → List ℕ
+definition_text d = joined (lines_of d)
 
 -- the last line
 abbrev pub end_text : List ℕ

@@ -4,20 +4,20 @@ use Rattle.std.specs.Fmt.{digits}
 use Rattle.bword.specs.declared.edition.Edition.TheVariants as editions
 use Rattle.bword.specs.declared.operators.BinOp.TheVariants as op
 use Rattle.blang.specs.declared.code.Instr.{Instr}
-use Rattle.blang.specs.Text.{text_of, code_lines, joined, instr_line, ival_line, target_line, string_line}
+use Rattle.blang.specs.Text.{definition_text, code_lines, joined, instr_line, ival_line, target_line, string_line}
 use Rattle.blang.specs.declared.code.Definition.TheVariants as definition
 use Rattle.blang.specs.declared.code.Increment.TheVariants as increment
 use Rattle.blang.specs.declared.code.Instr.TheVariants as instr
 use Rattle.blang.specs.declared.code.Ival.TheVariants as ival
 
 -- n 2000;
-number : text_of (definition.Simple record { name = codes "n"; values = ival.Number 2000 ∷ []; strings = [] })
+number : definition_text (definition.Simple record { name = codes "n"; values = ival.Number 2000 ∷ []; strings = [] })
     ≡ codes "X n 1 0\nc 2000\n"
 unfolding digits
 number = refl
 
 -- s "ab", t, 'x';
-string : text_of (definition.Simple record {
+string : definition_text (definition.Simple record {
   name = codes "s";
   values = ival.Text 0 ∷ ival.Name (codes "t") ∷ ival.Number 120 ∷ [];
   strings = 25185 ∷ 4 ∷ [];
@@ -26,7 +26,7 @@ unfolding digits
 string = refl
 
 -- v[2] 1,2,3,4;
-vector : text_of (definition.Vector record {
+vector : definition_text (definition.Vector record {
   name = codes "v";
   words = 4;
   values = ival.Number 1 ∷ ival.Number 2 ∷ ival.Number 3 ∷ ival.Number 4 ∷ [];
@@ -36,23 +36,26 @@ unfolding digits
 vector = refl
 
 -- f(a) { auto v 1, i; L: v[i] =+ a; switch a { case 2: goto L; } return(i); }
-function : text_of (definition.Function record {
+function : definition_text (definition.Function record {
   name = codes "f";
   parameters = 1;
   frame = 5;
   targets = 4 ∷ [];
   strings = [];
-  code = instr.Automatic 1 ∷ instr.Automatic 2 ∷ instr.Store ∷ instr.Pop ∷ instr.Automatic 1 ∷ instr.Load ∷ instr.Automatic 4
+  code =
+      instr.Automatic 1 ∷ instr.Automatic 2 ∷ instr.Store ∷ instr.Pop ∷ instr.Automatic 1 ∷ instr.Load ∷ instr.Automatic
+      4
       ∷ instr.Load ∷ instr.Binary op.Add ∷ instr.Automatic 0 ∷ instr.Load ∷ instr.Modify op.Add ∷ instr.Pop
       ∷ instr.Automatic 0 ∷ instr.Load ∷ instr.Jump 19 ∷ instr.Label 0 ∷ instr.Goto ∷ instr.Jump 21
       ∷ instr.JumpIfCase 2 16 ∷ instr.Pop ∷ instr.Automatic 4 ∷ instr.Load ∷ instr.Return ∷ instr.Constant 0
       ∷ instr.Return ∷ [];
-}) ≡ codes "F f 1 5 1 0 26\nt 4\na 1\na 2\nw\np\na 1\nv\na 4\nv\nb +\na 0\nv\nm +\np\na 0\nv\nj 19\nl 0\ng\nj 21\ne 2 16\np\na 4\nv\nr\nc 0\nr\n"
+}) ≡ codes
+    "F f 1 5 1 0 26\nt 4\na 1\na 2\nw\np\na 1\nv\na 4\nv\nb +\na 0\nv\nm +\np\na 0\nv\nj 19\nl 0\ng\nj 21\ne 2 16\np\na 4\nv\nr\nc 0\nr\n"
 unfolding digits
 function = refl
 
 -- the letters that the function above has none of
-letters : text_of (definition.Function record {
+letters : definition_text (definition.Function record {
   name = codes "g";
   parameters = 0;
   frame = 0;

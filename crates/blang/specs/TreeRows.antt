@@ -6,11 +6,12 @@ use Rattle.blang.specs.declared.code.Instr.{Instr}
 use Rattle.blang.specs.declared.code.Instr.TheVariants as instr
 use Rattle.blang.specs.declared.code.Definition as coded
 use Rattle.blang.specs.declared.code.Definition.TheVariants as code
-use Rattle.blang.specs.Trees.{Word, Number, Expr, Named, Literal, Binary, Stmt, Headed, Default, While, Switch, Break, Evaluate, Nothing, More, Function}
+use Rattle.blang.specs.Trees.{Identifier, Number, Expr, Named, Literal, Binary, Stmt, Headed, Default, While, Switch}
+use Rattle.blang.specs.Trees.{Break, Evaluate, Nothing, More, Function}
 use Rattle.blang.specs.Scan.{Unlabelled, undefined, name_fault}
 use Rattle.blang.specs.Code.{code_of}
 
-abbrev word : List ℕ → Word
+abbrev word : List ℕ → Identifier
 word text = record { text = text; line = 1 }
 
 abbrev number : ℕ → Expr

@@ -51,7 +51,7 @@ list_spelling say [] = []
 list_spelling say (x ∷ xs) = say x ++ comma_spelling say xs
 
 -- a name and its line
-pub record Word : Type 0 where
+pub record Identifier : Type 0 where
   pub text : List ℕ
   pub line : ℕ
 
@@ -74,7 +74,7 @@ pub data PostfixOp : Type 0 where
 -- An operator has its line. A string has its offset in the string words of its definition.
 mutual
   pub data Expr : Type 0 where
-    Named : (w : Word) → Expr
+    Named : (w : Identifier) → Expr
     Literal : (c : Constant) → Expr
     Text : (bytes : List ℕ) → (offset : ℕ) → Expr
     Grouped : (e : Expr) → Expr
@@ -91,7 +91,7 @@ mutual
     No_arguments : Arguments
     Another : (before : Arguments) → (e : Expr) → Arguments
 
-abbrev pub name_token : Word → Placed
+abbrev pub name_token : Identifier → Placed
 name_token w = placed (token.Name w.text) w.line
 
 abbrev pub constant_token : Constant → Token
@@ -135,14 +135,14 @@ abbrev mutual
 
 -- an automatic name, and the constant of its vector
 pub record Declared : Type 0 where
-  pub word : Word
+  pub word : Identifier
   pub size : Option ℕ
 
 -- what may stand before a statement
 pub data Heading : Type 0 where
   Auto : (declared : List Declared) → Heading
-  Extrn : (names : List Word) → Heading
-  Label : (w : Word) → Heading
+  Extrn : (names : List Identifier) → Heading
+  Label : (w : Identifier) → Heading
   Case : (line : ℕ) → (c : Constant) → Heading
   Default : (line : ℕ) → Heading
 
@@ -176,7 +176,7 @@ size_spelling (Some n) = mark (token.Number n) ∷ []
 abbrev pub declared_spelling : Declared → List Placed
 declared_spelling d = name_token d.word ∷ size_spelling d.size
 
-abbrev pub name_spelling : Word → List Placed
+abbrev pub name_spelling : Identifier → List Placed
 name_spelling w = name_token w ∷ []
 
 abbrev pub spell_heading : Heading → List Placed
@@ -219,12 +219,12 @@ abbrev mutual
 pub data Ival : Type 0 where
   Ival_constant : (c : Constant) → Ival
   Ival_text : (bytes : List ℕ) → (offset : ℕ) → Ival
-  Ival_name : (w : Word) → Ival
+  Ival_name : (w : Identifier) → Ival
 
 pub data Definition : Type 0 where
-  Simple : (w : Word) → (values : List Ival) → Definition
-  Vector : (w : Word) → (size : Option ℕ) → (values : List Ival) → Definition
-  Function : (w : Word) → (parameters : List Word) → (body : Stmt) → Definition
+  Simple : (w : Identifier) → (values : List Ival) → Definition
+  Vector : (w : Identifier) → (size : Option ℕ) → (values : List Ival) → Definition
+  Function : (w : Identifier) → (parameters : List Identifier) → (body : Stmt) → Definition
 
 abbrev pub ival_spelling : Ival → List Placed
 ival_spelling (Ival_constant c) = mark (constant_token c) ∷ []

@@ -1,14 +1,21 @@
 -- Programs as trees, and the value of an expression.
-use Rattle.std.specs.Prelude.{ℕ, Option, Some, None, List, [], ◌∷◌, ◌++◌, suc, if◌then◌else◌, ◌+◌, ◌%◌, length, Bool, not, unwrap_or, ◌==◌}
+use Rattle.std.specs.Prelude.{ℕ, Option, Some, None, List, [], ◌∷◌, ◌++◌, suc, if◌then◌else◌, ◌+◌, ◌%◌, length, Bool}
+use Rattle.std.specs.Prelude.{not, unwrap_or, ◌==◌}
 use Rattle.bword.specs.declared.operators.BinOp.{BinOp}
 use Rattle.bword.specs.Words.{binary_of, same_name, negate_of, not_of}
 use Rattle.bword.specs.declared.operators.BinOp.TheVariants as op
 use Rattle.blang.specs.declared.run.Trap.{Trap}
 use Rattle.blang.specs.declared.run.Trap.TheVariants.{ZeroDivisor, NotAFunction}
-use Rattle.blang.specs.Layout.{World, word_at, with_word, Ending, Trapped, Reply, Addresses, words, with_words, stepped, library, Callee, NoFunction, OfLibrary, OfProgram, callee_of, refusal, parameter_words, address_in}
-use Rattle.blang.specs.Scan.{value_of, Kind, Automatic, Labelled, kind_of, Scope, function_scope}
-use Rattle.blang.specs.Code.{Arms, Names, Meaning, In_frame, Outside, At_label, clean}
-use Rattle.blang.specs.Trees.{Heading, Label, Case, Default, Stmt, Headed, Compound, If, IfElse, While, Switch, Goto, Break, Return, ReturnValue, Evaluate, Empty, Stmts, Nothing, More, Word, Expr, Arguments, Negate, Not, Indirection, Address, PreIncrement, PreDecrement, PostIncrement, PostDecrement, Named, Literal, Text, Grouped, Indexed, Called, Postfixed, Prefixed, Binary, Conditional, Assigned, No_arguments, Another}
+use Rattle.blang.specs.Layout.{World, word_at, with_word, Ending, Trapped, Reply, store_words, with_words, stepped}
+use Rattle.blang.specs.Layout.{library, Callee, NoFunction, OfLibrary, OfProgram, callee_of, refusal, parameter_words}
+use Rattle.blang.specs.Layout.{address_in, LaidOut}
+use Rattle.blang.specs.Scan.{constant_value, NameKind, Automatic, Labelled, kind_of, Scope, function_scope}
+use Rattle.blang.specs.Code.{Arms, heading_arm, Environment, Referent, In_frame, Outside, At_label, clean}
+use Rattle.blang.specs.Trees.{Heading, Label, Stmt, Headed, Compound, If, IfElse, While, Switch, Stmts}
+use Rattle.blang.specs.Trees.{Nothing, More, Identifier, Expr, Arguments, Negate, Not, Indirection, Address}
+use Rattle.blang.specs.Trees.{PreIncrement, PreDecrement, PostIncrement, PostDecrement, Named, Literal, Text, Grouped}
+use Rattle.blang.specs.Trees.{Indexed, Called, Postfixed, Prefixed, Binary, Conditional, Assigned, No_arguments}
+use Rattle.blang.specs.Trees.{Another}
 
 -- a result, an end of the run, or want of fuel, each with its world
 pub data Answer (A : Type 0) : Type 0 where
@@ -66,15 +73,10 @@ pub data Item : Type 0 where
 abbrev pub Remaining : Type 0
 Remaining = List Item
 
--- a heading's own label, case or default, with what is done there
+-- a heading's own label, with what is done there
 abbrev pub heading_label : Heading → Remaining → List (List ℕ × Remaining)
 heading_label (Label w) there = (w.text, there) ∷ []
 heading_label _ there = []
-
-abbrev pub heading_arm : Heading → Remaining → Arms Remaining
-heading_arm (Case line c) there = (Some (value_of c), there) ∷ []
-heading_arm (Default line) there = (None, there) ∷ []
-heading_arm _ there = []
 
 abbrev mutual
   -- Each label of a statement, in source order: its name, the statement there and what remains after it,
@@ -87,12 +89,7 @@ abbrev mutual
   labels (IfElse e s other) rest = labels s rest ++ labels other rest
   labels (While e s) rest = labels s (Loop_mark ∷ Do (While e s) ∷ rest)
   labels (Switch e body) rest = body_labels body (Switch_mark ∷ rest)
-  labels (Goto e) rest = []
-  labels (Break line) rest = []
-  labels Return rest = []
-  labels (ReturnValue e) rest = []
-  labels (Evaluate e) rest = []
-  labels Empty rest = []
+  labels _ rest = []
 
   pub body_labels : Stmts → Remaining → List (List ℕ × Remaining)
   body_labels Nothing rest = []
@@ -106,59 +103,49 @@ abbrev mutual
   arms (If e s) rest = arms s rest
   arms (IfElse e s other) rest = arms s rest ++ arms other rest
   arms (While e s) rest = arms s (Loop_mark ∷ Do (While e s) ∷ rest)
-  arms (Switch e body) rest = []
-  arms (Goto e) rest = []
-  arms (Break line) rest = []
-  arms Return rest = []
-  arms (ReturnValue e) rest = []
-  arms (Evaluate e) rest = []
-  arms Empty rest = []
+  arms _ rest = []
 
   pub body_arms : Stmts → Remaining → Arms Remaining
   body_arms Nothing rest = []
   body_arms (More before s) rest = body_arms before (Do s ∷ rest) ++ arms s rest
 
 -- a function, the address of its first string word and the value of its first label
-pub record Function : Type 0 where
-  pub parameters : List Word
+pub record SourceFunction : Type 0 where
+  pub parameters : List Identifier
   pub body : Stmt
   pub strings : ℕ
   pub first_label : ℕ
 
--- the functions in order, the main one, the words up to the data end, and the addresses of names
-pub record Program : Type 0 where
-  pub functions : List Function
-  pub main : Option Function
-  pub words : List ℕ
-  pub data_end : ℕ
-  pub addresses : Addresses
+-- what the meaning looks at in a program
+abbrev pub Program : Type 0
+Program = LaidOut SourceFunction
 
-abbrev pub scope_of : Function → Scope
+abbrev pub scope_of : SourceFunction → Scope
 scope_of f = clean (function_scope f.parameters f.body)
 
-abbrev pub frame_words : Function → ℕ
+abbrev pub frame_words : SourceFunction → ℕ
 frame_words f = (scope_of f).frame
 
-abbrev pub labels_of : Function → List (List ℕ × Remaining)
+abbrev pub labels_of : SourceFunction → List (List ℕ × Remaining)
 labels_of f = labels f.body []
 
 -- a label's number is how many labels stand before it
-abbrev pub number_of : List ℕ → List (List ℕ × Remaining) → ℕ
-number_of x [] = 0
-number_of x (l ∷ ls) = if same_name l.0 x then 0 else suc (number_of x ls)
+abbrev pub number_of_label : List ℕ → List (List ℕ × Remaining) → ℕ
+number_of_label x [] = 0
+number_of_label x (l ∷ ls) = if same_name l.0 x then 0 else suc (number_of_label x ls)
 
 -- what a name stands for: a word of the frame, a label, or an external
-abbrev pub stands_for : List (List ℕ × Remaining) → List ℕ → Option Kind → Meaning
-stands_for labels x (Some (Automatic word)) = In_frame word
-stands_for labels x (Some (Labelled number)) = At_label (number_of x labels)
-stands_for labels x _ = Outside
+abbrev pub referent_in : List (List ℕ × Remaining) → List ℕ → Option NameKind → Referent
+referent_in labels x (Some (Automatic word)) = In_frame word
+referent_in labels x (Some (Labelled number)) = At_label (number_of_label x labels)
+referent_in labels x _ = Outside
 
-abbrev pub names_of : Function → Names
-names_of f x = stands_for (labels_of f) x (kind_of x (scope_of f).names)
+abbrev pub environment_in : SourceFunction → Environment
+environment_in f x = referent_in (labels_of f) x (kind_of x (scope_of f).names)
 
 -- the function that is executed, where its frame starts, and how many calls are active
 pub record Frame : Type 0 where
-  pub function : Function
+  pub function : SourceFunction
   pub start : ℕ
   pub active : ℕ
 
@@ -180,45 +167,45 @@ is_true x = not (x == 0)
 
 module _ (program : Program) (fuel : Fuel) (frame : Frame) where
   -- a call that isn't refused stores its parameters and spends one fuel
-  abbrev pub entered : Option Trap → Function → List ℕ → (start : ℕ) → Computation ℕ
-  entered (Some t) f args start = trap t
-  entered None f args start =
+  abbrev pub body_value : Option Trap → SourceFunction → List ℕ → (start : ℕ) → Computation ℕ
+  body_value (Some t) f args start = trap t
+  body_value None f args start =
       spend fuel (λ less w. less.go_on (record { function = f; start = start; active = frame.active + 1 })
       (Do f.body ∷ []) (with_words w start (parameter_words (length f.parameters) args)))
 
   -- the frame of a called function begins behind the caller's
-  abbrev pub called : Callee Function → List ℕ → Computation ℕ
-  called NoFunction args = trap NotAFunction
-  called (OfLibrary f) args = λ w. answer_of (library f args w)
-  called (OfProgram f) args =
+  abbrev pub call_value : Callee SourceFunction → List ℕ → Computation ℕ
+  call_value NoFunction args = trap NotAFunction
+  call_value (OfLibrary f) args = λ w. answer_of (library f args w)
+  call_value (OfProgram f) args =
       let start = frame.start + frame_words frame.function in
-      entered (refusal frame.active (start + frame_words f)) f args start
+      body_value (refusal frame.active (start + frame_words f)) f args start
 
-  abbrev pub name_address : Meaning → List ℕ → Computation ℕ
-  name_address (In_frame k) x = gives ((frame.start + k) % words)
+  abbrev pub name_address : Referent → List ℕ → Computation ℕ
+  name_address (In_frame k) x = gives ((frame.start + k) % store_words)
   name_address Outside x = gives (unwrap_or (address_in program.addresses x) 0)
-  name_address (At_label k) x = gives ((frame.function.first_label + k) % words)
+  name_address (At_label k) x = gives ((frame.function.first_label + k) % store_words)
 
   -- a label is its own value
-  abbrev pub name_value : Meaning → List ℕ → Computation ℕ
+  abbrev pub name_value : Referent → List ℕ → Computation ℕ
   name_value (In_frame k) x = name_address (In_frame k) x >>= fetch
   name_value Outside x = name_address Outside x >>= fetch
   name_value (At_label k) x = name_address (At_label k) x
 
   abbrev mutual
     pub value : Expr → Computation ℕ
-    value (Named w) = name_value (names_of frame.function w.text) w.text
-    value (Literal c) = gives (value_of c)
-    value (Text bytes offset) = gives ((frame.function.strings + offset) % words)
+    value (Named w) = name_value (environment_in frame.function w.text) w.text
+    value (Literal c) = gives (constant_value c)
+    value (Text bytes offset) = gives ((frame.function.strings + offset) % store_words)
     value (Grouped e) = value e
     value (Indexed e f) = do
       x ← value e
       y ← value f
-      fetch ((x + y) % words)
+      fetch ((x + y) % store_words)
     value (Called e args) = do
       f ← value e
       vs ← values args
-      called (callee_of program.functions f) vs
+      call_value (callee_of program.functions f) vs
     value (Postfixed PostIncrement line e) = do
       a ← address e
       x ← fetch a
@@ -229,15 +216,9 @@ module _ (program : Program) (fuel : Fuel) (frame : Frame) where
       x ← fetch a
       v ← store a (stepped op.Sub x)
       gives x
-    value (Prefixed Negate line e) = do
-      x ← value e
-      gives (negate_of x)
-    value (Prefixed Not line e) = do
-      x ← value e
-      gives (not_of x)
-    value (Prefixed Indirection line e) = do
-      a ← value e
-      fetch a
+    value (Prefixed Negate line e) = value e >>= λ x. gives (negate_of x)
+    value (Prefixed Not line e) = value e >>= λ x. gives (not_of x)
+    value (Prefixed Indirection line e) = value e >>= fetch
     value (Prefixed Address line e) = address e
     value (Prefixed PreIncrement line e) = do
       a ← address e
@@ -267,13 +248,13 @@ module _ (program : Program) (fuel : Fuel) (frame : Frame) where
 
     -- of an lvalue; of anything else, which a scan refuses, 0
     pub address : Expr → Computation ℕ
-    address (Named w) = name_address (names_of frame.function w.text) w.text
+    address (Named w) = name_address (environment_in frame.function w.text) w.text
     address (Grouped e) = address e
     address (Prefixed Indirection line e) = value e
     address (Indexed e f) = do
       x ← value e
       y ← value f
-      gives ((x + y) % words)
+      gives ((x + y) % store_words)
     address _ = gives 0
 
     pub values : Arguments → Computation (List ℕ)

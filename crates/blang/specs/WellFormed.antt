@@ -1,11 +1,16 @@
--- Which trees are well formed (how operators and `else` bind, how deep trees nest, where strings lie), and where the
--- tokens of a source stop being those of a program.
-use Rattle.std.specs.Prelude.{List, [], ◌∷◌, ◌++◌, ◌≡◌, ℕ, zero, suc, ◌+◌, ◌-◌, ◌/◌, ◌≤◌, length, Bool, true, false, Option, Some, None, sum_by, map, ◌⊎◌}
+-- Which trees are well formed, by three rules (how operators and `else` bind, how deep trees nest, where strings lie),
+-- and where the tokens of a source stop being those of a program.
+use Rattle.std.specs.Prelude.{List, [], ◌∷◌, ◌++◌, ◌≡◌, ℕ, suc, ◌+◌, ◌-◌, ◌*◌, ◌≤◌, max, length, Bool, true, false}
+use Rattle.std.specs.Prelude.{Option, Some, None, map, ◌⊎◌}
+use Rattle.std.specs.List.{flat_map}
 use Rattle.bword.specs.declared.operators.BinOp.{BinOp}
 use Rattle.bword.specs.declared.operators.BinOp.TheVariants as op
 use Rattle.blang.specs.declared.token.Placed.{Placed}
 use Rattle.blang.specs.declared.token.Token.{Token}
-use Rattle.blang.specs.Trees.{Another, Arguments, Assigned, Binary, Called, Conditional, Expr, Grouped, Indexed, Literal, Named, No_arguments, Postfixed, Prefixed, Text, Auto, Break, Case, Compound, Default, Empty, Evaluate, Extrn, Goto, Headed, Heading, If, IfElse, Label, More, Nothing, Return, ReturnValue, Stmt, Stmts, Switch, While, Definition, Function, Ival, Ival_constant, Ival_name, Ival_text, Simple, Vector, spell_definition, kept, bare, spell_all}
+use Rattle.blang.specs.Trees.{Another, Arguments, Assigned, Binary, Called, Conditional, Expr, Grouped, Indexed}
+use Rattle.blang.specs.Trees.{No_arguments, Postfixed, Prefixed, Text, Auto, Compound, Evaluate, Extrn, Goto, Headed}
+use Rattle.blang.specs.Trees.{Heading, If, IfElse, More, Nothing, ReturnValue, Stmt, Stmts, Switch, While, Definition}
+use Rattle.blang.specs.Trees.{Function, Ival, Ival_text, Simple, Vector, spell_definition, kept, bare, spell_all}
 use Rattle.blang.specs.declared.limits.TheConstants.{MAX_NESTING}
 use Rattle.blang.specs.declared.token.Letters.{Letters}
 use Rattle.blang.specs.declared.token.Diagnostic.{Diagnostic}
@@ -13,37 +18,7 @@ use Rattle.blang.specs.declared.token.Token.TheVariants as token
 use Rattle.blang.specs.declared.token.Letters.TheVariants as letters
 use Rattle.blang.specs.declared.token.About.TheVariants as about
 
-abbrev pub IsNonempty : {A : Type 0} → List A → Type 0
-IsNonempty [] = ⊥
-IsNonempty (x ∷ xs) = Unit {0}
-
--- what holds of each thing and those before it
-abbrev pub EachBehind : {A : Type 0} → (List A → A → Type 0) → List A → List A → Type 0
-EachBehind P before [] = Unit {0}
-EachBehind P before (x ∷ xs) = P before x × EachBehind P (before ++ x ∷ []) xs
-
--- the words of a string: two characters a word, and a last byte
-abbrev pub text_words : List ℕ → ℕ
-text_words bytes = (length bytes + 2) / 2
-
--- the string words of an expression
-abbrev mutual
-  pub words : Expr → ℕ
-  words (Named w) = 0
-  words (Literal c) = 0
-  words (Text bytes offset) = text_words bytes
-  words (Grouped e) = words e
-  words (Indexed e f) = words e + words f
-  words (Called e args) = words e + argument_words args
-  words (Postfixed op line e) = words e
-  words (Prefixed op line e) = words e
-  words (Binary op line e f) = words e + words f
-  words (Conditional e f g) = words e + words f + words g
-  words (Assigned op line e f) = words e + words f
-
-  pub argument_words : Arguments → ℕ
-  argument_words No_arguments = 0
-  argument_words (Another before e) = argument_words before + words e
+-- Binding: where an operator and an `else` may stand.
 
 -- how loosely an operator binds: 0 is an operand of a prefix operator, then the binary operators
 abbrev pub rank : BinOp → ℕ
@@ -75,139 +50,176 @@ rvalue_rank = 9
 
 -- a primary, with any number of indices, arguments and operators behind it
 abbrev pub IsPostfix : Expr → Type 0
-IsPostfix (Named w) = Unit {0}
-IsPostfix (Literal c) = Unit {0}
-IsPostfix (Text bytes offset) = Unit {0}
-IsPostfix (Grouped e) = Unit {0}
-IsPostfix (Indexed e f) = Unit {0}
-IsPostfix (Called e args) = Unit {0}
-IsPostfix (Postfixed op line e) = Unit {0}
 IsPostfix (Prefixed op line e) = ⊥
 IsPostfix (Binary op line e f) = ⊥
 IsPostfix (Conditional e f g) = ⊥
 IsPostfix (Assigned op line e f) = ⊥
+IsPostfix _ = Unit {0}
 
--- what stands one level deeper fits the room that is left there
-abbrev pub Deeper : (ℕ → Type 0) → ℕ → Type 0
-Deeper Inside zero = ⊥
-Deeper Inside (suc room) = Inside room
-
--- The expression may stand where operators of this rank may, its nesting needs no more levels than this room,
--- and the offsets of its strings count up from this one.
 abbrev mutual
-  pub Fits : Expr → ℕ → ℕ → ℕ → Type 0
-  Fits (Named w) loose room off = Unit {0}
-  Fits (Literal c) loose room off = Unit {0}
-  Fits (Text bytes offset) loose room off = offset ≡ off
-  Fits (Grouped e) loose room off = Deeper (λ k. Fits e rvalue_rank k off) room
-  Fits (Indexed e f) loose room off =
-      IsPostfix e × Fits e 0 room off × Deeper (λ k. Fits f rvalue_rank k (off + words e)) room
-  Fits (Called e args) loose room off =
-      IsPostfix e × Fits e 0 room off × Deeper (λ k. ArgumentsFit args k (off + words e)) room
-  Fits (Postfixed op line e) loose room off = IsPostfix e × Fits e 0 room off
-  Fits (Prefixed op line e) loose room off = Deeper (λ k. Fits e 0 k off) room
-  Fits (Binary op line e f) loose room off =
-      (rank op ≤ loose) × Fits e (rank op) room off × Fits f (rank op - 1) room (off + words e)
-  Fits (Conditional e f g) loose room off =
-      (conditional_rank ≤ loose) × Fits e or_rank room off
-      × Deeper (λ k. Fits f rvalue_rank k (off + words e) × Fits g conditional_rank k (off + words e + words f)) room
-  Fits (Assigned op line e f) loose room off =
-      (rvalue_rank ≤ loose) × Fits e 0 room off × Deeper (λ k. Fits f rvalue_rank k (off + words e)) room
+  -- The expression may stand where operators of this rank may, and so may each part of it.
+  pub Binds : Expr → ℕ → Type 0
+  Binds (Grouped e) loose = Binds e rvalue_rank
+  Binds (Indexed e f) loose = IsPostfix e × Binds e 0 × Binds f rvalue_rank
+  Binds (Called e args) loose = IsPostfix e × Binds e 0 × ArgumentsBind args
+  Binds (Postfixed op line e) loose = IsPostfix e × Binds e 0
+  Binds (Prefixed op line e) loose = Binds e 0
+  Binds (Binary op line e f) loose = (rank op ≤ loose) × Binds e (rank op) × Binds f (rank op - 1)
+  Binds (Conditional e f g) loose =
+      (conditional_rank ≤ loose) × Binds e or_rank × Binds f rvalue_rank × Binds g conditional_rank
+  Binds (Assigned op line e f) loose = (rvalue_rank ≤ loose) × Binds e 0 × Binds f rvalue_rank
+  Binds _ loose = Unit {0}
 
-  pub ArgumentsFit : Arguments → ℕ → ℕ → Type 0
-  ArgumentsFit No_arguments room off = Unit {0}
-  ArgumentsFit (Another before e) room off =
-      ArgumentsFit before room off × Fits e rvalue_rank room (off + argument_words before)
-
--- the string words of a statement
-abbrev mutual
-  pub statement_words : Stmt → ℕ
-  statement_words (Headed h s) = statement_words s
-  statement_words (Compound body) = body_words body
-  statement_words (If e s) = words e + statement_words s
-  statement_words (IfElse e s other) = words e + statement_words s + statement_words other
-  statement_words (While e s) = words e + statement_words s
-  statement_words (Switch e body) = words e + body_words body
-  statement_words (Goto e) = words e
-  statement_words (Break line) = 0
-  statement_words Return = 0
-  statement_words (ReturnValue e) = words e
-  statement_words (Evaluate e) = words e
-  statement_words Empty = 0
-
-  pub body_words : Stmts → ℕ
-  body_words Nothing = 0
-  body_words (More before s) = body_words before + statement_words s
+  pub ArgumentsBind : Arguments → Type 0
+  ArgumentsBind No_arguments = Unit {0}
+  ArgumentsBind (Another before e) = ArgumentsBind before × Binds e rvalue_rank
 
 -- whether an else behind it would be its own
 abbrev pub is_open : Stmt → Bool
 is_open (Headed h s) = is_open s
-is_open (Compound body) = false
 is_open (If e s) = true
 is_open (IfElse e s other) = is_open other
 is_open (While e s) = is_open s
-is_open (Switch e body) = false
-is_open (Goto e) = false
-is_open (Break line) = false
-is_open Return = false
-is_open (ReturnValue e) = false
-is_open (Evaluate e) = false
-is_open Empty = false
+is_open _ = false
+
+abbrev pub IsNonempty : {A : Type 0} → List A → Type 0
+IsNonempty [] = ⊥
+IsNonempty (x ∷ xs) = Unit {0}
 
 abbrev pub IsHeading : Heading → Type 0
 IsHeading (Auto declared) = IsNonempty declared
 IsHeading (Extrn names) = IsNonempty names
-IsHeading (Label w) = Unit {0}
-IsHeading (Case line c) = Unit {0}
-IsHeading (Default line) = Unit {0}
+IsHeading _ = Unit {0}
 
--- Its nesting needs no more levels than this room, each else belongs to the nearest if that has none,
--- and the offsets of its strings count up from this one.
 abbrev mutual
-  pub Sits : Stmt → ℕ → ℕ → Type 0
-  Sits (Headed h s) room off = IsHeading h × Sits s room off
-  Sits (Compound body) room off = Deeper (λ k. AllSit body k off) room
-  Sits (If e s) room off = Deeper (λ k. Fits e rvalue_rank k off × Sits s k (off + words e)) room
-  Sits (IfElse e s other) room off =
-      (is_open s ≡ false)
-      × Deeper (λ k. Fits e rvalue_rank k off × Sits s k (off + words e)
-      × Sits other k (off + words e + statement_words s)) room
-  Sits (While e s) room off = Deeper (λ k. Fits e rvalue_rank k off × Sits s k (off + words e)) room
-  Sits (Switch e body) room off = Deeper (λ k. Fits e rvalue_rank k off × AllSit body k (off + words e)) room
-  Sits (Goto e) room off = Fits e rvalue_rank room off
-  Sits (Break line) room off = Unit {0}
-  Sits Return room off = Unit {0}
-  Sits (ReturnValue e) room off = Fits e rvalue_rank room off
-  Sits (Evaluate e) room off = Fits e rvalue_rank room off
-  Sits Empty room off = Unit {0}
+  -- Its expressions bind, its declarations have names, and each else belongs to the nearest if that has none.
+  pub StatementBinds : Stmt → Type 0
+  StatementBinds (Headed h s) = IsHeading h × StatementBinds s
+  StatementBinds (Compound body) = BodyBinds body
+  StatementBinds (If e s) = Binds e rvalue_rank × StatementBinds s
+  StatementBinds (IfElse e s other) =
+      (is_open s ≡ false) × Binds e rvalue_rank × StatementBinds s × StatementBinds other
+  StatementBinds (While e s) = Binds e rvalue_rank × StatementBinds s
+  StatementBinds (Switch e body) = Binds e rvalue_rank × BodyBinds body
+  StatementBinds (Goto e) = Binds e rvalue_rank
+  StatementBinds (ReturnValue e) = Binds e rvalue_rank
+  StatementBinds (Evaluate e) = Binds e rvalue_rank
+  StatementBinds _ = Unit {0}
 
-  pub AllSit : Stmts → ℕ → ℕ → Type 0
-  AllSit Nothing room off = Unit {0}
-  AllSit (More before s) room off = AllSit before room off × Sits s room (off + body_words before)
+  pub BodyBinds : Stmts → Type 0
+  BodyBinds Nothing = Unit {0}
+  BodyBinds (More before s) = BodyBinds before × StatementBinds s
 
-abbrev pub ival_words : Ival → ℕ
-ival_words (Ival_constant c) = 0
-ival_words (Ival_text bytes offset) = text_words bytes
-ival_words (Ival_name w) = 0
+-- Nesting: how many levels of a tree stand one within another.
 
--- the string words of initial values
-abbrev pub values_words : List Ival → ℕ
-values_words values = sum_by ival_words values
+abbrev mutual
+  -- the levels that an expression needs
+  pub nesting : Expr → ℕ
+  nesting (Grouped e) = suc (nesting e)
+  nesting (Indexed e f) = max (nesting e) (suc (nesting f))
+  nesting (Called e args) = max (nesting e) (suc (argument_nesting args))
+  nesting (Postfixed op line e) = nesting e
+  nesting (Prefixed op line e) = suc (nesting e)
+  nesting (Binary op line e f) = max (nesting e) (nesting f)
+  nesting (Conditional e f g) = max (nesting e) (suc (max (nesting f) (nesting g)))
+  nesting (Assigned op line e f) = max (nesting e) (suc (nesting f))
+  nesting _ = 0
 
--- a string's offset is the string words before it
-abbrev pub IvalFits : List Ival → Ival → Type 0
-IvalFits before (Ival_constant c) = Unit {0}
-IvalFits before (Ival_text bytes offset) = offset ≡ values_words before
-IvalFits before (Ival_name w) = Unit {0}
+  pub argument_nesting : Arguments → ℕ
+  argument_nesting No_arguments = 0
+  argument_nesting (Another before e) = max (argument_nesting before) (nesting e)
+
+abbrev mutual
+  -- the levels that a statement needs
+  pub statement_nesting : Stmt → ℕ
+  statement_nesting (Headed h s) = statement_nesting s
+  statement_nesting (Compound body) = suc (body_nesting body)
+  statement_nesting (If e s) = suc (max (nesting e) (statement_nesting s))
+  statement_nesting (IfElse e s other) = suc (max (nesting e) (max (statement_nesting s) (statement_nesting other)))
+  statement_nesting (While e s) = suc (max (nesting e) (statement_nesting s))
+  statement_nesting (Switch e body) = suc (max (nesting e) (body_nesting body))
+  statement_nesting (Goto e) = nesting e
+  statement_nesting (ReturnValue e) = nesting e
+  statement_nesting (Evaluate e) = nesting e
+  statement_nesting _ = 0
+
+  pub body_nesting : Stmts → ℕ
+  body_nesting Nothing = 0
+  body_nesting (More before s) = max (body_nesting before) (statement_nesting s)
 
 -- the greatest level of nesting
 abbrev pub nesting_limit : ℕ
 nesting_limit = MAX_NESTING
 
+-- Offsets: where the strings of a definition lie among its string words.
+
+-- a string and its offset
+pub record TextAt : Type 0 where
+  pub bytes : List ℕ
+  pub offset : ℕ
+
+abbrev mutual
+  -- the strings of an expression, in the order of its tokens
+  pub texts : Expr → List TextAt
+  texts (Text bytes offset) = record { bytes = bytes; offset = offset } ∷ []
+  texts (Grouped e) = texts e
+  texts (Indexed e f) = texts e ++ texts f
+  texts (Called e args) = texts e ++ argument_texts args
+  texts (Postfixed op line e) = texts e
+  texts (Prefixed op line e) = texts e
+  texts (Binary op line e f) = texts e ++ texts f
+  texts (Conditional e f g) = texts e ++ (texts f ++ texts g)
+  texts (Assigned op line e f) = texts e ++ texts f
+  texts _ = []
+
+  pub argument_texts : Arguments → List TextAt
+  argument_texts No_arguments = []
+  argument_texts (Another before e) = argument_texts before ++ texts e
+
+abbrev mutual
+  -- the strings of a statement
+  pub statement_texts : Stmt → List TextAt
+  statement_texts (Headed h s) = statement_texts s
+  statement_texts (Compound body) = body_texts body
+  statement_texts (If e s) = texts e ++ statement_texts s
+  statement_texts (IfElse e s other) = texts e ++ (statement_texts s ++ statement_texts other)
+  statement_texts (While e s) = texts e ++ statement_texts s
+  statement_texts (Switch e body) = texts e ++ body_texts body
+  statement_texts (Goto e) = texts e
+  statement_texts (ReturnValue e) = texts e
+  statement_texts (Evaluate e) = texts e
+  statement_texts _ = []
+
+  pub body_texts : Stmts → List TextAt
+  body_texts Nothing = []
+  body_texts (More before s) = body_texts before ++ statement_texts s
+
+abbrev pub value_texts : Ival → List TextAt
+value_texts (Ival_text bytes offset) = record { bytes = bytes; offset = offset } ∷ []
+value_texts _ = []
+
+-- the strings of a definition
+abbrev pub texts_of : Definition → List TextAt
+texts_of (Simple w values) = flat_map value_texts values
+texts_of (Vector w size values) = flat_map value_texts values
+texts_of (Function w parameters body) = statement_texts body
+
+-- the words of a string: the characters and a final 4, two to a word, the even one in the low byte
+abbrev pub packed : List ℕ → List ℕ
+packed [] = 4 ∷ []
+packed (x ∷ []) = (x + 256 * 4) ∷ []
+packed (x ∷ y ∷ bytes) = (x + 256 * y) ∷ packed bytes
+
+-- Each string's offset is the words of those before it, counted up from this number.
+abbrev pub OffsetsFrom : ℕ → List TextAt → Type 0
+OffsetsFrom off [] = Unit {0}
+OffsetsFrom off (t ∷ ts) = (t.offset ≡ off) × OffsetsFrom (off + length (packed t.bytes)) ts
+
+-- The three rules. Initial values have no operators and no levels.
 abbrev pub IsFormed : Definition → Type 0
-IsFormed (Simple w values) = EachBehind IvalFits [] values
-IsFormed (Vector w size values) = EachBehind IvalFits [] values
-IsFormed (Function w parameters body) = Sits body nesting_limit 0
+IsFormed (Function w parameters body) =
+    StatementBinds body × (statement_nesting body ≤ nesting_limit) × OffsetsFrom 0 (statement_texts body)
+IsFormed d = OffsetsFrom 0 (texts_of d)
 
 abbrev pub AllFormed : List Definition → Type 0
 AllFormed [] = Unit {0}
@@ -220,27 +232,27 @@ pub record IsProgram (tokens : List Token) : Type 0 where
   pub spelled : map bare (spell_all definitions) ≡ tokens
 
 -- a beginning of them
-pub record Begins (tokens : List Token) : Type 0 where
+pub record BeginsProgram (tokens : List Token) : Type 0 where
   pub more : List Token
   pub program : IsProgram (tokens ++ more)
 
 -- a program goes on so with the next token, or ends where the source does
 abbrev pub IsViable : List Token → Token → Type 0
 IsViable before token.End = IsProgram before
-IsViable before t = Begins (before ++ t ∷ [])
+IsViable before t = BeginsProgram (before ++ t ∷ [])
 
 -- the letters of a token with which no program goes on
-abbrev pub letters_of : Token → Letters
-letters_of (token.Bad l) = l
-letters_of _ = letters.Syntax
+abbrev pub token_letters : Token → Letters
+token_letters (token.Bad l) = l
+token_letters _ = letters.Syntax
 
 abbrev pub fault_at : Placed → Diagnostic
-fault_at p = record { letters = letters_of p.token; about = about.Nothing; line = p.line }
+fault_at p = record { letters = token_letters p.token; about = about.Nothing; line = p.line }
 
 -- A program begins with the tokens before this one. It ends there, or none goes on with this one.
 abbrev pub StopsAt : List Token → Placed → Option Diagnostic → Type 0
 StopsAt before at None = (at.token ≡ token.End) × IsProgram before
-StopsAt before at (Some d) = Begins before × (IsViable before at.token → ⊥) × (d ≡ fault_at at)
+StopsAt before at (Some d) = BeginsProgram before × (IsViable before at.token → ⊥) × (d ≡ fault_at at)
 
 -- nothing, or a proper beginning of a definition
 abbrev pub IsPart : List Token → Type 0

@@ -13,7 +13,7 @@ use Rattle.std.proofs.lemmas.List.Sums.{sum_by-cons}
 use Rattle.bword.specs.declared.edition.Edition.{Edition}
 use Rattle.bword.specs.ByteEnds.{most, Incoming, TakesReady}
 use Rattle.blang.specs.Cut.{after_close, line_after, next_line}
-use Rattle.blex.specs.Sources.{Source, Passes, room}
+use Rattle.blex.specs.Sources.{Source, GoesBehind, room}
 use Rattle.blex.specs.Runs.{PassesRun, is_no_star}
 use Rattle.blex.proofs.Passing.{Passes-refl, Passes-append}
 use Rattle.blex.proofs.ByteSteps.{room-falls}
@@ -32,7 +32,7 @@ take_shown ready block n h l = rw (← h) (sym (take-take n (length block) ready
 -- bytes of the block were taken, with none ahead before it
 pub block_taken : {edition : Edition} (line line' : ℕ) (lender lender' : List ℕ) (old new : Incoming) (first second : Option ℕ) (ready block : List ℕ) (n : ℕ)
     → first ≡ None → second ≡ None → StartsWith ready block → n ≤ length block → TakesReady old (take n ready) new → lender' ≡ lender → line' ≡ line_after line (take n block)
-    → Passes (record { ahead = option_to_list first ++ option_to_list second; line = line; end = old; lender = lender; edition = edition })
+    → GoesBehind (record { ahead = option_to_list first ++ option_to_list second; line = line; end = old; lender = lender; edition = edition })
     (take n block) (record { ahead = option_to_list first ++ option_to_list second; line = line'; end = new; lender = lender'; edition = edition })
 block_taken line line' lender lender' old new first second ready block n f s shows within takes same behind = record {
   taken = take n block;
@@ -111,7 +111,7 @@ pub before_first_star : (bytes : List ℕ) (r : Option ℕ) (n : ℕ) → IsFirs
 before_first_star bytes None n h e = rw e (no_star_before bytes (length bytes) (omega arith) (λ k l. h k (omega arith) l))
 before_first_star bytes (Some m) n h e = rw e (no_star_before bytes m (omega (arith, h.0.high)) (λ k l. h.0.before k (omega arith) l))
 
-pub byte_less : {a b : Source} {byte : ℕ} → Passes a (byte ∷ []) b → room b < room a
+pub byte_less : {a b : Source} {byte : ℕ} → GoesBehind a (byte ∷ []) b → room b < room a
 byte_less {a} {b} {byte} h = omega (arith, room-falls h)
 
 pub other_than_star : (b : ℕ) → (b ≡ 42 → ⊥) → (b == 42) ≡ false

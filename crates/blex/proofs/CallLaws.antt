@@ -9,13 +9,13 @@ use Rattle.blang.specs.declared.token.Token.TheVariants as token
 use Rattle.blang.specs.declared.token.Placed.{Placed}
 use Rattle.blex.specs.declared.lexer.Progress.TheVariants as progress
 use Rattle.blang.specs.Cut.{tokens_from, token_first, token_of, last_of, placed, line_after}
-use Rattle.blex.specs.Sources.{Passes, CanCome}
+use Rattle.blex.specs.Sources.{GoesBehind, CanCome}
 use Rattle.blex.specs.Lexing.{PassesToken}
 use Rattle.blex.specs.Lexers.{Lexer, GivesAt, new, progress_behind}
-use Rattle.blex.specs.Calls.{Calls, first, once, Spells, CallsGiveFirst}
+use Rattle.blex.specs.Calls.{Calls, first_tokens, once, Spells, CallsGiveFirst}
 use Rattle.blex.proofs.Passing.{Passes-refl, Passes-append, CanCome-behind}
 
-first_cons : (t : Placed) (ps ts : List Placed) → first (length ps) ts ≡ ps → first (suc (length ps)) (t ∷ ts) ≡ t ∷ ps
+first_cons : (t : Placed) (ps ts : List Placed) → first_tokens (length ps) ts ≡ ps → first_tokens (suc (length ps)) (t ∷ ts) ≡ t ∷ ps
 first_cons t [] [] e = refl
 first_cons t [] (u ∷ us) e = refl
 first_cons t (p ∷ ps) [] e = cc
@@ -42,10 +42,10 @@ last_token _ l e = cc
 -- What calls from one state to another come to.
 record Gave (old : Lexer) (answers : List Placed) (after : Lexer) : Type 0 where
   passed : List ℕ
-  passes : Passes old.source passed after.source
+  passes : GoesBehind old.source passed after.source
   spells : Spells old.source.edition old.source.line (once answers) passed
   any : (xs : List ℕ) → CanCome after.source xs
-      → first (length answers) (tokens_from old.source.edition old.source.line (passed ++ xs)) ≡ answers
+      → first_tokens (length answers) (tokens_from old.source.edition old.source.line (passed ++ xs)) ≡ answers
 
 gave_nothing : (old : Lexer) → Gave old [] old
 gave_nothing old = record { passed = []; passes = Passes-refl old.source; spells = refl; any = λ xs c. refl }
@@ -53,7 +53,7 @@ gave_nothing old = record { passed = []; passes = Passes-refl old.source; spells
 -- behind the last token
 gave_again : (t : Placed) (l : Last) (line : ℕ) → t ≡ placed (token_of l) line → (ps : List Placed) (old after : Lexer)
     → old.progress ≡ progress.Ended l line → Calls old ps after
-    → (after ≡ old) × (first (length ps) (t ∷ []) ≡ ps)
+    → (after ≡ old) × (first_tokens (length ps) (t ∷ []) ≡ ps)
 gave_again t l line e [] old after ended calls = (calls, refl)
 gave_again t l line e (p ∷ ps) old after ended calls =
     let gives : GivesAt (progress.Ended l line) old (Ok p) calls.0 = subst (λ q. GivesAt q old (Ok p) calls.0) ended calls.1 in
@@ -76,18 +76,18 @@ module _ (p : Placed) (ps : List Placed) (old between after : Lexer) (s : Passes
         let all : tokens_from old.source.edition old.source.line ((s.bytes ++ g.passed) ++ xs) ≡ p ∷ rest =
         ap (tokens_from old.source.edition old.source.line) (append_assoc s.bytes g.passed xs) ∙ s.cut (g.passed ++ xs) (CanCome-behind g.passes c)
         ∙ token_first_more p rest e in
-        ap (first (suc (length ps))) all ∙ first_cons p ps rest (subst (λ e. first (length ps) (tokens_from e between.source.line (g.passed ++ xs)) ≡ ps) s.passes.edition (g.any xs c));
+        ap (first_tokens (suc (length ps))) all ∙ first_cons p ps rest (subst (λ e. first_tokens (length ps) (tokens_from e between.source.line (g.passed ++ xs)) ≡ ps) s.passes.edition (g.any xs c));
   }
 
-  gave_last : (l : Last) → last_of p.token ≡ Some l → (after ≡ between) × (first (length ps) (p ∷ []) ≡ ps) → Gave old (p ∷ ps) after
+  gave_last : (l : Last) → last_of p.token ≡ Some l → (after ≡ between) × (first_tokens (length ps) (p ∷ []) ≡ ps) → Gave old (p ∷ ps) after
   gave_last l e again = record {
     passed = s.bytes;
-    passes = subst (λ n. Passes old.source s.bytes n.source) (sym again.0) s.passes;
+    passes = subst (λ n. GoesBehind old.source s.bytes n.source) (sym again.0) s.passes;
     spells = subst (λ ts. Spells old.source.edition old.source.line ts s.bytes) (sym (once_last p ps l e))
         (s.space, s.text, [], s.split ∙ sym (append-nil (s.space ++ s.text)), s.before, s.is, refl);
     any = λ xs c.
         let here : CanCome between.source xs = subst (λ n. CanCome n.source xs) again.0 c in
-        ap (first (suc (length ps))) (s.cut xs here ∙ token_first_last p (tokens_from old.source.edition between.source.line xs) l e)
+        ap (first_tokens (suc (length ps))) (s.cut xs here ∙ token_first_last p (tokens_from old.source.edition between.source.line xs) l e)
         ∙ ap (λ l. p ∷ l) again.1;
   }
 
@@ -135,8 +135,8 @@ calls_give_first edition end lender answers l calls =
     let g = calls_gave answers (new edition end lender) l refl calls in
     let ahead = l.source.ahead in
     let took : Took end (g.passed ++ ahead) l.source.end = subst (λ t. Took end t l.source.end) g.passes.split g.passes.took in
-    let any : (more : List ℕ) → CanFollow l.source.end more → first (length answers) (tokens_from edition 1 ((g.passed ++ ahead) ++ more)) ≡ answers =
-    λ more can. ap (λ b. first (length answers) (tokens_from edition 1 b)) (append_assoc g.passed ahead more)
+    let any : (more : List ℕ) → CanFollow l.source.end more → first_tokens (length answers) (tokens_from edition 1 ((g.passed ++ ahead) ++ more)) ≡ answers =
+    λ more can. ap (λ b. first_tokens (length answers) (tokens_from edition 1 b)) (append_assoc g.passed ahead more)
     ∙ g.any (ahead ++ more) (record { more = more; split = refl; over = can }) in
     record {
       passed = g.passed;
@@ -144,6 +144,6 @@ calls_give_first edition end lender answers l calls =
       spells = g.spells;
       near = g.passes.near (omega arith);
       any = any;
-      told = of_told end l.source.end (g.passed ++ ahead) took (λ b. first (length answers) (tokens_from edition 1 b) ≡ answers) any;
+      told = of_told end l.source.end (g.passed ++ ahead) took (λ b. first_tokens (length answers) (tokens_from edition 1 b) ≡ answers) any;
       failures = g.passes.failures;
     }

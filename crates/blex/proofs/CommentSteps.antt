@@ -12,8 +12,8 @@ use Rattle.bword.specs.declared.edition.Edition.{Edition}
 use Rattle.blex.specs.declared.lexeme.Lexeme.{Lexeme}
 use Rattle.blex.specs.Lexemes.{token_of_lexeme}
 use Rattle.blang.specs.Cut.{is_blank, is_digit, after_close, whole}
-use Rattle.blex.specs.Sources.{Source, Passes, Breaks, Ends}
-use Rattle.blex.specs.Lexing.{piece_of, PassesPiece, PassesComment, TakesIf, Stops, BeginsFixed}
+use Rattle.blex.specs.Sources.{Source, GoesBehind, SourceFails, StaysAtEnd}
+use Rattle.blex.specs.Lexing.{piece_of, PassesPiece, PassesComment, TakesIf, IsLongest, BeginsFixed}
 use Rattle.bword.specs.Words.{is_name_start}
 use Rattle.blex.proofs.Passing.{Passes-refl, Passes-append, Breaks-after, CanCome-none}
 use Rattle.blex.proofs.ByteSteps.{Passes-then}
@@ -26,7 +26,7 @@ behind_star b more = if b then 42 ∷ more else more
 -- a comment so far
 pub record InComment (old : Source) (after_star : Bool) (new : Source) : Type 0 where
   pub body : List ℕ
-  pub passes : Passes old body new
+  pub passes : GoesBehind old body new
   pub rest : (more : List ℕ) → after_close (body ++ more) ≡ after_close (behind_star after_star more)
 
 -- one blank
@@ -41,34 +41,34 @@ pub slash_begins : (a b : Source) (o : Option ℕ) → is_some o ≡ false → T
 slash_begins a b (Some x) e h = cc
 slash_begins a b None e h = record { whole_is = λ xs m n. whole-slash _ n xs (h.1 xs m) }
 
-pub no_star : (a b : Source) (o : Option ℕ) → is_some o ≡ false → TakesIf (λ b. b == 42) a o b → Passes a [] b
+pub no_star : (a b : Source) (o : Option ℕ) → is_some o ≡ false → TakesIf (λ b. b == 42) a o b → GoesBehind a [] b
 no_star a b (Some x) e h = cc
 no_star a b None e h = h.0
 
 -- a piece behind a look at no byte
-pub piece_behind : {a b c : Source} {first : ℕ} {piece : Option Token} → Passes a [] b → PassesPiece first b piece c → PassesPiece first a piece c
+pub piece_behind : {a b c : Source} {first : ℕ} {piece : Option Token} → GoesBehind a [] b → PassesPiece first b piece c → PassesPiece first a piece c
 piece_behind {a} {b} {c} {first} {piece} h k = record {
   rest = k.rest;
   passes = Passes-append h k.passes;
   is = subst (λ e. whole e (first ∷ k.rest) ≡ Some (piece_of piece)) h.edition k.is;
-  stops = λ xs m. subst (λ e. Stops e (first ∷ k.rest) xs) h.edition (k.stops xs m);
+  stops = λ xs m. subst (λ e. IsLongest e (first ∷ k.rest) xs) h.edition (k.stops xs m);
 }
 
 equal : (b : ℕ) → (b == 42) ≡ true → b ≡ 42
 equal b h = grind (arith, nat_tests)
 
-star_passed : (a b : Source) (o : Option ℕ) → is_some o ≡ true → TakesIf (λ b. b == 42) a o b → Passes a (42 ∷ []) b
+star_passed : (a b : Source) (o : Option ℕ) → is_some o ≡ true → TakesIf (λ b. b == 42) a o b → GoesBehind a (42 ∷ []) b
 star_passed a b None e h = cc
 star_passed a b (Some x) e h = let star : x ≡ 42 = equal x h.1 in rw star at h.0
 
-pub star_breaks : (a b c : Source) (o : Option ℕ) → is_some o ≡ true → TakesIf (λ b. b == 42) a o b → Breaks b c → Breaks a c
+pub star_breaks : (a b c : Source) (o : Option ℕ) → is_some o ≡ true → TakesIf (λ b. b == 42) a o b → SourceFails b c → SourceFails a c
 star_breaks a b c o e h k = Breaks-after (star_passed a b o e h) k
 
 pub piece_comment : (a b c : Source) (o : Option ℕ) (ended : Bool) → is_some o ≡ true → TakesIf (λ b. b == 42) a o b → PassesComment b ended c → ended ≡ true → PassesPiece 47 a None c
 piece_comment a b c o ended e h k t =
     record { rest = 42 ∷ k.body; passes = Passes-append (star_passed a b o e h) k.passes; is = comment-is _ k.body (k.ends t); stops = λ xs m. comment-stops _ k.body xs (k.ends t) }
 
-stops-nil : (edition : Edition) (text xs : List ℕ) → xs ≡ [] → Stops edition text xs
+stops-nil : (edition : Edition) (text xs : List ℕ) → xs ≡ [] → IsLongest edition text xs
 stops-nil edition text [] e = tt
 stops-nil edition text (x ∷ xs) e = cc
 
@@ -100,7 +100,7 @@ comment_step false b more h = plain_step b more
 pub comment_none : (s : Source) → InComment s false s
 comment_none s = record { body = []; passes = Passes-refl s; rest = λ more. refl }
 
-pub comment_more : {a b c : Source} {s : Bool} (byte : ℕ) → InComment a s b → Passes b (byte ∷ []) c → (s ≡ true → byte ≡ 47 → ⊥) → InComment a (byte == 42) c
+pub comment_more : {a b c : Source} {s : Bool} (byte : ℕ) → InComment a s b → GoesBehind b (byte ∷ []) c → (s ≡ true → byte ≡ 47 → ⊥) → InComment a (byte == 42) c
 comment_more {a} {b} {c} {s} byte h k n = record {
   body = h.body ++ byte ∷ [];
   passes = Passes-append h.passes k;
@@ -113,7 +113,7 @@ differ e = cc
 slash_ends : (byte : ℕ) → byte ≡ 47 → after_close (42 ∷ byte ∷ []) ≡ Some []
 slash_ends byte e = rw e refl
 
-pub comment_ends : {a b c : Source} (byte : ℕ) → InComment a true b → Passes b (byte ∷ []) c → byte ≡ 47 → PassesComment a true c
+pub comment_ends : {a b c : Source} (byte : ℕ) → InComment a true b → GoesBehind b (byte ∷ []) c → byte ≡ 47 → PassesComment a true c
 comment_ends {a} {b} {c} byte h k e = record {
   body = h.body ++ byte ∷ [];
   passes = Passes-append h.passes k;
@@ -125,7 +125,7 @@ pub not_both : (s : Bool) (byte : ℕ) → ((s ≡ true) × (byte ≢ 47)) ⊎ (
 not_both s byte (inl h) e f = h.1 f
 not_both s byte (inr h) e f = cc
 
-pub comment_endless : {a b c : Source} {s : Bool} (o : Option ℕ) → o ≡ None → InComment a s b → Passes b (option_to_list o) c × Ends o c → PassesComment a false c
+pub comment_endless : {a b c : Source} {s : Bool} (o : Option ℕ) → o ≡ None → InComment a s b → GoesBehind b (option_to_list o) c × StaysAtEnd o c → PassesComment a false c
 comment_endless {a} {b} {c} {s} (Some x) n h k = cc
 comment_endless {a} {b} {c} {s} None n h k = record {
   body = h.body;

@@ -12,7 +12,7 @@ use Rattle.bword.specs.ByteEnds.{Incoming, TakesReady}
 use Rattle.bword.specs.Words.{is_name_byte}
 use Rattle.bword.specs.declared.edition.Edition.{Edition}
 use Rattle.blex.specs.Runs.{PassesRun, TakesName}
-use Rattle.blex.specs.Sources.{Source, Passes}
+use Rattle.blex.specs.Sources.{Source, GoesBehind}
 use Rattle.blang.specs.Cut.{line_after, next_line}
 use Rattle.blex.proofs.BlockSteps.{and-true_both, block_taken}
 use Rattle.blex.proofs.Passing.{Passes-refl}

@@ -9,8 +9,8 @@ use Rattle.std.proofs.lemmas.List.Sums.{fold-append}
 use Rattle.std.proofs.Math.Bool.{and-true}
 use Rattle.std.proofs.Math.Nat.{zero-mul, mul-le-mul_left, mul-le-mul_right}
 use Rattle.blang.specs.declared.token.Token.{Token}
-use Rattle.blang.specs.Cut.{Word, is_digit, is_digit_of, value_of, base_of, number_in, number_when}
-use Rattle.blex.specs.Sources.{Source, Passes}
+use Rattle.blang.specs.Cut.{Word, is_digit, is_digit_of, digits_value, base_of, number_in, number_when}
+use Rattle.blex.specs.Sources.{Source, GoesBehind}
 use Rattle.blex.specs.Lexing.{PassesPiece, TakesIf}
 use Rattle.blex.proofs.Passing.{Passes-refl, Passes-append}
 use Rattle.blex.proofs.ByteSteps.{Passes-then, more_bytes}
@@ -19,9 +19,9 @@ use Rattle.blex.proofs.EachPiece.{number-is, number-stops}
 -- a number so far
 pub record InNumber (first : ℕ) (old : Source) (base value : ℕ) (is_of_base : Bool) (new : Source) : Type 0 where
   pub run : List ℕ
-  pub passes : Passes old run new
+  pub passes : GoesBehind old run new
   pub digits : list_all is_digit run ≡ true
-  pub value_is : value ≡ min (value_of base (first ∷ run)) 65536
+  pub value_is : value ≡ min (digits_value base (first ∷ run)) 65536
   pub of_base : is_of_base ≡ list_all (is_digit_of base) (first ∷ run)
 
 capped_cases : (base v d : ℕ) → 0 < base → (v < 65536) ⊎ (65536 ≤ v) → min (min v 65536 * base + d) 65536 ≡ min (v * base + d) 65536
@@ -38,7 +38,7 @@ capped base v d h = capped_cases base v d h (cases_lt v 65536)
 pub base_pos : (b : ℕ) → 0 < base_of b
 base_pos b = elim (b == 48) as (λ t. 0 < (if t then 8 else 10)) [ true ↦ omega arith | false ↦ omega arith ]
 
-value_more : (base : ℕ) (run : List ℕ) (x : ℕ) → value_of base (run ++ x ∷ []) ≡ value_of base run * base + (x - 48)
+value_more : (base : ℕ) (run : List ℕ) (x : ℕ) → digits_value base (run ++ x ∷ []) ≡ digits_value base run * base + (x - 48)
 value_more base run x = fold-append (λ value digit. value * base + (digit - 48)) 0 run (x ∷ [])
 
 all_more : (p : ℕ → Bool) (run : List ℕ) (x : ℕ) → list_all p (run ++ x ∷ []) ≡ (list_all p run && p x)
@@ -55,11 +55,11 @@ when_capped : (ok : Bool) (v : ℕ) → number_when ok (min v 65536) ≡ number_
 when_capped false v = refl
 when_capped true v = when_cases v (cases_lt v 65536)
 
-number_is : (base : ℕ) (digits : List ℕ) (value : ℕ) (ok : Bool) (t : Token) → value ≡ min (value_of base digits) 65536 → ok ≡ list_all (is_digit_of base) digits
+number_is : (base : ℕ) (digits : List ℕ) (value : ℕ) (ok : Bool) (t : Token) → value ≡ min (digits_value base digits) 65536 → ok ≡ list_all (is_digit_of base) digits
     → t ≡ number_when ok value → number_in base digits ≡ t
 unfolding number_in
 number_is base digits value ok t v o w =
-    sym (when_capped (list_all (is_digit_of base) digits) (value_of base digits)) ∙ ap (λ u. number_when u (min (value_of base digits) 65536)) (sym o) ∙ ap (number_when ok) (sym v) ∙ sym w
+    sym (when_capped (list_all (is_digit_of base) digits) (digits_value base digits)) ∙ ap (λ u. number_when u (min (digits_value base digits) 65536)) (sym o) ∙ ap (number_when ok) (sym v) ∙ sym w
 
 pub number_more : {first : ℕ} {a b c : Source} {value : ℕ} {ok : Bool} (o : Option ℕ) (byte value' : ℕ) (ok' : Bool) → o ≡ Some byte
     → InNumber first a (base_of first) value ok b → TakesIf is_digit b o c
@@ -73,8 +73,8 @@ number_more {first} {a} {b} {c} {value} {ok} (Some x) byte value' ok' e h k v w 
       run = h.run ++ x ∷ [];
       passes = Passes-append h.passes k.0;
       digits = more_bytes is_digit h.run x h.digits k.1;
-      value_is = v ∙ ap (λ u. min (u * base + (byte - 48)) 65536) h.value_is ∙ capped base (value_of base (first ∷ h.run)) (byte - 48) (base_pos first)
-          ∙ ap (λ y. min (value_of base (first ∷ h.run) * base + (y - 48)) 65536) same ∙ ap (λ u. min u 65536) (sym (value_more base (first ∷ h.run) x));
+      value_is = v ∙ ap (λ u. min (u * base + (byte - 48)) 65536) h.value_is ∙ capped base (digits_value base (first ∷ h.run)) (byte - 48) (base_pos first)
+          ∙ ap (λ y. min (digits_value base (first ∷ h.run) * base + (y - 48)) 65536) same ∙ ap (λ u. min u 65536) (sym (value_more base (first ∷ h.run) x));
       of_base = w ∙ ap (λ y. ok && nat_lt (y - 48) base) same ∙ ap (λ u. u && nat_lt (x - 48) base) h.of_base ∙ sym (all_more (is_digit_of base) (first ∷ h.run) x);
     }
 

@@ -10,9 +10,9 @@ use Rattle.bword.specs.declared.edition.Edition.{Edition}
 use Rattle.blang.specs.declared.token.Token.{Token}
 use Rattle.blang.specs.declared.token.Token.TheVariants as token
 use Rattle.blang.specs.declared.token.Letters.TheVariants as letters
-use Rattle.blang.specs.Cut.{Word, word_of}
+use Rattle.blang.specs.Cut.{Word, word_token}
 use Rattle.blex.specs.Runs.{TakesName}
-use Rattle.blex.specs.Sources.{Source, Passes}
+use Rattle.blex.specs.Sources.{Source, GoesBehind}
 use Rattle.blex.specs.Lexing.{PassesPiece, TakesIf}
 use Rattle.blex.proofs.Passing.{Passes-append}
 use Rattle.blex.proofs.ByteSteps.{Passes-then, more_bytes}
@@ -21,7 +21,7 @@ use Rattle.blex.proofs.EachPiece.{word-is, word-stops}
 -- a word so far
 pub record InWord (first : ℕ) (old : Source) (text : List ℕ) (is_long : Bool) (new : Source) : Type 0 where
   pub run : List ℕ
-  pub passes : Passes old run new
+  pub passes : GoesBehind old run new
   pub bytes : list_all is_name_byte run ≡ true
   pub text_is : text ≡ take 8 (first ∷ run)
   pub long : is_long ≡ nat_lt 8 (length (first ∷ run))
@@ -83,8 +83,8 @@ word_room {first} {a} {b} {c} {text} {is_long} (Some x) byte text' e h k f t =
       long = short_more first x h.run is_long h.long short;
     }
 
-word_piece : (first : ℕ) (a b c : Source) (run : List ℕ) (t : Token) → is_name_start first ≡ true → list_all is_name_byte run ≡ true → Passes a run b
-    → TakesIf is_name_byte b None c → word_of a.edition (first ∷ run) ≡ t → PassesPiece first a (Some t) c
+word_piece : (first : ℕ) (a b c : Source) (run : List ℕ) (t : Token) → is_name_start first ≡ true → list_all is_name_byte run ≡ true → GoesBehind a run b
+    → TakesIf is_name_byte b None c → word_token a.edition (first ∷ run) ≡ t → PassesPiece first a (Some t) c
 word_piece first a b c run t s h p k e = record {
   rest = run;
   passes = Passes-then p k.0;
@@ -92,8 +92,8 @@ word_piece first a b c run t s h p k e = record {
   stops = λ xs m. word-stops _ first run xs s (k.1 xs m);
 }
 
-too_long : (edition : Edition) (text : List ℕ) → true ≡ nat_lt 8 (length text) → word_of edition text ≡ token.Bad letters.LongName
-unfolding word_of
+too_long : (edition : Edition) (text : List ℕ) → true ≡ nat_lt 8 (length text) → word_token edition text ≡ token.Bad letters.LongName
+unfolding word_token
 too_long edition text h = let l : nat_le (length text) 8 ≡ false = grind (arith, nat_tests) in rw l refl
 
 pub word_long : {first : ℕ} {a b c : Source} {text : List ℕ} {is_long : Bool} (o : Option ℕ) → o ≡ None → is_name_start first ≡ true
@@ -115,7 +115,7 @@ word_name {first} {a} {b} {text} {is_long} s h f =
     rw (e, s, l, h.bytes) refl
 
 pub word_short : {first : ℕ} {a b c : Source} {text : List ℕ} {is_long : Bool} (o : Option ℕ) (t : Token) → o ≡ None → is_name_start first ≡ true
-    → InWord first a text is_long b → TakesIf is_name_byte b o c → is_long ≡ false → t ≡ word_of c.edition text → PassesPiece first a (Some t) c
+    → InWord first a text is_long b → TakesIf is_name_byte b o c → is_long ≡ false → t ≡ word_token c.edition text → PassesPiece first a (Some t) c
 word_short {first} {a} {b} {c} {text} {is_long} (Some x) t e s h k l w = cc
 word_short {first} {a} {b} {c} {text} {is_long} None t e s h k l w =
-    word_piece first a b c h.run t s h.bytes h.passes k (ap (word_of a.edition) (sym (word_text h l)) ∙ ap (λ e. word_of e text) (sym (k.0.edition ∙ h.passes.edition)) ∙ sym w)
+    word_piece first a b c h.run t s h.bytes h.passes k (ap (word_token a.edition) (sym (word_text h l)) ∙ ap (λ e. word_token e text) (sym (k.0.edition ∙ h.passes.edition)) ∙ sym w)

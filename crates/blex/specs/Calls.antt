@@ -13,11 +13,11 @@ Calls old [] after = after ≡ old
 Calls old (p ∷ ps) after = (between : Lexer) × LexGives old (Ok p) between × Calls between ps after
 
 -- the first n tokens, the last of which comes again where there are no more
-abbrev pub first : ℕ → List Placed → List Placed
-first zero ts = []
-first (suc n) [] = []
-first (suc n) (t ∷ []) = t ∷ first n (t ∷ [])
-first (suc n) (t ∷ u ∷ us) = t ∷ first n (u ∷ us)
+abbrev pub first_tokens : ℕ → List Placed → List Placed
+first_tokens zero ts = []
+first_tokens (suc n) [] = []
+first_tokens (suc n) (t ∷ []) = t ∷ first_tokens n (t ∷ [])
+first_tokens (suc n) (t ∷ u ∷ us) = t ∷ first_tokens n (u ∷ us)
 
 -- tokens without those that come again
 abbrev pub once : List Placed → List Placed
@@ -27,7 +27,8 @@ once (t ∷ ts) = t ∷ (if is_last t.token then [] else once ts)
 -- The bytes are these tokens, with space before each and nothing behind the last one.
 abbrev pub Spells : Edition → ℕ → List Placed → List ℕ → Type 0
 Spells edition line [] bytes = bytes ≡ []
-Spells edition line (t ∷ ts) bytes = (space : List ℕ) × (text : List ℕ) × (rest : List ℕ) × (bytes ≡ (space ++ text) ++ rest)
+Spells edition line (t ∷ ts) bytes = (space : List ℕ) × (text : List ℕ) × (rest : List ℕ)
+    × (bytes ≡ (space ++ text) ++ rest)
     × (tokens_from edition line space ≡ placed token.End t.line ∷ []) × (whole edition text ≡ Some (Word t.token))
     × Spells edition (line_after line (space ++ text)) ts rest
 
@@ -40,10 +41,10 @@ pub record GaveFirst (edition : Edition) (end : Incoming) (answers : List Placed
   pub near : length l.source.ahead ≤ 2
   -- they are the first tokens of every source that begins so
   pub any : (more : List ℕ) → CanFollow l.source.end more
-      → first (length answers) (tokens_from edition 1 ((passed ++ l.source.ahead) ++ more)) ≡ answers
+      → first_tokens (length answers) (tokens_from edition 1 ((passed ++ l.source.ahead) ++ more)) ≡ answers
   -- and of the bytes that the end tells
   pub told : (bytes : List ℕ) → end.left ≡ Some bytes → end.is_over ≡ false
-      → first (length answers) (tokens_from edition 1 bytes) ≡ answers
+      → first_tokens (length answers) (tokens_from edition 1 bytes) ≡ answers
   pub failures : l.source.end.failures ≡ end.failures
 
 -- Calls of a new lexer give the first tokens of its source.

@@ -39,8 +39,8 @@ abbrev pub placed_of : List ℕ → Seen → Placed
 placed_of characters seen = placed (token_of_lexeme seen.lexeme characters) seen.line
 
 -- the lexeme stands for the token, whatever the characters: it is no string
-abbrev pub StandsFor : Lexeme → Token → Type 0
-StandsFor l t = (characters : List ℕ) → token_of_lexeme l characters ≡ t
+abbrev pub IsLexemeOf : Lexeme → Token → Type 0
+IsLexemeOf l t = (characters : List ℕ) → token_of_lexeme l characters ≡ t
 
 -- the same where there may be none
 abbrev pub MayStandFor : Option Lexeme → Option Token → Type 0

@@ -1,7 +1,7 @@
 //! Tokens with the characters of a string kept apart.
 ghost use Rattle.std.specs.Prelude.{ℕ, List, ◌≡◌, ◌≢◌};
 ghost use Rattle.blex.specs.declared.lexeme.Lexeme.TheVariants as lexeme;
-ghost use Rattle.blex.specs.Lexemes.{token_of_lexeme, StandsFor};
+ghost use Rattle.blex.specs.Lexemes.{token_of_lexeme, IsLexemeOf};
 ghost use Rattle.blang.specs.Cut.{last_of, token_of};
 
 use arrayvec::ArrayVec;
@@ -96,7 +96,7 @@ impl Lexeme {
 
 /// The last token as a lexeme.
 pub(crate) fn lexeme_of(last: Last) -> Lexeme
-    ensures { StandsFor result (token_of last) }
+    ensures { IsLexemeOf result (token_of last) }
 {
     match last {
         Last::Bad(letters) => Lexeme::Bad(letters),

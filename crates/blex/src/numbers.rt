@@ -1,9 +1,9 @@
 //! Numbers.
 ghost use Rattle.std.specs.Prelude.{◌≡◌, IfOk, OnErr, true};
 ghost use Rattle.blang.specs.Cut.{is_digit, base_of, number_when};
-ghost use Rattle.blex.specs.Sources.{Breaks};
+ghost use Rattle.blex.specs.Sources.{SourceFails};
 ghost use Rattle.blex.specs.Lexing.{PassesLexeme, TakesIf};
-ghost use Rattle.blex.specs.Lexemes.{StandsFor};
+ghost use Rattle.blex.specs.Lexemes.{IsLexemeOf};
 
 use crate::lexeme::Lexeme;
 use crate::source::Source;
@@ -14,7 +14,7 @@ use bword::{ByteIn, Device};
 pub(crate) fn number<I: ByteIn>(source: &mut Source<I>, first: u8) -> Result<Lexeme, Device>
     requires { is_digit first ≡ true }
     ensures ok { IfOk result (λ lexeme. PassesLexeme first source.old lexeme source.new) }
-    ensures err { OnErr result (Breaks source.old source.new) }
+    ensures err { OnErr result (SourceFails source.old source.new) }
 {
     let base = base_of(first);
     let mut value = u32::from(first - b'0');
@@ -30,7 +30,7 @@ pub(crate) fn number<I: ByteIn>(source: &mut Source<I>, first: u8) -> Result<Lex
 // The next byte, if it is a digit.
 fn digit<I: ByteIn>(source: &mut Source<I>) -> Result<Option<u8>, Device>
     ensures ok { IfOk result (λ byte. TakesIf is_digit source.old byte source.new) }
-    ensures err { OnErr result (Breaks source.old source.new) }
+    ensures err { OnErr result (SourceFails source.old source.new) }
 {
     let Some(byte) = source.peek()? else {
         return Ok(None);
@@ -51,7 +51,7 @@ fn base_of(first: u8) -> u32
 
 // The number of this value, unless its digits or its value are too great.
 fn number_when(is_of_base: bool, value: u32) -> Lexeme
-    ensures { StandsFor result (number_when is_of_base value) }
+    ensures { IsLexemeOf result (number_when is_of_base value) }
 {
     if is_of_base && value <= 65535 {
         Lexeme::Number(value as u16)

@@ -1,7 +1,7 @@
 //! Tokens whose text is always the same.
 ghost use Rattle.std.specs.Prelude.{ℕ, List, ◌≡◌, [], ◌∷◌, false, Some, IfOk, IfSome, OnErr};
 ghost use Rattle.blang.specs.Cut.{Word, operator_of, other_of, fixed_of, fixed_or_stray};
-ghost use Rattle.blex.specs.Sources.{Breaks};
+ghost use Rattle.blex.specs.Sources.{SourceFails};
 ghost use Rattle.blex.specs.Lexing.{PassesLexeme, BeginsFixed, IsAlone, NoneOfThree, begins_two, fixed_of_two, fixed_of_three};
 ghost use Rattle.blex.specs.Lexemes.{MayStandFor, token_of_lexeme};
 
@@ -14,7 +14,7 @@ use bword::{BinOp, ByteIn, Device};
 pub(crate) fn operator<I: ByteIn>(source: &mut Source<I>, first: u8) -> Result<Lexeme, Device>
     requires { BeginsFixed first source.old }
     ensures ok { IfOk result (λ lexeme. PassesLexeme first source.old lexeme source.new) }
-    ensures err { OnErr result (Breaks source.old source.new) }
+    ensures err { OnErr result (SourceFails source.old source.new) }
 {
     match alone(first) {
         Some(lexeme) => Ok(lexeme),
@@ -51,7 +51,7 @@ fn alone(byte: u8) -> Option<Lexeme>
 fn longest<I: ByteIn>(source: &mut Source<I>, first: u8) -> Result<Lexeme, Device>
     requires { BeginsFixed first source.old }
     ensures ok { IfOk result (λ lexeme. PassesLexeme first source.old lexeme source.new) }
-    ensures err { OnErr result (Breaks source.old source.new) }
+    ensures err { OnErr result (SourceFails source.old source.new) }
 {
     let second = source.peek()?;
     if can_be_three(first, second) {
@@ -84,7 +84,7 @@ fn begins_two(byte: u8) -> bool
 fn longest_of_three<I: ByteIn>(source: &mut Source<I>, first: u8) -> Result<Lexeme, Device>
     requires { BeginsFixed first source.old }
     ensures ok { IfOk result (λ lexeme. PassesLexeme first source.old lexeme source.new) }
-    ensures err { OnErr result (Breaks source.old source.new) }
+    ensures err { OnErr result (SourceFails source.old source.new) }
 {
     let (second, third) = source.peek_two()?;
     if let Some(lexeme) = fixed_of_three(first, second, third) {

@@ -1,8 +1,8 @@
 //! Constants in quotes.
 ghost use Rattle.std.specs.Prelude.{◌≡◌, [], IfOk, OnErr, Some};
 ghost use Rattle.blang.specs.Cut.{plain_of, escape_of, character_token};
-ghost use Rattle.blex.specs.Sources.{Breaks};
-ghost use Rattle.blex.specs.Lexemes.{StandsFor, token_of_lexeme};
+ghost use Rattle.blex.specs.Sources.{SourceFails};
+ghost use Rattle.blex.specs.Lexemes.{IsLexemeOf, token_of_lexeme};
 ghost use Rattle.blex.specs.Lexing.{PassesPiece, PassesLexeme, PassesCharacter, PassesQuoted};
 
 use crate::lexeme::Lexeme;
@@ -14,7 +14,7 @@ use bword::{ByteIn, Device};
 /// The rest of the character constant whose opening quote was read.
 pub(crate) fn character_constant<I: ByteIn>(source: &mut Source<I>) -> Result<Lexeme, Device>
     ensures ok { IfOk result (λ lexeme. PassesLexeme 39 source.old lexeme source.new) }
-    ensures err { OnErr result (Breaks source.old source.new) }
+    ensures err { OnErr result (SourceFails source.old source.new) }
 {
     let mut characters = ArrayVec::<u8, 2>::new();
     if !quoted(source, b'\'', &mut characters)? {
@@ -30,7 +30,7 @@ pub(crate) fn string<I: ByteIn>(
 ) -> Result<Lexeme, Device>
     ensures ok { IfOk result (λ lexeme. PassesPiece 34 source.old
         (Some (token_of_lexeme lexeme characters.new.items)) source.new) }
-    ensures err { OnErr result (Breaks source.old source.new) }
+    ensures err { OnErr result (SourceFails source.old source.new) }
 {
     characters.clear();
     if !quoted(source, b'"', characters)? {
@@ -41,7 +41,7 @@ pub(crate) fn string<I: ByteIn>(
 
 // The one or two characters of a constant, of which the first is the high byte.
 fn character_token(characters: &[u8]) -> Lexeme
-    ensures { StandsFor result (character_token characters.now) }
+    ensures { IsLexemeOf result (character_token characters.now) }
 {
     match characters {
         [low] => Lexeme::Character(u16::from(*low)),
@@ -58,7 +58,7 @@ fn quoted<I: ByteIn, const ROOM: usize>(
 ) -> Result<bool, Device>
     requires { characters.old.items ≡ [] }
     ensures ok { IfOk result (λ fits. PassesQuoted quote ROOM source.old fits characters.new.items source.new) }
-    ensures err { OnErr result (Breaks source.old source.new) }
+    ensures err { OnErr result (SourceFails source.old source.new) }
 {
     while let Some(byte) = source.next()? {
         if byte == quote {
@@ -78,7 +78,7 @@ fn quoted<I: ByteIn, const ROOM: usize>(
 // The rest of the character that begins with this byte, which is not the quote.
 fn character<I: ByteIn>(source: &mut Source<I>, first: u8) -> Result<Option<u8>, Device>
     ensures ok { IfOk result (λ character. PassesCharacter first source.old character source.new) }
-    ensures err { OnErr result (Breaks source.old source.new) }
+    ensures err { OnErr result (SourceFails source.old source.new) }
 {
     if first != b'*' {
         return Ok(plain(first));

@@ -1,10 +1,10 @@
 //! Keywords and names.
 ghost use Rattle.std.specs.Prelude.{◌≡◌, IfOk, OnErr, IsTrue, true, Some, None, if◌then◌else◌};
 ghost use Rattle.bword.specs.Words.{is_name, is_name_start, is_name_byte};
-ghost use Rattle.blang.specs.Cut.{word_of, keyword_of, is_text};
-ghost use Rattle.blex.specs.Sources.{Breaks};
+ghost use Rattle.blang.specs.Cut.{word_token, keyword_of, is_text};
+ghost use Rattle.blex.specs.Sources.{SourceFails};
 ghost use Rattle.blex.specs.Lexing.{PassesLexeme, TakesIf};
-ghost use Rattle.blex.specs.Lexemes.{StandsFor};
+ghost use Rattle.blex.specs.Lexemes.{IsLexemeOf};
 
 use crate::lexeme::Lexeme;
 use crate::source::Source;
@@ -16,7 +16,7 @@ use bword::{ByteIn, Device, Edition, NAME_LEN, Name, is_name_byte};
 pub(crate) fn word<I: ByteIn>(source: &mut Source<I>, first: u8) -> Result<Lexeme, Device>
     requires { is_name_start first ≡ true }
     ensures ok { IfOk result (λ lexeme. PassesLexeme first source.old lexeme source.new) }
-    ensures err { OnErr result (Breaks source.old source.new) }
+    ensures err { OnErr result (SourceFails source.old source.new) }
 {
     let mut text = ArrayVec::<u8, NAME_LEN>::new();
     text.push(first);
@@ -37,7 +37,7 @@ pub(crate) fn word<I: ByteIn>(source: &mut Source<I>, first: u8) -> Result<Lexem
 // The next byte, if a name goes on with it.
 fn name_byte<I: ByteIn>(source: &mut Source<I>) -> Result<Option<u8>, Device>
     ensures ok { IfOk result (λ byte. TakesIf is_name_byte source.old byte source.new) }
-    ensures err { OnErr result (Breaks source.old source.new) }
+    ensures err { OnErr result (SourceFails source.old source.new) }
 {
     let Some(byte) = source.peek()? else {
         return Ok(None);
@@ -50,10 +50,10 @@ fn name_byte<I: ByteIn>(source: &mut Source<I>) -> Result<Option<u8>, Device>
 }
 
 // The keyword or the name that this is.
-#[tactic(auto, unfolding(blang::specs::Cut::word_of))]
+#[tactic(auto, unfolding(blang::specs::Cut::word_token))]
 fn keyword_or_name(edition: Edition, text: &[u8]) -> Lexeme
     requires { IsTrue (is_name text.now) }
-    ensures { StandsFor result (word_of edition text.now) }
+    ensures { IsLexemeOf result (word_token edition text.now) }
 {
     match keyword(edition, text) {
         Some(keyword) => Lexeme::Keyword(keyword),

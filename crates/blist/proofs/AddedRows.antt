@@ -8,7 +8,7 @@ use Rattle.std.proofs.lemmas.List.Concat.{flat_map-append}
 use Rattle.std.specs.Prelude.{Option}
 use Rattle.blang.specs.Text.{lines_of}
 use Rattle.blang.specs.declared.code.Definition.{Definition}
-use Rattle.blist.specs.Listings.{Adds, AreRows, Extends, Row, is_wanted, row_text, wanted, without_newline}
+use Rattle.blist.specs.Listings.{Adds, AreRows, Extends, ListingRow, is_wanted, row_text, wanted, without_newline}
 
 pub adds_nothing : (old : List ℕ) → Adds old [] old
 adds_nothing old = ([], record { rows = []; lines_are = refl; text_is = refl }, sym (append-nil old))

@@ -17,7 +17,7 @@ use Rattle.blang.specs.declared.run.LoadFault.{LoadFault}
 use Rattle.blang.specs.declared.run.LoadFault.TheVariants as fault
 use Rattle.blang.specs.Compiles.{Compiles}
 use Rattle.blist.specs.declared.program.Program.{Program}
-use Rattle.blist.specs.Programs.{IsCompiled, IsThisProgram, LoadGives, NoProgram, IsNotLoaded, IsUnread, TellsFault, load_line, unread_status, faulty, unread, refused, no_memory, not_read, not_loaded}
+use Rattle.blist.specs.Programs.{WasCompiled, IsThisProgram, LoadGives, NoProgram, IsNotLoaded, IsUnread, TellsFault, load_line, unread_status, faulty, unread, refused, no_memory, not_read, not_loaded}
 use Rattle.blist.specs.Told.{Told}
 
 -- a text that was not read is none, or memory was refused
@@ -35,7 +35,7 @@ Compiling edition source behind first last line line_behind status =
 
 module _ (edition : Edition) (source : List ℕ) (line : Outgoing) where
   pub compiled : (input : Unread) (behind : Incoming) (first last : Kept) (line_behind : Outgoing) (status : ℕ) → input ≡ record { left = source; is_over = false } → first ≡ nothing_kept
-      → Compiling edition input behind first last line line_behind status → IsCompiled edition source line line_behind last.bytes status
+      → Compiling edition input behind first last line line_behind status → WasCompiled edition source line line_behind last.bytes status
   compiled input behind first last line_behind status is none h = record {
     behind = behind;
     kept = last;
@@ -44,29 +44,29 @@ module _ (edition : Edition) (source : List ℕ) (line : Outgoing) where
         (subst (λ (i : Unread). Compiling edition i behind first last line line_behind status) is h);
   }
 
-  not_told : (mid line_behind : Outgoing) (code : List ℕ) (ds : List Definition) (status : ℕ) (f : LoadFault) → IsCompiled edition source line mid code 0 → IsCodeText code ds → IsFault f (load_fault ds)
+  not_told : (mid line_behind : Outgoing) (code : List ℕ) (ds : List Definition) (status : ℕ) (f : LoadFault) → WasCompiled edition source line mid code 0 → IsCodeText code ds → IsFault f (load_fault ds)
       → TellsFault f mid line_behind status → NoProgram edition source line line_behind status
   not_told mid line_behind code ds status (fault.Duplicate name) h is f told = refused mid code ds (fault.Duplicate name) _ h is f refl told
   not_told mid line_behind code ds status fault.TooLarge h is f told = refused mid code ds fault.TooLarge _ h is f refl told
   not_told mid line_behind code ds status (fault.Undefined name) h is f told = refused mid code ds (fault.Undefined name) _ h is f refl told
   not_told mid line_behind code ds status fault.NoMain h is f told = refused mid code ds fault.NoMain _ h is f refl told
   not_told mid line_behind code ds status fault.Memory h is f told =
-      no_memory code (subst (λ (l : Outgoing). IsCompiled edition source line l code 0) (sym told.0) h) told.1
+      no_memory code (subst (λ (l : Outgoing). WasCompiled edition source line l code 0) (sym told.0) h) told.1
 
-  text_unread : (mid : Outgoing) (code : List ℕ) (status : ℕ) → IsCompiled edition source line mid code 0 → IsUnread code status → NoProgram edition source line mid status
+  text_unread : (mid : Outgoing) (code : List ℕ) (status : ℕ) → WasCompiled edition source line mid code 0 → IsUnread code status → NoProgram edition source line mid status
   text_unread mid code status h (inl memory) = no_memory code h memory
   text_unread mid code status h (inr none) = unread code none.0 h none.1 none.2 none.3
 
-  no_program : (mid line_behind : Outgoing) (code : List ℕ) (status : ℕ) → IsCompiled edition source line mid code 0 → IsNotLoaded code mid line_behind status → NoProgram edition source line line_behind status
+  no_program : (mid line_behind : Outgoing) (code : List ℕ) (status : ℕ) → WasCompiled edition source line mid code 0 → IsNotLoaded code mid line_behind status → NoProgram edition source line line_behind status
   no_program mid line_behind code status h (not_read why same) =
-      text_unread line_behind code status (subst (λ (l : Outgoing). IsCompiled edition source line l code 0) (sym same) h) why
+      text_unread line_behind code status (subst (λ (l : Outgoing). WasCompiled edition source line l code 0) (sym same) h) why
   no_program mid line_behind code status h (not_loaded ds f is why told) = not_told mid line_behind code ds status f h is why told
 
-  pub loaded : (mid line_behind : Outgoing) (code : List ℕ) (r : Result Program ℕ) → IsCompiled edition source line mid code 0 → LoadGives code mid r line_behind
+  pub loaded : (mid line_behind : Outgoing) (code : List ℕ) (r : Result Program ℕ) → WasCompiled edition source line mid code 0 → LoadGives code mid r line_behind
       → MatchResult r (IsThisProgram edition source line line_behind) (NoProgram edition source line line_behind)
   loaded mid line_behind code (Ok p) h gives = record {
     code = code;
-    compiled = subst (λ (l : Outgoing). IsCompiled edition source line l code 0) (sym gives.3) h;
+    compiled = subst (λ (l : Outgoing). WasCompiled edition source line l code 0) (sym gives.3) h;
     is_text = gives.0;
     loads = gives.1;
     loaded = gives.2;

@@ -1,5 +1,6 @@
 -- The code of a source, as it is listed.
-use Rattle.std.specs.Prelude.{◌≡◌, ℕ, ◌+◌, ◌-◌, Bool, true, List, [], ◌∷◌, ◌++◌, codes, decimal, map, filter, length, take, All, Option, Some, None}
+use Rattle.std.specs.Prelude.{◌≡◌, ℕ, ◌+◌, ◌-◌, Bool, true, List, [], ◌∷◌, ◌++◌, codes, decimal, map, filter, length}
+use Rattle.std.specs.Prelude.{take, All, Option, Some, None}
 use Rattle.std.specs.List.{flat_map}
 use Rattle.std.specs.Str.{bytes_eq}
 use Rattle.bword.specs.declared.edition.Edition.{Edition}
@@ -10,11 +11,11 @@ use Rattle.blang.specs.declared.status.TheConstants.{DONE, MEMORY, WRONG_COMMAND
 use Rattle.blang.specs.Layout.{shape_of}
 use Rattle.blang.specs.Machine.{Image}
 use Rattle.blist.specs.declared.listing.TheConstants.{HEADING, UNDEFINED}
-use Rattle.blist.specs.Programs.{IsProgram, NoProgram}
-use Rattle.blist.specs.Told.{Ends, Told}
+use Rattle.blist.specs.Programs.{HasProgram, NoProgram}
+use Rattle.blist.specs.Told.{ToldEnds, Told}
 
 -- a row: what stands before a line of code, the line with its newline, and what stands beside it
-pub record Row : Type 0 where
+pub record ListingRow : Type 0 where
   pub margin : List ℕ
   pub line : List ℕ
   pub beside : List ℕ
@@ -23,12 +24,12 @@ pub record Row : Type 0 where
 abbrev pub without_newline : List ℕ → List ℕ
 without_newline line = take (length line - 1) line
 
-abbrev pub row_text : Row → List ℕ
+abbrev pub row_text : ListingRow → List ℕ
 row_text r = r.margin ++ without_newline r.line ++ r.beside ++ codes "\n"
 
 -- These lines of code are the rows of the text, in order.
 pub record AreRows (lines : List (List ℕ)) (text : List ℕ) : Type 0 where
-  pub rows : List Row
+  pub rows : List ListingRow
   pub lines_are : map (λ r. r.line) rows ≡ lines
   pub text_is : text ≡ flat_map row_text rows
 
@@ -50,16 +51,17 @@ wanted name ds = filter (is_wanted name) ds
 
 -- What is written for a source: the lines of the code of what is wanted, each in its row; or nothing but why there are
 -- none.
-pub data Lists (edition : Edition) (source : List ℕ) (name : Option (List ℕ)) (ends : Ends) (status : ℕ) : Type 0 where
-  listed : (ds : List Definition) (image : Image) (text : List ℕ)
-      → IsProgram edition source ends.line ends.line_behind ds image
-      → AreRows (flat_map lines_of (wanted name ds)) text
-      → Told (HEADING.now ++ text) DONE ends.out ends.out_behind status → Lists edition source name ends status
-  unnamed : (mid : Outgoing) (ds : List Definition) (image : Image)
-      → IsProgram edition source ends.line mid ds image → wanted name ds ≡ []
-      → Told UNDEFINED.now WRONG_COMMAND mid ends.line_behind status → ends.out_behind ≡ ends.out
-      → Lists edition source name ends status
-  stopped : NoProgram edition source ends.line ends.line_behind status → ends.out_behind ≡ ends.out
-      → Lists edition source name ends status
-  no_memory : (ds : List Definition) (image : Image) → IsProgram edition source ends.line ends.line_behind ds image
-      → ends.out_behind ≡ ends.out → status ≡ MEMORY → Lists edition source name ends status
+pub data Lists (edition : Edition) (source : List ℕ) (name : Option (List ℕ)) (ends : ToldEnds) (status : ℕ) : Type 0
+  where
+    listed : (ds : List Definition) (image : Image) (text : List ℕ)
+        → HasProgram edition source ends.line ends.line_behind ds image
+        → AreRows (flat_map lines_of (wanted name ds)) text
+        → Told (HEADING.now ++ text) DONE ends.out ends.out_behind status → Lists edition source name ends status
+    unnamed : (mid : Outgoing) (ds : List Definition) (image : Image)
+        → HasProgram edition source ends.line mid ds image → wanted name ds ≡ []
+        → Told UNDEFINED.now WRONG_COMMAND mid ends.line_behind status → ends.out_behind ≡ ends.out
+        → Lists edition source name ends status
+    stopped : NoProgram edition source ends.line ends.line_behind status → ends.out_behind ≡ ends.out
+        → Lists edition source name ends status
+    no_memory : (ds : List Definition) (image : Image) → HasProgram edition source ends.line ends.line_behind ds image
+        → ends.out_behind ≡ ends.out → status ≡ MEMORY → Lists edition source name ends status

@@ -1,24 +1,25 @@
 -- The layout of memory, as it is shown.
-use Rattle.std.specs.Prelude.{◌≡◌, ℕ, zero, suc, ◌+◌, ◌%◌, List, [], ◌∷◌, ◌++◌, codes, decimal, map, min, nat_lt, unwrap_or, slice_index, if◌then◌else◌}
+use Rattle.std.specs.Prelude.{◌≡◌, ℕ, zero, suc, ◌+◌, ◌%◌, List, [], ◌∷◌, ◌++◌, codes, decimal, map, min, nat_lt}
+use Rattle.std.specs.Prelude.{unwrap_or, slice_index, if◌then◌else◌}
 use Rattle.std.specs.List.{flat_map}
 use Rattle.bword.specs.declared.edition.Edition.{Edition}
 use Rattle.bword.specs.ByteEnds.{Outgoing}
 use Rattle.blang.specs.declared.code.Definition.{Definition}
 use Rattle.blang.specs.declared.status.TheConstants.{DONE, MEMORY}
-use Rattle.blang.specs.Layout.{Function, Kind, Shape, Simple, Vector, address_in, shape_of, size_of}
+use Rattle.blang.specs.Layout.{Function, DefinitionKind, Shape, Simple, Vector, address_in, shape_of, size_of}
 use Rattle.blang.specs.Machine.{Image}
 use Rattle.blist.specs.declared.layout.TheConstants.{HEADING, SHOWN}
 use Rattle.blist.specs.Columns.{left, right}
-use Rattle.blist.specs.Programs.{IsProgram, NoProgram}
-use Rattle.blist.specs.Told.{Ends, Told}
+use Rattle.blist.specs.Programs.{HasProgram, NoProgram}
+use Rattle.blist.specs.Told.{ToldEnds, Told}
 
-abbrev pub kind_text : Kind → List ℕ
+abbrev pub kind_text : DefinitionKind → List ℕ
 kind_text (Function labels) = codes "function"
 kind_text Simple = codes "simple"
 kind_text (Vector n) = codes "vector"
 
-abbrev pub address_of : Image → List ℕ → ℕ
-address_of image name = unwrap_or (address_in image.addresses name) 0
+abbrev pub image_address : Image → List ℕ → ℕ
+image_address image name = unwrap_or (address_in image.addresses name) 0
 
 -- so many words from an address on, a blank before each
 abbrev pub words_from : Image → ℕ → ℕ → List ℕ
@@ -33,20 +34,21 @@ dots words = if nat_lt SHOWN words then codes " .." else []
 -- its address, its name, what it is, how many words it has and the first ones
 abbrev pub map_row : Image → Shape → List ℕ
 map_row image d =
-    right 6 (decimal (address_of image d.name)) ++ codes "  " ++ left 10 d.name ++ left 8 (kind_text d.kind)
+    right 6 (decimal (image_address image d.name)) ++ codes "  " ++ left 10 d.name ++ left 8 (kind_text d.kind)
     ++ right 7 (decimal (size_of d)) ++ codes " "
-    ++ words_from image (address_of image d.name) (min (size_of d) SHOWN)
+    ++ words_from image (image_address image d.name) (min (size_of d) SHOWN)
     ++ dots (size_of d) ++ codes "\n"
 
 abbrev pub map_text : Image → List Definition → List ℕ
 map_text image ds =
-    HEADING.now ++ flat_map (λ d. map_row image (shape_of d)) ds ++ codes "data end " ++ decimal image.data_end ++ codes "\n"
+    HEADING.now ++ flat_map (λ d. map_row image (shape_of d)) ds ++ codes "data end " ++ decimal image.data_end
+    ++ codes "\n"
 
 -- What is written for a source: its layout; or nothing but why there is none.
-pub data Maps (edition : Edition) (source : List ℕ) (ends : Ends) (status : ℕ) : Type 0 where
-  mapped : (ds : List Definition) (image : Image) → IsProgram edition source ends.line ends.line_behind ds image
+pub data Maps (edition : Edition) (source : List ℕ) (ends : ToldEnds) (status : ℕ) : Type 0 where
+  mapped : (ds : List Definition) (image : Image) → HasProgram edition source ends.line ends.line_behind ds image
       → Told (map_text image ds) DONE ends.out ends.out_behind status → Maps edition source ends status
   stopped : NoProgram edition source ends.line ends.line_behind status → ends.out_behind ≡ ends.out
       → Maps edition source ends status
-  no_memory : (ds : List Definition) (image : Image) → IsProgram edition source ends.line ends.line_behind ds image
+  no_memory : (ds : List Definition) (image : Image) → HasProgram edition source ends.line ends.line_behind ds image
       → ends.out_behind ≡ ends.out → status ≡ MEMORY → Maps edition source ends status

@@ -19,7 +19,7 @@ use Rattle.blist.specs.declared.program.Program.{Program}
 use Rattle.blist.specs.Told.{Told}
 
 -- The source was compiled between these ends of lines, to this code and with this status.
-pub record IsCompiled (edition : Edition) (source : List ℕ) (line line_behind : Outgoing) (code : List ℕ) (status : ℕ)
+pub record WasCompiled (edition : Edition) (source : List ℕ) (line line_behind : Outgoing) (code : List ℕ) (status : ℕ)
     : Type 0 where
   pub behind : Incoming
   pub kept : Kept
@@ -36,17 +36,17 @@ pub record IsCompiled (edition : Edition) (source : List ℕ) (line line_behind 
   })
 
 -- The source was compiled to the code text of these definitions, which load.
-pub record IsProgram (edition : Edition) (source : List ℕ) (line line_behind : Outgoing) (ds : List Definition)
+pub record HasProgram (edition : Edition) (source : List ℕ) (line line_behind : Outgoing) (ds : List Definition)
     (image : Image) : Type 0 where
   pub code : List ℕ
-  pub compiled : IsCompiled edition source line line_behind code 0
+  pub compiled : WasCompiled edition source line line_behind code 0
   pub is_text : IsCodeText code ds
   pub loads : load_fault ds ≡ None
   pub loaded : IsLoadedFrom ds image
 
 abbrev pub IsThisProgram : (edition : Edition) (source : List ℕ) (line line_behind : Outgoing) → Program → Type 0
 IsThisProgram edition source line line_behind p =
-    IsProgram edition source line line_behind p.definitions.items p.image
+    HasProgram edition source line line_behind p.definitions.items p.image
 
 -- the line of a reason why definitions don't load
 abbrev pub load_line : LoadFault → Option (List ℕ)
@@ -59,21 +59,22 @@ load_line fault.Memory = None
 -- what is told of a reason, or nothing where memory was refused
 abbrev pub TellsFault : LoadFault → Outgoing → Outgoing → ℕ → Type 0
 TellsFault f line line_behind status =
-    MatchOption (load_line f) ((line_behind ≡ line) × (status ≡ MEMORY)) (λ text. Told text REFUSED line line_behind status)
+    MatchOption (load_line f) ((line_behind ≡ line) × (status ≡ MEMORY))
+    (λ text. Told text REFUSED line line_behind status)
 
 -- Why there is no program: the source is faulty or was not compiled, and the line and the status are those of the
 -- compiler; its code is no code text, which never comes; it doesn't load, and that is told; or memory was refused.
 pub data NoProgram (edition : Edition) (source : List ℕ) (line line_behind : Outgoing) (status : ℕ) : Type 0 where
-  faulty : (code : List ℕ) → IsCompiled edition source line line_behind code status → (status ≡ 0 → ⊥)
+  faulty : (code : List ℕ) → WasCompiled edition source line line_behind code status → (status ≡ 0 → ⊥)
       → NoProgram edition source line line_behind status
-  unread : (code : List ℕ) (n : ℕ) → IsCompiled edition source line line_behind code 0 → IsFaultLine code n
+  unread : (code : List ℕ) (n : ℕ) → WasCompiled edition source line line_behind code 0 → IsFaultLine code n
       → ((ds : List Definition) → IsCodeText code ds → ⊥) → status ≡ REFUSED
       → NoProgram edition source line line_behind status
   refused : (mid : Outgoing) (code : List ℕ) (ds : List Definition) (f : LoadFault) (text : List ℕ)
-      → IsCompiled edition source line mid code 0 → IsCodeText code ds → load_fault ds ≡ Some f
+      → WasCompiled edition source line mid code 0 → IsCodeText code ds → load_fault ds ≡ Some f
       → load_line f ≡ Some text → Told text REFUSED mid line_behind status
       → NoProgram edition source line line_behind status
-  no_memory : (code : List ℕ) → IsCompiled edition source line line_behind code 0 → status ≡ MEMORY
+  no_memory : (code : List ℕ) → WasCompiled edition source line line_behind code 0 → status ≡ MEMORY
       → NoProgram edition source line line_behind status
 
 -- the status of a text that was not read
@@ -95,6 +96,7 @@ pub data IsNotLoaded (code : List ℕ) (line line_behind : Outgoing) (status : �
 -- what comes of a code text that is loaded
 abbrev pub LoadGives : List ℕ → Outgoing → Result Program ℕ → Outgoing → Type 0
 LoadGives code line (Ok p) line_behind =
-    IsCodeText code p.definitions.items × (load_fault p.definitions.items ≡ None) × IsLoadedFrom p.definitions.items p.image
+    IsCodeText code p.definitions.items × (load_fault p.definitions.items ≡ None)
+    × IsLoadedFrom p.definitions.items p.image
     × (line_behind ≡ line)
 LoadGives code line (Err status) line_behind = IsNotLoaded code line line_behind status

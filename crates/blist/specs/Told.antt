@@ -15,7 +15,7 @@ abbrev pub Told : List ℕ → ℕ → Outgoing → Outgoing → ℕ → Type 0
 Told text answer old new status = (Writes old text new × (status ≡ answer)) ⊎ IsCut text old new status
 
 -- the two ends of a command that tells of a source, before and after
-pub record Ends : Type 0 where
+pub record ToldEnds : Type 0 where
   pub out : Outgoing
   pub out_behind : Outgoing
   pub line : Outgoing

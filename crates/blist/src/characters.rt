@@ -1,5 +1,6 @@
 //! Words shown as characters.
-ghost use Rattle.std.specs.Prelude.{OnOk};
+ghost use Rattle.std.specs.Prelude.{◌≡◌, ◌++◌, OnOk};
+ghost use Rattle.blist.specs.Characters.{shown_byte};
 ghost use Rattle.blist.specs.Listings.{Extends};
 
 use crate::text::Text;
@@ -19,7 +20,7 @@ pub fn push_characters(text: &mut Text, word: u16) -> Result<(), AllocError>
 
 /// A character, or the escape that stands for it; a byte that has none is shown as `.`.
 pub fn push_byte(text: &mut Text, byte: u8) -> Result<(), AllocError>
-    ensures { OnOk result (Extends text.old text.new) }
+    ensures { OnOk result (text.new ≡ text.old ++ shown_byte byte) }
 {
     match byte {
         b'\n' => text.push(b"*n"),

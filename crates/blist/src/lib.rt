@@ -11,11 +11,11 @@ mod source_lines;
 mod telling;
 mod text;
 
-pub use characters::push_byte;
+pub use characters::{push_byte, push_characters};
 pub use frames::{Frame, FrameWord, frames_of};
 pub use layout::map;
 pub use listing::list;
-pub use program::{Names, Program, read_program};
+pub use program::{Names, Program, load_line, read_program};
 pub use source_lines::SourceLines;
 pub use telling::tell;
 pub use text::Text;

@@ -1,7 +1,7 @@
 //! A source that is compiled and loaded, with what is told of it.
-ghost use Rattle.std.specs.Prelude.{◌≡◌, MatchResult};
+ghost use Rattle.std.specs.Prelude.{◌≡◌, MatchResult, option_map};
 ghost use Rattle.blang.specs.Text.{IsCodeText};
-ghost use Rattle.blist.specs.Programs.{IsThisProgram, IsUnread, LoadGives, NoProgram, TellsFault, unread_status};
+ghost use Rattle.blist.specs.Programs.{IsThisProgram, IsUnread, LoadGives, NoProgram, TellsFault, load_line, unread_status};
 
 use crate::frames::{Frame, frames_of};
 use crate::telling::tell;
@@ -135,12 +135,22 @@ fn refuse<D: ByteOut>(fault: &LoadFault, diag: &mut D) -> Status
     ensures tells { TellsFault fault.now (D.outgoing diag.old) (D.outgoing diag.new) result }
     ensures same { D.lender diag.new ≡ D.lender diag.old }
 {
+    match load_line(fault) {
+        Some(line) => tell(line, status::REFUSED, diag),
+        None => status::MEMORY,
+    }
+}
+
+/// The line of a reason why a program doesn't load; none where memory was refused.
+pub fn load_line(fault: &LoadFault) -> Option<&'static [u8]>
+    ensures { option_map (λ l. l.now) result ≡ load_line fault.now }
+{
     match fault {
-        LoadFault::Duplicate(_) => tell(b"load 1\n", status::REFUSED, diag),
-        LoadFault::TooLarge => tell(b"load 2\n", status::REFUSED, diag),
-        LoadFault::Undefined(_) => tell(b"load 3\n", status::REFUSED, diag),
-        LoadFault::NoMain => tell(b"load 4\n", status::REFUSED, diag),
-        LoadFault::Memory => status::MEMORY,
+        LoadFault::Duplicate(_) => Some(b"load 1\n"),
+        LoadFault::TooLarge => Some(b"load 2\n"),
+        LoadFault::Undefined(_) => Some(b"load 3\n"),
+        LoadFault::NoMain => Some(b"load 4\n"),
+        LoadFault::Memory => None,
     }
 }
 

@@ -6,9 +6,9 @@ use Rattle.std.proofs.lemmas.Option.{slice_get-map}
 use Rattle.blang.specs.declared.code.Definition.{Definition}
 use Rattle.blang.specs.declared.run.LoadFault.{LoadFault}
 use Rattle.blang.specs.declared.run.LoadFault.TheVariants as fault
-use Rattle.blang.specs.Layout.{words, shape_of, names_of, names_in, duplicate_behind, data_end, label_count, first_undefined, addresses, address_in, Addresses, library_addresses, first_some, some_if, is_main, load_fault, spots, definition_words}
+use Rattle.blang.specs.Layout.{store_words, shape_of, defined_names, names_in, duplicate_behind, data_end, label_count, first_undefined, addresses, address_in, Addresses, library_addresses, first_some, some_if, is_main, load_fault, spots, definition_words}
 use Rattle.bmach.specs.Resolved.{resolved_function, IsLoadedFrom}
-use Rattle.bmach.specs.Loading.{Part, IsFault, fits, first_part, main_from, undefined_fault}
+use Rattle.bmach.specs.Loading.{Part, IsFault, fits_store, first_part, main_from, undefined_fault}
 use Rattle.bmach.proofs.Whole.{whole, functions_behind, length-words}
 use Rattle.bmach.proofs.Faults.{first_fault, find_main}
 
@@ -30,18 +30,18 @@ not_false true e = refl
 not_false false e = sym e
 
 module _ (ds : List Definition) where
-  pub duplicate_first : (f : LoadFault) → IsFault f (option_map fault.Duplicate (duplicate_behind [] (names_of (map shape_of ds)))) → IsFault f (load_fault ds)
+  pub duplicate_first : (f : LoadFault) → IsFault f (option_map fault.Duplicate (duplicate_behind [] (defined_names (map shape_of ds)))) → IsFault f (load_fault ds)
   duplicate_first f h = first_fault f _ _ h
 
-  module _ (unique : duplicate_behind [] (names_of (map shape_of ds)) ≡ None) where
-    pub too_large_next : fits (map shape_of ds) ≡ false → load_fault ds ≡ Some fault.TooLarge
+  module _ (unique : duplicate_behind [] (defined_names (map shape_of ds)) ≡ None) where
+    pub too_large_next : fits_store (map shape_of ds) ≡ false → load_fault ds ≡ Some fault.TooLarge
     too_large_next large =
-        let e = not_false (nat_lt words (data_end (map shape_of ds)) || nat_lt 65535 (label_count (map shape_of ds))) large in
+        let e = not_false (nat_lt store_words (data_end (map shape_of ds)) || nat_lt 65535 (label_count (map shape_of ds))) large in
         λ i. fault_of (unique i) (e i) (first_undefined (address_in (addresses (map shape_of ds))) (flat_map names_in ds)) (list_any is_main ds)
 
-    module _ (fit : fits (map shape_of ds) ≡ true) where
-      small : (nat_lt words (data_end (map shape_of ds)) || nat_lt 65535 (label_count (map shape_of ds))) ≡ false
-      small = not_true (nat_lt words (data_end (map shape_of ds)) || nat_lt 65535 (label_count (map shape_of ds))) fit
+    module _ (fit : fits_store (map shape_of ds) ≡ true) where
+      small : (nat_lt store_words (data_end (map shape_of ds)) || nat_lt 65535 (label_count (map shape_of ds))) ≡ false
+      small = not_true (nat_lt store_words (data_end (map shape_of ds)) || nat_lt 65535 (label_count (map shape_of ds))) fit
 
       pub undefined_next : (f : LoadFault) → IsFault f (undefined_fault (address_in (addresses (map shape_of ds))) (flat_map names_in ds)) → IsFault f (load_fault ds)
       undefined_next f h =

@@ -5,7 +5,7 @@ use Rattle.std.proofs.Math.Nat.{mod-eq_of_lt}
 use Rattle.std.proofs.lemmas.List.{map-append, length-map}
 use Rattle.std.proofs.lemmas.List.Sums.{sum_by-append}
 use Rattle.blang.specs.declared.code.Ival.{Ival}
-use Rattle.blang.specs.Layout.{Kind, Function, Simple, Vector, Shape, Spot, size_of, words_before_strings, data_end, spot_behind, spots_behind, spots, names_of, Addresses}
+use Rattle.blang.specs.Layout.{DefinitionKind, Function, Simple, Vector, Shape, Spot, size_of, words_before_strings, data_end, spot_behind, spots_behind, spots, defined_names, Addresses}
 
 pub spots_behind-push : (before ds : List Shape) (d : Shape) → spots_behind before (ds ++ d ∷ []) ≡ spots_behind before ds ++ spot_behind (before ++ ds) d ∷ []
 spots_behind-push before [] d = ap (λ b. spot_behind b d ∷ []) (sym (append-nil before))
@@ -27,9 +27,9 @@ data_end-push ds d = omega (arith, sum_by-append size_of ds (d ∷ []))
 
 -- names with their addresses as a word has them
 abbrev pub wrapped : List Shape → Addresses
-wrapped ds = zip (names_of ds) (map (λ s. s.address % 65536) (spots ds))
+wrapped ds = zip (defined_names ds) (map (λ s. s.address % 65536) (spots ds))
 
-pub length-wrapped : (ds : List Shape) → length (names_of ds) ≡ length (map (λ (s : Spot). s.address % 65536) (spots ds))
+pub length-wrapped : (ds : List Shape) → length (defined_names ds) ≡ length (map (λ (s : Spot). s.address % 65536) (spots ds))
 length-wrapped ds =
     length-map ds (λ (e : Shape). e.name) ∙ sym (length-spots_behind [] ds) ∙ sym (length-map (spots ds) (λ (s : Spot). s.address % 65536))
 
@@ -41,7 +41,7 @@ wrapped-push ds d =
     ∙ ap (λ ps. zip (map (λ (e : Shape). e.name) ds ++ d.name ∷ []) ps) (map-append address (spots ds) (spot_behind ds d ∷ []))
     ∙ zip-push (map (λ (e : Shape). e.name) ds) (map address (spots ds)) d.name (address (spot_behind ds d)) (length-wrapped ds)
 
-some_words : (k : Kind) (values : List Ival) → 1 ≤ words_before_strings k values
+some_words : (k : DefinitionKind) (values : List Ival) → 1 ≤ words_before_strings k values
 some_words (Function labels) values = omega arith
 some_words Simple values = omega arith
 some_words (Vector n) values = omega arith

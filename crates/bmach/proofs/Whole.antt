@@ -9,7 +9,7 @@ use Rattle.std.proofs.lemmas.Grind.{flat_map-append}
 use Rattle.blang.specs.declared.code.Ival.{Ival}
 use Rattle.blang.specs.declared.code.Definition.{Definition}
 use Rattle.blang.specs.declared.code.Definition.TheVariants as definition
-use Rattle.blang.specs.Layout.{Kind, Function, Simple, Vector, Shape, shape_of, Spot, size_of, words_before_strings, functions_in, labels_in, data_end, function_count, label_count, spot_behind, spots_behind, spots, definition_words, words_of_kind, value_word, padded}
+use Rattle.blang.specs.Layout.{DefinitionKind, Function, Simple, Vector, Shape, shape_of, Spot, size_of, words_before_strings, functions_in, labels_in, data_end, function_count, label_count, spot_behind, spots_behind, spots, definition_words, words_of_kind, value_word, padded}
 use Rattle.blang.specs.Machine.{Loaded, loaded_at}
 use Rattle.bmach.specs.Resolved.{resolved_function}
 use Rattle.bmach.specs.Loading.{Part, first_part, next_spot, loaded_functions, with_definition}
@@ -18,7 +18,7 @@ use Rattle.bmach.proofs.Spots.{spots_behind-push, length-spots_behind, zip-push}
 length-padded : (n : ℕ) (ws : List ℕ) → length (padded n ws) ≡ max n (length ws)
 length-padded n ws = omega (arith, length-append ws (replicate (n - length ws) 0), length-replicate {A = ℕ} (n - length ws) 0)
 
-length-words_of_kind : (k : Kind) (s : Spot) (values : List ℕ) (ivals : List Ival) → length values ≡ length ivals → length (words_of_kind k s values) ≡ words_before_strings k ivals
+length-words_of_kind : (k : DefinitionKind) (s : Spot) (values : List ℕ) (ivals : List Ival) → length values ≡ length ivals → length (words_of_kind k s values) ≡ words_before_strings k ivals
 length-words_of_kind (Function labels) s values ivals e = refl
 length-words_of_kind Simple s values ivals e = length-padded 1 values ∙ ap (max 1) e
 length-words_of_kind (Vector n) s values ivals e = omega (arith, length-padded n values)
@@ -130,7 +130,7 @@ module _ (address_of : List ℕ → Option ℕ) where
   loaded_all ds = all_more [] ds
 
 -- each function has a word of its own
-functions_small : (k : Kind) (values : List Ival) → functions_in k ≤ words_before_strings k values
+functions_small : (k : DefinitionKind) (values : List Ival) → functions_in k ≤ words_before_strings k values
 functions_small (Function labels) values = omega arith
 functions_small Simple values = omega arith
 functions_small (Vector n) values = omega arith

@@ -1,9 +1,12 @@
 -- What the loader's parts do.
-use Rattle.std.specs.Prelude.{◌≡◌, ℕ, ◌+◌, ◌||◌, not, Bool, List, [], ◌∷◌, ◌++◌, length, nat_lt, Option, Some, None, option_map, if◌then◌else◌}
+use Rattle.std.specs.Prelude.{◌≡◌, ℕ, ◌+◌, ◌||◌, not, Bool, List, [], ◌∷◌, ◌++◌, length, nat_lt, Option, Some, None}
+use Rattle.std.specs.Prelude.{option_map, if◌then◌else◌}
 use Rattle.blang.specs.declared.code.Definition.{Definition}
 use Rattle.blang.specs.declared.run.LoadFault.{LoadFault}
 use Rattle.blang.specs.declared.run.LoadFault.TheVariants as fault
-use Rattle.blang.specs.Layout.{words, Shape, Spot, shape_of, words_before_strings, functions_in, labels_in, data_end, label_count, definition_words, is_main, first_undefined, Addresses, address_in, library_addresses}
+use Rattle.blang.specs.Layout.{store_words, Shape, Spot, shape_of, words_before_strings, functions_in, labels_in}
+use Rattle.blang.specs.Layout.{data_end, label_count, definition_words, is_main, first_undefined, Addresses, address_in}
+use Rattle.blang.specs.Layout.{library_addresses}
 use Rattle.bword.specs.Words.{same_name}
 use Rattle.blang.specs.Machine.{Loaded, loaded_at}
 use Rattle.bmach.specs.Resolved.{resolved_function}
@@ -26,8 +29,8 @@ Knows old x address new = (y : List ℕ) → address_in new y ≡ (if same_name 
 abbrev pub undefined_fault : (address_of : List ℕ → Option ℕ) → List (List ℕ) → Option LoadFault
 undefined_fault address_of names = option_map fault.Undefined (first_undefined address_of names)
 
-abbrev pub fits : List Shape → Bool
-fits ds = not (nat_lt words (data_end ds) || nat_lt MAX_PROGRAM_LABELS (label_count ds))
+abbrev pub fits_store : List Shape → Bool
+fits_store ds = not (nat_lt store_words (data_end ds) || nat_lt MAX_PROGRAM_LABELS (label_count ds))
 
 -- the words and functions of the definitions so far, and the value of the label behind theirs
 pub record Part : Type 0 where

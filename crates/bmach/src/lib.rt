@@ -29,4 +29,4 @@ pub use loader::load;
 pub use parts::{name_of, size_of};
 pub use resolve::resolving_changes_no_run;
 pub use runs::{run, wrong_runs_are_excluded};
-pub use stepper::{Active, Stepper};
+pub use stepper::{Active, Stepper, Stop};

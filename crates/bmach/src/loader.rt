@@ -2,7 +2,7 @@
 ghost use Rattle.std.specs.Prelude.{◌≡◌, ◌≤◌, [], IfOk, IfErr, IsTrue, IsErrOf, MatchResult, None, OnOk, flat_map, fold, map};
 ghost use Rattle.blang.specs.declared.run.LoadFault.TheVariants as fault;
 ghost use Rattle.blang.specs.Layout.{data_end, first_undefined, label_count, load_fault, names_in, shape_of};
-ghost use Rattle.bmach.specs.Loading.{IsFault, first_part, fits, known_in, main_from, undefined_fault, with_definition};
+ghost use Rattle.bmach.specs.Loading.{IsFault, first_part, fits_store, known_in, main_from, undefined_fault, with_definition};
 ghost use Rattle.bmach.specs.Parts.{part_of};
 ghost use Rattle.bmach.specs.Resolved.{IsLoadedFrom};
 
@@ -47,7 +47,7 @@ pub fn load(alloc: Global, definitions: Vec<Definition>) -> Result<Image, LoadFa
 
 /// Whether the store has room for the data, and words for the labels' values.
 fn fits(definitions: &[Definition]) -> bool
-    ensures { result ≡ fits (map shape_of definitions.now) }
+    ensures { result ≡ fits_store (map shape_of definitions.now) }
 {
     let mut end = u32::from(FIRST_ADDRESS);
     let mut labels = 0;
@@ -67,7 +67,7 @@ fn load_all(
     addresses: &Addresses,
     definitions: Vec<Definition>,
 ) -> Result<Part, LoadFault>
-    requires { IsTrue (fits (map shape_of definitions.items)) }
+    requires { IsTrue (fits_store (map shape_of definitions.items)) }
     ensures { MatchResult result
         (λ part. (part_of part ≡ fold (with_definition (known_in addresses.now)) first_part definitions.items)
         × (first_undefined (known_in addresses.now) (flat_map names_in definitions.items) ≡ None))

@@ -97,6 +97,14 @@ pub struct Rest<'a> {
     pub over: Option<Outcome>,
 }
 
+/// Where a run came to its outcome.
+#[derive(Drop)]
+pub struct Last<'a> {
+    /// The calls before the step with which it was over.
+    pub calls: Calls<'a>,
+    pub outcome: Outcome,
+}
+
 /// What came of a call or a return.
 #[derive(Clone, Copy, Debug, PartialEq, Eq)]
 pub enum Flow {

@@ -3,7 +3,7 @@ ghost use Rattle.std.specs.Prelude.{◌+◌, ◌≤◌, length};
 ghost use Rattle.blang.specs.declared.code.Definition.TheVariants as definition;
 ghost use Rattle.blang.specs.Layout.{labels_in, shape_of, size_of};
 ghost use Rattle.bmach.specs.Loading.{known_in};
-ghost use Rattle.bmach.specs.Parts.{Adds};
+ghost use Rattle.bmach.specs.Parts.{AddsDefinition};
 
 use crate::LoadFault;
 use crate::address_table::Addresses;
@@ -33,7 +33,7 @@ impl Part {
         requires words { length self.old.words.items + size_of (shape_of definition) ≤ 65536 }
         requires functions { 7 + length self.old.functions.items ≤ length self.old.words.items }
         requires labels { self.old.first_label + labels_in (shape_of definition).kind ≤ 65536 }
-        ensures { Adds (known_in addresses.now) self.old definition result self.new }
+        ensures { AddsDefinition (known_in addresses.now) self.old definition result self.new }
     {
         match definition {
             Definition::Function(function) => self.add_function(alloc, addresses, &function),
@@ -52,7 +52,7 @@ impl Part {
         requires words { length self.old.words.items + size_of (shape_of (definition.Function function.now)) ≤ 65536 }
         requires functions { 7 + length self.old.functions.items ≤ length self.old.words.items }
         requires labels { self.old.first_label + length function.now.targets ≤ 65536 }
-        ensures { Adds (known_in addresses.now) self.old (definition.Function function.now) result self.new }
+        ensures { AddsDefinition (known_in addresses.now) self.old (definition.Function function.now) result self.new }
     {
         let parts = function.parts();
         let value = FIRST_ADDRESS + self.functions.len() as u16;
@@ -62,7 +62,7 @@ impl Part {
         let code = resolved_code(alloc, addresses, strings, self.first_label, &parts.code)?;
         let targets = Vec::from_slice(alloc, &parts.targets)?;
         self.functions.push(LoadedFunction {
-            value,
+            strings,
             parameters: parts.parameters,
             frame: parts.frame,
             targets,
@@ -76,7 +76,7 @@ impl Part {
     /// A simple external has its values, or one word 0, and its string words.
     fn add_simple(&mut self, addresses: &Addresses, simple: &Simple) -> Result<(), LoadFault>
         requires { length self.old.words.items + size_of (shape_of (definition.Simple simple.now)) ≤ 65536 }
-        ensures { Adds (known_in addresses.now) self.old (definition.Simple simple.now) result self.new }
+        ensures { AddsDefinition (known_in addresses.now) self.old (definition.Simple simple.now) result self.new }
     {
         let parts = simple.parts();
         let strings = self.words.len() + parts.values.len().max(1);
@@ -89,7 +89,7 @@ impl Part {
     /// A vector has its own word, its words and its string words.
     fn add_vector(&mut self, addresses: &Addresses, vector: &Vector) -> Result<(), LoadFault>
         requires { length self.old.words.items + size_of (shape_of (definition.Vector vector.now)) ≤ 65536 }
-        ensures { Adds (known_in addresses.now) self.old (definition.Vector vector.now) result self.new }
+        ensures { AddsDefinition (known_in addresses.now) self.old (definition.Vector vector.now) result self.new }
     {
         let parts = vector.parts();
         let first = self.words.len() + 1;

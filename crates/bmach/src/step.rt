@@ -3,7 +3,7 @@ ghost use Rattle.std.specs.Prelude.{◌≡◌, ℕ, ◌+◌, ◌^◌, ◌<◌, �
 ghost use Rattle.blang.specs.declared.code.Instr.TheVariants as instr;
 ghost use Rattle.blang.specs.Machine as machine;
 ghost use Rattle.blang.specs.Machine.{Running, at_place, label_target, left_word, stored_word};
-ghost use Rattle.bmach.specs.Steps.{Acts, Paced, call_of};
+ghost use Rattle.bmach.specs.Steps.{Acts, Paced, machine_call};
 ghost use Rattle.blang.specs.Layout.{World};
 
 use crate::Trap;
@@ -17,8 +17,8 @@ use std::alloc::AllocError;
 pub fn put<'a>(call: &mut Call<'a>, word: u16) -> Pace
     requires { call.old.place + 1 < 2 ^ 64 }
     ensures paced { (image : machine.Image) (below : List machine.Call) (w : World) (s : machine.State) →
-        Paced image result (call_of call.new) below w s
-        (Running (at_place (call_of call.old) (call.old.place + 1) (word ∷ call.old.operands.own)) below w) }
+        Paced image result (machine_call call.new) below w s
+        (Running (at_place (machine_call call.old) (call.old.place + 1) (word ∷ call.old.operands.own)) below w) }
     ensures function { call.new.function.now ≡ call.old.function.now }
     ensures below { call.new.operands.below ≡ call.old.operands.below }
 {

@@ -1,47 +1,34 @@
 -- The code of a program lies as the program does.
-use Rattle.std.proofs.Common.{◌≡◌, ℕ, suc, List, [], ◌∷◌, ◌++◌, length, Option, Some, None, Bool, true, false, cond, refl, sym, ap, ◌∙◌, subst, map}
+use Rattle.std.proofs.Common.{◌≡◌, List, [], ◌∷◌, ◌++◌, length, Option, Some, None, Bool, true, false, cond, refl, sym, ap, ◌∙◌, subst, map}
 use Rattle.std.specs.Prelude.{zip, find, filter_map, not, nat_lt, ◌||◌}
 use Rattle.std.specs.List.{cons_option, flat_map, list_any}
 use Rattle.std.specs.Option.{option_map, option_and_then}
 use Rattle.blang.specs.declared.code.Definition as coded
-use Rattle.blang.specs.declared.code.Instr.{Instr}
 use Rattle.blang.specs.Trees.{Definition}
-use Rattle.blang.specs.Code.{Names, names_in, statement_strings, label_places, code_of}
+use Rattle.blang.specs.Code.{label_places, code_of}
 use Rattle.blang.specs.declared.run.LoadFault.{LoadFault}
 use Rattle.blang.specs.declared.run.LoadFault.TheVariants as fault
-use Rattle.blang.specs.Layout.{words, Kind, Shape, Spot, spot_behind, spots_behind, spots, data_end, first_words, addresses, first_some, some_if, duplicate_behind, label_count, address_in, first_undefined, load_fault}
-use Rattle.blang.specs.Layout as layout
+use Rattle.blang.specs.Layout.{store_words, Shape, shape_of, is_main, defined_names, names_in, Spot, spot_behind, spots_behind, spots, data_end, first_words, addresses, first_some, some_if, duplicate_behind, label_count, address_in, first_undefined, load_fault}
 use Rattle.blang.specs.Machine.{Loaded, Image, loaded_at, image_of}
-use Rattle.blang.specs.Value.{Remaining, labels, Function, scope_of}
-use Rattle.blang.specs.Meaning.{shape_of, function_at, is_main, program_of}
-use Rattle.bmean.proofs.Stands.{EachLeads, whole_code, labels_of_body_lead}
+use Rattle.blang.specs.Value.{SourceFunction, scope_of}
+use Rattle.blang.specs.Meaning.{function_at, program_of}
+use Rattle.bmean.proofs.Stands.{whole_code}
 use Rattle.bmean.proofs.Values.{loaded_code, image_code}
 use Rattle.bmean.proofs.Names.{names_of_is}
 
-each_length : (names : Names) (code : List Instr) (rs : List (List ℕ × Remaining)) (ps : List ℕ) → EachLeads names code rs ps → length ps ≡ length rs
-each_length names code [] [] h = refl
-each_length names code [] (p ∷ ps) h = elim h [ ]
-each_length names code (r ∷ rs) [] h = elim h [ ]
-each_length names code (r ∷ rs) (p ∷ ps) h = ap suc (each_length names code rs ps h.1)
+-- definitions lie as their code does
+abbrev lies : Definition → Shape
+lies d = shape_of (code_of d)
 
-same_shape : (d : Definition) → layout.shape_of (code_of d) ≡ shape_of d
-same_shape (Definition.Simple w values) = refl
-same_shape (Definition.Vector w size values) = refl
-same_shape (Definition.Function w parameters body) =
-    let f : Function = record { parameters = parameters; body = body; strings = 0; first_label = 0 } in
-    let names = names_in (scope_of f).names in
-    ap (λ n. record { kind = Kind.Function n; name = w.text; values = []; strings = statement_strings body }) (each_length names (whole_code names body) (labels body []) (label_places names body 0) (labels_of_body_lead names body))
-
-same_shapes : (ds : List Definition) → map layout.shape_of (map code_of ds) ≡ map shape_of ds
+same_shapes : (ds : List Definition) → map shape_of (map code_of ds) ≡ map lies ds
 same_shapes [] = refl
-same_shapes (d ∷ ds) =
-    ap (λ s. s ∷ map layout.shape_of (map code_of ds)) (same_shape d) ∙ ap (λ l. shape_of d ∷ l) (same_shapes ds)
+same_shapes (d ∷ ds) = ap (λ l. lies d ∷ l) (same_shapes ds)
 
 loaded_at_is : (s : Spot) (d : Definition) → loaded_at (s, code_of d) ≡ option_map loaded_code (function_at (s, d))
 loaded_at_is s (Definition.Simple w values) = refl
 loaded_at_is s (Definition.Vector w size values) = refl
 loaded_at_is s (Definition.Function w parameters body) =
-    let f : Function = record { parameters = parameters; body = body; strings = s.strings; first_label = s.first_label } in
+    let f : SourceFunction = record { parameters = parameters; body = body; strings = s.strings; first_label = s.first_label } in
     ap (λ names. Some (record {
       parameters = length parameters;
       frame = (scope_of f).frame;
@@ -63,11 +50,6 @@ functions_same (s ∷ ss) (d ∷ ds) =
     ∙ ap (cons_option (option_map loaded_code (function_at (s, d)))) (functions_same ss ds)
     ∙ cons_option-map loaded_code (function_at (s, d)) (filter_map function_at (zip ss ds))
 
-is_main_same : (d : Definition) → layout.is_main (code_of d) ≡ is_main d
-is_main_same (Definition.Simple w values) = refl
-is_main_same (Definition.Vector w size values) = refl
-is_main_same (Definition.Function w parameters body) = refl
-
 abbrev CodeAt : Type 0
 CodeAt = Spot × coded.Definition
 
@@ -78,25 +60,24 @@ main_if : (b : Bool) (s : Spot) (d : Definition) (o : Option CodeAt) (o' : Optio
 main_if true s d o o' e = loaded_at_is s d
 main_if false s d o o' e = e
 
-main_same : (ss : List Spot) (ds : List Definition) → option_and_then loaded_at (find (λ p. layout.is_main p.1) (zip ss (map code_of ds))) ≡ option_map loaded_code (option_and_then function_at (find (λ p. is_main p.1) (zip ss ds)))
+main_same : (ss : List Spot) (ds : List Definition) → option_and_then loaded_at (find (λ p. is_main p.1) (zip ss (map code_of ds))) ≡ option_map loaded_code (option_and_then function_at (find (λ p. is_main (code_of p.1)) (zip ss ds)))
 main_same [] ds = refl
 main_same (s ∷ ss) [] = refl
 main_same (s ∷ ss) (d ∷ ds) =
-    ap (λ b. option_and_then loaded_at (cond b (Some (s, code_of d)) (find (λ p. layout.is_main p.1) (zip ss (map code_of ds))))) (is_main_same d)
-    ∙ main_if (is_main d) s d (find (λ p. layout.is_main p.1) (zip ss (map code_of ds))) (find (λ p. is_main p.1) (zip ss ds)) (main_same ss ds)
+    main_if (is_main (code_of d)) s d (find (λ p. is_main p.1) (zip ss (map code_of ds))) (find (λ p. is_main (code_of p.1)) (zip ss ds)) (main_same ss ds)
 
 pub image_is : (ds : List Definition) → image_of (map code_of ds) ≡ image_code (program_of ds)
 image_is ds =
-    let shapes = map shape_of ds in
+    let shapes = map lies ds in
     let image : List Loaded → Option Loaded → Image = λ functions main. record { functions = functions; main = main; words = first_words shapes; data_end = data_end shapes; addresses = addresses shapes } in
     ap (λ (shapes : List Shape). record {
       functions = filter_map loaded_at (zip (spots shapes) (map code_of ds));
-      main = option_and_then loaded_at (find (λ p. layout.is_main p.1) (zip (spots shapes) (map code_of ds)));
+      main = option_and_then loaded_at (find (λ p. is_main p.1) (zip (spots shapes) (map code_of ds)));
       words = first_words shapes;
       data_end = data_end shapes;
       addresses = addresses shapes;
     }) (same_shapes ds)
-    ∙ ap (λ functions. image functions (option_and_then loaded_at (find (λ p. layout.is_main p.1) (zip (spots shapes) (map code_of ds))))) (functions_same (spots shapes) ds)
+    ∙ ap (λ functions. image functions (option_and_then loaded_at (find (λ p. is_main p.1) (zip (spots shapes) (map code_of ds))))) (functions_same (spots shapes) ds)
     ∙ ap (image (map loaded_code (filter_map function_at (zip (spots shapes) ds)))) (main_same (spots shapes) ds)
 
 last_of_four : (a b c d : Option LoadFault) → first_some (a ∷ b ∷ c ∷ d ∷ []) ≡ None → first_some (d ∷ []) ≡ None
@@ -109,27 +90,26 @@ passed_test : (b : Bool) → first_some (some_if (not b) fault.NoMain ∷ []) �
 passed_test true e = refl
 passed_test false e = cc
 
-some_main : (ds : List Definition) → load_fault (map code_of ds) ≡ None → list_any layout.is_main (map code_of ds) ≡ true
+some_main : (ds : List Definition) → load_fault (map code_of ds) ≡ None → list_any is_main (map code_of ds) ≡ true
 some_main ds e =
     let codes = map code_of ds in
-    let shapes = map layout.shape_of codes in
-    passed_test (list_any layout.is_main codes) (last_of_four (option_map fault.Duplicate (duplicate_behind [] (layout.names_of shapes))) (some_if (nat_lt words (data_end shapes) || nat_lt 65535 (label_count shapes)) fault.TooLarge) (option_map fault.Undefined (first_undefined (address_in (addresses shapes)) (flat_map layout.names_in codes))) (some_if (not (list_any layout.is_main codes)) fault.NoMain) e)
+    let shapes = map shape_of codes in
+    passed_test (list_any is_main codes) (last_of_four (option_map fault.Duplicate (duplicate_behind [] (defined_names shapes))) (some_if (nat_lt store_words (data_end shapes) || nat_lt 65535 (label_count shapes)) fault.TooLarge) (option_map fault.Undefined (first_undefined (address_in (addresses shapes)) (flat_map names_in codes))) (some_if (not (list_any is_main codes)) fault.NoMain) e)
 
-main_is_function : (s : Spot) (d : Definition) → is_main d ≡ true → (f : Function) × (function_at (s, d) ≡ Some f)
+main_is_function : (s : Spot) (d : Definition) → is_main (code_of d) ≡ true → (f : SourceFunction) × (function_at (s, d) ≡ Some f)
 main_is_function s (Definition.Simple w values) e = cc
 main_is_function s (Definition.Vector w size values) e = cc
 main_is_function s (Definition.Function w parameters body) e = (_, refl)
 
-found_if : (b : Bool) (s : Spot) (d : Definition) (o : Option TreeAt) (c : Bool) → is_main d ≡ b → (c ≡ true → (f : Function) × (option_and_then function_at o ≡ Some f)) → b || c ≡ true → (f : Function) × (option_and_then function_at (cond b (Some (s, d)) o) ≡ Some f)
+found_if : (b : Bool) (s : Spot) (d : Definition) (o : Option TreeAt) (c : Bool) → is_main (code_of d) ≡ b → (c ≡ true → (f : SourceFunction) × (option_and_then function_at o ≡ Some f)) → b || c ≡ true → (f : SourceFunction) × (option_and_then function_at (cond b (Some (s, d)) o) ≡ Some f)
 found_if true s d o c m h e = main_is_function s d m
 found_if false s d o c m h e = h e
 
-main_found : (before : List Shape) (ds : List Definition) → list_any layout.is_main (map code_of ds) ≡ true → (f : Function) × (option_and_then function_at (find (λ p. is_main p.1) (zip (spots_behind before (map shape_of ds)) ds)) ≡ Some f)
+main_found : (before : List Shape) (ds : List Definition) → list_any is_main (map code_of ds) ≡ true → (f : SourceFunction) × (option_and_then function_at (find (λ p. is_main (code_of p.1)) (zip (spots_behind before (map lies ds)) ds)) ≡ Some f)
 main_found before [] e = cc
 main_found before (d ∷ ds) e =
-    let behind = before ++ shape_of d ∷ [] in
-    found_if (is_main d) (spot_behind before (shape_of d)) d (find (λ p. is_main p.1) (zip (spots_behind behind (map shape_of ds)) ds)) (list_any layout.is_main (map code_of ds)) refl (main_found behind ds)
-    (subst (λ b. b || list_any layout.is_main (map code_of ds) ≡ true) (is_main_same d) e)
+    let behind = before ++ lies d ∷ [] in
+    found_if (is_main (code_of d)) (spot_behind before (lies d)) d (find (λ p. is_main (code_of p.1)) (zip (spots_behind behind (map lies ds)) ds)) (list_any is_main (map code_of ds)) refl (main_found behind ds) e
 
-pub has_main : (ds : List Definition) → load_fault (map code_of ds) ≡ None → (f : Function) × ((program_of ds).main ≡ Some f)
+pub has_main : (ds : List Definition) → load_fault (map code_of ds) ≡ None → (f : SourceFunction) × ((program_of ds).main ≡ Some f)
 has_main ds e = main_found [] ds (some_main ds e)

@@ -10,7 +10,7 @@ use Rattle.blang.specs.declared.run.Library.TheVariants.{Char, Lchar, Getchar, P
 use Rattle.blang.specs.declared.run.Trap.{Trap}
 use Rattle.blang.specs.Layout.{World, Reply, Gives, Ends, word_at, with_word, with_words, parameter_words, next_byte, is_base, argument, printed, with_output, library, Trapped, Callee, NoFunction, OfLibrary, OfProgram, callee_of, refusal}
 use Rattle.blang.specs.declared.run.Trap.TheVariants.{BadBase}
-use Rattle.blang.specs.Machine.{Loaded, Image, Call, State, Running, Halted, Stuck, take_one, take_two, on_reply, operator_reply, label_target, at_place, returned, gone_to, called, call_of, act, act_if, step, steps}
+use Rattle.blang.specs.Machine.{Loaded, Image, Call, State, Running, Halted, Stuck, take_one, take_two, on_reply, operator_reply, label_target, at_place, returned, gone_to_place, program_function_called, callee_called, act, act_if, step, steps}
 use Rattle.blang.specs.Meaning.{IsBeginningOf}
 use Rattle.bmean.proofs.Does.{IsAt, steps_add}
 
@@ -106,7 +106,7 @@ if_from : (w : World) (b : Bool) (s t : State) → From w s → From w t → Fro
 if_from w true s t h k = h
 if_from w false s t h k = k
 
-gone_from : (w : World) (t : Option ℕ) (call : Call) (rest : List ℕ) (below : List Call) → From w (gone_to t call rest below w)
+gone_from : (w : World) (t : Option ℕ) (call : Call) (rest : List ℕ) (below : List Call) → From w (gone_to_place t call rest below w)
 gone_from w None call rest below = writes_nothing w
 gone_from w (Some t) call rest below = writes_nothing w
 
@@ -114,11 +114,11 @@ return_from : (w : World) (v : ℕ) (below : List Call) → From w (returned v b
 return_from w v [] = writes_nothing w
 return_from w v (call ∷ below) = writes_nothing w
 
-called_from : (w : World) (r : Option Trap) (f : Loaded) (args : List ℕ) (start : ℕ) (caller : Call) (below : List Call) → From w (called r f args start caller below w)
+called_from : (w : World) (r : Option Trap) (f : Loaded) (args : List ℕ) (start : ℕ) (caller : Call) (below : List Call) → From w (program_function_called r f args start caller below w)
 called_from w (Some t) f args start caller below = writes_nothing w
 called_from w None f args start caller below = words_write (parameter_words f.parameters args) start w
 
-call_from : (w : World) (c : Callee Loaded) (args : List ℕ) (caller : Call) (below : List Call) → From w (call_of c args caller below w)
+call_from : (w : World) (c : Callee Loaded) (args : List ℕ) (caller : Call) (below : List Call) → From w (callee_called c args caller below w)
 call_from w NoFunction args caller below = writes_nothing w
 call_from w (OfLibrary f) args caller below = reply_from w (library f args w) _ (library_writes f args w) (λ v w' h. h)
 call_from w (OfProgram f) args caller below =

@@ -1,4 +1,3 @@
-pub mod Remaining
 pub mod Sentences
 pub mod Laws
 pub mod RunRows

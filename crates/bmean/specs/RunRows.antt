@@ -3,7 +3,8 @@ use Rattle.std.specs.Prelude.{◌≡◌, ℕ, zero, suc, List, [], ◌∷◌, ma
 use Rattle.bword.specs.declared.edition.Edition.{Edition}
 use Rattle.bword.specs.declared.edition.Edition.TheVariants as editions
 use Rattle.std.specs.Fmt.{digits}
-use Rattle.blang.specs.Cut.{whole, word_of, keyword_of, number_in, with_byte, escape_of, operator_of, other_of, fixed_of, tokens_from, cut, longest, greatest}
+use Rattle.blang.specs.Cut.{whole, word_token, keyword_of, number_in, with_quoted_byte, escape_of, operator_of}
+use Rattle.blang.specs.Cut.{other_of, fixed_of, tokens_from, cut, longest, greatest}
 use Rattle.blang.specs.declared.token.Placed.{Placed}
 use Rattle.btree.specs.Reading.{Got, Stop}
 use Rattle.blang.specs.Trees.{Definition}
@@ -12,7 +13,7 @@ use Rattle.blang.specs.Code.{code_of}
 use Rattle.blang.specs.declared.run.Outcome.{Outcome}
 use Rattle.blang.specs.declared.run.Outcome.TheVariants.{Exit, Trap, Limit}
 use Rattle.blang.specs.declared.run.Trap.TheVariants as trap
-use Rattle.blang.specs.Machine.{State, Halted, image_of, run, outcome_of, world_of}
+use Rattle.blang.specs.Machine.{State, Halted, image_of, run, state_outcome, state_world}
 use Rattle.blang.specs.Value.{Answer, Gives, Ends, Wants}
 use Rattle.blang.specs.Meaning.{meant}
 
@@ -27,11 +28,11 @@ definitions edition source = read_all 8 (tokens_from edition 1 source)
 -- how a program ends, where want of fuel is the limit, and what it has written
 abbrev answered : Answer ⊥ → Outcome × List ℕ
 answered (Gives v w) = elim v [ ]
-answered (Ends e w) = (outcome_of (Halted e w), w.output)
+answered (Ends e w) = (state_outcome (Halted e w), w.output)
 answered (Wants w) = (Limit, w.output)
 
 abbrev reached : State → Outcome × List ℕ
-reached s = (outcome_of s, (world_of s).output)
+reached s = (state_outcome s, (state_world s).output)
 
 -- the meaning with so much fuel, and the machine after so many steps
 abbrev both_in : Edition → List ℕ → (input : List ℕ) → ℕ → List (Outcome × List ℕ)
@@ -59,7 +60,7 @@ record Jumps : Type 0 where
   label_elsewhere : both (codes "f(l){goto l;} main(){f(x); x: ;}") [] 400 ≡ replicate 2 (Trap trap.NotALabel, [])
 
 jumps : Jumps
-unfolding tokens_from cut longest greatest whole word_of keyword_of number_in with_byte escape_of operator_of other_of fixed_of digits
+unfolding tokens_from cut longest greatest whole word_token keyword_of number_in with_quoted_byte escape_of operator_of other_of fixed_of digits
 jumps = record {
   into_loop = refl;
   back = refl;
@@ -77,7 +78,8 @@ record Switches : Type 0 where
   no_case : both (codes "main(){switch 9 {case 1: putchar('1'); case 2: putchar('2');} putchar('.');}") [] 400
       ≡ replicate 2 (Exit 0, codes ".")
   inner_switch :
-      both (codes "main(){switch 2 {case 1: putchar('1'); case 2: switch 1 {case 2: putchar('x'); case 1: putchar('y');} case 3: putchar('z');}}") [] 400
+      both (codes
+      "main(){switch 2 {case 1: putchar('1'); case 2: switch 1 {case 2: putchar('x'); case 1: putchar('y');} case 3: putchar('z');}}") [] 400
       ≡ replicate 2 (Exit 0, codes "yz")
   inner_case : both (codes "main(){switch 3 {case 1: switch 1 {case 3: putchar('x');} case 3: putchar('z');}}") [] 400
       ≡ replicate 2 (Exit 0, codes "z")
@@ -88,7 +90,7 @@ record Switches : Type 0 where
       ≡ replicate 2 (Exit 0, codes "b")
 
 switches : Switches
-unfolding tokens_from cut longest greatest whole word_of keyword_of number_in with_byte escape_of operator_of other_of fixed_of digits
+unfolding tokens_from cut longest greatest whole word_token keyword_of number_in with_quoted_byte escape_of operator_of other_of fixed_of digits
 switches = record {
   falls_through = refl;
   no_case = refl;
@@ -109,31 +111,38 @@ record Breaks : Type 0 where
   default_alone : both_in_two (codes "main(){switch 9 {putchar('a'); default: putchar('d');} putchar('.');}") [] 400
       ≡ replicate 2 (Exit 0, codes "d.")
   leaves_the_switch :
-      both_in_two (codes "main(){auto i; i=0; while(i<2) { switch i { case 0: break; default: putchar('x'); } i++; }}") [] 400
+      both_in_two
+      (codes "main(){auto i; i=0; while(i<2) { switch i { case 0: break; default: putchar('x'); } i++; }}") [] 400
       ≡ replicate 2 (Exit 0, codes "x")
   loop_behind :
       both_in_two (codes "main(){auto i; i=0; while(i<2) {i++; putchar('a'); break; while(1) ;} putchar('k');}") [] 400
       ≡ replicate 2 (Exit 0, codes "ak")
   loop_behind_a_label :
-      both_in_two (codes "main(){auto i; i=0; goto in; while(i<2) {i++; putchar('a'); in: break; while(1) ;} putchar('k');}") [] 400
+      both_in_two
+      (codes "main(){auto i; i=0; goto in; while(i<2) {i++; putchar('a'); in: break; while(1) ;} putchar('k');}") []
+      400
       ≡ replicate 2 (Exit 0, codes "k")
   case_in_loop :
-      both_in_two (codes "main(){switch 1 {while(1) {case 1: putchar('a'); break;} putchar('b');} putchar('c');}") [] 400
+      both_in_two (codes "main(){switch 1 {while(1) {case 1: putchar('a'); break;} putchar('b');} putchar('c');}") []
+      400
       ≡ replicate 2 (Exit 0, codes "abc")
   goto_to_a_break : both_in_two (codes "main(){goto in; switch 1 { case 1: in: break; } putchar('k');}") [] 400
       ≡ replicate 2 (Exit 0, codes "k")
   goto_into_both :
-      both_in_two (codes "main(){goto in; switch 0 {case 1: while(1) {putchar('b'); in: break;} putchar('c'); break; default: putchar('d');} putchar('e');}") [] 400
+      both_in_two
+      (codes "main(){goto in; switch 0 {case 1: while(1) {putchar('b'); in: break;} putchar('c'); break; default: putchar('d');} putchar('e');}") [] 400
       ≡ replicate 2 (Exit 0, codes "ce")
   three_deep :
-      both_in_two (codes "main(){auto i; i=0; switch 1 {case 1: while(1) {switch i {default: i++; break; case 3: putchar('x');} putchar('w'); if(i==2) break;} putchar('s'); break; default: putchar('x');} putchar('.');}") [] 400
+      both_in_two
+      (codes "main(){auto i; i=0; switch 1 {case 1: while(1) {switch i {default: i++; break; case 3: putchar('x');} putchar('w'); if(i==2) break;} putchar('s'); break; default: putchar('x');} putchar('.');}") [] 400
       ≡ replicate 2 (Exit 0, codes "wws.")
   in_and_out :
-      both_in_two (codes "main(){auto i; i=0; goto in; switch 1 {case 1: while(i<3) {switch i {default: putchar('d'); in: i++; break; case 2: goto out;} putchar('w');} putchar('x'); default: ;} out: putchar('o');}") [] 400
+      both_in_two
+      (codes "main(){auto i; i=0; goto in; switch 1 {case 1: while(i<3) {switch i {default: putchar('d'); in: i++; break; case 2: goto out;} putchar('w');} putchar('x'); default: ;} out: putchar('o');}") [] 400
       ≡ replicate 2 (Exit 0, codes "wdwo")
 
 breaks : Breaks
-unfolding tokens_from cut longest greatest whole word_of keyword_of number_in with_byte escape_of operator_of other_of fixed_of digits
+unfolding tokens_from cut longest greatest whole word_token keyword_of number_in with_quoted_byte escape_of operator_of other_of fixed_of digits
 breaks = record {
   default_falls_through = refl;
   case_before_default = refl;
@@ -151,14 +160,16 @@ breaks = record {
 -- strings, each with words of its own
 record Strings : Type 0 where
   string :
-      both (codes "main(){auto s; s=\"hi\"; lchar(s,0,'H'); putchar(char(s,0)); putchar(char(s,1)); printn(char(s,2),10);}") [] 400
+      both (codes
+      "main(){auto s; s=\"hi\"; lchar(s,0,'H'); putchar(char(s,0)); putchar(char(s,1)); printn(char(s,2),10);}") []
+      400
       ≡ replicate 2 (Exit 0, codes "Hi4")
   two_strings :
       both (codes "main(){auto s, t; s=\"a\"; t=\"a\"; lchar(s,0,'b'); putchar(char(s,0)); putchar(char(t,0));}") [] 400
       ≡ replicate 2 (Exit 0, codes "ba")
 
 strings : Strings
-unfolding tokens_from cut longest greatest whole word_of keyword_of number_in with_byte escape_of operator_of other_of fixed_of digits
+unfolding tokens_from cut longest greatest whole word_token keyword_of number_in with_quoted_byte escape_of operator_of other_of fixed_of digits
 strings = record {
   string = refl;
   two_strings = refl;
@@ -174,14 +185,15 @@ record Externals : Type 0 where
   hides_exit : both (codes "exit(n) putchar(n); main(){exit('x'); putchar('y');}") [] 400
       ≡ replicate 2 (Exit 0, codes "xy")
   hides_printn :
-      both (codes "printn(n,b) { extrn putchar; auto a; if(a=n/b) printn(a, b); putchar(n%b + '0'); } main() { printn(1972,10); }") [] 400
+      both (codes
+      "printn(n,b) { extrn putchar; auto a; if(a=n/b) printn(a, b); putchar(n%b + '0'); } main() { printn(1972,10); }") [] 400
       ≡ replicate 2 (Exit 0, codes "1972")
   function_value : both (codes "f(x) putchar(x); main(){extrn f; auto g; g=f; g('q');}") [] 400
       ≡ replicate 2 (Exit 0, codes "q")
   no_function : both (codes "main(){extrn n; n();} n 0;") [] 400 ≡ replicate 2 (Trap trap.NotAFunction, [])
 
 externals : Externals
-unfolding tokens_from cut longest greatest whole word_of keyword_of number_in with_byte escape_of operator_of other_of fixed_of digits
+unfolding tokens_from cut longest greatest whole word_token keyword_of number_in with_quoted_byte escape_of operator_of other_of fixed_of digits
 externals = record {
   addresses = refl;
   values = refl;
@@ -204,7 +216,7 @@ record Frames : Type 0 where
   no_room : both (codes "main(){auto v 32000; main();}") [] 400 ≡ replicate 2 (Trap trap.NoRoom, [])
 
 frames : Frames
-unfolding tokens_from cut longest greatest whole word_of keyword_of number_in with_byte escape_of operator_of other_of fixed_of digits
+unfolding tokens_from cut longest greatest whole word_token keyword_of number_in with_quoted_byte escape_of operator_of other_of fixed_of digits
 frames = record {
   frame_kept = refl;
   vector = refl;
@@ -227,7 +239,7 @@ record Calls : Type 0 where
   exits_at_most : both (codes "main() exit(65535);") [] 400 ≡ replicate 2 (Exit 127, [])
 
 calls : Calls
-unfolding tokens_from cut longest greatest whole word_of keyword_of number_in with_byte escape_of operator_of other_of fixed_of digits
+unfolding tokens_from cut longest greatest whole word_token keyword_of number_in with_quoted_byte escape_of operator_of other_of fixed_of digits
 calls = record {
   arguments = refl;
   left_first = refl;
@@ -256,7 +268,7 @@ record Arithmetic : Type 0 where
   base_11 : both (codes "main(){printn(5,11);}") [] 400 ≡ replicate 2 (Trap trap.BadBase, [])
 
 arithmetic : Arithmetic
-unfolding tokens_from cut longest greatest whole word_of keyword_of number_in with_byte escape_of operator_of other_of fixed_of digits
+unfolding tokens_from cut longest greatest whole word_token keyword_of number_in with_quoted_byte escape_of operator_of other_of fixed_of digits
 arithmetic = record {
   assigned = refl;
   toward_zero = refl;
@@ -279,7 +291,7 @@ record Input : Type 0 where
       ≡ replicate 2 (Exit 0, codes "44")
 
 input : Input
-unfolding tokens_from cut longest greatest whole word_of keyword_of number_in with_byte escape_of operator_of other_of fixed_of digits
+unfolding tokens_from cut longest greatest whole word_token keyword_of number_in with_quoted_byte escape_of operator_of other_of fixed_of digits
 input = record {
   copies = refl;
   copies_nothing = refl;
@@ -293,7 +305,7 @@ record Limits : Type 0 where
   endless : both (codes "main(){putchar('a'); while(1) ;}") [] 100 ≡ replicate 2 (Limit, codes "a")
 
 limits : Limits
-unfolding tokens_from cut longest greatest whole word_of keyword_of number_in with_byte escape_of operator_of other_of fixed_of digits
+unfolding tokens_from cut longest greatest whole word_token keyword_of number_in with_quoted_byte escape_of operator_of other_of fixed_of digits
 limits = record {
   two_steps = refl;
   endless = refl;

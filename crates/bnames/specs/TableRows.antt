@@ -1,6 +1,6 @@
 -- Closed facts: a table of five names.
 use Rattle.std.specs.Prelude.{◌≡◌, ℕ, List, [], ◌∷◌, map, codes, Some, None, refl}
-use Rattle.bnames.specs.NameTables.{value_of, with_name}
+use Rattle.bnames.specs.NameTables.{value_in, with_name}
 
 -- put in out of order
 abbrev five : List (List ℕ × ℕ)
@@ -12,7 +12,7 @@ in_order : five ≡ (codes "a", 0) ∷ (codes "c", 1) ∷ (codes "e", 2) ∷ (co
 in_order = refl
 
 -- case and length count
-found : map (λ x. value_of x five) (codes "a" ∷ codes "e" ∷ codes "i" ∷ codes "b" ∷ codes "A" ∷ codes "aa" ∷ []) ≡
+found : map (λ x. value_in x five) (codes "a" ∷ codes "e" ∷ codes "i" ∷ codes "b" ∷ codes "A" ∷ codes "aa" ∷ []) ≡
     Some 0 ∷ Some 2 ∷ Some 4 ∷ None ∷ None ∷ None ∷ []
 found = refl
 

@@ -6,7 +6,7 @@ ghost use Rattle.std.specs.Bool.{OnTrue};
 ghost use Rattle.std.specs.Global.{Vec};
 ghost use Rattle.bword.specs.ByteEnds.{most};
 ghost use Rattle.bnames.specs.declared.name_table.Entry.{Entry};
-ghost use Rattle.bnames.specs.NameTables.{IsFoundAt, IsGapAt, Ascends, AreFilled, IsPieceFor, AreFull, InPiece, Gains, Stays, Knows, value_of, with_name};
+ghost use Rattle.bnames.specs.NameTables.{IsFoundAt, IsGapAt, Ascends, AreFilled, IsPieceFor, AreFull, InPiece, Gains, Stays, KnowsOneMore, value_in, with_name};
 
 use bword::{Name, NoMemory};
 use std::alloc::Global;
@@ -107,7 +107,7 @@ impl NameTable {
 
     /// The value of a name. So many probes are made at most as `len` has binary digits, and one.
     pub fn find(&self, name: &Name, probes: &mut Probes) -> Option<u32>
-        ensures value { result ≡ value_of name.now self.now }
+        ensures value { result ≡ value_in name.now self.now }
         ensures few { (digits : ℕ) → length self.now < 2 ^ digits
             → probes.new ≤ probes.old + digits + 1 }
         ensures grows { probes.old ≤ probes.new }
@@ -127,14 +127,14 @@ impl NameTable {
     ///
     /// Where memory is refused nothing has changed.
     pub fn insert(&mut self, name: Name, value: u32) -> Result<bool, NoMemory>
-        ensures there { IfOk result (λ new. new ≡ is_none (value_of name self.old)) }
+        ensures there { IfOk result (λ new. new ≡ is_none (value_in name self.old)) }
         ensures entries { IfOk result (λ new. self.new
             ≡ (if new then with_name self.old name value else self.old)) }
-        ensures known { IfOk result (λ new. OnTrue new (Knows self.old name value self.new)) }
+        ensures known { IfOk result (λ new. OnTrue new (KnowsOneMore self.old name value self.new)) }
         ensures len { IfOk result (λ new. length self.new
             ≡ (if new then length self.old + 1 else length self.old)) }
         ensures err { OnErr result (self.new ≡ self.old) }
-        ensures absent { OnErr result (value_of name self.old ≡ None) }
+        ensures absent { OnErr result (value_in name self.old ≡ None) }
     {
         // Only as many texts are names as can be counted, so the sum below fits.
         let _text = name.as_bytes();

@@ -1,5 +1,6 @@
 -- Pages of 256 words in one list, behind a page of zeros, and a table of where each of them starts.
-use Rattle.std.specs.Prelude.{◌≡◌, ◌≢◌, ℕ, zero, suc, ◌+◌, ◌*◌, ◌/◌, ◌%◌, ◌<◌, ◌≤◌, List, length, map, ◌==◌, if◌then◌else◌, slice_index}
+use Rattle.std.specs.Prelude.{◌≡◌, ◌≢◌, ℕ, zero, suc, ◌+◌, ◌*◌, ◌/◌, ◌%◌, ◌<◌, ◌≤◌, List, length, map, ◌==◌}
+use Rattle.std.specs.Prelude.{if◌then◌else◌, slice_index}
 use Rattle.std.proofs.Common.{arith, ◌∙◌, inl, inr}
 use Rattle.std.proofs.lemmas.Bool.{cases_lt}
 use Rattle.std.proofs.lemmas.List.{get_or_past}
@@ -10,16 +11,16 @@ use Rattle.std.specs.Ordering.{nat_cmp}
 use Rattle.std.specs.FinSet as set
 
 -- where the word of an address stands in the list
-abbrev pub place_of : List ℕ → ℕ → ℕ
-place_of starts a = slice_index starts (a / 256) + a % 256
+abbrev pub word_place : List ℕ → ℕ → ℕ
+word_place starts a = slice_index starts (a / 256) + a % 256
 
 -- the word of an address
-abbrev pub word_at : List ℕ → List ℕ → ℕ → ℕ
-word_at starts list a = slice_index list (place_of starts a)
+abbrev pub paged_word : List ℕ → List ℕ → ℕ → ℕ
+paged_word starts list a = slice_index list (word_place starts a)
 
 -- the words of the addresses below n
 unfoldable pub words_below : List ℕ → List ℕ → ℕ → List ℕ
-words_below starts list n = map (word_at starts list) (range_with_len 0 n)
+words_below starts list n = map (paged_word starts list) (range_with_len 0 n)
 
 -- the pages below n that have a start
 unfoldable pub made_below : List ℕ → ℕ → set.FinSet nat_cmp
@@ -40,17 +41,17 @@ pub record IsPaged (starts list : List ℕ) : Type 0 where
 
 pub length-words_below : (starts list : List ℕ) (n : ℕ) → length (words_below starts list n) ≡ n
 unfolding words_below
-length-words_below starts list n = length-map-range_with_len (word_at starts list) 0 n
+length-words_below starts list n = length-map-range_with_len (paged_word starts list) 0 n
 
 pub get_or-words_below : (starts list : List ℕ) (n a : ℕ) → a < n →
-    slice_index (words_below starts list n) a ≡ word_at starts list a
+    slice_index (words_below starts list n) a ≡ paged_word starts list a
 unfolding words_below
-get_or-words_below starts list n a h = get_or-map-range_with_len (word_at starts list) 0 n a a 0 h (omega arith)
+get_or-words_below starts list n a h = get_or-map-range_with_len (paged_word starts list) 0 n a a 0 h (omega arith)
 
 words_below-fit : (starts list : List ℕ) (n a : ℕ) → IsPaged starts list →
     slice_index (words_below starts list n) a < 65536
 words_below-fit starts list n a h = elim (cases_lt a n) [
-  | inl k ↦ rw (get_or-words_below starts list n a k) (h.below (place_of starts a))
+  | inl k ↦ rw (get_or-words_below starts list n a k) (h.below (word_place starts a))
   | inr k ↦
       let words = words_below starts list n in
       let past : slice_index words a ≡ 0 = get_or_past words a 0 (omega (arith, length-words_below starts list n)) in

@@ -25,8 +25,8 @@ impl PagedStore {
     ghost use Rattle.std.specs.Prelude.{◌≡◌, ℕ, ◌<◌, true, false, IfOk, OnOk, OnErr};
     ghost use Rattle.std.specs.FinSet as set;
     ghost use Rattle.bword.specs.Words.{zeros};
-    ghost use Rattle.bpages.specs.Pages.{place_of};
-    ghost use Rattle.bpages.specs.PagedStores.{words_of, pages_of};
+    ghost use Rattle.bpages.specs.Pages.{word_place};
+    ghost use Rattle.bpages.specs.PagedStores.{paged_words, pages_of};
 
     /// A store whose words are all 0, with no page made.
     ///
@@ -34,7 +34,7 @@ impl PagedStore {
     ///
     /// `NoMemory` where its page of zeros was refused memory.
     pub fn new(alloc: Global) -> Result<PagedStore, NoMemory>
-        ensures words { IfOk result (λ store. words_of store ≡ zeros) }
+        ensures words { IfOk result (λ store. paged_words store ≡ zeros) }
         ensures pages { IfOk result (λ store. pages_of store ≡ set.empty) }
     {
         match zero_words(alloc, PAGE_LEN) {
@@ -65,7 +65,7 @@ impl PagedStore {
     // Where the word of an address stands in the list.
     #[inline]
     fn place(&self, a: u16) -> usize
-        ensures { result ≡ place_of self.now.starts a }
+        ensures { result ≡ word_place self.now.starts a }
     {
         self.starts[usize::from(page_of(a))] as usize + usize::from(a) % PAGE_LEN
     }
@@ -73,7 +73,7 @@ impl PagedStore {
     // Makes a page where it isn't made.
     #[inline]
     fn make(&mut self, page: u8) -> Result<(), NoMemory>
-        ensures words { words_of self.new ≡ words_of self.old }
+        ensures words { paged_words self.new ≡ paged_words self.old }
         ensures made { OnOk result (pages_of self.new ≡ set.insert (pages_of self.old) page) }
         ensures unmade { OnErr result (pages_of self.new ≡ pages_of self.old) }
         ensures refused { OnErr result (set.contains (pages_of self.old) page ≡ false) }
@@ -89,7 +89,7 @@ impl PagedStore {
     #[cold]
     fn add_page(&mut self, page: u8) -> Result<(), NoMemory>
         requires { set.contains (pages_of self.old) page ≡ false }
-        ensures words { words_of self.new ≡ words_of self.old }
+        ensures words { paged_words self.new ≡ paged_words self.old }
         ensures made { OnOk result (pages_of self.new ≡ set.insert (pages_of self.old) page) }
         ensures unmade { OnErr result (pages_of self.new ≡ pages_of self.old) }
     {
@@ -103,16 +103,16 @@ impl PagedStore {
 impl Store for PagedStore {
     ghost use Rattle.std.specs.Prelude.{◌≡◌, ◌/◌, true, false, OnOk, OnErr, slice_index, slice_set};
     ghost use Rattle.std.specs.FinSet as set;
-    ghost use Rattle.bpages.specs.PagedStores.{words_of, pages_of, words_of-IsStore};
+    ghost use Rattle.bpages.specs.PagedStores.{paged_words, pages_of, words_of-IsStore};
 
-    ghost words = { words_of };
+    ghost words = { paged_words };
 
     ghost may_refuse = { true };
 
     /// The word at an address, which is 0 where its page isn't made.
     #[inline]
     fn get(&self, a: u16) -> u16
-        ensures value { result ≡ slice_index (words_of self.now) a }
+        ensures value { result ≡ slice_index (paged_words self.now) a }
         ensures blank { set.contains (pages_of self.now) (a / 256) ≡ false → result ≡ 0 }
     {
         self.list[self.place(a)]
@@ -125,9 +125,9 @@ impl Store for PagedStore {
     /// `NoMemory` where the page was refused memory. Nothing has changed then.
     #[inline]
     fn set(&mut self, a: u16, w: u16) -> Result<(), NoMemory>
-        ensures stored { OnOk result (words_of self.new ≡ slice_set (words_of self.old) a w) }
+        ensures stored { OnOk result (paged_words self.new ≡ slice_set (paged_words self.old) a w) }
         ensures made { OnOk result (pages_of self.new ≡ set.insert (pages_of self.old) (a / 256)) }
-        ensures unchanged { OnErr result (words_of self.new ≡ words_of self.old) }
+        ensures unchanged { OnErr result (paged_words self.new ≡ paged_words self.old) }
         ensures unmade { OnErr result (pages_of self.new ≡ pages_of self.old) }
         ensures refused { OnErr result (set.contains (pages_of self.old) (a / 256) ≡ false) }
     {

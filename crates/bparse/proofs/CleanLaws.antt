@@ -6,14 +6,13 @@ use Rattle.std.proofs.lemmas.Bool.Decides.{nat_tests}
 use Rattle.blang.specs.declared.token.Diagnostic.{Diagnostic}
 use Rattle.blang.specs.declared.token.Letters.TheVariants as letters
 use Rattle.blang.specs.declared.code.Definition as coded
-use Rattle.blang.specs.Trees.{Word, Stmt, Definition, Simple, Vector, Function}
-use Rattle.blang.specs.Scan.{Entry, Kind, Automatic, kind_of, declared, entered, fault, name_fault, most_names, Event, Declaration, Scope, no_scope, scanned, step, with_names, words_of, function_events, function_scope, statement_events, scope_fault, inner_fault, scan, word_of}
+use Rattle.blang.specs.Trees.{Identifier, Stmt, Definition, Simple, Vector, Function}
+use Rattle.blang.specs.Scan.{Entry, NameKind, Automatic, kind_of, with_declaration, with_entry, fault, name_fault, most_names, Event, Declaration, Scope, no_scope, scanned, scan_event, with_names, automatic_words, function_events, function_scope, statement_events, scope_fault, inner_fault, scan, identifier_of}
 use Rattle.bword.specs.Words.{same_name}
-use Rattle.std.specs.List.{flat_map}
-use Rattle.blang.specs.Code.{ival_code, ival_strings, code_of, fits, fault_of, fault_behind, vector_words}
+use Rattle.blang.specs.Code.{ival_code, strings_of, code_of, fits_limits, fault_of, or_too_large, vector_words}
 use Rattle.bparse.specs.Sizes.{IsSmall}
 
-abbrev parameter : Word → Event
+abbrev parameter : Identifier → Event
 parameter w = Declaration w None
 
 scanned-Err : (es : List Event) (d : Diagnostic) → scanned es (Err d) ≡ Err d
@@ -24,25 +23,25 @@ scanned-Err (e ∷ es) d = refl
 abbrev Grown : List Entry → List Entry → Type 0
 Grown es names = (length names ≡ length es + 1) × (length es + 1 ≤ most_names)
 
-entered_grown : (b : Bool) (w : Word) (k : Kind) (es names : List Entry) (d : Diagnostic) → nat_lt (length es) most_names ≡ b
+entered_grown : (b : Bool) (w : Identifier) (k : NameKind) (es names : List Entry) (d : Diagnostic) → nat_lt (length es) most_names ≡ b
     → (if b then Ok (es ++ record { name = w.text; kind = k } ∷ []) else Err d) ≡ Ok names → Grown es names
 entered_grown true w k es names d e h =
     let same : names ≡ es ++ record { name = w.text; kind = k } ∷ [] = cc in
     (ap length same ∙ length-append es (record { name = w.text; kind = k } ∷ []), let l = ltb-true (length es) most_names e in omega (arith, l))
 entered_grown false w k es names d e h = cc
 
-declared_grown : (o : Option Kind) (w : Word) (k : Kind) (es names : List Entry) → kind_of w.text es ≡ o → declared w k es ≡ Ok names → Grown es names
+declared_grown : (o : Option NameKind) (w : Identifier) (k : NameKind) (es names : List Entry) → kind_of w.text es ≡ o → with_declaration w k es ≡ Ok names → Grown es names
 declared_grown (Some old) w k es names e h = let g = rw e at h in cc
 declared_grown None w k es names e h = entered_grown (nat_lt (length es) most_names) w k es names (fault letters.TooManyNames w.line) refl (rw e at h)
 
-few : (ps : List Word) (es : List Event) (s s2 : Scope) → length s.names ≤ most_names → scanned (map parameter ps ++ es) (Ok s) ≡ Ok s2 → length ps + length s.names ≤ most_names
+few : (ps : List Identifier) (es : List Event) (s s2 : Scope) → length s.names ≤ most_names → scanned (map parameter ps ++ es) (Ok s) ≡ Ok s2 → length ps + length s.names ≤ most_names
 few [] es s s2 h e = omega (arith, h)
-few (w ∷ ps) es s s2 h e = go (declared w (Automatic s.frame) s.names) refl (λ n le g. few ps es (record behind { names = n }) s2 le g)
+few (w ∷ ps) es s s2 h e = go (with_declaration w (Automatic s.frame) s.names) refl (λ n le g. few ps es (record behind { names = n }) s2 le g)
   where
     behind : Scope
-    behind = record s { frame = s.frame + words_of None }
+    behind = record s { frame = s.frame + automatic_words None }
 
-    go : (r : Result (List Entry) Diagnostic) → declared w (Automatic s.frame) s.names ≡ r
+    go : (r : Result (List Entry) Diagnostic) → with_declaration w (Automatic s.frame) s.names ≡ r
         → ((n : List Entry) → length n ≤ most_names → scanned (map parameter ps ++ es) (Ok (record behind { names = n })) ≡ Ok s2 → length ps + length n ≤ most_names)
         → length (w ∷ ps) + length s.names ≤ most_names
     go (Ok names) r more =
@@ -62,11 +61,11 @@ third_true false b c e = cc
 fewer : (n : ℕ) → nat_le n 32767 ≡ true → n ≤ 65535
 fewer n h = grind (arith, nat_tests)
 
-no_fault : (o : Option Diagnostic) (line : ℕ) (c : coded.Definition) → fault_behind o line c ≡ None → (o ≡ None) × (fits c ≡ true)
+no_fault : (o : Option Diagnostic) (line : ℕ) (c : coded.Definition) → or_too_large o line c ≡ None → (o ≡ None) × (fits_limits c ≡ true)
 no_fault (Some d) line c e = cc
-no_fault None line c e = (refl, go (fits c) refl)
+no_fault None line c e = (refl, go (fits_limits c) refl)
   where
-    go : (b : Bool) → fits c ≡ b → fits c ≡ true
+    go : (b : Bool) → fits_limits c ≡ b → fits_limits c ≡ true
     go true f = f
     go false f = let g = rw f at e in cc
 
@@ -82,7 +81,7 @@ pub clean_small : (defined : List (List ℕ)) (d : Definition) → fault_of defi
 clean_small defined (Simple w values) e = tt
 clean_small defined (Vector w size values) e =
     let f = no_fault (scan defined (Vector w size values)) w.line (code_of (Vector w size values)) e in
-    fewer (vector_words size values) (third_true (nat_le (length (map ival_code values)) 1024) (nat_le (length (flat_map ival_strings values)) 1024) (nat_le (vector_words size values) 32767) f.1)
+    fewer (vector_words size values) (third_true (nat_le (length (map ival_code values)) 1024) (nat_le (length (strings_of (Vector w size values))) 1024) (nat_le (vector_words size values) 32767) f.1)
 clean_small defined (Function w ps body) e =
     let f = no_fault (scan defined (Function w ps body)) w.line (code_of (Function w ps body)) e in
     let inner = no_inner (list_any (same_name w.text) defined) (name_fault letters.Redeclared w) (inner_fault (Function w ps body)) f.0 in

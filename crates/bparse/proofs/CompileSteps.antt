@@ -10,9 +10,9 @@ use Rattle.blex.proofs.Passing.{Took-none}
 use Rattle.bword.proofs.Putting.{Writes-append, Refuses-behind, Refuses-short}
 use Rattle.blang.specs.Text.{joined, opening}
 use Rattle.blang.specs.declared.token.Diagnostic.{Diagnostic}
-use Rattle.blang.specs.Compiles.{Outcome, ending, code_text, line_of, text_of, Whatever, Run, HasWritten, SourceFailed, OpeningRefused, CodeRefused, LineRefused, NamesRefused, EndRefused, Compiles, status_of, HasCode}
+use Rattle.blang.specs.Compiles.{Compilation, ending, code_text, line_of, compiled_text, Whatever, Run, HasWritten, SourceFailed, OpeningRefused, CodeRefused, LineRefused, NamesRefused, EndRefused, Compiles, status_of, HasCode}
 use Rattle.blang.specs.Trees.{Definition}
-use Rattle.bparse.specs.Compilers.{Compiler, Keeps, Behind, Opens, Since, Wrote, Stopped, Broke, StepGives, opened, unopened}
+use Rattle.bparse.specs.Compilers.{Compiler, SameCompiler, GoesOnBehind, OpeningWritten, HasWrittenSince, Wrote, StoppedBehind, BrokeOff, CompilerGives, opening_written, unopened}
 use Rattle.bparse.specs.Compilers as compilers
 use Rattle.bparse.specs.Compiles.{LastGives, CodeGives}
 use Rattle.bparse.specs.Steps.{next_text, to_begin}
@@ -20,18 +20,18 @@ use Rattle.bparse.specs.declared.step.Step.{Step}
 use Rattle.bparse.specs.declared.step.Step.TheVariants as step
 use Rattle.bparse.proofs.SinceSteps.{joined-append, written_begun}
 
-pub keeps_none : (c : Compiler) → Keeps c c
+pub keeps_none : (c : Compiler) → SameCompiler c c
 keeps_none c = record { first = refl; lender = refl; out_lender = refl }
 
-pub keeps_more : {a b c : Compiler} → Keeps a b → Keeps b c → Keeps a c
+pub keeps_more : {a b c : Compiler} → SameCompiler a b → SameCompiler b c → SameCompiler a c
 keeps_more h k = record { first = k.first ∙ h.first; lender = k.lender ∙ h.lender; out_lender = k.out_lender ∙ h.out_lender }
 
 -- the text of an outcome that begins with these texts
-code_behind : (ds : List Definition) (rest r : Outcome) → Behind ds rest r
-    → joined r.code ++ ending r.stop ≡ joined (map text_of ds) ++ (joined rest.code ++ ending rest.stop)
+code_behind : (ds : List Definition) (rest r : Compilation) → GoesOnBehind ds rest r
+    → joined r.code ++ ending r.stop ≡ joined (map compiled_text ds) ++ (joined rest.code ++ ending rest.stop)
 code_behind ds rest r h =
-    ap (λ x. joined x ++ ending r.stop) h.code ∙ ap (λ x. joined (map text_of ds ++ rest.code) ++ ending x) h.stop
-    ∙ ap (λ l. l ++ ending rest.stop) (joined-append (map text_of ds) rest.code) ∙ append_assoc (joined (map text_of ds)) (joined rest.code) (ending rest.stop)
+    ap (λ x. joined x ++ ending r.stop) h.code ∙ ap (λ x. joined (map compiled_text ds ++ rest.code) ++ ending x) h.stop
+    ∙ ap (λ l. l ++ ending rest.stop) (joined-append (map compiled_text ds) rest.code) ∙ append_assoc (joined (map compiled_text ds)) (joined rest.code) (ending rest.stop)
 
 -- what is refused of the next text is refused of all texts to come
 refused_all : {a b : Outgoing} {fault : EndFault} (texts : List (List ℕ)) (stop : Option Diagnostic) → Refuses a (next_text texts stop) fault b → Refuses a (joined texts ++ ending stop) fault b
@@ -82,10 +82,10 @@ unopened_all c z = ap (λ b. to_begin b c.first.edition) z
 unopened_none : (c : Compiler) → c.is_begun ≡ true → unopened c ≡ []
 unopened_none c z = ap (λ b. to_begin b c.first.edition) z
 
-unbegun_out : (c : Compiler) (ds : List Definition) → Since c ds → c.is_begun ≡ false → Writes c.first.out [] c.out
+unbegun_out : (c : Compiler) (ds : List Definition) → HasWrittenSince c ds → c.is_begun ≡ false → Writes c.first.out [] c.out
 unbegun_out c ds s z =
     subst (λ t. Writes c.first.out t c.out)
-    (ap (λ b. (if b then opening c.first.edition else []) ++ joined (map text_of ds)) z ∙ ap (λ x. joined (map text_of x)) (s.unbegun z).0) s.written
+    (ap (λ b. (if b then opening c.first.edition else []) ++ joined (map compiled_text ds)) z ∙ ap (λ x. joined (map compiled_text x)) (s.unbegun z).0) s.written
 
 module _ (first last : Compiler) (d e : Outgoing) where
   abbrev run : ℕ → Run
@@ -102,25 +102,25 @@ module _ (first last : Compiler) (d e : Outgoing) where
     read_all h = h ∙ ap (λ x. x.source.failures) same_first
 
     -- what is written when the last call has written what the text begins with
-    written_before : {before : List Definition} {out : Outgoing} → Since l.old before → Opens l.old out
-        → Writes first.first.out (opening first.first.edition ++ joined (map text_of before)) out
+    written_before : {before : List Definition} {out : Outgoing} → HasWrittenSince l.old before → OpeningWritten l.old out
+        → Writes first.first.out (opening first.first.edition ++ joined (map compiled_text before)) out
     written_before {before} {out} s o =
-        subst (λ x. Writes x.out (opening x.edition ++ joined (map text_of before)) out) l.keeps_old.first
+        subst (λ x. Writes x.out (opening x.edition ++ joined (map compiled_text before)) out) l.keeps_old.first
         (written_begun l.old.first l.old.is_begun before l.old.out out (λ e. (s.unbegun e).0) s.written o.written o.nothing)
 
-    written_whole : {stop : Option Diagnostic} (s : Stopped l.old stop last) (r : Outcome) → (r.code ≡ map text_of s.before) × (r.stop ≡ stop)
+    written_whole : {stop : Option Diagnostic} (s : StoppedBehind l.old stop last) (r : Compilation) → (r.code ≡ map compiled_text s.before) × (r.stop ≡ stop)
         → Writes first.first.out (code_text first.first.edition r) last.out
     written_whole {stop} s r q =
         subst (λ t. Writes first.first.out (opening first.first.edition ++ t) last.out) (ap (λ x. joined x ++ ending stop) (sym q.0) ∙ ap (λ x. joined r.code ++ ending x) (sym q.1))
-        (subst (λ x. Writes x.out (opening x.edition ++ (joined (map text_of s.before) ++ ending stop)) last.out) same_first s.written)
+        (subst (λ x. Writes x.out (opening x.edition ++ (joined (map compiled_text s.before) ++ ending stop)) last.out) same_first s.written)
 
-    texts_written : {before : List Definition} (status : ℕ) → Since l.old before → Opens l.old last.out → (rest r : Outcome) → Behind before rest r
-        → HasWritten (run status) (length (map text_of before)) r
+    texts_written : {before : List Definition} (status : ℕ) → HasWrittenSince l.old before → OpeningWritten l.old last.out → (rest r : Compilation) → GoesOnBehind before rest r
+        → HasWritten (run status) (length (map compiled_text before)) r
     texts_written {before} status s o rest r h =
-        subst (λ x. Writes first.first.out (opening first.first.edition ++ joined x) last.out) (sym (take_first (map text_of before) rest.code r.code h.code)) (written_before s o)
+        subst (λ x. Writes first.first.out (opening first.first.edition ++ joined x) last.out) (sym (take_first (map compiled_text before) rest.code r.code h.code)) (written_before s o)
 
     -- what every source comes to that the last call can have seen
-    whatever : (taken : List ℕ) (P : Outcome → Type 0) → Whatever last.first.edition taken last.tokens.source.end P
+    whatever : (taken : List ℕ) (P : Compilation → Type 0) → Whatever last.first.edition taken last.tokens.source.end P
         → Whatever first.first.edition taken last.tokens.source.end P
     whatever taken P h = subst (λ x. Whatever x.edition taken last.tokens.source.end P) same_first h
 
@@ -131,7 +131,7 @@ module _ (first last : Compiler) (d e : Outgoing) where
       begun = split_first first.first.out (opening first.first.edition);
       code = λ more f r g.
           let q = whatever _ _ h.2.comes more f r g in (
-            (λ none. q.1.stop ∙ q.2.0 (nil_behind (map text_of h.2.before) q.0.code (sym q.1.code ∙ none))),
+            (λ none. q.1.stop ∙ q.2.0 (nil_behind (map compiled_text h.2.before) q.0.code (sym q.1.code ∙ none))),
             subst (λ t. Refuses (split_out first.first.out (opening first.first.edition)) t fault last.out) (sym (code_behind h.2.before q.0 r q.1))
                 (Refuses-behind (split_rest (opening first.first.edition) (written_before h.2.since h.1)) (refused_all q.0.code q.0.stop q.2.1)),
           );
@@ -157,20 +157,20 @@ module _ (first last : Compiler) (d e : Outgoing) where
     source_failed : (status : ℕ) (h : compilers.ReadFailed l.old last) → e ≡ d → SourceFailed (run status) h.0.taken
     source_failed status h same = record {
       counted = subst (λ x. Grew x.source.failures last.tokens.source.end.failures) same_first h.1;
-      count = length (map text_of h.0.before);
+      count = length (map compiled_text h.0.before);
       code = λ more f r g.
           let q = whatever _ _ h.0.comes more f r g in
-          (omega (arith, ap length q.1.code, length-append (map text_of h.0.before) q.0.code), texts_written status h.0.since h.2 q.0 r q.1);
+          (omega (arith, ap length q.1.code, length-append (map compiled_text h.0.before) q.0.code), texts_written status h.0.since h.2 q.0 r q.1);
       silent = same;
     }
 
-    names_refused : (status : ℕ) (h : compilers.NamesRefused l.old last) → e ≡ d → NamesRefused (run status) h.0.taken
+    names_refused : (status : ℕ) (h : compilers.GrowthRefused l.old last) → e ≡ d → NamesRefused (run status) h.0.taken
     names_refused status h same = record {
       read = read_all h.1;
-      count = length (map text_of h.0.before);
+      count = length (map compiled_text h.0.before);
       code = λ more f r g.
           let q = whatever _ _ h.0.comes more f r g in
-          (omega (arith, ap length q.1.code, length-append (map text_of h.0.before) q.0.code, some_length q.0.code q.2), texts_written status h.0.since h.2 q.0 r q.1);
+          (omega (arith, ap length q.1.code, length-append (map compiled_text h.0.before) q.0.code, some_length q.0.code q.2), texts_written status h.0.since h.2 q.0 r q.1);
       silent = same;
     }
 
@@ -200,7 +200,7 @@ module _ (first last : Compiler) (d e : Outgoing) where
         no_other = inr (inl refl);
       }
 
-  line_refused : (fault : Diagnostic) (end : EndFault) (status : ℕ) → (l : LastGives first (step.Fault fault) last) → Refuses d (line_of fault) end e → (s : Stopped l.old (Some fault) last) → LineRefused (run status) s.taken end
+  line_refused : (fault : Diagnostic) (end : EndFault) (status : ℕ) → (l : LastGives first (step.Fault fault) last) → Refuses d (line_of fault) end e → (s : StoppedBehind l.old (Some fault) last) → LineRefused (run status) s.taken end
   line_refused fault end status l w s = record {
     read = read_all l s.failures;
     written = λ more f r g. let q = whatever l _ _ s.comes more f r g in record { diagnostic = fault; stop = q.1; code = written_whole l s r q; line = w };
@@ -256,7 +256,7 @@ module _ (first last : Compiler) (d e : Outgoing) where
   pub device : LastGives first step.Device last → e ≡ d → Compiles (run 133)
   device l same = go l.gives
     where
-      go : StepGives l.old step.Device last → Compiles (run 133)
+      go : CompilerGives l.old step.Device last → Compiles (run 133)
       go (inl h) = failing h.0.taken (took_all l h.0.took) (inl (source_failed l 133 h same))
       go (inr (inl h)) = failing h.2.taken (took_all l h.2.took) (inr (inr (inl (code_refused l end_fault.Device 133 h same))))
       go (inr (inr h)) = let o = opening_refused l end_fault.Device 133 h (not_begun l h) same in failing [] (unread_took o) (inr (inl o))
@@ -264,7 +264,7 @@ module _ (first last : Compiler) (d e : Outgoing) where
   pub memory : LastGives first step.Memory last → e ≡ d → Compiles (run 134)
   memory l same = go l.gives
     where
-      go : StepGives l.old step.Memory last → Compiles (run 134)
+      go : CompilerGives l.old step.Memory last → Compiles (run 134)
       go (inl h) = refusing h.0.taken (took_all l h.0.took) (inl (names_refused l 134 h same))
       go (inr (inl h)) = refusing h.2.taken (took_all l h.2.took) (inr (inr (inl (code_refused l end_fault.Memory 134 h same))))
       go (inr (inr h)) = let o = opening_refused l end_fault.Memory 134 h (not_begun l h) same in refusing [] (unread_took o) (inr (inl o))

@@ -11,22 +11,22 @@ use Rattle.blang.specs.declared.token.Token.TheVariants as token
 use Rattle.blang.specs.declared.token.Placed.{Placed}
 use Rattle.blang.specs.declared.token.Diagnostic.{Diagnostic}
 use Rattle.btree.specs.Compiled.{AreNames}
-use Rattle.blang.specs.Compiles.{Defined, Outcome, Goes, ending, text_of, HasCode}
+use Rattle.blang.specs.Compiles.{Defined, Compilation, CompilesTo, ending, compiled_text, HasCode}
 use Rattle.blang.specs.Code.{fault_of}
 use Rattle.blang.specs.Trees.{Definition}
 use Rattle.btree.specs.DefinitionReader.{definition}
 use Rattle.blang.specs.WellFormed.{fault_at}
-use Rattle.btree.specs.Reading.{Got, Stop, first, line_of}
-use Rattle.blang.specs.Scan.{word_of}
+use Rattle.btree.specs.Reading.{Got, Stop, first, line_ahead}
+use Rattle.blang.specs.Scan.{identifier_of}
 use Rattle.btree.proofs.Membership.{by_membership}
 use Rattle.btree.proofs.Outcomes.{Ended}
 use Rattle.btree.proofs.GoesLaws.{tokens_from-ended, ended_cons, goes_once, goes_some, goes_end}
 use Rattle.btree.proofs.GoesReads.{goes_behind_read, goes_fault_read, goes_stop_read}
-use Rattle.bexpr.specs.Tokens.{Tokens, tokens_of, tokens_with, IsLoaded, IsSingle, Looks, LooksAt, Moves, work, Reads, Breaks}
+use Rattle.bexpr.specs.Tokens.{Tokens, tokens_of, tokens_with, IsLoaded, IsSingle, Looks, LooksAt, Moves, work, TakesAhead, TokensFail}
 use Rattle.bword.specs.ByteEnds.{CanFollow}
 use Rattle.bexpr.proofs.TokenSteps.{Reads-append, LooksAt-append, CanFollow-append}
 use Rattle.blex.proofs.Passing.{Grew-after}
-use Rattle.bparse.specs.Steps.{Point, point, Comes, next_text, Writing, Stopping, Breaking, ReadFails, OutRefuses, NamesRefuse, Gives, step_of}
+use Rattle.bparse.specs.Steps.{Point, point, SourceComesTo, next_text, Writing, Stopping, Breaking, ReadFails, OutRefuses, NamesRefuse, PointGives, refused_step}
 use Rattle.bparse.specs.declared.step.Step.{Step}
 use Rattle.bparse.specs.declared.step.Step.TheVariants as step
 
@@ -48,7 +48,7 @@ pub record Begins (t : Tokens) (more : List ℕ) : Type 0 where
   pub rest : List Placed
   pub split : tokens_of t more ≡ at ∷ rest
   pub token_is : at.token ≡ first t.ahead
-  pub line_is : at.line ≡ line_of t.ahead
+  pub line_is : at.line ≡ line_ahead t.ahead
 
 begins_with : (ps : List Placed) (p : Placed) (behind : List Placed) (edition : Edition) (line : ℕ) (bytes : List ℕ) → ps ≡ p ∷ behind
     → (rest : List Placed) × (tokens_with ps edition line bytes ≡ p ∷ rest)
@@ -58,11 +58,11 @@ begins_with ps p behind edition line bytes e =
 pub begins : (t : Tokens) → IsLoaded t → (more : List ℕ) → Begins t more
 begins t l more =
     let b = begins_with t.ahead l.current l.behind t.source.edition t.source.line (t.source.ahead ++ more) l.ahead in
-    record { at = l.current; rest = b.0; split = b.1; token_is = sym (ap first l.ahead); line_is = sym (ap line_of l.ahead) }
+    record { at = l.current; rest = b.0; split = b.1; token_is = sym (ap first l.ahead); line_is = sym (ap line_ahead l.ahead) }
 
 -- the diagnostic of the token that is ahead
 abbrev pub fault_ahead : Tokens → Diagnostic
-fault_ahead t = fault_at (placed (first t.ahead) (line_of t.ahead))
+fault_ahead t = fault_at (placed (first t.ahead) (line_ahead t.ahead))
 
 same_fault : (t : Tokens) (more : List ℕ) (b : Begins t more) → fault_at b.at ≡ fault_ahead t
 same_fault t more b = ap (λ k. fault_at (placed k b.at.line)) b.token_is ∙ ap (λ n. fault_at (placed (first t.ahead) n)) b.line_is
@@ -70,11 +70,11 @@ same_fault t more b = ap (λ k. fault_at (placed k b.at.line)) b.token_is ∙ ap
 first_of : (at p : Placed) (rest more : List Placed) → at ∷ rest ≡ p ∷ more → at ≡ p
 first_of at p rest more e = cc
 
-pub breaks_behind : {a b c : Tokens} {P : List Placed → List Placed → Type 0} → Moves a b P → Breaks b c → Breaks a c
+pub breaks_behind : {a b c : Tokens} {P : List Placed → List Placed → Type 0} → Moves a b P → TokensFail b c → TokensFail a c
 breaks_behind h k = record { taken = h.taken ++ k.taken; reads = Reads-append h.reads k.reads; counted = Grew-after _ _ _ h.failures k.counted }
 
 -- A failed read, before anything is written.
-pub read_fails : (old new : Tokens) (names names' : Defined) (out : Outgoing) → Breaks old new → Gives (point old names out) (Err step.Device) (point new names' out)
+pub read_fails : (old new : Tokens) (names names' : Defined) (out : Outgoing) → TokensFail old new → PointGives (point old names out) (Err step.Device) (point new names' out)
 read_fails old new names names' out b = inl (record { taken = b.taken; reads = b.reads; each = λ more c r g. tt }, b.counted, refl)
 
 -- The token that comes is ahead.
@@ -83,7 +83,7 @@ module _ (old mid : Tokens) (names : Defined) (l : Looks old mid) where
     abbrev both : List ℕ
     both = l.moves.taken ++ m.taken
 
-    both_read : Reads old.source both new.source
+    both_read : TakesAhead old.source both new.source
     both_read = Reads-append l.moves.reads m.reads
 
     both_looked : LooksAt old both new
@@ -108,21 +108,21 @@ module _ (old mid : Tokens) (names : Defined) (l : Looks old mid) where
     comes = λ more c. stopped more c;
   }
     where
-      stopped : (more : List ℕ) → CanFollow new.source.end more → Goes names (tokens_of old (both new m ++ more)) (record { code = []; stop = Some d })
+      stopped : (more : List ℕ) → CanFollow new.source.end more → CompilesTo names (tokens_of old (both new m ++ more)) (record { code = []; stop = Some d })
       stopped more c =
           let at = begins new loaded more in
           let here = begins mid l.loaded (m.taken ++ more) in
           let g = goes_stop_read names (tokens_of mid (m.taken ++ more)) at.rest at.at (m.come more c ∙ ap Stop at.split)
           (λ e u. not_end (sym here.token_is ∙ ap (λ p. p.token) (first_of here.at at.at here.rest at.rest (sym here.split ∙ u)) ∙ e)) in
-          subst (λ ts. Goes names ts (record { code = []; stop = Some d })) (sym (come new m more c))
-          (subst (λ x. Goes names (tokens_of mid (m.taken ++ more)) (record { code = []; stop = Some x })) (same_fault new more at ∙ sym d_is) g)
+          subst (λ ts. CompilesTo names ts (record { code = []; stop = Some d })) (sym (come new m more c))
+          (subst (λ x. CompilesTo names (tokens_of mid (m.taken ++ more)) (record { code = []; stop = Some x })) (same_fault new more at ∙ sym d_is) g)
 
   -- the end of the source
   module _ (out out' : Outgoing) (at_end : first mid.ahead ≡ token.End) where
-    comes_end : (more : List ℕ) → CanFollow mid.source.end more → Goes names (tokens_of old (l.moves.taken ++ more)) (record { code = []; stop = None })
+    comes_end : (more : List ℕ) → CanFollow mid.source.end more → CompilesTo names (tokens_of old (l.moves.taken ++ more)) (record { code = []; stop = None })
     comes_end more c =
         let here = begins mid l.loaded more in
-        subst (λ ts. Goes names ts (record { code = []; stop = None })) (sym (l.moves.come more c ∙ here.split))
+        subst (λ ts. CompilesTo names ts (record { code = []; stop = None })) (sym (l.moves.come more c ∙ here.split))
         (goes_end names here.at here.rest (here.token_is ∙ at_end))
 
     pub end_stops : Writes out end_text out' → Stopping (point old names out) None (point mid names out')
@@ -138,26 +138,26 @@ module _ (old mid : Tokens) (names : Defined) (l : Looks old mid) where
       l.moves.failures,
     )
 
-    pub end_breaks : (e : EndFault) → Refuses out end_text e out' → Gives (point old names out) (Err (step_of e)) (point mid names out')
+    pub end_breaks : (e : EndFault) → Refuses out end_text e out' → PointGives (point old names out) (Err (refused_step e)) (point mid names out')
     end_breaks fault.Device w = inr (end_refused fault.Device w)
     end_breaks fault.Memory w = inl (end_refused fault.Memory w)
 
   -- behind a definition
-  module _ (new : Tokens) (out : Outgoing) (tree : Definition) (name : List ℕ) (name_is : name ≡ (word_of tree).text) (m : Moves mid new (λ u v. definition u ≡ Got tree v)) where
+  module _ (new : Tokens) (out : Outgoing) (tree : Definition) (name : List ℕ) (name_is : name ≡ (identifier_of tree).text) (m : Moves mid new (λ u v. definition u ≡ Got tree v)) where
     -- a definition without fault comes first
-    comes_first : fault_of names tree ≡ None → (more : List ℕ) → CanFollow new.source.end more → (r : Outcome) → Goes (names ++ name ∷ []) (tokens_of new more) r
-        → Goes names (tokens_of old (both new m ++ more)) (record { code = text_of tree ∷ r.code; stop = r.stop })
+    comes_first : fault_of names tree ≡ None → (more : List ℕ) → CanFollow new.source.end more → (r : Compilation) → CompilesTo (names ++ name ∷ []) (tokens_of new more) r
+        → CompilesTo names (tokens_of old (both new m ++ more)) (record { code = compiled_text tree ∷ r.code; stop = r.stop })
     comes_first clean more c r g =
-        subst (λ ts. Goes names ts (record { code = text_of tree ∷ r.code; stop = r.stop })) (sym (come new m more c))
-        (goes_behind_read names (tokens_of mid (m.taken ++ more)) (tokens_of new more) tree r (m.come more c) clean (subst (λ n. Goes (names ++ n ∷ []) (tokens_of new more) r) name_is g))
+        subst (λ ts. CompilesTo names ts (record { code = compiled_text tree ∷ r.code; stop = r.stop })) (sym (come new m more c))
+        (goes_behind_read names (tokens_of mid (m.taken ++ more)) (tokens_of new more) tree r (m.come more c) clean (subst (λ n. CompilesTo (names ++ n ∷ []) (tokens_of new more) r) name_is g))
 
     -- so it comes whatever comes
-    first_text : fault_of names tree ≡ None → (more : List ℕ) → CanFollow new.source.end more → (r : Outcome) → Goes names (tokens_of old (both new m ++ more)) r → (rest : Outcome) × (r ≡ record { code = text_of tree ∷ rest.code; stop = rest.stop })
+    first_text : fault_of names tree ≡ None → (more : List ℕ) → CanFollow new.source.end more → (r : Compilation) → CompilesTo names (tokens_of old (both new m ++ more)) r → (rest : Compilation) × (r ≡ record { code = compiled_text tree ∷ rest.code; stop = rest.stop })
     first_text clean more c r g =
         let some = goes_some (names ++ name ∷ []) (tokens_of new more) (tokens_of-ended new more) in
         (some.outcome, goes_once g (comes_first clean more c some.outcome some.goes))
 
-    pub wrote : (names' : Defined) (out' : Outgoing) → fault_of names tree ≡ None → AreNames names' (names ++ name ∷ []) → Writes out (text_of tree) out' → IsSingle new → work new < work mid
+    pub wrote : (names' : Defined) (out' : Outgoing) → fault_of names tree ≡ None → AreNames names' (names ++ name ∷ []) → Writes out (compiled_text tree) out' → IsSingle new → work new < work mid
         → Writing (point old names out) (point new names' out')
     wrote names' out' clean added w single less = record {
       taken = both new m;
@@ -179,17 +179,17 @@ module _ (old mid : Tokens) (names : Defined) (l : Looks old mid) where
       reads = both_read new m;
       failures = failed_none new m;
       written = Writes-none out;
-      comes = λ more c. subst (λ ts. Goes names ts (record { code = []; stop = Some fault })) (sym (come new m more c))
+      comes = λ more c. subst (λ ts. CompilesTo names ts (record { code = []; stop = Some fault })) (sym (come new m more c))
           (goes_fault_read names (tokens_of mid (m.taken ++ more)) (tokens_of new more) tree fault (m.come more c) wrong (tokens_of-ended new more));
     }
 
-    some_text : fault_of names tree ≡ None → (more : List ℕ) → CanFollow new.source.end more → (r : Outcome) → Goes names (tokens_of old (both new m ++ more)) r → r.code ≡ [] → ⊥
-    some_text clean more c r g e = let f = first_text clean more c r g in let h : [] ≡ text_of tree ∷ f.0.code = sym e ∙ ap (λ q. q.code) f.1 in cc
+    some_text : fault_of names tree ≡ None → (more : List ℕ) → CanFollow new.source.end more → (r : Compilation) → CompilesTo names (tokens_of old (both new m ++ more)) r → r.code ≡ [] → ⊥
+    some_text clean more c r g e = let f = first_text clean more c r g in let h : [] ≡ compiled_text tree ∷ f.0.code = sym e ∙ ap (λ q. q.code) f.1 in cc
 
-    pub no_memory : fault_of names tree ≡ None → (names' : Defined) → Gives (point old names out) (Err step.Memory) (point new names' out)
+    pub no_memory : fault_of names tree ≡ None → (names' : Defined) → PointGives (point old names out) (Err step.Memory) (point new names' out)
     no_memory clean names' = inr (record { taken = both new m; reads = both_read new m; each = some_text clean }, failed_none new m, refl)
 
-    text_refused : (e : EndFault) (names' : Defined) (out' : Outgoing) → fault_of names tree ≡ None → Refuses out (text_of tree) e out' → OutRefuses (point old names out) e (point new names' out')
+    text_refused : (e : EndFault) (names' : Defined) (out' : Outgoing) → fault_of names tree ≡ None → Refuses out (compiled_text tree) e out' → OutRefuses (point old names out) e (point new names' out')
     text_refused e names' out' clean w = (
       record {
         taken = both new m;
@@ -201,12 +201,12 @@ module _ (old mid : Tokens) (names : Defined) (l : Looks old mid) where
       failed_none new m,
     )
 
-    pub write_breaks : (names' : Defined) (out' : Outgoing) (e : EndFault) → fault_of names tree ≡ None → Refuses out (text_of tree) e out'
-        → Gives (point old names out) (Err (step_of e)) (point new names' out')
+    pub write_breaks : (names' : Defined) (out' : Outgoing) (e : EndFault) → fault_of names tree ≡ None → Refuses out (compiled_text tree) e out'
+        → PointGives (point old names out) (Err (refused_step e)) (point new names' out')
     write_breaks names' out' fault.Device clean w = inr (text_refused fault.Device names' out' clean w)
     write_breaks names' out' fault.Memory clean w = inl (text_refused fault.Memory names' out' clean w)
 
 -- the exits of a `?`
-pub gives_stop : (old new : Point) (r : Result (Unit {0}) Step) (e : Step) → IsErrAnd r (λ y. y ≡ e) → Gives old (Err e) new → Gives old r new
+pub gives_stop : (old new : Point) (r : Result (Unit {0}) Step) (e : Step) → IsErrAnd r (λ y. y ≡ e) → PointGives old (Err e) new → PointGives old r new
 gives_stop old new (Ok u) e h k = absurd h
-gives_stop old new (Err s) e h k = subst (λ x. Gives old (Err x) new) (sym h) k
+gives_stop old new (Err s) e h k = subst (λ x. PointGives old (Err x) new) (sym h) k

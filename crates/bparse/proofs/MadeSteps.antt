@@ -10,12 +10,12 @@ use Rattle.blang.specs.Trees.{Definition}
 use Rattle.blang.specs.WellFormed.{IsFormed}
 use Rattle.btree.specs.DefinitionReader.{definition}
 use Rattle.btree.specs.Reading.{Got}
-use Rattle.blang.specs.Scan.{word_of}
+use Rattle.blang.specs.Scan.{identifier_of}
 use Rattle.btree.proofs.LawProofs.{definition_read}
-use Rattle.bemit.specs.Drafts.{Draft, Going, fault_in, resolved, started}
+use Rattle.bemit.specs.Drafts.{Draft, Going, fault_in, draft_resolved, started}
 use Rattle.bemit.specs.Effects.{code_with, definition_done}
 use Rattle.bemit.specs.Views.{IfMade}
-use Rattle.bpass.proofs.Definitions.{one_pass}
+use Rattle.bonepass.proofs.Definitions.{one_pass}
 use Rattle.bparse.specs.Steps.{is_end}
 use Rattle.bread.specs.Definitions.{TookDefinition}
 use Rattle.bread.specs.Headers.{Heads}
@@ -34,7 +34,7 @@ not_end t e h = let bad : true ≡ false = sym (ap is_end h) ∙ e in cc
 -- the definition of a draft, and how it begins
 pub record Drafted (names : Defined) (tree : Definition) (header : Header) (draft : Draft) : Type 0 where
   pub formed : IsFormed tree
-  pub made : draft ≡ definition_done tree (started names (word_of tree))
+  pub made : draft ≡ definition_done tree (started names (identifier_of tree))
   pub heads : Heads header tree
 
 pub tree_formed : (mid new : Tokens) (tree : Definition) → Moves mid new (λ u v. definition u ≡ Got tree v) → IsFormed tree
@@ -46,7 +46,7 @@ drafted names mid new header draft t = record { formed = tree_formed mid new t.t
 module _ (names : Defined) (tree : Definition) (header : Header) (draft : Draft) (d : Drafted names tree header draft) where
   pub fault_is : fault_in header.line draft ≡ fault_of names tree
   fault_is =
-      ap (λ n. fault_in n draft) d.heads.line ∙ ap (fault_in (word_of tree).line) d.made ∙ (one_pass names tree d.formed).0
+      ap (λ n. fault_in n draft) d.heads.line ∙ ap (fault_in (identifier_of tree).line) d.made ∙ (one_pass names tree d.formed).0
 
   pub fault_some : (f : Diagnostic) (o : Option Diagnostic) → o ≡ fault_in header.line draft → o ≡ Some f → fault_of names tree ≡ Some f
   fault_some f o e h = sym fault_is ∙ sym e ∙ h
@@ -58,9 +58,9 @@ module _ (names : Defined) (tree : Definition) (header : Header) (draft : Draft)
       go None k = sym fault_is ∙ sym e ∙ k
       go (Some f) k = absurd (h f k)
 
-  pub viewed : (view : coded.Definition) (after : Draft) → fault_of names tree ≡ None → after ≡ resolved draft
+  pub viewed : (view : coded.Definition) (after : Draft) → fault_of names tree ≡ None → after ≡ draft_resolved draft
       → IfMade after (λ s m. (t : Definition) → Heads header t → IsSmall t → view ≡ code_with t s.frame m) → view ≡ code_of tree
   viewed view after clean same v =
       let p = (one_pass names tree d.formed).1 clean in
-      let going : after ≡ Going p.0 (Some p.1) = same ∙ ap resolved d.made ∙ p.2 in
+      let going : after ≡ Going p.0 (Some p.1) = same ∙ ap draft_resolved d.made ∙ p.2 in
       subst (λ x. IfMade x (λ s m. (t : Definition) → Heads header t → IsSmall t → view ≡ code_with t s.frame m)) going v tree d.heads (clean_small names tree clean) ∙ p.3

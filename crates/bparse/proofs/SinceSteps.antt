@@ -13,7 +13,7 @@ use Rattle.blang.specs.Cut.{tokens_from}
 use Rattle.blang.specs.declared.token.Diagnostic.{Diagnostic}
 use Rattle.blang.specs.declared.token.Placed.{Placed}
 use Rattle.btree.specs.Compiled.{AreNames}
-use Rattle.blang.specs.Compiles.{Outcome, Goes, ending, text_of}
+use Rattle.blang.specs.Compiles.{Compilation, CompilesTo, ending, compiled_text}
 use Rattle.blang.specs.Trees.{Definition, spell_definition, kept, spell_all}
 use Rattle.blang.specs.WellFormed.{IsFormed, AllFormed}
 use Rattle.btree.specs.DefinitionReader.{definition}
@@ -28,8 +28,8 @@ use Rattle.btree.proofs.StatementUnread.{lines_unread}
 use Rattle.bexpr.specs.Tokens.{tokens_of, IsReady, EndsWith, last_ahead}
 use Rattle.bword.specs.ByteEnds.{CanFollow}
 use Rattle.bexpr.proofs.TokenSteps.{EndsWith-append}
-use Rattle.bparse.specs.Steps.{Point, point, name_of, Writing, Stopping, Breaking, ReadFails, OutRefuses, NamesRefuse, BeginRefuses, GivesBehind, GivesNext, Gives, step_of, to_begin}
-use Rattle.bparse.specs.Compilers.{Start, Compiler, compiler_of, Spelled, Behind, Opens, Since, IsOpen, Wrote, Stopped, Broke, StepGives}
+use Rattle.bparse.specs.Steps.{Point, point, name_of, Writing, Stopping, Breaking, ReadFails, OutRefuses, NamesRefuse, BeginRefuses, OpensAndGives, GivesNext, PointGives, refused_step, to_begin}
+use Rattle.bparse.specs.Compilers.{CompilerStart, Compiler, compiler_of, Spelled, GoesOnBehind, OpeningWritten, HasWrittenSince, MoreCanBeWritten, Wrote, StoppedBehind, BrokeOff, CompilerGives}
 use Rattle.bparse.specs.Compilers as compilers
 use Rattle.bparse.specs.declared.step.Step.{Step}
 use Rattle.bparse.specs.declared.step.Step.TheVariants as step
@@ -46,12 +46,12 @@ AllFormed-append : (ds : List Definition) (d : Definition) → AllFormed ds → 
 AllFormed-append [] d h f = (f, tt)
 AllFormed-append (e ∷ ds) d h f = (h.0, AllFormed-append ds d h.1 f)
 
-texts-append : (ds : List Definition) (d : Definition) → joined (map text_of (ds ++ d ∷ [])) ≡ joined (map text_of ds) ++ text_of d
+texts-append : (ds : List Definition) (d : Definition) → joined (map compiled_text (ds ++ d ∷ [])) ≡ joined (map compiled_text ds) ++ compiled_text d
 texts-append ds d =
-    ap joined (map-append text_of ds (d ∷ [])) ∙ joined-append (map text_of ds) (text_of d ∷ []) ∙ ap (λ l. joined (map text_of ds) ++ l) (append-nil (text_of d))
+    ap joined (map-append compiled_text ds (d ∷ [])) ∙ joined-append (map compiled_text ds) (compiled_text d ∷ []) ∙ ap (λ l. joined (map compiled_text ds) ++ l) (append-nil (compiled_text d))
 
 -- nothing is written at first
-pub since_new : (start : Start) → Since (compilers.new start) []
+pub since_new : (start : CompilerStart) → HasWrittenSince (compilers.new start) []
 since_new start = record {
   taken = [];
   took = Took-none start.source;
@@ -69,7 +69,7 @@ since_new start = record {
   is_open = refl;
 }
 
-pub is_open_new : (start : Start) → IsOpen (compilers.new start)
+pub is_open_new : (start : CompilerStart) → MoreCanBeWritten (compilers.new start)
 is_open_new start = record { before = []; since = since_new start; ready = refl }
 
 nil_both : (xs ys : List ℕ) → xs ≡ [] → ys ≡ [] → xs ++ ys ≡ []
@@ -83,19 +83,19 @@ grew_since : (a b c : ℕ) → b ≡ a → Grew b c → Grew a c
 grew_since a b c e g = rw e at g
 
 -- a compiler at a point
-abbrev pub compiler_at : Start → Point → List ℕ → Bool → Bool → Compiler
+abbrev pub compiler_at : CompilerStart → Point → List ℕ → Bool → Bool → Compiler
 compiler_at first p lender is_begun is_closed = compiler_of first p.tokens p.names p.out lender is_begun is_closed
 
 -- what was written, with what the text begins with
-pub written_begun : (first : Start) (begun : Bool) (before : List Definition) (out mid : Outgoing) → (begun ≡ false → before ≡ [])
-    → Writes first.out ((if begun then opening first.edition else []) ++ joined (map text_of before)) out
+pub written_begun : (first : CompilerStart) (begun : Bool) (before : List Definition) (out mid : Outgoing) → (begun ≡ false → before ≡ [])
+    → Writes first.out ((if begun then opening first.edition else []) ++ joined (map compiled_text before)) out
     → Writes out (to_begin begun first.edition) mid → (to_begin begun first.edition ≡ [] → mid ≡ out)
-    → Writes first.out (opening first.edition ++ joined (map text_of before)) mid
-written_begun first true before out mid none w o same = subst (λ x. Writes first.out (opening first.edition ++ joined (map text_of before)) x) (sym (same refl)) w
+    → Writes first.out (opening first.edition ++ joined (map compiled_text before)) mid
+written_begun first true before out mid none w o same = subst (λ x. Writes first.out (opening first.edition ++ joined (map compiled_text before)) x) (sym (same refl)) w
 written_begun first false before out mid none w o same =
     let e = none refl in
-    subst (λ ds. Writes first.out (opening first.edition ++ joined (map text_of ds)) mid) (sym e)
-    (subst (λ l. Writes first.out l mid) (sym (append-nil (opening first.edition))) (Writes-append (subst (λ ds. Writes first.out (joined (map text_of ds)) out) e w) o))
+    subst (λ ds. Writes first.out (opening first.edition ++ joined (map compiled_text ds)) mid) (sym e)
+    (subst (λ l. Writes first.out l mid) (sym (append-nil (opening first.edition))) (Writes-append (subst (λ ds. Writes first.out (joined (map compiled_text ds)) out) e w) o))
 
 -- the tokens that were taken spell the tree
 tree_spelled : (u v : List Placed) (d : Definition) (t : Taken u v) → definition u ≡ Got d v → map kept t.tokens ≡ spell_definition d
@@ -103,19 +103,19 @@ tree_spelled u v d t h =
     (read_there t.tokens v d (ap definition (sym (map-append kept t.tokens v) ∙ ap (map kept) (sym t.split)) ∙ lines_unread u ∙ ap kept_read h)).0
 
 -- an outcome that begins with one text more
-behind_more : (ds : List Definition) (d : Definition) (rest later r : Outcome) → Behind ds rest r → rest ≡ record { code = text_of d ∷ later.code; stop = later.stop } → Behind (ds ++ d ∷ []) later r
+behind_more : (ds : List Definition) (d : Definition) (rest later r : Compilation) → GoesOnBehind ds rest r → rest ≡ record { code = compiled_text d ∷ later.code; stop = later.stop } → GoesOnBehind (ds ++ d ∷ []) later r
 behind_more ds d rest later r h e = record {
-  code = h.code ∙ ap (λ x. map text_of ds ++ x.code) e ∙ sym (append_assoc (map text_of ds) (text_of d ∷ []) later.code) ∙ ap (λ l. l ++ later.code) (sym (map-append text_of ds (d ∷ [])));
+  code = h.code ∙ ap (λ x. map compiled_text ds ++ x.code) e ∙ sym (append_assoc (map compiled_text ds) (compiled_text d ∷ []) later.code) ∙ ap (λ l. l ++ later.code) (sym (map-append compiled_text ds (d ∷ [])));
   stop = h.stop ∙ ap (λ x. x.stop) e;
 }
 
 -- a call of a compiler with this output, which writes what the text begins with, and is then at a point
-module _ (first : Start) (a b : Point) (lender lender' : List ℕ) (out : Outgoing) (begun : Bool) (before : List Definition)
-    (old_since : Since (compiler_of first a.tokens a.names out lender begun false) before) (opens : Opens (compiler_of first a.tokens a.names out lender begun false) a.out) where
+module _ (first : CompilerStart) (a b : Point) (lender lender' : List ℕ) (out : Outgoing) (begun : Bool) (before : List Definition)
+    (old_since : HasWrittenSince (compiler_of first a.tokens a.names out lender begun false) before) (opens : OpeningWritten (compiler_of first a.tokens a.names out lender begun false) a.out) where
   abbrev old : Compiler
   old = compiler_of first a.tokens a.names out lender begun false
 
-  s : Since (compiler_at first a lender true false) before
+  s : HasWrittenSince (compiler_at first a lender true false) before
   s = record {
     taken = old_since.taken;
     took = old_since.took;
@@ -134,10 +134,10 @@ module _ (first : Start) (a b : Point) (lender lender' : List ℕ) (out : Outgoi
   }
 
   -- the outcome from this point on
-  from_here : (ys more : List ℕ) → Took a.tokens.source.end ys b.tokens.source.end → CanFollow b.tokens.source.end more → (r : Outcome) → Goes [] (tokens_from first.edition 1 ((s.taken ++ ys) ++ more)) r
-      → (rest : Outcome) × Goes a.names (tokens_of a.tokens (ys ++ more)) rest × Behind before rest r
+  from_here : (ys more : List ℕ) → Took a.tokens.source.end ys b.tokens.source.end → CanFollow b.tokens.source.end more → (r : Compilation) → CompilesTo [] (tokens_from first.edition 1 ((s.taken ++ ys) ++ more)) r
+      → (rest : Compilation) × CompilesTo a.names (tokens_of a.tokens (ys ++ more)) rest × GoesOnBehind before rest r
   from_here ys more took f r g =
-      s.comes (ys ++ more) (follow took more f) r (subst (λ bs. Goes [] (tokens_from first.edition 1 bs) r) (append_assoc s.taken ys more) g)
+      s.comes (ys ++ more) (follow took more f) r (subst (λ bs. CompilesTo [] (tokens_from first.edition 1 bs) r) (append_assoc s.taken ys more) g)
 
   module _ (w : Writing a b) where
     ends_now : (p : Placed) → EndsWith p.token w.looked.bytes ⊎ ((w.looked.bytes ≡ []) × (last_ahead a.tokens.ahead ≡ Some p)) → EndsWith p.token (s.passed ++ w.looked.bytes)
@@ -157,21 +157,21 @@ module _ (first : Start) (a b : Point) (lender lender' : List ℕ) (out : Outgoi
               ∙ ap (λ l. spell_all before ++ l) (tree_spelled u v w.tree t (w.read more f)) ∙ sym (spell_all-append before w.tree);
         }
 
-    comes_now : (more : List ℕ) → CanFollow b.tokens.source.end more → (r : Outcome) → Goes [] (tokens_from first.edition 1 ((s.taken ++ w.taken) ++ more)) r
-        → (rest : Outcome) × Goes b.names (tokens_of b.tokens more) rest × Behind (before ++ w.tree ∷ []) rest r
+    comes_now : (more : List ℕ) → CanFollow b.tokens.source.end more → (r : Compilation) → CompilesTo [] (tokens_from first.edition 1 ((s.taken ++ w.taken) ++ more)) r
+        → (rest : Compilation) × CompilesTo b.names (tokens_of b.tokens more) rest × GoesOnBehind (before ++ w.tree ∷ []) rest r
     comes_now more f r g =
         let q = from_here w.taken more w.reads.took f r g in
         let some = goes_some b.names (tokens_of b.tokens more) (tokens_of-ended b.tokens more) in
         (some.outcome, some.goes, behind_more before w.tree q.0 some.outcome r q.2 (goes_once q.1 (w.comes more f some.outcome some.goes)))
 
-    since_now : Since (compiler_at first b lender' true false) (before ++ w.tree ∷ [])
+    since_now : HasWrittenSince (compiler_at first b lender' true false) (before ++ w.tree ∷ [])
     since_now = record {
       taken = s.taken ++ w.taken;
       took = Took-append s.took w.reads.took;
       failures = w.failures ∙ s.failures;
       unbegun = λ e. cc;
       written = subst (λ t. Writes first.out t b.out)
-          (append_assoc (opening first.edition) (joined (map text_of before)) (text_of w.tree) ∙ ap (λ l. opening first.edition ++ l) (sym (texts-append before w.tree)))
+          (append_assoc (opening first.edition) (joined (map compiled_text before)) (compiled_text w.tree) ∙ ap (λ l. opening first.edition ++ l) (sym (texts-append before w.tree)))
           (Writes-append s.written w.written);
       names = subst (AreNames b.names) (sym (map-append name_of before (w.tree ∷ []))) (are_names_behind _ _ _ w.names (are_names_push a.names (map name_of before) (name_of w.tree) s.names));
       formed = AllFormed-append before w.tree s.formed (definition_read (tokens_of a.tokens (w.taken ++ [])) (tokens_of b.tokens []) w.tree (w.read [] (λ over. refl))).1;
@@ -188,28 +188,28 @@ module _ (first : Start) (a b : Point) (lender lender' : List ℕ) (out : Outgoi
     pub wrote_more : Wrote old (compiler_at first b lender' true false)
     wrote_more = record { before = before; definition = w.tree; since = old_since; now = since_now; held = w.single; falls = w.falls }
 
-    pub is_open_more : IsReady b.tokens → IsOpen (compiler_at first b lender' true false)
+    pub is_open_more : IsReady b.tokens → MoreCanBeWritten (compiler_at first b lender' true false)
     is_open_more ready = record { before = before ++ w.tree ∷ []; since = since_now; ready = ready }
 
   abbrev closed : Compiler
   closed = compiler_at first b lender' true true
 
-  stopped : (stop : Option Diagnostic) → Stopping a stop b → Stopped old stop closed
+  stopped : (stop : Option Diagnostic) → Stopping a stop b → StoppedBehind old stop closed
   stopped stop h = record {
     before = before;
     since = old_since;
     taken = s.taken ++ h.taken;
     took = Took-append s.took h.reads.took;
     failures = h.failures ∙ s.failures;
-    written = subst (λ t. Writes first.out t b.out) (append_assoc (opening first.edition) (joined (map text_of before)) (ending stop)) (Writes-append s.written h.written);
+    written = subst (λ t. Writes first.out t b.out) (append_assoc (opening first.edition) (joined (map compiled_text before)) (ending stop)) (Writes-append s.written h.written);
     comes = λ more f r g.
         let q = from_here h.taken more h.reads.took f r g in
         let e = goes_once q.1 (h.comes more f) in
-        (q.2.code ∙ ap (λ x. map text_of before ++ x.code) e ∙ append-nil (map text_of before), q.2.stop ∙ ap (λ x. x.stop) e);
+        (q.2.code ∙ ap (λ x. map compiled_text before ++ x.code) e ∙ append-nil (map compiled_text before), q.2.stop ∙ ap (λ x. x.stop) e);
     closed = refl;
   }
 
-  broke : (P : Outcome → Type 0) → Breaking a P b → Broke old P closed
+  broke : (P : Compilation → Type 0) → Breaking a P b → BrokeOff old P closed
   broke P h = record {
     before = before;
     since = old_since;
@@ -219,8 +219,8 @@ module _ (first : Start) (a b : Point) (lender lender' : List ℕ) (out : Outgoi
     closed = refl;
   }
 
-  same_out : b.out ≡ a.out → Opens old b.out
-  same_out e = subst (Opens old) (sym e) opens
+  same_out : b.out ≡ a.out → OpeningWritten old b.out
+  same_out e = subst (OpeningWritten old) (sym e) opens
 
   read_failed : ReadFails a b → compilers.ReadFailed old closed
   read_failed h = (broke _ h.0, grew_since _ _ _ s.failures h.1, same_out h.2)
@@ -228,10 +228,10 @@ module _ (first : Start) (a b : Point) (lender lender' : List ℕ) (out : Outgoi
   out_refused : (e : EndFault) → OutRefuses a e b → compilers.OutRefused old e closed
   out_refused e h = (a.out, opens, broke _ h.0, h.1 ∙ s.failures)
 
-  names_refused : NamesRefuse a b → compilers.NamesRefused old closed
+  names_refused : NamesRefuse a b → compilers.GrowthRefused old closed
   names_refused h = (broke _ h.0, h.1 ∙ s.failures, same_out h.2)
 
-  pub stops : (answer : Step) → Gives a (Err answer) b → StepGives old answer closed
+  pub stops : (answer : Step) → PointGives a (Err answer) b → CompilerGives old answer closed
   stops step.Written h = absurd h
   stops step.Finished h = stopped None h
   stops (step.Fault fault) h = stopped (Some fault) h
@@ -242,8 +242,8 @@ module _ (first : Start) (a b : Point) (lender lender' : List ℕ) (out : Outgoi
   stops step.Closed h = absurd h
 
 -- where the text doesn't begin
-module _ (first : Start) (a b : Point) (lender lender' : List ℕ) (begun : Bool) (before : List Definition)
-    (s : Since (compiler_at first a lender begun false) before) where
+module _ (first : CompilerStart) (a b : Point) (lender lender' : List ℕ) (begun : Bool) (before : List Definition)
+    (s : HasWrittenSince (compiler_at first a lender begun false) before) where
   abbrev unwritten : Compiler
   unwritten = compiler_at first a lender begun false
 
@@ -252,33 +252,33 @@ module _ (first : Start) (a b : Point) (lender lender' : List ℕ) (begun : Bool
   begin_refused fault some w same = record { before = before; since = s; some = some; refused = w; unread = same; closed = refl }
 
   begin_stops : (fault : EndFault) → compilers.BeginRefused unwritten fault (compiler_at first b lender' true true)
-      → StepGives unwritten (step_of fault) (compiler_at first b lender' true true)
+      → CompilerGives unwritten (refused_step fault) (compiler_at first b lender' true true)
   begin_stops end_fault.Device h = inr (inr h)
   begin_stops end_fault.Memory h = inr (inr h)
 
 -- where the call found the compiler open
-module _ (first : Start) (a b : Point) (lender lender' : List ℕ) (begun closed : Bool) (open_now : closed ≡ false)
-    (o : IsOpen (compiler_at first a lender begun closed)) where
+module _ (first : CompilerStart) (a b : Point) (lender lender' : List ℕ) (begun closed : Bool) (open_now : closed ≡ false)
+    (o : MoreCanBeWritten (compiler_at first a lender begun closed)) where
   abbrev start : List ℕ
   start = compilers.unopened (compiler_at first a lender begun closed)
 
-  abbrev opened_now : IsOpen (compiler_at first a lender begun false)
-  opened_now = subst (λ x. IsOpen (compiler_at first a lender begun x)) open_now o
+  abbrev opened_now : MoreCanBeWritten (compiler_at first a lender begun false)
+  opened_now = subst (λ x. MoreCanBeWritten (compiler_at first a lender begun x)) open_now o
 
-  abbrev opens : {r : Result (Unit {0}) Step} (h : GivesBehind start a r b) → Opens (compiler_at first a lender begun false) h.out
+  abbrev opens : {r : Result (Unit {0}) Step} (h : OpensAndGives start a r b) → OpeningWritten (compiler_at first a lender begun false) h.out
   opens h = record { written = h.written; nothing = h.nothing }
 
-  abbrev behind : {r : Result (Unit {0}) Step} → GivesBehind start a r b → Point
+  abbrev behind : {r : Result (Unit {0}) Step} → OpensAndGives start a r b → Point
   behind h = point a.tokens a.names h.out
 
-  abbrev gone_on : (u : Unit {0}) → GivesNext start a (Ok u) b → GivesBehind start a (Ok u) b
+  abbrev gone_on : (u : Unit {0}) → GivesNext start a (Ok u) b → OpensAndGives start a (Ok u) b
   gone_on u (inl h) = let bad = h.answered in cc
   gone_on u (inr h) = h
 
-  pub goes_on_open : (u : Unit {0}) → GivesNext start a (Ok u) b → IsReady b.tokens → IsOpen (compiler_at first b lender' true closed)
+  pub goes_on_open : (u : Unit {0}) → GivesNext start a (Ok u) b → IsReady b.tokens → MoreCanBeWritten (compiler_at first b lender' true closed)
   goes_on_open u g ready =
       let h = gone_on u g in
-      subst (λ x. IsOpen (compiler_at first b lender' true x)) (sym open_now)
+      subst (λ x. MoreCanBeWritten (compiler_at first b lender' true x)) (sym open_now)
       (is_open_more first (behind h) b lender lender' a.out begun opened_now.before opened_now.since (opens h) h.gives ready)
 
   wrote_open : (u : Unit {0}) → GivesNext start a (Ok u) b → Wrote (compiler_at first a lender begun false) (compiler_at first b lender' true false)
@@ -290,15 +290,15 @@ module _ (first : Start) (a b : Point) (lender lender' : List ℕ) (begun closed
       subst (λ x. Wrote x (compiler_at first b lender' true closed)) e
       (subst (λ x. Wrote (compiler_at first a lender begun x) (compiler_at first b lender' true x)) (sym open_now) (wrote_open u g))
 
-  stopped_open : (answer : Step) → GivesNext start a (Err answer) b → StepGives (compiler_at first a lender begun false) answer (compiler_at first b lender' true true)
+  stopped_open : (answer : Step) → GivesNext start a (Err answer) b → CompilerGives (compiler_at first a lender begun false) answer (compiler_at first b lender' true true)
   stopped_open answer (inl h) =
-      let same : answer ≡ step_of h.fault = let e = h.answered in cc in
-      subst (λ x. StepGives (compiler_at first a lender begun false) x (compiler_at first b lender' true true)) (sym same)
+      let same : answer ≡ refused_step h.fault = let e = h.answered in cc in
+      subst (λ x. CompilerGives (compiler_at first a lender begun false) x (compiler_at first b lender' true true)) (sym same)
       (begin_stops first a b lender lender' begun opened_now.before opened_now.since h.fault (begin_refused first a b lender lender' begun opened_now.before opened_now.since h.fault h.some h.refused h.unread))
   stopped_open answer (inr h) = stops first (behind h) b lender lender' a.out begun opened_now.before opened_now.since (opens h) answer h.gives
 
   pub stopped_now : (old : Compiler) → compiler_at first a lender begun closed ≡ old → (answer : Step) → GivesNext start a (Err answer) b
-      → StepGives old answer (compiler_at first b lender' true true)
+      → CompilerGives old answer (compiler_at first b lender' true true)
   stopped_now old e answer g =
-      subst (λ x. StepGives x answer (compiler_at first b lender' true true)) e
-      (subst (λ x. StepGives (compiler_at first a lender begun x) answer (compiler_at first b lender' true true)) (sym open_now) (stopped_open answer g))
+      subst (λ x. CompilerGives x answer (compiler_at first b lender' true true)) e
+      (subst (λ x. CompilerGives (compiler_at first a lender begun x) answer (compiler_at first b lender' true true)) (sym open_now) (stopped_open answer g))

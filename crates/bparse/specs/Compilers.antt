@@ -1,5 +1,6 @@
 -- What a call of the compiler does, counted from when the compiler was made.
-use Rattle.std.specs.Prelude.{◌≡◌, ◌≢◌, ℕ, ◌≤◌, ◌<◌, Bool, true, false, List, [], ◌∷◌, ◌++◌, length, map, Option, Some, None, ◌⊎◌, if◌then◌else◌}
+use Rattle.std.specs.Prelude.{◌≡◌, ◌≢◌, ℕ, ◌≤◌, ◌<◌, Bool, true, false, List, [], ◌∷◌, ◌++◌, length, map, Option, Some}
+use Rattle.std.specs.Prelude.{None, ◌⊎◌, if◌then◌else◌}
 use Rattle.btree.specs.Compiled.{AreNames}
 use Rattle.bexpr.specs.Tokens.{Tokens, all_tokens, tokens_of, EndsWith, IsReady, IsSingle, last_ahead, work}
 use Rattle.bparse.specs.Steps.{name_of, next_text, to_begin}
@@ -13,22 +14,22 @@ use Rattle.blang.specs.Text.{joined, opening}
 use Rattle.blang.specs.Cut.{tokens_from}
 use Rattle.blang.specs.declared.token.Diagnostic.{Diagnostic}
 use Rattle.blang.specs.declared.token.Placed.{Placed}
-use Rattle.blang.specs.Compiles.{Defined, Outcome, Goes, ending, text_of, HasCode, Whatever}
+use Rattle.blang.specs.Compiles.{Defined, Compilation, CompilesTo, ending, compiled_text, HasCode, Whatever}
 use Rattle.blang.specs.Trees.{Definition, kept, spell_all}
 use Rattle.blang.specs.WellFormed.{AllFormed}
 
 -- the edition of a compiler, what its input and its output end told when it was made, and which they are
-pub record Start : Type 0 where
+pub record CompilerStart : Type 0 where
   pub edition : Edition
   pub source : Incoming
   pub lender : List ℕ
   pub out : Outgoing
   pub out_lender : List ℕ
 
--- how a compiler began, the tokens to come, the names defined so far, the output now, whether what its text begins with is
--- written, and whether it has stopped
+-- how a compiler began, the tokens to come, the names defined so far, the output now, whether what its text begins with
+-- is written, and whether it has stopped
 pub record Compiler : Type 0 where
-  pub first : Start
+  pub first : CompilerStart
   pub tokens : Tokens
   pub names : Defined
   pub out : Outgoing
@@ -36,7 +37,7 @@ pub record Compiler : Type 0 where
   pub is_begun : Bool
   pub is_closed : Bool
 
-abbrev pub compiler_of : Start → Tokens → Defined → Outgoing → List ℕ → Bool → Bool → Compiler
+abbrev pub compiler_of : CompilerStart → Tokens → Defined → Outgoing → List ℕ → Bool → Bool → Compiler
 compiler_of start tokens names out out_lender is_begun is_closed = record {
   first = start;
   tokens = tokens;
@@ -47,24 +48,24 @@ compiler_of start tokens names out out_lender is_begun is_closed = record {
   is_closed = is_closed;
 }
 
-abbrev pub start_of : Edition → Incoming → List ℕ → Outgoing → List ℕ → Start
-start_of edition source lender out out_lender =
+abbrev pub compiler_start : Edition → Incoming → List ℕ → Outgoing → List ℕ → CompilerStart
+compiler_start edition source lender out out_lender =
     record { edition = edition; source = source; lender = lender; out = out; out_lender = out_lender }
 
 -- a compiler that has read and written nothing
-abbrev pub new : Start → Compiler
+abbrev pub new : CompilerStart → Compiler
 new start =
     compiler_of start (all_tokens start.edition start.source start.lender) [] start.out start.out_lender false false
 
 -- what the text begins with, where it is written, and where it is still to be written
-abbrev pub opened : Compiler → List ℕ
-opened c = if c.is_begun then opening c.first.edition else []
+abbrev pub opening_written : Compiler → List ℕ
+opening_written c = if c.is_begun then opening c.first.edition else []
 
 abbrev pub unopened : Compiler → List ℕ
 unopened c = to_begin c.is_begun c.first.edition
 
 -- What the text begins with was written, if that was still to be done.
-pub record Opens (c : Compiler) (out : Outgoing) : Type 0 where
+pub record OpeningWritten (c : Compiler) (out : Outgoing) : Type 0 where
   pub written : Writes c.out (unopened c) out
   pub nothing : unopened c ≡ [] → out ≡ c.out
 
@@ -75,27 +76,27 @@ pub record Spelled (ds : List Definition) (tokens others : List Placed) : Type 0
   pub spelled : map kept passed ≡ spell_all ds
 
 -- An outcome begins with the texts of these definitions, and goes on so.
-pub record Behind (ds : List Definition) (rest outcome : Outcome) : Type 0 where
-  pub code : outcome.code ≡ map text_of ds ++ rest.code
+pub record GoesOnBehind (ds : List Definition) (rest outcome : Compilation) : Type 0 where
+  pub code : outcome.code ≡ map compiled_text ds ++ rest.code
   pub stop : outcome.stop ≡ rest.stop
 
--- Since a compiler was made, it has written what its text begins with and the texts of these definitions, and nothing else;
--- before its first call nothing, and nothing was taken. The definitions are the first ones of the source, none has a fault,
--- and the tokens to come are those directly behind them. Of the bytes taken, all but two at most were passed, and these end
--- with the last token that is held.
-pub record Since (c : Compiler) (ds : List Definition) : Type 0 where
+-- Since a compiler was made, it has written what its text begins with and the texts of these definitions, and nothing
+-- else; before its first call nothing, and nothing was taken. The definitions are the first ones of the source, none
+-- has a fault, and the tokens to come are those directly behind them. Of the bytes taken, all but two at most were
+-- passed, and these end with the last token that is held.
+pub record HasWrittenSince (c : Compiler) (ds : List Definition) : Type 0 where
   pub taken : List ℕ
   pub took : Took c.first.source taken c.tokens.source.end
   pub failures : c.tokens.source.end.failures ≡ c.first.source.failures
   pub unbegun : c.is_begun ≡ false → (ds ≡ []) × (c.tokens.source.end ≡ c.first.source)
-  pub written : Writes c.first.out (opened c ++ joined (map text_of ds)) c.out
+  pub written : Writes c.first.out (opening_written c ++ joined (map compiled_text ds)) c.out
   pub names : AreNames c.names (map name_of ds)
   pub formed : AllFormed ds
   pub spelled : (more : List ℕ) → CanFollow c.tokens.source.end more
       → Spelled ds (tokens_from c.first.edition 1 (taken ++ more)) (tokens_of c.tokens more)
-  pub comes : (more : List ℕ) → CanFollow c.tokens.source.end more → (r : Outcome)
-      → Goes [] (tokens_from c.first.edition 1 (taken ++ more)) r
-      → (rest : Outcome) × Goes c.names (tokens_of c.tokens more) rest × Behind ds rest r
+  pub comes : (more : List ℕ) → CanFollow c.tokens.source.end more → (r : Compilation)
+      → CompilesTo [] (tokens_from c.first.edition 1 (taken ++ more)) r
+      → (rest : Compilation) × CompilesTo c.names (tokens_of c.tokens more) rest × GoesOnBehind ds rest r
   pub passed : List ℕ
   pub split : taken ≡ passed ++ c.tokens.source.ahead
   pub near : length c.tokens.source.ahead ≤ 2
@@ -103,49 +104,53 @@ pub record Since (c : Compiler) (ds : List Definition) : Type 0 where
   pub is_open : c.is_closed ≡ false
 
 -- more definitions can come
-pub record IsOpen (c : Compiler) : Type 0 where
+pub record MoreCanBeWritten (c : Compiler) : Type 0 where
   pub before : List Definition
-  pub since : Since c before
+  pub since : HasWrittenSince c before
   pub ready : IsReady c.tokens
 
 -- A definition more was written, and one token is held, the one behind it.
 pub record Wrote (old new : Compiler) : Type 0 where
   pub before : List Definition
   pub definition : Definition
-  pub since : Since old before
-  pub now : Since new (before ++ definition ∷ [])
+  pub since : HasWrittenSince old before
+  pub now : HasWrittenSince new (before ++ definition ∷ [])
   pub held : IsSingle new.tokens
   pub falls : work new.tokens < work old.tokens
 
 -- The source comes to the definitions written before and then stops so. Its last line was written, if it has no fault.
-pub record Stopped (old : Compiler) (stop : Option Diagnostic) (new : Compiler) : Type 0 where
+pub record StoppedBehind (old : Compiler) (stop : Option Diagnostic) (new : Compiler) : Type 0 where
   pub before : List Definition
-  pub since : Since old before
+  pub since : HasWrittenSince old before
   pub taken : List ℕ
   pub took : Took new.first.source taken new.tokens.source.end
   pub failures : new.tokens.source.end.failures ≡ new.first.source.failures
-  pub written : Writes new.first.out (opening new.first.edition ++ (joined (map text_of before) ++ ending stop)) new.out
-  pub comes : Whatever new.first.edition taken new.tokens.source.end (λ r. (r.code ≡ map text_of before) × (r.stop ≡ stop))
+  pub written : Writes new.first.out (opening new.first.edition ++ (joined (map compiled_text before) ++ ending stop))
+      new.out
+  pub comes : Whatever new.first.edition taken new.tokens.source.end
+      (λ r. (r.code ≡ map compiled_text before) × (r.stop ≡ stop))
   pub closed : new.is_closed ≡ true
 
 -- A call broke off, and this holds of what comes behind the definitions written before.
-pub record Broke (old : Compiler) (P : Outcome → Type 0) (new : Compiler) : Type 0 where
+pub record BrokeOff (old : Compiler) (P : Compilation → Type 0) (new : Compiler) : Type 0 where
   pub before : List Definition
-  pub since : Since old before
+  pub since : HasWrittenSince old before
   pub taken : List ℕ
   pub took : Took new.first.source taken new.tokens.source.end
-  pub comes : Whatever new.first.edition taken new.tokens.source.end (λ r. (rest : Outcome) × Behind before rest r × P rest)
+  pub comes : Whatever new.first.edition taken new.tokens.source.end
+      (λ r. (rest : Compilation) × GoesOnBehind before rest r × P rest)
   pub closed : new.is_closed ≡ true
 
 -- a read failed, and no definition was written
 abbrev pub ReadFailed : Compiler → Compiler → Type 0
 ReadFailed old new =
-    Broke old (λ rest. Unit {0}) new × Grew new.first.source.failures new.tokens.source.end.failures × Opens old new.out
+    BrokeOff old (λ rest. Unit {0}) new × Grew new.first.source.failures new.tokens.source.end.failures
+    × OpeningWritten old new.out
 
 -- the output refused what the text begins with, before anything was read
 pub record BeginRefused (old : Compiler) (fault : EndFault) (new : Compiler) : Type 0 where
   pub before : List Definition
-  pub since : Since old before
+  pub since : HasWrittenSince old before
   pub some : unopened old ≢ []
   pub refused : Refuses old.out (unopened old) fault new.out
   pub unread : new.tokens ≡ old.tokens
@@ -154,27 +159,29 @@ pub record BeginRefused (old : Compiler) (fault : EndFault) (new : Compiler) : T
 -- the output refused what is written next, of which a beginning was written
 abbrev pub OutRefused : Compiler → EndFault → Compiler → Type 0
 OutRefused old fault new =
-    (out : Outgoing) × Opens old out
-    × Broke old (λ rest. HasCode rest × Refuses out (next_text rest.code rest.stop) fault new.out) new
+    (out : Outgoing) × OpeningWritten old out
+    × BrokeOff old (λ rest. HasCode rest × Refuses out (next_text rest.code rest.stop) fault new.out) new
     × (new.tokens.source.end.failures ≡ new.first.source.failures)
 
 -- the list of names was refused its growth, before anything was written of the definition that comes
-abbrev pub NamesRefused : Compiler → Compiler → Type 0
-NamesRefused old new =
-    Broke old (λ rest. rest.code ≡ [] → ⊥) new × (new.tokens.source.end.failures ≡ new.first.source.failures)
-    × Opens old new.out
+abbrev pub GrowthRefused : Compiler → Compiler → Type 0
+GrowthRefused old new =
+    BrokeOff old (λ rest. rest.code ≡ [] → ⊥) new × (new.tokens.source.end.failures ≡ new.first.source.failures)
+    × OpeningWritten old new.out
 
 -- what a call does
-abbrev pub StepGives : Compiler → Step → Compiler → Type 0
-StepGives old step.Written new = Wrote old new
-StepGives old step.Finished new = Stopped old None new
-StepGives old (step.Fault fault) new = Stopped old (Some fault) new
-StepGives old step.Device new = ReadFailed old new ⊎ OutRefused old end_fault.Device new ⊎ BeginRefused old end_fault.Device new
-StepGives old step.Memory new = NamesRefused old new ⊎ OutRefused old end_fault.Memory new ⊎ BeginRefused old end_fault.Memory new
-StepGives old step.Closed new = (old.is_closed ≡ true) × (new ≡ old)
+abbrev pub CompilerGives : Compiler → Step → Compiler → Type 0
+CompilerGives old step.Written new = Wrote old new
+CompilerGives old step.Finished new = StoppedBehind old None new
+CompilerGives old (step.Fault fault) new = StoppedBehind old (Some fault) new
+CompilerGives old step.Device new =
+    ReadFailed old new ⊎ OutRefused old end_fault.Device new ⊎ BeginRefused old end_fault.Device new
+CompilerGives old step.Memory new =
+    GrowthRefused old new ⊎ OutRefused old end_fault.Memory new ⊎ BeginRefused old end_fault.Memory new
+CompilerGives old step.Closed new = (old.is_closed ≡ true) × (new ≡ old)
 
 -- the compiler is over the same ends
-pub record Keeps (old new : Compiler) : Type 0 where
+pub record SameCompiler (old new : Compiler) : Type 0 where
   pub first : new.first ≡ old.first
   pub lender : new.tokens.source.lender ≡ old.tokens.source.lender
   pub out_lender : new.out_lender ≡ old.out_lender

@@ -1,6 +1,6 @@
 -- What the compiler does with a whole source.
 use Rattle.std.specs.Prelude.{◌≡◌, ◌≢◌, false}
-use Rattle.bparse.specs.Compilers.{Compiler, Keeps, StepGives}
+use Rattle.bparse.specs.Compilers.{Compiler, SameCompiler, CompilerGives}
 use Rattle.bparse.specs.declared.step.Step.{Step}
 use Rattle.bparse.specs.declared.step.Step.TheVariants as step
 use Rattle.bword.specs.declared.edition.Edition.{Edition}
@@ -9,14 +9,15 @@ use Rattle.bword.specs.ByteEnds.{Incoming, Outgoing}
 -- The last of several calls answered this, and those before it that a definition was written.
 pub record LastGives (first : Compiler) (answer : Step) (new : Compiler) : Type 0 where
   pub old : Compiler
-  pub keeps_old : Keeps first old
+  pub keeps_old : SameCompiler first old
   pub is_open : old.is_closed ≡ false
   pub not_written : answer ≢ step.Written
-  pub gives : StepGives old answer new
-  pub keeps : Keeps old new
+  pub gives : CompilerGives old answer new
+  pub keeps : SameCompiler old new
 
 -- What compiling all of the source in an edition answers, between these ends.
-pub record CodeGives (edition : Edition) (i : Incoming) (o : Outgoing) (answer : Step) (j : Incoming) (p : Outgoing) : Type 0 where
+pub record CodeGives (edition : Edition) (i : Incoming) (o : Outgoing) (answer : Step) (j : Incoming)
+    (p : Outgoing) : Type 0 where
   pub first : Compiler
   pub last : Compiler
   pub gives : LastGives first answer last

@@ -1,9 +1,10 @@
 -- What reading and writing one definition does.
-use Rattle.std.specs.Prelude.{◌≡◌, ◌≢◌, ℕ, ◌<◌, Bool, false, true, List, [], ◌∷◌, ◌++◌, Option, Some, None, Result, Ok, Err, ◌⊎◌}
+use Rattle.std.specs.Prelude.{◌≡◌, ◌≢◌, ℕ, ◌<◌, Bool, false, true, List, [], ◌∷◌, ◌++◌, Option, Some, None, Result, Ok}
+use Rattle.std.specs.Prelude.{Err, ◌⊎◌}
 use Rattle.btree.specs.Compiled.{AreNames}
 use Rattle.btree.specs.DefinitionReader.{definition}
 use Rattle.btree.specs.Reading.{Got}
-use Rattle.bexpr.specs.Tokens.{Tokens, tokens_of, IsSingle, Reads, LooksAt, work}
+use Rattle.bexpr.specs.Tokens.{Tokens, tokens_of, IsSingle, TakesAhead, LooksAt, work}
 use Rattle.bparse.specs.declared.step.Step.{Step}
 use Rattle.bparse.specs.declared.step.Step.TheVariants as step
 use Rattle.bword.specs.declared.edition.Edition.{Edition}
@@ -13,9 +14,9 @@ use Rattle.bword.specs.declared.ends.EndFault.TheVariants as end_fault
 use Rattle.blang.specs.Text.{opening}
 use Rattle.blang.specs.declared.token.Diagnostic.{Diagnostic}
 use Rattle.blang.specs.declared.token.Token.{Token}
-use Rattle.blang.specs.Compiles.{Defined, Outcome, Goes, ending, text_of, HasCode}
+use Rattle.blang.specs.Compiles.{Defined, Compilation, CompilesTo, ending, compiled_text, HasCode}
 use Rattle.blang.specs.Trees.{Definition}
-use Rattle.blang.specs.Scan.{word_of}
+use Rattle.blang.specs.Scan.{identifier_of}
 use Rattle.blang.specs.declared.token.Token.TheVariants as token
 
 -- the tokens to come, the names defined so far and the output
@@ -28,16 +29,16 @@ abbrev pub point : Tokens → Defined → Outgoing → Point
 point tokens names out = record { tokens = tokens; names = names; out = out }
 
 abbrev pub name_of : Definition → List ℕ
-name_of d = (word_of d).text
+name_of d = (identifier_of d).text
 
 -- what comes of the source from a point on, where these bytes were taken and more follow
-abbrev pub Comes : Point → List ℕ → List ℕ → Outcome → Type 0
-Comes p taken more outcome = Goes p.names (tokens_of p.tokens (taken ++ more)) outcome
+abbrev pub SourceComesTo : Point → List ℕ → List ℕ → Compilation → Type 0
+SourceComesTo p taken more outcome = CompilesTo p.names (tokens_of p.tokens (taken ++ more)) outcome
 
 -- each outcome of what comes, where these bytes were taken
-abbrev pub EachComing : Point → List ℕ → Point → (Outcome → Type 0) → Type 0
+abbrev pub EachComing : Point → List ℕ → Point → (Compilation → Type 0) → Type 0
 EachComing old taken new P =
-    (more : List ℕ) → CanFollow new.tokens.source.end more → (r : Outcome) → Comes old taken more r → P r
+    (more : List ℕ) → CanFollow new.tokens.source.end more → (r : Compilation) → SourceComesTo old taken more r → P r
 
 -- what is written next
 abbrev pub next_text : List (List ℕ) → Option Diagnostic → List ℕ
@@ -47,37 +48,40 @@ next_text (text ∷ texts) stop = text
 -- A definition was read, which these tokens spell, and written.
 pub record Writing (old new : Point) : Type 0 where
   pub taken : List ℕ
-  pub reads : Reads old.tokens.source taken new.tokens.source
+  pub reads : TakesAhead old.tokens.source taken new.tokens.source
   pub looked : LooksAt old.tokens taken new.tokens
   pub failures : new.tokens.source.end.failures ≡ old.tokens.source.end.failures
   pub tree : Definition
   pub read : (more : List ℕ) → CanFollow new.tokens.source.end more
       → definition (tokens_of old.tokens (taken ++ more)) ≡ Got tree (tokens_of new.tokens more)
   pub names : AreNames new.names (old.names ++ name_of tree ∷ [])
-  pub written : Writes old.out (text_of tree) new.out
+  pub written : Writes old.out (compiled_text tree) new.out
   pub single : IsSingle new.tokens
   pub falls : work new.tokens < work old.tokens
-  pub comes : (more : List ℕ) → CanFollow new.tokens.source.end more → (r : Outcome)
-      → Goes new.names (tokens_of new.tokens more) r → Comes old taken more (record { code = text_of tree ∷ r.code; stop = r.stop })
+  pub comes : (more : List ℕ) → CanFollow new.tokens.source.end more → (r : Compilation)
+      → CompilesTo new.names (tokens_of new.tokens more) r
+      → SourceComesTo old taken more (record { code = compiled_text tree ∷ r.code; stop = r.stop })
 
 -- Nothing more comes, and the text's last line was written, or nothing where there is a fault.
 pub record Stopping (old : Point) (stop : Option Diagnostic) (new : Point) : Type 0 where
   pub taken : List ℕ
-  pub reads : Reads old.tokens.source taken new.tokens.source
+  pub reads : TakesAhead old.tokens.source taken new.tokens.source
   pub failures : new.tokens.source.end.failures ≡ old.tokens.source.end.failures
   pub written : Writes old.out (ending stop) new.out
-  pub comes : (more : List ℕ) → CanFollow new.tokens.source.end more → Comes old taken more (record { code = []; stop = stop })
+  pub comes : (more : List ℕ) → CanFollow new.tokens.source.end more
+      → SourceComesTo old taken more (record { code = []; stop = stop })
 
 -- A call broke off, and this holds of what comes.
-pub record Breaking (old : Point) (P : Outcome → Type 0) (new : Point) : Type 0 where
+pub record Breaking (old : Point) (P : Compilation → Type 0) (new : Point) : Type 0 where
   pub taken : List ℕ
-  pub reads : Reads old.tokens.source taken new.tokens.source
+  pub reads : TakesAhead old.tokens.source taken new.tokens.source
   pub each : EachComing old taken new P
 
 -- a read failed, and nothing was written
 abbrev pub ReadFails : Point → Point → Type 0
 ReadFails old new =
-    Breaking old (λ r. Unit {0}) new × Grew old.tokens.source.end.failures new.tokens.source.end.failures × (new.out ≡ old.out)
+    Breaking old (λ r. Unit {0}) new × Grew old.tokens.source.end.failures new.tokens.source.end.failures
+    × (new.out ≡ old.out)
 
 -- the output refused what is written next
 abbrev pub OutRefuses : Point → EndFault → Point → Type 0
@@ -88,21 +92,22 @@ OutRefuses old fault new =
 -- the list of names was refused memory before a definition was written
 abbrev pub NamesRefuse : Point → Point → Type 0
 NamesRefuse old new =
-    Breaking old (λ r. r.code ≡ [] → ⊥) new × (new.tokens.source.end.failures ≡ old.tokens.source.end.failures) × (new.out ≡ old.out)
+    Breaking old (λ r. r.code ≡ [] → ⊥) new × (new.tokens.source.end.failures ≡ old.tokens.source.end.failures)
+    × (new.out ≡ old.out)
 
 -- what a call does: it writes a definition, or stops
-abbrev pub Gives : Point → Result (Unit {0}) Step → Point → Type 0
-Gives old (Ok u) new = Writing old new
-Gives old (Err step.Written) new = ⊥
-Gives old (Err step.Finished) new = Stopping old None new
-Gives old (Err (step.Fault fault)) new = Stopping old (Some fault) new
-Gives old (Err step.Device) new = ReadFails old new ⊎ OutRefuses old end_fault.Device new
-Gives old (Err step.Memory) new = OutRefuses old end_fault.Memory new ⊎ NamesRefuse old new
-Gives old (Err step.Closed) new = ⊥
+abbrev pub PointGives : Point → Result (Unit {0}) Step → Point → Type 0
+PointGives old (Ok u) new = Writing old new
+PointGives old (Err step.Written) new = ⊥
+PointGives old (Err step.Finished) new = Stopping old None new
+PointGives old (Err (step.Fault fault)) new = Stopping old (Some fault) new
+PointGives old (Err step.Device) new = ReadFails old new ⊎ OutRefuses old end_fault.Device new
+PointGives old (Err step.Memory) new = OutRefuses old end_fault.Memory new ⊎ NamesRefuse old new
+PointGives old (Err step.Closed) new = ⊥
 
-abbrev pub step_of : EndFault → Step
-step_of end_fault.Device = step.Device
-step_of end_fault.Memory = step.Memory
+abbrev pub refused_step : EndFault → Step
+refused_step end_fault.Device = step.Device
+refused_step end_fault.Memory = step.Memory
 
 -- what a text of the edition begins with, where that is still to be written
 abbrev pub to_begin : Bool → Edition → List ℕ
@@ -112,21 +117,21 @@ to_begin false edition = opening edition
 -- The output refused so what the text begins with, before anything was read.
 pub record BeginRefuses (start : List ℕ) (old : Point) (r : Result (Unit {0}) Step) (new : Point) : Type 0 where
   pub fault : EndFault
-  pub answered : r ≡ Err (step_of fault)
+  pub answered : r ≡ Err (refused_step fault)
   pub some : start ≢ []
   pub refused : Refuses old.out start fault new.out
   pub unread : new.tokens ≡ old.tokens
 
 -- What the text begins with was written, if that was still to be done, and then the call did this.
-pub record GivesBehind (start : List ℕ) (old : Point) (r : Result (Unit {0}) Step) (new : Point) : Type 0 where
+pub record OpensAndGives (start : List ℕ) (old : Point) (r : Result (Unit {0}) Step) (new : Point) : Type 0 where
   pub out : Outgoing
   pub written : Writes old.out start out
   pub nothing : start ≡ [] → out ≡ old.out
-  pub gives : Gives (point old.tokens old.names out) r new
+  pub gives : PointGives (point old.tokens old.names out) r new
 
 -- what a call does for which this is still to be written first
 abbrev pub GivesNext : List ℕ → Point → Result (Unit {0}) Step → Point → Type 0
-GivesNext start old r new = BeginRefuses start old r new ⊎ GivesBehind start old r new
+GivesNext start old r new = BeginRefuses start old r new ⊎ OpensAndGives start old r new
 
 abbrev pub is_end : Token → Bool
 is_end token.End = true

@@ -5,9 +5,9 @@ ghost use Rattle.bword.specs.declared.edition.Edition.TheVariants as editions;
 ghost use Rattle.btree.specs.Reading.{first};
 ghost use Rattle.bemit.specs.Drafts.{most_instructions, most_values};
 ghost use Rattle.bexpr.specs.Tokens.{IsReady, IsLoaded};
-ghost use Rattle.bparse.specs.Compilers.{Keeps, StepGives, start_of};
+ghost use Rattle.bparse.specs.Compilers.{SameCompiler, CompilerGives, compiler_start};
 ghost use Rattle.bparse.specs.Compilers as compilers;
-ghost use Rattle.bparse.specs.Steps.{point, Gives, GivesNext, is_end, to_begin};
+ghost use Rattle.bparse.specs.Steps.{point, PointGives, GivesNext, is_end, to_begin};
 
 use crate::step::Step;
 use crate::view::view;
@@ -40,17 +40,17 @@ pub struct Compiler<I: ByteIn, O: ByteOut> {
 impl<I: ByteIn, O: ByteOut> Model for Compiler<I, O> {
     ghost use Rattle.std.specs.Prelude.{◌≡◌, false};
     ghost use Rattle.std.specs.Map.{keys_of};
-    ghost use Rattle.bparse.specs.Compilers.{Compiler, IsOpen, compiler_of, start_of};
+    ghost use Rattle.bparse.specs.Compilers.{Compiler, MoreCanBeWritten, compiler_of, compiler_start};
 
     ghost Value = { Compiler };
 
     ghost view = { λ c. compiler_of
-        (start_of c.edition (I.incoming c.first_input.value) (I.lender c.first_input.value)
+        (compiler_start c.edition (I.incoming c.first_input.value) (I.lender c.first_input.value)
         (O.outgoing c.first_out.value) (O.lender c.first_out.value))
         c.parser.tokens (keys_of c.names) (O.outgoing c.out) (O.lender c.out) c.is_begun c.is_closed };
 
-    ghost invariant = { λ c. c.is_closed ≡ false → IsOpen (compiler_of
-        (start_of c.edition (I.incoming c.first_input.value) (I.lender c.first_input.value)
+    ghost invariant = { λ c. c.is_closed ≡ false → MoreCanBeWritten (compiler_of
+        (compiler_start c.edition (I.incoming c.first_input.value) (I.lender c.first_input.value)
         (O.outgoing c.first_out.value) (O.lender c.first_out.value))
         c.parser.tokens (keys_of c.names) (O.outgoing c.out) (O.lender c.out) c.is_begun c.is_closed) };
 }
@@ -58,14 +58,14 @@ impl<I: ByteIn, O: ByteOut> Model for Compiler<I, O> {
 impl<I: ByteIn, O: ByteOut> Compiler<I, O> {
     /// A compiler of the first edition that has read and written nothing.
     pub fn new(alloc: Global, input: I, out: O) -> Self
-        ensures { result ≡ compilers.new (start_of editions.One (I.incoming input) (I.lender input) (O.outgoing out) (O.lender out)) }
+        ensures { result ≡ compilers.new (compiler_start editions.One (I.incoming input) (I.lender input) (O.outgoing out) (O.lender out)) }
     {
         Compiler::with_edition(alloc, input, out, Edition::One)
     }
 
     /// A compiler of this edition that has read and written nothing.
     pub fn with_edition(alloc: Global, input: I, out: O, edition: Edition) -> Self
-        ensures { result ≡ compilers.new (start_of edition (I.incoming input) (I.lender input) (O.outgoing out) (O.lender out)) }
+        ensures { result ≡ compilers.new (compiler_start edition (I.incoming input) (I.lender input) (O.outgoing out) (O.lender out)) }
     {
         Compiler {
             first_input: Snapshot::of(&input),
@@ -83,8 +83,8 @@ impl<I: ByteIn, O: ByteOut> Compiler<I, O> {
     ///
     /// The first call writes what a code text of the edition begins with, before it reads anything. After the first answer that isn't `Written`, each call answers `Closed` and does nothing.
     pub fn next_definition(&mut self) -> Step
-        ensures gives { StepGives self.old result self.new }
-        ensures keeps { Keeps self.old self.new }
+        ensures gives { CompilerGives self.old result self.new }
+        ensures keeps { SameCompiler self.old self.new }
     {
         if self.is_closed {
             return Step::Closed;
@@ -183,7 +183,7 @@ fn compile_definition<I: ByteIn, O: ByteOut>(
     out: &mut O,
 ) -> Result<(), Step>
     requires { IsReady parser.old.tokens }
-    ensures gives { Gives (point parser.old.tokens (keys_of names.old) (O.outgoing out.old)) result
+    ensures gives { PointGives (point parser.old.tokens (keys_of names.old) (O.outgoing out.old)) result
         (point parser.new.tokens (keys_of names.new) (O.outgoing out.new)) }
     ensures ready { OnOk result (IsReady parser.new.tokens) }
     ensures same { O.lender out.new ≡ O.lender out.old }

@@ -1,7 +1,7 @@
 //! What calls of the compiler answer.
 ghost use Rattle.std.specs.Prelude.{◌≡◌};
 ghost use Rattle.bparse.specs.declared.step.Step.TheVariants.{Device, Memory};
-ghost use Rattle.bparse.specs.Steps.{step_of};
+ghost use Rattle.bparse.specs.Steps.{refused_step};
 
 use blang::Diagnostic;
 use bword::{Device, EndFault, NoMemory};
@@ -40,7 +40,7 @@ impl From<NoMemory> for Step {
 }
 
 impl From<EndFault> for Step {
-    ghost from_gives = { λ fault step. step ≡ step_of fault };
+    ghost from_gives = { λ fault step. step ≡ refused_step fault };
 
     fn from(fault: EndFault) -> Self {
         match fault {

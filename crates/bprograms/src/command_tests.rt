@@ -162,7 +162,7 @@ b check break.b~un break 1
 break.b:1:5: error: in edition 1 break is a name, neither declared nor a label
     f() break;
         ^^^^^
-  mend: b check --edition 2 takes it for the statement
+  mend: --edition 2 makes it a keyword; in edition 1 declare it, or put a label
 ~~1
 @
 b check --edition 2 break.b~sx break 1

@@ -330,7 +330,7 @@ item(kind, value) {
         case 'd': return(printn(value, 10));
         case 'o': return(printn(value, 8));
         case 'c': return(putchar(value));
-        case 's': return(string(value));
+        case 's': string(value); return;
     }
     putchar('?');
 }

@@ -16,6 +16,8 @@ mod failing_tests;
 #[cfg(test)]
 mod in_order_tests;
 #[cfg(test)]
+mod kept_pages;
+#[cfg(test)]
 mod language_tests;
 #[cfg(test)]
 mod list_tests;
@@ -27,3 +29,5 @@ mod program_tests;
 mod run_tests;
 #[cfg(test)]
 mod source_tests;
+#[cfg(test)]
+mod trace_tests;

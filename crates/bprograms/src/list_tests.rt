@@ -1,7 +1,12 @@
 //! Listings and maps of sources, docs/CODE.md's among them.
 use crate::command_tests::serves;
+use crate::kept_pages::{CLASS, PICTURE};
 use crate::source_tests::compares;
+use bserve::serve;
+use bword::{ByteOut, FailIn, FailOut, MemIn, MemOut};
 use std::fs;
+use std::process::Abort;
+use std::rt::Files;
 use std::test::Fail;
 
 // The source whose code and layout the page shows.
@@ -73,5 +78,193 @@ fn listings_and_maps(rt: HostRuntime) -> Result<(), Fail> {
         let (out, diag) = serves(&rt, words, "", status.parse::<u8>().unwrap_or(0))?;
         compares(&rt, words, &out, output, &diag, line);
     }
+    for file in ["layout.b", "fault.b", "alone.b"] {
+        fs::remove_file(&rt, file)?;
+    }
+    Ok(())
+}
+
+// The source of the picture that CODE.md shows.
+const MEMORY: &str = "\
+total 0;
+prime[4] 2, 3, 5;
+firm \"B&b <1>\";
+sum(v, n) {
+    extrn total;
+    auto i;
+    i = 0;
+    while(i < n)
+        total =+ v[i++];
+    return(total);
+}
+main() {
+    extrn prime;
+    auto t, w 2;
+    w[1] = 7;
+    t = sum(prime, 3);
+}
+";
+
+// Commands, each with `~` and the title of its picture, `~`, a piece of it, `~` and how many boxes it has.
+const PICTURES: &str = "\
+b map --svg m.b~memory before the run~>'&lt;1'</text>~21
+b map --steps 48 m.b~memory after 48 steps; filled is what they have changed~<rect class='changed' x='160' y='106'~29
+b map --svg --edition 2 --steps 48 m.b~memory after 48 steps; filled is what they have changed~>w[0]</text>~29
+b map --steps 1000 m.b~memory where the run is over, after 82 steps; filled is what they have changed~>data end 21</text>~26";
+
+#[test]
+fn pictures(rt: HostRuntime) -> Result<(), Fail> {
+    fs::write(&rt, "m.b", MEMORY.as_bytes())?;
+    let (out, _) = serves(&rt, "b map --svg --steps 48 m.b", "", 0)?;
+    assert_eq!(rt; out.bytes(), PICTURE.as_bytes(), "the picture of the page");
+    for row in PICTURES.split('\n') {
+        let mut parts = row.split('~');
+        let words = parts.next().unwrap_or("");
+        let (out, diag) = serves(&rt, words, "", 0)?;
+        assert!(rt; diag.bytes().is_empty(), "the line of {words}");
+        let picture = str::from_utf8(out.bytes()).unwrap_or("");
+        assert!(rt;
+            picture.contains(parts.next().unwrap_or("")),
+            "the title of {words}"
+        );
+        assert!(rt;
+            picture.contains(parts.next().unwrap_or("")),
+            "a piece of {words}"
+        );
+        let boxes = parts.next().unwrap_or("").parse::<usize>().unwrap_or(0);
+        assert_eq!(rt;
+            picture.matches(" width='56' ").count(),
+            boxes,
+            "the boxes of {words}"
+        );
+    }
+    fs::remove_file(&rt, "m.b")?;
+    Ok(())
+}
+
+// Sources, each with `~` and the words of a command, `~` and the line and the status.
+const NO_PICTURES: &str = "\
+main() { printn(n, 10); }~b map --svg m.b~un n 1~1
+f() ;~b map --steps 5 m.b~load 4~132
+main() getchar();~b map --svg none.b~error: the file 'none.b' can't be read~133";
+
+#[test]
+fn no_pictures(rt: HostRuntime) -> Result<(), Fail> {
+    for row in NO_PICTURES.split('\n') {
+        let mut parts = row.split('~');
+        fs::write(&rt, "m.b", parts.next().unwrap_or("").as_bytes())?;
+        let words = parts.next().unwrap_or("");
+        let line = parts.next().unwrap_or("");
+        let status = parts.next().unwrap_or("").parse::<u8>().unwrap_or(0);
+        let (out, diag) = serves(&rt, words, "", status)?;
+        assert!(rt; out.bytes().is_empty(), "the output of {words}");
+        assert!(rt;
+            diag.bytes().starts_with(line.as_bytes()),
+            "the line of {words}"
+        );
+    }
+    fs::remove_file(&rt, "m.b")?;
+    Ok(())
+}
+
+// The words of a command as they are served.
+fn words_of(rt: &(impl AllocGlobal + Abort), words: &str) -> Result<Vec<String>, Fail> {
+    let mut strings = Vec::new(rt.alloc());
+    for word in words.split(' ') {
+        strings.push(String::from_str(rt.alloc(), word)?)?;
+    }
+    Ok(strings)
+}
+
+// A picture goes out in one piece; of one that is cut off a beginning is there, and the status is 133.
+#[test]
+fn each_write_of_a_picture_fails(rt: HostRuntime) -> Result<(), Fail> {
+    fs::write(
+        &rt,
+        "m.b",
+        b"v[3] 1, 2; main() { extrn v; v[2] = getchar(); }",
+    )?;
+    let words = words_of(&rt, "b map --steps 9 m.b")?;
+    let (whole, _) = serves(&rt, "b map --steps 9 m.b", "", 0)?;
+    let mut line = MemOut::new(rt.alloc());
+    for room in (0..whole.bytes().len()).step_by(97) {
+        let mut out = FailOut::new(rt.alloc(), room as u64);
+        let mut input = MemIn::new(b"");
+        let status = serve(&rt, words.as_slice(), &mut input, &mut out, &mut line);
+        assert_eq!(rt; status, 133, "the status with room for {room} bytes");
+        let begun = whole.bytes().get(..room).unwrap_or(b"?");
+        assert_eq!(rt;
+            out.bytes(),
+            begun,
+            "the picture with room for {room} bytes"
+        );
+    }
+    let mut out = MemOut::new(rt.alloc());
+    let status = serve(
+        &rt,
+        words.as_slice(),
+        &mut FailIn::new(b"", 0),
+        &mut out,
+        &mut line,
+    );
+    assert_eq!(rt; status, 133, "the status where the program can't read");
+    assert!(rt;
+        out.bytes().is_empty() && line.bytes().is_empty(),
+        "nothing is written then"
+    );
+    fs::remove_file(&rt, "m.b")?;
+    Ok(())
+}
+
+// What a piece of a page has behind its margin of four blanks.
+fn without_margin(rt: &(impl AllocGlobal + Abort), piece: &str) -> Result<String, Fail> {
+    let mut text = String::new(rt.alloc());
+    for line in piece.lines() {
+        text.push_str(line.strip_prefix("    ").unwrap_or(line))?;
+        text.push('\n')?;
+    }
+    Ok(text)
+}
+
+// The page of mistakes: a piece with a margin is a source, or a command with what it writes.
+#[test]
+fn the_class(rt: HostRuntime) -> Result<(), Fail> {
+    for piece in CLASS
+        .split("\n\n")
+        .filter(|piece| piece.starts_with("    "))
+    {
+        let text = without_margin(&rt, piece)?;
+        match text.strip_prefix("$ ./") {
+            None => fs::write(&rt, "x.b", text.as_bytes())?,
+            Some(rest) => {
+                let (words, output) = rest.split_once('\n').unwrap_or((rest, ""));
+                is_written(&rt, words, output)?;
+            }
+        }
+    }
+    fs::remove_file(&rt, "x.b")?;
+    Ok(())
+}
+
+// Whether a command writes this, its line last.
+fn is_written(
+    rt: &(impl AllocGlobal + Files + Abort),
+    words: &str,
+    output: &str,
+) -> Result<(), Fail> {
+    let strings = words_of(rt, words)?;
+    let mut said = MemOut::new(rt.alloc());
+    let mut line = MemOut::new(rt.alloc());
+    serve(
+        rt,
+        strings.as_slice(),
+        &mut MemIn::new(b""),
+        &mut said,
+        &mut line,
+    );
+    let is_kept = said.put(line.bytes()).is_ok();
+    assert!(rt; is_kept, "the line of {words} is kept");
+    let text = str::from_utf8(said.bytes()).unwrap_or("");
+    assert_eq!(rt; text.trim_end(), output.trim_end(), "what {words} writes");
     Ok(())
 }

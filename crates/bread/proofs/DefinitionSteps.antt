@@ -8,20 +8,21 @@ use Rattle.blang.specs.declared.token.Placed.{Placed}
 use Rattle.blang.specs.declared.code.Ival as coded
 use Rattle.blang.specs.declared.code.Ival.TheVariants as ival_code
 use Rattle.blang.specs.declared.code.Instr.TheVariants as instr
-use Rattle.blang.specs.Trees.{Word, Number, Character, Ival, Ival_constant, Ival_name, Definition, Simple, Vector, Function}
-use Rattle.btree.specs.Reading.{Read, Reader, Got, Stop, ◌>>=◌, first, line_of, after, expect}
+use Rattle.blang.specs.Trees.{Identifier, Number, Character, Ival, Ival_constant, Ival_name, Definition, Simple, Vector, Function}
+use Rattle.btree.specs.Reading.{Read, Reader, Got, Stop, ◌>>=◌, first, line_ahead, after, expect}
 use Rattle.btree.specs.ExpressionReader.{is_close_paren, is_close_bracket}
 use Rattle.btree.specs.Commas.{list_reader}
-use Rattle.blang.specs.Code.{constant_of}
+use Rattle.blang.specs.Code.{vector_constant}
 use Rattle.btree.specs.StatementReader.{is_semicolon, name, size, statement}
-use Rattle.blang.specs.WellFormed.{values_words, nesting_limit}
+use Rattle.blang.specs.WellFormed.{nesting_limit}
+use Rattle.btree.specs.Fitting.{values_words}
 use Rattle.btree.specs.DefinitionReader.{ival_at, ival, valued, vector, function_body, function, behind_name_at, behind_name, definition}
 use Rattle.btree.proofs.Fine.{Fine}
 use Rattle.btree.proofs.ExpressionFine.{Closer}
 use Rattle.bemit.specs.Drafts.{Draft, emitted, stringed, offset_of, worded, started}
 use Rattle.bemit.specs.Drafts as drafts
 use Rattle.bemit.specs.Effects.{ival_done, done, values_done, parameters_done, definition_done}
-use Rattle.bexpr.specs.Tokens.{Tokens, IsLoaded, IsSingle, work, Runs, Breaks, Advances}
+use Rattle.bexpr.specs.Tokens.{Tokens, IsLoaded, IsSingle, work, Runs, TokensFail, Advances}
 use Rattle.bexpr.specs.Marks.{is_comma}
 use Rattle.bexpr.specs.Parsers.{Halts}
 use Rattle.bexpr.specs.declared.halt.Halt.{Halt}
@@ -29,8 +30,8 @@ use Rattle.bexpr.specs.declared.halt.Halt.TheVariants as halt
 use Rattle.bread.specs.declared.header.Header.{Header}
 use Rattle.bread.specs.declared.header.Kind.{Kind}
 use Rattle.bread.specs.declared.header.Kind.TheVariants as kind
-use Rattle.bread.specs.Compiling.{Took, Compiles}
-use Rattle.bread.specs.Definitions.{TakesValue, values, parameters, TookList, FindsList, TookKind, FindsKind, TookDefinition, FindsDefinition}
+use Rattle.bread.specs.Compiling.{PartTaken, CompilesPart}
+use Rattle.bread.specs.Definitions.{TakesValue, initial_value_list, parameters, TookList, FindsList, TookKind, FindsKind, TookDefinition, FindsDefinition}
 use Rattle.bexpr.proofs.TokenSteps.{Moves-as, Moves-breaks}
 use Rattle.bexpr.proofs.Moving.{run_here, run_past, run_then, run_bind}
 use Rattle.bread.proofs.Steps.{began, went, halts_first, halts_then, halts_behind, device}
@@ -38,16 +39,16 @@ use Rattle.bread.proofs.Takings.{less}
 use Rattle.bread.proofs.Lists.{InList, list_first, list_halts, list_ends}
 
 -- an initial value
-pub value_ends : (made : List Ival → Ival) (v : coded.Ival) (old : Tokens) (start d0 : Draft) (r : Result (Unit {0}) Halt) (new : Tokens) (draft : Draft) → ((before : List Ival) (u : List Placed) → first u ≡ first old.ahead → line_of u ≡ line_of old.ahead → ival before u ≡ Got (made before) (after u)) → ((before : List Ival) → ival_done start (made before) ≡ drafts.valued v d0) → TakesValue v old d0 r new draft → Compiles ival (λ v d. ival_done d v) old start r new draft
+pub value_ends : (made : List Ival → Ival) (v : coded.Ival) (old : Tokens) (start d0 : Draft) (r : Result (Unit {0}) Halt) (new : Tokens) (draft : Draft) → ((before : List Ival) (u : List Placed) → first u ≡ first old.ahead → line_ahead u ≡ line_ahead old.ahead → ival before u ≡ Got (made before) (after u)) → ((before : List Ival) → ival_done start (made before) ≡ drafts.valued v d0) → TakesValue v old d0 r new draft → CompilesPart ival (λ v d. ival_done d v) old start r new draft
 value_ends made v old start d0 (Ok o) new draft is same t = (λ before. record { tree = made before; runs = run_past {g = λ v. Got (made before) v} t.0 (λ u e l. is before u e l); made = t.1 ∙ sym (same before) }, t.0.single, less t.0)
 value_ends made v old start d0 (Err why) new draft is same t = λ before. device old new (ival before) why t.0 t.1
 
-pub number_ends : (n : ℕ) (old : Tokens) (start : Draft) (r : Result (Unit {0}) Halt) (new : Tokens) (draft : Draft) → (first old.ahead ≡ token.Number n) ⊎ (first old.ahead ≡ token.Character n) → TakesValue (ival_code.Number n) old start r new draft → Compiles ival (λ v d. ival_done d v) old start r new draft
+pub number_ends : (n : ℕ) (old : Tokens) (start : Draft) (r : Result (Unit {0}) Halt) (new : Tokens) (draft : Draft) → (first old.ahead ≡ token.Number n) ⊎ (first old.ahead ≡ token.Character n) → TakesValue (ival_code.Number n) old start r new draft → CompilesPart ival (λ v d. ival_done d v) old start r new draft
 number_ends n old start r new draft (inl k) h = value_ends (λ before. Ival_constant (Number n)) (ival_code.Number n) old start start r new draft (λ before u f l. ap (λ t. ival_at (values_words before) t u) (f ∙ k)) (λ before. refl) h
 number_ends n old start r new draft (inr k) h = value_ends (λ before. Ival_constant (Character n)) (ival_code.Number n) old start start r new draft (λ before u f l. ap (λ t. ival_at (values_words before) t u) (f ∙ k)) (λ before. refl) h
 
-pub name_ends : (x : List ℕ) (old : Tokens) (start : Draft) (r : Result (Unit {0}) Halt) (new : Tokens) (draft : Draft) → first old.ahead ≡ token.Name x → TakesValue (ival_code.Name x) old start r new draft → Compiles ival (λ v d. ival_done d v) old start r new draft
-name_ends x old start r new draft k h = value_ends (λ before. Ival_name (record { text = x; line = line_of old.ahead })) (ival_code.Name x) old start start r new draft (λ before u f l. ap (λ t. ival_at (values_words before) t u) (f ∙ k) ∙ ap (λ n. Got (Ival_name (record { text = x; line = n })) (after u)) l) (λ before. refl) h
+pub name_ends : (x : List ℕ) (old : Tokens) (start : Draft) (r : Result (Unit {0}) Halt) (new : Tokens) (draft : Draft) → first old.ahead ≡ token.Name x → TakesValue (ival_code.Name x) old start r new draft → CompilesPart ival (λ v d. ival_done d v) old start r new draft
+name_ends x old start r new draft k h = value_ends (λ before. Ival_name (record { text = x; line = line_ahead old.ahead })) (ival_code.Name x) old start start r new draft (λ before u f l. ap (λ t. ival_at (values_words before) t u) (f ∙ k) ∙ ap (λ n. Got (Ival_name (record { text = x; line = n })) (after u)) l) (λ before. refl) h
 
 -- things with commas between them, if any, and the token behind them
 module _ {A : Type 0} (item : List A → Reader A) (fine : (before : List A) (ts : List Placed) → Fine Closer (item before) ts) (effect : A → Draft → Draft) (is : Token → Bool) (effects : List A → Draft → Draft) (same : (xs : List A) (d : Draft) → effects xs d ≡ fold (λ b x. effect x b) d xs) (most : ℕ) where
@@ -74,7 +75,7 @@ module _ {A : Type 0} (item : List A → Reader A) (fine : (before : List A) (ts
       pub some_comma : (mid new : Tokens) (why : Halt) → Advances now mid → is_comma (first now.ahead) ≡ true → Halts (item s.items) mid why new → Halts perhaps old why new
       some_comma mid new why h c k = some_halts new why (list_halts item fine effect s h c new why k)
 
-      pub some_breaks : (new : Tokens) (why : Halt) → why ≡ halt.Device → Breaks now new → Halts perhaps old why new
+      pub some_breaks : (new : Tokens) (why : Halt) → why ≡ halt.Device → TokensFail now new → Halts perhaps old why new
       some_breaks new why e h = some_halts new why (device old new (list_reader item) why e (Moves-breaks s.runs h))
 
       some_over : is_comma (first now.ahead) ≡ false → Runs old now perhaps (λ r. expect is r >>= λ o. Got s.items)
@@ -102,21 +103,21 @@ list_err reader effect most old start (Ok n) new draft why e h = absurd e
 list_err reader effect most old start (Err s) new draft why e h = subst (λ x. Halts reader old x new) (sym e) h
 
 -- what stands behind a name
-pub kind_err : (reader : Word → Reader Definition) (old : Tokens) (start : Draft) (r : Result Kind Halt) (new : Tokens) (draft : Draft) (why : Halt) → IsErrAnd r (λ y. y ≡ why) → ((w : Word) → Halts (reader w) old why new) → FindsKind reader old start r new draft
+pub kind_err : (reader : Identifier → Reader Definition) (old : Tokens) (start : Draft) (r : Result Kind Halt) (new : Tokens) (draft : Draft) (why : Halt) → IsErrAnd r (λ y. y ≡ why) → ((w : Identifier) → Halts (reader w) old why new) → FindsKind reader old start r new draft
 kind_err reader old start (Ok n) new draft why e h = absurd e
 kind_err reader old start (Err s) new draft why e h = λ w. subst (λ x. Halts (reader w) old x new) (sym e) (h w)
 
-pub kind_behind : (p q : Word → Reader Definition) (old mid : Tokens) (start : Draft) (r : Result Kind Halt) (new : Tokens) (draft : Draft) → ((w : Word) → Runs old mid (q w) (p w)) → FindsKind p mid start r new draft → FindsKind q old start r new draft
+pub kind_behind : (p q : Identifier → Reader Definition) (old mid : Tokens) (start : Draft) (r : Result Kind Halt) (new : Tokens) (draft : Draft) → ((w : Identifier) → Runs old mid (q w) (p w)) → FindsKind p mid start r new draft → FindsKind q old start r new draft
 kind_behind p q old mid start (Ok k) new draft m h = (λ w. let t = h.0 w in record { tree = t.tree; runs = run_then (m w) t.runs; made = t.made; named = t.named; kind_is = t.kind_is }, h.1)
 kind_behind p q old mid start (Err why) new draft m h = λ w. halts_behind old mid new (q w) (p w) why (m w) (h w)
 
-pub bracket_runs : (old mid : Tokens) → Advances old mid → first old.ahead ≡ token.OpenBracket → (w : Word) → Runs old mid (behind_name w) (vector w)
+pub bracket_runs : (old mid : Tokens) → Advances old mid → first old.ahead ≡ token.OpenBracket → (w : Identifier) → Runs old mid (behind_name w) (vector w)
 bracket_runs old mid a k w = run_past a (λ u e l. ap (λ t. behind_name_at w t u) (e ∙ k))
 
-pub paren_runs : (old mid : Tokens) → Advances old mid → first old.ahead ≡ token.OpenParen → (w : Word) → Runs old mid (behind_name w) (function w)
+pub paren_runs : (old mid : Tokens) → Advances old mid → first old.ahead ≡ token.OpenParen → (w : Identifier) → Runs old mid (behind_name w) (function w)
 paren_runs old mid a k w = run_past a (λ u e l. ap (λ t. behind_name_at w t u) (e ∙ k))
 
-simple_at : (w : Word) (t : Token) (u : List Placed) → (t ≡ token.OpenBracket → ⊥) → (t ≡ token.OpenParen → ⊥) → behind_name_at w t u ≡ valued (Simple w) u
+simple_at : (w : Identifier) (t : Token) (u : List Placed) → (t ≡ token.OpenBracket → ⊥) → (t ≡ token.OpenParen → ⊥) → behind_name_at w t u ≡ valued (Simple w) u
 simple_at w token.OpenBracket u a b = absurd (a refl)
 simple_at w token.OpenParen u a b = absurd (b refl)
 simple_at w _ u a b = refl
@@ -130,21 +131,21 @@ closed_values made (Got vs r) = go (is_semicolon (first r)) refl
     go false k = rw k refl
 closed_values made (Stop r) = refl
 
-valued_is : (made : List Ival → Definition) (u : List Placed) → valued made u ≡ (values u >>= λ vs. Got (made vs))
+valued_is : (made : List Ival → Definition) (u : List Placed) → valued made u ≡ (initial_value_list u >>= λ vs. Got (made vs))
 valued_is made u = go (is_semicolon (first u)) refl
   where
-    go : (b : Bool) → is_semicolon (first u) ≡ b → valued made u ≡ (values u >>= λ vs. Got (made vs))
+    go : (b : Bool) → is_semicolon (first u) ≡ b → valued made u ≡ (initial_value_list u >>= λ vs. Got (made vs))
     go true k = rw k refl
     go false k = rw k (closed_values made (list_reader ival u))
 
 module _ (old : Tokens) (l : IsLoaded old) (a : first old.ahead ≡ token.OpenBracket → ⊥) (b : first old.ahead ≡ token.OpenParen → ⊥) where
-  simple_runs : (w : Word) → Runs old old (behind_name w) (λ u. values u >>= λ vs. Got (Simple w vs))
+  simple_runs : (w : Identifier) → Runs old old (behind_name w) (λ u. initial_value_list u >>= λ vs. Got (Simple w vs))
   simple_runs w = run_here l (λ u e m. ap (λ t. behind_name_at w t u) e ∙ simple_at w (first old.ahead) u a b ∙ valued_is (Simple w) u)
 
-  pub simple_halts : (w : Word) (new : Tokens) (why : Halt) → Halts values old why new → Halts (behind_name w) old why new
-  simple_halts w new why h = halts_then old old new (behind_name w) values (λ vs. Got (Simple w vs)) why (simple_runs w) h
+  pub simple_halts : (w : Identifier) (new : Tokens) (why : Halt) → Halts initial_value_list old why new → Halts (behind_name w) old why new
+  simple_halts w new why h = halts_then old old new (behind_name w) initial_value_list (λ vs. Got (Simple w vs)) why (simple_runs w) h
 
-  pub simple_took : (most : ℕ) (start : Draft) (new : Tokens) (draft : Draft) (count : ℕ) → TookList values values_done most start old new draft count → (w : Word) → TookKind (behind_name w) w start old new draft kind.Simple
+  pub simple_took : (most : ℕ) (start : Draft) (new : Tokens) (draft : Draft) (count : ℕ) → TookList initial_value_list values_done most start old new draft count → (w : Identifier) → TookKind (behind_name w) w start old new draft kind.Simple
   simple_took most start new draft count t w = record { tree = Simple w t.items; runs = went (λ vs. Got (Simple w vs)) (simple_runs w) t.runs; made = t.made; named = refl; kind_is = tt }
 
 -- a count that stops at its most
@@ -158,7 +159,7 @@ counted_as : (c len count words : ℕ) → count ≡ min len 4294967295 → word
 counted_as c len count words h k = omega (arith, h, k)
 
 -- a vector
-module _ (w : Word) where
+module _ (w : Identifier) where
   abbrev bracketed : Option ℕ → Reader Definition
   bracketed n r = expect is_close_bracket r >>= λ o. valued (Vector w n)
 
@@ -169,26 +170,26 @@ module _ (w : Word) where
   vector_then old mid new n why r h = halts_then old mid new (vector w) (expect is_close_bracket) (λ o. valued (Vector w n)) why (began bracketed r) h
 
   module _ (old mid next : Tokens) (n : Option ℕ) (r : Runs old mid size (λ v. Got n v)) (s : Runs mid next (expect is_close_bracket) (λ v. Got tt v)) where
-    vector_runs : Runs old next (vector w) (λ u. values u >>= λ vs. Got (Vector w n vs))
-    vector_runs = Moves-as (λ u v. vector w u ≡ (values v >>= λ vs. Got (Vector w n vs))) (λ u v x. x ∙ valued_is (Vector w n) v) (went (λ o. valued (Vector w n)) (began bracketed r) s)
+    vector_runs : Runs old next (vector w) (λ u. initial_value_list u >>= λ vs. Got (Vector w n vs))
+    vector_runs = Moves-as (λ u v. vector w u ≡ (initial_value_list v >>= λ vs. Got (Vector w n vs))) (λ u v x. x ∙ valued_is (Vector w n) v) (went (λ o. valued (Vector w n)) (began bracketed r) s)
 
-    pub vector_last : (new : Tokens) (why : Halt) → Halts values next why new → Halts (vector w) old why new
-    vector_last new why h = halts_then old next new (vector w) values (λ vs. Got (Vector w n vs)) why vector_runs h
+    pub vector_last : (new : Tokens) (why : Halt) → Halts initial_value_list next why new → Halts (vector w) old why new
+    vector_last new why h = halts_then old next new (vector w) initial_value_list (λ vs. Got (Vector w n vs)) why vector_runs h
 
-    pub vector_took : (start d1 d2 d3 : Draft) (new : Tokens) (count words k : ℕ) → d1 ≡ start → TookList values values_done 4294967295 d1 next new d2 count → words ≡ max count (constant_of n + 1) → d3 ≡ worded words d2 → k ≡ min words 65535 → TookKind (vector w) w start old new d3 (kind.Vector k)
+    pub vector_took : (start d1 d2 d3 : Draft) (new : Tokens) (count words k : ℕ) → d1 ≡ start → TookList initial_value_list values_done 4294967295 d1 next new d2 count → words ≡ max count (vector_constant n + 1) → d3 ≡ worded words d2 → k ≡ min words 65535 → TookKind (vector w) w start old new d3 (kind.Vector k)
     vector_took start d1 d2 d3 new count words k e t x y z = record {
       tree = Vector w n t.items;
       runs = went (λ vs. Got (Vector w n vs)) vector_runs t.runs;
-      made = y ∙ ap (worded words) (t.made ∙ ap (values_done t.items) e) ∙ worded_as (constant_of n) (length t.items) count words (values_done t.items start) t.count_is x;
+      made = y ∙ ap (worded words) (t.made ∙ ap (values_done t.items) e) ∙ worded_as (vector_constant n) (length t.items) count words (values_done t.items start) t.count_is x;
       named = refl;
-      kind_is = z ∙ counted_as (constant_of n) (length t.items) count words t.count_is x;
+      kind_is = z ∙ counted_as (vector_constant n) (length t.items) count words t.count_is x;
     }
 
 -- a function
-function_is : (w : Word) (u : List Placed) → function w u ≡ (parameters u >>= function_body w)
+function_is : (w : Identifier) (u : List Placed) → function w u ≡ (parameters u >>= function_body w)
 function_is w u = go (is_close_paren (first u)) refl
   where
-    nested : (x : Read (List Word)) → (x >>= λ ps r. expect is_close_paren r >>= λ o. function_body w ps) ≡ ((x >>= λ ps r. expect is_close_paren r >>= λ o. Got ps) >>= function_body w)
+    nested : (x : Read (List Identifier)) → (x >>= λ ps r. expect is_close_paren r >>= λ o. function_body w ps) ≡ ((x >>= λ ps r. expect is_close_paren r >>= λ o. Got ps) >>= function_body w)
     nested (Stop r) = refl
     nested (Got ps r) = at (is_close_paren (first r)) refl
       where
@@ -200,19 +201,19 @@ function_is w u = go (is_close_paren (first u)) refl
     go true k = rw k refl
     go false k = rw k (nested (list_reader (λ before. name) u))
 
-module _ (w : Word) (old mid : Tokens) where
+module _ (w : Identifier) (old mid : Tokens) where
   pub function_first : (why : Halt) → Halts parameters old why mid → Halts (function w) old why mid
   function_first halt.Fault h = (Moves-as (λ u v. function w u ≡ Stop v) (λ u v x. function_is w u ∙ ap (λ y. y >>= function_body w) x) h.0, h.1)
   function_first halt.Device h = h
 
-  module _ (ps : List Word) (r : Runs old mid parameters (λ v. Got ps v)) where
+  module _ (ps : List Identifier) (r : Runs old mid parameters (λ v. Got ps v)) where
     function_runs : Runs old mid (function w) (λ v. statement nesting_limit 0 v >>= λ s. Got (Function w ps s))
     function_runs = Moves-as (λ u v. function w u ≡ function_body w ps v) (λ u v x. function_is w u ∙ ap (λ y. y >>= function_body w) x) r
 
     pub function_then : (new : Tokens) (why : Halt) → Halts (statement nesting_limit 0) mid why new → Halts (function w) old why new
     function_then new why h = halts_then old mid new (function w) (statement nesting_limit 0) (λ s. Got (Function w ps s)) why function_runs h
 
-    pub function_took : (start d1 d2 d3 d4 : Draft) (new : Tokens) (count : ℕ) → d1 ≡ parameters_done ps start → count ≡ min (length ps) 65535 → Took (statement nesting_limit 0) done d1 mid new d2 → d3 ≡ emitted (instr.Constant 0) d2 → d4 ≡ emitted instr.Return d3 → TookKind (function w) w start old new d4 (kind.Function count)
+    pub function_took : (start d1 d2 d3 d4 : Draft) (new : Tokens) (count : ℕ) → d1 ≡ parameters_done ps start → count ≡ min (length ps) 65535 → PartTaken (statement nesting_limit 0) done d1 mid new d2 → d3 ≡ emitted (instr.Constant 0) d2 → d4 ≡ emitted instr.Return d3 → TookKind (function w) w start old new d4 (kind.Function count)
     function_took start d1 d2 d3 d4 new count e c t x y = record { tree = Function w ps t.tree; runs = went (λ s. Got (Function w ps s)) function_runs t.runs; made = y ∙ rw (x, t.made, e) refl; named = refl; kind_is = c }
 
 -- a definition
@@ -223,10 +224,10 @@ definition_err names old (Err s) new draft why e h = subst (λ x. Halts definiti
 pub definition_first : (old new : Tokens) (why : Halt) → Halts name old why new → Halts definition old why new
 definition_first old new why h = halts_first old new name behind_name why h
 
-pub definition_then : (old mid new : Tokens) (w : Word) (why : Halt) → Runs old mid name (λ v. Got w v) → Halts (behind_name w) mid why new → Halts definition old why new
+pub definition_then : (old mid new : Tokens) (w : Identifier) (why : Halt) → Runs old mid name (λ v. Got w v) → Halts (behind_name w) mid why new → Halts definition old why new
 definition_then old mid new w why r h = halts_behind old mid new definition (behind_name w) why (run_bind behind_name r) h
 
-pub definition_took : (names : List (List ℕ)) (old mid new : Tokens) (w : Word) (d1 draft : Draft) (k : Kind) → Runs old mid name (λ v. Got w v) → work mid < work old → d1 ≡ started names w → TookKind (behind_name w) w d1 mid new draft k → IsSingle new → TookDefinition names old (record { name = w.text; line = w.line; kind = k }) new draft
+pub definition_took : (names : List (List ℕ)) (old mid new : Tokens) (w : Identifier) (d1 draft : Draft) (k : Kind) → Runs old mid name (λ v. Got w v) → work mid < work old → d1 ≡ started names w → TookKind (behind_name w) w d1 mid new draft k → IsSingle new → TookDefinition names old (record { name = w.text; line = w.line; kind = k }) new draft
 definition_took names old mid new w d1 draft k r f e t l = record {
   tree = t.tree;
   moves = run_then (run_bind behind_name r) t.runs;

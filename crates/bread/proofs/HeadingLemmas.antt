@@ -3,8 +3,8 @@ use Rattle.std.proofs.Common.{◌≡◌, ℕ, zero, suc, List, [], ◌∷◌, le
 use Rattle.blang.specs.declared.token.Token.{Token}
 use Rattle.blang.specs.declared.token.Token.TheVariants as token
 use Rattle.blang.specs.declared.token.Placed.{Placed}
-use Rattle.blang.specs.Trees.{Word, Heading, Auto, Extrn, Label, Case, Default, Stmt, Headed, Evaluate}
-use Rattle.btree.specs.Reading.{Read, Got, Stop, Reader, ◌>>=◌, first, line_of, after, expect, turns, many}
+use Rattle.blang.specs.Trees.{Identifier, Heading, Auto, Extrn, Label, Case, Default, Stmt, Headed, Evaluate}
+use Rattle.btree.specs.Reading.{Read, Got, Stop, Reader, ◌>>=◌, first, line_ahead, after, expect, turns, many}
 use Rattle.btree.specs.ExpressionReader.{is_colon}
 use Rattle.btree.specs.Commas.{list_reader}
 use Rattle.btree.specs.StatementReader.{is_semicolon, name, constant, declared, Headings, No_heading, Then, headed, Lead, no_lead, with_heading, Step, Declares, Imports, Selects, Defaults, Mentions, Labels, step_at, lead_step, lead_turn, lead, stmt_at, stmt_behind, level, ended, statement}
@@ -34,8 +34,8 @@ closed_behind hs is made l (Stop r) = refl
 turn_behind : (b : Step) (hs : Headings) (l : Lead) (ts : List Placed) → lead_turn b (behind hs l) ts ≡ put hs (lead_turn b l ts)
 turn_behind Declares hs l ts = closed_behind hs is_semicolon Auto l (list_reader (λ before. declared) (after ts))
 turn_behind Imports hs l ts = closed_behind hs is_semicolon Extrn l (list_reader (λ before. name) (after ts))
-turn_behind Selects hs l ts = closed_behind hs is_colon (Case (line_of ts)) l (constant (after ts))
-turn_behind Defaults hs l ts = closed_behind hs is_colon (λ o. Default (line_of ts)) l (Got (tt {0}) (after ts))
+turn_behind Selects hs l ts = closed_behind hs is_colon (Case (line_ahead ts)) l (constant (after ts))
+turn_behind Defaults hs l ts = closed_behind hs is_colon (λ o. Default (line_ahead ts)) l (Got (tt {0}) (after ts))
 turn_behind (Mentions x) hs l ts = refl
 turn_behind (Labels w) hs l ts = refl
 
@@ -80,15 +80,15 @@ heading_read b h u v s e = headed_by h u v (lead_turns b u s ∙ ap (λ x. x >>=
 pub heading_stops : (b : Step) (u v : List Placed) → step_at None (first u) ≡ Some b → lead_turn b no_lead u ≡ Stop v → StopsHeading u v
 heading_stops b u v s e room off = ap (λ x. x >>= read_behind room off) (lead_turns b u s ∙ ap (λ x. x >>= many lead_step lead_turn) e)
 
-abbrev word_at : List ℕ → List Placed → Word
-word_at x u = record { text = x; line = line_of u }
+abbrev word_at : List ℕ → List Placed → Identifier
+word_at x u = record { text = x; line = line_ahead u }
 
 -- a name with a colon behind it
-pub label_read : (x : List ℕ) (u : List Placed) → first u ≡ token.Name x → first (after u) ≡ token.Colon → IsHeadedBy (Label (record { text = x; line = line_of u })) u (after (after u))
+pub label_read : (x : List ℕ) (u : List Placed) → first u ≡ token.Name x → first (after u) ≡ token.Colon → IsHeadedBy (Label (record { text = x; line = line_ahead u })) u (after (after u))
 label_read x u h k = let w = word_at x u in headed_by (Label w) u (after (after u)) (lead_turns (Mentions x) u (ap (step_at None) h) ∙ many_some lasting lead_step lead_turn lead_loop (Labels w) (record { headings = No_heading; word = Some w }) (after u) (ap (step_at (Some w)) k))
 
 -- no heading
-unheaded_at : (room off : ℕ) (u : List Placed) (o : Option Word) (v : List Placed) → lead u ≡ Got (record { headings = No_heading; word = o }) v → stmt_behind room (level room) off o v ≡ unheaded room off u → statement room off u ≡ unheaded room off u
+unheaded_at : (room off : ℕ) (u : List Placed) (o : Option Identifier) (v : List Placed) → lead u ≡ Got (record { headings = No_heading; word = o }) v → stmt_behind room (level room) off o v ≡ unheaded room off u → statement room off u ≡ unheaded room off u
 unheaded_at room off u o v e same = ap (λ x. x >>= read_behind room off) e ∙ go (stmt_behind room (level room) off o v) ∙ same
   where
     go : (y : Read Stmt) → (y >>= λ s. Got (headed No_heading s)) ≡ y
@@ -98,7 +98,7 @@ unheaded_at room off u o v e same = ap (λ x. x >>= read_behind room off) e ∙ 
 pub no_heading : (u : List Placed) → step_at None (first u) ≡ None → IsUnheaded u u
 no_heading u h room off = unheaded_at room off u None u (many_none lead_step lead_turn no_lead u h) refl
 
-no_labels : (w : Word) (t : Token) → is_colon t ≡ false → step_at (Some w) t ≡ None
+no_labels : (w : Identifier) (t : Token) → is_colon t ≡ false → step_at (Some w) t ≡ None
 no_labels w token.Colon h = cc
 no_labels w _ h = refl
 

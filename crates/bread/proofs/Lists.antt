@@ -11,12 +11,12 @@ use Rattle.btree.proofs.Fine.{Fine, many_some, many_none}
 use Rattle.btree.proofs.ExpressionFine.{Closer, closing}
 use Rattle.btree.proofs.CommaLaws.{comma_loop}
 use Rattle.bemit.specs.Drafts.{Draft}
-use Rattle.bexpr.specs.Tokens.{Tokens, IsLoaded, work, Runs, Breaks, Advances}
+use Rattle.bexpr.specs.Tokens.{Tokens, IsLoaded, work, Runs, TokensFail, Advances}
 use Rattle.bexpr.specs.Marks.{is_comma}
 use Rattle.bexpr.specs.Parsers.{Halts}
 use Rattle.bexpr.specs.declared.halt.Halt.{Halt}
 use Rattle.bexpr.specs.declared.halt.Halt.TheVariants as halt
-use Rattle.bread.specs.Compiling.{alone, Took, Compiles}
+use Rattle.bread.specs.Compiling.{untold, PartTaken, CompilesPart}
 use Rattle.bexpr.specs.Parsers.{Expects}
 use Rattle.bexpr.proofs.TokenSteps.{Moves-breaks}
 use Rattle.bexpr.proofs.Moving.{run_here, run_past, run_then, run_bind}
@@ -51,7 +51,7 @@ module _ {A : Type 0} (item : List A → Reader A) (fine : (before : List A) (ts
   comma_taken : (items : List A) (u : List Placed) → is_comma (first u) ≡ true → rest items u ≡ behind_comma items (after u)
   comma_taken items u h = many_some closing (always comma) (comma_item item) (comma_loop item fine) tt items u (is_a_comma (first u) h)
 
-  abbrev pub list_begins : {start draft : Draft} {old now : Tokens} → Took (item []) effect start old now draft → IsLoaded now → work now < work old → InList item effect start old now draft
+  abbrev pub list_begins : {start draft : Draft} {old now : Tokens} → PartTaken (item []) effect start old now draft → IsLoaded now → work now < work old → InList item effect start old now draft
   list_begins {start} {draft} {old} {now} t l f = record { items = t.tree ∷ []; runs = began (λ x. rest (x ∷ [])) t.runs; made = t.made; loaded = l; falls = f }
 
   module _ {start draft : Draft} {old now : Tokens} (s : InList item effect start old now draft) where
@@ -59,7 +59,7 @@ module _ {A : Type 0} (item : List A → Reader A) (fine : (before : List A) (ts
       pub past_comma : Runs old mid (list_reader item) (behind_comma s.items)
       past_comma = run_then s.runs (run_past h (λ u e l. comma_taken s.items u (ap is_comma e ∙ c)))
 
-      abbrev pub list_goes : {draft2 : Draft} {new : Tokens} → Took (item s.items) effect draft mid new draft2 → IsLoaded new → work new < work mid → InList item effect start old new draft2
+      abbrev pub list_goes : {draft2 : Draft} {new : Tokens} → PartTaken (item s.items) effect draft mid new draft2 → IsLoaded new → work new < work mid → InList item effect start old new draft2
       list_goes {draft2} {new} t l f = record {
         items = s.items ++ t.tree ∷ [];
         runs = run_then past_comma (run_bind rest (run_bind (λ x. Got (s.items ++ x ∷ [])) t.runs));
@@ -71,7 +71,7 @@ module _ {A : Type 0} (item : List A → Reader A) (fine : (before : List A) (ts
       pub list_halts : (new : Tokens) (why : Halt) → Halts (item s.items) mid why new → Halts (list_reader item) old why new
       list_halts new why k = halts_then old mid new (list_reader item) (λ v. item s.items v >>= λ x. Got (s.items ++ x ∷ [])) rest why past_comma (halts_first mid new (item s.items) (λ x. Got (s.items ++ x ∷ [])) why k)
 
-    pub list_breaks : {new : Tokens} → Breaks now new → Halts (list_reader item) old halt.Device new
+    pub list_breaks : {new : Tokens} → TokensFail now new → Halts (list_reader item) old halt.Device new
     list_breaks h = Moves-breaks s.runs h
 
     pub list_ends : is_comma (first now.ahead) ≡ false → Runs old now (list_reader item) (λ v. Got s.items v)
@@ -92,10 +92,10 @@ module _ {A B : Type 0} (item : List A → Reader A) (fine : (before : List A) (
     pub closed_comma : (mid new : Tokens) (why : Halt) → Advances now mid → is_comma (first now.ahead) ≡ true → Halts (item s.items) mid why new → Halts whole old why new
     closed_comma mid new why h c k = halts_first old new (list_reader item) closed why (list_halts item fine effect s h c new why k)
 
-    pub closed_breaks : (new : Tokens) (why : Halt) → why ≡ halt.Device → Breaks now new → Halts whole old why new
+    pub closed_breaks : (new : Tokens) (why : Halt) → why ≡ halt.Device → TokensFail now new → Halts whole old why new
     closed_breaks new why e h = halts_first old new (list_reader item) closed why (device old new (list_reader item) why e (Moves-breaks s.runs h))
 
-    pub closed_ends : (draft2 : Draft) (new : Tokens) (r : Result (Unit {0}) Halt) → is_comma (first now.ahead) ≡ false → Expects is now r new → draft2 ≡ draft → Compiles (alone whole) effects old start r new draft2
+    pub closed_ends : (draft2 : Draft) (new : Tokens) (r : Result (Unit {0}) Halt) → is_comma (first now.ahead) ≡ false → Expects is now r new → draft2 ≡ draft → CompilesPart (untold whole) effects old start r new draft2
     closed_ends draft2 new (Ok o) c t e = (λ i. record { tree = made s.items; runs = went (λ o. Got (made s.items)) (began closed (list_ends item fine effect s c)) t.0; made = e ∙ s.made ∙ sym (same s.items start) }, t.1, below t.2)
       where
         below : work new < work now → work new < work old

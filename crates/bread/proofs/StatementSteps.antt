@@ -7,8 +7,8 @@ use Rattle.blang.specs.declared.token.Keyword.{Keyword}
 use Rattle.blang.specs.declared.token.Keyword.TheVariants as keyword
 use Rattle.blang.specs.declared.token.Placed.{Placed}
 use Rattle.blang.specs.Trees.{Expr, Heading, Stmt, Headed, Compound, If, IfElse, While, Switch, Goto, Break, Return, ReturnValue, Evaluate, Empty, Stmts, Nothing, More}
-use Rattle.blang.specs.WellFormed.{words, statement_words, body_words}
-use Rattle.btree.specs.Reading.{Read, Reader, Got, Stop, ◌>>=◌, first, line_of, after, expect, many}
+use Rattle.btree.specs.Fitting.{words, statement_words, body_words}
+use Rattle.btree.specs.Reading.{Read, Reader, Got, Stop, ◌>>=◌, first, line_ahead, after, expect, many}
 use Rattle.btree.specs.ExpressionReader.{is_close_paren, always, Rvalue, reader, inner}
 use Rattle.btree.specs.StatementReader.{is_open_paren, is_open_brace, is_close_brace, is_semicolon, is_else, Headings, No_heading, Then, headed, goes_on, Level, else_part, chosen, looped, one_more, body, compound, switched, tested, returned, stmt_at, level, statement}
 use Rattle.btree.specs.StatementReader as whole
@@ -17,7 +17,7 @@ use Rattle.btree.proofs.StatementFine.{closing, Good, Room, full, some, has_leve
 use Rattle.blang.specs.declared.code.Instr.{Instr}
 use Rattle.blang.specs.declared.code.Instr.TheVariants as instr
 use Rattle.bemit.specs.Views.{IfMade}
-use Rattle.bemit.specs.Drafts.{Draft, Faulty, Going, emitted, filled, place_of, mark_of, begun, loop_begun, broken as broken_here}
+use Rattle.bemit.specs.Drafts.{Draft, Faulty, Going, emitted, filled, place_of, mark_of, begun, loop_begun, break_drafted as broken_here}
 use Rattle.bemit.specs.Effects.{evaluated, done, all_done}
 use Rattle.bemit.specs.Effects as effects
 use Rattle.bexpr.specs.Tokens.{Tokens, IsLoaded, IsSingle, work, Moves, Runs, Advances}
@@ -25,9 +25,9 @@ use Rattle.bexpr.specs.Parsers.{Halts, TookWord}
 use Rattle.bexpr.specs.declared.halt.Halt.{Halt}
 use Rattle.bexpr.specs.declared.halt.Halt.TheVariants as halt
 use Rattle.bread.specs.Headings.{unheaded, IsHeadedBy, IsUnheaded, StopsHeading}
-use Rattle.bread.specs.Compiling.{alone, Took, Compiles, TookHeading, FindsHeading}
+use Rattle.bread.specs.Compiling.{untold, PartTaken, CompilesPart, TookHeading, FindsHeading}
 use Rattle.bexpr.specs.Parsers.{Expects}
-use Rattle.bread.specs.Statements.{behind, ended, evaluated_to, broken, return_value, condition, conditional, repeated, statements, closed_loop, closed_switch, Chooses}
+use Rattle.bread.specs.Statements.{behind_current, rvalue_ended, evaluated_to, break_behind, return_value, condition, conditional_behind, repeated, statements, closed_loop, closed_switch, Chooses}
 use Rattle.bexpr.proofs.TokenSteps.{Moves-append, Moves-as, Moves-breaks}
 use Rattle.bexpr.proofs.Moving.{run_here, run_past, run_then}
 use Rattle.bread.proofs.Steps.{began, went, halts_first, halts_then, halts_behind, run_seen}
@@ -35,7 +35,7 @@ use Rattle.bread.proofs.Takings.{falls_after, falls_all}
 
 -- what a call reads, as a part of what its caller reads
 module _ {I A B : Type 0} (q : I → Reader B) (effects : B → Draft → Draft) (p : I → Reader A) (effect : A → Draft → Draft) (made : A → B) (same : (a : A) (d : Draft) → effects (made a) d ≡ effect a d) where
-  pub compiles_behind : (old mid : Tokens) (start : Draft) (r : Result (Unit {0}) Halt) (new : Tokens) (draft : Draft) → work mid ≤ work old → ((i : I) → Runs old mid (q i) (λ v. p i v >>= λ a. Got (made a))) → Compiles p effect mid start r new draft → Compiles q effects old start r new draft
+  pub compiles_behind : (old mid : Tokens) (start : Draft) (r : Result (Unit {0}) Halt) (new : Tokens) (draft : Draft) → work mid ≤ work old → ((i : I) → Runs old mid (q i) (λ v. p i v >>= λ a. Got (made a))) → CompilesPart p effect mid start r new draft → CompilesPart q effects old start r new draft
   compiles_behind old mid start (Ok u) new draft l m k = (λ i. let t = k.0 i in record { tree = made t.tree; runs = went (λ a. Got (made a)) (m i) t.runs; made = t.made ∙ sym (same t.tree start) }, k.1, falls_after l k.2)
   compiles_behind old mid start (Err why) new draft l m k = λ i. halts_then old mid new (q i) (p i) (λ a. Got (made a)) why (m i) (k i)
 
@@ -53,13 +53,13 @@ module _ (room : ℕ) where
   abbrev semicolon : Expr → Reader Expr
   semicolon e r = expect is_semicolon r >>= λ o. Got e
 
-  pub ended_first : (off : ℕ) (old new : Tokens) (why : Halt) → Halts (reader room Rvalue off) old why new → Halts (ended room off) old why new
+  pub ended_first : (off : ℕ) (old new : Tokens) (why : Halt) → Halts (reader room Rvalue off) old why new → Halts (rvalue_ended room off) old why new
   ended_first off old new why h = halts_first old new (reader room Rvalue off) semicolon why h
 
-  pub ended_then : (off : ℕ) (old mid new : Tokens) (e : Expr) (why : Halt) → Runs old mid (reader room Rvalue off) (λ v. Got e v) → Halts (expect is_semicolon) mid why new → Halts (ended room off) old why new
-  ended_then off old mid new e why r h = halts_then old mid new (ended room off) (expect is_semicolon) (λ o. Got e) why (began semicolon r) h
+  pub ended_then : (off : ℕ) (old mid new : Tokens) (e : Expr) (why : Halt) → Runs old mid (reader room Rvalue off) (λ v. Got e v) → Halts (expect is_semicolon) mid why new → Halts (rvalue_ended room off) old why new
+  ended_then off old mid new e why r h = halts_then old mid new (rvalue_ended room off) (expect is_semicolon) (λ o. Got e) why (began semicolon r) h
 
-  pub ended_took : {off : ℕ} {old mid new : Tokens} {start draft draft2 : Draft} (last : Instr) → TookWord (reader room Rvalue off) start old mid draft → Runs mid new (expect is_semicolon) (λ v. Got tt v) → draft2 ≡ emitted last draft → Took (ended room off) (evaluated_to last) start old new draft2
+  pub ended_took : {off : ℕ} {old mid new : Tokens} {start draft draft2 : Draft} (last : Instr) → TookWord (reader room Rvalue off) start old mid draft → Runs mid new (expect is_semicolon) (λ v. Got tt v) → draft2 ≡ emitted last draft → PartTaken (rvalue_ended room off) (evaluated_to last) start old new draft2
   ended_took last t r e = record { tree = t.tree; runs = went (λ o. Got t.tree) (began semicolon t.runs) r; made = e ∙ ap (emitted last) t.made }
 
   -- the value of a return
@@ -78,7 +78,7 @@ module _ (room : ℕ) where
   pub value_last : (off : ℕ) (old mid next new : Tokens) (e : Expr) (why : Halt) → Runs old mid (reader room Rvalue off) (λ v. Got e v) → Runs mid next (expect is_close_paren) (λ v. Got tt v) → Halts (expect is_semicolon) next why new → Halts (return_value room off) old why new
   value_last off old mid next new e why r s h = halts_then old next new (return_value room off) (expect is_semicolon) (λ o. Got (ReturnValue e)) why (value_closed r s) h
 
-  pub value_took : {off : ℕ} {old mid next new : Tokens} {start draft draft2 : Draft} → TookWord (reader room Rvalue off) start old mid draft → Runs mid next (expect is_close_paren) (λ v. Got tt v) → Runs next new (expect is_semicolon) (λ v. Got tt v) → draft2 ≡ emitted instr.Return draft → Took (return_value room off) done start old new draft2
+  pub value_took : {off : ℕ} {old mid next new : Tokens} {start draft draft2 : Draft} → TookWord (reader room Rvalue off) start old mid draft → Runs mid next (expect is_close_paren) (λ v. Got tt v) → Runs next new (expect is_semicolon) (λ v. Got tt v) → draft2 ≡ emitted instr.Return draft → PartTaken (return_value room off) done start old new draft2
   value_took t r s e = record { tree = ReturnValue t.tree; runs = went (λ o. Got (ReturnValue t.tree)) (value_closed t.runs r) s; made = e ∙ ap (emitted instr.Return) t.made }
 
   -- a condition
@@ -97,7 +97,7 @@ module _ (room : ℕ) where
   pub condition_then : (off : ℕ) (old mid new : Tokens) (why : Halt) → Runs old mid (expect is_open_paren) (λ v. Got tt v) → Halts (reader room Rvalue off) mid why new → Halts (condition room off) old why new
   condition_then off old mid new why r h = halts_then old mid new (condition room off) (reader room Rvalue off) shut why (condition_opened r) h
 
-  pub condition_ends : (old mid next : Tokens) (start d0 draft draft2 : Draft) (r : Result (Unit {0}) Halt) (new : Tokens) → work mid < work old → Runs old mid (expect is_open_paren) (λ v. Got tt v) → d0 ≡ start → ((off : ℕ) → TookWord (reader room Rvalue off) d0 mid next draft) → Expects is_close_paren next r new → draft2 ≡ draft → Compiles (condition room) evaluated old start r new draft2
+  pub condition_ends : (old mid next : Tokens) (start d0 draft draft2 : Draft) (r : Result (Unit {0}) Halt) (new : Tokens) → work mid < work old → Runs old mid (expect is_open_paren) (λ v. Got tt v) → d0 ≡ start → ((off : ℕ) → TookWord (reader room Rvalue off) d0 mid next draft) → Expects is_close_paren next r new → draft2 ≡ draft → CompilesPart (condition room) evaluated old start r new draft2
   condition_ends old mid next start d0 draft draft2 (Ok o) new l r same t k e = (λ off. let w = t off in record { tree = w.tree; runs = went (λ o. Got w.tree) (went shut (condition_opened r) w.runs) k.0; made = e ∙ w.made ∙ ap (evaluated w.tree) same }, k.1, let w = (t 0).runs.falls in falls_all l w k.2)
   condition_ends old mid next start d0 draft draft2 (Err why) new l r same t k e = λ off. let w = t off in halts_then old next new (condition room off) (expect is_close_paren) (λ o. Got w.tree) why (went shut (condition_opened r) w.runs) k
 
@@ -154,30 +154,30 @@ pub tested_enter : (room off : ℕ) (old new : Tokens) (behind : Level → ℕ �
 tested_enter room off old new behind why h = enter_halts old new room (λ l o ts. expect is_open_paren ts >>= λ o r. l.expr off r >>= λ e r. expect is_close_paren r >>= λ o. behind l off e) why h
 
 -- an if
-pub conditional_body : (room k off : ℕ) (old mid next new : Tokens) (h : (room ≡ k + 1) × Advances old mid) (e : Expr) (c : Runs mid next (condition k off) (λ v. Got e v)) (why : Halt) → Halts (statement k (off + words e)) next why new → Halts (conditional room off) old why new
+pub conditional_body : (room k off : ℕ) (old mid next new : Tokens) (h : (room ≡ k + 1) × Advances old mid) (e : Expr) (c : Runs mid next (condition k off) (λ v. Got e v)) (why : Halt) → Halts (statement k (off + words e)) next why new → Halts (conditional_behind room off) old why new
 conditional_body room k off old mid next new h e c why x = tested_body_halts room k off old mid h chosen next e c (else_part (level (suc k)) off e) (λ ts. refl) new why x
 
-module _ (room k test : ℕ) (old mid next last : Tokens) (start d0 d1 d2 d3 : Draft) (h : (room ≡ k + 1) × Advances old mid) (same : d0 ≡ start) (c : (off : ℕ) → Took (condition k off) evaluated d0 mid next d1) (test_is : test ≡ place_of d1) (jumped : d2 ≡ emitted (instr.JumpIfZero 0) d1) (b : (off : ℕ) → Took (statement k off) done d2 next last d3) (less_b : work last < work next) where
+module _ (room k test : ℕ) (old mid next last : Tokens) (start d0 d1 d2 d3 : Draft) (h : (room ≡ k + 1) × Advances old mid) (same : d0 ≡ start) (c : (off : ℕ) → PartTaken (condition k off) evaluated d0 mid next d1) (test_is : test ≡ place_of d1) (jumped : d2 ≡ emitted (instr.JumpIfZero 0) d1) (b : (off : ℕ) → PartTaken (statement k off) done d2 next last d3) (less_b : work last < work next) where
   evaluated_is : (off : ℕ) → d1 ≡ evaluated (c off).tree start
   evaluated_is off = (c off).made ∙ ap (evaluated (c off).tree) same
 
-  body_of : (off : ℕ) → Took (statement k (off + words (c off).tree)) done d2 next last d3
+  body_of : (off : ℕ) → PartTaken (statement k (off + words (c off).tree)) done d2 next last d3
   body_of off = b (off + words (c off).tree)
 
-  pub conditional_ends : (r : Result (Unit {0}) Halt) (new : Tokens) (draft : Draft) → Chooses k test last d3 r new draft → Compiles (conditional room) done old start r new draft
+  pub conditional_ends : (r : Result (Unit {0}) Halt) (new : Tokens) (draft : Draft) → Chooses k test last d3 r new draft → CompilesPart (conditional_behind room) done old start r new draft
   conditional_ends (Ok o) new draft x = (took, x.1, falls_to x.2)
     where
-      runs : (off : ℕ) → Runs old last (conditional room off) (else_part (level (suc k)) off (c off).tree (body_of off).tree)
+      runs : (off : ℕ) → Runs old last (conditional_behind room off) (else_part (level (suc k)) off (c off).tree (body_of off).tree)
       runs off = went (else_part (level (suc k)) off (c off).tree) (tested_on room k off old mid h chosen next (c off).tree (c off).runs (else_part (level (suc k)) off (c off).tree) (λ ts. refl)) (body_of off).runs
 
-      took : (off : ℕ) → Took (conditional room off) done start old new draft
+      took : (off : ℕ) → PartTaken (conditional_behind room off) done start old new draft
       took off =
           let t = x.0 off (c off).tree (body_of off).tree start (test_is ∙ ap place_of (evaluated_is off)) ((body_of off).made ∙ ap (done (body_of off).tree) (jumped ∙ ap (emitted (instr.JumpIfZero 0)) (evaluated_is off))) in
           record { tree = t.tree; runs = run_then (runs off) t.runs; made = t.made }
 
       falls_to : work new ≤ work last → work new < work old
       falls_to l = let a = h.1.falls in let m = (c 0).runs.falls in omega (arith, l, less_b)
-  conditional_ends (Err why) new draft x = λ off. halts_behind old last new (conditional room off) (else_part (level (suc k)) off (c off).tree (body_of off).tree) why (went (else_part (level (suc k)) off (c off).tree) (tested_on room k off old mid h chosen next (c off).tree (c off).runs (else_part (level (suc k)) off (c off).tree) (λ ts. refl)) (body_of off).runs) (x off (c off).tree (body_of off).tree)
+  conditional_ends (Err why) new draft x = λ off. halts_behind old last new (conditional_behind room off) (else_part (level (suc k)) off (c off).tree (body_of off).tree) why (went (else_part (level (suc k)) off (c off).tree) (tested_on room k off old mid h chosen next (c off).tree (c off).runs (else_part (level (suc k)) off (c off).tree) (λ ts. refl)) (body_of off).runs) (x off (c off).tree (body_of off).tree)
 
 -- the jumps round two statements
 joined : (other s : Stmt) (d : Draft) (test jump : ℕ) (f d1 d2 g : Draft) → test ≡ place_of d → f ≡ done s (emitted (instr.JumpIfZero 0) d) → jump ≡ place_of f → d1 ≡ emitted (instr.Jump 0) f → d2 ≡ filled test (instr.JumpIfZero (place_of d1)) d1 → g ≡ done other d2 → filled jump (instr.Jump (place_of g)) g ≡ effects.ways (λ b. done s b) (λ b. done other b) d
@@ -187,7 +187,7 @@ joined other s d test jump f d1 d2 g at b j e1 e2 o = rw (o, e2, e1, j, b, at) r
 pub otherwise_absent : (k test : ℕ) (old : Tokens) (start draft : Draft) → IsSingle old → is_else (first old.ahead) ≡ false → draft ≡ filled test (instr.JumpIfZero (place_of start)) start → Chooses k test old start (Ok tt) old draft
 otherwise_absent k test old start draft l n f = (took, l, omega arith)
   where
-    took : (off : ℕ) (e : Expr) (s : Stmt) (d : Draft) → test ≡ place_of (evaluated e d) → start ≡ done s (emitted (instr.JumpIfZero 0) (evaluated e d)) → Took (else_part (level (suc k)) off e s) done d old old draft
+    took : (off : ℕ) (e : Expr) (s : Stmt) (d : Draft) → test ≡ place_of (evaluated e d) → start ≡ done s (emitted (instr.JumpIfZero 0) (evaluated e d)) → PartTaken (else_part (level (suc k)) off e s) done d old old draft
     took off e s d t b = record {
       tree = If e s;
       runs = run_here {g = λ v. Got (If e s) v} l.0 (λ u f m. ap (λ b. if b then statement k (off + words e + statement_words s) (after u) >>= (λ other. Got (IfElse e s other)) else Got (If e s) u) (ap is_else f ∙ n));
@@ -201,10 +201,10 @@ module _ (k : ℕ) (old mid : Tokens) (a : Advances old mid) (y : is_else (first
   pub otherwise_halts : (off : ℕ) (e : Expr) (s : Stmt) (new : Tokens) (why : Halt) → Halts (statement k (off + words e + statement_words s)) mid why new → Halts (else_part (level (suc k)) off e s) old why new
   otherwise_halts off e s new why h = halts_then old mid new (else_part (level (suc k)) off e s) (statement k (off + words e + statement_words s)) (λ other. Got (IfElse e s other)) why (else_runs off e s) h
 
-  pub otherwise_took : (test jump : ℕ) (new : Tokens) (start d1 d2 d3 draft : Draft) → jump ≡ place_of start → d1 ≡ emitted (instr.Jump 0) start → d2 ≡ filled test (instr.JumpIfZero (place_of d1)) d1 → ((off : ℕ) → Took (statement k off) done d2 mid new d3) → IsSingle new → work new < work mid → draft ≡ filled jump (instr.Jump (place_of d3)) d3 → Chooses k test old start (Ok tt) new draft
+  pub otherwise_took : (test jump : ℕ) (new : Tokens) (start d1 d2 d3 draft : Draft) → jump ≡ place_of start → d1 ≡ emitted (instr.Jump 0) start → d2 ≡ filled test (instr.JumpIfZero (place_of d1)) d1 → ((off : ℕ) → PartTaken (statement k off) done d2 mid new d3) → IsSingle new → work new < work mid → draft ≡ filled jump (instr.Jump (place_of d3)) d3 → Chooses k test old start (Ok tt) new draft
   otherwise_took test jump new start d1 d2 d3 draft j e1 e2 t l f x = (took, l, let b = a.falls in omega (arith, f))
     where
-      took : (off : ℕ) (e : Expr) (s : Stmt) (d : Draft) → test ≡ place_of (evaluated e d) → start ≡ done s (emitted (instr.JumpIfZero 0) (evaluated e d)) → Took (else_part (level (suc k)) off e s) done d old new draft
+      took : (off : ℕ) (e : Expr) (s : Stmt) (d : Draft) → test ≡ place_of (evaluated e d) → start ≡ done s (emitted (instr.JumpIfZero 0) (evaluated e d)) → PartTaken (else_part (level (suc k)) off e s) done d old new draft
       took off e s d at b =
           let o = t (off + words e + statement_words s) in
           record {
@@ -225,7 +225,7 @@ repeated_body room k off old mid next new h e c why x = tested_body_halts room k
 jumped_back : (s : Stmt) (d f start : Draft) (top test mark : ℕ) (d2 d3 g draft : Draft) → top ≡ place_of start → test ≡ place_of d → d2 ≡ emitted (instr.JumpIfZero 0) d → mark ≡ mark_of d2 → d3 ≡ loop_begun d2 → f ≡ done s d3 → g ≡ closed_loop top mark f → draft ≡ filled test (instr.JumpIfZero (place_of g)) g → draft ≡ effects.skipping (λ b. effects.breaking (λ c. effects.turning (place_of start) (λ x. done s x) c) b) d
 jumped_back s d f start top test mark d2 d3 g draft t e b m l o j x = x ∙ rw (j, o, l, m, b, t, e) refl
 
-pub repeated_took : (room k top test mark : ℕ) (old mid next new : Tokens) (start d0 d1 d2 d3 d4 d5 draft : Draft) (h : (room ≡ k + 1) × Advances old mid) → top ≡ place_of start → d0 ≡ start → ((off : ℕ) → Took (condition k off) evaluated d0 mid next d1) → test ≡ place_of d1 → d2 ≡ emitted (instr.JumpIfZero 0) d1 → mark ≡ mark_of d2 → d3 ≡ loop_begun d2 → ((off : ℕ) → Took (statement k off) done d3 next new d4) → d5 ≡ closed_loop top mark d4 → draft ≡ filled test (instr.JumpIfZero (place_of d5)) d5 → (off : ℕ) → Took (repeated room off) done start old new draft
+pub repeated_took : (room k top test mark : ℕ) (old mid next new : Tokens) (start d0 d1 d2 d3 d4 d5 draft : Draft) (h : (room ≡ k + 1) × Advances old mid) → top ≡ place_of start → d0 ≡ start → ((off : ℕ) → PartTaken (condition k off) evaluated d0 mid next d1) → test ≡ place_of d1 → d2 ≡ emitted (instr.JumpIfZero 0) d1 → mark ≡ mark_of d2 → d3 ≡ loop_begun d2 → ((off : ℕ) → PartTaken (statement k off) done d3 next new d4) → d5 ≡ closed_loop top mark d4 → draft ≡ filled test (instr.JumpIfZero (place_of d5)) d5 → (off : ℕ) → PartTaken (repeated room off) done start old new draft
 repeated_took room k top test mark old mid next new start d0 d1 d2 d3 d4 d5 draft h t same c at j m l b back x off =
     let w = c off in
     let s = b (off + words w.tree) in
@@ -242,11 +242,11 @@ body_map k off made u = closed_map is_close_brace made (many (always goes_on) (o
 pub compound_enter : (room off : ℕ) (old new : Tokens) (why : Halt) → Halts (inner room).enter old why new → Halts (compound (level room) off) old why new
 compound_enter room off old new why h = enter_halts old new room (λ l o. body l off Compound) why h
 
-pub compound_ends : (room k : ℕ) (old mid : Tokens) (start d0 : Draft) (r : Result (Unit {0}) Halt) (new : Tokens) (draft : Draft) → (room ≡ k + 1) × Advances old mid → d0 ≡ start → Compiles (statements k) all_done mid d0 r new draft → Compiles (compound (level room)) done old start r new draft
+pub compound_ends : (room k : ℕ) (old mid : Tokens) (start d0 : Draft) (r : Result (Unit {0}) Halt) (new : Tokens) (draft : Draft) → (room ≡ k + 1) × Advances old mid → d0 ≡ start → CompilesPart (statements k) all_done mid d0 r new draft → CompilesPart (compound (level room)) done old start r new draft
 compound_ends room k old mid start d0 r new draft h same x =
     compiles_behind (compound (level room)) done (statements k) all_done Compound (λ a d. refl) old mid start r new draft h.1.moves.falls
     (λ off. entered room k (λ l. compound l off) (λ l u. statements k off u >>= λ ss. Got (Compound ss)) (λ u. body_map k off Compound (after u)) h)
-    (subst (λ d. Compiles (statements k) all_done mid d r new draft) same x)
+    (subst (λ d. CompilesPart (statements k) all_done mid d r new draft) same x)
 
 -- a switch
 abbrev switch_body : Level → ℕ → Expr → Reader Stmt
@@ -276,7 +276,7 @@ module _ (room k off : ℕ) (old mid : Tokens) (h : (room ≡ k + 1) × Advances
       pub switched_body_halts : (new : Tokens) (why : Halt) → Halts (statements k (off + words e)) last why new → Halts (switched (level room) off) old why new
       switched_body_halts new why x = halts_then old last new (switched (level room) off) (statements k (off + words e)) (λ ss. Got (Switch e ss)) why switched_body x
 
-      pub switched_took : (jump mark : ℕ) (new : Tokens) (start d1 d2 d3 d4 draft : Draft) → d1 ≡ evaluated e start → mark ≡ mark_of d1 → jump ≡ place_of d1 → d2 ≡ emitted (instr.Jump 0) d1 → d3 ≡ begun d2 → Took (statements k (off + words e)) all_done d3 last new d4 → draft ≡ closed_switch jump mark d4 → Took (switched (level room) off) done start old new draft
+      pub switched_took : (jump mark : ℕ) (new : Tokens) (start d1 d2 d3 d4 draft : Draft) → d1 ≡ evaluated e start → mark ≡ mark_of d1 → jump ≡ place_of d1 → d2 ≡ emitted (instr.Jump 0) d1 → d3 ≡ begun d2 → PartTaken (statements k (off + words e)) all_done d3 last new d4 → draft ≡ closed_switch jump mark d4 → PartTaken (switched (level room) off) done start old new draft
       switched_took jump mark new start d1 d2 d3 d4 draft v m j e2 e3 b x = record { tree = Switch e b.tree; runs = went (λ ss. Got (Switch e ss)) switched_body b.runs; made = x ∙ rw (b.made, e3, e2, j, m, v) refl }
 
 -- the loop of a body
@@ -325,7 +325,7 @@ module _ (room off : ℕ) (start : Draft) (old now : Tokens) (draft : Draft) (b 
         nested (Got s r) = refl
         nested (Stop r) = refl
 
-    pub body_goes : (new : Tokens) (draft2 : Draft) → Took (statement room (off + body_words b.body)) done draft now new draft2 → InBody room off start old new draft2
+    pub body_goes : (new : Tokens) (draft2 : Draft) → PartTaken (statement room (off + body_words b.body)) done draft now new draft2 → InBody room off start old new draft2
     body_goes new draft2 t = record { body = More b.body t.tree; runs = went (λ s. more (More b.body s)) body_runs t.runs; made = t.made ∙ ap (done t.tree) b.made }
 
     pub body_halts : (new : Tokens) (why : Halt) → Halts (statement room (off + body_words b.body)) now why new → Halts (statements room off) old why new
@@ -335,18 +335,18 @@ module _ (room off : ℕ) (start : Draft) (old now : Tokens) (draft : Draft) (b 
     body_over : Runs old now (statements room off) (end_of b.body)
     body_over = run_then b.runs (run_here l (λ u e m. ap (λ x. x >>= end_of) (many_none (always goes_on) (one_more (level (suc room)) off) b.body u (ap goes_on e ∙ is_over (first now.ahead) g))))
 
-    pub body_took : (new : Tokens) (draft2 : Draft) → Runs now new (expect is_close_brace) (λ v. Got tt v) → draft2 ≡ draft → Took (statements room off) all_done start old new draft2
+    pub body_took : (new : Tokens) (draft2 : Draft) → Runs now new (expect is_close_brace) (λ v. Got tt v) → draft2 ≡ draft → PartTaken (statements room off) all_done start old new draft2
     body_took new draft2 r e = record { tree = b.body; runs = went (λ o. Got b.body) body_over r; made = e ∙ b.made }
 
     pub body_stops : (new : Tokens) (why : Halt) → Halts (expect is_close_brace) now why new → Halts (statements room off) old why new
     body_stops new why h = halts_then old now new (statements room off) (expect is_close_brace) (λ o. Got b.body) why body_over h
 
-pub body_ends : (room : ℕ) (start : Draft) (old now : Tokens) (draft : Draft) → ((off : ℕ) → InBody room off start old now draft) → IsLoaded now → is_some (goes_on (first now.ahead)) ≡ false → (r : Result (Unit {0}) Halt) (new : Tokens) (draft2 : Draft) → Expects is_close_brace now r new → draft2 ≡ draft → Compiles (statements room) all_done old start r new draft2
+pub body_ends : (room : ℕ) (start : Draft) (old now : Tokens) (draft : Draft) → ((off : ℕ) → InBody room off start old now draft) → IsLoaded now → is_some (goes_on (first now.ahead)) ≡ false → (r : Result (Unit {0}) Halt) (new : Tokens) (draft2 : Draft) → Expects is_close_brace now r new → draft2 ≡ draft → CompilesPart (statements room) all_done old start r new draft2
 body_ends room start old now draft b l g (Ok o) new draft2 t e = (λ off. body_took room off start old now draft (b off) l g new draft2 t.0 e, t.1, falls_after (b 0).runs.falls t.2)
 body_ends room start old now draft b l g (Err why) new draft2 t e = λ off. body_stops room off start old now draft (b off) l g new why t
 
 -- what another reader does with these tokens
-pub compiles_as : {A : Type 0} (q p : ℕ → Reader A) (effect : A → Draft → Draft) (old : Tokens) (start : Draft) (r : Result (Unit {0}) Halt) (new : Tokens) (draft : Draft) → IsLoaded old → ((off : ℕ) (u : List Placed) → first u ≡ first old.ahead → q off u ≡ p off u) → Compiles p effect old start r new draft → Compiles q effect old start r new draft
+pub compiles_as : {A : Type 0} (q p : ℕ → Reader A) (effect : A → Draft → Draft) (old : Tokens) (start : Draft) (r : Result (Unit {0}) Halt) (new : Tokens) (draft : Draft) → IsLoaded old → ((off : ℕ) (u : List Placed) → first u ≡ first old.ahead → q off u ≡ p off u) → CompilesPart p effect old start r new draft → CompilesPart q effect old start r new draft
 compiles_as q p effect old start (Ok o) new draft l same k = (λ off. let t = k.0 off in record { tree = t.tree; runs = run_then (run_here l (λ u e m. same off u e)) t.runs; made = t.made }, k.1, k.2)
 compiles_as q p effect old start (Err why) new draft l same k = λ off. halts_behind old old new (q off) (p off) why (run_here l (λ u e m. same off u e)) (k off)
 
@@ -354,19 +354,19 @@ compiles_as q p effect old start (Err why) new draft l same k = λ off. halts_be
 pub at_brace : (room : ℕ) (old : Tokens) → first old.ahead ≡ token.OpenBrace → (off : ℕ) (u : List Placed) → first u ≡ first old.ahead → unheaded room off u ≡ compound (level room) off u
 at_brace room old h off u e = ap (λ t. stmt_at room (level room) off t u) (e ∙ h)
 
-pub empty_ends : (room : ℕ) (old : Tokens) (start : Draft) (r : Result (Unit {0}) Halt) (new : Tokens) (draft : Draft) → IsLoaded old → first old.ahead ≡ token.Semicolon → Expects is_semicolon old r new → draft ≡ start → Compiles (unheaded room) done old start r new draft
+pub empty_ends : (room : ℕ) (old : Tokens) (start : Draft) (r : Result (Unit {0}) Halt) (new : Tokens) (draft : Draft) → IsLoaded old → first old.ahead ≡ token.Semicolon → Expects is_semicolon old r new → draft ≡ start → CompilesPart (unheaded room) done old start r new draft
 empty_ends room old start r new draft l h t e = go r t
   where
     is : (off : ℕ) (u : List Placed) → first u ≡ first old.ahead → unheaded room off u ≡ (expect is_semicolon u >>= λ o. Got Empty)
     is off u f = ap (λ t. stmt_at room (level room) off t u) (f ∙ h) ∙ ap (λ t. (if is_semicolon t then Got tt (after u) else Stop u) >>= λ o. Got Empty) (sym (f ∙ h))
 
-    go : (r : Result (Unit {0}) Halt) → Expects is_semicolon old r new → Compiles (unheaded room) done old start r new draft
+    go : (r : Result (Unit {0}) Halt) → Expects is_semicolon old r new → CompilesPart (unheaded room) done old start r new draft
     go (Ok o) t = (λ off. record { tree = Empty; runs = went (λ o. Got Empty) (run_here l (λ u f m. is off u f)) t.0; made = e }, t.1, t.2)
     go (Err why) t = λ off. halts_then old old new (unheaded room off) (expect is_semicolon) (λ o. Got Empty) why (run_here l (λ u f m. is off u f)) t
 
-pub ends_with : (room : ℕ) (made : Expr → Stmt) (last : Instr) → ((e : Expr) (d : Draft) → done (made e) d ≡ emitted last (evaluated e d)) → (q : ℕ → Reader Stmt) (old mid : Tokens) (start : Draft) (r : Result (Unit {0}) Halt) (new : Tokens) (draft : Draft) → work mid ≤ work old → ((off : ℕ) → Runs old mid (q off) (λ v. whole.ended room off made v)) → Compiles (ended room) (evaluated_to last) mid start r new draft → Compiles q done old start r new draft
+pub ends_with : (room : ℕ) (made : Expr → Stmt) (last : Instr) → ((e : Expr) (d : Draft) → done (made e) d ≡ emitted last (evaluated e d)) → (q : ℕ → Reader Stmt) (old mid : Tokens) (start : Draft) (r : Result (Unit {0}) Halt) (new : Tokens) (draft : Draft) → work mid ≤ work old → ((off : ℕ) → Runs old mid (q off) (λ v. whole.ended room off made v)) → CompilesPart (rvalue_ended room) (evaluated_to last) mid start r new draft → CompilesPart q done old start r new draft
 ends_with room made last same q old mid start r new draft l m k =
-    compiles_behind q done (ended room) (evaluated_to last) made same old mid start r new draft l (λ off. Moves-as (λ u v. q off u ≡ (ended room off v >>= λ e. Got (made e))) (λ u v x. x ∙ closed_map is_semicolon made (reader room Rvalue off v)) (m off)) k
+    compiles_behind q done (rvalue_ended room) (evaluated_to last) made same old mid start r new draft l (λ off. Moves-as (λ u v. q off u ≡ (rvalue_ended room off v >>= λ e. Got (made e))) (λ u v x. x ∙ closed_map is_semicolon made (reader room Rvalue off v)) (m off)) k
 
 plain_at : (room off : ℕ) (t : Token) (u : List Placed) → (t ≡ token.OpenBrace → ⊥) → (t ≡ token.Semicolon → ⊥) → ((k : Keyword) → t ≡ token.Keyword k → ⊥) → stmt_at room (level room) off t u ≡ whole.ended room off Evaluate u
 plain_at room off token.OpenBrace u a b c = absurd (a refl)
@@ -374,7 +374,7 @@ plain_at room off token.Semicolon u a b c = absurd (b refl)
 plain_at room off (token.Keyword k) u a b c = absurd (c k refl)
 plain_at room off _ u a b c = refl
 
-pub plain_ends : (room : ℕ) (old : Tokens) (start : Draft) (r : Result (Unit {0}) Halt) (new : Tokens) (draft : Draft) → IsLoaded old → (first old.ahead ≡ token.OpenBrace → ⊥) → (first old.ahead ≡ token.Semicolon → ⊥) → ((k : Keyword) → first old.ahead ≡ token.Keyword k → ⊥) → Compiles (ended room) (evaluated_to instr.Pop) old start r new draft → Compiles (unheaded room) done old start r new draft
+pub plain_ends : (room : ℕ) (old : Tokens) (start : Draft) (r : Result (Unit {0}) Halt) (new : Tokens) (draft : Draft) → IsLoaded old → (first old.ahead ≡ token.OpenBrace → ⊥) → (first old.ahead ≡ token.Semicolon → ⊥) → ((k : Keyword) → first old.ahead ≡ token.Keyword k → ⊥) → CompilesPart (rvalue_ended room) (evaluated_to instr.Pop) old start r new draft → CompilesPart (unheaded room) done old start r new draft
 plain_ends room old start r new draft l a b c k =
     ends_with room Evaluate instr.Pop (λ e d. refl) (unheaded room) old old start r new draft (omega arith) (λ off. run_here l (λ u e m. ap (λ t. stmt_at room (level room) off t u) e ∙ plain_at room off (first old.ahead) u a b c)) k
 
@@ -382,7 +382,7 @@ plain_ends room old start r new draft l a b c k =
 at_keyword : (room off : ℕ) (old : Tokens) (k : Keyword) (u : List Placed) → first old.ahead ≡ token.Keyword k → first u ≡ first old.ahead → unheaded room off u ≡ stmt_at room (level room) off (token.Keyword k) u
 at_keyword room off old k u h e = ap (λ t. stmt_at room (level room) off t u) (e ∙ h)
 
-pub at_if : (room : ℕ) (old : Tokens) → first old.ahead ≡ token.Keyword keyword.If → (off : ℕ) (u : List Placed) → first u ≡ first old.ahead → unheaded room off u ≡ conditional room off u
+pub at_if : (room : ℕ) (old : Tokens) → first old.ahead ≡ token.Keyword keyword.If → (off : ℕ) (u : List Placed) → first u ≡ first old.ahead → unheaded room off u ≡ conditional_behind room off u
 at_if room old h off u e = at_keyword room off old keyword.If u h e
 
 pub at_while : (room : ℕ) (old : Tokens) → first old.ahead ≡ token.Keyword keyword.While → (off : ℕ) (u : List Placed) → first u ≡ first old.ahead → unheaded room off u ≡ repeated room off u
@@ -391,30 +391,30 @@ at_while room old h off u e = at_keyword room off old keyword.While u h e
 pub at_switch : (room : ℕ) (old : Tokens) → first old.ahead ≡ token.Keyword keyword.Switch → (off : ℕ) (u : List Placed) → first u ≡ first old.ahead → unheaded room off u ≡ switched (level room) off u
 at_switch room old h off u e = at_keyword room off old keyword.Switch u h e
 
-pub at_goto : (room : ℕ) (old : Tokens) → first old.ahead ≡ token.Keyword keyword.Goto → (off : ℕ) (u : List Placed) → first u ≡ first old.ahead → unheaded room off u ≡ behind (λ off. whole.ended room off Goto) off u
+pub at_goto : (room : ℕ) (old : Tokens) → first old.ahead ≡ token.Keyword keyword.Goto → (off : ℕ) (u : List Placed) → first u ≡ first old.ahead → unheaded room off u ≡ behind_current (λ off. whole.ended room off Goto) off u
 at_goto room old h off u e = at_keyword room off old keyword.Goto u h e
 
-pub goto_ends : (room : ℕ) (old mid : Tokens) (start : Draft) (r : Result (Unit {0}) Halt) (new : Tokens) (draft : Draft) → Advances old mid → Compiles (ended room) (evaluated_to instr.Goto) mid start r new draft → Compiles (behind (λ off. whole.ended room off Goto)) done old start r new draft
-goto_ends room old mid start r new draft a k = ends_with room Goto instr.Goto (λ e d. refl) (behind (λ off. whole.ended room off Goto)) old mid start r new draft a.moves.falls (λ off. run_past a (λ u e l. refl)) k
+pub goto_ends : (room : ℕ) (old mid : Tokens) (start : Draft) (r : Result (Unit {0}) Halt) (new : Tokens) (draft : Draft) → Advances old mid → CompilesPart (rvalue_ended room) (evaluated_to instr.Goto) mid start r new draft → CompilesPart (behind_current (λ off. whole.ended room off Goto)) done old start r new draft
+goto_ends room old mid start r new draft a k = ends_with room Goto instr.Goto (λ e d. refl) (behind_current (λ off. whole.ended room off Goto)) old mid start r new draft a.moves.falls (λ off. run_past a (λ u e l. refl)) k
 
-pub return_ends : (room : ℕ) (old mid : Tokens) (start : Draft) (r : Result (Unit {0}) Halt) (new : Tokens) (draft : Draft) → first old.ahead ≡ token.Keyword keyword.Return → Advances old mid → Compiles (returned room) done mid start r new draft → Compiles (unheaded room) done old start r new draft
+pub return_ends : (room : ℕ) (old mid : Tokens) (start : Draft) (r : Result (Unit {0}) Halt) (new : Tokens) (draft : Draft) → first old.ahead ≡ token.Keyword keyword.Return → Advances old mid → CompilesPart (returned room) done mid start r new draft → CompilesPart (unheaded room) done old start r new draft
 return_ends room old mid start (Ok o) new draft h a k = (λ off. let t = k.0 off in record { tree = t.tree; runs = run_then (run_past a (λ u e l. at_keyword room off old keyword.Return u h e)) t.runs; made = t.made }, k.1, falls_after a.moves.falls k.2)
 return_ends room old mid start (Err why) new draft h a k = λ off. halts_behind old mid new (unheaded room off) (returned room off) why (run_past a (λ u e l. at_keyword room off old keyword.Return u h e)) (k off)
 
 -- a break
-pub broken_halts : (line : ℕ) (old new : Tokens) (why : Halt) → Halts (expect is_semicolon) old why new → Halts (broken line) old why new
+pub broken_halts : (line : ℕ) (old new : Tokens) (why : Halt) → Halts (expect is_semicolon) old why new → Halts (break_behind line) old why new
 broken_halts line old new why h = halts_first old new (expect is_semicolon) (λ o. Got (Break line)) why h
 
-pub broken_took : {old new : Tokens} {start draft : Draft} (line : ℕ) → Runs old new (expect is_semicolon) (λ v. Got tt v) → draft ≡ broken_here line start → Took (broken line) done start old new draft
+pub broken_took : {old new : Tokens} {start draft : Draft} (line : ℕ) → Runs old new (expect is_semicolon) (λ v. Got tt v) → draft ≡ broken_here line start → PartTaken (break_behind line) done start old new draft
 broken_took line r e = record { tree = Break line; runs = began (λ o. Got (Break line)) r; made = e }
 
-module _ (room line : ℕ) (old mid : Tokens) (n : line ≡ line_of old.ahead) (h : first old.ahead ≡ token.Keyword keyword.Break) (a : Advances old mid) where
-  broken_behind : (off : ℕ) → Runs old mid (unheaded room off) (broken line)
-  broken_behind off = run_past a (λ u e l. at_keyword room off old keyword.Break u h e ∙ ap (λ m. broken m (after u)) (l ∙ sym n))
+module _ (room line : ℕ) (old mid : Tokens) (n : line ≡ line_ahead old.ahead) (h : first old.ahead ≡ token.Keyword keyword.Break) (a : Advances old mid) where
+  broken_behind : (off : ℕ) → Runs old mid (unheaded room off) (break_behind line)
+  broken_behind off = run_past a (λ u e l. at_keyword room off old keyword.Break u h e ∙ ap (λ m. break_behind m (after u)) (l ∙ sym n))
 
-  pub break_ends : (start : Draft) (r : Result (Unit {0}) Halt) (new : Tokens) (draft : Draft) → Compiles (alone (broken line)) done mid start r new draft → Compiles (unheaded room) done old start r new draft
+  pub break_ends : (start : Draft) (r : Result (Unit {0}) Halt) (new : Tokens) (draft : Draft) → CompilesPart (untold (break_behind line)) done mid start r new draft → CompilesPart (unheaded room) done old start r new draft
   break_ends start (Ok o) new draft k = (λ off. let t = k.0 tt in record { tree = t.tree; runs = run_then (broken_behind off) t.runs; made = t.made }, k.1, falls_after a.moves.falls k.2)
-  break_ends start (Err why) new draft k = λ off. halts_behind old mid new (unheaded room off) (broken line) why (broken_behind off) (k tt)
+  break_ends start (Err why) new draft k = λ off. halts_behind old mid new (unheaded room off) (break_behind line) why (broken_behind off) (k tt)
 
 other_keyword : (room off : ℕ) (k : Keyword) (u : List Placed) → (k ≡ keyword.If → ⊥) → (k ≡ keyword.While → ⊥) → (k ≡ keyword.Switch → ⊥) → (k ≡ keyword.Goto → ⊥) → (k ≡ keyword.Break → ⊥) → (k ≡ keyword.Return → ⊥) → stmt_at room (level room) off (token.Keyword k) u ≡ whole.ended room off Evaluate u
 other_keyword room off keyword.If u a b c d f e = absurd (a refl)
@@ -425,7 +425,7 @@ other_keyword room off keyword.Break u a b c d f e = absurd (f refl)
 other_keyword room off keyword.Return u a b c d f e = absurd (e refl)
 other_keyword room off _ u a b c d f e = refl
 
-pub other_ends : (room : ℕ) (k : Keyword) (old : Tokens) (start : Draft) (r : Result (Unit {0}) Halt) (new : Tokens) (draft : Draft) → IsLoaded old → first old.ahead ≡ token.Keyword k → (k ≡ keyword.If → ⊥) → (k ≡ keyword.While → ⊥) → (k ≡ keyword.Switch → ⊥) → (k ≡ keyword.Goto → ⊥) → (k ≡ keyword.Break → ⊥) → (k ≡ keyword.Return → ⊥) → Compiles (ended room) (evaluated_to instr.Pop) old start r new draft → Compiles (unheaded room) done old start r new draft
+pub other_ends : (room : ℕ) (k : Keyword) (old : Tokens) (start : Draft) (r : Result (Unit {0}) Halt) (new : Tokens) (draft : Draft) → IsLoaded old → first old.ahead ≡ token.Keyword k → (k ≡ keyword.If → ⊥) → (k ≡ keyword.While → ⊥) → (k ≡ keyword.Switch → ⊥) → (k ≡ keyword.Goto → ⊥) → (k ≡ keyword.Break → ⊥) → (k ≡ keyword.Return → ⊥) → CompilesPart (rvalue_ended room) (evaluated_to instr.Pop) old start r new draft → CompilesPart (unheaded room) done old start r new draft
 other_ends room k old start r new draft l h a b c d g e x =
     ends_with room Evaluate instr.Pop (λ e d. refl) (unheaded room) old old start r new draft (omega arith) (λ off. run_here l (λ u f m. at_keyword room off old k u h f ∙ other_keyword room off k u a b c d g e)) x
 
@@ -435,7 +435,7 @@ module _ (room : ℕ) (old : Tokens) where
     value_behind : (off : ℕ) → Runs old mid (returned room off) (return_value room off)
     value_behind off = run_past a (λ u e l. ap (λ b. if b then return_value room off (after u) else expect is_semicolon u >>= (λ o. Got Return)) (ap is_open_paren e ∙ p))
 
-    pub returned_value : (start : Draft) (r : Result (Unit {0}) Halt) (new : Tokens) (draft : Draft) → Compiles (return_value room) done mid start r new draft → Compiles (returned room) done old start r new draft
+    pub returned_value : (start : Draft) (r : Result (Unit {0}) Halt) (new : Tokens) (draft : Draft) → CompilesPart (return_value room) done mid start r new draft → CompilesPart (returned room) done old start r new draft
     returned_value start (Ok o) new draft k = (λ off. let t = k.0 off in record { tree = t.tree; runs = run_then (value_behind off) t.runs; made = t.made }, k.1, falls_after a.moves.falls k.2)
     returned_value start (Err why) new draft k = λ off. halts_behind old mid new (returned room off) (return_value room off) why (value_behind off) (k off)
 
@@ -446,7 +446,7 @@ module _ (room : ℕ) (old : Tokens) where
     pub returned_halts : (off : ℕ) (new : Tokens) (why : Halt) → Halts (expect is_semicolon) old why new → Halts (returned room off) old why new
     returned_halts off new why h = halts_then old old new (returned room off) (expect is_semicolon) (λ o. Got Return) why (bare off) h
 
-    pub returned_took : (off : ℕ) (new : Tokens) (start d1 d2 draft : Draft) → Runs old new (expect is_semicolon) (λ v. Got tt v) → d1 ≡ start → d2 ≡ emitted (instr.Constant 0) d1 → draft ≡ emitted instr.Return d2 → Took (returned room off) done start old new draft
+    pub returned_took : (off : ℕ) (new : Tokens) (start d1 d2 draft : Draft) → Runs old new (expect is_semicolon) (λ v. Got tt v) → d1 ≡ start → d2 ≡ emitted (instr.Constant 0) d1 → draft ≡ emitted instr.Return d2 → PartTaken (returned room off) done start old new draft
     returned_took off new start d1 d2 draft r e1 e2 e3 = record { tree = Return; runs = went (λ o. Got Return) (bare off) r; made = e3 ∙ rw (e2, e1) refl }
 
 -- headings
@@ -483,13 +483,13 @@ module _ {start draft : Draft} {old now : Tokens} (b : InHeadings start old now 
   headings_stop new draft2 halt.Fault h room off = (Moves-append {P = Behind_headings} {Q = StopsHeading} (λ u w. statement room off u ≡ Stop w) (λ u v w p q. p room off ∙ ap (λ x. x >>= λ s. Got (headed b.headings s)) (q room off)) b.moves h.0, h.1)
   headings_stop new draft2 halt.Device h room off = Moves-breaks b.moves h
 
-  pub headings_end : (room : ℕ) (mid : Tokens) (d : Draft) → Moves now mid IsUnheaded × IsLoaded mid × (d ≡ draft) → (r : Result (Unit {0}) Halt) (new : Tokens) (draft2 : Draft) → Compiles (unheaded room) done mid d r new draft2 → Compiles (statement room) done old start r new draft2
+  pub headings_end : (room : ℕ) (mid : Tokens) (d : Draft) → Moves now mid IsUnheaded × IsLoaded mid × (d ≡ draft) → (r : Result (Unit {0}) Halt) (new : Tokens) (draft2 : Draft) → CompilesPart (unheaded room) done mid d r new draft2 → CompilesPart (statement room) done old start r new draft2
   headings_end room mid d h r new draft2 k = go r k
     where
       on : (off : ℕ) → Runs old mid (statement room off) (λ v. unheaded room off v >>= λ s. Got (headed b.headings s))
       on off = Moves-append {P = Behind_headings} {Q = IsUnheaded} (λ u w. statement room off u ≡ (unheaded room off w >>= λ s. Got (headed b.headings s))) (λ u v w p q. p room off ∙ ap (λ x. x >>= λ s. Got (headed b.headings s)) (q room off)) b.moves h.0
 
-      go : (r : Result (Unit {0}) Halt) → Compiles (unheaded room) done mid d r new draft2 → Compiles (statement room) done old start r new draft2
+      go : (r : Result (Unit {0}) Halt) → CompilesPart (unheaded room) done mid d r new draft2 → CompilesPart (statement room) done old start r new draft2
       go (Ok o) k = (λ off. let t = k.0 off in record { tree = headed b.headings t.tree; runs = went (λ s. Got (headed b.headings s)) (on off) t.runs; made = t.made ∙ ap (done t.tree) h.2 ∙ sym (b.made t.tree) }, k.1, falls_after (on 0).falls k.2)
       go (Err why) k = λ off. halts_then old mid new (statement room off) (unheaded room off) (λ s. Got (headed b.headings s)) why (on off) (k off)
 

@@ -2,20 +2,20 @@
 use Rattle.std.proofs.Common.{◌≡◌, ℕ, List, ◌∷◌, ◌++◌, Result, Ok, Err, IsErrAnd, refl, sym, subst}
 use Rattle.bword.specs.declared.edition.Edition.{Edition}
 use Rattle.blang.specs.declared.token.Placed.{Placed}
-use Rattle.btree.specs.Reading.{Reader, Got, ◌>>=◌, first, line_of}
+use Rattle.btree.specs.Reading.{Reader, Got, ◌>>=◌, first, line_ahead}
 use Rattle.bemit.specs.Drafts.{Draft}
-use Rattle.bexpr.specs.Tokens.{Tokens, tokens_of, tokens_with, IsLoaded, Moves, Runs, Breaks}
+use Rattle.bexpr.specs.Tokens.{Tokens, tokens_of, tokens_with, IsLoaded, Moves, Runs, TokensFail}
 use Rattle.bexpr.specs.declared.halt.Halt.{Halt}
 use Rattle.bexpr.specs.declared.halt.Halt.TheVariants as halt
 use Rattle.bexpr.specs.Parsers.{Halts}
-use Rattle.bread.specs.Compiling.{Compiles}
+use Rattle.bread.specs.Compiling.{CompilesPart}
 use Rattle.bexpr.proofs.TokenSteps.{Moves-breaks, stays_same}
 use Rattle.bexpr.proofs.Moving.{run_then, run_bind}
 
 first_with : (ahead : List Placed) (edition : Edition) (line : ℕ) (bytes : List ℕ) (p : Placed) (ps : List Placed) → ahead ≡ p ∷ ps → first (tokens_with ahead edition line bytes) ≡ first ahead
 first_with ahead edition line bytes p ps e = rw e refl
 
-line_with : (ahead : List Placed) (edition : Edition) (line : ℕ) (bytes : List ℕ) (p : Placed) (ps : List Placed) → ahead ≡ p ∷ ps → line_of (tokens_with ahead edition line bytes) ≡ line_of ahead
+line_with : (ahead : List Placed) (edition : Edition) (line : ℕ) (bytes : List ℕ) (p : Placed) (ps : List Placed) → ahead ≡ p ∷ ps → line_ahead (tokens_with ahead edition line bytes) ≡ line_ahead ahead
 line_with ahead edition line bytes p ps e = rw e refl
 
 module _ {A B : Type 0} where
@@ -41,11 +41,11 @@ module _ {A : Type 0} where
   halts_behind a b c whole rest halt.Device m h = Moves-breaks m h
 
   -- a read failed
-  pub device : (a b : Tokens) (whole : Reader A) (why : Halt) → why ≡ halt.Device → Breaks a b → Halts whole a why b
+  pub device : (a b : Tokens) (whole : Reader A) (why : Halt) → why ≡ halt.Device → TokensFail a b → Halts whole a why b
   device a b whole why e h = subst (λ w. Halts whole a w b) (sym e) h
 
 -- nothing was taken
-pub run_seen : {t : Tokens} {P : List Placed → List Placed → Type 0} → IsLoaded t → ((u : List Placed) (more : List ℕ) → u ≡ tokens_of t more → first u ≡ first t.ahead → line_of u ≡ line_of t.ahead → P u u) → Moves t t P
+pub run_seen : {t : Tokens} {P : List Placed → List Placed → Type 0} → IsLoaded t → ((u : List Placed) (more : List ℕ) → u ≡ tokens_of t more → first u ≡ first t.ahead → line_ahead u ≡ line_ahead t.ahead → P u u) → Moves t t P
 run_seen {t} {P} l f =
     let s = stays_same t l.near in
     record {
@@ -58,6 +58,6 @@ run_seen {t} {P} l f =
     }
 
 -- the exits of a `?`
-pub compiles_err : {I A : Type 0} (reader : I → Reader A) (effect : A → Draft → Draft) (old : Tokens) (start : Draft) (r : Result (Unit {0}) Halt) (new : Tokens) (draft : Draft) (why : Halt) → IsErrAnd r (λ y. y ≡ why) → ((i : I) → Halts (reader i) old why new) → Compiles reader effect old start r new draft
+pub compiles_err : {I A : Type 0} (reader : I → Reader A) (effect : A → Draft → Draft) (old : Tokens) (start : Draft) (r : Result (Unit {0}) Halt) (new : Tokens) (draft : Draft) (why : Halt) → IsErrAnd r (λ y. y ≡ why) → ((i : I) → Halts (reader i) old why new) → CompilesPart reader effect old start r new draft
 compiles_err reader effect old start (Ok u) new draft why e h = absurd e
 compiles_err reader effect old start (Err s) new draft why e h = λ i. subst (λ x. Halts (reader i) old x new) (sym e) (h i)

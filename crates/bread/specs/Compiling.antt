@@ -3,10 +3,10 @@ use Rattle.std.specs.Prelude.{◌≡◌, ℕ, ◌<◌, Bool, true, false, Option
 use Rattle.blang.specs.Trees.{Constant, Heading}
 use Rattle.btree.specs.Reading.{Reader, Got}
 use Rattle.btree.specs.StatementReader.{name, size, constant}
-use Rattle.blang.specs.Scan.{value_of}
+use Rattle.blang.specs.Scan.{constant_value}
 use Rattle.bemit.specs.Drafts.{Draft}
 use Rattle.bemit.specs.Effects.{headed}
-use Rattle.bexpr.specs.Tokens.{Tokens, IsLoaded, IsSingle, Moves, Runs, Breaks, work}
+use Rattle.bexpr.specs.Tokens.{Tokens, IsLoaded, IsSingle, Moves, Runs, TokensFail, work}
 use Rattle.bexpr.specs.declared.halt.Halt.{Halt}
 use Rattle.bexpr.specs.declared.halt.Halt.TheVariants as halt
 use Rattle.bexpr.specs.Parsers.{Halts}
@@ -14,23 +14,27 @@ use Rattle.bread.specs.declared.take.Word as take
 use Rattle.bread.specs.Headings.{IsHeadedBy, IsUnheaded, StopsHeading}
 
 -- Something was read, and compiled onto a draft.
-pub record Took {A : Type 0} (reader : Reader A) (effect : A → Draft → Draft) (start : Draft) (old new : Tokens) (draft : Draft) : Type 0 where
+pub record PartTaken {A : Type 0} (reader : Reader A) (effect : A → Draft → Draft) (start : Draft) (old new : Tokens)
+    (draft : Draft) : Type 0 where
   pub tree : A
   pub runs : Runs old new reader (λ v. Got tree v)
   pub made : draft ≡ effect tree start
 
 -- a reader that is told nothing
-abbrev pub alone : {A : Type 0} → Reader A → Unit {0} → Reader A
-alone reader o = reader
+abbrev pub untold : {A : Type 0} → Reader A → Unit {0} → Reader A
+untold reader o = reader
 
 -- What reads it does so, whatever it is told of what stands before, and takes a token.
-abbrev pub Compiles : {I A : Type 0} → (I → Reader A) → (A → Draft → Draft) → Tokens → Draft → Result (Unit {0}) Halt → Tokens → Draft → Type 0
-Compiles {I = I} reader effect old start (Ok u) new draft = ((i : I) → Took (reader i) effect start old new draft) × IsSingle new × (work new < work old)
-Compiles {I = I} reader effect old start (Err halt) new draft = (i : I) → Halts (reader i) old halt new
+abbrev pub CompilesPart : {I A : Type 0} → (I → Reader A) → (A → Draft → Draft) → Tokens → Draft
+    → Result (Unit {0}) Halt → Tokens → Draft → Type 0
+CompilesPart {I = I} reader effect old start (Ok u) new
+    draft = ((i : I) → PartTaken (reader i) effect start old new draft) × IsSingle new × (work new < work old)
+CompilesPart {I = I} reader effect old start (Err halt) new draft = (i : I) → Halts (reader i) old halt new
 
 -- A name was taken.
 abbrev pub FindsName : Tokens → Result take.Word Halt → Tokens → Type 0
-FindsName old (Ok w) new = Runs old new name (λ v. Got (record { text = w.name; line = w.line }) v) × IsSingle new × (work new < work old)
+FindsName old (Ok w) new = Runs old new name (λ v. Got (record { text = w.name; line = w.line }) v) × IsSingle new
+    × (work new < work old)
 FindsName old (Err halt) new = Halts name old halt new
 
 -- A constant was taken, if one came.
@@ -42,7 +46,7 @@ FindsSize old (Err halt) new = Halts size old halt new
 pub record TookConstant (n : ℕ) (old new : Tokens) : Type 0 where
   pub tree : Constant
   pub runs : Runs old new constant (λ v. Got tree v)
-  pub value : value_of tree ≡ n
+  pub value : constant_value tree ≡ n
 
 abbrev pub FindsConstant : Tokens → Result ℕ Halt → Tokens → Type 0
 FindsConstant old (Ok n) new = TookConstant n old new × IsLoaded new × (work new < work old)
@@ -61,4 +65,4 @@ abbrev pub FindsHeading : Tokens → Draft → Result Bool Halt → Tokens → D
 FindsHeading old start (Ok true) new draft = TookHeading start old new draft
 FindsHeading old start (Ok false) new draft = Moves old new IsUnheaded × IsLoaded new × (draft ≡ start)
 FindsHeading old start (Err halt.Fault) new draft = Moves old new StopsHeading × IsLoaded new
-FindsHeading old start (Err halt.Device) new draft = Breaks old new
+FindsHeading old start (Err halt.Device) new draft = TokensFail old new

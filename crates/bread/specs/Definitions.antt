@@ -1,7 +1,7 @@
 -- What the calls that read definitions do with the tokens and with the draft.
 use Rattle.std.specs.Prelude.{◌≡◌, ℕ, ◌<◌, min, Bool, List, [], length, Result, Ok, Err, if◌then◌else◌}
 use Rattle.blang.specs.declared.code.Ival.{Ival}
-use Rattle.blang.specs.Trees.{Word, Definition}
+use Rattle.blang.specs.Trees.{Identifier, Definition}
 use Rattle.btree.specs.Reading.{Reader, Got, ◌>>=◌, first, after, expect}
 use Rattle.btree.specs.ExpressionReader.{is_close_paren}
 use Rattle.btree.specs.Commas.{list_reader}
@@ -9,10 +9,10 @@ use Rattle.btree.specs.StatementReader.{is_semicolon, name}
 use Rattle.blang.specs.Trees as tree
 use Rattle.btree.specs.DefinitionReader.{ival, definition}
 use Rattle.blang.specs.declared.token.Letters.TheVariants as letters
-use Rattle.blang.specs.Scan.{name_fault, word_of}
+use Rattle.blang.specs.Scan.{name_fault, identifier_of}
 use Rattle.bemit.specs.Drafts.{Draft, Faulty, fresh, valued, started}
 use Rattle.bemit.specs.Effects.{definition_done}
-use Rattle.bexpr.specs.Tokens.{Tokens, IsLoaded, IsSingle, Runs, Breaks, Advances, work}
+use Rattle.bexpr.specs.Tokens.{Tokens, IsLoaded, IsSingle, Runs, TokensFail, Advances, work}
 use Rattle.bexpr.specs.declared.halt.Halt.{Halt}
 use Rattle.bexpr.specs.declared.halt.Halt.TheVariants as halt
 use Rattle.bexpr.specs.Parsers.{Halts}
@@ -23,51 +23,60 @@ use Rattle.bread.specs.Headers.{IsKind, Heads}
 -- the current token was taken, and a value added
 abbrev pub TakesValue : Ival → Tokens → Draft → Result (Unit {0}) Halt → Tokens → Draft → Type 0
 TakesValue v old start (Ok u) new draft = Advances old new × (draft ≡ valued v start)
-TakesValue v old start (Err why) new draft = (why ≡ halt.Device) × Breaks old new
+TakesValue v old start (Err why) new draft = (why ≡ halt.Device) × TokensFail old new
 
 -- a definition of this name begins, which may be defined already
-abbrev pub begun : Word → Bool → Draft
-begun w is_defined = if is_defined then Faulty (name_fault letters.Redeclared w) else fresh
+abbrev pub definition_begun : Identifier → Bool → Draft
+definition_begun w is_defined = if is_defined then Faulty (name_fault letters.Redeclared w) else fresh
 
 -- initial values, perhaps none, and a semicolon
-abbrev pub values : Reader (List tree.Ival)
-values ts = if is_semicolon (first ts) then Got [] (after ts) else list_reader ival ts >>= (λ vs r. expect is_semicolon r >>= λ o. Got vs)
+abbrev pub initial_value_list : Reader (List tree.Ival)
+initial_value_list ts =
+    if is_semicolon (first ts) then Got [] (after ts) else list_reader ival
+    ts >>= (λ vs r. expect is_semicolon r >>= λ o. Got vs)
 
 -- names, perhaps none, and a closing parenthesis
-abbrev pub parameters : Reader (List Word)
-parameters ts = if is_close_paren (first ts) then Got [] (after ts) else list_reader (λ before. name) ts >>= (λ ws r. expect is_close_paren r >>= λ o. Got ws)
+abbrev pub parameters : Reader (List Identifier)
+parameters ts =
+    if is_close_paren (first ts) then Got [] (after ts) else list_reader (λ before. name)
+    ts >>= (λ ws r. expect is_close_paren r >>= λ o. Got ws)
 
 -- A list was read, compiled and counted.
-pub record TookList {A : Type 0} (reader : Reader (List A)) (effect : List A → Draft → Draft) (most : ℕ) (start : Draft) (old new : Tokens) (draft : Draft) (count : ℕ) : Type 0 where
+pub record TookList {A : Type 0} (reader : Reader (List A)) (effect : List A → Draft → Draft) (most : ℕ) (start : Draft)
+    (old new : Tokens) (draft : Draft) (count : ℕ) : Type 0 where
   pub items : List A
   pub runs : Runs old new reader (λ v. Got items v)
   pub made : draft ≡ effect items start
   pub count_is : count ≡ min (length items) most
   pub single : IsSingle new
 
-abbrev pub FindsList : {A : Type 0} → Reader (List A) → (List A → Draft → Draft) → ℕ → Tokens → Draft → Result ℕ Halt → Tokens → Draft → Type 0
+abbrev pub FindsList : {A : Type 0} → Reader (List A) → (List A → Draft → Draft) → ℕ → Tokens → Draft → Result ℕ Halt
+    → Tokens → Draft → Type 0
 FindsList reader effect most old start (Ok count) new draft = TookList reader effect most start old new draft count
 FindsList reader effect most old start (Err why) new draft = Halts reader old why new
 
 -- What stands behind the name of a definition was read and compiled.
-pub record TookKind (reader : Reader Definition) (w : Word) (start : Draft) (old new : Tokens) (draft : Draft) (kind : Kind) : Type 0 where
+pub record TookKind (reader : Reader Definition) (w : Identifier) (start : Draft) (old new : Tokens) (draft : Draft)
+    (kind : Kind) : Type 0 where
   pub tree : Definition
   pub runs : Runs old new reader (λ v. Got tree v)
   pub made : draft ≡ definition_done tree start
-  pub named : word_of tree ≡ w
+  pub named : identifier_of tree ≡ w
   pub kind_is : IsKind kind tree
 
 -- whatever the name is
-abbrev pub FindsKind : (Word → Reader Definition) → Tokens → Draft → Result Kind Halt → Tokens → Draft → Type 0
-FindsKind reader old start (Ok kind) new draft = ((w : Word) → TookKind (reader w) w start old new draft kind) × IsSingle new
-FindsKind reader old start (Err why) new draft = (w : Word) → Halts (reader w) old why new
+abbrev pub FindsKind : (Identifier → Reader Definition) → Tokens → Draft → Result Kind Halt → Tokens → Draft → Type 0
+FindsKind reader old start (Ok kind) new draft = ((w : Identifier) → TookKind (reader w) w start old new draft kind)
+    × IsSingle new
+FindsKind reader old start (Err why) new draft = (w : Identifier) → Halts (reader w) old why new
 
 -- A definition was read and compiled, behind definitions of these names.
-pub record TookDefinition (names : List (List ℕ)) (old : Tokens) (header : Header) (new : Tokens) (draft : Draft) : Type 0 where
+pub record TookDefinition (names : List (List ℕ)) (old : Tokens) (header : Header) (new : Tokens) (draft : Draft) : Type
+    0 where
   pub tree : Definition
   pub moves : Runs old new definition (λ v. Got tree v)
   pub heads : Heads header tree
-  pub made : draft ≡ definition_done tree (started names (word_of tree))
+  pub made : draft ≡ definition_done tree (started names (identifier_of tree))
   pub falls : work new < work old
   pub loaded : IsLoaded new
   pub single : IsSingle new

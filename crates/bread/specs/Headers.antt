@@ -2,7 +2,7 @@
 use Rattle.std.specs.Prelude.{◌≡◌, ℕ, min, length}
 use Rattle.blang.specs.Trees.{Definition, Simple, Vector, Function}
 use Rattle.blang.specs.Code.{vector_words}
-use Rattle.blang.specs.Scan.{word_of}
+use Rattle.blang.specs.Scan.{identifier_of}
 use Rattle.bread.specs.declared.header.TheConstants.{MOST_COUNTED}
 use Rattle.bread.specs.declared.header.Header.{Header}
 use Rattle.bread.specs.declared.header.Kind.{Kind}
@@ -16,6 +16,6 @@ IsKind _ _ = ⊥
 
 -- The definition has this name on this line, and is of this kind.
 pub record Heads (header : Header) (d : Definition) : Type 0 where
-  pub name : header.name ≡ (word_of d).text
-  pub line : header.line ≡ (word_of d).line
+  pub name : header.name ≡ (identifier_of d).text
+  pub line : header.line ≡ (identifier_of d).line
   pub kind : IsKind header.kind d

@@ -3,7 +3,8 @@ use Rattle.std.specs.Prelude.{◌≡◌, ℕ, suc, ◌+◌, ◌≤◌, Result, O
 use Rattle.blang.specs.Trees.{Expr, Stmt, Stmts, Nothing, Break, ReturnValue}
 use Rattle.btree.specs.Reading.{Got, Reader, ◌>>=◌, after, expect, many}
 use Rattle.btree.specs.ExpressionReader.{is_close_paren, always, Rvalue, reader}
-use Rattle.btree.specs.StatementReader.{is_open_paren, is_close_brace, is_semicolon, goes_on, one_more, level, tested, chosen, looped, else_part}
+use Rattle.btree.specs.StatementReader.{is_open_paren, is_close_brace, is_semicolon, goes_on, one_more, level, tested}
+use Rattle.btree.specs.StatementReader.{chosen, looped, else_part}
 use Rattle.blang.specs.declared.code.Instr.{Instr}
 use Rattle.blang.specs.declared.code.Instr.TheVariants as instr
 use Rattle.bemit.specs.Drafts as drafts
@@ -12,53 +13,63 @@ use Rattle.bemit.specs.Effects.{evaluated, done}
 use Rattle.bexpr.specs.Tokens.{Tokens, IsSingle, work}
 use Rattle.bexpr.specs.declared.halt.Halt.{Halt}
 use Rattle.bexpr.specs.Parsers.{Halts}
-use Rattle.bread.specs.Compiling.{Took}
+use Rattle.bread.specs.Compiling.{PartTaken}
 
 -- behind the current token
-abbrev pub behind : {I A : Type 0} → (I → Reader A) → I → Reader A
-behind reader i ts = reader i (after ts)
+abbrev pub behind_current : {I A : Type 0} → (I → Reader A) → I → Reader A
+behind_current reader i ts = reader i (after ts)
 
 -- a rvalue, and a semicolon
-abbrev pub ended : ℕ → ℕ → Reader Expr
-ended room off ts = reader room Rvalue off ts >>= λ e r. expect is_semicolon r >>= λ o. Got e
+abbrev pub rvalue_ended : ℕ → ℕ → Reader Expr
+rvalue_ended room off ts = reader room Rvalue off ts >>= λ e r. expect is_semicolon r >>= λ o. Got e
 
 -- an instruction behind a rvalue
 abbrev pub evaluated_to : Instr → Expr → Draft → Draft
 evaluated_to last e d = emitted last (evaluated e d)
 
 -- what stands behind a break on this line
-abbrev pub broken : ℕ → Reader Stmt
-broken line ts = expect is_semicolon ts >>= λ o. Got (Break line)
+abbrev pub break_behind : ℕ → Reader Stmt
+break_behind line ts = expect is_semicolon ts >>= λ o. Got (Break line)
 
 -- the value of a return, behind the parenthesis that opens it
 abbrev pub return_value : ℕ → ℕ → Reader Stmt
-return_value room off ts = reader room Rvalue off ts >>= λ e r. expect is_close_paren r >>= λ o r. expect is_semicolon r >>= λ o. Got (ReturnValue e)
+return_value room off ts =
+    reader room Rvalue off ts >>= λ e r. expect is_close_paren r >>= λ o r. expect is_semicolon r >>= λ o. Got
+    (ReturnValue e)
 
 -- a condition in its parentheses
 abbrev pub condition : ℕ → ℕ → Reader Expr
-condition room off ts = expect is_open_paren ts >>= λ o r. reader room Rvalue off r >>= λ e r. expect is_close_paren r >>= λ o. Got e
+condition room off ts =
+    expect is_open_paren ts >>= λ o r. reader room Rvalue off r >>= λ e r. expect is_close_paren r >>= λ o. Got e
 
-abbrev pub conditional : ℕ → ℕ → Reader Stmt
-conditional room off ts = tested (level room) off (chosen (level room) off) ts
+abbrev pub conditional_behind : ℕ → ℕ → Reader Stmt
+conditional_behind room off ts = tested (level room) off (chosen (level room) off) ts
 
 abbrev pub repeated : ℕ → ℕ → Reader Stmt
 repeated room off ts = tested (level room) off (looped (level room) off) ts
 
 -- statements up to a closing brace, each with so many levels of nesting
 abbrev pub statements : ℕ → ℕ → Reader Stmts
-statements room off ts = many (always goes_on) (one_more (level (suc room)) off) Nothing ts >>= λ ss r. expect is_close_brace r >>= λ o. Got ss
+statements room off ts =
+    many (always goes_on) (one_more (level (suc room)) off) Nothing ts >>= λ ss r. expect is_close_brace r >>= λ o. Got
+    ss
 
--- An `else` and its statement were read behind the first statement, or there is none, and the test jumps round what it must.
+-- An `else` and its statement were read behind the first statement, or there is none, and the test jumps round what it
+-- must.
 abbrev pub Chooses : ℕ → ℕ → Tokens → Draft → Result (Unit {0}) Halt → Tokens → Draft → Type 0
 Chooses room test old start (Ok u) new draft =
-    ((off : ℕ) (e : Expr) (s : Stmt) (d : Draft) → test ≡ place_of (evaluated e d) → start ≡ done s (emitted (instr.JumpIfZero 0) (evaluated e d)) → Took (else_part (level (suc room)) off e s) done d old new draft) × IsSingle new × (work new ≤ work old)
-Chooses room test old start (Err halt) new draft = (off : ℕ) (e : Expr) (s : Stmt) → Halts (else_part (level (suc room)) off e s) old halt new
+    ((off : ℕ) (e : Expr) (s : Stmt) (d : Draft) → test ≡ place_of (evaluated e d) → start
+    ≡ done s (emitted (instr.JumpIfZero 0) (evaluated e d))
+    → PartTaken (else_part (level (suc room)) off e s) done d old new draft) × IsSingle new × (work new ≤ work old)
+Chooses room test old start (Err halt) new draft = (off : ℕ) (e : Expr) (s : Stmt)
+    → Halts (else_part (level (suc room)) off e s) old halt new
 
 -- the end of a loop behind its statement, which begins at this place, where its breaks are those since this mark
 abbrev pub closed_loop : ℕ → ℕ → Draft → Draft
 closed_loop top mark b = let t = drafts.loop_ended (emitted (instr.Jump top) b) in breaks_filled mark (place_of t) t
 
--- the end of a switch behind its statements, where the jump to its tests is at this place and its breaks are those since this mark
+-- the end of a switch behind its statements, where the jump to its tests is at this place and its breaks are those
+-- since this mark
 abbrev pub closed_switch : ℕ → ℕ → Draft → Draft
 closed_switch jump mark b =
     let a = place_of b + 1 in

@@ -3,14 +3,14 @@ ghost use Rattle.std.specs.Prelude.{◌≡◌, ◌+◌, false, None};
 ghost use Rattle.std.specs.Map.{keys_of};
 ghost use Rattle.blang.specs.Cut.{is_last};
 ghost use Rattle.btree.specs.Reading.{first};
-ghost use Rattle.blang.specs.Code.{constant_of};
+ghost use Rattle.blang.specs.Code.{vector_constant};
 ghost use Rattle.btree.specs.DefinitionReader.{ival, behind_name, vector, function};
 ghost use Rattle.btree.specs.StatementReader.{name};
 ghost use Rattle.bemit.specs.Drafts as drafts;
 ghost use Rattle.bemit.specs.Effects.{ival_done, values_done, parameters_done};
 ghost use Rattle.bexpr.specs.Tokens.{IsLoaded, IsSingle};
-ghost use Rattle.bread.specs.Compiling.{alone, Compiles};
-ghost use Rattle.bread.specs.Definitions.{TakesValue, values, parameters, FindsList, FindsKind, FindsDefinition, begun};
+ghost use Rattle.bread.specs.Compiling.{untold, CompilesPart};
+ghost use Rattle.bread.specs.Definitions.{TakesValue, initial_value_list, parameters, FindsList, FindsKind, FindsDefinition, definition_begun};
 
 use crate::header::{Header, Kind, MOST_COUNTED};
 use crate::statement::statement;
@@ -43,7 +43,7 @@ pub fn definition<I: ByteIn>(parser: &mut Parser<I>, names: &NameTable) -> Resul
 
 // A definition of this name begins, which may be defined already.
 fn begin(draft: &mut Draft, word: Word, is_defined: bool)
-    ensures { draft.new ≡ begun (record { text = word.name; line = word.line }) is_defined }
+    ensures { draft.new ≡ definition_begun (record { text = word.name; line = word.line }) is_defined }
 {
     draft.start();
     if is_defined {
@@ -92,7 +92,7 @@ fn vector<I: ByteIn>(parser: &mut Parser<I>) -> Result<Kind, Halt>
 }
 
 fn constant_of(size: Option<u16>) -> u32
-    ensures { result ≡ constant_of size }
+    ensures { result ≡ vector_constant size }
 {
     match size {
         Some(constant) => u32::from(constant),
@@ -115,7 +115,7 @@ fn function<I: ByteIn>(parser: &mut Parser<I>) -> Result<Kind, Halt>
 // A parameter.
 fn parameter<I: ByteIn>(parser: &mut Parser<I>) -> Result<(), Halt>
     requires { IsLoaded parser.old.tokens }
-    ensures { Compiles (alone name) (λ w d. drafts.declared w None d) parser.old.tokens parser.old.draft result parser.new.tokens parser.new.draft }
+    ensures { CompilesPart (untold name) (λ w d. drafts.declared w None d) parser.old.tokens parser.old.draft result parser.new.tokens parser.new.draft }
 {
     let word = name(parser)?;
     parser.draft.declare(word.name, word.line, None);
@@ -156,7 +156,7 @@ fn valued<I: ByteIn>(parser: &mut Parser<I>, value: Ival) -> Result<(), Halt>
 // An initial value.
 fn value<I: ByteIn>(parser: &mut Parser<I>) -> Result<(), Halt>
     requires { IsLoaded parser.old.tokens }
-    ensures { Compiles ival (λ v d. ival_done d v) parser.old.tokens parser.old.draft result parser.new.tokens parser.new.draft }
+    ensures { CompilesPart ival (λ v d. ival_done d v) parser.old.tokens parser.old.draft result parser.new.tokens parser.new.draft }
 {
     parser.note();
     match parser.tokens.lexeme() {
@@ -173,7 +173,7 @@ fn value<I: ByteIn>(parser: &mut Parser<I>) -> Result<(), Halt>
 // The initial values, if any, and a semicolon.
 fn values<I: ByteIn>(parser: &mut Parser<I>) -> Result<u32, Halt>
     requires { IsLoaded parser.old.tokens }
-    ensures { FindsList values values_done 4294967295 parser.old.tokens parser.old.draft result parser.new.tokens parser.new.draft }
+    ensures { FindsList initial_value_list values_done 4294967295 parser.old.tokens parser.old.draft result parser.new.tokens parser.new.draft }
 {
     if parser.tokens.is_at(Mark::Semicolon) {
         parser.tokens.advance()?;

@@ -8,7 +8,7 @@ ghost use Rattle.bemit.specs.Drafts.{imported};
 ghost use Rattle.bemit.specs.Effects.{headed};
 ghost use Rattle.bexpr.specs.Tokens.{IsLoaded};
 ghost use Rattle.bread.specs.Headings.{auto, extrn, case, default};
-ghost use Rattle.bread.specs.Compiling.{alone, Compiles, FindsHeading};
+ghost use Rattle.bread.specs.Compiling.{untold, CompilesPart, FindsHeading};
 
 use crate::take::{constant, name, size};
 use bexpr::{Halt, Mark, Parser};
@@ -19,7 +19,7 @@ use bword::{ByteIn, Name};
 // A name of `auto`.
 fn automatic<I: ByteIn>(parser: &mut Parser<I>) -> Result<(), Halt>
     requires { IsLoaded parser.old.tokens }
-    ensures { Compiles (alone declared) (λ d. drafts.declared d.word d.size) parser.old.tokens parser.old.draft result parser.new.tokens parser.new.draft }
+    ensures { CompilesPart (untold declared) (λ d. drafts.declared d.word d.size) parser.old.tokens parser.old.draft result parser.new.tokens parser.new.draft }
 {
     let word = name(parser)?;
     let size = size(parser)?;
@@ -30,7 +30,7 @@ fn automatic<I: ByteIn>(parser: &mut Parser<I>) -> Result<(), Halt>
 // A name of `extrn`.
 fn external<I: ByteIn>(parser: &mut Parser<I>) -> Result<(), Halt>
     requires { IsLoaded parser.old.tokens }
-    ensures { Compiles (alone name) imported parser.old.tokens parser.old.draft result parser.new.tokens parser.new.draft }
+    ensures { CompilesPart (untold name) imported parser.old.tokens parser.old.draft result parser.new.tokens parser.new.draft }
 {
     let word = name(parser)?;
     parser.draft.import(word.name, word.line);
@@ -40,7 +40,7 @@ fn external<I: ByteIn>(parser: &mut Parser<I>) -> Result<(), Halt>
 // The names behind `auto`.
 fn auto<I: ByteIn>(parser: &mut Parser<I>) -> Result<(), Halt>
     requires { IsLoaded parser.old.tokens }
-    ensures { Compiles (alone auto) headed parser.old.tokens parser.old.draft result parser.new.tokens parser.new.draft }
+    ensures { CompilesPart (untold auto) headed parser.old.tokens parser.old.draft result parser.new.tokens parser.new.draft }
 {
     automatic(parser)?;
     'names: while parser.tokens.is_at(Mark::Comma) {
@@ -53,7 +53,7 @@ fn auto<I: ByteIn>(parser: &mut Parser<I>) -> Result<(), Halt>
 // The names behind `extrn`.
 fn extrn<I: ByteIn>(parser: &mut Parser<I>) -> Result<(), Halt>
     requires { IsLoaded parser.old.tokens }
-    ensures { Compiles (alone extrn) headed parser.old.tokens parser.old.draft result parser.new.tokens parser.new.draft }
+    ensures { CompilesPart (untold extrn) headed parser.old.tokens parser.old.draft result parser.new.tokens parser.new.draft }
 {
     external(parser)?;
     'names: while parser.tokens.is_at(Mark::Comma) {
@@ -66,7 +66,7 @@ fn extrn<I: ByteIn>(parser: &mut Parser<I>) -> Result<(), Halt>
 // The constant behind a `case` on this line.
 fn case<I: ByteIn>(parser: &mut Parser<I>, line: u64) -> Result<(), Halt>
     requires { IsLoaded parser.old.tokens }
-    ensures { Compiles (alone (case line)) headed parser.old.tokens parser.old.draft result parser.new.tokens parser.new.draft }
+    ensures { CompilesPart (untold (case line)) headed parser.old.tokens parser.old.draft result parser.new.tokens parser.new.draft }
 {
     let value = constant(parser)?;
     parser.expect(Mark::Colon)?;
@@ -77,7 +77,7 @@ fn case<I: ByteIn>(parser: &mut Parser<I>, line: u64) -> Result<(), Halt>
 // What stands behind a `default` on this line.
 fn default<I: ByteIn>(parser: &mut Parser<I>, line: u64) -> Result<(), Halt>
     requires { IsLoaded parser.old.tokens }
-    ensures { Compiles (alone (default line)) headed parser.old.tokens parser.old.draft result parser.new.tokens parser.new.draft }
+    ensures { CompilesPart (untold (default line)) headed parser.old.tokens parser.old.draft result parser.new.tokens parser.new.draft }
 {
     parser.expect(Mark::Colon)?;
     parser.draft.default(line);

@@ -13,8 +13,8 @@ ghost use Rattle.bemit.specs.Drafts.{most_instructions, place_of, filled, breaks
 ghost use Rattle.bemit.specs.Effects.{evaluated, done, all_done};
 ghost use Rattle.bexpr.specs.Tokens.{IsLoaded, IsSingle};
 ghost use Rattle.bread.specs.Headings.{unheaded};
-ghost use Rattle.bread.specs.Compiling.{alone, Compiles};
-ghost use Rattle.bread.specs.Statements.{behind, ended, evaluated_to, broken, return_value, condition, conditional, repeated, statements, closed_loop, closed_switch, Chooses};
+ghost use Rattle.bread.specs.Compiling.{untold, CompilesPart};
+ghost use Rattle.bread.specs.Statements.{behind_current, rvalue_ended, evaluated_to, break_behind, return_value, condition, conditional_behind, repeated, statements, closed_loop, closed_switch, Chooses};
 
 use crate::heading::heading;
 use bemit::Draft;
@@ -26,7 +26,7 @@ use bword::ByteIn;
 // A rvalue and a semicolon, and then an instruction.
 fn ended<I: ByteIn>(parser: &mut Parser<I>, room: u8, last: Instr) -> Result<(), Halt>
     requires { IsLoaded parser.old.tokens }
-    ensures { Compiles (ended room) (evaluated_to last) parser.old.tokens parser.old.draft result parser.new.tokens parser.new.draft }
+    ensures { CompilesPart (rvalue_ended room) (evaluated_to last) parser.old.tokens parser.old.draft result parser.new.tokens parser.new.draft }
 {
     parser.evaluate(room)?;
     parser.expect(Mark::Semicolon)?;
@@ -37,7 +37,7 @@ fn ended<I: ByteIn>(parser: &mut Parser<I>, room: u8, last: Instr) -> Result<(),
 fn goto<I: ByteIn>(parser: &mut Parser<I>, room: u8) -> Result<(), Halt>
     requires loaded { IsLoaded parser.old.tokens }
     requires goes_on { is_last (first parser.old.tokens.ahead) ≡ false }
-    ensures { Compiles (behind (λ off. reader.ended room off Goto)) done parser.old.tokens parser.old.draft result parser.new.tokens parser.new.draft }
+    ensures { CompilesPart (behind_current (λ off. reader.ended room off Goto)) done parser.old.tokens parser.old.draft result parser.new.tokens parser.new.draft }
 {
     parser.tokens.advance()?;
     ended(parser, room, Instr::Goto)
@@ -46,7 +46,7 @@ fn goto<I: ByteIn>(parser: &mut Parser<I>, room: u8) -> Result<(), Halt>
 // What stands behind a `break` on this line.
 fn broken<I: ByteIn>(parser: &mut Parser<I>, line: u64) -> Result<(), Halt>
     requires { IsLoaded parser.old.tokens }
-    ensures { Compiles (alone (broken line)) done parser.old.tokens parser.old.draft result parser.new.tokens parser.new.draft }
+    ensures { CompilesPart (untold (break_behind line)) done parser.old.tokens parser.old.draft result parser.new.tokens parser.new.draft }
 {
     parser.expect(Mark::Semicolon)?;
     parser.draft.add_break(line);
@@ -56,7 +56,7 @@ fn broken<I: ByteIn>(parser: &mut Parser<I>, line: u64) -> Result<(), Halt>
 // The value of a `return`, behind the parenthesis that opens it.
 fn return_value<I: ByteIn>(parser: &mut Parser<I>, room: u8) -> Result<(), Halt>
     requires { IsLoaded parser.old.tokens }
-    ensures { Compiles (return_value room) done parser.old.tokens parser.old.draft result parser.new.tokens parser.new.draft }
+    ensures { CompilesPart (return_value room) done parser.old.tokens parser.old.draft result parser.new.tokens parser.new.draft }
 {
     parser.evaluate(room)?;
     parser.expect(Mark::CloseParen)?;
@@ -68,7 +68,7 @@ fn return_value<I: ByteIn>(parser: &mut Parser<I>, room: u8) -> Result<(), Halt>
 // What stands behind `return`.
 fn returned<I: ByteIn>(parser: &mut Parser<I>, room: u8) -> Result<(), Halt>
     requires { IsLoaded parser.old.tokens }
-    ensures { Compiles (returned room) done parser.old.tokens parser.old.draft result parser.new.tokens parser.new.draft }
+    ensures { CompilesPart (returned room) done parser.old.tokens parser.old.draft result parser.new.tokens parser.new.draft }
 {
     if parser.tokens.is_at(Mark::OpenParen) {
         parser.tokens.advance()?;
@@ -83,7 +83,7 @@ fn returned<I: ByteIn>(parser: &mut Parser<I>, room: u8) -> Result<(), Halt>
 // A condition in its parentheses.
 fn condition<I: ByteIn>(parser: &mut Parser<I>, room: u8) -> Result<(), Halt>
     requires { IsLoaded parser.old.tokens }
-    ensures { Compiles (condition room) evaluated parser.old.tokens parser.old.draft result parser.new.tokens parser.new.draft }
+    ensures { CompilesPart (condition room) evaluated parser.old.tokens parser.old.draft result parser.new.tokens parser.new.draft }
 {
     parser.expect(Mark::OpenParen)?;
     parser.evaluate(room)?;
@@ -150,7 +150,7 @@ fn goes_on(lexeme: Lexeme) -> bool
 #[cycle(statements)]
 pub fn statement<I: ByteIn>(parser: &mut Parser<I>, room: u8) -> Result<(), Halt>
     requires { IsLoaded parser.old.tokens }
-    ensures { Compiles (statement room) done parser.old.tokens parser.old.draft result parser.new.tokens parser.new.draft }
+    ensures { CompilesPart (statement room) done parser.old.tokens parser.old.draft result parser.new.tokens parser.new.draft }
 {
     'headings: while heading(parser)? {}
     unheaded(parser, room)
@@ -160,7 +160,7 @@ pub fn statement<I: ByteIn>(parser: &mut Parser<I>, room: u8) -> Result<(), Halt
 #[cycle(statements)]
 fn unheaded<I: ByteIn>(parser: &mut Parser<I>, room: u8) -> Result<(), Halt>
     requires { IsLoaded parser.old.tokens }
-    ensures { Compiles (unheaded room) done parser.old.tokens parser.old.draft result parser.new.tokens parser.new.draft }
+    ensures { CompilesPart (unheaded room) done parser.old.tokens parser.old.draft result parser.new.tokens parser.new.draft }
 {
     match parser.tokens.lexeme() {
         Lexeme::OpenBrace => compound(parser, room),
@@ -175,7 +175,7 @@ fn unheaded<I: ByteIn>(parser: &mut Parser<I>, room: u8) -> Result<(), Halt>
 fn keyed<I: ByteIn>(parser: &mut Parser<I>, room: u8, keyword: Keyword) -> Result<(), Halt>
     requires loaded { IsLoaded parser.old.tokens }
     requires keyword { first parser.old.tokens.ahead ≡ token.Keyword keyword }
-    ensures { Compiles (unheaded room) done parser.old.tokens parser.old.draft result parser.new.tokens parser.new.draft }
+    ensures { CompilesPart (unheaded room) done parser.old.tokens parser.old.draft result parser.new.tokens parser.new.draft }
 {
     let line = parser.tokens.line();
     match keyword {
@@ -200,7 +200,7 @@ fn keyed<I: ByteIn>(parser: &mut Parser<I>, room: u8, keyword: Keyword) -> Resul
 fn compound<I: ByteIn>(parser: &mut Parser<I>, room: u8) -> Result<(), Halt>
     requires loaded { IsLoaded parser.old.tokens }
     requires goes_on { is_last (first parser.old.tokens.ahead) ≡ false }
-    ensures { Compiles (compound (level room)) done parser.old.tokens parser.old.draft result parser.new.tokens parser.new.draft }
+    ensures { CompilesPart (compound (level room)) done parser.old.tokens parser.old.draft result parser.new.tokens parser.new.draft }
 {
     let room = parser.enter(room)?;
     body(parser, room)
@@ -210,7 +210,7 @@ fn compound<I: ByteIn>(parser: &mut Parser<I>, room: u8) -> Result<(), Halt>
 #[cycle(statements)]
 fn body<I: ByteIn>(parser: &mut Parser<I>, room: u8) -> Result<(), Halt>
     requires { IsLoaded parser.old.tokens }
-    ensures { Compiles (statements room) all_done parser.old.tokens parser.old.draft result parser.new.tokens parser.new.draft }
+    ensures { CompilesPart (statements room) all_done parser.old.tokens parser.old.draft result parser.new.tokens parser.new.draft }
 {
     'statements: while goes_on(parser.tokens.lexeme()) {
         statement(parser, room)?;
@@ -223,7 +223,7 @@ fn body<I: ByteIn>(parser: &mut Parser<I>, room: u8) -> Result<(), Halt>
 fn conditional<I: ByteIn>(parser: &mut Parser<I>, room: u8) -> Result<(), Halt>
     requires loaded { IsLoaded parser.old.tokens }
     requires goes_on { is_last (first parser.old.tokens.ahead) ≡ false }
-    ensures { Compiles (conditional room) done parser.old.tokens parser.old.draft result parser.new.tokens parser.new.draft }
+    ensures { CompilesPart (conditional_behind room) done parser.old.tokens parser.old.draft result parser.new.tokens parser.new.draft }
 {
     let room = parser.enter(room)?;
     condition(parser, room)?;
@@ -257,7 +257,7 @@ fn otherwise<I: ByteIn>(parser: &mut Parser<I>, room: u8, test: u16) -> Result<(
 fn repeated<I: ByteIn>(parser: &mut Parser<I>, room: u8) -> Result<(), Halt>
     requires loaded { IsLoaded parser.old.tokens }
     requires goes_on { is_last (first parser.old.tokens.ahead) ≡ false }
-    ensures { Compiles (repeated room) done parser.old.tokens parser.old.draft result parser.new.tokens parser.new.draft }
+    ensures { CompilesPart (repeated room) done parser.old.tokens parser.old.draft result parser.new.tokens parser.new.draft }
 {
     let origin = parser.tokens.origin();
     let top = parser.draft.place();
@@ -278,7 +278,7 @@ fn repeated<I: ByteIn>(parser: &mut Parser<I>, room: u8) -> Result<(), Halt>
 fn switched<I: ByteIn>(parser: &mut Parser<I>, room: u8) -> Result<(), Halt>
     requires loaded { IsLoaded parser.old.tokens }
     requires goes_on { is_last (first parser.old.tokens.ahead) ≡ false }
-    ensures { Compiles (switched (level room)) done parser.old.tokens parser.old.draft result parser.new.tokens parser.new.draft }
+    ensures { CompilesPart (switched (level room)) done parser.old.tokens parser.old.draft result parser.new.tokens parser.new.draft }
 {
     let origin = parser.tokens.origin();
     let room = parser.enter(room)?;

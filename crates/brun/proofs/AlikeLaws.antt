@@ -7,7 +7,7 @@ use Rattle.bword.specs.declared.edition.Edition.{Edition}
 use Rattle.bword.specs.declared.edition.Edition.TheVariants as editions
 use Rattle.bcode.specs.Faults.{HasHeader}
 use Rattle.bcode.specs.Headers.{header_of, header_text}
-use Rattle.blang.specs.Text.{joined, opening, code_lines, header_line, body_lines, text_of, end_text, IsTextOf, IsWithinRanges}
+use Rattle.blang.specs.Text.{joined, opening, code_lines, header_line, body_lines, definition_text, end_text, IsTextOf, IsWithinRanges}
 use Rattle.blang.specs.declared.code.Definition.{Definition}
 use Rattle.bcode.specs.declared.header.Header.TheVariants as header
 use Rattle.bcode.proofs.BodyLaws.{text_header, not_end}
@@ -25,15 +25,15 @@ record BeginsSo (text : List ℕ) : Type 0 where
   behind : List ℕ
   same : text ≡ header_text (header_of first) ++ behind
 
-begins_so : (known : List Definition) (next : Definition) (rest : List ℕ) → All IsWithinRanges known → IsWithinRanges next → BeginsSo (flat_map text_of known ++ (header_line next ++ rest))
+begins_so : (known : List Definition) (next : Definition) (rest : List ℕ) → All IsWithinRanges known → IsWithinRanges next → BeginsSo (flat_map definition_text known ++ (header_line next ++ rest))
 begins_so [] next rest known_in inside = record { first = next; inside = inside; behind = rest; same = ap (λ l. l ++ rest) (sym (header_of-text next)) }
 begins_so (k ∷ ks) next rest known_in inside =
-    let others = flat_map text_of ks ++ (header_line next ++ rest) in
+    let others = flat_map definition_text ks ++ (header_line next ++ rest) in
     record {
       first = k;
       inside = All-head IsWithinRanges k ks known_in;
       behind = joined (body_lines k) ++ others;
-      same = append_assoc (text_of k) (flat_map text_of ks) (header_line next ++ rest) ∙ text_header k others;
+      same = append_assoc (definition_text k) (flat_map definition_text ks) (header_line next ++ rest) ∙ text_header k others;
     }
 
 -- the last line begins no definition
@@ -52,7 +52,7 @@ no_header_alone editions.Two editions.Two text same b = end_alone (other_begins 
 
 header_alone : (e : Edition) (text : List ℕ) → IsTextOf e text [] → HasHeader text → ⊥
 header_alone e text is h =
-    no_header_alone e h.edition (flat_map text_of h.definitions ++ (header_line h.next ++ h.rest)) (empty e ∙ sym is.spelled ∙ h.same)
+    no_header_alone e h.edition (flat_map definition_text h.definitions ++ (header_line h.next ++ h.rest)) (empty e ∙ sym is.spelled ∙ h.same)
     (begins_so h.definitions h.next h.rest h.within h.next_within)
   where
     empty : (e : Edition) → opening e ++ end_text ≡ joined (code_lines e [])
@@ -62,7 +62,7 @@ header_alone e text is h =
 has_header : (f : Edition) (other : List ℕ) (ds : List Definition) → IsTextOf f other ds → (ds ≡ [] → ⊥) → HasHeader other
 has_header f other [] is some = absurd (some refl)
 has_header f other (d ∷ ds) is some =
-    let others = flat_map text_of ds ++ end_text in
+    let others = flat_map definition_text ds ++ end_text in
     record {
       edition = f;
       definitions = [];
@@ -70,8 +70,8 @@ has_header f other (d ∷ ds) is some =
       within = All-nil IsWithinRanges;
       next_within = All-head IsWithinRanges d ds is.within;
       rest = joined (body_lines d) ++ others;
-      same = is.spelled ∙ code_spelled f (d ∷ ds) ∙ append_assoc (opening f) (flat_map text_of (d ∷ ds)) end_text
-          ∙ ap (λ l. opening f ++ l) (append_assoc (text_of d) (flat_map text_of ds) end_text ∙ append_assoc (header_line d) (joined (body_lines d)) others);
+      same = is.spelled ∙ code_spelled f (d ∷ ds) ∙ append_assoc (opening f) (flat_map definition_text (d ∷ ds)) end_text
+          ∙ ap (λ l. opening f ++ l) (append_assoc (definition_text d) (flat_map definition_text ds) end_text ∙ append_assoc (header_line d) (joined (body_lines d)) others);
     }
 
 pub runs_as : (e f : Edition) (text other : List ℕ) (ds : List Definition) → IsTextOf e text ds → IsTextOf f other ds → RunsAs text other

@@ -12,8 +12,8 @@ use Rattle.blang.specs.declared.run.Outcome.{Outcome}
 use Rattle.blang.specs.declared.run.Outcome.TheVariants as outcome
 use Rattle.blang.specs.declared.run.Trap.{Trap}
 use Rattle.blang.specs.declared.run.Trap.TheVariants as trap
-use Rattle.blang.specs.Layout.{words, World, Reply, Gives, Ends, next_byte, is_base, argument, library, Ending, Exited, Trapped, Callee, NoFunction, OfLibrary, OfProgram, callee_of, refusal}
-use Rattle.blang.specs.Machine.{Loaded, Image, Call, State, Running, Halted, Stuck, take_one, take_two, on_reply, operator_reply, label_target, at_place, returned, gone_to, called, call_of, act, act_if, step, steps, begun, started, first_world, image_of, run, outcome_of, RunGives, IsOwnStatus, machine}
+use Rattle.blang.specs.Layout.{store_words, World, Reply, Gives, Ends, next_byte, is_base, argument, library, Ending, Exited, Trapped, Callee, NoFunction, OfLibrary, OfProgram, callee_of, refusal, first_world}
+use Rattle.blang.specs.Machine.{Loaded, Image, Call, State, Running, Halted, Stuck, take_one, take_two, on_reply, operator_reply, label_target, at_place, returned, gone_to_place, program_function_called, callee_called, act, act_if, step, steps, main_begun, machine_started, image_of, run, state_outcome, RunGives, IsOwnStatus, machine}
 
 abbrev pub IsProper : Ending → Type 0
 IsProper (Exited n) = n < 128
@@ -58,7 +58,7 @@ refusal_trap true false = tt
 refusal_trap false long = λ e. cc
 
 refusal_proper : (active frame_end : ℕ) → IsProperTrap (refusal active frame_end)
-refusal_proper active frame_end = refusal_trap (nat_lt active 4096) (nat_lt words frame_end)
+refusal_proper active frame_end = refusal_trap (nat_lt active 4096) (nat_lt store_words frame_end)
 
 one_proper : (w : World) (operands : List ℕ) (next : ℕ → List ℕ → State) → ((x : ℕ) (rest : List ℕ) → HaltsProperly (next x rest)) → HaltsProperly (take_one operands w next)
 one_proper w [] next h = tt
@@ -77,7 +77,7 @@ if_proper : (b : Bool) (s t : State) → HaltsProperly s → HaltsProperly t →
 if_proper true s t h k = h
 if_proper false s t h k = k
 
-gone_proper : (t : Option ℕ) (call : Call) (rest : List ℕ) (below : List Call) (w : World) → HaltsProperly (gone_to t call rest below w)
+gone_proper : (t : Option ℕ) (call : Call) (rest : List ℕ) (below : List Call) (w : World) → HaltsProperly (gone_to_place t call rest below w)
 gone_proper None call rest below w = λ e. cc
 gone_proper (Some t) call rest below w = tt
 
@@ -85,11 +85,11 @@ return_proper : (v : ℕ) (below : List Call) (w : World) → HaltsProperly (ret
 return_proper v [] w = omega arith
 return_proper v (call ∷ below) w = tt
 
-called_proper : (r : Option Trap) (f : Loaded) (args : List ℕ) (start : ℕ) (caller : Call) (below : List Call) (w : World) → IsProperTrap r → HaltsProperly (called r f args start caller below w)
+called_proper : (r : Option Trap) (f : Loaded) (args : List ℕ) (start : ℕ) (caller : Call) (below : List Call) (w : World) → IsProperTrap r → HaltsProperly (program_function_called r f args start caller below w)
 called_proper (Some kind) f args start caller below w p = p
 called_proper None f args start caller below w p = tt
 
-call_proper : (c : Callee Loaded) (args : List ℕ) (caller : Call) (below : List Call) (w : World) → HaltsProperly (call_of c args caller below w)
+call_proper : (c : Callee Loaded) (args : List ℕ) (caller : Call) (below : List Call) (w : World) → HaltsProperly (callee_called c args caller below w)
 call_proper NoFunction args caller below w = λ e. cc
 call_proper (OfLibrary f) args caller below w = reply_proper (library f args w) _ (library_proper f args w) (λ v w'. tt)
 call_proper (OfProgram f) args caller below w =
@@ -134,26 +134,26 @@ steps_proper : (image : Image) (n : ℕ) (s : State) → HaltsProperly s → Hal
 steps_proper image zero s h = h
 steps_proper image (suc n) s h = steps_proper image n (step image s) (step_proper image s h)
 
-begun_proper : (r : Option Trap) (f : Loaded) (start : ℕ) (w : World) → IsProperTrap r → HaltsProperly (begun r f start w)
+begun_proper : (r : Option Trap) (f : Loaded) (start : ℕ) (w : World) → IsProperTrap r → HaltsProperly (main_begun r f start w)
 begun_proper (Some kind) f start w p = p
 begun_proper None f start w p = tt
 
-started_proper : (image : Image) (main : Option Loaded) (w : World) → HaltsProperly (started image main w)
+started_proper : (image : Image) (main : Option Loaded) (w : World) → HaltsProperly (machine_started image main w)
 started_proper image None w = tt
 started_proper image (Some f) w = begun_proper (refusal 0 (image.data_end + f.frame)) f image.data_end w (refusal_proper 0 (image.data_end + f.frame))
 
 pub run_proper : (image : Image) (input : List ℕ) (n : ℕ) → HaltsProperly (run image input n)
 run_proper image input n =
-    steps_proper image n (started image image.main (first_world image input)) (started_proper image image.main (first_world image input))
+    steps_proper image n (machine_started image image.main (first_world image input)) (started_proper image image.main (first_world image input))
 
 -- what shows in an outcome
-pub no_stuck_outcome : (s : State) → HaltsProperly s → ((w : World) → s ≢ Stuck w) → outcome_of s ≢ outcome.Trap trap.Stuck
+pub no_stuck_outcome : (s : State) → HaltsProperly s → ((w : World) → s ≢ Stuck w) → state_outcome s ≢ outcome.Trap trap.Stuck
 no_stuck_outcome (Running call below w) h not_stuck e = cc
 no_stuck_outcome (Halted (Exited n) w) h not_stuck e = cc
 no_stuck_outcome (Halted (Trapped kind) w) h not_stuck e = let same : kind ≡ trap.Stuck = cc in h same
 no_stuck_outcome (Stuck w) h not_stuck e = not_stuck w refl
 
-own_status : (s : State) → HaltsProperly s → (n : ℕ) → outcome_of s ≡ outcome.Exit n → n < 128
+own_status : (s : State) → HaltsProperly s → (n : ℕ) → state_outcome s ≡ outcome.Exit n → n < 128
 own_status (Running call below w) h n e = absurd (no e)
   where
     no : outcome.Limit ≢ outcome.Exit n

@@ -11,11 +11,11 @@ use Rattle.blang.specs.Cut.{tokens_from}
 use Rattle.blang.specs.declared.token.Diagnostic.{Diagnostic}
 use Rattle.blang.specs.Code.{code_of}
 use Rattle.blang.specs.Compiles as compiled
-use Rattle.blang.specs.Compiles.{Goes, line_of, Run, NamesRefused, EndRefused, status_of}
+use Rattle.blang.specs.Compiles.{CompilesTo, line_of, Run, NamesRefused, EndRefused, status_of}
 use Rattle.btree.specs.SourceRows.{fault_text, ComesIn}
 use Rattle.btree.proofs.SourceRows.{edition_rows}
 use Rattle.blang.specs.Trees.{Definition, Number, Named, Literal, Called, No_arguments, Another, Evaluate, Compound, Stmts, Nothing, More}
-use Rattle.blang.specs.Machine.{State, Halted, image_of, outcome_of, Reported, report_text, RunEnds, Finishes, machine}
+use Rattle.blang.specs.Machine.{State, Halted, image_of, state_outcome, Reported, report_text, RunEnds, Finishes, machine}
 use Rattle.blang.specs.Machine as runs
 use Rattle.blang.specs.Layout.{World, Ending, Exited, Trapped}
 use Rattle.blang.specs.declared.run.Outcome.{Outcome}
@@ -41,30 +41,30 @@ writes_a = main (More Nothing (Evaluate (Called (Named (record { text = codes "p
 abbrev state : List Definition → ℕ → State
 state ds n = machine (map code_of ds) [] n
 
-pub nothing_halts : map (λ n. outcome_of (state nothing n)) (0 ∷ 1 ∷ 2 ∷ 3 ∷ []) ≡ (outcome.Limit ∷ outcome.Limit ∷ outcome.Exit 0 ∷ outcome.Exit 0 ∷ [])
+pub nothing_halts : map (λ n. state_outcome (state nothing n)) (0 ∷ 1 ∷ 2 ∷ 3 ∷ []) ≡ (outcome.Limit ∷ outcome.Limit ∷ outcome.Exit 0 ∷ outcome.Exit 0 ∷ [])
 nothing_halts = refl
 
-pub writes_limits : map (λ n. outcome_of (state writes_a n)) (3 ∷ 4 ∷ 6 ∷ 7 ∷ []) ≡ (outcome.Limit ∷ outcome.Limit ∷ outcome.Limit ∷ outcome.Exit 0 ∷ [])
+pub writes_limits : map (λ n. state_outcome (state writes_a n)) (3 ∷ 4 ∷ 6 ∷ 7 ∷ []) ≡ (outcome.Limit ∷ outcome.Limit ∷ outcome.Limit ∷ outcome.Exit 0 ∷ [])
 writes_limits = refl
 
-pub writes_outputs : map (λ n. (runs.world_of (state writes_a n)).output) (3 ∷ 4 ∷ 7 ∷ []) ≡ ([] ∷ codes "a" ∷ codes "a" ∷ [])
+pub writes_outputs : map (λ n. (runs.state_world (state writes_a n)).output) (3 ∷ 4 ∷ 7 ∷ []) ≡ ([] ∷ codes "a" ∷ codes "a" ∷ [])
 writes_outputs = refl
 
-no_end : (e : Ending) (w : World) → outcome.Limit ≡ outcome_of (Halted e w) → ⊥
+no_end : (e : Ending) (w : World) → outcome.Limit ≡ state_outcome (Halted e w) → ⊥
 no_end (Exited n) w e = cc
 no_end (Trapped kind) w e = cc
 
 -- a machine at its limit has halted at no step before
-still_runs : (ds : List Definition) (steps : ℕ) → outcome_of (state ds steps) ≡ outcome.Limit → (n : ℕ) → n ≤ steps → (e : Ending) (w : World) → state ds n ≡ Halted e w → ⊥
+still_runs : (ds : List Definition) (steps : ℕ) → state_outcome (state ds steps) ≡ outcome.Limit → (n : ℕ) → n ≤ steps → (e : Ending) (w : World) → state ds n ≡ Halted e w → ⊥
 still_runs ds steps limit n le e w h =
-    no_end e w (sym limit ∙ ap outcome_of (halted_later (image_of (map code_of ds)) [] n steps e w le h))
+    no_end e w (sym limit ∙ ap state_outcome (halted_later (image_of (map code_of ds)) [] n steps e w le h))
 
 all_written : (o p : Outgoing) (bytes all : List ℕ) → o.written ≡ Some [] → p.written ≡ Some all → Appends o.written p.written bytes → all ≡ bytes
 all_written o p bytes all e f a = subst (λ x. Appends (Some []) x bytes) f (subst (λ x. Appends x p.written bytes) e a)
 
 -- Over ends that tell their bytes, with no input, where nothing fails and the source has no fault.
 module _ (edition : Edition) (source source_behind : Incoming) (ends : RunEnds) (status : ℕ) (text : List ℕ) (tells : Tells source text) (told : Tells ends.input [])
-    (healthy : NothingFailed source source_behind ends status) (r : compiled.Outcome) (g : Goes [] (tokens_from edition 1 text) r) (clean : r.stop ≡ None) where
+    (healthy : NothingFailed source source_behind ends status) (r : compiled.Compilation) (g : CompilesTo [] (tokens_from edition 1 text) r) (clean : r.stop ≡ None) where
   answers : (steps : ℕ) (ds : List Definition) → g.definitions ≡ ds → Loads ds → GoesOff edition steps source source_behind ends status → RunAnswers ds [] steps ends status
   answers steps ds same loads h =
       subst (λ x. RunAnswers x [] steps ends status) same
@@ -73,7 +73,7 @@ module _ (edition : Edition) (source source_behind : Incoming) (ends : RunEnds) 
   -- `limit` in place of a halt: a run of fewer steps
   pub no_fewer_steps : g.definitions ≡ nothing → GoesOff edition 2 source source_behind ends status → status ≡ 131 → ⊥
   no_fewer_steps same h is =
-      let halt = (answers 2 nothing same refl h).halts 2 (omega arith) (Exited 0) (runs.world_of (state nothing 2)) refl in
+      let halt = (answers 2 nothing same refl h).halts 2 (omega arith) (Exited 0) (runs.state_world (state nothing 2)) refl in
       let bad : 131 ≡ 0 = sym is ∙ halt.says.answered in
       omega (arith, bad)
 
@@ -122,7 +122,7 @@ module _ (steps : ℕ) (source source_behind : Incoming) (ends : RunEnds) (statu
       omega (arith, letters)
 
 -- In the first edition nothing is written before there is code. So where there is none, only the line's end is refused memory.
-end_refused : (run : Run) (taken more : List ℕ) → run.edition ≡ editions.One → CanFollow run.source_behind more → (r : compiled.Outcome) → Goes [] (tokens_from run.edition 1 (taken ++ more)) r → r.code ≡ []
+end_refused : (run : Run) (taken more : List ℕ) → run.edition ≡ editions.One → CanFollow run.source_behind more → (r : compiled.Compilation) → CompilesTo [] (tokens_from run.edition 1 (taken ++ more)) r → r.code ≡ []
     → (fault : Diagnostic) → r.stop ≡ Some fault → NamesRefused run taken ⊎ EndRefused run taken end_fault.Memory → Grew run.line.refusals run.line_behind.refusals
 end_refused run taken more first follows r g none fault stop (inl n) =
     let less : n.count < 0 = subst (λ c. n.count < length c) none (n.code more follows r g).0 in
@@ -132,15 +132,15 @@ end_refused run taken more first follows r g none fault stop (inr (inr (inl c)))
 end_refused run taken more first follows r g none fault stop (inr (inr (inr l))) = (l.written more follows r g).line.counted.0
 
 pub refused_without_code : (steps : ℕ) (source source_behind : Incoming) (ends : RunEnds) (status : ℕ) (text : List ℕ) → Tells source text
-    → (r : compiled.Outcome) → Goes [] (tokens_from editions.One 1 text) r → r.code ≡ [] → (fault : Diagnostic) → r.stop ≡ Some fault
+    → (r : compiled.Compilation) → CompilesTo [] (tokens_from editions.One 1 text) r → r.code ≡ [] → (fault : Diagnostic) → r.stop ≡ Some fault
     → GoesOff editions.One steps source source_behind ends status → status ≡ 134 → Grew ends.line.refusals ends.line_behind.refusals
 refused_without_code steps source source_behind ends status text tells r g none fault stop (going.stopped kept not_zero quiet h) is =
     let rest = rest_of source source_behind h.taken text h.took tells in
-    let behind = subst (λ t. Goes [] (tokens_from editions.One 1 t) r) (sym rest.whole) g in
+    let behind = subst (λ t. CompilesTo [] (tokens_from editions.One 1 t) r) (sym rest.whole) g in
     end_refused _ h.taken rest.more refl rest.follows r behind none fault stop (h.refused is)
 refused_without_code steps source source_behind ends status text tells r g none fault stop (going.ran s) is =
     let rest = rest_of source source_behind s.taken text s.took tells in
-    let behind = subst (λ t. Goes [] (tokens_from editions.One 1 t) r) (sym rest.whole) g in
+    let behind = subst (λ t. CompilesTo [] (tokens_from editions.One 1 t) r) (sym rest.whole) g in
     other_stop r.stop fault (s.runs rest.more rest.follows r behind).1 stop
 
 told_device : (line : List ℕ) (answer : ℕ) (o p : Outgoing) (status : ℕ) → answer < 133 → Reported line answer o p status → status ≡ 133 → Grew o.failures p.failures

@@ -9,9 +9,9 @@ use Rattle.blang.specs.Cut.{tokens_from}
 use Rattle.blang.specs.declared.token.Diagnostic.{Diagnostic}
 use Rattle.blang.specs.Code.{code_of}
 use Rattle.blang.specs.Compiles as compiled
-use Rattle.blang.specs.Compiles.{Goes, line_of, Run, Compiles, SourceFailed, EndRefused, status_of}
+use Rattle.blang.specs.Compiles.{CompilesTo, line_of, Run, Compiles, SourceFailed, EndRefused, status_of}
 use Rattle.blang.specs.Trees.{Definition}
-use Rattle.blang.specs.Machine.{State, Running, Halted, Stuck, image_of, Shows, Comes, RunGives, outcome_of, Reported, report_text, load_number, RunEnds, Finishes, HasNotRun, machine}
+use Rattle.blang.specs.Machine.{State, Running, Halted, Stuck, image_of, Shows, ComesTo, RunGives, state_outcome, Reported, report_text, load_number, RunEnds, Finishes, HasNotRun, machine}
 use Rattle.blang.specs.Machine as runs
 use Rattle.blang.specs.Layout.{World, Ending, Exited, Trapped}
 use Rattle.blang.specs.declared.run.LoadFault.{LoadFault}
@@ -92,11 +92,11 @@ status_in outcome.Limit = 131
 status_in outcome.Device = 133
 status_in outcome.Memory = 134
 
-line_same : (e : Ending) (w : World) → line_in (outcome_of (Halted e w)) ≡ line_at e
+line_same : (e : Ending) (w : World) → line_in (state_outcome (Halted e w)) ≡ line_at e
 line_same (Exited n) w = refl
 line_same (Trapped kind) w = refl
 
-status_same : (e : Ending) (w : World) → status_in (outcome_of (Halted e w)) ≡ status_at e
+status_same : (e : Ending) (w : World) → status_in (state_outcome (Halted e w)) ≡ status_at e
 status_same (Exited n) w = refl
 status_same (Trapped kind) w = refl
 
@@ -111,7 +111,7 @@ module _ (ds : List Definition) (loads : Loads ds) (steps : ℕ) (ends : RunEnds
     pub shows : Shows result left output (state steps)
     pub says : Says ends status left output (line_in result) (status_in result)
 
-  came : (result : Outcome) → Comes (machine (map code_of ds)) steps ends.input ends.input_behind ends.out ends.out_behind result
+  came : (result : Outcome) → ComesTo (machine (map code_of ds)) steps ends.input ends.input_behind ends.out ends.out_behind result
       → Writes ends.line (line_in result) ends.line_behind → status ≡ status_in result → Came result
   came result h line is =
       let rest = rest_of ends.input ends.input_behind h.taken input h.took told in
@@ -124,13 +124,13 @@ module _ (ds : List Definition) (loads : Loads ds) (steps : ℕ) (ends : RunEnds
 
   -- it came so to this state
   says_at : (result : Outcome) (c : Came result) (s : State) → state steps ≡ s
-      → (outcome_of s ≡ result) × Says ends status (runs.world_of s).input (runs.world_of s).output (line_in (outcome_of s)) (status_in (outcome_of s))
+      → (state_outcome s ≡ result) × Says ends status (runs.state_world s).input (runs.state_world s).output (line_in (state_outcome s)) (status_in (state_outcome s))
   says_at result c s e =
       let shows = subst (λ x. Shows result c.left c.output x) e c.shows in
       let result_is = sym shows.outcome in
       let a = subst (λ x. Says ends status c.left c.output (line_in x) (status_in x)) result_is c.says in
-      let b = subst (λ x. Says ends status x c.output (line_in (outcome_of s)) (status_in (outcome_of s))) (sym shows.left) a in
-      (shows.outcome, subst (λ x. Says ends status (runs.world_of s).input x (line_in (outcome_of s)) (status_in (outcome_of s))) (sym shows.written) b)
+      let b = subst (λ x. Says ends status x c.output (line_in (state_outcome s)) (status_in (state_outcome s))) (sym shows.left) a in
+      (shows.outcome, subst (λ x. Says ends status (runs.state_world s).input x (line_in (state_outcome s)) (status_in (state_outcome s))) (sym shows.written) b)
 
   halts : (result : Outcome) → Came result → (n : ℕ) → n ≤ steps → (e : Ending) (w : World) → state n ≡ Halted e w → IsEnd ds input (n + 1) e w ends status
   halts result c n le e w h =
@@ -139,7 +139,7 @@ module _ (ds : List Definition) (loads : Loads ds) (steps : ℕ) (ends : RunEnds
       record {
         means = (code_agrees ds loads input).halts_as_meant n e w h;
         says = subst (λ x. Says ends status w.input w.output x (status_at e)) (line_same e w)
-            (subst (λ x. Says ends status w.input w.output (line_in (outcome_of (Halted e w))) x) (status_same e w) said);
+            (subst (λ x. Says ends status w.input w.output (line_in (state_outcome (Halted e w))) x) (status_same e w) said);
       }
 
   abbrev StillRuns : Type 0
@@ -189,7 +189,7 @@ compiling edition source source_behind ends status kept =
 -- A source that isn't compiled where nothing fails has a fault.
 module _ (edition : Edition) (source source_behind : Incoming) (ends : RunEnds) (status : ℕ) (healthy : NothingFailed source source_behind ends status) (kept : Kept) where
   -- what follows the bytes taken, and the outcome with it
-  module _ (h : Compiles (compiling edition source source_behind ends status kept)) (more : List ℕ) (follows : CanFollow source_behind more) (r : compiled.Outcome) (g : Goes [] (tokens_from edition 1 (h.taken ++ more)) r) where
+  module _ (h : Compiles (compiling edition source source_behind ends status kept)) (more : List ℕ) (follows : CanFollow source_behind more) (r : compiled.Compilation) (g : CompilesTo [] (tokens_from edition 1 (h.taken ++ more)) r) where
     not_device : status ≡ 133 → ⊥
     not_device device = by_end (h.failed device)
       where
@@ -226,7 +226,7 @@ unread_says ends status input line answer told quiet written is = record {
 }
 
 -- a program that was or wasn't run, where its source has no fault
-program_answers : (r : compiled.Outcome) (ds : List Definition) (input : List ℕ) (steps : ℕ) (source source_behind : Incoming) (ends : RunEnds) (status : ℕ)
+program_answers : (r : compiled.Compilation) (ds : List Definition) (input : List ℕ) (steps : ℕ) (source source_behind : Incoming) (ends : RunEnds) (status : ℕ)
     → Tells ends.input input → NothingFailed source source_behind ends status → r.stop ≡ None → RunsProgram steps ds ends status → GoAnswers r ds input steps ends status
 program_answers r ds input steps source source_behind ends status told healthy clean (going.refused f n load number quiet line) = record {
   faulty = λ fault e. other_stop r.stop fault clean e;
@@ -255,7 +255,7 @@ program_answers r ds input steps source source_behind ends status told healthy c
 pub headline : (edition : Edition) (steps : ℕ) (source source_behind : Incoming) (ends : RunEnds) (status : ℕ) → GoesOff edition steps source source_behind ends status → Headline edition steps source source_behind ends status
 headline edition steps source source_behind ends status (going.stopped kept not_zero quiet h) text input tells told healthy r g =
     let rest = rest_of source source_behind h.taken text h.took tells in
-    let behind = subst (λ t. Goes [] (tokens_from edition 1 t) r) (sym rest.whole) g in
+    let behind = subst (λ t. CompilesTo [] (tokens_from edition 1 t) r) (sym rest.whole) g in
     let one = fault_status edition source source_behind ends status healthy kept h rest.more rest.follows r behind not_zero in
     let f = h.faulty one rest.more rest.follows r behind in
     record {
@@ -268,6 +268,6 @@ headline edition steps source source_behind ends status (going.stopped kept not_
     }
 headline edition steps source source_behind ends status (going.ran s) text input tells told healthy r g =
     let rest = rest_of source source_behind s.taken text s.took tells in
-    let runs = subst (λ t. (r : compiled.Outcome) (g : Goes [] (tokens_from edition 1 t) r) → (source_behind.failures ≡ source.failures) × (r.stop ≡ None) × RunsProgram steps g.definitions ends status) rest.whole (s.runs rest.more rest.follows) in
+    let runs = subst (λ t. (r : compiled.Compilation) (g : CompilesTo [] (tokens_from edition 1 t) r) → (source_behind.failures ≡ source.failures) × (r.stop ≡ None) × RunsProgram steps g.definitions ends status) rest.whole (s.runs rest.more rest.follows) in
     let program = runs r g in
     program_answers r g.definitions input steps source source_behind ends status told healthy program.1 program.2

@@ -3,17 +3,17 @@ use Rattle.std.proofs.Common.{◌≡◌, ◌≢◌, ℕ, zero, suc, ◌+◌, ◌
 use Rattle.bword.specs.ByteEnds.{Incoming, Outgoing}
 use Rattle.blang.specs.Code.{code_of}
 use Rattle.blang.specs.Trees.{Definition}
-use Rattle.blang.specs.Machine.{Image, Call, State, Running, Halted, Stuck, step, steps, started, first_world, image_of, run, Shows, outcome_of, Comes, Breaks, RunGives, IsOwnStatus, machine}
+use Rattle.blang.specs.Machine.{Image, Call, State, Running, Halted, Stuck, step, steps, machine_started, image_of, run, Shows, state_outcome, ComesTo, StopsShort, RunGives, IsOwnStatus, machine}
 use Rattle.bword.specs.ByteEnds.{CanFollow, Began}
 use Rattle.blang.specs.Machine as runs
-use Rattle.blang.specs.Layout.{World, Ending, Exited, Trapped}
+use Rattle.blang.specs.Layout.{World, Ending, Exited, Trapped, first_world}
 use Rattle.blang.specs.declared.run.Outcome.{Outcome}
 use Rattle.blang.specs.declared.run.Outcome.TheVariants as outcome
 use Rattle.blang.specs.declared.run.Trap.{Trap}
 use Rattle.blang.specs.declared.run.Trap.TheVariants as trap
-use Rattle.blang.specs.Meaning.{Loads, meant, world_of, IsBeginningOf}
+use Rattle.blang.specs.Meaning.{Loads, meant, answer_world, IsBeginningOf}
 use Rattle.bmean.proofs.LawProofs.{code_agrees}
-use Rattle.blang.specs.Headline.{EndsSo, GoesOn, BreaksOff, RunsAsMeant, DoesAsMeant}
+use Rattle.blang.specs.Headline.{EndsSo, ReachesLimit, BreaksOff, RunsAsMeant, DoesAsMeant}
 use Rattle.brun.proofs.Endings.{HaltsProperly, run_proper, no_stuck_outcome}
 
 -- what halted stays so
@@ -29,7 +29,7 @@ steps-behind image (suc n) (suc m) k s e = steps-behind image n m k (step image 
 pub halted_later : (image : Image) (input : List ℕ) (m n : ℕ) (e : Ending) (w : World) → m ≤ n → run image input m ≡ Halted e w → run image input n ≡ Halted e w
 halted_later image input m n e w le h =
     let k : n ≡ m + (n - m) = omega (arith, le) in
-    steps-behind image m n (n - m) (started image image.main (first_world image input)) k
+    steps-behind image m n (n - m) (machine_started image image.main (first_world image input)) k
     ∙ ap (steps image (n - m)) h
     ∙ steps-Halted image (n - m) e w
 
@@ -39,7 +39,7 @@ pub record IsHalted (s : State) : Type 0 where
   pub world : World
   pub state : s ≡ Halted ending world
 
-halted_of : (s : State) (result : Outcome) → outcome_of s ≡ result → result ≢ outcome.Limit → ((w : World) → s ≢ Stuck w) → IsHalted s
+halted_of : (s : State) (result : Outcome) → state_outcome s ≡ result → result ≢ outcome.Limit → ((w : World) → s ≢ Stuck w) → IsHalted s
 halted_of (Running call below w) result o not_limit not_stuck = absurd (not_limit (sym o))
 halted_of (Halted e w) result o not_limit not_stuck = record { ending = e; world = w; state = refl }
 halted_of (Stuck w) result o not_limit not_stuck = absurd (not_stuck w refl)
@@ -50,7 +50,7 @@ pub record IsRunning (s : State) : Type 0 where
   pub world : World
   pub state : s ≡ Running call below world
 
-running_of : (s : State) → outcome_of s ≡ outcome.Limit → IsRunning s
+running_of : (s : State) → state_outcome s ≡ outcome.Limit → IsRunning s
 running_of (Running call below w) o = record { call = call; below = below; world = w; state = refl }
 running_of (Halted (Exited status) w) o = cc
 running_of (Halted (Trapped kind) w) o = cc
@@ -66,7 +66,7 @@ module _ (ds : List Definition) (loads : Loads ds) (n : ℕ) (i j : Incoming) (o
   abbrev states : List ℕ → ℕ → State
   states = machine (map code_of ds)
 
-  ends_so : (result : Outcome) → result ≢ outcome.Limit → Comes states n i j o p result → EndsSo ds n i j o p result
+  ends_so : (result : Outcome) → result ≢ outcome.Limit → ComesTo states n i j o p result → EndsSo ds n i j o p result
   ends_so result not_limit h = record {
     taken = h.taken;
     took = h.took;
@@ -85,7 +85,7 @@ module _ (ds : List Definition) (loads : Loads ds) (n : ℕ) (i j : Incoming) (o
         };
   }
 
-  goes_on : Comes states n i j o p outcome.Limit → GoesOn ds n i j o p
+  goes_on : ComesTo states n i j o p outcome.Limit → ReachesLimit ds n i j o p
   goes_on h = record {
     taken = h.taken;
     took = h.took;
@@ -96,7 +96,7 @@ module _ (ds : List Definition) (loads : Loads ds) (n : ℕ) (i j : Incoming) (o
         let s = h.shows more c in
         let laws = code_agrees ds loads (h.taken ++ more) in
         let r = running_of (states (h.taken ++ more) n) s.outcome in
-        subst (λ t. IsBeginningOf t (world_of (meant ds (h.taken ++ more) (n + 1))).output) (sym (ap (λ x. (runs.world_of x).output) r.state) ∙ s.written)
+        subst (λ t. IsBeginningOf t (answer_world (meant ds (h.taken ++ more) (n + 1))).output) (sym (ap (λ x. (runs.state_world x).output) r.state) ∙ s.written)
         (laws.writes_as_meant n r.call r.below r.world r.state);
     later = λ more c fuel e w m.
         let s = h.shows more c in
@@ -110,7 +110,7 @@ module _ (ds : List Definition) (loads : Loads ds) (n : ℕ) (i j : Incoming) (o
         };
   }
 
-  breaks_off : (why : Type 0) → Breaks states n i j o p why → BreaksOff ds n i j o p why
+  breaks_off : (why : Type 0) → StopsShort states n i j o p why → BreaksOff ds n i j o p why
   breaks_off why h = record {
     taken = h.taken;
     took = h.took;
@@ -120,13 +120,13 @@ module _ (ds : List Definition) (loads : Loads ds) (n : ℕ) (i j : Incoming) (o
     reason = h.reason;
   }
     where
-      began : (input : List ℕ) (made : ℕ) (s : State) → states input made ≡ s → Began o (runs.world_of (states input made)).output p
-          → (text : List ℕ) × IsBeginningOf text (world_of (meant ds input (made + 1))).output × Began o text p
+      began : (input : List ℕ) (made : ℕ) (s : State) → states input made ≡ s → Began o (runs.state_world (states input made)).output p
+          → (text : List ℕ) × IsBeginningOf text (answer_world (meant ds input (made + 1))).output × Began o text p
       began input made (Running call below w) e b =
-          (w.output, (code_agrees ds loads input).writes_as_meant made call below w e, subst (λ x. Began o (runs.world_of x).output p) e b)
+          (w.output, (code_agrees ds loads input).writes_as_meant made call below w e, subst (λ x. Began o (runs.state_world x).output p) e b)
       began input made (Halted ending w) e b =
           let ends = (code_agrees ds loads input).halts_as_meant made ending w e in
-          (w.output, subst (λ x. IsBeginningOf w.output (world_of x).output) (sym ends) (itself w.output), subst (λ x. Began o (runs.world_of x).output p) e b)
+          (w.output, subst (λ x. IsBeginningOf w.output (answer_world x).output) (sym ends) (itself w.output), subst (λ x. Began o (runs.state_world x).output p) e b)
       began input made (Stuck w) e b = absurd ((code_agrees ds loads input).never_stuck made w e)
 
   runs_as_meant : (result : Outcome) → RunGives states n i j o p result → RunsAsMeant ds n i j o p result
@@ -137,13 +137,13 @@ module _ (ds : List Definition) (loads : Loads ds) (n : ℕ) (i j : Incoming) (o
   runs_as_meant outcome.Memory h = breaks_off _ h
 
   -- the state of a run over its ends, on some input
-  state_of : (result : Outcome) → Comes states n i j o p result → (input : List ℕ) × (outcome_of (states input n) ≡ result)
+  state_of : (result : Outcome) → ComesTo states n i j o p result → (input : List ℕ) × (state_outcome (states input n) ≡ result)
   state_of result h = (h.taken ++ [], (h.shows [] (λ over. refl)).outcome)
 
   proper : (input : List ℕ) → HaltsProperly (states input n)
   proper input = run_proper (image_of (map code_of ds)) input n
 
-  not_stuck : (kind : Trap) → Comes states n i j o p (outcome.Trap kind) → outcome.Trap kind ≢ outcome.Trap trap.Stuck
+  not_stuck : (kind : Trap) → ComesTo states n i j o p (outcome.Trap kind) → outcome.Trap kind ≢ outcome.Trap trap.Stuck
   not_stuck kind h e =
       let at = state_of (outcome.Trap kind) h in
       no_stuck_outcome (states at.0 n) (proper at.0) (λ w. (code_agrees ds loads at.0).never_stuck n w) (at.1 ∙ e)

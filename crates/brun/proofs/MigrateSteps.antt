@@ -10,14 +10,14 @@ use Rattle.bword.specs.declared.edition.Edition.{Edition}
 use Rattle.bword.specs.declared.edition.Edition.TheVariants as editions
 use Rattle.bword.proofs.Putting.{Writes-none, Writes-append, Refuses-behind, Refuses-short}
 use Rattle.bword.proofs.Taking.{Took-none, Took-append}
-use Rattle.bcode.specs.Ahead.{Reads}
-use Rattle.bcode.specs.Readers.{CodeReader, all_ahead, opened, Since, Gave, Ended, Stopped, Refused, Broke, Keeps}
-use Rattle.blang.specs.Text.{opening, header_line, text_of, end_text, IsTextOf, IsWithinRanges}
+use Rattle.bcode.specs.Ahead.{TakesBytes}
+use Rattle.bcode.specs.Readers.{CodeReader, all_ahead, opening_read, HasTaken, Gave, TextEnded, StoppedAtLine, MemoryRefused, ReadBroke, SameReader}
+use Rattle.blang.specs.Text.{opening, header_line, definition_text, end_text, IsTextOf, IsWithinRanges}
 use Rattle.bcode.specs.Faults.{IsFaultLineIn}
 use Rattle.blang.specs.declared.code.Definition.{Definition}
 use Rattle.bcode.proofs.AheadLaws.{Grew-after}
 use Rattle.bcode.proofs.FaultLaws.{code_spelled, unique_code}
-use Rattle.brun.specs.Migrates.{rewritten, Becomes, Rewriting, CodeGives, halt_of, first_line, definition, last_line, OutFailed}
+use Rattle.brun.specs.Migrates.{rewritten, Becomes, Rewriting, RewritingGives, halt_of, first_line, definition, last_line, OutFailed}
 use Rattle.brun.specs.declared.migrating.Halt.{Halt}
 use Rattle.brun.specs.declared.migrating.Halt.TheVariants as halt
 use Rattle.brun.proofs.AlikeLaws.{runs_as}
@@ -38,32 +38,32 @@ nothing_opened : (b : Bool) (e : Edition) → e ≡ editions.One → (if b then 
 nothing_opened true e is = ap opening is
 nothing_opened false e is = refl
 
-opened_one : (r : CodeReader) → r.first.edition ≡ editions.One → opened r ≡ []
+opened_one : (r : CodeReader) → r.first.edition ≡ editions.One → opening_read r ≡ []
 opened_one r one = nothing_opened r.is_begun r.first.edition one
 
-reads_texts : (r : CodeReader) (ds : List Definition) → r.first.edition ≡ editions.One → Since r ds → Reads (all_ahead r.first) (flat_map text_of ds) r.ahead
-reads_texts r ds one s = subst (λ t. Reads (all_ahead r.first) (t ++ flat_map text_of ds) r.ahead) (opened_one r one) s.passes.reads
+reads_texts : (r : CodeReader) (ds : List Definition) → r.first.edition ≡ editions.One → HasTaken r ds → TakesBytes (all_ahead r.first) (flat_map definition_text ds) r.ahead
+reads_texts r ds one s = subst (λ t. TakesBytes (all_ahead r.first) (t ++ flat_map definition_text ds) r.ahead) (opened_one r one) s.passes.reads
 
 -- how far the definitions were written
 pub record Passing (old : CodeReader) (opened : Outgoing) (r : CodeReader) (out : Outgoing) : Type 0 where
   pub definitions : List Definition
-  pub since : Since r definitions
-  pub written : Writes opened (flat_map text_of definitions) out
-  pub keeps : Keeps old r
+  pub since : HasTaken r definitions
+  pub written : Writes opened (flat_map definition_text definitions) out
+  pub keeps : SameReader old r
 
-module _ (old r new : CodeReader) (opened now : Outgoing) (one : old.first.edition ≡ editions.One) (p : Passing old opened r now) (keeps : Keeps r new) where
+module _ (old r new : CodeReader) (opened now : Outgoing) (one : old.first.edition ≡ editions.One) (p : Passing old opened r now) (keeps : SameReader r new) where
   abbrev ds : List Definition
   ds = p.definitions
 
   first_one : r.first.edition ≡ editions.One
   first_one = ap (λ s. s.edition) p.keeps.first ∙ one
 
-  pub keeps_all : Keeps old new
+  pub keeps_all : SameReader old new
   keeps_all = record { first = keeps.first ∙ p.keeps.first; lender = keeps.lender ∙ p.keeps.lender }
 
   -- bytes were taken since the reader was made
-  from_start : (taken : List ℕ) → Reads (all_ahead r.first) taken new.ahead → Reads (all_ahead old.first) taken new.ahead
-  from_start taken h = subst (λ s. Reads (all_ahead s) taken new.ahead) p.keeps.first h
+  from_start : (taken : List ℕ) → TakesBytes (all_ahead r.first) taken new.ahead → TakesBytes (all_ahead old.first) taken new.ahead
+  from_start taken h = subst (λ s. TakesBytes (all_ahead s) taken new.ahead) p.keeps.first h
 
   module _ (out : Outgoing) (begun : Writes out (opening editions.Two) opened) where
     abbrev at : Outgoing → Rewriting
@@ -73,13 +73,13 @@ module _ (old r new : CodeReader) (opened now : Outgoing) (one : old.first.editi
     written = Writes-append begun p.written
 
     -- a beginning was written of what comes of texts that begin with the definitions
-    begins : (taken rest : List ℕ) → taken ≡ flat_map text_of ds ++ rest
+    begins : (taken rest : List ℕ) → taken ≡ flat_map definition_text ds ++ rest
         → (more bytes : List ℕ) → Becomes (taken ++ more) bytes → Began out bytes now
     begins taken rest comes more bytes becomes =
-        let b = becomes_behind (taken ++ more) bytes ds (rest ++ more) p.since.within (ap (λ l. l ++ more) comes ∙ append_assoc (flat_map text_of ds) rest more) becomes in
+        let b = becomes_behind (taken ++ more) bytes ds (rest ++ more) p.since.within (ap (λ l. l ++ more) comes ∙ append_assoc (flat_map definition_text ds) rest more) becomes in
         subst (λ t. Began out t now) (sym b.1) (began_written b.0 written)
 
-    pub stopped : (n : ℕ) → Stopped ds r n new → CodeGives (at now) (Err (halt.Line n))
+    pub stopped : (n : ℕ) → StoppedAtLine ds r n new → RewritingGives (at now) (Err (halt.Line n))
     stopped n h = (
       h.taken,
       (from_start h.taken h.reads).took,
@@ -97,23 +97,23 @@ module _ (old r new : CodeReader) (opened now : Outgoing) (one : old.first.editi
       },
     )
       where
-        comes : h.taken ≡ flat_map text_of ds ++ h.behind
-        comes = h.split ∙ ap (λ t. t ++ flat_map text_of ds ++ h.behind) (opened_one r first_one)
+        comes : h.taken ≡ flat_map definition_text ds ++ h.behind
+        comes = h.split ∙ ap (λ t. t ++ flat_map definition_text ds ++ h.behind) (opened_one r first_one)
 
-        spelled : (more : List ℕ) → h.taken ++ more ≡ flat_map text_of ds ++ (h.behind ++ more)
-        spelled more = ap (λ l. l ++ more) comes ∙ append_assoc (flat_map text_of ds) h.behind more
+        spelled : (more : List ℕ) → h.taken ++ more ≡ flat_map definition_text ds ++ (h.behind ++ more)
+        spelled more = ap (λ l. l ++ more) comes ∙ append_assoc (flat_map definition_text ds) h.behind more
 
         none : (more : List ℕ) → CanFollow new.ahead.end more → NoFirst (h.behind ++ more)
         none more can d rest inside same =
             h.none more can d rest inside
-            (spelled more ∙ ap (λ l. flat_map text_of ds ++ l) same ∙ ap (λ t. t ++ flat_map text_of ds ++ (text_of d ++ rest)) (sym (ap opening first_one)))
+            (spelled more ∙ ap (λ l. flat_map definition_text ds ++ l) same ∙ ap (λ t. t ++ flat_map definition_text ds ++ (definition_text d ++ rest)) (sym (ap opening first_one)))
 
-    pub broke : Broke ds r new → CodeGives (at now) (Err halt.Device)
+    pub broke : ReadBroke ds r new → RewritingGives (at now) (Err halt.Device)
     broke h =
         let before = reads_texts r ds first_one p.since in
         let same = p.keeps.first in (
-          flat_map text_of ds ++ h.breaks.taken,
-          subst (λ s. Took (all_ahead s).end (flat_map text_of ds ++ h.breaks.taken) new.ahead.end) same (Took-append before.took h.breaks.took),
+          flat_map definition_text ds ++ h.breaks.taken,
+          subst (λ s. Took (all_ahead s).end (flat_map definition_text ds ++ h.breaks.taken) new.ahead.end) same (Took-append before.took h.breaks.took),
           inl record {
             counted = subst (λ s. Grew (all_ahead s).end.failures new.ahead.end.failures) same (Grew-after _ _ _ before.failures h.breaks.counted);
             definitions = ds;
@@ -122,17 +122,17 @@ module _ (old r new : CodeReader) (opened now : Outgoing) (one : old.first.editi
             comes = refl;
             none = none;
             written = written;
-            begun = λ more can bytes becomes. begins (flat_map text_of ds ++ h.breaks.taken) h.breaks.taken refl more bytes becomes;
+            begun = λ more can bytes becomes. begins (flat_map definition_text ds ++ h.breaks.taken) h.breaks.taken refl more bytes becomes;
           },
         )
       where
         none : NoFirst h.breaks.taken
         none d behind inside same =
             h.none d behind inside
-            (ap (λ t. t ++ flat_map text_of ds ++ h.breaks.taken) (opened_one r first_one) ∙ ap (λ l. flat_map text_of ds ++ l) same
-            ∙ ap (λ t. t ++ flat_map text_of ds ++ (text_of d ++ behind)) (sym (ap opening first_one)))
+            (ap (λ t. t ++ flat_map definition_text ds ++ h.breaks.taken) (opened_one r first_one) ∙ ap (λ l. flat_map definition_text ds ++ l) same
+            ∙ ap (λ t. t ++ flat_map definition_text ds ++ (definition_text d ++ behind)) (sym (ap opening first_one)))
 
-    pub no_room : Refused ds r new → CodeGives (at now) (Err halt.Memory)
+    pub no_room : MemoryRefused ds r new → RewritingGives (at now) (Err halt.Memory)
     no_room h = (
       h.taken,
       (from_start h.taken h.reads).took,
@@ -151,11 +151,11 @@ module _ (old r new : CodeReader) (opened now : Outgoing) (one : old.first.editi
       },
     )
       where
-        comes : h.taken ≡ flat_map text_of ds ++ (header_line h.next ++ h.rest)
-        comes = h.spelled ∙ ap (λ t. t ++ flat_map text_of ds ++ (header_line h.next ++ h.rest)) (ap opening first_one)
+        comes : h.taken ≡ flat_map definition_text ds ++ (header_line h.next ++ h.rest)
+        comes = h.spelled ∙ ap (λ t. t ++ flat_map definition_text ds ++ (header_line h.next ++ h.rest)) (ap opening first_one)
 
     -- the last line was written
-    pub ended : (last : Outgoing) → Ended ds r new → Writes now end_text last → CodeGives (at last) (Ok tt)
+    pub ended : (last : Outgoing) → TextEnded ds r new → Writes now end_text last → RewritingGives (at last) (Ok tt)
     ended last h wrote = (
       h.taken,
       (from_start h.taken h.reads).took,
@@ -182,7 +182,7 @@ module _ (old r new : CodeReader) (opened now : Outgoing) (one : old.first.editi
         again = record { within = p.since.within; spelled = sym (code_spelled editions.Two ds) }
 
     -- or it was refused
-    end_failed : (last : Outgoing) (fault : EndFault) (h : Ended ds r new) → Refuses now end_text fault last → OutFailed (at last) h.taken fault
+    end_failed : (last : Outgoing) (fault : EndFault) (h : TextEnded ds r new) → Refuses now end_text fault last → OutFailed (at last) h.taken fault
     end_failed last fault h refused = record {
       read = (from_start h.taken h.reads).failures;
       refused = last_line ds whole h.over record { mid = now; written = written; refused = refused };
@@ -194,19 +194,19 @@ module _ (old r new : CodeReader) (opened now : Outgoing) (one : old.first.editi
         whole : IsTextOf editions.One h.taken ds
         whole = subst (λ e. IsTextOf e h.taken ds) first_one h.whole
 
-    pub end_refused : (last : Outgoing) (fault : EndFault) → Ended ds r new → Refuses now end_text fault last → CodeGives (at last) (Err (halt_of fault))
+    pub end_refused : (last : Outgoing) (fault : EndFault) → TextEnded ds r new → Refuses now end_text fault last → RewritingGives (at last) (Err (halt_of fault))
     end_refused last end_fault.Device h refused = (h.taken, (from_start h.taken h.reads).took, inr (end_failed last end_fault.Device h refused))
     end_refused last end_fault.Memory h refused = (h.taken, (from_start h.taken h.reads).took, inr (end_failed last end_fault.Memory h refused))
 
     -- a definition was refused
     module _ (d : Definition) (g : Gave ds r d new) where
       abbrev taken : List ℕ
-      taken = flat_map text_of (ds ++ d ∷ [])
+      taken = flat_map definition_text (ds ++ d ∷ [])
 
-      taken_all : Reads (all_ahead old.first) taken new.ahead
-      taken_all = from_start taken (subst (λ s. Reads (all_ahead s) taken new.ahead) keeps.first (reads_texts new (ds ++ d ∷ []) (ap (λ s. s.edition) keeps.first ∙ first_one) g.now))
+      taken_all : TakesBytes (all_ahead old.first) taken new.ahead
+      taken_all = from_start taken (subst (λ s. TakesBytes (all_ahead s) taken new.ahead) keeps.first (reads_texts new (ds ++ d ∷ []) (ap (λ s. s.edition) keeps.first ∙ first_one) g.now))
 
-      definition_failed : (last : Outgoing) (fault : EndFault) → Refuses now (text_of d) fault last → OutFailed (at last) taken fault
+      definition_failed : (last : Outgoing) (fault : EndFault) → Refuses now (definition_text d) fault last → OutFailed (at last) taken fault
       definition_failed last fault refused = record {
         read = taken_all.failures;
         refused = definition ds d g.now.within refl record { mid = now; written = written; refused = refused };
@@ -215,12 +215,12 @@ module _ (old r new : CodeReader) (opened now : Outgoing) (one : old.first.editi
             subst (λ t. Began out t last) (ap (λ l. l ++ b.0) (sym (rewritten-push ds d)) ∙ sym b.1) (began_refused (Refuses-short b.0 (Refuses-behind written refused)));
       }
 
-      pub definition_refused : (last : Outgoing) (fault : EndFault) → Refuses now (text_of d) fault last → CodeGives (at last) (Err (halt_of fault))
+      pub definition_refused : (last : Outgoing) (fault : EndFault) → Refuses now (definition_text d) fault last → RewritingGives (at last) (Err (halt_of fault))
       definition_refused last end_fault.Device refused = (taken, taken_all.took, inr (definition_failed last end_fault.Device refused))
       definition_refused last end_fault.Memory refused = (taken, taken_all.took, inr (definition_failed last end_fault.Memory refused))
 
   -- a definition more was read and written
-  pub passing_more : (d : Definition) (last : Outgoing) → Gave ds r d new → Writes now (text_of d) last → Passing old opened new last
+  pub passing_more : (d : Definition) (last : Outgoing) → Gave ds r d new → Writes now (definition_text d) last → Passing old opened new last
   passing_more d last g wrote = record {
     definitions = ds ++ d ∷ [];
     since = g.now;
@@ -228,13 +228,13 @@ module _ (old r new : CodeReader) (opened now : Outgoing) (one : old.first.editi
     keeps = keeps_all;
   }
 
-pub passing_none : (r : CodeReader) (out : Outgoing) → Since r [] → Passing r out r out
+pub passing_none : (r : CodeReader) (out : Outgoing) → HasTaken r [] → Passing r out r out
 passing_none r out s = record { definitions = []; since = s; written = Writes-none out; keeps = record { first = refl; lender = refl } }
 
 -- the exit of a `?` behind a write
-pub refused_exit : (w : Rewriting) (r : Result (Unit {0}) Halt) (fault : EndFault) → IsErrAnd r (λ h. h ≡ halt_of fault) → CodeGives w (Err (halt_of fault)) → CodeGives w r
+pub refused_exit : (w : Rewriting) (r : Result (Unit {0}) Halt) (fault : EndFault) → IsErrAnd r (λ h. h ≡ halt_of fault) → RewritingGives w (Err (halt_of fault)) → RewritingGives w r
 refused_exit w (Ok u) fault same gives = absurd same
-refused_exit w (Err h) fault same gives = subst (λ (e : Halt). CodeGives w (Err e)) (sym same) gives
+refused_exit w (Err h) fault same gives = subst (λ (e : Halt). RewritingGives w (Err e)) (sym same) gives
 
 -- the first line was refused, before anything was read
 begin_failed : (input : Incoming) (out behind : Outgoing) (fault : EndFault) → Refuses out (opening editions.Two) fault behind
@@ -248,6 +248,6 @@ begin_failed input out behind fault refused = record {
 }
 
 pub begin_refused : (input : Incoming) (out behind : Outgoing) (fault : EndFault) → Refuses out (opening editions.Two) fault behind
-    → CodeGives (record { input = input; input_behind = input; out = out; out_behind = behind }) (Err (halt_of fault))
+    → RewritingGives (record { input = input; input_behind = input; out = out; out_behind = behind }) (Err (halt_of fault))
 begin_refused input out behind end_fault.Device refused = ([], Took-none input, inr (begin_failed input out behind end_fault.Device refused))
 begin_refused input out behind end_fault.Memory refused = ([], Took-none input, inr (begin_failed input out behind end_fault.Memory refused))

@@ -7,7 +7,8 @@ use Rattle.bword.specs.declared.ends.EndFault.TheVariants as end_fault
 use Rattle.bword.specs.declared.edition.Edition.TheVariants as editions
 use Rattle.bcode.specs.Faults.{IsFaultLineIn}
 use Rattle.bcode.specs.Readers.{CodeReader}
-use Rattle.blang.specs.Text.{opening, header_line, lines_of, text_of, end_text, IsTextOf, IsCodeText, IsWithinRanges}
+use Rattle.blang.specs.Text.{opening, header_line, lines_of, definition_text, end_text, IsTextOf, IsCodeText}
+use Rattle.blang.specs.Text.{IsWithinRanges}
 use Rattle.blang.specs.declared.code.Definition.{Definition}
 use Rattle.blang.specs.declared.status.TheConstants.{DONE, REFUSED, DEVICE, MEMORY}
 use Rattle.blang.specs.Machine.{Reported, report_text, RunEnds}
@@ -18,19 +19,20 @@ use Rattle.blang.specs.declared.run.Report.TheVariants as report
 
 -- the text of these definitions in the second edition, without the last line
 abbrev pub rewritten : List Definition → List ℕ
-rewritten ds = opening editions.Two ++ flat_map text_of ds
+rewritten ds = opening editions.Two ++ flat_map definition_text ds
 
 -- These are the definitions of the text whose lines are all among its first lines, those before line n.
 pub record AreWhole (text : List ℕ) (n : ℕ) (ds : List Definition) : Type 0 where
   pub within : All IsWithinRanges ds
   pub rest : List ℕ
-  pub begins : text ≡ flat_map text_of ds ++ rest
+  pub begins : text ≡ flat_map definition_text ds ++ rest
   pub among : length (flat_map lines_of ds) < n
-  pub all : (es : List Definition) (behind : List ℕ) → All IsWithinRanges es → text ≡ flat_map text_of es ++ behind
+  pub all : (es : List Definition) (behind : List ℕ) → All IsWithinRanges es → text
+      ≡ flat_map definition_text es ++ behind
       → length (flat_map lines_of es) < n → length es ≤ length ds
 
 -- The text is none of the first edition: no such text goes on with line n, before which these definitions are whole.
-pub record IsCut (text : List ℕ) (n : ℕ) (ds : List Definition) : Type 0 where
+pub record IsCutBefore (text : List ℕ) (n : ℕ) (ds : List Definition) : Type 0 where
   pub no_text : (es : List Definition) → IsTextOf editions.One text es → ⊥
   pub fault : IsFaultLineIn editions.One text n
   pub whole : AreWhole text n ds
@@ -39,7 +41,7 @@ pub record IsCut (text : List ℕ) (n : ℕ) (ds : List Definition) : Type 0 whe
 -- edition, that of the definitions before the line of the fault, without the last line.
 pub data Becomes (text bytes : List ℕ) : Type 0 where
   whole : (ds : List Definition) → IsTextOf editions.One text ds → IsTextOf editions.Two bytes ds → Becomes text bytes
-  cut : (n : ℕ) (ds : List Definition) → IsCut text n ds → bytes ≡ rewritten ds → Becomes text bytes
+  cut : (n : ℕ) (ds : List Definition) → IsCutBefore text n ds → bytes ≡ rewritten ds → Becomes text bytes
 
 -- the input and the output, before and after
 pub record Rewriting : Type 0 where
@@ -53,21 +55,21 @@ abbrev pub HasRead : Rewriting → Type 0
 HasRead w = w.input_behind.failures ≡ w.input.failures
 
 -- each text that begins with the bytes that were taken, or the one whose end was seen
-abbrev pub Whatever : Rewriting → List ℕ → (List ℕ → Type 0) → Type 0
-Whatever w taken P = (more : List ℕ) → CanFollow w.input_behind more → P (taken ++ more)
+abbrev pub WhateverFollows : Rewriting → List ℕ → (List ℕ → Type 0) → Type 0
+WhateverFollows w taken P = (more : List ℕ) → CanFollow w.input_behind more → P (taken ++ more)
 
 -- what was written is a beginning of what each such text becomes
 abbrev pub HasBegun : Rewriting → List ℕ → Type 0
 HasBegun w taken =
-    Whatever w taken (λ text. (bytes : List ℕ) → Becomes text bytes → Began w.out bytes w.out_behind)
+    WhateverFollows w taken (λ text. (bytes : List ℕ) → Becomes text bytes → Began w.out bytes w.out_behind)
 
 -- What comes of a run of the one text can come of a run of the other.
 abbrev pub RunsAs : List ℕ → List ℕ → Type 0
 RunsAs text other =
     (steps : ℕ) (ends : RunEnds) (status : ℕ) → RunsText steps text ends status → RunsText steps other ends status
 
--- The text was one of the first edition, whose end was seen. The same definitions were written in the second: they alone
--- are read from what was written, and they run as before.
+-- The text was one of the first edition, whose end was seen. The same definitions were written in the second: they
+-- alone are read from what was written, and they run as before.
 pub record IsMigrated (w : Rewriting) (taken : List ℕ) : Type 0 where
   pub read : HasRead w
   pub definitions : List Definition
@@ -80,10 +82,10 @@ pub record IsMigrated (w : Rewriting) (taken : List ℕ) : Type 0 where
   pub written : Writes w.out text w.out_behind
 
 -- The text is none of the first edition, as line n tells. The definitions before that line were written.
-pub record IsFaulty (w : Rewriting) (taken : List ℕ) (n : ℕ) : Type 0 where
+pub record HasBadLine (w : Rewriting) (taken : List ℕ) (n : ℕ) : Type 0 where
   pub read : HasRead w
   pub definitions : List Definition
-  pub cut : Whatever w taken (λ text. IsCut text n definitions)
+  pub cut : WhateverFollows w taken (λ text. IsCutBefore text n definitions)
   pub written : Writes w.out (rewritten definitions) w.out_behind
 
 -- A read failed. What the text begins with was written, and the definitions that were whole: behind them none is.
@@ -92,13 +94,13 @@ pub record InputFailed (w : Rewriting) (taken : List ℕ) : Type 0 where
   pub definitions : List Definition
   pub within : All IsWithinRanges definitions
   pub rest : List ℕ
-  pub comes : taken ≡ flat_map text_of definitions ++ rest
-  pub none : (d : Definition) (behind : List ℕ) → IsWithinRanges d → rest ≡ text_of d ++ behind → ⊥
+  pub comes : taken ≡ flat_map definition_text definitions ++ rest
+  pub none : (d : Definition) (behind : List ℕ) → IsWithinRanges d → rest ≡ definition_text d ++ behind → ⊥
   pub written : Writes w.out (rewritten definitions) w.out_behind
   pub begun : HasBegun w taken
 
--- What was read of a definition had no room, which no contract sees: its first line was whole, and no byte behind its last
--- line was taken. The definitions before it were written.
+-- What was read of a definition had no room, which no contract sees: its first line was whole, and no byte behind its
+-- last line was taken. The definitions before it were written.
 pub record NoRoom (w : Rewriting) (taken : List ℕ) : Type 0 where
   pub read : HasRead w
   pub before : List Definition
@@ -106,9 +108,9 @@ pub record NoRoom (w : Rewriting) (taken : List ℕ) : Type 0 where
   pub next : Definition
   pub inside : IsWithinRanges next
   pub rest : List ℕ
-  pub comes : taken ≡ flat_map text_of before ++ (header_line next ++ rest)
+  pub comes : taken ≡ flat_map definition_text before ++ (header_line next ++ rest)
   pub more : List ℕ
-  pub whole : text_of next ≡ header_line next ++ rest ++ more
+  pub whole : definition_text next ≡ header_line next ++ rest ++ more
   pub written : Writes w.out (rewritten before) w.out_behind
   pub begun : HasBegun w taken
 
@@ -124,7 +126,7 @@ pub data IsRefused (w : Rewriting) (taken : List ℕ) (fault : EndFault) : Type 
   first_line : w.input_behind ≡ w.input → taken ≡ [] → Refuses w.out (opening editions.Two) fault w.out_behind
       → IsRefused w taken fault
   definition : (before : List Definition) (d : Definition) → All IsWithinRanges (before ++ d ∷ [])
-      → taken ≡ flat_map text_of (before ++ d ∷ []) → RefusesNext w (rewritten before) (text_of d) fault
+      → taken ≡ flat_map definition_text (before ++ d ∷ []) → RefusesNext w (rewritten before) (definition_text d) fault
       → IsRefused w taken fault
   last_line : (ds : List Definition) → IsTextOf editions.One taken ds → w.input_behind.is_over ≡ true
       → RefusesNext w (rewritten ds) end_text fault → IsRefused w taken fault
@@ -145,16 +147,16 @@ abbrev pub Taking : Rewriting → (List ℕ → Type 0) → Type 0
 Taking w P = (taken : List ℕ) × Took w.input taken w.input_behind × P taken
 
 -- what was read and written, by the answer
-abbrev pub CodeGives : Rewriting → Result (Unit {0}) Halt → Type 0
-CodeGives w (Ok u) = Taking w (IsMigrated w)
-CodeGives w (Err (halt.Line n)) = Taking w (λ taken. IsFaulty w taken n)
-CodeGives w (Err halt.Device) = Taking w (λ taken. InputFailed w taken ⊎ OutFailed w taken end_fault.Device)
-CodeGives w (Err halt.Memory) = Taking w (λ taken. NoRoom w taken ⊎ OutFailed w taken end_fault.Memory)
+abbrev pub RewritingGives : Rewriting → Result (Unit {0}) Halt → Type 0
+RewritingGives w (Ok u) = Taking w (IsMigrated w)
+RewritingGives w (Err (halt.Line n)) = Taking w (λ taken. HasBadLine w taken n)
+RewritingGives w (Err halt.Device) = Taking w (λ taken. InputFailed w taken ⊎ OutFailed w taken end_fault.Device)
+RewritingGives w (Err halt.Memory) = Taking w (λ taken. NoRoom w taken ⊎ OutFailed w taken end_fault.Memory)
 
 -- the same from when a reader was made, behind what was written then
 abbrev pub DefinitionsGive : CodeReader → Outgoing → Result (Unit {0}) Halt → CodeReader → Outgoing → Type 0
 DefinitionsGive old opened result new behind = (out : Outgoing) → Writes out (opening editions.Two) opened
-    → CodeGives (record {
+    → RewritingGives (record {
       input = old.first.source;
       input_behind = new.ahead.end;
       out = out;
@@ -164,7 +166,7 @@ DefinitionsGive old opened result new behind = (out : Outgoing) → Writes out (
 -- What a text comes to, its line and its status. A line is told of a text that is none of the first edition, alone.
 pub data Migrates (w : Rewriting) (line line_behind : Outgoing) (status : ℕ) : Type 0 where
   done : Taking w (IsMigrated w) → line_behind ≡ line → status ≡ DONE → Migrates w line line_behind status
-  faulty : (n : ℕ) → Taking w (λ taken. IsFaulty w taken n)
+  faulty : (n : ℕ) → Taking w (λ taken. HasBadLine w taken n)
       → Reported (report_text (report.Code n)) REFUSED line line_behind status → Migrates w line line_behind status
   failed : Taking w (λ taken. InputFailed w taken ⊎ OutFailed w taken end_fault.Device)
       → line_behind ≡ line → status ≡ DEVICE → Migrates w line line_behind status

@@ -13,7 +13,7 @@ use Rattle.blang.specs.declared.run.Trap.{Trap}
 use Rattle.blang.specs.declared.run.Trap.TheVariants as trap
 use Rattle.blang.specs.Headline.{line_at, status_at}
 use Rattle.blang.specs.Machine.{Reported, report_text, load_number, Finishes, NotLoaded}
-use Rattle.brun.specs.Runs.{Unread}
+use Rattle.brun.specs.Runs.{NotRead}
 use Rattle.blang.specs.declared.run.Report.TheVariants as report
 
 statuses : (DONE ∷ FAULT ∷ TRAP ∷ LIMIT ∷ REFUSED ∷ DEVICE ∷ MEMORY ∷ WRONG_COMMAND ∷ [])
@@ -83,11 +83,11 @@ module _ (line behind : Outgoing) (status : ℕ) where
   is_refused_memory : Finishes outcome.Memory line behind status ≡ ((behind ≡ line) × (status ≡ 134))
   is_refused_memory = refl
 
-  no_code_text : Unread (code_fault.Line 7) line behind status ≡ Reported (codes "code 7\n") 132 line behind status
+  no_code_text : NotRead (code_fault.Line 7) line behind status ≡ Reported (codes "code 7\n") 132 line behind status
   unfolding digits
   no_code_text = refl
 
-  no_memory_to_read : Unread code_fault.Memory line behind status ≡ ((behind ≡ line) × (status ≡ 134))
+  no_memory_to_read : NotRead code_fault.Memory line behind status ≡ ((behind ≡ line) × (status ≡ 134))
   no_memory_to_read = refl
 
   does_not_load : NotLoaded 3 line behind status ≡ Reported (codes "load 3\n") 132 line behind status

@@ -1,8 +1,8 @@
 //! Code texts of the first edition, written as texts of the second.
 ghost use Rattle.std.specs.Prelude.{◌≡◌, []};
 ghost use Rattle.bword.specs.declared.edition.Edition.TheVariants as editions;
-ghost use Rattle.bcode.specs.Readers.{Keeps, Since};
-ghost use Rattle.brun.specs.Migrates.{Migrates, CodeGives, DefinitionsGive, halt_of};
+ghost use Rattle.bcode.specs.Readers.{SameReader, HasTaken};
+ghost use Rattle.brun.specs.Migrates.{Migrates, RewritingGives, DefinitionsGive, halt_of};
 
 use crate::report::write_report;
 use bcode::{CodeFault, CodeReader, CodeStep, write_begin, write_definition, write_end};
@@ -67,7 +67,7 @@ fn migrate_code<I: ByteIn, O: ByteOut>(
     input: &mut I,
     out: &mut O,
 ) -> Result<(), Halt>
-    ensures gives { CodeGives (record {
+    ensures gives { RewritingGives (record {
       input = I.incoming input.old;
       input_behind = I.incoming input.new;
       out = O.outgoing out.old;
@@ -89,10 +89,10 @@ fn write_definitions<I: ByteIn, O: ByteOut>(
     reader: &mut CodeReader<I>,
     out: &mut O,
 ) -> Result<(), Halt>
-    requires since { Since reader.old [] }
+    requires since { HasTaken reader.old [] }
     requires edition { reader.old.first.edition ≡ editions.One }
     ensures gives { DefinitionsGive reader.old (O.outgoing out.old) result reader.new (O.outgoing out.new) }
-    ensures keeps { Keeps reader.old reader.new }
+    ensures keeps { SameReader reader.old reader.new }
     ensures out_lender { O.lender out.new ≡ O.lender out.old }
 {
     'definitions: loop {

@@ -1,6 +1,6 @@
 //! The line that tells why a run has no end of its own.
 ghost use Rattle.std.specs.Prelude.{◌≡◌, ◌≤◌, length};
-ghost use Rattle.blang.specs.Machine.{Reported, report_text, letters_of, load_number};
+ghost use Rattle.blang.specs.Machine.{Reported, report_text, trap_letters, load_number};
 
 use arrayvec::ArrayString;
 use blang::status::{self, Status};
@@ -46,7 +46,7 @@ fn line(report: Report) -> ArrayString<LINE_LEN>
 }
 
 fn letters(trap: Trap) -> &'static str
-    ensures text { result.now ≡ letters_of trap }
+    ensures text { result.now ≡ trap_letters trap }
     ensures two { length result.now ≡ 2 }
 {
     match trap {

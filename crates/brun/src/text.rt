@@ -1,7 +1,7 @@
 //! Running a code text.
 ghost use Rattle.std.specs.Prelude.{◌≡◌};
 ghost use Rattle.blang.specs.Machine.{Finishes};
-ghost use Rattle.brun.specs.Runs.{RunsDefinitions, RunsText, Unread};
+ghost use Rattle.brun.specs.Runs.{RunsDefinitions, RunsText, NotRead};
 
 use crate::report::{number_of, write_report};
 use bcode::{CodeFault, read_code};
@@ -44,7 +44,7 @@ pub fn run_text<I: ByteIn, O: ByteOut, D: ByteOut>(
 
 // The status of a text that was not read, and its line if it is no code text.
 fn refuse<D: ByteOut>(fault: CodeFault, diag: &mut D) -> Status
-    ensures gives { Unread fault (D.outgoing diag.old) (D.outgoing diag.new) result }
+    ensures gives { NotRead fault (D.outgoing diag.old) (D.outgoing diag.new) result }
     ensures diag_lender { D.lender diag.new ≡ D.lender diag.old }
 {
     match fault {

@@ -9,7 +9,7 @@ use Rattle.std.specs.Str.{bytes_eq}
 use Rattle.std.specs.Str.Parse.{AllDigits, ParsesUnsigned, ParsesBool, digits_value, without_leading_plus}
 use Rattle.std.proofs.lemmas.Slice.Eq.{bytes_eq-Decides}
 use Rattle.clap.specs.Words.{ReadsOne, Text}
-use Rattle.bserve.specs.CommandLine.{is_number, number_of}
+use Rattle.bserve.specs.CommandLine.{is_number, written_number}
 
 digits_pass : (ds : List ℕ) → AllDigits 10 ds → list_all (λ d. nat_lt (digit_value d) 10) ds ≡ true
 digits_pass [] h = refl
@@ -27,14 +27,14 @@ digits_from (d ∷ ds) e =
 
 -- what `P` says of a text that was read as a number, it says of one that `u64` reads
 module _ {E : Type 0} (P : Text → Result ℕ E → Type 0) (reads : (t : Text) (r : Result ℕ E) → P t r → ParsesUnsigned 64 10 t r) where
-  number_read : (text : Text) (r : Option ℕ) → ReadsOne P text r → r ≡ number_of text
+  number_read : (text : Text) (r : Option ℕ) → ReadsOne P text r → r ≡ written_number text
   number_read text (Some n) h =
       let digits = without_leading_plus text in
       let g = reads text (Ok n) h in
       rw (lt-ltb 0 (length digits) g.0.0.0, digits_pass digits g.0.0.1, lt-ltb (digits_value 10 digits) (2 ^ 64) g.0.1) (ap (λ m. Some m) g.1)
   number_read text None h = go (is_number (without_leading_plus text)) refl
     where
-      go : (b : Bool) → is_number (without_leading_plus text) ≡ b → None ≡ number_of text
+      go : (b : Bool) → is_number (without_leading_plus text) ≡ b → None ≡ written_number text
       go false t = rw t refl
       go true t =
           let outer = both _ _ t in
@@ -43,7 +43,7 @@ module _ {E : Type 0} (P : Text → Result ℕ E → Type 0) (reads : (t : Text)
 
   -- the number of an option
   pub number_is : (found : Option Text) (r : Option ℕ) → (found ≡ None → r ≡ None)
-      → ((t : Text) → found ≡ Some t → ReadsOne P t r) → r ≡ option_and_then number_of found
+      → ((t : Text) → found ≡ Some t → ReadsOne P t r) → r ≡ option_and_then written_number found
   number_is None r none value = none refl
   number_is (Some t) r none value = number_read t r (value t refl)
 

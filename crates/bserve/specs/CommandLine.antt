@@ -22,6 +22,8 @@ use Rattle.bserve.specs.declared.command.Job.{Job}
 use Rattle.bserve.specs.declared.command.Job.TheVariants as job
 use Rattle.bserve.specs.declared.command.Subject.{Subject}
 use Rattle.bserve.specs.declared.command.Target.{Target}
+use Rattle.bserve.specs.declared.command.Walk.{Walk}
+use Rattle.btrace.specs.declared.tracing.Wanted.{Wanted}
 
 -- an option whose value is a number from 1 to the most
 abbrev pub number_rule : Text → ℕ → Rule
@@ -50,9 +52,19 @@ name_rule = record (new_rule (codes "NAME")) { action = Some Set }
 abbrev pub json_rule : Rule
 json_rule = record (new_rule (codes "json")) { long = Some (codes "json"); action = Some SetTrue }
 
+abbrev pub svg_rule : Rule
+svg_rule = record (new_rule (codes "svg")) { long = Some (codes "svg"); action = Some SetTrue }
+
+abbrev pub from_rule : Rule
+from_rule = number_rule (codes "from") 4000000000
+
+abbrev pub function_rule : Rule
+function_rule =
+    record (new_rule (codes "function")) { long = Some (codes "function"); action = Some Set; value_names = 1 }
+
 -- a command with the options of a run
-abbrev pub running : App → App
-running command = with_rule (with_rule (with_rule command steps_rule) no_limit_rule) file_rule
+abbrev pub with_run_options : App → App
+with_run_options command = with_rule (with_rule (with_rule command steps_rule) no_limit_rule) file_rule
 
 -- The command is so shaped, and so is it as a part of another one.
 pub record IsShaped (app : App) (command : Command) : Type 0 where
@@ -63,10 +75,10 @@ abbrev pub compile_command : App
 compile_command = with_rule (new_app (codes "compile")) edition_rule
 
 abbrev pub run_command : App
-run_command = running (new_app (codes "run"))
+run_command = with_run_options (new_app (codes "run"))
 
 abbrev pub go_command : App
-go_command = running (with_rule (new_app (codes "go")) edition_rule)
+go_command = with_run_options (with_rule (new_app (codes "go")) edition_rule)
 
 abbrev pub migrate_command : App
 migrate_command = new_app (codes "migrate")
@@ -79,20 +91,24 @@ abbrev pub list_command : App
 list_command = with_rule (telling (new_app (codes "list"))) name_rule
 
 abbrev pub map_command : App
-map_command = telling (new_app (codes "map"))
+map_command = with_rule (with_rule (telling (new_app (codes "map"))) svg_rule) steps_rule
 
 abbrev pub check_command : App
 check_command = with_rule (telling (new_app (codes "check"))) json_rule
+
+abbrev pub trace_command : App
+trace_command =
+    with_rule (with_rule (with_rule (telling (new_app (codes "trace"))) steps_rule) from_rule) function_rule
 
 -- the command line without its commands, one of which there has to be
 abbrev pub bare_line : App
 bare_line = on_top (λ s. record s { has_version = true; subcommand_required = true }) (new_app (codes "b"))
 
--- `b compile`, `b run`, `b go`, `b migrate`, `b list`, `b map` and `b check`, one of which there has to be
+-- `b compile`, `b run`, `b go`, `b migrate`, `b list`, `b map`, `b check` and `b trace`, one of which there has to be
 abbrev pub command_line : App
 command_line = with_subcommand (with_subcommand (with_subcommand (with_subcommand (with_subcommand (with_subcommand
-    (with_subcommand bare_line compile_command.top) run_command.top) go_command.top) migrate_command.top) list_command.top)
-    map_command.top) check_command.top
+    (with_subcommand (with_subcommand bare_line compile_command.top) run_command.top) go_command.top)
+    migrate_command.top) list_command.top) map_command.top) check_command.top) trace_command.top
 
 -- the digits of a number that a u64 holds
 abbrev pub is_number : Text → Bool
@@ -100,19 +116,19 @@ is_number digits = nat_lt 0 (length digits) && list_all (λ d. nat_lt (digit_val
     && nat_lt (digits_value 10 digits) (2 ^ 64)
 
 -- the number that a text writes
-abbrev pub number_of : Text → Option ℕ
-number_of text = let digits = without_leading_plus text in
+abbrev pub written_number : Text → Option ℕ
+written_number text = let digits = without_leading_plus text in
     if is_number digits then Some (digits_value 10 digits) else None
 
 -- the number that an option has among what was found
-abbrev pub number_in : Text → List Row → Option ℕ
-number_in id rows = option_and_then number_of (one_of id rows)
+abbrev pub option_number : Text → List Row → Option ℕ
+option_number id rows = option_and_then written_number (one_of id rows)
 
 abbrev pub edition_numbered : Option ℕ → Edition
 edition_numbered number = if unwrap_or number 1 == 2 then editions.Two else editions.One
 
 abbrev pub edition_in : List Row → Edition
-edition_in rows = edition_numbered (number_in (codes "edition") rows)
+edition_in rows = edition_numbered (option_number (codes "edition") rows)
 
 -- whether a flag is among what was found
 abbrev pub is_set_in : Text → List Row → Bool
@@ -126,7 +142,14 @@ steps_asked None true = Some 18446744073709551615
 steps_asked None false = Some 10000000
 
 abbrev pub steps_in : List Row → Option ℕ
-steps_in rows = steps_asked (number_in (codes "steps") rows) (is_set_in (codes "no-limit") rows)
+steps_in rows = steps_asked (option_number (codes "steps") rows) (is_set_in (codes "no-limit") rows)
+
+-- the steps of a trace, and the first one that is shown
+abbrev pub trace_steps_in : List Row → ℕ
+trace_steps_in rows = unwrap_or (option_number (codes "steps") rows) 1000
+
+abbrev pub from_in : List Row → ℕ
+from_in rows = unwrap_or (option_number (codes "from") rows) 1
 
 abbrev pub file_in : List Row → Text
 file_in rows = unwrap_or (first_of (codes "FILE") rows) []
@@ -134,14 +157,18 @@ file_in rows = unwrap_or (first_of (codes "FILE") rows) []
 abbrev pub name_in : List Row → Option Text
 name_in rows = first_of (codes "NAME") rows
 
+abbrev pub function_in : List Row → Option Text
+function_in rows = first_of (codes "function") rows
+
 -- in which form findings are told
 abbrev pub form_in : List Row → Form
 form_in rows = if is_set_in (codes "json") rows then form.Json else form.Text
 
 -- What is asked for: that a source is compiled, that the code text in a file is run, that the source in a file is
--- compiled and run, that a code text is migrated, that the code of the source in a file, or of its definitions of a name,
--- is listed, that its layout is shown, that the source in a file is checked; or a limit of steps and none, which
--- contradict each other.
+-- compiled and run, that a code text is migrated, that the code of the source in a file, or of its definitions of a
+-- name, is listed, that its layout is shown, that its memory is drawn, after so many steps if there is a number, that
+-- the source in a file is checked, that so many steps of its program are made and those from a number on, or of a
+-- function, are shown; or a limit of steps and none, which contradict each other.
 pub data Asked : Type 0 where
   compile : (edition : Edition) → Asked
   run : (file : Text) (steps : ℕ) → Asked
@@ -149,7 +176,9 @@ pub data Asked : Type 0 where
   migrate : Asked
   list : (file : Text) (name : Option Text) (edition : Edition) → Asked
   map : (file : Text) (edition : Edition) → Asked
+  draw : (file : Text) (edition : Edition) (steps : Option ℕ) → Asked
   check : (file : Text) (edition : Edition) (form : Form) → Asked
+  trace : (file : Text) (steps from : ℕ) (function : Option Text) (edition : Edition) → Asked
   contradiction : Asked
 
 abbrev pub run_asked : Text → Option ℕ → Asked
@@ -160,30 +189,42 @@ abbrev pub go_asked : Text → Edition → Option ℕ → Asked
 go_asked file edition (Some steps) = go file steps edition
 go_asked file edition None = contradiction
 
+-- a picture is asked for by its flag, or by a number of steps
+abbrev pub map_asked : Text → Edition → Bool → Option ℕ → Asked
+map_asked file edition false None = map file edition
+map_asked file edition false (Some steps) = draw file edition (Some steps)
+map_asked file edition true steps = draw file edition steps
+
 -- what a command asks for, by its name and what was found of its options
 abbrev pub asked_by : Text → List Row → Asked
 asked_by name rows = if bytes_eq name (codes "run") then run_asked (file_in rows) (steps_in rows)
     else (if bytes_eq name (codes "go") then go_asked (file_in rows) (edition_in rows) (steps_in rows)
     else (if bytes_eq name (codes "migrate") then migrate
     else (if bytes_eq name (codes "list") then list (file_in rows) (name_in rows) (edition_in rows)
-    else (if bytes_eq name (codes "map") then map (file_in rows) (edition_in rows)
+    else (if bytes_eq name (codes "map") then map_asked (file_in rows) (edition_in rows) (is_set_in (codes "svg") rows)
+    (option_number (codes "steps") rows)
     else (if bytes_eq name (codes "check") then check (file_in rows) (edition_in rows) (form_in rows)
-    else compile (edition_in rows))))))
+    else (if bytes_eq name (codes "trace")
+    then trace (file_in rows) (trace_steps_in rows) (from_in rows) (function_in rows) (edition_in rows)
+    else compile (edition_in rows)))))))
 
 abbrev pub asked : Option (Text × List Row) → Asked
 asked None = compile editions.One
 asked (Some command) = asked_by command.0 command.1
 
 -- what a job is of what can be asked for; none is the contradiction
-abbrev pub shown : Option Job → Asked
-shown (Some (job.Compile edition)) = compile edition
-shown (Some (job.Run target)) = run target.file.now target.steps
-shown (Some (job.Go target edition)) = go target.file.now target.steps edition
-shown (Some job.Migrate) = migrate
-shown (Some (job.List subject)) = list subject.file.now (option_map (λ n. n.now) subject.name) subject.edition
-shown (Some (job.Map subject)) = map subject.file.now subject.edition
-shown (Some (job.Check request)) = check request.file.now request.edition request.form
-shown None = contradiction
+abbrev pub asked_of : Option Job → Asked
+asked_of (Some (job.Compile edition)) = compile edition
+asked_of (Some (job.Run target)) = run target.file.now target.steps
+asked_of (Some (job.Go target edition)) = go target.file.now target.steps edition
+asked_of (Some job.Migrate) = migrate
+asked_of (Some (job.List subject)) = list subject.file.now (option_map (λ n. n.now) subject.name) subject.edition
+asked_of (Some (job.Map subject)) = map subject.file.now subject.edition
+asked_of (Some (job.Draw subject steps)) = draw subject.file.now subject.edition steps
+asked_of (Some (job.Check request)) = check request.file.now request.edition request.form
+asked_of (Some (job.Trace walk)) =
+    trace walk.file.now walk.wanted.steps walk.wanted.from (option_map (λ n. n.now) walk.wanted.function) walk.edition
+asked_of None = contradiction
 
 abbrev pub target_shown : Target → Text × ℕ
 target_shown target = (target.file.now, target.steps)
@@ -193,3 +234,9 @@ subject_shown subject = (subject.file.now, option_map (λ n. n.now) subject.name
 
 abbrev pub request_shown : Request → Text × Edition × Form
 request_shown request = (request.file.now, request.edition, request.form)
+
+abbrev pub wanted_shown : Wanted → ℕ × ℕ × Option Text
+wanted_shown wanted = (wanted.steps, wanted.from, option_map (λ n. n.now) wanted.function)
+
+abbrev pub walk_shown : Walk → Text × Edition × (ℕ × ℕ × Option Text)
+walk_shown walk = (walk.file.now, walk.edition, wanted_shown walk.wanted)

@@ -6,7 +6,7 @@ use Rattle.clap.proofs.OnLiterals.{clap_on_literals}
 use Rattle.bword.specs.declared.edition.Edition.TheVariants as editions
 use Rattle.bcheck.specs.declared.form.Form.TheVariants as form
 use Rattle.bserve.specs.CommandLine.{Asked, asked, command_line}
-use Rattle.bserve.specs.CommandLine.{compile, run, go, migrate, list, map, check, contradiction}
+use Rattle.bserve.specs.CommandLine.{compile, run, go, migrate, list, map, draw, check, trace, contradiction}
 
 pub is_simple_line : is_simple command_line ≡ true
 is_simple_line = refl
@@ -86,6 +86,20 @@ maps_no_name : fault_of command_line (codes "b" ∷ codes "map" ∷ codes "x" �
 unfolding clap_on_literals
 maps_no_name = refl
 
+draws : Asks (codes "b" ∷ codes "map" ∷ codes "--svg" ∷ codes "x" ∷ []) (draw (codes "x") editions.One None)
+unfolding clap_on_literals
+draws = (refl, refl)
+
+draws_a_run : Asks (codes "b" ∷ codes "map" ∷ codes "x" ∷ codes "--svg" ∷ codes "--steps=40" ∷ [])
+    (draw (codes "x") editions.One (Some 40))
+unfolding clap_on_literals
+draws_a_run = (refl, refl)
+
+draws_by_a_number : Asks (codes "b" ∷ codes "map" ∷ codes "--edition=2" ∷ codes "--steps" ∷ codes "40" ∷ codes "x" ∷ [])
+    (draw (codes "x") editions.Two (Some 40))
+unfolding clap_on_literals
+draws_by_a_number = (refl, refl)
+
 checks : Asks (codes "b" ∷ codes "check" ∷ codes "x" ∷ []) (check (codes "x") editions.One form.Text)
 unfolding clap_on_literals
 checks = (refl, refl)
@@ -98,6 +112,24 @@ checks_for_editors = (refl, refl)
 checks_no_file : fault_of command_line (codes "b" ∷ codes "check" ∷ []) ≡ kind.MissingRequiredArgument ∷ []
 unfolding clap_on_literals
 checks_no_file = refl
+
+traces : Asks (codes "b" ∷ codes "trace" ∷ codes "x" ∷ []) (trace (codes "x") 1000 1 None editions.One)
+unfolding clap_on_literals
+traces = (refl, refl)
+
+traces_some : Asks (codes "b" ∷ codes "trace" ∷ codes "--edition=2" ∷ codes "--steps" ∷ codes "50" ∷ codes "--from=7"
+    ∷ codes "--function" ∷ codes "f" ∷ codes "x" ∷ []) (trace (codes "x") 50 7 (Some (codes "f")) editions.Two)
+unfolding clap_on_literals
+traces_some = (refl, refl)
+
+traces_no_file : fault_of command_line (codes "b" ∷ codes "trace" ∷ []) ≡ kind.MissingRequiredArgument ∷ []
+unfolding clap_on_literals
+traces_no_file = refl
+
+traces_within_limits : fault_of command_line (codes "b" ∷ codes "trace" ∷ codes "--no-limit" ∷ codes "x" ∷ [])
+    ≡ kind.UnknownArgument ∷ []
+unfolding clap_on_literals
+traces_within_limits = refl
 
 no_command : fault_of command_line (codes "b" ∷ []) ≡ kind.MissingSubcommand ∷ []
 unfolding clap_on_literals

@@ -14,8 +14,10 @@ use Rattle.bcheck.specs.Checks.{Checks}
 use Rattle.blist.specs.Listings.{Lists}
 use Rattle.blist.specs.Maps.{Maps}
 use Rattle.blist.specs.Told as told
+use Rattle.bdraw.specs.Draws.{Draws}
+use Rattle.btrace.specs.Traces.{Traces}
 use Rattle.bserve.specs.CommandLine.{Asked, asked, command_line}
-use Rattle.bserve.specs.CommandLine.{compile, run, go, migrate, list, map, check, contradiction}
+use Rattle.bserve.specs.CommandLine.{compile, run, go, migrate, list, map, draw, check, trace, contradiction}
 
 -- what is said of words that aren't UTF-8
 abbrev pub unread_line : List ℕ
@@ -27,14 +29,14 @@ contradiction_line =
     codes "error: the argument '--steps <N>' cannot be used with '--no-limit'\n\nFor more information, try '--help'.\n"
 
 -- Nothing was read or written, and this is the status.
-pub record IsSilent (ends : RunEnds) (status answer : ℕ) : Type 0 where
+pub record SaysNothing (ends : RunEnds) (status answer : ℕ) : Type 0 where
   pub unread : HasNotRun ends
   pub no_line : ends.line_behind ≡ ends.line
   pub status_is : status ≡ answer
 
 -- The file could not be opened or read.
 abbrev pub HasNoFile : RunEnds → ℕ → Type 0
-HasNoFile ends status = IsSilent ends status DEVICE ⊎ IsSilent ends status MEMORY
+HasNoFile ends status = SaysNothing ends status DEVICE ⊎ SaysNothing ends status MEMORY
 
 -- what is said of a file that can't be opened or read
 abbrev pub no_file_line : List ℕ → List ℕ
@@ -43,10 +45,11 @@ no_file_line file = codes "error: the file '" ++ file ++ codes "' can't be read\
 -- The file could not be opened or read, and its name was told, unless memory was refused.
 abbrev pub NamesFile : List ℕ → RunEnds → ℕ → Type 0
 NamesFile file ends status =
-    HasNotRun ends × Reported (no_file_line file) DEVICE ends.line ends.line_behind status ⊎ IsSilent ends status MEMORY
+    HasNotRun ends × Reported (no_file_line file) DEVICE ends.line ends.line_behind status
+    ⊎ SaysNothing ends status MEMORY
 
 -- the ends of a command that tells of a source
-abbrev pub telling_ends : RunEnds → told.Ends
+abbrev pub telling_ends : RunEnds → told.ToldEnds
 telling_ends ends =
     record { out = ends.out; out_behind = ends.out_behind; line = ends.line; line_behind = ends.line_behind }
 
@@ -75,6 +78,8 @@ Does (list file name edition) ends status = NamesFile file ends status
     ⊎ ((source : List ℕ) × (ends.input_behind ≡ ends.input) × Lists edition source name (telling_ends ends) status)
 Does (map file edition) ends status = NamesFile file ends status
     ⊎ ((source : List ℕ) × (ends.input_behind ≡ ends.input) × Maps edition source (telling_ends ends) status)
+Does (draw file edition steps) ends status =
+    NamesFile file ends status ⊎ ((source : List ℕ) × Draws edition source steps ends status)
 Does (check file edition form) ends status = NamesFile file ends status
     ⊎ ((source : List ℕ) × (ends.input_behind ≡ ends.input) × (ends.line_behind ≡ ends.line) × Checks (record {
       edition = edition;
@@ -84,6 +89,8 @@ Does (check file edition form) ends status = NamesFile file ends status
       out_behind = ends.out_behind;
       status = status;
     }))
+Does (trace file steps from function edition) ends status = NamesFile file ends status
+    ⊎ ((source : List ℕ) × Traces edition source steps from function ends status)
 Does contradiction ends status =
     HasNotRun ends × Reported contradiction_line WRONG_COMMAND ends.line ends.line_behind status
 
@@ -91,7 +98,7 @@ abbrev pub IsHelp : ErrorKind → Type 0
 IsHelp k = (k ≡ kind.DisplayHelp) ⊎ (k ≡ kind.DisplayVersion)
 
 -- A text was written to the output, for a reason of this kind: help or the version was asked for.
-pub record Tells (k : ErrorKind) (ends : RunEnds) (status : ℕ) : Type 0 where
+pub record AnswersHelp (k : ErrorKind) (ends : RunEnds) (status : ℕ) : Type 0 where
   pub help : IsHelp k
   pub unread : ends.input_behind ≡ ends.input
   pub no_line : ends.line_behind ≡ ends.line
@@ -107,13 +114,14 @@ pub record Complains (k : ErrorKind) (ends : RunEnds) (status : ℕ) : Type 0 wh
   pub told : Reported text WRONG_COMMAND ends.line ends.line_behind status
 
 -- what is answered for a reason of this kind
-abbrev pub Refuses : ErrorKind → RunEnds → ℕ → Type 0
-Refuses k ends status = Tells k ends status ⊎ Complains k ends status ⊎ IsSilent ends status MEMORY
+abbrev pub RefusesWords : ErrorKind → RunEnds → ℕ → Type 0
+RefusesWords k ends status = AnswersHelp k ends status ⊎ Complains k ends status ⊎ SaysNothing ends status MEMORY
 
 -- Words without a fault get what they ask for. Others are answered for one of their faults, of which help is one.
 -- Memory may be refused for either.
 pub data Serves (words : List Text) (ends : RunEnds) (status : ℕ) : Type 0 where
   did : fault_of command_line words ≡ [] → Does (asked (subcommand_of command_line words)) ends status
       → Serves words ends status
-  refused : (k : ErrorKind) → IsAmong k (fault_of command_line words) → Refuses k ends status → Serves words ends status
-  no_memory : IsSilent ends status MEMORY → Serves words ends status
+  refused : (k : ErrorKind) → IsAmong k (fault_of command_line words) → RefusesWords k ends status
+      → Serves words ends status
+  no_memory : SaysNothing ends status MEMORY → Serves words ends status

@@ -1,19 +1,23 @@
 //! What the words of a command line ask for.
-ghost use Rattle.std.specs.Prelude.{◌≡◌, [], None, IfOk, IfErr, false, map, option_map, string_bytes};
+ghost use Rattle.std.specs.Prelude.{◌≡◌, [], None, Some, IfOk, IfErr, codes, false, map, option_map, string_bytes};
 ghost use Rattle.clap.specs.Words.{HasKind, app_of, fault_of, found_of, rows_of, rule_of, subcommand_of, subcommand_rows_of};
-ghost use Rattle.bserve.specs.CommandLine.{IsShaped, asked, bare_line, check_command, command_line, compile_command, edition_in, edition_rule, file_in, file_rule, form_in, go_command, is_set_in, json_rule, list_command, map_command, migrate_command, name_in, name_rule, no_limit_rule, number_in, request_shown, run_command, shown, steps_asked, steps_in, steps_rule, subject_shown, target_shown};
+ghost use Rattle.bserve.specs.CommandLine.{IsShaped, asked, bare_line, check_command, command_line, compile_command, edition_in, edition_rule, file_in, file_rule, form_in, go_command, is_set_in, json_rule, list_command, map_asked, map_command, migrate_command, name_in, name_rule, no_limit_rule, option_number, request_shown, run_command, asked_of, steps_asked, steps_in, steps_rule, subject_shown, svg_rule, target_shown, from_in, from_rule, function_in, function_rule, trace_command, trace_steps_in, walk_shown, wanted_shown};
 
 use crate::texts::{
     ABOUT, CHECK_HELP, COMPILE_HELP, GO_HELP, HELP, LIST_HELP, MAP_HELP, MIGRATE_HELP, RUN_HELP,
-    VERSION,
+    TRACE_HELP, VERSION,
 };
 use bcheck::{Form, Request};
+use btrace::Wanted;
 use bword::Edition;
 use clap::{Arg, ArgAction, ArgMatches, Command, Error, value_parser};
 use std::alloc::{AllocError, Global};
 
 /// The steps of a run where the command doesn't say how many.
 const DEFAULT_STEPS: u64 = 10_000_000;
+
+/// The steps of a trace where the command doesn't say how many.
+const DEFAULT_TRACE_STEPS: u64 = 1_000;
 
 /// The most steps that a command may ask for.
 const MOST_STEPS: i64 = 4_000_000_000;
@@ -27,7 +31,18 @@ pub(crate) enum Job<'a> {
     Migrate,
     List(Subject<'a>),
     Map(Subject<'a>),
+    /// A picture of memory, after so many steps if a number is given.
+    Draw(Subject<'a>, Option<u64>),
     Check(Request<'a>),
+    Trace(Walk<'a>),
+}
+
+/// A source whose program is run step by step.
+#[derive(Clone, Copy)]
+pub(crate) struct Walk<'a> {
+    pub(crate) file: &'a str,
+    pub(crate) edition: Edition,
+    pub(crate) wanted: Wanted<'a>,
 }
 
 /// A source that is told of, and of its definitions those of a name alone, if there is one.
@@ -56,7 +71,7 @@ pub(crate) fn parse<'a>(alloc: Global, words: &'a [String]) -> Result<ArgMatches
 
 /// What was found asks for this, or for a limit of steps and none.
 pub(crate) fn job_of<'a>(matches: &ArgMatches<'a>) -> Option<Job<'a>>
-    ensures { shown result ≡ asked (subcommand_rows_of matches.now) }
+    ensures { asked_of result ≡ asked (subcommand_rows_of matches.now) }
 {
     let Some((name, given)) = matches.subcommand() else {
         return Some(Job::Compile(Edition::One));
@@ -66,8 +81,9 @@ pub(crate) fn job_of<'a>(matches: &ArgMatches<'a>) -> Option<Job<'a>>
         "go" => Some(Job::Go(target_of(given)?, edition_of(given))),
         "migrate" => Some(Job::Migrate),
         "list" => Some(Job::List(subject_of(given))),
-        "map" => Some(Job::Map(unnamed(given))),
+        "map" => Some(map_of(given)),
         "check" => Some(Job::Check(request_of(given))),
+        "trace" => Some(Job::Trace(walk_of(given))),
         _ => Some(Job::Compile(edition_of(given))),
     }
 }
@@ -94,6 +110,17 @@ fn subject_of<'a>(given: &ArgMatches<'a>) -> Subject<'a>
     }
 }
 
+// A number of steps asks for a picture, too.
+fn map_of<'a>(given: &ArgMatches<'a>) -> Job<'a>
+    ensures { asked_of (Some result) ≡ map_asked (file_in (rows_of (found_of given.now))) (edition_in (rows_of (found_of given.now))) (is_set_in (codes "svg") (rows_of (found_of given.now))) (option_number (codes "steps") (rows_of (found_of given.now))) }
+{
+    let subject = unnamed(given);
+    match (is_set(given, "svg"), number_of(given, "steps")) {
+        (false, None) => Job::Map(subject),
+        (_, steps) => Job::Draw(subject, steps),
+    }
+}
+
 fn unnamed<'a>(given: &ArgMatches<'a>) -> Subject<'a>
     ensures { subject_shown result ≡ (file_in (rows_of (found_of given.now)), None, edition_in (rows_of (found_of given.now))) }
 {
@@ -116,6 +143,36 @@ fn request_of<'a>(given: &ArgMatches<'a>) -> Request<'a>
         edition,
         file,
         form,
+    }
+}
+
+fn walk_of<'a>(given: &ArgMatches<'a>) -> Walk<'a>
+    ensures { walk_shown result ≡ (
+      file_in (rows_of (found_of given.now)),
+      edition_in (rows_of (found_of given.now)),
+      (trace_steps_in (rows_of (found_of given.now)), from_in (rows_of (found_of given.now)), function_in (rows_of (found_of given.now))),
+    ) }
+{
+    let file = given.get_str("FILE").unwrap_or("");
+    let edition = edition_of(given);
+    let wanted = wanted_of(given);
+    Walk {
+        file,
+        edition,
+        wanted,
+    }
+}
+
+fn wanted_of<'a>(given: &ArgMatches<'a>) -> Wanted<'a>
+    ensures { wanted_shown result ≡ (trace_steps_in (rows_of (found_of given.now)), from_in (rows_of (found_of given.now)), function_in (rows_of (found_of given.now))) }
+{
+    let steps = number_of(given, "steps").unwrap_or(DEFAULT_TRACE_STEPS);
+    let from = number_of(given, "from").unwrap_or(1);
+    let function = given.get_str("function");
+    Wanted {
+        steps,
+        from,
+        function,
     }
 }
 
@@ -151,7 +208,7 @@ fn steps_of(asked: Option<u64>, is_without_limit: bool) -> Option<u64>
 }
 
 fn number_of(given: &ArgMatches<'_>, id: &str) -> Option<u64>
-    ensures { result ≡ number_in id.now (rows_of (found_of given.now)) }
+    ensures { result ≡ option_number id.now (rows_of (found_of given.now)) }
 {
     given.get_one::<u64>(id)
 }
@@ -172,7 +229,8 @@ fn command<'a>(alloc: Global) -> Result<Command<'a>, AllocError>
         .subcommand(migrate_command(alloc)?)?
         .subcommand(list_command(alloc)?)?
         .subcommand(map_command(alloc)?)?
-        .subcommand(check_command(alloc)?)
+        .subcommand(check_command(alloc)?)?
+        .subcommand(trace_command(alloc)?)
 }
 
 // The command line without its commands.
@@ -249,7 +307,9 @@ fn map_command<'a>(alloc: Global) -> Result<Command<'a>, AllocError>
         .about("Shows where each name of the source in FILE lies in memory")
         .after_help(MAP_HELP)
         .arg(edition_option(alloc))?
-        .arg(file_argument(alloc))
+        .arg(file_argument(alloc))?
+        .arg(svg_flag(alloc))?
+        .arg(moment_option(alloc))
 }
 
 fn check_command<'a>(alloc: Global) -> Result<Command<'a>, AllocError>
@@ -261,6 +321,19 @@ fn check_command<'a>(alloc: Global) -> Result<Command<'a>, AllocError>
         .arg(edition_option(alloc))?
         .arg(file_argument(alloc))?
         .arg(json_flag(alloc))
+}
+
+fn trace_command<'a>(alloc: Global) -> Result<Command<'a>, AllocError>
+    ensures { IfOk result (IsShaped trace_command) }
+{
+    Command::new(alloc, "trace")
+        .about("Runs the source in FILE and shows each step")
+        .after_help(TRACE_HELP)
+        .arg(edition_option(alloc))?
+        .arg(file_argument(alloc))?
+        .arg(trace_steps_option(alloc))?
+        .arg(from_option(alloc))?
+        .arg(function_option(alloc))
 }
 
 // The option of a command that compiles.
@@ -288,6 +361,41 @@ fn steps_option<'a>(alloc: Global) -> Arg<'a>
         .help("The most steps, from 1 to 4000000000; 10000000 if not given")
 }
 
+fn trace_steps_option<'a>(alloc: Global) -> Arg<'a>
+    ensures rule { rule_of result ≡ steps_rule }
+    ensures local { result.global ≡ false }
+{
+    Arg::new(alloc, "steps")
+        .long("steps")
+        .value_name("N")
+        .action(ArgAction::Set)
+        .value_parser(value_parser!(u64).range(1..=MOST_STEPS))
+        .help("The most steps, from 1 to 4000000000; 1000 if not given")
+}
+
+fn from_option<'a>(alloc: Global) -> Arg<'a>
+    ensures rule { rule_of result ≡ from_rule }
+    ensures local { result.global ≡ false }
+{
+    Arg::new(alloc, "from")
+        .long("from")
+        .value_name("N")
+        .action(ArgAction::Set)
+        .value_parser(value_parser!(u64).range(1..=MOST_STEPS))
+        .help("The number of the first step that is shown; 1 if not given")
+}
+
+fn function_option<'a>(alloc: Global) -> Arg<'a>
+    ensures rule { rule_of result ≡ function_rule }
+    ensures local { result.global ≡ false }
+{
+    Arg::new(alloc, "function")
+        .long("function")
+        .value_name("NAME")
+        .action(ArgAction::Set)
+        .help("The function whose steps are shown; all of them if not given")
+}
+
 fn no_limit_flag<'a>(alloc: Global) -> Arg<'a>
     ensures rule { rule_of result ≡ no_limit_rule }
     ensures local { result.global ≡ false }
@@ -306,6 +414,28 @@ fn json_flag<'a>(alloc: Global) -> Arg<'a>
         .long("json")
         .action(ArgAction::SetTrue)
         .help("An object a line, for an editor")
+}
+
+fn svg_flag<'a>(alloc: Global) -> Arg<'a>
+    ensures rule { rule_of result ≡ svg_rule }
+    ensures local { result.global ≡ false }
+{
+    Arg::new(alloc, "svg")
+        .long("svg")
+        .action(ArgAction::SetTrue)
+        .help("A picture as an SVG file")
+}
+
+fn moment_option<'a>(alloc: Global) -> Arg<'a>
+    ensures rule { rule_of result ≡ steps_rule }
+    ensures local { result.global ≡ false }
+{
+    Arg::new(alloc, "steps")
+        .long("steps")
+        .value_name("N")
+        .action(ArgAction::Set)
+        .value_parser(value_parser!(u64).range(1..=MOST_STEPS))
+        .help("The picture after so many steps, from 1 to 4000000000")
 }
 
 fn file_argument<'a>(alloc: Global) -> Arg<'a>

@@ -4,16 +4,18 @@ ghost use Rattle.clap.specs.Words.{kind_of};
 ghost use Rattle.bword.specs.ByteEnds.{Incoming, Outgoing};
 ghost use Rattle.blang.specs.declared.status.TheConstants.{DEVICE, MEMORY, WRONG_COMMAND};
 ghost use Rattle.blang.specs.Machine.{Reported};
-ghost use Rattle.bserve.specs.CommandLine.{check, go, list, map, run, shown};
-ghost use Rattle.bserve.specs.Serves.{Does, NamesFile, Refuses, Serves, no_file_line, unread_line};
+ghost use Rattle.bserve.specs.CommandLine.{check, draw, go, list, map, run, asked_of, trace};
+ghost use Rattle.bserve.specs.Serves.{Does, NamesFile, RefusesWords, Serves, no_file_line, unread_line};
 
-use crate::command::{Job, Subject, Target, job_of, parse};
+use crate::command::{Job, Subject, Target, Walk, job_of, parse};
 use crate::texts::{CONTRADICTION, UNREAD};
 use bcheck::{Request, check};
+use bdraw::draw;
 use blang::status::{self, Status};
 use blist::{list, map};
 use bparse::compile_edition;
 use brun::{go_edition, migrate, run_text};
+use btrace::trace;
 use bword::{ByteIn, ByteOut, Edition, Reading};
 use clap::Error;
 use clap::error::ErrorKind;
@@ -59,7 +61,7 @@ fn perform<R: AllocGlobal + Files, I: ByteIn, O: ByteOut, D: ByteOut>(
     out: &mut O,
     diag: &mut D,
 ) -> Status
-    ensures does { Does (shown job.entry) (record {
+    ensures does { Does (asked_of job.entry) (record {
       input = I.incoming input.old;
       input_behind = I.incoming input.new;
       out = O.outgoing out.old;
@@ -78,7 +80,9 @@ fn perform<R: AllocGlobal + Files, I: ByteIn, O: ByteOut, D: ByteOut>(
         Some(Job::Migrate) => migrate(rt.alloc(), input, out, diag),
         Some(Job::List(subject)) => list_file(rt, subject, out, diag),
         Some(Job::Map(subject)) => map_file(rt, subject, out, diag),
+        Some(Job::Draw(subject, steps)) => draw_file(rt, subject, steps, input, out, diag),
         Some(Job::Check(request)) => check_file(rt, request, out, diag),
+        Some(Job::Trace(walk)) => trace_file(rt, walk, input, out, diag),
         None => refuse_with(CONTRADICTION, diag),
     }
 }
@@ -199,6 +203,41 @@ fn map_file<R: AllocGlobal + Files, O: ByteOut, D: ByteOut>(
     }
 }
 
+// Draws the memory of the source in a file.
+fn draw_file<R: AllocGlobal + Files, I: ByteIn, O: ByteOut, D: ByteOut>(
+    rt: &R,
+    subject: Subject<'_>,
+    steps: Option<u64>,
+    input: &mut I,
+    out: &mut O,
+    diag: &mut D,
+) -> Status
+    ensures does { Does (draw subject.entry.file.now subject.entry.edition steps) (record {
+      input = I.incoming input.old;
+      input_behind = I.incoming input.new;
+      out = O.outgoing out.old;
+      out_behind = O.outgoing out.new;
+      line = D.outgoing diag.old;
+      line_behind = D.outgoing diag.new;
+    }) result }
+    ensures input_lender { I.lender input.new ≡ I.lender input.old }
+    ensures out_lender { O.lender out.new ≡ O.lender out.old }
+    ensures diag_lender { D.lender diag.new ≡ D.lender diag.old }
+{
+    match fs::read(rt, subject.file) {
+        Ok(source) => draw(
+            rt.alloc(),
+            source.as_slice(),
+            subject.edition,
+            steps,
+            input,
+            out,
+            diag,
+        ),
+        Err(error) => name_file(rt.alloc(), subject.file, &error, diag),
+    }
+}
+
 // Checks the source in a file.
 fn check_file<R: AllocGlobal + Files, O: ByteOut, D: ByteOut>(
     rt: &R,
@@ -220,6 +259,40 @@ fn check_file<R: AllocGlobal + Files, O: ByteOut, D: ByteOut>(
     match fs::read(rt, request.file) {
         Ok(source) => check(rt.alloc(), source.as_slice(), request, out),
         Err(error) => name_file(rt.alloc(), request.file, &error, diag),
+    }
+}
+
+// Runs the source in a file and writes its steps.
+fn trace_file<R: AllocGlobal + Files, I: ByteIn, O: ByteOut, D: ByteOut>(
+    rt: &R,
+    walk: Walk<'_>,
+    input: &mut I,
+    out: &mut O,
+    diag: &mut D,
+) -> Status
+    ensures does { Does (trace walk.entry.file.now walk.entry.wanted.steps walk.entry.wanted.from (option_map (λ n. n.now) walk.entry.wanted.function) walk.entry.edition) (record {
+      input = I.incoming input.old;
+      input_behind = I.incoming input.new;
+      out = O.outgoing out.old;
+      out_behind = O.outgoing out.new;
+      line = D.outgoing diag.old;
+      line_behind = D.outgoing diag.new;
+    }) result }
+    ensures input_lender { I.lender input.new ≡ I.lender input.old }
+    ensures out_lender { O.lender out.new ≡ O.lender out.old }
+    ensures diag_lender { D.lender diag.new ≡ D.lender diag.old }
+{
+    match fs::read(rt, walk.file) {
+        Ok(source) => trace(
+            rt.alloc(),
+            source.as_slice(),
+            walk.edition,
+            walk.wanted,
+            input,
+            out,
+            diag,
+        ),
+        Err(error) => name_file(rt.alloc(), walk.file, &error, diag),
     }
 }
 
@@ -312,7 +385,7 @@ fn tell<W: ByteOut>(text: &str, status: Status, end: &mut W) -> Status
 
 // Writes help to the output, and what is wrong beside it.
 fn refuse<O: ByteOut, D: ByteOut>(alloc: Global, error: Error, out: &mut O, diag: &mut D) -> Status
-    ensures refuses { (unread : Incoming) → Refuses (kind_of error) (record {
+    ensures refuses { (unread : Incoming) → RefusesWords (kind_of error) (record {
       input = unread;
       input_behind = unread;
       out = O.outgoing out.old;

@@ -29,6 +29,8 @@ Examples:
   b migrate < hello.code > new.code   writes it as a code text of edition 2
   b list hello.b                      lists its code beside the source
   b map hello.b                       shows where its names lie in memory
+  b map --svg hello.b > hello.svg     draws it as a picture
+  b trace hello.b                     shows each step of its run
   b check hello.b                     tells what is wrong, where, how to mend it
   b go --help                         tells more about a command
 
@@ -113,11 +115,35 @@ pub(crate) const MAP_HELP: &str = "\
 A row has the address of a name, how many words it has, and the first ones as
 they are before the run. The frame of main begins at the data end.
 
-Example:
+With --svg the same is drawn as a picture, at most 48 names and nine words of
+each. With --steps N it is the memory after N steps of the program, with the
+frames of the active calls; the program reads standard input, and what it
+writes is not written.
+
+Examples:
   b map hello.b
+  b map --svg hello.b > hello.svg
+  b map --svg --steps 40 hello.b > hello.svg
 
 Statuses: 0 shown, 1 a fault of the source, 132 code that doesn't load,
 133 a failed read or write, 134 refused memory, 135 a wrong command line.
+b --help has the letters.";
+
+pub(crate) const TRACE_HELP: &str = "\
+A row has the number of a step, the function, the place in it, the line of the
+source, the instruction, and the topmost operands before it. Behind it stand
+the words that it changed, each with its address, and what it wrote. After a
+trap, or at the limit of steps, the place and the calls that led there are
+told. The program reads standard input; what it writes stands in the trace
+alone, which is written when the run is over, and is kept in memory till then.
+
+Examples:
+  b trace hello.b
+  b trace --from 100 --steps 200 --function main hello.b
+
+Statuses: 0 to 127 the program's own, 1 also a fault of the source, 130 a trap,
+131 the limit of steps, 132 code that doesn't load, 133 a failed read or write,
+134 refused memory, 135 a wrong command line, or no function NAME.
 b --help has the letters.";
 
 pub(crate) const CHECK_HELP: &str = "\

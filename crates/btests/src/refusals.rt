@@ -1,6 +1,6 @@
 //! Runs over a store that refuses a word.
 ghost use Rattle.std.specs.Prelude.{true};
-ghost use Rattle.bword.specs.FlatStores.{words_of};
+ghost use Rattle.bword.specs.FlatStores.{flat_words};
 
 use bcode::read_code;
 use blang::Outcome;
@@ -21,7 +21,7 @@ struct Refusing {
 }
 
 impl Store for Refusing {
-    ghost words = { λ r. words_of r.store };
+    ghost words = { λ r. flat_words r.store };
 
     ghost may_refuse = { true };
 

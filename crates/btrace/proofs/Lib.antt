@@ -1,2 +1,6 @@
-pub mod RowParts
-pub mod Shown
+mod Finding
+mod Functions
+mod PlaceParts
+mod RowParts
+mod Shown
+mod Unresolved

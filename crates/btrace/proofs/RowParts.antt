@@ -1,42 +1,22 @@
 -- The parts of a row, one behind another.
-use Rattle.std.proofs.Common.{true, false, ◌≡◌, ◌∙◌, ℕ, ◌+◌, ◌-◌, ◌<◌, List, [], ◌∷◌, ◌++◌, ap, append-nil, append_assoc, arith, codes, decimal, drop, get_or, inr, length, nat_lt, refl, reverse, sym, take, ◌≤◌, if◌then◌else◌}
+use Rattle.std.proofs.Common.{true, false, ◌≡◌, ◌∙◌, ℕ, ◌+◌, ◌-◌, ◌<◌, List, [], ◌∷◌, ◌++◌, ap, append-nil, append_assoc, arith, codes, decimal, drop, get_or, length, nat_lt, refl, sym, take, ◌≤◌, if◌then◌else◌}
 use Rattle.std.specs.List.{flat_map}
 use Rattle.std.proofs.lemmas.Bool.Decides.{nat_tests}
-use Rattle.std.proofs.lemmas.List.{length-drop, reverse-reverse, take_all, take_more}
+use Rattle.std.proofs.lemmas.List.{length-drop, take_all, take_more}
 use Rattle.std.proofs.lemmas.List.Concat.{flat_map-append}
-use Rattle.blist.specs.Columns.{right}
-use Rattle.blist.specs.Listings.{Extends}
-use Rattle.blang.specs.Machine.{Call}
-use Rattle.btrace.specs.Traces.{AddsStep, TellsStep, operands_text}
+use Rattle.blist.specs.Characters.{shown_byte}
+use Rattle.btrace.specs.Rows.{changed_text, margin, operands_text, word_row, written_row}
 
-parts : (t a b n p c o e : List ℕ) → ((((((t ++ a) ++ b) ++ n) ++ p) ++ c) ++ o) ++ e ≡ t ++ (((((((a ++ b) ++ n) ++ p) ++ c) ++ o) ++ e) ++ [])
-parts t a b n p c o e = simp (append_assoc, append-nil)
+-- the rows of one more word
+pub one_changed : (store old text new changed : List ℕ) (address : ℕ) → text ≡ old ++ changed_text store changed → new ≡ text ++ word_row store address → new ≡ old ++ changed_text store (changed ++ address ∷ [])
+one_changed store old text new changed address before row =
+    row ∙ ap (λ x. x ++ word_row store address) before ∙ append_assoc old (changed_text store changed) (word_row store address)
+    ∙ ap (λ x. old ++ x) (ap (λ x. changed_text store changed ++ x) (sym (append-nil (word_row store address))) ∙ sym (flat_map-append (word_row store) changed (address ∷ [])))
 
-pub told_step : (made : ℕ) (call : Call) (operands t0 t1 t2 t3 t4 t5 t6 t7 : List ℕ) → reverse operands ≡ call.operands
-    → t1 ≡ t0 ++ right 8 (decimal (made + 1)) → t2 ≡ t1 ++ codes "  " → Extends t2 t3 → t4 ≡ t3 ++ right 6 (decimal call.place) → Extends t4 t5
-    → t6 ≡ t5 ++ operands_text operands → t7 ≡ t6 ++ codes "\n" → (row : List ℕ) × TellsStep (made + 1) call row × (t7 ≡ t0 ++ row)
-told_step made call operands t0 t1 t2 t3 t4 t5 t6 t7 are e1 e2 n e4 c e6 e7 =
-    let same : operands ≡ reverse call.operands = sym (reverse-reverse operands) ∙ ap reverse are in
-    let all : t7 ≡ ((((((t0 ++ right 8 (decimal (made + 1))) ++ codes "  ") ++ n.0) ++ right 6 (decimal call.place)) ++ c.0) ++ operands_text (reverse call.operands)) ++ codes "\n" =
-    e7 ∙ ap (λ x. x ++ codes "\n") (e6 ∙ ap (λ os. t5 ++ operands_text os) same ∙ ap (λ x. x ++ operands_text (reverse call.operands))
-    (c.1 ∙ ap (λ x. x ++ c.0) (e4 ∙ ap (λ x. x ++ right 6 (decimal call.place)) (n.1 ∙ ap (λ x. x ++ n.0) (e2 ∙ ap (λ x. x ++ codes "  ") e1))))) in (
-      _,
-      record { name = n.0; code = c.0; behind = []; row_is = refl },
-      all ∙ parts t0 (right 8 (decimal (made + 1))) (codes "  ") n.0 (right 6 (decimal call.place)) c.0 (operands_text (reverse call.operands)) (codes "\n"),
-    )
-
--- what a step has changed stands behind its row
-pub adds_step : (number : ℕ) (call : Call) (old mid text new : List ℕ) → ((row : List ℕ) × TellsStep number call row × (mid ≡ old ++ row)) → Extends mid text → Extends text new → AddsStep number call old new
-adds_step number call old mid text new row a b = inr (
-  row.0 ++ (a.0 ++ b.0),
-  record {
-    name = row.1.name;
-    code = row.1.code;
-    behind = row.1.behind ++ (a.0 ++ b.0);
-    row_is = ap (λ x. x ++ (a.0 ++ b.0)) row.1.row_is ∙ append_assoc _ row.1.behind (a.0 ++ b.0);
-  },
-  b.1 ∙ ap (λ x. x ++ b.0) (a.1 ∙ ap (λ x. x ++ a.0) row.2) ∙ ap (λ x. x ++ b.0) (append_assoc old row.0 a.0) ∙ append_assoc old (row.0 ++ a.0) b.0 ∙ ap (λ x. old ++ x) (append_assoc row.0 a.0 b.0),
-)
+-- the row of bytes of which there are some
+pub some_written : (bytes : List ℕ) → (bytes ≡ [] → ⊥) → written_row bytes ≡ margin ++ codes "writes '" ++ flat_map shown_byte bytes ++ codes "'\n"
+some_written [] some = absurd (some refl)
+some_written (byte ∷ bytes) some = refl
 
 -- the text of one more operand
 pub one_operand : (start text t1 t2 items : List ℕ) (i word : ℕ) → i < length items → word ≡ get_or items i 0 → text ≡ start ++ flat_map (λ w. codes " " ++ decimal w) (take i items)
@@ -65,3 +45,11 @@ operands_end operands old text first i is le e =
     take_all i items le ∙ take_all (length operands - first) (drop first operands) (omega (arith, length-drop first operands)) ∙ ap (λ n. drop n operands) is in
     e ∙ ap (λ ws. (old ++ (if nat_lt 0 (length operands - 5) then codes " .." else [])) ++ flat_map (λ w. codes " " ++ decimal w) ws) shown
     ∙ append_assoc old (if nat_lt 0 (length operands - 5) then codes " .." else []) (flat_map (λ w. codes " " ++ decimal w) (drop (length operands - 5) operands))
+
+-- one byte more
+pub one_byte : (start text new items : List ℕ) (i : ℕ) → i < length items → text ≡ start ++ flat_map shown_byte (take i items) → new ≡ text ++ shown_byte (get_or items i 0) → new ≡ start ++ flat_map shown_byte (take (i + 1) items)
+one_byte start text new items i lt before one =
+    let more : flat_map shown_byte (take (i + 1) items) ≡ flat_map shown_byte (take i items) ++ shown_byte (get_or items i 0) =
+    ap (flat_map shown_byte) (take_more items i 0 lt) ∙ flat_map-append shown_byte (take i items) (get_or items i 0 ∷ [])
+    ∙ ap (λ x. flat_map shown_byte (take i items) ++ x) (append-nil (shown_byte (get_or items i 0))) in
+    one ∙ ap (λ x. x ++ shown_byte (get_or items i 0)) before ∙ append_assoc start (flat_map shown_byte (take i items)) (shown_byte (get_or items i 0)) ∙ ap (λ x. start ++ x) (sym more)

@@ -1,39 +1,164 @@
 -- Steps that are made and shown, one after another.
-use Rattle.std.proofs.Common.{◌≡◌, ◌∙◌, ℕ, ◌+◌, ◌<◌, List, [], ◌∷◌, ◌++◌, Ok, Err, ap, append-nil, append_assoc, arith, inl, inr, refl, subst, sym}
+use Rattle.std.proofs.Common.{◌≡◌, ◌∙◌, ℕ, zero, suc, ◌+◌, ◌<◌, ◌≤◌, Bool, true, false, cond, List, [], ◌∷◌, ◌++◌, Result, Ok, Err, ap, append-nil, append_assoc, arith, drop, filter, inl, inr, length, map, refl, subst, sym}
+use Rattle.std.specs.List.{range_with_len}
+use Rattle.std.specs.Prelude.{unwrap_or}
+use Rattle.std.proofs.Math.Seq.{drop-append_seam, drop-length}
+use Rattle.std.proofs.lemmas.List.{map-append, map-id}
 use Rattle.std.proofs.lemmas.List.Concat.{flat_map-append}
-use Rattle.std.proofs.lemmas.List.Elements.{All-nil, All-append, All-cons, All-weaker}
-use Rattle.bword.specs.declared.edition.Edition.{Edition}
-use Rattle.bword.specs.ByteEnds.{CanFollow, Incoming, Kept, Outgoing, Took, outgoing_of}
+use Rattle.std.proofs.lemmas.List.Elements.{All-nil, All-append, All-cons}
+use Rattle.std.proofs.lemmas.List.FromFn.{filter_of_map_range_with_len_more}
+use Rattle.bword.specs.ByteEnds.{CanFollow, Incoming, Kept, Outgoing, Took, Writes, outgoing_of}
 use Rattle.bword.proofs.Putting.{Writes-append}
 use Rattle.bword.proofs.Taking.{Took-append, Took-none}
-use Rattle.blang.specs.declared.code.Definition.{Definition}
-use Rattle.blang.specs.declared.status.TheConstants.{DONE}
-use Rattle.blist.specs.Listings.{Extends}
-use Rattle.blist.specs.Programs.{IsProgram}
-use Rattle.blist.specs.Told.{Told}
-use Rattle.blang.specs.Machine.{RunEnds, Image, State, run, step, steps, States}
-use Rattle.bmach.specs.Steps.{world_with}
-use Rattle.bmach.specs.Stepping.{Begins, Paused, machine_at}
-use Rattle.bmach.specs.Turns.{Goes, TurnGives}
 use Rattle.blang.specs.declared.run.Outcome.{Outcome}
 use Rattle.blang.specs.declared.run.Outcome.TheVariants as outcome
-use Rattle.bmach.proofs.Running.{at_limit, behind, one_more, run_over, same_run}
+use Rattle.blang.specs.Machine.{Image, State, Running, Shows, state_outcome, step, steps, state_world}
+use Rattle.blang.specs.Machine as machine
+use Rattle.bmach.specs.Steps.{world_with}
+use Rattle.bmach.specs.Stepping.{Paused, machine_at}
+use Rattle.bmach.specs.Turns.{MovesOn, HasHalted, TurnGives}
+use Rattle.bmach.proofs.Running.{at_limit, behind, one_more, run_over}
 use Rattle.bmach.proofs.Turning.{follows, goes_on}
-use Rattle.btrace.specs.declared.rows.TheConstants.{HEADING}
-use Rattle.btrace.specs.Traces.{AddsStep, AreShown, IsTraced, Row, Shows, ShowsStep, StepsGive, TellsEnd, Traces, nothing_written, rows_text, steps_from, traced}
+use Rattle.btrace.specs.Programs.{Placed}
+use Rattle.btrace.specs.Rows.{changed_text, step_row, written_row}
+use Rattle.btrace.specs.Traces as traces
+use Rattle.btrace.specs.Traces.{AddsEnd, AddsIf, AddsLast, AddsPlaces, AddsStep, AreShown, EndsAs, IsTried, TraceRow, ShowsStep, StepsGive, Tries, is_shown, is_wanted, rows_text, shown_of, steps_from}
+use Rattle.btrace.specs.declared.tracing.Which.{Which}
 
-pub traced_none : (first : Paused) (i : Incoming) (o : Outgoing) (text : List ℕ) → IsTraced first 0 first i i o o text text
-traced_none first i o text = record {
+-- So many steps were made from a state on, and the rows of those that are to be shown added to a text.
+pub record IsTraced (fs : List Placed) (which : Which) (first : Paused) (made : ℕ) (now : Paused) (i j : Incoming) (o q : Kept) (old new : List ℕ) : Type 0 where
+  pub image_is : now.image ≡ first.image
+  pub goes : MovesOn (λ left before. steps first.image made (machine_at first left before)) (machine_at now) i j (outgoing_of o) (outgoing_of q)
+  pub rows : List TraceRow
+  pub text_is : new ≡ old ++ rows_text rows
+  pub shown : (more : List ℕ) → CanFollow j more → AreShown fs which (steps_from first (goes.taken ++ more)) made rows
+
+pub traced_none : (fs : List Placed) (which : Which) (first : Paused) (i : Incoming) (o : Kept) (text : List ℕ) → IsTraced fs which first 0 first i i o o text text
+traced_none fs which first i o text = record {
   image_is = refl;
-  goes = goes_on (behind first.image 0 (machine_at first)) (machine_at first) i o (λ left before. refl);
+  goes = goes_on (behind first.image 0 (machine_at first)) (machine_at first) i (outgoing_of o) (λ left before. refl);
   rows = [];
   text_is = sym (append-nil text);
-  shown = λ more can. All-nil _;
+  shown = λ more can. record { all = refl; each = All-nil _ };
 }
 
-turned : (first now new : Paused) {j m : Incoming} {p q : Outgoing} → now.image ≡ first.image → Goes (λ left before. step now.image (machine_at now left before)) (machine_at new) j m p q
-    → Goes (λ left before. step first.image (machine_at now left before)) (machine_at new) j m p q
-turned first now new {j} {m} {p} {q} same g = subst (λ (x : Image). Goes (λ left before. step x (machine_at now left before)) (machine_at new) j m p q) same g
+-- the steps that are shown, with one step more
+shown_more : (which : Which) (states : ℕ → State) (made : ℕ) → shown_of which states (made + 1) ≡ shown_of which states made ++ cond (is_shown which states made) (made ∷ []) []
+shown_more which states made = simp map-id at (filter_of_map_range_with_len_more (is_shown which states) (λ (n : ℕ). n) 0 made made (omega arith))
+
+turned : (first now new : Paused) {j m : Incoming} {p q : Outgoing} → now.image ≡ first.image → MovesOn (λ left before. step now.image (machine_at now left before)) (machine_at new) j m p q
+    → MovesOn (λ left before. step first.image (machine_at now left before)) (machine_at new) j m p q
+turned first now new {j} {m} {p} {q} same g = subst (λ (x : Image). MovesOn (λ left before. step x (machine_at now left before)) (machine_at new) j m p q) same g
+
+-- the rows with one more, of a step that is shown
+with_row : (rows : List TraceRow) (made : ℕ) (row old text text' : List ℕ) → text ≡ old ++ rows_text rows → text' ≡ text ++ row → text' ≡ old ++ rows_text (rows ++ record { made = made; text = row } ∷ [])
+with_row rows made row old text text' before e =
+    e ∙ ap (λ x. x ++ row) before ∙ append_assoc old (rows_text rows) row
+    ∙ ap (λ x. old ++ x) (ap (λ x. rows_text rows ++ x) (sym (append-nil row)) ∙ sym (flat_map-append (λ (r : TraceRow). r.text) rows (record { made = made; text = row } ∷ [])))
+
+-- the rows of one step more, by whether it is shown
+module _ (fs : List Placed) (which : Which) (states : ℕ → State) (made : ℕ) (rows : List TraceRow) (b : Bool) (is : is_shown which states made ≡ b) (before : AreShown fs which states made rows) where
+  shown_not : b ≡ false → AreShown fs which states (made + 1) rows
+  shown_not hidden = record {
+    all = before.all ∙ sym (append-nil (shown_of which states made)) ∙ sym (shown_more which states made ∙ ap (λ x. shown_of which states made ++ cond x (made ∷ []) []) (is ∙ hidden));
+    each = before.each;
+  }
+
+  shown_so : b ≡ true → (row : List ℕ) → ShowsStep fs states made row → AreShown fs which states (made + 1) (rows ++ record { made = made; text = row } ∷ [])
+  shown_so seen row s =
+      let P : TraceRow → Type 0 = λ r. ShowsStep fs states r.made r.text in
+      record {
+        all = map-append (λ (r : TraceRow). r.made) rows (record { made = made; text = row } ∷ []) ∙ ap (λ ns. ns ++ made ∷ []) before.all
+            ∙ sym (shown_more which states made ∙ ap (λ x. shown_of which states made ++ cond x (made ∷ []) []) (is ∙ seen));
+        each = All-append P rows (record { made = made; text = row } ∷ []) before.each (All-cons P (record { made = made; text = row }) [] s (All-nil P));
+      }
+
+-- what was written since
+since : (a b : Kept) (out : List ℕ) → Writes (outgoing_of a) out (outgoing_of b) → drop (length a.bytes) b.bytes ≡ out
+since a b out w = ap (drop (length a.bytes)) w.appended ∙ drop-append_seam a.bytes out
+
+module _ (fs : List Placed) (which : Which) (first now : Paused) (made : ℕ) (i j m : Incoming) (o p : Kept) (old text text' : List ℕ) (b : Bool) (is : b ≡ is_wanted which (made + 1) now.call.function.strings) where
+  -- where the machine is
+  abbrev there : (t : IsTraced fs which first made now i j o p old text) (more : List ℕ) → CanFollow j more → steps_from first (t.goes.taken ++ more) made ≡ machine_at now more t.goes.output
+  there t more can = t.goes.comes more [] can
+
+  behind_it : (t : IsTraced fs which first made now i j o p old text) (more : List ℕ) → CanFollow j more → steps_from first (t.goes.taken ++ more) (made + 1) ≡ step first.image (machine_at now more t.goes.output)
+  behind_it t more can = one_more first.image made _ _ (there t more can)
+
+  decided : (t : IsTraced fs which first made now i j o p old text) (more : List ℕ) → CanFollow j more → is_shown which (steps_from first (t.goes.taken ++ more)) made ≡ b
+  decided t more can = ap (traces.is_step which (made + 1)) (there t more can) ∙ sym is
+
+  abbrev tries : (t : IsTraced fs which first made now i j o p old text) (more : List ℕ) → CanFollow j more → Tries (steps_from first (t.goes.taken ++ more)) made
+  tries t more can = record { call = now.call; below = now.below; world = world_with now.store more t.goes.output; state_is = there t more can }
+
+  module _ (new : Paused) (q : Kept) (t : IsTraced fs which first made now i j o p old text) (g : MovesOn (λ left before. step first.image (machine_at now left before)) (machine_at new) j m (outgoing_of p) (outgoing_of q)) where
+    -- the input that there was
+    abbrev input : List ℕ → List ℕ
+    input more = (t.goes.taken ++ g.taken) ++ more
+
+    went : (more : List ℕ) → CanFollow m more → steps_from first (input more) (made + 1) ≡ machine_at new more (t.goes.output ++ g.output)
+    went more can =
+        ap (λ xs. steps_from first xs (made + 1)) (append_assoc t.goes.taken g.taken more)
+        ∙ behind_it t (g.taken ++ more) (follows g.took can) ∙ g.comes more t.goes.output can
+
+    before_it : (more : List ℕ) → CanFollow m more → AreShown fs which (steps_from first (input more)) made t.rows
+    before_it more can =
+        subst (λ (xs : List ℕ). AreShown fs which (steps_from first xs) made t.rows) (sym (append_assoc t.goes.taken g.taken more)) (t.shown (g.taken ++ more) (follows g.took can))
+
+    decided_it : (more : List ℕ) → CanFollow m more → is_shown which (steps_from first (input more)) made ≡ b
+    decided_it more can =
+        ap (λ xs. is_shown which (steps_from first xs) made) (append_assoc t.goes.taken g.taken more) ∙ decided t (g.taken ++ more) (follows g.took can)
+
+    row_shown : (more : List ℕ) → CanFollow m more → (a : AddsStep fs (made + 1) now.call new.store (drop (length p.bytes) q.bytes) text text')
+        → ShowsStep fs (steps_from first (input more)) made (step_row fs (made + 1) now.call a.line ++ changed_text new.store a.changed ++ written_row (drop (length p.bytes) q.bytes))
+    row_shown more can a =
+        let w = went more can in record {
+          tries = record {
+            call = now.call;
+            below = now.below;
+            world = world_with now.store (g.taken ++ more) t.goes.output;
+            state_is = ap (λ xs. steps_from first xs made) (append_assoc t.goes.taken g.taken more) ∙ there t (g.taken ++ more) (follows g.took can);
+          };
+          line = a.line;
+          changed = a.changed;
+          bytes = drop (length p.bytes) q.bytes;
+          wrote = ap (λ s. (state_world s).output) w ∙ ap (λ x. t.goes.output ++ x) (sym (since p q g.output g.written));
+          text_is = ap (λ ws. step_row fs (made + 1) now.call a.line ++ changed_text ws a.changed ++ written_row (drop (length p.bytes) q.bytes)) (sym (ap (λ s. (state_world s).store) w));
+        }
+
+    abbrev goes_further : MovesOn (λ left before. steps first.image (made + 1) (machine_at first left before)) (machine_at new) i m (outgoing_of o) (outgoing_of q)
+    goes_further = record {
+      taken = t.goes.taken ++ g.taken;
+      took = Took-append t.goes.took g.took;
+      no_failure = g.no_failure ∙ t.goes.no_failure;
+      output = t.goes.output ++ g.output;
+      written = Writes-append t.goes.written g.written;
+      comes = λ more before can.
+          ap (λ left. steps first.image (made + 1) (machine_at first left before)) (append_assoc t.goes.taken g.taken more)
+          ∙ one_more first.image made _ _ (t.goes.comes (g.taken ++ more) before (follows g.took can))
+          ∙ g.comes more (before ++ t.goes.output) can
+          ∙ ap (machine_at new more) (append_assoc before t.goes.output g.output);
+    }
+
+    traced_by : (c : Bool) → b ≡ c → new.image ≡ first.image → AddsIf c fs (made + 1) now.call new.store p.bytes q.bytes (Ok tt) text text' → IsTraced fs which first (made + 1) new i m o q old text'
+    traced_by false hidden same none = record {
+      image_is = same;
+      goes = goes_further;
+      rows = t.rows;
+      text_is = none ∙ t.text_is;
+      shown = λ more can. shown_not fs which (steps_from first (input more)) made t.rows b (decided_it more can) (before_it more can) hidden;
+    }
+    traced_by true seen same a = record {
+      image_is = same;
+      goes = goes_further;
+      rows = t.rows ++ record { made = made; text = step_row fs (made + 1) now.call a.line ++ changed_text new.store a.changed ++ written_row (drop (length p.bytes) q.bytes) } ∷ [];
+      text_is = with_row t.rows made _ old text text' t.text_is a.text_is;
+      shown = λ more can. shown_so fs which (steps_from first (input more)) made t.rows b (decided_it more can) (before_it more can) seen _ (row_shown more can a);
+    }
+
+  pub traced_one : (new : Paused) (q : Kept) → IsTraced fs which first made now i j o p old text → TurnGives now.image (machine_at now) (machine_at new) j m (outgoing_of p) (outgoing_of q) (Ok tt) → new.image ≡ now.image
+      → AddsIf b fs (made + 1) now.call new.store p.bytes q.bytes (Ok tt) text text' → IsTraced fs which first (made + 1) new i m o q old text'
+  traced_one new q t g same row = traced_by new q t (turned first now new t.image_is g) b refl (same ∙ t.image_is) row
 
 -- what was taken with the step in which the run was over
 took_over : (now new : Paused) {j m : Incoming} (p q : Outgoing) (r : Outcome) → TurnGives now.image (machine_at now) (machine_at new) j m p q (Err r) → (taken : List ℕ) × Took j taken m
@@ -43,121 +168,140 @@ took_over now new p q outcome.Limit g = absurd g
 took_over now new p q outcome.Device g = (g.taken, g.took)
 took_over now new p q outcome.Memory g = (g.2.taken, g.2.took)
 
--- the row of a step behind rows
-with_row : (rows : List Row) (made : ℕ) (row old text text' : List ℕ) → text ≡ old ++ rows_text rows → text' ≡ text ++ row → text' ≡ old ++ rows_text (rows ++ record { made = made; text = row } ∷ [])
-with_row rows made row old text text' before e =
-    e ∙ ap (λ x. x ++ row) before ∙ append_assoc old (rows_text rows) row
-    ∙ ap (λ x. old ++ x) (ap (λ x. rows_text rows ++ x) (sym (append-nil row)) ∙ sym (flat_map-append (λ (r : Row). r.text) rows (record { made = made; text = row } ∷ [])))
+halted : (now new : Paused) (first : Image) {j m : Incoming} {p q : Outgoing} (r : Outcome) → now.image ≡ first → HasHalted (λ left before. step now.image (machine_at now left before)) j m p q r → HasHalted (λ left before. step first (machine_at now left before)) j m p q r
+halted now new first {j} {m} {p} {q} r same g = subst (λ (x : Image). HasHalted (λ left before. step x (machine_at now left before)) j m p q r) same g
 
--- the rows with those of a step, if it is shown
-abbrev Step : (first now : Paused) (made : ℕ) (i m : Incoming) (old text' : List ℕ) (taken : List ℕ) → Type 0
-Step first now made i m old text' taken = (rows : List Row) × (text' ≡ old ++ rows_text rows) × ((more : List ℕ) → CanFollow m more → AreShown (steps_from first (taken ++ more)) rows)
+bytes_of : Outgoing → List ℕ
+bytes_of end = unwrap_or end.written []
 
-module _ (first now : Paused) (made : ℕ) (i j m : Incoming) (o p : Outgoing) (old text text' : List ℕ) where
-  stepped : (t : IsTraced first made now i j o p old text) (taken : List ℕ) → Took j taken m → AddsStep (made + 1) now.call text text' → Step first now made i m old text' (t.goes.taken ++ taken)
-  stepped t taken took (inl none) = (
-    t.rows,
-    none ∙ t.text_is,
-    λ more can. subst (λ (input : List ℕ). AreShown (steps_from first input) t.rows) (sym (append_assoc t.goes.taken taken more)) (t.shown (taken ++ more) (follows took can)),
-  )
-  stepped t taken took (inr one) = (
-    t.rows ++ record { made = made; text = one.0 } ∷ [],
-    with_row t.rows made one.0 old text text' t.text_is one.2,
-    λ more can.
-        let input = (t.goes.taken ++ taken) ++ more in
-        let there : steps_from first input made ≡ machine_at now (taken ++ more) t.goes.output =
-        ap (λ (xs : List ℕ). steps_from first xs made) (append_assoc t.goes.taken taken more) ∙ t.goes.comes (taken ++ more) [] (follows took can) in
-        let shows : ShowsStep (made + 1) (steps_from first input made) one.0 =
-        record { call = now.call; below = now.below; world = world_with now.store (taken ++ more) t.goes.output; state_is = there; tells = one.1 } in
-        let P : Row → Type 0 = λ r. ShowsStep (r.made + 1) (steps_from first input r.made) r.text in
-        All-append P t.rows (record { made = made; text = one.0 } ∷ [])
-        (subst (λ (xs : List ℕ). AreShown (steps_from first xs) t.rows) (sym (append_assoc t.goes.taken taken more)) (t.shown (taken ++ more) (follows took can)))
-        (All-cons P (record { made = made; text = one.0 }) [] shows (All-nil P)),
-  )
+nothing_since : (a b : Kept) → outgoing_of b ≡ outgoing_of a → drop (length a.bytes) b.bytes ≡ []
+unfolding bytes_of
+nothing_since a b same =
+    let e : b.bytes ≡ a.bytes = ap (λ (x : Outgoing). bytes_of x) same in
+    ap (drop (length a.bytes)) e ∙ drop-length a.bytes
 
-  pub traced_one : (new : Paused) (q : Outgoing) → IsTraced first made now i j o p old text → TurnGives now.image (machine_at now) (machine_at new) j m p q (Ok tt) → new.image ≡ now.image
-      → AddsStep (made + 1) now.call text text' → IsTraced first (made + 1) new i m o q old text'
-  traced_one new q t g same row =
-      let g' = turned first now new t.image_is g in
-      let s = stepped t g'.taken g'.took row in
-      record {
-        image_is = same ∙ t.image_is;
-        goes = record {
-          taken = t.goes.taken ++ g'.taken;
-          took = Took-append t.goes.took g'.took;
-          no_failure = g'.no_failure ∙ t.goes.no_failure;
-          output = t.goes.output ++ g'.output;
-          written = Writes-append t.goes.written g'.written;
-          comes = λ more before can.
-              ap (λ left. steps first.image (made + 1) (machine_at first left before)) (append_assoc t.goes.taken g'.taken more)
-              ∙ one_more first.image made _ _ (t.goes.comes (g'.taken ++ more) before (follows g'.took can))
-              ∙ g'.comes more (before ++ t.goes.output) can
-              ∙ ap (machine_at new more) (append_assoc before t.goes.output g'.output);
-        };
-        rows = s.0;
-        text_is = s.1;
-        shown = s.2;
-      }
-
+module _ (fs : List Placed) (which : Which) (first now : Paused) (made : ℕ) (i j m : Incoming) (o p : Kept) (old text text' : List ℕ) (b : Bool) (is : b ≡ is_wanted which (made + 1) now.call.function.strings) where
   -- the run was over in the next step
-  pub over_gives : (new : Paused) (q : Outgoing) (n : ℕ) (r : Outcome) → made < n → IsTraced first made now i j o p old text → TurnGives now.image (machine_at now) (machine_at new) j m p q (Err r) → StepsGive first n i m o q r
+  pub over_gives : (new : Paused) (q : Kept) (n : ℕ) (r : Outcome) → made < n → IsTraced fs which first made now i j o p old text → TurnGives now.image (machine_at now) (machine_at new) j m (outgoing_of p) (outgoing_of q) (Err r)
+      → StepsGive first n i m (outgoing_of o) (outgoing_of q) r
   over_gives new q n r lt t g =
-      run_over first.image made (machine_at first) (machine_at now) (machine_at new) n m q r (omega (arith, lt)) t.goes
-      (subst (λ (x : Image). TurnGives x (machine_at now) (machine_at new) j m p q (Err r)) t.image_is g)
+      run_over first.image made (machine_at first) (machine_at now) (machine_at new) n m (outgoing_of q) r (omega (arith, lt)) t.goes
+      (subst (λ (x : Image). TurnGives x (machine_at now) (machine_at new) j m (outgoing_of p) (outgoing_of q) (Err r)) t.image_is g)
 
-  pub over_shows : (new : Paused) (q : Outgoing) (r : Outcome) → IsTraced first made now i j o p old text → TurnGives now.image (machine_at now) (machine_at new) j m p q (Err r)
-      → AddsStep (made + 1) now.call text text' → (text'' : List ℕ) → Extends text' text'' → Shows (steps_from first) i m old text''
-  over_shows new q r t g row text'' end =
-      let last = took_over now new p q r g in
-      let s = stepped t last.0 last.1 row in
-      record {
-        rows = s.0;
-        ending = end.0;
-        text_is = end.1 ∙ ap (λ x. x ++ end.0) s.1;
-        taken = t.goes.taken ++ last.0;
-        took = Took-append t.goes.took last.1;
-        shown = s.2;
-      }
+  -- by a step that was made
+  module _ (new : Paused) (q : Kept) (n : ℕ) (r : Outcome) (lt : made < n) (t : IsTraced fs which first made now i j o p old text) (g : HasHalted (λ left before. step first.image (machine_at now left before)) j m (outgoing_of p) (outgoing_of q) r) (ending : List ℕ) where
+    abbrev can_before : (more : List ℕ) → CanFollow m more → CanFollow j more
+    can_before more can = subst (λ (x : Incoming). CanFollow x more) g.input can
+
+    took_before : Took i t.goes.taken m
+    took_before = subst (Took i t.goes.taken) (sym g.input) t.goes.took
+
+    last_shows : (more : List ℕ) → CanFollow m more → Shows r more t.goes.output (steps_from first (t.goes.taken ++ more) (made + 1))
+    last_shows more can =
+        subst (Shows r more t.goes.output) (sym (behind_it fs which first now made i j m o p old text text' b is t more (can_before more can))) (g.shows more t.goes.output)
+
+    last_row : (more : List ℕ) → CanFollow m more → (a : AddsLast fs (made + 1) now.call (drop (length p.bytes) q.bytes) text text')
+        → ShowsStep fs (steps_from first (t.goes.taken ++ more)) made (step_row fs (made + 1) now.call a.0 ++ written_row (drop (length p.bytes) q.bytes))
+    last_row more can a =
+        let row = step_row fs (made + 1) now.call a.0 in record {
+          tries = tries fs which first now made i j m o p old text text' b is t more (can_before more can);
+          line = a.0;
+          changed = [];
+          bytes = [];
+          wrote = (last_shows more can).written ∙ sym (append-nil t.goes.output);
+          text_is = ap (λ bytes. row ++ written_row bytes) (nothing_since p q g.output) ∙ ap (λ x. x ++ written_row []) (sym (append-nil row));
+        }
+
+    over_by : (c : Bool) → b ≡ c → AddsIf c fs (made + 1) now.call new.store p.bytes q.bytes (Err r) text text' → (text'' : List ℕ) → text'' ≡ text' ++ ending
+        → ((more : List ℕ) → CanFollow m more → EndsAs fs (steps_from first (t.goes.taken ++ more)) (made + 1) n r ending) → traces.ShowsRows fs which (steps_from first) n i m r old text''
+    over_by false hidden none text'' end ends = record {
+      made = made + 1;
+      within = omega (arith, lt);
+      rows = t.rows;
+      ending = ending;
+      text_is = end ∙ ap (λ x. x ++ ending) (none ∙ t.text_is);
+      taken = t.goes.taken;
+      took = took_before;
+      shown = λ more can. shown_not fs which (steps_from first (t.goes.taken ++ more)) made t.rows b (decided fs which first now made i j m o p old text text' b is t more (can_before more can)) (t.shown more (can_before more can)) hidden;
+      ends = ends;
+    }
+    over_by true seen a text'' end ends = record {
+      made = made + 1;
+      within = omega (arith, lt);
+      rows = t.rows ++ record { made = made; text = step_row fs (made + 1) now.call a.0 ++ written_row (drop (length p.bytes) q.bytes) } ∷ [];
+      ending = ending;
+      text_is = end ∙ ap (λ x. x ++ ending) (with_row t.rows made _ old text text' t.text_is a.1);
+      taken = t.goes.taken;
+      took = took_before;
+      shown = λ more can. shown_so fs which (steps_from first (t.goes.taken ++ more)) made t.rows b (decided fs which first now made i j m o p old text text' b is t more (can_before more can)) (t.shown more (can_before more can)) seen _ (last_row more can a);
+      ends = ends;
+    }
+
+  -- by a step that failed
+  module _ (new : Paused) (q : Kept) (n : ℕ) (r : Outcome) (lt : made < n) (t : IsTraced fs which first made now i j o p old text) (taken : List ℕ) (took : Took j taken m) where
+    abbrev fed : List ℕ → List ℕ
+    fed more = (t.goes.taken ++ taken) ++ more
+
+    abbrev Failed : List ℕ → Type 0
+    Failed ending = (more : List ℕ) → CanFollow m more → IsTried fs (steps_from first (fed more)) made ending
+
+    tried : (more : List ℕ) → CanFollow m more → Tries (steps_from first (fed more)) made
+    tried more can =
+        subst (λ (xs : List ℕ). Tries (steps_from first xs) made) (sym (append_assoc t.goes.taken taken more)) (tries fs which first now made i j m o p old text text' b is t (taken ++ more) (follows took can))
+
+    failed_by : (c : Bool) → AddsIf c fs (made + 1) now.call new.store p.bytes q.bytes (Err r) text text' → (ending : List ℕ) × (text' ≡ text ++ ending) × Failed ending
+    failed_by false none = ([], none ∙ sym (append-nil text), λ more can. inl refl)
+    failed_by true a = (_, a.1, λ more can. inr (tried_row more can a.0))
+      where
+        tried_row : (more : List ℕ) → CanFollow m more → (line : ℕ) → (u : Tries (steps_from first (fed more)) made) × (l : ℕ) × (bytes : List ℕ) × (step_row fs (made + 1) now.call line ++ written_row (drop (length p.bytes) q.bytes) ≡ step_row fs (made + 1) u.call l ++ written_row bytes)
+        tried_row more can line =
+            let e : steps_from first (fed more) made ≡ machine_at now (taken ++ more) t.goes.output =
+            ap (λ xs. steps_from first xs made) (append_assoc t.goes.taken taken more) ∙ there fs which first now made i j m o p old text text' b is t (taken ++ more) (follows took can) in
+            (record { call = now.call; below = now.below; world = world_with now.store (taken ++ more) t.goes.output; state_is = e }, line, drop (length p.bytes) q.bytes, refl)
+
+    over_failed : (text'' : List ℕ) → AddsIf b fs (made + 1) now.call new.store p.bytes q.bytes (Err r) text text' → text'' ≡ text'
+        → ((ending : List ℕ) → Failed ending → (more : List ℕ) → CanFollow m more → EndsAs fs (steps_from first (fed more)) made n r ending) → traces.ShowsRows fs which (steps_from first) n i m r old text''
+    over_failed text'' a end ends =
+        let last = failed_by b a in
+        record {
+          made = made;
+          within = omega (arith, lt);
+          rows = t.rows;
+          ending = last.0;
+          text_is = end ∙ last.1 ∙ ap (λ x. x ++ last.0) t.text_is;
+          taken = t.goes.taken ++ taken;
+          took = Took-append t.goes.took took;
+          shown = λ more can. subst (λ (xs : List ℕ). AreShown fs which (steps_from first xs) made t.rows) (sym (append_assoc t.goes.taken taken more)) (t.shown (taken ++ more) (follows took can));
+          ends = ends last.0 last.2;
+        }
+
+  pub over_shows : (new : Paused) (q : Kept) (n : ℕ) (r : Outcome) → made < n → IsTraced fs which first made now i j o p old text → TurnGives now.image (machine_at now) (machine_at new) j m (outgoing_of p) (outgoing_of q) (Err r)
+      → AddsIf b fs (made + 1) now.call new.store p.bytes q.bytes (Err r) text text' → (text'' : List ℕ) → AddsEnd fs now.call.function.strings now.call.place r text' text'' → traces.ShowsRows fs which (steps_from first) n i m r old text''
+  over_shows new q n (outcome.Exit status) lt t g a text'' end =
+      let h = halted now new first.image (outcome.Exit status) t.image_is g in
+      over_by new q n (outcome.Exit status) lt t h [] b refl a text'' (end ∙ sym (append-nil text')) (λ more can. ((last_shows new q n (outcome.Exit status) lt t h [] more can).outcome, refl))
+  over_shows new q n (outcome.Trap kind) lt t g a text'' end =
+      let h = halted now new first.image (outcome.Trap kind) t.image_is g in
+      over_by new q n (outcome.Trap kind) lt t h end.0 b refl a text'' end.2
+      (λ more can. ((last_shows new q n (outcome.Trap kind) lt t h end.0 more can).outcome, (made, refl, (record { call = now.call; below = now.below; world = world_with now.store more t.goes.output; state_is = there fs which first now made i j m o p old text text' b is t more (can_before new q n (outcome.Trap kind) lt t h end.0 more can) }, end.1))))
+  over_shows new q n outcome.Limit lt t g a text'' end = absurd g
+  over_shows new q n outcome.Device lt t g a text'' end = over_failed new q n outcome.Device lt t g.taken g.took text'' a end (λ ending f more can. f more can)
+  over_shows new q n outcome.Memory lt t g a text'' end = over_failed new q n outcome.Memory lt t g.2.taken g.2.took text'' a end (λ ending f more can. f more can)
 
 -- all steps were made
-pub all_give : (first now : Paused) (made : ℕ) (i j : Incoming) (o p : Outgoing) (old text : List ℕ) → IsTraced first made now i j o p old text → StepsGive first made i j o p outcome.Limit
-all_give first now made i j o p old text t = at_limit first.image made (machine_at first) now.call now.below now.store t.goes
+pub all_give : (fs : List Placed) (which : Which) (first now : Paused) (made : ℕ) (i j : Incoming) (o p : Kept) (old text : List ℕ) → IsTraced fs which first made now i j o p old text → StepsGive first made i j (outgoing_of o) (outgoing_of p) outcome.Limit
+all_give fs which first now made i j o p old text t = at_limit first.image made (machine_at first) now.call now.below now.store t.goes
 
-pub all_show : (first now : Paused) (made : ℕ) (i j : Incoming) (o p : Outgoing) (old text : List ℕ) → IsTraced first made now i j o p old text → Shows (steps_from first) i j old text
-all_show first now made i j o p old text t = record {
+pub all_show : (fs : List Placed) (which : Which) (first now : Paused) (made : ℕ) (i j : Incoming) (o p : Kept) (old text text' : List ℕ) → IsTraced fs which first made now i j o p old text → AddsPlaces fs now.call.function.strings now.call.place text text'
+    → traces.ShowsRows fs which (steps_from first) made i j outcome.Limit old text'
+all_show fs which first now made i j o p old text text' t end = record {
+  made = made;
+  within = omega arith;
   rows = t.rows;
-  ending = [];
-  text_is = t.text_is ∙ sym (append-nil (old ++ rows_text t.rows));
+  ending = end.0;
+  text_is = end.2 ∙ ap (λ x. x ++ end.0) t.text_is;
   taken = t.goes.taken;
   took = t.goes.took;
   shown = t.shown;
+  ends = λ more can. (refl, (record { call = now.call; below = now.below; world = world_with now.store more t.goes.output; state_is = t.goes.comes more [] can }, end.1));
 }
-
--- the run of an image from its beginning on
-pub run_from : (image : Image) (p : Paused) → Begins image p → (input : List ℕ) (n : ℕ) → run image input n ≡ steps_from p input n
-run_from image p b input n = ap (steps image n) (b.first input) ∙ ap (λ (x : Image). steps x n (machine_at p input [])) (sym b.image_is)
-
-shown_by : (f g : ℕ → State) (rows : List Row) → ((n : ℕ) → f n ≡ g n) → AreShown g rows → AreShown f rows
-shown_by f g rows e h = All-weaker (λ (r : Row). ShowsStep (r.made + 1) (g r.made) r.text) (λ (r : Row). ShowsStep (r.made + 1) (f r.made) r.text) (λ r s. record { call = s.call; below = s.below; world = s.world; state_is = e r.made ∙ s.state_is; tells = s.tells }) rows h
-
-pub shows_run : (f g : States) (i j : Incoming) (old new : List ℕ) → ((input : List ℕ) (n : ℕ) → f input n ≡ g input n) → Shows g i j old new → Shows f i j old new
-shows_run f g i j old new e s = record {
-  rows = s.rows;
-  ending = s.ending;
-  text_is = s.text_is;
-  taken = s.taken;
-  took = s.took;
-  shown = λ more can. shown_by (f (s.taken ++ more)) (g (s.taken ++ more)) s.rows (e (s.taken ++ more)) (s.shown more can);
-}
-
--- the trace of a program that has begun
-pub traced_whole : (edition : Edition) (source : List ℕ) (n : ℕ) (ends : RunEnds) (status : ℕ) (mid : Outgoing) (ds : List Definition) (image : Image) (p : Paused) (result : Outcome) (begun text told_text : List ℕ) (output : Kept) (told : ℕ)
-    → IsProgram edition source ends.line mid ds image → Begins image p → StepsGive p n ends.input ends.input_behind nothing_written (outgoing_of output) result
-    → begun ≡ [] → Shows (steps_from p) ends.input ends.input_behind (begun ++ HEADING.now) text → told_text ≡ text → Told told_text DONE ends.out ends.out_behind told
-    → TellsEnd told result mid ends.line_behind status → Traces edition source n ends status
-traced_whole edition source n ends status mid ds image p result begun text told_text output told is begins gives none shows same tells end =
-    traced mid ds image result text output told is
-    (same_run (run image) (steps_from p) n ends.input ends.input_behind nothing_written (outgoing_of output) result (run_from image p begins) gives)
-    (shows_run (run image) (steps_from p) ends.input ends.input_behind HEADING.now text (run_from image p begins)
-    (subst (λ (t : List ℕ). Shows (steps_from p) ends.input ends.input_behind (t ++ HEADING.now) text) none shows))
-    (subst (λ (t : List ℕ). Told t DONE ends.out ends.out_behind told) same tells) end

@@ -1,81 +1,155 @@
 -- What comes of a source whose steps are written.
-use Rattle.std.specs.Prelude.{◌≡◌, ◌⊎◌, ℕ, ◌+◌, ◌-◌, List, [], ◌++◌, All, codes, decimal, drop, length, nat_lt, reverse, if◌then◌else◌}
-use Rattle.std.specs.List.{flat_map}
+use Rattle.std.specs.Prelude.{◌≡◌, ◌⊎◌, ℕ, ◌+◌, ◌≤◌, ◌==◌, ◌&&◌, Bool, true, false, List, [], ◌++◌, All, Option, Some}
+use Rattle.std.specs.Prelude.{None, Result, Ok, Err, drop, filter, length, map, nat_le, option_map}
+use Rattle.std.specs.List.{flat_map, range_with_len}
+use Rattle.std.specs.Option.{option_map_or}
 use Rattle.bword.specs.declared.edition.Edition.{Edition}
 use Rattle.bword.specs.ByteEnds.{CanFollow, Incoming, Outgoing, Kept, Took, outgoing_of}
 use Rattle.blang.specs.declared.code.Definition.{Definition}
-use Rattle.blang.specs.declared.status.TheConstants.{DONE, MEMORY}
-use Rattle.blang.specs.Machine.{Call, Image, Running, State, run, steps, RunGives, States, RunEnds, Finishes}
+use Rattle.blang.specs.declared.status.TheConstants.{DONE, MEMORY, WRONG_COMMAND}
+use Rattle.blang.specs.Machine.{Call, Image, State, Running, Halted, Stuck, States, RunEnds, Finishes, RunGives}
+use Rattle.blang.specs.Machine.{machine, state_outcome, state_world}
+use Rattle.blang.specs.Machine as runs
 use Rattle.bmach.specs.Stepping.{BeginsNot, Paused, machine_at}
-use Rattle.bmach.specs.Turns.{Goes}
 use Rattle.blang.specs.declared.run.Outcome.{Outcome}
+use Rattle.blang.specs.declared.run.Outcome.TheVariants as outcome
 use Rattle.blang.specs.Layout.{World}
-use Rattle.blist.specs.Columns.{right}
-use Rattle.blist.specs.Programs.{IsProgram, NoProgram}
+use Rattle.blist.specs.Programs.{HasProgram, NoProgram}
 use Rattle.blist.specs.Told.{Told}
-use Rattle.btrace.specs.declared.rows.TheConstants.{HEADING, SHOWN}
+use Rattle.btrace.specs.Programs.{Placed, function_named, functions_of}
+use Rattle.btrace.specs.Rows.{Place, changed_text, places_text, step_row, written_row}
+use Rattle.btrace.specs.declared.tracing.TheConstants.{HEADING, UNNAMED}
+use Rattle.btrace.specs.declared.tracing.Which.{Which}
 
--- the topmost operands, the topmost last, and `..` before them if there are more
-abbrev pub operands_text : List ℕ → List ℕ
-operands_text words =
-    (if nat_lt 0 (length words - SHOWN) then codes " .." else [])
-    ++ flat_map (λ w. codes " " ++ decimal w) (drop (length words - SHOWN) words)
+-- which steps are shown: those from a number on, of the function of a name; none where no function has the name
+abbrev pub which_of : List Placed → (from : ℕ) → (name : Option (List ℕ)) → Option Which
+which_of fs from None = Some (record { from = from; function = None })
+which_of fs from (Some name) =
+    option_map (λ f. record { from = from; function = Some f.strings }) (function_named fs name)
 
--- The row tells of a step the number, the place of the instruction in its function, and the topmost operands before
--- it; beside them stand the names of the function and of the instruction, and behind them what the step has changed.
-pub record TellsStep (number : ℕ) (call : Call) (row : List ℕ) : Type 0 where
-  pub name : List ℕ
-  pub code : List ℕ
-  pub behind : List ℕ
-  pub row_is : row ≡ right 8 (decimal number) ++ codes "  " ++ name ++ right 6 (decimal call.place) ++ code
-      ++ operands_text (reverse call.operands) ++ codes "\n" ++ behind
+-- whether a step is shown that has this number, of a call of the function with its string words there
+abbrev pub is_wanted : Which → (number strings : ℕ) → Bool
+is_wanted which number strings = nat_le which.from number && option_map_or (λ f. strings == f) which.function true
 
--- The row of a step tells of the state before it.
-pub record ShowsStep (number : ℕ) (before : State) (row : List ℕ) : Type 0 where
+abbrev pub is_step : Which → (number : ℕ) → State → Bool
+is_step which number (Running call below w) = is_wanted which number call.function.strings
+is_step which number (Halted e w) = false
+is_step which number (Stuck w) = false
+
+-- The first step has the number 1 and comes behind none. A run that is over makes no step.
+abbrev pub is_shown : Which → (ℕ → State) → (made : ℕ) → Bool
+is_shown which states made = is_step which (made + 1) (states made)
+
+-- the steps among so many that are shown, each by the number of those before it
+abbrev pub shown_of : Which → (ℕ → State) → (made : ℕ) → List ℕ
+shown_of which states made = filter (is_shown which states) (range_with_len 0 made)
+
+-- a machine that is to make a step: its call, those below it, and its world
+pub record Tries (states : ℕ → State) (made : ℕ) : Type 0 where
   pub call : Call
   pub below : List Call
   pub world : World
-  pub state_is : before ≡ Running call below world
-  pub tells : TellsStep number call row
+  pub state_is : states made ≡ Running call below world
 
--- a row of a step was added to a text, or none
-abbrev pub AddsStep : ℕ → Call → List ℕ → List ℕ → Type 0
-AddsStep number call old new = (new ≡ old) ⊎ ((row : List ℕ) × TellsStep number call row × (new ≡ old ++ row))
+-- A text shows a step: the call before it, words as they are behind it, and what it wrote.
+pub record ShowsStep (fs : List Placed) (states : ℕ → State) (made : ℕ) (text : List ℕ) : Type 0 where
+  pub tries : Tries states made
+  pub line : ℕ
+  pub changed : List ℕ
+  pub bytes : List ℕ
+  pub wrote : (state_world (states (made + 1))).output ≡ tries.world.output ++ bytes
+  pub text_is : text ≡ step_row fs (made + 1) tries.call line
+      ++ changed_text (state_world (states (made + 1))).store changed ++ written_row bytes
 
--- a row, and how many steps were made before it
-pub record Row : Type 0 where
+-- the text of a step, and how many steps were made before it
+pub record TraceRow : Type 0 where
   pub made : ℕ
   pub text : List ℕ
 
--- each row shows the state behind so many steps
-abbrev pub AreShown : (ℕ → State) → List Row → Type 0
-AreShown states rows = All (λ r. ShowsStep (r.made + 1) (states r.made) r.text) rows
-
-abbrev pub rows_text : List Row → List ℕ
+abbrev pub rows_text : List TraceRow → List ℕ
 rows_text rows = flat_map (λ r. r.text) rows
 
--- These rows were added to a text, and an ending. They show this machine, whose input is what was taken and what may
+-- Each step that is to be shown has a row, in order, and nothing else has one.
+pub record AreShown (fs : List Placed) (which : Which) (states : ℕ → State) (made : ℕ) (rows : List TraceRow) : Type 0
+  where
+    pub all : map (λ r. r.made) rows ≡ shown_of which states made
+    pub each : All (λ r. ShowsStep fs states r.made r.text) rows
+
+-- A text tells where a run was over: at this place of this function, and which calls led there.
+pub record TellsPlace (fs : List Placed) (strings place : ℕ) (text : List ℕ) : Type 0 where
+  pub first : Place
+  pub callers : List Place
+  pub text_is : text ≡ places_text fs first callers
+  pub function_is : first.strings ≡ strings
+  pub place_is : first.place ≡ place
+
+abbrev pub AddsPlaces : List Placed → (strings place : ℕ) → List ℕ → List ℕ → Type 0
+AddsPlaces fs strings place old new = (text : List ℕ) × TellsPlace fs strings place text × (new ≡ old ++ text)
+
+abbrev pub IsWhere : List Placed → (ℕ → State) → ℕ → List ℕ → Type 0
+IsWhere fs states made text = (t : Tries states made) × TellsPlace fs t.call.function.strings t.call.place text
+
+-- a step that failed has a row, if it was to be shown, or none
+abbrev pub IsTried : List Placed → (ℕ → State) → ℕ → List ℕ → Type 0
+IsTried fs states made text = (text ≡ [])
+    ⊎ ((t : Tries states made) × (line : ℕ) × (bytes : List ℕ)
+    × (text ≡ step_row fs (made + 1) t.call line ++ written_row bytes))
+
+-- Behind so many steps the run is over, or all were made; or the next one failed. What stands behind their rows.
+abbrev pub EndsAs : List Placed → (ℕ → State) → (made steps : ℕ) → Outcome → List ℕ → Type 0
+EndsAs fs states made steps (outcome.Exit status) ending =
+    (state_outcome (states made) ≡ outcome.Exit status) × (ending ≡ [])
+EndsAs fs states made steps (outcome.Trap kind) ending =
+    (state_outcome (states made) ≡ outcome.Trap kind) × ((last : ℕ) × (last + 1 ≡ made) × IsWhere fs states last ending)
+EndsAs fs states made steps outcome.Limit ending = (made ≡ steps) × IsWhere fs states made ending
+EndsAs fs states made steps outcome.Device ending = IsTried fs states made ending
+EndsAs fs states made steps outcome.Memory ending = IsTried fs states made ending
+
+-- The rows of the steps of this machine were added to a text, and an ending. Its input is what was taken and what may
 -- follow.
-pub record Shows (states : States) (i j : Incoming) (old new : List ℕ) : Type 0 where
-  pub rows : List Row
+pub record ShowsRows (fs : List Placed) (which : Which) (states : States) (steps : ℕ) (i j : Incoming)
+    (result : Outcome)
+    (old new : List ℕ) : Type 0 where
+  pub made : ℕ
+  pub within : made ≤ steps
+  pub rows : List TraceRow
   pub ending : List ℕ
   pub text_is : new ≡ old ++ rows_text rows ++ ending
   pub taken : List ℕ
   pub took : Took i taken j
-  pub shown : (more : List ℕ) → CanFollow j more → AreShown (states (taken ++ more)) rows
+  pub shown : (more : List ℕ) → CanFollow j more → AreShown fs which (states (taken ++ more)) made rows
+  pub ends : (more : List ℕ) → CanFollow j more → EndsAs fs (states (taken ++ more)) made steps result ending
+
+-- A step was shown before it was made, with these words as they are behind it and these bytes written.
+pub record AddsStep (fs : List Placed) (number : ℕ) (call : Call) (store bytes : List ℕ) (old new : List ℕ) : Type 0
+  where
+    pub line : ℕ
+    pub changed : List ℕ
+    pub text_is : new ≡ old ++ (step_row fs number call line ++ changed_text store changed ++ written_row bytes)
+
+-- a step that was the last
+abbrev pub AddsLast : List Placed → (number : ℕ) → Call → (bytes : List ℕ) → List ℕ → List ℕ → Type 0
+AddsLast fs number call bytes old new =
+    (line : ℕ) × (new ≡ old ++ (step_row fs number call line ++ written_row bytes))
+
+-- what was added for a step, if it is shown
+abbrev pub AddsIf : Bool → List Placed → (number : ℕ) → Call → (store before behind : List ℕ)
+    → Result (Unit {0}) Outcome → List ℕ → List ℕ → Type 0
+AddsIf false fs number call store before behind result old new = new ≡ old
+AddsIf true fs number call store before behind (Ok u) old new =
+    AddsStep fs number call store (drop (length before) behind) old new
+AddsIf true fs number call store before behind (Err r) old new =
+    AddsLast fs number call (drop (length before) behind) old new
+
+-- what was added for an outcome
+abbrev pub AddsEnd : List Placed → (strings place : ℕ) → Outcome → List ℕ → List ℕ → Type 0
+AddsEnd fs strings place (outcome.Trap kind) old new = AddsPlaces fs strings place old new
+AddsEnd fs strings place outcome.Limit old new = AddsPlaces fs strings place old new
+AddsEnd fs strings place r old new = new ≡ old
 
 -- the machine from this state on, by its input and the number of its steps
 abbrev pub steps_from : Paused → States
-steps_from p input n = steps p.image n (machine_at p input [])
-
--- So many steps were made from this state on, and rows of some of them were added to a text.
-pub record IsTraced (first : Paused) (made : ℕ) (now : Paused) (i j : Incoming) (o q : Outgoing) (old new : List ℕ)
-    : Type 0 where
-  pub image_is : now.image ≡ first.image
-  pub goes : Goes (λ left before. steps first.image made (machine_at first left before)) (machine_at now) i j o q
-  pub rows : List Row
-  pub text_is : new ≡ old ++ rows_text rows
-  pub shown : (more : List ℕ) → CanFollow j more → AreShown (steps_from first (goes.taken ++ more)) rows
+steps_from p input n = runs.steps p.image n (machine_at p input [])
 
 -- what the program writes is kept from the start
 abbrev pub nothing_written : Outgoing
@@ -89,22 +163,34 @@ TellsEnd told result line line_behind status =
 
 -- what comes of so many steps from a state on
 abbrev pub StepsGive : Paused → ℕ → (i j : Incoming) (o p : Outgoing) → Outcome → Type 0
-StepsGive p n i j o q result = RunGives (steps_from p) n i j o q result
+StepsGive first n i j o p result = RunGives (steps_from first) n i j o p result
+
+-- Nothing was read, and nothing but a line was written.
+abbrev pub HasNoTrace : RunEnds → Type 0
+HasNoTrace ends = (ends.out_behind ≡ ends.out) × (ends.input_behind ≡ ends.input)
 
 -- The program of the source was run for so many steps at most, as the machine runs it, and its trace written; or it
--- did not begin; or there is none, and nothing but why was written; or memory was refused.
-pub data Traces (edition : Edition) (source : List ℕ) (steps : ℕ) (ends : RunEnds) (status : ℕ) : Type 0 where
-  traced : (mid : Outgoing) (ds : List Definition) (image : Image) (result : Outcome) (text : List ℕ) (output : Kept)
-      (told : ℕ) → IsProgram edition source ends.line mid ds image
-      → RunGives (run image) steps ends.input ends.input_behind nothing_written (outgoing_of output) result
-      → Shows (run image) ends.input ends.input_behind HEADING.now text
+-- did not begin; or no function has the name, and that was told; or there is no program, and why was told; or memory
+-- was refused.
+pub data Traces (edition : Edition) (source : List ℕ) (steps from : ℕ) (name : Option (List ℕ)) (ends : RunEnds)
+    (status : ℕ) : Type 0 where
+  traced : (mid : Outgoing) (ds : List Definition) (image : Image) (which : Which) (result : Outcome) (text : List ℕ)
+      (output : Kept) (told : ℕ) → HasProgram edition source ends.line mid ds image
+      → which_of (functions_of ds) from name ≡ Some which
+      → RunGives (machine ds) steps ends.input ends.input_behind nothing_written (outgoing_of output) result
+      → ShowsRows (functions_of ds) which (machine ds) steps ends.input ends.input_behind result HEADING.now text
       → Told text DONE ends.out ends.out_behind told → TellsEnd told result mid ends.line_behind status
-      → Traces edition source steps ends status
-  not_begun : (mid : Outgoing) (ds : List Definition) (image : Image) (result : Outcome)
-      → IsProgram edition source ends.line mid ds image → BeginsNot image result
-      → Finishes result mid ends.line_behind status → ends.out_behind ≡ ends.out → ends.input_behind ≡ ends.input
-      → Traces edition source steps ends status
-  stopped : NoProgram edition source ends.line ends.line_behind status → ends.out_behind ≡ ends.out
-      → ends.input_behind ≡ ends.input → Traces edition source steps ends status
-  no_memory : (ds : List Definition) (image : Image) → IsProgram edition source ends.line ends.line_behind ds image
-      → ends.out_behind ≡ ends.out → status ≡ MEMORY → Traces edition source steps ends status
+      → Traces edition source steps from name ends status
+  not_begun : (mid : Outgoing) (ds : List Definition) (image : Image) (which : Which) (result : Outcome)
+      → HasProgram edition source ends.line mid ds image
+      → which_of (functions_of ds) from name ≡ Some which → BeginsNot image result
+      → Finishes result mid ends.line_behind status → HasNoTrace ends
+      → Traces edition source steps from name ends status
+  unnamed : (mid : Outgoing) (ds : List Definition) (image : Image) → HasProgram edition source ends.line mid ds image
+      → which_of (functions_of ds) from name ≡ None
+      → Told UNNAMED.now WRONG_COMMAND mid ends.line_behind status → HasNoTrace ends
+      → Traces edition source steps from name ends status
+  stopped : NoProgram edition source ends.line ends.line_behind status → HasNoTrace ends
+      → Traces edition source steps from name ends status
+  no_memory : (ds : List Definition) (image : Image) → HasProgram edition source ends.line ends.line_behind ds image
+      → ends.out_behind ≡ ends.out → status ≡ MEMORY → Traces edition source steps from name ends status

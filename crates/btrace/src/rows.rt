@@ -1,18 +1,18 @@
 //! The rows of a trace.
-ghost use Rattle.std.specs.Prelude.{◌≡◌, ℕ, List, ◌+◌, ◌^◌, ◌<◌, ◌++◌, OnOk};
-ghost use Rattle.blist.specs.Listings.{Extends};
-ghost use Rattle.btrace.specs.Traces.{TellsStep, operands_text};
+ghost use Rattle.std.specs.Prelude.{◌≡◌, ℕ, List, [], ◌+◌, ◌^◌, ◌<◌, ◌++◌, OnOk, option_map};
+ghost use Rattle.std.specs.List.{flat_map};
+ghost use Rattle.blist.specs.Characters.{shown_byte};
+ghost use Rattle.blist.specs.Columns.{left};
+ghost use Rattle.btrace.specs.Programs.{entries_of, placed_entry};
+ghost use Rattle.btrace.specs.Rows.{changed_text, instr_in, instr_text, margin, name_in, operands_text, step_row, word_row, written_row};
 
-use crate::tables::Tables;
+use crate::tables::{Entry, Tables};
 use bcode::{Page, push_instr_line};
 use blang::Instr;
 use blist::{Text, push_byte};
 use bmach::{Active, Stepper};
 use bword::Store;
 use std::alloc::AllocError;
-
-/// The columns of a trace.
-pub const HEADING: &[u8] = b"    step  function place  line  code         operands\n";
 
 /// Where what a step has changed begins.
 const MARGIN: usize = 43;
@@ -38,44 +38,48 @@ pub fn push_step<S: Store + Drop>(
     made: u64,
 ) -> Result<(), AllocError>
     requires { made + 1 < 2 ^ 64 }
-    ensures { OnOk result ((row : List ℕ) × TellsStep (made + 1) stepper.now.call row × (text.new ≡ text.old ++ row)) }
+    ensures { OnOk result ((line : ℕ) × (text.new ≡ text.old ++ step_row (entries_of tables.now) (made + 1) stepper.now.call line)) }
 {
     let call = stepper.top();
+    let entry = tables.entry(call.strings);
+    let line = tables.line(entry, call.place);
     text.push_right_number(8, made + 1)?;
     text.push(b"  ")?;
-    push_function(text, tables, call)?;
+    text.push_left(8, name_of(entry))?;
     text.push_right_number(6, call.place as u64)?;
-    push_code(text, tables, call)?;
+    text.push_right_number(6, line)?;
+    text.push(b"  ")?;
+    push_instr(text, instr_at(entry, call.place))?;
     push_operands(text, stepper.operands())?;
     text.push(b"\n")
 }
 
-fn push_function(text: &mut Text, tables: &Tables<'_>, call: Active) -> Result<(), AllocError>
-    ensures { OnOk result (Extends text.old text.new) }
+/// The name of a function.
+pub fn name_of<'a>(entry: Option<Entry<'a>>) -> &'a [u8]
+    ensures { result.now ≡ name_in (option_map placed_entry entry.entry) }
 {
-    match tables.function(call) {
-        Some(function) => text.push_left(8, function.name.as_bytes()),
-        None => text.push_blanks(8),
+    match entry {
+        Some(entry) => entry.parts.name.as_bytes(),
+        None => b"",
     }
 }
 
-// The line of the source and the instruction.
-fn push_code(text: &mut Text, tables: &Tables<'_>, call: Active) -> Result<(), AllocError>
-    ensures { OnOk result (Extends text.old text.new) }
+fn instr_at(entry: Option<Entry<'_>>, place: usize) -> Option<Instr>
+    ensures { result ≡ instr_in (option_map placed_entry entry.entry) place }
 {
-    text.push_right_number(6, tables.line(call, call.place))?;
-    text.push(b"  ")?;
-    match tables.instr(call) {
-        Some(instr) => push_instr(text, &instr),
-        None => text.push_blanks(12),
+    match entry {
+        Some(entry) => entry.parts.code.get(place).copied(),
+        None => None,
     }
 }
 
-fn push_instr(text: &mut Text, instr: &Instr) -> Result<(), AllocError>
-    ensures { OnOk result (Extends text.old text.new) }
+fn push_instr(text: &mut Text, instr: Option<Instr>) -> Result<(), AllocError>
+    ensures { OnOk result (text.new ≡ text.old ++ left 12 (instr_text instr)) }
 {
     let mut page = Page::new();
-    push_instr_line(&mut page, instr);
+    if let Some(instr) = instr {
+        push_instr_line(&mut page, &instr);
+    }
     let line = page.as_slice();
     text.push_left(12, &line[..line.len().saturating_sub(1)])
 }
@@ -95,8 +99,9 @@ fn push_operands(text: &mut Text, operands: &[u16]) -> Result<(), AllocError>
 
 /// What the next step of a run is about to change.
 pub fn change_of<S: Store + Drop>(tables: &Tables<'_>, stepper: &Stepper<'_, S>) -> Change {
+    let call = stepper.top();
     let operands = stepper.operands();
-    match tables.instr(stepper.top()) {
+    match instr_at(tables.entry(call.strings), call.place) {
         Some(Instr::Store | Instr::Modify(_)) => word_below(operands, 1),
         Some(Instr::Increment(_)) => word_below(operands, 0),
         Some(Instr::Call(count)) => change_of_call(operands, usize::from(count)),
@@ -138,7 +143,7 @@ pub fn push_change<S: Store + Drop>(
     stepper: &Stepper<'_, S>,
     change: Change,
 ) -> Result<(), AllocError>
-    ensures { OnOk result (Extends text.old text.new) }
+    ensures { OnOk result ((changed : List ℕ) × (text.new ≡ text.old ++ changed_text stepper.now.store changed)) }
 {
     match change {
         Change::Nothing => Ok(()),
@@ -151,7 +156,7 @@ fn push_parameters<S: Store + Drop>(
     text: &mut Text,
     stepper: &Stepper<'_, S>,
 ) -> Result<(), AllocError>
-    ensures { OnOk result (Extends text.old text.new) }
+    ensures { OnOk result ((changed : List ℕ) × (text.new ≡ text.old ++ changed_text stepper.now.store changed)) }
 {
     let call = stepper.top();
     for index in 0..call.parameters {
@@ -160,7 +165,8 @@ fn push_parameters<S: Store + Drop>(
     Ok(())
 }
 
-fn word_of_frame(call: Active, index: u16) -> u16 {
+/// The address of a word of a call's frame.
+pub fn word_of_frame(call: Active, index: u16) -> u16 {
     let start = (call.start % 65536) as u16;
     start.wrapping_add(index)
 }
@@ -171,9 +177,9 @@ fn push_word<S: Store + Drop>(
     stepper: &Stepper<'_, S>,
     address: u16,
 ) -> Result<(), AllocError>
-    ensures { OnOk result (Extends text.old text.new) }
+    ensures { OnOk result (text.new ≡ text.old ++ word_row stepper.now.store address) }
 {
-    text.push_blanks(MARGIN)?;
+    push_margin(text)?;
     text.push(b"@")?;
     text.push_number(u64::from(address))?;
     text.push(b" = ")?;
@@ -183,84 +189,28 @@ fn push_word<S: Store + Drop>(
 
 /// Adds what a step has written, if it has written something.
 pub fn push_written(text: &mut Text, bytes: &[u8]) -> Result<(), AllocError>
-    ensures { OnOk result (Extends text.old text.new) }
+    ensures { OnOk result (text.new ≡ text.old ++ written_row bytes.now) }
 {
     if bytes.is_empty() {
         return Ok(());
     }
-    text.push_blanks(MARGIN)?;
+    push_margin(text)?;
     text.push(b"writes '")?;
-    for byte in bytes {
-        push_byte(text, *byte)?;
-    }
+    push_bytes(text, bytes)?;
     text.push(b"'\n")
 }
 
-/// Adds where a run ended by a trap: the instruction, and the calls that led there.
-pub fn push_trap<S: Store + Drop>(
-    text: &mut Text,
-    tables: &Tables<'_>,
-    stepper: &Stepper<'_, S>,
-    call: Active,
-) -> Result<(), AllocError>
-    ensures { OnOk result (Extends text.old text.new) }
+fn push_bytes(text: &mut Text, bytes: &[u8]) -> Result<(), AllocError>
+    ensures { OnOk result (text.new ≡ text.old ++ flat_map shown_byte bytes.now) }
 {
-    text.push(b"at     ")?;
-    push_where(text, tables, stepper, call)?;
-    // No run has more active calls.
-    for number in 0..4096 {
-        match stepper.caller(number) {
-            None => break,
-            Some(caller) => {
-                text.push(b"called ")?;
-                push_where(text, tables, stepper, behind(caller))?;
-            }
-        }
+    for byte in bytes {
+        push_byte(text, *byte)?;
     }
     Ok(())
 }
 
-// A call that waits is behind its call.
-fn behind(call: Active) -> Active {
-    Active {
-        value: call.value,
-        parameters: call.parameters,
-        place: call.place.saturating_sub(1),
-        start: call.start,
-    }
-}
-
-// The place of a call and the words of its parameters.
-fn push_where<S: Store + Drop>(
-    text: &mut Text,
-    tables: &Tables<'_>,
-    stepper: &Stepper<'_, S>,
-    call: Active,
-) -> Result<(), AllocError>
-    ensures { OnOk result (Extends text.old text.new) }
+fn push_margin(text: &mut Text) -> Result<(), AllocError>
+    ensures { OnOk result (text.new ≡ text.old ++ margin) }
 {
-    text.push(b"in ")?;
-    push_function(text, tables, call)?;
-    text.push(b" place ")?;
-    text.push_right_number(4, call.place as u64)?;
-    text.push(b"  line ")?;
-    text.push_right_number(4, tables.line(call, call.place))?;
-    push_words(text, stepper, call)?;
-    text.push(b"\n")
-}
-
-// The words of the first parameters of a call.
-fn push_words<S: Store + Drop>(
-    text: &mut Text,
-    stepper: &Stepper<'_, S>,
-    call: Active,
-) -> Result<(), AllocError>
-    ensures { OnOk result (Extends text.old text.new) }
-{
-    for index in 0..call.parameters.min(6) {
-        text.push(if index == 0 { b"  with " } else { b", " })?;
-        let word = stepper.word(word_of_frame(call, index));
-        text.push_number(u64::from(word))?;
-    }
-    text.push(if call.parameters > 6 { b", .." } else { b"" })
+    text.push_blanks(MARGIN)
 }

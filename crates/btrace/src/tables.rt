@@ -1,83 +1,99 @@
 //! What is known of the functions of a program.
-use blang::{Definition, FunctionParts, Instr};
+ghost use Rattle.std.specs.Prelude.{◌≡◌, ◌≤◌, IfOk, map, option_map};
+ghost use Rattle.blang.specs.Layout.{data_end, shape_of};
+ghost use Rattle.btrace.specs.Programs.{entries_of, function_at, function_named, functions_of, placed_entry};
+
+use blang::{Definition, FunctionParts};
 use blist::Program;
-use bmach::Active;
+use bmach::size_of;
 use std::alloc::{AllocError, Global};
 
-/// The value of the first function.
-const FIRST_VALUE: u16 = 7;
+/// The address of the first definition.
+const FIRST_ADDRESS: u32 = 7;
 
-/// The functions of a program, in the order of their values.
+/// A function of a program.
+#[derive(Clone, Copy)]
+pub struct Entry<'a> {
+    /// The address of its first string word.
+    pub strings: u32,
+    pub parts: &'a FunctionParts,
+    /// Where its lines begin among those of the program.
+    start: usize,
+}
+
+/// The functions of a program, in order.
 #[derive(Drop)]
 pub struct Tables<'a> {
-    functions: Vec<&'a FunctionParts>,
-    // Where the lines of each function begin among those of the program.
-    starts: Vec<usize>,
+    entries: Vec<Entry<'a>>,
     lines: &'a [u64],
 }
 
 impl<'a> Tables<'a> {
-    pub fn new(alloc: Global, program: &'a Program) -> Result<Self, AllocError> {
-        let mut functions = Vec::new(alloc);
-        let mut starts = Vec::new(alloc);
+    pub fn new(alloc: Global, program: &'a Program) -> Result<Self, AllocError>
+        requires { data_end (map shape_of program.now.definitions.items) ≤ 65536 }
+        ensures { IfOk result (λ t. entries_of t ≡ functions_of program.now.definitions.items) }
+    {
+        let mut entries = Vec::new(alloc);
+        let mut address = FIRST_ADDRESS;
         let mut start: usize = 0;
         for definition in &program.definitions {
-            let count = match definition {
-                Definition::Function(function) => {
-                    let parts = function.parts();
-                    functions.push(parts)?;
-                    starts.push(start)?;
-                    parts.code.len()
-                }
-                Definition::Simple(simple) => simple.parts().values.len(),
-                Definition::Vector(vector) => vector.parts().values.len(),
-            };
-            start = start.saturating_add(count);
+            if let Definition::Function(function) = definition {
+                let parts = function.parts();
+                let strings = address + 1;
+                entries.push(Entry {
+                    strings,
+                    parts,
+                    start,
+                })?;
+            }
+            address += u32::from(size_of(definition));
+            start = start.saturating_add(lines_in(definition));
         }
         let lines = program.names.lines.as_slice();
-        Ok(Tables {
-            functions,
-            starts,
-            lines,
-        })
+        Ok(Tables { entries, lines })
     }
 
-    /// The function of a call.
-    pub fn function(&self, call: Active) -> Option<&'a FunctionParts> {
-        self.functions.get(number_of(call)).copied()
-    }
-
-    /// The instruction that a call makes next.
-    pub fn instr(&self, call: Active) -> Option<Instr> {
-        match self.function(call) {
-            Some(function) => function.code.get(call.place).copied(),
-            None => None,
+    /// The function that has its string words there.
+    pub fn entry(&self, strings: u32) -> Option<Entry<'a>>
+        ensures { option_map placed_entry result ≡ function_at (entries_of self.now) strings }
+    {
+        for entry in &self.entries {
+            if entry.strings == strings {
+                return Some(*entry);
+            }
         }
+        None
     }
 
-    /// The line of an instruction, or 0 where none is known.
-    pub fn line(&self, call: Active, place: usize) -> u64 {
-        match self.starts.get(number_of(call)) {
-            Some(start) => self
-                .lines
-                .get(start.saturating_add(place))
-                .copied()
-                .unwrap_or(0),
+    /// The function of a name.
+    pub fn named(&self, name: &str) -> Option<Entry<'a>>
+        ensures { option_map placed_entry result ≡ function_named (entries_of self.now) name.now }
+    {
+        for entry in &self.entries {
+            if entry.parts.name.as_str() == name {
+                return Some(*entry);
+            }
+        }
+        None
+    }
+
+    /// The line of an instruction of a function, or 0 where none is known.
+    pub fn line(&self, entry: Option<Entry<'a>>, place: usize) -> u64 {
+        match entry {
+            Some(entry) => {
+                let index = entry.start.saturating_add(place);
+                self.lines.get(index).copied().unwrap_or(0)
+            }
             None => 0,
-        }
-    }
-
-    /// Whether a call is one of the function of this name, if there is one.
-    pub fn is_of(&self, call: Active, name: Option<&str>) -> bool {
-        match (name, self.function(call)) {
-            (None, _) => true,
-            (Some(name), Some(function)) => function.name.as_str() == name,
-            (Some(_), None) => false,
         }
     }
 }
 
-// The number of the function of a call, among those of the program.
-fn number_of(call: Active) -> usize {
-    usize::from(call.value.saturating_sub(FIRST_VALUE))
+// How many lines the instructions or initial values of a definition have.
+fn lines_in(definition: &Definition) -> usize {
+    match definition {
+        Definition::Function(function) => function.parts().code.len(),
+        Definition::Simple(simple) => simple.parts().values.len(),
+        Definition::Vector(vector) => vector.parts().values.len(),
+    }
 }

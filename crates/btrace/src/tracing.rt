@@ -1,21 +1,29 @@
 //! Tracing a program.
-ghost use Rattle.std.specs.Prelude.{◌≡◌, ◌+◌, ◌^◌, ◌<◌, ◌++◌, IfOk, OnOk};
+ghost use Rattle.std.specs.Prelude.{◌≡◌, ◌+◌, ◌^◌, ◌<◌, ◌≤◌, ◌++◌, IfOk, OnOk, drop, map, option_map};
+ghost use Rattle.blang.specs.Layout.{data_end, shape_of};
 ghost use Rattle.bmach.specs.Stepping.{machine_at};
 ghost use Rattle.bmach.specs.Turns.{TurnGives};
-ghost use Rattle.blist.specs.Listings.{Extends};
 ghost use Rattle.bword.specs.ByteEnds.{Kept, outgoing_of};
-ghost use Rattle.btrace.specs.Traces.{AddsStep, Shows, StepsGive, Traces, nothing_written, steps_from};
+ghost use Rattle.btrace.specs.Programs.{entries_of, functions_of};
+ghost use Rattle.btrace.specs.Traces.{AddsEnd, AddsIf, ShowsRows, StepsGive, Traces, is_wanted, nothing_written, steps_from, which_of};
 
-use crate::rows::{HEADING, change_of, push_change, push_step, push_trap, push_written};
+use crate::places::push_places;
+use crate::rows::{change_of, push_change, push_step, push_written};
 use crate::tables::Tables;
 use blang::Outcome;
 use blang::status::{self, Status};
-use blist::{Program, Text, read_program, tell};
+use blist::{Text, read_program, tell};
 use bmach::{Active, Stepper};
 use bpages::PagedStore;
 use brun::finish;
 use bword::{ByteIn, ByteOut, Edition, MemOut, Store};
 use std::alloc::{AllocError, Global};
+
+/// The columns of a trace.
+const HEADING: &[u8] = b"    step  function place  line  code         operands\n";
+
+/// What is said of a name that no function has.
+const UNNAMED: &[u8] = b"error: the source has no function of this NAME\n";
 
 /// Which steps are made, and which of them are shown.
 #[derive(Clone, Copy)]
@@ -24,13 +32,36 @@ pub struct Wanted<'a> {
     pub steps: u64,
     /// The number of the first one that is shown, from 1.
     pub from: u64,
-    /// The function whose steps are shown; all, if there is none.
+    /// The name of the function whose steps are shown; all, if there is none.
     pub function: Option<&'a str>,
 }
 
-/// Compiles a source and runs its program for so many steps at most, and writes each step.
+/// Which steps are shown.
+#[derive(Clone, Copy)]
+struct Which {
+    from: u64,
+    /// The address of the first string word of the function whose steps are shown.
+    function: Option<u32>,
+}
+
+impl Which {
+    // Whether a step is shown that comes behind so many.
+    fn shows(self, made: u64, call: Active) -> bool
+        requires { made + 1 < 2 ^ 64 }
+        ensures { result ≡ is_wanted self (made + 1) call.strings }
+    {
+        self.from <= made + 1
+            && match self.function {
+                None => true,
+                Some(strings) => call.strings == strings,
+            }
+    }
+}
+
+/// Compiles a source and runs its program for so many steps at most, and writes each step when the run is over.
 ///
-/// The status and the line are those of `go_edition`, but that all of the output goes into the trace.
+/// The status and the line are those of `go_edition`, but that all of the output goes into the trace. The status is
+/// 135 where no function has the name, and a line says so.
 pub fn trace<I: ByteIn, O: ByteOut, D: ByteOut>(
     alloc: Global,
     source: &[u8],
@@ -40,7 +71,7 @@ pub fn trace<I: ByteIn, O: ByteOut, D: ByteOut>(
     out: &mut O,
     diag: &mut D,
 ) -> Status
-    ensures traces { Traces edition source.now wanted.entry.steps (record {
+    ensures traces { Traces edition source.now wanted.entry.steps wanted.entry.from (option_map (λ n. n.now) wanted.entry.function) (record {
       input = I.incoming input.old;
       input_behind = I.incoming input.new;
       out = O.outgoing out.old;
@@ -56,6 +87,12 @@ pub fn trace<I: ByteIn, O: ByteOut, D: ByteOut>(
         Ok(program) => program,
         Err(status) => return status,
     };
+    let Ok(tables) = Tables::new(alloc, &program) else {
+        return status::MEMORY;
+    };
+    let Some(which) = which_of(&tables, wanted) else {
+        return tell(UNNAMED, status::WRONG_COMMAND, diag);
+    };
     let Ok(store) = PagedStore::new(alloc) else {
         return status::MEMORY;
     };
@@ -63,8 +100,20 @@ pub fn trace<I: ByteIn, O: ByteOut, D: ByteOut>(
         Ok(stepper) => stepper,
         Err(outcome) => return finish(outcome, diag),
     };
-    let mut text = Text::new(alloc);
-    let outcome = match trace_program(alloc, &program, stepper, wanted, &mut text, input) {
+    let Ok(mut text) = heading(alloc) else {
+        return status::MEMORY;
+    };
+    let mut written = MemOut::new(alloc);
+    let steps = wanted.steps;
+    let outcome = match trace_steps(
+        stepper,
+        &tables,
+        which,
+        steps,
+        &mut text,
+        input,
+        &mut written,
+    ) {
         Ok(outcome) => outcome,
         Err(_) => return status::MEMORY,
     };
@@ -75,42 +124,52 @@ pub fn trace<I: ByteIn, O: ByteOut, D: ByteOut>(
     finish(outcome, diag)
 }
 
-fn trace_program<S: Store + Drop, I: ByteIn>(
-    alloc: Global,
-    program: &Program,
-    stepper: Stepper<'_, S>,
-    wanted: Wanted<'_>,
-    text: &mut Text,
-    input: &mut I,
-) -> Result<Outcome, AllocError>
-    ensures gives { IfOk result (λ outcome. (output : Kept) × StepsGive stepper.entry wanted.entry.steps
-        (I.incoming input.old) (I.incoming input.new) nothing_written (outgoing_of output) outcome) }
-    ensures shows { OnOk result (Shows (steps_from stepper.entry) (I.incoming input.old) (I.incoming input.new) (text.old ++ HEADING.now) text.new) }
-    ensures same { I.lender input.new ≡ I.lender input.old }
+fn heading(alloc: Global) -> Result<Text, AllocError>
+    ensures { IfOk result (λ text. text ≡ HEADING.now) }
 {
-    let tables = Tables::new(alloc, program)?;
-    let mut written = MemOut::new(alloc);
+    let mut text = Text::new(alloc);
     text.push(HEADING)?;
-    trace_steps(stepper, &tables, wanted, text, input, &mut written)
+    Ok(text)
 }
 
-// Makes so many steps, or fewer where the run is over before, and adds the rows of those that are wanted.
+fn which_of(tables: &Tables<'_>, wanted: Wanted<'_>) -> Option<Which>
+    ensures { result ≡ which_of (entries_of tables.now) wanted.entry.from (option_map (λ n. n.now) wanted.entry.function) }
+{
+    let from = wanted.from;
+    match wanted.function {
+        None => Some(Which {
+            from,
+            function: None,
+        }),
+        Some(name) => match tables.named(name) {
+            None => None,
+            Some(entry) => Some(Which {
+                from,
+                function: Some(entry.strings),
+            }),
+        },
+    }
+}
+
+// Makes so many steps, or fewer where the run is over before, and adds the rows of those that are shown.
 fn trace_steps<S: Store + Drop, I: ByteIn>(
     mut stepper: Stepper<'_, S>,
     tables: &Tables<'_>,
-    wanted: Wanted<'_>,
+    which: Which,
+    steps: u64,
     text: &mut Text,
     input: &mut I,
     written: &mut MemOut,
 ) -> Result<Outcome, AllocError>
-    ensures gives { IfOk result (StepsGive stepper.entry wanted.entry.steps
+    ensures gives { IfOk result (StepsGive stepper.entry steps
         (I.incoming input.old) (I.incoming input.new) (outgoing_of written.old) (outgoing_of written.new)) }
-    ensures shows { OnOk result (Shows (steps_from stepper.entry) (I.incoming input.old) (I.incoming input.new) text.old text.new) }
+    ensures shows { IfOk result (λ outcome. ShowsRows (entries_of tables.now) which (steps_from stepper.entry) steps
+        (I.incoming input.old) (I.incoming input.new) outcome text.old text.new) }
     ensures same { I.lender input.new ≡ I.lender input.old }
 {
-    for made in 0..wanted.steps {
+    for made in 0..steps {
         let call = stepper.top();
-        let is_shown = made + 1 >= wanted.from && tables.is_of(call, wanted.function);
+        let is_shown = which.shows(made, call);
         match trace_step(&mut stepper, tables, is_shown, made, text, input, written)? {
             Ok(()) => {}
             Err(outcome) => {
@@ -119,6 +178,7 @@ fn trace_steps<S: Store + Drop, I: ByteIn>(
             }
         }
     }
+    push_end(text, tables, &stepper, stepper.top(), Outcome::Limit)?;
     Ok(Outcome::Limit)
 }
 
@@ -135,7 +195,8 @@ fn trace_step<S: Store + Drop, I: ByteIn>(
     requires { made + 1 < 2 ^ 64 }
     ensures gives { IfOk result (TurnGives stepper.old.image (machine_at stepper.old) (machine_at stepper.new)
         (I.incoming input.old) (I.incoming input.new) (outgoing_of written.old) (outgoing_of written.new)) }
-    ensures shows { OnOk result (AddsStep (made + 1) stepper.old.call text.old text.new) }
+    ensures shows { IfOk result (λ r. AddsIf is_shown (entries_of tables.now) (made + 1) stepper.old.call stepper.new.store
+        written.old.bytes written.new.bytes r text.old text.new) }
     ensures image { stepper.new.image ≡ stepper.old.image }
     ensures same { I.lender input.new ≡ I.lender input.old }
 {
@@ -145,13 +206,28 @@ fn trace_step<S: Store + Drop, I: ByteIn>(
     push_step(text, tables, stepper, made)?;
     let change = change_of(tables, stepper);
     let before = written.bytes().len();
-    let result = stepper.step(input, written);
-    push_change(text, stepper, change)?;
-    push_written(text, written.bytes().get(before..).unwrap_or(b""))?;
-    Ok(result)
+    match stepper.step(input, written) {
+        Ok(()) => {
+            push_change(text, stepper, change)?;
+            push_written(text, since(written, before))?;
+            Ok(Ok(()))
+        }
+        Err(outcome) => {
+            push_written(text, since(written, before))?;
+            Ok(Err(outcome))
+        }
+    }
 }
 
-// Adds where a run ended, if it was by a trap.
+// What was written behind so many bytes.
+fn since(written: &MemOut, before: usize) -> &[u8]
+    ensures { result.now ≡ drop before written.now.bytes }
+{
+    let bytes = written.bytes();
+    &bytes[before.min(bytes.len())..]
+}
+
+// Adds where a run ended, if it was by a trap or at the limit.
 fn push_end<S: Store + Drop>(
     text: &mut Text,
     tables: &Tables<'_>,
@@ -159,10 +235,10 @@ fn push_end<S: Store + Drop>(
     call: Active,
     outcome: Outcome,
 ) -> Result<(), AllocError>
-    ensures { OnOk result (Extends text.old text.new) }
+    ensures { OnOk result (AddsEnd (entries_of tables.now) call.strings call.place outcome text.old text.new) }
 {
     match outcome {
-        Outcome::Trap(_) => push_trap(text, tables, stepper, call),
-        _ => text.push(b""),
+        Outcome::Trap(_) | Outcome::Limit => push_places(text, tables, stepper, call),
+        Outcome::Exit(_) | Outcome::Device | Outcome::Memory => Ok(()),
     }
 }

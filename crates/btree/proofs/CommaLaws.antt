@@ -6,7 +6,8 @@ use Rattle.blang.specs.declared.token.Placed.{Placed}
 use Rattle.blang.specs.Trees.{mark, kept_tokens, comma_spelling, list_spelling}
 use Rattle.btree.specs.Reading.{Read, Got, Stop, Reader, ◌>>=◌, first, many}
 use Rattle.btree.specs.ExpressionReader.{comma, always}
-use Rattle.blang.specs.WellFormed.{IsNonempty, EachBehind}
+use Rattle.blang.specs.WellFormed.{IsNonempty}
+use Rattle.btree.specs.Fitting.{EachBehind}
 use Rattle.btree.specs.Commas.{comma_item, list_reader}
 use Rattle.btree.proofs.Fine.{Fine, then_fine, map_fine, enters, Loop, opened_loop, many_none, many_some, many_start, many_fine}
 use Rattle.btree.proofs.ExpressionFine.{Closer, closing}

@@ -3,12 +3,13 @@ use Rattle.std.proofs.Common.{◌≡◌, List, [], ◌∷◌, Bool, true, false,
 use Rattle.blang.specs.declared.token.Token.{Token}
 use Rattle.blang.specs.declared.token.Token.TheVariants as token
 use Rattle.blang.specs.declared.token.Placed.{Placed}
-use Rattle.blang.specs.Trees.{mark, Word, Number, Character, Empty, Ival, Ival_constant, Ival_text, Ival_name, Definition, Simple, Vector, Function}
+use Rattle.blang.specs.Trees.{mark, Identifier, Number, Character, Empty, Ival, Ival_constant, Ival_text, Ival_name, Definition, Simple, Vector, Function}
 use Rattle.btree.specs.Reading.{Got, ◌>>=◌, first, expect}
 use Rattle.btree.specs.ExpressionReader.{is_close_paren, is_close_bracket}
 use Rattle.btree.specs.Commas.{list_reader}
 use Rattle.btree.specs.StatementReader.{is_semicolon, name, size, statement}
-use Rattle.blang.specs.WellFormed.{values_words, nesting_limit}
+use Rattle.blang.specs.WellFormed.{nesting_limit}
+use Rattle.btree.specs.Fitting.{values_words}
 use Rattle.btree.specs.DefinitionReader.{ival, valued, vector, function_body, function, behind_name_at, behind_name, definition}
 use Rattle.btree.proofs.Fine.{Near, Any, Fine, Start, bind_fine, shift, stuck, same, got_fine, map_fine, expect_then, expect_start, closed_fine}
 use Rattle.btree.proofs.ExpressionFine.{one}
@@ -55,19 +56,19 @@ valued_fine_at made ts false h = same closing (valued made) (λ x. list_reader i
 valued_fine : (made : List Ival → Definition) (ts : List Placed) → Fine Closer (valued made) ts
 valued_fine made ts = valued_fine_at made ts (is_semicolon (first ts)) refl
 
-vector_fine : (w : Word) (ts : List Placed) → Fine Closer (vector w) ts
+vector_fine : (w : Identifier) (ts : List Placed) → Fine Closer (vector w) ts
 vector_fine w ts = bind_fine closing E.Closer size (λ n r. expect is_close_bracket r >>= λ o. valued (Vector w n)) safer (λ n. expect_start closing E.Closer is_close_bracket token.CloseBracket refl refl (valued (Vector w n)) (valued_start (Vector w n))) ts (size_fine_at (first ts) ts refl) (λ n u r h g. expect_then closing is_close_bracket token.CloseBracket refl refl (valued (Vector w n)) (valued_start (Vector w n)) (valued_fine (Vector w n)) r)
 
-body_start : (w : Word) (parameters : List Word) → Start closing Any (function_body w parameters)
+body_start : (w : Identifier) (parameters : List Identifier) → Start closing Any (function_body w parameters)
 body_start w parameters = record { with_ = mark token.Semicolon ∷ []; value = Function w parameters Empty; done = λ k h. refl; front = λ k h. tt }
 
-body_fine : (w : Word) (parameters : List Word) (ts : List Placed) → Fine Closer (function_body w parameters) ts
+body_fine : (w : Identifier) (parameters : List Identifier) (ts : List Placed) → Fine Closer (function_body w parameters) ts
 body_fine w parameters ts = map_fine closing (statement nesting_limit 0) (Function w parameters) ts (statement_fine nesting_limit 0 ts)
 
-function_start : (w : Word) → Start closing Any (function w)
+function_start : (w : Identifier) → Start closing Any (function w)
 function_start w = record { with_ = mark token.CloseParen ∷ mark token.Semicolon ∷ []; value = Function w [] Empty; done = λ k h. refl; front = λ k h. tt }
 
-function_fine_at : (w : Word) (ts : List Placed) (b : Bool) → is_close_paren (first ts) ≡ b → Fine Closer (function w) ts
+function_fine_at : (w : Identifier) (ts : List Placed) (b : Bool) → is_close_paren (first ts) ≡ b → Fine Closer (function w) ts
 function_fine_at w [] true h = cc
 function_fine_at w (t ∷ ts) true h = shift closing (function w) (function_body w []) t (λ x. rw h refl) ts (body_fine w [] ts)
 function_fine_at w ts false h = same closing (function w) (λ x. list_reader (λ before. name) x >>= λ parameters r. expect is_close_paren r >>= λ o. function_body w parameters) ts near (function_start w)
@@ -77,22 +78,22 @@ function_fine_at w ts false h = same closing (function w) (λ x. list_reader (λ
     near new (inl n) = rw (ap is_close_paren n ∙ h) refl
     near new (inr n) = rw (no_paren (first new) n) refl
 
-behind_start : (Safe : Token → Type 0) → Safe token.Semicolon → (w : Word) → Start closing Safe (behind_name w)
+behind_start : (Safe : Token → Type 0) → Safe token.Semicolon → (w : Identifier) → Start closing Safe (behind_name w)
 behind_start Safe safe w = record { with_ = mark token.Semicolon ∷ []; value = Simple w []; done = λ k h. refl; front = λ k h. safe }
 
-closer_is_valued : (w : Word) (t : Token) (ts : List Placed) → Closer t → behind_name_at w t ts ≡ valued (Simple w) ts
+closer_is_valued : (w : Identifier) (t : Token) (ts : List Placed) → Closer t → behind_name_at w t ts ≡ valued (Simple w) ts
 closer_is_valued w token.CloseBrace ts h = refl
 closer_is_valued w token.End ts h = refl
 closer_is_valued w _ ts h = cc
 
-other : (w : Word) (t : Token) → ((ts : List Placed) → behind_name_at w t ts ≡ valued (Simple w) ts) → (ts : List Placed) → first ts ≡ t → Fine Closer (behind_name w) ts
+other : (w : Identifier) (t : Token) → ((ts : List Placed) → behind_name_at w t ts ≡ valued (Simple w) ts) → (ts : List Placed) → first ts ≡ t → Fine Closer (behind_name w) ts
 other w t is ts e = same closing (behind_name w) (valued (Simple w)) ts near (behind_start Any tt w) (valued_fine (Simple w) ts)
   where
     near : (new : List Placed) → Near Closer ts new → behind_name w new ≡ valued (Simple w) new
     near new (inl n) = ap (λ x. behind_name_at w x new) (n ∙ e) ∙ is new
     near new (inr n) = closer_is_valued w (first new) new n
 
-behind_fine_at : (w : Word) (t : Token) (ts : List Placed) → first ts ≡ t → Fine Closer (behind_name w) ts
+behind_fine_at : (w : Identifier) (t : Token) (ts : List Placed) → first ts ≡ t → Fine Closer (behind_name w) ts
 behind_fine_at w token.OpenBracket [] e = cc
 behind_fine_at w token.OpenBracket (t ∷ ts) e = shift closing (behind_name w) (vector w) t (λ x. ap (λ y. behind_name_at w y (t ∷ x)) e) ts (vector_fine w ts)
 behind_fine_at w token.OpenParen [] e = cc

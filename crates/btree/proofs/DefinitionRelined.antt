@@ -7,10 +7,12 @@ use Rattle.blang.specs.declared.token.Token.TheVariants as token
 use Rattle.blang.specs.declared.token.Placed.{Placed}
 use Rattle.blang.specs.Trees.{mark, kept_tokens, bare, Constant, Number, Character, comma_spelling, list_spelling, size_spelling, name_spelling, spell_statement, Ival, Ival_constant, Ival_text, Ival_name, Definition, Simple, Vector, Function, ival_spelling, spell_values, spell_definition}
 use Rattle.blang.specs.Cut.{placed, string_token}
-use Rattle.blang.specs.WellFormed.{EachBehind, ival_words, values_words, IvalFits, nesting_limit, IsFormed}
-use Rattle.btree.specs.Definition.{is_open}
+use Rattle.blang.specs.WellFormed.{nesting_limit, IsFormed}
+use Rattle.btree.specs.Fitting.{EachBehind, ival_words, values_words, IvalFits}
+use Rattle.btree.specs.DefinitionReader.{is_open_definition}
 use Rattle.btree.proofs.Relined.{cut_token, cut_append, nothing_kept, Items, list_twin}
 use Rattle.btree.proofs.StatementRelined.{name_twin, size_kept, StatementTwin, statement_twin}
+use Rattle.btree.proofs.Fitting.{formed_in, in_formed}
 
 record IvalTwin (v : Ival) (ps : List Placed) : Type 0 where
   tree : Ival
@@ -77,21 +79,21 @@ pub record DefinitionTwin (d : Definition) (ps : List Placed) : Type 0 where
   pub tree : Definition
   pub spelled : spell_definition tree ≡ kept_tokens ps
   pub formed : IsFormed d → IsFormed tree
-  pub same_open : is_open tree ≡ is_open d
+  pub same_open : is_open_definition tree ≡ is_open_definition d
 
 pub definition_twin : (d : Definition) (ps : List Placed) → map bare (spell_definition d) ≡ map bare ps → DefinitionTwin d ps
 definition_twin (Simple w values) ps h = cut_token (token.Name w.text) w.line (spell_values values) ps h (λ line r hr k.
     let t : ValuesTwin spell_values values r = values_twin values r hr in
     let s : spell_values t.trees ≡ kept_tokens r = t.spelled in
-    record { tree = Simple (record { text = w.text; line = line }) t.trees; spelled = let e : placed (token.Name w.text) line ∷ spell_values t.trees ≡ kept_tokens ps = cc in e; formed = λ f. t.fits [] [] refl f; same_open = refl })
+    record { tree = Simple (record { text = w.text; line = line }) t.trees; spelled = let e : placed (token.Name w.text) line ∷ spell_values t.trees ≡ kept_tokens ps = cc in e; formed = λ f. in_formed (Simple (record { text = w.text; line = line }) t.trees) (t.fits [] [] refl (formed_in (Simple w values) f)); same_open = refl })
 definition_twin (Vector w size values) ps h = cut_token (token.Name w.text) w.line (mark token.OpenBracket ∷ (size_spelling size ++ (mark token.CloseBracket ∷ spell_values values))) ps h (λ line r hr k. cut_token token.OpenBracket 0 (size_spelling size ++ (mark token.CloseBracket ∷ spell_values values)) r hr (λ line2 r2 h2 k2. cut_append (size_spelling size) (mark token.CloseBracket ∷ spell_values values) r2 h2 (λ l3 r3 hl3 h3 k3. cut_token token.CloseBracket 0 (spell_values values) r3 h3 (λ line4 r4 h4 k4.
     let n : size_spelling size ≡ kept_tokens l3 = size_kept size l3 hl3 in
     let t : ValuesTwin spell_values values r4 = values_twin values r4 h4 in
     let s : spell_values t.trees ≡ kept_tokens r4 = t.spelled in
-    record { tree = Vector (record { text = w.text; line = line }) size t.trees; spelled = let e : placed (token.Name w.text) line ∷ mark token.OpenBracket ∷ (size_spelling size ++ (mark token.CloseBracket ∷ spell_values t.trees)) ≡ kept_tokens ps = cc in e; formed = λ f. t.fits [] [] refl f; same_open = refl }))))
+    record { tree = Vector (record { text = w.text; line = line }) size t.trees; spelled = let e : placed (token.Name w.text) line ∷ mark token.OpenBracket ∷ (size_spelling size ++ (mark token.CloseBracket ∷ spell_values t.trees)) ≡ kept_tokens ps = cc in e; formed = λ f. in_formed (Vector (record { text = w.text; line = line }) size t.trees) (t.fits [] [] refl (formed_in (Vector w size values) f)); same_open = refl }))))
 definition_twin (Function w parameters body) ps h = cut_token (token.Name w.text) w.line (mark token.OpenParen ∷ (list_spelling name_spelling parameters ++ (mark token.CloseParen ∷ spell_statement body))) ps h (λ line r hr k. cut_token token.OpenParen 0 (list_spelling name_spelling parameters ++ (mark token.CloseParen ∷ spell_statement body)) r hr (λ line2 r2 h2 k2. cut_append (list_spelling name_spelling parameters) (mark token.CloseParen ∷ spell_statement body) r2 h2 (λ l3 r3 hl3 h3 k3. cut_token token.CloseParen 0 (spell_statement body) r3 h3 (λ line4 r4 h4 k4.
     let p : Items name_spelling parameters l3 = list_twin name_spelling name_twin parameters l3 hl3 in
     let t : StatementTwin body r4 = statement_twin body r4 h4 in
     let s1 : list_spelling name_spelling p.trees ≡ kept_tokens l3 = p.spelled in
     let s2 : spell_statement t.tree ≡ kept_tokens r4 = t.spelled in
-    record { tree = Function (record { text = w.text; line = line }) p.trees t.tree; spelled = let e : placed (token.Name w.text) line ∷ mark token.OpenParen ∷ (list_spelling name_spelling p.trees ++ (mark token.CloseParen ∷ spell_statement t.tree)) ≡ kept_tokens ps = cc in e; formed = λ f. t.alike.sits nesting_limit 0 f; same_open = t.alike.same_open }))))
+    record { tree = Function (record { text = w.text; line = line }) p.trees t.tree; spelled = let e : placed (token.Name w.text) line ∷ mark token.OpenParen ∷ (list_spelling name_spelling p.trees ++ (mark token.CloseParen ∷ spell_statement t.tree)) ≡ kept_tokens ps = cc in e; formed = λ f. in_formed (Function (record { text = w.text; line = line }) p.trees t.tree) (t.alike.sits nesting_limit 0 (formed_in (Function w parameters body) f)); same_open = t.alike.same_open }))))

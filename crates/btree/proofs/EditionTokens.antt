@@ -13,7 +13,7 @@ use Rattle.blang.specs.declared.token.Keyword.{Keyword}
 use Rattle.blang.specs.declared.token.Token.{Token}
 use Rattle.blang.specs.declared.token.Token.TheVariants as token
 use Rattle.blang.specs.declared.token.Placed.{Placed}
-use Rattle.blang.specs.Cut.{Piece, Space, Word, Quoted, Open, Starred, Closed, Wrong, Past, is_blank, is_digit, is_digit_of, value_of, base_of, is_text, alone, piece_when, first_keywords, keyword_of, keyword_or_name, word_of, number_when, number_in, number_of, after_close, comment_of, quoted, constant_of, character_token, string_token, operator_of, assignment_of, others, other_of, fixed_of, fixed_or_stray, whole, longest, line_after, is_last, piece_first, cut, tokens_from}
+use Rattle.blang.specs.Cut.{Piece, Space, Word, Quoted, Open, Starred, Closed, Wrong, Past, is_blank, is_digit, is_digit_of, digits_value, base_of, is_text, alone, piece_when, first_keywords, keyword_of, keyword_or_name, word_token, number_when, number_in, number_token, after_close, comment_of, quoted, quoted_constant, character_token, string_token, operator_of, assignment_of, others, other_of, fixed_of, fixed_or_stray, whole, longest, line_after, is_last, piece_first, cut, tokens_from}
 use Rattle.blang.specs.Trees.{bare}
 use Rattle.btree.specs.Editions.{is_new, AllOld, TokensOfOne}
 
@@ -35,8 +35,8 @@ old_keyword_of : (text : List ℕ) → IfSome (keyword_of editions.One text) IsO
 unfolding keyword_of
 old_keyword_of text = All-lookup IsOldKeyword (is_text text) first_keywords (All-from_recursion (λ e. IsOldKeyword e.1) first_keywords (refl, (refl, (refl, (refl, (refl, (refl, (refl, (refl, (refl, tt))))))))))
 
-old_word_of : (text : List ℕ) → IsOldToken (word_of editions.One text)
-unfolding word_of
+old_word_of : (text : List ℕ) → IsOldToken (word_token editions.One text)
+unfolding word_token
 old_word_of text =
     cond_both (nat_le (length text) 8) _ _ IsOldToken (λ l. old_keyword_or_name text (keyword_of editions.One text) (old_keyword_of text)) (λ l. refl)
 
@@ -48,12 +48,12 @@ old_number_when : (b : Bool) (n : ℕ) → IsOldToken (number_when b n)
 old_number_when false n = refl
 old_number_when true n = cond_both (nat_le n 65535) (token.Number n) _ IsOldToken (λ l. refl) (λ l. refl)
 
-old_number_of : (digits : List ℕ) → IsOldToken (number_of digits)
+old_number_of : (digits : List ℕ) → IsOldToken (number_token digits)
 unfolding number_in
 old_number_of [] = refl
-old_number_of (b ∷ bs) = old_number_when (list_all (is_digit_of (base_of b)) (b ∷ bs)) (value_of (base_of b) (b ∷ bs))
+old_number_of (b ∷ bs) = old_number_when (list_all (is_digit_of (base_of b)) (b ∷ bs)) (digits_value (base_of b) (b ∷ bs))
 
-old_constant_of : (constant : List ℕ → Token) (q : Quoted) → ((characters : List ℕ) → IsOldToken (constant characters)) → IsOldPiece (constant_of constant q)
+old_constant_of : (constant : List ℕ → Token) (q : Quoted) → ((characters : List ℕ) → IsOldToken (constant characters)) → IsOldPiece (quoted_constant constant q)
 old_constant_of constant (Closed characters) c = c characters
 old_constant_of constant (Open characters) c = refl
 old_constant_of constant (Starred characters) c = refl
@@ -114,8 +114,8 @@ unfolding whole
 old_whole [] = refl
 old_whole (b ∷ bs) =
     cond_both (is_blank b) _ _ IsOldPiece (λ _. space_alone bs)
-    (λ _. cond_both (is_name_start b) _ _ IsOldPiece (λ s. old_piece_when (list_all is_name_byte bs) (word_of editions.One (b ∷ bs)) (old_word_of (b ∷ bs)))
-    (λ _. cond_both (is_digit b) _ _ IsOldPiece (λ _. old_piece_when (list_all is_digit bs) (number_of (b ∷ bs)) (old_number_of (b ∷ bs)))
+    (λ _. cond_both (is_name_start b) _ _ IsOldPiece (λ s. old_piece_when (list_all is_name_byte bs) (word_token editions.One (b ∷ bs)) (old_word_of (b ∷ bs)))
+    (λ _. cond_both (is_digit b) _ _ IsOldPiece (λ _. old_piece_when (list_all is_digit bs) (number_token (b ∷ bs)) (old_number_of (b ∷ bs)))
     (λ _. cond_both (b == 39) _ _ IsOldPiece (λ _. old_constant_of character_token (quoted 39 2 bs) old_character_token)
     (λ _. cond_both (b == 34) _ _ IsOldPiece (λ _. old_constant_of string_token (quoted 34 254 bs) (λ characters. refl))
     (λ _. cond_both (is_text (take 2 (b ∷ bs)) (codes "/*")) _ _ IsOldPiece (λ _. old_comment_of (after_close (drop 1 bs)))

@@ -5,7 +5,8 @@ use Rattle.blang.specs.declared.token.Token.TheVariants as token
 use Rattle.blang.specs.declared.token.Placed.{Placed}
 use Rattle.blang.specs.Trees.{mark, Expr, Arguments, Number, Named, Literal, Text, Grouped, Indexed, Called, Postfixed, Prefixed, Binary, Conditional, Assigned, No_arguments, Another, name_token, prefix_token, postfix_token, spell, spell_arguments, list_spelling, Stmt, Headed, Compound, If, IfElse, While, Switch, Goto, Break, Return, ReturnValue, Evaluate, Empty, Stmts, Nothing, More, keyword_mark, name_spelling, spell_heading, spell_condition, spell_statement, spell_body, Definition, Simple, Vector, Function, spell_definition, spell_all}
 use Rattle.blang.specs.Cut.{placed}
-use Rattle.blang.specs.WellFormed.{words, argument_words, rank, or_rank, conditional_rank, rvalue_rank, Fits, ArgumentsFit, is_open, statement_words, body_words, Sits, AllSit}
+use Rattle.blang.specs.WellFormed.{rank, or_rank, conditional_rank, rvalue_rank, is_open}
+use Rattle.btree.specs.Fitting.{words, argument_words, Fits, ArgumentsFit, statement_words, body_words, Sits, AllSit}
 use Rattle.btree.specs.Levels.{Leveled, on, tokens, levels, argument_levels, condition_levels, statement_levels, body_levels, definition_levels, program_levels, IsFormedIn, AllFormedIn, NoneAbove, CanBeEnded}
 use Rattle.btree.proofs.CommaLaws.{append-nil}
 use Rattle.btree.proofs.ExpressionSound.{looser}

@@ -7,12 +7,12 @@ use Rattle.bword.specs.declared.operators.BinOp.TheVariants as op
 use Rattle.blang.specs.declared.token.Token.{Token}
 use Rattle.blang.specs.declared.token.Token.TheVariants as token
 use Rattle.blang.specs.declared.token.Placed.{Placed}
-use Rattle.blang.specs.Trees.{mark, Word, Constant, Number, Character, Expr, Arguments, PrefixOp, Negate, Not, Indirection, Address, PreIncrement, PreDecrement, PostfixOp, PostIncrement, PostDecrement, Named, Literal, Text, Grouped, Indexed, Called, Postfixed, Prefixed, Binary, Conditional, Assigned, No_arguments, Another, prefix_token, postfix_token, spell, spell_arguments}
+use Rattle.blang.specs.Trees.{mark, Identifier, Constant, Number, Character, Expr, Arguments, PrefixOp, Negate, Not, Indirection, Address, PreIncrement, PreDecrement, PostfixOp, PostIncrement, PostDecrement, Named, Literal, Text, Grouped, Indexed, Called, Postfixed, Prefixed, Binary, Conditional, Assigned, No_arguments, Another, prefix_token, postfix_token, spell, spell_arguments}
 use Rattle.blang.specs.Cut.{placed}
-use Rattle.blang.specs.WellFormed.{words, argument_words, rank, or_rank, conditional_rank, rvalue_rank, IsPostfix, Deeper, Fits, ArgumentsFit}
-use Rattle.btree.specs.Expression.{is_operand}
+use Rattle.blang.specs.WellFormed.{rank, or_rank, conditional_rank, rvalue_rank, IsPostfix}
+use Rattle.btree.specs.Fitting.{words, argument_words, Deeper, Fits, ArgumentsFit}
 use Rattle.btree.specs.Reading.{Got, Reader, ◌>>=◌, first, expect, many}
-use Rattle.btree.specs.ExpressionReader.{is_close_paren, is_close_bracket, is_question, is_colon, prefix_op, having_rank, op_at, Suffix, Index, Call, Step, suffix, comma, always, Choice, Rvalue, another, arguments, postfix_with, postfix, operand, operation, chain, conditional, assigns, rvalue_from, inner, reader}
+use Rattle.btree.specs.ExpressionReader.{is_close_paren, is_close_bracket, is_question, is_colon, prefix_op, having_rank, op_at, Suffix, Index, Call, Step, suffix, comma, always, Choice, Rvalue, another, arguments, postfix_with, postfix, operand, operation, chain, conditional, assigns, rvalue_from, inner, reader, is_operand}
 use Rattle.btree.proofs.Fine.{Loop, many_none, many_some}
 use Rattle.btree.proofs.ExpressionFine.{closing, Good, has_room, suffix_loop, comma_loop, op_loop, reader_fine, reader_one}
 
@@ -218,7 +218,7 @@ below_none t h = record { no_suffix = h; no_operator = none }
 op_found : (op : BinOp) (r : ℕ) → rank op ≡ r → op_at r (token.Operator op) ≡ Some op
 op_found op r e = ap (λ b. if b then Some op else None) (eq-eqb (rank op) r e)
 
-reads_named : (w : Word) → Reads (Named w)
+reads_named : (w : Identifier) → Reads (Named w)
 reads_named w = reads_post (Named w) tt (λ r room off f. f) (λ room off f rest. refl)
 
 reads_literal : (c : Constant) → Reads (Literal c)

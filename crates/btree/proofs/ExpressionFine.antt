@@ -4,10 +4,11 @@ use Rattle.bword.specs.declared.operators.BinOp.{BinOp}
 use Rattle.blang.specs.declared.token.Token.{Token}
 use Rattle.blang.specs.declared.token.Token.TheVariants as token
 use Rattle.blang.specs.declared.token.Placed.{Placed}
-use Rattle.blang.specs.Trees.{mark, Word, name_token, Expr, Arguments, PrefixOp, Number, Character, Named, Literal, Text, Grouped, Indexed, Called, Postfixed, Prefixed, Binary, Conditional, Assigned, No_arguments, Another}
-use Rattle.blang.specs.WellFormed.{words, argument_words, or_rank}
-use Rattle.btree.specs.Reading.{Got, Stop, Reader, ◌>>=◌, first, line_of, expect, many}
-use Rattle.btree.specs.ExpressionReader.{is_close_paren, is_close_bracket, is_question, is_colon, prefix_op, op_at, Suffix, Index, Call, Step, suffix, comma, always, Kind, Operand, Choice, Rvalue, Inner, group, primary, another, arguments, call, postfix_with, postfix, prefixed, operand, operation, chain, choices, conditional, assigns, assigned, rvalue_from, read_at, inner, reader}
+use Rattle.blang.specs.Trees.{mark, Identifier, name_token, Expr, Arguments, PrefixOp, Number, Character, Named, Literal, Text, Grouped, Indexed, Called, Postfixed, Prefixed, Binary, Conditional, Assigned, No_arguments, Another}
+use Rattle.blang.specs.WellFormed.{or_rank}
+use Rattle.btree.specs.Fitting.{words, argument_words}
+use Rattle.btree.specs.Reading.{Got, Stop, Reader, ◌>>=◌, first, line_ahead, expect, many}
+use Rattle.btree.specs.ExpressionReader.{is_close_paren, is_close_bracket, is_question, is_colon, prefix_op, op_at, Suffix, Index, Call, Step, suffix, comma, always, ExpressionKind, Operand, Choice, Rvalue, Inner, group, primary, another, arguments, call, postfix_with, postfix, prefixed, operand, operation, chain, choices, conditional, assigns, assigned, rvalue_from, read_at, inner, reader}
 use Rattle.btree.proofs.Fine.{Near, Any, Fine, Closing, Start, startable, then_fine, shift, idle, stuck, same, same_eats, got_fine, map_fine, expect_then, expect_start, closed_fine, closed_eats, Opened, stops, enters, opened_fine, Loop, opened_loop, many_none, many_start, many_fine}
 
 -- a token that ends each expression, whatever came before
@@ -36,8 +37,8 @@ one_tree = Literal (Number 1)
 
 -- What is one level deeper reads on, and an expression of one token is read there.
 pub record Good (inner : Inner) : Type 0 where
-  pub fine : (kind : Kind) (off : ℕ) (ts : List Placed) → Fine Closer (inner.read kind off) ts
-  pub one_is : (kind : Kind) (off : ℕ) (k : List Placed) → Closer (first k) → inner.read kind off (one ∷ k) ≡ Got one_tree k
+  pub fine : (kind : ExpressionKind) (off : ℕ) (ts : List Placed) → Fine Closer (inner.read kind off) ts
+  pub one_is : (kind : ExpressionKind) (off : ℕ) (k : List Placed) → Closer (first k) → inner.read kind off (one ∷ k) ≡ Got one_tree k
 
 -- There is no room, or room in which everything reads on.
 pub data Room (inner : Inner) : Type 0 where
@@ -130,7 +131,7 @@ module _ (inner : Inner) (room : Room inner) where
   prefix_opened off op t = go room
     where
       go : Room inner → Opened closing (prefixed inner off op) t
-      go (full st) = stops (λ ts. ap (λ x. x >>= λ o r. inner.read Operand off r >>= λ e. Got (Prefixed op (line_of ts) e)) (st ts))
+      go (full st) = stops (λ ts. ap (λ x. x >>= λ o r. inner.read Operand off r >>= λ e. Got (Prefixed op (line_ahead ts) e)) (st ts))
       go (some eq good) = enters (λ r. inner.read Operand off r >>= λ e. Got (Prefixed op t.line e)) (λ ts. ap (λ x. x >>= λ o r. inner.read Operand off r >>= λ e. Got (Prefixed op t.line e)) (eq t ts)) (λ ts. map_fine closing (inner.read Operand off) (λ e. Prefixed op t.line e) ts (good.fine Operand off ts))
 
   operand_fine_at : (off : ℕ) (ts : List Placed) (o : Option PrefixOp) → prefix_op (first ts) ≡ o → Fine Closer (operand inner off) ts
@@ -203,7 +204,7 @@ module _ (inner : Inner) (room : Room inner) where
   assign_opened off e op t = go room
     where
       go : Room inner → Opened closing (assigned inner off e op) t
-      go (full st) = stops (λ ts. ap (λ x. x >>= λ o r. inner.read Rvalue (off + words e) r >>= λ f. Got (Assigned op (line_of ts) e f)) (st ts))
+      go (full st) = stops (λ ts. ap (λ x. x >>= λ o r. inner.read Rvalue (off + words e) r >>= λ f. Got (Assigned op (line_ahead ts) e f)) (st ts))
       go (some eq good) = enters (λ r. inner.read Rvalue (off + words e) r >>= λ f. Got (Assigned op t.line e f)) (λ ts. ap (λ x. x >>= λ o r. inner.read Rvalue (off + words e) r >>= λ f. Got (Assigned op t.line e f)) (eq t ts)) (λ ts. map_fine closing (inner.read Rvalue (off + words e)) (λ f. Assigned op t.line e f) ts (good.fine Rvalue (off + words e) ts))
 
   rvalue_from_fine_at : (off : ℕ) (e : Expr) (ts : List Placed) (o : Option (Option BinOp)) → assigns e (first ts) ≡ o → Fine Closer (rvalue_from inner off e) ts
@@ -214,12 +215,12 @@ module _ (inner : Inner) (room : Room inner) where
       near new (inl n) = rw (ap (assigns e) n ∙ h) refl
       near new (inr n) = rw (no_assign e (first new) n) refl
 
-  read_good : (kind : Kind) (off : ℕ) (ts : List Placed) → Fine Closer (read_at inner kind off) ts
+  read_good : (kind : ExpressionKind) (off : ℕ) (ts : List Placed) → Fine Closer (read_at inner kind off) ts
   read_good Operand off ts = chain_fine 0 off ts
   read_good Choice off ts = then_fine closing (chain inner or_rank off) (conditional inner off) (conditional_start off) ts (chain_fine or_rank off ts) (λ a r. conditional_fine_at off a r (is_question (first r)) refl)
   read_good Rvalue off ts = then_fine closing (chain inner or_rank off) (rvalue_from inner off) (rvalue_from_start off) ts (chain_fine or_rank off ts) (λ a r. rvalue_from_fine_at off a r (assigns a (first r)) refl)
 
-  read_one : (kind : Kind) (off : ℕ) (k : List Placed) → Closer (first k) → read_at inner kind off (one ∷ k) ≡ Got one_tree k
+  read_one : (kind : ExpressionKind) (off : ℕ) (k : List Placed) → Closer (first k) → read_at inner kind off (one ∷ k) ≡ Got one_tree k
   read_one Operand off k h = operand_one off k h
   read_one Choice off k h = ap (λ x. x >>= conditional inner off) (chain_one or_rank off k h) ∙ (conditional_start off one_tree).done k h
   read_one Rvalue off k h = ap (λ x. x >>= rvalue_from inner off) (chain_one or_rank off k h) ∙ (rvalue_from_start off one_tree).done k h
@@ -228,13 +229,13 @@ pub has_room : (k : ℕ) → Room (inner k)
 has_room zero = full (λ ts. refl)
 has_room (suc k) = some (λ t ts. refl) (record { fine = read_good (inner k) (has_room k); one_is = read_one (inner k) (has_room k) })
 
-pub reader_fine : (k : ℕ) (kind : Kind) (off : ℕ) (ts : List Placed) → Fine Closer (reader k kind off) ts
+pub reader_fine : (k : ℕ) (kind : ExpressionKind) (off : ℕ) (ts : List Placed) → Fine Closer (reader k kind off) ts
 reader_fine k kind off ts = read_good (inner k) (has_room k) kind off ts
 
-pub reader_one : (k : ℕ) (kind : Kind) (off : ℕ) (ts : List Placed) → Closer (first ts) → reader k kind off (one ∷ ts) ≡ Got one_tree ts
+pub reader_one : (k : ℕ) (kind : ExpressionKind) (off : ℕ) (ts : List Placed) → Closer (first ts) → reader k kind off (one ∷ ts) ≡ Got one_tree ts
 reader_one k kind off ts h = read_one (inner k) (has_room k) kind off ts h
 
-module _ (k off : ℕ) (w : Word) where
+module _ (k off : ℕ) (w : Identifier) where
   chain_from_name : (r : ℕ) (ts : List Placed) → Fine Closer (λ x. chain (inner k) r off (name_token w ∷ x)) ts
   chain_from_name zero ts = many_fine closing (always suffix) (postfix_with (inner k) off) (suffix_loop (inner k) (has_room k) off) (Named w) ts
   chain_from_name (suc r) ts =

@@ -4,9 +4,10 @@ use Rattle.std.specs.Prelude.{map}
 use Rattle.bword.specs.declared.operators.BinOp.{BinOp}
 use Rattle.blang.specs.declared.token.Token.TheVariants as token
 use Rattle.blang.specs.declared.token.Placed.{Placed}
-use Rattle.blang.specs.Trees.{mark, kept, kept_tokens, bare, Word, Constant, Number, Character, Expr, Arguments, PrefixOp, PostfixOp, PostIncrement, PostDecrement, Named, Literal, Text, Grouped, Indexed, Called, Postfixed, Prefixed, Binary, Conditional, Assigned, No_arguments, Another, prefix_token, postfix_token, comma_behind, spell, spell_arguments}
+use Rattle.blang.specs.Trees.{mark, kept, kept_tokens, bare, Identifier, Constant, Number, Character, Expr, Arguments, PrefixOp, PostfixOp, PostIncrement, PostDecrement, Named, Literal, Text, Grouped, Indexed, Called, Postfixed, Prefixed, Binary, Conditional, Assigned, No_arguments, Another, prefix_token, postfix_token, comma_behind, spell, spell_arguments}
 use Rattle.blang.specs.Cut.{placed, string_token}
-use Rattle.blang.specs.WellFormed.{words, argument_words, rank, or_rank, conditional_rank, rvalue_rank, IsPostfix, Deeper, Fits, ArgumentsFit}
+use Rattle.blang.specs.WellFormed.{rank, or_rank, conditional_rank, rvalue_rank, IsPostfix}
+use Rattle.btree.specs.Fitting.{words, argument_words, Deeper, Fits, ArgumentsFit}
 use Rattle.btree.proofs.ExpressionSound.{prefix_kept}
 use Rattle.btree.proofs.Relined.{cut_token, cut_append, nothing_kept}
 
@@ -44,7 +45,7 @@ pub deeper_at : {e e2 : Expr} → Alike e e2 → (r room off off2 : ℕ) → off
 deeper_at a r zero off off2 h f = f
 deeper_at a r (suc k) off off2 h f = fits_at a r k off off2 h f
 
-named_twin : (w : Word) → HasTwin (Named w)
+named_twin : (w : Identifier) → HasTwin (Named w)
 named_twin w ps h = cut_token (token.Name w.text) w.line [] ps h (λ line r hr k.
     let n : kept_tokens r ≡ [] = nothing_kept r hr in
     record { tree = Named (record { text = w.text; line = line }); spelled = let e : placed (token.Name w.text) line ∷ [] ≡ kept_tokens ps = cc in e; alike = record { fits = λ r room off f. f; same_words = refl; postfix = λ p. p } })

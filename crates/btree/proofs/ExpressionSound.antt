@@ -9,10 +9,10 @@ use Rattle.blang.specs.declared.token.Token.TheVariants as token
 use Rattle.blang.specs.declared.token.Placed.{Placed}
 use Rattle.blang.specs.Trees.{mark, kept, kept_tokens, Expr, Arguments, PrefixOp, Negate, Not, Indirection, Address, PreIncrement, PreDecrement, PostIncrement, PostDecrement, Named, Literal, Text, Grouped, Indexed, Called, Postfixed, Prefixed, Binary, Conditional, Assigned, No_arguments, Another, prefix_token, comma_behind, spell, spell_arguments}
 use Rattle.blang.specs.Cut.{placed}
-use Rattle.blang.specs.WellFormed.{words, argument_words, rank, or_rank, conditional_rank, rvalue_rank, IsPostfix, Deeper, Fits, ArgumentsFit}
-use Rattle.btree.specs.Expression.{is_operand}
+use Rattle.blang.specs.WellFormed.{rank, or_rank, conditional_rank, rvalue_rank, IsPostfix}
+use Rattle.btree.specs.Fitting.{words, argument_words, Deeper, Fits, ArgumentsFit}
 use Rattle.btree.specs.Reading.{Read, Got, Stop, Reader, ◌>>=◌, first, expect, turns, many}
-use Rattle.btree.specs.ExpressionReader.{is_close_paren, is_close_bracket, is_colon, prefix_op, having_rank, op_at, Suffix, Index, Call, Step, suffix, comma, always, Kind, Operand, Choice, Rvalue, Inner, primary, another, arguments, call, postfix_with, postfix, prefixed, operand, operation, chain, choices, conditional, assigns, assigned, rvalue_from, read_at, inner, reader}
+use Rattle.btree.specs.ExpressionReader.{is_close_paren, is_close_bracket, is_colon, prefix_op, having_rank, op_at, Suffix, Index, Call, Step, suffix, comma, always, ExpressionKind, Operand, Choice, Rvalue, Inner, primary, another, arguments, call, postfix_with, postfix, prefixed, operand, operation, chain, choices, conditional, assigns, assigned, rvalue_from, read_at, inner, reader, is_operand}
 
 -- the tokens are the spelling of what was read, and what is left
 abbrev pub Sound : {A : Type 0} → (A → List Placed) → (A → Type 0) → List Placed → Read A → Type 0
@@ -42,12 +42,12 @@ by_first P none some [] = none
 by_first P none some (p ∷ ts) = some p.token p.line ts
 
 -- how loosely what is read at a kind of place may bind
-abbrev pub loosest : Kind → ℕ
+abbrev pub loosest : ExpressionKind → ℕ
 loosest Operand = 0
 loosest Choice = conditional_rank
 loosest Rvalue = rvalue_rank
 
-abbrev pub Below : ℕ → Kind → ℕ → Expr → Type 0
+abbrev pub Below : ℕ → ExpressionKind → ℕ → Expr → Type 0
 Below room kind off e = Deeper (λ k. Fits e (loosest kind) k off) room
 
 pub looser : (e : Expr) (r r2 room off : ℕ) → r ≤ r2 → Fits e r room off → Fits e r2 room off
@@ -114,7 +114,7 @@ operand_fits (Prefixed op line e) r room off h fits = fits
 -- What is one level deeper is sound, for what fits there; the token before it is dropped only where there is room.
 pub record SoundInner (room : ℕ) (inner : Inner) : Type 1 where
   pub enters : (t : Placed) (ts : List Placed) (A : Type 0) (say : A → List Placed) (P : A → Type 0) (whole : List Placed) (f : Reader A) → (Deeper (λ k. Unit {0}) room → Sound say P whole (f ts)) → Sound say P whole (inner.enter (t ∷ ts) >>= λ o. f)
-  pub reads : (kind : Kind) (off : ℕ) (ts : List Placed) → Sound spell (Below room kind off) (kept_tokens ts) (inner.read kind off ts)
+  pub reads : (kind : ExpressionKind) (off : ℕ) (ts : List Placed) → Sound spell (Below room kind off) (kept_tokens ts) (inner.read kind off ts)
 
 -- something with a token that closes it
 pub shut : {A B : Type 0} (say : A → List Placed) (tell : B → List Placed) (P : A → Type 0) (Q : B → Type 0) (is : Token → Bool) (c : Token) → ((t : Token) → is t ≡ true → t ≡ c) → is token.End ≡ false → ((line : ℕ) → kept (placed c line) ≡ mark c) → (f : A → B) (whole ts : List Placed) (x : Read A) → Sound say P ts x → ((a : A) (r : List Placed) → P a → ts ≡ say a ++ (mark c ∷ kept_tokens r) → (whole ≡ tell (f a) ++ kept_tokens r) × Q (f a)) → Sound tell Q whole (x >>= λ a r. expect is r >>= λ o. Got (f a))
@@ -309,7 +309,7 @@ module _ (room : ℕ) (inner : Inner) (sound : SoundInner room inner) where
       go (Some op) h = rw h (assigned_sound off op e ts h p)
       go None h = rw h (sound_weaken spell (Loose conditional_rank off) (Loose rvalue_rank off) (spell e ++ kept_tokens ts) (conditional inner off e ts) (λ e p. looser e conditional_rank rvalue_rank room off (omega arith) p) (conditional_sound off e ts p))
 
-  read_sound : (kind : Kind) (off : ℕ) (ts : List Placed) → Sound spell (Loose (loosest kind) off) (kept_tokens ts) (read_at inner kind off ts)
+  read_sound : (kind : ExpressionKind) (off : ℕ) (ts : List Placed) → Sound spell (Loose (loosest kind) off) (kept_tokens ts) (read_at inner kind off ts)
   read_sound Operand off ts = operand_sound off ts
   read_sound Choice off ts = sound_bind spell spell (Loose or_rank off) (Loose conditional_rank off) (kept_tokens ts) (chain inner or_rank off ts) (conditional inner off) (chain_sound or_rank off ts) (conditional_sound off)
   read_sound Rvalue off ts = sound_bind spell spell (Loose or_rank off) (Loose rvalue_rank off) (kept_tokens ts) (chain inner or_rank off ts) (rvalue_from inner off) (chain_sound or_rank off ts) (rvalue_from_sound off)
@@ -319,5 +319,5 @@ inner_sound zero = record { enters = λ t ts A say P whole f h. tt; reads = λ k
 inner_sound (suc room) = record { enters = λ t ts A say P whole f h. h tt; reads = λ kind off ts. read_sound room (inner room) (inner_sound room) kind off ts }
 
 -- what is read at a kind of place is spelled so, and fits there
-pub reader_sound : (room : ℕ) (kind : Kind) (off : ℕ) (ts : List Placed) → Sound spell (λ e. Fits e (loosest kind) room off) (kept_tokens ts) (reader room kind off ts)
+pub reader_sound : (room : ℕ) (kind : ExpressionKind) (off : ℕ) (ts : List Placed) → Sound spell (λ e. Fits e (loosest kind) room off) (kept_tokens ts) (reader room kind off ts)
 reader_sound room kind off ts = read_sound room (inner room) (inner_sound room) kind off ts

@@ -12,10 +12,10 @@ use Rattle.blang.specs.Trees.{kept, bare, Definition, spell_definition}
 use Rattle.btree.specs.Reading.{Got, Stop}
 use Rattle.btree.specs.ReadingOn.{Fine, goes, halts, Closer}
 use Rattle.btree.specs.DefinitionReader.{definition}
-use Rattle.blang.specs.Scan.{word_of}
+use Rattle.blang.specs.Scan.{identifier_of}
 use Rattle.blang.specs.Code.{fault_of}
 use Rattle.blang.specs.WellFormed.{Parted, fault_at}
-use Rattle.blang.specs.Compiles.{Defined, Outcome, outcome_of, outcome_with, text_of, Goes}
+use Rattle.blang.specs.Compiles.{Defined, Compilation, compilation_of, compilation_with, compiled_text, CompilesTo}
 use Rattle.btree.specs.Laws.{EachSourceComes, OutcomesAreEqual}
 use Rattle.btree.proofs.CommaLaws.{append-nil}
 use Rattle.btree.proofs.GoingOn.{GoOn, definition_goes_on}
@@ -109,49 +109,49 @@ parted_some (suc n) (t ∷ ts) le e = go (end_or_not t.token) (λ back less ende
     go (inr not_end) others = read (reads_on (map kept (t ∷ ts))) not_end others
 
 -- What comes of tokens is one outcome.
-pub goes_once : {names : Defined} {tokens : List Placed} {r q : Outcome} → Goes names tokens r → Goes names tokens q → r ≡ q
+pub goes_once : {names : Defined} {tokens : List Placed} {r q : Compilation} → CompilesTo names tokens r → CompilesTo names tokens q → r ≡ q
 goes_once {names} {tokens} {r} {q} a b =
     let one = parted_once tokens a.definitions b.definitions a.stop b.stop a.parted b.parted in
-    a.outcome_is ∙ ap (λ ds. outcome_of names ds a.stop) one.0 ∙ ap (λ s. outcome_of names b.definitions s) one.1 ∙ sym b.outcome_is
+    a.outcome_is ∙ ap (λ ds. compilation_of names ds a.stop) one.0 ∙ ap (λ s. compilation_of names b.definitions s) one.1 ∙ sym b.outcome_is
 
 pub record SomeOutcome (names : Defined) (tokens : List Placed) : Type 0 where
-  pub outcome : Outcome
-  pub goes : Goes names tokens outcome
+  pub outcome : Compilation
+  pub goes : CompilesTo names tokens outcome
 
 pub goes_some : (names : Defined) (tokens : List Placed) → Ended tokens → SomeOutcome names tokens
 goes_some names tokens e =
     let p = parted_some (length tokens) tokens (omega arith) e in
-    record { outcome = outcome_of names p.definitions p.stop; goes = record { definitions = p.definitions; stop = p.stop; parted = p.parted; outcome_is = refl } }
+    record { outcome = compilation_of names p.definitions p.stop; goes = record { definitions = p.definitions; stop = p.stop; parted = p.parted; outcome_is = refl } }
 
 -- at the end
-pub goes_end : (names : Defined) (at : Placed) (rest : List Placed) → at.token ≡ token.End → Goes names (at ∷ rest) (record { code = []; stop = None })
+pub goes_end : (names : Defined) (at : Placed) (rest : List Placed) → at.token ≡ token.End → CompilesTo names (at ∷ rest) (record { code = []; stop = None })
 goes_end names at rest e = record { definitions = []; stop = None; parted = parted_end at rest e; outcome_is = refl }
 
 -- at a token that can't come
 pub goes_stop : (names : Defined) (tokens : List Placed) (at : Placed) (rest : List Placed) → definition (map kept tokens ++ map kept (at ∷ rest)) ≡ Stop (map kept (at ∷ rest)) → (at.token ≡ token.End → tokens ≡ [] → ⊥)
-    → Goes names (tokens ++ at ∷ rest) (record { code = []; stop = Some (fault_at at) })
+    → CompilesTo names (tokens ++ at ∷ rest) (record { code = []; stop = Some (fault_at at) })
 goes_stop names tokens at rest h not_end = record { definitions = []; stop = Some (fault_at at); parted = parted_stop tokens at rest h not_end; outcome_is = refl }
 
 -- behind a definition without fault
-pub goes_behind : (names : Defined) (taken : List Placed) (d : Definition) (tokens : List Placed) (r : Outcome) → definition (map kept taken ++ map kept tokens) ≡ Got d (map kept tokens) → fault_of names d ≡ None
-    → Goes (names ++ (word_of d).text ∷ []) tokens r → Goes names (taken ++ tokens) (record { code = text_of d ∷ r.code; stop = r.stop })
+pub goes_behind : (names : Defined) (taken : List Placed) (d : Definition) (tokens : List Placed) (r : Compilation) → definition (map kept taken ++ map kept tokens) ≡ Got d (map kept tokens) → fault_of names d ≡ None
+    → CompilesTo (names ++ (identifier_of d).text ∷ []) tokens r → CompilesTo names (taken ++ tokens) (record { code = compiled_text d ∷ r.code; stop = r.stop })
 goes_behind names taken d tokens r h clean g = record {
   definitions = d ∷ g.definitions;
   stop = g.stop;
   parted = parted_behind taken d tokens g.definitions g.stop g.parted h;
-  outcome_is = ap (λ o. outcome_with None (text_of d) o) g.outcome_is ∙ ap (λ f. outcome_with f (text_of d) (outcome_of (names ++ (word_of d).text ∷ []) g.definitions g.stop)) (sym clean);
+  outcome_is = ap (λ o. compilation_with None (compiled_text d) o) g.outcome_is ∙ ap (λ f. compilation_with f (compiled_text d) (compilation_of (names ++ (identifier_of d).text ∷ []) g.definitions g.stop)) (sym clean);
 }
 
 -- at a definition with a fault
 pub goes_fault : (names : Defined) (taken : List Placed) (d : Definition) (tokens : List Placed) (fault : Diagnostic) → definition (map kept taken ++ map kept tokens) ≡ Got d (map kept tokens) → fault_of names d ≡ Some fault
-    → Ended tokens → Goes names (taken ++ tokens) (record { code = []; stop = Some fault })
+    → Ended tokens → CompilesTo names (taken ++ tokens) (record { code = []; stop = Some fault })
 goes_fault names taken d tokens fault h wrong e =
     let p = parted_some (length tokens) tokens (omega arith) e in
     record {
       definitions = d ∷ p.definitions;
       stop = p.stop;
       parted = parted_behind taken d tokens p.definitions p.stop p.parted h;
-      outcome_is = ap (λ f. outcome_with f (text_of d) (outcome_of (names ++ (word_of d).text ∷ []) p.definitions p.stop)) (sym wrong);
+      outcome_is = ap (λ f. compilation_with f (compiled_text d) (compilation_of (names ++ (identifier_of d).text ∷ []) p.definitions p.stop)) (sym wrong);
     }
 
 pub each_source_comes : EachSourceComes

@@ -9,11 +9,11 @@ use Rattle.blang.specs.Trees.{kept, Definition, spell_definition}
 use Rattle.btree.specs.Reading.{Got, Stop}
 use Rattle.btree.specs.ReadingOn.{Fine, goes, halts, Closer}
 use Rattle.btree.specs.DefinitionReader.{definition}
-use Rattle.blang.specs.Scan.{word_of}
+use Rattle.blang.specs.Scan.{identifier_of}
 use Rattle.blang.specs.Code.{fault_of}
 use Rattle.blang.specs.WellFormed.{fault_at}
 use Rattle.btree.specs.Unread.{kept_read}
-use Rattle.blang.specs.Compiles.{Defined, Outcome, text_of, Goes}
+use Rattle.blang.specs.Compiles.{Defined, Compilation, compiled_text, CompilesTo}
 use Rattle.btree.proofs.LawProofs.{reads_on}
 use Rattle.btree.proofs.GoingOn.{GoOn, definition_goes_on}
 use Rattle.btree.proofs.ProgramLaws.{read_there}
@@ -58,19 +58,19 @@ ended_read u v d h e =
     ended_behind t.tokens v (go_on_kept t.tokens (subst GoOn (sym there) (definition_goes_on d))) (subst Ended t.split e)
 
 -- behind a definition without fault
-pub goes_behind_read : (names : Defined) (u v : List Placed) (d : Definition) (r : Outcome) → definition u ≡ Got d v → fault_of names d ≡ None
-    → Goes (names ++ (word_of d).text ∷ []) v r → Goes names u (record { code = text_of d ∷ r.code; stop = r.stop })
+pub goes_behind_read : (names : Defined) (u v : List Placed) (d : Definition) (r : Compilation) → definition u ≡ Got d v → fault_of names d ≡ None
+    → CompilesTo (names ++ (identifier_of d).text ∷ []) v r → CompilesTo names u (record { code = compiled_text d ∷ r.code; stop = r.stop })
 goes_behind_read names u v d r h clean g =
     let t = got_taken u v d h in
-    subst (λ l. Goes names l (record { code = text_of d ∷ r.code; stop = r.stop })) (sym t.split)
+    subst (λ l. CompilesTo names l (record { code = compiled_text d ∷ r.code; stop = r.stop })) (sym t.split)
     (goes_behind names t.tokens d v r (read_kept u v t ∙ ap kept_read h) clean g)
 
 -- at a definition with a fault
 pub goes_fault_read : (names : Defined) (u v : List Placed) (d : Definition) (fault : Diagnostic) → definition u ≡ Got d v → fault_of names d ≡ Some fault
-    → Ended v → Goes names u (record { code = []; stop = Some fault })
+    → Ended v → CompilesTo names u (record { code = []; stop = Some fault })
 goes_fault_read names u v d fault h wrong e =
     let t = got_taken u v d h in
-    subst (λ l. Goes names l (record { code = []; stop = Some fault })) (sym t.split)
+    subst (λ l. CompilesTo names l (record { code = []; stop = Some fault })) (sym t.split)
     (goes_fault names t.tokens d v fault (read_kept u v t ∙ ap kept_read h) wrong e)
 
 nothing_taken : (ts v : List Placed) → ts ≡ [] → ts ++ v ≡ v
@@ -79,8 +79,8 @@ nothing_taken (p ∷ ts) v e = cc
 
 -- at a token that can't come, which is not the end where a definition could begin
 pub goes_stop_read : (names : Defined) (u rest : List Placed) (at : Placed) → definition u ≡ Stop (at ∷ rest) → (at.token ≡ token.End → u ≡ at ∷ rest → ⊥)
-    → Goes names u (record { code = []; stop = Some (fault_at at) })
+    → CompilesTo names u (record { code = []; stop = Some (fault_at at) })
 goes_stop_read names u rest at h not_end =
     let t = stop_taken u (at ∷ rest) h in
-    subst (λ l. Goes names l (record { code = []; stop = Some (fault_at at) })) (sym t.split)
+    subst (λ l. CompilesTo names l (record { code = []; stop = Some (fault_at at) })) (sym t.split)
     (goes_stop names t.tokens at rest (read_kept u (at ∷ rest) t ∙ ap kept_read h) (λ e n. not_end e (t.split ∙ nothing_taken t.tokens (at ∷ rest) n)))

@@ -3,7 +3,8 @@ use Rattle.std.proofs.Common.{◌≡◌, List, [], ◌∷◌, ◌++◌, sym, ap,
 use Rattle.blang.specs.declared.token.Token.TheVariants as token
 use Rattle.blang.specs.declared.token.Placed.{Placed}
 use Rattle.blang.specs.Trees.{kept_tokens, spell, spell_statement, Definition, Simple, Vector, Function, spell_definition}
-use Rattle.blang.specs.WellFormed.{rvalue_rank, Fits, Sits}
+use Rattle.blang.specs.WellFormed.{rvalue_rank}
+use Rattle.btree.specs.Fitting.{Fits, Sits}
 use Rattle.btree.specs.Reading.{Got, Stop}
 use Rattle.btree.specs.ReadingOn.{Fine, goes, halts, Closer}
 use Rattle.btree.specs.ExpressionReader.{Rvalue, reader}

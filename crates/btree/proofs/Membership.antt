@@ -7,11 +7,11 @@ use Rattle.blang.specs.declared.token.Letters.TheVariants as letters
 use Rattle.blang.specs.declared.token.Placed.{Placed}
 use Rattle.blang.specs.declared.token.Diagnostic.{Diagnostic}
 use Rattle.btree.specs.Compiled.{AreNames, has}
-use Rattle.blang.specs.Compiles.{Defined, Goes, Outcome, outcome_of, outcome_with, text_of}
+use Rattle.blang.specs.Compiles.{Defined, CompilesTo, Compilation, compilation_of, compilation_with, compiled_text}
 use Rattle.btree.specs.Laws.{ByMembership}
-use Rattle.blang.specs.Code.{code_of, fault_behind, fault_of}
+use Rattle.blang.specs.Code.{code_of, or_too_large, fault_of}
 use Rattle.blang.specs.Trees.{Definition}
-use Rattle.blang.specs.Scan.{inner_fault, word_of, name_fault}
+use Rattle.blang.specs.Scan.{inner_fault, identifier_of, name_fault}
 use Rattle.bword.specs.Words.{same_name}
 
 -- a name more
@@ -23,14 +23,14 @@ same_behind names these y same x = has-push x y names ∙ ap (λ b. b || has x (
 
 pub fault_same : (names these : Defined) (d : Definition) → ((x : List ℕ) → has x names ≡ has x these) → fault_of names d ≡ fault_of these d
 fault_same names these d same =
-    ap (λ b. fault_behind (if b then Some (name_fault letters.Redeclared (word_of d)) else inner_fault d) (word_of d).line (code_of d)) (same (word_of d).text)
+    ap (λ b. or_too_large (if b then Some (name_fault letters.Redeclared (identifier_of d)) else inner_fault d) (identifier_of d).line (code_of d)) (same (identifier_of d).text)
 
-outcome_same : (names these : Defined) (ds : List Definition) (stop : Option Diagnostic) → ((x : List ℕ) → has x names ≡ has x these) → outcome_of names ds stop ≡ outcome_of these ds stop
+outcome_same : (names these : Defined) (ds : List Definition) (stop : Option Diagnostic) → ((x : List ℕ) → has x names ≡ has x these) → compilation_of names ds stop ≡ compilation_of these ds stop
 outcome_same names these [] stop same = refl
 outcome_same names these (d ∷ ds) stop same =
-    let y = (word_of d).text in
-    ap (λ f. outcome_with f (text_of d) (outcome_of (names ++ y ∷ []) ds stop)) (fault_same names these d same)
-    ∙ ap (outcome_with (fault_of these d) (text_of d)) (outcome_same (names ++ y ∷ []) (these ++ y ∷ []) ds stop (same_behind names these y same))
+    let y = (identifier_of d).text in
+    ap (λ f. compilation_with f (compiled_text d) (compilation_of (names ++ y ∷ []) ds stop)) (fault_same names these d same)
+    ∙ ap (compilation_with (fault_of these d) (compiled_text d)) (outcome_same (names ++ y ∷ []) (these ++ y ∷ []) ds stop (same_behind names these y same))
 
 pub by_membership : ByMembership
 by_membership names these tokens r same g = record {

@@ -3,7 +3,7 @@ use Rattle.std.proofs.Common.{[], ◌∷◌, ◌++◌, refl}
 use Rattle.blang.specs.declared.token.Token.TheVariants as token
 use Rattle.blang.specs.declared.token.Keyword.TheVariants as keyword
 use Rattle.blang.specs.declared.token.Letters.TheVariants as letters
-use Rattle.blang.specs.Trees.{mark, Word, Literal, Number, If, IfElse, Empty, keyword_mark, Simple}
+use Rattle.blang.specs.Trees.{mark, Identifier, Literal, Number, If, IfElse, Empty, keyword_mark, Simple}
 use Rattle.blang.specs.Cut.{placed}
 use Rattle.blang.specs.Scan.{name_fault}
 use Rattle.btree.specs.Rows.{name, word, assign, function, body}
@@ -14,7 +14,7 @@ use Rattle.btree.proofs.GoesLaws.{goes_stop, goes_behind, goes_fault}
 pub outcome_rows : OutcomeRows
 outcome_rows = record {
   defined_twice =
-      let again : Word = record { text = 97 ∷ []; line = 2 } in
+      let again : Identifier = record { text = 97 ∷ []; line = 2 } in
       goes_behind [] (name 97 ∷ semicolon ∷ []) (Simple (word 97) []) (placed (token.Name (97 ∷ [])) 2 ∷ last token.Semicolon) _ refl refl
       (goes_fault ((97 ∷ []) ∷ []) (placed (token.Name (97 ∷ [])) 2 ∷ placed token.Semicolon 2 ∷ []) (Simple again []) (mark token.End ∷ []) (name_fault letters.Redeclared again) refl refl refl);
   behind_a_function =

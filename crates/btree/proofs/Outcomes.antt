@@ -9,7 +9,7 @@ use Rattle.blang.specs.declared.token.Diagnostic.{Diagnostic}
 use Rattle.blang.specs.Cut.{is_last}
 use Rattle.blang.specs.Trees.{mark, kept, bare, Definition, spell_definition, spell_all}
 use Rattle.btree.specs.Reading.{Got, first}
-use Rattle.blang.specs.WellFormed.{IsFormed, AllFormed, IsProgram, Begins, IsViable, StopsAt, Parts, Parted}
+use Rattle.blang.specs.WellFormed.{IsFormed, AllFormed, IsProgram, BeginsProgram, IsViable, StopsAt, Parts, Parted}
 use Rattle.btree.specs.DefinitionReader.{definition}
 use Rattle.btree.proofs.Relined.{kept-append}
 use Rattle.btree.proofs.GoingOn.{GoOn}
@@ -51,7 +51,7 @@ module _ (taken : List Placed) (d : Definition) (tokens : List Placed) (ds : Lis
   still_wrong : (IsViable (map bare p.before) p.at.token → ⊥) → IsViable (map bare (taken ++ p.before)) p.at.token → ⊥
   still_wrong wrong v = go (viable_cases (map bare (taken ++ p.before)) p.at.token v)
     where
-      go : ((p.at.token ≡ token.End) × IsProgram (map bare (taken ++ p.before))) ⊎ Begins (map bare (taken ++ p.before) ++ p.at.token ∷ []) → ⊥
+      go : ((p.at.token ≡ token.End) × IsProgram (map bare (taken ++ p.before))) ⊎ BeginsProgram (map bare (taken ++ p.before) ++ p.at.token ∷ []) → ⊥
       go (inl h) = wrong (viable_end (map bare p.before) p.at.token h.0 (peeled p.before (end_same p.before p.at p.behind h.0 ∙ ap (λ l. first (map kept l)) (sym p.split)) h.1))
       go (inr b) =
           let ps = p.before ++ p.at ∷ map mark b.more in
@@ -67,7 +67,7 @@ module _ (taken : List Placed) (d : Definition) (tokens : List Placed) (ds : Lis
 
   stops_behind : (s : Option Diagnostic) → StopsAt (map bare p.before) p.at s → StopsAt (map bare (taken ++ p.before)) p.at s
   stops_behind None h = (h.0, subst IsProgram (sym (bare-append taken p.before)) (one_before d taken_spelled.1 (map bare taken) taken_bare (map bare p.before) h.1))
-  stops_behind (Some f) h = (subst Begins (sym (bare-append taken p.before)) (begins_before d taken_spelled.1 (map bare taken) taken_bare (map bare p.before) h.0), still_wrong h.1, h.2)
+  stops_behind (Some f) h = (subst BeginsProgram (sym (bare-append taken p.before)) (begins_before d taken_spelled.1 (map bare taken) taken_bare (map bare p.before) h.0), still_wrong h.1, h.2)
 
   all_split : taken ++ tokens ≡ (taken ++ p.before) ++ p.at ∷ p.behind
   all_split = ap (λ l. taken ++ l) p.split ∙ sym (append_assoc taken p.before (p.at ∷ p.behind))
@@ -100,7 +100,7 @@ module _ (taken : List Placed) (d : Definition) (tokens : List Placed) (ds : Lis
   }
 
 -- Two partings with as many definitions have the same.
-pub same_parts : (tokens : List Placed) (at : Placed) (rest : List Placed) → (Begins (map bare tokens ++ at.token ∷ []) → ⊥) → (ds es : List Definition) → Parts tokens ds → Parts tokens es → length ds ≡ length es → ds ≡ es
+pub same_parts : (tokens : List Placed) (at : Placed) (rest : List Placed) → (BeginsProgram (map bare tokens ++ at.token ∷ []) → ⊥) → (ds es : List Definition) → Parts tokens ds → Parts tokens es → length ds ≡ length es → ds ≡ es
 same_parts tokens at rest wrong [] [] p q l = refl
 same_parts tokens at rest wrong [] (e ∷ es) p q l = absurd (omega arith)
 same_parts tokens at rest wrong (d ∷ ds) [] p q l = absurd (omega arith)
@@ -112,14 +112,14 @@ same_parts tokens at rest wrong (d ∷ ds) (e ∷ es) p q l =
     let others : spell_all ds ++ p.part ≡ spell_all es ++ q.part = append_cancel_right (spell_all ds ++ p.part) (spell_all es ++ q.part) R rests in
     let s = split_map kept (spell_definition d) (spell_all ds ++ p.part) tokens (p.split ∙ append_assoc (spell_definition d) (spell_all ds) p.part) in
     let bare_front : map bare (spell_definition d) ≡ map bare s.front = ap (map bare) (sym s.front_is) ∙ map_bare-kept s.front in
-    let still = λ (b : Begins (map bare s.back ++ at.token ∷ [])). wrong (subst (λ l. Begins (l ++ at.token ∷ [])) (sym (bare-append s.front s.back) ∙ ap (map bare) (sym s.whole)) (subst Begins (sym (append_assoc (map bare s.front) (map bare s.back) (at.token ∷ []))) (begins_before d p.formed.0 (map bare s.front) bare_front (map bare s.back ++ at.token ∷ []) b))) in
+    let still = λ (b : BeginsProgram (map bare s.back ++ at.token ∷ [])). wrong (subst (λ l. BeginsProgram (l ++ at.token ∷ [])) (sym (bare-append s.front s.back) ∙ ap (map bare) (sym s.whole)) (subst BeginsProgram (sym (append_assoc (map bare s.front) (map bare s.back) (at.token ∷ []))) (begins_before d p.formed.0 (map bare s.front) bare_front (map bare s.back ++ at.token ∷ []) b))) in
     let p' : Parts s.back ds = record { part = p.part; split = s.back_is; formed = p.formed.1; is_part = p.is_part } in
     let q' : Parts s.back es = record { part = q.part; split = s.back_is ∙ others; formed = q.formed.1; is_part = q.is_part } in
     let fewer : length ds ≡ length es = omega arith in
     ap (λ x. x ∷ ds) first_one ∙ ap (λ l. e ∷ l) (same_parts s.back at rest still ds es p' q' fewer)
 
 -- a longer beginning would go on where no program does
-pub no_further : (before : List Placed) (at : Placed) (stop : Option Diagnostic) → StopsAt (map bare before) at stop → (c further : List Placed) → further ≡ before ++ at ∷ c → Begins (map bare further) → ⊥
+pub no_further : (before : List Placed) (at : Placed) (stop : Option Diagnostic) → StopsAt (map bare before) at stop → (c further : List Placed) → further ≡ before ++ at ∷ c → BeginsProgram (map bare further) → ⊥
 no_further before at stop stops c further e b =
     let spelled : map bare further ++ b.more ≡ (map bare before ++ at.token ∷ []) ++ (map bare c ++ b.more) =
     ap (λ l. map bare l ++ b.more) e ∙ ap (λ l. l ++ b.more) (bare-append before (at ∷ c)) ∙ append_assoc (map bare before) (at.token ∷ map bare c) b.more
@@ -167,13 +167,13 @@ go_on_kept [] g = tt
 go_on_kept (u ∷ us) g = (ap is_last (sym (bare-kept u)) ∙ g.0, go_on_kept us g.1)
 
 -- What begins a program ends no source.
-pub begun_goes_on : (us : List Placed) → Begins (map bare us) → GoOn us
+pub begun_goes_on : (us : List Placed) → BeginsProgram (map bare us) → GoOn us
 begun_goes_on [] b = tt
 begun_goes_on (u ∷ us) b = (program_goes_on [] (bare u) (map bare us ++ b.more) b.program, begun_tail us (bare u ∷ []) b)
   where
-    begun_tail : (us : List Placed) (front : List Token) → Begins (front ++ map bare us) → GoOn us
+    begun_tail : (us : List Placed) (front : List Token) → BeginsProgram (front ++ map bare us) → GoOn us
     begun_tail [] front b = tt
     begun_tail (u ∷ us) front b = (
       program_goes_on front (bare u) (map bare us ++ b.more) (subst IsProgram (append_assoc front (bare u ∷ map bare us) b.more) b.program),
-      begun_tail us (front ++ bare u ∷ []) (subst Begins (sym (append_assoc front (bare u ∷ []) (map bare us))) b),
+      begun_tail us (front ++ bare u ∷ []) (subst BeginsProgram (sym (append_assoc front (bare u ∷ []) (map bare us))) b),
     )

@@ -7,7 +7,7 @@ use Rattle.blang.specs.declared.token.Placed.{Placed}
 use Rattle.blang.specs.Trees.{mark, kept, kept_tokens, bare, name_token, Definition, spell_definition, spell_all}
 use Rattle.btree.specs.Reading.{Got, Stop, first}
 use Rattle.btree.specs.ReadingOn.{Fine, goes, halts, Closer}
-use Rattle.blang.specs.WellFormed.{IsFormed, AllFormed, IsProgram, Begins, IsViable, StopsAt, IsPart, Parts, Parted, fault_at}
+use Rattle.blang.specs.WellFormed.{IsFormed, AllFormed, IsProgram, BeginsProgram, IsViable, StopsAt, IsPart, Parts, Parted, fault_at}
 use Rattle.btree.specs.DefinitionReader.{definition}
 use Rattle.btree.proofs.CommaLaws.{append-nil}
 use Rattle.btree.proofs.Relined.{kept-append}
@@ -83,12 +83,12 @@ parted_end at rest e = record {
 }
 
 -- a definition that stands first, in tokens that stop there, is what reading gives
-pub first_there : (tokens : List Placed) (at : Placed) (rest : List Placed) → (Begins (map bare tokens ++ at.token ∷ []) → ⊥) → (d : Definition) (ds : List Definition) → (p : Parts tokens (d ∷ ds))
+pub first_there : (tokens : List Placed) (at : Placed) (rest : List Placed) → (BeginsProgram (map bare tokens ++ at.token ∷ []) → ⊥) → (d : Definition) (ds : List Definition) → (p : Parts tokens (d ∷ ds))
     → definition (map kept (tokens ++ at ∷ rest)) ≡ Got d ((spell_all ds ++ p.part) ++ map kept (at ∷ rest))
 first_there tokens at rest wrong d ds p =
     let split : map kept tokens ≡ spell_definition d ++ (spell_all ds ++ p.part) = p.split ∙ append_assoc (spell_definition d) (spell_all ds) p.part in
     let bares : map bare tokens ≡ map bare (spell_definition d ++ (spell_all ds ++ p.part)) = sym (map_bare-kept tokens) ∙ ap (map bare) split in
-    let no = λ (b : Begins (map bare (spell_definition d ++ (spell_all ds ++ p.part)) ++ at.token ∷ [])). wrong (subst (λ l. Begins (l ++ at.token ∷ [])) (sym bares) b) in
+    let no = λ (b : BeginsProgram (map bare (spell_definition d ++ (spell_all ds ++ p.part)) ++ at.token ∷ [])). wrong (subst (λ l. BeginsProgram (l ++ at.token ∷ [])) (sym bares) b) in
     ap definition (kept-append tokens (at ∷ rest) ∙ ap (λ l. l ++ map kept (at ∷ rest)) split ∙ append_assoc (spell_definition d) (spell_all ds ++ p.part) (map kept (at ∷ rest)))
     ∙ reads_first d p.formed.0 ds p.part p.is_part at (map kept rest) no
 
@@ -99,7 +99,7 @@ module _ (tokens r : List Placed) (halting : Halts (map kept tokens) r) where
       ap (map bare) (sym halting.spelled) ∙ bare-append (kept_tokens (map kept tokens)) halting.completion
       ∙ ap (λ l. map bare l ++ map bare halting.completion) (kept-twice tokens) ∙ ap (λ l. l ++ map bare halting.completion) (map_bare-kept tokens)
 
-  pub halts_begins : Begins (map bare tokens)
+  pub halts_begins : BeginsProgram (map bare tokens)
   halts_begins = record {
     more = map bare halting.completion;
     program = record { definitions = halting.tree ∷ []; formed = (halting.formed, tt); spelled = ap (map bare) (append-nil (spell_definition halting.tree)) ∙ bare_spelled };
@@ -127,7 +127,7 @@ module _ (tokens : List Placed) (at : Placed) (rest : List Placed) (halting : Ha
       end_kept : at.token ≡ token.End → token.End ≡ bare (kept at)
       end_kept e = sym (bare-kept at ∙ e)
 
-      go : ((at.token ≡ token.End) × IsProgram (map bare tokens)) ⊎ Begins (map bare tokens ++ at.token ∷ []) → ⊥
+      go : ((at.token ≡ token.End) × IsProgram (map bare tokens)) ⊎ BeginsProgram (map bare tokens ++ at.token ∷ []) → ⊥
       go (inl h) = not_spelled h.1.definitions h.1.formed [] (end_kept h.0) (λ e. no_end h.0 (sym (append-nil tokens) ∙ e)) (h.1.spelled ∙ ap (map bare) (sym (append-nil tokens)))
       go (inr b) =
           let ps = at ∷ map mark b.more in

@@ -11,9 +11,8 @@ use Rattle.blang.specs.Cut.{is_last}
 use Rattle.blang.specs.Trees.{mark, kept, bare, name_token, keyword_mark, Definition, spell_definition, spell_all}
 use Rattle.btree.specs.Reading.{Got, first}
 use Rattle.btree.specs.StatementReader.{is_else}
-use Rattle.blang.specs.WellFormed.{IsFormed, AllFormed, IsProgram, Begins, IsViable, StopsAt, IsPart}
-use Rattle.btree.specs.Definition.{is_open}
-use Rattle.btree.specs.DefinitionReader.{definition}
+use Rattle.blang.specs.WellFormed.{IsFormed, AllFormed, IsProgram, BeginsProgram, IsViable, StopsAt, IsPart}
+use Rattle.btree.specs.DefinitionReader.{definition, is_open_definition}
 use Rattle.btree.proofs.CommaLaws.{append-nil}
 use Rattle.btree.proofs.Relined.{kept-append}
 use Rattle.btree.proofs.GoingOn.{GoOn, GoOn-append, definition_goes_on}
@@ -67,11 +66,11 @@ inner_goes_on (u ∷ us) t more (p ∷ ps) h e = let same : map bare ps ≡ us +
 pub program_goes_on : (us : List Token) (t : Token) (more : List Token) → IsProgram (us ++ t ∷ more) → is_last t ≡ false
 program_goes_on us t more p = inner_goes_on us t more (spell_all p.definitions) (all_go_on p.definitions) p.spelled
 
-pub begins_goes_on : (us : List Token) (t : Token) → Begins (us ++ t ∷ []) → is_last t ≡ false
+pub begins_goes_on : (us : List Token) (t : Token) → BeginsProgram (us ++ t ∷ []) → is_last t ≡ false
 begins_goes_on us t b = program_goes_on us t b.more (subst IsProgram (append_assoc us (t ∷ []) b.more) b.program)
 
 -- a program that goes on or ends with the next token
-pub viable_cases : (before : List Token) (t : Token) → IsViable before t → ((t ≡ token.End) × IsProgram before) ⊎ Begins (before ++ t ∷ [])
+pub viable_cases : (before : List Token) (t : Token) → IsViable before t → ((t ≡ token.End) × IsProgram before) ⊎ BeginsProgram (before ++ t ∷ [])
 viable_cases before token.End h = inl (refl, h)
 viable_cases before _ h = inr h
 
@@ -79,7 +78,7 @@ pub viable_end : (before : List Token) (t : Token) → t ≡ token.End → IsPro
 viable_end before token.End e p = p
 viable_end before _ e p = cc
 
-pub viable_next : (before : List Token) (t : Token) → Begins (before ++ t ∷ []) → IsViable before t
+pub viable_next : (before : List Token) (t : Token) → BeginsProgram (before ++ t ∷ []) → IsViable before t
 viable_next before token.End b = let h = begins_goes_on before token.End b in cc
 viable_next before _ b = b
 
@@ -91,15 +90,15 @@ one_before d f front e tokens p = record {
   spelled = bare-append (spell_definition d) (spell_all p.definitions) ∙ ap (λ l. l ++ map bare (spell_all p.definitions)) e ∙ ap (λ l. front ++ l) p.spelled;
 }
 
-pub begins_before : (d : Definition) → IsFormed d → (front : List Token) → map bare (spell_definition d) ≡ front → (tokens : List Token) → Begins tokens → Begins (front ++ tokens)
+pub begins_before : (d : Definition) → IsFormed d → (front : List Token) → map bare (spell_definition d) ≡ front → (tokens : List Token) → BeginsProgram tokens → BeginsProgram (front ++ tokens)
 begins_before d f front e tokens b = record { more = b.more; program = subst IsProgram (sym (append_assoc front tokens b.more)) (one_before d f front e (tokens ++ b.more) b.program) }
 
-pub stops_begins : (before : List Token) (at : Placed) (stop : Option Diagnostic) → StopsAt before at stop → Begins before
+pub stops_begins : (before : List Token) (at : Placed) (stop : Option Diagnostic) → StopsAt before at stop → BeginsProgram before
 stops_begins before at None h = record { more = []; program = subst IsProgram (sym (append-nil before)) h.1 }
 stops_begins before at (Some d) h = h.0
 
 -- no program goes on behind the place where one stops
-pub stops_there : (before : List Token) (at : Placed) (stop : Option Diagnostic) → StopsAt before at stop → Begins (before ++ at.token ∷ []) → ⊥
+pub stops_there : (before : List Token) (at : Placed) (stop : Option Diagnostic) → StopsAt before at stop → BeginsProgram (before ++ at.token ∷ []) → ⊥
 stops_there before at None h b = let no = begins_goes_on before at.token b in let last : is_last at.token ≡ true = ap is_last h.0 in cc
 stops_there before at (Some d) h b = h.1 (viable_next before at.token b)
 
@@ -119,8 +118,8 @@ part_first (p ∷ part) rest (inr h) n =
 
 -- what stands behind a first definition, and then where a program stops: no `else` that it would go on with
 module _ (d : Definition) (f : IsFormed d) (ds : List Definition) (part : List Placed) (is_part : IsPart (map bare part)) (at : Placed) (behind : List Placed)
-    (wrong : Begins (map bare (spell_definition d ++ (spell_all ds ++ part)) ++ at.token ∷ []) → ⊥) where
-  open_goes_on : is_open d ≡ true → (ds ≡ []) → (part ≡ []) → is_else at.token ≡ true → ⊥
+    (wrong : BeginsProgram (map bare (spell_definition d ++ (spell_all ds ++ part)) ++ at.token ∷ []) → ⊥) where
+  open_goes_on : is_open_definition d ≡ true → (ds ≡ []) → (part ≡ []) → is_else at.token ≡ true → ⊥
   open_goes_on o e e2 h =
       let longer = goes_on_with_else d f o in
       let more : List Placed = mark token.Semicolon ∷ [] in
@@ -131,7 +130,7 @@ module _ (d : Definition) (f : IsFormed d) (ds : List Definition) (part : List P
       ∙ ap (λ l. (map bare l ++ at.token ∷ []) ++ map bare more) (sym (append-nil (spell_definition d)) ∙ ap (λ l. spell_definition d ++ l) (sym (rw (e, e2) refl))) in
       wrong (record { more = map bare more; program = record { definitions = longer.0 ∷ []; formed = (longer.1, tt); spelled = spelled } })
 
-  no_else_behind : (ds' : List Definition) → ds ≡ ds' → (part' : List Placed) → part ≡ part' → is_open d ≡ true → is_else (first ((spell_all ds ++ part) ++ (kept at ∷ behind))) ≡ false
+  no_else_behind : (ds' : List Definition) → ds ≡ ds' → (part' : List Placed) → part ≡ part' → is_open_definition d ≡ true → is_else (first ((spell_all ds ++ part) ++ (kept at ∷ behind))) ≡ false
   no_else_behind (e ∷ es) h part' k o =
       ap (λ l. is_else (first ((spell_all l ++ part) ++ (kept at ∷ behind)))) h
       ∙ ap (λ l. is_else (first (l ++ (kept at ∷ behind)))) (append_assoc (spell_definition e) (spell_all es) part)

@@ -1,12 +1,13 @@
 -- Programs stand for tokens in one way, and have one way of parts.
 use Rattle.std.proofs.Common.{◌≡◌, List, [], ◌∷◌, ◌++◌, map, length, sym, ap, ◌∙◌, refl, arith}
 use Rattle.blang.specs.Cut.{tokens_from}
-use Rattle.blang.specs.Trees.{bare, Definition, Simple, Vector, Function, spell_definition, spell_all}
+use Rattle.blang.specs.Trees.{bare, Definition, spell_definition, spell_all}
 use Rattle.btree.specs.Reading.{Got}
 use Rattle.blang.specs.WellFormed.{nesting_limit, AllFormed}
 use Rattle.btree.specs.DefinitionReader.{definition}
 use Rattle.btree.specs.Levels.{AllFormedIn}
 use Rattle.btree.specs.ProgramRules.{OneProgram, FormedWithin, HasParts, OneWay}
+use Rattle.btree.proofs.Fitting.{formed_in, in_formed}
 use Rattle.btree.proofs.KeptLemmas.{Order, together, sooner, later, order}
 use Rattle.btree.proofs.ProgramLaws.{read_first, stops_begins}
 use Rattle.btree.proofs.LawProofs.{begins_with_name}
@@ -30,20 +31,16 @@ same_programs (d ∷ ds) (e ∷ es) f g h =
 pub one_program : OneProgram
 one_program ds es tokens p q = same_programs ds es p.formed q.formed (p.spelled ∙ sym q.spelled)
 
-formed_in : (ds : List Definition) → AllFormed ds → AllFormedIn nesting_limit ds
-formed_in [] f = tt
-formed_in (Simple w values ∷ ds) f = (f.0, formed_in ds f.1)
-formed_in (Vector w size values ∷ ds) f = (f.0, formed_in ds f.1)
-formed_in (Function w parameters body ∷ ds) f = (f.0, formed_in ds f.1)
+all_formed_in : (ds : List Definition) → AllFormed ds → AllFormedIn nesting_limit ds
+all_formed_in [] f = tt
+all_formed_in (d ∷ ds) f = (formed_in d f.0, all_formed_in ds f.1)
 
-in_formed : (ds : List Definition) → AllFormedIn nesting_limit ds → AllFormed ds
-in_formed [] f = tt
-in_formed (Simple w values ∷ ds) f = (f.0, in_formed ds f.1)
-in_formed (Vector w size values ∷ ds) f = (f.0, in_formed ds f.1)
-in_formed (Function w parameters body ∷ ds) f = (f.0, in_formed ds f.1)
+all_in_formed : (ds : List Definition) → AllFormedIn nesting_limit ds → AllFormed ds
+all_in_formed [] f = tt
+all_in_formed (d ∷ ds) f = (in_formed d f.0, all_in_formed ds f.1)
 
 pub formed_within : FormedWithin
-formed_within ds = (formed_in ds, in_formed ds)
+formed_within ds = (all_formed_in ds, all_in_formed ds)
 
 pub has_parts : HasParts
 has_parts edition line bytes =

@@ -6,62 +6,62 @@ use Rattle.std.specs.Option.{option_or}
 use Rattle.std.specs.Cmp.Lexicographic.{nat_list_eq_equiv}
 use Rattle.std.proofs.lemmas.Bool.Decides.{nat_tests}
 use Rattle.blang.specs.declared.token.Diagnostic.{Diagnostic}
-use Rattle.blang.specs.Trees.{Word, Expr}
-use Rattle.blang.specs.Scan.{Kind, Automatic, External, Unlabelled, Labelled, Entry, most_names, kind_of, entered, declared, kind_mentioned, mentioned, with_kind, labelled, Event, Declaration, Import, Mention, LabelHere, CaseHere, DefaultHere, BreakHere, Lvalue, Scope, words_of, Around, most_cases, is_lvalue, with_names, selected, defaulted, can_break, step, scanned}
+use Rattle.blang.specs.Trees.{Identifier, Expr}
+use Rattle.blang.specs.Scan.{NameKind, Automatic, External, Unlabelled, Labelled, Entry, most_names, kind_of, with_entry, with_declaration, kind_mentioned, with_mention, with_kind, with_label, Event, Declaration, Import, Mention, LabelHere, CaseHere, DefaultHere, BreakHere, Lvalue, Scope, automatic_words, Around, most_cases, is_lvalue, with_names, scan_case, scan_default, can_break, scan_event, scanned}
 use Rattle.bword.specs.Words.{same_name}
 use Rattle.btree.proofs.ScopeLaws.{kind_of-push}
 
 -- What becomes of a table.
 -- an entry more, of a name that wasn't there
-pub record Entered (x : List ℕ) (k : Kind) (es new : List Entry) : Type 0 where
+pub record Entered (x : List ℕ) (k : NameKind) (es new : List Entry) : Type 0 where
   pub absent : kind_of x es ≡ None
   pub room : length es < most_names
   pub is : new ≡ es ++ record { name = x; kind = k } ∷ []
 
-entered_if : (b : Bool) (x : List ℕ) (k : Kind) (es new : List Entry) (d : Diagnostic) → kind_of x es ≡ None → (b ≡ true → length es < most_names)
+entered_if : (b : Bool) (x : List ℕ) (k : NameKind) (es new : List Entry) (d : Diagnostic) → kind_of x es ≡ None → (b ≡ true → length es < most_names)
     → (let r : Result (List Entry) Diagnostic = if b then Ok (es ++ record { name = x; kind = k } ∷ []) else Err d in r) ≡ Ok new → Entered x k es new
 entered_if true x k es new d a room h = record { absent = a; room = room refl; is = let e : es ++ record { name = x; kind = k } ∷ [] ≡ new = cc in sym e }
 entered_if false x k es new d a room h = cc
 
-entered_is : (w : Word) (k : Kind) (es new : List Entry) → kind_of w.text es ≡ None → entered w k es ≡ Ok new → Entered w.text k es new
+entered_is : (w : Identifier) (k : NameKind) (es new : List Entry) → kind_of w.text es ≡ None → with_entry w k es ≡ Ok new → Entered w.text k es new
 entered_is w k es new a h = entered_if (nat_lt (length es) most_names) w.text k es new _ a (λ l. grind (arith, nat_tests)) h
 
-declared_is : (w : Word) (k : Kind) (es new : List Entry) → declared w k es ≡ Ok new → Entered w.text k es new
+declared_is : (w : Identifier) (k : NameKind) (es new : List Entry) → with_declaration w k es ≡ Ok new → Entered w.text k es new
 declared_is w k es new h = go (kind_of w.text es) refl
   where
-    go : (o : Option Kind) → kind_of w.text es ≡ o → Entered w.text k es new
+    go : (o : Option NameKind) → kind_of w.text es ≡ o → Entered w.text k es new
     go None e = entered_is w k es new e (rw e at h)
     go (Some old) e = let n = rw e at h in cc
 
 -- the same table, where the name was there
 pub record Known (x : List ℕ) (es new : List Entry) : Type 0 where
-  pub kind : Kind
+  pub kind : NameKind
   pub there : kind_of x es ≡ Some kind
   pub is : new ≡ es
 
-abbrev pub Mentioned : (called : Bool) (w : Word) (es new : List Entry) → Type 0
+abbrev pub Mentioned : (called : Bool) (w : Identifier) (es new : List Entry) → Type 0
 Mentioned called w es new = Known w.text es new ⊎ Entered w.text (kind_mentioned called w.line) es new
 
-mentioned_is : (called : Bool) (w : Word) (es new : List Entry) → mentioned called w es ≡ Ok new → Mentioned called w es new
+mentioned_is : (called : Bool) (w : Identifier) (es new : List Entry) → with_mention called w es ≡ Ok new → Mentioned called w es new
 mentioned_is called w es new h = go (kind_of w.text es) refl
   where
-    go : (o : Option Kind) → kind_of w.text es ≡ o → Mentioned called w es new
+    go : (o : Option NameKind) → kind_of w.text es ≡ o → Mentioned called w es new
     go None e = inr (entered_is w _ es new e (rw e at h))
     go (Some old) e = let n = rw e at h in let q : new ≡ es = cc in inl (record { kind = old; there = e; is = q })
 
 -- a label for an internal name
-pub record Relabelled (x : List ℕ) (k : Kind) (es new : List Entry) : Type 0 where
+pub record Relabelled (x : List ℕ) (k : NameKind) (es new : List Entry) : Type 0 where
   pub line : ℕ
   pub was : kind_of x es ≡ Some (Unlabelled line)
   pub is : new ≡ with_kind x k es
 
-abbrev pub LabelStands : (w : Word) (number : ℕ) (es new : List Entry) → Type 0
+abbrev pub LabelStands : (w : Identifier) (number : ℕ) (es new : List Entry) → Type 0
 LabelStands w number es new = Entered w.text (Labelled number) es new ⊎ Relabelled w.text (Labelled number) es new
 
-labelled_is : (w : Word) (number : ℕ) (es new : List Entry) → labelled w number es ≡ Ok new → LabelStands w number es new
+labelled_is : (w : Identifier) (number : ℕ) (es new : List Entry) → with_label w number es ≡ Ok new → LabelStands w number es new
 labelled_is w number es new h = go (kind_of w.text es) refl
   where
-    go : (o : Option Kind) → kind_of w.text es ≡ o → LabelStands w number es new
+    go : (o : Option NameKind) → kind_of w.text es ≡ o → LabelStands w number es new
     go None e = inl (entered_is w _ es new e (rw e at h))
     go (Some (Unlabelled line)) e =
         let n = rw e at h in
@@ -72,10 +72,10 @@ labelled_is w number es new h = go (kind_of w.text es) refl
     go (Some (Labelled n)) e = let n = rw e at h in cc
 
 -- What the longer table says.
-pub length-entered : {x : List ℕ} {k : Kind} {es new : List Entry} → Entered x k es new → length new ≡ length es + 1
+pub length-entered : {x : List ℕ} {k : NameKind} {es new : List Entry} → Entered x k es new → length new ≡ length es + 1
 length-entered {x} {k} {es} {new} e = rw e.is (length-append es (record { name = x; kind = k } ∷ []))
 
-pub kind_of-entered : {x : List ℕ} {k : Kind} {es new : List Entry} → Entered x k es new → kind_of x new ≡ Some k
+pub kind_of-entered : {x : List ℕ} {k : NameKind} {es new : List Entry} → Entered x k es new → kind_of x new ≡ Some k
 kind_of-entered {x} {k} {es} {new} e =
     let entry : Entry = record { name = x; kind = k } in
     ap (kind_of x) e.is
@@ -83,7 +83,7 @@ kind_of-entered {x} {k} {es} {new} e =
     ∙ ap (λ o. option_or o (if same_name x x then Some k else None)) e.absent
     ∙ ap (λ b. if b then Some k else None) (nat_list_eq_equiv.refl x)
 
-pub kind_of-kept : (x : List ℕ) {y : List ℕ} {j k : Kind} {es new : List Entry} → Entered y k es new → kind_of x es ≡ Some j → kind_of x new ≡ Some j
+pub kind_of-kept : (x : List ℕ) {y : List ℕ} {j k : NameKind} {es new : List Entry} → Entered y k es new → kind_of x es ≡ Some j → kind_of x new ≡ Some j
 kind_of-kept x {y} {j} {k} {es} {new} e h =
     ap (kind_of x) e.is ∙ kind_of-push x es (record { name = y; kind = k }) ∙ ap (λ o. option_or o (if same_name y x then Some k else None)) h
 
@@ -98,17 +98,17 @@ with_names_is : {P : List Entry → Type 0} (s t : Scope) (r : Result (List Entr
 with_names_is s t (Ok names) p h = let e : record s { names = names } ≡ t = cc in record { names = names; come = p names refl; is = sym e }
 with_names_is s t (Err d) p h = cc
 
-pub declares : (w : Word) (size : Option ℕ) (s t : Scope) → step (Declaration w size) s ≡ Ok t
-    → Renamed (record s { frame = s.frame + words_of size }) (Entered w.text (Automatic s.frame) s.names) t
-declares w size s t h = with_names_is (record s { frame = s.frame + words_of size }) t _ (declared_is w (Automatic s.frame) s.names) h
+pub declares : (w : Identifier) (size : Option ℕ) (s t : Scope) → scan_event (Declaration w size) s ≡ Ok t
+    → Renamed (record s { frame = s.frame + automatic_words size }) (Entered w.text (Automatic s.frame) s.names) t
+declares w size s t h = with_names_is (record s { frame = s.frame + automatic_words size }) t _ (declared_is w (Automatic s.frame) s.names) h
 
-pub imports : (w : Word) (s t : Scope) → step (Import w) s ≡ Ok t → Renamed s (Entered w.text External s.names) t
+pub imports : (w : Identifier) (s t : Scope) → scan_event (Import w) s ≡ Ok t → Renamed s (Entered w.text External s.names) t
 imports w s t h = with_names_is s t _ (declared_is w External s.names) h
 
-pub mentions : (called : Bool) (w : Word) (s t : Scope) → step (Mention called w) s ≡ Ok t → Renamed s (Mentioned called w s.names) t
+pub mentions : (called : Bool) (w : Identifier) (s t : Scope) → scan_event (Mention called w) s ≡ Ok t → Renamed s (Mentioned called w s.names) t
 mentions called w s t h = with_names_is s t _ (mentioned_is called w s.names) h
 
-pub labels_here : (w : Word) (s t : Scope) → step (LabelHere w) s ≡ Ok t → Renamed (record s { labels = s.labels + 1 }) (LabelStands w s.labels s.names) t
+pub labels_here : (w : Identifier) (s t : Scope) → scan_event (LabelHere w) s ≡ Ok t → Renamed (record s { labels = s.labels + 1 }) (LabelStands w s.labels s.names) t
 labels_here w s t h = with_names_is (record s { labels = s.labels + 1 }) t _ (labelled_is w s.labels s.names) h
 
 -- one more arm of the innermost switch
@@ -132,19 +132,19 @@ unless : (b : Bool) (s t : Scope) (r : Result Scope Diagnostic) (d : Diagnostic)
 unless true s t r d f h = cc
 unless false s t r d f h = f h
 
-selected_is : (line value : ℕ) (s t : Scope) (switches : List Around) → switches ≡ s.switches → selected line value s switches ≡ Ok t → ArmAdded s t
+selected_is : (line value : ℕ) (s t : Scope) (switches : List Around) → switches ≡ s.switches → scan_case line value s switches ≡ Ok t → ArmAdded s t
 selected_is line value s t [] q h = cc
 selected_is line value s t (around ∷ others) q h =
     unless (list_any (nat_eq value) around.constants) s t _ _ (provided (nat_lt s.cases most_cases) s t _ _ (arm_added around _ others _ s t q)) h
 
-defaulted_is : (line : ℕ) (s t : Scope) (switches : List Around) → switches ≡ s.switches → defaulted line s switches ≡ Ok t → ArmAdded s t
+defaulted_is : (line : ℕ) (s t : Scope) (switches : List Around) → switches ≡ s.switches → scan_default line s switches ≡ Ok t → ArmAdded s t
 defaulted_is line s t [] q h = cc
 defaulted_is line s t (around ∷ others) q h = unless around.has_default s t _ _ (arm_added around _ others s.cases s t q) h
 
-pub selects : (line value : ℕ) (s t : Scope) → step (CaseHere line value) s ≡ Ok t → ArmAdded s t
+pub selects : (line value : ℕ) (s t : Scope) → scan_event (CaseHere line value) s ≡ Ok t → ArmAdded s t
 selects line value s t h = selected_is line value s t s.switches refl h
 
-pub defaults : (line : ℕ) (s t : Scope) → step (DefaultHere line) s ≡ Ok t → ArmAdded s t
+pub defaults : (line : ℕ) (s t : Scope) → scan_event (DefaultHere line) s ≡ Ok t → ArmAdded s t
 defaults line s t h = defaulted_is line s t s.switches refl h
 
 -- a test that held
@@ -156,10 +156,10 @@ passed : (b : Bool) (s t : Scope) (d : Diagnostic) → (let r : Result Scope Dia
 passed true s t d h = let e : s ≡ t = cc in record { is = sym e; holds = refl }
 passed false s t d h = cc
 
-pub lvalues : (line : ℕ) (e : Expr) (s t : Scope) → step (Lvalue line e) s ≡ Ok t → Passed (is_lvalue s.names e) s t
+pub lvalues : (line : ℕ) (e : Expr) (s t : Scope) → scan_event (Lvalue line e) s ≡ Ok t → Passed (is_lvalue s.names e) s t
 lvalues line e s t h = passed (is_lvalue s.names e) s t _ h
 
-pub breaks : (line : ℕ) (s t : Scope) → step (BreakHere line) s ≡ Ok t → Passed (can_break s) s t
+pub breaks : (line : ℕ) (s t : Scope) → scan_event (BreakHere line) s ≡ Ok t → Passed (can_break s) s t
 breaks line s t h = passed (can_break s) s t _ h
 
 -- Whole scans.
@@ -169,11 +169,11 @@ scanned-Err (e ∷ es) d = refl
 
 -- what no event changes, and each keeps
 pub by_steps : (P : List Event → Scope → Scope → Type 0) → ((s : Scope) → P [] s s)
-    → ((e : Event) (es : List Event) (s t u : Scope) → step e s ≡ Ok t → P es t u → P (e ∷ es) s u)
+    → ((e : Event) (es : List Event) (s t u : Scope) → scan_event e s ≡ Ok t → P es t u → P (e ∷ es) s u)
     → (es : List Event) (s t : Scope) → scanned es (Ok s) ≡ Ok t → P es s t
 by_steps P none one [] s t h = let e : s ≡ t = cc in rw (← e) (none s)
-by_steps P none one (e ∷ es) s u h = go (step e s) refl (λ t k. by_steps P none one es t u k)
+by_steps P none one (e ∷ es) s u h = go (scan_event e s) refl (λ t k. by_steps P none one es t u k)
   where
-    go : (r : Result Scope Diagnostic) → step e s ≡ r → ((t : Scope) → scanned es (Ok t) ≡ Ok u → P es t u) → P (e ∷ es) s u
+    go : (r : Result Scope Diagnostic) → scan_event e s ≡ r → ((t : Scope) → scanned es (Ok t) ≡ Ok u → P es t u) → P (e ∷ es) s u
     go (Ok t) q rest = one e es s t u q (rest t (sym (ap (scanned es) q) ∙ h))
     go (Err d) q rest = let bad : Err d ≡ Ok u = sym (scanned-Err es d) ∙ sym (ap (scanned es) q) ∙ h in cc

@@ -3,10 +3,10 @@ use Rattle.std.proofs.Common.{◌≡◌, ℕ, suc, List, [], ◌∷◌, ◌++◌
 use Rattle.std.specs.Prelude.{if◌then◌else◌}
 use Rattle.std.specs.Option.{option_or}
 use Rattle.std.specs.Cmp.Lexicographic.{nat_list_eq_equiv}
-use Rattle.blang.specs.Scan.{Entry, Kind, kind_of, with_kind}
+use Rattle.blang.specs.Scan.{Entry, NameKind, kind_of, with_kind}
 use Rattle.bword.specs.Words.{same_name}
 
-or_if : (b : Bool) (k : Kind) (o p q : Option Kind) → o ≡ option_or p q → (if b then Some k else o) ≡ option_or (if b then Some k else p) q
+or_if : (b : Bool) (k : NameKind) (o p q : Option NameKind) → o ≡ option_or p q → (if b then Some k else o) ≡ option_or (if b then Some k else p) q
 or_if true k o p q e = refl
 or_if false k o p q e = e
 
@@ -20,25 +20,25 @@ pub same_query : (w x y : List ℕ) → same_name w x ≡ true → same_name y w
 same_query w x y e = nat_list_eq_equiv.symm y w ∙ nat_list_eq_equiv.congr w x y e ∙ nat_list_eq_equiv.symm x y
 
 -- the kind of a name that is given another kind where it is in the table
-abbrev pub changed : Bool → Kind → Option Kind → Option Kind
+abbrev pub changed : Bool → NameKind → Option NameKind → Option NameKind
 changed true k (Some j) = Some k
 changed true k None = None
 changed false k o = o
 
-changed_none : (b : Bool) (k : Kind) → None ≡ changed b k None
+changed_none : (b : Bool) (k : NameKind) → None ≡ changed b k None
 changed_none true k = refl
 changed_none false k = refl
 
-changed_hit : (c : Bool) (k j : Kind) (o : Option Kind) → (if c then Some k else o) ≡ changed c k (if c then Some j else o)
+changed_hit : (c : Bool) (k j : NameKind) (o : Option NameKind) → (if c then Some k else o) ≡ changed c k (if c then Some j else o)
 changed_hit true k j o = refl
 changed_hit false k j o = refl
 
-changed_miss : (b c : Bool) (k j : Kind) (o p : Option Kind) → (c ≡ true → b ≡ false) → o ≡ changed c k p → (if b then Some j else o) ≡ changed c k (if b then Some j else p)
+changed_miss : (b c : Bool) (k j : NameKind) (o p : Option NameKind) → (c ≡ true → b ≡ false) → o ≡ changed c k p → (if b then Some j else o) ≡ changed c k (if b then Some j else p)
 changed_miss true true k j o p h e = let x : true ≡ false = h refl in cc
 changed_miss true false k j o p h e = refl
 changed_miss false c k j o p h e = e
 
-pub kind_of-with_kind : (w x : List ℕ) (k : Kind) (es : List Entry) → kind_of x (with_kind w k es) ≡ changed (same_name w x) k (kind_of x es)
+pub kind_of-with_kind : (w x : List ℕ) (k : NameKind) (es : List Entry) → kind_of x (with_kind w k es) ≡ changed (same_name w x) k (kind_of x es)
 kind_of-with_kind w x k [] = changed_none (same_name w x) k
 kind_of-with_kind w x k (e ∷ es) = go (kind_of-with_kind w x k es) (same_name e.name w) refl
   where
@@ -53,6 +53,6 @@ length_if : (b : Bool) (e f : Entry) (es more : List Entry) → length more ≡ 
 length_if true e f es more h = refl
 length_if false e f es more h = ap suc h
 
-pub length-with_kind : (x : List ℕ) (k : Kind) (es : List Entry) → length (with_kind x k es) ≡ length es
+pub length-with_kind : (x : List ℕ) (k : NameKind) (es : List Entry) → length (with_kind x k es) ≡ length es
 length-with_kind x k [] = refl
 length-with_kind x k (e ∷ es) = length_if (same_name e.name x) e _ es (with_kind x k es) (length-with_kind x k es)

@@ -1,19 +1,21 @@
 -- Reading a definition from the left, with one token ahead.
-use Rattle.std.specs.Prelude.{ℕ, List, [], if◌then◌else◌}
+use Rattle.std.specs.Prelude.{ℕ, Bool, false, List, [], if◌then◌else◌}
 use Rattle.blang.specs.declared.token.Token.{Token}
 use Rattle.blang.specs.declared.token.Token.TheVariants as token
-use Rattle.blang.specs.Trees.{Word, Number, Character, Ival, Ival_constant, Ival_text, Ival_name, Definition, Simple, Vector, Function}
-use Rattle.btree.specs.Reading.{Got, Stop, Reader, ◌>>=◌, first, line_of, after, expect}
+use Rattle.blang.specs.Trees.{Identifier, Number, Character, Ival, Ival_constant, Ival_text, Ival_name, Definition}
+use Rattle.blang.specs.Trees.{Simple, Vector, Function}
+use Rattle.btree.specs.Reading.{Got, Stop, Reader, ◌>>=◌, first, line_ahead, after, expect}
 use Rattle.btree.specs.ExpressionReader.{is_close_paren, is_close_bracket}
 use Rattle.btree.specs.Commas.{list_reader}
 use Rattle.btree.specs.StatementReader.{is_semicolon, name, size, statement}
-use Rattle.blang.specs.WellFormed.{values_words, nesting_limit}
+use Rattle.blang.specs.WellFormed.{nesting_limit, is_open}
+use Rattle.btree.specs.Fitting.{values_words}
 
 abbrev pub ival_at : ℕ → Token → Reader Ival
 ival_at off (token.Number n) ts = Got (Ival_constant (Number n)) (after ts)
 ival_at off (token.Character n) ts = Got (Ival_constant (Character n)) (after ts)
 ival_at off (token.String s) ts = Got (Ival_text s.items off) (after ts)
-ival_at off (token.Name x) ts = Got (Ival_name (record { text = x; line = line_of ts })) (after ts)
+ival_at off (token.Name x) ts = Got (Ival_name (record { text = x; line = line_ahead ts })) (after ts)
 ival_at off _ ts = Stop ts
 
 abbrev pub ival : List Ival → Reader Ival
@@ -27,27 +29,32 @@ valued made ts =
     else list_reader ival ts >>= (λ values r. expect is_semicolon r >>= λ o. Got (made values))
 
 -- behind an opening bracket
-abbrev pub vector : Word → Reader Definition
+abbrev pub vector : Identifier → Reader Definition
 vector w ts = size ts >>= λ n r. expect is_close_bracket r >>= λ o. valued (Vector w n)
 
-abbrev pub function_body : Word → List Word → Reader Definition
+abbrev pub function_body : Identifier → List Identifier → Reader Definition
 function_body w parameters ts = statement nesting_limit 0 ts >>= λ s. Got (Function w parameters s)
 
 -- behind the parenthesis that opens the parameters
-abbrev pub function : Word → Reader Definition
+abbrev pub function : Identifier → Reader Definition
 function w ts =
     if is_close_paren (first ts)
     then function_body w [] (after ts)
     else list_reader (λ before. name) ts
     >>= (λ parameters r. expect is_close_paren r >>= λ o. function_body w parameters)
 
-abbrev pub behind_name_at : Word → Token → Reader Definition
+abbrev pub behind_name_at : Identifier → Token → Reader Definition
 behind_name_at w token.OpenBracket ts = vector w (after ts)
 behind_name_at w token.OpenParen ts = function w (after ts)
 behind_name_at w _ ts = valued (Simple w) ts
 
-abbrev pub behind_name : Word → Reader Definition
+abbrev pub behind_name : Identifier → Reader Definition
 behind_name w ts = behind_name_at w (first ts) ts
 
 abbrev pub definition : Reader Definition
 definition ts = name ts >>= behind_name
+
+-- whether an else behind it would be its own
+abbrev pub is_open_definition : Definition → Bool
+is_open_definition (Function w parameters body) = is_open body
+is_open_definition _ = false

@@ -14,9 +14,10 @@ use Rattle.blang.specs.declared.code.Definition as coded
 use Rattle.blang.specs.declared.code.Definition.TheVariants as code
 use Rattle.blang.specs.Trees.{mark, keyword_mark}
 use Rattle.blang.specs.Cut.{placed}
-use Rattle.blang.specs.Code.{fits}
+use Rattle.blang.specs.Code.{fits_limits}
 use Rattle.blang.specs.Compiles.{line_of}
-use Rattle.btree.specs.CodeRows.{number, semicolon, braced, function_f, fault_in, not_read, name_fault, lone_fault, case_fault, case_token, default_on, cases_below, names_below}
+use Rattle.btree.specs.CodeRows.{number, semicolon, braced, function_f, fault_in, not_read, name_fault, lone_fault}
+use Rattle.btree.specs.CodeRows.{case_fault, case_token, default_on, cases_below, names_below}
 
 -- all letters, in the order of their type
 abbrev all : List Letters
@@ -73,16 +74,18 @@ vector_of words values strings = code.Vector (record {
 })
 
 -- 4096 instructions, 1024 string words, 32767 frame words
-function_limits : map fits (function_of 4096 1024 32767 ∷ function_of 4097 0 0 ∷ function_of 0 1025 0
+function_limits : map fits_limits (function_of 4096 1024 32767 ∷ function_of 4097 0 0 ∷ function_of 0 1025 0
     ∷ function_of 0 0 32768 ∷ []) ≡ true ∷ replicate 3 false
 function_limits = refl
 
 -- 1024 initial values and as many string words
-simple_limits : map fits (simple_of 1024 1024 ∷ simple_of 1025 0 ∷ simple_of 0 1025 ∷ []) ≡ true ∷ replicate 2 false
+simple_limits : map fits_limits (simple_of 1024 1024 ∷ simple_of 1025 0 ∷ simple_of 0 1025 ∷ [])
+    ≡ true ∷ replicate 2 false
 simple_limits = refl
 
 -- 32767 words of a vector
-vector_limits : map fits (vector_of 32767 1024 1024 ∷ vector_of 32768 0 0 ∷ vector_of 1 1025 0 ∷ vector_of 1 0 1025
+vector_limits : map fits_limits
+    (vector_of 32767 1024 1024 ∷ vector_of 32768 0 0 ∷ vector_of 1 1025 0 ∷ vector_of 1 0 1025
     ∷ []) ≡ true ∷ replicate 3 false
 vector_limits = refl
 

@@ -4,10 +4,20 @@ use Rattle.bword.specs.declared.operators.BinOp.{BinOp}
 use Rattle.bword.specs.declared.operators.BinOp.TheVariants as op
 use Rattle.blang.specs.declared.token.Token.{Token}
 use Rattle.blang.specs.declared.token.Token.TheVariants as token
-use Rattle.blang.specs.Trees.{Expr, Arguments, PrefixOp, Negate, Not, Indirection, Address, PreIncrement, PreDecrement, PostfixOp, PostIncrement, PostDecrement, Number, Character, Named, Literal, Text, Grouped, Indexed, Called, Postfixed, Prefixed, Binary, Conditional, Assigned, No_arguments, Another}
-use Rattle.blang.specs.WellFormed.{words, argument_words, rank, or_rank}
-use Rattle.btree.specs.Expression.{is_operand}
-use Rattle.btree.specs.Reading.{Got, Stop, Reader, ◌>>=◌, at_some, first, line_of, after, expect, many}
+use Rattle.blang.specs.Trees.{Expr, Arguments, PrefixOp, Negate, Not, Indirection, Address, PreIncrement, PreDecrement}
+use Rattle.blang.specs.Trees.{PostfixOp, PostIncrement, PostDecrement, Number, Character, Named, Literal, Text, Grouped}
+use Rattle.blang.specs.Trees.{Indexed, Called, Postfixed, Prefixed, Binary, Conditional, Assigned, No_arguments}
+use Rattle.blang.specs.Trees.{Another}
+use Rattle.blang.specs.WellFormed.{rank, or_rank}
+use Rattle.btree.specs.Fitting.{words, argument_words}
+use Rattle.btree.specs.Reading.{Got, Stop, Reader, ◌>>=◌, at_some, first, line_ahead, after, expect, many}
+
+-- an expression that no binary operator, conditional or assignment joins
+abbrev pub is_operand : Expr → Bool
+is_operand (Binary op line e f) = false
+is_operand (Conditional e f g) = false
+is_operand (Assigned op line e f) = false
+is_operand _ = true
 
 abbrev pub is_close_paren : Token → Bool
 is_close_paren token.CloseParen = true
@@ -69,23 +79,23 @@ abbrev pub always : {A B : Type 0} → (Token → Option B) → A → Token → 
 always more a t = more t
 
 -- which expressions may stand at a place: `prefix`, `cond` and `rvalue` of the grammar
-pub data Kind : Type 0 where
-  Operand : Kind
-  Choice : Kind
-  Rvalue : Kind
+pub data ExpressionKind : Type 0 where
+  Operand : ExpressionKind
+  Choice : ExpressionKind
+  Rvalue : ExpressionKind
 
 -- What is one level deeper: the token that opens it, where there is room, and what stands there.
 -- Each reader of expressions is given the offset of the next string.
 pub record Inner : Type 0 where
   pub enter : Reader (Unit {0})
-  pub read : Kind → ℕ → Reader Expr
+  pub read : ExpressionKind → ℕ → Reader Expr
 
 abbrev pub group : Inner → ℕ → Reader Expr
 group inner off ts =
     inner.enter ts >>= λ o r. inner.read Rvalue off r >>= λ e r. expect is_close_paren r >>= λ o. Got (Grouped e)
 
 abbrev pub primary_at : Inner → ℕ → Token → Reader Expr
-primary_at inner off (token.Name x) ts = Got (Named (record { text = x; line = line_of ts })) (after ts)
+primary_at inner off (token.Name x) ts = Got (Named (record { text = x; line = line_ahead ts })) (after ts)
 primary_at inner off (token.Number n) ts = Got (Literal (Number n)) (after ts)
 primary_at inner off (token.Character n) ts = Got (Literal (Character n)) (after ts)
 primary_at inner off (token.String s) ts = Got (Text s.items off) (after ts)
@@ -115,20 +125,21 @@ postfix_with inner off Index e ts =
     inner.enter ts >>= λ o r. inner.read Rvalue (off + words e) r >>= λ f r. expect is_close_bracket r
     >>= λ o. Got (Indexed e f)
 postfix_with inner off Call e ts = inner.enter ts >>= λ o. call inner off e
-postfix_with inner off (Step op) e ts = Got (Postfixed op (line_of ts) e) (after ts)
+postfix_with inner off (Step op) e ts = Got (Postfixed op (line_ahead ts) e) (after ts)
 
 abbrev pub postfix : Inner → ℕ → Reader Expr
 postfix inner off ts = primary inner off ts >>= many (always suffix) (postfix_with inner off)
 
 abbrev pub prefixed : Inner → ℕ → PrefixOp → Reader Expr
-prefixed inner off op ts = inner.enter ts >>= λ o r. inner.read Operand off r >>= λ e. Got (Prefixed op (line_of ts) e)
+prefixed inner off op ts =
+    inner.enter ts >>= λ o r. inner.read Operand off r >>= λ e. Got (Prefixed op (line_ahead ts) e)
 
 abbrev pub operand : Inner → ℕ → Reader Expr
 operand inner off ts = at_some (prefix_op (first ts)) (λ op. prefixed inner off op ts) (postfix inner off ts)
 
 -- one more operator of a rank, and what stands behind it
 abbrev pub operation : (ℕ → Reader Expr) → ℕ → BinOp → Expr → Reader Expr
-operation tighter off op e ts = tighter (off + words e) (after ts) >>= λ f. Got (Binary op (line_of ts) e f)
+operation tighter off op e ts = tighter (off + words e) (after ts) >>= λ f. Got (Binary op (line_ahead ts) e f)
 
 -- operands and the binary operators up to this rank
 abbrev pub chain : Inner → ℕ → ℕ → Reader Expr
@@ -151,13 +162,13 @@ assigns e _ = None
 
 abbrev pub assigned : Inner → ℕ → Expr → Option BinOp → Reader Expr
 assigned inner off e op ts =
-    inner.enter ts >>= λ o r. inner.read Rvalue (off + words e) r >>= λ f. Got (Assigned op (line_of ts) e f)
+    inner.enter ts >>= λ o r. inner.read Rvalue (off + words e) r >>= λ f. Got (Assigned op (line_ahead ts) e f)
 
 abbrev pub rvalue_from : Inner → ℕ → Expr → Reader Expr
 rvalue_from inner off e ts =
     at_some (assigns e (first ts)) (λ op. assigned inner off e op ts) (conditional inner off e ts)
 
-abbrev pub read_at : Inner → Kind → ℕ → Reader Expr
+abbrev pub read_at : Inner → ExpressionKind → ℕ → Reader Expr
 read_at inner Operand off ts = operand inner off ts
 read_at inner Choice off ts = chain inner or_rank off ts >>= conditional inner off
 read_at inner Rvalue off ts = chain inner or_rank off ts >>= rvalue_from inner off
@@ -167,5 +178,5 @@ abbrev pub inner : ℕ → Inner
 inner zero = record { enter = λ ts. Stop ts; read = λ kind off ts. Stop ts }
 inner (suc room) = record { enter = λ ts. Got tt (after ts); read = λ kind off ts. read_at (inner room) kind off ts }
 
-abbrev pub reader : ℕ → Kind → ℕ → Reader Expr
+abbrev pub reader : ℕ → ExpressionKind → ℕ → Reader Expr
 reader room kind off ts = read_at (inner room) kind off ts

@@ -5,16 +5,17 @@ use Rattle.blang.specs.declared.token.Keyword.TheVariants as keyword
 use Rattle.blang.specs.declared.token.Placed.{Placed}
 use Rattle.bword.specs.declared.edition.Edition.{Edition}
 use Rattle.blang.specs.Cut.{tokens_from}
-use Rattle.blang.specs.Trees.{mark, kept_tokens, bare, Word, Expr, name_token, spell, Stmt, spell_statement, keyword_mark, Definition, spell_definition}
-use Rattle.blang.specs.WellFormed.{rvalue_rank, Fits, Sits, IsFormed}
+use Rattle.blang.specs.Trees.{mark, kept_tokens, bare, Identifier, Expr, name_token, spell, Stmt, spell_statement}
+use Rattle.blang.specs.Trees.{keyword_mark, Definition, spell_definition}
+use Rattle.blang.specs.WellFormed.{rvalue_rank, IsFormed}
+use Rattle.btree.specs.Fitting.{Fits, Sits}
 use Rattle.btree.specs.Reading.{Got, first}
 use Rattle.btree.specs.ReadingOn.{Fine, Closer}
 use Rattle.blang.specs.WellFormed as statements
 use Rattle.btree.specs.ExpressionReader.{Rvalue, reader}
 use Rattle.btree.specs.StatementReader.{is_else, statement}
-use Rattle.btree.specs.Definition.{is_open}
-use Rattle.btree.specs.DefinitionReader.{definition}
-use Rattle.blang.specs.Compiles.{Defined, Outcome, Goes}
+use Rattle.btree.specs.DefinitionReader.{definition, is_open_definition}
+use Rattle.blang.specs.Compiles.{Defined, Compilation, CompilesTo}
 use Rattle.btree.specs.Compiled.{has}
 
 -- What a definition is read as is spelled by the tokens that were taken, and well formed.
@@ -28,7 +29,7 @@ abbrev pub DefinitionRead : Type 0
 DefinitionRead =
     (tokens rest : List Placed) (d : Definition) → definition tokens ≡ Got d rest
     → (kept_tokens tokens ≡ spell_definition d ++ kept_tokens rest) × IsFormed d
-    × (is_open d ≡ true → is_else (first rest) ≡ false)
+    × (is_open_definition d ≡ true → is_else (first rest) ≡ false)
 
 abbrev pub StatementRead : Type 0
 StatementRead =
@@ -44,13 +45,13 @@ ExpressionRead =
 -- The spelling of a well-formed definition is read as that definition, whatever stands behind it but its own else.
 abbrev pub ReadsAgain : Type 0
 ReadsAgain =
-    (d : Definition) (rest : List Placed) → IsFormed d → (is_open d ≡ true → is_else (first rest) ≡ false)
+    (d : Definition) (rest : List Placed) → IsFormed d → (is_open_definition d ≡ true → is_else (first rest) ≡ false)
     → definition (spell_definition d ++ rest) ≡ Got d rest
 
 -- An else behind an open definition goes on with it.
 abbrev pub GoesOnWithElse : Type 0
 GoesOnWithElse =
-    (d : Definition) → IsFormed d → is_open d ≡ true
+    (d : Definition) → IsFormed d → is_open_definition d ≡ true
     → (d2 : Definition) × IsFormed d2
     × (spell_definition d2 ≡ spell_definition d ++ (keyword_mark keyword.Else ∷ mark token.Semicolon ∷ []))
 
@@ -58,14 +59,15 @@ GoesOnWithElse =
 abbrev pub HasTwin : Type 0
 HasTwin =
     (d : Definition) (tokens : List Placed) → IsFormed d → map bare (spell_definition d) ≡ map bare tokens
-    → (d2 : Definition) × IsFormed d2 × (is_open d2 ≡ is_open d) × (spell_definition d2 ≡ kept_tokens tokens)
+    → (d2 : Definition) × IsFormed d2 × (is_open_definition d2 ≡ is_open_definition d)
+    × (spell_definition d2 ≡ kept_tokens tokens)
 
 -- Reading a definition depends on the tokens taken and one more, and can be ended wherever it stops.
 abbrev pub ReadsOn : Type 0
 ReadsOn = (tokens : List Placed) → Fine Closer definition tokens
 
 abbrev pub BeginsWithName : Type 0
-BeginsWithName = (d : Definition) → (w : Word) × (rest : List Placed) × (spell_definition d ≡ name_token w ∷ rest)
+BeginsWithName = (d : Definition) → (w : Identifier) × (rest : List Placed) × (spell_definition d ≡ name_token w ∷ rest)
 
 -- no two well-formed trees have the same spelling
 abbrev pub OneExpression : Type 0
@@ -83,14 +85,16 @@ OneDefinition = (d e : Definition) → IsFormed d → IsFormed e → spell_defin
 abbrev pub EachSourceComes : Type 0
 EachSourceComes =
     (names : Defined) (edition : Edition) (line : ℕ) (bytes : List ℕ)
-    → (r : Outcome) × Goes names (tokens_from edition line bytes) r
+    → (r : Compilation) × CompilesTo names (tokens_from edition line bytes) r
 
 -- what comes of tokens looks at the names before them by membership alone
 abbrev pub ByMembership : Type 0
-ByMembership = (names these : Defined) (tokens : List Placed) (r : Outcome) → ((x : List ℕ) → has x names ≡ has x these) →
-    Goes names tokens r → Goes these tokens r
+ByMembership =
+    (names these : Defined) (tokens : List Placed) (r : Compilation) → ((x : List ℕ) → has x names ≡ has x these) →
+    CompilesTo names tokens r → CompilesTo these tokens r
 
 -- the same tokens come to the same
 abbrev pub OutcomesAreEqual : Type 0
 OutcomesAreEqual =
-    (names : Defined) (tokens : List Placed) (r q : Outcome) → Goes names tokens r → Goes names tokens q → r ≡ q
+    (names : Defined) (tokens : List Placed) (r q : Compilation) → CompilesTo names tokens r → CompilesTo names tokens q
+    → r ≡ q

@@ -1,6 +1,7 @@
 -- The level of each token of two functions.
 use Rattle.std.specs.Prelude.{◌≡◌, ℕ, List, [], ◌∷◌, map, None, refl}
-use Rattle.blang.specs.Trees.{Number, Expr, Literal, Indexed, Called, Prefixed, Negate, Conditional, Assigned, No_arguments, Another, Stmt, If, Switch, Evaluate, Nothing, More, Function}
+use Rattle.blang.specs.Trees.{Number, Expr, Literal, Indexed, Called, Prefixed, Negate, Conditional, Assigned}
+use Rattle.blang.specs.Trees.{No_arguments, Another, Stmt, If, Switch, Evaluate, Nothing, More, Function}
 use Rattle.btree.specs.Rows.{word, var}
 use Rattle.btree.specs.Levels.{program_levels}
 
@@ -14,7 +15,8 @@ abbrev number : ℕ → Expr
 number n = Literal (Number n)
 
 -- f(a) if(a) f(a[1], -a);
-in_a_call : levels_of (If a (Evaluate (Called (var 102) (Another (Another No_arguments (Indexed a (number 1))) (Prefixed Negate 1 a)))))
+in_a_call : levels_of
+    (If a (Evaluate (Called (var 102) (Another (Another No_arguments (Indexed a (number 1))) (Prefixed Negate 1 a)))))
     ≡ 0 ∷ 0 ∷ 0 ∷ 0 ∷ 1 ∷ 0 ∷ 1 ∷ 0 ∷ 1 ∷ 2 ∷ 2 ∷ 3 ∷ 3 ∷ 2 ∷ 2 ∷ 3 ∷ 3 ∷ 1 ∷ 1 ∷ []
 in_a_call = refl
 

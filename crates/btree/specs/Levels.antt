@@ -3,9 +3,14 @@ use Rattle.std.specs.Prelude.{◌≡◌, ℕ, suc, ◌≤◌, List, [], ◌∷�
 use Rattle.blang.specs.declared.token.Token.TheVariants as token
 use Rattle.blang.specs.declared.token.Keyword.TheVariants as keyword
 use Rattle.blang.specs.declared.token.Placed.{Placed}
-use Rattle.blang.specs.Trees.{mark, Expr, Arguments, Named, Literal, Text, Grouped, Indexed, Called, Postfixed, Prefixed, Binary, Conditional, Assigned, No_arguments, Another, name_token, constant_token, prefix_token, postfix_token, comma_behind, list_spelling, Stmt, Headed, Compound, If, IfElse, While, Switch, Goto, Break, Return, ReturnValue, Evaluate, Empty, Stmts, Nothing, More, keyword_mark, name_spelling, spell_heading, Definition, Simple, Vector, Function, spell_definition, spell_all}
+use Rattle.blang.specs.Trees.{mark, Expr, Arguments, Named, Literal, Text, Grouped, Indexed, Called, Postfixed}
+use Rattle.blang.specs.Trees.{Prefixed, Binary, Conditional, Assigned, No_arguments, Another, name_token}
+use Rattle.blang.specs.Trees.{constant_token, prefix_token, postfix_token, comma_behind, list_spelling, Stmt, Headed}
+use Rattle.blang.specs.Trees.{Compound, If, IfElse, While, Switch, Goto, Break, Return, ReturnValue, Evaluate, Empty}
+use Rattle.blang.specs.Trees.{Stmts, Nothing, More, keyword_mark, name_spelling, spell_heading, Definition, Simple}
+use Rattle.blang.specs.Trees.{Vector, Function, spell_definition, spell_all}
 use Rattle.blang.specs.Cut.{placed, string_token}
-use Rattle.blang.specs.WellFormed.{Sits, IsFormed}
+use Rattle.btree.specs.Fitting.{EachBehind, Sits, IvalFits}
 
 pub record Leveled : Type 0 where
   pub token : Placed
@@ -89,8 +94,8 @@ program_levels (d ∷ ds) = definition_levels d ++ program_levels ds
 
 -- well formed, with another greatest level
 abbrev pub IsFormedIn : ℕ → Definition → Type 0
-IsFormedIn most (Simple w values) = IsFormed (Simple w values)
-IsFormedIn most (Vector w size values) = IsFormed (Vector w size values)
+IsFormedIn most (Simple w values) = EachBehind IvalFits [] values
+IsFormedIn most (Vector w size values) = EachBehind IvalFits [] values
 IsFormedIn most (Function w parameters body) = Sits body most 0
 
 abbrev pub AllFormedIn : ℕ → List Definition → Type 0

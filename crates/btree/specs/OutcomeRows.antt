@@ -3,7 +3,7 @@ use Rattle.std.specs.Prelude.{ℕ, List, [], ◌∷◌, ◌++◌}
 use Rattle.blang.specs.declared.code.Instr.{Instr}
 use Rattle.blang.specs.declared.code.Instr.TheVariants as instr
 use Rattle.blang.specs.declared.code.Definition.TheVariants as code
-use Rattle.blang.specs.Text.{text_of}
+use Rattle.blang.specs.Text.{definition_text}
 use Rattle.blang.specs.declared.token.Letters.TheVariants as letters
 use Rattle.blang.specs.declared.token.Token.{Token}
 use Rattle.blang.specs.declared.token.Token.TheVariants as token
@@ -13,7 +13,7 @@ use Rattle.blang.specs.Trees.{mark, keyword_mark}
 use Rattle.blang.specs.Cut.{placed}
 use Rattle.btree.specs.Rows.{name, assign, function}
 use Rattle.btree.specs.CodeRows.{number, semicolon, parenthesized, name_fault, lone_fault}
-use Rattle.blang.specs.Compiles.{Goes}
+use Rattle.blang.specs.Compiles.{CompilesTo}
 
 -- `f() if(1) ;`
 abbrev pub open_function : List Placed
@@ -28,16 +28,38 @@ last t = placed t 2 ∷ mark token.End ∷ []
 
 -- the text of `f` with this code
 abbrev pub text_of_f : List Instr → List ℕ
-text_of_f instrs = text_of (code.Function (record { name = 102 ∷ []; parameters = 0; frame = 0; targets = []; strings = []; code = instrs }))
+text_of_f instrs =
+    definition_text
+    (code.Function (record { name = 102 ∷ []; parameters = 0; frame = 0; targets = []; strings = []; code = instrs }))
 
 pub record OutcomeRows : Type 0 where
   -- `a;` and on line 2 `a;`
-  pub defined_twice : Goes [] ((name 97 ∷ semicolon ∷ []) ++ placed (token.Name (97 ∷ [])) 2 ∷ last token.Semicolon) (record { code = text_of (code.Simple (record { name = 97 ∷ []; values = []; strings = [] })) ∷ []; stop = name_fault letters.Redeclared 97 2 })
+  pub defined_twice : CompilesTo []
+      ((name 97 ∷ semicolon ∷ []) ++ placed (token.Name (97 ∷ [])) 2 ∷ last token.Semicolon)
+      (record {
+        code = definition_text (code.Simple (record { name = 97 ∷ []; values = []; strings = [] }))
+            ∷ [];
+        stop = name_fault letters.Redeclared 97 2;
+      })
   -- `f() if(1) ;` and on line 2 `5`
-  pub behind_a_function : Goes [] (open_function ++ last (token.Number 5)) (record { code = text_of_f (instr.Constant 1 ∷ instr.JumpIfZero 2 ∷ instr.Constant 0 ∷ instr.Return ∷ []) ∷ []; stop = lone_fault letters.Syntax 2 })
+  pub behind_a_function : CompilesTo [] (open_function ++ last (token.Number 5))
+      (record {
+        code = text_of_f (instr.Constant 1 ∷ instr.JumpIfZero 2 ∷ instr.Constant 0 ∷ instr.Return ∷ [])
+            ∷ [];
+        stop = lone_fault letters.Syntax 2;
+      })
   -- `f() if(1) ; else ;` and on line 2 `5`: the `else` is the function's
-  pub behind_an_else : Goes [] ((open_function ++ else_empty) ++ last (token.Number 5)) (record { code = text_of_f (instr.Constant 1 ∷ instr.JumpIfZero 3 ∷ instr.Jump 3 ∷ instr.Constant 0 ∷ instr.Return ∷ []) ∷ []; stop = lone_fault letters.Syntax 2 })
+  pub behind_an_else : CompilesTo [] ((open_function ++ else_empty) ++ last (token.Number 5))
+      (record {
+        code = text_of_f
+            (instr.Constant 1 ∷ instr.JumpIfZero 3 ∷ instr.Jump 3 ∷ instr.Constant 0 ∷ instr.Return ∷ [])
+            ∷ [];
+        stop = lone_fault letters.Syntax 2;
+      })
   -- `f() { 1=2;` and on line 2 `)`: no scan of what is no whole definition
-  pub in_a_function : Goes [] (function (mark token.OpenBrace ∷ number 1 ∷ assign ∷ number 2 ∷ semicolon ∷ []) ++ last token.CloseParen) (record { code = []; stop = lone_fault letters.Syntax 2 })
+  pub in_a_function : CompilesTo []
+      (function (mark token.OpenBrace ∷ number 1 ∷ assign ∷ number 2 ∷ semicolon ∷ []) ++ last token.CloseParen)
+      (record { code = []; stop = lone_fault letters.Syntax 2 })
   -- `f() if(1) ; else` and on line 2 `)`: the function isn't whole before its `else` has a statement
-  pub in_an_else : Goes [] ((open_function ++ keyword_mark keyword.Else ∷ []) ++ last token.CloseParen) (record { code = []; stop = lone_fault letters.Syntax 2 })
+  pub in_an_else : CompilesTo [] ((open_function ++ keyword_mark keyword.Else ∷ []) ++ last token.CloseParen)
+      (record { code = []; stop = lone_fault letters.Syntax 2 })

@@ -9,15 +9,15 @@ use Rattle.blang.specs.WellFormed.{nesting_limit, AllFormed, Parted}
 use Rattle.btree.specs.Levels.{AllFormedIn}
 
 -- A well-formed program stands for tokens that are its spelling, with the lines that trees keep.
-pub record StandsFor (ds : List Definition) (tokens : List Placed) : Type 0 where
+pub record IsSpelling (ds : List Definition) (tokens : List Placed) : Type 0 where
   pub formed : AllFormed ds
   pub spelled : spell_all ds ≡ kept_tokens tokens
 
 -- Two programs that stand for the same tokens are equal.
 abbrev pub OneProgram : Type 0
-OneProgram = (ds es : List Definition) (tokens : List Placed) → StandsFor ds tokens → StandsFor es tokens → ds ≡ es
+OneProgram = (ds es : List Definition) (tokens : List Placed) → IsSpelling ds tokens → IsSpelling es tokens → ds ≡ es
 
--- A program is well formed where it needs no more levels than the limit.
+-- The three rules of a well-formed program are those that a reader meets, with as many levels as the limit.
 abbrev pub FormedWithin : Type 0
 FormedWithin = (ds : List Definition) → (AllFormed ds → AllFormedIn nesting_limit ds) × (AllFormedIn nesting_limit ds
     → AllFormed ds)

@@ -27,9 +27,9 @@ abbrev pub first : List Placed → Token
 first [] = token.End
 first (p ∷ ts) = p.token
 
-abbrev pub line_of : List Placed → ℕ
-line_of [] = 0
-line_of (p ∷ ts) = p.line
+abbrev pub line_ahead : List Placed → ℕ
+line_ahead [] = 0
+line_ahead (p ∷ ts) = p.line
 
 abbrev pub after : List Placed → List Placed
 after [] = []

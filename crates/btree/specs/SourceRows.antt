@@ -4,7 +4,7 @@ use Rattle.bword.specs.declared.edition.Edition.{Edition}
 use Rattle.bword.specs.declared.edition.Edition.TheVariants as editions
 use Rattle.blang.specs.declared.token.Diagnostic.{Diagnostic}
 use Rattle.blang.specs.Cut.{tokens_from}
-use Rattle.blang.specs.Compiles.{Outcome, Goes, code_text, line_of}
+use Rattle.blang.specs.Compiles.{Compilation, CompilesTo, code_text, line_of}
 
 -- the line of a diagnostic, if there is one
 abbrev pub fault_text : Option Diagnostic → List ℕ
@@ -13,8 +13,8 @@ fault_text (Some d) = line_of d
 
 -- This code text and this line come of the source in an edition, and nothing else does.
 pub record ComesIn (edition : Edition) (source code line : List ℕ) : Type 0 where
-  pub outcome : Outcome
-  pub goes : Goes [] (tokens_from edition 1 source) outcome
+  pub outcome : Compilation
+  pub goes : CompilesTo [] (tokens_from edition 1 source) outcome
   pub code_is : code_text edition outcome ≡ code
   pub line_is : fault_text outcome.stop ≡ line
 
@@ -117,12 +117,15 @@ pub record PlaceRows : Type 0 where
 -- the words `break` and `default` in both editions
 pub record EditionRows : Type 0 where
   pub empty : ComesInTwo [] (codes "B 2\nE\n") []
-  pub loop : ComesInTwo (codes "f(a) while(a) { a--; break; }") (codes "B 2\nF f 1 1 0 0 10\na 0\nv\nz 8\na 0\ni 3\np\nj 8\nj 0\nc 0\nr\nE\n") []
-  pub switch : ComesInTwo (codes "f(a) switch a { case 1: break; default: a=2; }") (codes "B 2\nF f 1 1 0 0 14\na 0\nv\nj 9\nj 12\na 0\nc 2\nw\np\nj 12\ne 1 3\np\nj 4\nc 0\nr\nE\n") []
+  pub loop : ComesInTwo (codes "f(a) while(a) { a--; break; }")
+      (codes "B 2\nF f 1 1 0 0 10\na 0\nv\nz 8\na 0\ni 3\np\nj 8\nj 0\nc 0\nr\nE\n") []
+  pub switch : ComesInTwo (codes "f(a) switch a { case 1: break; default: a=2; }")
+      (codes "B 2\nF f 1 1 0 0 14\na 0\nv\nj 9\nj 12\na 0\nc 2\nw\np\nj 12\ne 1 3\np\nj 4\nc 0\nr\nE\n") []
   pub break_outside : ComesInTwo (codes "f() break;") (codes "B 2\n") (codes "sx break 1\n")
   pub break_alone : ComesInTwo (codes "break;") (codes "B 2\n") (codes "sx 1\n")
   pub default_outside : ComesInTwo (codes "f() default: ;") (codes "B 2\n") (codes "sx default 1\n")
-  pub default_twice : ComesInTwo (codes "f() switch 1 { default: ; default: ; }") (codes "B 2\n") (codes "rd default 1\n")
+  pub default_twice : ComesInTwo (codes "f() switch 1 { default: ; default: ; }") (codes "B 2\n")
+      (codes "rd default 1\n")
   pub name_break : Comes (codes "break;") (codes "X break 0 0\nE\n") []
   pub label_default : Comes (codes "f() default: ;") (codes "F f 0 0 1 0 2\nt 0\nc 0\nr\nE\n") []
   pub mention_break : Comes (codes "f() break;") [] (codes "un break 1\n")

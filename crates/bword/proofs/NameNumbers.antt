@@ -12,7 +12,7 @@ use Rattle.std.specs.Cmp.{ranks, nat_cmp_is, unsigned_ties}
 use Rattle.std.specs.declared.cmp.Ordering.{Ordering}
 use Rattle.std.specs.declared.cmp.Ordering.TheVariants.{Less, Equal, Greater}
 use Rattle.std.specs.Cmp.Lexicographic.{pointwise, slice_cmp, nat_list_cmp_total, texts_ties}
-use Rattle.bword.specs.Words.{is_name, is_name_start, is_name_byte, number_of}
+use Rattle.bword.specs.Words.{is_name, is_name_start, is_name_byte, number_of_bytes}
 use Rattle.bword.proofs.NameLemmas.{is_name-length}
 
 -- bytes that are no zeros
@@ -24,7 +24,7 @@ some_unit : (n : ℕ) → 0 < 256 ^ n
 some_unit zero = omega arith
 some_unit (suc n) = let more = some_unit n in omega (arith, more, pow-succ' 256 n)
 
-pub number_of-lt : (n : ℕ) (bs : List ℕ) → AreBytes bs → number_of n bs < 256 ^ n
+pub number_of-lt : (n : ℕ) (bs : List ℕ) → AreBytes bs → number_of_bytes n bs < 256 ^ n
 number_of-lt zero bs h = omega arith
 number_of-lt (suc n) [] h = some_unit (suc n)
 number_of-lt (suc n) (b ∷ bs) h =
@@ -33,7 +33,7 @@ number_of-lt (suc n) (b ∷ bs) h =
     omega (arith, less, mul-le-mul_right (256 ^ n) below, pow-succ' 256 n)
 
 -- what comes first is a smaller number
-pub number_of_in_order : (n : ℕ) (xs ys : List ℕ) → AreBytes xs → AreBytes ys → length ys ≤ n → slice_cmp nat_cmp xs ys ≡ Less → number_of n xs < number_of n ys
+pub number_of_in_order : (n : ℕ) (xs ys : List ℕ) → AreBytes xs → AreBytes ys → length ys ≤ n → slice_cmp nat_cmp xs ys ≡ Less → number_of_bytes n xs < number_of_bytes n ys
 number_of_in_order n [] [] h k le less = cc
 number_of_in_order n (x ∷ xs) [] h k le less = cc
 number_of_in_order zero [] (y ∷ ys) h k le less = absurd (omega (arith, le))
@@ -48,7 +48,7 @@ number_of_in_order (suc n) (x ∷ xs) (y ∷ ys) h k le less = by (λ later. num
     rest : (o : Ordering) → nat_cmp x y ≡ o → ordering_then o (slice_cmp nat_cmp xs ys) ≡ Less
     rest o e = sym (ap (λ r. ordering_then r (slice_cmp nat_cmp xs ys)) e) ∙ less
 
-    by : (slice_cmp nat_cmp xs ys ≡ Less → number_of n xs < number_of n ys) → (o : Ordering) → nat_cmp x y ≡ o → MatchOrdering o (x < y) (x ≡ y) (y < x) → number_of (suc n) (x ∷ xs) < number_of (suc n) (y ∷ ys)
+    by : (slice_cmp nat_cmp xs ys ≡ Less → number_of_bytes n xs < number_of_bytes n ys) → (o : Ordering) → nat_cmp x y ≡ o → MatchOrdering o (x < y) (x ≡ y) (y < x) → number_of_bytes (suc n) (x ∷ xs) < number_of_bytes (suc n) (y ∷ ys)
     by more Less e r =
         let below = number_of-lt n xs h.2 in
         let step : x + 1 ≤ y = omega (arith, r) in
@@ -80,7 +80,7 @@ name_bytes (b ∷ bs) e =
     let f = start_fits b h.0 in (f.0, f.1, all_bytes bs k.1)
 
 -- a name's number is no zero
-pub some_number : (n : ℕ) (bs : List ℕ) → is_name bs ≡ true → 0 < number_of (suc n) bs
+pub some_number : (n : ℕ) (bs : List ℕ) → is_name bs ≡ true → 0 < number_of_bytes (suc n) bs
 some_number n [] e = cc
 some_number n (b ∷ bs) e =
     let some : 1 ≤ b = let l = (name_bytes (b ∷ bs) e).0 in omega (arith, l) in
@@ -88,27 +88,27 @@ some_number n (b ∷ bs) e =
     omega (arith, unit, mul-le-mul_right (256 ^ n) some)
 
 -- names stand in the order of their numbers
-pub number_of-cmp : (xs ys : List ℕ) → is_name xs ≡ true → is_name ys ≡ true → slice_cmp nat_cmp xs ys ≡ nat_cmp (number_of 8 xs) (number_of 8 ys)
-number_of-cmp xs ys h k = nat_cmp_is (number_of 8 xs) (number_of 8 ys) (slice_cmp nat_cmp xs ys) (by (slice_cmp nat_cmp xs ys) refl)
+pub number_of-cmp : (xs ys : List ℕ) → is_name xs ≡ true → is_name ys ≡ true → slice_cmp nat_cmp xs ys ≡ nat_cmp (number_of_bytes 8 xs) (number_of_bytes 8 ys)
+number_of-cmp xs ys h k = nat_cmp_is (number_of_bytes 8 xs) (number_of_bytes 8 ys) (slice_cmp nat_cmp xs ys) (by (slice_cmp nat_cmp xs ys) refl)
   where
-    by : (o : Ordering) → slice_cmp nat_cmp xs ys ≡ o → MatchOrdering o (number_of 8 xs < number_of 8 ys) (number_of 8 xs ≡ number_of 8 ys) (number_of 8 ys < number_of 8 xs)
+    by : (o : Ordering) → slice_cmp nat_cmp xs ys ≡ o → MatchOrdering o (number_of_bytes 8 xs < number_of_bytes 8 ys) (number_of_bytes 8 xs ≡ number_of_bytes 8 ys) (number_of_bytes 8 ys < number_of_bytes 8 xs)
     by Less e = number_of_in_order 8 xs ys (name_bytes xs h) (name_bytes ys k) (is_name-length ys k) e
-    by Equal e = ap (number_of 8) (exact_bytes xs ys e)
+    by Equal e = ap (number_of_bytes 8) (exact_bytes xs ys e)
     by Greater e = number_of_in_order 8 ys xs (name_bytes ys k) (name_bytes xs h) (is_name-length xs h) (nat_list_cmp_total.antisymm ys xs ∙ ap ordering_reverse e)
 
 -- ---- the array's number
 
-zeros_number : (n k : ℕ) → number_of n (replicate k 0) ≡ 0
+zeros_number : (n k : ℕ) → number_of_bytes n (replicate k 0) ≡ 0
 zeros_number zero k = refl
 zeros_number (suc n) zero = refl
 zeros_number (suc n) (suc k) = let more = zeros_number n k in omega (arith, more)
 
-number_of-zeros : (n : ℕ) (bs : List ℕ) (k : ℕ) → number_of n (bs ++ replicate k 0) ≡ number_of n bs
+number_of-zeros : (n : ℕ) (bs : List ℕ) (k : ℕ) → number_of_bytes n (bs ++ replicate k 0) ≡ number_of_bytes n bs
 number_of-zeros zero bs k = refl
 number_of-zeros (suc n) [] k = zeros_number (suc n) k
 number_of-zeros (suc n) (b ∷ bs) k = ap (λ m. b * 256 ^ n + m) (number_of-zeros n bs k)
 
-eight : (bs : List ℕ) → length bs ≡ 8 → from_be_bytes w64 bs ≡ number_of 8 bs
+eight : (bs : List ℕ) → length bs ≡ 8 → from_be_bytes w64 bs ≡ number_of_bytes 8 bs
 eight (a ∷ b ∷ c ∷ d ∷ e ∷ f ∷ g ∷ h ∷ []) size = omega arith
 eight (a ∷ b ∷ c ∷ d ∷ e ∷ f ∷ g ∷ h ∷ i ∷ bs) size = absurd (omega (arith, size))
 eight (a ∷ b ∷ c ∷ d ∷ e ∷ f ∷ g ∷ []) size = absurd (omega (arith, size))
@@ -121,14 +121,14 @@ eight (a ∷ []) size = absurd (omega (arith, size))
 eight [] size = absurd (omega (arith, size))
 
 -- of an array, of which the bytes behind the name are zeros
-pub array_number : (bs : List ℕ) (n : ℕ) → length bs ≡ 8 → drop n bs ≡ replicate (8 - n) 0 → from_be_bytes w64 bs ≡ number_of 8 (take n bs)
+pub array_number : (bs : List ℕ) (n : ℕ) → length bs ≡ 8 → drop n bs ≡ replicate (8 - n) 0 → from_be_bytes w64 bs ≡ number_of_bytes 8 (take n bs)
 array_number bs n size zeros =
     eight bs size
-    ∙ ap (number_of 8) (sym (take-append-drop n bs) ∙ ap (λ l. take n bs ++ l) zeros)
+    ∙ ap (number_of_bytes 8) (sym (take-append-drop n bs) ∙ ap (λ l. take n bs ++ l) zeros)
     ∙ number_of-zeros 8 (take n bs) (8 - n)
 
 -- names with the same number are the same
-pub number_of-eq : (xs ys : List ℕ) → is_name xs ≡ true → is_name ys ≡ true → nat_eq (number_of 8 xs) (number_of 8 ys) ≡ pointwise nat_eq xs ys
+pub number_of-eq : (xs ys : List ℕ) → is_name xs ≡ true → is_name ys ≡ true → nat_eq (number_of_bytes 8 xs) (number_of_bytes 8 ys) ≡ pointwise nat_eq xs ys
 number_of-eq xs ys h k =
-    unsigned_ties (number_of 8 xs) (number_of 8 ys)
+    unsigned_ties (number_of_bytes 8 xs) (number_of_bytes 8 ys)
     ∙ sym (texts_ties xs ys ∙ ap is_eq (number_of-cmp xs ys h k))

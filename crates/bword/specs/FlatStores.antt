@@ -3,5 +3,5 @@ use Rattle.std.specs.Prelude.{ℕ, List}
 use Rattle.bword.specs.declared.flat_store.FlatStore.{FlatStore}
 
 -- its words, by their addresses
-abbrev pub words_of : FlatStore → List ℕ
-words_of store = store.words.items
+abbrev pub flat_words : FlatStore → List ℕ
+flat_words store = store.words.items

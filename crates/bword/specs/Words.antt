@@ -1,6 +1,9 @@
 -- Words of 16 bits are the numbers from 0 to 65535, and each operation is one on whole numbers, whose result is taken
 -- modulo 65536. The operators, the words of a store with the bytes of its strings, and the names of the language.
-use Rattle.std.specs.Prelude.{ℕ, ◌+◌, ◌*◌, ◌/◌, ◌%◌, ◌^◌, Bool, not, Option, Some, None, nat_lt, ◌==◌, if◌then◌else◌, bit_and, bit_or, ℤ, pos, neg_ℤ, ◌-ℤ◌, unsigned_abs, int_lt, int_le, int_div, int_rem, List, [], ◌∷◌, codes, ◌≡◌, ◌<◌, length, replicate, slice_index, slice_set, zero, suc, ◌-◌, ◌≤◌, false, ◌&&◌, ◌||◌, nat_eq, nat_le, ◌++◌, take, drop}
+use Rattle.std.specs.Prelude.{ℕ, ◌+◌, ◌*◌, ◌/◌, ◌%◌, ◌^◌, Bool, not, Option, Some, None, nat_lt, ◌==◌, if◌then◌else◌}
+use Rattle.std.specs.Prelude.{bit_and, bit_or, ℤ, pos, neg_ℤ, ◌-ℤ◌, unsigned_abs, int_lt, int_le, int_div, int_rem}
+use Rattle.std.specs.Prelude.{List, [], ◌∷◌, codes, ◌≡◌, ◌<◌, length, replicate, slice_index, slice_set, zero, suc, ◌-◌}
+use Rattle.std.specs.Prelude.{◌≤◌, false, ◌&&◌, ◌||◌, nat_eq, nat_le, ◌++◌, take, drop}
 use Rattle.std.specs.Int.{int_rem_euclid}
 use Rattle.bword.specs.declared.operators.BinOp.{BinOp}
 use Rattle.bword.specs.declared.operators.BinOp.TheVariants as op
@@ -123,14 +126,15 @@ is_name [] = false
 is_name (b ∷ bs) = is_name_start b && (nat_le (length bs) 7 && list_all is_name_byte bs)
 
 -- the number of n bytes, the first of which counts most; those behind the last are zeros
-abbrev pub number_of : ℕ → List ℕ → ℕ
-number_of zero bs = 0
-number_of (suc n) [] = 0
-number_of (suc n) (b ∷ bs) = b * 256 ^ n + number_of n bs
+abbrev pub number_of_bytes : ℕ → List ℕ → ℕ
+number_of_bytes zero bs = 0
+number_of_bytes (suc n) [] = 0
+number_of_bytes (suc n) (b ∷ bs) = b * 256 ^ n + number_of_bytes n bs
 
 -- The bytes of an array of eight are its first n and zeros, where the rest are zeros.
 pub name_len_inverse : (xs : List ℕ) (n : ℕ) → n ≤ 8 → length xs ≡ 8 → length (take n xs) ≡ n
 name_len_inverse xs n h e = length-take-le n xs (omega arith)
 
-pub name_inverse : (xs : List ℕ) (n : ℕ) → n ≤ 8 → length xs ≡ 8 → drop n xs ≡ replicate (8 - n) 0 → take n xs ++ replicate (8 - length (take n xs)) 0 ≡ xs
+pub name_inverse : (xs : List ℕ) (n : ℕ) → n ≤ 8 → length xs ≡ 8 → drop n xs ≡ replicate (8 - n) 0
+    → take n xs ++ replicate (8 - length (take n xs)) 0 ≡ xs
 name_inverse xs n h e zeros = rw (name_len_inverse xs n h e, ← zeros) (take-append-drop n xs)

@@ -16,7 +16,7 @@ pub struct FlatStore {
 impl FlatStore {
     ghost use Rattle.std.specs.Prelude.{◌≡◌, IfOk};
     ghost use Rattle.bword.specs.Words.{zeros};
-    ghost use Rattle.bword.specs.FlatStores.{words_of};
+    ghost use Rattle.bword.specs.FlatStores.{flat_words};
 
     /// A store whose words are all 0.
     ///
@@ -24,7 +24,7 @@ impl FlatStore {
     ///
     /// `NoMemory` where the words were refused memory.
     pub fn new(alloc: Global) -> Result<FlatStore, NoMemory>
-        ensures { IfOk result (λ store. words_of store ≡ zeros) }
+        ensures { IfOk result (λ store. flat_words store ≡ zeros) }
     {
         match zero_words(alloc, STORE_LEN) {
             Ok(words) => Ok(FlatStore { words }),
@@ -35,9 +35,9 @@ impl FlatStore {
 
 impl Store for FlatStore {
     ghost use Rattle.std.specs.Prelude.{◌≡◌, false, IsOk, OnOk, slice_set};
-    ghost use Rattle.bword.specs.FlatStores.{words_of};
+    ghost use Rattle.bword.specs.FlatStores.{flat_words};
 
-    ghost words = { words_of };
+    ghost words = { flat_words };
 
     ghost may_refuse = { false };
 
@@ -49,7 +49,7 @@ impl Store for FlatStore {
     /// Puts a word at an address, which always succeeds.
     #[inline]
     fn set(&mut self, a: u16, w: u16) -> Result<(), NoMemory>
-        ensures stored { OnOk result (words_of self.new ≡ slice_set (words_of self.old) a w) }
+        ensures stored { OnOk result (flat_words self.new ≡ slice_set (flat_words self.old) a w) }
         ensures succeeds { IsOk result }
     {
         self.words[usize::from(a)] = w;

@@ -3,4 +3,4 @@ use Rattle.bcheck.proofs.checking.check.Goals as goal
 
 pub returns-clause-checks : goal.returns-clause-checks
 returns-clause-checks g c =
-    checked c.args.asked.form c.in-Some.verdict c.args.asked.edition c.args.source.now c.shown-first.result.now c.status.result _ _ c.tell.result c.in-Some.ensures c.shown-first.ensures c.status.ensures c.tell.ensures.tells
+    checked c.args.asked.form c.in-Some.verdict c.args.asked.edition c.args.source.now c.shown-first.result.now c.status.result _ _ c.tell_both.result c.in-Some.ensures c.shown-first.ensures c.status.ensures c.tell_both.ensures.tells

@@ -1,5 +1,5 @@
 use Rattle.std.proofs.Common.{subst, ◌≢◌, ℕ, List, [], ap, Some, Option, Ok, Vec, Global, ◌≡◌, sym, ◌∙◌}
-use Rattle.bcode.specs.Ahead.{ahead_in, DefinitionGives, Passes, ReadsDefinition}
+use Rattle.bcode.specs.Ahead.{ahead_in, DefinitionGives, TakesText, ReadsDefinition}
 use Rattle.blang.specs.Text.{end_text}
 use Rattle.blang.specs.declared.code.Definition.{Definition}
 use Rattle.bcode.proofs.FaultLaws.{unique_code, exit_only, exit_fault, push_fault, knows_opening, knows_more, definition_shorter, end_fault, end_no_code, whole_code}
@@ -46,13 +46,13 @@ returns-in_err-push-clause-unique c ds es d e = unique_code _ ds es d e
 
 pub returns-then-not-is_empty-clause-only : goal.returns-then-not-is_empty-clause-only
 returns-then-not-is_empty-clause-only c ds code =
-    let read : Passes (ahead_in c.loop-definitions.ahead) end_text 1 (ahead_in c.next_of_text.new.ahead) =
+    let read : TakesText (ahead_in c.loop-definitions.ahead) end_text 1 (ahead_in c.next_of_text.new.ahead) =
     subst (λ (o : Option Definition). DefinitionGives (ahead_in c.loop-definitions.ahead) (Ok o) (ahead_in c.next_of_text.new.ahead)) c.in_default.is c.in_ok-definition.ensures in
     absurd (end_no_code _ _ _ _ c.loop-definitions.invariant read (some_left c.next_of_text.new.ahead.text (c.is_empty.ensures.some c.if-not-is_empty.true)) ds code)
 
 pub returns-then-not-is_empty-clause-fault : goal.returns-then-not-is_empty-clause-fault
 returns-then-not-is_empty-clause-fault c =
-    let read : Passes (ahead_in c.loop-definitions.ahead) end_text 1 (ahead_in c.next_of_text.new.ahead) =
+    let read : TakesText (ahead_in c.loop-definitions.ahead) end_text 1 (ahead_in c.next_of_text.new.ahead) =
     subst (λ (o : Option Definition). DefinitionGives (ahead_in c.loop-definitions.ahead) (Ok o) (ahead_in c.next_of_text.new.ahead)) c.in_default.is c.in_ok-definition.ensures in
     rw c.line.ensures (end_fault _ _ _ _ c.loop-definitions.invariant read (some_left c.next_of_text.new.ahead.text (c.is_empty.ensures.some c.if-not-is_empty.true)))
 
@@ -61,13 +61,13 @@ returns-then-not-is_empty-clause-unique c ds es d e = unique_code _ ds es d e
 
 pub returns-clause-ok : goal.returns-clause-ok
 returns-clause-ok c =
-    let read : Passes (ahead_in c.loop-definitions.ahead) end_text 1 (ahead_in c.next_of_text.new.ahead) =
+    let read : TakesText (ahead_in c.loop-definitions.ahead) end_text 1 (ahead_in c.next_of_text.new.ahead) =
     subst (λ (o : Option Definition). DefinitionGives (ahead_in c.loop-definitions.ahead) (Ok o) (ahead_in c.next_of_text.new.ahead)) c.in_default.is c.in_ok-definition.ensures in
     whole_code _ _ _ _ c.loop-definitions.invariant read (ap Some (c.is_empty.ensures.none c.if-not-is_empty.false))
 
 pub returns-clause-only : goal.returns-clause-only
 returns-clause-only c ds code =
-    let read : Passes (ahead_in c.loop-definitions.ahead) end_text 1 (ahead_in c.next_of_text.new.ahead) =
+    let read : TakesText (ahead_in c.loop-definitions.ahead) end_text 1 (ahead_in c.next_of_text.new.ahead) =
     subst (λ (o : Option Definition). DefinitionGives (ahead_in c.loop-definitions.ahead) (Ok o) (ahead_in c.next_of_text.new.ahead)) c.in_default.is c.in_ok-definition.ensures in
     unique_code _ c.loop-definitions.definitions.items ds
     (whole_code _ _ _ _ c.loop-definitions.invariant read (ap Some (c.is_empty.ensures.none c.if-not-is_empty.false))) code

@@ -3,7 +3,7 @@ use Rattle.std.specs.Prelude.{min, unwrap_or}
 use Rattle.std.proofs.lemmas.Result.{on_ok_weaker}
 use Rattle.blang.specs.Layout.{shape_of, size_of}
 use Rattle.blist.specs.Columns.{left, right}
-use Rattle.blist.specs.Maps.{address_of, dots, words_from}
+use Rattle.blist.specs.Maps.{image_address, dots, words_from}
 use Rattle.blist.proofs.AddedRows.{piece}
 use Rattle.blist.proofs.layout.push_row.Goals as goal
 
@@ -11,9 +11,9 @@ pub returns : goal.returns
 returns c =
     let image = c.args.image.now in
     let d = shape_of c.args.definition.now in
-    let address : c.unwrap_or-address.result ≡ address_of image d.name =
-    c.unwrap_or-address.ensures ∙ ap (λ o. unwrap_or o 0) c.address.ensures ∙ ap (address_of image) c.name_of-name.ensures in
-    let number : c.from.result ≡ address_of image d.name = c.from.ensures ∙ address in
+    let address : c.unwrap_or-address.result ≡ image_address image d.name =
+    c.unwrap_or-address.ensures ∙ ap (λ o. unwrap_or o 0) c.address.ensures ∙ ap (image_address image) c.name_of-name.ensures in
+    let number : c.from.result ≡ image_address image d.name = c.from.ensures ∙ address in
     let name : c.as_bytes.result.now ≡ d.name = c.as_bytes.ensures.text ∙ c.name_of-name.ensures in
     let size : c.from-2.result ≡ size_of d = c.from-2.ensures ∙ c.size_of-words.ensures.value in
     let count : c.min.result ≡ min (size_of d) 6 = c.min.ensures ∙ ap (λ n. min n 6) c.size_of-words.ensures.value in

@@ -1,5 +1,5 @@
 use Rattle.std.proofs.Common.{ℕ, List, subst}
-use Rattle.blist.specs.Programs.{IsCompiled, LoadGives, faulty}
+use Rattle.blist.specs.Programs.{WasCompiled, LoadGives, faulty}
 use Rattle.blist.proofs.Loading.{compiled, loaded}
 use Rattle.blist.proofs.program.read_program.Goals as goal
 
@@ -17,5 +17,5 @@ returns-clause-gives g c =
     let mid = g.D.ByteOut.outgoing c.compile_edition-status.new.diag in
     let behind = g.D.ByteOut.outgoing c.load_program.new.diag in
     loaded c.args.edition c.args.source.now line mid behind bytes c.load_program.result
-    (subst (λ (n : ℕ). IsCompiled c.args.edition c.args.source.now line mid bytes n) c.if-status-ne-DONE.false done)
+    (subst (λ (n : ℕ). WasCompiled c.args.edition c.args.source.now line mid bytes n) c.if-status-ne-DONE.false done)
     (subst (λ (t : List ℕ). LoadGives t mid c.load_program.result behind) c.bytes.ensures c.load_program.ensures.gives)

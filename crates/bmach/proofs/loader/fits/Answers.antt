@@ -1,7 +1,7 @@
 use Rattle.std.proofs.Common.{◌≡◌, ◌+◌, suc, map, take, drop, inl, inr, ⊎_elim, sym, ap, ◌∙◌, arith}
 use Rattle.std.proofs.lemmas.List.{take_all}
 use Rattle.blang.specs.Layout.{data_end, label_count, labels_in, shape_of, size_of}
-use Rattle.bmach.specs.Loading.{fits}
+use Rattle.bmach.specs.Loading.{fits_store}
 use Rattle.bmach.proofs.Spots.{data_end-push}
 use Rattle.bmach.proofs.Fitting.{fits_if, label_count-push, too_large}
 use Rattle.bmach.proofs.Naming.{shapes_more, shapes_split}
@@ -31,7 +31,7 @@ returns-then-end-gt-STORE_WORDS c =
     omega (arith, c.from-end-in-loop-definition.ensures, c.size_of.ensures.value, c.loop-definition.invariant.end) in
     let labels : c.loop-definition.labels + c.from-labels.result ≡ label_count before + labels_in (shape_of d).kind =
     omega (arith, c.from-labels.ensures, c.labels_in.ensures.value, c.loop-definition.invariant.labels) in
-    sym (ap fits (shapes_split ds i d (omega arith) c.definition-item.is) ∙ too_large before (shape_of d) (map shape_of (drop (suc i) ds)) (⊎_elim (λ e. inl (omega (arith, e, end))) (λ e. inr (omega (arith, e.1, labels))) c.then-end-gt-STORE_WORDS.either))
+    sym (ap fits_store (shapes_split ds i d (omega arith) c.definition-item.is) ∙ too_large before (shape_of d) (map shape_of (drop (suc i) ds)) (⊎_elim (λ e. inl (omega (arith, e, end))) (λ e. inr (omega (arith, e.1, labels))) c.then-end-gt-STORE_WORDS.either))
 
 pub returns : goal.returns
 returns c =

@@ -3,7 +3,7 @@ use Rattle.std.specs.Prelude.{flat_map, fold}
 use Rattle.std.proofs.lemmas.Result.{err_from_is_err_and}
 use Rattle.blang.specs.declared.code.Definition.{Definition}
 use Rattle.blang.specs.Layout.{shape_of, addresses, address_in, names_in, load_fault, data_end, first_undefined}
-use Rattle.bmach.specs.Loading.{Part, IsFault, first_part, fits, known_in, undefined_fault, with_definition}
+use Rattle.bmach.specs.Loading.{Part, IsFault, first_part, fits_store, known_in, undefined_fault, with_definition}
 use Rattle.bmach.specs.Images.{image_in}
 use Rattle.bmach.specs.Parts.{part_of}
 use Rattle.bmach.specs.Resolved.{IsLoadedFrom}
@@ -27,7 +27,7 @@ returns-then-not-fits-clause-err c =
 pub returns-in_err-part-clause-err : goal.returns-in_err-part-clause-err
 returns-in_err-part-clause-err c =
     let ds = c.as_slice-list.result.now in
-    let fit : fits (map shape_of ds) ≡ true = sym c.fits.ensures ∙ c.if-not-fits.false in
+    let fit : fits_store (map shape_of ds) ≡ true = sym c.fits.ensures ∙ c.if-not-fits.false in
     let known = known_in c.in_ok-addresses.addresses in
     let same : known ≡ address_in (addresses (map shape_of ds)) = λ i x. c.in_ok-addresses.ensures.1 (bounds_if_fits (map shape_of ds) fit).0 x i in
     let p = err_from_is_err_and c.from_residual-in_err-part.result c.from_residual-in_err-part.ensures.1 in
@@ -39,7 +39,7 @@ returns-in_err-part-clause-err c =
 pub returns-in-None-clause-err : goal.returns-in-None-clause-err
 returns-in-None-clause-err c =
     let ds = c.as_slice-list.result.now in
-    let fit : fits (map shape_of ds) ≡ true = sym c.fits.ensures ∙ c.if-not-fits.false in
+    let fit : fits_store (map shape_of ds) ≡ true = sym c.fits.ensures ∙ c.if-not-fits.false in
     let known = known_in c.in_ok-addresses.addresses in
     let same : known ≡ address_in (addresses (map shape_of ds)) = λ i x. c.in_ok-addresses.ensures.1 (bounds_if_fits (map shape_of ds) fit).0 x i in
     let defined = ap (λ a. first_undefined a (flat_map names_in ds)) (sym same)
@@ -51,7 +51,7 @@ pub invariant_of-result : goal.invariant_of-result
 invariant_of-result c =
     let ds = c.as_slice-list.result.now in
     let made : part_of c.in_ok-part.part ≡ fold (with_definition (known_in c.in_ok-addresses.addresses)) first_part ds = c.in_ok-part.ensures.0 ∙ ap (fold (with_definition (known_in c.in_ok-addresses.addresses)) first_part) (sym c.as_slice-list.ensures.value) in
-    let fit : fits (map shape_of ds) ≡ true = sym c.fits.ensures ∙ c.if-not-fits.false in
+    let fit : fits_store (map shape_of ds) ≡ true = sym c.fits.ensures ∙ c.if-not-fits.false in
     let known = known_in c.in_ok-addresses.addresses in
     let long : length c.in_ok-part.part.words.items ≡ data_end (map shape_of ds) =
     ap (λ (p : Part). length p.words) (made ∙ loaded_all known ds) ∙ length-words known ds in
@@ -60,7 +60,7 @@ invariant_of-result c =
 pub returns-in-Some-clause-ok : goal.returns-in-Some-clause-ok
 returns-in-Some-clause-ok c =
     let ds = c.as_slice-list.result.now in
-    let fit : fits (map shape_of ds) ≡ true = sym c.fits.ensures ∙ c.if-not-fits.false in
+    let fit : fits_store (map shape_of ds) ≡ true = sym c.fits.ensures ∙ c.if-not-fits.false in
     let known = known_in c.in_ok-addresses.addresses in
     let loaded : List Definition → Type 0 = λ es. IsLoadedFrom es (image_in (record { functions = c.in_ok-part.part.functions; main = c.in-Some.main; words = c.in_ok-part.part.words; addresses = c.in_ok-addresses.addresses })) in
     let made = c.in_ok-part.ensures.0 ∙ ap (fold (with_definition known) first_part) (sym c.as_slice-list.ensures.value) in
@@ -69,7 +69,7 @@ returns-in-Some-clause-ok c =
 pub returns-in-Some-clause-loads : goal.returns-in-Some-clause-loads
 returns-in-Some-clause-loads c =
     let ds = c.as_slice-list.result.now in
-    let fit : fits (map shape_of ds) ≡ true = sym c.fits.ensures ∙ c.if-not-fits.false in
+    let fit : fits_store (map shape_of ds) ≡ true = sym c.fits.ensures ∙ c.if-not-fits.false in
     let known = known_in c.in_ok-addresses.addresses in
     let same : known ≡ address_in (addresses (map shape_of ds)) = λ i x. c.in_ok-addresses.ensures.1 (bounds_if_fits (map shape_of ds) fit).0 x i in
     let defined = ap (λ a. first_undefined a (flat_map names_in ds)) (sym same)

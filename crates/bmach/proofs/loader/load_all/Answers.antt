@@ -5,7 +5,7 @@ use Rattle.std.proofs.lemmas.List.Sums.{fold-append}
 use Rattle.std.proofs.lemmas.Result.{err_from_is_err_and}
 use Rattle.blang.specs.declared.code.Definition.{Definition}
 use Rattle.blang.specs.Layout.{data_end, label_count, labels_in, names_in, shape_of, size_of, first_undefined}
-use Rattle.bmach.specs.Loading.{Part, IsFault, first_part, fits, known_in, undefined_fault, with_definition}
+use Rattle.bmach.specs.Loading.{Part, IsFault, first_part, fits_store, known_in, undefined_fault, with_definition}
 use Rattle.bmach.specs.Images.{loaded_of}
 use Rattle.bmach.proofs.Fitting.{one_more_fits}
 use Rattle.bmach.proofs.Undefined.{defined_behind, undefined_behind}
@@ -14,12 +14,12 @@ use Rattle.bmach.proofs.loader.load_all.Goals as goal
 
 -- One definition more has room where all have.
 room : (before : List Definition) (d : Definition) (left rest ds : List Definition) → left ≡ d ∷ rest → before ++ left ≡ ds
-    → fits (map shape_of ds) ≡ true
+    → fits_store (map shape_of ds) ≡ true
     → (data_end (map shape_of before) + size_of (shape_of d) ≤ 65536)
     × (label_count (map shape_of before) + labels_in (shape_of d).kind ≤ 65535)
 room before d left rest ds is all h = one_more_fits (map shape_of before) (shape_of d) (map shape_of rest)
-    (sym (ap fits (map-append shape_of before (d ∷ rest)))
-    ∙ ap (λ es. fits (map shape_of (before ++ es))) (sym is) ∙ ap (λ es. fits (map shape_of es)) all ∙ h)
+    (sym (ap fits_store (map-append shape_of before (d ∷ rest)))
+    ∙ ap (λ es. fits_store (map shape_of (before ++ es))) (sym is) ∙ ap (λ es. fits_store (map shape_of es)) all ∙ h)
 
 pub loop-definition-preserved : goal.loop-definition-preserved
 loop-definition-preserved c =

@@ -1,14 +1,14 @@
 use Rattle.std.specs.Map.{keys_of}
 use Rattle.bparse.proofs.NamesSteps.{added}
 use Rattle.std.proofs.Common.{◌≡◌, ◌∙◌, sym, subst, ap, refl, Some, None}
-use Rattle.bparse.specs.Steps.{point, step_of}
+use Rattle.bparse.specs.Steps.{point, refused_step}
 use Rattle.bparse.specs.declared.step.Step.TheVariants as step
 use Rattle.bparse.proofs.CompilerSteps.{gives_stop, read_fails, breaks_behind, fault_stops, end_stops, end_breaks, wrote, fault_behind, no_memory, write_breaks}
 use Rattle.bword.specs.ByteEnds.{Writes, Refuses}
 use Rattle.btree.specs.DefinitionReader.{definition}
 use Rattle.bexpr.specs.Parsers.{Halts}
 use Rattle.bparse.proofs.MadeSteps.{drafted, end_of, not_end, tree_formed, fault_some, fault_none, viewed}
-use Rattle.blang.specs.Text.{text_of}
+use Rattle.blang.specs.Text.{definition_text}
 use Rattle.bparse.proofs.compiler.compile_definition.Goals as goal
 
 pub returns-in_err-look-clause-gives : goal.returns-in_err-look-clause-gives
@@ -18,7 +18,7 @@ returns-in_err-look-clause-gives g c =
 
 pub returns-in_err-write_end-clause-gives : goal.returns-in_err-write_end-clause-gives
 returns-in_err-write_end-clause-gives g c =
-    gives_stop _ (point c.look.new.self (keys_of c.args.names.now) (g.O.ByteOut.outgoing c.write_end.new.out)) c.from_residual-in_err-write_end.result (step_of c.in_err-write_end.field-0.0) c.from_residual-in_err-write_end.ensures.1
+    gives_stop _ (point c.look.new.self (keys_of c.args.names.now) (g.O.ByteOut.outgoing c.write_end.new.out)) c.from_residual-in_err-write_end.result (refused_step c.in_err-write_end.field-0.0) c.from_residual-in_err-write_end.ensures.1
     (end_breaks c.args.parser.now.tokens c.look.new.self (keys_of c.args.names.now) c.in_ok-look.ensures.ok _ _ (end_of _ (sym c.is_at_end.ensures ∙ c.if-is_at_end.true)) c.in_err-write_end.field-0.0 c.in_err-write_end.ensures.gives)
 
 pub returns-then-is_at_end-clause-gives : goal.returns-then-is_at_end-clause-gives
@@ -56,9 +56,9 @@ returns-in_err-write_definition-clause-gives g c =
     let d = drafted (keys_of c.args.names.now) c.look.new.self c.definition.new.parser.tokens c.in-Ok.header c.definition.new.parser.draft t in
     let clean = fault_none (keys_of c.args.names.now) t.tree c.in-Ok.header c.definition.new.parser.draft d c.fault-2.result c.fault-2.ensures c.in_default.not-Some in
     let same = viewed (keys_of c.args.names.now) t.tree c.in-Ok.header c.definition.new.parser.draft d _ c.resolve.new.self clean c.resolve.ensures c.view.ensures in
-    gives_stop _ (point c.definition.new.parser.tokens (keys_of c.insert.new.self) (g.O.ByteOut.outgoing c.write_definition.new.out)) c.from_residual-in_err-write_definition.result (step_of c.in_err-write_definition.field-0.0) c.from_residual-in_err-write_definition.ensures.1
+    gives_stop _ (point c.definition.new.parser.tokens (keys_of c.insert.new.self) (g.O.ByteOut.outgoing c.write_definition.new.out)) c.from_residual-in_err-write_definition.result (refused_step c.in_err-write_definition.field-0.0) c.from_residual-in_err-write_definition.ensures.1
     (write_breaks c.args.parser.now.tokens c.look.new.self (keys_of c.args.names.now) c.in_ok-look.ensures.ok c.definition.new.parser.tokens _ t.tree c.in-Ok.header.name t.heads.name t.moves (keys_of c.insert.new.self) _ c.in_err-write_definition.field-0.0 clean
-    (subst (λ x. Refuses (g.O.ByteOut.outgoing c.args.out.now) (text_of x) c.in_err-write_definition.field-0.0 (g.O.ByteOut.outgoing c.write_definition.new.out)) same c.in_err-write_definition.ensures.gives))
+    (subst (λ x. Refuses (g.O.ByteOut.outgoing c.args.out.now) (definition_text x) c.in_err-write_definition.field-0.0 (g.O.ByteOut.outgoing c.write_definition.new.out)) same c.in_err-write_definition.ensures.gives))
 
 pub returns-clause-gives : goal.returns-clause-gives
 returns-clause-gives g c =
@@ -68,4 +68,4 @@ returns-clause-gives g c =
     let same = viewed (keys_of c.args.names.now) t.tree c.in-Ok.header c.definition.new.parser.draft d _ c.resolve.new.self clean c.resolve.ensures c.view.ensures in
     wrote c.args.parser.now.tokens c.look.new.self (keys_of c.args.names.now) c.in_ok-look.ensures.ok c.definition.new.parser.tokens _ t.tree c.in-Ok.header.name t.heads.name t.moves (keys_of c.insert.new.self) _ clean
     (added c.args.names.now c.insert.new.self t.tree c.in-Ok.header.name 0 _ t.heads.name clean c.in_ok-insert.ensures.there c.in_ok-insert.ensures.known c.in_ok-insert.ensures.len)
-    (subst (λ x. Writes (g.O.ByteOut.outgoing c.args.out.now) (text_of x) (g.O.ByteOut.outgoing c.write_definition.new.out)) same c.in_ok-write_definition.ensures.gives) t.single t.falls
+    (subst (λ x. Writes (g.O.ByteOut.outgoing c.args.out.now) (definition_text x) (g.O.ByteOut.outgoing c.write_definition.new.out)) same c.in_ok-write_definition.ensures.gives) t.single t.falls

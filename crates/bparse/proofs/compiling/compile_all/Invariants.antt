@@ -1,10 +1,10 @@
 use Rattle.std.specs.Prelude.{◌≡◌, false}
 use Rattle.bexpr.specs.Tokens.{work}
-use Rattle.bparse.specs.Compilers.{Keeps}
+use Rattle.bparse.specs.Compilers.{SameCompiler}
 use Rattle.bparse.proofs.compiling.compile_all.Given as goal
 
 abbrev pub invariant-definitions : goal.invariant-definitions
-invariant-definitions g l = Keeps l.fn.compiler l.compiler × (l.compiler.is_closed ≡ false)
+invariant-definitions g l = SameCompiler l.fn.compiler l.compiler × (l.compiler.is_closed ≡ false)
 
 abbrev pub decreases-definitions : goal.decreases-definitions
 decreases-definitions g l = work l.compiler.tokens

@@ -2,7 +2,7 @@ use Rattle.std.proofs.Common.{sym, ap, ◌∙◌}
 use Rattle.blex.proofs.LexemeSteps.{token_here}
 use Rattle.blang.specs.declared.code.Ival.TheVariants as ival
 use Rattle.blang.specs.Trees.{Ival_text}
-use Rattle.blang.specs.WellFormed.{values_words}
+use Rattle.btree.specs.Fitting.{values_words}
 use Rattle.btree.specs.DefinitionReader.{ival, ival_at}
 use Rattle.bemit.specs.Drafts.{valued, stringed, offset_of}
 use Rattle.bread.proofs.DefinitionSteps.{number_ends, name_ends, value_ends}

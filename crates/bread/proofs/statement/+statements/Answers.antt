@@ -2,7 +2,7 @@ use Rattle.std.proofs.Common.{◌+◌, sym, ap, ◌∙◌}
 use Rattle.std.specs.Option.{is_some}
 use Rattle.blang.specs.declared.token.Token.TheVariants as token
 use Rattle.blex.proofs.LexemeSteps.{token_here, lexeme_here}
-use Rattle.blang.specs.WellFormed.{words, statement_words, body_words}
+use Rattle.btree.specs.Fitting.{words, statement_words, body_words}
 use Rattle.blang.specs.Trees.{Goto}
 use Rattle.btree.specs.StatementReader.{compound, switched, chosen, looped, goes_on, level}
 use Rattle.btree.specs.StatementReader as reader
@@ -10,7 +10,7 @@ use Rattle.blang.specs.declared.code.Instr.TheVariants as instr
 use Rattle.bemit.specs.Drafts.{filled}
 use Rattle.bemit.specs.Effects.{evaluated, done}
 use Rattle.bread.specs.Headings.{unheaded}
-use Rattle.bread.specs.Statements.{behind, conditional, repeated}
+use Rattle.bread.specs.Statements.{behind_current, conditional_behind, repeated}
 use Rattle.bread.proofs.Steps.{compiles_err}
 use Rattle.bread.proofs.Takings.{less, both_fall, falls_before}
 use Rattle.bread.proofs.StatementSteps.{compiles_as, at_brace, empty_ends, plain_ends, at_if, at_while, at_switch, at_goto, break_ends, return_ends, other_ends, headings_begin, headings_go, headings_stop, headings_end, compound_enter, compound_ends, body_begins, body_goes, body_halts, body_ends, tested_enter, tested_halts, conditional_body, conditional_ends, repeated_body, repeated_took, otherwise_absent, otherwise_halts, otherwise_took, chooses_err, switched_enter, switched_value, switched_brace, switched_body_halts, switched_took}
@@ -38,7 +38,7 @@ pub unheaded-returns-in_default : goal.unheaded-returns-in_default
 unheaded-returns-in_default g t c = plain_ends c.args.room _ _ c.ended.result _ _ c.requires (λ e. c.in_default.not-OpenBrace (lexeme_here c.lexeme.result c.args.parser.now.tokens.text (c.lexeme.ensures ∙ e))) (λ e. c.in_default.not-Semicolon (lexeme_here c.lexeme.result c.args.parser.now.tokens.text (c.lexeme.ensures ∙ e))) (λ k e. c.in_default.not-Keyword k (lexeme_here c.lexeme.result c.args.parser.now.tokens.text (c.lexeme.ensures ∙ e))) c.ended.ensures
 
 pub keyed-returns-in-If : goal.keyed-returns-in-If
-keyed-returns-in-If g t c = compiles_as (unheaded c.args.room) (conditional c.args.room) done _ _ c.conditional.result _ _ c.requires.loaded (at_if c.args.room c.args.parser.now.tokens (c.requires.keyword ∙ ap (λ k. token.Keyword k) c.in-If.is)) c.conditional.ensures
+keyed-returns-in-If g t c = compiles_as (unheaded c.args.room) (conditional_behind c.args.room) done _ _ c.conditional.result _ _ c.requires.loaded (at_if c.args.room c.args.parser.now.tokens (c.requires.keyword ∙ ap (λ k. token.Keyword k) c.in-If.is)) c.conditional.ensures
 
 pub keyed-returns-in-While : goal.keyed-returns-in-While
 keyed-returns-in-While g t c = compiles_as (unheaded c.args.room) (repeated c.args.room) done _ _ c.repeated.result _ _ c.requires.loaded (at_while c.args.room c.args.parser.now.tokens (c.requires.keyword ∙ ap (λ k. token.Keyword k) c.in-While.is)) c.repeated.ensures
@@ -47,7 +47,7 @@ pub keyed-returns-in-Switch : goal.keyed-returns-in-Switch
 keyed-returns-in-Switch g t c = compiles_as (unheaded c.args.room) (switched (level c.args.room)) done _ _ c.switched.result _ _ c.requires.loaded (at_switch c.args.room c.args.parser.now.tokens (c.requires.keyword ∙ ap (λ k. token.Keyword k) c.in-Switch.is)) c.switched.ensures
 
 pub keyed-returns-in-Goto : goal.keyed-returns-in-Goto
-keyed-returns-in-Goto g t c = compiles_as (unheaded c.args.room) (behind (λ off. reader.ended c.args.room off Goto)) done _ _ c.goto.result _ _ c.requires.loaded (at_goto c.args.room c.args.parser.now.tokens (c.requires.keyword ∙ ap (λ k. token.Keyword k) c.in-Goto.is)) c.goto.ensures
+keyed-returns-in-Goto g t c = compiles_as (unheaded c.args.room) (behind_current (λ off. reader.ended c.args.room off Goto)) done _ _ c.goto.result _ _ c.requires.loaded (at_goto c.args.room c.args.parser.now.tokens (c.requires.keyword ∙ ap (λ k. token.Keyword k) c.in-Goto.is)) c.goto.ensures
 
 pub keyed-returns-in_ok-advance-in-Return : goal.keyed-returns-in_ok-advance-in-Return
 keyed-returns-in_ok-advance-in-Return g t c = return_ends c.args.room _ _ _ c.returned.result _ _ (c.requires.keyword ∙ ap (λ k. token.Keyword k) c.in-Return.is) c.in_ok-advance-in-Return.ensures.ok c.returned.ensures

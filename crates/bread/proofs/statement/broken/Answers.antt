@@ -8,4 +8,4 @@ pub returns-in_err-expect : goal.returns-in_err-expect
 returns-in_err-expect g c = compiles_err _ _ _ _ c.from_residual.result _ _ c.in_err-expect.field-0.0 c.from_residual.ensures.1 (λ i. broken_halts c.args.line _ _ c.in_err-expect.field-0.0 c.in_err-expect.ensures.tokens)
 
 pub returns : goal.returns
-returns g c = (λ i. broken_took c.args.line c.in_ok-expect.ensures.tokens.0 (c.add_break.ensures ∙ ap (drafts.broken c.args.line) c.in_ok-expect.ensures.draft), c.in_ok-expect.ensures.tokens.1, c.in_ok-expect.ensures.tokens.2)
+returns g c = (λ i. broken_took c.args.line c.in_ok-expect.ensures.tokens.0 (c.add_break.ensures ∙ ap (drafts.break_drafted c.args.line) c.in_ok-expect.ensures.draft), c.in_ok-expect.ensures.tokens.1, c.in_ok-expect.ensures.tokens.2)

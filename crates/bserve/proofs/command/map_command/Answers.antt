@@ -9,11 +9,15 @@ returns c =
     let named : app_of c.after_help.result ≡ new_app (codes "map") = search rules in
     let local0 = ap (λ f. f.has_globals) c.after_help.ensures ∙ ap (λ f. f.has_globals) c.about.ensures ∙ c.new.ensures.local in
     let local1 = or_false _ _ _ c.in_ok-arg.ensures.globals local0 c.edition_option.ensures.local in
+    let local2 = or_false _ _ _ c.in_ok-arg-2.ensures.globals local1 c.file_argument.ensures.local in
+    let local3 = or_false _ _ _ c.in_ok-arg-3.ensures.globals local2 c.svg_flag.ensures.local in
     let shape1 = c.in_ok-arg.ensures.shape c.edition_option.ensures.local ∙ ap₂ with_rule named c.edition_option.ensures.rule in
-    IfOk-weaker c.arg-2.result _ _ (λ command added.
-    let shape2 = added.shape c.file_argument.ensures.local ∙ ap₂ with_rule shape1 c.file_argument.ensures.rule in
-    let local2 = or_false _ _ _ added.globals local1 c.file_argument.ensures.local in
+    let shape2 = c.in_ok-arg-2.ensures.shape c.file_argument.ensures.local ∙ ap₂ with_rule shape1 c.file_argument.ensures.rule in
+    let shape3 = c.in_ok-arg-3.ensures.shape c.svg_flag.ensures.local ∙ ap₂ with_rule shape2 c.svg_flag.ensures.rule in
+    IfOk-weaker c.arg-4.result _ _ (λ command added.
+    let shape4 = added.shape c.moment_option.ensures.local ∙ ap₂ with_rule shape3 c.moment_option.ensures.rule in
+    let local4 = or_false _ _ _ added.globals local3 c.moment_option.ensures.local in
     record {
-      alone = shape2;
-      within = λ old new adds. adds.shape local2 ∙ ap (λ (a : App). with_subcommand (app_of old) a.top) shape2;
-    }) c.arg-2.ensures
+      alone = shape4;
+      within = λ old new adds. adds.shape local4 ∙ ap (λ (a : App). with_subcommand (app_of old) a.top) shape4;
+    }) c.arg-4.ensures

@@ -17,3 +17,11 @@ returns-in-Some-Map-clause-does g c =
 pub returns-in-Some-Check-clause-does : goal.returns-in-Some-Check-clause-does
 returns-in-Some-Check-clause-does g c =
     answered c.args.job c.in-Some-Check.field-0 (jobs.Check c.in-Some-Check.request) _ _ c.in-Some-Check.is (rw c.in-Some-Check.is at c.in-Some-Check.field-0-is) (c.check_file.ensures.does _)
+
+pub returns-in-Some-Trace-clause-does : goal.returns-in-Some-Trace-clause-does
+returns-in-Some-Trace-clause-does g c =
+    answered c.args.job c.in-Some-Trace.field-0 (jobs.Trace c.in-Some-Trace.walk) _ _ c.in-Some-Trace.is (rw c.in-Some-Trace.is at c.in-Some-Trace.field-0-is) c.trace_file.ensures.does
+
+pub returns-in-Some-Draw-clause-does : goal.returns-in-Some-Draw-clause-does
+returns-in-Some-Draw-clause-does g c =
+    answered c.args.job c.in-Some-Draw.field-0 (jobs.Draw c.in-Some-Draw.subject c.in-Some-Draw.steps) _ _ c.in-Some-Draw.is (rw c.in-Some-Draw.is at c.in-Some-Draw.field-0-is) c.draw_file.ensures.does

@@ -1,12 +1,23 @@
-use Rattle.std.proofs.Common.{◌∙◌, ◌++◌, ap, decimal}
+use Rattle.std.proofs.Common.{◌≡◌, ◌∙◌, ◌+◌, ◌++◌, ap, codes, decimal, reverse, sym}
+use Rattle.std.specs.Prelude.{option_map}
+use Rattle.std.proofs.lemmas.List.{reverse-reverse}
 use Rattle.std.proofs.lemmas.Result.{on_ok_weaker}
-use Rattle.blist.specs.Columns.{right}
-use Rattle.btrace.proofs.RowParts.{told_step}
+use Rattle.blist.specs.Columns.{left, right}
+use Rattle.blist.proofs.AddedRows.{piece}
+use Rattle.btrace.specs.Programs.{entries_of, function_at, placed_entry}
+use Rattle.btrace.specs.Rows.{instr_in, instr_text, name_in, operands_text}
 use Rattle.btrace.proofs.rows.push_step.Goals as goal
 
 pub returns : goal.returns
 returns g c =
-    on_ok_weaker c.push-2.result
-    (λ end. told_step c.args.made c.args.stepper.now.call c.operands.result.now c.args.text.now c.push_right_number.new.self c.push.new.self c.push_function.new.text c.push_right_number-2.new.self c.push_code.new.text
-    c.push_operands.new.text c.push-2.new.self c.operands.ensures c.in_ok-push_right_number.ensures c.in_ok-push.ensures c.in_ok-push_function.ensures
-    (c.in_ok-push_right_number-2.ensures ∙ ap (λ n. c.push_function.new.text ++ right 6 (decimal n)) c.top-call.ensures.place) c.in_ok-push_code.ensures c.in_ok-push_operands.ensures end) c.push-2.ensures
+    let fs = entries_of c.args.tables.now in
+    let call = c.args.stepper.now.call in
+    let entry : option_map placed_entry c.entry-entry.result ≡ function_at fs call.function.strings = c.entry-entry.ensures ∙ ap (function_at fs) c.top-call.ensures.strings in
+    let name = c.name_of.ensures ∙ ap name_in entry in
+    let operands : c.operands.result.now ≡ reverse call.operands = sym (reverse-reverse c.operands.result.now) ∙ ap reverse c.operands.ensures in
+    on_ok_weaker c.push-3.result (λ end. (
+      c.line-line.result,
+      piece _ _ _ _ _ (piece _ _ _ _ _ (piece _ _ _ _ _ (piece _ _ _ _ _ (piece _ _ _ _ _ (piece _ _ _ _ _ (piece _ _ _ _ _ (piece _ _ _ _ _ c.in_ok-push_right_number.ensures c.in_ok-push.ensures) c.in_ok-push_left.ensures) c.in_ok-push_right_number-2.ensures) c.in_ok-push_right_number-3.ensures) c.in_ok-push-2.ensures) c.in_ok-push_instr.ensures) c.in_ok-push_operands.ensures) end
+          ∙ (λ i. c.args.text.now ++ (right 8 (decimal (c.args.made + 1)) ++ codes "  " ++ left 8 (name i) ++ right 6 (decimal (c.top-call.ensures.place i)) ++ right 6 (decimal c.line-line.result) ++ codes "  "
+          ++ left 12 (instr_text ((c.instr_at.ensures ∙ (λ j. instr_in (entry j) (c.top-call.ensures.place j))) i)) ++ operands_text (operands i) ++ codes "\n")),
+    )) c.push-3.ensures

@@ -6,7 +6,7 @@ use Rattle.std.specs.List.{All}
 use Rattle.std.specs.Map.{values_of}
 use Rattle.std.specs.Ordering.{nat_cmp}
 use Rattle.std.specs.Cmp.Lexicographic.{slice_cmp}
-use Rattle.bnames.specs.NameTables.{value_of, with_name}
+use Rattle.bnames.specs.NameTables.{value_in, with_name}
 use Rattle.bnames.specs.NameTables as table
 use Rattle.blang.specs.Layout.{Addresses, address_in}
 use Rattle.bmach.specs.Loading.{Knows}
@@ -25,7 +25,7 @@ pub invariant_of-self : goal.invariant_of-self
 invariant_of-self c =
     keeps c.insert.result c.self.inside.names c.insert.new.self c.args.name c.from.result c.self.invariant (omega (arith, c.from.ensures)) c.insert.ensures.entries c.insert.ensures.err
 
-is_new : {E : Type 0} (r : Result Bool E) (old : Addresses) (x : List ℕ) → IfOk r (λ b. b ≡ is_none (value_of x old)) → IfOk r (λ b. b ≡ is_none (address_in old x))
+is_new : {E : Type 0} (r : Result Bool E) (old : Addresses) (x : List ℕ) → IfOk r (λ b. b ≡ is_none (value_in x old)) → IfOk r (λ b. b ≡ is_none (address_in old x))
 is_new (Ok b) old x is = is ∙ ap is_none (lookup-is_at x old)
 is_new (Err e) old x is = tt
 
@@ -33,7 +33,7 @@ pub returns-clause-new : goal.returns-clause-new
 returns-clause-new c =
     subst (λ known. IfOk c.insert.result (λ b. b ≡ is_none (address_in known c.args.name))) c.self.view_is (is_new c.insert.result c.self.inside.names c.args.name c.insert.ensures.there)
 
-known : {E : Type 0} (r : Result Bool E) (old new : Addresses) (x : List ℕ) (v : ℕ) → IfOk r (λ b. OnTrue b (table.Knows old x v new)) → IfOk r (λ b. OnTrue b (Knows old x v new))
+known : {E : Type 0} (r : Result Bool E) (old new : Addresses) (x : List ℕ) (v : ℕ) → IfOk r (λ b. OnTrue b (table.KnowsOneMore old x v new)) → IfOk r (λ b. OnTrue b (Knows old x v new))
 known (Ok true) old new x v h = knows old new x v h
 known (Ok false) old new x v h = tt
 known (Err e) old new x v h = tt

@@ -3,7 +3,7 @@ use Rattle.std.specs.Prelude.{flat_map}
 use Rattle.std.proofs.lemmas.List.{map-append, length-map}
 use Rattle.blang.specs.CodeParts as definitions
 use Rattle.blang.specs.declared.code.Definition.TheVariants as definition
-use Rattle.bmach.specs.Parts.{Adds}
+use Rattle.bmach.specs.Parts.{AddsDefinition}
 use Rattle.blang.specs.Layout.{first_undefined, name_in_instr}
 use Rattle.bmach.specs.Loading.{known_in}
 use Rattle.bmach.specs.Images.{loaded_of}
@@ -34,8 +34,8 @@ returns c =
     let functions : map loaded_of c.push-2.new.self.items ≡ map loaded_of c.args.self.now.functions.items ++ _ ∷ [] =
     ap (map loaded_of) c.in_ok-push-2.ensures.items
     ∙ map-append loaded_of c.args.self.now.functions.items _
-    ∙ (λ i. map loaded_of c.args.self.now.functions.items ++ (record { parameters = p.parameters; frame = p.frame; targets = targets i; code = code i; strings = 0; first_label = c.args.self.now.first_label }) ∷ []) in
+    ∙ (λ i. map loaded_of c.args.self.now.functions.items ++ (record { parameters = p.parameters; frame = p.frame; targets = targets i; code = code i; strings = strings i; first_label = c.args.self.now.first_label }) ∷ []) in
     let label : c.args.self.now.first_label + c.len-2.result ≡ c.args.self.now.first_label + length p.targets.items =
     ap (λ n. c.args.self.now.first_label + n) (c.len-2.ensures ∙ p.targets.ok.0) in
-    let family : definitions.Function → Type 0 = λ d. Adds known c.args.self.now (definition.Function d) (Ok tt) (record { words = c.extend_from_slice.new.self; functions = c.push-2.new.self; first_label = c.args.self.now.first_label + c.len-2.result }) in
+    let family : definitions.Function → Type 0 = λ d. AddsDefinition known c.args.self.now (definition.Function d) (Ok tt) (record { words = c.extend_from_slice.new.self; functions = c.push-2.new.self; first_label = c.args.self.now.first_label + c.len-2.result }) in
     subst family c.parts-parts.ensures.same ((λ i. record { words = words i; functions = functions i; first_label = label i }), ap (λ is. first_undefined known (flat_map name_in_instr is)) (sym c.deref-2.ensures.value) ∙ c.in_ok-code.ensures.1)

@@ -3,7 +3,7 @@ use Rattle.std.specs.Prelude.{flat_map, vec_len}
 use Rattle.std.proofs.lemmas.List.{length-map}
 use Rattle.blang.specs.CodeParts as definitions
 use Rattle.blang.specs.declared.code.Definition.TheVariants as definition
-use Rattle.bmach.specs.Parts.{Adds}
+use Rattle.bmach.specs.Parts.{AddsDefinition}
 use Rattle.blang.specs.Layout.{first_undefined, name_in_value, value_word, padded}
 use Rattle.bmach.specs.Loading.{known_in}
 use Rattle.bmach.specs.Images.{loaded_of}
@@ -41,5 +41,5 @@ returns c =
     let functions = map loaded_of c.args.self.now.functions.items in
     let same : functions ≡ functions ++ [] = sym (append-nil functions) in
     let label : c.args.self.now.first_label ≡ c.args.self.now.first_label + 0 = omega arith in
-    let family : definitions.Vector → Type 0 = λ d. Adds known c.args.self.now (definition.Vector d) (Ok tt) (record { words = c.extend_from_slice.new.self; functions = c.args.self.now.functions; first_label = c.args.self.now.first_label }) in
+    let family : definitions.Vector → Type 0 = λ d. AddsDefinition known c.args.self.now (definition.Vector d) (Ok tt) (record { words = c.extend_from_slice.new.self; functions = c.args.self.now.functions; first_label = c.args.self.now.first_label }) in
     subst family c.parts-parts.ensures.same ((λ i. record { words = words i; functions = same i; first_label = label i }), ap (λ vs. first_undefined known (flat_map name_in_value vs)) (sym c.deref.ensures.value) ∙ c.in_ok-push_values.ensures.1)

@@ -1,6 +1,6 @@
 use Rattle.std.specs.Map.{keys_of}
 use Rattle.bparse.specs.Steps.{point}
-use Rattle.bparse.specs.Compilers.{start_of}
+use Rattle.bparse.specs.Compilers.{compiler_start}
 use Rattle.bparse.proofs.SinceSteps.{goes_on_open, written_now, stopped_now}
 use Rattle.bparse.proofs.compiler.Compiler.next_definition.Goals as goal
 
@@ -8,7 +8,7 @@ pub invariant_of-self : goal.invariant_of-self
 invariant_of-self g c = λ e.
     let i = c.self.inside in
     let n = c.compile_next.new in
-    goes_on_open (start_of i.edition (g.I.ByteIn.incoming i.first_input.value) (g.I.ByteIn.lender i.first_input.value) (g.O.ByteOut.outgoing i.first_out.value) (g.O.ByteOut.lender i.first_out.value))
+    goes_on_open (compiler_start i.edition (g.I.ByteIn.incoming i.first_input.value) (g.I.ByteIn.lender i.first_input.value) (g.O.ByteOut.outgoing i.first_out.value) (g.O.ByteOut.lender i.first_out.value))
     (point i.parser.tokens (keys_of i.names) (g.O.ByteOut.outgoing i.out)) (point n.parser.tokens (keys_of n.names) (g.O.ByteOut.outgoing n.out)) (g.O.ByteOut.lender i.out) (g.O.ByteOut.lender n.out) i.is_begun i.is_closed c.if-self.false (c.self.invariant c.if-self.false)
     _ c.in-Ok.ensures.gives c.in-Ok.ensures.ready
 
@@ -16,7 +16,7 @@ pub returns-in-Ok-clause-gives : goal.returns-in-Ok-clause-gives
 returns-in-Ok-clause-gives g c =
     let i = c.self.inside in
     let n = c.compile_next.new in
-    written_now (start_of i.edition (g.I.ByteIn.incoming i.first_input.value) (g.I.ByteIn.lender i.first_input.value) (g.O.ByteOut.outgoing i.first_out.value) (g.O.ByteOut.lender i.first_out.value))
+    written_now (compiler_start i.edition (g.I.ByteIn.incoming i.first_input.value) (g.I.ByteIn.lender i.first_input.value) (g.O.ByteOut.outgoing i.first_out.value) (g.O.ByteOut.lender i.first_out.value))
     (point i.parser.tokens (keys_of i.names) (g.O.ByteOut.outgoing i.out)) (point n.parser.tokens (keys_of n.names) (g.O.ByteOut.outgoing n.out)) (g.O.ByteOut.lender i.out) (g.O.ByteOut.lender n.out) i.is_begun i.is_closed c.if-self.false (c.self.invariant c.if-self.false)
     c.args.self.now c.self.view_is _ c.in-Ok.ensures.gives
 
@@ -24,6 +24,6 @@ pub returns-in-Err-clause-gives : goal.returns-in-Err-clause-gives
 returns-in-Err-clause-gives g c =
     let i = c.self.inside in
     let n = c.compile_next.new in
-    stopped_now (start_of i.edition (g.I.ByteIn.incoming i.first_input.value) (g.I.ByteIn.lender i.first_input.value) (g.O.ByteOut.outgoing i.first_out.value) (g.O.ByteOut.lender i.first_out.value))
+    stopped_now (compiler_start i.edition (g.I.ByteIn.incoming i.first_input.value) (g.I.ByteIn.lender i.first_input.value) (g.O.ByteOut.outgoing i.first_out.value) (g.O.ByteOut.lender i.first_out.value))
     (point i.parser.tokens (keys_of i.names) (g.O.ByteOut.outgoing i.out)) (point n.parser.tokens (keys_of n.names) (g.O.ByteOut.outgoing n.out)) (g.O.ByteOut.lender i.out) (g.O.ByteOut.lender n.out) i.is_begun i.is_closed c.if-self.false (c.self.invariant c.if-self.false)
     c.args.self.now c.self.view_is c.in-Err.step c.in-Err.ensures.gives

@@ -1,0 +1,2 @@
+pub mod DrawnWords
+pub mod MadeSteps

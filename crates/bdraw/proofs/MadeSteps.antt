@@ -1,0 +1,96 @@
+-- Steps that are made one after another.
+use Rattle.std.proofs.Common.{◌≡◌, ◌∙◌, ℕ, ◌+◌, ◌<◌, List, [], ◌++◌, Ok, Err, ap, append_assoc, arith, refl, subst, sym}
+use Rattle.bword.specs.ByteEnds.{CanFollow, Incoming, Kept, Outgoing, Took, outgoing_of}
+use Rattle.bword.proofs.Putting.{Writes-append}
+use Rattle.bword.proofs.Taking.{Took-append}
+use Rattle.blang.specs.declared.code.Definition.{Definition}
+use Rattle.blang.specs.declared.run.Outcome.{Outcome}
+use Rattle.blang.specs.declared.run.Outcome.TheVariants as outcome
+use Rattle.blang.specs.Machine.{Image, RunGives, run, step, steps}
+use Rattle.bmach.specs.Steps.{world_with}
+use Rattle.bmach.specs.Stepping.{IsUnstarted, Paused, machine_at}
+use Rattle.bmach.specs.Turns.{MovesOn, TurnGives}
+use Rattle.bmach.proofs.Running.{behind, one_more, run_over, same_run}
+use Rattle.bmach.proofs.Turning.{follows, goes_on}
+use Rattle.bdraw.specs.Draws.{DrawsRun, EndGives, HasEnd, IsAfter, IsMade, IsOver, Made, Shows, no_memory, nothing_written, over, unread}
+
+pub made_none : (first : Paused) (i : Incoming) (o : Outgoing) → IsMade first 0 first i i o o
+made_none first i o = (refl, goes_on (behind first.image 0 (machine_at first)) (machine_at first) i o (λ left before. refl))
+
+module _ (first now : Paused) (made : ℕ) (i j m : Incoming) (o p q : Outgoing) (new : Paused) where
+  pub made_one : IsMade first made now i j o p → TurnGives now.image (machine_at now) (machine_at new) j m p q (Ok tt) → new.image ≡ now.image → IsMade first (made + 1) new i m o q
+  made_one t g same =
+      let g' : MovesOn (λ left before. step first.image (machine_at now left before)) (machine_at new) j m p q =
+      subst (λ (x : Image). MovesOn (λ left before. step x (machine_at now left before)) (machine_at new) j m p q) t.0 g in (
+        same ∙ t.0,
+        record {
+          taken = t.1.taken ++ g'.taken;
+          took = Took-append t.1.took g'.took;
+          no_failure = g'.no_failure ∙ t.1.no_failure;
+          output = t.1.output ++ g'.output;
+          written = Writes-append t.1.written g'.written;
+          comes = λ more before can.
+              ap (λ left. steps first.image (made + 1) (machine_at first left before)) (append_assoc t.1.taken g'.taken more)
+              ∙ one_more first.image made _ _ (t.1.comes (g'.taken ++ more) before (follows g'.took can))
+              ∙ g'.comes more (before ++ t.1.output) can
+              ∙ ap (machine_at new more) (append_assoc before t.1.output g'.output);
+        },
+      )
+
+  no_limit : (r : Outcome) → TurnGives now.image (machine_at now) (machine_at new) j m p q (Err r) → r ≡ outcome.Limit → ⊥
+  no_limit (outcome.Exit status) g is = cc
+  no_limit (outcome.Trap kind) g is = cc
+  no_limit outcome.Limit g is = g
+  no_limit outcome.Device g is = cc
+  no_limit outcome.Memory g is = cc
+
+  -- the run is over with the next step
+  pub made_over : (n : ℕ) (r : Outcome) → made < n → IsMade first made now i j o p → TurnGives now.image (machine_at now) (machine_at new) j m p q (Err r)
+      → RunGives (λ input k. steps first.image k (machine_at first input [])) n i m o q r × (r ≡ outcome.Limit → ⊥)
+  made_over n r lt t g = (
+    run_over first.image made (machine_at first) (machine_at now) (machine_at new) n m q r (omega (arith, lt)) t.1
+        (subst (λ (x : Image). TurnGives x (machine_at now) (machine_at new) j m p q (Err r)) t.0 g),
+    no_limit r g,
+  )
+
+-- the run of an image from its beginning on
+run_from : (image : Image) (p : Paused) → IsUnstarted image p → (input : List ℕ) (n : ℕ) → run image input n ≡ steps p.image n (machine_at p input [])
+run_from image p b input n = ap (steps image n) (b.first input) ∙ ap (λ (x : Image). steps x n (machine_at p input [])) (sym b.image_is)
+
+-- memory after all steps
+pub is_after : (image : Image) (first now : Paused) (n : ℕ) (i j : Incoming) (o q : Outgoing) → IsUnstarted image first → IsMade first n now i j o q → IsAfter image n i j now.store
+is_after image first now n i j o q b t = record {
+  taken = t.1.taken;
+  took = t.1.took;
+  holds = λ more can. (
+    now.call,
+    now.below,
+    world_with now.store more ([] ++ t.1.output),
+    run_from image first b (t.1.taken ++ more) n ∙ t.1.comes more [] can,
+    refl,
+  );
+}
+
+pub is_over : (image : Image) (first : Paused) (n : ℕ) (i j : Incoming) (before output : Kept) (r : Outcome) → IsUnstarted image first → before ≡ record { bytes = []; refusals = 0 }
+    → RunGives (λ input k. steps first.image k (machine_at first input [])) n i j (outgoing_of before) (outgoing_of output) r → IsOver image n i j r
+is_over image first n i j before output r b none gives = (
+  output,
+  same_run (run image) (λ input k. steps first.image k (machine_at first input [])) n i j nothing_written (outgoing_of output) r (run_from image first b)
+      (subst (λ (k : Kept). RunGives (λ input k'. steps first.image k' (machine_at first input [])) n i j (outgoing_of k) (outgoing_of output) r) none gives),
+)
+
+pub ends_shown : (ds : List Definition) (image : Image) (words : List ℕ) (r : Outcome) (old new : Outgoing) (status : ℕ) → (r ≡ outcome.Device → ⊥) → (r ≡ outcome.Memory → ⊥)
+    → Shows ds image words old new status → EndGives ds image words r old new status
+ends_shown ds image words (outcome.Exit n) old new status a b s = s
+ends_shown ds image words (outcome.Trap kind) old new status a b s = s
+ends_shown ds image words outcome.Limit old new status a b s = s
+ends_shown ds image words outcome.Device old new status a b s = absurd (a refl)
+ends_shown ds image words outcome.Memory old new status a b s = absurd (b refl)
+
+pub ends_drawn : (ds : List Definition) (image : Image) (words : List ℕ) (n : ℕ) (i j : Incoming) (r : Outcome) (old new : Outgoing) (status : ℕ) → IsOver image n i j r → (r ≡ outcome.Limit → ⊥)
+    → EndGives ds image words r old new status → DrawsRun ds image n i j old new status
+ends_drawn ds image words n i j (outcome.Exit m) old new status is no_limit s = over (outcome.Exit m) words is tt s
+ends_drawn ds image words n i j (outcome.Trap kind) old new status is no_limit s = over (outcome.Trap kind) words is tt s
+ends_drawn ds image words n i j outcome.Limit old new status is no_limit s = absurd (no_limit refl)
+ends_drawn ds image words n i j outcome.Device old new status is no_limit s = unread is s.0 s.1
+ends_drawn ds image words n i j outcome.Memory old new status is no_limit s = no_memory s.0 s.1

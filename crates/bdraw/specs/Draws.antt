@@ -1,0 +1,148 @@
+-- What comes of a source whose memory is drawn.
+use Rattle.std.specs.Prelude.{◌≡◌, ◌⊎◌, ℕ, zero, suc, ◌+◌, ◌%◌, min, List, [], ◌∷◌, ◌++◌, map, take, Option, Some, None}
+use Rattle.std.specs.Prelude.{Result, Ok, Err, slice_index, ⊤}
+use Rattle.std.specs.List.{flat_map}
+use Rattle.bword.specs.declared.edition.Edition.{Edition}
+use Rattle.bword.specs.ByteEnds.{CanFollow, Incoming, Outgoing, Kept, Took, outgoing_of}
+use Rattle.blang.specs.declared.code.Definition.{Definition}
+use Rattle.blang.specs.declared.run.Outcome.{Outcome}
+use Rattle.blang.specs.declared.run.Outcome.TheVariants as outcome
+use Rattle.blang.specs.declared.status.TheConstants.{DEVICE, DONE, MEMORY}
+use Rattle.blang.specs.Layout.{Shape as Named, World, shape_of, size_of}
+use Rattle.blang.specs.Machine.{Call, Image, Running, State, run, steps, RunGives, RunEnds}
+use Rattle.bmach.specs.Stepping.{BeginsNot, Paused, machine_at}
+use Rattle.bmach.specs.Turns.{MovesOn}
+use Rattle.blist.specs.Maps.{image_address}
+use Rattle.blist.specs.Programs.{HasProgram, NoProgram}
+use Rattle.blist.specs.Told.{Told}
+use Rattle.bdraw.specs.Shapes.{picture_text}
+use Rattle.bdraw.specs.declared.shapes.Shape.{Shape}
+use Rattle.bdraw.specs.declared.shapes.Shape.TheVariants as shape
+
+-- the word that a shape shows, behind its address
+abbrev pub shown_in : Shape → List (ℕ × ℕ)
+shown_in (shape.Cell c) = (c.address, c.word) ∷ []
+shown_in (shape.Label l) = []
+
+abbrev pub drawn : List Shape → List (ℕ × ℕ)
+drawn shapes = flat_map shown_in shapes
+
+-- a word of memory, behind its address
+abbrev pub seen : List ℕ → ℕ → ℕ × ℕ
+seen words address = (address, slice_index words address)
+
+-- so many addresses, from one on
+abbrev pub addresses_from : ℕ → ℕ → List ℕ
+addresses_from first zero = []
+addresses_from first (suc n) = addresses_from first n ++ ((first + n) % 65536) ∷ []
+
+-- the addresses of so many words that have a row; nine have room
+abbrev pub row : ℕ → ℕ → List ℕ
+row first count = addresses_from first (min count 9)
+
+abbrev pub name_row : Image → Named → List ℕ
+name_row image d = row (image_address image d.name) (size_of d)
+
+abbrev pub named : Image → List Definition → List ℕ
+named image ds = flat_map (λ d. name_row image (shape_of d)) ds
+
+-- words of these addresses were drawn, and of others behind them
+abbrev pub AddsRow : List ℕ → List Shape → List Shape → Type 0
+AddsRow words old new = (addresses : List ℕ) × (drawn new ≡ drawn old ++ map (seen words) addresses)
+
+-- What is drawn of memory: the words of the library, the first ones of each of the first 48 names, and those of frames;
+-- each is the word that stands at its address.
+abbrev pub Drawn : List Definition → Image → List ℕ → List Shape → Type 0
+Drawn ds image words shapes =
+    (frames : List ℕ) × (drawn shapes ≡ map (seen words) (row 0 7 ++ named image (take 48 ds) ++ frames))
+
+-- The text is a picture of memory.
+pub record IsPicture (ds : List Definition) (image : Image) (words : List ℕ) (text : List ℕ) : Type 0 where
+  pub height : ℕ
+  pub shapes : List Shape
+  pub drawn : Drawn ds image words shapes
+  pub text_is : text ≡ picture_text height shapes
+
+-- A picture of memory was written, or a beginning of it; or memory was refused, and nothing was.
+pub data Shows (ds : List Definition) (image : Image) (words : List ℕ) (old new : Outgoing) (status : ℕ) : Type 0 where
+  shown : (text : List ℕ) → IsPicture ds image words text → Told text DONE old new status
+      → Shows ds image words old new status
+  no_memory : new ≡ old → status ≡ MEMORY → Shows ds image words old new status
+
+-- memory has these words while a call is running
+abbrev pub Holds : List ℕ → State → Type 0
+Holds words s = (call : Call) × (below : List Call) × (world : World) × (s ≡ Running call below world)
+    × (world.store ≡ words)
+
+-- what the program writes is kept from the start
+abbrev pub nothing_written : Outgoing
+nothing_written = outgoing_of (record { bytes = []; refusals = 0 })
+
+-- Memory has these words after so many steps, in which this was taken of the input.
+pub record IsAfter (image : Image) (n : ℕ) (i j : Incoming) (words : List ℕ) : Type 0 where
+  pub taken : List ℕ
+  pub took : Took i taken j
+  pub holds : (more : List ℕ) → CanFollow j more → Holds words (run image (taken ++ more) n)
+
+-- so many steps were given to the run, and it is over so
+abbrev pub IsOver : Image → ℕ → (i j : Incoming) → Outcome → Type 0
+IsOver image n i j result = (output : Kept) × RunGives (run image) n i j nothing_written (outgoing_of output) result
+
+-- a run has an end of its own
+abbrev pub HasEnd : Outcome → Type 0
+HasEnd (outcome.Exit status) = ⊤
+HasEnd (outcome.Trap kind) = ⊤
+HasEnd outcome.Limit = ⊥
+HasEnd outcome.Device = ⊥
+HasEnd outcome.Memory = ⊥
+
+-- What is drawn after so many steps: the words that memory has then; or, where the run is over before, those where it
+-- is over; or those before a run that doesn't begin. Where the program can't read its input nothing is written.
+pub data DrawsRun (ds : List Definition) (image : Image) (n : ℕ) (i j : Incoming) (old new : Outgoing) (status : ℕ)
+    : Type 0 where
+  after : (words : List ℕ) → IsAfter image n i j words → Shows ds image words old new status
+      → DrawsRun ds image n i j old new status
+  over : (result : Outcome) (words : List ℕ) → IsOver image n i j result → HasEnd result
+      → Shows ds image words old new status → DrawsRun ds image n i j old new status
+  not_begun : (result : Outcome) → BeginsNot image result → HasEnd result → Shows ds image image.words old new status
+      → j ≡ i → DrawsRun ds image n i j old new status
+  unread : IsOver image n i j outcome.Device → new ≡ old → status ≡ DEVICE → DrawsRun ds image n i j old new status
+  no_memory : new ≡ old → status ≡ MEMORY → DrawsRun ds image n i j old new status
+
+-- what comes of a run that is over so, with these words
+abbrev pub EndGives : List Definition → Image → List ℕ → Outcome → (old new : Outgoing) → ℕ → Type 0
+EndGives ds image words (outcome.Exit n) old new status = Shows ds image words old new status
+EndGives ds image words (outcome.Trap kind) old new status = Shows ds image words old new status
+EndGives ds image words outcome.Limit old new status = Shows ds image words old new status
+EndGives ds image words outcome.Device old new status = (new ≡ old) × (status ≡ DEVICE)
+EndGives ds image words outcome.Memory old new status = (new ≡ old) × (status ≡ MEMORY)
+
+-- what comes of a run that doesn't begin
+abbrev pub Unbegun : List Definition → Image → Outcome → (old new : Outgoing) → ℕ → Type 0
+Unbegun ds image result old new status =
+    (n : ℕ) (i : Incoming) → BeginsNot image result → DrawsRun ds image n i i old new status
+
+abbrev pub DrawsProgram : List Definition → Image → Option ℕ → (i j : Incoming) (old new : Outgoing) → ℕ → Type 0
+DrawsProgram ds image None i j old new status = Shows ds image image.words old new status × (j ≡ i)
+DrawsProgram ds image (Some n) i j old new status = DrawsRun ds image n i j old new status
+
+-- The memory of the program of the source was drawn; or there is none, and nothing but why was written.
+pub data Draws (edition : Edition) (source : List ℕ) (steps : Option ℕ) (ends : RunEnds) (status : ℕ) : Type 0 where
+  drew : (ds : List Definition) (image : Image) → HasProgram edition source ends.line ends.line_behind ds image
+      → DrawsProgram ds image steps ends.input ends.input_behind ends.out ends.out_behind status
+      → Draws edition source steps ends status
+  stopped : NoProgram edition source ends.line ends.line_behind status → ends.out_behind ≡ ends.out
+      → ends.input_behind ≡ ends.input → Draws edition source steps ends status
+
+-- so many steps were made
+abbrev pub IsMade : (first : Paused) (made : ℕ) (now : Paused) (i j : Incoming) (o q : Outgoing) → Type 0
+IsMade first made now i j o q =
+    (now.image ≡ first.image)
+    × MovesOn (λ left before. steps first.image made (machine_at first left before)) (machine_at now) i j o q
+
+-- what comes of so many steps
+abbrev pub Made : (first now : Paused) → ℕ → (i j : Incoming) (o q : Outgoing) → Result (Unit {0}) (ℕ × Outcome)
+    → Type 0
+Made first now n i j o q (Ok u) = IsMade first n now i j o q
+Made first now n i j o q (Err end) =
+    RunGives (λ input k. steps first.image k (machine_at first input [])) n i j o q end.1 × (end.1 ≡ outcome.Limit → ⊥)

@@ -1,0 +1,9 @@
+//! Memory, drawn as a picture of plain shapes.
+#![tactic(auto)]
+
+mod drawing;
+mod picture;
+mod scene;
+mod shapes;
+
+pub use drawing::draw;

@@ -1,0 +1,127 @@
+-- One pass over a statement makes its code: by induction on the tree.
+use Rattle.std.proofs.Common.{◌≡◌, ℕ, zero, suc, ◌+◌, List, ◌∷◌, ◌++◌, length, refl, sym, ap, ◌∙◌, arith, add-zero}
+use Rattle.blang.specs.declared.code.Instr.{Instr}
+use Rattle.blang.specs.declared.code.Instr.TheVariants as instr
+use Rattle.blang.specs.Trees.{Expr, Stmt, Headed, Compound, If, IfElse, While, Switch, Goto, Break, Return, ReturnValue, Evaluate, Empty, Stmts, Nothing, More}
+use Rattle.blang.specs.WellFormed.{rvalue_rank}
+use Rattle.btree.specs.Fitting.{words, Deeper, Fits, statement_words, body_words, Sits, AllSit, strings, statement_strings, body_strings}
+use Rattle.blang.specs.Scan.{Event, statement_events, body_events}
+use Rattle.blang.specs.Code.{Environment, word_code, arms_code, statement_end, arm_places, body_arm_places, statement_code, body_code, label_places, body_label_places}
+use Rattle.btree.proofs.CodeLaws.{counts_words, statement_ends, body_ends}
+use Rattle.bemit.specs.Drafts.{Draft}
+use Rattle.bemit.specs.Effects.{done, all_done}
+use Rattle.bonepass.proofs.Breaks.{statement_breaks, body_breaks, body_closes}
+use Rattle.bonepass.proofs.Parts.{Parts, Same, Makes, joined, then_, retold, deeper, idle, emits}
+use Rattle.bonepass.proofs.Jumps.{skipped, skips, ways_parts, parts_ways}
+use Rattle.bonepass.proofs.Trees.{statement_parts, body_parts}
+use Rattle.bonepass.proofs.Loops.{loops}
+use Rattle.bonepass.proofs.Switches.{switched_parts, Closes, switches}
+use Rattle.bonepass.proofs.Expressions.{only}
+use Rattle.bonepass.proofs.ExpressionMakes.{expression_words, evaluated_makes}
+use Rattle.bonepass.proofs.Headings.{heading_makes, broken_makes}
+
+-- what stands one level deeper
+level : {names : Environment} {f : Draft → Draft} {es : List Event} {off : ℕ} {a : Parts} (P : ℕ → Type 0) → ((k : ℕ) → P k → Makes names f es k off a) → (room : ℕ) → Deeper P room → Makes names f es room off a
+level P x zero h = elim h [ ]
+level P x (suc k) h = deeper (x k h)
+
+statement_offset : (s : Stmt) (off : ℕ) → off + statement_words s ≡ off + length (statement_strings s)
+statement_offset s off = ap (λ n. off + n) (sym (counts_words s))
+
+body_offset : (ss : Stmts) (off : ℕ) → off + body_words ss ≡ off + length (body_strings ss)
+body_offset ss off = ap (λ n. off + n) (sym (counts_words (Compound ss)))
+
+module _ (names : Environment) where
+  if_same : (e : Expr) (s : Stmt) (p : ℕ) → Same p (joined (only (word_code names e) (strings e)) (skipped (statement_parts names s))) (statement_parts names (If e s))
+  if_same e s p =
+      let ce = word_code names e p in
+      let q = p + length ce + 1 in
+      record { code = ap (λ n. ce ++ (instr.JumpIfZero n ∷ statement_code names s q 0)) (statement_ends names s q 0); strings = refl; targets = refl; arms = refl; breaks = refl }
+
+  ways_same : (e : Expr) (s other : Stmt) (p : ℕ) → Same p (joined (only (word_code names e) (strings e)) (ways_parts (statement_parts names s) (statement_parts names other))) (statement_parts names (IfElse e s other))
+  ways_same e s other p = record {
+    code =
+        ap (λ n. ce ++ (instr.JumpIfZero n ∷ (cs ++ (instr.Jump (n + length (statement_code names other n 0)) ∷ statement_code names other n 0)))) behind
+        ∙ ap (λ n. ce ++ (instr.JumpIfZero a ∷ (cs ++ (instr.Jump n ∷ statement_code names other a 0)))) (statement_ends names other a 0);
+    strings = refl;
+    targets = ap (λ n. label_places names s q ++ label_places names other n) behind;
+    arms = ap (λ n. arm_places names s q ++ arm_places names other n) behind;
+    breaks = ap (λ n. statement_breaks names s q ++ statement_breaks names other n) behind;
+  }
+    where
+      ce : List Instr
+      ce = word_code names e p
+
+      q : ℕ
+      q = p + length ce + 1
+
+      cs : List Instr
+      cs = statement_code names s q 0
+
+      a : ℕ
+      a = statement_end names s q + 1
+
+      behind : q + length cs + 1 ≡ a
+      behind = ap (λ n. n + 1) (statement_ends names s q 0)
+
+  closes : (ss : Stmts) → Closes (body_parts names ss) (body_code names ss)
+  closes ss = record { fills = λ p out. body_closes names ss p out; same_length = λ p out. omega (arith, body_ends names ss p out, body_ends names ss p 0) }
+
+  switch_same : (e : Expr) (ss : Stmts) (p : ℕ) → Same p (joined (only (word_code names e) (strings e)) (switched_parts (body_parts names ss) (body_code names ss))) (statement_parts names (Switch e ss))
+  switch_same e ss p =
+      let ce = word_code names e p in
+      let q = p + length ce + 1 in
+      let arms = arms_code (body_arm_places names ss q) in
+      record {
+        code = ap (λ n. ce ++ (instr.Jump (n + 1) ∷ (body_code names ss q (n + 1 + length arms) ++ (instr.Jump (n + 1 + length arms) ∷ arms)))) (body_ends names ss q 0);
+        strings = refl;
+        targets = refl;
+        arms = refl;
+        breaks = refl;
+      }
+
+  more_same : (before : Stmts) (s : Stmt) (p : ℕ) → Same p (joined (body_parts names before) (statement_parts names s)) (body_parts names (More before s))
+  more_same before s p =
+      let behind = body_ends names before p 0 in
+      record {
+        code = ap (λ n. body_code names before p 0 ++ statement_code names s n 0) behind;
+        strings = refl;
+        targets = ap (λ n. body_label_places names before p ++ label_places names s n) behind;
+        arms = ap (λ n. body_arm_places names before p ++ arm_places names s n) behind;
+        breaks = ap (λ n. body_breaks names before p ++ statement_breaks names s n) behind;
+      }
+
+  mutual
+    pub done_makes : (s : Stmt) (room off : ℕ) → Sits s room off → Makes names (done s) (statement_events s) room off (statement_parts names s)
+    done_makes (Headed h s) room off sits =
+        retold (statement_parts names (Headed h s)) (λ p. record { code = refl; strings = refl; targets = refl; arms = refl; breaks = refl })
+        (then_ (heading_makes h) (done_makes s room off sits.1) (sym (add-zero off)))
+    done_makes (Compound body) room off sits =
+        retold (statement_parts names (Compound body)) (λ p. record { code = refl; strings = refl; targets = refl; arms = refl; breaks = refl })
+        (level (λ k. AllSit body k off) (λ k h. all_make body k off h) room sits)
+    done_makes (If e s) room off sits =
+        retold (statement_parts names (If e s)) (if_same e s)
+        (level (λ k. Fits e rvalue_rank k off × Sits s k (off + words e))
+        (λ k h. then_ (evaluated_makes names e k off k h.0) (skips (done_makes s k (off + words e) h.1)) (expression_words e off)) room sits)
+    done_makes (IfElse e s other) room off sits =
+        retold (statement_parts names (IfElse e s other)) (ways_same e s other)
+        (level (λ k. Fits e rvalue_rank k off × Sits s k (off + words e) × Sits other k (off + words e + statement_words s))
+        (λ k h. then_ (evaluated_makes names e k off k h.0) (parts_ways (done_makes s k (off + words e) h.1) (done_makes other k (off + words e + statement_words s) h.2) (statement_offset s (off + words e))) (expression_words e off)) room sits.1)
+    done_makes (While e s) zero off sits = elim sits [ ]
+    done_makes (While e s) (suc k) off sits = loops e s (evaluated_makes names e k off (suc k) sits.0) (done_makes s k (off + words e) sits.1) (expression_words e off)
+    done_makes (Switch e body) zero off sits = elim sits [ ]
+    done_makes (Switch e body) (suc k) off sits =
+        retold (statement_parts names (Switch e body)) (switch_same e body)
+        (then_ (evaluated_makes names e k off (suc k) sits.0) (switches (body_code names body) (closes body) (all_make body k (off + words e) sits.1)) (expression_words e off))
+    done_makes (Goto e) room off sits = emits instr.Goto (evaluated_makes names e room off room sits)
+    done_makes (Break line) room off sits = broken_makes line
+    done_makes Return room off sits = emits instr.Return (emits (instr.Constant 0) idle)
+    done_makes (ReturnValue e) room off sits = emits instr.Return (evaluated_makes names e room off room sits)
+    done_makes (Evaluate e) room off sits = emits instr.Pop (evaluated_makes names e room off room sits)
+    done_makes Empty room off sits = idle
+
+    all_make : (ss : Stmts) (room off : ℕ) → AllSit ss room off → Makes names (all_done ss) (body_events ss) room off (body_parts names ss)
+    all_make Nothing room off sits = idle
+    all_make (More before s) room off sits =
+        retold (body_parts names (More before s)) (more_same before s)
+        (then_ (all_make before room off sits.0) (done_makes s room (off + body_words before) sits.1) (body_offset before off))

@@ -1,0 +1,55 @@
+-- The places of a run, one behind another.
+use Rattle.std.proofs.Common.{◌≡◌, ◌∙◌, ℕ, ◌+◌, Bool, List, [], ◌∷◌, ◌++◌, ap, append-nil, append_assoc, codes, decimal, length, nat_lt, refl, sym, if◌then◌else◌}
+use Rattle.std.specs.List.{flat_map}
+use Rattle.std.proofs.lemmas.List.Concat.{flat_map-append}
+use Rattle.blist.specs.Columns.{left}
+use Rattle.blist.proofs.AddedRows.{piece}
+use Rattle.btrace.specs.Programs.{Placed}
+use Rattle.btrace.specs.Rows.{Place, place_text, places_text, words_text}
+use Rattle.btrace.specs.Traces.{AddsPlaces}
+
+pub words_shown : (old text new words : List ℕ) (count : ℕ) (has_more : Bool) → length words ≡ count → text ≡ (old ++ (if nat_lt 0 count then codes "  with" else [])) ++ flat_map (λ w. codes " " ++ decimal w) words
+    → new ≡ text ++ (if has_more then codes " .." else []) → new ≡ old ++ words_text words has_more
+words_shown old text new words count has_more same before end =
+    let with : List ℕ = if nat_lt 0 (length words) then codes "  with" else [] in
+    let all : List ℕ = flat_map (λ w. codes " " ++ decimal w) words in
+    end ∙ ap (λ x. x ++ (if has_more then codes " .." else [])) (before ∙ ap (λ n. (old ++ (if nat_lt 0 n then codes "  with" else [])) ++ all) (sym same) ∙ append_assoc old with all)
+    ∙ append_assoc old (with ++ all) (if has_more then codes " .." else [])
+
+pub one_word : (start text t1 t2 words : List ℕ) (word : ℕ) → text ≡ start ++ flat_map (λ w. codes " " ++ decimal w) words → t1 ≡ text ++ codes " " → t2 ≡ t1 ++ decimal word
+    → t2 ≡ start ++ flat_map (λ w. codes " " ++ decimal w) (words ++ word ∷ [])
+one_word start text t1 t2 words word before e1 e2 =
+    let f : ℕ → List ℕ = λ w. codes " " ++ decimal w in
+    e2 ∙ ap (λ x. x ++ decimal word) e1 ∙ append_assoc text (codes " ") (decimal word) ∙ ap (λ x. x ++ f word) before ∙ append_assoc start (flat_map f words) (f word)
+    ∙ ap (λ x. start ++ x) (ap (λ x. flat_map f words ++ x) (sym (append-nil (f word))) ∙ sym (flat_map-append f words (word ∷ [])))
+
+pub first_place : (fs : List Placed) (p : Place) (old t1 t2 : List ℕ) → t1 ≡ old ++ codes "at     " → t2 ≡ t1 ++ place_text fs p → AddsPlaces fs p.strings p.place old t2
+first_place fs p old t1 t2 e1 e2 = (
+  places_text fs p [],
+  record { first = p; callers = []; text_is = refl; function_is = refl; place_is = refl },
+  e2 ∙ ap (λ x. x ++ place_text fs p) e1 ∙ append_assoc old (codes "at     ") (place_text fs p) ∙ ap (λ x. old ++ x) (sym (append-nil (codes "at     " ++ place_text fs p))),
+)
+
+pub one_caller : (fs : List Placed) (strings place : ℕ) (p : Place) (old text t1 t2 : List ℕ) → AddsPlaces fs strings place old text → t1 ≡ text ++ codes "called " → t2 ≡ t1 ++ place_text fs p → AddsPlaces fs strings place old t2
+one_caller fs strings place p old text t1 t2 before e1 e2 =
+    let f : Place → List ℕ = λ q. codes "called " ++ place_text fs q in
+    let first = codes "at     " ++ place_text fs before.1.first in
+    let callers = before.1.callers in (
+      places_text fs before.1.first (callers ++ p ∷ []),
+      record { first = before.1.first; callers = callers ++ p ∷ []; text_is = refl; function_is = before.1.function_is; place_is = before.1.place_is },
+      e2 ∙ ap (λ x. x ++ place_text fs p) e1 ∙ append_assoc text (codes "called ") (place_text fs p) ∙ ap (λ x. x ++ f p) (before.2 ∙ ap (λ x. old ++ x) before.1.text_is)
+          ∙ append_assoc old (first ++ flat_map f callers) (f p)
+          ∙ ap (λ x. old ++ x) (append_assoc first (flat_map f callers) (f p) ∙ ap (λ x. first ++ x) (ap (λ x. flat_map f callers ++ x) (sym (append-nil (f p))) ∙ sym (flat_map-append f callers (p ∷ [])))),
+    )
+
+-- the parts of a place, one behind another
+pub place_parts : (in_text at_text line_text end old t1 t2 t3 t4 t5 t6 t7 t8 shown name place line words : List ℕ) → t1 ≡ old ++ in_text → t2 ≡ t1 ++ left 8 shown → shown ≡ name → t3 ≡ t2 ++ at_text → t4 ≡ t3 ++ place → t5 ≡ t4 ++ line_text
+    → t6 ≡ t5 ++ line → t7 ≡ t6 ++ words → t8 ≡ t7 ++ end → t8 ≡ old ++ (in_text ++ left 8 name ++ at_text ++ place ++ line_text ++ line ++ words ++ end)
+place_parts in_text at_text line_text end old t1 t2 t3 t4 t5 t6 t7 t8 shown name place line words e1 e2 same e3 e4 e5 e6 e7 e8 =
+    let p2 : t2 ≡ old ++ (in_text ++ left 8 name) = piece old t1 t2 in_text (left 8 shown) e1 e2 ∙ ap (λ x. old ++ (in_text ++ left 8 x)) same in
+    let p3 = piece old t2 t3 (in_text ++ left 8 name) at_text p2 e3 in
+    let p4 = piece old t3 t4 (in_text ++ left 8 name ++ at_text) place p3 e4 in
+    let p5 = piece old t4 t5 (in_text ++ left 8 name ++ at_text ++ place) line_text p4 e5 in
+    let p6 = piece old t5 t6 (in_text ++ left 8 name ++ at_text ++ place ++ line_text) line p5 e6 in
+    let p7 = piece old t6 t7 (in_text ++ left 8 name ++ at_text ++ place ++ line_text ++ line) words p6 e7 in
+    piece old t7 t8 (in_text ++ left 8 name ++ at_text ++ place ++ line_text ++ line ++ words) end p7 e8

@@ -1,0 +1,136 @@
+-- What is shown of a program that was loaded is what its definitions do.
+use Rattle.std.proofs.Common.{◌≡◌, ◌∙◌, ℕ, ◌+◌, List, [], ◌++◌, Option, Some, ap, filter, inl, inr, map, refl, subst, sym}
+use Rattle.std.specs.List.{range_with_len}
+use Rattle.std.proofs.lemmas.List.Elements.{All-weaker}
+use Rattle.bword.specs.declared.edition.Edition.{Edition}
+use Rattle.bword.specs.ByteEnds.{CanFollow, Incoming, Kept, Outgoing, outgoing_of}
+use Rattle.blang.specs.declared.code.Definition.{Definition}
+use Rattle.blang.specs.declared.status.TheConstants.{DONE}
+use Rattle.blang.specs.declared.run.Outcome.{Outcome}
+use Rattle.blang.specs.declared.run.Outcome.TheVariants as outcome
+use Rattle.blang.specs.Layout.{World}
+use Rattle.blang.specs.Machine.{Call, Halted, Image, RunEnds, Running, State, Stuck, image_of, machine, state_outcome, run, steps, state_world}
+use Rattle.bmach.specs.Resolved.{IsLoadedFrom, call_resolved, state_resolved}
+use Rattle.bmach.specs.Stepping.{IsUnstarted, Paused, machine_at}
+use Rattle.bmach.proofs.Resolving.{run-resolved}
+use Rattle.bmach.proofs.Running.{same_run}
+use Rattle.brun.proofs.RunSteps.{outcome-resolved, run_loaded, run_of_loaded, world-resolved}
+use Rattle.blist.specs.Programs.{HasProgram}
+use Rattle.blist.specs.Told.{Told}
+use Rattle.btrace.specs.Programs.{Placed, functions_of}
+use Rattle.btrace.specs.Rows.{changed_text, step_row, written_row}
+use Rattle.btrace.specs.Traces.{AreShown, EndsAs, IsTried, IsWhere, TraceRow, ShowsRows, ShowsStep, StepsGive, TellsEnd, Traces, Tries, is_shown, is_step, nothing_written, shown_of, steps_from, traced, which_of}
+use Rattle.btrace.specs.declared.tracing.TheConstants.{HEADING}
+use Rattle.btrace.specs.declared.tracing.Which.{Which}
+
+running_from : (I : Image) (s : State) (call : Call) (below : List Call) (w : World) → state_resolved I s ≡ Running call below w → (c : Call) × (b : List Call) × (s ≡ Running c b w) × (call_resolved I c ≡ call)
+running_from I (Running c b v) call below w h =
+    let same : v ≡ w = cc in
+    (c, b, ap (Running c b) same, (cc))
+running_from I (Halted e v) call below w h = cc
+running_from I (Stuck v) call below w h = cc
+
+step_same : (I : Image) (which : Which) (number : ℕ) (s : State) → is_step which number (state_resolved I s) ≡ is_step which number s
+step_same I which number (Running c b v) = refl
+step_same I which number (Halted e v) = refl
+step_same I which number (Stuck v) = refl
+
+-- The states of one machine are those of the other, resolved.
+module _ (fs : List Placed) (which : Which) (I : Image) (f g : ℕ → State) (e : (n : ℕ) → g n ≡ state_resolved I (f n)) where
+  world_same : (n : ℕ) → state_world (g n) ≡ state_world (f n)
+  world_same n = ap state_world (e n) ∙ world-resolved I (f n)
+
+  outcome_same : (n : ℕ) → state_outcome (g n) ≡ state_outcome (f n)
+  outcome_same n = ap state_outcome (e n) ∙ outcome-resolved I (f n)
+
+  shown_same : (made : ℕ) → shown_of which g made ≡ shown_of which f made
+  shown_same made =
+      let first : shown_of which g made ≡ shown_of which (λ n. state_resolved I (f n)) made = λ i. filter (λ n. is_step which (n + 1) (e n i)) (range_with_len 0 made) in
+      let second : shown_of which (λ n. state_resolved I (f n)) made ≡ shown_of which f made = λ i. filter (λ n. step_same I which (n + 1) (f n) i) (range_with_len 0 made) in
+      first ∙ second
+
+  tries_same : (made : ℕ) (t : Tries g made) → (u : Tries f made) × (call_resolved I u.call ≡ t.call) × (u.world ≡ t.world)
+  tries_same made t =
+      let r = running_from I (f made) t.call t.below t.world (sym (e made) ∙ t.state_is) in
+      (record { call = r.0; below = r.1; world = t.world; state_is = r.2 }, r.3, refl)
+
+  step_shown : (made : ℕ) (text : List ℕ) → ShowsStep fs g made text → ShowsStep fs f made text
+  step_shown made text s =
+      let t = tries_same made s.tries in
+      record {
+        tries = t.0;
+        line = s.line;
+        changed = s.changed;
+        bytes = s.bytes;
+        wrote = ap (λ (w : World). w.output) (sym (world_same (made + 1))) ∙ s.wrote ∙ ap (λ (w : World). w.output ++ s.bytes) (sym t.2);
+        text_is = s.text_is ∙ ap (λ c. step_row fs (made + 1) c s.line ++ changed_text (state_world (g (made + 1))).store s.changed ++ written_row s.bytes) (sym t.1)
+            ∙ ap (λ (w : World). step_row fs (made + 1) t.0.call s.line ++ changed_text w.store s.changed ++ written_row s.bytes) (world_same (made + 1));
+      }
+
+  pub are_shown : (made : ℕ) (rows : List TraceRow) → AreShown fs which g made rows → AreShown fs which f made rows
+  are_shown made rows h = record {
+    all = h.all ∙ shown_same made;
+    each = All-weaker (λ (r : TraceRow). ShowsStep fs g r.made r.text) (λ (r : TraceRow). ShowsStep fs f r.made r.text) (λ r s. step_shown r.made r.text s) rows h.each;
+  }
+
+  where_same : (made : ℕ) (text : List ℕ) → IsWhere fs g made text → IsWhere fs f made text
+  where_same made text h =
+      let t = tries_same made h.0 in (
+        t.0,
+        record {
+          first = h.1.first;
+          callers = h.1.callers;
+          text_is = h.1.text_is;
+          function_is = h.1.function_is ∙ ap (λ (c : Call). c.function.strings) (sym t.1);
+          place_is = h.1.place_is ∙ ap (λ (c : Call). c.place) (sym t.1);
+        },
+      )
+
+  tried_same : (made : ℕ) (text : List ℕ) → IsTried fs g made text → IsTried fs f made text
+  tried_same made text (inl none) = inl none
+  tried_same made text (inr h) =
+      let t = tries_same made h.0 in
+      inr (t.0, h.1, h.2, h.3 ∙ ap (λ c. step_row fs (made + 1) c h.1 ++ written_row h.2) (sym t.1))
+
+  pub ends_same : (made n : ℕ) (r : Outcome) (text : List ℕ) → EndsAs fs g made n r text → EndsAs fs f made n r text
+  ends_same made n (outcome.Exit status) text h = (sym (outcome_same made) ∙ h.0, h.1)
+  ends_same made n (outcome.Trap kind) text h = (sym (outcome_same made) ∙ h.0, (h.1.0, h.1.1, where_same h.1.0 text h.1.2))
+  ends_same made n outcome.Limit text h = (h.0, where_same made text h.1)
+  ends_same made n outcome.Device text h = tried_same made text h
+  ends_same made n outcome.Memory text h = tried_same made text h
+
+-- the run of an image from its beginning on
+run_from : (image : Image) (p : Paused) → IsUnstarted image p → (input : List ℕ) (n : ℕ) → run image input n ≡ steps_from p input n
+run_from image p b input n = ap (steps image n) (b.first input) ∙ ap (λ (x : Image). steps x n (machine_at p input [])) (sym b.image_is)
+
+shows_run : (fs : List Placed) (which : Which) (ds : List Definition) (image : Image) (p : Paused) → IsLoadedFrom ds image → IsUnstarted image p → (n : ℕ) (i j : Incoming) (r : Outcome) (old new : List ℕ) → ShowsRows fs which (steps_from p) n i j r old new → ShowsRows fs which (machine ds) n i j r old new
+shows_run fs which ds image p loaded begins n i j r old new s =
+    let e : (input : List ℕ) (k : ℕ) → steps_from p input k ≡ state_resolved (image_of ds) (machine ds input k) =
+    λ input k. sym (run_from image p begins input k) ∙ run_loaded ds image loaded input k ∙ run-resolved (image_of ds) input k in
+    record {
+      made = s.made;
+      within = s.within;
+      rows = s.rows;
+      ending = s.ending;
+      text_is = s.text_is;
+      taken = s.taken;
+      took = s.took;
+      shown = λ more can. are_shown fs which (image_of ds) (machine ds (s.taken ++ more)) (steps_from p (s.taken ++ more)) (e (s.taken ++ more)) s.made s.rows (s.shown more can);
+      ends = λ more can. ends_same fs which (image_of ds) (machine ds (s.taken ++ more)) (steps_from p (s.taken ++ more)) (e (s.taken ++ more)) s.made n r s.ending (s.ends more can);
+    }
+
+-- the trace of a program that has begun
+pub traced_whole : (edition : Edition) (source : List ℕ) (n from : ℕ) (name : Option (List ℕ)) (ends : RunEnds) (status : ℕ) (mid : Outgoing) (ds : List Definition) (image : Image) (fs : List Placed) (which : Which) (p : Paused) (result : Outcome) (begun text told_text : List ℕ) (first last : Kept) (told : ℕ)
+    → HasProgram edition source ends.line mid ds image → fs ≡ functions_of ds → which_of fs from name ≡ Some which → IsUnstarted image p → outgoing_of first ≡ nothing_written → StepsGive p n ends.input ends.input_behind (outgoing_of first) (outgoing_of last) result
+    → begun ≡ [] → ShowsRows fs which (steps_from p) n ends.input ends.input_behind result (begun ++ HEADING.now) text → told_text ≡ text → Told told_text DONE ends.out ends.out_behind told
+    → TellsEnd told result mid ends.line_behind status → Traces edition source n from name ends status
+traced_whole edition source n from name ends status mid ds image fs which p result begun text told_text first last told is functions named begins empty gives none shows same tells end =
+    let run_gives = same_run (run image) (steps_from p) n ends.input ends.input_behind (outgoing_of first) (outgoing_of last) result (run_from image p begins) gives in
+    let ds_gives = run_of_loaded ds image is.loaded n ends.input ends.input_behind (outgoing_of first) (outgoing_of last) result run_gives in
+    let ds_shows = shows_run fs which ds image p is.loaded begins n ends.input ends.input_behind result (begun ++ HEADING.now) text shows in
+    traced mid ds image which result text last told is
+    (subst (λ (x : List Placed). which_of x from name ≡ Some which) functions named)
+    (rw empty at ds_gives)
+    (subst (λ (x : List Placed). ShowsRows x which (machine ds) n ends.input ends.input_behind result HEADING.now text) functions
+    (subst (λ (t : List ℕ). ShowsRows fs which (machine ds) n ends.input ends.input_behind result (t ++ HEADING.now) text) none ds_shows))
+    (subst (λ (t : List ℕ). Told t DONE ends.out ends.out_behind told) same tells) end

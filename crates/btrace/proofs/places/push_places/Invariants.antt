@@ -1,0 +1,7 @@
+use Rattle.btrace.specs.Programs.{entries_of}
+use Rattle.btrace.specs.Traces.{AddsPlaces}
+use Rattle.btrace.proofs.places.push_places.Given as goal
+
+-- the place, and those of some callers
+abbrev pub invariant-loop-number : goal.invariant-loop-number
+invariant-loop-number g l = AddsPlaces (entries_of l.tables) l.fn.call.strings l.fn.call.place l.fn.text l.text

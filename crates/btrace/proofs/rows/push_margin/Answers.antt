@@ -1,0 +1,6 @@
+use Rattle.btrace.specs.Rows.{margin}
+use Rattle.btrace.proofs.rows.push_margin.Goals as goal
+
+pub returns : goal.returns
+unfolding margin
+returns c = c.push_blanks.ensures

@@ -1,0 +1,11 @@
+use Rattle.std.proofs.Common.{◌≡◌, map, take}
+use Rattle.blang.specs.Layout.{data_end, shape_of}
+use Rattle.btrace.specs.Programs.{functions_of, placed_entry}
+use Rattle.btrace.proofs.tables.Tables.new.Given as goal
+
+-- the functions so far, and where the next definition lies
+abbrev pub invariant-loop-definition : goal.invariant-loop-definition
+invariant-loop-definition l = record {
+  address : l.address ≡ data_end (map shape_of (take l.definition-index l.definition-items));
+  entries : map placed_entry l.entries.items ≡ functions_of (take l.definition-index l.definition-items);
+}

@@ -1,0 +1,37 @@
+-- The functions of a program, as a trace tells of them.
+use Rattle.std.specs.Prelude.{ℕ, ◌==◌, ◌+◌, List, map, filter_map, find, zip, Option, Some, None, option_map, slice_get}
+use Rattle.std.specs.Str.{bytes_eq}
+use Rattle.blang.specs.CodeParts.{Function, function_of}
+use Rattle.blang.specs.Layout.{Spot, shape_of, spots}
+use Rattle.blang.specs.declared.code.Definition.{Definition}
+use Rattle.blang.specs.declared.code.Definition.TheVariants as definition
+use Rattle.btrace.specs.declared.tables.Entry.{Entry}
+use Rattle.btrace.specs.declared.tables.Tables.{Tables}
+
+-- a function with the address of its first string word
+pub record Placed : Type 0 where
+  pub strings : ℕ
+  pub function : Function
+
+abbrev pub placed : Spot × Definition → Option Placed
+placed (s, definition.Function f) = Some (record { strings = s.strings; function = f })
+placed (s, d) = None
+
+-- the functions of definitions, each where it lies
+abbrev pub functions_of : List Definition → List Placed
+functions_of ds = filter_map placed (zip (spots (map shape_of ds)) ds)
+
+-- the function that has its string words there
+abbrev pub function_at : List Placed → ℕ → Option Placed
+function_at fs strings = find (λ f. f.strings == strings) fs
+
+-- the function of a name
+abbrev pub function_named : List Placed → List ℕ → Option Placed
+function_named fs name = find (λ f. bytes_eq f.function.name name) fs
+
+abbrev pub placed_entry : Entry → Placed
+placed_entry e = record { strings = e.strings; function = function_of e.parts.now }
+
+-- the functions that a table has
+abbrev pub entries_of : Tables → List Placed
+entries_of t = map placed_entry t.entries.items

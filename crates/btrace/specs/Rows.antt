@@ -1,0 +1,89 @@
+-- The rows of a trace.
+use Rattle.std.specs.Prelude.{ℕ, Bool, ◌+◌, ◌-◌, List, [], ◌∷◌, ◌++◌, Option, Some, None, codes, decimal, drop, length}
+use Rattle.std.specs.Prelude.{nat_lt, replicate, reverse, slice_get, slice_index, if◌then◌else◌}
+use Rattle.std.specs.List.{flat_map}
+use Rattle.blang.specs.Machine.{Call}
+use Rattle.blang.specs.Text.{instr_line}
+use Rattle.blang.specs.declared.code.Instr.{Instr}
+use Rattle.blist.specs.Characters.{shown_byte}
+use Rattle.blist.specs.Columns.{left, right}
+use Rattle.blist.specs.Listings.{without_newline}
+use Rattle.btrace.specs.Programs.{Placed, function_at}
+use Rattle.btrace.specs.declared.rows.TheConstants.{MARGIN, SHOWN}
+
+-- the name of a function
+abbrev pub name_in : Option Placed → List ℕ
+name_in (Some f) = f.function.name
+name_in None = []
+
+-- the instruction at a place of a function
+abbrev pub instr_in : Option Placed → ℕ → Option Instr
+instr_in (Some f) place = slice_get f.function.code place
+instr_in None place = None
+
+-- an instruction as the code text has it
+abbrev pub instr_text : Option Instr → List ℕ
+instr_text (Some i) = without_newline (instr_line i)
+instr_text None = []
+
+-- the name of the function of a call, and its next instruction
+abbrev pub name_of : List Placed → Call → List ℕ
+name_of fs call = name_in (function_at fs call.function.strings)
+
+abbrev pub code_of : List Placed → Call → List ℕ
+code_of fs call = instr_text (instr_in (function_at fs call.function.strings) call.place)
+
+-- the topmost operands, the topmost last, and `..` before them if there are more
+abbrev pub operands_text : List ℕ → List ℕ
+operands_text words =
+    (if nat_lt 0 (length words - SHOWN) then codes " .." else [])
+    ++ flat_map (λ w. codes " " ++ decimal w) (drop (length words - SHOWN) words)
+
+-- the number of a step, the call before it, and a line of the source
+abbrev pub step_row : List Placed → (number : ℕ) → Call → (line : ℕ) → List ℕ
+step_row fs number call line =
+    right 8 (decimal number) ++ codes "  " ++ left 8 (name_of fs call) ++ right 6 (decimal call.place)
+    ++ right 6 (decimal line) ++ codes "  " ++ left 12 (code_of fs call) ++ operands_text (reverse call.operands)
+    ++ codes "\n"
+
+-- the columns before what a step has changed
+unfoldable pub margin : List ℕ
+margin = replicate MARGIN 32
+
+-- an address and its word
+abbrev pub word_row : (store : List ℕ) → (address : ℕ) → List ℕ
+word_row store address =
+    margin ++ codes "@" ++ decimal address ++ codes " = " ++ decimal (slice_index store address) ++ codes "\n"
+
+abbrev pub changed_text : (store addresses : List ℕ) → List ℕ
+changed_text store addresses = flat_map (word_row store) addresses
+
+-- what was written, if something was
+abbrev pub written_row : List ℕ → List ℕ
+written_row [] = []
+written_row (byte ∷ bytes) =
+    margin ++ codes "writes '" ++ flat_map shown_byte (byte ∷ bytes) ++ codes "'\n"
+
+-- a place of a run: the function of a call, a place in it, a line of the source, and the words of the first parameters,
+-- and whether there are more
+pub record Place : Type 0 where
+  pub strings : ℕ
+  pub place : ℕ
+  pub line : ℕ
+  pub words : List ℕ
+  pub has_more : Bool
+
+abbrev pub words_text : List ℕ → Bool → List ℕ
+words_text words has_more =
+    (if nat_lt 0 (length words) then codes "  with" else []) ++ flat_map (λ w. codes " " ++ decimal w) words
+    ++ (if has_more then codes " .." else [])
+
+abbrev pub place_text : List Placed → Place → List ℕ
+place_text fs p =
+    codes "in " ++ left 8 (name_in (function_at fs p.strings)) ++ codes " place " ++ right 4 (decimal p.place)
+    ++ codes "  line " ++ right 4 (decimal p.line) ++ words_text p.words p.has_more ++ codes "\n"
+
+-- where a run was over, and the calls that led there
+abbrev pub places_text : List Placed → Place → List Place → List ℕ
+places_text fs first callers =
+    codes "at     " ++ place_text fs first ++ flat_map (λ p. codes "called " ++ place_text fs p) callers

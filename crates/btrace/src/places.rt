@@ -1,0 +1,98 @@
+//! The places where a run was.
+ghost use Rattle.std.specs.Prelude.{◌≡◌, ℕ, Bool, List, [], ◌++◌, OnOk, if◌then◌else◌};
+ghost use Rattle.btrace.specs.Programs.{entries_of};
+ghost use Rattle.btrace.specs.Rows.{Place, place_text, words_text};
+ghost use Rattle.btrace.specs.Traces.{AddsPlaces};
+
+use crate::rows::{name_of, word_of_frame};
+use crate::tables::Tables;
+use blang::MAX_CALLS;
+use blist::Text;
+use bmach::{Active, Stepper};
+use bword::Store;
+use std::alloc::AllocError;
+
+/// How many parameters are shown.
+const MOST: u16 = 6;
+
+/// Adds where a run was over: the call that ran, and those that led there.
+pub fn push_places<S: Store + Drop>(
+    text: &mut Text,
+    tables: &Tables<'_>,
+    stepper: &Stepper<'_, S>,
+    call: Active,
+) -> Result<(), AllocError>
+    ensures { OnOk result (AddsPlaces (entries_of tables.now) call.strings call.place text.old text.new) }
+{
+    text.push(b"at     ")?;
+    push_place(text, tables, stepper, call)?;
+    for number in 0..MAX_CALLS {
+        match stepper.caller(number) {
+            None => break,
+            Some(caller) => {
+                text.push(b"called ")?;
+                push_place(text, tables, stepper, behind(caller))?;
+            }
+        }
+    }
+    Ok(())
+}
+
+// A call that waits is behind its call.
+fn behind(call: Active) -> Active {
+    Active {
+        strings: call.strings,
+        parameters: call.parameters,
+        place: call.place.saturating_sub(1),
+        start: call.start,
+    }
+}
+
+// The place of a call and the words of its parameters.
+fn push_place<S: Store + Drop>(
+    text: &mut Text,
+    tables: &Tables<'_>,
+    stepper: &Stepper<'_, S>,
+    call: Active,
+) -> Result<(), AllocError>
+    ensures { OnOk result ((line : ℕ) × (words : List ℕ) × (has_more : Bool) ×
+        (text.new ≡ text.old ++ place_text (entries_of tables.now) (record { strings = call.strings; place = call.place; line = line; words = words; has_more = has_more }))) }
+{
+    let entry = tables.entry(call.strings);
+    let line = tables.line(entry, call.place);
+    text.push(b"in ")?;
+    text.push_left(8, name_of(entry))?;
+    text.push(b" place ")?;
+    text.push_right_number(4, call.place as u64)?;
+    text.push(b"  line ")?;
+    text.push_right_number(4, line)?;
+    push_words(text, stepper, call)?;
+    text.push(b"\n")
+}
+
+// The words of the first parameters of a call.
+fn push_words<S: Store + Drop>(
+    text: &mut Text,
+    stepper: &Stepper<'_, S>,
+    call: Active,
+) -> Result<(), AllocError>
+    ensures { OnOk result ((words : List ℕ) × (has_more : Bool) × (text.new ≡ text.old ++ words_text words has_more)) }
+{
+    let count = call.parameters.min(MOST);
+    push_if(text, count > 0, b"  with")?;
+    for index in 0..count {
+        text.push(b" ")?;
+        text.push_number(u64::from(stepper.word(word_of_frame(call, index))))?;
+    }
+    push_if(text, call.parameters > MOST, b" ..")
+}
+
+fn push_if(text: &mut Text, is_wanted: bool, bytes: &[u8]) -> Result<(), AllocError>
+    ensures { OnOk result (text.new ≡ text.old ++ (if is_wanted then bytes.now else [])) }
+{
+    if is_wanted {
+        text.push(bytes)
+    } else {
+        text.push(b"")
+    }
+}
