@@ -138,7 +138,7 @@ build() {
     local mark=$work/mark log=$work/log crate all at=0 is_new=
     : >"$mark"
     mapfile -t all < <(crates)
-    say "proving takes 8 to 16 minutes the first time, and then what changed alone"
+    say "proving takes some half an hour the first time, and then what changed alone"
     for crate in "${all[@]}"; do
         at=$((at + 1))
         [ "$crate" = b ] || [ "$is_new" ] || is_behind "$top/crates/$crate/out/rlib/stamp" "$top/crates/$crate" || continue
