@@ -10,7 +10,7 @@ use std::process::Abort;
 use std::rt::Files;
 use std::test::Fail;
 
-// What the program answers to the words of a line, where it has this status.
+/// What the program answers to the words of a line, where it has this status.
 pub(crate) fn serves(
     rt: &(impl AllocGlobal + Files + Abort),
     words: &str,
@@ -46,8 +46,8 @@ fn keep_code(
     Ok(())
 }
 
-// Words, each with `~` and what is written, `~` and the line beside it, `~` and the status; `@` parts them.
-fn all_answer(rt: &(impl AllocGlobal + Files + Abort), rows: &str) -> Result<(), Fail> {
+/// Words, each with `~` and what is written, `~` and the line beside it, `~` and the status; `@` parts them.
+pub(crate) fn all_answer(rt: &(impl AllocGlobal + Files + Abort), rows: &str) -> Result<(), Fail> {
     for row in rows.split("@\n") {
         let mut parts = row.split('~');
         let words = parts.next().unwrap_or("");

@@ -1,7 +1,6 @@
 //! Listings and maps of sources, docs/CODE.md's among them.
-use crate::command_tests::serves;
+use crate::command_tests::{all_answer, serves};
 use crate::kept_pages::{CLASS, PICTURE};
-use crate::source_tests::compares;
 use bserve::serve;
 use bword::{ByteOut, FailIn, FailOut, MemIn, MemOut};
 use std::fs;
@@ -69,15 +68,7 @@ fn listings_and_maps(rt: HostRuntime) -> Result<(), Fail> {
     fs::write(&rt, "layout.b", LAYOUT.as_bytes())?;
     fs::write(&rt, "fault.b", b"main() { printn(n, 10); } n 42;")?;
     fs::write(&rt, "alone.b", b"f() ;")?;
-    for row in ROWS.split("\n@\n") {
-        let mut parts = row.split('~');
-        let words = parts.next().unwrap_or("");
-        let output = parts.next().unwrap_or("");
-        let line = parts.next().unwrap_or("");
-        let status = parts.next().unwrap_or("").trim_end();
-        let (out, diag) = serves(&rt, words, "", status.parse::<u8>().unwrap_or(0))?;
-        compares(&rt, words, &out, output, &diag, line);
-    }
+    all_answer(&rt, ROWS)?;
     for file in ["layout.b", "fault.b", "alone.b"] {
         fs::remove_file(&rt, file)?;
     }
