@@ -4,32 +4,50 @@ use crate::example_tests::HELLO;
 use crate::source_tests::compares;
 use bparse::Status;
 use bserve::serve;
-use bword::{MemIn, MemOut};
+use bword::{ByteIn, ByteOut, MemIn, MemOut};
+use std::alloc::Global;
 use std::fs;
 use std::process::Abort;
 use std::rt::Files;
 use std::test::Fail;
 
-/// What the program answers to the words of a line, where it has this status.
+/// The words of a command line.
+pub(crate) fn words_of(alloc: Global, line: &str) -> Result<Vec<String>, Fail> {
+    let mut words = Vec::new(alloc);
+    for word in line.split(' ') {
+        words.push(String::from_str(alloc, word)?)?;
+    }
+    Ok(words)
+}
+
+/// What the program answers to the words of a line.
+pub(crate) fn answer_to<R: AllocGlobal + Files, I: ByteIn, O: ByteOut, D: ByteOut>(
+    rt: &R,
+    words: &str,
+    input: &mut I,
+    out: &mut O,
+    line: &mut D,
+) -> Result<Status, Fail> {
+    let words = words_of(rt.alloc(), words)?;
+    Ok(serve(rt, words.as_slice(), input, out, line))
+}
+
+/// What the program writes on the words of a line, where it has this status.
 pub(crate) fn serves(
     rt: &(impl AllocGlobal + Files + Abort),
     words: &str,
     input: &str,
     status: Status,
 ) -> Result<(MemOut, MemOut), Fail> {
-    let mut strings = Vec::new(rt.alloc());
-    for word in words.split(' ') {
-        strings.push(String::from_str(rt.alloc(), word)?)?;
-    }
     let mut out = MemOut::new(rt.alloc());
     let mut diag = MemOut::new(rt.alloc());
-    let answer = serve(
+    let answer = answer_to(
         rt,
-        strings.as_slice(),
+        words,
         &mut MemIn::new(input.as_bytes()),
         &mut out,
         &mut diag,
-    );
+    )?;
     assert_eq!(rt; answer, status, "the status of {words}");
     Ok((out, diag))
 }

@@ -1,13 +1,18 @@
-//! Calls over ends of which each read and each write fails in turn.
+//! Calls and commands over ends of which each read and each write fails in turn.
 ghost use Rattle.std.specs.Prelude.{[], true, Some};
 
+use crate::command_tests::{answer_to, serves};
 use crate::program_tests::STEPS;
 use crate::run_tests::all_stop;
+use crate::source_tests::compares;
 use bparse::{Status, compile};
 use brun::{go, migrate, run_text};
-use bword::{ByteIn, ByteOut, Device, EndFault, FailIn, FailOut, MemOut};
+use bword::{ByteIn, ByteOut, Device, EndFault, FailIn, FailOut, MemIn, MemOut};
 use std::alloc::Global;
+use std::fs;
 use std::process::Abort;
+use std::rt::Files;
+use std::test::Fail;
 
 // What is called with which text and input, and what comes of it where nothing fails.
 #[derive(Clone, Copy)]
@@ -386,6 +391,136 @@ fn each_write_is_refused_memory(rt: HostRuntime) {
             }
         }
     }
+}
+
+// A program that reads and traps, of which each command writes something.
+const READING: &str = "\
+v[3] 1, 2;
+main() {
+    extrn v;
+    v[2] = getchar();
+    f(v[2]);
+}
+f(a) {
+    auto t;
+    printn(a / 0, 10);
+}
+";
+
+// Commands on it, each with `~` and its status.
+const COMMANDS: &str = "\
+b list x.b~0
+b map x.b~0
+b map --svg x.b~0
+b map --steps 9 x.b~0
+b check x.b~0
+b check --json x.b~0
+b trace x.b~130
+b trace --steps 6 x.b~131";
+
+// What comes of a command whose output and line are written into so much room.
+fn served(
+    rt: &(impl AllocGlobal + Files),
+    words: &str,
+    output: usize,
+    line: usize,
+) -> Result<Ended, Fail> {
+    let mut out = FailOut::new(rt.alloc(), output as u64);
+    let mut line = FailOut::new(rt.alloc(), line as u64);
+    let status = answer_to(rt, words, &mut MemIn::new(b"x"), &mut out, &mut line)?;
+    Ok(Ended { status, out, line })
+}
+
+// The output goes out in one piece, and then the line: of each there is what it has room for.
+fn is_cut_off(
+    rt: &(impl AllocGlobal + Files + Abort),
+    words: &str,
+    status: Status,
+) -> Result<(), Fail> {
+    let (output, line) = serves(rt, words, "x", status)?;
+    let whole = output.bytes().len();
+    let all = whole.saturating_add(line.bytes().len());
+    for room in (0..whole).step_by(97).chain(whole..=all) {
+        let behind = room.saturating_sub(whole);
+        let ended = served(rt, words, room.min(whole), behind)?;
+        let status = if room == all { status } else { 133 };
+        let begun = output.bytes().get(..room.min(whole)).unwrap_or(b"?");
+        let told = line.bytes().get(..behind).unwrap_or(b"?");
+        assert!(rt; ended.is(status, begun, told), "room {room} for {words}");
+    }
+    Ok(())
+}
+
+#[test]
+fn each_write_of_a_command_fails(rt: HostRuntime) -> Result<(), Fail> {
+    fs::write(&rt, "x.b", READING.as_bytes())?;
+    for row in COMMANDS.lines() {
+        let (words, status) = row.split_once('~').unwrap_or((row, ""));
+        is_cut_off(&rt, words, status.parse::<Status>().unwrap_or(0))?;
+    }
+    fs::remove_file(&rt, "x.b")?;
+    Ok(())
+}
+
+// A command writes its output once: where that is refused memory nothing was written, and there is no line.
+#[test]
+fn each_command_is_refused_memory(rt: HostRuntime) -> Result<(), Fail> {
+    fs::write(&rt, "x.b", READING.as_bytes())?;
+    for row in COMMANDS.lines() {
+        let (words, _) = row.split_once('~').unwrap_or((row, ""));
+        let mut out = end_refusing(rt.alloc(), 0);
+        let mut line = end_refusing(rt.alloc(), 0);
+        let status = answer_to(&rt, words, &mut MemIn::new(b"x"), &mut out, &mut line)?;
+        let is_right = status == 134 && out.bytes.bytes().is_empty() && line.calls == 0;
+        assert!(rt; is_right, "the output of {words}");
+    }
+    fs::remove_file(&rt, "x.b")?;
+    Ok(())
+}
+
+// The line of a trap is refused memory behind the whole trace.
+#[test]
+fn the_line_of_a_trace_is_refused_memory(rt: HostRuntime) -> Result<(), Fail> {
+    fs::write(&rt, "x.b", READING.as_bytes())?;
+    let (whole, _) = serves(&rt, "b trace x.b", "x", 130)?;
+    let mut out = MemOut::new(rt.alloc());
+    let mut line = end_refusing(rt.alloc(), 0);
+    let status = answer_to(
+        &rt,
+        "b trace x.b",
+        &mut MemIn::new(b"x"),
+        &mut out,
+        &mut line,
+    )?;
+    assert_eq!(rt; status, 134);
+    assert_eq!(rt; out.bytes(), whole.bytes());
+    assert!(rt; line.bytes.bytes().is_empty());
+    fs::remove_file(&rt, "x.b")?;
+    Ok(())
+}
+
+// Commands on that program, each with `~` and what is written where its input can't be read.
+const UNREAD: &str = "\
+b map --steps 9 x.b~@
+b trace --from 5 x.b~    step  function place  line  code         operands
+       5  main         4     4  x getchar    10
+       6  main         5     4  v            10 3
+       7  main         6     4  k 0          10 3
+";
+
+#[test]
+fn each_command_can_not_read(rt: HostRuntime) -> Result<(), Fail> {
+    fs::write(&rt, "x.b", READING.as_bytes())?;
+    for row in UNREAD.split("@\n") {
+        let (words, output) = row.split_once('~').unwrap_or((row, ""));
+        let mut out = MemOut::new(rt.alloc());
+        let mut line = MemOut::new(rt.alloc());
+        let status = answer_to(&rt, words, &mut FailIn::new(b"", 0), &mut out, &mut line)?;
+        assert_eq!(rt; status, 133, "the status of {words}");
+        compares(&rt, words, &out, output, &line, "");
+    }
+    fs::remove_file(&rt, "x.b")?;
+    Ok(())
 }
 
 // What no text begins with, and code that lacks an operand or an instruction.

@@ -1,8 +1,8 @@
 //! The order of what a process reads and writes, in a log of its streams.
+use crate::command_tests::words_of;
 use crate::example_tests::GUESS;
 use bparse::Status;
 use bserve::{Streams, serve_in_order};
-use std::alloc::Global;
 use std::cell::RefCell;
 use std::fs;
 use std::io::{self, ErrorKind, Read, Write};
@@ -81,14 +81,6 @@ fn streams<'a>(log: &'a Log, input: &'a str) -> Streams<Noted<'a>, Noted<'a>, No
     }
 }
 
-fn words(alloc: Global, line: &str) -> Result<Vec<String>, Fail> {
-    let mut words = Vec::new(alloc);
-    for word in line.split(' ') {
-        words.push(String::from_str(alloc, word)?)?;
-    }
-    Ok(words)
-}
-
 // Compares what the streams did, and the status, for a program in a file of its own.
 fn logs(
     rt: &(impl AllocGlobal + Files + Abort),
@@ -99,7 +91,7 @@ fn logs(
 ) -> Result<(), Fail> {
     fs::write(rt, "x.b", source.as_bytes())?;
     let log = streams.line.log;
-    let answer = serve_in_order(rt, Some(words(rt.alloc(), "b go x.b")?), streams);
+    let answer = serve_in_order(rt, Some(words_of(rt.alloc(), "b go x.b")?), streams);
     fs::remove_file(rt, "x.b")?;
     let is_right = match log.try_borrow() {
         Ok(log) => answer == status && log.as_slice() == expected.as_bytes(),

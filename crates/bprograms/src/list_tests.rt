@@ -1,8 +1,7 @@
 //! Listings and maps of sources, docs/CODE.md's among them.
-use crate::command_tests::{all_answer, serves};
+use crate::command_tests::{all_answer, answer_to, serves};
 use crate::kept_pages::{CLASS, PICTURE};
-use bserve::serve;
-use bword::{ByteOut, FailIn, FailOut, MemIn, MemOut};
+use bword::{ByteOut, MemIn, MemOut};
 use std::fs;
 use std::process::Abort;
 use std::rt::Files;
@@ -158,55 +157,6 @@ fn no_pictures(rt: HostRuntime) -> Result<(), Fail> {
     Ok(())
 }
 
-// The words of a command as they are served.
-fn words_of(rt: &(impl AllocGlobal + Abort), words: &str) -> Result<Vec<String>, Fail> {
-    let mut strings = Vec::new(rt.alloc());
-    for word in words.split(' ') {
-        strings.push(String::from_str(rt.alloc(), word)?)?;
-    }
-    Ok(strings)
-}
-
-// A picture goes out in one piece; of one that is cut off a beginning is there, and the status is 133.
-#[test]
-fn each_write_of_a_picture_fails(rt: HostRuntime) -> Result<(), Fail> {
-    fs::write(
-        &rt,
-        "m.b",
-        b"v[3] 1, 2; main() { extrn v; v[2] = getchar(); }",
-    )?;
-    let words = words_of(&rt, "b map --steps 9 m.b")?;
-    let (whole, _) = serves(&rt, "b map --steps 9 m.b", "", 0)?;
-    let mut line = MemOut::new(rt.alloc());
-    for room in (0..whole.bytes().len()).step_by(97) {
-        let mut out = FailOut::new(rt.alloc(), room as u64);
-        let mut input = MemIn::new(b"");
-        let status = serve(&rt, words.as_slice(), &mut input, &mut out, &mut line);
-        assert_eq!(rt; status, 133, "the status with room for {room} bytes");
-        let begun = whole.bytes().get(..room).unwrap_or(b"?");
-        assert_eq!(rt;
-            out.bytes(),
-            begun,
-            "the picture with room for {room} bytes"
-        );
-    }
-    let mut out = MemOut::new(rt.alloc());
-    let status = serve(
-        &rt,
-        words.as_slice(),
-        &mut FailIn::new(b"", 0),
-        &mut out,
-        &mut line,
-    );
-    assert_eq!(rt; status, 133, "the status where the program can't read");
-    assert!(rt;
-        out.bytes().is_empty() && line.bytes().is_empty(),
-        "nothing is written then"
-    );
-    fs::remove_file(&rt, "m.b")?;
-    Ok(())
-}
-
 // What a piece of a page has behind its margin of four blanks.
 fn without_margin(rt: &(impl AllocGlobal + Abort), piece: &str) -> Result<String, Fail> {
     let mut text = String::new(rt.alloc());
@@ -243,16 +193,9 @@ fn is_written(
     words: &str,
     output: &str,
 ) -> Result<(), Fail> {
-    let strings = words_of(rt, words)?;
     let mut said = MemOut::new(rt.alloc());
     let mut line = MemOut::new(rt.alloc());
-    serve(
-        rt,
-        strings.as_slice(),
-        &mut MemIn::new(b""),
-        &mut said,
-        &mut line,
-    );
+    answer_to(rt, words, &mut MemIn::new(b""), &mut said, &mut line)?;
     let is_kept = said.put(line.bytes()).is_ok();
     assert!(rt; is_kept, "the line of {words} is kept");
     let text = str::from_utf8(said.bytes()).unwrap_or("");
