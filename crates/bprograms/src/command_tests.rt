@@ -1,6 +1,6 @@
 //! Command lines: what is written, the line beside it and the status.
 use crate::edition_tests::LABEL;
-use crate::example_tests::HELLO;
+use crate::kept_pages::HELLO;
 use crate::source_tests::compares;
 use bparse::Status;
 use bserve::serve;

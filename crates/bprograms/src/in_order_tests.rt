@@ -1,6 +1,6 @@
 //! The order of what a process reads and writes, in a log of its streams.
 use crate::command_tests::words_of;
-use crate::example_tests::GUESS;
+use crate::kept_pages::GUESS;
 use bparse::Status;
 use bserve::{Streams, serve_in_order};
 use std::cell::RefCell;

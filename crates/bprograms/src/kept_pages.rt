@@ -1,13 +1,17 @@
-//! What stands in files of docs/: CLASS.md, and the picture of CODE.md.
+//! What stands in files: docs/CLASS.md, the picture of docs/CODE.md, and the programs of examples/.
 
 /// docs/CLASS.md.
 pub(crate) const CLASS: &str = "\
 # A class of mistakes
 
-Ten programs of a class, each with one mistake, and the command that shows it. Each program stands in a file `x.b`;
-below it is the command with all that it writes. `check` finds what no program may have, and tells what a program may
-have and is hardly meant. What it can't see shows in a short run, `./b go --steps N`, or in the code, `./b list`. What is
-told of each mistake stands in [LANGUAGE.md](LANGUAGE.md), and the instructions in [CODE.md](CODE.md).
+Thirteen programs of a class, each with one mistake, and the command that shows it. Each program stands in a file
+`x.b`; below it is the command with all that it writes. `check` finds what no program may have, and tells what a program
+may have and is hardly meant. What it can't see shows in a short run, `./b go --steps N`, in the steps of a run,
+`./b trace`, or in the code, `./b list`. What is told of each mistake stands in [LANGUAGE.md](LANGUAGE.md), and the
+instructions and traps in [CODE.md](CODE.md).
+
+Before a class type `./b --prove` once: the first `./b check` would prove and build the program before it answers, which
+takes some half an hour. From then on each command answers at once.
 
 **A missing semicolon.** The token at fault is the first one that can't follow; the mistake stands before it.
 
@@ -37,6 +41,36 @@ told of each mistake stands in [LANGUAGE.md](LANGUAGE.md), and the instructions 
             i = 1;
             ^
       mend: declare it first: auto i; or extrn i;
+
+**A missing `extrn`.** A function knows an external by its `extrn` alone. Here `extrn total;` is missing before the
+`printn`; `auto` would make another word.
+
+    total 7;
+    main() {
+        printn(total, 10);
+    }
+
+    $ ./b check x.b
+    un total 3
+    x.b:3:12: error: total is neither declared nor a label
+            printn(total, 10);
+                   ^^^^^
+      mend: auto total; for a word of the function, extrn total; for an external
+
+**A string without an end.** The mark stands where the string begins; its closing quote has to come on the same line.
+
+    main() {
+        auto s;
+        s = \"hello;
+        putchar(char(s, 0));
+    }
+
+    $ ./b check x.b
+    ct 3
+    x.b:3:9: error: this is no string
+            s = \"hello;
+                ^
+      mend: at most 254 characters and a quote behind, on one line
 
 **`=` for `==`.** This compiles: `n` gets an `x`, whatever was read.
 
@@ -151,6 +185,39 @@ told of each mistake stands in [LANGUAGE.md](LANGUAGE.md), and the instructions 
 
     $ ./b go x.b
     !!!
+
+**A division by 0.** `go` tells that there was one, and `trace` where. The steps of `mean` are enough here. The last one
+divides 12 by 0; below it stand the line with the words that `mean` was given, and the call that gave them. `n--` gives
+the word before 1 is taken away, so the loop comes to the body once more, with 0 in `n`; `--n` is what was meant.
+
+    mean(sum, n)
+        return(sum / n);
+    main() {
+        auto n;
+        n = 2;
+        while(n--)
+            printn(mean(12, n), 10);
+    }
+
+    $ ./b go x.b
+    12trap dz
+
+    $ ./b trace --function mean x.b
+        step  function place  line  code         operands
+          16  mean         0     2  a 0         
+          17  mean         1     2  v            10
+          18  mean         2     2  a 1          12
+          19  mean         3     2  v            12 11
+          20  mean         4     2  b /          12 1
+          21  mean         5     2  r            12
+          37  mean         0     2  a 0         
+          38  mean         1     2  v            10
+          39  mean         2     2  a 1          12
+          40  mean         3     2  v            12 11
+          41  mean         4     2  b /          12 0
+    at     in mean     place    4  line    2  with 12 0
+    called in main     place   14  line    7
+    trap dz
 
 **A loop without an end.** No check can see it. A few steps show what comes again, and the listing why: `i 2` stands
 behind the jump `j 4` that closes the loop, and not in it.
@@ -324,4 +391,462 @@ rect { fill: white; stroke: #333 } .page { stroke: none } .changed { fill: #fec 
 <text class='above' x='250' y='434'>n</text>
 <text class='above' x='312' y='434'>i</text>
 </svg>
+";
+
+/// examples/base.b.
+pub(crate) const BASE: &str = "\
+/* A number to a base from 2 to 36, with letters behind 9. */
+main() {
+    write(1972, 2);
+    write(1972, 8);
+    write(1972, 16);
+    write(1972, 36);
+    write(-32768, 16);
+}
+
+write(n, base) {
+    if(n < 0)
+        putchar('-');
+    else
+        n = -n;
+    digits(n, base);
+    putchar('*n');
+}
+
+/* The digits of a number that isn't above 0, so that -32768 has some, too. */
+digits(n, base) {
+    auto d;
+
+    if(d = n / base)
+        digits(d, base);
+    d = -(n % base);
+    putchar(d < 10 ? '0' + d : 'a' + d - 10);
+}
+";
+
+/// examples/calc.b.
+pub(crate) const CALC: &str = "\
+/* Reckons each line of its input, operators behind their operands: 2 3 4 * - is 2 - 3 * 4.
+   This is a program of edition 2 of the language. */
+stack[99];
+depth;
+
+main() {
+    extrn depth;
+    auto c, n;
+
+    while(1) {
+        c = getchar();
+again:
+        switch c {
+            case '*e':
+                return;
+            case ' ':
+                break;
+            case '*n':
+                while(depth) {
+                    printn(pop(), 10);
+                    putchar(depth ? ' ' : '*n');
+                }
+                break;
+            case '+':
+                push(pop() + pop());
+                break;
+            case '-':
+                n = pop();
+                push(pop() - n);
+                break;
+            case '**':
+                push(pop() * pop());
+                break;
+            case '/':
+                n = pop();
+                push(pop() / n);
+                break;
+            default:
+                if(c < '0' | c > '9') {
+                    putchar('?');
+                    break;
+                }
+                n = 0;
+                while(c >= '0' & c <= '9') {
+                    n = n * 10 + c - '0';
+                    c = getchar();
+                }
+                push(n);
+                goto again;
+        }
+    }
+}
+
+push(x) {
+    extrn stack, depth;
+
+    if(depth < 100)
+        stack[depth++] = x;
+}
+
+pop() {
+    extrn stack, depth;
+
+    return(depth ? stack[--depth] : 0);
+}
+";
+
+/// examples/calendar.b.
+pub(crate) const CALENDAR: &str = "\
+/* February 1972 as a calendar. This is a program of edition 2 of the language. */
+main() {
+    auto day, at;
+
+    string(\"Mo Tu We Th Fr Sa Su*n\");
+    at = 0;
+    while(at < first(2)) {
+        string(\"   \");
+        at++;
+    }
+    day = 1;
+    while(1) {
+        if(day < 10)
+            putchar(' ');
+        printn(day, 10);
+        if(day++ == days(2))
+            break;
+        putchar(++at % 7 ? ' ' : '*n');
+    }
+    putchar('*n');
+}
+
+/* How many days behind a Monday a month of 1972 begins. */
+first(month) {
+    auto m, sum;
+
+    sum = 5;                       /* January began on a Saturday. */
+    m = 1;
+    while(m < month)
+        sum =+ days(m++);
+    return(sum % 7);
+}
+
+days(month) {
+    switch month {
+        case 2:
+            return(29);
+        case 4: case 6: case 9: case 11:
+            return(30);
+        default:
+            return(31);
+    }
+}
+
+string(s) {
+    auto i, c;
+
+    i = 0;
+    while((c = char(s, i++)) != '*e')
+        putchar(c);
+}
+";
+
+/// examples/constants.b.
+pub(crate) const CONSTANTS: &str = "\
+/* Externals with initial values: the compiler writes their code text. */
+width 64;
+masks 1, 2, 4, 010, 020;
+letters 'ab', width;
+empty;
+";
+
+/// examples/copy.b.
+pub(crate) const COPY: &str = "\
+/* Copies strings into a vector, one behind another, and compares them. */
+main() {
+    auto line 20, end;
+
+    end = copy(line, 0, \"hello\");
+    end = copy(line, end, \", \");
+    copy(line, end, \"world*n\");
+    string(line);
+    printn(same(line, \"hello, world*n\"), 10);
+    printn(same(line, \"hello\"), 10);
+    putchar('*n');
+}
+
+/* Copies a string to a place in another, and gives the place of its end there. */
+copy(to, at, from) {
+    auto i;
+
+    i = 0;
+    while(lchar(to, at, char(from, i++)) != '*e')
+        at++;
+    return(at);
+}
+
+same(s, t) {
+    auto i, c;
+
+    i = 0;
+    while((c = char(s, i)) == char(t, i)) {
+        if(c == '*e')
+            return(1);
+        i++;
+    }
+    return(0);
+}
+
+string(s) {
+    auto i, c;
+
+    i = 0;
+    while((c = char(s, i++)) != '*e')
+        putchar(c);
+}
+";
+
+/// examples/e.b.
+pub(crate) const E: &str = "\
+/* The first 40 digits of e, by adding up 1, 1 / 1, that divided by 2, that divided by 3, and so on. */
+places 44;
+term[44] 1;
+sum[44];
+
+main() {
+    extrn sum;
+    auto k, i;
+
+    k = 1;
+    while(add())
+        divide(k++);
+    printn(sum[0], 10);
+    putchar('.');
+    i = 1;
+    while(i <= 40)
+        printn(sum[i++], 10);
+    putchar('*n');
+}
+
+/* Adds the term to the sum, from the last place on. Tells whether there was anything to add. */
+add() {
+    extrn places, term, sum;
+    auto i, d, carry, some;
+
+    carry = some = 0;
+    i = places;
+    while(i >= 0) {
+        d = sum[i] + term[i] + carry;
+        some =| term[i];
+        carry = d > 9;
+        sum[i--] = carry ? d - 10 : d;
+    }
+    return(some);
+}
+
+/* Divides the term, from the first place on. */
+divide(k) {
+    extrn places, term;
+    auto i, rest;
+
+    i = rest = 0;
+    while(i <= places) {
+        rest = rest * 10 + term[i];
+        term[i++] = rest / k;
+        rest =% k;
+    }
+}
+";
+
+/// examples/e2.b.
+pub(crate) const E2: &str = "\
+/* The digits of e behind 2., n of them, from the users' reference. */
+main() {
+    extrn putchar, n, v;
+    auto i, c, col, a;
+
+    i = col = 0;
+    while(i < n)
+        v[i++] = 1;
+    while(col < n) {
+        a = n + 1;
+        c = i = 0;
+        while(i < n) {
+            c =+ v[i] * 10;
+            v[i++] = c % a;
+            c =/ a--;
+        }
+        putchar(c + '0');
+        if(!(++col % 5))
+            putchar(col % 50 ? ' ' : '*n');
+    }
+    putchar('*n*n');
+}
+
+v[200];
+n 200;
+";
+
+/// examples/guess.b.
+pub(crate) const GUESS: &str = "\
+/* Guesses a number from 1 to 100 that the player thinks of: answer l if it is lower, h if higher, y if right. */
+main() {
+    auto low, high, middle, c;
+
+    low = 1;
+    high = 100;
+    while(low <= high) {
+        middle = (low + high) / 2;
+        putstr(\"Is it \");
+        printn(middle, 10);
+        putstr(\"? \");
+        c = answer();
+        if(c == 'y' | c == '*e')
+            high = 0;
+        else if(c == 'l')
+            high = middle - 1;
+        else
+            low = middle + 1;
+    }
+    putstr(c == 'y' ? \"I knew it.*n\" : \"Really?*n\");
+}
+
+/* The first character of a line, or the end. */
+answer() {
+    auto c, d;
+
+    c = d = getchar();
+    while(d != '*n' & d != '*e')
+        d = getchar();
+    return(c);
+}
+
+putstr(s) {
+    auto i, c;
+
+    i = 0;
+    while((c = char(s, i++)) != '*e')
+        putchar(c);
+}
+";
+
+/// examples/hello.b.
+pub(crate) const HELLO: &str = "\
+/* The first program. */
+main() {
+    auto s, i, c;
+    s = \"hello, world*n\";
+    i = 0;
+    while((c = char(s, i++)) != '*e')
+        putchar(c);
+}
+";
+
+/// examples/numbers.b.
+pub(crate) const NUMBERS: &str = "\
+/* A printn of its own, from the users' reference, which hides the library's. */
+printn(n, b) {
+    extrn putchar;
+    auto a;
+
+    if(a = n / b)
+        printn(a, b);
+    putchar(n % b + '0');
+}
+
+main() {
+    printn(1972, 10);
+    putchar('*n');
+    printn(1972, 8);
+    putchar('*n');
+}
+";
+
+/// examples/print.b.
+pub(crate) const PRINT: &str = "\
+/* A small formatted print: %d a number, %o to the base 8, %c a character, %s a string, %% a %. */
+main()
+    print(\"%s: %d is %o to the base 8, 100%% %s%c*n\", \"sum\", 64, 64, \"sure\", '!');
+
+/* The parameters stand one behind another, so the next one is at the next address. */
+print(form, a, b, c, d, e) {
+    auto next, i, k;
+
+    next = &a;
+    i = 0;
+    while((k = char(form, i++)) != '*e')
+        if(k != '%')
+            putchar(k);
+        else if((k = char(form, i++)) == '%')
+            putchar(k);
+        else
+            item(k, *next++);
+}
+
+item(kind, value) {
+    switch kind {
+        case 'd': return(printn(value, 10));
+        case 'o': return(printn(value, 8));
+        case 'c': return(putchar(value));
+        case 's': string(value); return;
+    }
+    putchar('?');
+}
+
+string(s) {
+    auto i, c;
+
+    i = 0;
+    while((c = char(s, i++)) != '*e')
+        putchar(c);
+}
+";
+
+/// examples/sieve.b.
+pub(crate) const SIEVE: &str = "\
+/* The primes below 100. */
+main() {
+    extrn crossed;
+    auto i, j;
+
+    i = 2;
+    while(i < 100) {
+        if(!crossed[i]) {
+            printn(i, 10);
+            putchar('*n');
+            j = i + i;
+            while(j < 100) {
+                crossed[j] = 1;
+                j =+ i;
+            }
+        }
+        i++;
+    }
+}
+
+crossed[100];
+";
+
+/// examples/wc.b.
+pub(crate) const WC: &str = "\
+/* The lines, words and characters of the input. */
+main() {
+    auto c, lines, words, chars, inside;
+
+    lines = words = chars = inside = 0;
+    while((c = getchar()) != '*e') {
+        chars++;
+        if(c == '*n')
+            lines++;
+        if(c == ' ' | c == '*t' | c == '*n')
+            inside = 0;
+        else if(!inside) {
+            inside = 1;
+            words++;
+        }
+    }
+    printn(lines, 10);
+    putchar(' ');
+    printn(words, 10);
+    putchar(' ');
+    printn(chars, 10);
+    putchar('*n');
+}
 ";
