@@ -1,263 +1,458 @@
-//! What stands in files: docs/CLASS.md, the picture of docs/CODE.md, and the programs of examples/.
+//! What stands in files: the commands of README.md and docs/, the picture of docs/CODE.md, and examples/.
 
-/// docs/CLASS.md.
-pub(crate) const CLASS: &str = "\
-# A class of mistakes
-
-Thirteen programs of a class, each with one mistake, and the command that shows it. Each program stands in a file
-`x.b`; below it is the command with all that it writes. `check` finds what no program may have, and tells what a program
-may have and is hardly meant. What it can't see shows in a short run, `./b go --steps N`, in the steps of a run,
-`./b trace`, or in the code, `./b list`. What is told of each mistake stands in [LANGUAGE.md](LANGUAGE.md), and the
-instructions and traps in [CODE.md](CODE.md).
-
-Before a class type `./b --prove` once: the first `./b check` would prove and build the program before it answers, which
-takes some half an hour. From then on each command answers at once.
-
-**A missing semicolon.** The token at fault is the first one that can't follow; the mistake stands before it.
-
-    main() {
-        auto i;
-        i = 5
-        printn(i, 10);
+/// The commands of the pages: a file, `~`, its text, `~`, the input, `~`, the words, `~` and what is written.
+pub(crate) const SHOWN: &str = "\
+squares.b~/* The squares of 1 to 5. */
+main() {
+    auto i;
+    i = 1;
+    while(i <= 5) {
+        printn(i * i, 10);
+        putchar('*n');
+        i++;
     }
+}
+~~b go squares.b~1
+4
+9
+16
+25
+@
+squares.b~/* The squares of 1 to 5. */
+main() {
+    i = 1;
+    while(i <= 5) {
+        printn(i * i, 10);
+        putchar('*n');
+        i++;
+    }
+}
+~~b go squares.b~lv 3
+@
+six.b~main() { printn(6 * 7, 10); putchar('*n'); }
+~~b go six.b~42
+@
+x.b~~main() { printn(6 * 7, 10); putchar('*n'); }
+~b compile~F main 0 0 0 0 15
+x printn
+v
+c 6
+c 7
+b *
+c 10
+k 2
+p
+x putchar
+v
+c 10
+k 1
+p
+c 0
+r
+E
+@
+six.code~F main 0 0 0 0 15
+x printn
+v
+c 6
+c 7
+b *
+c 10
+k 2
+p
+x putchar
+v
+c 10
+k 1
+p
+c 0
+r
+E
+~~b run six.code~42
+@
+no.b~main() { printn(n, 10); } n 42;
+~~b go no.b~un n 1
+@
+zero.b~main() { putchar('a'); printn(1 / 0, 10); }
+~~b go zero.b~atrap dz
+@
+calendar.b~/* February 1972 as a calendar. This is a program of edition 2 of the language. */
+main() {
+    auto day, at;
 
-    $ ./b check x.b
-    sx 4
-    x.b:4:5: error: no program goes on with this
-            printn(i, 10);
-            ^^^^^^
-      mend: look before it, too: for a ; or a ) or an operator
+    string(\"Mo Tu We Th Fr Sa Su*n\");
+    at = 0;
+    while(at < first(2)) {
+        string(\"   \");
+        at++;
+    }
+    day = 1;
+    while(1) {
+        if(day < 10)
+            putchar(' ');
+        printn(day, 10);
+        if(day++ == days(2))
+            break;
+        putchar(++at % 7 ? ' ' : '*n');
+    }
+    putchar('*n');
+}
 
-**A missing declaration.** A name that isn't declared is taken for a label.
+/* How many days behind a Monday a month of 1972 begins. */
+first(month) {
+    auto m, sum;
 
-    main() {
+    sum = 5;                       /* January began on a Saturday. */
+    m = 1;
+    while(m < month)
+        sum =+ days(m++);
+    return(sum % 7);
+}
+
+days(month) {
+    switch month {
+        case 2:
+            return(29);
+        case 4: case 6: case 9: case 11:
+            return(30);
+        default:
+            return(31);
+    }
+}
+
+string(s) {
+    auto i, c;
+
+    i = 0;
+    while((c = char(s, i++)) != '*e')
+        putchar(c);
+}
+~~b go --edition 2 calendar.b~Mo Tu We Th Fr Sa Su
+    1  2  3  4  5  6
+ 7  8  9 10 11 12 13
+14 15 16 17 18 19 20
+21 22 23 24 25 26 27
+28 29
+@
+x.b~main() {
+    auto i;
+    i = 5
+    printn(i, 10);
+}
+~~b check x.b~sx 4
+x.b:4:5: error: no program goes on with this
+        printn(i, 10);
+        ^^^^^^
+  mend: look before it, too: for a ; or a ) or an operator
+@
+x.b~main() {
+    i = 1;
+    printn(i, 10);
+}
+~~b check x.b~lv 2
+x.b:2:5: error: i is taken for a label here, which has no address
         i = 1;
-        printn(i, 10);
-    }
-
-    $ ./b check x.b
-    lv 2
-    x.b:2:5: error: i is taken for a label here, which has no address
-            i = 1;
-            ^
-      mend: declare it first: auto i; or extrn i;
-
-**A missing `extrn`.** A function knows an external by its `extrn` alone. Here `extrn total;` is missing before the
-`printn`; `auto` would make another word.
-
-    total 7;
-    main() {
+        ^
+  mend: declare it first: auto i; or extrn i;
+@
+x.b~total 7;
+main() {
+    printn(total, 10);
+}
+~~b check x.b~un total 3
+x.b:3:12: error: total is neither declared nor a label
         printn(total, 10);
-    }
-
-    $ ./b check x.b
-    un total 3
-    x.b:3:12: error: total is neither declared nor a label
-            printn(total, 10);
-                   ^^^^^
-      mend: auto total; for a word of the function, extrn total; for an external
-
-**A string without an end.** The mark stands where the string begins; its closing quote has to come on the same line.
-
-    main() {
-        auto s;
+               ^^^^^
+  mend: auto total; for a word of the function, extrn total; for an external
+@
+x.b~main() {
+    auto s;
+    s = \"hello;
+    putchar(char(s, 0));
+}
+~~b check x.b~ct 3
+x.b:3:9: error: this is no string
         s = \"hello;
-        putchar(char(s, 0));
-    }
-
-    $ ./b check x.b
-    ct 3
-    x.b:3:9: error: this is no string
-            s = \"hello;
-                ^
-      mend: at most 254 characters and a quote behind, on one line
-
-**`=` for `==`.** This compiles: `n` gets an `x`, whatever was read.
-
-    main() {
-        auto n;
-        n = getchar();
+            ^
+  mend: at most 254 characters and a quote behind, on one line
+@
+x.b~main() {
+    auto n;
+    n = getchar();
+    if(n = 'x')
+        putchar('y');
+}
+~~b check x.b~x.b:4:10: warning: this condition assigns
         if(n = 'x')
-            putchar('y');
-    }
-
-    $ ./b check x.b
-    x.b:4:10: warning: this condition assigns
-            if(n = 'x')
-                 ^
-      mend: == compares; parentheses around it show that it is meant
-
-**An index past the end of a vector.** `auto v 3;` has four words, and the fifth is another name's, or no one's.
-
-    main() {
-        auto v 3, i;
-        i = 1;
+             ^
+  mend: == compares; parentheses around it show that it is meant
+@
+x.b~main() {
+    auto v 3, i;
+    i = 1;
+    v[4] = 2;
+    printn(i, 10);
+}
+~~b check x.b~x.b:4:7: warning: the vector v has no word of this index
         v[4] = 2;
-        printn(i, 10);
-    }
-
-    $ ./b check x.b
-    x.b:4:7: warning: the vector v has no word of this index
-            v[4] = 2;
-              ^
-      mend: auto v 5; has v[0] to v[5]
-
-    $ ./b go x.b
-    2
-
-**A misspelt function.** `compile` can't know that nothing defines it; `check` names it.
-
-    square(n)
-        return(n * n);
-    main() {
+          ^
+  mend: auto v 5; has v[0] to v[5]
+@
+x.b~main() {
+    auto v 3, i;
+    i = 1;
+    v[4] = 2;
+    printn(i, 10);
+}
+~~b go x.b~2
+@
+x.b~square(n)
+    return(n * n);
+main() {
+    printn(sqare(5), 10);
+}
+~~b check x.b~load 3
+x.b:4:12: error: nothing defines sqare
         printn(sqare(5), 10);
-    }
-
-    $ ./b check x.b
-    load 3
-    x.b:4:12: error: nothing defines sqare
-            printn(sqare(5), 10);
-                   ^^^^^
-      mend: define it, or take one of the six library calls
-
-**A comment without an end.** It is told where it begins.
-
-    main() {
-        auto i;
+               ^^^^^
+  mend: define it, or take one of the six library calls
+@
+x.b~main() {
+    auto i;
+    /* count from 1 to 3
+    i = 1;
+    while(i <= 3)
+        printn(i++, 10);
+}
+~~b check x.b~*/ 3
+x.b:3:5: error: this comment has no end
         /* count from 1 to 3
-        i = 1;
-        while(i <= 3)
-            printn(i++, 10);
-    }
-
-    $ ./b check x.b
-    */ 3
-    x.b:3:5: error: this comment has no end
-            /* count from 1 to 3
-            ^^
-      mend: write */ where it ends
-
-**`=-` for `= -`.** It takes 1 away from `i`, as `-=` does in C.
-
-    main() {
-        auto i;
+        ^^
+  mend: write */ where it ends
+@
+x.b~main() {
+    auto i;
+    i=-1;
+    printn(i, 10);
+}
+~~b check x.b~x.b:3:6: warning: this operator changes what stands before it
         i=-1;
-        printn(i, 10);
-    }
-
-    $ ./b check x.b
-    x.b:3:6: warning: this operator changes what stands before it
-            i=-1;
-             ^^
-      mend: a blank behind the = sets it: x = -1;
-
-**A missing return.** A function that ends without one returns 0.
-
-    sum(a, b) {
-        auto c;
-        c = a + b;
-    }
-    main()
+         ^^
+  mend: a blank behind the = sets it: x = -1;
+@
+x.b~sum(a, b) {
+    auto c;
+    c = a + b;
+}
+main()
+    printn(sum(2, 3), 10);
+~~b check x.b~x.b:6:12: warning: the value of sum is used, and sum returns none
         printn(sum(2, 3), 10);
-
-    $ ./b check x.b
-    x.b:6:12: warning: the value of sum is used, and sum returns none
-            printn(sum(2, 3), 10);
-                   ^^^
-      mend: return(x); in sum gives the value x; without it the value is 0
-
-    $ ./b go x.b
-    0
-
-**More arguments than parameters.** The last one is lost. Fewer are no mistake: the others are 0 then.
-
-    greet(n)
-        while(n-- > 0)
-            putchar('!');
-    main()
+               ^^^
+  mend: return(x); in sum gives the value x; without it the value is 0
+@
+x.b~sum(a, b) {
+    auto c;
+    c = a + b;
+}
+main()
+    printn(sum(2, 3), 10);
+~~b go x.b~0
+@
+x.b~greet(n)
+    while(n-- > 0)
+        putchar('!');
+main()
+    greet(3, '?');
+~~b check x.b~x.b:5:5: warning: this call has more arguments than greet has parameters
         greet(3, '?');
-
-    $ ./b check x.b
-    x.b:5:5: warning: this call has more arguments than greet has parameters
-            greet(3, '?');
-            ^^^^^
-      mend: the last ones are lost: take them out, or name them in greet
-
-    $ ./b go x.b
-    !!!
-
-**A division by 0.** `go` tells that there was one, and `trace` where. The steps of `mean` are enough here. The last one
-divides 12 by 0; below it stand the line with the words that `mean` was given, and the call that gave them. `n--` gives
-the word before 1 is taken away, so the loop comes to the body once more, with 0 in `n`; `--n` is what was meant.
-
-    mean(sum, n)
-        return(sum / n);
-    main() {
-        auto n;
-        n = 2;
-        while(n--)
-            printn(mean(12, n), 10);
-    }
-
-    $ ./b go x.b
-    12trap dz
-
-    $ ./b trace --function mean x.b
-        step  function place  line  code         operands
-          16  mean         0     2  a 0         
-          17  mean         1     2  v            10
-          18  mean         2     2  a 1          12
-          19  mean         3     2  v            12 11
-          20  mean         4     2  b /          12 1
-          21  mean         5     2  r            12
-          37  mean         0     2  a 0         
-          38  mean         1     2  v            10
-          39  mean         2     2  a 1          12
-          40  mean         3     2  v            12 11
-          41  mean         4     2  b /          12 0
-    at     in mean     place    4  line    2  with 12 0
-    called in main     place   14  line    7
-    trap dz
-
-**A loop without an end.** No check can see it. A few steps show what comes again, and the listing why: `i 2` stands
-behind the jump `j 4` that closes the loop, and not in it.
-
-    main() {
-        auto i;
-        i = 1;
-        while(i <= 3)
-            printn(i, 10);
-            i++;
-    }
-
-    $ ./b go --steps 100 x.b
-    1111111limit
-
-    $ ./b list x.b main
-     place  line  code          source                                  name
-        @7        F main 0 1 0 0 22
-         0     3  a 0           i = 1;                                  i
-         1     3  c 1
-         2     3  w
-         3     3  p
-         4     4  a 0           while(i <= 3)                           i
-         5     4  v
-         6     4  c 3
-         7     4  b <=
-         8     4  z 17
-         9     5  x printn      printn(i, 10);
-        10     5  v
-        11     5  a 0                                                   i
-        12     5  v
-        13     5  c 10
-        14     5  k 2
-        15     5  p
-        16     4  j 4           while(i <= 3)
-        17     6  a 0           i++;                                    i
-        18     6  i 2
-        19     6  p
-        20     7  c 0           }
-        21     7  r
+        ^^^^^
+  mend: the last ones are lost: take them out, or name them in greet
+@
+x.b~greet(n)
+    while(n-- > 0)
+        putchar('!');
+main()
+    greet(3, '?');
+~~b go x.b~!!!
+@
+x.b~mean(sum, n)
+    return(sum / n);
+main() {
+    auto n;
+    n = 2;
+    while(n--)
+        printn(mean(12, n), 10);
+}
+~~b go x.b~12trap dz
+@
+x.b~mean(sum, n)
+    return(sum / n);
+main() {
+    auto n;
+    n = 2;
+    while(n--)
+        printn(mean(12, n), 10);
+}
+~~b trace --function mean x.b~    step  function place  line  code         operands
+      16  mean         0     2  a 0         
+      17  mean         1     2  v            10
+      18  mean         2     2  a 1          12
+      19  mean         3     2  v            12 11
+      20  mean         4     2  b /          12 1
+      21  mean         5     2  r            12
+      37  mean         0     2  a 0         
+      38  mean         1     2  v            10
+      39  mean         2     2  a 1          12
+      40  mean         3     2  v            12 11
+      41  mean         4     2  b /          12 0
+at     in mean     place    4  line    2  with 12 0
+called in main     place   14  line    7
+trap dz
+@
+x.b~main() {
+    auto i;
+    i = 1;
+    while(i <= 3)
+        printn(i, 10);
+        i++;
+}
+~~b go --steps 100 x.b~1111111limit
+@
+x.b~main() {
+    auto i;
+    i = 1;
+    while(i <= 3)
+        printn(i, 10);
+        i++;
+}
+~~b list x.b main~ place  line  code          source                                  name
+    @7        F main 0 1 0 0 22
+     0     3  a 0           i = 1;                                  i
+     1     3  c 1
+     2     3  w
+     3     3  p
+     4     4  a 0           while(i <= 3)                           i
+     5     4  v
+     6     4  c 3
+     7     4  b <=
+     8     4  z 17
+     9     5  x printn      printn(i, 10);
+    10     5  v
+    11     5  a 0                                                   i
+    12     5  v
+    13     5  c 10
+    14     5  k 2
+    15     5  p
+    16     4  j 4           while(i <= 3)
+    17     6  a 0           i++;                                    i
+    18     6  i 2
+    19     6  p
+    20     7  c 0           }
+    21     7  r
+@
+layout.b~s \"ab\", t, 'x';
+t;
+main() ;
+~~b list layout.b~ place  line  code          source                                  name
+    @7        X s 3 2
+    @7     1  s 0
+    @8     1  x t
+    @9     1  c 120
+   @10        w 25185                                               'ab'
+   @11        w 4                                                   '*e'
+   @12        X t 0 0
+   @13        F main 0 0 0 0 2
+     0     3  c 0           main() ;
+     1     3  r
+@
+layout.b~s \"ab\", t, 'x';
+t;
+main() ;
+~~b map layout.b~  word  name      kind      words  values
+     0            unused        1  0
+     1  char      library       1  1
+     2  lchar     library       1  2
+     3  getchar   library       1  3
+     4  putchar   library       1  4
+     5  printn    library       1  5
+     6  exit      library       1  6
+     7  s         simple        5  10 12 120 25185 4
+    12  t         simple        1  0
+    13  main      function      1  7
+data end 14
+@
+trap.b~main() f(7);
+f(a) printn(a / 0, 10);
+~~b trace trap.b~    step  function place  line  code         operands
+       1  main         0     1  x f         
+       2  main         1     1  v            8
+       3  main         2     1  c 7          8
+       4  main         3     1  k 1          8 7
+                                           @9 = 7
+       5  f            0     2  x printn    
+       6  f            1     2  v            5
+       7  f            2     2  a 0          5
+       8  f            3     2  v            5 9
+       9  f            4     2  c 0          5 7
+      10  f            5     2  b /          5 7 0
+at     in f        place    5  line    2  with 7
+called in main     place    3  line    1
+trap dz
+@
+x.b~s \"ab\", t, 'x';
+t;
+main() {
+    extrn s, t, main;
+    printn(&s, 10); putchar(' ');
+    printn(s, 10); putchar(' ');
+    printn((&s)[1], 10); putchar(' ');
+    printn(&t, 10); putchar(' ');
+    printn(&main, 10); putchar(' ');
+    printn(main, 10);
+}
+~X n 1 0
+c 7
+E
+~b migrate~B 2
+X n 1 0
+c 7
+E
+@
+x.b~main() { return(x); }
+~~b check --json x.b~{\"file\":\"x.b\",\"line\":1,\"column\":17,\"severity\":\"error\",\"code\":\"un\",\"message\":\"x is neither declared nor a label\",\"mend\":\"auto x; for a word of the function, extrn x; for an external\"}
+@
+x.b~main() {
+    auto i;
+    i = n;
+}
+~~b check x.b~un n 3
+x.b:3:9: error: n is neither declared nor a label
+        i = n;
+            ^
+  mend: auto n; for a word of the function, extrn n; for an external
+@
+x.b~main() {
+    pritn(42, 10);
+}
+~~b check x.b~load 3
+x.b:2:5: error: nothing defines pritn
+        pritn(42, 10);
+        ^^^^^
+  mend: define it, or take one of the six library calls
+@
+x.b~f(x) {
+    if(x=1)
+        x=-1;
+}
+~~b check x.b~x.b:2:9: warning: this condition assigns
+        if(x=1)
+            ^
+  mend: == compares; parentheses around it show that it is meant
+x.b:3:10: warning: this operator changes what stands before it
+            x=-1;
+             ^^
+  mend: a blank behind the = sets it: x = -1;
 ";
 
 /// docs/memory.svg.

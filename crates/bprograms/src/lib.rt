@@ -24,6 +24,8 @@ mod list_tests;
 #[cfg(test)]
 mod migrate_tests;
 #[cfg(test)]
+mod page_tests;
+#[cfg(test)]
 mod program_tests;
 #[cfg(test)]
 mod run_tests;

@@ -1,10 +1,7 @@
 //! Listings and maps of sources, docs/CODE.md's among them.
-use crate::command_tests::{all_answer, answer_to, serves};
-use crate::kept_pages::{CLASS, PICTURE};
-use bword::{ByteOut, MemIn, MemOut};
+use crate::command_tests::{all_answer, serves};
+use crate::kept_pages::PICTURE;
 use std::fs;
-use std::process::Abort;
-use std::rt::Files;
 use std::test::Fail;
 
 // The source whose code and layout the page shows.
@@ -50,6 +47,36 @@ b map layout.b~  word  name      kind      words  values
 data end 14
 ~~0
 @
+b list vector.b~ place  line  code          source                                  name
+    @7        F main 0 3 0 0 13
+     0     2  a 0           auto v 1;                               v
+     1     2  a 1                                                   v[0]
+     2     2  w
+     3     2  p
+     4     3  a 0           v[1] = 2;                               v
+     5     3  v
+     6     3  c 1
+     7     3  b +
+     8     3  c 2
+     9     3  w
+    10     3  p
+    11     4  c 0           }
+    12     4  r
+~~0
+@
+b map seven.b~  word  name      kind      words  values
+     0            unused        1  0
+     1  char      library       1  1
+     2  lchar     library       1  2
+     3  getchar   library       1  3
+     4  putchar   library       1  4
+     5  printn    library       1  5
+     6  exit      library       1  6
+     7  v         vector        8  8 1 2 0 0 0 ..
+    15  main      function      1  7
+data end 16
+~~0
+@
 b list layout.b f~~error: the source has no definition of this NAME
 ~135
 @
@@ -67,8 +94,11 @@ fn listings_and_maps(rt: HostRuntime) -> Result<(), Fail> {
     fs::write(&rt, "layout.b", LAYOUT.as_bytes())?;
     fs::write(&rt, "fault.b", b"main() { printn(n, 10); } n 42;")?;
     fs::write(&rt, "alone.b", b"f() ;")?;
+    let vector = "main() {\n    auto v 1;\n    v[1] = 2;\n}\n";
+    fs::write(&rt, "vector.b", vector.as_bytes())?;
+    fs::write(&rt, "seven.b", b"v[6] 1, 2; main() ;")?;
     all_answer(&rt, ROWS)?;
-    for file in ["layout.b", "fault.b", "alone.b"] {
+    for file in ["layout.b", "fault.b", "alone.b", "vector.b", "seven.b"] {
         fs::remove_file(&rt, file)?;
     }
     Ok(())
@@ -154,51 +184,5 @@ fn no_pictures(rt: HostRuntime) -> Result<(), Fail> {
         );
     }
     fs::remove_file(&rt, "m.b")?;
-    Ok(())
-}
-
-// What a piece of a page has behind its margin of four blanks.
-fn without_margin(rt: &(impl AllocGlobal + Abort), piece: &str) -> Result<String, Fail> {
-    let mut text = String::new(rt.alloc());
-    for line in piece.lines() {
-        text.push_str(line.strip_prefix("    ").unwrap_or(line))?;
-        text.push('\n')?;
-    }
-    Ok(text)
-}
-
-// The page of mistakes: a piece with a margin is a source, or a command with what it writes.
-#[test]
-fn the_class(rt: HostRuntime) -> Result<(), Fail> {
-    for piece in CLASS
-        .split("\n\n")
-        .filter(|piece| piece.starts_with("    "))
-    {
-        let text = without_margin(&rt, piece)?;
-        match text.strip_prefix("$ ./") {
-            None => fs::write(&rt, "x.b", text.as_bytes())?,
-            Some(rest) => {
-                let (words, output) = rest.split_once('\n').unwrap_or((rest, ""));
-                is_written(&rt, words, output)?;
-            }
-        }
-    }
-    fs::remove_file(&rt, "x.b")?;
-    Ok(())
-}
-
-// Whether a command writes this, its line last.
-fn is_written(
-    rt: &(impl AllocGlobal + Files + Abort),
-    words: &str,
-    output: &str,
-) -> Result<(), Fail> {
-    let mut said = MemOut::new(rt.alloc());
-    let mut line = MemOut::new(rt.alloc());
-    answer_to(rt, words, &mut MemIn::new(b""), &mut said, &mut line)?;
-    let is_kept = said.put(line.bytes()).is_ok();
-    assert!(rt; is_kept, "the line of {words} is kept");
-    let text = str::from_utf8(said.bytes()).unwrap_or("");
-    assert_eq!(rt; text.trim_end(), output.trim_end(), "what {words} writes");
     Ok(())
 }
