@@ -221,6 +221,14 @@ Usage: b migrate < FILE
 @
 b check --steps 5 x~error: unexpected argument '--steps' found
 @
+b list~error: the following required arguments were not provided:
+@
+b map --steps 0 x~error: invalid value '0' for '--steps <N>':
+@
+b trace --steps 0 x~error: invalid value '0' for '--steps <N>':
+@
+b trace --steps 4000000001 x~error: invalid value '4000000001' for '--steps <N>':
+@
 b migrate --edition 2~error: unexpected argument '--edition' found
 
 Usage: b migrate < FILE
@@ -266,9 +274,17 @@ b run --steps 5 --no-limit x~error: the argument '--steps <N>' cannot be used wi
 
 #[test]
 fn help(rt: HostRuntime) -> Result<(), Fail> {
-    for words in "b --help,b compile --help,b run --help,b go --help,b migrate --help,b check --help".split(
-        ',',
-    ) {
+    let commands = "\
+b --help
+b compile --help
+b run --help
+b go --help
+b migrate --help
+b check --help
+b list --help
+b map --help
+b trace --help";
+    for words in commands.lines() {
         let (out, diag) = serves(&rt, words, "", 0)?;
         assert!(rt; diag.bytes().is_empty(), "the line of {words}");
         assert!(rt; !out.bytes().is_empty(), "the output of {words}");
