@@ -1,7 +1,6 @@
 //! Traces of sources: that of docs/CODE.md, its worked function, and each letter of a trap.
 use crate::command_tests::{all_answer, serves};
 use std::fs;
-use std::process::Abort;
 use std::rt::Files;
 use std::test::Fail;
 
