@@ -1,5 +1,5 @@
 -- What comes of a source whose memory is drawn.
-use Rattle.std.specs.Prelude.{◌≡◌, ◌⊎◌, ℕ, zero, suc, ◌+◌, ◌%◌, min, List, [], ◌∷◌, ◌++◌, map, take, Option, Some, None}
+use Rattle.std.specs.Prelude.{◌≡◌, ℕ, zero, suc, ◌+◌, ◌%◌, min, List, [], ◌∷◌, ◌++◌, map, take, Option, Some, None}
 use Rattle.std.specs.Prelude.{Result, Ok, Err, slice_index, ⊤}
 use Rattle.std.specs.List.{flat_map}
 use Rattle.bword.specs.declared.edition.Edition.{Edition}
@@ -9,7 +9,7 @@ use Rattle.blang.specs.declared.run.Outcome.{Outcome}
 use Rattle.blang.specs.declared.run.Outcome.TheVariants as outcome
 use Rattle.blang.specs.declared.status.TheConstants.{DEVICE, DONE, MEMORY}
 use Rattle.blang.specs.Layout.{Shape as Named, World, shape_of, size_of}
-use Rattle.blang.specs.Machine.{Call, Image, Running, State, run, steps, RunGives, RunEnds}
+use Rattle.blang.specs.Machine.{Call, Image, Running, State, run, state_world, steps, RunGives, RunEnds}
 use Rattle.bmach.specs.Stepping.{BeginsNot, Paused, machine_at}
 use Rattle.bmach.specs.Turns.{MovesOn}
 use Rattle.blist.specs.Maps.{image_address}
@@ -88,6 +88,12 @@ pub record IsAfter (image : Image) (n : ℕ) (i j : Incoming) (words : List ℕ)
 abbrev pub IsOver : Image → ℕ → (i j : Incoming) → Outcome → Type 0
 IsOver image n i j result = (output : Kept) × RunGives (run image) n i j nothing_written (outgoing_of output) result
 
+-- Memory has these words where the run is over, which it is within so many steps; in them this was taken of the input.
+pub record IsAtEnd (image : Image) (n : ℕ) (i j : Incoming) (words : List ℕ) : Type 0 where
+  pub taken : List ℕ
+  pub took : Took i taken j
+  pub holds : (more : List ℕ) → CanFollow j more → (state_world (run image (taken ++ more) n)).store ≡ words
+
 -- a run has an end of its own
 abbrev pub HasEnd : Outcome → Type 0
 HasEnd (outcome.Exit status) = ⊤
@@ -102,7 +108,7 @@ pub data DrawsRun (ds : List Definition) (image : Image) (n : ℕ) (i j : Incomi
     : Type 0 where
   after : (words : List ℕ) → IsAfter image n i j words → Shows ds image words old new status
       → DrawsRun ds image n i j old new status
-  over : (result : Outcome) (words : List ℕ) → IsOver image n i j result → HasEnd result
+  over : (result : Outcome) (words : List ℕ) → IsOver image n i j result → HasEnd result → IsAtEnd image n i j words
       → Shows ds image words old new status → DrawsRun ds image n i j old new status
   not_begun : (result : Outcome) → BeginsNot image result → HasEnd result → Shows ds image image.words old new status
       → j ≡ i → DrawsRun ds image n i j old new status
@@ -140,9 +146,17 @@ IsMade first made now i j o q =
     (now.image ≡ first.image)
     × MovesOn (λ left before. steps first.image made (machine_at first left before)) (machine_at now) i j o q
 
+-- where the run is over by an end of its own within so many steps, these are the words of its store
+abbrev pub LeavesAtEnd : (first : Paused) → ℕ → (i j : Incoming) → Outcome → List ℕ → Type 0
+LeavesAtEnd first n i j result words =
+    HasEnd result → (taken : List ℕ) × Took i taken j
+    × ((more : List ℕ) → CanFollow j more
+    → (state_world (steps first.image n (machine_at first (taken ++ more) []))).store ≡ words)
+
 -- what comes of so many steps
 abbrev pub Made : (first now : Paused) → ℕ → (i j : Incoming) (o q : Outgoing) → Result (Unit {0}) (ℕ × Outcome)
     → Type 0
 Made first now n i j o q (Ok u) = IsMade first n now i j o q
 Made first now n i j o q (Err end) =
     RunGives (λ input k. steps first.image k (machine_at first input [])) n i j o q end.1 × (end.1 ≡ outcome.Limit → ⊥)
+    × LeavesAtEnd first n i j end.1 now.store

@@ -1,5 +1,5 @@
 -- The SVG text of a picture.
-use Rattle.std.specs.Prelude.{ℕ, ◌+◌, ◌%◌, ◌^◌, ◌==◌, ◌∷◌, List, [], ◌++◌, codes, decimal, nat_lt, if◌then◌else◌}
+use Rattle.std.specs.Prelude.{◌≡◌, refl, ℕ, ◌+◌, ◌%◌, ◌^◌, ◌==◌, ◌∷◌, List, [], ◌++◌, codes, decimal, nat_lt, if◌then◌else◌}
 use Rattle.std.specs.List.{flat_map}
 use Rattle.bdraw.specs.declared.shapes.Cell.{Cell}
 use Rattle.bdraw.specs.declared.shapes.Fill.{Fill}
@@ -10,6 +10,15 @@ use Rattle.bdraw.specs.declared.shapes.Shape.TheVariants as shape
 use Rattle.bdraw.specs.declared.shapes.TheConstants.{STYLES}
 use Rattle.bdraw.specs.declared.shapes.Style.{Style}
 use Rattle.bdraw.specs.declared.shapes.Style.TheVariants as style
+
+-- how the shapes look
+styles : STYLES.now
+    ≡ codes "text { font: 12px monospace } .title { font-weight: bold }\n"
+    ++ codes ".note { font-size: 10px; fill: #555 } .word { text-anchor: middle }\n"
+    ++ codes ".below { font-size: 9px; fill: #777; text-anchor: middle }\n"
+    ++ codes ".above { font-size: 10px; fill: #05a; text-anchor: middle }\n"
+    ++ codes "rect { fill: white; stroke: #333 } .page { stroke: none } .changed { fill: #fec }"
+styles = refl
 
 -- a byte as a text of XML has it: `&`, `<` and `>` by their names, and what is no printable character of ASCII as `.`
 abbrev pub escape : ℕ → List ℕ

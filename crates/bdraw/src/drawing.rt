@@ -128,7 +128,7 @@ fn draw_end<S: Store + Drop, O: ByteOut>(
     }
 }
 
-// Makes so many steps, or tells after how many the next one ends the run, and how.
+// Makes so many steps, or tells with how many the run is over, and how.
 fn make_steps<S: Store + Drop, I: ByteIn>(
     stepper: &mut Stepper<'_, S>,
     steps: u64,
@@ -142,7 +142,7 @@ fn make_steps<S: Store + Drop, I: ByteIn>(
     for made in 0..steps {
         match stepper.step(input, written) {
             Ok(()) => {}
-            Err(outcome) => return Err((made, outcome)),
+            Err(outcome) => return Err((made + 1, outcome)),
         }
     }
     Ok(())

@@ -1,7 +1,7 @@
 //! What is drawn: memory at a moment, and the calls that are active.
 ghost use Rattle.std.specs.Prelude.{◌≡◌, ℕ, List, slice_index};
 
-use blang::{Definition, FunctionParts};
+use blang::{Definition, FunctionParts, MAX_CALLS};
 use blist::Program;
 use bmach::{Active, Image, Stepper, size_of};
 use bword::Store;
@@ -45,7 +45,7 @@ pub enum Moment {
     Before,
     /// After so many steps.
     After(u64),
-    /// Where it is over, with the step behind so many.
+    /// Where it is over, with the last of so many steps.
     End(u64),
 }
 
@@ -80,8 +80,7 @@ pub fn calls_of<S: Store + Drop>(
     stepper: &Stepper<'_, S>,
 ) -> Result<Calls, AllocError> {
     let mut calls = no_calls(alloc);
-    // No run has more than 4096.
-    for number in (0..4096).rev() {
+    for number in (0..MAX_CALLS).rev() {
         match stepper.caller(number) {
             Some(call) if number < MOST_CALLS - 1 => calls.drawn.push(call)?,
             Some(_) => calls.others = calls.others.saturating_add(1),

@@ -5,7 +5,7 @@ ghost use Rattle.bdraw.specs.Shapes.{attribute, cell_text, escape, escaped, fill
 use blist::Text;
 use std::alloc::{AllocError, Global};
 
-/// Whether a word was written since the run began.
+/// Whether a word is another one than before the run.
 #[derive(Clone, Copy, Debug, PartialEq, Eq)]
 pub enum Fill {
     Same,
@@ -41,6 +41,7 @@ pub struct Label {
     pub words: Text,
 }
 
+/// A box or a text of a picture.
 #[derive(Drop)]
 pub enum Shape {
     Cell(Cell),

@@ -1,14 +1,17 @@
 -- Rows of a listing, one behind another.
-use Rattle.std.proofs.Common.{◌≡◌, ◌∙◌, ◌+◌, ◌<◌, ℕ, Bool, true, false, List, [], ◌∷◌, ◌++◌, map, filter, get_or, length, take, drop, ap, ap₂, append-nil, append_assoc, refl, subst, sym}
+use Rattle.std.proofs.Common.{◌≡◌, ◌∙◌, ◌+◌, ◌<◌, ℕ, zero, suc, Bool, true, false, cond, List, [], ◌∷◌, ◌++◌, map, filter, get_or, length, take, ap, ap₂, append-nil, append_assoc, arith, refl, subst, sym}
 use Rattle.std.specs.List.{flat_map}
 use Rattle.std.specs.Prelude.{codes}
+use Rattle.std.proofs.lemmas.Bool.{cond-true}
 use Rattle.std.proofs.lemmas.List.{map-append, take_more}
 use Rattle.std.proofs.lemmas.List.Elements.{filter-append}
 use Rattle.std.proofs.lemmas.List.Concat.{flat_map-append}
 use Rattle.std.specs.Prelude.{Option}
 use Rattle.blang.specs.Text.{lines_of}
 use Rattle.blang.specs.declared.code.Definition.{Definition}
-use Rattle.blist.specs.Listings.{Adds, AreRows, Extends, ListingRow, is_wanted, row_text, wanted, without_newline}
+use Rattle.blist.specs.Characters.{IsPrintable}
+use Rattle.blist.specs.Listings.{Adds, Extends, ListingRow, is_wanted, row_text, wanted, without_newline}
+use Rattle.blist.proofs.Printable.{both}
 
 pub adds_nothing : (old : List ℕ) → Adds old [] old
 adds_nothing old = ([], record { rows = []; lines_are = refl; text_is = refl }, sym (append-nil old))
@@ -24,22 +27,27 @@ adds_both old mid new ls ks first second = (
   second.2 ∙ ap (λ t. t ++ second.0) first.2 ∙ append_assoc old first.0 second.0,
 )
 
-pub adds_row : (old : List ℕ) (margin line beside : List ℕ) → Adds old (line ∷ []) ((((old ++ margin) ++ without_newline line) ++ beside) ++ codes "\n")
-adds_row old margin line beside = (
-  row_text (record { margin = margin; line = line; beside = beside }),
-  record {
-    rows = record { margin = margin; line = line; beside = beside } ∷ [];
-    lines_are = refl;
-    text_is = sym (append-nil (row_text (record { margin = margin; line = line; beside = beside })));
-  },
-  simp append_assoc,
-)
+pub adds_row : (old : List ℕ) (margin line beside : List ℕ) → IsPrintable margin → IsPrintable beside → Adds old (line ∷ []) ((((old ++ margin) ++ without_newline line) ++ beside) ++ codes "\n")
+adds_row old margin line beside before behind =
+    let r : ListingRow = record { margin = margin; line = line; beside = beside; margin_is_printable = before; beside_is_printable = behind } in (
+      row_text r,
+      record {
+        rows = r ∷ [];
+        lines_are = refl;
+        text_is = sym (append-nil (row_text r));
+      },
+      simp append_assoc,
+    )
 
 pub extends_nothing : (old : List ℕ) → Extends old old
-extends_nothing old = ([], sym (append-nil old))
+extends_nothing old = ([], refl, sym (append-nil old))
+
+-- a printable text was added
+pub extends : (old new text : List ℕ) → IsPrintable text → new ≡ old ++ text → Extends old new
+extends old new text p e = (text, p, e)
 
 pub extends_both : (old mid new : List ℕ) → Extends old mid → Extends mid new → Extends old new
-extends_both old mid new a b = (a.0 ++ b.0, b.1 ∙ ap (λ t. t ++ b.0) a.1 ∙ append_assoc old a.0 b.0)
+extends_both old mid new a b = (a.0 ++ b.0, both a.0 b.0 a.1 b.1, b.2 ∙ ap (λ t. t ++ b.0) a.2 ∙ append_assoc old a.0 b.0)
 
 -- the row of one more element, whose line stands on a page
 pub adds_more : {X : Type 0} (f : X → List ℕ) (old mid new : List ℕ) (xs : List X) (i : ℕ) (x : X) (first page : List ℕ) → i < length xs → x ≡ get_or xs i x → first ≡ [] → page ≡ first ++ f x
@@ -53,10 +61,10 @@ adds_more f old mid new xs i x first page lt is empty line before row =
 -- the parts of a row, one behind another
 pub row_added : (old t1 t2 t3 t4 t5 code page : List ℕ) → Extends old t1 → Extends t1 t2 → t3 ≡ t2 ++ code → code ≡ without_newline page → Extends t3 t4 → t5 ≡ t4 ++ codes "\n" → Adds old (page ∷ []) t5
 row_added old t1 t2 t3 t4 t5 code page a b three same d end =
-    let two : t2 ≡ old ++ (a.0 ++ b.0) = b.1 ∙ ap (λ x. x ++ b.0) a.1 ∙ append_assoc old a.0 b.0 in
-    let all : t5 ≡ (((old ++ (a.0 ++ b.0)) ++ without_newline page) ++ d.0) ++ codes "\n" =
-    end ∙ ap (λ x. x ++ codes "\n") (d.1 ∙ ap (λ x. x ++ d.0) (three ∙ ap₂ (λ x y. x ++ y) two same)) in
-    subst (λ t. Adds old (page ∷ []) t) (sym all) (adds_row old (a.0 ++ b.0) page d.0)
+    let before = extends_both old t1 t2 a b in
+    let all : t5 ≡ (((old ++ before.0) ++ without_newline page) ++ d.0) ++ codes "\n" =
+    end ∙ ap (λ x. x ++ codes "\n") (d.2 ∙ ap (λ x. x ++ d.0) (three ∙ ap₂ (λ x y. x ++ y) before.2 same)) in
+    subst (λ t. Adds old (page ∷ []) t) (sym all) (adds_row old before.0 page d.0 before.1 d.1)
 
 pub function_rows : (old t1 t2 t3 t4 page h : List ℕ) (xs ys zs : List (List ℕ)) → page ≡ h → Adds old (page ∷ []) t1 → Adds t1 xs t2 → Adds t2 ys t3 → Adds t3 zs t4 → Adds old (h ∷ ((xs ++ ys) ++ zs)) t4
 function_rows old t1 t2 t3 t4 page h xs ys zs same a b c d =
@@ -77,6 +85,17 @@ wanted_more name old mid new ds i d lt is before one =
     ∙ ap (flat_map lines_of) (filter-append p (take i ds) (d ∷ []))
     ∙ flat_map-append lines_of (filter p (take i ds)) (filter p (d ∷ [])) in
     subst (λ ls. Adds old ls new) (sym lines) (adds_both old mid new _ _ before one)
+
+-- an element that passes is among those that pass
+pub some_pass : {X : Type 0} (p : X → Bool) (xs : List X) (i : ℕ) (d : X) → i < length xs → p (get_or xs i d) ≡ true → filter p xs ≡ [] → ⊥
+some_pass p [] i d lt passes none = absurd (omega (arith, lt))
+some_pass p (x ∷ xs) zero d lt passes none = let kept : filter p (x ∷ xs) ≡ x ∷ filter p xs = cond-true (p x) (x ∷ filter p xs) (filter p xs) passes in let bad : x ∷ filter p xs ≡ [] = sym kept ∙ none in cc
+some_pass p (x ∷ xs) (suc i) d lt passes none =
+    rest_empty (p x) none (some_pass p xs i d (omega (arith, lt)) passes)
+  where
+    rest_empty : (b : Bool) → cond b (x ∷ filter p xs) (filter p xs) ≡ [] → (filter p xs ≡ [] → ⊥) → ⊥
+    rest_empty true bad some = cc
+    rest_empty false e some = some e
 
 -- one piece more of a text
 pub piece : (t t' t'' a b : List ℕ) → t' ≡ t ++ a → t'' ≡ t' ++ b → t'' ≡ t ++ (a ++ b)

@@ -1,2 +1,3 @@
 pub mod AddedRows
 pub mod Loading
+pub mod Printable

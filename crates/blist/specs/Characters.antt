@@ -1,5 +1,14 @@
 -- Bytes shown as characters.
-use Rattle.std.specs.Prelude.{ℕ, ◌==◌, ◌&&◌, List, [], ◌∷◌, codes, nat_le, if◌then◌else◌}
+use Rattle.std.specs.Prelude.{ℕ, ◌==◌, ◌&&◌, Bool, IsTrue, List, [], ◌∷◌, codes, nat_le, if◌then◌else◌}
+use Rattle.std.specs.List.{list_all}
+
+-- a printable character of ASCII
+abbrev pub is_printable : ℕ → Bool
+is_printable b = nat_le 32 b && nat_le b 126
+
+-- each byte of a text is one, so the text has no newline
+abbrev pub IsPrintable : List ℕ → Type 0
+IsPrintable text = IsTrue (list_all is_printable text)
 
 -- a character, or the escape that stands for it; `.` for a byte that has none
 abbrev pub shown_byte : ℕ → List ℕ
@@ -8,4 +17,4 @@ shown_byte b = if b == 10 then codes "*n"
     else (if b == 42 then codes "**"
     else (if b == 0 then codes "*0"
     else (if b == 4 then codes "*e"
-    else (if nat_le 32 b && nat_le b 126 then b ∷ [] else codes ".")))))
+    else (if is_printable b then b ∷ [] else codes ".")))))

@@ -1,6 +1,6 @@
 -- The code of a source, as it is listed.
-use Rattle.std.specs.Prelude.{◌≡◌, ℕ, ◌+◌, ◌-◌, Bool, true, List, [], ◌∷◌, ◌++◌, codes, decimal, map, filter, length}
-use Rattle.std.specs.Prelude.{take, All, Option, Some, None}
+use Rattle.std.specs.Prelude.{◌≡◌, ℕ, ◌-◌, Bool, true, List, [], ◌++◌, codes, map, filter, length}
+use Rattle.std.specs.Prelude.{take, refl, Option, Some, None}
 use Rattle.std.specs.List.{flat_map}
 use Rattle.std.specs.Str.{bytes_eq}
 use Rattle.bword.specs.declared.edition.Edition.{Edition}
@@ -11,14 +11,25 @@ use Rattle.blang.specs.declared.status.TheConstants.{DONE, MEMORY, WRONG_COMMAND
 use Rattle.blang.specs.Layout.{shape_of}
 use Rattle.blang.specs.Machine.{Image}
 use Rattle.blist.specs.declared.listing.TheConstants.{HEADING, UNDEFINED}
+use Rattle.blist.specs.Characters.{IsPrintable}
 use Rattle.blist.specs.Programs.{HasProgram, NoProgram}
 use Rattle.blist.specs.Told.{ToldEnds, Told}
+
+-- the columns of a listing
+heading : HEADING.now ≡ codes " place  line  code          source                                  name\n"
+heading = refl
+
+-- what is said of a name that the source doesn't define
+undefined : UNDEFINED.now ≡ codes "error: the source has no definition of this NAME\n"
+undefined = refl
 
 -- a row: what stands before a line of code, the line with its newline, and what stands beside it
 pub record ListingRow : Type 0 where
   pub margin : List ℕ
   pub line : List ℕ
   pub beside : List ℕ
+  pub margin_is_printable : IsPrintable margin
+  pub beside_is_printable : IsPrintable beside
 
 -- a line without its newline
 abbrev pub without_newline : List ℕ → List ℕ
@@ -37,9 +48,9 @@ pub record AreRows (lines : List (List ℕ)) (text : List ℕ) : Type 0 where
 abbrev pub Adds : List ℕ → List (List ℕ) → List ℕ → Type 0
 Adds old lines new = (text : List ℕ) × AreRows lines text × (new ≡ old ++ text)
 
--- a text was added to another one
+-- a text without a newline was added to another one
 abbrev pub Extends : List ℕ → List ℕ → Type 0
-Extends old new = (text : List ℕ) × (new ≡ old ++ text)
+Extends old new = (text : List ℕ) × IsPrintable text × (new ≡ old ++ text)
 
 -- whether a definition is wanted: of a name those alone that have it
 abbrev pub is_wanted : Option (List ℕ) → Definition → Bool
@@ -54,7 +65,7 @@ wanted name ds = filter (is_wanted name) ds
 pub data Lists (edition : Edition) (source : List ℕ) (name : Option (List ℕ)) (ends : ToldEnds) (status : ℕ) : Type 0
   where
     listed : (ds : List Definition) (image : Image) (text : List ℕ)
-        → HasProgram edition source ends.line ends.line_behind ds image
+        → HasProgram edition source ends.line ends.line_behind ds image → (wanted name ds ≡ [] → ⊥)
         → AreRows (flat_map lines_of (wanted name ds)) text
         → Told (HEADING.now ++ text) DONE ends.out ends.out_behind status → Lists edition source name ends status
     unnamed : (mid : Outgoing) (ds : List Definition) (image : Image)

@@ -1,9 +1,8 @@
 -- The layout of memory, as it is shown.
-use Rattle.std.specs.Prelude.{◌≡◌, ℕ, zero, suc, ◌+◌, ◌%◌, List, [], ◌∷◌, ◌++◌, codes, decimal, map, min, nat_lt}
-use Rattle.std.specs.Prelude.{unwrap_or, slice_index, if◌then◌else◌}
+use Rattle.std.specs.Prelude.{◌≡◌, ℕ, zero, suc, ◌+◌, ◌%◌, List, [], ◌++◌, codes, decimal, min, nat_lt}
+use Rattle.std.specs.Prelude.{unwrap_or, slice_index, refl, if◌then◌else◌}
 use Rattle.std.specs.List.{flat_map}
 use Rattle.bword.specs.declared.edition.Edition.{Edition}
-use Rattle.bword.specs.ByteEnds.{Outgoing}
 use Rattle.blang.specs.declared.code.Definition.{Definition}
 use Rattle.blang.specs.declared.status.TheConstants.{DONE, MEMORY}
 use Rattle.blang.specs.Layout.{Function, DefinitionKind, Shape, Simple, Vector, address_in, shape_of, size_of}
@@ -12,6 +11,22 @@ use Rattle.blist.specs.declared.layout.TheConstants.{HEADING, SHOWN}
 use Rattle.blist.specs.Columns.{left, right}
 use Rattle.blist.specs.Programs.{HasProgram, NoProgram}
 use Rattle.blist.specs.Told.{ToldEnds, Told}
+
+-- the columns, and the words that each program has
+heading : HEADING.now
+    ≡ codes "  word  name      kind      words  values\n"
+    ++ codes "     0            unused        1  0\n"
+    ++ codes "     1  char      library       1  1\n"
+    ++ codes "     2  lchar     library       1  2\n"
+    ++ codes "     3  getchar   library       1  3\n"
+    ++ codes "     4  putchar   library       1  4\n"
+    ++ codes "     5  printn    library       1  5\n"
+    ++ codes "     6  exit      library       1  6\n"
+heading = refl
+
+-- how many words of a name are shown
+shown : SHOWN ≡ 6
+shown = refl
 
 abbrev pub kind_text : DefinitionKind → List ℕ
 kind_text (Function labels) = codes "function"

@@ -1,5 +1,5 @@
 //! The code of a source, with what it comes from.
-ghost use Rattle.std.specs.Prelude.{◌≡◌, [], ◌∷◌, ◌++◌, true, IfOk, OnOk, map, option_map};
+ghost use Rattle.std.specs.Prelude.{◌≡◌, [], ◌∷◌, ◌++◌, Decides, IfOk, OnOk, map, option_map};
 ghost use Rattle.std.specs.List.{flat_map};
 ghost use Rattle.blang.specs.Text.{header_line, instr_line, ival_line, lines_of, string_line, target_line};
 ghost use Rattle.blang.specs.CodeParts.{function_of, simple_of, vector_of};
@@ -62,7 +62,7 @@ pub fn list<O: ByteOut, D: ByteOut>(
 }
 
 fn is_none_wanted(definitions: &[Definition], name: Option<&str>) -> bool
-    ensures { result ≡ true → wanted (option_map (λ n. n.now) name.entry) definitions.now ≡ [] }
+    ensures { Decides result (wanted (option_map (λ n. n.now) name.entry) definitions.now ≡ []) }
 {
     for definition in definitions {
         if is_wanted(definition, name) {

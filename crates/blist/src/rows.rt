@@ -83,10 +83,12 @@ fn push_line_number(text: &mut Text, line: Option<u64>) -> Result<(), AllocError
     ensures { OnOk result (Extends text.old text.new) }
 {
     match line {
-        None => text.push_blanks(6)?,
-        Some(line) => text.push_right_number(6, line)?,
+        None => text.push_blanks(8),
+        Some(line) => {
+            text.push_right_number(6, line)?;
+            text.push(b"  ")
+        }
     }
-    text.push(b"  ")
 }
 
 // What stands beside code of this length.
@@ -113,13 +115,19 @@ fn push_source(text: &mut Text, source: &[u8]) -> Result<(), AllocError>
 {
     let len = source.len().min(SOURCE_WIDTH);
     for byte in &source[..len] {
-        match *byte {
-            b'\t' => text.push(b" ")?,
-            32..=126 => text.push(&[*byte])?,
-            _ => text.push(b".")?,
-        }
+        push_source_byte(text, *byte)?;
     }
     Ok(())
+}
+
+fn push_source_byte(text: &mut Text, byte: u8) -> Result<(), AllocError>
+    ensures { OnOk result (Extends text.old text.new) }
+{
+    match byte {
+        b'\t' => text.push(b" "),
+        32..=126 => text.push(&[byte]),
+        _ => text.push(b"."),
+    }
 }
 
 fn push_named(text: &mut Text, named: Named) -> Result<(), AllocError>

@@ -10,6 +10,7 @@ pub struct SourceLines<'a> {
 }
 
 impl<'a> SourceLines<'a> {
+    /// The lines of this source; a newline ends each.
     pub fn new(alloc: Global, source: &'a [u8]) -> Result<Self, AllocError> {
         let mut starts = Vec::new(alloc);
         starts.push(0)?;

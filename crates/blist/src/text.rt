@@ -37,6 +37,7 @@ impl Text {
         self.bytes.as_slice()
     }
 
+    /// Bytes behind those that it has.
     pub fn push(&mut self, bytes: &[u8]) -> Result<(), AllocError>
         ensures { OnOk result (self.new ≡ self.old ++ bytes.now) }
     {
@@ -50,6 +51,7 @@ impl Text {
         self.push(Buffer::new().format(number).as_bytes())
     }
 
+    /// So many blanks.
     pub fn push_blanks(&mut self, count: usize) -> Result<(), AllocError>
         ensures { OnOk result (self.new ≡ self.old ++ replicate count 32) }
     {

@@ -130,7 +130,7 @@ const PICTURES: &str = "\
 b map --svg m.b~memory before the run~>'&lt;1'</text>~21
 b map --steps 48 m.b~memory after 48 steps; filled is what they have changed~<rect class='changed' x='160' y='106'~29
 b map --svg --edition 2 --steps 48 m.b~memory after 48 steps; filled is what they have changed~>w[0]</text>~29
-b map --steps 1000 m.b~memory where the run is over, after 82 steps; filled is what they have changed~>data end 21</text>~26";
+b map --steps 1000 m.b~memory where the run is over, after 83 steps; filled is what they have changed~>data end 21</text>~26";
 
 #[test]
 fn pictures(rt: HostRuntime) -> Result<(), Fail> {
