@@ -1,5 +1,5 @@
 -- Where a program that was loaded stopped is where its definitions stop.
-use Rattle.std.proofs.Common.{◌≡◌, ◌∙◌, ℕ, ◌+◌, List, ◌++◌, Some, ap, subst, sym}
+use Rattle.std.proofs.Common.{◌≡◌, ◌∙◌, ℕ, ◌+◌, List, ◌++◌, Option, None, Some, ap, subst, sym}
 use Rattle.bword.specs.declared.edition.Edition.{Edition}
 use Rattle.bword.specs.ByteEnds.{CanFollow, Incoming, Outgoing}
 use Rattle.blang.specs.declared.code.Definition.{Definition}
@@ -17,6 +17,13 @@ use Rattle.btrace.specs.Programs.{Placed, functions_of}
 use Rattle.btrace.specs.Locates.{Locates, TellsSite, located, located_status, unlocated}
 use Rattle.btrace.specs.Traces.{steps_from}
 use Rattle.btrace.proofs.Unresolved.{run_from, running_from}
+
+pub no_other : (r : Option ℕ) (s t : ℕ) → r ≡ Some s → (s ≡ t → ⊥) → r ≡ Some t → ⊥
+no_other None s t is differs same = cc
+no_other (Some r) s t is differs same = differs cc
+
+pub not_none : (r : Option ℕ) (t : ℕ) → r ≡ None → r ≡ Some t → ⊥
+not_none r t is same = cc
 
 -- The states of one machine are those of the other, resolved.
 module _ (I : Image) (f g : ℕ → State) (e : (n : ℕ) → g n ≡ state_resolved I (f n)) (strings place : ℕ) where
@@ -73,4 +80,4 @@ module _ (edition : Edition) (source : List ℕ) (n : ℕ) (ends : RunEnds) (sta
   -- a run that has no place
   pub unlocated_whole : HasProgram edition source ends.line mid ds image → IsUnstarted image p → RunGives (steps_from p) n ends.input ends.input_behind ends.out ends.out_behind result
       → Finishes result mid ends.line_behind status → (located_status result ≡ Some status → ⊥) → Locates edition source n ends status
-  unlocated_whole is begins gives finishes no = unlocated mid ds image result is (runs_whole is begins gives) finishes no
+  unlocated_whole is begins gives finishes unplaced = unlocated mid ds image result is (runs_whole is begins gives) finishes unplaced

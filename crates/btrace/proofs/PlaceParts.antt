@@ -2,6 +2,8 @@
 use Rattle.std.proofs.Common.{◌≡◌, ◌∙◌, ℕ, ◌+◌, Bool, List, [], ◌∷◌, ◌++◌, ap, append-nil, append_assoc, codes, decimal, length, nat_lt, refl, sym, if◌then◌else◌}
 use Rattle.std.specs.List.{flat_map}
 use Rattle.std.proofs.lemmas.List.Concat.{flat_map-append}
+use Rattle.blist.specs.Columns.{left}
+use Rattle.blist.proofs.AddedRows.{piece}
 use Rattle.btrace.specs.Programs.{Placed}
 use Rattle.btrace.specs.Rows.{Place, place_text, places_text, words_text}
 use Rattle.btrace.specs.Traces.{AddsPlaces}
@@ -39,3 +41,13 @@ one_caller fs strings place p old text t1 t2 before e1 e2 =
           ∙ append_assoc old (first ++ flat_map f callers) (f p)
           ∙ ap (λ x. old ++ x) (append_assoc first (flat_map f callers) (f p) ∙ ap (λ x. first ++ x) (ap (λ x. flat_map f callers ++ x) (sym (append-nil (f p))) ∙ sym (flat_map-append f callers (p ∷ [])))),
     )
+
+-- the parts of a site, one behind another
+pub site_parts : (in_text at_text line_text old t1 t2 t3 t4 t5 t6 shown name place line : List ℕ) → t1 ≡ old ++ in_text → t2 ≡ t1 ++ left 8 shown → shown ≡ name → t3 ≡ t2 ++ at_text → t4 ≡ t3 ++ place → t5 ≡ t4 ++ line_text
+    → t6 ≡ t5 ++ line → t6 ≡ old ++ (in_text ++ left 8 name ++ at_text ++ place ++ line_text ++ line)
+site_parts in_text at_text line_text old t1 t2 t3 t4 t5 t6 shown name place line e1 e2 same e3 e4 e5 e6 =
+    let p2 : t2 ≡ old ++ (in_text ++ left 8 name) = piece old t1 t2 in_text (left 8 shown) e1 e2 ∙ ap (λ x. old ++ (in_text ++ left 8 x)) same in
+    let p3 = piece old t2 t3 (in_text ++ left 8 name) at_text p2 e3 in
+    let p4 = piece old t3 t4 (in_text ++ left 8 name ++ at_text) place p3 e4 in
+    let p5 = piece old t4 t5 (in_text ++ left 8 name ++ at_text ++ place) line_text p4 e5 in
+    piece old t5 t6 (in_text ++ left 8 name ++ at_text ++ place ++ line_text) line p5 e6

@@ -1,9 +1,19 @@
+use Rattle.std.proofs.Common.{◌++◌, codes}
 use Rattle.std.proofs.lemmas.Result.{on_ok_weaker}
 use Rattle.blist.proofs.AddedRows.{piece}
+use Rattle.btrace.specs.Programs.{entries_of}
+use Rattle.btrace.specs.Rows.{site_text, words_text}
 use Rattle.btrace.proofs.places.push_place.Goals as goal
 
 pub returns : goal.returns
 returns g c =
     let site = c.in_ok-push_site.ensures in
     let words = c.in_ok-push_words.ensures in
-    on_ok_weaker c.push.result (λ end. (site.0, words.0, words.1, piece _ _ _ _ _ (piece _ _ _ _ _ site.1 words.2) end)) c.push.ensures
+    let shown = site_text (entries_of c.args.tables.now) c.args.call.strings c.args.call.place site.0 in
+    let both = piece c.args.text.now c.push_site.new.text c.push_words.new.text shown (words_text words.0 words.1) site.1 words.2 in
+    on_ok_weaker c.push.result (λ end. (
+      site.0,
+      words.0,
+      words.1,
+      piece c.args.text.now c.push_words.new.text c.push.new.self (shown ++ words_text words.0 words.1) (codes "\n") both end,
+    )) c.push.ensures
