@@ -16,3 +16,4 @@ pub mod Running
 pub mod Copying
 pub mod Told
 pub mod Excluded
+pub mod Stopping

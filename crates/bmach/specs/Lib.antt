@@ -10,3 +10,4 @@ pub mod Steps
 pub mod Turns
 pub mod Excluded
 pub mod Stepping
+pub mod Stops

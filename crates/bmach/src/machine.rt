@@ -1,5 +1,5 @@
 //! Calls of the machine, and what comes of a step.
-ghost use Rattle.std.specs.Prelude.{◌≤◌};
+ghost use Rattle.std.specs.Prelude.{◌≡◌, ◌≤◌};
 
 use crate::image::LoadedFunction;
 use crate::number::Base;
@@ -97,12 +97,42 @@ pub struct Rest<'a> {
     pub over: Option<Outcome>,
 }
 
-/// Where a run came to its outcome.
-#[derive(Drop)]
-pub struct Last<'a> {
-    /// The calls before the step with which it was over.
-    pub calls: Calls<'a>,
+/// An active call.
+#[derive(Clone, Copy, Debug, PartialEq, Eq)]
+pub struct Active {
+    /// The address of the first string word of its function, by which that is told from others.
+    pub strings: u32,
+    /// How many parameters its function has: the first words of its frame.
+    pub parameters: u16,
+    /// The place of its next instruction.
+    pub place: usize,
+    /// The address of its frame.
+    pub start: u32,
+}
+
+/// What a run came to, and where.
+#[derive(Clone, Copy, Debug, PartialEq, Eq)]
+pub struct Stop {
     pub outcome: Outcome,
+    /// The running call before the step with which the run was over, or behind the last step.
+    pub call: Active,
+}
+
+impl Active {
+    /// A call of a function, with the place of its next instruction and the address of its frame.
+    pub fn new(function: &LoadedFunction, place: usize, start: u32) -> Active
+        ensures strings { result.strings ≡ function.now.strings }
+        ensures place { result.place ≡ place }
+        ensures start { result.start ≡ start }
+        ensures parameters { result.parameters ≡ function.now.parameters }
+    {
+        Active {
+            strings: function.strings,
+            parameters: function.parameters,
+            place,
+            start,
+        }
+    }
 }
 
 /// What came of a call or a return.

@@ -49,6 +49,9 @@ file_rule = record (new_rule (codes "FILE")) { required = true; action = Some Se
 abbrev pub name_rule : Rule
 name_rule = record (new_rule (codes "NAME")) { action = Some Set }
 
+abbrev pub where_rule : Rule
+where_rule = record (new_rule (codes "where")) { long = Some (codes "where"); action = Some SetTrue }
+
 abbrev pub json_rule : Rule
 json_rule = record (new_rule (codes "json")) { long = Some (codes "json"); action = Some SetTrue }
 
@@ -78,7 +81,7 @@ abbrev pub run_command : App
 run_command = with_run_options (new_app (codes "run"))
 
 abbrev pub go_command : App
-go_command = with_run_options (with_rule (new_app (codes "go")) edition_rule)
+go_command = with_rule (with_run_options (with_rule (new_app (codes "go")) edition_rule)) where_rule
 
 abbrev pub migrate_command : App
 migrate_command = new_app (codes "migrate")
@@ -165,14 +168,16 @@ abbrev pub form_in : List Row → Form
 form_in rows = if is_set_in (codes "json") rows then form.Json else form.Text
 
 -- What is asked for: that a source is compiled, that the code text in a file is run, that the source in a file is
--- compiled and run, that a code text is migrated, that the code of the source in a file, or of its definitions of a
--- name, is listed, that its layout is shown, that its memory is drawn, after so many steps if there is a number, that
--- the source in a file is checked, that so many steps of its program are made and those from a number on, or of a
--- function, are shown; or a limit of steps and none, which contradict each other.
+-- compiled and run, or is so and where the run was over is told, that a code text is migrated, that the code of the
+-- source in a file, or of its definitions of a name, is listed, that its layout is shown, that its memory is drawn,
+-- after so many steps if there is a number, that the source in a file is checked, that so many steps of its program are
+-- made and those from a number on, or of a function, are shown; or a limit of steps and none, which contradict each
+-- other.
 pub data Asked : Type 0 where
   compile : (edition : Edition) → Asked
   run : (file : Text) (steps : ℕ) → Asked
   go : (file : Text) (steps : ℕ) (edition : Edition) → Asked
+  locate : (file : Text) (steps : ℕ) (edition : Edition) → Asked
   migrate : Asked
   list : (file : Text) (name : Option Text) (edition : Edition) → Asked
   map : (file : Text) (edition : Edition) → Asked
@@ -185,9 +190,11 @@ abbrev pub run_asked : Text → Option ℕ → Asked
 run_asked file (Some steps) = run file steps
 run_asked file None = contradiction
 
-abbrev pub go_asked : Text → Edition → Option ℕ → Asked
-go_asked file edition (Some steps) = go file steps edition
-go_asked file edition None = contradiction
+-- where the run was over is asked for by a flag
+abbrev pub go_asked : Text → Edition → (is_located : Bool) → Option ℕ → Asked
+go_asked file edition false (Some steps) = go file steps edition
+go_asked file edition true (Some steps) = locate file steps edition
+go_asked file edition is_located None = contradiction
 
 -- a picture is asked for by its flag, or by a number of steps
 abbrev pub map_asked : Text → Edition → Bool → Option ℕ → Asked
@@ -198,7 +205,8 @@ map_asked file edition true steps = draw file edition steps
 -- what a command asks for, by its name and what was found of its options
 abbrev pub asked_by : Text → List Row → Asked
 asked_by name rows = if bytes_eq name (codes "run") then run_asked (file_in rows) (steps_in rows)
-    else (if bytes_eq name (codes "go") then go_asked (file_in rows) (edition_in rows) (steps_in rows)
+    else (if bytes_eq name (codes "go")
+    then go_asked (file_in rows) (edition_in rows) (is_set_in (codes "where") rows) (steps_in rows)
     else (if bytes_eq name (codes "migrate") then migrate
     else (if bytes_eq name (codes "list") then list (file_in rows) (name_in rows) (edition_in rows)
     else (if bytes_eq name (codes "map") then map_asked (file_in rows) (edition_in rows) (is_set_in (codes "svg") rows)
@@ -217,6 +225,7 @@ abbrev pub asked_of : Option Job → Asked
 asked_of (Some (job.Compile edition)) = compile edition
 asked_of (Some (job.Run target)) = run target.file.now target.steps
 asked_of (Some (job.Go target edition)) = go target.file.now target.steps edition
+asked_of (Some (job.Locate target edition)) = locate target.file.now target.steps edition
 asked_of (Some job.Migrate) = migrate
 asked_of (Some (job.List subject)) = list subject.file.now (option_map (λ n. n.now) subject.name) subject.edition
 asked_of (Some (job.Map subject)) = map subject.file.now subject.edition

@@ -6,7 +6,7 @@ use Rattle.clap.proofs.OnLiterals.{clap_on_literals}
 use Rattle.bword.specs.declared.edition.Edition.TheVariants as editions
 use Rattle.bcheck.specs.declared.form.Form.TheVariants as form
 use Rattle.bserve.specs.CommandLine.{Asked, asked, command_line}
-use Rattle.bserve.specs.CommandLine.{compile, run, go, migrate, list, map, draw, check, trace, contradiction}
+use Rattle.bserve.specs.CommandLine.{compile, run, go, locate, migrate, list, map, draw, check, trace, contradiction}
 
 pub is_simple_line : is_simple command_line ≡ true
 is_simple_line = refl
@@ -47,6 +47,21 @@ goes_without_limit : Asks (codes "b" ∷ codes "go" ∷ codes "--no-limit" ∷ c
     (go (codes "x") 18446744073709551615 editions.One)
 unfolding clap_on_literals
 goes_without_limit = (refl, refl)
+
+locates : Asks (codes "b" ∷ codes "go" ∷ codes "--where" ∷ codes "--steps" ∷ codes "50" ∷ codes "x" ∷ [])
+    (locate (codes "x") 50 editions.One)
+unfolding clap_on_literals
+locates = (refl, refl)
+
+locates_within_limits : Asks (codes "b" ∷ codes "go" ∷ codes "--where" ∷ codes "--no-limit" ∷ codes "--steps=5"
+    ∷ codes "x" ∷ []) contradiction
+unfolding clap_on_literals
+locates_within_limits = (refl, refl)
+
+no_place_of_code : fault_of command_line (codes "b" ∷ codes "run" ∷ codes "--where" ∷ codes "x" ∷ [])
+    ≡ kind.UnknownArgument ∷ []
+unfolding clap_on_literals
+no_place_of_code = refl
 
 contradicts : Asks (codes "b" ∷ codes "go" ∷ codes "--no-limit" ∷ codes "--steps=5" ∷ codes "x" ∷ []) contradiction
 unfolding clap_on_literals

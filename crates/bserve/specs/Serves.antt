@@ -15,9 +15,10 @@ use Rattle.blist.specs.Listings.{Lists}
 use Rattle.blist.specs.Maps.{Maps}
 use Rattle.blist.specs.Told as told
 use Rattle.bdraw.specs.Draws.{Draws}
+use Rattle.btrace.specs.Locates.{Locates}
 use Rattle.btrace.specs.Traces.{Traces}
 use Rattle.bserve.specs.CommandLine.{Asked, asked, command_line}
-use Rattle.bserve.specs.CommandLine.{compile, run, go, migrate, list, map, draw, check, trace, contradiction}
+use Rattle.bserve.specs.CommandLine.{compile, run, go, locate, migrate, list, map, draw, check, trace, contradiction}
 
 -- what is said of words that aren't UTF-8
 abbrev pub unread_line : List ℕ
@@ -68,6 +69,8 @@ Does (compile edition) ends status = Compiles (record {
 Does (run file steps) ends status = HasNoFile ends status ⊎ ((text : List ℕ) × RunsText steps text ends status)
 Does (go file steps edition) ends status =
     HasNoFile ends status ⊎ ((source behind : Incoming) × GoesOff edition steps source behind ends status)
+Does (locate file steps edition) ends status =
+    NamesFile file ends status ⊎ ((source : List ℕ) × Locates edition source steps ends status)
 Does migrate ends status = Migrates (record {
   input = ends.input;
   input_behind = ends.input_behind;

@@ -1,7 +1,7 @@
 //! What the words of a command line ask for.
 ghost use Rattle.std.specs.Prelude.{◌≡◌, [], None, Some, IfOk, IfErr, codes, false, map, option_map, string_bytes};
 ghost use Rattle.clap.specs.Words.{HasKind, app_of, fault_of, found_of, rows_of, rule_of, subcommand_of, subcommand_rows_of};
-ghost use Rattle.bserve.specs.CommandLine.{IsShaped, asked, bare_line, check_command, command_line, compile_command, edition_in, edition_rule, file_in, file_rule, form_in, go_command, is_set_in, json_rule, list_command, map_asked, map_command, migrate_command, name_in, name_rule, no_limit_rule, option_number, request_shown, run_command, asked_of, steps_asked, steps_in, steps_rule, subject_shown, svg_rule, target_shown, from_in, from_rule, function_in, function_rule, trace_command, trace_steps_in, walk_shown, wanted_shown};
+ghost use Rattle.bserve.specs.CommandLine.{IsShaped, asked, bare_line, check_command, command_line, compile_command, edition_in, edition_rule, file_in, file_rule, form_in, go_asked, go_command, is_set_in, json_rule, list_command, map_asked, map_command, migrate_command, name_in, name_rule, no_limit_rule, option_number, request_shown, run_command, asked_of, steps_asked, steps_in, steps_rule, subject_shown, svg_rule, target_shown, from_in, from_rule, function_in, function_rule, trace_command, trace_steps_in, walk_shown, wanted_shown, where_rule};
 
 use crate::texts::{
     ABOUT, CHECK_HELP, COMPILE_HELP, GO_HELP, HELP, LIST_HELP, MAP_HELP, MIGRATE_HELP, RUN_HELP,
@@ -28,6 +28,8 @@ pub(crate) enum Job<'a> {
     Compile(Edition),
     Run(Target<'a>),
     Go(Target<'a>, Edition),
+    /// A run that tells where it was over.
+    Locate(Target<'a>, Edition),
     Migrate,
     List(Subject<'a>),
     Map(Subject<'a>),
@@ -78,13 +80,25 @@ pub(crate) fn job_of<'a>(matches: &ArgMatches<'a>) -> Option<Job<'a>>
     };
     match name {
         "run" => Some(Job::Run(target_of(given)?)),
-        "go" => Some(Job::Go(target_of(given)?, edition_of(given))),
+        "go" => go_of(given),
         "migrate" => Some(Job::Migrate),
         "list" => Some(Job::List(subject_of(given))),
         "map" => Some(map_of(given)),
         "check" => Some(Job::Check(request_of(given))),
         "trace" => Some(Job::Trace(walk_of(given))),
         _ => Some(Job::Compile(edition_of(given))),
+    }
+}
+
+fn go_of<'a>(given: &ArgMatches<'a>) -> Option<Job<'a>>
+    ensures { asked_of result ≡ go_asked (file_in (rows_of (found_of given.now))) (edition_in (rows_of (found_of given.now))) (is_set_in (codes "where") (rows_of (found_of given.now))) (steps_in (rows_of (found_of given.now))) }
+{
+    let target = target_of(given)?;
+    let edition = edition_of(given);
+    if is_set(given, "where") {
+        Some(Job::Locate(target, edition))
+    } else {
+        Some(Job::Go(target, edition))
     }
 }
 
@@ -276,7 +290,8 @@ fn go_command<'a>(alloc: Global) -> Result<Command<'a>, AllocError>
         .arg(edition_option(alloc))?
         .arg(steps_option(alloc))?
         .arg(no_limit_flag(alloc))?
-        .arg(file_argument(alloc))
+        .arg(file_argument(alloc))?
+        .arg(where_flag(alloc))
 }
 
 fn migrate_command<'a>(alloc: Global) -> Result<Command<'a>, AllocError>
@@ -404,6 +419,16 @@ fn no_limit_flag<'a>(alloc: Global) -> Arg<'a>
         .long("no-limit")
         .action(ArgAction::SetTrue)
         .help("As many steps as it takes")
+}
+
+fn where_flag<'a>(alloc: Global) -> Arg<'a>
+    ensures rule { rule_of result ≡ where_rule }
+    ensures local { result.global ≡ false }
+{
+    Arg::new(alloc, "where")
+        .long("where")
+        .action(ArgAction::SetTrue)
+        .help("Tells where a trap or the limit came, on a second line")
 }
 
 fn json_flag<'a>(alloc: Global) -> Arg<'a>

@@ -4,7 +4,7 @@ ghost use Rattle.clap.specs.Words.{kind_of};
 ghost use Rattle.bword.specs.ByteEnds.{Incoming, Outgoing};
 ghost use Rattle.blang.specs.declared.status.TheConstants.{DEVICE, MEMORY, WRONG_COMMAND};
 ghost use Rattle.blang.specs.Machine.{Reported};
-ghost use Rattle.bserve.specs.CommandLine.{check, draw, go, list, map, run, asked_of, trace};
+ghost use Rattle.bserve.specs.CommandLine.{check, draw, go, list, locate, map, run, asked_of, trace};
 ghost use Rattle.bserve.specs.Serves.{Does, NamesFile, RefusesWords, Serves, no_file_line, unread_line};
 
 use crate::command::{Job, Subject, Target, Walk, job_of, parse};
@@ -15,7 +15,7 @@ use blang::status::{self, Status};
 use blist::{list, map};
 use bparse::compile_edition;
 use brun::{go_edition, migrate, run_text};
-use btrace::trace;
+use btrace::{locate, trace};
 use bword::{ByteIn, ByteOut, Edition, Reading};
 use clap::Error;
 use clap::error::ErrorKind;
@@ -77,6 +77,7 @@ fn perform<R: AllocGlobal + Files, I: ByteIn, O: ByteOut, D: ByteOut>(
         Some(Job::Compile(edition)) => compile_edition(rt.alloc(), input, out, diag, edition),
         Some(Job::Run(target)) => run_file(rt, target, input, out, diag),
         Some(Job::Go(target, edition)) => go_file(rt, target, edition, input, out, diag),
+        Some(Job::Locate(target, edition)) => locate_file(rt, target, edition, input, out, diag),
         Some(Job::Migrate) => migrate(rt.alloc(), input, out, diag),
         Some(Job::List(subject)) => list_file(rt, subject, out, diag),
         Some(Job::Map(subject)) => map_file(rt, subject, out, diag),
@@ -293,6 +294,41 @@ fn trace_file<R: AllocGlobal + Files, I: ByteIn, O: ByteOut, D: ByteOut>(
             diag,
         ),
         Err(error) => name_file(rt.alloc(), walk.file, &error, diag),
+    }
+}
+
+// Compiles the source in a file, runs it and tells where the run was over.
+fn locate_file<R: AllocGlobal + Files, I: ByteIn, O: ByteOut, D: ByteOut>(
+    rt: &R,
+    target: Target<'_>,
+    edition: Edition,
+    input: &mut I,
+    out: &mut O,
+    diag: &mut D,
+) -> Status
+    ensures does { Does (locate target.entry.file.now target.entry.steps edition) (record {
+      input = I.incoming input.old;
+      input_behind = I.incoming input.new;
+      out = O.outgoing out.old;
+      out_behind = O.outgoing out.new;
+      line = D.outgoing diag.old;
+      line_behind = D.outgoing diag.new;
+    }) result }
+    ensures input_lender { I.lender input.new ≡ I.lender input.old }
+    ensures out_lender { O.lender out.new ≡ O.lender out.old }
+    ensures diag_lender { D.lender diag.new ≡ D.lender diag.old }
+{
+    match fs::read(rt, target.file) {
+        Ok(source) => locate(
+            rt.alloc(),
+            source.as_slice(),
+            edition,
+            target.steps,
+            input,
+            out,
+            diag,
+        ),
+        Err(error) => name_file(rt.alloc(), target.file, &error, diag),
     }
 }
 

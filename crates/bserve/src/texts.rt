@@ -24,6 +24,7 @@ pub(crate) const HELP: &str = "\
 Examples:
   b go hello.b                        compiles a source and runs it
   b go --edition 2 menu.b             the same with a source of edition 2
+  b go --where hello.b                tells where a trap came
   b compile < hello.b > hello.code    writes its code text into a file
   b run hello.code                    runs the code text
   b migrate < hello.code > new.code   writes it as a code text of edition 2
@@ -71,7 +72,8 @@ Other statuses, with the line on standard error where there is one:
          2   data or labels that are too many
          3   a name that isn't defined
          4   no function main
-  133  a failed read or write, or a FILE that can't be opened: no line
+  133  a failed read or write, or a FILE that can't be opened: no line, but
+       list, map, check, trace and go --where name the FILE
   134  refused memory: no line
   135  a wrong command line: what is wrong with it";
 
@@ -147,7 +149,8 @@ Statuses: 0 to 127 the program's own, 1 also a fault of the source, 130 a trap,
 b --help has the letters.";
 
 pub(crate) const CHECK_HELP: &str = "\
-The first line is that of b compile, or load 2 or load 3 where b run has it.
+The first line is that of b compile, or load 2 or load 3 where b run has it;
+with --json each line is an object, and the first has that line.
 Behind it stand the place, the line of the source with a mark, and the mend.
 What compiles and is hardly meant is told as a warning. A source without a
 function main has no fault here.
@@ -173,11 +176,14 @@ Statuses: 0 to 127 the program's own, 130 a trap, 131 the limit of steps,
 
 pub(crate) const GO_HELP: &str = "\
 The program has standard input and output. A step is one instruction.
-Where the line is limit, give it more by --steps N, or --no-limit.
+Where the line is limit, give it more by --steps N, or --no-limit. With
+--where a second line tells where a trap or the limit came: the function, the
+place in it as b list has it, and the line of the source.
 
 Examples:
   b go --steps 1000 hello.b
   b go --edition 2 menu.b
+  b go --where hello.b
 
 Statuses: 0 to 127 the program's own, 1 also a fault of the source, 130 a trap,
 131 the limit of steps, 132 code that doesn't load, 133 a failed read or write,

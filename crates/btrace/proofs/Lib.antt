@@ -4,3 +4,4 @@ mod PlaceParts
 mod RowParts
 mod Shown
 mod Unresolved
+mod Located

@@ -42,14 +42,12 @@ one_caller fs strings place p old text t1 t2 before e1 e2 =
           ∙ ap (λ x. old ++ x) (append_assoc first (flat_map f callers) (f p) ∙ ap (λ x. first ++ x) (ap (λ x. flat_map f callers ++ x) (sym (append-nil (f p))) ∙ sym (flat_map-append f callers (p ∷ [])))),
     )
 
--- the parts of a place, one behind another
-pub place_parts : (in_text at_text line_text end old t1 t2 t3 t4 t5 t6 t7 t8 shown name place line words : List ℕ) → t1 ≡ old ++ in_text → t2 ≡ t1 ++ left 8 shown → shown ≡ name → t3 ≡ t2 ++ at_text → t4 ≡ t3 ++ place → t5 ≡ t4 ++ line_text
-    → t6 ≡ t5 ++ line → t7 ≡ t6 ++ words → t8 ≡ t7 ++ end → t8 ≡ old ++ (in_text ++ left 8 name ++ at_text ++ place ++ line_text ++ line ++ words ++ end)
-place_parts in_text at_text line_text end old t1 t2 t3 t4 t5 t6 t7 t8 shown name place line words e1 e2 same e3 e4 e5 e6 e7 e8 =
+-- the parts of a site, one behind another
+pub site_parts : (in_text at_text line_text old t1 t2 t3 t4 t5 t6 shown name place line : List ℕ) → t1 ≡ old ++ in_text → t2 ≡ t1 ++ left 8 shown → shown ≡ name → t3 ≡ t2 ++ at_text → t4 ≡ t3 ++ place → t5 ≡ t4 ++ line_text
+    → t6 ≡ t5 ++ line → t6 ≡ old ++ (in_text ++ left 8 name ++ at_text ++ place ++ line_text ++ line)
+site_parts in_text at_text line_text old t1 t2 t3 t4 t5 t6 shown name place line e1 e2 same e3 e4 e5 e6 =
     let p2 : t2 ≡ old ++ (in_text ++ left 8 name) = piece old t1 t2 in_text (left 8 shown) e1 e2 ∙ ap (λ x. old ++ (in_text ++ left 8 x)) same in
     let p3 = piece old t2 t3 (in_text ++ left 8 name) at_text p2 e3 in
     let p4 = piece old t3 t4 (in_text ++ left 8 name ++ at_text) place p3 e4 in
     let p5 = piece old t4 t5 (in_text ++ left 8 name ++ at_text ++ place) line_text p4 e5 in
-    let p6 = piece old t5 t6 (in_text ++ left 8 name ++ at_text ++ place ++ line_text) line p5 e6 in
-    let p7 = piece old t6 t7 (in_text ++ left 8 name ++ at_text ++ place ++ line_text ++ line) words p6 e7 in
-    piece old t7 t8 (in_text ++ left 8 name ++ at_text ++ place ++ line_text ++ line ++ words) end p7 e8
+    piece old t5 t6 (in_text ++ left 8 name ++ at_text ++ place ++ line_text) line p5 e6

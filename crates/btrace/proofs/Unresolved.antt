@@ -23,7 +23,7 @@ use Rattle.btrace.specs.Traces.{AreShown, EndsAs, IsTried, IsWhere, TraceRow, Sh
 use Rattle.btrace.specs.declared.tracing.TheConstants.{HEADING}
 use Rattle.btrace.specs.declared.tracing.Which.{Which}
 
-running_from : (I : Image) (s : State) (call : Call) (below : List Call) (w : World) → state_resolved I s ≡ Running call below w → (c : Call) × (b : List Call) × (s ≡ Running c b w) × (call_resolved I c ≡ call)
+pub running_from : (I : Image) (s : State) (call : Call) (below : List Call) (w : World) → state_resolved I s ≡ Running call below w → (c : Call) × (b : List Call) × (s ≡ Running c b w) × (call_resolved I c ≡ call)
 running_from I (Running c b v) call below w h =
     let same : v ≡ w = cc in
     (c, b, ap (Running c b) same, (cc))
@@ -100,7 +100,7 @@ module _ (fs : List Placed) (which : Which) (I : Image) (f g : ℕ → State) (e
   ends_same made n outcome.Memory text h = tried_same made text h
 
 -- the run of an image from its beginning on
-run_from : (image : Image) (p : Paused) → IsUnstarted image p → (input : List ℕ) (n : ℕ) → run image input n ≡ steps_from p input n
+pub run_from : (image : Image) (p : Paused) → IsUnstarted image p → (input : List ℕ) (n : ℕ) → run image input n ≡ steps_from p input n
 run_from image p b input n = ap (steps image n) (b.first input) ∙ ap (λ (x : Image). steps x n (machine_at p input [])) (sym b.image_is)
 
 shows_run : (fs : List Placed) (which : Which) (ds : List Definition) (image : Image) (p : Paused) → IsLoadedFrom ds image → IsUnstarted image p → (n : ℕ) (i j : Incoming) (r : Outcome) (old new : List ℕ) → ShowsRows fs which (steps_from p) n i j r old new → ShowsRows fs which (machine ds) n i j r old new

@@ -1,3 +1,4 @@
 pub mod Programs
 pub mod Rows
 pub mod Traces
+pub mod Locates

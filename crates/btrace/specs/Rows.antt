@@ -78,10 +78,14 @@ words_text words has_more =
     (if nat_lt 0 (length words) then codes "  with" else []) ++ flat_map (λ w. codes " " ++ decimal w) words
     ++ (if has_more then codes " .." else [])
 
+-- a function, a place in it, and a line of the source
+abbrev pub site_text : List Placed → (strings place line : ℕ) → List ℕ
+site_text fs strings place line =
+    codes "in " ++ left 8 (name_in (function_at fs strings)) ++ codes " place " ++ right 4 (decimal place)
+    ++ codes "  line " ++ right 4 (decimal line)
+
 abbrev pub place_text : List Placed → Place → List ℕ
-place_text fs p =
-    codes "in " ++ left 8 (name_in (function_at fs p.strings)) ++ codes " place " ++ right 4 (decimal p.place)
-    ++ codes "  line " ++ right 4 (decimal p.line) ++ words_text p.words p.has_more ++ codes "\n"
+place_text fs p = site_text fs p.strings p.place p.line ++ words_text p.words p.has_more ++ codes "\n"
 
 -- where a run was over, and the calls that led there
 abbrev pub places_text : List Placed → Place → List Place → List ℕ

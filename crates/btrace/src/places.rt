@@ -1,7 +1,7 @@
 //! The places where a run was.
 ghost use Rattle.std.specs.Prelude.{◌≡◌, ℕ, Bool, List, [], ◌++◌, OnOk, if◌then◌else◌};
 ghost use Rattle.btrace.specs.Programs.{entries_of};
-ghost use Rattle.btrace.specs.Rows.{Place, place_text, words_text};
+ghost use Rattle.btrace.specs.Rows.{Place, place_text, site_text, words_text};
 ghost use Rattle.btrace.specs.Traces.{AddsPlaces};
 
 use crate::rows::{name_of, word_of_frame};
@@ -58,6 +58,15 @@ fn push_place<S: Store + Drop>(
     ensures { OnOk result ((line : ℕ) × (words : List ℕ) × (has_more : Bool) ×
         (text.new ≡ text.old ++ place_text (entries_of tables.now) (record { strings = call.strings; place = call.place; line = line; words = words; has_more = has_more }))) }
 {
+    push_site(text, tables, call)?;
+    push_words(text, stepper, call)?;
+    text.push(b"\n")
+}
+
+/// Adds the function of a call, the place in it, and the line of the source.
+pub fn push_site(text: &mut Text, tables: &Tables<'_>, call: Active) -> Result<(), AllocError>
+    ensures { OnOk result ((line : ℕ) × (text.new ≡ text.old ++ site_text (entries_of tables.now) call.strings call.place line)) }
+{
     let entry = tables.entry(call.strings);
     let line = tables.line(entry, call.place);
     text.push(b"in ")?;
@@ -65,9 +74,7 @@ fn push_place<S: Store + Drop>(
     text.push(b" place ")?;
     text.push_right_number(4, call.place as u64)?;
     text.push(b"  line ")?;
-    text.push_right_number(4, line)?;
-    push_words(text, stepper, call)?;
-    text.push(b"\n")
+    text.push_right_number(4, line)
 }
 
 // The words of the first parameters of a call.

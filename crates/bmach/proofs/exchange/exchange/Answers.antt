@@ -3,7 +3,7 @@ use Rattle.blang.specs.Machine.{at_place, with_operand}
 use Rattle.bmach.specs.Steps.{machine_call, world_with}
 use Rattle.bmach.specs.Turns.{reading, running, writing}
 use Rattle.blang.specs.Layout.{character_bytes}
-use Rattle.bmach.proofs.Turning.{turn_exchange, turn_over}
+use Rattle.bmach.proofs.Turning.{turn_exchange, turn_broken}
 use Rattle.bmach.proofs.exchange.exchange.Goals as goal
 
 pub returns-in-Ok-clause-gives : goal.returns-in-Ok-clause-gives
@@ -21,7 +21,7 @@ returns-in-Err-clause-gives g c image below store came =
     let call = c.args.call.now in
     let behind = at_place (machine_call call) (call.place + 1) (drop (c.args.count + 1) call.operands.own) in
     let led = rw c.in-Reads.is at came in
-    turn_over image (running (machine_call call) below store) (reading behind below store) (reading behind below store) (running (machine_call call) below store)
+    turn_broken image (running (machine_call call) below store) (reading behind below store) (reading behind below store) (running (machine_call call) below store)
     (g.I.ByteIn.incoming c.args.input.now) (g.I.ByteIn.incoming c.next_word.new.input) (g.O.ByteOut.outgoing c.args.out.now) (g.O.ByteOut.outgoing c.args.out.now) c.in-Err.outcome
     (λ left before. led (world_with store left before))
     (c.in-Err.ensures.gives behind below store (g.O.ByteOut.outgoing c.args.out.now))
@@ -43,7 +43,7 @@ returns-in-Err-write_word-clause-gives g c image below store came =
     let behind = at_place (machine_call call) (call.place + 1) (drop (c.args.count + 1) call.operands.own) in
     let led = rw c.in-WritesCharacter.is at came in
     let character = c.in-WritesCharacter.character in
-    turn_over image (running (machine_call call) below store) (writing behind character (character_bytes character) below store) (running (with_operand behind character) below store) (running (machine_call call) below store)
+    turn_broken image (running (machine_call call) below store) (writing behind character (character_bytes character) below store) (running (with_operand behind character) below store) (running (machine_call call) below store)
     (g.I.ByteIn.incoming c.args.input.now) (g.I.ByteIn.incoming c.args.input.now) (g.O.ByteOut.outgoing c.args.out.now) (g.O.ByteOut.outgoing c.write_word.new.out) c.in-Err-write_word.outcome
     (λ left before. led (world_with store left before))
     (c.in-Err-write_word.ensures.gives behind character below store (g.I.ByteIn.incoming c.args.input.now))

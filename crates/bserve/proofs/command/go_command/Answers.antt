@@ -14,10 +14,12 @@ returns c =
     let shape1 = c.in_ok-arg.ensures.shape c.edition_option.ensures.local ∙ ap₂ with_rule named c.edition_option.ensures.rule in
     let shape2 = c.in_ok-arg-2.ensures.shape c.steps_option.ensures.local ∙ ap₂ with_rule shape1 c.steps_option.ensures.rule in
     let shape3 = c.in_ok-arg-3.ensures.shape c.no_limit_flag.ensures.local ∙ ap₂ with_rule shape2 c.no_limit_flag.ensures.rule in
-    IfOk-weaker c.arg-4.result _ _ (λ command added.
-    let shape4 = added.shape c.file_argument.ensures.local ∙ ap₂ with_rule shape3 c.file_argument.ensures.rule in
-    let local4 = or_false _ _ _ added.globals local3 c.file_argument.ensures.local in
+    let local4 = or_false _ _ _ c.in_ok-arg-4.ensures.globals local3 c.file_argument.ensures.local in
+    let shape4 = c.in_ok-arg-4.ensures.shape c.file_argument.ensures.local ∙ ap₂ with_rule shape3 c.file_argument.ensures.rule in
+    IfOk-weaker c.arg-5.result _ _ (λ command added.
+    let shape5 = added.shape c.where_flag.ensures.local ∙ ap₂ with_rule shape4 c.where_flag.ensures.rule in
+    let local5 = or_false _ _ _ added.globals local4 c.where_flag.ensures.local in
     record {
-      alone = shape4;
-      within = λ old new adds. adds.shape local4 ∙ ap (λ (a : App). with_subcommand (app_of old) a.top) shape4;
-    }) c.arg-4.ensures
+      alone = shape5;
+      within = λ old new adds. adds.shape local5 ∙ ap (λ (a : App). with_subcommand (app_of old) a.top) shape5;
+    }) c.arg-5.ensures

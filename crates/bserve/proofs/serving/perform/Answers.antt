@@ -22,6 +22,10 @@ pub returns-in-Some-Trace-clause-does : goal.returns-in-Some-Trace-clause-does
 returns-in-Some-Trace-clause-does g c =
     answered c.args.job c.in-Some-Trace.field-0 (jobs.Trace c.in-Some-Trace.walk) _ _ c.in-Some-Trace.is (rw c.in-Some-Trace.is at c.in-Some-Trace.field-0-is) c.trace_file.ensures.does
 
+pub returns-in-Some-Locate-clause-does : goal.returns-in-Some-Locate-clause-does
+returns-in-Some-Locate-clause-does g c =
+    answered c.args.job c.in-Some-Locate.field-0 (jobs.Locate c.in-Some-Locate.target c.in-Some-Locate.edition) _ _ c.in-Some-Locate.is (rw c.in-Some-Locate.is at c.in-Some-Locate.field-0-is) c.locate_file.ensures.does
+
 pub returns-in-Some-Draw-clause-does : goal.returns-in-Some-Draw-clause-does
 returns-in-Some-Draw-clause-does g c =
     answered c.args.job c.in-Some-Draw.field-0 (jobs.Draw c.in-Some-Draw.subject c.in-Some-Draw.steps) _ _ c.in-Some-Draw.is (rw c.in-Some-Draw.is at c.in-Some-Draw.field-0-is) c.draw_file.ensures.does

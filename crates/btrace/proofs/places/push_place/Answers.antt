@@ -1,20 +1,19 @@
-use Rattle.std.proofs.Common.{◌≡◌, ◌∙◌, List, ℕ, ◌++◌, ap, codes, decimal}
+use Rattle.std.proofs.Common.{◌++◌, codes}
 use Rattle.std.proofs.lemmas.Result.{on_ok_weaker}
-use Rattle.blist.specs.Columns.{left, right}
-use Rattle.btrace.specs.Programs.{entries_of, function_at}
-use Rattle.btrace.specs.Rows.{name_in, words_text}
-use Rattle.btrace.proofs.PlaceParts.{place_parts}
+use Rattle.blist.proofs.AddedRows.{piece}
+use Rattle.btrace.specs.Programs.{entries_of}
+use Rattle.btrace.specs.Rows.{site_text, words_text}
 use Rattle.btrace.proofs.places.push_place.Goals as goal
 
 pub returns : goal.returns
 returns g c =
-    let name = c.name_of.ensures ∙ ap name_in c.entry-entry.ensures in
+    let site = c.in_ok-push_site.ensures in
     let words = c.in_ok-push_words.ensures in
-    on_ok_weaker c.push-4.result (λ end. (
-      c.line-line.result,
+    let shown = site_text (entries_of c.args.tables.now) c.args.call.strings c.args.call.place site.0 in
+    let both = piece c.args.text.now c.push_site.new.text c.push_words.new.text shown (words_text words.0 words.1) site.1 words.2 in
+    on_ok_weaker c.push.result (λ end. (
+      site.0,
       words.0,
       words.1,
-      place_parts (codes "in ") (codes " place ") (codes "  line ") (codes "\n") c.args.text.now c.push.new.self c.push_left.new.self c.push-2.new.self c.push_right_number.new.self c.push-3.new.self c.push_right_number-2.new.self c.push_words.new.text c.push-4.new.self
-          c.name_of.result.now (name_in (function_at (entries_of c.args.tables.now) c.args.call.strings)) (right 4 (decimal c.args.call.place)) (right 4 (decimal c.line-line.result)) (words_text words.0 words.1)
-          c.in_ok-push.ensures c.in_ok-push_left.ensures name c.in_ok-push-2.ensures c.in_ok-push_right_number.ensures c.in_ok-push-3.ensures c.in_ok-push_right_number-2.ensures words.2 end,
-    )) c.push-4.ensures
+      piece c.args.text.now c.push_words.new.text c.push.new.self (shown ++ words_text words.0 words.1) (codes "\n") both end,
+    )) c.push.ensures

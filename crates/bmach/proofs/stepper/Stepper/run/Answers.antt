@@ -2,6 +2,7 @@ use Rattle.std.proofs.Common.{◌≡◌, ◌∙◌, [], ap, map, subst, sym}
 use Rattle.blang.specs.Machine.{RunGives, steps}
 use Rattle.bmach.specs.Images.{loaded_of}
 use Rattle.bmach.specs.Stepping.{Paused, machine_at}
+use Rattle.bmach.specs.Stops.{StopsAt}
 use Rattle.bmach.proofs.stepper.Stepper.run.Goals as goal
 
 pub returns-clause-gives : goal.returns-clause-gives
@@ -9,5 +10,14 @@ returns-clause-gives g c =
     let image = c.self.inside.image.now in
     let functions : image.functions ≡ map loaded_of c.deref.result.now =
     sym (ap (λ i. i.functions) c.image.view_is) ∙ ap (map loaded_of) (sym c.deref.ensures.value) in
-    subst (λ (p : Paused). RunGives (λ left n. steps p.image n (machine_at p left [])) c.args.steps (g.I.ByteIn.incoming c.args.input.now) (g.I.ByteIn.incoming c.run_steps-last.new.input) (g.O.ByteOut.outgoing c.args.out.now) (g.O.ByteOut.outgoing c.run_steps-last.new.out) c.run_steps-last.result.outcome) c.self.view_is
-    (c.run_steps-last.ensures.gives image functions)
+    subst (λ (p : Paused). RunGives (λ left n. steps p.image n (machine_at p left [])) c.args.steps (g.I.ByteIn.incoming c.args.input.now) (g.I.ByteIn.incoming c.run_steps.new.input) (g.O.ByteOut.outgoing c.args.out.now) (g.O.ByteOut.outgoing c.run_steps.new.out) c.run_steps.result.outcome) c.self.view_is
+    (c.run_steps.ensures.gives image functions)
+
+pub returns-clause-stops : goal.returns-clause-stops
+returns-clause-stops g c =
+    let image = c.self.inside.image.now in
+    let functions : image.functions ≡ map loaded_of c.deref.result.now =
+    sym (ap (λ i. i.functions) c.image.view_is) ∙ ap (map loaded_of) (sym c.deref.ensures.value) in
+    let stop = c.run_steps.result in
+    subst (λ (p : Paused). StopsAt (λ left n. steps p.image n (machine_at p left [])) c.args.steps (g.I.ByteIn.incoming c.args.input.now) (g.I.ByteIn.incoming c.run_steps.new.input) stop.outcome stop.call.strings stop.call.place) c.self.view_is
+    (c.run_steps.ensures.stops image functions)

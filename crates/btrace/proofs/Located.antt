@@ -1,0 +1,83 @@
+-- Where a program that was loaded stopped is where its definitions stop.
+use Rattle.std.proofs.Common.{◌≡◌, ◌∙◌, ℕ, ◌+◌, List, ◌++◌, Option, None, Some, ap, subst, sym}
+use Rattle.bword.specs.declared.edition.Edition.{Edition}
+use Rattle.bword.specs.ByteEnds.{CanFollow, Incoming, Outgoing}
+use Rattle.blang.specs.declared.code.Definition.{Definition}
+use Rattle.blang.specs.declared.run.Outcome.{Outcome}
+use Rattle.blang.specs.declared.run.Outcome.TheVariants as outcome
+use Rattle.blang.specs.Machine.{Call, Finishes, Image, RunEnds, RunGives, State, image_of, machine, run, state_outcome}
+use Rattle.bmach.specs.Resolved.{IsLoadedFrom, state_resolved}
+use Rattle.bmach.specs.Stepping.{IsUnstarted, Paused}
+use Rattle.bmach.specs.Stops.{EndsAt, StandsAt, StopsAt}
+use Rattle.bmach.proofs.Resolving.{run-resolved}
+use Rattle.bmach.proofs.Running.{same_run}
+use Rattle.brun.proofs.RunSteps.{outcome-resolved, run_loaded, run_of_loaded}
+use Rattle.blist.specs.Programs.{HasProgram}
+use Rattle.btrace.specs.Programs.{Placed, functions_of}
+use Rattle.btrace.specs.Locates.{Locates, TellsSite, located, located_status, unlocated}
+use Rattle.btrace.specs.Traces.{steps_from}
+use Rattle.btrace.proofs.Unresolved.{run_from, running_from}
+
+pub no_other : (r : Option ℕ) (s t : ℕ) → r ≡ Some s → (s ≡ t → ⊥) → r ≡ Some t → ⊥
+no_other None s t is differs same = cc
+no_other (Some r) s t is differs same = differs cc
+
+pub not_none : (r : Option ℕ) (t : ℕ) → r ≡ None → r ≡ Some t → ⊥
+not_none r t is same = cc
+
+-- The states of one machine are those of the other, resolved.
+module _ (I : Image) (f g : ℕ → State) (e : (n : ℕ) → g n ≡ state_resolved I (f n)) (strings place : ℕ) where
+  stands_same : (n : ℕ) → StandsAt (g n) strings place → StandsAt (f n) strings place
+  stands_same n s =
+      let r = running_from I (f n) s.call s.below s.world (sym (e n) ∙ s.state_is) in
+      record {
+        call = r.0;
+        below = r.1;
+        world = s.world;
+        state_is = r.2;
+        strings_is = ap (λ (c : Call). c.function.strings) r.3 ∙ s.strings_is;
+        place_is = ap (λ (c : Call). c.place) r.3 ∙ s.place_is;
+      }
+
+  pub ends_at_same : (n : ℕ) (r : Outcome) → EndsAt g n r strings place → EndsAt f n r strings place
+  ends_at_same n (outcome.Exit status) h = tt
+  ends_at_same n (outcome.Trap kind) h = (
+    h.0,
+    h.1,
+    stands_same h.0 h.2,
+    sym (outcome-resolved I (f (h.0 + 1))) ∙ ap state_outcome (sym (e (h.0 + 1))) ∙ h.3,
+  )
+  ends_at_same n outcome.Limit h = stands_same n h
+  ends_at_same n outcome.Device h = tt
+  ends_at_same n outcome.Memory h = tt
+
+stops_run : (ds : List Definition) (image : Image) (p : Paused) → IsLoadedFrom ds image → IsUnstarted image p → (n : ℕ) (i j : Incoming) (r : Outcome) (strings place : ℕ) → StopsAt (steps_from p) n i j r strings place → StopsAt (machine ds) n i j r strings place
+stops_run ds image p loaded begins n i j r strings place s =
+    let e : (input : List ℕ) (k : ℕ) → steps_from p input k ≡ state_resolved (image_of ds) (machine ds input k) =
+    λ input k. sym (run_from image p begins input k) ∙ run_loaded ds image loaded input k ∙ run-resolved (image_of ds) input k in
+    record {
+      taken = s.taken;
+      took = s.took;
+      ends = λ more can. ends_at_same (image_of ds) (machine ds (s.taken ++ more)) (steps_from p (s.taken ++ more)) (e (s.taken ++ more)) strings place n r (s.ends more can);
+    }
+
+module _ (edition : Edition) (source : List ℕ) (n : ℕ) (ends : RunEnds) (status : ℕ) (mid : Outgoing) (ds : List Definition) (image : Image) (p : Paused) (result : Outcome) where
+  runs_whole : HasProgram edition source ends.line mid ds image → IsUnstarted image p → RunGives (steps_from p) n ends.input ends.input_behind ends.out ends.out_behind result
+      → RunGives (machine ds) n ends.input ends.input_behind ends.out ends.out_behind result
+  runs_whole is begins gives =
+      run_of_loaded ds image is.loaded n ends.input ends.input_behind ends.out ends.out_behind result
+      (same_run (run image) (steps_from p) n ends.input ends.input_behind ends.out ends.out_behind result (run_from image p begins) gives)
+
+  -- a run whose place was told
+  pub located_whole : (told : Outgoing) (fs : List Placed) (answer strings place : ℕ) → HasProgram edition source ends.line mid ds image → fs ≡ functions_of ds → IsUnstarted image p
+      → RunGives (steps_from p) n ends.input ends.input_behind ends.out ends.out_behind result → Finishes result mid told answer → located_status result ≡ Some answer
+      → StopsAt (steps_from p) n ends.input ends.input_behind result strings place → TellsSite fs strings place answer told ends.line_behind status → Locates edition source n ends status
+  located_whole told fs answer strings place is functions begins gives finishes at stops tells =
+      located mid told ds image result answer strings place is (runs_whole is begins gives) finishes at
+      (stops_run ds image p is.loaded begins n ends.input ends.input_behind result strings place stops)
+      (subst (λ (x : List Placed). TellsSite x strings place answer told ends.line_behind status) functions tells)
+
+  -- a run that has no place
+  pub unlocated_whole : HasProgram edition source ends.line mid ds image → IsUnstarted image p → RunGives (steps_from p) n ends.input ends.input_behind ends.out ends.out_behind result
+      → Finishes result mid ends.line_behind status → (located_status result ≡ Some status → ⊥) → Locates edition source n ends status
+  unlocated_whole is begins gives finishes unplaced = unlocated mid ds image result is (runs_whole is begins gives) finishes unplaced

@@ -1,0 +1,53 @@
+-- What comes of a source that is run and where its run was over is told.
+use Rattle.std.specs.Prelude.{◌≡◌, ◌⊎◌, ℕ, List, ◌++◌, Option, Some, None, codes}
+use Rattle.bword.specs.declared.edition.Edition.{Edition}
+use Rattle.bword.specs.ByteEnds.{Outgoing}
+use Rattle.blang.specs.declared.code.Definition.{Definition}
+use Rattle.blang.specs.declared.run.Outcome.{Outcome}
+use Rattle.blang.specs.declared.run.Outcome.TheVariants as outcome
+use Rattle.blang.specs.declared.status.TheConstants.{LIMIT, MEMORY, TRAP}
+use Rattle.blang.specs.Machine.{Finishes, HasNotRun, Image, RunEnds, RunGives, machine}
+use Rattle.bmach.specs.Stepping.{BeginsNot}
+use Rattle.bmach.specs.Stops.{StopsAt}
+use Rattle.blist.specs.Programs.{HasProgram, NoProgram}
+use Rattle.blist.specs.Told.{Told}
+use Rattle.btrace.specs.Programs.{Placed, functions_of}
+use Rattle.btrace.specs.Rows.{site_text}
+
+-- the status of an outcome that is at a place of the program
+abbrev pub located_status : Outcome → Option ℕ
+located_status (outcome.Trap kind) = Some TRAP
+located_status outcome.Limit = Some LIMIT
+located_status result = None
+
+abbrev pub site_line : List Placed → (strings place line : ℕ) → List ℕ
+site_line fs strings place line = codes "at     " ++ site_text fs strings place line ++ codes "\n"
+
+-- A line with this place was written, or memory was refused for it.
+abbrev pub TellsSite : List Placed → (strings place answer : ℕ) → (old new : Outgoing) → (status : ℕ) → Type 0
+TellsSite fs strings place answer old new status =
+    ((line : ℕ) × Told (site_line fs strings place line) answer old new status) ⊎ ((new ≡ old) × (status ≡ MEMORY))
+
+-- The program of the source was run for so many steps at most, as the machine runs it, and has its line and status; and
+-- if that is the line of a trap or of the limit, where it was over was told behind it. Or the program did not begin, or
+-- there is none, and why was told; or memory was refused.
+pub data Locates (edition : Edition) (source : List ℕ) (steps : ℕ) (ends : RunEnds) (status : ℕ) : Type 0 where
+  located : (mid told : Outgoing) (ds : List Definition) (image : Image) (result : Outcome) (answer strings place : ℕ)
+      → HasProgram edition source ends.line mid ds image
+      → RunGives (machine ds) steps ends.input ends.input_behind ends.out ends.out_behind result
+      → Finishes result mid told answer → located_status result ≡ Some answer
+      → StopsAt (machine ds) steps ends.input ends.input_behind result strings place
+      → TellsSite (functions_of ds) strings place answer told ends.line_behind status
+      → Locates edition source steps ends status
+  unlocated : (mid : Outgoing) (ds : List Definition) (image : Image) (result : Outcome)
+      → HasProgram edition source ends.line mid ds image
+      → RunGives (machine ds) steps ends.input ends.input_behind ends.out ends.out_behind result
+      → Finishes result mid ends.line_behind status → (located_status result ≡ Some status → ⊥)
+      → Locates edition source steps ends status
+  not_begun : (mid : Outgoing) (ds : List Definition) (image : Image) (result : Outcome)
+      → HasProgram edition source ends.line mid ds image → BeginsNot image result
+      → Finishes result mid ends.line_behind status → HasNotRun ends → Locates edition source steps ends status
+  stopped : NoProgram edition source ends.line ends.line_behind status → HasNotRun ends
+      → Locates edition source steps ends status
+  no_memory : (ds : List Definition) (image : Image) → HasProgram edition source ends.line ends.line_behind ds image
+      → HasNotRun ends → status ≡ MEMORY → Locates edition source steps ends status

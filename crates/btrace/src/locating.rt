@@ -1,0 +1,99 @@
+//! Telling where a run was over.
+ghost use Rattle.std.specs.Prelude.{◌≡◌, ℕ, IfOk};
+ghost use Rattle.btrace.specs.Locates.{Locates, TellsSite, located_status, site_line};
+ghost use Rattle.btrace.specs.Programs.{entries_of};
+
+use crate::places::push_site;
+use crate::tables::Tables;
+use blang::Outcome;
+use blang::status::{self, Status};
+use blist::{Text, read_program, tell};
+use bmach::{Active, Stepper};
+use bpages::PagedStore;
+use brun::finish;
+use bword::{ByteIn, ByteOut, Edition};
+use std::alloc::{AllocError, Global};
+
+/// Compiles a source and runs its program for so many steps at most, and tells where the run was over.
+///
+/// The output, the line and the status are those of `go_edition`. Behind the line of a trap or of the limit a second one
+/// tells the function, the place in it, and the line of the source.
+pub fn locate<I: ByteIn, O: ByteOut, D: ByteOut>(
+    alloc: Global,
+    source: &[u8],
+    edition: Edition,
+    steps: u64,
+    input: &mut I,
+    out: &mut O,
+    diag: &mut D,
+) -> Status
+    ensures locates { Locates edition source.now steps (record {
+      input = I.incoming input.old;
+      input_behind = I.incoming input.new;
+      out = O.outgoing out.old;
+      out_behind = O.outgoing out.new;
+      line = D.outgoing diag.old;
+      line_behind = D.outgoing diag.new;
+    }) result }
+    ensures input_lender { I.lender input.new ≡ I.lender input.old }
+    ensures out_lender { O.lender out.new ≡ O.lender out.old }
+    ensures diag_lender { D.lender diag.new ≡ D.lender diag.old }
+{
+    let program = match read_program(alloc, source, edition, diag) {
+        Ok(program) => program,
+        Err(status) => return status,
+    };
+    let Ok(tables) = Tables::new(alloc, &program) else {
+        return status::MEMORY;
+    };
+    let Ok(store) = PagedStore::new(alloc) else {
+        return status::MEMORY;
+    };
+    let stepper = match Stepper::begin(alloc, &program.image, store) {
+        Ok(stepper) => stepper,
+        Err(outcome) => return finish(outcome, diag),
+    };
+    let stop = stepper.run(input, out, steps);
+    let told = finish(stop.outcome, diag);
+    match located_status(stop.outcome) {
+        Some(status) if status == told => tell_site(alloc, &tables, stop.call, told, diag),
+        _ => told,
+    }
+}
+
+// The status of an outcome that is at a place of the program.
+fn located_status(outcome: Outcome) -> Option<Status>
+    ensures { result ≡ located_status outcome }
+{
+    match outcome {
+        Outcome::Trap(_) => Some(status::TRAP),
+        Outcome::Limit => Some(status::LIMIT),
+        Outcome::Exit(_) | Outcome::Device | Outcome::Memory => None,
+    }
+}
+
+fn tell_site<D: ByteOut>(
+    alloc: Global,
+    tables: &Tables<'_>,
+    call: Active,
+    status: Status,
+    diag: &mut D,
+) -> Status
+    ensures tells { TellsSite (entries_of tables.now) call.strings call.place status (D.outgoing diag.old) (D.outgoing diag.new) result }
+    ensures same { D.lender diag.new ≡ D.lender diag.old }
+{
+    match site_line(alloc, tables, call) {
+        Ok(text) => tell(text.as_slice(), status, diag),
+        Err(_) => status::MEMORY,
+    }
+}
+
+fn site_line(alloc: Global, tables: &Tables<'_>, call: Active) -> Result<Text, AllocError>
+    ensures { IfOk result (λ text. (line : ℕ) × (text ≡ site_line (entries_of tables.now) call.strings call.place line)) }
+{
+    let mut text = Text::new(alloc);
+    text.push(b"at     ")?;
+    push_site(&mut text, tables, call)?;
+    text.push(b"\n")?;
+    Ok(text)
+}
