@@ -16,3 +16,5 @@ pub mod Running
 pub mod Copying
 pub mod Told
 pub mod Excluded
+pub mod Fusing
+pub mod Several
