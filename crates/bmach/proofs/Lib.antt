@@ -17,3 +17,5 @@ pub mod Copying
 pub mod Told
 pub mod Excluded
 pub mod Stopping
+pub mod Fusing
+pub mod Several

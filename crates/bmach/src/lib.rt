@@ -7,6 +7,8 @@ mod addresses;
 mod advance;
 mod calls;
 mod exchange;
+mod fuse;
+mod fused;
 mod image;
 mod loader;
 mod machine;
