@@ -400,6 +400,11 @@ at     in f        place    5  line    2  with 7
 called in main     place    3  line    1
 trap dz
 @
+trap.b~main() f(7);
+f(a) printn(a / 0, 10);
+~~b go --where trap.b~trap dz
+at     in f        place    5  line    2
+@
 x.b~s \"ab\", t, 'x';
 t;
 main() {

@@ -251,6 +251,46 @@ at     in main     place    2  line    2
 ~limit
 ~131
 @
+b go --where trap.b~~trap dz
+at     in f        place    5  line    2
+~130
+@
+b go --where --steps 9 trap.b~~limit
+at     in f        place    5  line    2
+~131
+@
+b go --where --steps 3 write.b~~limit
+at     in main     place    3  line    1
+~131
+@
+b go --where --steps 4 write.b~a~limit
+at     in main     place    4  line    1
+~131
+@
+b go --where write.b~a~~0
+@
+b go --where exit.b~~~3
+@
+b go --where st.b~~trap st
+at     in main     place    6  line    3
+~130
+@
+b go --where bs.b~~trap bs
+at     in f        place    5  line    3
+~130
+@
+b go --where full.b~~trap st
+~130
+@
+b go --where fault.b~~un n 1
+~1
+@
+b go --where alone.b~~load 4
+~132
+@
+b go --where none.b~~error: the file 'none.b' can't be read
+~133
+@
 b trace --from 6 --steps 6 ask.b~    step  function place  line  code         operands
        6  main         5     1  k 1          4 4
                                            writes '*e'
