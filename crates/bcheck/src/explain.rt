@@ -43,7 +43,7 @@ fn findings(
     match verdict {
         Verdict::Clean => warn(alloc, source, asked, &spans, &mut findings)?,
         Verdict::Faulty(_) => {
-            if let Some(finding) = fault_of(alloc, source, asked, &spans) {
+            if let Some(finding) = fault_of(alloc, source, asked, &spans)? {
                 findings.push(finding)?;
             }
         }
@@ -60,18 +60,24 @@ fn findings(
 }
 
 // What is said of the fault that a source has.
-fn fault_of(alloc: Global, source: &[u8], asked: Request<'_>, spans: &[Span]) -> Option<Finding> {
+fn fault_of(
+    alloc: Global,
+    source: &[u8],
+    asked: Request<'_>,
+    spans: &[Span],
+) -> Result<Option<Finding>, AllocError> {
     let mut pass = Pass::new(alloc, source, asked.edition);
     for _ in 0..=source.len() {
-        match pass.next() {
+        match pass.next()? {
             Step::Written => {}
             Step::Fault(diagnostic) => {
-                return Some(faults::finding(source, spans, &pass.fault(diagnostic)));
+                let fault = pass.fault(diagnostic);
+                return Ok(Some(faults::finding(source, spans, &fault)));
             }
-            _ => return None,
+            _ => return Ok(None),
         }
     }
-    None
+    Ok(None)
 }
 
 // What is said of a name that nothing defines.
@@ -114,7 +120,7 @@ fn functions(alloc: Global, source: &[u8], asked: Request<'_>) -> Result<Vec<Ext
     let mut functions = Vec::new(alloc);
     let mut pass = Pass::new(alloc, source, asked.edition);
     for _ in 0..source.len() {
-        if pass.next() != Step::Written {
+        if pass.next()? != Step::Written {
             break;
         }
         if pass.is_function() {

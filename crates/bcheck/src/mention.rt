@@ -22,7 +22,7 @@ pub(crate) fn first_mention(
 ) -> Result<Option<Mention>, AllocError> {
     let mut pass = Pass::new(alloc, source, edition);
     for _ in 0..source.len() {
-        if pass.next() != Step::Written {
+        if pass.next()? != Step::Written {
             break;
         }
     }
@@ -32,7 +32,7 @@ pub(crate) fn first_mention(
     };
     let mut pass = Pass::new(alloc, source, edition);
     for definition in definitions.as_slice() {
-        if pass.next() != Step::Written {
+        if pass.next()? != Step::Written {
             break;
         }
         if let Some(place) = place_of(definition, name) {

@@ -177,6 +177,7 @@ fn lines_of(alloc: Global, source: &[u8], edition: Edition) -> Result<Vec<u64>, 
                 lines.extend_from_slice(compiler.lines())?;
                 lines.extend_from_slice(compiler.value_lines())?;
             }
+            Step::Memory => return Err(AllocError),
             _ => break,
         }
     }

@@ -282,7 +282,8 @@ b go --help
 b migrate --help
 b check --help
 b list --help
-b map --help";
+b map --help
+b trace --help";
     for words in commands.lines() {
         let (out, diag) = serves(&rt, words, "", 0)?;
         assert!(rt; diag.bytes().is_empty(), "the line of {words}");

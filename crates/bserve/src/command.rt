@@ -397,7 +397,7 @@ fn from_option<'a>(alloc: Global) -> Arg<'a>
         .value_name("N")
         .action(ArgAction::Set)
         .value_parser(value_parser!(u64).range(1..=MOST_STEPS))
-        .help("The number of the first step that is shown; 1 if not given")
+        .help("The first step that is shown; 1 if not given")
 }
 
 fn function_option<'a>(alloc: Global) -> Arg<'a>
@@ -408,7 +408,7 @@ fn function_option<'a>(alloc: Global) -> Arg<'a>
         .long("function")
         .value_name("NAME")
         .action(ArgAction::Set)
-        .help("The function whose steps are shown; all of them if not given")
+        .help("The function whose steps are shown; all if not given")
 }
 
 fn no_limit_flag<'a>(alloc: Global) -> Arg<'a>

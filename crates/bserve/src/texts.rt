@@ -133,11 +133,12 @@ b --help has the letters.";
 
 pub(crate) const TRACE_HELP: &str = "\
 A row has the number of a step, the function, the place in it, the line of the
-source, the instruction, and the topmost operands before it. Behind it stand
-the words that it changed, each with its address, and what it wrote. After a
-trap, or at the limit of steps, the place and the calls that led there are
-told. The program reads standard input; what it writes stands in the trace
-alone, which is written when the run is over, and is kept in memory till then.
+source, the instruction, and the topmost operands before it, at most five.
+Behind it stand the words that it changed, each with its address, and what it
+wrote. After a trap, or at the limit of steps, the place and the calls that led
+there are told, each with at most six parameters. The program reads standard
+input; what it writes stands in the trace alone, which is written when the run
+is over, and is kept in memory till then.
 
 Examples:
   b trace hello.b
