@@ -18,6 +18,7 @@ pub trait Memory {
     // They, by their addresses.
     ghost seen_words: { Self → List ℕ };
 
+    /// The word at an address.
     fn look(&self, address: u16) -> u16
         ensures { result ≡ slice_index (seen_words self.now) address };
 }
