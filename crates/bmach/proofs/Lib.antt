@@ -17,4 +17,3 @@ pub mod Copying
 pub mod Told
 pub mod Excluded
 pub mod Fusing
-pub mod Several
