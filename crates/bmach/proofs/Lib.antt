@@ -18,4 +18,3 @@ pub mod Told
 pub mod Excluded
 pub mod Stopping
 pub mod Fusing
-pub mod Several
