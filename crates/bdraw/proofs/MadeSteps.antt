@@ -12,7 +12,7 @@ use Rattle.bmach.specs.Stepping.{IsUnstarted, Paused, machine_at}
 use Rattle.bmach.specs.Turns.{HasHalted, LeavesWords, MovesOn, TurnGives}
 use Rattle.bmach.proofs.Running.{behind, one_more, run_over, same_run, steps_add}
 use Rattle.bmach.proofs.Turning.{follows, goes_on}
-use Rattle.bdraw.specs.Draws.{DrawsRun, EndGives, HasEnd, IsAfter, IsAtEnd, IsMade, IsOver, LeavesAtEnd, Shows, no_memory, nothing_written, over, unread}
+use Rattle.bdraw.specs.Draws.{DrawsRun, EndGives, HasEnd, IsAfter, IsAtEnd, IsMade, IsOver, LeavesAtEnd, ShowsMemory, no_memory, nothing_written, over, unread}
 
 -- a state behind which nothing happens
 abbrev HasStopped : State → Type 0
@@ -133,7 +133,7 @@ is_at_end image first n i j r words b leaves has =
     }
 
 pub ends_shown : (ds : List Definition) (image : Image) (words : List ℕ) (r : Outcome) (old new : Outgoing) (status : ℕ) → (r ≡ outcome.Device → ⊥) → (r ≡ outcome.Memory → ⊥)
-    → Shows ds image words old new status → EndGives ds image words r old new status
+    → ShowsMemory ds image words old new status → EndGives ds image words r old new status
 ends_shown ds image words (outcome.Exit n) old new status a b s = s
 ends_shown ds image words (outcome.Trap kind) old new status a b s = s
 ends_shown ds image words outcome.Limit old new status a b s = s

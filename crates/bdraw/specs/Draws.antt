@@ -64,10 +64,10 @@ pub record IsPicture (ds : List Definition) (image : Image) (words : List ℕ) (
   pub text_is : text ≡ picture_text height shapes
 
 -- A picture of memory was written, or a beginning of it; or memory was refused, and nothing was.
-pub data Shows (ds : List Definition) (image : Image) (words : List ℕ) (old new : Outgoing) (status : ℕ) : Type 0 where
+pub data ShowsMemory (ds : List Definition) (image : Image) (words : List ℕ) (old new : Outgoing) (status : ℕ) : Type 0 where
   shown : (text : List ℕ) → IsPicture ds image words text → Told text DONE old new status
-      → Shows ds image words old new status
-  no_memory : new ≡ old → status ≡ MEMORY → Shows ds image words old new status
+      → ShowsMemory ds image words old new status
+  no_memory : new ≡ old → status ≡ MEMORY → ShowsMemory ds image words old new status
 
 -- memory has these words while a call is running
 abbrev pub Holds : List ℕ → State → Type 0
@@ -106,20 +106,20 @@ HasEnd outcome.Memory = ⊥
 -- is over; or those before a run that doesn't begin. Where the program can't read its input nothing is written.
 pub data DrawsRun (ds : List Definition) (image : Image) (n : ℕ) (i j : Incoming) (old new : Outgoing) (status : ℕ)
     : Type 0 where
-  after : (words : List ℕ) → IsAfter image n i j words → Shows ds image words old new status
+  after : (words : List ℕ) → IsAfter image n i j words → ShowsMemory ds image words old new status
       → DrawsRun ds image n i j old new status
   over : (result : Outcome) (words : List ℕ) → IsOver image n i j result → HasEnd result → IsAtEnd image n i j words
-      → Shows ds image words old new status → DrawsRun ds image n i j old new status
-  not_begun : (result : Outcome) → BeginsNot image result → HasEnd result → Shows ds image image.words old new status
+      → ShowsMemory ds image words old new status → DrawsRun ds image n i j old new status
+  not_begun : (result : Outcome) → BeginsNot image result → HasEnd result → ShowsMemory ds image image.words old new status
       → j ≡ i → DrawsRun ds image n i j old new status
   unread : IsOver image n i j outcome.Device → new ≡ old → status ≡ DEVICE → DrawsRun ds image n i j old new status
   no_memory : new ≡ old → status ≡ MEMORY → DrawsRun ds image n i j old new status
 
 -- what comes of a run that is over so, with these words
 abbrev pub EndGives : List Definition → Image → List ℕ → Outcome → (old new : Outgoing) → ℕ → Type 0
-EndGives ds image words (outcome.Exit n) old new status = Shows ds image words old new status
-EndGives ds image words (outcome.Trap kind) old new status = Shows ds image words old new status
-EndGives ds image words outcome.Limit old new status = Shows ds image words old new status
+EndGives ds image words (outcome.Exit n) old new status = ShowsMemory ds image words old new status
+EndGives ds image words (outcome.Trap kind) old new status = ShowsMemory ds image words old new status
+EndGives ds image words outcome.Limit old new status = ShowsMemory ds image words old new status
 EndGives ds image words outcome.Device old new status = (new ≡ old) × (status ≡ DEVICE)
 EndGives ds image words outcome.Memory old new status = (new ≡ old) × (status ≡ MEMORY)
 
@@ -129,7 +129,7 @@ Unbegun ds image result old new status =
     (n : ℕ) (i : Incoming) → BeginsNot image result → DrawsRun ds image n i i old new status
 
 abbrev pub DrawsProgram : List Definition → Image → Option ℕ → (i j : Incoming) (old new : Outgoing) → ℕ → Type 0
-DrawsProgram ds image None i j old new status = Shows ds image image.words old new status × (j ≡ i)
+DrawsProgram ds image None i j old new status = ShowsMemory ds image image.words old new status × (j ≡ i)
 DrawsProgram ds image (Some n) i j old new status = DrawsRun ds image n i j old new status
 
 -- The memory of the program of the source was drawn; or there is none, and nothing but why was written.

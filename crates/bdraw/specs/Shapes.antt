@@ -32,8 +32,8 @@ abbrev pub attribute : List ℕ → ℕ → List ℕ
 attribute name number = codes " " ++ name ++ codes "='" ++ decimal number ++ codes "'"
 
 -- the beginning of a tag, up to its place
-abbrev pub opening : List ℕ → List ℕ → ℕ → ℕ → List ℕ
-opening tag class x y =
+abbrev pub svg_opening : List ℕ → List ℕ → ℕ → ℕ → List ℕ
+svg_opening tag class x y =
     codes "<" ++ tag ++ codes " class='" ++ class ++ codes "'" ++ attribute (codes "x") x ++ attribute (codes "y") y
 
 abbrev pub fill_name : Fill → List ℕ
@@ -48,12 +48,12 @@ style_name style.Above = codes "above"
 
 -- an element with a text
 abbrev pub text_element : List ℕ → ℕ → ℕ → List ℕ → List ℕ
-text_element class x y words = opening (codes "text") class x y ++ codes ">" ++ words ++ codes "</text>\n"
+text_element class x y words = svg_opening (codes "text") class x y ++ codes ">" ++ words ++ codes "</text>\n"
 
 -- a box with a word, its address below
 abbrev pub cell_text : Cell → List ℕ
 cell_text c =
-    opening (codes "rect") (fill_name c.fill) c.x c.y ++ codes " width='56' height='20'/>\n"
+    svg_opening (codes "rect") (fill_name c.fill) c.x c.y ++ codes " width='56' height='20'/>\n"
     ++ text_element (codes "word") ((c.x + 28) % 2 ^ 32) ((c.y + 14) % 2 ^ 32) (decimal c.word)
     ++ text_element (codes "below") ((c.x + 28) % 2 ^ 32) ((c.y + 29) % 2 ^ 32) (decimal c.address)
 

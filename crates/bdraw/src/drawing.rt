@@ -2,7 +2,7 @@
 ghost use Rattle.std.specs.Prelude.{◌≡◌, IfOk};
 ghost use Rattle.bmach.specs.Stepping.{IsUnstarted};
 ghost use Rattle.bword.specs.ByteEnds.{outgoing_of};
-ghost use Rattle.bdraw.specs.Draws.{Draws, DrawsRun, EndGives, IsPicture, Made, Shows, Unbegun};
+ghost use Rattle.bdraw.specs.Draws.{Draws, DrawsRun, EndGives, IsPicture, Made, ShowsMemory, Unbegun};
 
 use crate::picture::picture_of;
 use crate::scene::{Calls, Memory, Moment, Scene, calls_of, no_calls};
@@ -150,7 +150,7 @@ fn make_steps<S: Store + Drop, I: ByteIn>(
 
 // Draws memory as it is before the run.
 fn show_before<O: ByteOut>(alloc: Global, program: &Program, moment: Moment, out: &mut O) -> Status
-    ensures shows { Shows program.now.definitions.items program.now.image program.now.image.words
+    ensures shows { ShowsMemory program.now.definitions.items program.now.image program.now.image.words
         (O.outgoing out.old) (O.outgoing out.new) result }
     ensures out_lender { O.lender out.new ≡ O.lender out.old }
 {
@@ -172,7 +172,7 @@ fn show_run<S: Store + Drop, O: ByteOut>(
     moment: Moment,
     out: &mut O,
 ) -> Status
-    ensures shows { Shows program.now.definitions.items program.now.image stepper.now.store
+    ensures shows { ShowsMemory program.now.definitions.items program.now.image stepper.now.store
         (O.outgoing out.old) (O.outgoing out.new) result }
     ensures out_lender { O.lender out.new ≡ O.lender out.old }
 {
@@ -189,7 +189,7 @@ fn show_run<S: Store + Drop, O: ByteOut>(
 }
 
 fn show<M: Memory, O: ByteOut>(alloc: Global, scene: &Scene<'_, M>, out: &mut O) -> Status
-    ensures shows { Shows scene.now.program.now.definitions.items scene.now.program.now.image (M.seen_words scene.now.memory.now)
+    ensures shows { ShowsMemory scene.now.program.now.definitions.items scene.now.program.now.image (M.seen_words scene.now.memory.now)
         (O.outgoing out.old) (O.outgoing out.new) result }
     ensures out_lender { O.lender out.new ≡ O.lender out.old }
 {

@@ -1,6 +1,6 @@
 //! The shapes of a picture, and the SVG text of each.
 ghost use Rattle.std.specs.Prelude.{◌≡◌, ◌++◌, IfOk, OnOk, decimal};
-ghost use Rattle.bdraw.specs.Shapes.{attribute, cell_text, escape, escaped, fill_name, label_text, opening, picture_text, shape_text, style_name, text_element};
+ghost use Rattle.bdraw.specs.Shapes.{attribute, cell_text, escape, escaped, fill_name, label_text, svg_opening, picture_text, shape_text, style_name, text_element};
 
 use blist::Text;
 use std::alloc::{AllocError, Global};
@@ -117,7 +117,7 @@ fn push_number(text: &mut Text, class: &[u8], x: u32, y: u32, number: u16) -> Re
 
 // The beginning of a tag, up to its place.
 fn push_opening(text: &mut Text, tag: &[u8], class: &[u8], x: u32, y: u32) -> Result<(), AllocError>
-    ensures { OnOk result (text.new ≡ text.old ++ opening tag.now class.now x y) }
+    ensures { OnOk result (text.new ≡ text.old ++ svg_opening tag.now class.now x y) }
 {
     text.push(b"<")?;
     text.push(tag)?;

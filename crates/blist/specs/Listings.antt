@@ -16,12 +16,12 @@ use Rattle.blist.specs.Programs.{HasProgram, NoProgram}
 use Rattle.blist.specs.Told.{ToldEnds, Told}
 
 -- the columns of a listing
-heading : HEADING.now ≡ codes " place  line  code          source                                  name\n"
-heading = refl
+listing_heading : HEADING.now ≡ codes " place  line  code          source                                  name\n"
+listing_heading = refl
 
 -- what is said of a name that the source doesn't define
-undefined : UNDEFINED.now ≡ codes "error: the source has no definition of this NAME\n"
-undefined = refl
+undefined_line : UNDEFINED.now ≡ codes "error: the source has no definition of this NAME\n"
+undefined_line = refl
 
 -- a row: what stands before a line of code, the line with its newline, and what stands beside it
 pub record ListingRow : Type 0 where

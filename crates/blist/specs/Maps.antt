@@ -13,7 +13,7 @@ use Rattle.blist.specs.Programs.{HasProgram, NoProgram}
 use Rattle.blist.specs.Told.{ToldEnds, Told}
 
 -- the columns, and the words that each program has
-heading : HEADING.now
+map_heading : HEADING.now
     ≡ codes "  word  name      kind      words  values\n"
     ++ codes "     0            unused        1  0\n"
     ++ codes "     1  char      library       1  1\n"
@@ -22,7 +22,7 @@ heading : HEADING.now
     ++ codes "     4  putchar   library       1  4\n"
     ++ codes "     5  printn    library       1  5\n"
     ++ codes "     6  exit      library       1  6\n"
-heading = refl
+map_heading = refl
 
 -- how many words of a name are shown
 shown : SHOWN ≡ 6

@@ -10,16 +10,16 @@ use Rattle.blang.specs.CodeParts.{Function}
 use Rattle.blang.specs.declared.code.Definition.TheVariants as definition
 use Rattle.blang.specs.Layout.{Spot, Shape, data_end, label_count, load_fault, first_some, shape_of, size_of, some_if, spot_behind, spots}
 use Rattle.bmach.proofs.Spots.{data_end-push, length-spots_behind, spots_behind-push, zip-push}
-use Rattle.btrace.specs.Programs.{Placed, functions_of, placed}
+use Rattle.btrace.specs.Programs.{Placed, functions_of, placed_function}
 
-pub one_more : (ds : List Definition) (d : Definition) → functions_of (ds ++ d ∷ []) ≡ functions_of ds ++ filter_map placed ((spot_behind (map shape_of ds) (shape_of d), d) ∷ [])
+pub one_more : (ds : List Definition) (d : Definition) → functions_of (ds ++ d ∷ []) ≡ functions_of ds ++ filter_map placed_function ((spot_behind (map shape_of ds) (shape_of d), d) ∷ [])
 one_more ds d =
     let shapes = map shape_of ds in
     let s = spot_behind shapes (shape_of d) in
-    ap (λ es. filter_map placed (zip (spots es) (ds ++ d ∷ []))) (map-append shape_of ds (d ∷ []))
-    ∙ ap (λ ss. filter_map placed (zip ss (ds ++ d ∷ []))) (spots_behind-push [] shapes (shape_of d))
-    ∙ ap (filter_map placed) (zip-push (spots shapes) ds s d (length-spots_behind [] shapes ∙ length-map ds shape_of))
-    ∙ filter_map-append placed (zip (spots shapes) ds) ((s, d) ∷ [])
+    ap (λ es. filter_map placed_function (zip (spots es) (ds ++ d ∷ []))) (map-append shape_of ds (d ∷ []))
+    ∙ ap (λ ss. filter_map placed_function (zip ss (ds ++ d ∷ []))) (spots_behind-push [] shapes (shape_of d))
+    ∙ ap (filter_map placed_function) (zip-push (spots shapes) ds s d (length-spots_behind [] shapes ∙ length-map ds shape_of))
+    ∙ filter_map-append placed_function (zip (spots shapes) ds) ((s, d) ∷ [])
 
 pub ends_behind : (ds : List Definition) (d : Definition) → data_end (map shape_of (ds ++ d ∷ [])) ≡ data_end (map shape_of ds) + size_of (shape_of d)
 ends_behind ds d = ap data_end (map-append shape_of ds (d ∷ [])) ∙ data_end-push (map shape_of ds) (shape_of d)
@@ -55,10 +55,10 @@ module _ (ds : List Definition) (i : ℕ) (d : Definition) (lt : i < length ds) 
       → new ≡ old ++ record { strings = address + 1; function = f } ∷ [] → new ≡ functions_of (take (i + 1) ds)
   with_function f old new address it here before more =
       more ∙ (λ j. before j ++ record { strings = here j + 1; function = f } ∷ [])
-      ∙ ap (λ x. functions_of (take i ds) ++ filter_map placed ((spot_behind (map shape_of (take i ds)) (shape_of x), x) ∷ [])) (sym it)
+      ∙ ap (λ x. functions_of (take i ds) ++ filter_map placed_function ((spot_behind (map shape_of (take i ds)) (shape_of x), x) ∷ [])) (sym it)
       ∙ sym (ap functions_of taken ∙ one_more (take i ds) d)
 
-  others : (x : Definition) (s : Spot) → ((f : Function) → x ≡ definition.Function f → ⊥) → filter_map placed ((s, x) ∷ []) ≡ []
+  others : (x : Definition) (s : Spot) → ((f : Function) → x ≡ definition.Function f → ⊥) → filter_map placed_function ((s, x) ∷ []) ≡ []
   others (definition.Function f) s other = absurd (other f refl)
   others (definition.Simple x) s other = refl
   others (definition.Vector x) s other = refl

@@ -8,7 +8,7 @@ use Rattle.blang.specs.declared.run.Outcome.TheVariants as outcome
 use Rattle.blang.specs.Machine.{Call, Finishes, Image, RunEnds, RunGives, State, image_of, machine, run, state_outcome}
 use Rattle.bmach.specs.Resolved.{IsLoadedFrom, state_resolved}
 use Rattle.bmach.specs.Stepping.{IsUnstarted, Paused}
-use Rattle.bmach.specs.Stops.{EndsAt, StandsAt, StopsAt}
+use Rattle.bmach.specs.Stops.{EndsAt, IsAtPlace, IsOverAt}
 use Rattle.bmach.proofs.Resolving.{run-resolved}
 use Rattle.bmach.proofs.Running.{same_run}
 use Rattle.brun.proofs.RunSteps.{outcome-resolved, run_loaded, run_of_loaded}
@@ -27,7 +27,7 @@ not_none r t is same = cc
 
 -- The states of one machine are those of the other, resolved.
 module _ (I : Image) (f g : ℕ → State) (e : (n : ℕ) → g n ≡ state_resolved I (f n)) (strings place : ℕ) where
-  stands_same : (n : ℕ) → StandsAt (g n) strings place → StandsAt (f n) strings place
+  stands_same : (n : ℕ) → IsAtPlace (g n) strings place → IsAtPlace (f n) strings place
   stands_same n s =
       let r = running_from I (f n) s.call s.below s.world (sym (e n) ∙ s.state_is) in
       record {
@@ -51,7 +51,7 @@ module _ (I : Image) (f g : ℕ → State) (e : (n : ℕ) → g n ≡ state_reso
   ends_at_same n outcome.Device h = tt
   ends_at_same n outcome.Memory h = tt
 
-stops_run : (ds : List Definition) (image : Image) (p : Paused) → IsLoadedFrom ds image → IsUnstarted image p → (n : ℕ) (i j : Incoming) (r : Outcome) (strings place : ℕ) → StopsAt (steps_from p) n i j r strings place → StopsAt (machine ds) n i j r strings place
+stops_run : (ds : List Definition) (image : Image) (p : Paused) → IsLoadedFrom ds image → IsUnstarted image p → (n : ℕ) (i j : Incoming) (r : Outcome) (strings place : ℕ) → IsOverAt (steps_from p) n i j r strings place → IsOverAt (machine ds) n i j r strings place
 stops_run ds image p loaded begins n i j r strings place s =
     let e : (input : List ℕ) (k : ℕ) → steps_from p input k ≡ state_resolved (image_of ds) (machine ds input k) =
     λ input k. sym (run_from image p begins input k) ∙ run_loaded ds image loaded input k ∙ run-resolved (image_of ds) input k in
@@ -71,7 +71,7 @@ module _ (edition : Edition) (source : List ℕ) (n : ℕ) (ends : RunEnds) (sta
   -- a run whose place was told
   pub located_whole : (told : Outgoing) (fs : List Placed) (answer strings place : ℕ) → HasProgram edition source ends.line mid ds image → fs ≡ functions_of ds → IsUnstarted image p
       → RunGives (steps_from p) n ends.input ends.input_behind ends.out ends.out_behind result → Finishes result mid told answer → located_status result ≡ Some answer
-      → StopsAt (steps_from p) n ends.input ends.input_behind result strings place → TellsSite fs strings place answer told ends.line_behind status → Locates edition source n ends status
+      → IsOverAt (steps_from p) n ends.input ends.input_behind result strings place → TellsSite fs strings place answer told ends.line_behind status → Locates edition source n ends status
   located_whole told fs answer strings place is functions begins gives finishes at stops tells =
       located mid told ds image result answer strings place is (runs_whole is begins gives) finishes at
       (stops_run ds image p is.loaded begins n ends.input ends.input_behind result strings place stops)

@@ -8,7 +8,7 @@ use Rattle.blang.specs.declared.run.Outcome.TheVariants as outcome
 use Rattle.blang.specs.declared.status.TheConstants.{LIMIT, MEMORY, TRAP}
 use Rattle.blang.specs.Machine.{Finishes, HasNotRun, Image, RunEnds, RunGives, machine}
 use Rattle.bmach.specs.Stepping.{BeginsNot}
-use Rattle.bmach.specs.Stops.{StopsAt}
+use Rattle.bmach.specs.Stops.{IsOverAt}
 use Rattle.blist.specs.Programs.{HasProgram, NoProgram}
 use Rattle.blist.specs.Told.{Told}
 use Rattle.btrace.specs.Programs.{Placed, functions_of}
@@ -36,7 +36,7 @@ pub data Locates (edition : Edition) (source : List ℕ) (steps : ℕ) (ends : R
       → HasProgram edition source ends.line mid ds image
       → RunGives (machine ds) steps ends.input ends.input_behind ends.out ends.out_behind result
       → Finishes result mid told answer → located_status result ≡ Some answer
-      → StopsAt (machine ds) steps ends.input ends.input_behind result strings place
+      → IsOverAt (machine ds) steps ends.input ends.input_behind result strings place
       → TellsSite (functions_of ds) strings place answer told ends.line_behind status
       → Locates edition source steps ends status
   unlocated : (mid : Outgoing) (ds : List Definition) (image : Image) (result : Outcome)

@@ -13,17 +13,17 @@ pub record Placed : Type 0 where
   pub strings : ℕ
   pub function : Function
 
-abbrev pub placed : Spot × Definition → Option Placed
-placed (s, definition.Function f) = Some (record { strings = s.strings; function = f })
-placed (s, d) = None
+abbrev pub placed_function : Spot × Definition → Option Placed
+placed_function (s, definition.Function f) = Some (record { strings = s.strings; function = f })
+placed_function (s, d) = None
 
 -- the functions of definitions, each where it lies
 abbrev pub functions_of : List Definition → List Placed
-functions_of ds = filter_map placed (zip (spots (map shape_of ds)) ds)
+functions_of ds = filter_map placed_function (zip (spots (map shape_of ds)) ds)
 
 -- the function that has its string words there
-abbrev pub function_at : List Placed → ℕ → Option Placed
-function_at fs strings = find (λ f. f.strings == strings) fs
+abbrev pub function_with : List Placed → ℕ → Option Placed
+function_with fs strings = find (λ f. f.strings == strings) fs
 
 -- the function of a name
 abbrev pub function_named : List Placed → List ℕ → Option Placed

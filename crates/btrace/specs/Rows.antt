@@ -8,7 +8,7 @@ use Rattle.blang.specs.declared.code.Instr.{Instr}
 use Rattle.blist.specs.Characters.{shown_byte}
 use Rattle.blist.specs.Columns.{left, right}
 use Rattle.blist.specs.Listings.{without_newline}
-use Rattle.btrace.specs.Programs.{Placed, function_at}
+use Rattle.btrace.specs.Programs.{Placed, function_with}
 use Rattle.btrace.specs.declared.rows.TheConstants.{MARGIN, SHOWN}
 
 -- the name of a function
@@ -28,10 +28,10 @@ instr_text None = []
 
 -- the name of the function of a call, and its next instruction
 abbrev pub name_of : List Placed → Call → List ℕ
-name_of fs call = name_in (function_at fs call.function.strings)
+name_of fs call = name_in (function_with fs call.function.strings)
 
 abbrev pub code_of : List Placed → Call → List ℕ
-code_of fs call = instr_text (instr_in (function_at fs call.function.strings) call.place)
+code_of fs call = instr_text (instr_in (function_with fs call.function.strings) call.place)
 
 -- the topmost operands, the topmost last, and `..` before them if there are more
 abbrev pub operands_text : List ℕ → List ℕ
@@ -81,7 +81,7 @@ words_text words has_more =
 -- a function, a place in it, and a line of the source
 abbrev pub site_text : List Placed → (strings place line : ℕ) → List ℕ
 site_text fs strings place line =
-    codes "in " ++ left 8 (name_in (function_at fs strings)) ++ codes " place " ++ right 4 (decimal place)
+    codes "in " ++ left 8 (name_in (function_with fs strings)) ++ codes " place " ++ right 4 (decimal place)
     ++ codes "  line " ++ right 4 (decimal line)
 
 abbrev pub place_text : List Placed → Place → List ℕ

@@ -1,7 +1,7 @@
 //! What is known of the functions of a program.
 ghost use Rattle.std.specs.Prelude.{◌≡◌, ◌≤◌, IfOk, map, option_map};
 ghost use Rattle.blang.specs.Layout.{data_end, shape_of};
-ghost use Rattle.btrace.specs.Programs.{entries_of, function_at, function_named, functions_of, placed_entry};
+ghost use Rattle.btrace.specs.Programs.{entries_of, function_with, function_named, functions_of, placed_entry};
 
 use blang::{Definition, FunctionParts};
 use blist::Program;
@@ -55,7 +55,7 @@ impl<'a> Tables<'a> {
 
     /// The function that has its string words there.
     pub fn entry(&self, strings: u32) -> Option<Entry<'a>>
-        ensures { option_map placed_entry result ≡ function_at (entries_of self.now) strings }
+        ensures { option_map placed_entry result ≡ function_with (entries_of self.now) strings }
     {
         for entry in &self.entries {
             if entry.strings == strings {

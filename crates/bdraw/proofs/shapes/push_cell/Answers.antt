@@ -1,13 +1,13 @@
 use Rattle.std.proofs.Common.{◌∙◌, ◌++◌, ◌+◌, ◌%◌, ◌^◌, ℕ, List, ap, codes, decimal}
 use Rattle.std.proofs.lemmas.Result.{on_ok_weaker}
 use Rattle.blist.proofs.AddedRows.{piece}
-use Rattle.bdraw.specs.Shapes.{opening, text_element}
+use Rattle.bdraw.specs.Shapes.{svg_opening, text_element}
 use Rattle.bdraw.proofs.shapes.push_cell.Goals as goal
 
 pub returns : goal.returns
 returns c =
     let cell = c.args.cell.now in
-    let frame : List ℕ → List ℕ = λ f. opening (codes "rect") f cell.x cell.y in
+    let frame : List ℕ → List ℕ = λ f. svg_opening (codes "rect") f cell.x cell.y in
     let size : List ℕ = codes " width='56' height='20'/>\n" in
     let word : List ℕ = text_element (codes "word") ((cell.x + 28) % 2 ^ 32) ((cell.y + 14) % 2 ^ 32) (decimal cell.word) in
     let below : List ℕ = text_element (codes "below") ((cell.x + 28) % 2 ^ 32) ((cell.y + 29) % 2 ^ 32) (decimal cell.address) in

@@ -1,7 +1,7 @@
 use Rattle.std.proofs.Common.{◌∙◌, ap, codes, decimal}
 use Rattle.std.proofs.lemmas.Result.{on_ok_weaker}
 use Rattle.blist.specs.Columns.{right}
-use Rattle.btrace.specs.Programs.{entries_of, function_at}
+use Rattle.btrace.specs.Programs.{entries_of, function_with}
 use Rattle.btrace.specs.Rows.{name_in}
 use Rattle.btrace.proofs.PlaceParts.{site_parts}
 use Rattle.btrace.proofs.places.push_site.Goals as goal
@@ -12,6 +12,6 @@ returns c =
     on_ok_weaker c.push_right_number-2.result (λ end. (
       c.line-line.result,
       site_parts (codes "in ") (codes " place ") (codes "  line ") c.args.text.now c.push.new.self c.push_left.new.self c.push-2.new.self c.push_right_number.new.self c.push-3.new.self c.push_right_number-2.new.self
-          c.name_of.result.now (name_in (function_at (entries_of c.args.tables.now) c.args.call.strings)) (right 4 (decimal c.args.call.place)) (right 4 (decimal c.line-line.result))
+          c.name_of.result.now (name_in (function_with (entries_of c.args.tables.now) c.args.call.strings)) (right 4 (decimal c.args.call.place)) (right 4 (decimal c.line-line.result))
           c.in_ok-push.ensures c.in_ok-push_left.ensures name c.in_ok-push-2.ensures c.in_ok-push_right_number.ensures c.in_ok-push-3.ensures end,
     )) c.push_right_number-2.ensures

@@ -4,7 +4,7 @@ use Rattle.std.proofs.lemmas.List.{reverse-reverse}
 use Rattle.std.proofs.lemmas.Result.{on_ok_weaker}
 use Rattle.blist.specs.Columns.{left, right}
 use Rattle.blist.proofs.AddedRows.{piece}
-use Rattle.btrace.specs.Programs.{entries_of, function_at, placed_entry}
+use Rattle.btrace.specs.Programs.{entries_of, function_with, placed_entry}
 use Rattle.btrace.specs.Rows.{instr_in, instr_text, name_in, operands_text}
 use Rattle.btrace.proofs.rows.push_step.Goals as goal
 
@@ -12,7 +12,7 @@ pub returns : goal.returns
 returns g c =
     let fs = entries_of c.args.tables.now in
     let call = c.args.stepper.now.call in
-    let entry : option_map placed_entry c.entry-entry.result ≡ function_at fs call.function.strings = c.entry-entry.ensures ∙ ap (function_at fs) c.top-call.ensures.strings in
+    let entry : option_map placed_entry c.entry-entry.result ≡ function_with fs call.function.strings = c.entry-entry.ensures ∙ ap (function_with fs) c.top-call.ensures.strings in
     let name = c.name_of.ensures ∙ ap name_in entry in
     let operands : c.operands.result.now ≡ reverse call.operands = sym (reverse-reverse c.operands.result.now) ∙ ap reverse c.operands.ensures in
     on_ok_weaker c.push-3.result (λ end. (

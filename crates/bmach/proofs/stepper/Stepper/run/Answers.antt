@@ -2,7 +2,7 @@ use Rattle.std.proofs.Common.{◌≡◌, ◌∙◌, [], ap, map, subst, sym}
 use Rattle.blang.specs.Machine.{RunGives, steps}
 use Rattle.bmach.specs.Images.{loaded_of}
 use Rattle.bmach.specs.Stepping.{Paused, machine_at}
-use Rattle.bmach.specs.Stops.{StopsAt}
+use Rattle.bmach.specs.Stops.{IsOverAt}
 use Rattle.bmach.proofs.stepper.Stepper.run.Goals as goal
 
 pub returns-clause-gives : goal.returns-clause-gives
@@ -19,5 +19,5 @@ returns-clause-stops g c =
     let functions : image.functions ≡ map loaded_of c.deref.result.now =
     sym (ap (λ i. i.functions) c.image.view_is) ∙ ap (map loaded_of) (sym c.deref.ensures.value) in
     let stop = c.run_steps.result in
-    subst (λ (p : Paused). StopsAt (λ left n. steps p.image n (machine_at p left [])) c.args.steps (g.I.ByteIn.incoming c.args.input.now) (g.I.ByteIn.incoming c.run_steps.new.input) stop.outcome stop.call.strings stop.call.place) c.self.view_is
+    subst (λ (p : Paused). IsOverAt (λ left n. steps p.image n (machine_at p left [])) c.args.steps (g.I.ByteIn.incoming c.args.input.now) (g.I.ByteIn.incoming c.run_steps.new.input) stop.outcome stop.call.strings stop.call.place) c.self.view_is
     (c.run_steps.ensures.stops image functions)
