@@ -68,8 +68,9 @@ fn fault_of(
 ) -> Result<Option<Finding>, AllocError> {
     let mut pass = Pass::new(alloc, source, asked.edition);
     for _ in 0..=source.len() {
-        match pass.next()? {
+        match pass.next() {
             Step::Written => {}
+            Step::Memory => return Err(AllocError),
             Step::Fault(diagnostic) => {
                 let fault = pass.fault(diagnostic);
                 return Ok(Some(faults::finding(source, spans, &fault)));
@@ -120,8 +121,10 @@ fn functions(alloc: Global, source: &[u8], asked: Request<'_>) -> Result<Vec<Ext
     let mut functions = Vec::new(alloc);
     let mut pass = Pass::new(alloc, source, asked.edition);
     for _ in 0..source.len() {
-        if pass.next()? != Step::Written {
-            break;
+        match pass.next() {
+            Step::Written => {}
+            Step::Memory => return Err(AllocError),
+            _ => break,
         }
         if pass.is_function() {
             functions.push(pass.extent)?;

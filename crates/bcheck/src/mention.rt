@@ -22,8 +22,10 @@ pub(crate) fn first_mention(
 ) -> Result<Option<Mention>, AllocError> {
     let mut pass = Pass::new(alloc, source, edition);
     for _ in 0..source.len() {
-        if pass.next()? != Step::Written {
-            break;
+        match pass.next() {
+            Step::Written => {}
+            Step::Memory => return Err(AllocError),
+            _ => break,
         }
     }
     let code = pass.into_code();
@@ -32,8 +34,10 @@ pub(crate) fn first_mention(
     };
     let mut pass = Pass::new(alloc, source, edition);
     for definition in definitions.as_slice() {
-        if pass.next()? != Step::Written {
-            break;
+        match pass.next() {
+            Step::Written => {}
+            Step::Memory => return Err(AllocError),
+            _ => break,
         }
         if let Some(place) = place_of(definition, name) {
             return Ok(Some(Mention {

@@ -2,7 +2,7 @@
 use blang::Diagnostic;
 use bparse::{Compiler, Step};
 use bword::{Edition, MemIn, MemOut};
-use std::alloc::{AllocError, Global};
+use std::alloc::Global;
 
 /// The tokens of a definition: from one place among all tokens to another.
 #[derive(Clone, Copy, Debug)]
@@ -37,17 +37,14 @@ impl<'a> Pass<'a> {
         }
     }
 
-    /// Compiles the next definition, unless memory is refused.
-    pub(crate) fn next(&mut self) -> Result<Step, AllocError> {
+    /// Compiles the next definition.
+    pub(crate) fn next(&mut self) -> Step {
         let step = self.compiler.next_definition();
-        if step == Step::Memory {
-            return Err(AllocError);
-        }
         self.extent = Extent {
             first: self.extent.end,
             end: place(self.compiler.tokens_taken()),
         };
-        Ok(step)
+        step
     }
 
     /// The fault that this diagnostic tells of the definition that was read last.
