@@ -8,11 +8,11 @@ use Rattle.blang.specs.declared.run.Outcome.{Outcome}
 use Rattle.blang.specs.declared.run.Outcome.TheVariants as outcome
 use Rattle.blang.specs.Machine.{Halted, Image, RunGives, Running, State, Stuck, run, state_outcome, state_world, step, steps}
 use Rattle.bmach.specs.Steps.{world_with}
-use Rattle.bmach.specs.Stepping.{IsUnstarted, Paused, machine_at}
+use Rattle.bmach.specs.Stepping.{HasEnd, IsUnstarted, Paused, machine_at}
 use Rattle.bmach.specs.Turns.{HasHalted, LeavesWords, MovesOn, TurnGives}
 use Rattle.bmach.proofs.Running.{behind, one_more, run_over, same_run, steps_add}
 use Rattle.bmach.proofs.Turning.{follows, goes_on}
-use Rattle.bdraw.specs.Draws.{DrawsRun, EndGives, HasEnd, IsAfter, IsAtEnd, IsMade, IsOver, LeavesAtEnd, ShowsMemory, no_memory, nothing_written, over, unread}
+use Rattle.bdraw.specs.Draws.{DrawsRun, EndGives, IsAfter, IsAtEnd, IsMade, IsOver, LeavesAtEnd, ShowsMemory, no_memory, nothing_written, over, unread}
 
 -- a state behind which nothing happens
 abbrev HasStopped : State → Type 0

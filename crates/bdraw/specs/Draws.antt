@@ -1,6 +1,6 @@
 -- What comes of a source whose memory is drawn.
 use Rattle.std.specs.Prelude.{◌≡◌, ℕ, zero, suc, ◌+◌, ◌%◌, min, List, [], ◌∷◌, ◌++◌, map, take, Option, Some, None}
-use Rattle.std.specs.Prelude.{Result, Ok, Err, slice_index, ⊤}
+use Rattle.std.specs.Prelude.{Result, Ok, Err, slice_index}
 use Rattle.std.specs.List.{flat_map}
 use Rattle.bword.specs.declared.edition.Edition.{Edition}
 use Rattle.bword.specs.ByteEnds.{CanFollow, Incoming, Outgoing, Kept, Took, outgoing_of}
@@ -10,7 +10,7 @@ use Rattle.blang.specs.declared.run.Outcome.TheVariants as outcome
 use Rattle.blang.specs.declared.status.TheConstants.{DEVICE, DONE, MEMORY}
 use Rattle.blang.specs.Layout.{Shape as Named, World, shape_of, size_of}
 use Rattle.blang.specs.Machine.{Call, Image, Running, State, run, state_world, steps, RunGives, RunEnds}
-use Rattle.bmach.specs.Stepping.{BeginsNot, Paused, machine_at}
+use Rattle.bmach.specs.Stepping.{BeginsNot, HasEnd, Paused, machine_at}
 use Rattle.bmach.specs.Turns.{MovesOn}
 use Rattle.blist.specs.Maps.{image_address}
 use Rattle.blist.specs.Programs.{HasProgram, NoProgram}
@@ -93,14 +93,6 @@ pub record IsAtEnd (image : Image) (n : ℕ) (i j : Incoming) (words : List ℕ)
   pub taken : List ℕ
   pub took : Took i taken j
   pub holds : (more : List ℕ) → CanFollow j more → (state_world (run image (taken ++ more) n)).store ≡ words
-
--- a run has an end of its own
-abbrev pub HasEnd : Outcome → Type 0
-HasEnd (outcome.Exit status) = ⊤
-HasEnd (outcome.Trap kind) = ⊤
-HasEnd outcome.Limit = ⊥
-HasEnd outcome.Device = ⊥
-HasEnd outcome.Memory = ⊥
 
 -- What is drawn after so many steps: the words that memory has then; or, where the run is over before, those where it
 -- is over; or those before a run that doesn't begin. Where the program can't read its input nothing is written.
