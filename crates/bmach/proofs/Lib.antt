@@ -18,3 +18,4 @@ pub mod Told
 pub mod Excluded
 pub mod Stopping
 pub mod Fusing
+pub mod Fetching

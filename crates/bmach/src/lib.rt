@@ -15,6 +15,7 @@ mod machine;
 mod number;
 mod operands;
 mod operation;
+mod origin;
 mod part;
 mod parts;
 mod quick;
