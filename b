@@ -116,6 +116,8 @@ answer_unproved() {
         [[ -f $file && -r $file && ${!place} != *[!' '-~]* ]] || return 1
         data=(--data "given.b=$file")
     fi
+    # Of a FILE that isn't there, `go --where` tells the name, which an unproved run doesn't have.
+    [ "$place" -eq 0 ] || [ -e "${!place}" ] || [[ " $* " != *' --where '* ]] || return 1
     keep_input "$file" || return 1
     say "not proved yet: an unproved, checked run answers in half a minute$behind"
     rt_in b try ${data[@]+"${data[@]}"} -- "${words[@]}" <"$work/input" >"$work/out" 2>"$work/said"

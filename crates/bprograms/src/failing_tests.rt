@@ -403,6 +403,7 @@ main() {
 }
 f(a) {
     auto t;
+    printn(a, 10);
     printn(a / 0, 10);
 }
 ";
@@ -416,7 +417,8 @@ b map --steps 9 x.b~0
 b check x.b~0
 b check --json x.b~0
 b trace x.b~130
-b trace --steps 6 x.b~131";
+b trace --steps 6 x.b~131
+b go --where x.b~130";
 
 // What comes of a command whose output and line are written into so much room.
 fn served(
@@ -502,6 +504,7 @@ fn the_line_of_a_trace_is_refused_memory(rt: HostRuntime) -> Result<(), Fail> {
 // Commands on that program, each with `~` and what is written where its input can't be read.
 const UNREAD: &str = "\
 b map --steps 9 x.b~@
+b go --where x.b~@
 b trace --from 5 x.b~    step  function place  line  code         operands
        5  main         4     4  x getchar    10
        6  main         5     4  v            10 3

@@ -151,7 +151,7 @@ b --help has the letters.";
 
 pub(crate) const CHECK_HELP: &str = "\
 The first line is that of b compile, or load 2 or load 3 where b run has it;
-with --json each line is an object, and the first has that line.
+with --json each line is an object; the first has its letters and its number.
 Behind it stand the place, the line of the source with a mark, and the mend.
 What compiles and is hardly meant is told as a warning. A source without a
 function main has no fault here.

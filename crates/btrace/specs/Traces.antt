@@ -7,8 +7,8 @@ use Rattle.bword.specs.declared.edition.Edition.{Edition}
 use Rattle.bword.specs.ByteEnds.{CanFollow, Incoming, Outgoing, Kept, Took, outgoing_of}
 use Rattle.blang.specs.declared.code.Definition.{Definition}
 use Rattle.blang.specs.declared.status.TheConstants.{DONE, MEMORY, WRONG_COMMAND}
-use Rattle.blang.specs.Machine.{Call, Image, State, Running, Halted, Stuck, States, RunEnds, Finishes, RunGives}
-use Rattle.blang.specs.Machine.{machine, state_outcome, state_world}
+use Rattle.blang.specs.Machine.{Call, Image, State, Running, Halted, Stuck, States, RunEnds, Finishes, HasNotRun}
+use Rattle.blang.specs.Machine.{RunGives, machine, state_outcome, state_world}
 use Rattle.blang.specs.Machine as runs
 use Rattle.bmach.specs.Stepping.{BeginsNot, Paused, machine_at}
 use Rattle.blang.specs.declared.run.Outcome.{Outcome}
@@ -165,10 +165,6 @@ TellsEnd told result line line_behind status =
 abbrev pub StepsGive : Paused → ℕ → (i j : Incoming) (o p : Outgoing) → Outcome → Type 0
 StepsGive first n i j o p result = RunGives (steps_from first) n i j o p result
 
--- Nothing was read, and nothing but a line was written.
-abbrev pub HasNoTrace : RunEnds → Type 0
-HasNoTrace ends = (ends.out_behind ≡ ends.out) × (ends.input_behind ≡ ends.input)
-
 -- The program of the source was run for so many steps at most, as the machine runs it, and its trace written; or it
 -- did not begin; or no function has the name, and that was told; or there is no program, and why was told; or memory
 -- was refused.
@@ -184,13 +180,13 @@ pub data Traces (edition : Edition) (source : List ℕ) (steps from : ℕ) (name
   not_begun : (mid : Outgoing) (ds : List Definition) (image : Image) (which : Which) (result : Outcome)
       → HasProgram edition source ends.line mid ds image
       → which_of (functions_of ds) from name ≡ Some which → BeginsNot image result
-      → Finishes result mid ends.line_behind status → HasNoTrace ends
+      → Finishes result mid ends.line_behind status → HasNotRun ends
       → Traces edition source steps from name ends status
   unnamed : (mid : Outgoing) (ds : List Definition) (image : Image) → HasProgram edition source ends.line mid ds image
       → which_of (functions_of ds) from name ≡ None
-      → Told UNNAMED.now WRONG_COMMAND mid ends.line_behind status → HasNoTrace ends
+      → Told UNNAMED.now WRONG_COMMAND mid ends.line_behind status → HasNotRun ends
       → Traces edition source steps from name ends status
-  stopped : NoProgram edition source ends.line ends.line_behind status → HasNoTrace ends
+  stopped : NoProgram edition source ends.line ends.line_behind status → HasNotRun ends
       → Traces edition source steps from name ends status
   no_memory : (ds : List Definition) (image : Image) → HasProgram edition source ends.line ends.line_behind ds image
       → ends.out_behind ≡ ends.out → status ≡ MEMORY → Traces edition source steps from name ends status

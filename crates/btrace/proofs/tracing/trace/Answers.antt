@@ -11,7 +11,7 @@ pub new-requires : goal.new-requires
 new-requires g c = data_fit c.in-Ok.program.definitions.items c.in-Ok.ensures.gives.loads
 
 pub returns-in-Err-clause-traces : goal.returns-in-Err-clause-traces
-returns-in-Err-clause-traces g c = stopped c.in-Err.ensures.gives (refl, refl)
+returns-in-Err-clause-traces g c = stopped c.in-Err.ensures.gives (record { unread = refl; silent = refl })
 
 pub returns-in_default-clause-traces : goal.returns-in_default-clause-traces
 returns-in_default-clause-traces g c = no_memory c.in-Ok.program.definitions.items c.in-Ok.program.image c.in-Ok.ensures.gives refl refl
@@ -19,7 +19,7 @@ returns-in_default-clause-traces g c = no_memory c.in-Ok.program.definitions.ite
 pub returns-in_default-which_of-clause-traces : goal.returns-in_default-which_of-clause-traces
 returns-in_default-which_of-clause-traces g c =
     unnamed (g.D.ByteOut.outgoing c.read_program.new.diag) c.in-Ok.program.definitions.items c.in-Ok.program.image c.in-Ok.ensures.gives
-    (subst (λ (fs : List Placed). which_of fs c.args.wanted.from (option_map (λ n. n.now) c.args.wanted.function) ≡ None) c.in-Ok-new.ensures (sym c.which_of.ensures ∙ c.in_default-which_of.is)) c.tell.ensures.told (refl, refl)
+    (subst (λ (fs : List Placed). which_of fs c.args.wanted.from (option_map (λ n. n.now) c.args.wanted.function) ≡ None) c.in-Ok-new.ensures (sym c.which_of.ensures ∙ c.in_default-which_of.is)) c.tell.ensures.told (record { unread = refl; silent = refl })
 
 pub returns-in_default-new-clause-traces : goal.returns-in_default-new-clause-traces
 returns-in_default-new-clause-traces g c = no_memory c.in-Ok.program.definitions.items c.in-Ok.program.image c.in-Ok.ensures.gives refl refl
@@ -31,7 +31,7 @@ pub returns-in-Err-begin-clause-traces : goal.returns-in-Err-begin-clause-traces
 returns-in-Err-begin-clause-traces g c =
     not_begun (g.D.ByteOut.outgoing c.read_program.new.diag) c.in-Ok.program.definitions.items c.in-Ok.program.image c.in-Some.which c.in-Err-begin.outcome c.in-Ok.ensures.gives
     (subst (λ (fs : List Placed). which_of fs c.args.wanted.from (option_map (λ n. n.now) c.args.wanted.function) ≡ Some c.in-Some.which) c.in-Ok-new.ensures (sym c.which_of.ensures ∙ c.in-Some.is)) c.in-Err-begin.ensures
-    c.finish.ensures.gives (refl, refl)
+    c.finish.ensures.gives (record { unread = refl; silent = refl })
 
 pub returns-in-Err-trace_steps-clause-traces : goal.returns-in-Err-trace_steps-clause-traces
 returns-in-Err-trace_steps-clause-traces g c = no_memory c.in-Ok.program.definitions.items c.in-Ok.program.image c.in-Ok.ensures.gives refl refl
