@@ -2,7 +2,7 @@
 use Rattle.std.proofs.Common.{◌≡◌, ◌∙◌, ℕ, List, [], Option, Some, None, Result, Ok, Err, false, refl, sym, subst, inl, inr}
 use Rattle.std.specs.Prelude.{MatchResult}
 use Rattle.bword.specs.declared.edition.Edition.{Edition}
-use Rattle.bword.specs.ByteEnds.{Incoming, Outgoing, Kept, Unread, incoming_of, outgoing_of}
+use Rattle.bword.specs.ByteEnds.{Outgoing, Kept, Unread, incoming_of, outgoing_of}
 use Rattle.blang.specs.Text.{IsCodeText}
 use Rattle.blang.specs.declared.code.Definition.{Definition}
 use Rattle.bcode.specs.Faults.{IsFaultOf}
@@ -29,12 +29,12 @@ abbrev nothing_kept : Kept
 nothing_kept = record { bytes = []; refusals = 0 }
 
 -- what compiling between these ends does
-abbrev Compiling : (edition : Edition) (source : Unread) (behind : Incoming) (first last : Kept) (line line_behind : Outgoing) → ℕ → Type 0
+abbrev Compiling : (edition : Edition) (source behind : Unread) (first last : Kept) (line line_behind : Outgoing) → ℕ → Type 0
 Compiling edition source behind first last line line_behind status =
-    Compiles (record { edition = edition; source = incoming_of source; source_behind = behind; code = outgoing_of first; code_behind = outgoing_of last; line = line; line_behind = line_behind; status = status })
+    Compiles (record { edition = edition; source = incoming_of source; source_behind = incoming_of behind; code = outgoing_of first; code_behind = outgoing_of last; line = line; line_behind = line_behind; status = status })
 
 module _ (edition : Edition) (source : List ℕ) (line : Outgoing) where
-  pub compiled : (input : Unread) (behind : Incoming) (first last : Kept) (line_behind : Outgoing) (status : ℕ) → input ≡ record { left = source; is_over = false } → first ≡ nothing_kept
+  pub compiled : (input behind : Unread) (first last : Kept) (line_behind : Outgoing) (status : ℕ) → input ≡ record { left = source; is_over = false } → first ≡ nothing_kept
       → Compiling edition input behind first last line line_behind status → WasCompiled edition source line line_behind last.bytes status
   compiled input behind first last line_behind status is none h = record {
     behind = behind;

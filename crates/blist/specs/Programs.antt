@@ -1,7 +1,7 @@
 -- A source that is compiled and loaded, or why it can't be.
 use Rattle.std.specs.Prelude.{◌≡◌, ℕ, List, [], codes, false, Option, Some, None, MatchOption, Result, Ok, Err, ◌⊎◌}
 use Rattle.bword.specs.declared.edition.Edition.{Edition}
-use Rattle.bword.specs.ByteEnds.{Incoming, Outgoing, Kept, incoming_of, outgoing_of}
+use Rattle.bword.specs.ByteEnds.{Unread, Outgoing, Kept, incoming_of, outgoing_of}
 use Rattle.bcode.specs.Faults.{IsFaultLine}
 use Rattle.blang.specs.Text.{IsCodeText}
 use Rattle.blang.specs.declared.code.Definition.{Definition}
@@ -21,13 +21,13 @@ use Rattle.blist.specs.Told.{Told}
 -- The source was compiled between these ends of lines, to this code and with this status.
 pub record WasCompiled (edition : Edition) (source : List ℕ) (line line_behind : Outgoing) (code : List ℕ) (status : ℕ)
     : Type 0 where
-  pub behind : Incoming
+  pub behind : Unread
   pub kept : Kept
   pub code_is : kept.bytes ≡ code
   pub compiles : Compiles (record {
     edition = edition;
     source = incoming_of (record { left = source; is_over = false });
-    source_behind = behind;
+    source_behind = incoming_of behind;
     code = outgoing_of (record { bytes = []; refusals = 0 });
     code_behind = outgoing_of kept;
     line = line;
