@@ -107,6 +107,7 @@ pub is_after : (image : Image) (first now : Paused) (n : ℕ) (i j : Incoming) (
 is_after image first now n i j o q b t = record {
   taken = t.1.taken;
   took = t.1.took;
+  no_failure = t.1.no_failure;
   holds = λ more can. (
     now.call,
     now.below,
@@ -146,4 +147,4 @@ ends_drawn ds image words n i j (outcome.Exit m) old new status is no_limit end 
 ends_drawn ds image words n i j (outcome.Trap kind) old new status is no_limit end s = over (outcome.Trap kind) words is tt (end tt) s
 ends_drawn ds image words n i j outcome.Limit old new status is no_limit end s = absurd (no_limit refl)
 ends_drawn ds image words n i j outcome.Device old new status is no_limit end s = unread is s.0 s.1
-ends_drawn ds image words n i j outcome.Memory old new status is no_limit end s = no_memory s.0 s.1
+ends_drawn ds image words n i j outcome.Memory old new status is no_limit end s = no_memory is.1.reason.0 s.0 s.1

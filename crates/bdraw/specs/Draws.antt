@@ -50,11 +50,11 @@ named image ds = flat_map (λ d. name_row image (shape_of d)) ds
 abbrev pub AddsRow : List ℕ → List Shape → List Shape → Type 0
 AddsRow words old new = (addresses : List ℕ) × (drawn new ≡ drawn old ++ map (seen words) addresses)
 
--- What is drawn of memory: the words of the library, the first ones of each of the first 48 names, and those of frames;
--- each is the word that stands at its address.
+-- What is drawn of memory: the words of the library, the first ones of each of the first 48 names, and any others; each
+-- is the word that stands at its address.
 abbrev pub Drawn : List Definition → Image → List ℕ → List Shape → Type 0
 Drawn ds image words shapes =
-    (frames : List ℕ) × (drawn shapes ≡ map (seen words) (row 0 7 ++ named image (take 48 ds) ++ frames))
+    (others : List ℕ) × (drawn shapes ≡ map (seen words) (row 0 7 ++ named image (take 48 ds) ++ others))
 
 -- The text is a picture of memory.
 pub record IsPicture (ds : List Definition) (image : Image) (words : List ℕ) (text : List ℕ) : Type 0 where
@@ -64,7 +64,8 @@ pub record IsPicture (ds : List Definition) (image : Image) (words : List ℕ) (
   pub text_is : text ≡ picture_text height shapes
 
 -- A picture of memory was written, or a beginning of it; or memory was refused, and nothing was.
-pub data ShowsMemory (ds : List Definition) (image : Image) (words : List ℕ) (old new : Outgoing) (status : ℕ) : Type 0 where
+pub data ShowsMemory (ds : List Definition) (image : Image) (words : List ℕ) (old new : Outgoing) (status : ℕ)
+    : Type 0 where
   shown : (text : List ℕ) → IsPicture ds image words text → Told text DONE old new status
       → ShowsMemory ds image words old new status
   no_memory : new ≡ old → status ≡ MEMORY → ShowsMemory ds image words old new status
@@ -78,10 +79,11 @@ Holds words s = (call : Call) × (below : List Call) × (world : World) × (s �
 abbrev pub nothing_written : Outgoing
 nothing_written = outgoing_of (record { bytes = []; refusals = 0 })
 
--- Memory has these words after so many steps, in which this was taken of the input.
+-- Memory has these words after so many steps, in which this was taken of the input and no read failed.
 pub record IsAfter (image : Image) (n : ℕ) (i j : Incoming) (words : List ℕ) : Type 0 where
   pub taken : List ℕ
   pub took : Took i taken j
+  pub no_failure : j.failures ≡ i.failures
   pub holds : (more : List ℕ) → CanFollow j more → Holds words (run image (taken ++ more) n)
 
 -- so many steps were given to the run, and it is over so
@@ -95,17 +97,18 @@ pub record IsAtEnd (image : Image) (n : ℕ) (i j : Incoming) (words : List ℕ)
   pub holds : (more : List ℕ) → CanFollow j more → (state_world (run image (taken ++ more) n)).store ≡ words
 
 -- What is drawn after so many steps: the words that memory has then; or, where the run is over before, those where it
--- is over; or those before a run that doesn't begin. Where the program can't read its input nothing is written.
+-- is over; or those before a run that doesn't begin. Where the program can't read its input nothing is written, nor
+-- where memory is refused; that comes only where no read failed.
 pub data DrawsRun (ds : List Definition) (image : Image) (n : ℕ) (i j : Incoming) (old new : Outgoing) (status : ℕ)
     : Type 0 where
   after : (words : List ℕ) → IsAfter image n i j words → ShowsMemory ds image words old new status
       → DrawsRun ds image n i j old new status
   over : (result : Outcome) (words : List ℕ) → IsOver image n i j result → HasEnd result → IsAtEnd image n i j words
       → ShowsMemory ds image words old new status → DrawsRun ds image n i j old new status
-  not_begun : (result : Outcome) → BeginsNot image result → HasEnd result → ShowsMemory ds image image.words old new status
-      → j ≡ i → DrawsRun ds image n i j old new status
+  not_begun : (result : Outcome) → BeginsNot image result → HasEnd result
+      → ShowsMemory ds image image.words old new status → j ≡ i → DrawsRun ds image n i j old new status
   unread : IsOver image n i j outcome.Device → new ≡ old → status ≡ DEVICE → DrawsRun ds image n i j old new status
-  no_memory : new ≡ old → status ≡ MEMORY → DrawsRun ds image n i j old new status
+  no_memory : j.failures ≡ i.failures → new ≡ old → status ≡ MEMORY → DrawsRun ds image n i j old new status
 
 -- what comes of a run that is over so, with these words
 abbrev pub EndGives : List Definition → Image → List ℕ → Outcome → (old new : Outgoing) → ℕ → Type 0

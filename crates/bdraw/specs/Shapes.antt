@@ -1,5 +1,6 @@
 -- The SVG text of a picture.
-use Rattle.std.specs.Prelude.{◌≡◌, refl, ℕ, ◌+◌, ◌%◌, ◌^◌, ◌==◌, ◌∷◌, List, [], ◌++◌, codes, decimal, nat_lt, if◌then◌else◌}
+use Rattle.std.specs.Prelude.{◌≡◌, refl, ℕ, ◌+◌, ◌%◌, ◌^◌, ◌==◌, ◌∷◌, List, [], ◌++◌, codes, decimal}
+use Rattle.std.specs.Prelude.{nat_lt, if◌then◌else◌}
 use Rattle.std.specs.List.{flat_map}
 use Rattle.bdraw.specs.declared.shapes.Cell.{Cell}
 use Rattle.bdraw.specs.declared.shapes.Fill.{Fill}

@@ -5,7 +5,7 @@ ghost use Rattle.bword.specs.ByteEnds.{outgoing_of};
 ghost use Rattle.bdraw.specs.Draws.{Draws, DrawsRun, EndGives, IsPicture, Made, ShowsMemory, Unbegun};
 
 use crate::picture::picture_of;
-use crate::scene::{Calls, Memory, Moment, Scene, calls_of, no_calls};
+use crate::scene::{Memory, Moment, Scene, calls_of, no_calls};
 use crate::shapes::picture_text;
 use blang::Outcome;
 use blang::status::{self, Status};

@@ -1,6 +1,6 @@
-use Rattle.std.proofs.Common.{ℕ, List, refl, subst}
+use Rattle.std.proofs.Common.{ℕ, List, subst}
 use Rattle.blist.specs.Told.{Told}
-use Rattle.bdraw.specs.Draws.{no_memory, shown}
+use Rattle.bdraw.specs.Draws.{shown}
 use Rattle.bdraw.proofs.drawing.show.Goals as goal
 
 pub returns-in-Ok-clause-shows : goal.returns-in-Ok-clause-shows
