@@ -19,3 +19,4 @@ pub mod Excluded
 pub mod Stopping
 pub mod Fusing
 pub mod Fetching
+pub mod Beginning

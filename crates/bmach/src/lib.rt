@@ -32,5 +32,5 @@ pub use loader::load;
 pub use machine::{Active, Stop};
 pub use parts::{name_of, size_of};
 pub use resolve::resolving_changes_no_run;
-pub use runs::{run, wrong_runs_are_excluded};
-pub use stepper::Stepper;
+pub use runs::wrong_runs_are_excluded;
+pub use stepper::{Stepper, run};

@@ -114,7 +114,7 @@ pub struct Active {
 #[derive(Clone, Copy, Debug, PartialEq, Eq)]
 pub struct Stop {
     pub outcome: Outcome,
-    /// The running call before the step with which the run was over, or behind the last step.
+    /// After a trap the running call before the step that was one; at the limit the one behind the last step.
     pub call: Active,
 }
 
