@@ -9,9 +9,10 @@ use Rattle.std.proofs.lemmas.List.Concat.{flat_map-append}
 use Rattle.std.specs.Prelude.{Option}
 use Rattle.blang.specs.Text.{lines_of}
 use Rattle.blang.specs.declared.code.Definition.{Definition}
-use Rattle.blist.specs.Characters.{IsPrintable}
-use Rattle.blist.specs.Listings.{Adds, Extends, ListingRow, is_wanted, row_text, wanted, without_newline}
+use Rattle.blist.specs.Characters.{IsMargin, IsPrintable}
+use Rattle.blist.specs.Listings.{Adds, AddsBeside, AddsMargin, Extends, IsApart, ListingRow, is_wanted, row_text, wanted, without_newline}
 use Rattle.blist.proofs.Printable.{both}
+use Rattle.blist.proofs.Margins.{margins_both}
 
 pub adds_nothing : (old : List ℕ) → Adds old [] old
 adds_nothing old = ([], record { rows = []; lines_are = refl; text_is = refl }, sym (append-nil old))
@@ -27,9 +28,9 @@ adds_both old mid new ls ks first second = (
   second.2 ∙ ap (λ t. t ++ second.0) first.2 ∙ append_assoc old first.0 second.0,
 )
 
-pub adds_row : (old : List ℕ) (margin line beside : List ℕ) → IsPrintable margin → IsPrintable beside → Adds old (line ∷ []) ((((old ++ margin) ++ without_newline line) ++ beside) ++ codes "\n")
-adds_row old margin line beside before behind =
-    let r : ListingRow = record { margin = margin; line = line; beside = beside; margin_is_printable = before; beside_is_printable = behind } in (
+pub adds_row : (old : List ℕ) (margin line beside : List ℕ) → IsMargin margin → IsPrintable beside → IsApart (length (without_newline line)) beside → Adds old (line ∷ []) ((((old ++ margin) ++ without_newline line) ++ beside) ++ codes "\n")
+adds_row old margin line beside before behind apart =
+    let r : ListingRow = record { margin = margin; line = line; beside = beside; margin_is = before; beside_is_printable = behind; beside_is_apart = apart } in (
       row_text r,
       record {
         rows = r ∷ [];
@@ -59,12 +60,12 @@ adds_more f old mid new xs i x first page lt is empty line before row =
     subst (λ ls. Adds old ls new) (sym lines) (adds_both old mid new _ _ before (subst (λ p. Adds mid (p ∷ []) new) same row))
 
 -- the parts of a row, one behind another
-pub row_added : (old t1 t2 t3 t4 t5 code page : List ℕ) → Extends old t1 → Extends t1 t2 → t3 ≡ t2 ++ code → code ≡ without_newline page → Extends t3 t4 → t5 ≡ t4 ++ codes "\n" → Adds old (page ∷ []) t5
+pub row_added : (old t1 t2 t3 t4 t5 code page : List ℕ) → AddsMargin old t1 → AddsMargin t1 t2 → t3 ≡ t2 ++ code → code ≡ without_newline page → AddsBeside (length code) t3 t4 → t5 ≡ t4 ++ codes "\n" → Adds old (page ∷ []) t5
 row_added old t1 t2 t3 t4 t5 code page a b three same d end =
-    let before = extends_both old t1 t2 a b in
+    let before = margins_both old t1 t2 a b in
     let all : t5 ≡ (((old ++ before.0) ++ without_newline page) ++ d.0) ++ codes "\n" =
-    end ∙ ap (λ x. x ++ codes "\n") (d.2 ∙ ap (λ x. x ++ d.0) (three ∙ ap₂ (λ x y. x ++ y) before.2 same)) in
-    subst (λ t. Adds old (page ∷ []) t) (sym all) (adds_row old before.0 page d.0 before.1 d.1)
+    end ∙ ap (λ x. x ++ codes "\n") (d.3 ∙ ap (λ x. x ++ d.0) (three ∙ ap₂ (λ x y. x ++ y) before.2 same)) in
+    subst (λ t. Adds old (page ∷ []) t) (sym all) (adds_row old before.0 page d.0 before.1 d.1 (subst (λ x. IsApart (length x) d.0) same d.2))
 
 pub function_rows : (old t1 t2 t3 t4 page h : List ℕ) (xs ys zs : List (List ℕ)) → page ≡ h → Adds old (page ∷ []) t1 → Adds t1 xs t2 → Adds t2 ys t3 → Adds t3 zs t4 → Adds old (h ∷ ((xs ++ ys) ++ zs)) t4
 function_rows old t1 t2 t3 t4 page h xs ys zs same a b c d =

@@ -1,3 +1,4 @@
 pub mod AddedRows
 pub mod Loading
+pub mod Margins
 pub mod Printable

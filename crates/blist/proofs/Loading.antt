@@ -1,5 +1,5 @@
 -- How a source comes to be a program, or why it doesn't.
-use Rattle.std.proofs.Common.{◌≡◌, ◌∙◌, ℕ, List, [], Option, Some, None, Result, Ok, Err, false, refl, sym, subst, inl, inr}
+use Rattle.std.proofs.Common.{◌≡◌, ℕ, List, [], None, Result, Ok, Err, false, refl, sym, subst, inl, inr}
 use Rattle.std.specs.Prelude.{MatchResult}
 use Rattle.bword.specs.declared.edition.Edition.{Edition}
 use Rattle.bword.specs.ByteEnds.{Outgoing, Kept, Unread, incoming_of, outgoing_of}
@@ -17,8 +17,7 @@ use Rattle.blang.specs.declared.run.LoadFault.{LoadFault}
 use Rattle.blang.specs.declared.run.LoadFault.TheVariants as fault
 use Rattle.blang.specs.Compiles.{Compiles}
 use Rattle.blist.specs.declared.program.Program.{Program}
-use Rattle.blist.specs.Programs.{WasCompiled, IsThisProgram, LoadGives, NoProgram, IsNotLoaded, IsUnread, TellsFault, load_line, unread_status, faulty, unread, refused, no_memory, not_read, not_loaded}
-use Rattle.blist.specs.Told.{Told}
+use Rattle.blist.specs.Programs.{WasCompiled, IsThisProgram, LoadGives, NoProgram, IsNotLoaded, IsUnread, TellsFault, unread_status, unread, refused, no_memory, not_read, not_loaded}
 
 -- a text that was not read is none, or memory was refused
 pub not_code : (code : List ℕ) (f : CodeFault) → IsFaultOf code f → ((ds : List Definition) → IsCodeText code ds → f ≡ code_fault.Memory) → IsUnread code (unread_status f)

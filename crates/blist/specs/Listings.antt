@@ -1,6 +1,6 @@
 -- The code of a source, as it is listed.
 use Rattle.std.specs.Prelude.{◌≡◌, ℕ, ◌-◌, Bool, true, List, [], ◌++◌, codes, map, filter, length}
-use Rattle.std.specs.Prelude.{take, refl, Option, Some, None}
+use Rattle.std.specs.Prelude.{take, replicate, max, refl, Option, Some, None, ◌⊎◌}
 use Rattle.std.specs.List.{flat_map}
 use Rattle.std.specs.Str.{bytes_eq}
 use Rattle.bword.specs.declared.edition.Edition.{Edition}
@@ -11,7 +11,7 @@ use Rattle.blang.specs.declared.status.TheConstants.{DONE, MEMORY, WRONG_COMMAND
 use Rattle.blang.specs.Layout.{shape_of}
 use Rattle.blang.specs.Machine.{Image}
 use Rattle.blist.specs.declared.listing.TheConstants.{HEADING, UNDEFINED}
-use Rattle.blist.specs.Characters.{IsPrintable}
+use Rattle.blist.specs.Characters.{IsMargin, IsPrintable}
 use Rattle.blist.specs.Programs.{HasProgram, NoProgram}
 use Rattle.blist.specs.Told.{ToldEnds, Told}
 
@@ -23,17 +23,23 @@ listing_heading = refl
 undefined_line : UNDEFINED.now ≡ codes "error: the source has no definition of this NAME\n"
 undefined_line = refl
 
--- a row: what stands before a line of code, the line with its newline, and what stands beside it
+-- a line without its newline
+abbrev pub without_newline : List ℕ → List ℕ
+without_newline line = take (length line - 1) line
+
+-- beside so many bytes of code stands nothing, or something in the column of the source, a blank at least before it
+abbrev pub IsApart : ℕ → List ℕ → Type 0
+IsApart used beside = (beside ≡ []) ⊎ ((rest : List ℕ) × (beside ≡ replicate (max (14 - used) 1) 32 ++ rest))
+
+-- A row: what stands before a line of code, the line with its newline, and what stands beside it. A line of code begins
+-- with a letter, and a margin has none, so a row shows no other code than its line.
 pub record ListingRow : Type 0 where
   pub margin : List ℕ
   pub line : List ℕ
   pub beside : List ℕ
-  pub margin_is_printable : IsPrintable margin
+  pub margin_is : IsMargin margin
   pub beside_is_printable : IsPrintable beside
-
--- a line without its newline
-abbrev pub without_newline : List ℕ → List ℕ
-without_newline line = take (length line - 1) line
+  pub beside_is_apart : IsApart (length (without_newline line)) beside
 
 abbrev pub row_text : ListingRow → List ℕ
 row_text r = r.margin ++ without_newline r.line ++ r.beside ++ codes "\n"
@@ -51,6 +57,14 @@ Adds old lines new = (text : List ℕ) × AreRows lines text × (new ≡ old ++ 
 -- a text without a newline was added to another one
 abbrev pub Extends : List ℕ → List ℕ → Type 0
 Extends old new = (text : List ℕ) × IsPrintable text × (new ≡ old ++ text)
+
+-- a part of a margin was added to a text
+abbrev pub AddsMargin : List ℕ → List ℕ → Type 0
+AddsMargin old new = (text : List ℕ) × IsMargin text × (new ≡ old ++ text)
+
+-- what stands beside so many bytes of code was added to a text
+abbrev pub AddsBeside : ℕ → List ℕ → List ℕ → Type 0
+AddsBeside used old new = (text : List ℕ) × IsPrintable text × IsApart used text × (new ≡ old ++ text)
 
 -- whether a definition is wanted: of a name those alone that have it
 abbrev pub is_wanted : Option (List ℕ) → Definition → Bool

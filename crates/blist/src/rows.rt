@@ -1,6 +1,6 @@
 //! The rows of a listing.
 ghost use Rattle.std.specs.Prelude.{◌≡◌, [], ◌∷◌, OnOk};
-ghost use Rattle.blist.specs.Listings.{Adds, Extends};
+ghost use Rattle.blist.specs.Listings.{Adds, AddsBeside, AddsMargin, Extends};
 
 use crate::characters::push_characters;
 use crate::text::Text;
@@ -59,7 +59,7 @@ pub fn push_row(text: &mut Text, page: &Page, told: Told<'_>) -> Result<(), Allo
 }
 
 fn push_spot(text: &mut Text, spot: Spot) -> Result<(), AllocError>
-    ensures { OnOk result (Extends text.old text.new) }
+    ensures { OnOk result (AddsMargin text.old text.new) }
 {
     match spot {
         Spot::Nowhere => text.push_blanks(6),
@@ -70,7 +70,7 @@ fn push_spot(text: &mut Text, spot: Spot) -> Result<(), AllocError>
 
 // An address, as `@7`.
 fn push_address(text: &mut Text, address: u16) -> Result<(), AllocError>
-    ensures { OnOk result (Extends text.old text.new) }
+    ensures { OnOk result (AddsMargin text.old text.new) }
 {
     let mut buffer = Buffer::new();
     let digits = buffer.format(address).as_bytes();
@@ -80,7 +80,7 @@ fn push_address(text: &mut Text, address: u16) -> Result<(), AllocError>
 }
 
 fn push_line_number(text: &mut Text, line: Option<u64>) -> Result<(), AllocError>
-    ensures { OnOk result (Extends text.old text.new) }
+    ensures { OnOk result (AddsMargin text.old text.new) }
 {
     match line {
         None => text.push_blanks(8),
@@ -93,14 +93,14 @@ fn push_line_number(text: &mut Text, line: Option<u64>) -> Result<(), AllocError
 
 // What stands beside code of this length.
 fn push_beside(text: &mut Text, used: usize, source: &[u8], named: Named) -> Result<(), AllocError>
-    ensures { OnOk result (Extends text.old text.new) }
+    ensures { OnOk result (AddsBeside used text.old text.new) }
 {
     if let Named::Nothing = named {
         if source.is_empty() {
             return Ok(());
         }
     }
-    text.push_blanks(CODE_WIDTH.saturating_sub(used))?;
+    text.push_blanks(CODE_WIDTH.saturating_sub(used).max(1))?;
     push_source(text, source)?;
     if let Named::Nothing = named {
         return Ok(());

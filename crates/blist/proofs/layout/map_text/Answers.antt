@@ -1,4 +1,4 @@
-use Rattle.std.proofs.Common.{◌≡◌, ◌∙◌, ◌++◌, List, ap, ap₂, arith, codes, decimal}
+use Rattle.std.proofs.Common.{◌∙◌, ◌++◌, List, ap, ap₂, arith, codes, decimal}
 use Rattle.std.proofs.lemmas.List.{take_all}
 use Rattle.std.specs.List.{flat_map}
 use Rattle.blang.specs.declared.code.Definition.{Definition}

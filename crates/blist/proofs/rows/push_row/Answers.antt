@@ -1,7 +1,6 @@
-use Rattle.std.proofs.Common.{◌≡◌, ◌-◌, arith, length, take}
+use Rattle.std.proofs.Common.{arith}
 use Rattle.std.proofs.lemmas.Grind.{common_steps}
 use Rattle.std.proofs.lemmas.Result.{on_ok_weaker}
-use Rattle.blist.specs.Listings.{without_newline}
 use Rattle.blist.proofs.AddedRows.{row_added}
 use Rattle.blist.proofs.rows.push_row.Goals as goal
 
