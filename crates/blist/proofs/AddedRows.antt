@@ -1,15 +1,15 @@
 -- Rows of a listing, one behind another.
-use Rattle.std.proofs.Common.{◌≡◌, ◌∙◌, ◌+◌, ◌<◌, ℕ, zero, suc, Bool, true, false, cond, List, [], ◌∷◌, ◌++◌, map, filter, get_or, length, take, ap, ap₂, append-nil, append_assoc, arith, refl, subst, sym}
+use Rattle.std.proofs.Common.{◌≡◌, ◌∙◌, ◌+◌, ◌/◌, ◌<◌, ◌≤◌, ℕ, zero, suc, Bool, true, false, cond, List, [], ◌∷◌, ◌++◌, map, filter, get_or, length, take, ap, ap₂, append-nil, append_assoc, arith, refl, subst, sym}
 use Rattle.std.specs.List.{flat_map}
 use Rattle.std.specs.Prelude.{codes}
-use Rattle.std.proofs.lemmas.Bool.{cond-true}
+use Rattle.std.proofs.lemmas.Bool.{cond-false, cond-true, le-ltb, lt-ltb}
 use Rattle.std.proofs.lemmas.List.{map-append, take_more}
 use Rattle.std.proofs.lemmas.List.Elements.{filter-append}
 use Rattle.std.proofs.lemmas.List.Concat.{flat_map-append}
-use Rattle.std.specs.Prelude.{Option}
+use Rattle.std.specs.Prelude.{Option, nat_lt}
 use Rattle.blang.specs.Text.{lines_of}
 use Rattle.blang.specs.declared.code.Definition.{Definition}
-use Rattle.blist.specs.Characters.{IsMargin, IsPrintable}
+use Rattle.blist.specs.Characters.{IsMargin, IsPrintable, shown_byte, shown_high}
 use Rattle.blist.specs.Listings.{Adds, AddsBeside, AddsMargin, Extends, IsApart, ListingRow, is_wanted, row_text, wanted, without_newline}
 use Rattle.blist.proofs.Printable.{both}
 use Rattle.blist.proofs.Margins.{margins_both}
@@ -101,6 +101,13 @@ some_pass p (x ∷ xs) (suc i) d lt passes none =
 -- one piece more of a text
 pub piece : (t t' t'' a b : List ℕ) → t' ≡ t ++ a → t'' ≡ t' ++ b → t'' ≡ t ++ (a ++ b)
 piece t t' t'' a b p q = q ∙ ap (λ x. x ++ b) p ∙ append_assoc t a b
+
+-- the high byte of a word was added, or nothing where it is zero
+pub high_added : (old new : List ℕ) (word : ℕ) → 256 ≤ word → new ≡ old ++ shown_byte (word / 256) → new ≡ old ++ shown_high word
+high_added old new word high e = e ∙ ap (λ x. old ++ x) (sym (cond-false (nat_lt word 256) [] (shown_byte (word / 256)) (le-ltb word 256 high)))
+
+pub nothing_added : (old new : List ℕ) (word : ℕ) → word < 256 → new ≡ old → new ≡ old ++ shown_high word
+nothing_added old new word low e = e ∙ sym (append-nil old) ∙ ap (λ x. old ++ x) (sym (cond-true (nat_lt word 256) [] (shown_byte (word / 256)) (lt-ltb word 256 low)))
 
 -- the text of one element more
 pub each_more : {X : Type 0} (f : X → List ℕ) (head text new : List ℕ) (xs : List X) (i : ℕ) (x : X) → i < length xs → x ≡ get_or xs i x → text ≡ head ++ flat_map f (take i xs) → new ≡ text ++ f x

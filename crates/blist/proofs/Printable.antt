@@ -1,6 +1,6 @@
 -- Texts of printable characters.
-use Rattle.std.proofs.Common.{◌≡◌, ◌∙◌, ℕ, zero, suc, ◌+◌, ◌-◌, ◌%◌, ◌<◌, ◌≤◌, ◌^◌, true, List, [], ◌∷◌, ◌++◌, arith, length, refl, replicate, ⊎_elim}
-use Rattle.std.specs.Prelude.{IsTrue, codes, decimal, ◌==◌}
+use Rattle.std.proofs.Common.{◌≡◌, ◌∙◌, ℕ, zero, suc, ◌+◌, ◌-◌, ◌/◌, ◌%◌, ◌<◌, ◌≤◌, ◌^◌, true, List, [], ◌∷◌, ◌++◌, arith, length, refl, replicate, ⊎_elim}
+use Rattle.std.specs.Prelude.{IsTrue, codes, decimal, nat_lt, ◌==◌}
 use Rattle.std.specs.List.{list_all}
 use Rattle.std.specs.Int.{is_in_range}
 use Rattle.std.proofs.lemmas.Bool.{and_from, and_parts, cond_both, eqb-true, le-leb, leb-true, or_cases}
@@ -8,7 +8,7 @@ use Rattle.std.proofs.lemmas.Fmt.{decimal_by_steps}
 use Rattle.std.proofs.lemmas.List.Folds.{list_all-append}
 use Rattle.bword.specs.Words.{is_name, is_name_byte, is_name_start}
 use Rattle.blist.specs.Columns.{right}
-use Rattle.blist.specs.Characters.{IsPrintable, is_printable, shown_byte}
+use Rattle.blist.specs.Characters.{IsPrintable, is_printable, shown_byte, shown_high, shown_word}
 
 pub blanks : (n : ℕ) → IsPrintable (replicate n 32)
 blanks zero = refl
@@ -64,6 +64,13 @@ character b =
     cond_both (b == 0) (codes "*0") _ IsPrintable (λ e. refl) (λ e.
     cond_both (b == 4) (codes "*e") _ IsPrintable (λ e. refl) (λ e.
     cond_both (is_printable b) (b ∷ []) (codes ".") IsPrintable (one b) (λ e. refl))))))
+
+-- a word as characters
+pub word_shown : (word : ℕ) → IsPrintable (shown_word word)
+word_shown word =
+    let high : IsPrintable (shown_high word) = cond_both (nat_lt word 256) [] (shown_byte (word / 256)) IsPrintable (λ e. refl) (λ e. character (word / 256)) in
+    let low = shown_byte (word % 256) in
+    both (codes "'" ++ low ++ shown_high word) (codes "'") (both (codes "'" ++ low) (shown_high word) (both (codes "'") low refl (character (word % 256))) high) refl
 
 -- what a name has are letters, digits and underscores
 pub name : (text : List ℕ) → IsTrue (is_name text) → IsPrintable text

@@ -1,5 +1,6 @@
 -- Bytes shown as characters.
-use Rattle.std.specs.Prelude.{ℕ, ◌==◌, ◌&&◌, ◌||◌, Bool, IsTrue, List, [], ◌∷◌, codes, nat_le, if◌then◌else◌}
+use Rattle.std.specs.Prelude.{ℕ, ◌==◌, ◌/◌, ◌%◌, ◌&&◌, ◌||◌, Bool, IsTrue, List, [], ◌∷◌, ◌++◌, codes, nat_le, nat_lt}
+use Rattle.std.specs.Prelude.{if◌then◌else◌}
 use Rattle.std.specs.List.{list_all}
 use Rattle.blang.specs.Cut.{is_digit}
 
@@ -27,3 +28,11 @@ shown_byte b = if b == 10 then codes "*n"
     else (if b == 0 then codes "*0"
     else (if b == 4 then codes "*e"
     else (if is_printable b then b ∷ [] else codes ".")))))
+
+-- the high byte of a word, or nothing where it is zero
+abbrev pub shown_high : ℕ → List ℕ
+shown_high word = if nat_lt word 256 then [] else shown_byte (word / 256)
+
+-- a word as characters between quotes, its low byte first
+abbrev pub shown_word : ℕ → List ℕ
+shown_word word = codes "'" ++ shown_byte (word % 256) ++ shown_high word ++ codes "'"

@@ -1,14 +1,13 @@
 //! Words shown as characters.
 ghost use Rattle.std.specs.Prelude.{◌≡◌, ◌++◌, OnOk};
-ghost use Rattle.blist.specs.Characters.{shown_byte};
-ghost use Rattle.blist.specs.Listings.{Extends};
+ghost use Rattle.blist.specs.Characters.{shown_byte, shown_word};
 
 use crate::text::Text;
 use std::alloc::AllocError;
 
 /// The two characters of a word, the low byte first, between quotes and with B's escapes.
 pub fn push_characters(text: &mut Text, word: u16) -> Result<(), AllocError>
-    ensures { OnOk result (Extends text.old text.new) }
+    ensures { OnOk result (text.new ≡ text.old ++ shown_word word) }
 {
     text.push(b"'")?;
     push_byte(text, (word % 256) as u8)?;
