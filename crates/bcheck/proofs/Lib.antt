@@ -1,1 +1,2 @@
+pub mod AddedWords
 pub mod CheckSteps

@@ -1,5 +1,6 @@
 -- What is written of a source that is checked.
-use Rattle.std.specs.Prelude.{◌≡◌, ℕ, List, [], ◌++◌, map, Option, Some, None, unwrap_or}
+use Rattle.std.specs.Prelude.{◌≡◌, ℕ, List, [], ◌++◌, codes, decimal, map, Option, Some, None, unwrap_or}
+use Rattle.std.specs.List.{flat_map}
 use Rattle.bword.specs.declared.edition.Edition.{Edition}
 use Rattle.bword.specs.ByteEnds.{Outgoing}
 use Rattle.blang.specs.Cut.{tokens_from}
@@ -47,15 +48,42 @@ EachTold edition source P =
 abbrev pub Judged : Edition → List ℕ → Verdict → Type 0
 Judged edition source v = EachTold edition source (λ told. (verdict_line v, status_told v) ≡ told)
 
--- A text that begins with this one was told with this status; or memory was refused, and nothing was written.
-pub data TellsFirst (first : List ℕ) (status : ℕ) (old new : Outgoing) (result : ℕ) : Type 0 where
-  told : (more : List ℕ) → Told (first ++ more) status old new result → TellsFirst first status old new result
-  no_memory : new ≡ old → result ≡ MEMORY → TellsFirst first status old new result
+-- a finding: where it stands, and in which words it is told
+pub record FindingParts : Type 0 where
+  pub line : ℕ
+  pub column : ℕ
+  pub words : List ℕ
 
--- a source and the output, before and after, and the status
+-- A finding for people begins with the name of the file, a line and a column; one for editors is an object that begins
+-- with a file.
+abbrev pub finding_text : Form → (file : List ℕ) → FindingParts → List ℕ
+finding_text form.Text file p =
+    file ++ codes ":" ++ decimal p.line ++ codes ":" ++ decimal p.column ++ codes ":" ++ p.words ++ codes "\n"
+finding_text form.Json file p = codes "{\"file\":" ++ p.words ++ codes "}\n"
+
+-- the text of some findings, or of none
+abbrev pub AreFindings : Form → (file text : List ℕ) → Type 0
+AreFindings form file text = (findings : List FindingParts) × (text ≡ flat_map (finding_text form file) findings)
+
+-- the text has a finding more
+abbrev pub AddsFinding : Form → (file old new : List ℕ) → Type 0
+AddsFinding form file old new = (parts : FindingParts) × (new ≡ old ++ finding_text form file parts)
+
+-- the text has some words more
+abbrev pub AddsWords : (old new : List ℕ) → Type 0
+AddsWords old new = (words : List ℕ) × (new ≡ old ++ words)
+
+-- A text and then findings were told with this status; or memory was refused, and nothing was written.
+pub data TellsFirst (form : Form) (file first : List ℕ) (status : ℕ) (old new : Outgoing) (result : ℕ) : Type 0 where
+  told : (more : List ℕ) → AreFindings form file more → Told (first ++ more) status old new result
+      → TellsFirst form file first status old new result
+  no_memory : new ≡ old → result ≡ MEMORY → TellsFirst form file first status old new result
+
+-- the name of a file, its source, the output, before and after, and the status
 pub record Check : Type 0 where
   pub edition : Edition
   pub form : Form
+  pub file : List ℕ
   pub source : List ℕ
   pub out : Outgoing
   pub out_behind : Outgoing
@@ -66,7 +94,7 @@ abbrev pub shown_in_form : Form → List ℕ → List ℕ
 shown_in_form form.Text line = line
 shown_in_form form.Json line = []
 
--- What is written begins with the line of the source, and the status is the source's.
+-- What is written is the line of the source and then findings, and the status is the source's.
 abbrev pub Checks : Check → Type 0
-Checks c =
-    EachTold c.edition c.source (λ told. TellsFirst (shown_in_form c.form told.0) told.1 c.out c.out_behind c.status)
+Checks c = EachTold c.edition c.source
+    (λ told. TellsFirst c.form c.file (shown_in_form c.form told.0) told.1 c.out c.out_behind c.status)

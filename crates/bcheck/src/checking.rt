@@ -1,6 +1,7 @@
 //! Checking a source.
-ghost use Rattle.std.specs.Prelude.{◌≡◌};
-ghost use Rattle.bcheck.specs.Checks.{Checks, TellsFirst, verdict_line, shown_in_form};
+ghost use Rattle.std.specs.Prelude.{◌≡◌, List, ℕ};
+ghost use Rattle.bcheck.specs.Checks.{AreFindings, Checks, TellsFirst, verdict_line, shown_in_form};
+ghost use Rattle.bcheck.specs.declared.form.Form.{Form};
 
 use crate::explain::explain;
 use crate::form::{Form, Request};
@@ -20,6 +21,7 @@ pub fn check<O: ByteOut>(alloc: Global, source: &[u8], asked: Request<'_>, out: 
     ensures checks { Checks (record {
       edition = asked.entry.edition;
       form = asked.entry.form;
+      file = asked.entry.file.now;
       source = source.now;
       out = O.outgoing out.old;
       out_behind = O.outgoing out.new;
@@ -55,7 +57,8 @@ fn tell_both<O: ByteOut>(
     status: Status,
     out: &mut O,
 ) -> Status
-    ensures tells { TellsFirst first.now status (O.outgoing out.old) (O.outgoing out.new) result }
+    ensures tells { (form : Form) (file : List ℕ) → AreFindings form file more.now
+        → TellsFirst form file first.now status (O.outgoing out.old) (O.outgoing out.new) result }
     ensures out_lender { O.lender out.new ≡ O.lender out.old }
 {
     let mut text = MemOut::new(alloc);

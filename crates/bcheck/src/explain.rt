@@ -1,4 +1,7 @@
 //! What is said of a source behind the line of the compiler.
+ghost use Rattle.std.specs.Prelude.{IfOk, string_bytes};
+ghost use Rattle.bcheck.specs.Checks.{AreFindings};
+
 use crate::advice::Matter;
 use crate::faults::{self, token_named};
 use crate::finding::Finding;
@@ -20,7 +23,9 @@ pub(crate) fn explain(
     source: &[u8],
     asked: Request<'_>,
     verdict: &Verdict,
-) -> Result<String, AllocError> {
+) -> Result<String, AllocError>
+    ensures { IfOk result (λ said. AreFindings asked.entry.form asked.entry.file.now (string_bytes said)) }
+{
     let mut said = String::new(alloc);
     let findings = findings(alloc, source, asked, verdict)?;
     for finding in findings.as_slice() {

@@ -1,4 +1,8 @@
 //! Findings for editors: an object a line.
+ghost use Rattle.std.specs.Prelude.{OnOk, string_bytes};
+ghost use Rattle.bcheck.specs.Checks.{AddsFinding, AddsWords};
+ghost use Rattle.bcheck.specs.declared.form.Form.TheVariants as form;
+
 use crate::finding::Finding;
 use crate::text::{push_named, spot_of};
 use std::alloc::{AllocError, Global};
@@ -10,7 +14,9 @@ pub(crate) fn write(
     source: &[u8],
     file: &str,
     finding: &Finding,
-) -> Result<(), AllocError> {
+) -> Result<(), AllocError>
+    ensures { OnOk result (AddsFinding form.Json file.now (string_bytes text.old) (string_bytes text.new)) }
+{
     let (code, sentence, mend) = finding.matter.advice();
     text.push_str("{\"file\":")?;
     push_quoted(text, file)?;
@@ -35,7 +41,9 @@ pub(crate) fn write(
 }
 
 // Adds a text as a JSON string.
-fn push_quoted(text: &mut String, words: &str) -> Result<(), AllocError> {
+fn push_quoted(text: &mut String, words: &str) -> Result<(), AllocError>
+    ensures { OnOk result (AddsWords (string_bytes text.old) (string_bytes text.new)) }
+{
     text.push('"')?;
     for character in words.chars() {
         match character {

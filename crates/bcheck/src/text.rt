@@ -1,4 +1,8 @@
 //! Findings for people: where, what and how to mend it, with the line of the source and a mark.
+ghost use Rattle.std.specs.Prelude.{OnOk, string_bytes};
+ghost use Rattle.bcheck.specs.Checks.{AddsFinding, AddsWords};
+ghost use Rattle.bcheck.specs.declared.form.Form.TheVariants as form;
+
 use crate::finding::{Finding, Place};
 use bword::Name;
 use std::alloc::AllocError;
@@ -38,7 +42,9 @@ pub(crate) fn write(
     source: &[u8],
     file: &str,
     finding: &Finding,
-) -> Result<(), AllocError> {
+) -> Result<(), AllocError>
+    ensures { OnOk result (AddsFinding form.Text file.now (string_bytes text.old) (string_bytes text.new)) }
+{
     let (_, sentence, mend) = finding.matter.advice();
     text.push_str(file)?;
     text.push_str(":")?;
@@ -62,7 +68,9 @@ pub(crate) fn push_named(
     text: &mut String,
     words: &str,
     name: Option<Name>,
-) -> Result<(), AllocError> {
+) -> Result<(), AllocError>
+    ensures { OnOk result (AddsWords (string_bytes text.old) (string_bytes text.new)) }
+{
     for character in words.chars() {
         match (character, &name) {
             ('@', Some(name)) => text.push_str(name.as_str())?,
@@ -73,7 +81,9 @@ pub(crate) fn push_named(
 }
 
 // Adds the line of the source, and a mark under the place.
-fn write_line(text: &mut String, source: &[u8], place: &Place) -> Result<(), AllocError> {
+fn write_line(text: &mut String, source: &[u8], place: &Place) -> Result<(), AllocError>
+    ensures { OnOk result (AddsWords (string_bytes text.old) (string_bytes text.new)) }
+{
     let spot = spot_of(source, place);
     let last = spot.column.saturating_add(place.len);
     let from = if last <= SHOWN {

@@ -87,6 +87,7 @@ Does (check file edition form) ends status = NamesFile file ends status
     ⊎ ((source : List ℕ) × (ends.input_behind ≡ ends.input) × (ends.line_behind ≡ ends.line) × Checks (record {
       edition = edition;
       form = form;
+      file = file;
       source = source;
       out = ends.out;
       out_behind = ends.out_behind;
