@@ -10,6 +10,7 @@ use Rattle.blang.specs.Machine.{Halted, Image, RunGives, Running, State, Stuck, 
 use Rattle.bmach.specs.Steps.{world_with}
 use Rattle.bmach.specs.Stepping.{HasEnd, IsUnstarted, Paused, machine_at}
 use Rattle.bmach.specs.Turns.{HasHalted, LeavesWords, MovesOn, TurnGives}
+use Rattle.bmach.proofs.Beginning.{run_from}
 use Rattle.bmach.proofs.Running.{behind, one_more, run_over, same_run, steps_add}
 use Rattle.bmach.proofs.Turning.{follows, goes_on}
 use Rattle.bdraw.specs.Draws.{DrawsRun, EndGives, IsAfter, IsAtEnd, IsMade, IsOver, LeavesAtEnd, ShowsMemory, no_memory, nothing_written, over, unread}
@@ -97,10 +98,6 @@ module _ (first now : Paused) (made : ℕ) (i j m : Incoming) (o p q : Outgoing)
     no_limit r g,
     leaves_at_end n r lt t g words,
   )
-
--- the run of an image from its beginning on
-run_from : (image : Image) (p : Paused) → IsUnstarted image p → (input : List ℕ) (n : ℕ) → run image input n ≡ steps p.image n (machine_at p input [])
-run_from image p b input n = ap (steps image n) (b.first input) ∙ ap (λ (x : Image). steps x n (machine_at p input [])) (sym b.image_is)
 
 -- memory after all steps
 pub is_after : (image : Image) (first now : Paused) (n : ℕ) (i j : Incoming) (o q : Outgoing) → IsUnstarted image first → IsMade first n now i j o q → IsAfter image n i j now.store

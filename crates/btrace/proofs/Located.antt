@@ -9,6 +9,7 @@ use Rattle.blang.specs.Machine.{Call, Finishes, Image, RunEnds, RunGives, State,
 use Rattle.bmach.specs.Resolved.{IsLoadedFrom, state_resolved}
 use Rattle.bmach.specs.Stepping.{IsUnstarted, Paused}
 use Rattle.bmach.specs.Stops.{EndsAt, IsAtPlace, IsOverAt}
+use Rattle.bmach.proofs.Beginning.{run_from}
 use Rattle.bmach.proofs.Resolving.{run-resolved}
 use Rattle.bmach.proofs.Running.{same_run}
 use Rattle.brun.proofs.RunSteps.{outcome-resolved, run_loaded, run_of_loaded}
@@ -16,7 +17,7 @@ use Rattle.blist.specs.Programs.{HasProgram}
 use Rattle.btrace.specs.Programs.{Placed, functions_of}
 use Rattle.btrace.specs.Locates.{Locates, TellsSite, located, located_status, unlocated}
 use Rattle.btrace.specs.Traces.{steps_from}
-use Rattle.btrace.proofs.Unresolved.{run_from, running_from}
+use Rattle.btrace.proofs.Unresolved.{running_from}
 
 pub no_other : (r : Option ℕ) (s t : ℕ) → r ≡ Some s → (s ≡ t → ⊥) → r ≡ Some t → ⊥
 no_other None s t is differs same = cc

@@ -12,6 +12,7 @@ use Rattle.blang.specs.Layout.{World}
 use Rattle.blang.specs.Machine.{Call, Halted, Image, RunEnds, Running, State, Stuck, image_of, machine, state_outcome, run, steps, state_world}
 use Rattle.bmach.specs.Resolved.{IsLoadedFrom, call_resolved, state_resolved}
 use Rattle.bmach.specs.Stepping.{IsUnstarted, Paused, machine_at}
+use Rattle.bmach.proofs.Beginning.{run_from}
 use Rattle.bmach.proofs.Resolving.{run-resolved}
 use Rattle.bmach.proofs.Running.{same_run}
 use Rattle.brun.proofs.RunSteps.{outcome-resolved, run_loaded, run_of_loaded, world-resolved}
@@ -98,10 +99,6 @@ module _ (fs : List Placed) (which : Which) (I : Image) (f g : ℕ → State) (e
   ends_same made n outcome.Limit text h = (h.0, where_same made text h.1)
   ends_same made n outcome.Device text h = tried_same made text h
   ends_same made n outcome.Memory text h = tried_same made text h
-
--- the run of an image from its beginning on
-pub run_from : (image : Image) (p : Paused) → IsUnstarted image p → (input : List ℕ) (n : ℕ) → run image input n ≡ steps_from p input n
-run_from image p b input n = ap (steps image n) (b.first input) ∙ ap (λ (x : Image). steps x n (machine_at p input [])) (sym b.image_is)
 
 shows_run : (fs : List Placed) (which : Which) (ds : List Definition) (image : Image) (p : Paused) → IsLoadedFrom ds image → IsUnstarted image p → (n : ℕ) (i j : Incoming) (r : Outcome) (old new : List ℕ) → ShowsRows fs which (steps_from p) n i j r old new → ShowsRows fs which (machine ds) n i j r old new
 shows_run fs which ds image p loaded begins n i j r old new s =
