@@ -15,7 +15,7 @@ use Rattle.bmach.specs.Loading.{IsFault}
 use Rattle.blang.specs.declared.status.TheConstants.{REFUSED}
 use Rattle.bcheck.specs.Checks.{AreFindings, Judged, EachTold, TellsFirst, told, shown_in_form, verdict_line, status_told, told_first}
 use Rattle.blist.specs.Programs.{load_line}
-use Rattle.blist.specs.Told.{Told}
+use Rattle.blang.specs.Machine.{Reported}
 use Rattle.bcheck.specs.declared.form.Form.{Form}
 use Rattle.bcheck.specs.declared.verdict.Verdict.{Verdict}
 use Rattle.bcheck.specs.declared.verdict.Verdict.TheVariants as verdict
@@ -33,9 +33,9 @@ both_kept a b c first more e v w = w.appended ∙ ap (λ t. t ++ more) (v.append
 -- a text that is told is one that begins with the first
 pub tells_both : (form : Form) (file : List ℕ) (a b c : Kept) (first more text : List ℕ) (status : ℕ) (old new : Outgoing) (result : ℕ) → a ≡ nothing_kept
     → Writes (outgoing_of a) first (outgoing_of b) → Writes (outgoing_of b) more (outgoing_of c) → text ≡ c.bytes
-    → Told text status old new result → AreFindings form file more → TellsFirst form file first status old new result
+    → Reported text status old new result → AreFindings form status file more → TellsFirst form file first status old new result
 tells_both form file a b c first more text status old new result e v w is t are =
-    told more are (subst (λ x. Told x status old new result) (is ∙ both_kept a b c first more e v w) t)
+    told more are (subst (λ x. Reported x status old new result) (is ∙ both_kept a b c first more e v w) t)
 
 no_more : (taken rest : List ℕ) → taken ++ rest ≡ taken → rest ≡ []
 no_more [] rest h = h

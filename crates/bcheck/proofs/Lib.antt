@@ -1,2 +1,4 @@
 pub mod AddedWords
 pub mod CheckSteps
+pub mod JsonText
+pub mod OnLine

@@ -1,6 +1,9 @@
 -- What is written of a source that is checked.
-use Rattle.std.specs.Prelude.{◌≡◌, ℕ, List, [], ◌++◌, codes, decimal, map, Option, Some, None, unwrap_or}
-use Rattle.std.specs.List.{flat_map}
+use Rattle.std.specs.Prelude.{◌≡◌, ◌≢◌, ℕ, ◌/◌, ◌%◌, ◌==◌, nat_lt, Bool, IsTrue, if◌then◌else◌, List, [], ◌∷◌, ◌++◌}
+use Rattle.std.specs.Prelude.{chars, codes, decimal, encode_utf8, length, map, Option, Some, None, unwrap_or}
+use Rattle.std.specs.Char.{digit_char}
+use Rattle.std.specs.Int.{is_in_range}
+use Rattle.std.specs.List.{flat_map, list_all}
 use Rattle.bword.specs.declared.edition.Edition.{Edition}
 use Rattle.bword.specs.ByteEnds.{Outgoing}
 use Rattle.blang.specs.Cut.{tokens_from}
@@ -12,7 +15,9 @@ use Rattle.blang.specs.declared.run.LoadFault.{LoadFault}
 use Rattle.blang.specs.declared.run.LoadFault.TheVariants as fault
 use Rattle.blang.specs.declared.status.TheConstants.{DONE, FAULT, REFUSED, MEMORY}
 use Rattle.blist.specs.Programs.{load_line}
-use Rattle.blist.specs.Told.{Told}
+use Rattle.blang.specs.Machine.{Reported}
+use Rattle.bcheck.specs.declared.finding.Severity.{Severity}
+use Rattle.bcheck.specs.declared.finding.Severity.TheVariants as severity
 use Rattle.bcheck.specs.declared.form.Form.{Form}
 use Rattle.bcheck.specs.declared.form.Form.TheVariants as form
 use Rattle.bcheck.specs.declared.verdict.Verdict.{Verdict}
@@ -48,34 +53,83 @@ EachTold edition source P =
 abbrev pub Judged : Edition → List ℕ → Verdict → Type 0
 Judged edition source v = EachTold edition source (λ told. (verdict_line v, status_told v) ≡ told)
 
--- a finding: where it stands, and in which words it is told
+-- what is found of a source that compiles and whose code loads is a warning, and of any other an error
+abbrev pub severity_of : (status : ℕ) → Severity
+severity_of status = if status == DONE then severity.Warning else severity.Error
+
+abbrev pub severity_word : Severity → List ℕ
+severity_word severity.Error = codes "error"
+severity_word severity.Warning = codes "warning"
+
+-- a text in JSON, where 34 is the quote, 92 the backslash, and the control characters are below 32
+abbrev pub json_char : ℕ → List ℕ
+json_char c =
+    if c == 34 then codes "\\\"" else (if c == 92 then codes "\\\\" else
+    (if nat_lt c 32 then codes "\\u00" ++ digit_char (c / 16) ∷ digit_char (c % 16) ∷ [] else encode_utf8 c))
+
+abbrev pub json_text : List ℕ → List ℕ
+json_text text = codes "\"" ++ flat_map json_char (chars text) ++ codes "\""
+
+-- a text on one line: blanks, and letters, digits and signs of ASCII
+abbrev pub is_on_line : List ℕ → Bool
+is_on_line text = list_all (λ c. is_in_range 32 126 c) text
+
+-- A finding: where it stands, and the sentence and the mend that are told of it. For people a piece of the source's
+-- line and a mark below it are shown, and for editors there is a code.
 pub record FindingParts : Type 0 where
   pub line : ℕ
   pub column : ℕ
-  pub words : List ℕ
+  pub code : List ℕ
+  pub sentence : List ℕ
+  pub shown : List ℕ
+  pub mark : List ℕ
+  pub mend : List ℕ
+  pub on_lines : IsTrue (list_all is_on_line (code ∷ sentence ∷ shown ∷ mark ∷ mend ∷ []))
 
--- A finding for people begins with the name of the file, a line and a column; one for editors is an object that begins
--- with a file.
-abbrev pub finding_text : Form → (file : List ℕ) → FindingParts → List ℕ
-finding_text form.Text file p =
-    file ++ codes ":" ++ decimal p.line ++ codes ":" ++ decimal p.column ++ codes ":" ++ p.words ++ codes "\n"
-finding_text form.Json file p = codes "{\"file\":" ++ p.words ++ codes "}\n"
+abbrev pub finding_words : Form → FindingParts → List ℕ
+finding_words form.Text p =
+    p.sentence ++ codes "\n    " ++ p.shown ++ codes "\n    " ++ p.mark ++ codes "\n  mend: " ++ p.mend
+finding_words form.Json p =
+    json_text p.code ++ codes ",\"message\":" ++ json_text p.sentence ++ codes ",\"mend\":" ++ json_text p.mend
 
--- the text of some findings, or of none
-abbrev pub AreFindings : Form → (file text : List ℕ) → Type 0
-AreFindings form file text = (findings : List FindingParts) × (text ≡ flat_map (finding_text form file) findings)
+-- A finding begins with the name of the file, a line, a column and the severity: for people as the words of a line, for
+-- editors as the members of an object.
+abbrev pub finding_text : Form → Severity → (file : List ℕ) → FindingParts → List ℕ
+finding_text form.Text s file p =
+    file ++ codes ":" ++ decimal p.line ++ codes ":" ++ decimal p.column ++ codes ": " ++ severity_word s
+    ++ codes ": " ++ finding_words form.Text p ++ codes "\n"
+finding_text form.Json s file p =
+    codes "{\"file\":" ++ json_text file ++ codes ",\"line\":" ++ decimal p.line ++ codes ",\"column\":"
+    ++ decimal p.column ++ codes ",\"severity\":\"" ++ severity_word s
+    ++ codes "\",\"code\":" ++ finding_words form.Json p ++ codes "}\n"
+
+-- the text of these findings of a source with this status
+abbrev pub findings_text : Form → (status : ℕ) → (file : List ℕ) → List FindingParts → List ℕ
+findings_text form status file findings = flat_map (finding_text form (severity_of status) file) findings
+
+-- The text of some findings of a source with this status, or of none: where it isn't 0 there is one.
+abbrev pub AreFindings : Form → (status : ℕ) → (file text : List ℕ) → Type 0
+AreFindings form status file text =
+    (findings : List FindingParts) × (status ≢ DONE → length findings ≡ 1)
+    × (text ≡ findings_text form status file findings)
 
 -- the text has a finding more
-abbrev pub AddsFinding : Form → (file old new : List ℕ) → Type 0
-AddsFinding form file old new = (parts : FindingParts) × (new ≡ old ++ finding_text form file parts)
+abbrev pub AddsFinding : Form → Severity → (file old new : List ℕ) → Type 0
+AddsFinding form s file old new = (parts : FindingParts) × (new ≡ old ++ finding_text form s file parts)
 
--- the text has some words more
+-- the text has some words more, all on its last line
 abbrev pub AddsWords : (old new : List ℕ) → Type 0
-AddsWords old new = (words : List ℕ) × (new ≡ old ++ words)
+AddsWords old new = (words : List ℕ) × IsTrue (is_on_line words) × (new ≡ old ++ words)
+
+-- the text has a piece of the source's line more, and a mark below it
+abbrev pub AddsExcerpt : (old new : List ℕ) → Type 0
+AddsExcerpt old new =
+    (shown mark : List ℕ) × IsTrue (is_on_line shown) × IsTrue (is_on_line mark)
+    × (new ≡ old ++ (codes "    " ++ shown ++ codes "\n    " ++ mark ++ codes "\n"))
 
 -- A text and then findings were told with this status; or memory was refused, and nothing was written.
 pub data TellsFirst (form : Form) (file first : List ℕ) (status : ℕ) (old new : Outgoing) (result : ℕ) : Type 0 where
-  told : (more : List ℕ) → AreFindings form file more → Told (first ++ more) status old new result
+  told : (more : List ℕ) → AreFindings form status file more → Reported (first ++ more) status old new result
       → TellsFirst form file first status old new result
   no_memory : new ≡ old → result ≡ MEMORY → TellsFirst form file first status old new result
 

@@ -1,4 +1,7 @@
 //! What is said of each matter, once. The table of the page on the language has the same words.
+ghost use Rattle.std.specs.List.{list_all};
+ghost use Rattle.std.specs.Prelude.{◌∷◌, [], IsTrue};
+ghost use Rattle.bcheck.specs.Checks.{is_on_line};
 
 /// What a finding is about.
 #[derive(Clone, Copy, Debug, PartialEq, Eq)]
@@ -42,24 +45,10 @@ pub(crate) enum Matter {
 }
 
 impl Matter {
-    /// Whether the source compiles and loads all the same.
-    pub(crate) fn is_warning(self) -> bool {
-        matches!(
-            self,
-            Matter::AndAnd
-                | Matter::OperatorAssigns
-                | Matter::ConditionAssigns
-                | Matter::PastVector
-                | Matter::StringForCharacter
-                | Matter::NameAlone
-                | Matter::ManyArguments
-                | Matter::NoReturn
-                | Matter::NeverUsed
-        )
-    }
-
     /// By which code it is known, one sentence on it, and how to mend it. `@` stands for the name.
-    pub(crate) fn advice(self) -> (&'static str, &'static str, &'static str) {
+    pub(crate) fn advice(self) -> (&'static str, &'static str, &'static str)
+        ensures { IsTrue (list_all is_on_line (result.0.now ∷ result.1.now ∷ result.2.now ∷ [])) }
+    {
         match self {
             Matter::OpenComment => ("*/", "this comment has no end", "write */ where it ends"),
             Matter::Character => (

@@ -57,7 +57,7 @@ fn tell_both<O: ByteOut>(
     status: Status,
     out: &mut O,
 ) -> Status
-    ensures tells { (form : Form) (file : List ℕ) → AreFindings form file more.now
+    ensures tells { (form : Form) (file : List ℕ) → AreFindings form status file more.now
         → TellsFirst form file first.now status (O.outgoing out.old) (O.outgoing out.new) result }
     ensures out_lender { O.lender out.new ≡ O.lender out.old }
 {

@@ -1,6 +1,7 @@
 //! What is said of a source behind the line of the compiler.
-ghost use Rattle.std.specs.Prelude.{IfOk, string_bytes};
-ghost use Rattle.bcheck.specs.Checks.{AreFindings};
+ghost use Rattle.std.specs.Prelude.{◌≡◌, ◌≢◌, IfOk, length, string_bytes, vec_items};
+ghost use Rattle.blang.specs.declared.status.TheConstants.{DONE};
+ghost use Rattle.bcheck.specs.Checks.{AreFindings, status_told};
 
 use crate::advice::Matter;
 use crate::faults::{self, token_named};
@@ -24,14 +25,16 @@ pub(crate) fn explain(
     asked: Request<'_>,
     verdict: &Verdict,
 ) -> Result<String, AllocError>
-    ensures { IfOk result (λ said. AreFindings asked.entry.form asked.entry.file.now (string_bytes said)) }
+    ensures { IfOk result (λ said. AreFindings asked.entry.form (status_told verdict.now) asked.entry.file.now
+        (string_bytes said)) }
 {
     let mut said = String::new(alloc);
     let findings = findings(alloc, source, asked, verdict)?;
+    let (file, severity) = (asked.file, verdict.severity());
     for finding in findings.as_slice() {
         match asked.form {
-            Form::Text => text::write(&mut said, source, asked.file, finding)?,
-            Form::Json => json::write(alloc, &mut said, source, asked.file, finding)?,
+            Form::Text => text::write(&mut said, source, file, severity, finding)?,
+            Form::Json => json::write(alloc, &mut said, source, file, severity, finding)?,
         }
     }
     Ok(said)
@@ -42,16 +45,14 @@ fn findings(
     source: &[u8],
     asked: Request<'_>,
     verdict: &Verdict,
-) -> Result<Vec<Finding>, AllocError> {
+) -> Result<Vec<Finding>, AllocError>
+    ensures { IfOk result (λ found. status_told verdict.now ≢ DONE → length (vec_items found) ≡ 1) }
+{
     let spans = spans(alloc, source, asked.edition)?;
     let mut findings = Vec::new(alloc);
     match verdict {
         Verdict::Clean => warn(alloc, source, asked, &spans, &mut findings)?,
-        Verdict::Faulty(_) => {
-            if let Some(finding) = fault_of(alloc, source, asked, &spans)? {
-                findings.push(finding)?;
-            }
-        }
+        Verdict::Faulty(_) => findings.push(fault_of(alloc, source, asked, &spans)?)?,
         Verdict::Unloaded(LoadFault::Undefined(name)) => {
             findings.push(undefined(alloc, source, asked, &spans, *name)?)?;
         }
@@ -64,13 +65,13 @@ fn findings(
     Ok(findings)
 }
 
-// What is said of the fault that a source has.
+// What is said of the fault that a source has; were it not seen again, of the token where reading stopped.
 fn fault_of(
     alloc: Global,
     source: &[u8],
     asked: Request<'_>,
     spans: &[Span],
-) -> Result<Option<Finding>, AllocError> {
+) -> Result<Finding, AllocError> {
     let mut pass = Pass::new(alloc, source, asked.edition);
     for _ in 0..=source.len() {
         match pass.next() {
@@ -78,12 +79,16 @@ fn fault_of(
             Step::Memory => return Err(AllocError),
             Step::Fault(diagnostic) => {
                 let fault = pass.fault(diagnostic);
-                return Ok(Some(faults::finding(source, spans, &fault)));
+                return Ok(faults::finding(source, spans, &fault));
             }
-            _ => return Ok(None),
+            _ => break,
         }
     }
-    Ok(None)
+    Ok(Finding {
+        matter: Matter::Syntax,
+        name: None,
+        place: place_of(spans, pass.extent.end),
+    })
 }
 
 // What is said of a name that nothing defines.

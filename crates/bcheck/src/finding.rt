@@ -1,4 +1,7 @@
 //! What was found, and where.
+ghost use Rattle.std.specs.Prelude.{◌≡◌};
+ghost use Rattle.bcheck.specs.Checks.{severity_word};
+
 use crate::advice::Matter;
 use bword::Name;
 
@@ -18,4 +21,24 @@ pub(crate) struct Finding {
     pub matter: Matter,
     pub name: Option<Name>,
     pub place: Place,
+}
+
+/// Whether a source is refused for what was found.
+#[derive(Clone, Copy, Debug, PartialEq, Eq)]
+pub(crate) enum Severity {
+    Error,
+    /// The source compiles and loads all the same.
+    Warning,
+}
+
+impl Severity {
+    /// How it is written.
+    pub(crate) fn word(self) -> &'static str
+        ensures { result.now ≡ severity_word self }
+    {
+        match self {
+            Severity::Error => "error",
+            Severity::Warning => "warning",
+        }
+    }
 }

@@ -1,9 +1,10 @@
 //! Findings for people: where, what and how to mend it, with the line of the source and a mark.
-ghost use Rattle.std.specs.Prelude.{OnOk, string_bytes};
-ghost use Rattle.bcheck.specs.Checks.{AddsFinding, AddsWords};
+ghost use Rattle.std.specs.Int.{is_in_range};
+ghost use Rattle.std.specs.Prelude.{OnOk, IsTrue, string_bytes};
+ghost use Rattle.bcheck.specs.Checks.{AddsExcerpt, AddsFinding, AddsWords, is_on_line};
 ghost use Rattle.bcheck.specs.declared.form.Form.TheVariants as form;
 
-use crate::finding::{Finding, Place};
+use crate::finding::{Finding, Place, Severity};
 use bword::Name;
 use std::alloc::AllocError;
 
@@ -41,20 +42,18 @@ pub(crate) fn write(
     text: &mut String,
     source: &[u8],
     file: &str,
+    severity: Severity,
     finding: &Finding,
 ) -> Result<(), AllocError>
-    ensures { OnOk result (AddsFinding form.Text file.now (string_bytes text.old) (string_bytes text.new)) }
+    ensures { OnOk result (AddsFinding form.Text severity file.now (string_bytes text.old) (string_bytes text.new)) }
 {
     let (_, sentence, mend) = finding.matter.advice();
     text.push_str(file)?;
-    text.push_str(":")?;
+    let line = finding.place.line;
     let column = spot_of(source, &finding.place).column.saturating_add(1);
-    write!(text, "{}:{}:", finding.place.line, column)?;
-    text.push_str(if finding.matter.is_warning() {
-        " warning: "
-    } else {
-        " error: "
-    })?;
+    write!(text, ":{line}:{column}: ")?;
+    text.push_str(severity.word())?;
+    text.push_str(": ")?;
     push_named(text, sentence, finding.name)?;
     text.push_str("\n")?;
     write_line(text, source, &finding.place)?;
@@ -69,7 +68,8 @@ pub(crate) fn push_named(
     words: &str,
     name: Option<Name>,
 ) -> Result<(), AllocError>
-    ensures { OnOk result (AddsWords (string_bytes text.old) (string_bytes text.new)) }
+    ensures { IsTrue (is_on_line words.now)
+        → OnOk result (AddsWords (string_bytes text.old) (string_bytes text.new)) }
 {
     for character in words.chars() {
         match (character, &name) {
@@ -82,7 +82,7 @@ pub(crate) fn push_named(
 
 // Adds the line of the source, and a mark under the place.
 fn write_line(text: &mut String, source: &[u8], place: &Place) -> Result<(), AllocError>
-    ensures { OnOk result (AddsWords (string_bytes text.old) (string_bytes text.new)) }
+    ensures { OnOk result (AddsExcerpt (string_bytes text.old) (string_bytes text.new)) }
 {
     let spot = spot_of(source, place);
     let last = spot.column.saturating_add(place.len);
@@ -108,7 +108,9 @@ fn write_line(text: &mut String, source: &[u8], place: &Place) -> Result<(), All
 }
 
 // One character for each byte, so that the mark stands right.
-fn shown_as(byte: u8) -> char {
+fn shown_as(byte: u8) -> char
+    ensures { IsTrue (is_in_range 32 126 result) }
+{
     match byte {
         b'\t' => ' ',
         b' '..=b'~' => char::from(byte),

@@ -3,8 +3,9 @@ ghost use Rattle.std.specs.Prelude.{◌≡◌, IfSome, List, map, None};
 ghost use Rattle.blang.specs.Text.{IsCodeText};
 ghost use Rattle.blang.specs.declared.code.Definition.{Definition};
 ghost use Rattle.blang.specs.Layout.{load_fault};
-ghost use Rattle.bcheck.specs.Checks.{Judged, verdict_line, status_told, told_first};
+ghost use Rattle.bcheck.specs.Checks.{Judged, severity_of, verdict_line, status_told, told_first};
 
+use crate::finding::Severity;
 use bcode::read_code;
 use blang::LoadFault;
 use blang::status::{self, Status};
@@ -45,6 +46,16 @@ impl Verdict {
             Verdict::Clean => status::DONE,
             Verdict::Faulty(_) => status::FAULT,
             Verdict::Unloaded(_) => status::REFUSED,
+        }
+    }
+
+    /// Of what is found.
+    pub(crate) fn severity(&self) -> Severity
+        ensures { result ≡ severity_of (status_told self.now) }
+    {
+        match self {
+            Verdict::Clean => Severity::Warning,
+            Verdict::Faulty(_) | Verdict::Unloaded(_) => Severity::Error,
         }
     }
 }

@@ -13,7 +13,8 @@ use Rattle.bmach.specs.Turns.{HasHalted, LeavesWords, MovesOn, TurnGives}
 use Rattle.bmach.proofs.Beginning.{run_from}
 use Rattle.bmach.proofs.Running.{behind, one_more, run_over, same_run, steps_add}
 use Rattle.bmach.proofs.Turning.{follows, goes_on}
-use Rattle.bdraw.specs.Draws.{DrawsRun, EndGives, IsAfter, IsAtEnd, IsMade, IsOver, LeavesAtEnd, ShowsMemory, no_memory, nothing_written, over, unread}
+use Rattle.blist.specs.Programs.{nothing_written}
+use Rattle.bdraw.specs.Draws.{DrawsRun, EndGives, IsAfter, IsAtEnd, IsMade, IsOver, LeavesAtEnd, ShowsMemory, no_memory, over, unread}
 
 -- a state behind which nothing happens
 abbrev HasStopped : State → Type 0
@@ -110,6 +111,7 @@ is_after image first now n i j o q b t = record {
     now.below,
     world_with now.store more ([] ++ t.1.output),
     run_from image first b (t.1.taken ++ more) n ∙ t.1.comes more [] can,
+    refl,
     refl,
   );
 }

@@ -9,12 +9,11 @@ use Rattle.blang.specs.declared.run.Outcome.{Outcome}
 use Rattle.blang.specs.declared.run.Outcome.TheVariants as outcome
 use Rattle.blang.specs.declared.status.TheConstants.{DEVICE, DONE, MEMORY}
 use Rattle.blang.specs.Layout.{Shape as Named, World, shape_of, size_of}
-use Rattle.blang.specs.Machine.{Call, Image, Running, State, run, state_world, steps, RunGives, RunEnds}
+use Rattle.blang.specs.Machine.{Call, Image, Running, State, run, state_world, steps, RunGives, RunEnds, Reported}
 use Rattle.bmach.specs.Stepping.{BeginsNot, HasEnd, Paused, machine_at}
 use Rattle.bmach.specs.Turns.{MovesOn}
 use Rattle.blist.specs.Maps.{image_address}
-use Rattle.blist.specs.Programs.{HasProgram, NoProgram}
-use Rattle.blist.specs.Told.{Told}
+use Rattle.blist.specs.Programs.{HasProgram, NoProgram, nothing_written}
 use Rattle.bdraw.specs.Shapes.{picture_text}
 use Rattle.bdraw.specs.declared.shapes.Shape.{Shape}
 use Rattle.bdraw.specs.declared.shapes.Shape.TheVariants as shape
@@ -66,25 +65,21 @@ pub record IsPicture (ds : List Definition) (image : Image) (words : List ℕ) (
 -- A picture of memory was written, or a beginning of it; or memory was refused, and nothing was.
 pub data ShowsMemory (ds : List Definition) (image : Image) (words : List ℕ) (old new : Outgoing) (status : ℕ)
     : Type 0 where
-  shown : (text : List ℕ) → IsPicture ds image words text → Told text DONE old new status
+  shown : (text : List ℕ) → IsPicture ds image words text → Reported text DONE old new status
       → ShowsMemory ds image words old new status
   no_memory : new ≡ old → status ≡ MEMORY → ShowsMemory ds image words old new status
 
--- memory has these words while a call is running
-abbrev pub Holds : List ℕ → State → Type 0
-Holds words s = (call : Call) × (below : List Call) × (world : World) × (s ≡ Running call below world)
-    × (world.store ≡ words)
+-- memory has these words while a call is running, which has read all but this of the input
+abbrev pub Holds : (words left : List ℕ) → State → Type 0
+Holds words left s = (call : Call) × (below : List Call) × (world : World) × (s ≡ Running call below world)
+    × (world.store ≡ words) × (world.input ≡ left)
 
--- what the program writes is kept from the start
-abbrev pub nothing_written : Outgoing
-nothing_written = outgoing_of (record { bytes = []; refusals = 0 })
-
--- Memory has these words after so many steps, in which this was taken of the input and no read failed.
+-- Memory has these words after so many steps, in which just this was taken of the input and no read failed.
 pub record IsAfter (image : Image) (n : ℕ) (i j : Incoming) (words : List ℕ) : Type 0 where
   pub taken : List ℕ
   pub took : Took i taken j
   pub no_failure : j.failures ≡ i.failures
-  pub holds : (more : List ℕ) → CanFollow j more → Holds words (run image (taken ++ more) n)
+  pub holds : (more : List ℕ) → CanFollow j more → Holds words more (run image (taken ++ more) n)
 
 -- so many steps were given to the run, and it is over so
 abbrev pub IsOver : Image → ℕ → (i j : Incoming) → Outcome → Type 0

@@ -3,15 +3,12 @@ ghost use Rattle.std.specs.Prelude.{◌≡◌, ℕ, List, slice_index};
 
 use blang::{Definition, FunctionParts, MAX_CALLS};
 use blist::Program;
-use bmach::{Active, Image, Stepper, size_of};
+use bmach::{Active, FIRST_ADDRESS, Image, Stepper, size_of};
 use bword::Store;
 use std::alloc::{AllocError, Global};
 
 /// The most active calls that are drawn.
 const MOST_CALLS: usize = 16;
-
-/// The address of the first definition.
-const FIRST_ADDRESS: u32 = 7;
 
 /// Words that can be looked at.
 pub trait Memory {
@@ -94,7 +91,7 @@ pub fn calls_of<S: Store + Drop>(
 
 /// The function of a call, and its number among those of the program.
 pub fn function_of<'a>(program: &'a Program, call: Active) -> Option<(usize, &'a FunctionParts)> {
-    let mut address = FIRST_ADDRESS;
+    let mut address = u32::from(FIRST_ADDRESS);
     let mut number: usize = 0;
     for definition in &program.definitions {
         if let Definition::Function(function) = definition {

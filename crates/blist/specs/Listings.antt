@@ -9,11 +9,10 @@ use Rattle.blang.specs.Text.{lines_of}
 use Rattle.blang.specs.declared.code.Definition.{Definition}
 use Rattle.blang.specs.declared.status.TheConstants.{DONE, MEMORY, WRONG_COMMAND}
 use Rattle.blang.specs.Layout.{shape_of}
-use Rattle.blang.specs.Machine.{Image}
+use Rattle.blang.specs.Machine.{Image, Reported}
 use Rattle.blist.specs.declared.listing.TheConstants.{HEADING, UNDEFINED}
 use Rattle.blist.specs.Characters.{IsMargin, IsPrintable}
-use Rattle.blist.specs.Programs.{HasProgram, NoProgram}
-use Rattle.blist.specs.Told.{ToldEnds, Told}
+use Rattle.blist.specs.Programs.{HasProgram, NoProgram, ToldEnds}
 
 -- the columns of a listing
 listing_heading : HEADING.now ≡ codes " place  line  code          source                                  name\n"
@@ -81,10 +80,10 @@ pub data Lists (edition : Edition) (source : List ℕ) (name : Option (List ℕ)
     listed : (ds : List Definition) (image : Image) (text : List ℕ)
         → HasProgram edition source ends.line ends.line_behind ds image → (wanted name ds ≡ [] → ⊥)
         → AreRows (flat_map lines_of (wanted name ds)) text
-        → Told (HEADING.now ++ text) DONE ends.out ends.out_behind status → Lists edition source name ends status
+        → Reported (HEADING.now ++ text) DONE ends.out ends.out_behind status → Lists edition source name ends status
     unnamed : (mid : Outgoing) (ds : List Definition) (image : Image)
         → HasProgram edition source ends.line mid ds image → wanted name ds ≡ []
-        → Told UNDEFINED.now WRONG_COMMAND mid ends.line_behind status → ends.out_behind ≡ ends.out
+        → Reported UNDEFINED.now WRONG_COMMAND mid ends.line_behind status → ends.out_behind ≡ ends.out
         → Lists edition source name ends status
     stopped : NoProgram edition source ends.line ends.line_behind status → ends.out_behind ≡ ends.out
         → Lists edition source name ends status

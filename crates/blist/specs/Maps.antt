@@ -6,11 +6,10 @@ use Rattle.bword.specs.declared.edition.Edition.{Edition}
 use Rattle.blang.specs.declared.code.Definition.{Definition}
 use Rattle.blang.specs.declared.status.TheConstants.{DONE, MEMORY}
 use Rattle.blang.specs.Layout.{Function, DefinitionKind, Shape, Simple, Vector, address_in, shape_of, size_of}
-use Rattle.blang.specs.Machine.{Image}
+use Rattle.blang.specs.Machine.{Image, Reported}
 use Rattle.blist.specs.declared.layout.TheConstants.{HEADING, SHOWN}
 use Rattle.blist.specs.Columns.{left, right}
-use Rattle.blist.specs.Programs.{HasProgram, NoProgram}
-use Rattle.blist.specs.Told.{ToldEnds, Told}
+use Rattle.blist.specs.Programs.{HasProgram, NoProgram, ToldEnds}
 
 -- the columns, and the words that each program has
 map_heading : HEADING.now
@@ -62,7 +61,7 @@ map_text image ds =
 -- What is written for a source: its layout; or nothing but why there is none.
 pub data Maps (edition : Edition) (source : List ℕ) (ends : ToldEnds) (status : ℕ) : Type 0 where
   mapped : (ds : List Definition) (image : Image) → HasProgram edition source ends.line ends.line_behind ds image
-      → Told (map_text image ds) DONE ends.out ends.out_behind status → Maps edition source ends status
+      → Reported (map_text image ds) DONE ends.out ends.out_behind status → Maps edition source ends status
   stopped : NoProgram edition source ends.line ends.line_behind status → ends.out_behind ≡ ends.out
       → Maps edition source ends status
   no_memory : (ds : List Definition) (image : Image) → HasProgram edition source ends.line ends.line_behind ds image

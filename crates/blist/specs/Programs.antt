@@ -11,12 +11,22 @@ use Rattle.blang.specs.Compiles.{Compiles}
 use Rattle.blang.specs.declared.status.TheConstants.{MEMORY, REFUSED}
 use Rattle.blang.specs.Layout.{load_fault}
 use Rattle.bmach.specs.Loading.{IsFault}
-use Rattle.blang.specs.Machine.{Image}
+use Rattle.blang.specs.Machine.{Image, Reported}
 use Rattle.bmach.specs.Resolved.{IsLoadedFrom}
 use Rattle.blang.specs.declared.run.LoadFault.{LoadFault}
 use Rattle.blang.specs.declared.run.LoadFault.TheVariants as fault
 use Rattle.blist.specs.declared.program.Program.{Program}
-use Rattle.blist.specs.Told.{Told}
+
+-- what is written is kept from the start
+abbrev pub nothing_written : Outgoing
+nothing_written = outgoing_of (record { bytes = []; refusals = 0 })
+
+-- the two ends of a command that tells of a source, before and after
+pub record ToldEnds : Type 0 where
+  pub out : Outgoing
+  pub out_behind : Outgoing
+  pub line : Outgoing
+  pub line_behind : Outgoing
 
 -- The source was compiled between these ends of lines, to this code and with this status.
 pub record WasCompiled (edition : Edition) (source : List ℕ) (line line_behind : Outgoing) (code : List ℕ) (status : ℕ)
@@ -28,7 +38,7 @@ pub record WasCompiled (edition : Edition) (source : List ℕ) (line line_behind
     edition = edition;
     source = incoming_of (record { left = source; is_over = false });
     source_behind = incoming_of behind;
-    code = outgoing_of (record { bytes = []; refusals = 0 });
+    code = nothing_written;
     code_behind = outgoing_of kept;
     line = line;
     line_behind = line_behind;
@@ -60,7 +70,7 @@ load_line fault.Memory = None
 abbrev pub TellsFault : LoadFault → Outgoing → Outgoing → ℕ → Type 0
 TellsFault f line line_behind status =
     MatchOption (load_line f) ((line_behind ≡ line) × (status ≡ MEMORY))
-    (λ text. Told text REFUSED line line_behind status)
+    (λ text. Reported text REFUSED line line_behind status)
 
 -- Why there is no program: the source is faulty or was not compiled, and the line and the status are those of the
 -- compiler; its code is no code text, which never comes; it doesn't load, and that is told; or memory was refused.
@@ -72,7 +82,7 @@ pub data NoProgram (edition : Edition) (source : List ℕ) (line line_behind : O
       → NoProgram edition source line line_behind status
   refused : (mid : Outgoing) (code : List ℕ) (ds : List Definition) (f : LoadFault) (text : List ℕ)
       → WasCompiled edition source line mid code 0 → IsCodeText code ds → load_fault ds ≡ Some f
-      → load_line f ≡ Some text → Told text REFUSED mid line_behind status
+      → load_line f ≡ Some text → Reported text REFUSED mid line_behind status
       → NoProgram edition source line line_behind status
   no_memory : (code : List ℕ) → WasCompiled edition source line line_behind code 0 → status ≡ MEMORY
       → NoProgram edition source line line_behind status

@@ -14,7 +14,7 @@ mod text;
 pub use characters::{push_byte, push_characters};
 pub use frames::{Frame, FrameWord, frames_of};
 pub use layout::map;
-pub use listing::list;
+pub use listing::{lines_in, list};
 pub use program::{Names, Program, load_line, read_program};
 pub use source_lines::SourceLines;
 pub use telling::tell;

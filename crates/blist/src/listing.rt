@@ -120,8 +120,8 @@ struct Sources<'a> {
     texts: &'a SourceLines<'a>,
 }
 
-// How many instructions or initial values a definition has.
-fn lines_in(definition: &Definition) -> usize {
+/// How many of the lines of a program's names are those of a definition: one for each instruction or initial value.
+pub fn lines_in(definition: &Definition) -> usize {
     match definition {
         Definition::Function(function) => function.parts().code.len(),
         Definition::Simple(simple) => simple.parts().values.len(),

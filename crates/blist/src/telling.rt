@@ -1,13 +1,13 @@
 //! Texts that are written whole, and their statuses.
 ghost use Rattle.std.specs.Prelude.{◌≡◌};
-ghost use Rattle.blist.specs.Told.{Told};
+ghost use Rattle.blang.specs.Machine.{Reported};
 
 use blang::status::{self, Status};
 use bword::ByteOut;
 
 /// Writes a text, and answers this status or that of a refused write.
 pub fn tell<O: ByteOut>(text: &[u8], status: Status, out: &mut O) -> Status
-    ensures told { Told text.now status (O.outgoing out.old) (O.outgoing out.new) result }
+    ensures told { Reported text.now status (O.outgoing out.old) (O.outgoing out.new) result }
     ensures same { O.lender out.new ≡ O.lender out.old }
 {
     match out.put(text) {

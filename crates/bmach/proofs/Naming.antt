@@ -1,5 +1,5 @@
 -- Names, one definition after another.
-use Rattle.std.proofs.Common.{◌≡◌, ℕ, suc, ◌+◌, ◌<◌, ◌≤◌, true, false, cond, List, [], ◌∷◌, ◌++◌, length, take, drop, get_or, map, refl, sym, ap, ◌∙◌, Option, Some, None}
+use Rattle.std.proofs.Common.{◌≡◌, ℕ, suc, ◌+◌, ◌<◌, ◌≤◌, true, cond, List, [], ◌∷◌, ◌++◌, length, take, drop, get_or, map, sym, ap, ◌∙◌, Some, None}
 use Rattle.std.specs.Prelude.{is_some, zip}
 use Rattle.std.specs.List.{list_any}
 use Rattle.std.specs.Option.{option_or}

@@ -25,6 +25,7 @@ mod step;
 mod stepper;
 mod text;
 
+pub use addresses::FIRST_ADDRESS;
 use blang::Library;
 pub use blang::{LoadFault, Outcome, Trap};
 pub use image::Image;

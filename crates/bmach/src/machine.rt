@@ -121,10 +121,12 @@ pub struct Stop {
 impl Active {
     /// A call of a function, with the place of its next instruction and the address of its frame.
     pub fn new(function: &LoadedFunction, place: usize, start: u32) -> Active
-        ensures strings { result.strings ≡ function.now.strings }
-        ensures place { result.place ≡ place }
-        ensures start { result.start ≡ start }
-        ensures parameters { result.parameters ≡ function.now.parameters }
+        ensures { result ≡ record {
+          strings = function.now.strings;
+          parameters = function.now.parameters;
+          place = place;
+          start = start;
+        } }
     {
         Active {
             strings: function.strings,

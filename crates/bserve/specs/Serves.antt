@@ -13,7 +13,7 @@ use Rattle.brun.specs.Runs.{RunsText}
 use Rattle.bcheck.specs.Checks.{Checks}
 use Rattle.blist.specs.Listings.{Lists}
 use Rattle.blist.specs.Maps.{Maps}
-use Rattle.blist.specs.Told as told
+use Rattle.blist.specs.Programs.{ToldEnds}
 use Rattle.bdraw.specs.Draws.{Draws}
 use Rattle.btrace.specs.Locates.{Locates}
 use Rattle.btrace.specs.Traces.{Traces}
@@ -50,7 +50,7 @@ NamesFile file ends status =
     ⊎ SaysNothing ends status MEMORY
 
 -- the ends of a command that tells of a source
-abbrev pub telling_ends : RunEnds → told.ToldEnds
+abbrev pub telling_ends : RunEnds → ToldEnds
 telling_ends ends =
     record { out = ends.out; out_behind = ends.out_behind; line = ends.line; line_behind = ends.line_behind }
 

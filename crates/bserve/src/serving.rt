@@ -12,7 +12,7 @@ use crate::texts::{CONTRADICTION, UNREAD};
 use bcheck::{Request, check};
 use bdraw::draw;
 use blang::status::{self, Status};
-use blist::{list, map};
+use blist::{list, map, tell};
 use bparse::compile_edition;
 use brun::{go_edition, migrate, run_text};
 use btrace::{locate, trace};
@@ -348,7 +348,7 @@ fn name_file<D: ByteOut>(alloc: Global, file: &str, error: &io::Error, diag: &mu
         return status::MEMORY;
     }
     match no_file_line(alloc, file) {
-        Ok(text) => tell(text.as_str(), status::DEVICE, diag),
+        Ok(text) => tell(text.as_bytes(), status::DEVICE, diag),
         Err(_) => status::MEMORY,
     }
 }
@@ -405,18 +405,7 @@ fn refuse_with<D: ByteOut>(text: &str, diag: &mut D) -> Status
     ensures gives { Reported text.now WRONG_COMMAND (D.outgoing diag.old) (D.outgoing diag.new) result }
     ensures diag_lender { D.lender diag.new ≡ D.lender diag.old }
 {
-    tell(text, status::WRONG_COMMAND, diag)
-}
-
-// Writes a text, and answers this status or that of a refused write.
-fn tell<W: ByteOut>(text: &str, status: Status, end: &mut W) -> Status
-    ensures gives { Reported text.now status (W.outgoing end.old) (W.outgoing end.new) result }
-    ensures end_lender { W.lender end.new ≡ W.lender end.old }
-{
-    match end.put(text.as_bytes()) {
-        Ok(()) => status,
-        Err(fault) => status::of_fault(fault),
-    }
+    tell(text.as_bytes(), status::WRONG_COMMAND, diag)
 }
 
 // Writes help to the output, and what is wrong beside it.
@@ -441,6 +430,6 @@ fn refuse<O: ByteOut, D: ByteOut>(alloc: Global, error: Error, out: &mut O, diag
     if error.use_stderr() {
         refuse_with(text.as_str(), diag)
     } else {
-        tell(text.as_str(), status::DONE, out)
+        tell(text.as_bytes(), status::DONE, out)
     }
 }

@@ -8,7 +8,8 @@ use Rattle.blang.specs.declared.run.Outcome.TheVariants as outcome
 use Rattle.blang.specs.Machine.{Call, Finishes, Image, RunEnds, RunGives, State, image_of, machine, run, state_outcome}
 use Rattle.bmach.specs.Resolved.{IsLoadedFrom, state_resolved}
 use Rattle.bmach.specs.Stepping.{IsUnstarted, Paused}
-use Rattle.bmach.specs.Stops.{EndsAt, IsAtPlace, IsOverAt}
+use Rattle.bmach.specs.Stops.{EndsAt, IsOverAt, RunsCall, active_of}
+use Rattle.bmach.specs.declared.machine.Active.{Active}
 use Rattle.bmach.proofs.Beginning.{run_from}
 use Rattle.bmach.proofs.Resolving.{run-resolved}
 use Rattle.bmach.proofs.Running.{same_run}
@@ -27,8 +28,8 @@ pub not_none : (r : Option ℕ) (t : ℕ) → r ≡ None → r ≡ Some t → �
 not_none r t is same = cc
 
 -- The states of one machine are those of the other, resolved.
-module _ (I : Image) (f g : ℕ → State) (e : (n : ℕ) → g n ≡ state_resolved I (f n)) (strings place : ℕ) where
-  stands_same : (n : ℕ) → IsAtPlace (g n) strings place → IsAtPlace (f n) strings place
+module _ (I : Image) (f g : ℕ → State) (e : (n : ℕ) → g n ≡ state_resolved I (f n)) (active : Active) where
+  stands_same : (n : ℕ) → RunsCall (g n) active → RunsCall (f n) active
   stands_same n s =
       let r = running_from I (f n) s.call s.below s.world (sym (e n) ∙ s.state_is) in
       record {
@@ -36,11 +37,10 @@ module _ (I : Image) (f g : ℕ → State) (e : (n : ℕ) → g n ≡ state_reso
         below = r.1;
         world = s.world;
         state_is = r.2;
-        strings_is = ap (λ (c : Call). c.function.strings) r.3 ∙ s.strings_is;
-        place_is = ap (λ (c : Call). c.place) r.3 ∙ s.place_is;
+        active_is = ap active_of r.3 ∙ s.active_is;
       }
 
-  pub ends_at_same : (n : ℕ) (r : Outcome) → EndsAt g n r strings place → EndsAt f n r strings place
+  pub ends_at_same : (n : ℕ) (r : Outcome) → EndsAt g n r active → EndsAt f n r active
   ends_at_same n (outcome.Exit status) h = tt
   ends_at_same n (outcome.Trap kind) h = (
     h.0,
@@ -52,14 +52,14 @@ module _ (I : Image) (f g : ℕ → State) (e : (n : ℕ) → g n ≡ state_reso
   ends_at_same n outcome.Device h = tt
   ends_at_same n outcome.Memory h = tt
 
-stops_run : (ds : List Definition) (image : Image) (p : Paused) → IsLoadedFrom ds image → IsUnstarted image p → (n : ℕ) (i j : Incoming) (r : Outcome) (strings place : ℕ) → IsOverAt (steps_from p) n i j r strings place → IsOverAt (machine ds) n i j r strings place
-stops_run ds image p loaded begins n i j r strings place s =
+stops_run : (ds : List Definition) (image : Image) (p : Paused) → IsLoadedFrom ds image → IsUnstarted image p → (n : ℕ) (i j : Incoming) (r : Outcome) (active : Active) → IsOverAt (steps_from p) n i j r active → IsOverAt (machine ds) n i j r active
+stops_run ds image p loaded begins n i j r active s =
     let e : (input : List ℕ) (k : ℕ) → steps_from p input k ≡ state_resolved (image_of ds) (machine ds input k) =
     λ input k. sym (run_from image p begins input k) ∙ run_loaded ds image loaded input k ∙ run-resolved (image_of ds) input k in
     record {
       taken = s.taken;
       took = s.took;
-      ends = λ more can. ends_at_same (image_of ds) (machine ds (s.taken ++ more)) (steps_from p (s.taken ++ more)) (e (s.taken ++ more)) strings place n r (s.ends more can);
+      ends = λ more can. ends_at_same (image_of ds) (machine ds (s.taken ++ more)) (steps_from p (s.taken ++ more)) (e (s.taken ++ more)) active n r (s.ends more can);
     }
 
 module _ (edition : Edition) (source : List ℕ) (n : ℕ) (ends : RunEnds) (status : ℕ) (mid : Outgoing) (ds : List Definition) (image : Image) (p : Paused) (result : Outcome) where
@@ -70,13 +70,13 @@ module _ (edition : Edition) (source : List ℕ) (n : ℕ) (ends : RunEnds) (sta
       (same_run (run image) (steps_from p) n ends.input ends.input_behind ends.out ends.out_behind result (run_from image p begins) gives)
 
   -- a run whose place was told
-  pub located_whole : (told : Outgoing) (fs : List Placed) (answer strings place : ℕ) → HasProgram edition source ends.line mid ds image → fs ≡ functions_of ds → IsUnstarted image p
+  pub located_whole : (told : Outgoing) (fs : List Placed) (answer : ℕ) (active : Active) → HasProgram edition source ends.line mid ds image → fs ≡ functions_of ds → IsUnstarted image p
       → RunGives (steps_from p) n ends.input ends.input_behind ends.out ends.out_behind result → Finishes result mid told answer → located_status result ≡ Some answer
-      → IsOverAt (steps_from p) n ends.input ends.input_behind result strings place → TellsSite fs strings place answer told ends.line_behind status → Locates edition source n ends status
-  located_whole told fs answer strings place is functions begins gives finishes at stops tells =
-      located mid told ds image result answer strings place is (runs_whole is begins gives) finishes at
-      (stops_run ds image p is.loaded begins n ends.input ends.input_behind result strings place stops)
-      (subst (λ (x : List Placed). TellsSite x strings place answer told ends.line_behind status) functions tells)
+      → IsOverAt (steps_from p) n ends.input ends.input_behind result active → TellsSite fs active.strings active.place answer told ends.line_behind status → Locates edition source n ends status
+  located_whole told fs answer active is functions begins gives finishes at stops tells =
+      located mid told ds image result answer active is (runs_whole is begins gives) finishes at
+      (stops_run ds image p is.loaded begins n ends.input ends.input_behind result active stops)
+      (subst (λ (x : List Placed). TellsSite x active.strings active.place answer told ends.line_behind status) functions tells)
 
   -- a run that has no place
   pub unlocated_whole : HasProgram edition source ends.line mid ds image → IsUnstarted image p → RunGives (steps_from p) n ends.input ends.input_behind ends.out ends.out_behind result

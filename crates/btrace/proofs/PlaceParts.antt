@@ -1,12 +1,17 @@
 -- The places of a run, one behind another.
-use Rattle.std.proofs.Common.{◌≡◌, ◌∙◌, ℕ, ◌+◌, Bool, List, [], ◌∷◌, ◌++◌, ap, append-nil, append_assoc, codes, decimal, length, nat_lt, refl, sym, if◌then◌else◌}
+use Rattle.std.proofs.Common.{◌≡◌, ◌∙◌, ℕ, zero, suc, ◌+◌, ◌-◌, ◌<◌, Bool, None, Some, add-one, arith, List, [], ◌∷◌, ◌++◌, ap, append-nil, append_assoc, codes, decimal, length, nat_lt, refl, subst, sym, take, if◌then◌else◌}
 use Rattle.std.specs.List.{flat_map}
 use Rattle.std.proofs.lemmas.List.Concat.{flat_map-append}
 use Rattle.blist.specs.Columns.{left}
 use Rattle.blist.proofs.AddedRows.{piece}
+use Rattle.std.specs.Prelude.{option_map, slice_get}
+use Rattle.std.proofs.lemmas.List.{map-append}
+use Rattle.blang.specs.Machine.{Call}
+use Rattle.bmach.specs.Stops.{active_of}
+use Rattle.bmach.specs.declared.machine.Active.{Active}
 use Rattle.btrace.specs.Programs.{Placed}
 use Rattle.btrace.specs.Rows.{Place, place_text, places_text, words_text}
-use Rattle.btrace.specs.Traces.{AddsPlaces}
+use Rattle.btrace.specs.Traces.{AddsPlaces, waits_at}
 
 pub words_shown : (old text new words : List ℕ) (count : ℕ) (has_more : Bool) → length words ≡ count → text ≡ (old ++ (if nat_lt 0 count then codes "  with" else [])) ++ flat_map (λ w. codes " " ++ decimal w) words
     → new ≡ text ++ (if has_more then codes " .." else []) → new ≡ old ++ words_text words has_more
@@ -23,24 +28,56 @@ one_word start text t1 t2 words word before e1 e2 =
     e2 ∙ ap (λ x. x ++ decimal word) e1 ∙ append_assoc text (codes " ") (decimal word) ∙ ap (λ x. x ++ f word) before ∙ append_assoc start (flat_map f words) (f word)
     ∙ ap (λ x. start ++ x) (ap (λ x. flat_map f words ++ x) (sym (append-nil (f word))) ∙ sym (flat_map-append f words (word ∷ [])))
 
-pub first_place : (fs : List Placed) (p : Place) (old t1 t2 : List ℕ) → t1 ≡ old ++ codes "at     " → t2 ≡ t1 ++ place_text fs p → AddsPlaces fs p.strings p.place old t2
+pub first_place : (fs : List Placed) (p : Place) (old t1 t2 : List ℕ) → t1 ≡ old ++ codes "at     " → t2 ≡ t1 ++ place_text fs p → AddsPlaces fs p.strings p.place [] old t2
 first_place fs p old t1 t2 e1 e2 = (
   places_text fs p [],
-  record { first = p; callers = []; text_is = refl; function_is = refl; place_is = refl },
+  record { first = p; callers = []; text_is = refl; function_is = refl; place_is = refl; callers_are = refl },
   e2 ∙ ap (λ x. x ++ place_text fs p) e1 ∙ append_assoc old (codes "at     ") (place_text fs p) ∙ ap (λ x. old ++ x) (sym (append-nil (codes "at     " ++ place_text fs p))),
 )
 
-pub one_caller : (fs : List Placed) (strings place : ℕ) (p : Place) (old text t1 t2 : List ℕ) → AddsPlaces fs strings place old text → t1 ≡ text ++ codes "called " → t2 ≡ t1 ++ place_text fs p → AddsPlaces fs strings place old t2
-one_caller fs strings place p old text t1 t2 before e1 e2 =
+one_caller : (fs : List Placed) (strings place : ℕ) (below : List Call) (c : Call) (p : Place) (old text t1 t2 : List ℕ) → p.strings ≡ c.function.strings → p.place ≡ c.place - 1
+    → AddsPlaces fs strings place below old text → t1 ≡ text ++ codes "called " → t2 ≡ t1 ++ place_text fs p → AddsPlaces fs strings place (below ++ c ∷ []) old t2
+one_caller fs strings place below c p old text t1 t2 function_is place_is before e1 e2 =
     let f : Place → List ℕ = λ q. codes "called " ++ place_text fs q in
+    let site : Place → ℕ × ℕ = λ q. (q.strings, q.place) in
     let first = codes "at     " ++ place_text fs before.1.first in
-    let callers = before.1.callers in (
+    let callers = before.1.callers in
+    let same : site p ≡ waits_at c = λ i. (function_is i, place_is i) in (
       places_text fs before.1.first (callers ++ p ∷ []),
-      record { first = before.1.first; callers = callers ++ p ∷ []; text_is = refl; function_is = before.1.function_is; place_is = before.1.place_is },
+      record {
+        first = before.1.first;
+        callers = callers ++ p ∷ [];
+        text_is = refl;
+        function_is = before.1.function_is;
+        place_is = before.1.place_is;
+        callers_are = map-append site callers (p ∷ []) ∙ (λ i. before.1.callers_are i ++ same i ∷ []) ∙ sym (map-append waits_at below (c ∷ []));
+      },
       e2 ∙ ap (λ x. x ++ place_text fs p) e1 ∙ append_assoc text (codes "called ") (place_text fs p) ∙ ap (λ x. x ++ f p) (before.2 ∙ ap (λ x. old ++ x) before.1.text_is)
           ∙ append_assoc old (first ++ flat_map f callers) (f p)
           ∙ ap (λ x. old ++ x) (append_assoc first (flat_map f callers) (f p) ∙ ap (λ x. first ++ x) (ap (λ x. flat_map f callers ++ x) (sym (append-nil (f p))) ∙ sym (flat_map-append f callers (p ∷ [])))),
     )
+
+-- the call with a number
+next_caller : (below : List Call) (number : ℕ) (active : Active) → Some active ≡ option_map active_of (slice_get below number)
+    → (c : Call) × (take (suc number) below ≡ take number below ++ c ∷ []) × (active ≡ active_of c)
+next_caller [] number active is = cc
+next_caller (c ∷ below) zero active is = (c, refl, (cc))
+next_caller (c ∷ below) (suc number) active is =
+    let next = next_caller below number active is in
+    (next.0, ap (λ rest. c ∷ rest) next.1, next.2)
+
+pub one_more : (fs : List Placed) (strings place : ℕ) (below : List Call) (number : ℕ) (active : Active) (p : Place) (old text t1 t2 : List ℕ) → Some active ≡ option_map active_of (slice_get below number) → p.strings ≡ active.strings → p.place ≡ active.place - 1
+    → AddsPlaces fs strings place (take number below) old text → t1 ≡ text ++ codes "called " → t2 ≡ t1 ++ place_text fs p → AddsPlaces fs strings place (take (number + 1) below) old t2
+one_more fs strings place below number active p old text t1 t2 is function_is place_is before e1 e2 =
+    let next = next_caller below number active is in
+    let told : take (number + 1) below ≡ take number below ++ next.0 ∷ [] = ap (λ n. take n below) (add-one number) ∙ next.1 in
+    subst (λ (calls : List Call). AddsPlaces fs strings place calls old t2) (sym told)
+    (one_caller fs strings place (take number below) next.0 p old text t1 t2 (function_is ∙ ap (λ (a : Active). a.strings) next.2) (place_is ∙ ap (λ (a : Active). a.place - 1) next.2) before e1 e2)
+
+pub some_caller : (below : List Call) (number : ℕ) → number < length below → None ≡ option_map active_of (slice_get below number) → ⊥
+some_caller [] number within is = omega arith
+some_caller (c ∷ below) zero within is = cc
+some_caller (c ∷ below) (suc number) within is = some_caller below number (omega arith) is
 
 -- the parts of a site, one behind another
 pub site_parts : (in_text at_text line_text old t1 t2 t3 t4 t5 t6 shown name place line : List ℕ) → t1 ≡ old ++ in_text → t2 ≡ t1 ++ left 8 shown → shown ≡ name → t3 ≡ t2 ++ at_text → t4 ≡ t3 ++ place → t5 ≡ t4 ++ line_text

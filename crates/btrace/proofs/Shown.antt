@@ -1,8 +1,7 @@
 -- Steps that are made and shown, one after another.
 use Rattle.std.proofs.Common.{◌≡◌, ◌∙◌, ℕ, zero, suc, ◌+◌, ◌<◌, ◌≤◌, Bool, true, false, cond, List, [], ◌∷◌, ◌++◌, Result, Ok, Err, ap, append-nil, append_assoc, arith, drop, filter, inl, inr, length, map, refl, subst, sym}
 use Rattle.std.specs.List.{range_with_len}
-use Rattle.std.specs.Prelude.{unwrap_or}
-use Rattle.std.proofs.Math.Seq.{drop-append_seam, drop-length}
+use Rattle.std.proofs.Math.Seq.{drop-append_seam}
 use Rattle.std.proofs.lemmas.List.{map-append, map-id}
 use Rattle.std.proofs.lemmas.List.Concat.{flat_map-append}
 use Rattle.std.proofs.lemmas.List.Elements.{All-nil, All-append, All-cons}
@@ -16,7 +15,7 @@ use Rattle.blang.specs.Machine.{Image, State, Running, Shows, state_outcome, ste
 use Rattle.blang.specs.Machine as machine
 use Rattle.bmach.specs.Steps.{world_with}
 use Rattle.bmach.specs.Stepping.{Paused, machine_at}
-use Rattle.bmach.specs.Turns.{MovesOn, HasHalted, TurnGives}
+use Rattle.bmach.specs.Turns.{KeepsBelow, MovesOn, HasHalted, TurnGives}
 use Rattle.bmach.proofs.Running.{at_limit, behind, one_more, run_over}
 use Rattle.bmach.proofs.Turning.{follows, goes_on}
 use Rattle.btrace.specs.Programs.{Placed}
@@ -160,25 +159,16 @@ module _ (fs : List Placed) (which : Which) (first now : Paused) (made : ℕ) (i
       → AddsIf b fs (made + 1) now.call new.store p.bytes q.bytes (Ok tt) text text' → IsTraced fs which first (made + 1) new i m o q old text'
   traced_one new q t g same row = traced_by new q t (turned first now new t.image_is g) b refl (same ∙ t.image_is) row
 
--- what was taken with the step in which the run was over
-took_over : (now new : Paused) {j m : Incoming} (p q : Outgoing) (r : Outcome) → TurnGives now.image (machine_at now) (machine_at new) j m p q (Err r) → (taken : List ℕ) × Took j taken m
-took_over now new {j} {m} p q (outcome.Exit status) g = ([], subst (λ (x : Incoming). Took j [] x) (sym g.input) (Took-none j))
-took_over now new {j} {m} p q (outcome.Trap kind) g = ([], subst (λ (x : Incoming). Took j [] x) (sym g.input) (Took-none j))
-took_over now new p q outcome.Limit g = absurd g
-took_over now new p q outcome.Device g = (g.taken, g.took)
-took_over now new p q outcome.Memory g = (g.2.taken, g.2.took)
-
 halted : (now new : Paused) (first : Image) {j m : Incoming} {p q : Outgoing} (r : Outcome) → now.image ≡ first → HasHalted (λ left before. step now.image (machine_at now left before)) j m p q r → HasHalted (λ left before. step first (machine_at now left before)) j m p q r
 halted now new first {j} {m} {p} {q} r same g = subst (λ (x : Image). HasHalted (λ left before. step x (machine_at now left before)) j m p q r) same g
 
-bytes_of : Outgoing → List ℕ
-bytes_of end = unwrap_or end.written []
-
-nothing_since : (a b : Kept) → outgoing_of b ≡ outgoing_of a → drop (length a.bytes) b.bytes ≡ []
-unfolding bytes_of
-nothing_since a b same =
-    let e : b.bytes ≡ a.bytes = ap (λ (x : Outgoing). bytes_of x) same in
-    ap (drop (length a.bytes)) e ∙ drop-length a.bytes
+-- where no read failed in the step in which the run was over
+pub unfailed_step : (now new : Paused) (j m : Incoming) (p q : Outgoing) (r : Outcome) → (r ≡ outcome.Device → ⊥) → TurnGives now.image (machine_at now) (machine_at new) j m p q (Err r) → m.failures ≡ j.failures
+unfailed_step now new j m p q (outcome.Exit status) other g = ap (λ (x : Incoming). x.failures) g.input
+unfailed_step now new j m p q (outcome.Trap kind) other g = ap (λ (x : Incoming). x.failures) g.input
+unfailed_step now new j m p q outcome.Limit other g = absurd g
+unfailed_step now new j m p q outcome.Device other g = absurd (other refl)
+unfailed_step now new j m p q outcome.Memory other g = g.2.reason.0
 
 module _ (fs : List Placed) (which : Which) (first now : Paused) (made : ℕ) (i j m : Incoming) (o p : Kept) (old text text' : List ℕ) (b : Bool) (is : b ≡ is_wanted which (made + 1) now.call.function.strings) where
   -- the run was over in the next step
@@ -200,8 +190,8 @@ module _ (fs : List Placed) (which : Which) (first now : Paused) (made : ℕ) (i
     last_shows more can =
         subst (Shows r more t.goes.output) (sym (behind_it fs which first now made i j m o p old text text' b is t more (can_before more can))) (g.shows more t.goes.output)
 
-    last_row : (more : List ℕ) → CanFollow m more → (a : AddsLast fs (made + 1) now.call (drop (length p.bytes) q.bytes) text text')
-        → ShowsStep fs (steps_from first (t.goes.taken ++ more)) made (step_row fs (made + 1) now.call a.0 ++ written_row (drop (length p.bytes) q.bytes))
+    last_row : (more : List ℕ) → CanFollow m more → (a : AddsLast fs (made + 1) now.call text text')
+        → ShowsStep fs (steps_from first (t.goes.taken ++ more)) made (step_row fs (made + 1) now.call a.0)
     last_row more can a =
         let row = step_row fs (made + 1) now.call a.0 in record {
           tries = tries fs which first now made i j m o p old text text' b is t more (can_before more can);
@@ -209,7 +199,7 @@ module _ (fs : List Placed) (which : Which) (first now : Paused) (made : ℕ) (i
           changed = [];
           bytes = [];
           wrote = (last_shows more can).written ∙ sym (append-nil t.goes.output);
-          text_is = ap (λ bytes. row ++ written_row bytes) (nothing_since p q g.output) ∙ ap (λ x. x ++ written_row []) (sym (append-nil row));
+          text_is = sym (append-nil row) ∙ sym (append-nil (row ++ []));
         }
 
     over_by : (c : Bool) → b ≡ c → AddsIf c fs (made + 1) now.call new.store p.bytes q.bytes (Err r) text text' → (text'' : List ℕ) → text'' ≡ text' ++ ending
@@ -228,7 +218,7 @@ module _ (fs : List Placed) (which : Which) (first now : Paused) (made : ℕ) (i
     over_by true seen a text'' end ends = record {
       made = made + 1;
       within = omega (arith, lt);
-      rows = t.rows ++ record { made = made; text = step_row fs (made + 1) now.call a.0 ++ written_row (drop (length p.bytes) q.bytes) } ∷ [];
+      rows = t.rows ++ record { made = made; text = step_row fs (made + 1) now.call a.0 } ∷ [];
       ending = ending;
       text_is = end ∙ ap (λ x. x ++ ending) (with_row t.rows made _ old text text' t.text_is a.1);
       taken = t.goes.taken;
@@ -253,11 +243,11 @@ module _ (fs : List Placed) (which : Which) (first now : Paused) (made : ℕ) (i
     failed_by false none = ([], none ∙ sym (append-nil text), λ more can. inl refl)
     failed_by true a = (_, a.1, λ more can. inr (tried_row more can a.0))
       where
-        tried_row : (more : List ℕ) → CanFollow m more → (line : ℕ) → (u : Tries (steps_from first (fed more)) made) × (l : ℕ) × (bytes : List ℕ) × (step_row fs (made + 1) now.call line ++ written_row (drop (length p.bytes) q.bytes) ≡ step_row fs (made + 1) u.call l ++ written_row bytes)
+        tried_row : (more : List ℕ) → CanFollow m more → (line : ℕ) → (u : Tries (steps_from first (fed more)) made) × (l : ℕ) × (step_row fs (made + 1) now.call line ≡ step_row fs (made + 1) u.call l)
         tried_row more can line =
             let e : steps_from first (fed more) made ≡ machine_at now (taken ++ more) t.goes.output =
             ap (λ xs. steps_from first xs made) (append_assoc t.goes.taken taken more) ∙ there fs which first now made i j m o p old text text' b is t (taken ++ more) (follows took can) in
-            (record { call = now.call; below = now.below; world = world_with now.store (taken ++ more) t.goes.output; state_is = e }, line, drop (length p.bytes) q.bytes, refl)
+            (record { call = now.call; below = now.below; world = world_with now.store (taken ++ more) t.goes.output; state_is = e }, line, refl)
 
     over_failed : (text'' : List ℕ) → AddsIf b fs (made + 1) now.call new.store p.bytes q.bytes (Err r) text text' → text'' ≡ text'
         → ((ending : List ℕ) → Failed ending → (more : List ℕ) → CanFollow m more → EndsAs fs (steps_from first (fed more)) made n r ending) → traces.ShowsRows fs which (steps_from first) n i m r old text''
@@ -276,23 +266,23 @@ module _ (fs : List Placed) (which : Which) (first now : Paused) (made : ℕ) (i
         }
 
   pub over_shows : (new : Paused) (q : Kept) (n : ℕ) (r : Outcome) → made < n → IsTraced fs which first made now i j o p old text → TurnGives now.image (machine_at now) (machine_at new) j m (outgoing_of p) (outgoing_of q) (Err r)
-      → AddsIf b fs (made + 1) now.call new.store p.bytes q.bytes (Err r) text text' → (text'' : List ℕ) → AddsEnd fs now.call.function.strings now.call.place r text' text'' → traces.ShowsRows fs which (steps_from first) n i m r old text''
-  over_shows new q n (outcome.Exit status) lt t g a text'' end =
+      → AddsIf b fs (made + 1) now.call new.store p.bytes q.bytes (Err r) text text' → KeepsBelow (Err r) now.below new.below → (text'' : List ℕ) → AddsEnd fs now.call.function.strings now.call.place new.below r text' text'' → traces.ShowsRows fs which (steps_from first) n i m r old text''
+  over_shows new q n (outcome.Exit status) lt t g a kept text'' end =
       let h = halted now new first.image (outcome.Exit status) t.image_is g in
       over_by new q n (outcome.Exit status) lt t h [] b refl a text'' (end ∙ sym (append-nil text')) (λ more can. ((last_shows new q n (outcome.Exit status) lt t h [] more can).outcome, refl))
-  over_shows new q n (outcome.Trap kind) lt t g a text'' end =
+  over_shows new q n (outcome.Trap kind) lt t g a kept text'' end =
       let h = halted now new first.image (outcome.Trap kind) t.image_is g in
       over_by new q n (outcome.Trap kind) lt t h end.0 b refl a text'' end.2
-      (λ more can. ((last_shows new q n (outcome.Trap kind) lt t h end.0 more can).outcome, (made, refl, (record { call = now.call; below = now.below; world = world_with now.store more t.goes.output; state_is = there fs which first now made i j m o p old text text' b is t more (can_before new q n (outcome.Trap kind) lt t h end.0 more can) }, end.1))))
-  over_shows new q n outcome.Limit lt t g a text'' end = absurd g
-  over_shows new q n outcome.Device lt t g a text'' end = over_failed new q n outcome.Device lt t g.taken g.took text'' a end (λ ending f more can. f more can)
-  over_shows new q n outcome.Memory lt t g a text'' end = over_failed new q n outcome.Memory lt t g.2.taken g.2.took text'' a end (λ ending f more can. f more can)
+      (λ more can. ((last_shows new q n (outcome.Trap kind) lt t h end.0 more can).outcome, (made, refl, (record { call = now.call; below = now.below; world = world_with now.store more t.goes.output; state_is = there fs which first now made i j m o p old text text' b is t more (can_before new q n (outcome.Trap kind) lt t h end.0 more can) }, subst (λ (below : List machine.Call). traces.TellsPlace fs now.call.function.strings now.call.place below end.0) kept end.1))))
+  over_shows new q n outcome.Limit lt t g a kept text'' end = absurd g
+  over_shows new q n outcome.Device lt t g a kept text'' end = over_failed new q n outcome.Device lt t g.taken g.took text'' a end (λ ending f more can. f more can)
+  over_shows new q n outcome.Memory lt t g a kept text'' end = over_failed new q n outcome.Memory lt t g.2.taken g.2.took text'' a end (λ ending f more can. f more can)
 
 -- all steps were made
 pub all_give : (fs : List Placed) (which : Which) (first now : Paused) (made : ℕ) (i j : Incoming) (o p : Kept) (old text : List ℕ) → IsTraced fs which first made now i j o p old text → StepsGive first made i j (outgoing_of o) (outgoing_of p) outcome.Limit
 all_give fs which first now made i j o p old text t = at_limit first.image made (machine_at first) now.call now.below now.store t.goes
 
-pub all_show : (fs : List Placed) (which : Which) (first now : Paused) (made : ℕ) (i j : Incoming) (o p : Kept) (old text text' : List ℕ) → IsTraced fs which first made now i j o p old text → AddsPlaces fs now.call.function.strings now.call.place text text'
+pub all_show : (fs : List Placed) (which : Which) (first now : Paused) (made : ℕ) (i j : Incoming) (o p : Kept) (old text text' : List ℕ) → IsTraced fs which first made now i j o p old text → AddsPlaces fs now.call.function.strings now.call.place now.below text text'
     → traces.ShowsRows fs which (steps_from first) made i j outcome.Limit old text'
 all_show fs which first now made i j o p old text text' t end = record {
   made = made;

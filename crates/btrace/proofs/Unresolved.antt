@@ -1,5 +1,5 @@
 -- What is shown of a program that was loaded is what its definitions do.
-use Rattle.std.proofs.Common.{◌≡◌, ◌∙◌, ℕ, ◌+◌, List, [], ◌++◌, Option, Some, ap, filter, inl, inr, map, refl, subst, sym}
+use Rattle.std.proofs.Common.{◌≡◌, ◌∙◌, ℕ, ◌+◌, List, [], ◌∷◌, ◌++◌, Option, Some, ap, filter, inl, inr, map, refl, subst, sym}
 use Rattle.std.specs.List.{range_with_len}
 use Rattle.std.proofs.lemmas.List.Elements.{All-weaker}
 use Rattle.bword.specs.declared.edition.Edition.{Edition}
@@ -9,25 +9,24 @@ use Rattle.blang.specs.declared.status.TheConstants.{DONE}
 use Rattle.blang.specs.declared.run.Outcome.{Outcome}
 use Rattle.blang.specs.declared.run.Outcome.TheVariants as outcome
 use Rattle.blang.specs.Layout.{World}
-use Rattle.blang.specs.Machine.{Call, Halted, Image, RunEnds, Running, State, Stuck, image_of, machine, state_outcome, run, steps, state_world}
+use Rattle.blang.specs.Machine.{Call, Halted, Image, RunEnds, Running, State, Stuck, image_of, machine, state_outcome, run, steps, state_world, Reported}
 use Rattle.bmach.specs.Resolved.{IsLoadedFrom, call_resolved, state_resolved}
 use Rattle.bmach.specs.Stepping.{IsUnstarted, Paused, machine_at}
 use Rattle.bmach.proofs.Beginning.{run_from}
 use Rattle.bmach.proofs.Resolving.{run-resolved}
 use Rattle.bmach.proofs.Running.{same_run}
 use Rattle.brun.proofs.RunSteps.{outcome-resolved, run_loaded, run_of_loaded, world-resolved}
-use Rattle.blist.specs.Programs.{HasProgram}
-use Rattle.blist.specs.Told.{Told}
+use Rattle.blist.specs.Programs.{HasProgram, nothing_written}
 use Rattle.btrace.specs.Programs.{Placed, functions_of}
 use Rattle.btrace.specs.Rows.{changed_text, step_row, written_row}
-use Rattle.btrace.specs.Traces.{AreShown, EndsAs, IsTried, IsWhere, TraceRow, ShowsRows, ShowsStep, StepsGive, TellsEnd, Traces, Tries, is_shown, is_step, nothing_written, shown_of, steps_from, traced, which_of}
+use Rattle.btrace.specs.Traces.{AreShown, EndsAs, IsTried, IsWhere, TraceRow, ShowsRows, ShowsStep, StepsGive, TellsEnd, Traces, Tries, is_shown, is_step, shown_of, steps_from, traced, waits_at, which_of}
 use Rattle.btrace.specs.declared.tracing.TheConstants.{HEADING}
 use Rattle.btrace.specs.declared.tracing.Which.{Which}
 
-pub running_from : (I : Image) (s : State) (call : Call) (below : List Call) (w : World) → state_resolved I s ≡ Running call below w → (c : Call) × (b : List Call) × (s ≡ Running c b w) × (call_resolved I c ≡ call)
+pub running_from : (I : Image) (s : State) (call : Call) (below : List Call) (w : World) → state_resolved I s ≡ Running call below w → (c : Call) × (b : List Call) × (s ≡ Running c b w) × (call_resolved I c ≡ call) × (map (call_resolved I) b ≡ below)
 running_from I (Running c b v) call below w h =
     let same : v ≡ w = cc in
-    (c, b, ap (Running c b) same, (cc))
+    (c, b, ap (Running c b) same, (cc), (cc))
 running_from I (Halted e v) call below w h = cc
 running_from I (Stuck v) call below w h = cc
 
@@ -35,6 +34,10 @@ step_same : (I : Image) (which : Which) (number : ℕ) (s : State) → is_step w
 step_same I which number (Running c b v) = refl
 step_same I which number (Halted e v) = refl
 step_same I which number (Stuck v) = refl
+
+waits_same : (I : Image) (below : List Call) → map waits_at (map (call_resolved I) below) ≡ map waits_at below
+waits_same I [] = refl
+waits_same I (c ∷ below) = ap (λ rest. waits_at c ∷ rest) (waits_same I below)
 
 -- The states of one machine are those of the other, resolved.
 module _ (fs : List Placed) (which : Which) (I : Image) (f g : ℕ → State) (e : (n : ℕ) → g n ≡ state_resolved I (f n)) where
@@ -50,10 +53,10 @@ module _ (fs : List Placed) (which : Which) (I : Image) (f g : ℕ → State) (e
       let second : shown_of which (λ n. state_resolved I (f n)) made ≡ shown_of which f made = λ i. filter (λ n. step_same I which (n + 1) (f n) i) (range_with_len 0 made) in
       first ∙ second
 
-  tries_same : (made : ℕ) (t : Tries g made) → (u : Tries f made) × (call_resolved I u.call ≡ t.call) × (u.world ≡ t.world)
+  tries_same : (made : ℕ) (t : Tries g made) → (u : Tries f made) × (call_resolved I u.call ≡ t.call) × (u.world ≡ t.world) × (map (call_resolved I) u.below ≡ t.below)
   tries_same made t =
       let r = running_from I (f made) t.call t.below t.world (sym (e made) ∙ t.state_is) in
-      (record { call = r.0; below = r.1; world = t.world; state_is = r.2 }, r.3, refl)
+      (record { call = r.0; below = r.1; world = t.world; state_is = r.2 }, r.3, refl, r.4)
 
   step_shown : (made : ℕ) (text : List ℕ) → ShowsStep fs g made text → ShowsStep fs f made text
   step_shown made text s =
@@ -84,6 +87,7 @@ module _ (fs : List Placed) (which : Which) (I : Image) (f g : ℕ → State) (e
           text_is = h.1.text_is;
           function_is = h.1.function_is ∙ ap (λ (c : Call). c.function.strings) (sym t.1);
           place_is = h.1.place_is ∙ ap (λ (c : Call). c.place) (sym t.1);
+          callers_are = h.1.callers_are ∙ ap (map waits_at) (sym t.3) ∙ waits_same I t.0.below;
         },
       )
 
@@ -91,7 +95,7 @@ module _ (fs : List Placed) (which : Which) (I : Image) (f g : ℕ → State) (e
   tried_same made text (inl none) = inl none
   tried_same made text (inr h) =
       let t = tries_same made h.0 in
-      inr (t.0, h.1, h.2, h.3 ∙ ap (λ c. step_row fs (made + 1) c h.1 ++ written_row h.2) (sym t.1))
+      inr (t.0, h.1, h.2 ∙ ap (λ c. step_row fs (made + 1) c h.1) (sym t.1))
 
   pub ends_same : (made n : ℕ) (r : Outcome) (text : List ℕ) → EndsAs fs g made n r text → EndsAs fs f made n r text
   ends_same made n (outcome.Exit status) text h = (sym (outcome_same made) ∙ h.0, h.1)
@@ -119,7 +123,7 @@ shows_run fs which ds image p loaded begins n i j r old new s =
 -- the trace of a program that has begun
 pub traced_whole : (edition : Edition) (source : List ℕ) (n from : ℕ) (name : Option (List ℕ)) (ends : RunEnds) (status : ℕ) (mid : Outgoing) (ds : List Definition) (image : Image) (fs : List Placed) (which : Which) (p : Paused) (result : Outcome) (begun text told_text : List ℕ) (first last : Kept) (told : ℕ)
     → HasProgram edition source ends.line mid ds image → fs ≡ functions_of ds → which_of fs from name ≡ Some which → IsUnstarted image p → outgoing_of first ≡ nothing_written → StepsGive p n ends.input ends.input_behind (outgoing_of first) (outgoing_of last) result
-    → begun ≡ [] → ShowsRows fs which (steps_from p) n ends.input ends.input_behind result (begun ++ HEADING.now) text → told_text ≡ text → Told told_text DONE ends.out ends.out_behind told
+    → begun ≡ [] → ShowsRows fs which (steps_from p) n ends.input ends.input_behind result (begun ++ HEADING.now) text → told_text ≡ text → Reported told_text DONE ends.out ends.out_behind told
     → TellsEnd told result mid ends.line_behind status → Traces edition source n from name ends status
 traced_whole edition source n from name ends status mid ds image fs which p result begun text told_text first last told is functions named begins empty gives none shows same tells end =
     let run_gives = same_run (run image) (steps_from p) n ends.input ends.input_behind (outgoing_of first) (outgoing_of last) result (run_from image p begins) gives in
@@ -130,4 +134,4 @@ traced_whole edition source n from name ends status mid ds image fs which p resu
     (rw empty at ds_gives)
     (subst (λ (x : List Placed). ShowsRows x which (machine ds) n ends.input ends.input_behind result HEADING.now text) functions
     (subst (λ (t : List ℕ). ShowsRows fs which (machine ds) n ends.input ends.input_behind result (t ++ HEADING.now) text) none ds_shows))
-    (subst (λ (t : List ℕ). Told t DONE ends.out ends.out_behind told) same tells) end
+    (subst (λ (t : List ℕ). Reported t DONE ends.out ends.out_behind told) same tells) end

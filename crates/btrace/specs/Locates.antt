@@ -6,11 +6,11 @@ use Rattle.blang.specs.declared.code.Definition.{Definition}
 use Rattle.blang.specs.declared.run.Outcome.{Outcome}
 use Rattle.blang.specs.declared.run.Outcome.TheVariants as outcome
 use Rattle.blang.specs.declared.status.TheConstants.{LIMIT, MEMORY, TRAP}
-use Rattle.blang.specs.Machine.{Finishes, HasNotRun, Image, RunEnds, RunGives, machine}
+use Rattle.blang.specs.Machine.{Finishes, HasNotRun, Image, RunEnds, RunGives, machine, Reported}
 use Rattle.bmach.specs.Stepping.{BeginsNot}
 use Rattle.bmach.specs.Stops.{IsOverAt}
+use Rattle.bmach.specs.declared.machine.Active.{Active}
 use Rattle.blist.specs.Programs.{HasProgram, NoProgram}
-use Rattle.blist.specs.Told.{Told}
 use Rattle.btrace.specs.Programs.{Placed, functions_of}
 use Rattle.btrace.specs.Rows.{site_text}
 
@@ -26,18 +26,19 @@ site_line fs strings place line = codes "at     " ++ site_text fs strings place 
 -- A line with this place was written, or memory was refused for it.
 abbrev pub TellsSite : List Placed → (strings place answer : ℕ) → (old new : Outgoing) → (status : ℕ) → Type 0
 TellsSite fs strings place answer old new status =
-    ((line : ℕ) × Told (site_line fs strings place line) answer old new status) ⊎ ((new ≡ old) × (status ≡ MEMORY))
+    ((line : ℕ) × Reported (site_line fs strings place line) answer old new status) ⊎ ((new ≡ old) × (status ≡ MEMORY))
 
 -- The program of the source was run for so many steps at most, as the machine runs it, and has its line and status; and
 -- if that is the line of a trap or of the limit, where it was over was told behind it. Or the program did not begin, or
 -- there is none, and why was told; or memory was refused.
 pub data Locates (edition : Edition) (source : List ℕ) (steps : ℕ) (ends : RunEnds) (status : ℕ) : Type 0 where
-  located : (mid told : Outgoing) (ds : List Definition) (image : Image) (result : Outcome) (answer strings place : ℕ)
+  located : (mid told : Outgoing) (ds : List Definition) (image : Image) (result : Outcome) (answer : ℕ)
+      (active : Active)
       → HasProgram edition source ends.line mid ds image
       → RunGives (machine ds) steps ends.input ends.input_behind ends.out ends.out_behind result
       → Finishes result mid told answer → located_status result ≡ Some answer
-      → IsOverAt (machine ds) steps ends.input ends.input_behind result strings place
-      → TellsSite (functions_of ds) strings place answer told ends.line_behind status
+      → IsOverAt (machine ds) steps ends.input ends.input_behind result active
+      → TellsSite (functions_of ds) active.strings active.place answer told ends.line_behind status
       → Locates edition source steps ends status
   unlocated : (mid : Outgoing) (ds : List Definition) (image : Image) (result : Outcome)
       → HasProgram edition source ends.line mid ds image

@@ -1,5 +1,5 @@
 -- What comes of a source whose steps are written.
-use Rattle.std.specs.Prelude.{◌≡◌, ◌⊎◌, ℕ, ◌+◌, ◌≤◌, ◌==◌, ◌&&◌, Bool, true, false, List, [], ◌++◌, All, Option, Some}
+use Rattle.std.specs.Prelude.{◌≡◌, ◌⊎◌, ℕ, ◌+◌, ◌-◌, ◌≤◌, ◌==◌, ◌&&◌, Bool, true, false, List, [], ◌++◌, All, Option, Some}
 use Rattle.std.specs.Prelude.{None, Result, Ok, Err, drop, filter, length, map, nat_le, option_map}
 use Rattle.std.specs.List.{flat_map, range_with_len}
 use Rattle.std.specs.Option.{option_map_or}
@@ -7,15 +7,14 @@ use Rattle.bword.specs.declared.edition.Edition.{Edition}
 use Rattle.bword.specs.ByteEnds.{CanFollow, Incoming, Outgoing, Kept, Took, outgoing_of}
 use Rattle.blang.specs.declared.code.Definition.{Definition}
 use Rattle.blang.specs.declared.status.TheConstants.{DONE, MEMORY, WRONG_COMMAND}
-use Rattle.blang.specs.Machine.{Call, Image, State, Running, Halted, Stuck, States, RunEnds, Finishes, HasNotRun}
-use Rattle.blang.specs.Machine.{RunGives, machine, state_outcome, state_world}
+use Rattle.blang.specs.Machine.{Call, Image, State, Running, Halted, Stuck, States, Reported, RunEnds, Finishes}
+use Rattle.blang.specs.Machine.{HasNotRun, RunGives, machine, state_outcome, state_world}
 use Rattle.blang.specs.Machine as runs
 use Rattle.bmach.specs.Stepping.{BeginsNot, Paused, machine_at}
 use Rattle.blang.specs.declared.run.Outcome.{Outcome}
 use Rattle.blang.specs.declared.run.Outcome.TheVariants as outcome
 use Rattle.blang.specs.Layout.{World}
-use Rattle.blist.specs.Programs.{HasProgram, NoProgram}
-use Rattle.blist.specs.Told.{Told}
+use Rattle.blist.specs.Programs.{HasProgram, NoProgram, nothing_written}
 use Rattle.btrace.specs.Programs.{Placed, function_named, functions_of}
 use Rattle.btrace.specs.Rows.{Place, changed_text, places_text, step_row, written_row}
 use Rattle.btrace.specs.declared.tracing.TheConstants.{HEADING, UNNAMED}
@@ -75,25 +74,31 @@ pub record AreShown (fs : List Placed) (which : Which) (states : ℕ → State) 
     pub all : map (λ r. r.made) rows ≡ shown_of which states made
     pub each : All (λ r. ShowsStep fs states r.made r.text) rows
 
--- A text tells where a run was over: at this place of this function, and which calls led there.
-pub record TellsPlace (fs : List Placed) (strings place : ℕ) (text : List ℕ) : Type 0 where
+-- the function and the place of a call that waits: the place of its next instruction is behind that call
+abbrev pub waits_at : Call → ℕ × ℕ
+waits_at c = (c.function.strings, c.place - 1)
+
+-- A text tells where a run was over: at this place of this function, and the calls below, the nearest first.
+pub record TellsPlace (fs : List Placed) (strings place : ℕ) (below : List Call) (text : List ℕ) : Type 0 where
   pub first : Place
   pub callers : List Place
   pub text_is : text ≡ places_text fs first callers
   pub function_is : first.strings ≡ strings
   pub place_is : first.place ≡ place
+  pub callers_are : map (λ p. (p.strings, p.place)) callers ≡ map waits_at below
 
-abbrev pub AddsPlaces : List Placed → (strings place : ℕ) → List ℕ → List ℕ → Type 0
-AddsPlaces fs strings place old new = (text : List ℕ) × TellsPlace fs strings place text × (new ≡ old ++ text)
+abbrev pub AddsPlaces : List Placed → (strings place : ℕ) → List Call → List ℕ → List ℕ → Type 0
+AddsPlaces fs strings place below old new =
+    (text : List ℕ) × TellsPlace fs strings place below text × (new ≡ old ++ text)
 
 abbrev pub IsWhere : List Placed → (ℕ → State) → ℕ → List ℕ → Type 0
-IsWhere fs states made text = (t : Tries states made) × TellsPlace fs t.call.function.strings t.call.place text
+IsWhere fs states made text =
+    (t : Tries states made) × TellsPlace fs t.call.function.strings t.call.place t.below text
 
 -- a step that failed has a row, if it was to be shown, or none
 abbrev pub IsTried : List Placed → (ℕ → State) → ℕ → List ℕ → Type 0
-IsTried fs states made text = (text ≡ [])
-    ⊎ ((t : Tries states made) × (line : ℕ) × (bytes : List ℕ)
-    × (text ≡ step_row fs (made + 1) t.call line ++ written_row bytes))
+IsTried fs states made text =
+    (text ≡ []) ⊎ ((t : Tries states made) × (line : ℕ) × (text ≡ step_row fs (made + 1) t.call line))
 
 -- Behind so many steps the run is over, or all were made; or the next one failed. What stands behind their rows.
 abbrev pub EndsAs : List Placed → (ℕ → State) → (made steps : ℕ) → Outcome → List ℕ → Type 0
@@ -127,10 +132,9 @@ pub record AddsStep (fs : List Placed) (number : ℕ) (call : Call) (store bytes
     pub changed : List ℕ
     pub text_is : new ≡ old ++ (step_row fs number call line ++ changed_text store changed ++ written_row bytes)
 
--- a step that was the last
-abbrev pub AddsLast : List Placed → (number : ℕ) → Call → (bytes : List ℕ) → List ℕ → List ℕ → Type 0
-AddsLast fs number call bytes old new =
-    (line : ℕ) × (new ≡ old ++ (step_row fs number call line ++ written_row bytes))
+-- a step that was the last; it changed no word and wrote nothing
+abbrev pub AddsLast : List Placed → (number : ℕ) → Call → List ℕ → List ℕ → Type 0
+AddsLast fs number call old new = (line : ℕ) × (new ≡ old ++ step_row fs number call line)
 
 -- what was added for a step, if it is shown
 abbrev pub AddsIf : Bool → List Placed → (number : ℕ) → Call → (store before behind : List ℕ)
@@ -138,22 +142,17 @@ abbrev pub AddsIf : Bool → List Placed → (number : ℕ) → Call → (store 
 AddsIf false fs number call store before behind result old new = new ≡ old
 AddsIf true fs number call store before behind (Ok u) old new =
     AddsStep fs number call store (drop (length before) behind) old new
-AddsIf true fs number call store before behind (Err r) old new =
-    AddsLast fs number call (drop (length before) behind) old new
+AddsIf true fs number call store before behind (Err r) old new = AddsLast fs number call old new
 
 -- what was added for an outcome
-abbrev pub AddsEnd : List Placed → (strings place : ℕ) → Outcome → List ℕ → List ℕ → Type 0
-AddsEnd fs strings place (outcome.Trap kind) old new = AddsPlaces fs strings place old new
-AddsEnd fs strings place outcome.Limit old new = AddsPlaces fs strings place old new
-AddsEnd fs strings place r old new = new ≡ old
+abbrev pub AddsEnd : List Placed → (strings place : ℕ) → List Call → Outcome → List ℕ → List ℕ → Type 0
+AddsEnd fs strings place below (outcome.Trap kind) old new = AddsPlaces fs strings place below old new
+AddsEnd fs strings place below outcome.Limit old new = AddsPlaces fs strings place below old new
+AddsEnd fs strings place below r old new = new ≡ old
 
 -- the machine from this state on, by its input and the number of its steps
 abbrev pub steps_from : Paused → States
 steps_from p input n = runs.steps p.image n (machine_at p input [])
-
--- what the program writes is kept from the start
-abbrev pub nothing_written : Outgoing
-nothing_written = outgoing_of (record { bytes = []; refusals = 0 })
 
 -- The trace was written and the run has this line and status, or the trace was cut off.
 abbrev pub TellsEnd : (told : ℕ) → Outcome → Outgoing → Outgoing → ℕ → Type 0
@@ -167,7 +166,7 @@ StepsGive first n i j o p result = RunGives (steps_from first) n i j o p result
 
 -- The program of the source was run for so many steps at most, as the machine runs it, and its trace written; or it
 -- did not begin; or no function has the name, and that was told; or there is no program, and why was told; or memory
--- was refused.
+-- was refused, which is told only where no read failed.
 pub data Traces (edition : Edition) (source : List ℕ) (steps from : ℕ) (name : Option (List ℕ)) (ends : RunEnds)
     (status : ℕ) : Type 0 where
   traced : (mid : Outgoing) (ds : List Definition) (image : Image) (which : Which) (result : Outcome) (text : List ℕ)
@@ -175,7 +174,7 @@ pub data Traces (edition : Edition) (source : List ℕ) (steps from : ℕ) (name
       → which_of (functions_of ds) from name ≡ Some which
       → RunGives (machine ds) steps ends.input ends.input_behind nothing_written (outgoing_of output) result
       → ShowsRows (functions_of ds) which (machine ds) steps ends.input ends.input_behind result HEADING.now text
-      → Told text DONE ends.out ends.out_behind told → TellsEnd told result mid ends.line_behind status
+      → Reported text DONE ends.out ends.out_behind told → TellsEnd told result mid ends.line_behind status
       → Traces edition source steps from name ends status
   not_begun : (mid : Outgoing) (ds : List Definition) (image : Image) (which : Which) (result : Outcome)
       → HasProgram edition source ends.line mid ds image
@@ -184,9 +183,10 @@ pub data Traces (edition : Edition) (source : List ℕ) (steps from : ℕ) (name
       → Traces edition source steps from name ends status
   unnamed : (mid : Outgoing) (ds : List Definition) (image : Image) → HasProgram edition source ends.line mid ds image
       → which_of (functions_of ds) from name ≡ None
-      → Told UNNAMED.now WRONG_COMMAND mid ends.line_behind status → HasNotRun ends
+      → Reported UNNAMED.now WRONG_COMMAND mid ends.line_behind status → HasNotRun ends
       → Traces edition source steps from name ends status
   stopped : NoProgram edition source ends.line ends.line_behind status → HasNotRun ends
       → Traces edition source steps from name ends status
   no_memory : (ds : List Definition) (image : Image) → HasProgram edition source ends.line ends.line_behind ds image
-      → ends.out_behind ≡ ends.out → status ≡ MEMORY → Traces edition source steps from name ends status
+      → ends.out_behind ≡ ends.out → ends.input_behind.failures ≡ ends.input.failures → status ≡ MEMORY
+      → Traces edition source steps from name ends status

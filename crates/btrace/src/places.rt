@@ -1,12 +1,11 @@
 //! The places where a run was.
-ghost use Rattle.std.specs.Prelude.{◌≡◌, ℕ, Bool, List, [], ◌++◌, OnOk, if◌then◌else◌};
+ghost use Rattle.std.specs.Prelude.{◌≡◌, ◌-◌, ℕ, Bool, List, [], ◌++◌, OnOk, if◌then◌else◌};
 ghost use Rattle.btrace.specs.Programs.{entries_of};
 ghost use Rattle.btrace.specs.Rows.{Place, place_text, site_text, words_text};
 ghost use Rattle.btrace.specs.Traces.{AddsPlaces};
 
 use crate::rows::{name_of, word_of_frame};
 use crate::tables::Tables;
-use blang::MAX_CALLS;
 use blist::Text;
 use bmach::{Active, Stepper};
 use bword::Store;
@@ -22,24 +21,24 @@ pub fn push_places<S: Store + Drop>(
     stepper: &Stepper<'_, S>,
     call: Active,
 ) -> Result<(), AllocError>
-    ensures { OnOk result (AddsPlaces (entries_of tables.now) call.strings call.place text.old text.new) }
+    ensures { OnOk result (AddsPlaces (entries_of tables.now) call.strings call.place stepper.now.below text.old text.new) }
 {
     text.push(b"at     ")?;
     push_place(text, tables, stepper, call)?;
-    for number in 0..MAX_CALLS {
-        match stepper.caller(number) {
-            None => break,
-            Some(caller) => {
-                text.push(b"called ")?;
-                push_place(text, tables, stepper, behind(caller))?;
-            }
+    for number in 0..stepper.callers() {
+        if let Some(caller) = stepper.caller(number) {
+            text.push(b"called ")?;
+            push_place(text, tables, stepper, behind(caller))?;
         }
     }
     Ok(())
 }
 
 // A call that waits is behind its call.
-fn behind(call: Active) -> Active {
+fn behind(call: Active) -> Active
+    ensures strings { result.strings ≡ call.strings }
+    ensures place { result.place ≡ call.place - 1 }
+{
     Active {
         strings: call.strings,
         parameters: call.parameters,

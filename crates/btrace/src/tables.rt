@@ -4,12 +4,9 @@ ghost use Rattle.blang.specs.Layout.{data_end, shape_of};
 ghost use Rattle.btrace.specs.Programs.{entries_of, function_with, function_named, functions_of, placed_entry};
 
 use blang::{Definition, FunctionParts};
-use blist::Program;
-use bmach::size_of;
+use blist::{Program, lines_in};
+use bmach::{FIRST_ADDRESS, size_of};
 use std::alloc::{AllocError, Global};
-
-/// The address of the first definition.
-const FIRST_ADDRESS: u32 = 7;
 
 /// A function of a program.
 #[derive(Clone, Copy)]
@@ -34,7 +31,7 @@ impl<'a> Tables<'a> {
         ensures { IfOk result (λ t. entries_of t ≡ functions_of program.now.definitions.items) }
     {
         let mut entries = Vec::new(alloc);
-        let mut address = FIRST_ADDRESS;
+        let mut address = u32::from(FIRST_ADDRESS);
         let mut start: usize = 0;
         for definition in &program.definitions {
             if let Definition::Function(function) = definition {
@@ -86,14 +83,5 @@ impl<'a> Tables<'a> {
             }
             None => 0,
         }
-    }
-}
-
-// How many lines the instructions or initial values of a definition have.
-fn lines_in(definition: &Definition) -> usize {
-    match definition {
-        Definition::Function(function) => function.parts().code.len(),
-        Definition::Simple(simple) => simple.parts().values.len(),
-        Definition::Vector(vector) => vector.parts().values.len(),
     }
 }

@@ -1,11 +1,11 @@
 //! Tracing a program.
-ghost use Rattle.std.specs.Prelude.{◌≡◌, ◌+◌, ◌^◌, ◌<◌, ◌≤◌, ◌++◌, IfOk, OnOk, drop, map, option_map};
+ghost use Rattle.std.specs.Prelude.{◌≡◌, ◌+◌, ◌^◌, ◌<◌, ◌≤◌, ◌++◌, IfOk, OnErr, OnOk, drop, map, option_map};
 ghost use Rattle.blang.specs.Layout.{data_end, shape_of};
 ghost use Rattle.bmach.specs.Stepping.{machine_at};
-ghost use Rattle.bmach.specs.Turns.{TurnGives};
+ghost use Rattle.bmach.specs.Turns.{KeepsBelow, TurnGives};
 ghost use Rattle.bword.specs.ByteEnds.{Kept, outgoing_of};
 ghost use Rattle.btrace.specs.Programs.{entries_of, functions_of};
-ghost use Rattle.btrace.specs.Traces.{AddsEnd, AddsIf, ShowsRows, StepsGive, Traces, is_wanted, nothing_written, steps_from, which_of};
+ghost use Rattle.btrace.specs.Traces.{AddsEnd, AddsIf, ShowsRows, StepsGive, Traces, is_wanted, steps_from, which_of};
 
 use crate::places::push_places;
 use crate::rows::{change_of, push_change, push_step, push_written};
@@ -165,6 +165,7 @@ fn trace_steps<S: Store + Drop, I: ByteIn>(
         (I.incoming input.old) (I.incoming input.new) (outgoing_of written.old) (outgoing_of written.new)) }
     ensures shows { IfOk result (λ outcome. ShowsRows (entries_of tables.now) which (steps_from stepper.entry) steps
         (I.incoming input.old) (I.incoming input.new) outcome text.old text.new) }
+    ensures unfailed { OnErr result ((I.incoming input.new).failures ≡ (I.incoming input.old).failures) }
     ensures same { I.lender input.new ≡ I.lender input.old }
 {
     for made in 0..steps {
@@ -172,6 +173,7 @@ fn trace_steps<S: Store + Drop, I: ByteIn>(
         let is_shown = which.shows(made, call);
         match trace_step(&mut stepper, tables, is_shown, made, text, input, written)? {
             Ok(()) => {}
+            Err(Outcome::Device) => return Ok(Outcome::Device),
             Err(outcome) => {
                 push_end(text, tables, &stepper, call, outcome)?;
                 return Ok(outcome);
@@ -197,6 +199,8 @@ fn trace_step<S: Store + Drop, I: ByteIn>(
         (I.incoming input.old) (I.incoming input.new) (outgoing_of written.old) (outgoing_of written.new)) }
     ensures shows { IfOk result (λ r. AddsIf is_shown (entries_of tables.now) (made + 1) stepper.old.call stepper.new.store
         written.old.bytes written.new.bytes r text.old text.new) }
+    ensures unfailed { OnErr result ((I.incoming input.new).failures ≡ (I.incoming input.old).failures) }
+    ensures below { IfOk result (λ r. KeepsBelow r stepper.old.below stepper.new.below) }
     ensures image { stepper.new.image ≡ stepper.old.image }
     ensures same { I.lender input.new ≡ I.lender input.old }
 {
@@ -212,10 +216,7 @@ fn trace_step<S: Store + Drop, I: ByteIn>(
             push_written(text, since(written, before))?;
             Ok(Ok(()))
         }
-        Err(outcome) => {
-            push_written(text, since(written, before))?;
-            Ok(Err(outcome))
-        }
+        Err(outcome) => Ok(Err(outcome)),
     }
 }
 
@@ -235,7 +236,7 @@ fn push_end<S: Store + Drop>(
     call: Active,
     outcome: Outcome,
 ) -> Result<(), AllocError>
-    ensures { OnOk result (AddsEnd (entries_of tables.now) call.strings call.place outcome text.old text.new) }
+    ensures { OnOk result (AddsEnd (entries_of tables.now) call.strings call.place stepper.now.below outcome text.old text.new) }
 {
     match outcome {
         Outcome::Trap(_) | Outcome::Limit => push_places(text, tables, stepper, call),

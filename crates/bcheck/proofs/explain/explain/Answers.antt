@@ -1,13 +1,21 @@
-use Rattle.std.proofs.Common.{ap, string_bytes}
+use Rattle.std.proofs.Common.{◌≡◌, ap, arith, length, string_bytes, vec_items}
 use Rattle.bcheck.specs.declared.form.Form.TheVariants as form
-use Rattle.bcheck.proofs.AddedWords.{finding_more}
+use Rattle.bcheck.specs.Checks.{status_told}
+use Rattle.bcheck.proofs.AddedWords.{all_findings, finding_more}
 use Rattle.bcheck.proofs.explain.explain.Goals as goal
 use Rattle.bcheck.proofs.explain.explain.Goals.{in-Text+in_ok-write-in-Text, in-Json+in_ok-write-in-Json}
+
+pub returns : goal.returns
+returns c =
+    let found = vec_items c.in_ok-findings.findings in
+    let all : c.loop-finding.finding-index ≡ length found =
+    omega (arith, ap length c.as_slice-finding-items.ensures.value, c.loop-finding-test.false, c.loop-finding.auto.finding-index-end) in
+    all_findings c.args.asked.form (status_told c.args.verdict.now) c.args.asked.file.now _ _ _ c.in_ok-findings.ensures all c.loop-finding.invariant
 
 pub loop-finding-preserved : goal.loop-finding-preserved
 loop-finding-preserved c = elim c.match-asked.branch [
   | in-Text+in_ok-write-in-Text w ↦
-      finding_more c.args.asked.form form.Text c.args.asked.file.now _ _ _ w.in-Text.is (ap string_bytes w.said-is) c.loop-finding.invariant w.in_ok-write-in-Text.ensures
+      finding_more c.args.asked.form form.Text _ c.severity-severity.result c.args.asked.file.now _ _ _ c.loop-finding.finding-index w.in-Text.is c.severity-severity.ensures (ap string_bytes w.said-is) c.loop-finding.invariant w.in_ok-write-in-Text.ensures
   | in-Json+in_ok-write-in-Json w ↦
-      finding_more c.args.asked.form form.Json c.args.asked.file.now _ _ _ w.in-Json.is (ap string_bytes w.said-is) c.loop-finding.invariant w.in_ok-write-in-Json.ensures
+      finding_more c.args.asked.form form.Json _ c.severity-severity.result c.args.asked.file.now _ _ _ c.loop-finding.finding-index w.in-Json.is c.severity-severity.ensures (ap string_bytes w.said-is) c.loop-finding.invariant w.in_ok-write-in-Json.ensures
 ]

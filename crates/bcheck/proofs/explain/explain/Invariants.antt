@@ -1,6 +1,8 @@
 use Rattle.std.proofs.Common.{string_bytes}
-use Rattle.bcheck.specs.Checks.{AreFindings}
+use Rattle.bcheck.specs.Checks.{status_told}
+use Rattle.bcheck.proofs.AddedWords.{FindingsSoFar}
 use Rattle.bcheck.proofs.explain.explain.Given as goal
 
 abbrev pub invariant-loop-finding : goal.invariant-loop-finding
-invariant-loop-finding l = AreFindings l.fn.asked.form l.fn.asked.file.now (string_bytes l.said)
+invariant-loop-finding l =
+    FindingsSoFar l.fn.asked.form (status_told l.fn.verdict) l.fn.asked.file.now l.finding-index (string_bytes l.said)

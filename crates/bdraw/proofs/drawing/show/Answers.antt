@@ -1,8 +1,8 @@
 use Rattle.std.proofs.Common.{ℕ, List, subst}
-use Rattle.blist.specs.Told.{Told}
+use Rattle.blang.specs.Machine.{Reported}
 use Rattle.bdraw.specs.Draws.{shown}
 use Rattle.bdraw.proofs.drawing.show.Goals as goal
 
 pub returns-in-Ok-clause-shows : goal.returns-in-Ok-clause-shows
 returns-in-Ok-clause-shows g c =
-    shown c.in-Ok.text c.in-Ok.ensures (subst (λ (t : List ℕ). Told t 0 (g.O.ByteOut.outgoing c.args.out.now) (g.O.ByteOut.outgoing c.tell.new.out) c.tell.result) c.as_slice.ensures c.tell.ensures.told)
+    shown c.in-Ok.text c.in-Ok.ensures (subst (λ (t : List ℕ). Reported t 0 (g.O.ByteOut.outgoing c.args.out.now) (g.O.ByteOut.outgoing c.tell.new.out) c.tell.result) c.as_slice.ensures c.tell.ensures.told)

@@ -4,7 +4,7 @@ use Rattle.std.specs.Borrow.{Bor}
 use Rattle.std.specs.Prelude.{Option, option_map}
 use Rattle.blang.specs.declared.code.Definition.{Definition}
 use Rattle.blist.specs.Listings.{listed, no_memory, stopped, unnamed, wanted}
-use Rattle.blist.specs.Told.{Told}
+use Rattle.blang.specs.Machine.{Reported}
 use Rattle.blist.proofs.listing.list.Goals as goal
 
 pub returns-in-Err-clause-lists : goal.returns-in-Err-clause-lists
@@ -23,7 +23,7 @@ returns-in-Ok-listing-clause-lists g c =
     let some : wanted name c.in-Ok.program.definitions.items ≡ [] → ⊥ = λ none.
     both_ways c.is_none_wanted.result c.if-is_none_wanted.false (c.is_none_wanted.ensures.1 (ap (wanted name) c.deref.ensures.value ∙ none)) in
     listed c.in-Ok.program.definitions.items c.in-Ok.program.image rows.0 c.in-Ok.ensures.gives some rows.1
-    (subst (λ (t : List ℕ). Told t 0 (g.O.ByteOut.outgoing c.args.out.now) (g.O.ByteOut.outgoing c.tell-in-Ok-listing.new.out) c.tell-in-Ok-listing.result)
+    (subst (λ (t : List ℕ). Reported t 0 (g.O.ByteOut.outgoing c.args.out.now) (g.O.ByteOut.outgoing c.tell-in-Ok-listing.new.out) c.tell-in-Ok-listing.result)
     (c.as_slice.ensures ∙ rows.2) c.tell-in-Ok-listing.ensures.told)
 
 pub returns-clause-lists : goal.returns-clause-lists

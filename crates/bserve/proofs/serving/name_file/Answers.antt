@@ -6,5 +6,5 @@ pub returns-in-Ok-clause-names : goal.returns-in-Ok-clause-names
 returns-in-Ok-clause-names g c unread out =
     inl (
       record { unread = refl; silent = refl },
-      subst (λ (t : List ℕ). Reported t 133 (g.D.ByteOut.outgoing c.args.diag.now) (g.D.ByteOut.outgoing c.tell.new.end) c.tell.result) (c.as_str.ensures.value ∙ c.in-Ok.ensures) c.tell.ensures.gives,
+      subst (λ (t : List ℕ). Reported t 133 (g.D.ByteOut.outgoing c.args.diag.now) (g.D.ByteOut.outgoing c.tell.new.out) c.tell.result) (c.as_bytes.ensures.value ∙ c.in-Ok.ensures) c.tell.ensures.told,
     )

@@ -41,6 +41,6 @@ returns-clause-locates g c =
 pub returns-in-Some-clause-locates : goal.returns-in-Some-clause-locates
 returns-in-Some-clause-locates g c =
     located_whole c.args.edition c.args.source.now c.args.steps _ c.tell_site.result (g.D.ByteOut.outgoing c.read_program.new.diag) c.in-Ok.program.definitions.items c.in-Ok.program.image c.in-Ok-begin.stepper c.run-stop.result.outcome
-    (g.D.ByteOut.outgoing c.finish-told.new.diag) (entries_of c.in-Ok-new.tables) c.finish-told.result c.run-stop.result.call.strings c.run-stop.result.call.place
+    (g.D.ByteOut.outgoing c.finish-told.new.diag) (entries_of c.in-Ok-new.tables) c.finish-told.result c.run-stop.result.call
     c.in-Ok.ensures.gives c.in-Ok-new.ensures c.in-Ok-begin.ensures c.run-stop.ensures.gives c.finish-told.ensures.gives
     (sym c.located_status.ensures ∙ c.in-Some.is ∙ ap Some c.if-status-told.true) c.run-stop.ensures.stops c.tell_site.ensures.tells

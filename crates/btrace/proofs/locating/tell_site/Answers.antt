@@ -1,5 +1,5 @@
 use Rattle.std.proofs.Common.{◌≡◌, ◌∙◌, List, ℕ, inl, inr, refl, subst}
-use Rattle.blist.specs.Told.{Told}
+use Rattle.blang.specs.Machine.{Reported}
 use Rattle.btrace.proofs.locating.tell_site.Goals as goal
 
 pub returns-in-Ok-clause-tells : goal.returns-in-Ok-clause-tells
@@ -7,7 +7,7 @@ returns-in-Ok-clause-tells g c =
     let line = c.in-Ok.ensures in
     inl (
       line.0,
-      subst (λ (t : List ℕ). Told t c.args.status (g.D.ByteOut.outgoing c.args.diag.now) (g.D.ByteOut.outgoing c.tell.new.out) c.tell.result) (c.as_slice.ensures ∙ line.1) c.tell.ensures.told,
+      subst (λ (t : List ℕ). Reported t c.args.status (g.D.ByteOut.outgoing c.args.diag.now) (g.D.ByteOut.outgoing c.tell.new.out) c.tell.result) (c.as_slice.ensures ∙ line.1) c.tell.ensures.told,
     )
 
 pub returns-in-Err-clause-tells : goal.returns-in-Err-clause-tells

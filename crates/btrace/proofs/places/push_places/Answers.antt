@@ -1,6 +1,11 @@
+use Rattle.std.proofs.Common.{◌∙◌, ◌<◌, List, arith, length, subst, sym}
+use Rattle.std.proofs.lemmas.List.{take_all}
+use Rattle.blang.specs.Machine.{Call}
 use Rattle.btrace.specs.Programs.{entries_of}
-use Rattle.btrace.proofs.PlaceParts.{first_place, one_caller}
+use Rattle.btrace.specs.Traces.{AddsPlaces}
+use Rattle.btrace.proofs.PlaceParts.{first_place, one_more, some_caller}
 use Rattle.btrace.proofs.places.push_places.Goals as goal
+use Rattle.btrace.proofs.places.push_places.Goals.{in-Some+in_ok-push-2+in_ok-push_place-2, in_default}
 
 pub loop-number-init : goal.loop-number-init
 loop-number-init g c =
@@ -9,5 +14,23 @@ loop-number-init g c =
 
 pub loop-number-preserved : goal.loop-number-preserved
 loop-number-preserved g c =
-    let p = c.in_ok-push_place-in-Some.ensures in
-    one_caller (entries_of c.args.tables.now) c.args.call.strings c.args.call.place (record { strings = c.behind.result.strings; place = c.behind.result.place; line = p.0; words = p.1; has_more = p.2 }) c.args.text.now c.loop-number.text c.push-in-Some.new.self c.push_place-in-Some.new.text c.loop-number.invariant c.in_ok-push-in-Some.ensures p.3
+    let below = c.args.stepper.now.below in
+    let number = c.loop-number.number in
+    let within : number < length below = omega (arith, c.loop-number-test.true, c.callers-number-end.ensures) in
+    elim c.match-caller.branch [
+      | in-Some+in_ok-push-2+in_ok-push_place-2 w ↦
+          let p = w.in_ok-push_place-2.ensures in
+          let told = w.behind.result in
+          rw w.text-is
+          (one_more (entries_of c.args.tables.now) c.args.call.strings c.args.call.place below number w.in-Some.caller (record { strings = told.strings; place = told.place; line = p.0; words = p.1; has_more = p.2 }) c.args.text.now c.loop-number.text w.push-in-Some.new.self w.push_place-in-Some.new.text
+          (sym w.in-Some.is ∙ c.caller.ensures) w.behind.ensures.strings w.behind.ensures.place c.loop-number.invariant w.in_ok-push-2.ensures p.3)
+      | in_default w ↦ absurd (some_caller below number within (sym w.in_default.is ∙ c.caller.ensures))
+    ]
+
+pub returns : goal.returns
+returns g c =
+    let below = c.args.stepper.now.below in
+    let number = c.loop-number.number in
+    subst (λ (calls : List Call). AddsPlaces (entries_of c.args.tables.now) c.args.call.strings c.args.call.place calls c.args.text.now c.loop-number.text)
+    (take_all number below (omega (arith, c.loop-number-test.false, c.callers-number-end.ensures)))
+    c.loop-number.invariant

@@ -1,7 +1,9 @@
+use Rattle.std.proofs.Common.{take}
 use Rattle.btrace.specs.Programs.{entries_of}
 use Rattle.btrace.specs.Traces.{AddsPlaces}
 use Rattle.btrace.proofs.places.push_places.Given as goal
 
--- the place, and those of some callers
+-- the place, and those of the nearest callers
 abbrev pub invariant-loop-number : goal.invariant-loop-number
-invariant-loop-number g l = AddsPlaces (entries_of l.tables) l.fn.call.strings l.fn.call.place l.fn.text l.text
+invariant-loop-number g l =
+    AddsPlaces (entries_of l.tables) l.fn.call.strings l.fn.call.place (take l.number l.stepper.below) l.fn.text l.text

@@ -14,7 +14,7 @@ pub returns-in-Err-clause-traces : goal.returns-in-Err-clause-traces
 returns-in-Err-clause-traces g c = stopped c.in-Err.ensures.gives (record { unread = refl; silent = refl })
 
 pub returns-in_default-clause-traces : goal.returns-in_default-clause-traces
-returns-in_default-clause-traces g c = no_memory c.in-Ok.program.definitions.items c.in-Ok.program.image c.in-Ok.ensures.gives refl refl
+returns-in_default-clause-traces g c = no_memory c.in-Ok.program.definitions.items c.in-Ok.program.image c.in-Ok.ensures.gives refl refl refl
 
 pub returns-in_default-which_of-clause-traces : goal.returns-in_default-which_of-clause-traces
 returns-in_default-which_of-clause-traces g c =
@@ -22,10 +22,10 @@ returns-in_default-which_of-clause-traces g c =
     (subst (λ (fs : List Placed). which_of fs c.args.wanted.from (option_map (λ n. n.now) c.args.wanted.function) ≡ None) c.in-Ok-new.ensures (sym c.which_of.ensures ∙ c.in_default-which_of.is)) c.tell.ensures.told (record { unread = refl; silent = refl })
 
 pub returns-in_default-new-clause-traces : goal.returns-in_default-new-clause-traces
-returns-in_default-new-clause-traces g c = no_memory c.in-Ok.program.definitions.items c.in-Ok.program.image c.in-Ok.ensures.gives refl refl
+returns-in_default-new-clause-traces g c = no_memory c.in-Ok.program.definitions.items c.in-Ok.program.image c.in-Ok.ensures.gives refl refl refl
 
 pub returns-in_default-heading-clause-traces : goal.returns-in_default-heading-clause-traces
-returns-in_default-heading-clause-traces g c = no_memory c.in-Ok.program.definitions.items c.in-Ok.program.image c.in-Ok.ensures.gives refl refl
+returns-in_default-heading-clause-traces g c = no_memory c.in-Ok.program.definitions.items c.in-Ok.program.image c.in-Ok.ensures.gives refl refl refl
 
 pub returns-in-Err-begin-clause-traces : goal.returns-in-Err-begin-clause-traces
 returns-in-Err-begin-clause-traces g c =
@@ -34,7 +34,8 @@ returns-in-Err-begin-clause-traces g c =
     c.finish.ensures.gives (record { unread = refl; silent = refl })
 
 pub returns-in-Err-trace_steps-clause-traces : goal.returns-in-Err-trace_steps-clause-traces
-returns-in-Err-trace_steps-clause-traces g c = no_memory c.in-Ok.program.definitions.items c.in-Ok.program.image c.in-Ok.ensures.gives refl refl
+returns-in-Err-trace_steps-clause-traces g c =
+    no_memory c.in-Ok.program.definitions.items c.in-Ok.program.image c.in-Ok.ensures.gives refl (rw c.in-Err-trace_steps.is at c.trace_steps.ensures.unfailed) refl
 
 pub returns-then-told-ne-DONE-clause-traces : goal.returns-then-told-ne-DONE-clause-traces
 returns-then-told-ne-DONE-clause-traces g c =

@@ -1,9 +1,9 @@
-use Rattle.std.proofs.Common.{◌≡◌, ◌∙◌, ap, map, reverse, subst, sym}
+use Rattle.std.proofs.Common.{◌≡◌, ◌∙◌, ℕ, List, ap, map, reverse, subst, sym}
 use Rattle.bmach.specs.Images.{loaded_of}
-use Rattle.bmach.specs.Steps.{machine_call, calls_below, machine_with, world_with}
+use Rattle.bmach.specs.Steps.{machine_call, callers_of, calls_below, machine_with, world_with}
 use Rattle.blang.specs.Machine.{step}
 use Rattle.bmach.specs.Stepping.{Paused, machine_at, paused}
-use Rattle.bmach.specs.Turns.{LeavesWords, TurnGives}
+use Rattle.bmach.specs.Turns.{KeepsBelow, LeavesWords, TurnGives}
 use Rattle.bmach.proofs.Turning.{paced_below}
 use Rattle.bmach.proofs.stepper.Stepper.step.Goals as goal
 
@@ -28,3 +28,10 @@ returns-clause-words g c =
     subst (λ (p : Paused). LeavesWords (λ left before. step p.image (machine_at p left before)) c.turn.result (g.S.Store.words c.turn.new.store)) c.self.view_is
     (c.turn.ensures.words image (machine_at old) functions (λ left before. paced_below image c.make_step-pace.result (machine_call c.make_step-pace.new.call) (reverse calls.below.items) (world_with (g.S.Store.words c.make_step-pace.new.store) left before) _ _
     c.make_step-pace.ensures.below (c.make_step-pace.ensures.paced image (calls_below calls) left before)))
+
+pub returns-clause-below : goal.returns-clause-below
+returns-clause-below g c =
+    let callers = reverse c.self.inside.calls.below.items in
+    let new = calls_below c.turn.new.calls in
+    subst (λ (p : Paused). KeepsBelow c.turn.result p.below new) c.self.view_is
+    (subst (λ (words : List ℕ). KeepsBelow c.turn.result (callers_of callers words) new) c.make_step-pace.ensures.below c.turn.ensures.below)

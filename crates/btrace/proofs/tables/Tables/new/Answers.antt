@@ -18,7 +18,7 @@ overflow_add-address c =
     let ds = c.deref-definition-items.result.now in
     let i = c.loop-definition.definition-index in
     let fit : data_end (map shape_of ds) ≤ 65536 = subst (λ (xs : List Definition). data_end (map shape_of xs) ≤ 65536) (sym c.deref-definition-items.ensures.value) c.requires in
-    omega (arith, next_end ds i c.definition-item.result c.loop-definition-test.true c.definition-item.is c.loop-definition.address c.from-address.result c.loop-definition.invariant.address (c.from-address.ensures ∙ c.size_of.ensures.value), ends_within ds (i + 1))
+    omega (arith, next_end ds i c.definition-item.result c.loop-definition-test.true c.definition-item.is c.loop-definition.address c.from-address-in-loop-definition.result c.loop-definition.invariant.address (c.from-address-in-loop-definition.ensures ∙ c.size_of.ensures.value), ends_within ds (i + 1))
 
 pub loop-definition-preserved : goal.loop-definition-preserved
 loop-definition-preserved c =
@@ -27,7 +27,7 @@ loop-definition-preserved c =
     let d = c.definition-item.result in
     let before = c.loop-definition.invariant in
     record {
-      address = next_end ds i d c.loop-definition-test.true c.definition-item.is c.loop-definition.address c.from-address.result before.address (c.from-address.ensures ∙ c.size_of.ensures.value);
+      address = next_end ds i d c.loop-definition-test.true c.definition-item.is c.loop-definition.address c.from-address-in-loop-definition.result before.address (c.from-address-in-loop-definition.ensures ∙ c.size_of.ensures.value);
       entries = elim c.match-definition.branch [
         | in-Function+in_ok-push w ↦ with_function ds i d c.loop-definition-test.true c.definition-item.is w.in-Function.function (map placed_entry c.loop-definition.entries.items) (map placed_entry c.match-definition.entries.items) c.loop-definition.address w.in-Function.is before.address before.entries
             (ap (λ v. map placed_entry v.items) w.entries-is ∙ ap (map placed_entry) w.in_ok-push.ensures.items ∙ map-append placed_entry c.loop-definition.entries.items _ ∙ (λ j. map placed_entry c.loop-definition.entries.items ++ record { strings = c.loop-definition.address + 1; function = w.parts-parts.ensures.same j } ∷ []))
