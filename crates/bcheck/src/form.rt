@@ -4,7 +4,8 @@ use bword::Edition;
 /// How findings are written.
 #[derive(Clone, Copy, Debug, PartialEq, Eq)]
 pub enum Form {
-    /// For people: the line of the compiler, the line of the source with a mark, a sentence and a mend.
+    /// For people: the line of compiling, or of code that doesn't load; then of each finding its place and a sentence,
+    /// the line of the source with a mark, and a mend.
     Text,
     /// For editors: an object a line.
     Json,

@@ -4,7 +4,7 @@ ghost use Rattle.bcheck.specs.Checks.{AddsFinding, json_text};
 ghost use Rattle.bcheck.specs.declared.form.Form.TheVariants as form;
 
 use crate::finding::{Finding, Severity};
-use crate::text::{push_named, spot_of};
+use crate::text::{excerpt_of, push_named};
 use std::alloc::{AllocError, Global};
 
 /// Adds a finding.
@@ -22,7 +22,7 @@ pub(crate) fn write(
     text.push_str("{\"file\":")?;
     push_quoted(text, file)?;
     let line = finding.place.line;
-    let column = spot_of(source, &finding.place).column.saturating_add(1);
+    let column = excerpt_of(source, &finding.place).column.saturating_add(1);
     write!(text, ",\"line\":{line},\"column\":{column},\"severity\":\"")?;
     text.push_str(severity.word())?;
     text.push_str("\",\"code\":")?;

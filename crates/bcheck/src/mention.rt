@@ -3,7 +3,7 @@ use crate::passes::{Extent, Pass};
 use bcode::read_code;
 use blang::{Definition, Instr, Ival, View};
 use bparse::Step;
-use bword::{Edition, Name};
+use bword::{Edition, MemOut, Name};
 use std::alloc::{AllocError, Global};
 
 /// The line of a mention, and the tokens of the definition that it stands in.
@@ -20,15 +20,7 @@ pub(crate) fn first_mention(
     edition: Edition,
     name: Name,
 ) -> Result<Option<Mention>, AllocError> {
-    let mut pass = Pass::new(alloc, source, edition);
-    for _ in 0..source.len() {
-        match pass.next() {
-            Step::Written => {}
-            Step::Memory => return Err(AllocError),
-            _ => break,
-        }
-    }
-    let code = pass.into_code();
+    let code = code_of(alloc, source, edition)?;
     let Ok(definitions) = read_code(alloc, code.bytes()) else {
         return Err(AllocError);
     };
@@ -39,7 +31,7 @@ pub(crate) fn first_mention(
             Step::Memory => return Err(AllocError),
             _ => break,
         }
-        if let Some(place) = place_of(definition, name) {
+        if let Some(place) = first_use(definition, name) {
             return Ok(Some(Mention {
                 line: pass.line_of(place),
                 extent: pass.extent,
@@ -49,8 +41,21 @@ pub(crate) fn first_mention(
     Ok(None)
 }
 
+// The code of a source that compiles.
+fn code_of(alloc: Global, source: &[u8], edition: Edition) -> Result<MemOut, AllocError> {
+    let mut pass = Pass::new(alloc, source, edition);
+    for _ in 0..source.len() {
+        match pass.next() {
+            Step::Written => {}
+            Step::Memory => return Err(AllocError),
+            _ => break,
+        }
+    }
+    Ok(pass.into_code())
+}
+
 // The place of the first instruction or initial value that mentions the external.
-fn place_of(definition: &Definition, name: Name) -> Option<usize> {
+fn first_use(definition: &Definition, name: Name) -> Option<usize> {
     match definition.view() {
         View::Function { code, .. } => code
             .iter()

@@ -9,20 +9,20 @@ use bword::Name;
 use std::alloc::AllocError;
 
 /// The most bytes of a line of the source that are shown.
-const SHOWN: usize = 76;
+const SHOWN_BYTES: usize = 76;
 
 /// How many bytes stand before a mark in a line that isn't shown from its beginning.
 const BEFORE_MARK: usize = 38;
 
 /// Where a place stands: the bytes of its line, and its first byte among them.
 #[derive(Clone, Copy)]
-pub(crate) struct Spot<'a> {
+pub(crate) struct Excerpt<'a> {
     pub line: &'a [u8],
     pub column: usize,
 }
 
 /// Where a place of the source stands.
-pub(crate) fn spot_of<'a>(source: &'a [u8], place: &Place) -> Spot<'a> {
+pub(crate) fn excerpt_of<'a>(source: &'a [u8], place: &Place) -> Excerpt<'a> {
     let start = place.start.min(source.len());
     let before = &source[..start];
     let first = match before.iter().rposition(|byte| *byte == b'\n') {
@@ -31,7 +31,7 @@ pub(crate) fn spot_of<'a>(source: &'a [u8], place: &Place) -> Spot<'a> {
     };
     let rest = source.get(first..).unwrap_or(&[]);
     let end = rest.iter().position(|byte| *byte == b'\n');
-    Spot {
+    Excerpt {
         line: rest.get(..end.unwrap_or(rest.len())).unwrap_or(&[]),
         column: start.saturating_sub(first),
     }
@@ -50,7 +50,7 @@ pub(crate) fn write(
     let (_, sentence, mend) = finding.matter.advice();
     text.push_str(file)?;
     let line = finding.place.line;
-    let column = spot_of(source, &finding.place).column.saturating_add(1);
+    let column = excerpt_of(source, &finding.place).column.saturating_add(1);
     write!(text, ":{line}:{column}: ")?;
     text.push_str(severity.word())?;
     text.push_str(": ")?;
@@ -84,24 +84,24 @@ pub(crate) fn push_named(
 fn write_line(text: &mut String, source: &[u8], place: &Place) -> Result<(), AllocError>
     ensures { OnOk result (AddsExcerpt (string_bytes text.old) (string_bytes text.new)) }
 {
-    let spot = spot_of(source, place);
-    let last = spot.column.saturating_add(place.len);
-    let from = if last <= SHOWN {
+    let excerpt = excerpt_of(source, place);
+    let last = excerpt.column.saturating_add(place.len);
+    let from = if last <= SHOWN_BYTES {
         0
     } else {
-        spot.column.saturating_sub(BEFORE_MARK)
+        excerpt.column.saturating_sub(BEFORE_MARK)
     };
-    let shown = spot.line.get(from..).unwrap_or(&[]);
-    let shown = shown.get(..SHOWN).unwrap_or(shown);
+    let shown = excerpt.line.get(from..).unwrap_or(&[]);
+    let shown = shown.get(..SHOWN_BYTES).unwrap_or(shown);
     text.push_str("    ")?;
     for byte in shown {
         text.push(shown_as(*byte))?;
     }
     text.push_str("\n    ")?;
-    for _ in from..spot.column {
+    for _ in from..excerpt.column {
         text.push(' ')?;
     }
-    for _ in spot.column..last.min(from.saturating_add(SHOWN)) {
+    for _ in excerpt.column..last.min(from.saturating_add(SHOWN_BYTES)) {
         text.push('^')?;
     }
     text.push_str("\n")

@@ -42,6 +42,7 @@ abbrev pub piece_when : Bool → Piece → Option Piece
 piece_when b piece = if b then Some piece else None
 
 -- Words.
+
 abbrev pub first_keywords : List (List ℕ × Keyword)
 first_keywords =
     (codes "auto", keyword.Auto) ∷ (codes "extrn", keyword.Extrn) ∷ (codes "case", keyword.Case) ∷
@@ -66,6 +67,7 @@ word_token edition text =
     if nat_le (length text) 8 then keyword_or_name text (keyword_of edition text) else token.Bad letters.LongName
 
 -- Numbers.
+
 abbrev pub is_digit : ℕ → Bool
 is_digit b = nat_le 48 b && nat_le b 57
 
@@ -94,6 +96,7 @@ number_token [] = token.Bad letters.Constant
 number_token (b ∷ bs) = number_in (base_of b) (b ∷ bs)
 
 -- Comments.
+
 -- what follows the first "*/", if there is one
 abbrev pub after_close : List ℕ → Option (List ℕ)
 after_close [] = None
@@ -107,6 +110,7 @@ comment_of (Some []) = Some Space
 comment_of (Some (b ∷ bs)) = None
 
 -- Constants in quotes.
+
 -- a tab and what can be printed stands for itself in quotes, where it is neither a star nor the quote
 abbrev pub plain_of : ℕ → Option ℕ
 plain_of b = if (b == 9) || (nat_le 32 b && nat_le b 126) then Some b else None
@@ -166,6 +170,7 @@ abbrev pub string_token : List ℕ → Token
 string_token characters = token.String (record { items = characters })
 
 -- Operators and the like.
+
 unfoldable pub operator_of : List ℕ → Option BinOp
 operator_of text = find (λ op. is_text text (operator_text op)) operators
 

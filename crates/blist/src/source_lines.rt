@@ -23,7 +23,7 @@ impl<'a> SourceLines<'a> {
         Ok(SourceLines { source, starts })
     }
 
-    /// The text of a line, from 1, without the blanks around it.
+    /// The text of a line, from 1, without the blanks around it; empty where there is no such line.
     pub fn text(&self, line: u64) -> &'a [u8] {
         let last = line as usize;
         if last == 0 || last >= self.starts.len() {

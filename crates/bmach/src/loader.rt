@@ -45,7 +45,7 @@ pub fn load(alloc: Global, definitions: Vec<Definition>) -> Result<Image, LoadFa
     }
 }
 
-/// Whether the store has room for the data, and words for the labels' values.
+// Whether the store has room for the data, and words for the labels' values.
 fn fits(definitions: &[Definition]) -> bool
     ensures { result ≡ fits_store (map shape_of definitions.now) }
 {
@@ -61,7 +61,7 @@ fn fits(definitions: &[Definition]) -> bool
     true
 }
 
-/// The words up to the data end, and the functions. Each definition goes as soon as it is loaded.
+// The words up to the data end, and the functions. Each definition goes as soon as it is loaded.
 fn load_all(
     alloc: Global,
     addresses: &Addresses,
@@ -84,7 +84,7 @@ fn load_all(
     Ok(part)
 }
 
-/// Which of the functions is the main one.
+// Which of the functions is the main one.
 fn main_of(definitions: &[Definition]) -> Option<usize>
     ensures { result ≡ main_from 0 definitions.now }
 {

@@ -93,7 +93,7 @@ pub struct Rest<'a> {
     pub calls: Calls<'a>,
     /// How many steps are left.
     pub left: u64,
-    /// The outcome, if the run was over in the next one.
+    /// The outcome, if the run was over in the next step.
     pub over: Option<Outcome>,
 }
 

@@ -42,7 +42,7 @@ impl Part {
         }
     }
 
-    /// A function has a word with its value, and its string words.
+    // A function has a word with its value, and its string words.
     fn add_function(
         &mut self,
         alloc: Global,
@@ -73,7 +73,7 @@ impl Part {
         Ok(())
     }
 
-    /// A simple external has its values, or one word 0, and its string words.
+    // A simple external has its values, or one word 0, and its string words.
     fn add_simple(&mut self, addresses: &Addresses, simple: &Simple) -> Result<(), LoadFault>
         requires { length self.old.words.items + size_of (shape_of (definition.Simple simple.now)) ≤ 65536 }
         ensures { AddsDefinition (known_in addresses.now) self.old (definition.Simple simple.now) result self.new }
@@ -86,7 +86,7 @@ impl Part {
         Ok(())
     }
 
-    /// A vector has its own word, its words and its string words.
+    // A vector has its own word, its words and its string words.
     fn add_vector(&mut self, addresses: &Addresses, vector: &Vector) -> Result<(), LoadFault>
         requires { length self.old.words.items + size_of (shape_of (definition.Vector vector.now)) ≤ 65536 }
         ensures { AddsDefinition (known_in addresses.now) self.old (definition.Vector vector.now) result self.new }

@@ -5,6 +5,7 @@ ghost use Rattle.blang.specs.Layout.{functions_in, is_main, labels_in, shape_of,
 use blang::Definition;
 use bword::Name;
 
+/// The name that a definition defines.
 pub fn name_of(definition: &Definition) -> Name
     ensures { result ≡ (shape_of definition.now).name }
 {
@@ -15,7 +16,7 @@ pub fn name_of(definition: &Definition) -> Name
     }
 }
 
-/// How many words it takes.
+/// How many words of memory a definition takes, its string words among them.
 pub fn size_of(definition: &Definition) -> u16
     ensures value { result ≡ size_of (shape_of definition.now) }
     ensures small { result ≤ 33792 }

@@ -11,7 +11,7 @@ pub const NUMBER_LEN: usize = 17;
 /// Where the last digit of a number stands.
 const LAST_DIGIT: usize = 16;
 
-/// Puts the digits of a number at the end of a buffer, and tells where they begin.
+// Puts the digits of a number at the end of a buffer, and tells where they begin.
 fn put_digits(buffer: &mut [u8; NUMBER_LEN], number: u16, base: Base) -> usize
     ensures range { (1 ≤ result) × (result ≤ 16) }
     ensures digits { drop result buffer.new ≡ digits base.value false number }

@@ -81,7 +81,8 @@ impl<I: ByteIn, O: ByteOut> Compiler<I, O> {
 
     /// Compiles the next definition.
     ///
-    /// The first call writes what a code text of the edition begins with, before it reads anything. After the first answer that isn't `Written`, each call answers `Closed` and does nothing.
+    /// The first call writes what a code text of the edition begins with, before it reads anything. After the first
+    /// answer that isn't `Written`, each call answers `Closed` and does nothing.
     pub fn next_definition(&mut self) -> Step
         ensures gives { CompilerGives self.old result self.new }
         ensures keeps { SameCompiler self.old self.new }

@@ -9,7 +9,7 @@ use bword::{ByteOut, EndFault};
 use itoa::Buffer;
 
 /// Room for the longest line.
-const LINE_LEN: usize = 64;
+const DIAGNOSTIC_LEN: usize = 64;
 
 /// Writes the line of a diagnostic.
 pub(crate) fn write_diagnostic<D: ByteOut>(fault: &Diagnostic, diag: &mut D) -> Result<(), EndFault>
@@ -19,7 +19,7 @@ pub(crate) fn write_diagnostic<D: ByteOut>(fault: &Diagnostic, diag: &mut D) -> 
     diag.put(line(fault).as_str().as_bytes())
 }
 
-fn line(fault: &Diagnostic) -> ArrayString<LINE_LEN>
+fn line(fault: &Diagnostic) -> ArrayString<DIAGNOSTIC_LEN>
     ensures { result.bytes ≡ line_of fault.now }
 {
     let mut line = ArrayString::new();

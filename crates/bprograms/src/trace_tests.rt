@@ -52,6 +52,12 @@ lchar.b~main() {
     lchar(s, 0, 'A');
 }
 @
+missing.b~main() {
+    auto s;
+    s = \"ab\";
+    lchar(s);
+}
+@
 count.b~n 5;
 main() { extrn n; n++; }
 @
@@ -242,6 +248,14 @@ b trace --from 11 lchar.b~    step  function place  line  code         operands
       12  main        11     4  p            65
       13  main        12     5  c 0         
       14  main        13     5  r            0
+~~0
+@
+b trace --from 9 missing.b~    step  function place  line  code         operands
+       9  main         8     4  k 1          2 8
+                                           @8 = 25088
+      10  main         9     4  p            0
+      11  main        10     5  c 0         
+      12  main        11     5  r            0
 ~~0
 @
 b trace --from 2 --steps 2 count.b~    step  function place  line  code         operands

@@ -126,7 +126,8 @@ fn next_place(draft: &Draft) -> u16
     draft.code().len() as u16
 }
 
-// Ends a switch behind its statements: the jump to its tests is at this place, and its breaks are those since this mark.
+// Ends a switch behind its statements: the jump to its tests is at this place, and its breaks are those since this
+// mark.
 fn close_switch(draft: &mut Draft, jump: u16, mark: bemit::Mark)
     ensures { draft.new ≡ closed_switch jump mark.count draft.old }
 {

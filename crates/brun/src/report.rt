@@ -9,7 +9,7 @@ use bword::ByteOut;
 use itoa::Buffer;
 
 /// Room for the longest line.
-const LINE_LEN: usize = 64;
+const REPORT_LEN: usize = 64;
 
 /// Writes the line, and answers this status or that of a refused write.
 pub(crate) fn write_report<D: ByteOut>(report: Report, status: Status, diag: &mut D) -> Status
@@ -22,7 +22,7 @@ pub(crate) fn write_report<D: ByteOut>(report: Report, status: Status, diag: &mu
     }
 }
 
-fn line(report: Report) -> ArrayString<LINE_LEN>
+fn line(report: Report) -> ArrayString<REPORT_LEN>
     ensures { result.bytes ≡ report_text report }
 {
     let mut line = ArrayString::new();

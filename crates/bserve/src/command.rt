@@ -71,7 +71,7 @@ pub(crate) fn parse<'a>(alloc: Global, words: &'a [String]) -> Result<ArgMatches
     command(alloc)?.try_get_matches_from(words)
 }
 
-/// What was found asks for this, or for a limit of steps and none.
+/// The job that the words ask for; none where they ask for a limit of steps and for no limit.
 pub(crate) fn job_of<'a>(matches: &ArgMatches<'a>) -> Option<Job<'a>>
     ensures { asked_of result ≡ asked (subcommand_rows_of matches.now) }
 {
@@ -397,7 +397,7 @@ fn from_option<'a>(alloc: Global) -> Arg<'a>
         .value_name("N")
         .action(ArgAction::Set)
         .value_parser(value_parser!(u64).range(1..=MOST_STEPS))
-        .help("The first step that is shown; 1 if not given")
+        .help("The first step shown, 1 to 4000000000; 1 if not given")
 }
 
 fn function_option<'a>(alloc: Global) -> Arg<'a>

@@ -18,7 +18,7 @@ pub struct Streams<I: Read + Drop, O: Write + Drop, D: Write + Drop> {
     pub at_once: bool,
 }
 
-/// Runs the program that the words name, or refuses them if there are none. All of its output has been shown when the
+/// Does what the words of a command line ask for, or refuses them if there are none. All of its output has been shown when the
 /// status is given, or the status is that of a failed write.
 pub fn serve_in_order<R, I, O, D>(
     rt: &R,

@@ -24,7 +24,7 @@ use std::io::Read;
 use std::rt::Files;
 use std::{fs, io};
 
-/// Runs the program that the words name, with its own name first.
+/// Does what the words of a command line ask for; the first one is the program's own name.
 ///
 /// Help goes to `out` with status 0, and what is wrong with the words to `diag` with status 135. A FILE is opened and
 /// read where it is needed: 133 where it can't be.

@@ -134,7 +134,7 @@ b --help has the letters.";
 pub(crate) const TRACE_HELP: &str = "\
 A row has the number of a step, the function, the place in it, the line of the
 source, the instruction, and the topmost operands before it, at most five.
-Behind it stand the words that it changed, each with its address, and what it
+Behind it stand the words that it stored, each with its address, and what it
 wrote. After a trap, or at the limit of steps, the place and the calls that led
 there are told, each with at most six parameters. The program reads standard
 input; what it writes stands in the trace alone, which is written when the run
@@ -150,11 +150,12 @@ Statuses: 0 to 127 the program's own, 1 also a fault of the source, 130 a trap,
 b --help has the letters.";
 
 pub(crate) const CHECK_HELP: &str = "\
-The first line is that of b compile, or load 2 or load 3 where b run has it;
-with --json each line is an object; the first has its letters and its number.
-Behind it stand the place, the line of the source with a mark, and the mend.
-What compiles and is hardly meant is told as a warning. A source without a
-function main has no fault here.
+The first line of a fault is that of b compile, or load 2 or load 3 as b run
+has it. Behind it stand the place and a sentence, the line of the source with a
+mark, and the mend. What compiles and is hardly meant is told as a warning, in
+the same way but without a first line. With --json each of them is an object on
+a line, and nothing else stands there. A source without a function main has no
+fault here.
 
 Examples:
   b check hello.b

@@ -10,7 +10,7 @@ use Rattle.blang.specs.Machine.{Call}
 use Rattle.bmach.specs.Stops.{active_of}
 use Rattle.bmach.specs.declared.machine.Active.{Active}
 use Rattle.btrace.specs.Programs.{Placed}
-use Rattle.btrace.specs.Rows.{Place, place_text, places_text, words_text}
+use Rattle.btrace.specs.RowTexts.{Place, place_text, places_text, words_text}
 use Rattle.btrace.specs.Traces.{AddsPlaces, waits_at}
 
 pub words_shown : (old text new words : List ℕ) (count : ℕ) (has_more : Bool) → length words ≡ count → text ≡ (old ++ (if nat_lt 0 count then codes "  with" else [])) ++ flat_map (λ w. codes " " ++ decimal w) words

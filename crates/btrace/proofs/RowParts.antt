@@ -5,7 +5,7 @@ use Rattle.std.proofs.lemmas.Bool.Decides.{nat_tests}
 use Rattle.std.proofs.lemmas.List.{length-drop, take_all, take_more}
 use Rattle.std.proofs.lemmas.List.Concat.{flat_map-append}
 use Rattle.blist.specs.Characters.{shown_byte}
-use Rattle.btrace.specs.Rows.{changed_text, margin, operands_text, word_row, written_row}
+use Rattle.btrace.specs.RowTexts.{changed_text, margin, operands_text, word_row, written_row}
 
 -- the rows of one more word
 pub one_changed : (store old text new changed : List ℕ) (address : ℕ) → text ≡ old ++ changed_text store changed → new ≡ text ++ word_row store address → new ≡ old ++ changed_text store (changed ++ address ∷ [])

@@ -19,7 +19,7 @@ use Rattle.bmach.specs.Turns.{KeepsBelow, MovesOn, HasHalted, TurnGives}
 use Rattle.bmach.proofs.Running.{at_limit, behind, one_more, run_over}
 use Rattle.bmach.proofs.Turning.{follows, goes_on}
 use Rattle.btrace.specs.Programs.{Placed}
-use Rattle.btrace.specs.Rows.{changed_text, step_row, written_row}
+use Rattle.btrace.specs.RowTexts.{changed_text, step_row, written_row}
 use Rattle.btrace.specs.Traces as traces
 use Rattle.btrace.specs.Traces.{AddsEnd, AddsIf, AddsLast, AddsPlaces, AddsStep, AreShown, EndsAs, IsTried, TraceRow, ShowsStep, StepsGive, Tries, is_shown, is_wanted, rows_text, shown_of, steps_from}
 use Rattle.btrace.specs.declared.tracing.Which.{Which}

@@ -1,4 +1,4 @@
 pub mod Programs
-pub mod Rows
+pub mod RowTexts
 pub mod Traces
 pub mod Locates

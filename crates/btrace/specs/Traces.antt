@@ -1,6 +1,6 @@
 -- What comes of a source whose steps are written.
 use Rattle.std.specs.Prelude.{◌≡◌, ◌⊎◌, ℕ, ◌+◌, ◌-◌, ◌≤◌, ◌==◌, ◌&&◌, Bool, true, false, List, [], ◌++◌, All, Option, Some}
-use Rattle.std.specs.Prelude.{None, Result, Ok, Err, drop, filter, length, map, nat_le, option_map}
+use Rattle.std.specs.Prelude.{None, Result, Ok, Err, codes, drop, filter, length, map, nat_le, option_map, refl}
 use Rattle.std.specs.List.{flat_map, range_with_len}
 use Rattle.std.specs.Option.{option_map_or}
 use Rattle.bword.specs.declared.edition.Edition.{Edition}
@@ -16,9 +16,17 @@ use Rattle.blang.specs.declared.run.Outcome.TheVariants as outcome
 use Rattle.blang.specs.Layout.{World}
 use Rattle.blist.specs.Programs.{HasProgram, NoProgram, nothing_written}
 use Rattle.btrace.specs.Programs.{Placed, function_named, functions_of}
-use Rattle.btrace.specs.Rows.{Place, changed_text, places_text, step_row, written_row}
+use Rattle.btrace.specs.RowTexts.{Place, changed_text, places_text, step_row, written_row}
 use Rattle.btrace.specs.declared.tracing.TheConstants.{HEADING, UNNAMED}
 use Rattle.btrace.specs.declared.tracing.Which.{Which}
+
+-- the columns of a trace
+trace_heading : HEADING.now ≡ codes "    step  function place  line  code         operands\n"
+trace_heading = refl
+
+-- what is said of a name that no function has
+unnamed_line : UNNAMED.now ≡ codes "error: the source has no function of this NAME\n"
+unnamed_line = refl
 
 -- which steps are shown: those from a number on, of the function of a name; none where no function has the name
 abbrev pub which_of : List Placed → (from : ℕ) → (name : Option (List ℕ)) → Option Which

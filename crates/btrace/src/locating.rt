@@ -16,8 +16,9 @@ use std::alloc::{AllocError, Global};
 
 /// Compiles a source and runs its program for so many steps at most, and tells where the run was over.
 ///
-/// The output, the line and the status are those of `go_edition`. Behind the line of a trap or of the limit a second one
-/// tells the function, the place in it, and the line of the source.
+/// The output, the line and the status are those of `go_edition`. Behind the line of a trap or of the limit a second
+/// one tells the function, the place in it, and the line of the source, unless `main` had no room for its frame, so
+/// that the run never began.
 pub fn locate<I: ByteIn, O: ByteOut, D: ByteOut>(
     alloc: Global,
     source: &[u8],

@@ -1,10 +1,10 @@
 //! The places where a run was.
 ghost use Rattle.std.specs.Prelude.{◌≡◌, ◌-◌, ℕ, Bool, List, [], ◌++◌, OnOk, if◌then◌else◌};
 ghost use Rattle.btrace.specs.Programs.{entries_of};
-ghost use Rattle.btrace.specs.Rows.{Place, place_text, site_text, words_text};
+ghost use Rattle.btrace.specs.RowTexts.{Place, place_text, site_text, words_text};
 ghost use Rattle.btrace.specs.Traces.{AddsPlaces};
 
-use crate::rows::{name_of, word_of_frame};
+use crate::rows::{frame_address, name_of};
 use crate::tables::Tables;
 use blist::Text;
 use bmach::{Active, Stepper};
@@ -12,7 +12,7 @@ use bword::Store;
 use std::alloc::AllocError;
 
 /// How many parameters are shown.
-const MOST: u16 = 6;
+const SHOWN_PARAMETERS: u16 = 6;
 
 /// Adds where a run was over: the call that ran, and those that led there.
 pub fn push_places<S: Store + Drop>(
@@ -28,14 +28,14 @@ pub fn push_places<S: Store + Drop>(
     for number in 0..stepper.callers() {
         if let Some(caller) = stepper.caller(number) {
             text.push(b"called ")?;
-            push_place(text, tables, stepper, behind(caller))?;
+            push_place(text, tables, stepper, at_its_call(caller))?;
         }
     }
     Ok(())
 }
 
-// A call that waits is behind its call.
-fn behind(call: Active) -> Active
+// The place of a call that waits is behind the instruction that called; this is that instruction.
+fn at_its_call(call: Active) -> Active
     ensures strings { result.strings ≡ call.strings }
     ensures place { result.place ≡ call.place - 1 }
 {
@@ -84,13 +84,13 @@ fn push_words<S: Store + Drop>(
 ) -> Result<(), AllocError>
     ensures { OnOk result ((words : List ℕ) × (has_more : Bool) × (text.new ≡ text.old ++ words_text words has_more)) }
 {
-    let count = call.parameters.min(MOST);
+    let count = call.parameters.min(SHOWN_PARAMETERS);
     push_if(text, count > 0, b"  with")?;
     for index in 0..count {
         text.push(b" ")?;
-        text.push_number(u64::from(stepper.word(word_of_frame(call, index))))?;
+        text.push_number(u64::from(stepper.word(frame_address(call, index))))?;
     }
-    push_if(text, call.parameters > MOST, b" ..")
+    push_if(text, call.parameters > SHOWN_PARAMETERS, b" ..")
 }
 
 fn push_if(text: &mut Text, is_wanted: bool, bytes: &[u8]) -> Result<(), AllocError>

@@ -4,13 +4,13 @@ ghost use Rattle.std.specs.List.{flat_map};
 ghost use Rattle.blist.specs.Characters.{shown_byte};
 ghost use Rattle.blist.specs.Columns.{left};
 ghost use Rattle.btrace.specs.Programs.{entries_of, placed_entry};
-ghost use Rattle.btrace.specs.Rows.{changed_text, instr_in, instr_text, margin, name_in, operands_text, step_row, word_row, written_row};
+ghost use Rattle.btrace.specs.RowTexts.{changed_text, instr_in, instr_text, margin, name_in, operands_text, step_row, word_row, written_row};
 
 use crate::tables::{Entry, Tables};
 use bcode::{Page, push_instr_line};
 use blang::Instr;
 use blist::{Text, push_byte};
-use bmach::{Active, Stepper};
+use bmach::{Active, FIRST_ADDRESS, Stepper};
 use bword::Store;
 use std::alloc::AllocError;
 
@@ -18,7 +18,10 @@ use std::alloc::AllocError;
 const MARGIN: usize = 43;
 
 /// How many operands are shown.
-const SHOWN: usize = 5;
+const SHOWN_OPERANDS: usize = 5;
+
+// The value of `lchar`.
+const LCHAR: u16 = 2;
 
 /// What an instruction is about to change.
 #[derive(Clone, Copy)]
@@ -88,7 +91,7 @@ fn push_instr(text: &mut Text, instr: Option<Instr>) -> Result<(), AllocError>
 fn push_operands(text: &mut Text, operands: &[u16]) -> Result<(), AllocError>
     ensures { OnOk result (text.new ≡ text.old ++ operands_text operands.now) }
 {
-    let first = operands.len().saturating_sub(SHOWN);
+    let first = operands.len().saturating_sub(SHOWN_OPERANDS);
     text.push(if first > 0 { b" .." } else { b"" })?;
     for word in &operands[first..] {
         text.push(b" ")?;
@@ -127,14 +130,22 @@ fn operand_below(operands: &[u16], count: usize) -> Option<u16> {
 // `lchar` changes a word, and a call of a function of the program its parameters.
 fn change_of_call(operands: &[u16], count: usize) -> Change {
     match operand_below(operands, count) {
-        Some(2) if count >= 2 => {
-            let string = operand_below(operands, count - 1).unwrap_or(0);
-            let character = operand_below(operands, count - 2).unwrap_or(0);
+        Some(LCHAR) => {
+            let string = argument(operands, count, 0);
+            let character = argument(operands, count, 1);
             Change::Word(string.wrapping_add(character / 2))
         }
-        Some(0..=6) | None => Change::Nothing,
-        Some(_) => Change::Parameters,
+        Some(callee) if callee >= FIRST_ADDRESS => Change::Parameters,
+        _ => Change::Nothing,
     }
+}
+
+// An argument of so many on top of the operands, or 0 where it is missing.
+fn argument(operands: &[u16], count: usize, index: usize) -> u16 {
+    if index >= count {
+        return 0;
+    }
+    operand_below(operands, count - 1 - index).unwrap_or(0)
 }
 
 /// Adds the words that a step has changed.
@@ -160,13 +171,13 @@ fn push_parameters<S: Store + Drop>(
 {
     let call = stepper.top();
     for index in 0..call.parameters {
-        push_word(text, stepper, word_of_frame(call, index))?;
+        push_word(text, stepper, frame_address(call, index))?;
     }
     Ok(())
 }
 
 /// The address of a word of a call's frame.
-pub fn word_of_frame(call: Active, index: u16) -> u16 {
+pub fn frame_address(call: Active, index: u16) -> u16 {
     let start = (call.start % 65536) as u16;
     start.wrapping_add(index)
 }

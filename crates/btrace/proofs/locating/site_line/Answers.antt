@@ -2,7 +2,7 @@ use Rattle.std.proofs.Common.{◌∙◌, ◌++◌, ap, codes}
 use Rattle.blist.proofs.AddedRows.{piece}
 use Rattle.btrace.specs.Programs.{entries_of}
 use Rattle.btrace.specs.Locates.{site_line}
-use Rattle.btrace.specs.Rows.{site_text}
+use Rattle.btrace.specs.RowTexts.{site_text}
 use Rattle.btrace.proofs.locating.site_line.Goals as goal
 
 pub returns : goal.returns

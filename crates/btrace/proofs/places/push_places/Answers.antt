@@ -20,10 +20,10 @@ loop-number-preserved g c =
     elim c.match-caller.branch [
       | in-Some+in_ok-push-2+in_ok-push_place-2 w ↦
           let p = w.in_ok-push_place-2.ensures in
-          let told = w.behind.result in
+          let told = w.at_its_call.result in
           rw w.text-is
           (one_more (entries_of c.args.tables.now) c.args.call.strings c.args.call.place below number w.in-Some.caller (record { strings = told.strings; place = told.place; line = p.0; words = p.1; has_more = p.2 }) c.args.text.now c.loop-number.text w.push-in-Some.new.self w.push_place-in-Some.new.text
-          (sym w.in-Some.is ∙ c.caller.ensures) w.behind.ensures.strings w.behind.ensures.place c.loop-number.invariant w.in_ok-push-2.ensures p.3)
+          (sym w.in-Some.is ∙ c.caller.ensures) w.at_its_call.ensures.strings w.at_its_call.ensures.place c.loop-number.invariant w.in_ok-push-2.ensures p.3)
       | in_default w ↦ absurd (some_caller below number within (sym w.in_default.is ∙ c.caller.ensures))
     ]
 

@@ -2,7 +2,7 @@ use Rattle.std.proofs.Common.{◌∙◌, ap, codes, decimal}
 use Rattle.std.proofs.lemmas.Result.{on_ok_weaker}
 use Rattle.blist.specs.Columns.{right}
 use Rattle.btrace.specs.Programs.{entries_of, function_with}
-use Rattle.btrace.specs.Rows.{name_in}
+use Rattle.btrace.specs.RowTexts.{name_in}
 use Rattle.btrace.proofs.PlaceParts.{site_parts}
 use Rattle.btrace.proofs.places.push_site.Goals as goal
 

@@ -1,6 +1,6 @@
 use Rattle.std.proofs.Common.{◌∙◌, ◌∷◌, [], ◌++◌, ap, append-nil, sym}
 use Rattle.std.proofs.lemmas.Result.{on_ok_weaker}
-use Rattle.btrace.specs.Rows.{word_row}
+use Rattle.btrace.specs.RowTexts.{word_row}
 use Rattle.btrace.proofs.rows.push_change.Goals as goal
 
 pub returns-in-Word : goal.returns-in-Word

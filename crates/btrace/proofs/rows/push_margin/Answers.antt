@@ -1,4 +1,4 @@
-use Rattle.btrace.specs.Rows.{margin}
+use Rattle.btrace.specs.RowTexts.{margin}
 use Rattle.btrace.proofs.rows.push_margin.Goals as goal
 
 pub returns : goal.returns

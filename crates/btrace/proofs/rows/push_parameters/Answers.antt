@@ -8,4 +8,4 @@ loop-index-init g c = ([], sym (append-nil c.args.text.now))
 pub loop-index-preserved : goal.loop-index-preserved
 loop-index-preserved g c =
     let before = c.loop-index.invariant in
-    (before.0 ++ c.word_of_frame.result ∷ [], one_changed c.args.stepper.now.store c.args.text.now c.loop-index.text c.push_word.new.text before.0 c.word_of_frame.result before.1 c.in_ok-push_word.ensures)
+    (before.0 ++ c.frame_address.result ∷ [], one_changed c.args.stepper.now.store c.args.text.now c.loop-index.text c.push_word.new.text before.0 c.frame_address.result before.1 c.in_ok-push_word.ensures)

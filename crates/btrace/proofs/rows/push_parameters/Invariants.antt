@@ -1,5 +1,5 @@
 use Rattle.std.proofs.Common.{◌≡◌, ℕ, List, ◌++◌}
-use Rattle.btrace.specs.Rows.{changed_text}
+use Rattle.btrace.specs.RowTexts.{changed_text}
 use Rattle.btrace.proofs.rows.push_parameters.Given as goal
 
 -- rows of words were added

@@ -6,7 +6,7 @@ use Rattle.blist.specs.Columns.{left, right}
 use Rattle.blist.proofs.AddedRows.{piece}
 use Rattle.bmach.specs.declared.machine.Active.{Active}
 use Rattle.btrace.specs.Programs.{entries_of, function_with, placed_entry}
-use Rattle.btrace.specs.Rows.{instr_in, instr_text, name_in, operands_text}
+use Rattle.btrace.specs.RowTexts.{instr_in, instr_text, name_in, operands_text}
 use Rattle.btrace.proofs.rows.push_step.Goals as goal
 
 pub returns : goal.returns

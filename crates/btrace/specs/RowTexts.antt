@@ -1,6 +1,6 @@
--- The rows of a trace.
-use Rattle.std.specs.Prelude.{ℕ, Bool, ◌+◌, ◌-◌, List, [], ◌∷◌, ◌++◌, Option, Some, None, codes, decimal, drop, length}
-use Rattle.std.specs.Prelude.{nat_lt, replicate, reverse, slice_get, slice_index, if◌then◌else◌}
+-- The texts of the rows of a trace.
+use Rattle.std.specs.Prelude.{◌≡◌, ℕ, Bool, ◌+◌, ◌-◌, List, [], ◌∷◌, ◌++◌, Option, Some, None, codes, decimal, drop}
+use Rattle.std.specs.Prelude.{length, nat_lt, refl, replicate, reverse, slice_get, slice_index, if◌then◌else◌}
 use Rattle.std.specs.List.{flat_map}
 use Rattle.blang.specs.Machine.{Call}
 use Rattle.blang.specs.Text.{instr_line}
@@ -9,7 +9,7 @@ use Rattle.blist.specs.Characters.{shown_byte}
 use Rattle.blist.specs.Columns.{left, right}
 use Rattle.blist.specs.Listings.{without_newline}
 use Rattle.btrace.specs.Programs.{Placed, function_with}
-use Rattle.btrace.specs.declared.rows.TheConstants.{MARGIN, SHOWN}
+use Rattle.btrace.specs.declared.rows.TheConstants.{MARGIN, SHOWN_OPERANDS}
 
 -- the name of a function
 abbrev pub name_in : Option Placed → List ℕ
@@ -33,11 +33,17 @@ name_of fs call = name_in (function_with fs call.function.strings)
 abbrev pub code_of : List Placed → Call → List ℕ
 code_of fs call = instr_text (instr_in (function_with fs call.function.strings) call.place)
 
+operands_shown : SHOWN_OPERANDS ≡ 5
+operands_shown = refl
+
+margin_width : MARGIN ≡ 43
+margin_width = refl
+
 -- the topmost operands, the topmost last, and `..` before them if there are more
 abbrev pub operands_text : List ℕ → List ℕ
 operands_text words =
-    (if nat_lt 0 (length words - SHOWN) then codes " .." else [])
-    ++ flat_map (λ w. codes " " ++ decimal w) (drop (length words - SHOWN) words)
+    (if nat_lt 0 (length words - SHOWN_OPERANDS) then codes " .." else [])
+    ++ flat_map (λ w. codes " " ++ decimal w) (drop (length words - SHOWN_OPERANDS) words)
 
 -- the number of a step, the call before it, and a line of the source
 abbrev pub step_row : List Placed → (number : ℕ) → Call → (line : ℕ) → List ℕ
