@@ -76,7 +76,7 @@ fn streams<'a>(log: &'a Log, input: &'a str) -> Streams<Noted<'a>, Noted<'a>, No
     Streams {
         input: stream(log, "<", input),
         output: stream(log, ">", ""),
-        line: stream(log, "!", ""),
+        diag: stream(log, "!", ""),
         at_once: false,
     }
 }
@@ -90,7 +90,7 @@ fn logs(
     status: Status,
 ) -> Result<(), Fail> {
     fs::write(rt, "x.b", source.as_bytes())?;
-    let log = streams.line.log;
+    let log = streams.diag.log;
     let answer = serve_in_order(rt, Some(words_of(rt.alloc(), "b go x.b")?), streams);
     fs::remove_file(rt, "x.b")?;
     let is_right = match log.try_borrow() {
@@ -134,9 +134,9 @@ fn closed_streams(rt: HostRuntime) -> Result<(), Fail> {
     no_output.output.is_open = false;
     logs(&rt, DIVIDES, no_output, "", 133)?;
     let log = RefCell::new(Vec::new(rt.alloc()));
-    let mut no_line = streams(&log, "");
-    no_line.line.is_open = false;
-    logs(&rt, DIVIDES, no_line, ">ab", 133)
+    let mut no_diag = streams(&log, "");
+    no_diag.diag.is_open = false;
+    logs(&rt, DIVIDES, no_diag, ">ab", 133)
 }
 
 // A word that is not UTF-8 is a wrong command line.

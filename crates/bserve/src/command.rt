@@ -128,14 +128,15 @@ fn subject_of<'a>(given: &ArgMatches<'a>) -> Subject<'a>
 fn map_of<'a>(given: &ArgMatches<'a>) -> Job<'a>
     ensures { asked_of (Some result) ≡ map_asked (file_in (rows_of (found_of given.now))) (edition_in (rows_of (found_of given.now))) (is_set_in (codes "svg") (rows_of (found_of given.now))) (option_number (codes "steps") (rows_of (found_of given.now))) }
 {
-    let subject = unnamed(given);
+    let subject = whole_subject(given);
     match (is_set(given, "svg"), number_of(given, "steps")) {
         (false, None) => Job::Map(subject),
         (_, steps) => Job::Draw(subject, steps),
     }
 }
 
-fn unnamed<'a>(given: &ArgMatches<'a>) -> Subject<'a>
+// A source of which no name is asked for.
+fn whole_subject<'a>(given: &ArgMatches<'a>) -> Subject<'a>
     ensures { subject_shown result ≡ (file_in (rows_of (found_of given.now)), None, edition_in (rows_of (found_of given.now))) }
 {
     let file = given.get_str("FILE").unwrap_or("");

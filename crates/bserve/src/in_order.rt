@@ -13,13 +13,14 @@ use std::rt::Files;
 pub struct Streams<I: Read + Drop, O: Write + Drop, D: Write + Drop> {
     pub input: I,
     pub output: O,
-    pub line: D,
+    /// Where a fault, a trap or a wrong command line is told.
+    pub diag: D,
     /// Whether each piece of output is to be shown at once.
     pub at_once: bool,
 }
 
-/// Does what the words of a command line ask for, or refuses them if there are none. All of its output has been shown when the
-/// status is given, or the status is that of a failed write.
+/// Does what the words of a command line ask for, or refuses them if there are none. All of its output has been shown
+/// when the status is given, or the status is that of a failed write.
 pub fn serve_in_order<R, I, O, D>(
     rt: &R,
     words: Option<Vec<String>>,
@@ -43,7 +44,7 @@ where
     };
     let mut out = Writing::new(&output);
     let mut diag = Writing::new(Beside {
-        writer: streams.line,
+        writer: streams.diag,
         output: &output,
     });
     let status = match words {

@@ -3,7 +3,7 @@ use Rattle.clap.specs.Words.{found_of, rows_of}
 use Rattle.clap.proofs.WalkLemmas.{first_value-rows}
 use Rattle.bserve.specs.CommandLine.{file_in}
 use Rattle.bserve.proofs.GivenOptions.{text_or}
-use Rattle.bserve.proofs.command.unnamed.Goals as goal
+use Rattle.bserve.proofs.command.whole_subject.Goals as goal
 
 pub returns : goal.returns
 returns c =
