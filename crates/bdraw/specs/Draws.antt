@@ -1,6 +1,6 @@
 -- What comes of a source whose memory is drawn.
-use Rattle.std.specs.Prelude.{◌≡◌, ℕ, zero, suc, ◌+◌, ◌%◌, min, List, [], ◌∷◌, ◌++◌, map, take, Option, Some, None}
-use Rattle.std.specs.Prelude.{Result, Ok, Err, slice_index}
+use Rattle.std.specs.Prelude.{◌≡◌, refl, ℕ, zero, suc, ◌+◌, ◌%◌, ◌==◌, if◌then◌else◌, min, List, [], ◌∷◌, ◌++◌}
+use Rattle.std.specs.Prelude.{map, take, Option, Some, None, Result, Ok, Err, slice_index}
 use Rattle.std.specs.List.{flat_map}
 use Rattle.bword.specs.declared.edition.Edition.{Edition}
 use Rattle.bword.specs.ByteEnds.{CanFollow, Incoming, Outgoing, Kept, Took, outgoing_of}
@@ -15,20 +15,35 @@ use Rattle.bmach.specs.Turns.{MovesOn}
 use Rattle.blist.specs.Maps.{image_address}
 use Rattle.blist.specs.Programs.{HasProgram, NoProgram, nothing_written}
 use Rattle.bdraw.specs.Shapes.{picture_text}
+use Rattle.bdraw.specs.declared.picture.TheConstants.{MOST_NAMES, MOST_WORDS}
+use Rattle.bdraw.specs.declared.shapes.Fill.{Fill}
+use Rattle.bdraw.specs.declared.shapes.Fill.TheVariants as fill
 use Rattle.bdraw.specs.declared.shapes.Shape.{Shape}
 use Rattle.bdraw.specs.declared.shapes.Shape.TheVariants as shape
 
--- the word that a shape shows, behind its address
-abbrev pub shown_in : Shape → List (ℕ × ℕ)
-shown_in (shape.Cell c) = (c.address, c.word) ∷ []
+-- how many names are drawn, and how many words of each
+most_names : MOST_NAMES ≡ 48
+most_names = refl
+
+most_words : MOST_WORDS ≡ 9
+most_words = refl
+
+-- the word that a shape shows, behind its address, and whether its box is filled
+abbrev pub shown_in : Shape → List (ℕ × ℕ × Fill)
+shown_in (shape.Cell c) = (c.address, c.word, c.fill) ∷ []
 shown_in (shape.Label l) = []
 
-abbrev pub drawn : List Shape → List (ℕ × ℕ)
+abbrev pub drawn : List Shape → List (ℕ × ℕ × Fill)
 drawn shapes = flat_map shown_in shapes
 
--- a word of memory, behind its address
-abbrev pub seen : List ℕ → ℕ → ℕ × ℕ
-seen words address = (address, slice_index words address)
+-- filled is the box of a word that is another one than before the run
+abbrev pub fill_of : (word first : ℕ) → Fill
+fill_of word first = if word == first then fill.Same else fill.Changed
+
+-- a word of memory, behind its address, and whether its box is filled
+abbrev pub seen : Image → List ℕ → ℕ → ℕ × ℕ × Fill
+seen image words address =
+    (address, slice_index words address, fill_of (slice_index words address) (slice_index image.words address))
 
 -- so many addresses, from one on
 abbrev pub addresses_from : ℕ → ℕ → List ℕ
@@ -37,7 +52,7 @@ addresses_from first (suc n) = addresses_from first n ++ ((first + n) % 65536) �
 
 -- the addresses of so many words that have a row; nine have room
 abbrev pub row : ℕ → ℕ → List ℕ
-row first count = addresses_from first (min count 9)
+row first count = addresses_from first (min count MOST_WORDS)
 
 abbrev pub name_row : Image → Named → List ℕ
 name_row image d = row (image_address image d.name) (size_of d)
@@ -46,14 +61,15 @@ abbrev pub named : Image → List Definition → List ℕ
 named image ds = flat_map (λ d. name_row image (shape_of d)) ds
 
 -- words of these addresses were drawn, and of others behind them
-abbrev pub AddsRow : List ℕ → List Shape → List Shape → Type 0
-AddsRow words old new = (addresses : List ℕ) × (drawn new ≡ drawn old ++ map (seen words) addresses)
+abbrev pub AddsRow : Image → List ℕ → List Shape → List Shape → Type 0
+AddsRow image words old new = (addresses : List ℕ) × (drawn new ≡ drawn old ++ map (seen image words) addresses)
 
 -- What is drawn of memory: the words of the library, the first ones of each of the first 48 names, and any others; each
--- is the word that stands at its address.
+-- is the word that stands at its address, filled where it isn't the image's.
 abbrev pub Drawn : List Definition → Image → List ℕ → List Shape → Type 0
 Drawn ds image words shapes =
-    (others : List ℕ) × (drawn shapes ≡ map (seen words) (row 0 7 ++ named image (take 48 ds) ++ others))
+    (others : List ℕ)
+    × (drawn shapes ≡ map (seen image words) (row 0 7 ++ named image (take MOST_NAMES ds) ++ others))
 
 -- The text is a picture of memory.
 pub record IsPicture (ds : List Definition) (image : Image) (words : List ℕ) (text : List ℕ) : Type 0 where

@@ -1,14 +1,14 @@
 //! Where the shapes of a picture stand.
 ghost use Rattle.std.specs.Prelude.{◌≡◌, ℕ, List, ◌++◌, IfOk, OnOk, map as map_each};
 ghost use Rattle.blang.specs.Layout.{shape_of};
-ghost use Rattle.bdraw.specs.Draws.{AddsRow, Drawn, addresses_from, drawn, named, name_row, row, seen, shown_in};
+ghost use Rattle.bdraw.specs.Draws.{AddsRow, Drawn, addresses_from, drawn, fill_of, named, name_row, row, seen, shown_in};
 ghost use Rattle.bdraw.specs.declared.shapes.Shape.TheVariants as shape;
 
 use crate::scene::{Memory, Moment, Scene, function_of};
-use crate::shapes::{Cell, Fill, Label, Shape, Style};
+use crate::shapes::{Cell, Fill, HALF_BOX, Label, Shape, Style};
 use blang::{Definition, FunctionParts};
 use blist::{Frame, Program, Text, push_characters};
-use bmach::{Active, name_of, size_of};
+use bmach::{Active, FIRST_ADDRESS, name_of, size_of};
 use bword::Name;
 use std::alloc::{AllocError, Global};
 use std::ops::Range;
@@ -125,13 +125,14 @@ impl Picture {
         alloc: Global,
         scene: &Scene<'_, M>,
     ) -> Result<(), AllocError>
-        ensures { OnOk result (drawn self.new.shapes.items ≡ drawn self.old.shapes.items ++ map_each (seen (M.seen_words scene.now.memory.now)) (row 0 7)) }
+        ensures { OnOk result (drawn self.new.shapes.items ≡ drawn self.old.shapes.items
+            ++ map_each (seen scene.now.program.now.image (M.seen_words scene.now.memory.now)) (row 0 7)) }
     {
         let y = self.next_row();
         let mut name = Text::new(alloc);
         name.push(b"the library")?;
         self.add_label(MARGIN, y.saturating_add(14), Style::Name, name)?;
-        self.add_cells(alloc, scene, y, 0, 7)?;
+        self.add_cells(alloc, scene, y, 0, FIRST_ADDRESS)?;
         self.add_library_names(alloc, y)
     }
 
@@ -153,7 +154,8 @@ impl Picture {
         definitions: &[Definition],
     ) -> Result<(), AllocError>
         ensures { OnOk result (drawn self.new.shapes.items ≡ drawn self.old.shapes.items
-            ++ map_each (seen (M.seen_words scene.now.memory.now)) (named scene.now.program.now.image definitions.now)) }
+            ++ map_each (seen scene.now.program.now.image (M.seen_words scene.now.memory.now))
+            (named scene.now.program.now.image definitions.now)) }
     {
         for definition in definitions {
             self.add_definition(alloc, scene, definition)?;
@@ -169,7 +171,8 @@ impl Picture {
         definition: &Definition,
     ) -> Result<(), AllocError>
         ensures { OnOk result (drawn self.new.shapes.items ≡ drawn self.old.shapes.items
-            ++ map_each (seen (M.seen_words scene.now.memory.now)) (name_row scene.now.program.now.image (shape_of definition.now))) }
+            ++ map_each (seen scene.now.program.now.image (M.seen_words scene.now.memory.now))
+            (name_row scene.now.program.now.image (shape_of definition.now))) }
     {
         let y = self.next_row();
         let name = name_of(definition);
@@ -226,7 +229,8 @@ impl Picture {
         alloc: Global,
         scene: &Scene<'_, M>,
     ) -> Result<(), AllocError>
-        ensures { OnOk result (AddsRow (M.seen_words scene.now.memory.now) self.old.shapes.items self.new.shapes.items) }
+        ensures { OnOk result (AddsRow scene.now.program.now.image (M.seen_words scene.now.memory.now)
+            self.old.shapes.items self.new.shapes.items) }
     {
         self.add_calls_left_out(alloc, scene.calls.others)?;
         for call in &scene.calls.drawn {
@@ -254,7 +258,8 @@ impl Picture {
         scene: &Scene<'_, M>,
         call: Active,
     ) -> Result<(), AllocError>
-        ensures { OnOk result (AddsRow (M.seen_words scene.now.memory.now) self.old.shapes.items self.new.shapes.items) }
+        ensures { OnOk result (AddsRow scene.now.program.now.image (M.seen_words scene.now.memory.now)
+            self.old.shapes.items self.new.shapes.items) }
     {
         match function_of(scene.program, call) {
             None => Ok(()),
@@ -275,7 +280,8 @@ impl Picture {
         start: u16,
         frame: Option<&Frame>,
     ) -> Result<(), AllocError>
-        ensures { OnOk result (drawn self.new.shapes.items ≡ drawn self.old.shapes.items ++ map_each (seen (M.seen_words scene.now.memory.now)) (row start function.now.frame)) }
+        ensures { OnOk result (drawn self.new.shapes.items ≡ drawn self.old.shapes.items
+            ++ map_each (seen scene.now.program.now.image (M.seen_words scene.now.memory.now)) (row start function.now.frame)) }
     {
         let y = self.next_row();
         self.add_heading(alloc, y, function.name.as_bytes(), b"frame", function.frame)?;
@@ -330,7 +336,8 @@ impl Picture {
         first: u16,
         count: u16,
     ) -> Result<(), AllocError>
-        ensures { OnOk result (drawn self.new.shapes.items ≡ drawn self.old.shapes.items ++ map_each (seen (M.seen_words scene.now.memory.now)) (row first count)) }
+        ensures { OnOk result (drawn self.new.shapes.items ≡ drawn self.old.shapes.items
+            ++ map_each (seen scene.now.program.now.image (M.seen_words scene.now.memory.now)) (row first count)) }
     {
         self.add_boxes(scene, y, first, count.min(MOST_WORDS))?;
         if count > MOST_WORDS {
@@ -349,7 +356,8 @@ impl Picture {
         first: u16,
         count: u16,
     ) -> Result<(), AllocError>
-        ensures { OnOk result (drawn self.new.shapes.items ≡ drawn self.old.shapes.items ++ map_each (seen (M.seen_words scene.now.memory.now)) (addresses_from first count)) }
+        ensures { OnOk result (drawn self.new.shapes.items ≡ drawn self.old.shapes.items
+            ++ map_each (seen scene.now.program.now.image (M.seen_words scene.now.memory.now)) (addresses_from first count)) }
     {
         for place in 0..count {
             let address = first.wrapping_add(place);
@@ -377,7 +385,7 @@ impl Picture {
     fn add_above(&mut self, y: u32, place: u16, words: Text) -> Result<(), AllocError>
         ensures { OnOk result (drawn self.new.shapes.items ≡ drawn self.old.shapes.items) }
     {
-        let x = box_at(place).saturating_add(28);
+        let x = box_at(place).saturating_add(HALF_BOX);
         self.add_label(x, y.saturating_sub(4), Style::Above, words)
     }
 
@@ -403,7 +411,9 @@ impl Picture {
 }
 
 // Whether a word is another one than before the run.
-fn fill_of(word: u16, first: u16) -> Fill {
+fn fill_of(word: u16, first: u16) -> Fill
+    ensures { result ≡ fill_of word first }
+{
     if word == first {
         Fill::Same
     } else {

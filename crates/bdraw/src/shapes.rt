@@ -48,6 +48,9 @@ pub enum Shape {
     Label(Label),
 }
 
+/// Half the width of a box.
+pub const HALF_BOX: u32 = 28;
+
 /// How the shapes look.
 const STYLES: &[u8] = b"text { font: 12px monospace } .title { font-weight: bold }
 .note { font-size: 10px; fill: #555 } .word { text-anchor: middle }
@@ -86,7 +89,7 @@ fn push_cell(text: &mut Text, cell: &Cell) -> Result<(), AllocError>
 {
     push_opening(text, b"rect", fill_name(cell.fill), cell.x, cell.y)?;
     text.push(b" width='56' height='20'/>\n")?;
-    let middle = cell.x.wrapping_add(28);
+    let middle = cell.x.wrapping_add(HALF_BOX);
     push_number(text, b"word", middle, cell.y.wrapping_add(14), cell.word)?;
     push_number(
         text,

@@ -8,7 +8,7 @@ use Rattle.std.proofs.lemmas.List.Sums.{sum_by-take-le}
 use Rattle.blang.specs.declared.code.Definition.{Definition}
 use Rattle.blang.specs.CodeParts.{Function}
 use Rattle.blang.specs.declared.code.Definition.TheVariants as definition
-use Rattle.blang.specs.Layout.{Spot, Shape, data_end, label_count, load_fault, first_some, shape_of, size_of, some_if, spot_behind, spots}
+use Rattle.blang.specs.Layout.{Spot, data_end, label_count, load_fault, first_some, shape_of, size_of, some_if, spot_behind, spots}
 use Rattle.bmach.proofs.Spots.{data_end-push, length-spots_behind, spots_behind-push, zip-push}
 use Rattle.btrace.specs.Programs.{Placed, functions_of, placed_function}
 

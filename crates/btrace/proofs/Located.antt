@@ -1,11 +1,11 @@
 -- Where a program that was loaded stopped is where its definitions stop.
 use Rattle.std.proofs.Common.{◌≡◌, ◌∙◌, ℕ, ◌+◌, List, ◌++◌, Option, None, Some, ap, subst, sym}
 use Rattle.bword.specs.declared.edition.Edition.{Edition}
-use Rattle.bword.specs.ByteEnds.{CanFollow, Incoming, Outgoing}
+use Rattle.bword.specs.ByteEnds.{Incoming, Outgoing}
 use Rattle.blang.specs.declared.code.Definition.{Definition}
 use Rattle.blang.specs.declared.run.Outcome.{Outcome}
 use Rattle.blang.specs.declared.run.Outcome.TheVariants as outcome
-use Rattle.blang.specs.Machine.{Call, Finishes, Image, RunEnds, RunGives, State, image_of, machine, run, state_outcome}
+use Rattle.blang.specs.Machine.{Finishes, Image, RunEnds, RunGives, State, image_of, machine, run, state_outcome}
 use Rattle.bmach.specs.Resolved.{IsLoadedFrom, state_resolved}
 use Rattle.bmach.specs.Stepping.{IsUnstarted, Paused}
 use Rattle.bmach.specs.Stops.{EndsAt, IsOverAt, RunsCall, active_of}

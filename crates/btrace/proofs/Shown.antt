@@ -1,6 +1,5 @@
 -- Steps that are made and shown, one after another.
-use Rattle.std.proofs.Common.{◌≡◌, ◌∙◌, ℕ, zero, suc, ◌+◌, ◌<◌, ◌≤◌, Bool, true, false, cond, List, [], ◌∷◌, ◌++◌, Result, Ok, Err, ap, append-nil, append_assoc, arith, drop, filter, inl, inr, length, map, refl, subst, sym}
-use Rattle.std.specs.List.{range_with_len}
+use Rattle.std.proofs.Common.{◌≡◌, ◌∙◌, ℕ, ◌+◌, ◌<◌, Bool, true, false, cond, List, [], ◌∷◌, ◌++◌, Ok, Err, ap, append-nil, append_assoc, arith, drop, inl, inr, length, refl, subst, sym}
 use Rattle.std.proofs.Math.Seq.{drop-append_seam}
 use Rattle.std.proofs.lemmas.List.{map-append, map-id}
 use Rattle.std.proofs.lemmas.List.Concat.{flat_map-append}
@@ -8,7 +7,7 @@ use Rattle.std.proofs.lemmas.List.Elements.{All-nil, All-append, All-cons}
 use Rattle.std.proofs.lemmas.List.FromFn.{filter_of_map_range_with_len_more}
 use Rattle.bword.specs.ByteEnds.{CanFollow, Incoming, Kept, Outgoing, Took, Writes, outgoing_of}
 use Rattle.bword.proofs.Putting.{Writes-append}
-use Rattle.bword.proofs.Taking.{Took-append, Took-none}
+use Rattle.bword.proofs.Taking.{Took-append}
 use Rattle.blang.specs.declared.run.Outcome.{Outcome}
 use Rattle.blang.specs.declared.run.Outcome.TheVariants as outcome
 use Rattle.blang.specs.Machine.{Image, State, Running, Shows, state_outcome, step, steps, state_world}

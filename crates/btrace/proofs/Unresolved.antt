@@ -3,15 +3,15 @@ use Rattle.std.proofs.Common.{◌≡◌, ◌∙◌, ℕ, ◌+◌, List, [], ◌�
 use Rattle.std.specs.List.{range_with_len}
 use Rattle.std.proofs.lemmas.List.Elements.{All-weaker}
 use Rattle.bword.specs.declared.edition.Edition.{Edition}
-use Rattle.bword.specs.ByteEnds.{CanFollow, Incoming, Kept, Outgoing, outgoing_of}
+use Rattle.bword.specs.ByteEnds.{Incoming, Kept, Outgoing, outgoing_of}
 use Rattle.blang.specs.declared.code.Definition.{Definition}
 use Rattle.blang.specs.declared.status.TheConstants.{DONE}
 use Rattle.blang.specs.declared.run.Outcome.{Outcome}
 use Rattle.blang.specs.declared.run.Outcome.TheVariants as outcome
 use Rattle.blang.specs.Layout.{World}
-use Rattle.blang.specs.Machine.{Call, Halted, Image, RunEnds, Running, State, Stuck, image_of, machine, state_outcome, run, steps, state_world, Reported}
+use Rattle.blang.specs.Machine.{Call, Halted, Image, RunEnds, Running, State, Stuck, image_of, machine, state_outcome, run, state_world, Reported}
 use Rattle.bmach.specs.Resolved.{IsLoadedFrom, call_resolved, state_resolved}
-use Rattle.bmach.specs.Stepping.{IsUnstarted, Paused, machine_at}
+use Rattle.bmach.specs.Stepping.{IsUnstarted, Paused}
 use Rattle.bmach.proofs.Beginning.{run_from}
 use Rattle.bmach.proofs.Resolving.{run-resolved}
 use Rattle.bmach.proofs.Running.{same_run}
@@ -19,7 +19,7 @@ use Rattle.brun.proofs.RunSteps.{outcome-resolved, run_loaded, run_of_loaded, wo
 use Rattle.blist.specs.Programs.{HasProgram, nothing_written}
 use Rattle.btrace.specs.Programs.{Placed, functions_of}
 use Rattle.btrace.specs.RowTexts.{changed_text, step_row, written_row}
-use Rattle.btrace.specs.Traces.{AreShown, EndsAs, IsTried, IsWhere, TraceRow, ShowsRows, ShowsStep, StepsGive, TellsEnd, Traces, Tries, is_shown, is_step, shown_of, steps_from, traced, waits_at, which_of}
+use Rattle.btrace.specs.Traces.{AreShown, EndsAs, IsTried, IsWhere, TraceRow, ShowsRows, ShowsStep, StepsGive, TellsEnd, Traces, Tries, is_step, shown_of, steps_from, traced, waits_at, which_of}
 use Rattle.btrace.specs.declared.tracing.TheConstants.{HEADING}
 use Rattle.btrace.specs.declared.tracing.Which.{Which}
 

@@ -1,5 +1,5 @@
 -- The functions of a program, as a trace tells of them.
-use Rattle.std.specs.Prelude.{ℕ, ◌==◌, ◌+◌, List, map, filter_map, find, zip, Option, Some, None, option_map, slice_get}
+use Rattle.std.specs.Prelude.{ℕ, ◌==◌, List, map, filter_map, find, zip, Option, Some, None}
 use Rattle.std.specs.Str.{bytes_eq}
 use Rattle.blang.specs.CodeParts.{Function, function_of}
 use Rattle.blang.specs.Layout.{Spot, shape_of, spots}

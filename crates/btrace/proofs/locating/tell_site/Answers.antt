@@ -1,4 +1,4 @@
-use Rattle.std.proofs.Common.{◌≡◌, ◌∙◌, List, ℕ, inl, inr, refl, subst}
+use Rattle.std.proofs.Common.{◌∙◌, List, ℕ, inl, inr, refl, subst}
 use Rattle.blang.specs.Machine.{Reported}
 use Rattle.btrace.proofs.locating.tell_site.Goals as goal
 

@@ -1,4 +1,4 @@
-use Rattle.std.proofs.Common.{◌≡◌, ◌∙◌, ◌+◌, ◌∷◌, [], ◌++◌, ap, append-nil, arith, length, length-append, nat_lt, refl, sym}
+use Rattle.std.proofs.Common.{◌≡◌, ◌∙◌, ◌∷◌, [], ◌++◌, append-nil, arith, length, length-append, nat_lt, refl, sym}
 use Rattle.std.proofs.lemmas.Result.{on_ok_weaker}
 use Rattle.btrace.proofs.PlaceParts.{one_word, words_shown}
 use Rattle.btrace.proofs.places.push_words.Goals as goal

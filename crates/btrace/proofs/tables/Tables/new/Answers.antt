@@ -1,4 +1,4 @@
-use Rattle.std.proofs.Common.{◌≡◌, ◌∙◌, ◌+◌, ◌≤◌, List, [], ◌∷◌, ◌++◌, ap, arith, map, subst, sym}
+use Rattle.std.proofs.Common.{◌∙◌, ◌+◌, ◌≤◌, List, [], ◌∷◌, ◌++◌, ap, arith, map, subst, sym}
 use Rattle.std.proofs.lemmas.List.{map-append}
 use Rattle.blang.specs.Layout.{data_end, shape_of}
 use Rattle.blang.specs.declared.code.Definition.{Definition}
