@@ -1,5 +1,5 @@
 -- Rows of a listing, one behind another.
-use Rattle.std.proofs.Common.{◌≡◌, ◌∙◌, ◌+◌, ◌/◌, ◌<◌, ◌≤◌, ℕ, zero, suc, Bool, true, false, cond, List, [], ◌∷◌, ◌++◌, map, filter, get_or, length, take, ap, ap₂, append-nil, append_assoc, arith, refl, subst, sym}
+use Rattle.std.proofs.Common.{◌≡◌, ◌∙◌, ◌+◌, ◌-◌, ◌/◌, ◌<◌, ◌≤◌, ℕ, zero, suc, Bool, true, false, cond, List, [], ◌∷◌, ◌++◌, map, filter, get_or, length, take, ap, ap₂, append-nil, append_assoc, arith, refl, replicate, subst, sym}
 use Rattle.std.specs.List.{flat_map}
 use Rattle.std.specs.Prelude.{codes}
 use Rattle.std.proofs.lemmas.Bool.{cond-false, cond-true, le-ltb, lt-ltb}
@@ -9,10 +9,11 @@ use Rattle.std.proofs.lemmas.List.Concat.{flat_map-append}
 use Rattle.std.specs.Prelude.{Option, nat_lt}
 use Rattle.blang.specs.Text.{lines_of}
 use Rattle.blang.specs.declared.code.Definition.{Definition}
-use Rattle.blist.specs.Characters.{IsMargin, IsPrintable, shown_byte, shown_high}
-use Rattle.blist.specs.Listings.{Adds, AddsBeside, AddsMargin, Extends, IsApart, ListingRow, is_wanted, row_text, wanted, without_newline}
+use Rattle.blist.specs.declared.rows.Spot.{Spot}
+use Rattle.blist.specs.Characters.{IsPrintable, shown_byte, shown_high}
+use Rattle.blist.specs.Columns.{right}
+use Rattle.blist.specs.Listings.{Adds, AddsBeside, Extends, IsApart, ListingRow, is_wanted, margin_text, number_text, row_text, spot_text, wanted, without_newline}
 use Rattle.blist.proofs.Printable.{both}
-use Rattle.blist.proofs.Margins.{margins_both}
 
 pub adds_nothing : (old : List ℕ) → Adds old [] old
 adds_nothing old = ([], record { rows = []; lines_are = refl; text_is = refl }, sym (append-nil old))
@@ -28,16 +29,20 @@ adds_both old mid new ls ks first second = (
   second.2 ∙ ap (λ t. t ++ second.0) first.2 ∙ append_assoc old first.0 second.0,
 )
 
-pub adds_row : (old : List ℕ) (margin line beside : List ℕ) → IsMargin margin → IsPrintable beside → IsApart (length (without_newline line)) beside → Adds old (line ∷ []) ((((old ++ margin) ++ without_newline line) ++ beside) ++ codes "\n")
-adds_row old margin line beside before behind apart =
-    let r : ListingRow = record { margin = margin; line = line; beside = beside; margin_is = before; beside_is_printable = behind; beside_is_apart = apart } in (
+in_order : (old margin code beside end : List ℕ) → (((old ++ margin) ++ code) ++ beside) ++ end ≡ old ++ (margin ++ code ++ beside ++ end)
+in_order old margin code beside end = simp append_assoc
+
+pub adds_row : (old : List ℕ) (spot : Spot) (number : Option ℕ) (line beside : List ℕ) → IsPrintable beside → IsApart (length (without_newline line)) beside
+    → Adds old (line ∷ []) ((((old ++ margin_text spot number) ++ without_newline line) ++ beside) ++ codes "\n")
+adds_row old spot number line beside behind apart =
+    let r : ListingRow = record { spot = spot; number = number; line = line; beside = beside; beside_is_printable = behind; beside_is_apart = apart } in (
       row_text r,
       record {
         rows = r ∷ [];
         lines_are = refl;
         text_is = sym (append-nil (row_text r));
       },
-      simp append_assoc,
+      in_order old (margin_text spot number) (without_newline line) beside (codes "\n"),
     )
 
 pub extends_nothing : (old : List ℕ) → Extends old old
@@ -59,13 +64,28 @@ adds_more f old mid new xs i x first page lt is empty line before row =
     let same : page ≡ f x = line ∙ ap (λ p. p ++ f x) empty in
     subst (λ ls. Adds old ls new) (sym lines) (adds_both old mid new _ _ before (subst (λ p. Adds mid (p ∷ []) new) same row))
 
+-- one piece more of a text
+pub piece : (t t' t'' a b : List ℕ) → t' ≡ t ++ a → t'' ≡ t' ++ b → t'' ≡ t ++ (a ++ b)
+piece t t' t'' a b p q = q ∙ ap (λ x. x ++ b) p ∙ append_assoc t a b
+
+-- an address was added, blanks before it
+pub address_added : (t t' t'' t''' digits : List ℕ) (n : ℕ) → n ≡ 5 - length digits → t' ≡ t ++ replicate n 32 → t'' ≡ t' ++ codes "@" → t''' ≡ t'' ++ digits → t''' ≡ t ++ right 6 (codes "@" ++ digits)
+address_added t t' t'' t''' digits n is a b c =
+    let room : n ≡ 6 - suc (length digits) = omega (arith, is) in
+    let blanks : t' ≡ t ++ replicate (6 - suc (length digits)) 32 = a ∙ ap (λ m. t ++ replicate m 32) room in
+    piece t t' t''' (replicate (6 - suc (length digits)) 32) (codes "@" ++ digits) blanks (piece t' t'' t''' (codes "@") digits b c)
+
 -- the parts of a row, one behind another
-pub row_added : (old t1 t2 t3 t4 t5 code page : List ℕ) → AddsMargin old t1 → AddsMargin t1 t2 → t3 ≡ t2 ++ code → code ≡ without_newline page → AddsBeside (length code) t3 t4 → t5 ≡ t4 ++ codes "\n" → Adds old (page ∷ []) t5
-row_added old t1 t2 t3 t4 t5 code page a b three same d end =
-    let before = margins_both old t1 t2 a b in
-    let all : t5 ≡ (((old ++ before.0) ++ without_newline page) ++ d.0) ++ codes "\n" =
-    end ∙ ap (λ x. x ++ codes "\n") (d.3 ∙ ap (λ x. x ++ d.0) (three ∙ ap₂ (λ x y. x ++ y) before.2 same)) in
-    subst (λ t. Adds old (page ∷ []) t) (sym all) (adds_row old before.0 page d.0 before.1 d.1 (subst (λ x. IsApart (length x) d.0) same d.2))
+pub row_added : (old t1 t2 t3 t4 t5 code page : List ℕ) (spot : Spot) (number : Option ℕ) → t1 ≡ old ++ right 6 (spot_text spot) → t2 ≡ t1 ++ right 6 (number_text number) ++ codes "  "
+    → t3 ≡ t2 ++ code → code ≡ without_newline page → AddsBeside (length code) t3 t4 → t5 ≡ t4 ++ codes "\n" → Adds old (page ∷ []) t5
+row_added old t1 t2 t3 t4 t5 code page spot number a b three same d end =
+    let lies = right 6 (spot_text spot) in
+    let which = right 6 (number_text number) in
+    let before : t2 ≡ old ++ margin_text spot number =
+    b ∙ ap (λ x. (x ++ which) ++ codes "  ") a ∙ ap (λ x. x ++ codes "  ") (append_assoc old lies which) ∙ append_assoc old (lies ++ which) (codes "  ") in
+    let all : t5 ≡ (((old ++ margin_text spot number) ++ without_newline page) ++ d.0) ++ codes "\n" =
+    end ∙ ap (λ x. x ++ codes "\n") (d.3 ∙ ap (λ x. x ++ d.0) (three ∙ ap₂ (λ x y. x ++ y) before same)) in
+    subst (λ t. Adds old (page ∷ []) t) (sym all) (adds_row old spot number page d.0 d.1 (subst (λ x. IsApart (length x) d.0) same d.2))
 
 pub function_rows : (old t1 t2 t3 t4 page h : List ℕ) (xs ys zs : List (List ℕ)) → page ≡ h → Adds old (page ∷ []) t1 → Adds t1 xs t2 → Adds t2 ys t3 → Adds t3 zs t4 → Adds old (h ∷ ((xs ++ ys) ++ zs)) t4
 function_rows old t1 t2 t3 t4 page h xs ys zs same a b c d =
@@ -97,10 +117,6 @@ some_pass p (x ∷ xs) (suc i) d lt passes none =
     rest_empty : (b : Bool) → cond b (x ∷ filter p xs) (filter p xs) ≡ [] → (filter p xs ≡ [] → ⊥) → ⊥
     rest_empty true bad some = cc
     rest_empty false e some = some e
-
--- one piece more of a text
-pub piece : (t t' t'' a b : List ℕ) → t' ≡ t ++ a → t'' ≡ t' ++ b → t'' ≡ t ++ (a ++ b)
-piece t t' t'' a b p q = q ∙ ap (λ x. x ++ b) p ∙ append_assoc t a b
 
 -- the high byte of a word was added, or nothing where it is zero
 pub high_added : (old new : List ℕ) (word : ℕ) → 256 ≤ word → new ≡ old ++ shown_byte (word / 256) → new ≡ old ++ shown_high word

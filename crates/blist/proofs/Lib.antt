@@ -1,4 +1,4 @@
 pub mod AddedRows
+pub mod Beside
 pub mod Loading
-pub mod Margins
 pub mod Printable

@@ -1,8 +1,7 @@
 -- Bytes shown as characters.
-use Rattle.std.specs.Prelude.{ℕ, ◌==◌, ◌/◌, ◌%◌, ◌&&◌, ◌||◌, Bool, IsTrue, List, [], ◌∷◌, ◌++◌, codes, nat_le, nat_lt}
+use Rattle.std.specs.Prelude.{ℕ, ◌==◌, ◌/◌, ◌%◌, ◌&&◌, Bool, IsTrue, List, [], ◌∷◌, ◌++◌, codes, nat_le, nat_lt}
 use Rattle.std.specs.Prelude.{if◌then◌else◌}
 use Rattle.std.specs.List.{list_all}
-use Rattle.blang.specs.Cut.{is_digit}
 
 -- a printable character of ASCII
 abbrev pub is_printable : ℕ → Bool
@@ -11,14 +10,6 @@ is_printable b = nat_le 32 b && nat_le b 126
 -- each byte of a text is one, so the text has no newline
 abbrev pub IsPrintable : List ℕ → Type 0
 IsPrintable text = IsTrue (list_all is_printable text)
-
--- a digit, a blank or `@`
-abbrev pub is_margin_byte : ℕ → Bool
-is_margin_byte b = is_digit b || ((b == 32) || (b == 64))
-
--- each byte of a text is one, so the text has no letter
-abbrev pub IsMargin : List ℕ → Type 0
-IsMargin text = IsTrue (list_all is_margin_byte text)
 
 -- a character, or the escape that stands for it; `.` for a byte that has none
 abbrev pub shown_byte : ℕ → List ℕ

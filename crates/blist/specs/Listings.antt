@@ -1,6 +1,6 @@
 -- The code of a source, as it is listed.
 use Rattle.std.specs.Prelude.{◌≡◌, ℕ, ◌-◌, Bool, true, List, [], ◌++◌, codes, map, filter, length}
-use Rattle.std.specs.Prelude.{take, replicate, max, refl, Option, Some, None, ◌⊎◌}
+use Rattle.std.specs.Prelude.{take, replicate, max, decimal, refl, Option, Some, None, ◌⊎◌}
 use Rattle.std.specs.List.{flat_map}
 use Rattle.std.specs.Str.{bytes_eq}
 use Rattle.bword.specs.declared.edition.Edition.{Edition}
@@ -11,7 +11,10 @@ use Rattle.blang.specs.declared.status.TheConstants.{DONE, MEMORY, WRONG_COMMAND
 use Rattle.blang.specs.Layout.{shape_of}
 use Rattle.blang.specs.Machine.{Image, Reported}
 use Rattle.blist.specs.declared.listing.TheConstants.{HEADING, UNDEFINED}
-use Rattle.blist.specs.Characters.{IsMargin, IsPrintable}
+use Rattle.blist.specs.declared.rows.Spot.{Spot}
+use Rattle.blist.specs.declared.rows.Spot.TheVariants as spot
+use Rattle.blist.specs.Characters.{IsPrintable}
+use Rattle.blist.specs.Columns.{right}
 use Rattle.blist.specs.Programs.{HasProgram, NoProgram, ToldEnds}
 
 -- the columns of a listing
@@ -30,18 +33,33 @@ without_newline line = take (length line - 1) line
 abbrev pub IsApart : ℕ → List ℕ → Type 0
 IsApart used beside = (beside ≡ []) ⊎ ((rest : List ℕ) × (beside ≡ replicate (max (14 - used) 1) 32 ++ rest))
 
--- A row: what stands before a line of code, the line with its newline, and what stands beside it. A line of code begins
--- with a letter, and a margin has none, so a row shows no other code than its line.
+-- where a line of code lies: nowhere, at a place of its function, or at an address
+abbrev pub spot_text : Spot → List ℕ
+spot_text spot.Nowhere = []
+spot_text (spot.Place n) = decimal n
+spot_text (spot.Address n) = codes "@" ++ decimal n
+
+-- the number of the line of the source that it comes from, if it has one
+abbrev pub number_text : Option ℕ → List ℕ
+number_text None = []
+number_text (Some n) = decimal n
+
+-- what stands before a line of code: both, each at the right of a column of six, and two blanks
+abbrev pub margin_text : Spot → Option ℕ → List ℕ
+margin_text s number = right 6 (spot_text s) ++ right 6 (number_text number) ++ codes "  "
+
+-- A row: where a line of code lies and the number of its line of the source, the line with its newline, and what stands
+-- beside it. A line of code begins with a letter, and a margin has none, so a row shows no other code than its line.
 pub record ListingRow : Type 0 where
-  pub margin : List ℕ
+  pub spot : Spot
+  pub number : Option ℕ
   pub line : List ℕ
   pub beside : List ℕ
-  pub margin_is : IsMargin margin
   pub beside_is_printable : IsPrintable beside
   pub beside_is_apart : IsApart (length (without_newline line)) beside
 
 abbrev pub row_text : ListingRow → List ℕ
-row_text r = r.margin ++ without_newline r.line ++ r.beside ++ codes "\n"
+row_text r = margin_text r.spot r.number ++ without_newline r.line ++ r.beside ++ codes "\n"
 
 -- These lines of code are the rows of the text, in order.
 pub record AreRows (lines : List (List ℕ)) (text : List ℕ) : Type 0 where
@@ -56,10 +74,6 @@ Adds old lines new = (text : List ℕ) × AreRows lines text × (new ≡ old ++ 
 -- a text without a newline was added to another one
 abbrev pub Extends : List ℕ → List ℕ → Type 0
 Extends old new = (text : List ℕ) × IsPrintable text × (new ≡ old ++ text)
-
--- a part of a margin was added to a text
-abbrev pub AddsMargin : List ℕ → List ℕ → Type 0
-AddsMargin old new = (text : List ℕ) × IsMargin text × (new ≡ old ++ text)
 
 -- what stands beside so many bytes of code was added to a text
 abbrev pub AddsBeside : ℕ → List ℕ → List ℕ → Type 0

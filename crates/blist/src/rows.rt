@@ -1,6 +1,7 @@
 //! The rows of a listing.
-ghost use Rattle.std.specs.Prelude.{◌≡◌, [], ◌∷◌, OnOk};
-ghost use Rattle.blist.specs.Listings.{Adds, AddsBeside, AddsMargin, Extends};
+ghost use Rattle.std.specs.Prelude.{◌≡◌, ◌++◌, [], ◌∷◌, OnOk, codes, decimal};
+ghost use Rattle.blist.specs.Columns.{right};
+ghost use Rattle.blist.specs.Listings.{Adds, AddsBeside, Extends, number_text, spot_text};
 
 use crate::characters::push_characters;
 use crate::text::Text;
@@ -59,7 +60,7 @@ pub fn push_row(text: &mut Text, page: &Page, told: Told<'_>) -> Result<(), Allo
 }
 
 fn push_spot(text: &mut Text, spot: Spot) -> Result<(), AllocError>
-    ensures { OnOk result (AddsMargin text.old text.new) }
+    ensures { OnOk result (text.new ≡ text.old ++ right 6 (spot_text spot)) }
 {
     match spot {
         Spot::Nowhere => text.push_blanks(6),
@@ -70,7 +71,7 @@ fn push_spot(text: &mut Text, spot: Spot) -> Result<(), AllocError>
 
 // An address, as `@7`.
 fn push_address(text: &mut Text, address: u16) -> Result<(), AllocError>
-    ensures { OnOk result (AddsMargin text.old text.new) }
+    ensures { OnOk result (text.new ≡ text.old ++ right 6 (codes "@" ++ decimal address)) }
 {
     let mut buffer = Buffer::new();
     let digits = buffer.format(address).as_bytes();
@@ -80,7 +81,7 @@ fn push_address(text: &mut Text, address: u16) -> Result<(), AllocError>
 }
 
 fn push_line_number(text: &mut Text, line: Option<u64>) -> Result<(), AllocError>
-    ensures { OnOk result (AddsMargin text.old text.new) }
+    ensures { OnOk result (text.new ≡ text.old ++ right 6 (number_text line) ++ codes "  ") }
 {
     match line {
         None => text.push_blanks(8),

@@ -1,7 +1,7 @@
 use Rattle.std.proofs.Common.{arith, replicate}
 use Rattle.std.proofs.lemmas.Result.{on_ok_weaker}
 use Rattle.blist.proofs.AddedRows.{extends, extends_both}
-use Rattle.blist.proofs.Margins.{beside_blanks}
+use Rattle.blist.proofs.Beside.{beside_blanks}
 use Rattle.blist.proofs.Printable.{blanks}
 use Rattle.blist.proofs.rows.push_beside.Goals as goal
 
