@@ -40,6 +40,12 @@ drawn shapes = flat_map shown_in shapes
 abbrev pub fill_of : (word first : ℕ) → Fill
 fill_of word first = if word == first then fill.Same else fill.Changed
 
+the_same_word : fill_of 7 7 ≡ fill.Same
+the_same_word = refl
+
+another_word : fill_of 7 8 ≡ fill.Changed
+another_word = refl
+
 -- a word of memory, behind its address, and whether its box is filled
 abbrev pub seen : Image → List ℕ → ℕ → ℕ × ℕ × Fill
 seen image words address =

@@ -48,6 +48,9 @@ number_text (Some n) = decimal n
 abbrev pub margin_text : Spot → Option ℕ → List ℕ
 margin_text s number = right 6 (spot_text s) ++ right 6 (number_text number) ++ codes "  "
 
+empty_margin : margin_text spot.Nowhere None ≡ replicate 14 32
+empty_margin = refl
+
 -- A row: where a line of code lies and the number of its line of the source, the line with its newline, and what stands
 -- beside it. A line of code begins with a letter, and a margin has none, so a row shows no other code than its line.
 pub record ListingRow : Type 0 where
