@@ -14,7 +14,7 @@ use Rattle.blang.specs.declared.run.LoadFault.TheVariants as fault
 use Rattle.bmach.specs.Loading.{IsFault}
 use Rattle.blang.specs.declared.status.TheConstants.{REFUSED}
 use Rattle.bcheck.specs.Checks.{AreFindings, Judged, EachTold, TellsFirst, told, shown_in_form, verdict_line, status_told, told_first}
-use Rattle.blist.specs.Programs.{load_line}
+use Rattle.btools.specs.Programs.{load_line}
 use Rattle.blang.specs.Machine.{Reported}
 use Rattle.bcheck.specs.declared.form.Form.{Form}
 use Rattle.bcheck.specs.declared.verdict.Verdict.{Verdict}

@@ -1,4 +1,5 @@
-pub mod AddedWords
+pub mod AddedFindings
 pub mod CheckSteps
-pub mod JsonText
+pub mod Excluded
+pub mod FindingTexts
 pub mod OnLine

@@ -1,6 +1,6 @@
 -- What is written of a source that is checked.
 use Rattle.std.specs.Prelude.{◌≡◌, ◌≢◌, ℕ, ◌/◌, ◌%◌, ◌==◌, nat_lt, Bool, IsTrue, if◌then◌else◌, List, [], ◌∷◌, ◌++◌}
-use Rattle.std.specs.Prelude.{chars, codes, decimal, encode_utf8, length, map, Option, Some, None, unwrap_or}
+use Rattle.std.specs.Prelude.{codes, decimal, length, map, Option, Some, None, unwrap_or}
 use Rattle.std.specs.Char.{digit_char}
 use Rattle.std.specs.Int.{is_in_range}
 use Rattle.std.specs.List.{flat_map, list_all}
@@ -14,7 +14,7 @@ use Rattle.blang.specs.Layout.{load_fault}
 use Rattle.blang.specs.declared.run.LoadFault.{LoadFault}
 use Rattle.blang.specs.declared.run.LoadFault.TheVariants as fault
 use Rattle.blang.specs.declared.status.TheConstants.{DONE, FAULT, REFUSED, MEMORY}
-use Rattle.blist.specs.Programs.{load_line}
+use Rattle.btools.specs.Programs.{load_line}
 use Rattle.blang.specs.Machine.{Reported}
 use Rattle.bcheck.specs.declared.finding.Severity.{Severity}
 use Rattle.bcheck.specs.declared.finding.Severity.TheVariants as severity
@@ -61,14 +61,14 @@ abbrev pub severity_word : Severity → List ℕ
 severity_word severity.Error = codes "error"
 severity_word severity.Warning = codes "warning"
 
--- a text in JSON, where 34 is the quote, 92 the backslash, and the control characters are below 32
-abbrev pub json_char : ℕ → List ℕ
-json_char c =
-    if c == 34 then codes "\\\"" else (if c == 92 then codes "\\\\" else
-    (if nat_lt c 32 then codes "\\u00" ++ digit_char (c / 16) ∷ digit_char (c % 16) ∷ [] else encode_utf8 c))
+-- a byte of a text in JSON, where 34 is the quote, 92 the backslash, and the control characters are below 32
+abbrev pub json_byte : ℕ → List ℕ
+json_byte b =
+    if b == 34 then codes "\\\"" else (if b == 92 then codes "\\\\" else
+    (if nat_lt b 32 then codes "\\u00" ++ digit_char (b / 16) ∷ digit_char (b % 16) ∷ [] else b ∷ []))
 
 abbrev pub json_text : List ℕ → List ℕ
-json_text text = codes "\"" ++ flat_map json_char (chars text) ++ codes "\""
+json_text text = codes "\"" ++ flat_map json_byte text ++ codes "\""
 
 -- a text on one line: blanks, and letters, digits and signs of ASCII
 abbrev pub is_on_line : List ℕ → Bool
@@ -92,16 +92,26 @@ finding_words form.Text p =
 finding_words form.Json p =
     json_text p.code ++ codes ",\"message\":" ++ json_text p.sentence ++ codes ",\"mend\":" ++ json_text p.mend
 
--- A finding begins with the name of the file, a line, a column and the severity: for people as the words of a line, for
--- editors as the members of an object.
+-- A finding begins with the name of the file: for people as it is, for editors as the first member of an object.
+abbrev pub finding_start : Form → (file : List ℕ) → List ℕ
+finding_start form.Text file = file ++ codes ":"
+finding_start form.Json file = codes "{\"file\":" ++ json_text file ++ codes ",\"line\":"
+
+-- Then come a line, a column and the severity.
+abbrev pub finding_head : Form → Severity → (file : List ℕ) → (line column : ℕ) → List ℕ
+finding_head form.Text s file line column =
+    finding_start form.Text file ++ decimal line ++ codes ":" ++ decimal column ++ codes ": " ++ severity_word s
+    ++ codes ": "
+finding_head form.Json s file line column =
+    finding_start form.Json file ++ decimal line ++ codes ",\"column\":" ++ decimal column
+    ++ codes ",\"severity\":\"" ++ severity_word s ++ codes "\",\"code\":"
+
+-- Its words follow, and the end of the line.
 abbrev pub finding_text : Form → Severity → (file : List ℕ) → FindingParts → List ℕ
 finding_text form.Text s file p =
-    file ++ codes ":" ++ decimal p.line ++ codes ":" ++ decimal p.column ++ codes ": " ++ severity_word s
-    ++ codes ": " ++ finding_words form.Text p ++ codes "\n"
+    finding_head form.Text s file p.line p.column ++ finding_words form.Text p ++ codes "\n"
 finding_text form.Json s file p =
-    codes "{\"file\":" ++ json_text file ++ codes ",\"line\":" ++ decimal p.line ++ codes ",\"column\":"
-    ++ decimal p.column ++ codes ",\"severity\":\"" ++ severity_word s
-    ++ codes "\",\"code\":" ++ finding_words form.Json p ++ codes "}\n"
+    finding_head form.Json s file p.line p.column ++ finding_words form.Json p ++ codes "}\n"
 
 -- the text of these findings of a source with this status
 abbrev pub findings_text : Form → (status : ℕ) → (file : List ℕ) → List FindingParts → List ℕ
@@ -116,16 +126,6 @@ AreFindings form status file text =
 -- the text has a finding more
 abbrev pub AddsFinding : Form → Severity → (file old new : List ℕ) → Type 0
 AddsFinding form s file old new = (parts : FindingParts) × (new ≡ old ++ finding_text form s file parts)
-
--- the text has some words more, all on its last line
-abbrev pub AddsWords : (old new : List ℕ) → Type 0
-AddsWords old new = (words : List ℕ) × IsTrue (is_on_line words) × (new ≡ old ++ words)
-
--- the text has a piece of the source's line more, and a mark below it
-abbrev pub AddsExcerpt : (old new : List ℕ) → Type 0
-AddsExcerpt old new =
-    (shown mark : List ℕ) × IsTrue (is_on_line shown) × IsTrue (is_on_line mark)
-    × (new ≡ old ++ (codes "    " ++ shown ++ codes "\n    " ++ mark ++ codes "\n"))
 
 -- A text and then findings were told with this status; or memory was refused, and nothing was written.
 pub data TellsFirst (form : Form) (file first : List ℕ) (status : ℕ) (old new : Outgoing) (result : ℕ) : Type 0 where

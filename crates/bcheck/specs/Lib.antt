@@ -1,1 +1,4 @@
+pub mod CheckRows
 pub mod Checks
+pub mod Excluded
+pub mod Pieces

@@ -1,13 +1,14 @@
 //! Checking a source.
 ghost use Rattle.std.specs.Prelude.{◌≡◌, List, ℕ};
 ghost use Rattle.bcheck.specs.Checks.{AreFindings, Checks, TellsFirst, verdict_line, shown_in_form};
+ghost use Rattle.bcheck.specs.Excluded.{Excluded};
 ghost use Rattle.bcheck.specs.declared.form.Form.{Form};
 
 use crate::explain::explain;
 use crate::form::{Form, Request};
 use crate::verdict::{Verdict, judge};
 use blang::status::{self, Status};
-use blist::tell;
+use btools::tell;
 use bword::{ByteOut, MemOut};
 use std::alloc::Global;
 
@@ -36,7 +37,7 @@ pub fn check<O: ByteOut>(alloc: Global, source: &[u8], asked: Request<'_>, out: 
         return status::MEMORY;
     };
     let first = shown(asked.form, &verdict);
-    tell_both(alloc, first, more.as_bytes(), verdict.status(), out)
+    tell_both(alloc, first, more.as_slice(), verdict.status(), out)
 }
 
 // What comes first in this form.
@@ -70,3 +71,9 @@ fn tell_both<O: ByteOut>(
     };
     tell(text.bytes(), status, out)
 }
+
+/// What no check tells: the line left out or last, one of the other edition or one without a fault, a fault without a
+/// finding or with two, a finding without its file, another severity, a byte that can't be printed, another status.
+pub fn wrong_checks_are_excluded()
+    ensures { Excluded }
+{}

@@ -1,5 +1,5 @@
 //! What is said of a source behind the line of the compiler.
-ghost use Rattle.std.specs.Prelude.{◌≡◌, ◌≢◌, IfOk, length, string_bytes, vec_items};
+ghost use Rattle.std.specs.Prelude.{◌≡◌, ◌≢◌, IfOk, length, vec_items};
 ghost use Rattle.blang.specs.declared.status.TheConstants.{DONE};
 ghost use Rattle.bcheck.specs.Checks.{AreFindings, status_told};
 
@@ -12,9 +12,11 @@ use crate::passes::{Extent, Pass};
 use crate::patterns::find;
 use crate::spans::{Span, place_of, spans};
 use crate::verdict::Verdict;
+use crate::words::Words;
 use crate::{json, text};
 use blang::LoadFault;
 use bparse::Step;
+use btools::Text;
 use bword::Name;
 use std::alloc::{AllocError, Global};
 
@@ -24,17 +26,19 @@ pub(crate) fn explain(
     source: &[u8],
     asked: Request<'_>,
     verdict: &Verdict,
-) -> Result<String, AllocError>
+) -> Result<Text, AllocError>
     ensures { IfOk result (λ said. AreFindings asked.entry.form (status_told verdict.now) asked.entry.file.now
-        (string_bytes said)) }
+        said) }
 {
-    let mut said = String::new(alloc);
+    let mut said = Text::new(alloc);
     let findings = findings(alloc, source, asked, verdict)?;
     let (file, severity) = (asked.file, verdict.severity());
     for finding in findings.as_slice() {
+        let words = Words::new(alloc, finding)?;
+        let place = &finding.place;
         match asked.form {
-            Form::Text => text::write(&mut said, source, file, severity, finding)?,
-            Form::Json => json::write(alloc, &mut said, source, file, severity, finding)?,
+            Form::Text => text::write(&mut said, file, source, place, severity, &words)?,
+            Form::Json => json::write(&mut said, file, source, place, severity, &words)?,
         }
     }
     Ok(said)

@@ -6,7 +6,7 @@ use crate::advice::Matter;
 use bword::Name;
 
 /// A piece of the source.
-#[derive(Clone, Copy, Debug, PartialEq, Eq)]
+#[derive(Clone, Copy)]
 pub(crate) struct Place {
     pub line: u64,
     /// The place of its first byte in the source, from 0.
@@ -16,7 +16,7 @@ pub(crate) struct Place {
 }
 
 /// What is said of a piece of the source, and the name that it is about.
-#[derive(Clone, Copy, Debug)]
+#[derive(Clone, Copy)]
 pub(crate) struct Finding {
     pub matter: Matter,
     pub name: Option<Name>,
@@ -24,7 +24,7 @@ pub(crate) struct Finding {
 }
 
 /// Whether a source is refused for what was found.
-#[derive(Clone, Copy, Debug, PartialEq, Eq)]
+#[derive(Clone, Copy)]
 pub(crate) enum Severity {
     Error,
     /// The source compiles and loads all the same.
@@ -33,12 +33,12 @@ pub(crate) enum Severity {
 
 impl Severity {
     /// How it is written.
-    pub(crate) fn word(self) -> &'static str
+    pub(crate) fn word(self) -> &'static [u8]
         ensures { result.now ≡ severity_word self }
     {
         match self {
-            Severity::Error => "error",
-            Severity::Warning => "warning",
+            Severity::Error => b"error",
+            Severity::Warning => b"warning",
         }
     }
 }

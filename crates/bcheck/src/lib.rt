@@ -3,6 +3,7 @@
 
 mod advice;
 mod checking;
+mod excerpt;
 mod explain;
 mod faults;
 mod finding;
@@ -11,11 +12,11 @@ mod json;
 mod mention;
 mod passes;
 mod patterns;
+mod pieces;
 mod spans;
-#[cfg(test)]
-mod tests;
 mod text;
 mod verdict;
+mod words;
 
-pub use checking::check;
+pub use checking::{check, wrong_checks_are_excluded};
 pub use form::{Form, Request};

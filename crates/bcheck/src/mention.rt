@@ -7,7 +7,7 @@ use bword::{Edition, MemOut, Name};
 use std::alloc::{AllocError, Global};
 
 /// The line of a mention, and the tokens of the definition that it stands in.
-#[derive(Clone, Copy, Debug)]
+#[derive(Clone, Copy)]
 pub(crate) struct Mention {
     pub line: u64,
     pub extent: Extent,

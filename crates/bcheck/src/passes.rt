@@ -5,14 +5,14 @@ use bword::{Edition, MemIn, MemOut};
 use std::alloc::Global;
 
 /// The tokens of a definition: from one place among all tokens to another.
-#[derive(Clone, Copy, Debug)]
+#[derive(Clone, Copy)]
 pub(crate) struct Extent {
     pub first: usize,
     pub end: usize,
 }
 
 /// A fault of the source, and the tokens of its definition as far as they were read.
-#[derive(Clone, Copy, Debug)]
+#[derive(Clone, Copy)]
 pub(crate) struct Fault {
     pub diagnostic: Diagnostic,
     pub extent: Extent,

@@ -6,7 +6,7 @@ use bword::{BinOp, Edition, MemIn, is_name_byte};
 use std::alloc::{AllocError, Global};
 
 /// A token and where it stands.
-#[derive(Clone, Copy, Debug)]
+#[derive(Clone, Copy)]
 pub(crate) struct Span {
     pub lexeme: Lexeme,
     pub place: Place,

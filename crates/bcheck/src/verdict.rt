@@ -9,9 +9,9 @@ use crate::finding::Severity;
 use bcode::read_code;
 use blang::LoadFault;
 use blang::status::{self, Status};
-use blist::load_line;
 use bmach::load;
 use bparse::compile_edition;
+use btools::load_line;
 use bword::{Edition, MemIn, MemOut};
 use std::alloc::Global;
 

@@ -7,7 +7,7 @@ use crate::CodeFault;
 use std::alloc::{AllocError, AllocFailed};
 
 /// Why reading goes no further.
-#[derive(Clone, Copy, Debug, Drop, PartialEq, Eq)]
+#[derive(Clone, Copy, Drop)]
 pub enum Stop {
     /// The text goes on otherwise, or memory was refused.
     Fault(CodeFault),

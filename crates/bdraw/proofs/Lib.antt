@@ -1,2 +1,3 @@
 pub mod DrawnWords
+pub mod Excluded
 pub mod MadeSteps

@@ -13,7 +13,7 @@ use Rattle.bmach.specs.Turns.{HasHalted, LeavesWords, MovesOn, TurnGives}
 use Rattle.bmach.proofs.Beginning.{run_from}
 use Rattle.bmach.proofs.Running.{behind, one_more, run_over, same_run, steps_add}
 use Rattle.bmach.proofs.Turning.{follows, goes_on}
-use Rattle.blist.specs.Programs.{nothing_written}
+use Rattle.btools.specs.Programs.{nothing_written}
 use Rattle.bdraw.specs.Draws.{DrawsRun, EndGives, IsAfter, IsAtEnd, IsMade, IsOver, LeavesAtEnd, ShowsMemory, no_memory, over, unread}
 
 -- a state behind which nothing happens

@@ -12,8 +12,7 @@ use Rattle.blang.specs.Layout.{Shape as Named, World, shape_of, size_of}
 use Rattle.blang.specs.Machine.{Call, Image, Running, State, run, state_world, steps, RunGives, RunEnds, Reported}
 use Rattle.bmach.specs.Stepping.{BeginsNot, HasEnd, Paused, machine_at}
 use Rattle.bmach.specs.Turns.{MovesOn}
-use Rattle.blist.specs.Maps.{image_address}
-use Rattle.blist.specs.Programs.{HasProgram, NoProgram, nothing_written}
+use Rattle.btools.specs.Programs.{HasProgram, NoProgram, image_address, nothing_written}
 use Rattle.bdraw.specs.Shapes.{picture_text}
 use Rattle.bdraw.specs.declared.picture.TheConstants.{MOST_NAMES, MOST_WORDS}
 use Rattle.bdraw.specs.declared.shapes.Fill.{Fill}

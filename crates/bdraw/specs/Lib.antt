@@ -1,2 +1,4 @@
 pub mod Shapes
 pub mod Draws
+pub mod PictureRows
+pub mod Excluded

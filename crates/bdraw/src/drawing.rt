@@ -2,6 +2,7 @@
 ghost use Rattle.std.specs.Prelude.{◌≡◌, IfOk};
 ghost use Rattle.bmach.specs.Stepping.{IsUnstarted};
 ghost use Rattle.bword.specs.ByteEnds.{outgoing_of};
+ghost use Rattle.bdraw.specs.Excluded.{NoPictures, WrongShapes};
 ghost use Rattle.bdraw.specs.Draws.{Draws, DrawsRun, EndGives, IsPicture, Made, ShowsMemory, Unbegun};
 
 use crate::picture::picture_of;
@@ -9,9 +10,9 @@ use crate::scene::{Memory, Moment, Scene, calls_of, no_calls};
 use crate::shapes::picture_text;
 use blang::Outcome;
 use blang::status::{self, Status};
-use blist::{Program, Text, read_program, tell};
 use bmach::Stepper;
 use bpages::PagedStore;
+use btools::{Program, Text, read_program, tell};
 use bword::{ByteIn, ByteOut, Edition, MemOut, Store};
 use std::alloc::{AllocError, Global};
 
@@ -205,3 +206,10 @@ fn text_of<M: Memory>(alloc: Global, scene: &Scene<'_, M>) -> Result<Text, Alloc
     let picture = picture_of(alloc, scene)?;
     picture_text(alloc, picture.height, picture.shapes.as_slice())
 }
+
+/// What no picture is: one of the machine at another step, of a word at another address, or with another fill, text or
+/// status.
+pub fn wrong_pictures_are_excluded()
+    ensures shapes { WrongShapes }
+    ensures pictures { NoPictures }
+{}

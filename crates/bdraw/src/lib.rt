@@ -6,4 +6,4 @@ mod picture;
 mod scene;
 mod shapes;
 
-pub use drawing::draw;
+pub use drawing::{draw, wrong_pictures_are_excluded};

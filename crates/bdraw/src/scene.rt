@@ -2,8 +2,8 @@
 ghost use Rattle.std.specs.Prelude.{◌≡◌, ℕ, List, slice_index};
 
 use blang::{Definition, FunctionParts, MAX_CALLS};
-use blist::Program;
 use bmach::{Active, FIRST_ADDRESS, Image, Stepper, size_of};
+use btools::Program;
 use bword::Store;
 use std::alloc::{AllocError, Global};
 
@@ -37,7 +37,7 @@ impl<'a, S: Store + Drop> Memory for Stepper<'a, S> {
 }
 
 /// A moment of a run.
-#[derive(Clone, Copy, Debug, PartialEq, Eq)]
+#[derive(Clone, Copy)]
 pub enum Moment {
     /// Before its first step.
     Before,

@@ -2,11 +2,11 @@
 ghost use Rattle.std.specs.Prelude.{◌≡◌, ◌++◌, IfOk, OnOk, decimal};
 ghost use Rattle.bdraw.specs.Shapes.{attribute, cell_text, escape, escaped, fill_name, label_text, svg_opening, picture_text, shape_text, style_name, text_element};
 
-use blist::Text;
+use btools::Text;
 use std::alloc::{AllocError, Global};
 
 /// Whether a word is another one than before the run.
-#[derive(Clone, Copy, Debug, PartialEq, Eq)]
+#[derive(Clone, Copy)]
 pub enum Fill {
     Same,
     Changed,
@@ -23,7 +23,7 @@ pub struct Cell {
 }
 
 /// How a label is written.
-#[derive(Clone, Copy, Debug, PartialEq, Eq)]
+#[derive(Clone, Copy)]
 pub enum Style {
     Title,
     Name,

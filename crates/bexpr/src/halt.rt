@@ -5,7 +5,7 @@ ghost use Rattle.bexpr.specs.declared.halt.Halt.TheVariants.{Device};
 use bword::Device;
 
 /// Why reading doesn't go on.
-#[derive(Clone, Copy, Debug, PartialEq, Eq)]
+#[derive(Clone, Copy)]
 pub enum Halt {
     /// No program goes on with the current token here.
     Fault,

@@ -7,7 +7,7 @@ use blang::Keyword;
 use blex::Lexeme;
 
 /// A token by which alone reading goes on.
-#[derive(Clone, Copy, Debug, PartialEq, Eq)]
+#[derive(Clone, Copy)]
 pub enum Mark {
     OpenParen,
     CloseParen,

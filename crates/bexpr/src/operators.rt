@@ -9,7 +9,7 @@ use blex::Lexeme;
 use bword::BinOp;
 
 /// An operator before its operand.
-#[derive(Clone, Copy, Debug, PartialEq, Eq)]
+#[derive(Clone, Copy)]
 pub(crate) enum Prefix {
     Negate,
     Not,
@@ -20,7 +20,7 @@ pub(crate) enum Prefix {
 }
 
 /// How a postfix expression goes on.
-#[derive(Clone, Copy, Debug, PartialEq, Eq)]
+#[derive(Clone, Copy)]
 pub(crate) enum Suffix {
     Index,
     Call,

@@ -83,6 +83,15 @@ about_text (about.Name name) = codes " " ++ name
 abbrev pub line_of : Diagnostic → List ℕ
 line_of d = letters_text d.letters ++ about_text d.about ++ codes " " ++ decimal d.line ++ codes "\n"
 
+-- the line and the status of a fault, where there is one
+abbrev pub fault_text : Option Diagnostic → List ℕ
+fault_text None = []
+fault_text (Some d) = line_of d
+
+abbrev pub fault_status : Option Diagnostic → ℕ
+fault_status None = 0
+fault_status (Some d) = 1
+
 abbrev pub status_of : EndFault → ℕ
 status_of end_fault.Device = 133
 status_of end_fault.Memory = 134
@@ -190,3 +199,32 @@ pub record Compiles (run : Run) : Type 0 where
   pub failed : run.status ≡ 133 → SourceFailed run taken ⊎ EndRefused run taken end_fault.Device
   pub refused : run.status ≡ 134 → NamesRefused run taken ⊎ EndRefused run taken end_fault.Memory
   pub no_other : (run.status ≡ 0) ⊎ (run.status ≡ 1) ⊎ (run.status ≡ 133) ⊎ (run.status ≡ 134)
+
+-- An end tells that it gives these bytes.
+pub record Tells (end : Incoming) (bytes : List ℕ) : Type 0 where
+  pub left : end.left ≡ Some bytes
+  pub follow : CanFollow end bytes
+
+-- No read and no write failed, and memory was not refused.
+pub record IsUndisturbed (run : Run) : Type 0 where
+  pub source_read : Grew run.source.failures run.source_behind.failures → ⊥
+  pub code_written : Grew run.code.failures run.code_behind.failures → ⊥
+  pub line_written : Grew run.line.failures run.line_behind.failures → ⊥
+  pub not_refused : run.status ≢ 134
+
+-- The source has an outcome in the edition.
+abbrev pub HasOutcome : Edition → List ℕ → Type 0
+HasOutcome edition text = (r : Compilation) × CompilesTo [] (tokens_from edition 1 text) r
+
+-- The code and the line of this outcome were written, and its status is the answer.
+pub record CompileAnswers (run : Run) (r : Compilation) : Type 0 where
+  pub code : Writes run.code (code_text run.edition r) run.code_behind
+  pub line : Writes run.line (fault_text r.stop) run.line_behind
+  pub answered : run.status ≡ fault_status r.stop
+
+-- Where nothing fails, the source has an outcome, and it is what was written and answered.
+abbrev pub CompileHeadline : Run → Type 0
+CompileHeadline run =
+    (text : List ℕ) → Tells run.source text → IsUndisturbed run
+    → HasOutcome run.edition text
+      × ((r : Compilation) → CompilesTo [] (tokens_from run.edition 1 text) r → CompileAnswers run r)

@@ -8,8 +8,9 @@ use Rattle.bword.specs.declared.edition.Edition.TheVariants as editions
 use Rattle.bword.specs.declared.operators.BinOp.TheVariants as op
 use Rattle.blang.specs.declared.token.Token.{Token}
 use Rattle.blang.specs.Cut.{Word, whole, is_blank, word_token, keyword_of, number_in, with_quoted_byte, plain_of}
-use Rattle.blang.specs.Cut.{escape_of, operator_of, other_of, fixed_of, string_token, tokens_from, placed, cut, longest}
+use Rattle.blang.specs.Cut.{number_token, escape_of, operator_of, other_of, fixed_of, string_token, tokens_from, placed, cut, longest}
 use Rattle.blang.specs.Cut.{greatest}
+use Rattle.blang.specs.Cut as cut_rules
 use Rattle.blang.specs.declared.token.Token.TheVariants as token
 use Rattle.blang.specs.declared.token.Keyword.TheVariants as keyword
 use Rattle.blang.specs.declared.token.Letters.TheVariants as letters
@@ -323,3 +324,19 @@ lines_of_tokens = refl
 last_line : tokens_from editions.One most (codes "\nx") ≡ placed x most ∷ placed token.End most ∷ []
 unfolding tokens_from cut longest greatest whole word_token keyword_of
 last_line = refl
+
+-- 4294967297, 18446744073709551617, and a long octal
+long_numbers : map number_token (codes "4294967297" ∷ codes "18446744073709551617" ∷ codes "040000000001" ∷ []) ≡
+    replicate 3 (token.Bad letters.Constant)
+unfolding number_in
+long_numbers = refl
+
+-- the second edition has two keywords more
+two_more : cut_rules.keywords editions.Two ≡
+    (codes "break", keyword.Break) ∷ (codes "default", keyword.Default) ∷ cut_rules.keywords editions.One
+two_more = refl
+
+-- what each escape is
+escaped : map escape_of (codes "0e()nt*'\"") ≡ map Some (0 ∷ 4 ∷ 123 ∷ 125 ∷ 10 ∷ 9 ∷ 42 ∷ 39 ∷ 34 ∷ [])
+unfolding escape_of
+escaped = refl

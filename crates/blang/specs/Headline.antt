@@ -12,7 +12,7 @@ use Rattle.blang.specs.declared.run.Outcome.{Outcome}
 use Rattle.blang.specs.Value.{Answer, Ends, Wants}
 use Rattle.blang.specs.Meaning.{meant, answer_world, IsBeginningOf, Loads}
 use Rattle.blang.specs.Cut.{tokens_from}
-use Rattle.blang.specs.Compiles.{CompilesTo, Compiles, line_of}
+use Rattle.blang.specs.Compiles.{CompilesTo, Compiles, HasOutcome, Tells, line_of}
 use Rattle.blang.specs.declared.status.TheConstants.{DONE, MEMORY, FAULT, TRAP, LIMIT, REFUSED}
 use Rattle.blang.specs.declared.run.LoadFault.{LoadFault}
 use Rattle.blang.specs.declared.token.Diagnostic.{Diagnostic}
@@ -125,11 +125,6 @@ pub data GoesOff (edition : Edition) (steps : ℕ) (source source_behind : Incom
   ran : RunsSource edition steps source source_behind ends status
       → GoesOff edition steps source source_behind ends status
 
--- An end tells that it gives these bytes.
-pub record Tells (end : Incoming) (bytes : List ℕ) : Type 0 where
-  pub left : end.left ≡ Some bytes
-  pub follow : CanFollow end bytes
-
 -- No read and no write failed, and memory was not refused.
 pub record NothingFailed (source source_behind : Incoming) (ends : RunEnds) (status : ℕ) : Type 0 where
   pub source_read : Grew source.failures source_behind.failures → ⊥
@@ -169,13 +164,16 @@ pub record IsLimit (ds : List Definition) (input : List ℕ) (steps : ℕ) (ends
   pub says : Says ends status world.input world.output (report_text report.Limit) LIMIT
 
 -- Where the code halts within so many steps, that is the end which the program means, and it is what was written and
--- answered. Else the limit is reached, as it always is where the program wants more fuel at every number.
+-- answered. Else the limit is reached, as it always is where the program wants more fuel at every number. Where the
+-- program ends, its code halts so at some step.
 pub record RunAnswers (ds : List Definition) (input : List ℕ) (steps : ℕ) (ends : RunEnds) (status : ℕ) : Type 0 where
   pub halts : (n : ℕ) → n ≤ steps → (e : Ending) (w : World) → machine (map code_of ds) input n ≡ Halted e w
       → IsEnd ds input (n + 1) e w ends status
   pub limited : ((n : ℕ) → n ≤ steps → (e : Ending) (w : World) → machine (map code_of ds) input n ≢ Halted e w)
       → IsLimit ds input steps ends status
   pub endless : ((n : ℕ) → (w : World) × (meant ds input n ≡ Wants w)) → IsLimit ds input steps ends status
+  pub done : (n : ℕ) (e : Ending) (w : World) → meant ds input n ≡ answer.Ends e w
+      → (step : ℕ) × (machine (map code_of ds) input step ≡ Halted e w)
 
 -- A source with a fault gets its line, and so does code that doesn't load. Any other program is run.
 pub record GoAnswers
@@ -186,9 +184,11 @@ pub record GoAnswers
       → Says ends status input [] (report_text (report.Load n)) REFUSED
   pub runs : r.stop ≡ None → Loads ds → RunAnswers ds input steps ends status
 
--- For the outcome in the edition of the bytes that the source gives, and its program on the bytes that the input gives.
+-- The bytes that the source gives have an outcome in the edition, and what was written and answered is that of its
+-- program on the bytes that the input gives.
 abbrev pub Headline : Edition → (steps : ℕ) (source source_behind : Incoming) (ends : RunEnds) (status : ℕ) → Type 0
 Headline edition steps source source_behind ends status =
     (text input : List ℕ) → Tells source text → Tells ends.input input → NothingFailed source source_behind ends status
-    → (r : compiled.Compilation) (g : CompilesTo [] (tokens_from edition 1 text) r)
-    → GoAnswers r g.definitions input steps ends status
+    → HasOutcome edition text
+      × ((r : compiled.Compilation) (g : CompilesTo [] (tokens_from edition 1 text) r)
+        → GoAnswers r g.definitions input steps ends status)

@@ -1,10 +1,10 @@
 -- Closed facts: small programs, where they lie and why they don't load.
-use Rattle.std.specs.Prelude.{◌≡◌, ℕ, List, [], ◌∷◌, map, take, drop, replicate, codes, Some, None, refl}
+use Rattle.std.specs.Prelude.{◌≡◌, ℕ, List, [], ◌∷◌, map, take, drop, replicate, codes, true, false, Some, None, refl}
 use Rattle.blang.specs.declared.code.Definition.{Definition}
 use Rattle.blang.specs.declared.code.Instr.{Instr}
 use Rattle.blang.specs.declared.code.Instr.TheVariants.{Constant, External, Call, Pop, Return}
 use Rattle.blang.specs.declared.code.Ival.{Ival}
-use Rattle.blang.specs.Layout.{shape_of, data_end, spots, Spot, addresses, address_in, first_words, load_fault}
+use Rattle.blang.specs.Layout.{shape_of, data_end, spots, Spot, addresses, address_in, first_words, load_fault, is_main}
 use Rattle.blang.specs.declared.code.Definition.TheVariants as definition
 use Rattle.blang.specs.declared.code.Ival.TheVariants as ival
 use Rattle.blang.specs.declared.run.LoadFault.TheVariants as fault
@@ -183,3 +183,12 @@ order_3 = refl
 vector_undefined : load_fault (vector (codes "v") 2 (ival.Name (codes "g") ∷ []) [] ∷ main ∷ [])
     ≡ Some (fault.Undefined (codes "g"))
 vector_undefined = refl
+
+-- a function of that name alone is the main one
+mains : map is_main (main ∷ simple (codes "main") [] [] ∷ vector (codes "main") 1 [] [] ∷ function (codes "mains") [] [] []
+    ∷ function (codes "mai") [] [] [] ∷ []) ≡ true ∷ false ∷ false ∷ false ∷ false ∷ []
+mains = refl
+
+-- main[1];
+main_is_a_vector : load_fault (vector (codes "main") 2 [] [] ∷ []) ≡ Some fault.NoMain
+main_is_a_vector = refl

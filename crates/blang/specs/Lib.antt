@@ -18,3 +18,6 @@ pub mod LayoutRows
 pub mod MachineRows
 pub mod LibraryRows
 pub mod MeaningRows
+pub mod OperatorRows
+pub mod LimitRows
+pub mod LetterRows

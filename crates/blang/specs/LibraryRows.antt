@@ -1,10 +1,10 @@
 -- Closed facts: the words that the meaning of programs and the machine share, on numbers.
-use Rattle.std.specs.Prelude.{◌≡◌, [], ◌∷◌, codes, Some, None, refl}
+use Rattle.std.specs.Prelude.{◌≡◌, [], ◌∷◌, map, true, false, codes, Some, None, refl}
 use Rattle.std.specs.Fmt.{digits}
 use Rattle.blang.specs.declared.run.Library.TheVariants.{Char, Lchar, Getchar, Putchar, Printn, Exit}
 use Rattle.blang.specs.declared.run.Trap.TheVariants.{BadBase, NoRoom, TooDeep}
 use Rattle.blang.specs.Layout.{World, Gives, Ends, Exited, Trapped, library, with_words, callee_of, NoFunction}
-use Rattle.blang.specs.Layout.{OfLibrary, OfProgram, refusal, parameter_words}
+use Rattle.blang.specs.Layout.{OfLibrary, OfProgram, refusal, parameter_words, is_base}
 
 -- the string "hi" and its final *e at word 2, the input "ab"
 abbrev world : World
@@ -140,3 +140,47 @@ missing_argument = refl
 
 stored_in_order : (with_words world 1 (8 ∷ 9 ∷ [])).store ≡ 0 ∷ 8 ∷ 9 ∷ 4 ∷ []
 stored_in_order = refl
+
+-- bytes from 128 on are no negative words, in the input and in strings
+getchar_high : library Getchar [] (record world { input = 200 ∷ 255 ∷ [] })
+    ≡ Gives 200 (record world { input = 255 ∷ [] })
+getchar_high = refl
+
+-- a byte 4 is a byte as each other
+getchar_4 : library Getchar [] (record world { input = 4 ∷ 97 ∷ [] }) ≡ Gives 4 (record world { input = codes "a" })
+getchar_4 = refl
+
+-- 51328 has the bytes 128 and 200
+char_high : map (λ i. library Char (0 ∷ i ∷ []) (record world { store = 51328 ∷ [] })) (0 ∷ 1 ∷ [])
+    ≡ map (λ c. Gives c (record world { store = 51328 ∷ [] })) (128 ∷ 200 ∷ [])
+char_high = refl
+
+-- further arguments count for nothing
+putchar_extra : library Putchar (120 ∷ 121 ∷ []) world ≡ Gives 120 (record world { output = codes ".x" })
+putchar_extra = refl
+
+exit_extra : library Exit (3 ∷ 5 ∷ []) world ≡ Ends (Exited 3) world
+exit_extra = refl
+
+getchar_extra : library Getchar (1 ∷ 2 ∷ []) world ≡ library Getchar [] world
+getchar_extra = refl
+
+printn_extra : library Printn (5 ∷ 10 ∷ 2 ∷ []) world ≡ Gives 0 (record world { output = codes ".5" })
+unfolding digits
+printn_extra = refl
+
+char_extra : library Char (2 ∷ 1 ∷ 0 ∷ []) world ≡ Gives 105 world
+char_extra = refl
+
+-- a missing argument is 0
+char_alone : map (λ args. library Char args world) ([] ∷ (2 ∷ []) ∷ []) ≡ Gives 0 world ∷ Gives 104 world ∷ []
+char_alone = refl
+
+exit_alone : map (λ args. library Exit args world) ([] ∷ (127 ∷ []) ∷ (128 ∷ []) ∷ [])
+    ≡ Ends (Exited 0) world ∷ Ends (Exited 127) world ∷ Ends (Exited 0) world ∷ []
+exit_alone = refl
+
+-- bases from 2 to 10
+bases : map is_base (0 ∷ 1 ∷ 2 ∷ 9 ∷ 10 ∷ 11 ∷ 258 ∷ 65535 ∷ [])
+    ≡ false ∷ false ∷ true ∷ true ∷ true ∷ false ∷ false ∷ false ∷ []
+bases = refl

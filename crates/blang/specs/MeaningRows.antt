@@ -1,15 +1,15 @@
 -- Closed facts: what small programs mean.
-use Rattle.std.specs.Prelude.{◌≡◌, ℕ, List, [], ◌∷◌, map, codes, Option, Some, None, refl}
+use Rattle.std.specs.Prelude.{◌≡◌, ℕ, List, [], ◌∷◌, map, codes, replicate, true, false, Option, Some, None, refl}
 use Rattle.std.specs.Fmt.{digits}
 use Rattle.bword.specs.declared.operators.BinOp.TheVariants as op
-use Rattle.blang.specs.Trees.{Identifier, Number, Character, Expr, Arguments, Address, Not, PreIncrement, PostIncrement}
+use Rattle.blang.specs.Trees.{Identifier, Number, Character, Expr, Arguments, Address, Indirection, Not, PreIncrement, PostIncrement}
 use Rattle.blang.specs.Trees.{PostDecrement, Named, Literal, Text, Grouped, Indexed, Called, Postfixed, Prefixed}
 use Rattle.blang.specs.Trees.{Binary, Conditional, Assigned, No_arguments, Another, Auto, Extrn, Label, Case, Default}
 use Rattle.blang.specs.Trees.{Stmt, Headed, Compound, If, While, Switch, Goto, Break, ReturnValue, Evaluate, Empty}
 use Rattle.blang.specs.Trees.{Stmts, Nothing, More, Definition, Ival_constant}
 use Rattle.blang.specs.declared.run.Trap.TheVariants.{ZeroDivisor, NotAFunction, NotALabel, NoRoom, TooDeep}
 use Rattle.blang.specs.Layout.{Ending, Exited, Trapped}
-use Rattle.blang.specs.Value.{Answer, Gives, Ends, Wants}
+use Rattle.blang.specs.Value.{Answer, Gives, Ends, Wants, is_true}
 use Rattle.blang.specs.Meaning.{meant}
 
 abbrev word : List ℕ → Identifier
@@ -359,3 +359,62 @@ digits_of_e =
 
 computes_e : does digits_of_e [] 150 ≡ (Some (Exited 0), codes "71828 18261 \n\n")
 computes_e = refl
+
+-- p(x){putchar(x); return(x);}, before main
+abbrev telling : Definition
+telling = function (codes "p") (codes "x" ∷ []) (putchar (name (codes "x")) ∷ ReturnValue (name (codes "x")) ∷ [])
+
+abbrev told : Expr → List Definition
+told e = telling ∷ main (Evaluate e ∷ []) ∷ []
+
+abbrev tells : ℕ → Expr
+tells n = call (codes "p") (number n ∷ [])
+
+-- main() p('a')[p('b')];, main() *p('a') = p('b');, main() p('a') + p('b'); and so on: the left side comes first
+left_sides : map (λ e. does (told e) [] 1) (
+    Indexed (tells 97) (tells 98) ∷ Assigned None 1 (Prefixed Indirection 1 (tells 97)) (tells 98)
+    ∷ Assigned (Some op.Add) 1 (Prefixed Indirection 1 (tells 97)) (tells 98)
+    ∷ Assigned None 1 (Indexed (tells 97) (number 1)) (tells 98) ∷ Binary op.Lt 1 (tells 97) (tells 98) ∷ []
+    ) ≡ replicate 5 (Some (Exited 0), codes "ab")
+left_sides = refl
+
+-- the function first, and then the arguments in order
+arguments_in_order : does (told (Called (tells 2) (Another (Another No_arguments (tells 97)) (tells 98)))) [] 2
+    ≡ (Some (Exited 0), 2 ∷ codes "ab")
+arguments_in_order = refl
+
+-- each word but 0 is true: if(256) putchar('y'); and 256 ? 'y' : 'n'
+truths : map is_true (0 ∷ 1 ∷ 256 ∷ 32768 ∷ 65535 ∷ []) ≡ false ∷ true ∷ true ∷ true ∷ true ∷ []
+truths = refl
+
+if_256 : does (main (If (number 256) (putchar (number 121)) ∷ putchar (Conditional (number 256) (number 121) (number 110))
+    ∷ []) ∷ []) [] 0 ≡ (Some (Exited 0), codes "yy")
+if_256 = refl
+
+-- main(){switch 264 {case 8: putchar('8'); case 264: putchar('x');}}
+case_of_a_word : does
+    (main (Switch (number 264)
+    (statements_behind Nothing (case 8 (putchar (number 56)) ∷ case 264 (putchar (number 120)) ∷ [])) ∷ []) ∷ []) [] 1
+    ≡ (Some (Exited 0), codes "x")
+case_of_a_word = refl
+
+-- main(){auto c; while((c=getchar())!='z') putchar(c);}: a byte 4 is copied
+copies_4 : does
+    (main (auto (codes "c") None
+    (While (Binary op.Ne 1 (Assigned None 1 (name (codes "c")) (call (codes "getchar") [])) (number 122))
+    (putchar (name (codes "c")))) ∷ []) ∷ []) (4 ∷ 97 ∷ 200 ∷ 122 ∷ []) 4 ≡ (Some (Exited 0), 4 ∷ 97 ∷ 200 ∷ [])
+copies_4 = refl
+
+-- v[32766]; w[32736]; main(){auto x 30; putchar('x');} has room, and with w[32737] it has none
+abbrev filled : ℕ → List Definition
+filled n =
+    Definition.Vector (word (codes "v")) (Some 32766) [] ∷ Definition.Vector (word (codes "w")) (Some n) []
+    ∷ main (auto (codes "x") (Some 15) Empty ∷ []) ∷ []
+
+main_without_room : map (λ n. does (filled n) [] 0) (32741 ∷ 32742 ∷ [])
+    ≡ (Some (Exited 0), []) ∷ (Some (Trapped NoRoom), []) ∷ []
+main_without_room = refl
+
+-- a vector is no main function
+vector_main : does (Definition.Vector (word (codes "main")) (Some 1) [] ∷ []) [] 9 ≡ (None, [])
+vector_main = refl

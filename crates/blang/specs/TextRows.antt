@@ -138,3 +138,23 @@ initial_values = refl
 other_lines : target_line 4095 ∷ string_line 65535 ∷ [] ≡ codes "t 4095\n" ∷ codes "w 65535\n" ∷ []
 unfolding digits
 other_lines = refl
+
+vector_with_strings : definition_text (definition.Vector record {
+  name = codes "v";
+  words = 3;
+  values = ival.Text 0 ∷ ival.Number 7 ∷ [];
+  strings = 4 ∷ [];
+}) ≡ codes "V v 3 2 1\ns 0\nc 7\nw 4\n"
+unfolding digits
+vector_with_strings = refl
+
+function_with_strings : definition_text (definition.Function record {
+  name = codes "f";
+  parameters = 1;
+  frame = 2;
+  targets = 0 ∷ [];
+  strings = 4 ∷ [];
+  code = instr.Return ∷ [];
+}) ≡ codes "F f 1 2 1 1 1\nt 0\nw 4\nr\n"
+unfolding digits
+function_with_strings = refl

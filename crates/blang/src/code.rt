@@ -7,7 +7,7 @@ use bword::{BinOp, Name};
 use std::marker::Model;
 
 /// Which word an increment or decrement leaves: a prefix one the new word, a postfix one the old word.
-#[derive(Clone, Copy, Debug, PartialEq, Eq)]
+#[derive(Clone, Copy, PartialEq, Eq)]
 pub enum Increment {
     PreIncrement,
     PreDecrement,
@@ -16,7 +16,7 @@ pub enum Increment {
 }
 
 /// An instruction of the stack machine. Places count from 0 in each function.
-#[derive(Clone, Copy, Debug, Default, PartialEq, Eq)]
+#[derive(Clone, Copy, Default, PartialEq, Eq)]
 pub enum Instr {
     /// `c`: puts the word.
     Constant(u16),
@@ -60,7 +60,7 @@ pub enum Instr {
 }
 
 /// An initial value of an external.
-#[derive(Clone, Copy, Debug, PartialEq, Eq)]
+#[derive(Clone, Copy, PartialEq, Eq)]
 pub enum Ival {
     Number(u16),
     /// The address of the external of this name.

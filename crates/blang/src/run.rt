@@ -7,7 +7,7 @@ use std::alloc::{AllocError, AllocFailed};
 use thiserror::Error;
 
 /// A function of the library; their values are 1 to 6, in this order.
-#[derive(Clone, Copy, Debug, PartialEq, Eq)]
+#[derive(Clone, Copy)]
 pub enum Library {
     /// `char(s, i)`: the byte with index i of the string at s.
     Char,
@@ -68,7 +68,7 @@ impl<T: Drop> From<AllocFailed<T>> for LoadFault {
 }
 
 /// Why a run can't go on.
-#[derive(Clone, Copy, Debug, PartialEq, Eq)]
+#[derive(Clone, Copy, PartialEq, Eq)]
 pub enum Trap {
     /// A zero divisor.
     ZeroDivisor,
@@ -87,7 +87,7 @@ pub enum Trap {
 }
 
 /// What comes of a run.
-#[derive(Clone, Copy, Debug, PartialEq, Eq)]
+#[derive(Clone, Copy, PartialEq, Eq)]
 pub enum Outcome {
     /// `exit` was called, with its argument modulo 128, or `main` has returned, which is 0.
     Exit(u8),
@@ -102,7 +102,7 @@ pub enum Outcome {
 }
 
 /// What the line tells that says why a run has no end of its own.
-#[derive(Clone, Copy, Debug, PartialEq, Eq)]
+#[derive(Clone, Copy)]
 pub enum Report {
     /// No code text goes on with this line.
     Code(u64),

@@ -6,7 +6,7 @@ use bword::{BinOp, Name};
 pub const STRING_LEN: usize = 254;
 
 /// The words that are no names.
-#[derive(Clone, Copy, Debug, PartialEq, Eq)]
+#[derive(Clone, Copy, PartialEq, Eq)]
 pub enum Keyword {
     Auto,
     Extrn,
@@ -22,7 +22,7 @@ pub enum Keyword {
 }
 
 /// The two letters by which a diagnostic says what is wrong. A token has one of the first four alone.
-#[derive(Clone, Copy, Debug, PartialEq, Eq)]
+#[derive(Clone, Copy, PartialEq, Eq)]
 pub enum Letters {
     /// `*/`: a comment without an end.
     OpenComment,
@@ -49,7 +49,7 @@ pub enum Letters {
 }
 
 /// A token.
-#[derive(Clone, Debug, PartialEq, Eq, Drop)]
+#[derive(Clone, PartialEq, Eq, Drop)]
 pub enum Token {
     Name(Name),
     Keyword(Keyword),
@@ -84,21 +84,21 @@ pub enum Token {
 }
 
 /// A token and the line of its first byte, from 1.
-#[derive(Clone, Debug, PartialEq, Eq, Drop)]
+#[derive(Clone, Drop)]
 pub struct Placed {
     pub token: Token,
     pub line: u64,
 }
 
 /// A token that no other comes behind.
-#[derive(Clone, Copy, Debug, PartialEq, Eq)]
+#[derive(Clone, Copy)]
 pub enum Last {
     Bad(Letters),
     End,
 }
 
 /// What a diagnostic is about, beside its letters.
-#[derive(Clone, Copy, Debug, PartialEq, Eq)]
+#[derive(Clone, Copy)]
 pub enum About {
     /// The token on its line.
     Nothing,
@@ -113,7 +113,7 @@ pub enum About {
 }
 
 /// Why a source has no code: the parts of the one line that says so.
-#[derive(Clone, Copy, Debug, PartialEq, Eq)]
+#[derive(Clone, Copy)]
 pub struct Diagnostic {
     pub letters: Letters,
     pub about: About,

@@ -9,7 +9,7 @@ use blang::{Keyword, Last, Letters, STRING_LEN, Token};
 use bword::{BinOp, Name};
 
 /// A token with the characters of a string kept apart, so that it is small and `Copy`.
-#[derive(Clone, Copy, Debug, PartialEq, Eq)]
+#[derive(Clone, Copy, PartialEq, Eq)]
 pub enum Lexeme {
     Name(Name),
     Keyword(Keyword),
@@ -44,7 +44,7 @@ pub enum Lexeme {
 }
 
 /// A lexeme and the line of its first byte, from 1.
-#[derive(Clone, Copy, Debug, PartialEq, Eq)]
+#[derive(Clone, Copy)]
 pub struct Seen {
     pub lexeme: Lexeme,
     pub line: u64,

@@ -1,18 +1,19 @@
 -- Rows of a listing, one behind another.
-use Rattle.std.proofs.Common.{◌≡◌, ◌∙◌, ◌+◌, ◌-◌, ◌/◌, ◌<◌, ◌≤◌, ℕ, zero, suc, Bool, true, false, cond, List, [], ◌∷◌, ◌++◌, map, filter, get_or, length, take, ap, ap₂, append-nil, append_assoc, arith, refl, replicate, subst, sym}
+use Rattle.std.proofs.Common.{◌≡◌, ◌∙◌, ◌+◌, ◌-◌, ◌<◌, ℕ, zero, suc, Bool, true, false, cond, List, [], ◌∷◌, ◌++◌, map, filter, get_or, length, take, ap, ap₂, append-nil, append_assoc, arith, refl, replicate, subst, sym}
 use Rattle.std.specs.List.{flat_map}
 use Rattle.std.specs.Prelude.{codes}
-use Rattle.std.proofs.lemmas.Bool.{cond-false, cond-true, le-ltb, lt-ltb}
+use Rattle.std.proofs.lemmas.Bool.{cond-true}
 use Rattle.std.proofs.lemmas.List.{map-append, take_more}
 use Rattle.std.proofs.lemmas.List.Elements.{filter-append}
 use Rattle.std.proofs.lemmas.List.Concat.{flat_map-append}
-use Rattle.std.specs.Prelude.{Option, nat_lt}
+use Rattle.std.specs.Prelude.{Option}
 use Rattle.blang.specs.Text.{lines_of}
 use Rattle.blang.specs.declared.code.Definition.{Definition}
 use Rattle.blist.specs.declared.rows.Spot.{Spot}
-use Rattle.blist.specs.Characters.{IsPrintable, shown_byte, shown_high}
-use Rattle.blist.specs.Columns.{right}
-use Rattle.blist.specs.Listings.{Adds, AddsBeside, Extends, IsApart, ListingRow, is_wanted, margin_text, number_text, row_text, spot_text, wanted, without_newline}
+use Rattle.btools.specs.Characters.{IsPrintable}
+use Rattle.btools.specs.Columns.{right, without_newline}
+use Rattle.btools.proofs.AddedTexts.{piece}
+use Rattle.blist.specs.Listings.{Adds, AddsBeside, Extends, IsApart, ListingRow, is_wanted, margin_text, number_text, row_text, spot_text, wanted}
 use Rattle.blist.proofs.Printable.{both}
 
 pub adds_nothing : (old : List ℕ) → Adds old [] old
@@ -64,10 +65,6 @@ adds_more f old mid new xs i x first page lt is empty line before row =
     let same : page ≡ f x = line ∙ ap (λ p. p ++ f x) empty in
     subst (λ ls. Adds old ls new) (sym lines) (adds_both old mid new _ _ before (subst (λ p. Adds mid (p ∷ []) new) same row))
 
--- one piece more of a text
-pub piece : (t t' t'' a b : List ℕ) → t' ≡ t ++ a → t'' ≡ t' ++ b → t'' ≡ t ++ (a ++ b)
-piece t t' t'' a b p q = q ∙ ap (λ x. x ++ b) p ∙ append_assoc t a b
-
 -- an address was added, blanks before it
 pub address_added : (t t' t'' t''' digits : List ℕ) (n : ℕ) → n ≡ 5 - length digits → t' ≡ t ++ replicate n 32 → t'' ≡ t' ++ codes "@" → t''' ≡ t'' ++ digits → t''' ≡ t ++ right 6 (codes "@" ++ digits)
 address_added t t' t'' t''' digits n is a b c =
@@ -117,22 +114,6 @@ some_pass p (x ∷ xs) (suc i) d lt passes none =
     rest_empty : (b : Bool) → cond b (x ∷ filter p xs) (filter p xs) ≡ [] → (filter p xs ≡ [] → ⊥) → ⊥
     rest_empty true bad some = cc
     rest_empty false e some = some e
-
--- the high byte of a word was added, or nothing where it is zero
-pub high_added : (old new : List ℕ) (word : ℕ) → 256 ≤ word → new ≡ old ++ shown_byte (word / 256) → new ≡ old ++ shown_high word
-high_added old new word high e = e ∙ ap (λ x. old ++ x) (sym (cond-false (nat_lt word 256) [] (shown_byte (word / 256)) (le-ltb word 256 high)))
-
-pub nothing_added : (old new : List ℕ) (word : ℕ) → word < 256 → new ≡ old → new ≡ old ++ shown_high word
-nothing_added old new word low e = e ∙ sym (append-nil old) ∙ ap (λ x. old ++ x) (sym (cond-true (nat_lt word 256) [] (shown_byte (word / 256)) (lt-ltb word 256 low)))
-
--- the text of one element more
-pub each_more : {X : Type 0} (f : X → List ℕ) (head text new : List ℕ) (xs : List X) (i : ℕ) (x : X) → i < length xs → x ≡ get_or xs i x → text ≡ head ++ flat_map f (take i xs) → new ≡ text ++ f x
-    → new ≡ head ++ flat_map f (take (i + 1) xs)
-each_more f head text new xs i x lt is before one =
-    let all : flat_map f (take (i + 1) xs) ≡ flat_map f (take i xs) ++ f x =
-    ap (flat_map f) (take_more xs i x lt ∙ ap (λ y. take i xs ++ y ∷ []) (sym is))
-    ∙ flat_map-append f (take i xs) (x ∷ []) ∙ ap (λ y. flat_map f (take i xs) ++ y) (append-nil (f x)) in
-    one ∙ ap (λ t. t ++ f x) before ∙ append_assoc head (flat_map f (take i xs)) (f x) ∙ ap (λ y. head ++ y) (sym all)
 
 -- what stands on a page
 pub page_is : (first page text line : List ℕ) → first ≡ [] → page ≡ first ++ text → text ≡ line → page ≡ line

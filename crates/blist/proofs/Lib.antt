@@ -1,4 +1,5 @@
 pub mod AddedRows
 pub mod Beside
-pub mod Loading
+pub mod Excluded
 pub mod Printable
+pub mod ShownRows

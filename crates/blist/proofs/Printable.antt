@@ -7,8 +7,8 @@ use Rattle.std.proofs.lemmas.Bool.{and_from, and_parts, cond_both, eqb-true, le-
 use Rattle.std.proofs.lemmas.Fmt.{decimal_by_steps}
 use Rattle.std.proofs.lemmas.List.Folds.{list_all-append}
 use Rattle.bword.specs.Words.{is_name, is_name_byte, is_name_start}
-use Rattle.blist.specs.Columns.{right}
-use Rattle.blist.specs.Characters.{IsPrintable, is_printable, shown_byte, shown_high, shown_word}
+use Rattle.btools.specs.Columns.{right}
+use Rattle.btools.specs.Characters.{IsPrintable, is_printable, shown_byte, shown_high, shown_word}
 
 pub blanks : (n : ℕ) → IsPrintable (replicate n 32)
 blanks zero = refl

@@ -1,5 +1,5 @@
-pub mod Characters
-pub mod Columns
-pub mod Programs
 pub mod Maps
 pub mod Listings
+pub mod ListingRows
+pub mod MapRows
+pub mod Excluded

@@ -1,6 +1,6 @@
 -- The code of a source, as it is listed.
 use Rattle.std.specs.Prelude.{◌≡◌, ℕ, ◌-◌, Bool, true, List, [], ◌++◌, codes, map, filter, length}
-use Rattle.std.specs.Prelude.{take, replicate, max, decimal, refl, Option, Some, None, ◌⊎◌}
+use Rattle.std.specs.Prelude.{replicate, max, decimal, refl, Option, Some, None, ◌⊎◌}
 use Rattle.std.specs.List.{flat_map}
 use Rattle.std.specs.Str.{bytes_eq}
 use Rattle.bword.specs.declared.edition.Edition.{Edition}
@@ -13,9 +13,9 @@ use Rattle.blang.specs.Machine.{Image, Reported}
 use Rattle.blist.specs.declared.listing.TheConstants.{HEADING, UNDEFINED}
 use Rattle.blist.specs.declared.rows.Spot.{Spot}
 use Rattle.blist.specs.declared.rows.Spot.TheVariants as spot
-use Rattle.blist.specs.Characters.{IsPrintable}
-use Rattle.blist.specs.Columns.{right}
-use Rattle.blist.specs.Programs.{HasProgram, NoProgram, ToldEnds}
+use Rattle.btools.specs.Characters.{IsPrintable}
+use Rattle.btools.specs.Columns.{right, without_newline}
+use Rattle.btools.specs.Programs.{HasProgram, NoProgram, ToldEnds}
 
 -- the columns of a listing
 listing_heading : HEADING.now ≡ codes " place  line  code          source                                  name\n"
@@ -24,10 +24,6 @@ listing_heading = refl
 -- what is said of a name that the source doesn't define
 undefined_line : UNDEFINED.now ≡ codes "error: the source has no definition of this NAME\n"
 undefined_line = refl
-
--- a line without its newline
-abbrev pub without_newline : List ℕ → List ℕ
-without_newline line = take (length line - 1) line
 
 -- beside so many bytes of code stands nothing, or something in the column of the source, a blank at least before it
 abbrev pub IsApart : ℕ → List ℕ → Type 0

@@ -1,15 +1,15 @@
 -- The layout of memory, as it is shown.
 use Rattle.std.specs.Prelude.{◌≡◌, ℕ, zero, suc, ◌+◌, ◌%◌, List, [], ◌++◌, codes, decimal, min, nat_lt}
-use Rattle.std.specs.Prelude.{unwrap_or, slice_index, refl, if◌then◌else◌}
+use Rattle.std.specs.Prelude.{slice_index, refl, if◌then◌else◌}
 use Rattle.std.specs.List.{flat_map}
 use Rattle.bword.specs.declared.edition.Edition.{Edition}
 use Rattle.blang.specs.declared.code.Definition.{Definition}
 use Rattle.blang.specs.declared.status.TheConstants.{DONE, MEMORY}
-use Rattle.blang.specs.Layout.{Function, DefinitionKind, Shape, Simple, Vector, address_in, shape_of, size_of}
+use Rattle.blang.specs.Layout.{Function, DefinitionKind, Shape, Simple, Vector, shape_of, size_of}
 use Rattle.blang.specs.Machine.{Image, Reported}
 use Rattle.blist.specs.declared.layout.TheConstants.{HEADING, SHOWN}
-use Rattle.blist.specs.Columns.{left, right}
-use Rattle.blist.specs.Programs.{HasProgram, NoProgram, ToldEnds}
+use Rattle.btools.specs.Columns.{left, right}
+use Rattle.btools.specs.Programs.{HasProgram, NoProgram, ToldEnds, image_address}
 
 -- the columns, and the words that each program has
 map_heading : HEADING.now
@@ -31,9 +31,6 @@ abbrev pub kind_text : DefinitionKind → List ℕ
 kind_text (Function labels) = codes "function"
 kind_text Simple = codes "simple"
 kind_text (Vector n) = codes "vector"
-
-abbrev pub image_address : Image → List ℕ → ℕ
-image_address image name = unwrap_or (address_in image.addresses name) 0
 
 -- so many words from an address on, a blank before each
 abbrev pub words_from : Image → ℕ → ℕ → List ℕ

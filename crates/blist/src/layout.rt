@@ -1,14 +1,13 @@
 //! The layout of memory.
 ghost use Rattle.std.specs.Prelude.{◌≡◌, ◌++◌, IfOk, OnOk};
 ghost use Rattle.blang.specs.Layout.{shape_of};
+ghost use Rattle.blist.specs.Excluded.{NoMaps};
 ghost use Rattle.blist.specs.Maps.{Maps, dots, kind_text, map_row, map_text, words_from};
 
-use crate::program::read_program;
-use crate::telling::tell;
-use crate::text::Text;
 use blang::Definition;
 use blang::status::{self, Status};
 use bmach::{Image, name_of, size_of};
+use btools::{Text, read_program, tell};
 use bword::{ByteOut, Edition};
 use std::alloc::{AllocError, Global};
 
@@ -117,3 +116,8 @@ fn kind(definition: &Definition) -> &'static [u8]
         Definition::Vector(_) => b"vector",
     }
 }
+
+/// What no map is: another text than that of the layout of the code that the source comes to, or another status or line.
+pub fn wrong_maps_are_excluded()
+    ensures { NoMaps }
+{}

@@ -4,18 +4,16 @@ ghost use Rattle.std.specs.List.{flat_map};
 ghost use Rattle.blang.specs.Text.{header_line, instr_line, ival_line, lines_of, string_line, target_line};
 ghost use Rattle.blang.specs.CodeParts.{function_of, simple_of, vector_of};
 ghost use Rattle.blang.specs.declared.code.Definition.TheVariants as definition;
+ghost use Rattle.blist.specs.Excluded.{NoListings, WrongRows};
 ghost use Rattle.blist.specs.Listings.{Adds, AreRows, Lists, is_wanted, wanted};
 
-use crate::frames::Frame;
-use crate::program::{Names, Program, read_program};
 use crate::rows::{Named, Spot, Told, push_row};
 use crate::source_lines::SourceLines;
-use crate::telling::tell;
-use crate::text::Text;
 use bcode::{Page, push_header_line, push_instr_line, push_ival_line, push_number_line};
 use blang::status::{self, Status};
 use blang::{Definition, FunctionParts, Instr, Ival, SimpleParts, VectorParts};
 use bmach::name_of;
+use btools::{Frame, Program, Text, lines_in, read_program, tell};
 use bword::{ByteOut, Edition};
 use std::alloc::{AllocError, Global};
 
@@ -118,15 +116,6 @@ struct Sources<'a> {
     // The names of a function.
     frame: Option<&'a Frame>,
     texts: &'a SourceLines<'a>,
-}
-
-/// How many of the lines of a program's names are those of a definition: one for each instruction or initial value.
-pub fn lines_in(definition: &Definition) -> usize {
-    match definition {
-        Definition::Function(function) => function.parts().code.len(),
-        Definition::Simple(simple) => simple.parts().values.len(),
-        Definition::Vector(vector) => vector.parts().values.len(),
-    }
 }
 
 // The rows of a definition at an address, if it is wanted.
@@ -359,3 +348,9 @@ fn label_in(frame: Option<&Frame>, number: usize) -> Named {
         None => Named::Nothing,
     }
 }
+
+/// What no listing is: other rows than those of the code that the source comes to, or another status or line.
+pub fn wrong_listings_are_excluded()
+    ensures rows { WrongRows }
+    ensures listings { NoListings }
+{}

@@ -1,11 +1,10 @@
 //! The rows of a listing.
 ghost use Rattle.std.specs.Prelude.{◌≡◌, ◌++◌, [], ◌∷◌, OnOk, codes, decimal};
-ghost use Rattle.blist.specs.Columns.{right};
+ghost use Rattle.btools.specs.Columns.{right};
 ghost use Rattle.blist.specs.Listings.{Adds, AddsBeside, Extends, number_text, spot_text};
 
-use crate::characters::push_characters;
-use crate::text::Text;
 use bcode::Page;
+use btools::{Text, push_characters};
 use bword::Name;
 use itoa::Buffer;
 use std::alloc::AllocError;

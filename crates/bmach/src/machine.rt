@@ -47,7 +47,7 @@ pub enum Callee<'a> {
 }
 
 /// How a run ends.
-#[derive(Clone, Copy, Debug, PartialEq, Eq)]
+#[derive(Clone, Copy)]
 pub enum End {
     Exit(u8),
     Trap(Trap),
@@ -78,7 +78,7 @@ pub struct Pause<'a> {
 }
 
 /// What came of a step that was tried.
-#[derive(Clone, Copy, Debug, PartialEq, Eq)]
+#[derive(Clone, Copy)]
 pub enum Tried {
     Made,
     /// It is left to do, and nothing has changed.
@@ -98,7 +98,7 @@ pub struct Rest<'a> {
 }
 
 /// An active call.
-#[derive(Clone, Copy, Debug, PartialEq, Eq)]
+#[derive(Clone, Copy)]
 pub struct Active {
     /// The address of the first string word of its function, by which that is told from others.
     pub strings: u32,
@@ -111,7 +111,7 @@ pub struct Active {
 }
 
 /// What a run came to, and where.
-#[derive(Clone, Copy, Debug, PartialEq, Eq)]
+#[derive(Clone, Copy)]
 pub struct Stop {
     pub outcome: Outcome,
     /// After a trap the running call before the step that was one; at the limit the one behind the last step.
@@ -138,7 +138,7 @@ impl Active {
 }
 
 /// What came of a call or a return.
-#[derive(Clone, Copy, Debug, PartialEq, Eq)]
+#[derive(Clone, Copy)]
 pub enum Flow {
     GoesOn,
     Halts(End),

@@ -1,3 +1,4 @@
 pub mod Sentences
 pub mod Laws
 pub mod RunRows
+pub mod LawRows

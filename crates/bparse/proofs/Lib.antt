@@ -1,6 +1,9 @@
 pub mod CleanLaws
 pub mod CompilerSteps
 pub mod CompileSteps
+pub mod CompileHeadlines
+pub mod Excluded
 pub mod MadeSteps
+pub mod Remaining
 pub mod SinceSteps
 pub mod NamesSteps

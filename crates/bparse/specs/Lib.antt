@@ -1,4 +1,5 @@
 pub mod Compilers
 pub mod Compiles
+pub mod Excluded
 pub mod Sizes
 pub mod Steps

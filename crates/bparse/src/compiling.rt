@@ -1,8 +1,9 @@
 //! Compiling a whole source.
 ghost use Rattle.std.specs.Prelude.{◌≡◌, false};
 ghost use Rattle.bword.specs.declared.edition.Edition.TheVariants as editions;
-ghost use Rattle.blang.specs.Compiles.{Compiles};
+ghost use Rattle.blang.specs.Compiles.{CompileHeadline, Compiles};
 ghost use Rattle.bparse.specs.Compiles.{CodeGives, LastGives};
+ghost use Rattle.bparse.specs.Excluded.{Excluded};
 
 use crate::compiler::Compiler;
 use crate::diagnostic::write_diagnostic;
@@ -19,6 +20,16 @@ pub fn compile<I: ByteIn, O: ByteOut, D: ByteOut>(
     diag: &mut D,
 ) -> Status
     ensures compiles { Compiles (record {
+      edition = editions.One;
+      source = I.incoming source.old;
+      source_behind = I.incoming source.new;
+      code = O.outgoing code.old;
+      code_behind = O.outgoing code.new;
+      line = D.outgoing diag.old;
+      line_behind = D.outgoing diag.new;
+      status = result;
+    }) }
+    ensures headline { CompileHeadline (record {
       edition = editions.One;
       source = I.incoming source.old;
       source_behind = I.incoming source.new;
@@ -49,6 +60,16 @@ pub fn compile_edition<I: ByteIn, O: ByteOut, D: ByteOut>(
     edition: Edition,
 ) -> Status
     ensures compiles { Compiles (record {
+      edition = edition;
+      source = I.incoming source.old;
+      source_behind = I.incoming source.new;
+      code = O.outgoing code.old;
+      code_behind = O.outgoing code.new;
+      line = D.outgoing diag.old;
+      line_behind = D.outgoing diag.new;
+      status = result;
+    }) }
+    ensures headline { CompileHeadline (record {
       edition = edition;
       source = I.incoming source.old;
       source_behind = I.incoming source.new;
@@ -106,3 +127,9 @@ fn compile_all<I: ByteIn, O: ByteOut>(compiler: &mut Compiler<I, O>) -> Step
         }
     }
 }
+
+/// What no compiling gives: other code than the source's, a line where there is no fault, none where there is one, or
+/// a failure that isn't told or was none.
+pub fn wrong_compilings_are_excluded()
+    ensures { Excluded }
+{}

@@ -9,5 +9,5 @@ mod view;
 
 pub use blang::status::{self, Status};
 pub use compiler::Compiler;
-pub use compiling::{compile, compile_edition};
+pub use compiling::{compile, compile_edition, wrong_compilings_are_excluded};
 pub use step::Step;

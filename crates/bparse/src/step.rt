@@ -7,7 +7,7 @@ use blang::Diagnostic;
 use bword::{Device, EndFault, NoMemory};
 
 /// What became of the next definition.
-#[derive(Clone, Copy, Debug, PartialEq, Eq)]
+#[derive(Clone, Copy)]
 pub enum Step {
     /// Its code was written.
     Written,

@@ -464,6 +464,22 @@ fn each_write_of_a_command_fails(rt: HostRuntime) -> Result<(), Fail> {
     Ok(())
 }
 
+// There is room for so many bytes of what is said.
+#[test]
+fn each_write_of_a_check_fails(rt: HostRuntime) -> Result<(), Fail> {
+    fs::write(&rt, "x.b", b"f() return x;")?;
+    let (said, _) = serves(&rt, "b check x.b", "", 1)?;
+    let all = said.bytes().len();
+    for room in 0..=all {
+        let ended = served(&rt, "b check x.b", room, 0)?;
+        let status = if room == all { 1 } else { 133 };
+        let begun = said.bytes().get(..room).unwrap_or(b"?");
+        assert!(rt; ended.is(status, begun, b""), "room {room}");
+    }
+    fs::remove_file(&rt, "x.b")?;
+    Ok(())
+}
+
 // A command writes its output once: where that is refused memory nothing was written, and there is no line.
 #[test]
 fn each_command_is_refused_memory(rt: HostRuntime) -> Result<(), Fail> {

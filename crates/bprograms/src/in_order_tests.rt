@@ -1,6 +1,5 @@
 //! The order of what a process reads and writes, in a log of its streams.
 use crate::command_tests::words_of;
-use crate::kept_pages::GUESS;
 use bparse::Status;
 use bserve::{Streams, serve_in_order};
 use std::cell::RefCell;
@@ -103,13 +102,19 @@ fn logs(
 
 const ASKS: &str = "main() { putchar('?'); putchar(getchar()); }";
 
+const ASKS_THRICE: &str = "\
+main() { ask(50); ask(75); ask(62); say(\"I knew it.*n\"); }
+ask(n) { say(\"Is it \"); printn(n, 10); say(\"? \"); while(getchar() != '*n') ; }
+say(s) { auto i; i = 0; while(char(s, i) != '*e') putchar(char(s, i++)); }
+";
+
 const DIVIDES: &str = "main() { putchar('a'); putchar('b'); printn(1 / 0, 10); }";
 
 #[test]
 fn questions_and_lines(rt: HostRuntime) -> Result<(), Fail> {
     let log = RefCell::new(Vec::new(rt.alloc()));
     let asked = ">Is it 50? <h\n>Is it 75? <l\n>Is it 62? <y\n>I knew it.\n";
-    logs(&rt, GUESS, streams(&log, "h\nl\ny\n"), asked, 0)?;
+    logs(&rt, ASKS_THRICE, streams(&log, "h\nl\ny\n"), asked, 0)?;
     let log = RefCell::new(Vec::new(rt.alloc()));
     logs(&rt, DIVIDES, streams(&log, ""), ">ab!trap dz\n", 130)?;
     let log = RefCell::new(Vec::new(rt.alloc()));

@@ -10,21 +10,13 @@ mod edition_tests;
 #[cfg(test)]
 mod end_tests;
 #[cfg(test)]
-mod example_tests;
-#[cfg(test)]
 mod failing_tests;
 #[cfg(test)]
 mod in_order_tests;
 #[cfg(test)]
-mod kept_pages;
-#[cfg(test)]
-mod language_tests;
-#[cfg(test)]
 mod list_tests;
 #[cfg(test)]
 mod migrate_tests;
-#[cfg(test)]
-mod page_tests;
 #[cfg(test)]
 mod program_tests;
 #[cfg(test)]

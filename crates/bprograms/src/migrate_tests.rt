@@ -129,11 +129,3 @@ fn the_load_fault_stays(rt: HostRuntime) -> Result<(), Fail> {
     }
     Ok(())
 }
-
-// The text of docs/CODE.md.
-#[test]
-fn the_example(rt: HostRuntime) -> Result<(), Fail> {
-    let (out, diag) = serves(&rt, "b migrate", "X n 1 0\nc 7\nE\n", 0)?;
-    compares(&rt, "n", &out, "B 2\nX n 1 0\nc 7\nE\n", &diag, "");
-    Ok(())
-}

@@ -93,14 +93,7 @@ putchar(c+'0'); if(!(++col%5)) putchar(col%50?' ':'*n'); } putchar('*n*n'); } v[
 
 @
 printn(n,b) { extrn putchar; auto a; if(a=n/b) printn(a, b); putchar(n%b + '0'); } main() { printn(1972,10); }~1972@
-main(){auto i; i=0; L: putchar('a'+i); i++; if(i<3) goto L;}~abc@
-main(){auto i; i=0; switch 1 {case 1: goto in;} while(i<3){in: putchar('a'+i); i++;}}~abc@
-main(){auto i; i=0; L: auto v 1; v[0]=i; putchar('0'+v[0]); v=0; i++; if(i<3) goto L;}~012@
-main(){auto i; i=0; switch 2 {case 1: while(i<3){case 2: putchar('a'+i); i++;}}}~abc@
-f(x){return(x*2);} main(){printn(1+f(2)*3-f(f(1)),10);}~9@
-f(n){if(n) return(1+f(n-1)); return(0);} main(){printn(f(4094),10);}~4094@
-main(){auto a; a=256; while(a){*a=a; a=+256;} a=256; while(a){if(*a!=a) putchar('x'); a=+256;} putchar('k');}~k@
-v[32766]; w[32758]; main() ;~";
+main(){auto i; i=0; L: putchar('a'+i); i++; if(i<3) goto L;}~abc";
     all_write(&rt, rows);
 }
 
@@ -119,11 +112,7 @@ main(){printn(5,11);}~trap bs
 @
 main(){main();}~trap dp
 @
-f(n){if(n) return(1+f(n-1)); return(0);} main(){printn(f(4095),10);}~trap dp
-@
 main(){auto v 32000; main();}~trap st
-@
-v[32766]; w[32758]; main() { auto a; ; }~trap st
 ";
     all_stop(&rt, rows, STEPS, 130);
 }
@@ -138,8 +127,6 @@ main;~load 4
 main() g();~load 3
 @
 v[30000]; w[30000]; x[10000]; main() ;~load 2
-@
-v[32766]; w[32759]; main() ;~load 2
 ";
     all_stop(&rt, rows, STEPS, 132);
 }

@@ -69,29 +69,6 @@ c 65536
 E
 ~code 2
 @
-X n 1 0
-c 65536
-E
-~code 2
-@
-F f 0 0 0 0 2
-r
-j 2
-E
-~code 3
-@
-F f 0 0 0 0 1
-b =
-E
-~code 2
-@
-X 9 0 0
-E
-~code 1
-@
-X n 0 0
-X n 0 0~code 2
-@
 V v 0 0 0
 E
 ~code 1
@@ -100,19 +77,6 @@ X n 0 0
 X n 0 0
 E
 ~load 1
-@
-V v 32767 0 0
-V w 32767 0 0
-E
-~load 2
-@
-X n 1 0
-x m
-E
-~load 3
-@
-E
-~load 4
 ";
     all_stop(&rt, rows, 132);
 }
@@ -158,16 +122,5 @@ E
 #[test]
 fn steps(rt: HostRuntime) {
     runs(&rt, "F main 0 0 0 0 1\nj 0\nE\n", 100, "", "limit\n", 131);
-    runs(&rt, "F main 0 0 0 0 2\nc 0\nr\nE\n", 2, "", "", 0);
-    runs(&rt, "F main 0 0 0 0 2\nc 0\nr\nE\n", 1, "", "limit\n", 131);
     runs(&rt, "F main 0 0 0 0 2\nc 0\nr\nE\n", 0, "", "limit\n", 131);
-}
-
-#[test]
-fn runs_that_write(rt: HostRuntime) {
-    // Writes the first byte of the input.
-    let echo = "F main 0 0 0 0 9\nx putchar\nv\nx getchar\nv\nk 0\nk 1\np\nc 0\nr\nE\n";
-    runs(&rt, echo, 100, "x", "", 0);
-    runs(&rt, echo, 6, "x", "limit\n", 131);
-    runs(&rt, echo, 5, "", "limit\n", 131);
 }

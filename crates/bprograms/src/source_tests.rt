@@ -103,21 +103,6 @@ n 2000;~X n 1 0
 c 2000
 E
 @
-f() { switch 1 { case 1: ; } switch 2 { case 1: ; } }~F f 0 0 0 0 12
-c 1
-j 3
-j 5
-e 1 2
-p
-c 2
-j 8
-j 10
-e 1 7
-p
-c 0
-r
-E
-@
 s \"ab\", t, 'x'; t;~X s 3 2
 s 0
 x t
@@ -276,45 +261,6 @@ g
 c 0
 r
 E
-@
-f() 1-2-3|4&5;~F f 0 0 0 0 12
-c 1
-c 2
-b -
-c 3
-b -
-c 4
-c 5
-b &
-b |
-p
-c 0
-r
-E
-@
-f() { extrn x, y, z; x = y[1] ? -2 : g(3, *z); }~F f 0 0 0 0 21
-x x
-x y
-v
-c 1
-b +
-v
-z 10
-c 2
-n
-j 17
-x g
-v
-c 3
-x z
-v
-v
-k 2
-w
-p
-c 0
-r
-E
 ";
     all_compile(&rt, rows);
 }
@@ -396,85 +342,6 @@ f() { L: ; L: ; goto M; }~~rd L 1
 f() { goto M; L: ; L: ; }~~rd L 1
 @
 f() switch 1 { case 1: switch 2 { case 1: ; } case 1: ; }~~rd case 1
-@
-f() { extrn a; auto a; ; }~~rd a 1
-@
-f() { auto a; a: ; }~~rd a 1
-";
-    all_have_faults(&rt, rows);
-}
-
-// Each kind of diagnostic behind the first line.
-#[test]
-fn lines_of_faults(rt: HostRuntime) {
-    let rows = "\
-a;
-b; /* c
-d;~X a 0 0
-X b 0 0
-~*/ 2
-@
-a; /*
-*/ #~X a 0 0
-~ch 2
-@
-a;
-
-abcdefghi;~X a 0 0
-~nm 3
-@
-a;
-n 5, 'b
-';~X a 0 0
-~ct 2
-@
-a; n
-5
--1;~X a 0 0
-~sx 3
-@
-f()
-{
-
-~~sx 4
-@
-a;
-b;
-
-a;~X a 0 0
-X b 0 0
-~rd a 4
-@
-f(a) {
-a;
-a: ; }~~rd a 3
-@
-f() switch 1 {
-case 1:
-case 1: ; }~~rd case 3
-@
-f() {
-case 2: ; }~~sx case 2
-@
-f() { 1
-= (2
-= 3); }~~lv 2
-@
-f(a) {
-a; --
-7; }~~lv 2
-@
-f() { goto M;
-goto
-L; M: ; }~~un L 3
-@
-f() { goto M;
-goto L; }~~un M 1
-@
-
-
-v
-[32767];~~>e 3
 ";
     all_have_faults(&rt, rows);
 }
@@ -647,6 +514,24 @@ r
 E
 ^@
 1|f() ~201|(~1|1~201|)~1|;^^sx 1
+@
+1|f()~200|(~1|1~200|)~1|;^F f 0 0 0 0 4
+c 1
+p
+c 0
+r
+E
+^@
+1|f()~201|(~1|1~201|)~1|;^^sx 1
+@
+1|f(n~127|, n#~1|) ;^F f 128 128 0 0 2
+c 0
+r
+E
+^@
+1|f(n~128|, n#~1|) ;^^>s 1
+@
+1|f() switch 1 {~257| case #:~1| ; }^^>c 1
 ";
     all_begin_in(&rt, &BOTH, rows)
 }

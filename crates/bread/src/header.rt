@@ -5,7 +5,7 @@ use bword::Name;
 pub const MOST_COUNTED: u32 = 65535;
 
 /// What a definition is of.
-#[derive(Clone, Copy, Debug, PartialEq, Eq)]
+#[derive(Clone, Copy)]
 pub enum Kind {
     Simple,
     /// A vector of this many words, or of `MOST_COUNTED` and more.
@@ -15,7 +15,7 @@ pub enum Kind {
 }
 
 /// The name of a definition, the name's line, and what it is of.
-#[derive(Clone, Copy, Debug, PartialEq, Eq)]
+#[derive(Clone, Copy)]
 pub struct Header {
     pub name: Name,
     pub line: u64,

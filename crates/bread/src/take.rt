@@ -8,7 +8,7 @@ use blex::Lexeme;
 use bword::{ByteIn, Name};
 
 /// A name and its line.
-#[derive(Clone, Copy, Debug, PartialEq, Eq)]
+#[derive(Clone, Copy)]
 pub struct Word {
     pub name: Name,
     pub line: u64,

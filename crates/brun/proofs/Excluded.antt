@@ -2,7 +2,6 @@
 use Rattle.std.proofs.Common.{◌≡◌, ℕ, ◌<◌, ◌≤◌, List, [], ◌∷◌, ◌++◌, length, map, codes, Option, Some, None, refl, sym, ap, ◌∙◌, subst, arith, ◌⊎◌, inl, inr, ⊎_elim}
 use Rattle.bword.specs.declared.edition.Edition.{Edition}
 use Rattle.bword.specs.declared.edition.Edition.TheVariants as editions
-use Rattle.std.specs.Io.KnownBytes.{Appends}
 use Rattle.bword.specs.ByteEnds.{Incoming, Outgoing, Grew, Refuses, CanFollow}
 use Rattle.bword.specs.declared.ends.EndFault.{EndFault}
 use Rattle.bword.specs.declared.ends.EndFault.TheVariants as end_fault
@@ -11,20 +10,21 @@ use Rattle.blang.specs.Cut.{tokens_from}
 use Rattle.blang.specs.declared.token.Diagnostic.{Diagnostic}
 use Rattle.blang.specs.Code.{code_of}
 use Rattle.blang.specs.Compiles as compiled
-use Rattle.blang.specs.Compiles.{CompilesTo, line_of, Run, NamesRefused, EndRefused, status_of}
-use Rattle.btree.specs.SourceRows.{fault_text, ComesIn}
+use Rattle.blang.specs.Compiles.{CompilesTo, Tells, fault_text, line_of, Run, NamesRefused, EndRefused, status_of}
+use Rattle.btree.specs.SourceRows.{ComesIn}
 use Rattle.btree.proofs.SourceRows.{edition_rows}
-use Rattle.blang.specs.Trees.{Definition, Number, Named, Literal, Called, No_arguments, Another, Evaluate, Compound, Stmts, Nothing, More}
+use Rattle.blang.specs.Trees.{Definition, Character, Named, Literal, Called, No_arguments, Another, Evaluate, Compound, Stmts, Nothing, More}
 use Rattle.blang.specs.Machine.{State, Halted, image_of, state_outcome, Reported, report_text, RunEnds, Finishes, machine}
 use Rattle.blang.specs.Machine as runs
 use Rattle.blang.specs.Layout.{World, Ending, Exited, Trapped}
 use Rattle.blang.specs.declared.run.Outcome.{Outcome}
 use Rattle.blang.specs.declared.run.Outcome.TheVariants as outcome
 use Rattle.blang.specs.Meaning.{Loads}
-use Rattle.blang.specs.Headline.{RunsProgram, GoesOff, DoesAsMeant, Tells, NothingFailed, RunAnswers}
+use Rattle.blang.specs.Headline.{RunsProgram, GoesOff, DoesAsMeant, NothingFailed, RunAnswers}
 use Rattle.blang.specs.Headline as going
 use Rattle.blang.specs.declared.run.Report.TheVariants as report
-use Rattle.brun.proofs.HeadlineSteps.{headline, rest_of, other_stop}
+use Rattle.bparse.proofs.Remaining.{rest_of, all_written}
+use Rattle.brun.proofs.HeadlineSteps.{headline, other_stop}
 use Rattle.brun.proofs.MeantSteps.{halted_later}
 
 abbrev main : Stmts → List Definition
@@ -35,10 +35,13 @@ abbrev nothing : List Definition
 nothing = main Nothing
 
 -- main(){putchar('a');}, which has written after four steps and halts at the seventh
-abbrev writes_a : List Definition
-writes_a = main (More Nothing (Evaluate (Called (Named (record { text = codes "putchar"; line = 1 })) (Another No_arguments (Literal (Number 97))))))
+abbrev pub main_a : Definition
+main_a = Definition.Function (record { text = codes "main"; line = 1 }) [] (Compound (More Nothing (Evaluate (Called (Named (record { text = codes "putchar"; line = 1 })) (Another No_arguments (Literal (Character 97)))))))
 
-abbrev state : List Definition → ℕ → State
+abbrev pub writes_a : List Definition
+writes_a = main_a ∷ []
+
+abbrev pub state : List Definition → ℕ → State
 state ds n = machine (map code_of ds) [] n
 
 pub nothing_halts : map (λ n. state_outcome (state nothing n)) (0 ∷ 1 ∷ 2 ∷ 3 ∷ []) ≡ (outcome.Limit ∷ outcome.Limit ∷ outcome.Exit 0 ∷ outcome.Exit 0 ∷ [])
@@ -59,16 +62,13 @@ still_runs : (ds : List Definition) (steps : ℕ) → state_outcome (state ds st
 still_runs ds steps limit n le e w h =
     no_end e w (sym limit ∙ ap state_outcome (halted_later (image_of (map code_of ds)) [] n steps e w le h))
 
-all_written : (o p : Outgoing) (bytes all : List ℕ) → o.written ≡ Some [] → p.written ≡ Some all → Appends o.written p.written bytes → all ≡ bytes
-all_written o p bytes all e f a = subst (λ x. Appends (Some []) x bytes) f (subst (λ x. Appends x p.written bytes) e a)
-
 -- Over ends that tell their bytes, with no input, where nothing fails and the source has no fault.
 module _ (edition : Edition) (source source_behind : Incoming) (ends : RunEnds) (status : ℕ) (text : List ℕ) (tells : Tells source text) (told : Tells ends.input [])
     (healthy : NothingFailed source source_behind ends status) (r : compiled.Compilation) (g : CompilesTo [] (tokens_from edition 1 text) r) (clean : r.stop ≡ None) where
   answers : (steps : ℕ) (ds : List Definition) → g.definitions ≡ ds → Loads ds → GoesOff edition steps source source_behind ends status → RunAnswers ds [] steps ends status
   answers steps ds same loads h =
       subst (λ x. RunAnswers x [] steps ends status) same
-      ((headline edition steps source source_behind ends status h text [] tells told healthy r g).runs clean (subst (λ x. Loads x) (sym same) loads))
+      (((headline edition steps source source_behind ends status h text [] tells told healthy).1 r g).runs clean (subst (λ x. Loads x) (sym same) loads))
 
   -- `limit` in place of a halt: a run of fewer steps
   pub no_fewer_steps : g.definitions ≡ nothing → GoesOff edition 2 source source_behind ends status → status ≡ 131 → ⊥
@@ -106,7 +106,7 @@ module _ (steps : ℕ) (source source_behind : Incoming) (ends : RunEnds) (statu
       at_stop : (stop : Option Diagnostic) → c.outcome.stop ≡ stop → fault_text stop ≡ line → behind ≡ line
       at_stop None e nothing = absurd (some (sym nothing))
       at_stop (Some d) e same =
-          let said = (headline edition steps source source_behind ends status h (codes "f() break;") [] tells told healthy c.outcome c.goes).faulty d e in
+          let said = ((headline edition steps source source_behind ends status h (codes "f() break;") [] tells told healthy).1 c.outcome c.goes).faulty d e in
           all_written ends.line ends.line_behind (line_of d) behind before is said.told.appended ∙ same
 
   -- a body that takes the first edition where it is told the second

@@ -1,15 +1,14 @@
 -- Where nothing fails, what is said of a run is what its source and its input come to.
 use Rattle.std.proofs.Common.{◌≡◌, ◌≢◌, ℕ, ◌+◌, ◌≤◌, List, [], ◌∷◌, ◌++◌, map, Bool, true, false, Option, Some, None, refl, sym, ap, ◌∙◌, subst, arith, append-nil, ◌⊎◌, inl, inr, ⊎_elim}
 use Rattle.bword.specs.declared.edition.Edition.{Edition}
-use Rattle.std.specs.Io.KnownBytes.{Appends, Consumes}
-use Rattle.bword.specs.ByteEnds.{Incoming, Outgoing, Kept, Grew, Took, Writes, Refuses, CanFollow, outgoing_of}
+use Rattle.bword.specs.ByteEnds.{Incoming, Outgoing, Kept, Grew, Writes, Refuses, CanFollow, outgoing_of}
 use Rattle.bword.specs.declared.ends.EndFault.{EndFault}
 use Rattle.bword.specs.declared.ends.EndFault.TheVariants as end_fault
 use Rattle.blang.specs.Cut.{tokens_from}
 use Rattle.blang.specs.declared.token.Diagnostic.{Diagnostic}
 use Rattle.blang.specs.Code.{code_of}
 use Rattle.blang.specs.Compiles as compiled
-use Rattle.blang.specs.Compiles.{CompilesTo, line_of, Run, Compiles, SourceFailed, EndRefused, status_of}
+use Rattle.blang.specs.Compiles.{CompilesTo, Tells, line_of, Run, Compiles, SourceFailed, EndRefused, status_of}
 use Rattle.blang.specs.Trees.{Definition}
 use Rattle.blang.specs.Machine.{State, Running, Halted, Stuck, image_of, Shows, ComesTo, RunGives, state_outcome, Reported, report_text, load_number, RunEnds, Finishes, HasNotRun, machine}
 use Rattle.blang.specs.Machine as runs
@@ -19,54 +18,12 @@ use Rattle.blang.specs.declared.run.Outcome.{Outcome}
 use Rattle.blang.specs.declared.run.Outcome.TheVariants as outcome
 use Rattle.blang.specs.Meaning.{Loads}
 use Rattle.bmean.proofs.LawProofs.{code_agrees}
-use Rattle.blang.specs.Headline.{RunsProgram, RunsSource, GoesOff, Tells, NothingFailed, Says, line_at, status_at, IsEnd, IsLimit, RunAnswers, GoAnswers, Headline}
+use Rattle.blang.specs.Headline.{RunsProgram, RunsSource, GoesOff, NothingFailed, Says, line_at, status_at, IsEnd, IsLimit, RunAnswers, GoAnswers, Headline}
 use Rattle.blang.specs.Headline as going
 use Rattle.blang.specs.declared.run.Report.TheVariants as report
+use Rattle.btree.proofs.GoesLaws.{each_source_comes}
+use Rattle.bparse.proofs.Remaining.{rest_of, writes_nothing}
 use Rattle.brun.proofs.MeantSteps.{halted_later}
-
--- what an end that tells its bytes has left
-pub record Rest (i j : Incoming) (taken bytes : List ℕ) : Type 0 where
-  pub more : List ℕ
-  pub follows : CanFollow j more
-  pub whole : taken ++ more ≡ bytes
-  pub left : j.left ≡ Some more
-
-rest_of_bytes : (old new : Option (List ℕ)) (taken bytes : List ℕ) → old ≡ Some bytes → Consumes old new taken → (more : List ℕ) × (new ≡ Some more) × (taken ++ more ≡ bytes)
-rest_of_bytes None new taken bytes e c = absurd (no e)
-  where
-    no : None ≢ Some bytes
-    no e = cc
-rest_of_bytes (Some xs) None taken bytes e c = elim c [ ]
-rest_of_bytes (Some xs) (Some ys) taken bytes e c = let same : xs ≡ bytes = cc in (ys, refl, sym c ∙ same)
-
-cancel : (xs ys zs : List ℕ) → xs ++ ys ≡ xs ++ zs → ys ≡ zs
-cancel [] ys zs e = e
-cancel (x ∷ xs) ys zs e = let tails : xs ++ ys ≡ xs ++ zs = cc in cancel xs ys zs tails
-
-by_cases : {A : Type 0} (b : Bool) → (b ≡ true → A) → (b ≡ false → A) → A
-by_cases true f g = f refl
-by_cases false f g = g refl
-
-pub rest_of : (i j : Incoming) (taken bytes : List ℕ) → Took i taken j → Tells i bytes → Rest i j taken bytes
-rest_of i j taken bytes t told =
-    let r = rest_of_bytes i.left j.left taken bytes told.left t.bytes in
-    record { more = r.0; follows = follows r.0 r.2; whole = r.2; left = r.1 }
-  where
-    follows : (more : List ℕ) → taken ++ more ≡ bytes → CanFollow j more
-    follows more whole over =
-        by_cases i.is_over
-        (λ was. let nothing : taken ≡ [] = (t.over was).0 in subst (λ xs. xs ++ more ≡ bytes) nothing whole ∙ told.follow was)
-        (λ wasnt.
-        let all = subst (λ o. Consumes o (Some []) taken) told.left (t.all wasnt over) in
-        cancel taken more [] (whole ∙ all))
-
-appends_nothing : (known : Option (List ℕ)) → Appends known known []
-appends_nothing None = tt
-appends_nothing (Some xs) = sym (append-nil xs)
-
-writes_nothing : (o p : Outgoing) → p ≡ o → Writes o [] p
-writes_nothing o p e =
-    subst (λ q. Writes o [] q) (sym e) (record { appended = appends_nothing o.written; failures = refl; refusals = refl })
 
 -- a line is written where its end neither fails nor is refused
 not_refused : (line : List ℕ) (o p : Outgoing) (status : ℕ) (fault : EndFault) → (Grew o.failures p.failures → ⊥) → status ≢ 134 → Refuses o line fault p → status ≡ status_of fault → ⊥
@@ -160,6 +117,7 @@ module _ (ds : List Definition) (loads : Loads ds) (steps : ℕ) (ends : RunEnds
     halts = halts result c;
     limited = λ runs_on. limited_at result c runs_on (state steps) refl;
     endless = λ wants. limited_at result c (λ n le e w h. (code_agrees ds loads input).runs_without_end wants n e w h) (state steps) refl;
+    done = (code_agrees ds loads input).meant_is_done;
   }
 
   abbrev Gives : Outcome → Type 0
@@ -252,8 +210,10 @@ program_answers r ds input steps source source_behind ends status told healthy c
     no_load f e = cc
 program_answers r ds input steps source source_behind ends status told healthy clean (going.no_memory quiet silent is) = absurd (healthy.not_refused is)
 
-pub headline : (edition : Edition) (steps : ℕ) (source source_behind : Incoming) (ends : RunEnds) (status : ℕ) → GoesOff edition steps source source_behind ends status → Headline edition steps source source_behind ends status
-headline edition steps source source_behind ends status (going.stopped kept not_zero quiet h) text input tells told healthy r g =
+answers_of : (edition : Edition) (steps : ℕ) (source source_behind : Incoming) (ends : RunEnds) (status : ℕ) → GoesOff edition steps source source_behind ends status
+    → (text input : List ℕ) → Tells source text → Tells ends.input input → NothingFailed source source_behind ends status
+    → (r : compiled.Compilation) (g : CompilesTo [] (tokens_from edition 1 text) r) → GoAnswers r g.definitions input steps ends status
+answers_of edition steps source source_behind ends status (going.stopped kept not_zero quiet h) text input tells told healthy r g =
     let rest = rest_of source source_behind h.taken text h.took tells in
     let behind = subst (λ t. CompilesTo [] (tokens_from edition 1 t) r) (sym rest.whole) g in
     let one = fault_status edition source source_behind ends status healthy kept h rest.more rest.follows r behind not_zero in
@@ -266,8 +226,12 @@ headline edition steps source source_behind ends status (going.stopped kept not_
       refused = λ clean x n load number. other_stop r.stop f.fault clean f.stop;
       runs = λ clean loads. other_stop r.stop f.fault clean f.stop;
     }
-headline edition steps source source_behind ends status (going.ran s) text input tells told healthy r g =
+answers_of edition steps source source_behind ends status (going.ran s) text input tells told healthy r g =
     let rest = rest_of source source_behind s.taken text s.took tells in
     let runs = subst (λ t. (r : compiled.Compilation) (g : CompilesTo [] (tokens_from edition 1 t) r) → (source_behind.failures ≡ source.failures) × (r.stop ≡ None) × RunsProgram steps g.definitions ends status) rest.whole (s.runs rest.more rest.follows) in
     let program = runs r g in
     program_answers r g.definitions input steps source source_behind ends status told healthy program.1 program.2
+
+pub headline : (edition : Edition) (steps : ℕ) (source source_behind : Incoming) (ends : RunEnds) (status : ℕ) → GoesOff edition steps source source_behind ends status → Headline edition steps source source_behind ends status
+headline edition steps source source_behind ends status h text input tells told healthy =
+    (each_source_comes [] edition 1 text, answers_of edition steps source source_behind ends status h text input tells told healthy)

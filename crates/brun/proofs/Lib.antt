@@ -1,5 +1,6 @@
 pub mod Endings
 pub mod Excluded
+pub mod OneRun
 pub mod GoSteps
 pub mod HeadlineSteps
 pub mod MeantSteps

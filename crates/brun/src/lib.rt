@@ -7,5 +7,5 @@ mod source;
 mod text;
 
 pub use migrating::migrate;
-pub use source::{go, go_edition};
+pub use source::{go, go_edition, one_run_is_known};
 pub use text::{finish, run_text};

@@ -12,7 +12,7 @@ use bword::{ByteIn, ByteOut, Edition, EndFault};
 use std::alloc::Global;
 
 /// Why no more is written.
-#[derive(Clone, Copy, Debug, PartialEq, Eq)]
+#[derive(Clone, Copy)]
 pub(crate) enum Halt {
     /// No code text of the first edition goes on with this line.
     Line(u64),

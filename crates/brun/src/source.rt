@@ -2,6 +2,7 @@
 ghost use Rattle.std.specs.Prelude.{◌≡◌};
 ghost use Rattle.bword.specs.declared.edition.Edition.TheVariants as editions;
 ghost use Rattle.blang.specs.Headline.{GoesOff, Headline};
+ghost use Rattle.brun.specs.OneRun.{OneCompilationIsKnown, OneRunIsKnown};
 
 use crate::text::run_text;
 use blang::status::{self, Status};
@@ -83,3 +84,9 @@ pub fn go_edition<S: ByteIn, I: ByteIn, O: ByteOut, D: ByteOut>(
     }
     run_text(alloc, code.bytes(), input, out, diag, steps)
 }
+
+/// The headlines say something: by them alone one run and one compilation over streams in memory are known.
+pub fn one_run_is_known()
+    ensures run { OneRunIsKnown }
+    ensures compilation { OneCompilationIsKnown }
+{}

@@ -1,4 +1,2 @@
-mod GivenOptions
-mod Locals
 mod Answered
-mod ReadWords
+mod Excluded

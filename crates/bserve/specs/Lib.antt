@@ -1,3 +1,2 @@
-pub mod CommandLine
-pub mod CommandRows
+pub mod Excluded
 pub mod Serves

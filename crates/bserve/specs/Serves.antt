@@ -1,5 +1,5 @@
 -- What comes of a command line.
-use Rattle.std.specs.Prelude.{◌≡◌, ◌≢◌, ℕ, List, [], ◌++◌, codes, ◌⊎◌}
+use Rattle.std.specs.Prelude.{◌≡◌, ◌≢◌, ℕ, Bool, List, [], ◌++◌, codes, if◌then◌else◌, ◌⊎◌}
 use Rattle.clap.specs.Words.{IsAmong, Text, fault_of, subcommand_of}
 use Rattle.clap.specs.declared.error.kind.ErrorKind.{ErrorKind}
 use Rattle.clap.specs.declared.error.kind.ErrorKind.TheVariants as kind
@@ -11,14 +11,16 @@ use Rattle.brun.specs.Migrates.{Migrates}
 use Rattle.blang.specs.Machine.{Reported, RunEnds, HasNotRun}
 use Rattle.brun.specs.Runs.{RunsText}
 use Rattle.bcheck.specs.Checks.{Checks}
+use Rattle.bcheck.specs.declared.form.Form.{Form}
+use Rattle.bcheck.specs.declared.form.Form.TheVariants as forms
 use Rattle.blist.specs.Listings.{Lists}
 use Rattle.blist.specs.Maps.{Maps}
-use Rattle.blist.specs.Programs.{ToldEnds}
+use Rattle.btools.specs.Programs.{ToldEnds}
 use Rattle.bdraw.specs.Draws.{Draws}
 use Rattle.btrace.specs.Locates.{Locates}
 use Rattle.btrace.specs.Traces.{Traces}
-use Rattle.bserve.specs.CommandLine.{Asked, asked, command_line}
-use Rattle.bserve.specs.CommandLine.{compile, run, go, locate, migrate, list, map, draw, check, trace, contradiction}
+use Rattle.bcommand.specs.CommandLine.{Asked, asked, command_line}
+use Rattle.bcommand.specs.CommandLine.{compile, run, go, locate, migrate, list, map, draw, check, trace, contradiction}
 
 -- what is said of words that aren't UTF-8
 abbrev pub unread_line : List ℕ
@@ -54,6 +56,10 @@ abbrev pub telling_ends : RunEnds → ToldEnds
 telling_ends ends =
     record { out = ends.out; out_behind = ends.out_behind; line = ends.line; line_behind = ends.line_behind }
 
+-- how findings are told
+abbrev pub form_of : (for_editor : Bool) → Form
+form_of for_editor = if for_editor then forms.Json else forms.Text
+
 -- what was asked for is done; no contract can say what a file holds
 abbrev pub Does : Asked → RunEnds → ℕ → Type 0
 Does (compile edition) ends status = Compiles (record {
@@ -83,10 +89,10 @@ Does (map file edition) ends status = NamesFile file ends status
     ⊎ ((source : List ℕ) × (ends.input_behind ≡ ends.input) × Maps edition source (telling_ends ends) status)
 Does (draw file edition steps) ends status =
     NamesFile file ends status ⊎ ((source : List ℕ) × Draws edition source steps ends status)
-Does (check file edition form) ends status = NamesFile file ends status
+Does (check file edition for_editor) ends status = NamesFile file ends status
     ⊎ ((source : List ℕ) × (ends.input_behind ≡ ends.input) × (ends.line_behind ≡ ends.line) × Checks (record {
       edition = edition;
-      form = form;
+      form = form_of for_editor;
       file = file;
       source = source;
       out = ends.out;

@@ -2,7 +2,7 @@
 //! is written beside it.
 use crate::serving::{refuse_words, serve};
 use blang::status::{self, Status};
-use bword::{Reading, Writing};
+use bword::{ByteIn, ByteOut, Reading, Writing};
 use std::alloc::Global;
 use std::cell::RefCell;
 use std::io::{self, BufReader, BufWriter, ErrorKind, Read, Write};
@@ -32,34 +32,48 @@ where
     O: Write + Drop,
     D: Write + Drop,
 {
-    let Ok(output) = Output::new(rt.alloc(), streams.output, streams.at_once) else {
+    match Output::new(rt.alloc(), streams.output, streams.at_once) {
+        Ok(output) => serve_over(rt, words, streams.input, &output, streams.diag),
+        Err(_) => status::MEMORY,
+    }
+}
+
+// The same over output that is shown before each read, and before each line.
+fn serve_over<R, I, O, D>(
+    rt: &R,
+    words: Option<Vec<String>>,
+    reader: I,
+    output: &Output<O>,
+    writer: D,
+) -> Status
+where
+    R: AllocGlobal + Files,
+    I: Read + Drop,
+    O: Write + Drop,
+    D: Write + Drop,
+{
+    let Ok(reader) = BufReader::new(rt.alloc(), Asking { reader, output }) else {
         return status::MEMORY;
     };
-    let asking = Asking {
-        reader: streams.input,
-        output: &output,
-    };
-    let Ok(reader) = BufReader::new(rt.alloc(), asking) else {
-        return status::MEMORY;
-    };
-    let mut out = Writing::new(&output);
-    let mut diag = Writing::new(Beside {
-        writer: streams.diag,
-        output: &output,
-    });
-    let status = match words {
-        Some(words) => serve(
-            rt,
-            words.as_slice(),
-            &mut Reading::new(reader),
-            &mut out,
-            &mut diag,
-        ),
-        None => refuse_words(&mut diag),
-    };
+    let mut input = Reading::new(reader);
+    let mut diag = Writing::new(Beside { writer, output });
+    let status = answer(rt, words, &mut input, &mut Writing::new(output), &mut diag);
     match output.show() {
         Ok(()) => status,
         Err(_) => status::DEVICE,
+    }
+}
+
+fn answer<R: AllocGlobal + Files, I: ByteIn, O: ByteOut, D: ByteOut>(
+    rt: &R,
+    words: Option<Vec<String>>,
+    input: &mut I,
+    out: &mut O,
+    diag: &mut D,
+) -> Status {
+    match words {
+        Some(words) => serve(rt, words.as_slice(), input, out, diag),
+        None => refuse_words(diag),
     }
 }
 

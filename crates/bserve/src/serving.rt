@@ -4,18 +4,19 @@ ghost use Rattle.clap.specs.Words.{kind_of};
 ghost use Rattle.bword.specs.ByteEnds.{Incoming, Outgoing};
 ghost use Rattle.blang.specs.declared.status.TheConstants.{DEVICE, MEMORY, WRONG_COMMAND};
 ghost use Rattle.blang.specs.Machine.{Reported};
-ghost use Rattle.bserve.specs.CommandLine.{check, draw, go, list, locate, map, run, asked_of, trace};
-ghost use Rattle.bserve.specs.Serves.{Does, NamesFile, RefusesWords, Serves, no_file_line, unread_line};
+ghost use Rattle.bcommand.specs.CommandLine.{check, draw, go, list, locate, map, run, asked_of, trace};
+ghost use Rattle.bserve.specs.Excluded.{Excluded};
+ghost use Rattle.bserve.specs.Serves.{Does, NamesFile, RefusesWords, Serves, form_of, no_file_line, unread_line};
 
-use crate::command::{Job, Subject, Target, Walk, job_of, parse};
-use crate::texts::{CONTRADICTION, UNREAD};
-use bcheck::{Request, check};
+use bcheck::{Form, Request, check};
+use bcommand::{CONTRADICTION, Job, Subject, Target, UNREAD, Walk, parse};
 use bdraw::draw;
 use blang::status::{self, Status};
-use blist::{list, map, tell};
+use blist::{list, map};
 use bparse::compile_edition;
 use brun::{go_edition, migrate, run_text};
-use btrace::{locate, trace};
+use btools::tell;
+use btrace::{Wanted, locate, trace};
 use bword::{ByteIn, ByteOut, Edition, Reading};
 use clap::Error;
 use clap::error::ErrorKind;
@@ -48,15 +49,15 @@ pub fn serve<R: AllocGlobal + Files, I: ByteIn, O: ByteOut, D: ByteOut>(
     ensures diag_lender { D.lender diag.new ≡ D.lender diag.old }
 {
     match parse(rt.alloc(), words) {
-        Ok(matches) => perform(rt, job_of(&matches), input, out, diag),
+        Ok(job) => perform(rt, job, input, out, diag),
         Err(error) => refuse(rt.alloc(), error, out, diag),
     }
 }
 
-// Does the job, or says that there is a limit of steps and none.
+// Does what is asked for.
 fn perform<R: AllocGlobal + Files, I: ByteIn, O: ByteOut, D: ByteOut>(
     rt: &R,
-    job: Option<Job<'_>>,
+    job: Job<'_>,
     input: &mut I,
     out: &mut O,
     diag: &mut D,
@@ -74,17 +75,17 @@ fn perform<R: AllocGlobal + Files, I: ByteIn, O: ByteOut, D: ByteOut>(
     ensures diag_lender { D.lender diag.new ≡ D.lender diag.old }
 {
     match job {
-        Some(Job::Compile(edition)) => compile_edition(rt.alloc(), input, out, diag, edition),
-        Some(Job::Run(target)) => run_file(rt, target, input, out, diag),
-        Some(Job::Go(target, edition)) => go_file(rt, target, edition, input, out, diag),
-        Some(Job::Locate(target, edition)) => locate_file(rt, target, edition, input, out, diag),
-        Some(Job::Migrate) => migrate(rt.alloc(), input, out, diag),
-        Some(Job::List(subject)) => list_file(rt, subject, out, diag),
-        Some(Job::Map(subject)) => map_file(rt, subject, out, diag),
-        Some(Job::Draw(subject, steps)) => draw_file(rt, subject, steps, input, out, diag),
-        Some(Job::Check(request)) => check_file(rt, request, out, diag),
-        Some(Job::Trace(walk)) => trace_file(rt, walk, input, out, diag),
-        None => refuse_with(CONTRADICTION, diag),
+        Job::Compile(edition) => compile_edition(rt.alloc(), input, out, diag, edition),
+        Job::Run(target) => run_file(rt, target, input, out, diag),
+        Job::Go(target, edition) => go_file(rt, target, edition, input, out, diag),
+        Job::Locate(target, edition) => locate_file(rt, target, edition, input, out, diag),
+        Job::Migrate => migrate(rt.alloc(), input, out, diag),
+        Job::List(subject) => list_file(rt, subject, out, diag),
+        Job::Map(subject) => map_file(rt, subject, out, diag),
+        Job::Draw(subject, steps) => draw_file(rt, subject, steps, input, out, diag),
+        Job::Check(subject, for_editor) => check_file(rt, subject, for_editor, out, diag),
+        Job::Trace(walk) => trace_file(rt, walk, input, out, diag),
+        Job::Contradiction => refuse_with(CONTRADICTION, diag),
     }
 }
 
@@ -242,11 +243,12 @@ fn draw_file<R: AllocGlobal + Files, I: ByteIn, O: ByteOut, D: ByteOut>(
 // Checks the source in a file.
 fn check_file<R: AllocGlobal + Files, O: ByteOut, D: ByteOut>(
     rt: &R,
-    request: Request<'_>,
+    subject: Subject<'_>,
+    for_editor: bool,
     out: &mut O,
     diag: &mut D,
 ) -> Status
-    ensures does { (unread : Incoming) → Does (check request.entry.file.now request.entry.edition request.entry.form) (record {
+    ensures does { (unread : Incoming) → Does (check subject.entry.file.now subject.entry.edition for_editor) (record {
       input = unread;
       input_behind = unread;
       out = O.outgoing out.old;
@@ -257,10 +259,21 @@ fn check_file<R: AllocGlobal + Files, O: ByteOut, D: ByteOut>(
     ensures out_lender { O.lender out.new ≡ O.lender out.old }
     ensures diag_lender { D.lender diag.new ≡ D.lender diag.old }
 {
-    match fs::read(rt, request.file) {
+    let request = Request {
+        edition: subject.edition,
+        file: subject.file,
+        form: form_of(for_editor),
+    };
+    match fs::read(rt, subject.file) {
         Ok(source) => check(rt.alloc(), source.as_slice(), request, out),
-        Err(error) => name_file(rt.alloc(), request.file, &error, diag),
+        Err(error) => name_file(rt.alloc(), subject.file, &error, diag),
     }
+}
+
+fn form_of(for_editor: bool) -> Form
+    ensures { result ≡ form_of for_editor }
+{
+    if for_editor { Form::Json } else { Form::Text }
 }
 
 // Runs the source in a file and writes its steps.
@@ -271,7 +284,7 @@ fn trace_file<R: AllocGlobal + Files, I: ByteIn, O: ByteOut, D: ByteOut>(
     out: &mut O,
     diag: &mut D,
 ) -> Status
-    ensures does { Does (trace walk.entry.file.now walk.entry.wanted.steps walk.entry.wanted.from (option_map (λ n. n.now) walk.entry.wanted.function) walk.entry.edition) (record {
+    ensures does { Does (trace walk.entry.file.now walk.entry.steps walk.entry.from (option_map (λ n. n.now) walk.entry.function) walk.entry.edition) (record {
       input = I.incoming input.old;
       input_behind = I.incoming input.new;
       out = O.outgoing out.old;
@@ -283,12 +296,17 @@ fn trace_file<R: AllocGlobal + Files, I: ByteIn, O: ByteOut, D: ByteOut>(
     ensures out_lender { O.lender out.new ≡ O.lender out.old }
     ensures diag_lender { D.lender diag.new ≡ D.lender diag.old }
 {
+    let wanted = Wanted {
+        steps: walk.steps,
+        from: walk.from,
+        function: walk.function,
+    };
     match fs::read(rt, walk.file) {
         Ok(source) => trace(
             rt.alloc(),
             source.as_slice(),
             walk.edition,
-            walk.wanted,
+            wanted,
             input,
             out,
             diag,
@@ -433,3 +451,9 @@ fn refuse<O: ByteOut, D: ByteOut>(alloc: Global, error: Error, out: &mut O, diag
         tell(text.as_bytes(), status::DONE, out)
     }
 }
+
+/// What no command line comes to: wrong words that end well or act, help that is a complaint, a file that can't be read
+/// and after which all is well, a limit of steps and none that run.
+pub fn wrong_answers_are_excluded()
+    ensures { Excluded }
+{}

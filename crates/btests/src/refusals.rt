@@ -59,7 +59,7 @@ fn each_set_is_refused(rt: HostRuntime) -> Result<(), Fail> {
             assert!(rt; b"hi".starts_with(out.bytes()), "set {refused}");
             continue;
         }
-        assert_eq!(rt; answer, Outcome::Exit(0), "set {refused}");
+        assert!(rt; answer == Outcome::Exit(0), "set {refused}");
         assert_eq!(rt; out.bytes(), b"hi".as_slice(), "set {refused}");
         if store.sets <= refused {
             return Ok(());

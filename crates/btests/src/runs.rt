@@ -65,7 +65,8 @@ fn a_read_that_fails(rt: HostRuntime) -> Result<(), Fail> {
     });
     let mut out = MemOut::new(rt.alloc());
     let answer = copies(rt.alloc(), &mut end, &mut out)?;
-    assert_eq!(rt; (answer, end.next()), (Outcome::Device, Ok(Some(b'i'))));
+    assert!(rt; answer == Outcome::Device);
+    assert!(rt; end.next() == Ok(Some(b'i')));
     assert_eq!(rt; out.bytes(), b"h".as_slice());
     Ok(())
 }
@@ -78,7 +79,7 @@ fn a_write_that_fails(rt: HostRuntime) -> Result<(), Fail> {
     };
     let mut to = Writing::new(&mut narrow);
     let answer = copies(rt.alloc(), &mut MemIn::new(b"hello"), &mut to)?;
-    assert_eq!(rt; answer, Outcome::Device);
+    assert!(rt; answer == Outcome::Device);
     assert_eq!(rt; narrow.bytes.as_slice(), b"hell".as_slice());
     Ok(())
 }
@@ -101,7 +102,7 @@ fn memory_alone_is_refused(rt: HostRuntime) {
     if answer == Outcome::Exit(0) {
         assert_eq!(rt; out.bytes(), b"hi".as_slice());
     } else {
-        assert_eq!(rt; answer, Outcome::Memory);
+        assert!(rt; answer == Outcome::Memory);
         assert!(rt; b"hi".starts_with(out.bytes()));
     }
 }

@@ -1,7 +1,49 @@
+use blang::{Keyword, Letters, Token};
 use blex::Lexer;
-use bword::MemIn;
+use bword::{BinOp, MemIn};
+use std::alloc::{AllocError, Global};
 use std::process::Abort;
 use std::test::Fail;
+
+fn operator(op: BinOp) -> &'static str {
+    match op {
+        BinOp::Eq => "==",
+        BinOp::Ne => "!=",
+        BinOp::Sub => "-",
+        BinOp::Add => "+",
+        BinOp::Mul => "*",
+        BinOp::Div => "/",
+        _ => "another operator",
+    }
+}
+
+fn bad(letters: Letters) -> &'static str {
+    match letters {
+        Letters::OpenComment => "bad:*/",
+        Letters::Character => "bad:ch",
+        Letters::LongName => "bad:nm",
+        Letters::Constant => "bad:ct",
+        _ => "other letters",
+    }
+}
+
+// A token as it is spelled in the rows: a character constant is its number between quotes.
+fn spelled(alloc: Global, token: &Token) -> Result<String, AllocError> {
+    match token {
+        Token::Name(name) => String::from_str(alloc, name.as_str()),
+        Token::Number(number) => format!(in alloc; "{number}"),
+        Token::Character(number) => format!(in alloc; "'{number}'"),
+        Token::Operator(op) => String::from_str(alloc, operator(*op)),
+        Token::Assign(Some(op)) => format!(in alloc; "={}", operator(*op)),
+        Token::Assign(None) => String::from_str(alloc, "="),
+        Token::Keyword(Keyword::Return) => String::from_str(alloc, "return"),
+        Token::Not => String::from_str(alloc, "!"),
+        Token::Increment => String::from_str(alloc, "++"),
+        Token::Bad(letters) => String::from_str(alloc, bad(*letters)),
+        Token::End => String::from_str(alloc, "end"),
+        _ => String::from_str(alloc, "another token"),
+    }
+}
 
 // Compares the tokens of a source with those to come, one a word; behind the last one it comes again.
 fn gives(rt: &(impl AllocGlobal + Abort), source: &[u8], tokens: &str) -> Result<(), Fail> {
@@ -10,7 +52,7 @@ fn gives(rt: &(impl AllocGlobal + Abort), source: &[u8], tokens: &str) -> Result
         let Ok(placed) = lexer.next() else {
             return Err("a token".into());
         };
-        let given = format!(in rt.alloc(); "{:?}", placed.token)?;
+        let given = spelled(rt.alloc(), &placed.token)?;
         assert_eq!(rt; given.as_str(), token, "one of {tokens}");
     }
     Ok(())
@@ -20,59 +62,59 @@ fn gives(rt: &(impl AllocGlobal + Abort), source: &[u8], tokens: &str) -> Result
 #[test]
 fn tokens_of_sources(rt: HostRuntime) -> Result<(), Fail> {
     let rows = "\
-x=-1~Name(x) Assign(Some(Sub)) Number(1) End End
+x=-1~x =- 1 end end
 @
-x=!y~Name(x) Assign(None) Not Name(y) End
+x=!y~x = ! y end
 @
-x=!=y~Name(x) Assign(Some(Ne)) Name(y) End
+x=!=y~x =!= y end
 @
-x==-y~Name(x) Operator(Eq) Operator(Sub) Name(y) End
+x==-y~x == - y end
 @
-x====y~Name(x) Assign(Some(Eq)) Assign(None) Name(y) End
+x====y~x === = y end
 @
-x+++y~Name(x) Increment Operator(Add) Name(y) End
+x+++y~x ++ + y end
 @
-=/*p~Assign(Some(Div)) Operator(Mul) Name(p) End
+=/*p~=/ * p end
 @
-/**/a~Name(a) End
+/**/a~a end
 @
-/*/~Bad(OpenComment) Bad(OpenComment)
+/*/~bad:*/ bad:*/
 @
-/* /* */ \u{ff}~Bad(Character) Bad(Character)
+/* /* */ \u{ff}~bad:ch bad:ch
 @
-12ab~Number(12) Name(ab) End
+12ab~12 ab end
 @
-0177777~Number(65535) End
+0177777~65535 end
 @
-0200000~Bad(Constant)
+0200000~bad:ct
 @
-08~Bad(Constant) Bad(Constant)
+08~bad:ct bad:ct
 @
-'*e''\"''*''~Character(4) Character(34) Character(39) End
+'*e''\"''*''~'4' '34' '39' end
 @
-'ab'~Character(24930) End
+'ab'~'24930' end
 @
-aaaaaaaa~Name(aaaaaaaa) End
+aaaaaaaa~aaaaaaaa end
 @
-return abcdefghi~Keyword(Return) Bad(LongName) Bad(LongName)
+return abcdefghi~return bad:nm bad:nm
 @
-''~Bad(Constant)
+''~bad:ct
 @
-'abc'~Bad(Constant)
+'abc'~bad:ct
 @
-'*x'~Bad(Constant)
+'*x'~bad:ct
 @
 'a
-'~Bad(Constant)
+'~bad:ct
 @
-'a~Bad(Constant)
+'a~bad:ct
 @
 \"a
-\"~Bad(Constant)
+\"~bad:ct
 @
-\"*~Bad(Constant)
+\"*~bad:ct
 @
-\"\u{80}\"~Bad(Constant)";
+\"\u{80}\"~bad:ct";
     for row in rows.split("\n@\n") {
         let (source, tokens) = row.split_once('~').unwrap_or((row, ""));
         gives(&rt, source.as_bytes(), tokens)?;

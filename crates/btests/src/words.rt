@@ -32,7 +32,7 @@ fn operators_on_words(rt: HostRuntime) {
         (BinOp::Div, 1, 0, Err(DivZero)),
         (BinOp::Rem, 1, 0, Err(DivZero)),
     ] {
-        assert_eq!(rt; binary(op, a, b), want, "{op:?} at {a} and {b}");
+        assert!(rt; binary(op, a, b) == want, "at {a} and {b}");
     }
 }
 
@@ -93,7 +93,8 @@ fn ends_over_memory(rt: HostRuntime) {
     let mut from = MemIn::new(b"abc");
     let mut to = MemOut::new(rt.alloc());
     let copied = copy(&mut from, &mut to);
-    assert_eq!(rt; (copied, from.next()), (Ok(()), Ok(None)));
+    assert!(rt; copied.is_ok());
+    assert!(rt; from.next() == Ok(None));
     assert_eq!(rt; to.bytes(), b"abc".as_slice());
 }
 
@@ -113,7 +114,7 @@ fn a_read_that_fails_and_a_read_of_no_byte(rt: HostRuntime) {
         Ok(None),
         Ok(None),
     ] {
-        assert_eq!(rt; end.next(), want);
+        assert!(rt; end.next() == want);
     }
     assert_eq!(rt; script.calls, 4);
 }

@@ -5,3 +5,5 @@ mod RowParts
 mod Shown
 mod Unresolved
 mod Located
+mod ReadTexts
+mod Excluded

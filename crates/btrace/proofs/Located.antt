@@ -14,7 +14,7 @@ use Rattle.bmach.proofs.Beginning.{run_from}
 use Rattle.bmach.proofs.Resolving.{run-resolved}
 use Rattle.bmach.proofs.Running.{same_run}
 use Rattle.brun.proofs.RunSteps.{outcome-resolved, run_loaded, run_of_loaded}
-use Rattle.blist.specs.Programs.{HasProgram}
+use Rattle.btools.specs.Programs.{HasProgram}
 use Rattle.btrace.specs.Programs.{Placed, functions_of}
 use Rattle.btrace.specs.Locates.{Locates, TellsSite, located, located_status, unlocated}
 use Rattle.btrace.specs.Traces.{steps_from}

@@ -2,8 +2,8 @@
 use Rattle.std.proofs.Common.{◌≡◌, ◌∙◌, ℕ, zero, suc, ◌+◌, ◌-◌, ◌<◌, Bool, None, Some, add-one, arith, List, [], ◌∷◌, ◌++◌, ap, append-nil, append_assoc, codes, decimal, length, nat_lt, refl, subst, sym, take, if◌then◌else◌}
 use Rattle.std.specs.List.{flat_map}
 use Rattle.std.proofs.lemmas.List.Concat.{flat_map-append}
-use Rattle.blist.specs.Columns.{left}
-use Rattle.blist.proofs.AddedRows.{piece}
+use Rattle.btools.specs.Columns.{left}
+use Rattle.btools.proofs.AddedTexts.{piece}
 use Rattle.std.specs.Prelude.{option_map, slice_get}
 use Rattle.std.proofs.lemmas.List.{map-append}
 use Rattle.blang.specs.Machine.{Call}

@@ -4,7 +4,7 @@ use Rattle.std.specs.List.{flat_map}
 use Rattle.std.proofs.lemmas.Bool.Decides.{nat_tests}
 use Rattle.std.proofs.lemmas.List.{length-drop, take_all, take_more}
 use Rattle.std.proofs.lemmas.List.Concat.{flat_map-append}
-use Rattle.blist.specs.Characters.{shown_byte}
+use Rattle.btools.specs.Characters.{shown_byte}
 use Rattle.btrace.specs.RowTexts.{changed_text, margin, operands_text, word_row, written_row}
 
 -- the rows of one more word

@@ -16,7 +16,7 @@ use Rattle.bmach.proofs.Beginning.{run_from}
 use Rattle.bmach.proofs.Resolving.{run-resolved}
 use Rattle.bmach.proofs.Running.{same_run}
 use Rattle.brun.proofs.RunSteps.{outcome-resolved, run_loaded, run_of_loaded, world-resolved}
-use Rattle.blist.specs.Programs.{HasProgram, nothing_written}
+use Rattle.btools.specs.Programs.{HasProgram, nothing_written}
 use Rattle.btrace.specs.Programs.{Placed, functions_of}
 use Rattle.btrace.specs.RowTexts.{changed_text, step_row, written_row}
 use Rattle.btrace.specs.Traces.{AreShown, EndsAs, IsTried, IsWhere, TraceRow, ShowsRows, ShowsStep, StepsGive, TellsEnd, Traces, Tries, is_step, shown_of, steps_from, traced, waits_at, which_of}

@@ -10,7 +10,7 @@ use Rattle.blang.specs.Machine.{Finishes, HasNotRun, Image, RunEnds, RunGives, m
 use Rattle.bmach.specs.Stepping.{BeginsNot}
 use Rattle.bmach.specs.Stops.{IsOverAt}
 use Rattle.bmach.specs.declared.machine.Active.{Active}
-use Rattle.blist.specs.Programs.{HasProgram, NoProgram}
+use Rattle.btools.specs.Programs.{HasProgram, NoProgram}
 use Rattle.btrace.specs.Programs.{Placed, functions_of}
 use Rattle.btrace.specs.RowTexts.{site_text}
 

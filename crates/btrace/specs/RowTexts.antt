@@ -5,9 +5,8 @@ use Rattle.std.specs.List.{flat_map}
 use Rattle.blang.specs.Machine.{Call}
 use Rattle.blang.specs.Text.{instr_line}
 use Rattle.blang.specs.declared.code.Instr.{Instr}
-use Rattle.blist.specs.Characters.{shown_byte}
-use Rattle.blist.specs.Columns.{left, right}
-use Rattle.blist.specs.Listings.{without_newline}
+use Rattle.btools.specs.Characters.{shown_byte}
+use Rattle.btools.specs.Columns.{left, right, without_newline}
 use Rattle.btrace.specs.Programs.{Placed, function_with}
 use Rattle.btrace.specs.declared.rows.TheConstants.{MARGIN, SHOWN_OPERANDS}
 

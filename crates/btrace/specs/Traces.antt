@@ -14,7 +14,7 @@ use Rattle.bmach.specs.Stepping.{BeginsNot, Paused, machine_at}
 use Rattle.blang.specs.declared.run.Outcome.{Outcome}
 use Rattle.blang.specs.declared.run.Outcome.TheVariants as outcome
 use Rattle.blang.specs.Layout.{World}
-use Rattle.blist.specs.Programs.{HasProgram, NoProgram, nothing_written}
+use Rattle.btools.specs.Programs.{HasProgram, NoProgram, nothing_written}
 use Rattle.btrace.specs.Programs.{Placed, function_named, functions_of}
 use Rattle.btrace.specs.RowTexts.{Place, changed_text, places_text, step_row, written_row}
 use Rattle.btrace.specs.declared.tracing.TheConstants.{HEADING, UNNAMED}

@@ -7,5 +7,5 @@ mod rows;
 mod tables;
 mod tracing;
 
-pub use locating::locate;
-pub use tracing::{Wanted, trace};
+pub use locating::{locate, wrong_places_are_excluded};
+pub use tracing::{Wanted, trace, wrong_traces_are_excluded};

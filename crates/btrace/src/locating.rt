@@ -1,5 +1,6 @@
 //! Telling where a run was over.
 ghost use Rattle.std.specs.Prelude.{◌≡◌, ℕ, IfOk};
+ghost use Rattle.btrace.specs.Excluded.{LocatesExcluded};
 ghost use Rattle.btrace.specs.Locates.{Locates, TellsSite, located_status, site_line};
 ghost use Rattle.btrace.specs.Programs.{entries_of};
 
@@ -7,10 +8,10 @@ use crate::places::push_site;
 use crate::tables::Tables;
 use blang::Outcome;
 use blang::status::{self, Status};
-use blist::{Text, read_program, tell};
 use bmach::{Active, Stepper};
 use bpages::PagedStore;
 use brun::finish;
+use btools::{Text, read_program, tell};
 use bword::{ByteIn, ByteOut, Edition};
 use std::alloc::{AllocError, Global};
 
@@ -98,3 +99,9 @@ fn site_line(alloc: Global, tables: &Tables<'_>, call: Active) -> Result<Text, A
     text.push(b"\n")?;
     Ok(text)
 }
+
+/// What is told of no run: its trap or its limit without the place, another place, another status than that of just so
+/// many steps.
+pub fn wrong_places_are_excluded()
+    ensures { LocatesExcluded }
+{}

@@ -6,8 +6,8 @@ ghost use Rattle.btrace.specs.Traces.{AddsPlaces};
 
 use crate::rows::{frame_address, name_of};
 use crate::tables::Tables;
-use blist::Text;
 use bmach::{Active, Stepper};
+use btools::Text;
 use bword::Store;
 use std::alloc::AllocError;
 

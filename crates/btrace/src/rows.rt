@@ -1,16 +1,16 @@
 //! The rows of a trace.
 ghost use Rattle.std.specs.Prelude.{◌≡◌, ℕ, List, [], ◌+◌, ◌^◌, ◌<◌, ◌++◌, OnOk, option_map};
 ghost use Rattle.std.specs.List.{flat_map};
-ghost use Rattle.blist.specs.Characters.{shown_byte};
-ghost use Rattle.blist.specs.Columns.{left};
+ghost use Rattle.btools.specs.Characters.{shown_byte};
+ghost use Rattle.btools.specs.Columns.{left};
 ghost use Rattle.btrace.specs.Programs.{entries_of, placed_entry};
 ghost use Rattle.btrace.specs.RowTexts.{changed_text, instr_in, instr_text, margin, name_in, operands_text, step_row, word_row, written_row};
 
 use crate::tables::{Entry, Tables};
 use bcode::{Page, push_instr_line};
 use blang::Instr;
-use blist::{Text, push_byte};
 use bmach::{Active, FIRST_ADDRESS, Stepper};
+use btools::{Text, push_byte};
 use bword::Store;
 use std::alloc::AllocError;
 

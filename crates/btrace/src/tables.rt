@@ -4,8 +4,8 @@ ghost use Rattle.blang.specs.Layout.{data_end, shape_of};
 ghost use Rattle.btrace.specs.Programs.{entries_of, function_with, function_named, functions_of, placed_entry};
 
 use blang::{Definition, FunctionParts};
-use blist::{Program, lines_in};
 use bmach::{FIRST_ADDRESS, size_of};
+use btools::{Program, lines_in};
 use std::alloc::{AllocError, Global};
 
 /// A function of a program.

@@ -4,6 +4,7 @@ ghost use Rattle.blang.specs.Layout.{data_end, shape_of};
 ghost use Rattle.bmach.specs.Stepping.{machine_at};
 ghost use Rattle.bmach.specs.Turns.{KeepsBelow, TurnGives};
 ghost use Rattle.bword.specs.ByteEnds.{Kept, outgoing_of};
+ghost use Rattle.btrace.specs.Excluded.{TracesExcluded};
 ghost use Rattle.btrace.specs.Programs.{entries_of, functions_of};
 ghost use Rattle.btrace.specs.Traces.{AddsEnd, AddsIf, ShowsRows, StepsGive, Traces, is_wanted, steps_from, which_of};
 
@@ -12,10 +13,10 @@ use crate::rows::{change_of, push_change, push_step, push_written};
 use crate::tables::Tables;
 use blang::Outcome;
 use blang::status::{self, Status};
-use blist::{Text, read_program, tell};
 use bmach::{Active, Stepper};
 use bpages::PagedStore;
 use brun::finish;
+use btools::{Text, read_program, tell};
 use bword::{ByteIn, ByteOut, Edition, MemOut, Store};
 use std::alloc::{AllocError, Global};
 
@@ -243,3 +244,9 @@ fn push_end<S: Store + Drop>(
         Outcome::Exit(_) | Outcome::Device | Outcome::Memory => Ok(()),
     }
 }
+
+/// What no trace is: a row too few, too many or at another step, a row or a place that shows another state, another
+/// status than that of just so many steps.
+pub fn wrong_traces_are_excluded()
+    ensures { TracesExcluded }
+{}

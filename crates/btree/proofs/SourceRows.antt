@@ -14,8 +14,8 @@ use Rattle.btree.specs.DefinitionReader.{definition}
 use Rattle.blang.specs.Scan.{identifier_of}
 use Rattle.blang.specs.Code.{fault_of}
 use Rattle.blang.specs.WellFormed.{fault_at}
-use Rattle.blang.specs.Compiles.{Defined, Compilation, compiled_text, CompilesTo, code_text}
-use Rattle.btree.specs.SourceRows.{fault_text, ComesIn, Comes, ComesInTwo, WorkedRows, FunctionRows, FaultRows, PlaceRows, EditionRows}
+use Rattle.blang.specs.Compiles.{Defined, Compilation, compiled_text, CompilesTo, code_text, fault_text}
+use Rattle.btree.specs.SourceRows.{ComesIn, Comes, ComesInTwo, WorkedRows, FunctionRows, FaultRows, PlaceRows, EditionRows}
 use Rattle.btree.proofs.Outcomes.{Ended}
 use Rattle.btree.proofs.GoesLaws.{goes_end, tokens_from-ended}
 use Rattle.btree.proofs.GoesReads.{goes_behind_read, goes_fault_read, goes_stop_read, ended_read}

@@ -1,15 +1,9 @@
 -- What is written for whole sources: the code text, and the line of the diagnostic.
-use Rattle.std.specs.Prelude.{◌≡◌, ℕ, List, [], codes, Option, Some, None}
+use Rattle.std.specs.Prelude.{◌≡◌, ℕ, List, [], codes}
 use Rattle.bword.specs.declared.edition.Edition.{Edition}
 use Rattle.bword.specs.declared.edition.Edition.TheVariants as editions
-use Rattle.blang.specs.declared.token.Diagnostic.{Diagnostic}
 use Rattle.blang.specs.Cut.{tokens_from}
-use Rattle.blang.specs.Compiles.{Compilation, CompilesTo, code_text, line_of}
-
--- the line of a diagnostic, if there is one
-abbrev pub fault_text : Option Diagnostic → List ℕ
-fault_text None = []
-fault_text (Some d) = line_of d
+use Rattle.blang.specs.Compiles.{Compilation, CompilesTo, code_text, fault_text}
 
 -- This code text and this line come of the source in an edition, and nothing else does.
 pub record ComesIn (edition : Edition) (source code line : List ℕ) : Type 0 where

@@ -1,6 +1,6 @@
 -- Strings in a store of four words, of which word 2 holds `ab`.
-use Rattle.std.specs.Prelude.{◌≡◌, ℕ, List, [], ◌∷◌, map, refl}
-use Rattle.bword.specs.Words.{byte_address, char_of, with_char}
+use Rattle.std.specs.Prelude.{◌≡◌, ℕ, List, [], ◌∷◌, map, length, slice_index, refl}
+use Rattle.bword.specs.Words.{byte_address, char_of, with_char, zeros}
 
 abbrev words : List ℕ
 words = 7 ∷ 8 ∷ 25185 ∷ 515 ∷ []
@@ -31,3 +31,8 @@ address p = byte_address p.0 p.1
 addresses : map address ((10, 0) ∷ (10, 1) ∷ (10, 2) ∷ (10, 65535) ∷ (65535, 1) ∷ (65535, 3) ∷ []) ≡
     10 ∷ 10 ∷ 11 ∷ 32777 ∷ 65535 ∷ 0 ∷ []
 addresses = refl
+
+-- a store that was just made holds zeros, as many as it has words
+zeros_alone : (length zeros ≡ 65536) × (map (slice_index zeros) (0 ∷ 1 ∷ 65535 ∷ []) ≡ 0 ∷ 0 ∷ 0 ∷ [])
+unfolding zeros
+zeros_alone = (refl, refl)

@@ -1,7 +1,7 @@
 //! The editions of the language.
 
 /// An edition of the language and of its code text.
-#[derive(Clone, Copy, Debug, PartialEq, Eq)]
+#[derive(Clone, Copy)]
 pub enum Edition {
     One,
     /// With `break` and `default`.

@@ -4,7 +4,7 @@ ghost use Rattle.std.specs.Io.{StartsWith};
 ghost use Rattle.bword.specs.ByteEnds.{most, Incoming, NextGives, GivesReady, TakesReady, Outgoing, PutGives};
 
 /// A read failed.
-#[derive(Clone, Copy, Debug, PartialEq, Eq)]
+#[derive(Clone, Copy, PartialEq, Eq)]
 pub struct Device;
 
 /// An end that gives bytes, one a call.

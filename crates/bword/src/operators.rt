@@ -3,7 +3,7 @@ ghost use Rattle.std.specs.Prelude.{◌≡◌, ◌*◌, ◌/◌, ◌%◌, ◌^�
 ghost use Rattle.bword.specs.Words.{binary_of, negate_of, not_of, quotient_of, remainder_of, signed_of};
 
 /// A binary operator, named as Rust's traits name it.
-#[derive(Clone, Copy, Debug, PartialEq, Eq)]
+#[derive(Clone, Copy, PartialEq, Eq)]
 pub enum BinOp {
     /// `|`
     Or,
@@ -38,7 +38,7 @@ pub enum BinOp {
 }
 
 /// A division or a remainder by zero.
-#[derive(Clone, Copy, Debug, PartialEq, Eq)]
+#[derive(Clone, Copy, PartialEq, Eq)]
 pub struct DivZero;
 
 /// What an operator makes of two words.

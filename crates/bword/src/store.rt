@@ -6,7 +6,7 @@ ghost use Rattle.bword.specs.Words.{IsStore, byte_address, byte_of, char_of, wit
 pub const STORE_LEN: usize = 65536;
 
 /// A store was refused memory.
-#[derive(Clone, Copy, Debug, PartialEq, Eq)]
+#[derive(Clone, Copy, Debug)]
 pub struct NoMemory;
 
 /// The 65536 words of a machine, by their addresses.

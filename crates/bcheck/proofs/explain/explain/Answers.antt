@@ -1,7 +1,7 @@
-use Rattle.std.proofs.Common.{◌≡◌, ap, arith, length, string_bytes, vec_items}
+use Rattle.std.proofs.Common.{◌≡◌, ap, arith, length, vec_items}
 use Rattle.bcheck.specs.declared.form.Form.TheVariants as form
 use Rattle.bcheck.specs.Checks.{status_told}
-use Rattle.bcheck.proofs.AddedWords.{all_findings, finding_more}
+use Rattle.bcheck.proofs.AddedFindings.{all_findings, finding_more}
 use Rattle.bcheck.proofs.explain.explain.Goals as goal
 use Rattle.bcheck.proofs.explain.explain.Goals.{in-Text+in_ok-write-in-Text, in-Json+in_ok-write-in-Json}
 
@@ -15,7 +15,7 @@ returns c =
 pub loop-finding-preserved : goal.loop-finding-preserved
 loop-finding-preserved c = elim c.match-asked.branch [
   | in-Text+in_ok-write-in-Text w ↦
-      finding_more c.args.asked.form form.Text _ c.severity-severity.result c.args.asked.file.now _ _ _ c.loop-finding.finding-index w.in-Text.is c.severity-severity.ensures (ap string_bytes w.said-is) c.loop-finding.invariant w.in_ok-write-in-Text.ensures
+      finding_more c.args.asked.form form.Text _ c.severity-severity.result c.args.asked.file.now _ _ _ c.loop-finding.finding-index w.in-Text.is c.severity-severity.ensures w.said-is c.loop-finding.invariant w.in_ok-write-in-Text.ensures
   | in-Json+in_ok-write-in-Json w ↦
-      finding_more c.args.asked.form form.Json _ c.severity-severity.result c.args.asked.file.now _ _ _ c.loop-finding.finding-index w.in-Json.is c.severity-severity.ensures (ap string_bytes w.said-is) c.loop-finding.invariant w.in_ok-write-in-Json.ensures
+      finding_more c.args.asked.form form.Json _ c.severity-severity.result c.args.asked.file.now _ _ _ c.loop-finding.finding-index w.in-Json.is c.severity-severity.ensures w.said-is c.loop-finding.invariant w.in_ok-write-in-Json.ensures
 ]

@@ -1,8 +1,7 @@
-use Rattle.std.proofs.Common.{string_bytes}
 use Rattle.bcheck.specs.Checks.{status_told}
-use Rattle.bcheck.proofs.AddedWords.{FindingsSoFar}
+use Rattle.bcheck.proofs.AddedFindings.{FindingsSoFar}
 use Rattle.bcheck.proofs.explain.explain.Given as goal
 
 abbrev pub invariant-loop-finding : goal.invariant-loop-finding
 invariant-loop-finding l =
-    FindingsSoFar l.fn.asked.form (status_told l.fn.verdict) l.fn.asked.file.now l.finding-index (string_bytes l.said)
+    FindingsSoFar l.fn.asked.form (status_told l.fn.verdict) l.fn.asked.file.now l.finding-index l.said

@@ -1,7 +1,7 @@
 use Rattle.std.proofs.Common.{◌∙◌, ◌++◌, ap, arith, codes}
 use Rattle.std.specs.List.{flat_map}
 use Rattle.std.proofs.lemmas.List.{take_all}
-use Rattle.blist.proofs.AddedRows.{each_more}
+use Rattle.btools.proofs.AddedTexts.{each_more}
 use Rattle.bdraw.specs.Shapes.{beginning, shape_text}
 use Rattle.bdraw.proofs.shapes.picture_text.Goals as goal
 

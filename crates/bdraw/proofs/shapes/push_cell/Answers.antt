@@ -1,6 +1,6 @@
 use Rattle.std.proofs.Common.{◌∙◌, ◌++◌, ◌+◌, ◌%◌, ◌^◌, ℕ, List, ap, codes, decimal}
 use Rattle.std.proofs.lemmas.Result.{on_ok_weaker}
-use Rattle.blist.proofs.AddedRows.{piece}
+use Rattle.btools.proofs.AddedTexts.{piece}
 use Rattle.bdraw.specs.Shapes.{svg_opening, text_element}
 use Rattle.bdraw.proofs.shapes.push_cell.Goals as goal
 

@@ -1,6 +1,6 @@
 use Rattle.std.proofs.Common.{◌∙◌, ◌++◌, ap, arith, get_or}
 use Rattle.std.proofs.lemmas.List.{get_or_default, take_all}
-use Rattle.blist.proofs.AddedRows.{each_more}
+use Rattle.btools.proofs.AddedTexts.{each_more}
 use Rattle.bdraw.specs.Shapes.{escape, escaped}
 use Rattle.bdraw.proofs.shapes.push_escaped.Goals as goal
 

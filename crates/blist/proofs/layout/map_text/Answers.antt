@@ -5,7 +5,7 @@ use Rattle.blang.specs.declared.code.Definition.{Definition}
 use Rattle.blang.specs.Layout.{shape_of}
 use Rattle.blist.specs.declared.layout.TheConstants.{HEADING}
 use Rattle.blist.specs.Maps.{map_row}
-use Rattle.blist.proofs.AddedRows.{each_more}
+use Rattle.btools.proofs.AddedTexts.{each_more}
 use Rattle.blist.proofs.layout.map_text.Goals as goal
 
 pub loop-definition-preserved : goal.loop-definition-preserved

@@ -2,9 +2,10 @@ use Rattle.std.proofs.Common.{◌≡◌, ◌∙◌, ◌++◌, ap, codes, decimal
 use Rattle.std.specs.Prelude.{min, unwrap_or}
 use Rattle.std.proofs.lemmas.Result.{on_ok_weaker}
 use Rattle.blang.specs.Layout.{shape_of, size_of}
-use Rattle.blist.specs.Columns.{left, right}
-use Rattle.blist.specs.Maps.{image_address, dots, words_from}
-use Rattle.blist.proofs.AddedRows.{piece}
+use Rattle.btools.specs.Columns.{left, right}
+use Rattle.blist.specs.Maps.{dots, words_from}
+use Rattle.btools.specs.Programs.{image_address}
+use Rattle.btools.proofs.AddedTexts.{piece}
 use Rattle.blist.proofs.layout.push_row.Goals as goal
 
 pub returns : goal.returns

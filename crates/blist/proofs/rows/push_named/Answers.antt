@@ -1,7 +1,7 @@
 use Rattle.std.proofs.Common.{codes, refl}
 use Rattle.std.proofs.lemmas.Result.{on_ok_weaker}
 use Rattle.blist.proofs.AddedRows.{extends, extends_both}
-use Rattle.blist.specs.Characters.{shown_word}
+use Rattle.btools.specs.Characters.{shown_word}
 use Rattle.blist.proofs.Printable.{name, word_shown}
 use Rattle.blist.proofs.rows.push_named.Goals as goal
 

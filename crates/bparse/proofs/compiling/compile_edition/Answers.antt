@@ -1,5 +1,6 @@
 use Rattle.std.proofs.Common.{refl}
 use Rattle.bparse.proofs.CompileSteps.{compiles_between, done, faulty, cut_off, device, memory}
+use Rattle.bparse.proofs.CompileHeadlines.{compile_headline}
 use Rattle.bparse.proofs.compiling.compile_edition.Goals as goal
 
 pub returns-in-Finished-clause-compiles : goal.returns-in-Finished-clause-compiles
@@ -18,3 +19,18 @@ returns-in-Device-clause-compiles g c = compiles_between _ _ c.in-Device.ensures
 
 pub returns-in-Memory-clause-compiles : goal.returns-in-Memory-clause-compiles
 returns-in-Memory-clause-compiles g c = compiles_between _ _ c.in-Memory.ensures.gives (λ first last l. memory first last _ _ l refl)
+
+pub returns-in-Finished-clause-headline : goal.returns-in-Finished-clause-headline
+returns-in-Finished-clause-headline g c = compile_headline _ (returns-in-Finished-clause-compiles g c)
+
+pub returns-in-Ok-clause-headline : goal.returns-in-Ok-clause-headline
+returns-in-Ok-clause-headline g c = compile_headline _ (returns-in-Ok-clause-compiles g c)
+
+pub returns-in-Err-clause-headline : goal.returns-in-Err-clause-headline
+returns-in-Err-clause-headline g c = compile_headline _ (returns-in-Err-clause-compiles g c)
+
+pub returns-in-Device-clause-headline : goal.returns-in-Device-clause-headline
+returns-in-Device-clause-headline g c = compile_headline _ (returns-in-Device-clause-compiles g c)
+
+pub returns-in-Memory-clause-headline : goal.returns-in-Memory-clause-headline
+returns-in-Memory-clause-headline g c = compile_headline _ (returns-in-Memory-clause-compiles g c)

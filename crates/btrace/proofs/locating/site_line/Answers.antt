@@ -1,5 +1,5 @@
 use Rattle.std.proofs.Common.{◌∙◌, ◌++◌, ap, codes}
-use Rattle.blist.proofs.AddedRows.{piece}
+use Rattle.btools.proofs.AddedTexts.{piece}
 use Rattle.btrace.specs.Programs.{entries_of}
 use Rattle.btrace.specs.Locates.{site_line}
 use Rattle.btrace.specs.RowTexts.{site_text}

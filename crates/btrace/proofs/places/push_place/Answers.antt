@@ -1,6 +1,6 @@
 use Rattle.std.proofs.Common.{◌++◌, codes}
 use Rattle.std.proofs.lemmas.Result.{on_ok_weaker}
-use Rattle.blist.proofs.AddedRows.{piece}
+use Rattle.btools.proofs.AddedTexts.{piece}
 use Rattle.btrace.specs.Programs.{entries_of}
 use Rattle.btrace.specs.RowTexts.{site_text, words_text}
 use Rattle.btrace.proofs.places.push_place.Goals as goal

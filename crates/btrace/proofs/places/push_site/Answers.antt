@@ -1,6 +1,6 @@
 use Rattle.std.proofs.Common.{◌∙◌, ap, codes, decimal}
 use Rattle.std.proofs.lemmas.Result.{on_ok_weaker}
-use Rattle.blist.specs.Columns.{right}
+use Rattle.btools.specs.Columns.{right}
 use Rattle.btrace.specs.Programs.{entries_of, function_with}
 use Rattle.btrace.specs.RowTexts.{name_in}
 use Rattle.btrace.proofs.PlaceParts.{site_parts}

@@ -1,6 +1,6 @@
 use Rattle.std.proofs.Common.{◌≡◌, ◌++◌, take}
 use Rattle.std.specs.List.{flat_map}
-use Rattle.blist.specs.Characters.{shown_byte}
+use Rattle.btools.specs.Characters.{shown_byte}
 use Rattle.btrace.proofs.rows.push_bytes.Given as goal
 
 -- the bytes so far are shown

@@ -2,8 +2,8 @@ use Rattle.std.proofs.Common.{◌≡◌, ◌∙◌, ◌+◌, ◌++◌, ap, codes
 use Rattle.std.specs.Prelude.{option_map}
 use Rattle.std.proofs.lemmas.List.{reverse-reverse}
 use Rattle.std.proofs.lemmas.Result.{on_ok_weaker}
-use Rattle.blist.specs.Columns.{left, right}
-use Rattle.blist.proofs.AddedRows.{piece}
+use Rattle.btools.specs.Columns.{left, right}
+use Rattle.btools.proofs.AddedTexts.{piece}
 use Rattle.bmach.specs.declared.machine.Active.{Active}
 use Rattle.btrace.specs.Programs.{entries_of, function_with, placed_entry}
 use Rattle.btrace.specs.RowTexts.{instr_in, instr_text, name_in, operands_text}

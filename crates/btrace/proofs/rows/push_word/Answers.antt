@@ -1,6 +1,6 @@
 use Rattle.std.proofs.Common.{◌∙◌, ◌++◌, codes, decimal}
 use Rattle.std.proofs.lemmas.Result.{on_ok_weaker}
-use Rattle.blist.proofs.AddedRows.{piece}
+use Rattle.btools.proofs.AddedTexts.{piece}
 use Rattle.btrace.specs.RowTexts.{margin}
 use Rattle.btrace.proofs.rows.push_word.Goals as goal
 

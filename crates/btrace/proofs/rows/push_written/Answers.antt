@@ -1,6 +1,6 @@
 use Rattle.std.proofs.Common.{◌∙◌, ◌++◌, ap, sym}
 use Rattle.std.proofs.lemmas.Result.{on_ok_weaker}
-use Rattle.blist.proofs.AddedRows.{piece}
+use Rattle.btools.proofs.AddedTexts.{piece}
 use Rattle.btrace.proofs.RowParts.{some_written}
 use Rattle.btrace.proofs.rows.push_written.Goals as goal
 

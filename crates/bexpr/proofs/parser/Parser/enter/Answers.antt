@@ -1,4 +1,4 @@
-use Rattle.std.proofs.Common.{ap}
+use Rattle.std.proofs.Common.{ap, rules}
 use Rattle.btree.specs.ExpressionReader.{inner}
 use Rattle.bexpr.proofs.Moving.{halt_here}
 use Rattle.bexpr.proofs.parser.Parser.enter.Goals as goal
@@ -6,3 +6,6 @@ use Rattle.bexpr.proofs.parser.Parser.enter.Goals as goal
 pub returns-then-room-eq0-clause-tokens : goal.returns-then-room-eq0-clause-tokens
 returns-then-room-eq0-clause-tokens g c =
     halt_here {f = (inner c.args.room).enter} c.requires.loaded (λ u e n. ap (λ r. (inner r).enter u) c.if-room-eq0.true)
+
+pub returns-clause-tokens : goal.returns-clause-tokens
+returns-clause-tokens g c = search rules

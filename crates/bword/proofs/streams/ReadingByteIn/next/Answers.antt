@@ -1,3 +1,4 @@
+use Rattle.std.proofs.lemmas.Grind.{common_steps}
 use Rattle.std.proofs.Common.{arith, refl, ◌+◌, take}
 use Rattle.std.proofs.KnownBytes.{Keeps-refl}
 use Rattle.std.proofs.Common.{length-take}
@@ -20,3 +21,6 @@ returns-clause-gives g c = elim c.if-self.branch [
       rw (w.self-inside-is, ← c.self.view_is)
       (buffer_gives _ _ _ s.buffer s.at s.filled s.fetched _ s.failures s.is_over (Keeps-refl _) (omega arith) (omega arith) (omega arith) (omega arith) refl not_over)
 ]
+
+pub returns-in-Err-clause-gives : goal.returns-in-Err-clause-gives
+returns-in-Err-clause-gives g c = grind (arith, common_steps)

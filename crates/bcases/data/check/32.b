@@ -1,0 +1,1 @@
+main() { auto a; a = &x; }

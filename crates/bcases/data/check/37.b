@@ -1,0 +1,1 @@
+f() switch 1 { default: ; default: ; }

@@ -1,0 +1,4 @@
+main() {
+    printm(1, 10);
+    printm(2, 10);
+}

@@ -1,0 +1,1 @@
+f(x, y) while(x===y) f();

@@ -1,0 +1,1 @@
+f(x) { auto a, b; f(a); }

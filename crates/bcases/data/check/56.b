@@ -1,0 +1,1 @@
+f(x) x = 2; main() printn(f(1), 10);

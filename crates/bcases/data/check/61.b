@@ -1,0 +1,1 @@
+f(x) { if(x == 'a') f("a"); putchar('a'); }

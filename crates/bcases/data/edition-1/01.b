@@ -1,0 +1,1 @@
+default 5, 'a', break; break[2];

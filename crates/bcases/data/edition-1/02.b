@@ -1,0 +1,1 @@
+f(break, default) break = default;

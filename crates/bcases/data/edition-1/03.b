@@ -1,0 +1,2 @@
+main() while(1)
+break;

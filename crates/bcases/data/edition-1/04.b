@@ -1,0 +1,2 @@
+f() switch 1 { default: ;
+default: ; }

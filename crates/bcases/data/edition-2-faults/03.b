@@ -1,0 +1,3 @@
+f() { switch 1 { }
+
+default: ; }

@@ -1,0 +1,2 @@
+f()
+while(1) default: ;

@@ -1,0 +1,4 @@
+f() switch 1 {
+default: ;
+case 2: ;
+default: ; }

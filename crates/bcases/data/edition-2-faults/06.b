@@ -1,0 +1,2 @@
+f() switch 1 { default: switch 2 { default: ; }
+default: ; }

@@ -1,0 +1,2 @@
+a; f() switch 1 { case 1: default: ;
+case 1: ; }

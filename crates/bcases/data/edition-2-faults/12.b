@@ -1,0 +1,1 @@
+f() while(1) break }

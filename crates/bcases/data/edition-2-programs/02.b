@@ -1,0 +1,1 @@
+main(){switch 5 { if(0) default: putchar('d'); putchar('e'); }}

@@ -1,0 +1,1 @@
+main(){auto i; i=0; switch 9 { while(i<2) { default: putchar('a'); i++; } break; case 1: putchar('1'); } putchar('b');}

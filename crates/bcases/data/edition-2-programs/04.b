@@ -1,0 +1,1 @@
+main(){auto i; i=0; L: while(1) { i++; if(i<3) goto L; break; } printn(i,10);}

@@ -1,0 +1,1 @@
+main(){switch 9 {default: ;}}

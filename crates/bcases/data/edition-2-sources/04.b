@@ -1,0 +1,1 @@
+f() switch 1 { while(1) default: ; }

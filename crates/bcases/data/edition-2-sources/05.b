@@ -1,0 +1,1 @@
+f() { while(1) { switch 2 { case 3: break; default: while(4) break; } break; } }

@@ -1,0 +1,3 @@
+f() switch 1 {
+case 1:
+case 1: ; }

@@ -1,0 +1,3 @@
+f() { goto M;
+goto
+L; M: ; }

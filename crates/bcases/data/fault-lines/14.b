@@ -1,0 +1,2 @@
+f() { goto M;
+goto L; }

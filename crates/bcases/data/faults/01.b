@@ -1,0 +1,1 @@
+f() { extrn a; auto a; ; }

@@ -1,0 +1,1 @@
+f() switch 1 { case 2: ; case 2: ; }

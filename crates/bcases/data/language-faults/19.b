@@ -1,0 +1,1 @@
+main() { auto a, b; if(a || b) ; }

@@ -1,0 +1,1 @@
+main() { auto i; i = 0; do i++; while(i < 3); }

@@ -1,0 +1,1 @@
+main() switch 1 { case -1: ; }

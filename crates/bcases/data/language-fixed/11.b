@@ -1,0 +1,1 @@
+main() { extrn x; return(x); } x 3;

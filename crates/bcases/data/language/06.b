@@ -1,0 +1,1 @@
+main() { extrn n; printn(n, 10); } n 42;

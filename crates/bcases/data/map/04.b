@@ -1,0 +1,1 @@
+main() { printn(n, 10); }

@@ -1,0 +1,5 @@
+main() {
+    auto i;
+    i = 5
+    printn(i, 10);
+}

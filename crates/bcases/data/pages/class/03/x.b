@@ -1,0 +1,4 @@
+total 7;
+main() {
+    printn(total, 10);
+}

@@ -1,0 +1,5 @@
+main() {
+    auto s;
+    s = "hello;
+    putchar(char(s, 0));
+}

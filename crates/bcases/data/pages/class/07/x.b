@@ -1,0 +1,6 @@
+main() {
+    auto v 3, i;
+    i = 1;
+    v[4] = 2;
+    printn(i, 10);
+}

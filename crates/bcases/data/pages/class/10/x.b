@@ -1,0 +1,5 @@
+main() {
+    auto i;
+    i=-1;
+    printn(i, 10);
+}

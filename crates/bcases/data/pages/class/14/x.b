@@ -1,0 +1,5 @@
+greet(n)
+    while(n-- > 0)
+        putchar('!');
+main()
+    greet(3, '?');

@@ -1,0 +1,6 @@
+main() {
+    auto x;
+    x = 5;
+    x=-1;
+    printn(x, 10);
+}

@@ -1,0 +1,4 @@
+main()
+    if(1)
+        if(0) putchar('a');
+        else putchar('b');

@@ -1,0 +1,9 @@
+main() {
+    goto in;
+    while(1) {
+        putchar('a');
+in:
+        break;
+    }
+    putchar('k');
+}

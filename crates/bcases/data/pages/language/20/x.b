@@ -1,0 +1,6 @@
+main() {
+    auto x;
+    x = 5;
+    printn(x++, 10); printn(x, 10); printn(++x, 10);
+    printn(x--, 10); printn(--x, 10);
+}

@@ -1,0 +1,1 @@
+main() 1 ? putchar('t') : putchar('f');

@@ -1,0 +1,2 @@
+p(x) { putchar(x); return(x); }
+main() p('a') - p('b');

@@ -1,0 +1,4 @@
+main() {
+    { auto a; a = 5; }
+    printn(a, 10);
+}

@@ -1,0 +1,1 @@
+n 0; main() { extrn n; n(); }

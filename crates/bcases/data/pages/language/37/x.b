@@ -1,0 +1,1 @@
+main() goto 9;

@@ -1,0 +1,4 @@
+main() {
+    auto i;
+    i = n;
+}

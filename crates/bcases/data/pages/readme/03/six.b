@@ -1,0 +1,1 @@
+main() { printn(6 * 7, 10); putchar('*n'); }

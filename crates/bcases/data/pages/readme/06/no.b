@@ -1,0 +1,1 @@
+main() { printn(n, 10); } n 42;

@@ -1,0 +1,1 @@
+main() { putchar('a'); printn(1 / 0, 10); }

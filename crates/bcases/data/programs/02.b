@@ -1,0 +1,1 @@
+main(){auto i; i=0; L: auto v 1; v[0]=i; putchar('0'+v[0]); v=0; i++; if(i<3) goto L;}

@@ -1,0 +1,1 @@
+main(){auto i; i=0; switch 2 {case 1: while(i<3){case 2: putchar('a'+i); i++;}}}

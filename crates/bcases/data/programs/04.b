@@ -1,0 +1,1 @@
+f(x){return(x*2);} main(){printn(1+f(2)*3-f(f(1)),10);}

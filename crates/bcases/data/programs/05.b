@@ -1,0 +1,1 @@
+f(n){if(n) return(1+f(n-1)); return(0);} main(){printn(f(4094),10);}

@@ -1,0 +1,1 @@
+main(){auto a; a=256; while(a){*a=a; a=+256;} a=256; while(a){if(*a!=a) putchar('x'); a=+256;} putchar('k');}

@@ -1,0 +1,5 @@
+main() {
+L:  f(L);
+}
+f(a)
+    goto a;

@@ -1,0 +1,2 @@
+n 5;
+main() { extrn n; n++; }

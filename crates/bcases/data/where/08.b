@@ -1,0 +1,3 @@
+main() f(11);
+f(base)
+    printn(5, base);

@@ -1,0 +1,370 @@
+-- The texts of findings: where each ends, how many lines it has, and of which bytes it consists.
+use Rattle.std.proofs.Common.{◌≡◌, ◌≢◌, ◌∙◌, ◌<◌, ◌≤◌, ◌+◌, ◌*◌, ◌/◌, ◌%◌, ◌==◌, ℕ, zero, suc, List, [], ◌∷◌, ◌++◌, Bool, true, false, IsTrue, if◌then◌else◌, ap, append-nil, append_assoc, arith, codes, decimal, length, nat_le, refl, subst, sym}
+use Rattle.std.specs.Prelude.{◌&&◌, ◌||◌, nat_lt}
+use Rattle.std.specs.Fmt.{digits, digits_onto, digit_glyph}
+use Rattle.std.specs.Int.{is_in_range}
+use Rattle.std.specs.List.{count_by, flat_map, list_all}
+use Rattle.std.proofs.lemmas.Bool.Decides.{nat_tests}
+use Rattle.std.proofs.lemmas.List.{append_cancel_left}
+use Rattle.std.proofs.Math.Nat.{add_comm, mod-lt, suc-mul, zero-add, zero-mul}
+use Rattle.std.proofs.lemmas.List.Folds.{list_all-append}
+use Rattle.std.proofs.lemmas.List.Sums.{sum_by-append}
+use Rattle.bcheck.specs.Checks.{FindingParts, finding_head, finding_start, finding_text, finding_words, findings_text, is_on_line, json_byte, json_text, severity_of, severity_word}
+use Rattle.bcheck.specs.Excluded.{finding_lines, is_printed, newlines}
+use Rattle.bcheck.specs.declared.finding.Severity.{Severity}
+use Rattle.bcheck.specs.declared.finding.Severity.TheVariants as severity
+use Rattle.bcheck.specs.declared.form.Form.{Form}
+use Rattle.bcheck.specs.declared.form.Form.TheVariants as form
+
+both : (a b : Bool) → IsTrue a → IsTrue b → IsTrue (a && b)
+both a b g h = rw (g, h) refl
+
+first : (a b : Bool) → IsTrue (a && b) → IsTrue a
+first true b h = refl
+first false b h = h
+
+second : (a b : Bool) → IsTrue (a && b) → IsTrue b
+second true b h = h
+second false b h = cc
+
+-- Texts all of whose bytes pass a test.
+module _ (p : ℕ → Bool) where
+  abbrev All : List ℕ → Type 0
+  All text = IsTrue (list_all p text)
+
+  all_more : (a b : List ℕ) → All a → All b → All (a ++ b)
+  all_more a b g h = subst IsTrue (sym (list_all-append p a b)) (both _ _ g h)
+
+  all_in_each : (f : ℕ → List ℕ) (q : ℕ → Bool) → ((b : ℕ) → IsTrue (q b) → All (f b)) → (bs : List ℕ) → IsTrue (list_all q bs) → All (flat_map f bs)
+  all_in_each f q each [] h = refl
+  all_in_each f q each (b ∷ bs) h = all_more (f b) (flat_map f bs) (each b (first (q b) _ h)) (all_in_each f q each bs (second (q b) _ h))
+
+  all_weaker : (q : ℕ → Bool) → ((b : ℕ) → IsTrue (q b) → IsTrue (p b)) → (bs : List ℕ) → IsTrue (list_all q bs) → All bs
+  all_weaker q weaker [] h = refl
+  all_weaker q weaker (b ∷ bs) h = both _ _ (weaker b (first (q b) _ h)) (all_weaker q weaker bs (second (q b) _ h))
+
+  -- Two texts whose first bytes pass begin alike up to the byte that doesn't.
+  same_to : (a b u v : List ℕ) (x y : ℕ) → All a → All b → p x ≡ false → p y ≡ false → a ++ x ∷ u ≡ b ++ y ∷ v → (a ≡ b) × (x ∷ u ≡ y ∷ v)
+  same_to [] [] u v x y g h i j e = (refl, e)
+  same_to [] (c ∷ b) u v x y g h i j e = let same : x ≡ c = cc in let passes = first (p c) _ h in cc
+  same_to (c ∷ a) [] u v x y g h i j e = let same : c ≡ y = cc in let passes = first (p c) _ g in cc
+  same_to (c ∷ a) (d ∷ b) u v x y g h i j e =
+      let same : c ≡ d = cc in
+      let rest : a ++ x ∷ u ≡ b ++ y ∷ v = cc in
+      let these = same_to a b u v x y (second (p c) _ g) (second (p d) _ h) i j rest in
+      (ap (λ t. c ∷ t) these.0 ∙ ap (λ z. z ∷ b) same, these.1)
+
+-- no control byte, and so no newline
+abbrev pub is_one_line : List ℕ → Bool
+is_one_line text = list_all (nat_le 32) text
+
+digit_glyph_is : (d : ℕ) → d < 10 → IsTrue (is_in_range 48 57 (digit_glyph false d))
+digit_glyph_is d h = grind (arith, nat_tests)
+
+one_digit : (n : ℕ) (acc : List ℕ) → IsTrue (list_all (is_in_range 48 57) acc) → IsTrue (list_all (is_in_range 48 57) (digit_glyph false (n % 10) ∷ acc))
+one_digit n acc h = both _ _ (digit_glyph_is (n % 10) (mod-lt n (omega arith))) h
+
+either : (b : Bool) (x y : List ℕ) → IsTrue (list_all (is_in_range 48 57) x) → IsTrue (list_all (is_in_range 48 57) y) → IsTrue (list_all (is_in_range 48 57) (if b then x else y))
+either true x y g h = g
+either false x y g h = h
+
+digits_are : (k n : ℕ) (acc : List ℕ) → IsTrue (list_all (is_in_range 48 57) acc) → IsTrue (list_all (is_in_range 48 57) (digits_onto k 10 false n acc))
+digits_are zero n acc h = h
+digits_are (suc k) n acc h = either (n / 10 == 0) _ _ (one_digit n acc h) (digits_are k (n / 10) (digit_glyph false (n % 10) ∷ acc) (one_digit n acc h))
+
+decimal_is : (n : ℕ) → IsTrue (list_all (is_in_range 48 57) (decimal n))
+unfolding digits
+decimal_is n = digits_are 64 n [] refl
+
+digit_line : (b : ℕ) → IsTrue (is_in_range 48 57 b) → IsTrue (nat_le 32 b)
+digit_line b h = grind (arith, nat_tests)
+
+printable_line : (b : ℕ) → IsTrue (is_in_range 32 126 b) → IsTrue (nat_le 32 b)
+printable_line b h = grind (arith, nat_tests)
+
+digit_printable : (b : ℕ) → IsTrue (is_in_range 48 57 b) → IsTrue (is_in_range 32 126 b)
+digit_printable b h = grind (arith, nat_tests)
+
+json_line : (b : ℕ) → IsTrue (is_one_line (json_byte b))
+json_line b = grind (arith, nat_tests)
+
+json_printable : (b : ℕ) → IsTrue (is_in_range 32 126 b) → IsTrue (list_all (is_in_range 32 126) (json_byte b))
+json_printable b h = grind (arith, nat_tests)
+
+digits_line : (n : ℕ) → IsTrue (is_one_line (decimal n))
+digits_line n = all_weaker (nat_le 32) (is_in_range 48 57) digit_line (decimal n) (decimal_is n)
+
+words_line : (text : List ℕ) → IsTrue (is_on_line text) → IsTrue (is_one_line text)
+words_line text h = all_weaker (nat_le 32) (is_in_range 32 126) printable_line text h
+
+json_lines : (text : List ℕ) → IsTrue (is_one_line (flat_map json_byte text))
+json_lines [] = refl
+json_lines (b ∷ bs) = all_more (nat_le 32) (json_byte b) (flat_map json_byte bs) (json_line b) (json_lines bs)
+
+json_one : (text : List ℕ) → IsTrue (is_one_line (json_text text))
+json_one text = all_more (nat_le 32) (codes "\"" ++ flat_map json_byte text) (codes "\"") (all_more (nat_le 32) (codes "\"") (flat_map json_byte text) refl (json_lines text)) refl
+
+word_line : (s : Severity) → IsTrue (is_one_line (severity_word s))
+word_line severity.Error = refl
+word_line severity.Warning = refl
+
+-- the severity that a text tells behind a line and a column is one alone
+abbrev pub placed : Form → Severity → (line column : ℕ) → List ℕ → List ℕ
+placed form.Text s line column rest = decimal line ++ (codes ":" ++ (decimal column ++ (codes ": " ++ (severity_word s ++ (codes ": " ++ rest)))))
+placed form.Json s line column rest =
+    decimal line ++ (codes ",\"column\":" ++ (decimal column ++ (codes ",\"severity\":\"" ++ (severity_word s ++ (codes "\",\"code\":" ++ rest)))))
+
+pub head_placed : (form : Form) (s : Severity) (file : List ℕ) (line column : ℕ) (rest : List ℕ) → finding_head form s file line column ++ rest ≡ finding_start form file ++ placed form s line column rest
+head_placed form.Text s file line column rest = simp append_assoc refl
+head_placed form.Json s file line column rest = simp append_assoc refl
+
+abbrev pub first_byte : List ℕ → ℕ
+first_byte [] = 0
+first_byte (b ∷ bs) = b
+
+same_word : (s t : Severity) (u v : List ℕ) → severity_word s ++ u ≡ severity_word t ++ v → s ≡ t
+same_word severity.Error severity.Error u v e = refl
+same_word severity.Warning severity.Warning u v e = refl
+same_word severity.Error severity.Warning u v e = let no : 101 ≡ 119 = ap first_byte e in absurd (omega (arith, no))
+same_word severity.Warning severity.Error u v e = let no : 119 ≡ 101 = ap first_byte e in absurd (omega (arith, no))
+
+pub same_severity : (form : Form) (s t : Severity) (l c m d : ℕ) (u v : List ℕ) → placed form s l c u ≡ placed form t m d v → s ≡ t
+same_severity form.Text s t l c m d u v e =
+    let behind = (same_to (is_in_range 48 57) (decimal l) (decimal m) _ _ 58 58 (decimal_is l) (decimal_is m) refl refl e).1 in
+    let column : decimal c ++ (codes ": " ++ (severity_word s ++ (codes ": " ++ u))) ≡ decimal d ++ (codes ": " ++ (severity_word t ++ (codes ": " ++ v))) = append_cancel_left (codes ":") _ _ behind in
+    let word = (same_to (is_in_range 48 57) (decimal c) (decimal d) _ _ 58 58 (decimal_is c) (decimal_is d) refl refl column).1 in
+    same_word s t (codes ": " ++ u) (codes ": " ++ v) (append_cancel_left (codes ": ") _ _ word)
+same_severity form.Json s t l c m d u v e =
+    let behind = (same_to (is_in_range 48 57) (decimal l) (decimal m) _ _ 44 44 (decimal_is l) (decimal_is m) refl refl e).1 in
+    let column = append_cancel_left (codes ",\"column\":") _ _ behind in
+    let word = (same_to (is_in_range 48 57) (decimal c) (decimal d) _ _ 44 44 (decimal_is c) (decimal_is d) refl refl column).1 in
+    same_word s t (codes "\",\"code\":" ++ u) (codes "\",\"code\":" ++ v) (append_cancel_left (codes ",\"severity\":\"") _ _ word)
+
+-- each finding begins so
+pub text_placed : (form : Form) (s : Severity) (file : List ℕ) (p : FindingParts) → (rest : List ℕ) × (finding_text form s file p ≡ finding_head form s file p.line p.column ++ rest)
+text_placed form.Text s file p = (finding_words form.Text p ++ codes "\n", append_assoc (finding_head form.Text s file p.line p.column) (finding_words form.Text p) (codes "\n"))
+text_placed form.Json s file p = (finding_words form.Json p ++ codes "}\n", append_assoc (finding_head form.Json s file p.line p.column) (finding_words form.Json p) (codes "}\n"))
+
+-- newlines
+pub newlines_in : (a b : List ℕ) → newlines (a ++ b) ≡ newlines a + newlines b
+newlines_in a b = sum_by-append _ a b
+
+not_newline : (b : ℕ) → IsTrue (nat_le 32 b) → (b == 10) ≡ false
+not_newline b h = grind (arith, nat_tests)
+
+pub no_newlines : (text : List ℕ) → IsTrue (is_one_line text) → newlines text ≡ 0
+no_newlines [] h = refl
+no_newlines (b ∷ bs) h =
+    newlines_in (b ∷ []) bs ∙ ap (λ (t : Bool). 0 + (if t then 1 else 0) + newlines bs) (not_newline b (first (nat_le 32 b) _ h)) ∙ zero-add (newlines bs) ∙ no_newlines bs (second (nat_le 32 b) _ h)
+
+-- a line more
+line_more : (line rest : List ℕ) → IsTrue (is_one_line line) → newlines (line ++ 10 ∷ rest) ≡ newlines rest + 1
+line_more line rest h =
+    let here = no_newlines line h in
+    let both_in = newlines_in line (10 ∷ rest) in
+    let one : newlines (10 ∷ rest) ≡ 1 + newlines rest = newlines_in (10 ∷ []) rest in
+    omega (arith, here, both_in, one)
+
+-- texts of one line, one behind another
+record Line (text : List ℕ) : Type 0 where
+  line : IsTrue (is_one_line text)
+
+more : (a b : List ℕ) → IsTrue (is_one_line a) → Line b → Line (a ++ b)
+more a b g h = record { line = all_more (nat_le 32) a b g h.line }
+
+last_line : (a : List ℕ) → IsTrue (is_one_line a) → Line a
+last_line a h = record { line = h }
+
+part : (a b c d e : Bool) → IsTrue (a && (b && (c && (d && (e && true))))) → IsTrue a × IsTrue b × IsTrue c × IsTrue d × IsTrue e
+part a b c d e h =
+    let h1 = second a _ h in
+    let h2 = second b _ h1 in
+    let h3 = second c _ h2 in
+    (first a _ h, first b _ h1, first c _ h2, first d _ h3, first e _ (second d _ h3))
+
+parts_of : (p : FindingParts) → IsTrue (is_on_line p.code) × IsTrue (is_on_line p.sentence) × IsTrue (is_on_line p.shown) × IsTrue (is_on_line p.mark) × IsTrue (is_on_line p.mend)
+parts_of p = part (is_on_line p.code) (is_on_line p.sentence) (is_on_line p.shown) (is_on_line p.mark) (is_on_line p.mend) p.on_lines
+
+-- the four lines of a finding for people, behind the name of the file, and the one for editors
+abbrev sentence_line : Severity → FindingParts → List ℕ
+sentence_line s p = codes ":" ++ (decimal p.line ++ (codes ":" ++ (decimal p.column ++ (codes ": " ++ (severity_word s ++ (codes ": " ++ p.sentence))))))
+
+abbrev shown_line : FindingParts → List ℕ
+shown_line p = codes "    " ++ p.shown
+
+abbrev mark_line : FindingParts → List ℕ
+mark_line p = codes "    " ++ p.mark
+
+abbrev mend_line : FindingParts → List ℕ
+mend_line p = codes "  mend: " ++ p.mend
+
+abbrev object_line : Severity → (file : List ℕ) → FindingParts → List ℕ
+object_line s file p =
+    codes "{\"file\":" ++ (json_text file ++ (codes ",\"line\":" ++ (decimal p.line ++ (codes ",\"column\":" ++ (decimal p.column ++ (codes ",\"severity\":\"" ++ (severity_word s ++ (codes "\",\"code\":" ++ (json_text p.code ++ (codes ",\"message\":" ++ (json_text p.sentence ++ (codes ",\"mend\":" ++ (json_text p.mend ++ codes "}")))))))))))))
+
+sentence_one : (s : Severity) (p : FindingParts) → IsTrue (is_one_line (sentence_line s p))
+sentence_one s p =
+    (more (codes ":") _ refl (more (decimal p.line) _ (digits_line p.line) (more (codes ":") _ refl (more (decimal p.column) _ (digits_line p.column)
+    (more (codes ": ") _ refl (more (severity_word s) _ (word_line s) (more (codes ": ") _ refl (last_line p.sentence (words_line p.sentence (parts_of p).1))))))))).line
+
+shown_one : (p : FindingParts) → IsTrue (is_one_line (shown_line p))
+shown_one p = all_more (nat_le 32) (codes "    ") p.shown refl (words_line p.shown (parts_of p).2)
+
+mark_one : (p : FindingParts) → IsTrue (is_one_line (mark_line p))
+mark_one p = all_more (nat_le 32) (codes "    ") p.mark refl (words_line p.mark (parts_of p).3)
+
+mend_one : (p : FindingParts) → IsTrue (is_one_line (mend_line p))
+mend_one p = all_more (nat_le 32) (codes "  mend: ") p.mend refl (words_line p.mend (parts_of p).4)
+
+object_one : (s : Severity) (file : List ℕ) (p : FindingParts) → IsTrue (is_one_line (object_line s file p))
+object_one s file p =
+    (more (codes "{\"file\":") _ refl (more (json_text file) _ (json_one file) (more (codes ",\"line\":") _ refl (more (decimal p.line) _ (digits_line p.line)
+    (more (codes ",\"column\":") _ refl (more (decimal p.column) _ (digits_line p.column) (more (codes ",\"severity\":\"") _ refl (more (severity_word s) _ (word_line s)
+    (more (codes "\",\"code\":") _ refl (more (json_text p.code) _ (json_one p.code) (more (codes ",\"message\":") _ refl (more (json_text p.sentence) _ (json_one p.sentence)
+    (more (codes ",\"mend\":") _ refl (more (json_text p.mend) _ (json_one p.mend) (last_line (codes "}") refl))))))))))))))).line
+
+in_object : (a f b l c d e w g k h s i m q r x : List ℕ)
+    → a ++ f ++ b ++ l ++ c ++ d ++ e ++ w ++ g ++ (k ++ h ++ s ++ i ++ m) ++ (q ++ r) ++ x ≡ a ++ (f ++ (b ++ (l ++ (c ++ (d ++ (e ++ (w ++ (g ++ (k ++ (h ++ (s ++ (i ++ (m ++ q))))))))))))) ++ (r ++ x)
+in_object a f b l c d e w g k h s i m q r x = simp append_assoc refl
+
+behind_start : (f l c d e w g k h s i m q : List ℕ)
+    → f ++ l ++ c ++ d ++ e ++ w ++ g ++ (k ++ h ++ s ++ i ++ m) ++ q ≡ f ++ (l ++ (c ++ (d ++ (e ++ (w ++ (g ++ (k ++ (h ++ (s ++ (i ++ (m ++ q)))))))))))
+behind_start f l c d e w g k h s i m q = simp append_assoc refl
+
+people_is : (s : Severity) (file : List ℕ) (p : FindingParts) (rest : List ℕ)
+    → finding_text form.Text s file p ++ rest ≡ file ++ (sentence_line s p ++ 10 ∷ (shown_line p ++ 10 ∷ (mark_line p ++ 10 ∷ (mend_line p ++ 10 ∷ rest))))
+people_is s file p rest = simp append_assoc refl
+
+object_is : (s : Severity) (file : List ℕ) (p : FindingParts) (rest : List ℕ) → finding_text form.Json s file p ++ rest ≡ object_line s file p ++ 10 ∷ rest
+object_is s file p rest =
+    in_object (codes "{\"file\":") (json_text file) (codes ",\"line\":") (decimal p.line) (codes ",\"column\":") (decimal p.column) (codes ",\"severity\":\"") (severity_word s) (codes "\",\"code\":") (json_text p.code) (codes ",\"message\":") (json_text p.sentence) (codes ",\"mend\":") (json_text p.mend) (codes "}") (codes "\n") rest
+
+tails : (xs ys : List ℕ) → 10 ∷ xs ≡ 10 ∷ ys → xs ≡ ys
+tails xs ys e = cc
+
+-- behind a line that both begin with, both go on alike
+behind : (a b u v : List ℕ) → IsTrue (is_one_line a) → IsTrue (is_one_line b) → a ++ 10 ∷ u ≡ b ++ 10 ∷ v → u ≡ v
+behind a b u v g h e = tails u v (same_to (nat_le 32) a b u v 10 10 g h refl refl e).1
+
+-- behind a finding that both begin with, both go on alike
+pub one_of : (form : Form) (s : Severity) (file : List ℕ) (p q : FindingParts) (a b : List ℕ) → finding_text form s file p ++ a ≡ finding_text form s file q ++ b → a ≡ b
+one_of form.Text s file p q a b e =
+    let here = append_cancel_left file _ _ (sym (people_is s file p a) ∙ e ∙ people_is s file q b) in
+    let l1 = behind (sentence_line s p) (sentence_line s q) _ _ (sentence_one s p) (sentence_one s q) here in
+    let l2 = behind (shown_line p) (shown_line q) _ _ (shown_one p) (shown_one q) l1 in
+    let l3 = behind (mark_line p) (mark_line q) _ _ (mark_one p) (mark_one q) l2 in
+    behind (mend_line p) (mend_line q) a b (mend_one p) (mend_one q) l3
+one_of form.Json s file p q a b e =
+    behind (object_line s file p) (object_line s file q) a b (object_one s file p) (object_one s file q) (sym (object_is s file p a) ∙ e ∙ object_is s file q b)
+
+pub starts_of : (form : Form) (s : Severity) (file : List ℕ) (line column : ℕ) (rest : List ℕ) → (behind : List ℕ) × (finding_head form s file line column ++ rest ≡ finding_start form file ++ behind)
+starts_of form s file line column rest = (placed form s line column rest, head_placed form s file line column rest)
+
+pub no_cons : (x : ℕ) (xs : List ℕ) → x ∷ xs ≡ [] → ⊥
+no_cons x xs e = cc
+
+no_byte : (a b : List ℕ) → a ++ 58 ∷ b ≡ [] → ⊥
+no_byte [] b e = no_cons 58 b e
+no_byte (x ∷ a) b e = no_cons x (a ++ 58 ∷ b) e
+
+no_start : (form : Form) (s : Severity) (file : List ℕ) (line column : ℕ) (rest : List ℕ) → finding_head form s file line column ++ rest ≡ [] → ⊥
+no_start form.Text s file line column rest e =
+    let behind = decimal line ++ (codes ":" ++ (decimal column ++ (codes ": " ++ (severity_word s ++ (codes ": " ++ rest))))) in
+    let is : file ++ 58 ∷ behind ≡ finding_head form.Text s file line column ++ rest = simp append_assoc refl in
+    no_byte file behind (is ∙ e)
+no_start form.Json s file line column rest e = no_cons _ _ e
+
+-- behind findings of one severity none of another begins
+pub other_severity_behind : (form : Form) (s t : Severity) (file : List ℕ) (ps qs : List FindingParts) (line column : ℕ) (rest : List ℕ) → s ≢ t
+    → flat_map (finding_text form t file) ps ++ (finding_head form s file line column ++ rest) ≡ flat_map (finding_text form t file) qs → ⊥
+other_severity_behind form s t file [] [] line column rest other e = no_start form s file line column rest e
+other_severity_behind form s t file [] (q ∷ qs) line column rest other e =
+    let text = text_placed form t file q in
+    let later = flat_map (finding_text form t file) qs in
+    let here : finding_head form s file line column ++ rest ≡ finding_head form t file q.line q.column ++ (text.0 ++ later) =
+    e ∙ ap (λ x. x ++ later) text.1 ∙ append_assoc (finding_head form t file q.line q.column) text.0 later in
+    other (same_severity form s t line column q.line q.column rest (text.0 ++ later)
+    (append_cancel_left (finding_start form file) _ _ (sym (head_placed form s file line column rest) ∙ here ∙ head_placed form t file q.line q.column (text.0 ++ later))))
+other_severity_behind form s t file (p ∷ ps) [] line column rest other e =
+    let text = text_placed form t file p in
+    let later = flat_map (finding_text form t file) ps ++ (finding_head form s file line column ++ rest) in
+    no_start form t file p.line p.column (text.0 ++ later)
+    (sym (append_assoc (finding_text form t file p) (flat_map (finding_text form t file) ps) (finding_head form s file line column ++ rest) ∙ ap (λ x. x ++ later) text.1 ∙ append_assoc (finding_head form t file p.line p.column) text.0 later) ∙ e)
+other_severity_behind form s t file (p ∷ ps) (q ∷ qs) line column rest other e =
+    let text = finding_text form t file in
+    other_severity_behind form s t file ps qs line column rest other
+    (one_of form t file p q _ _ (sym (append_assoc (text p) (flat_map text ps) (finding_head form s file line column ++ rest)) ∙ e))
+
+-- the lines of findings
+pub lines_of : (form : Form) (s : Severity) (file : List ℕ) (p : FindingParts) → newlines (finding_text form s file p) ≡ finding_lines form file
+lines_of form.Text s file p =
+    let is : newlines (finding_text form.Text s file p) ≡ newlines (file ++ (sentence_line s p ++ 10 ∷ (shown_line p ++ 10 ∷ (mark_line p ++ 10 ∷ (mend_line p ++ 10 ∷ []))))) =
+    ap newlines (sym (append-nil (finding_text form.Text s file p)) ∙ people_is s file p []) in
+    let l0 = newlines_in file (sentence_line s p ++ 10 ∷ (shown_line p ++ 10 ∷ (mark_line p ++ 10 ∷ (mend_line p ++ 10 ∷ [])))) in
+    let l1 = line_more (sentence_line s p) (shown_line p ++ 10 ∷ (mark_line p ++ 10 ∷ (mend_line p ++ 10 ∷ []))) (sentence_one s p) in
+    let l2 = line_more (shown_line p) (mark_line p ++ 10 ∷ (mend_line p ++ 10 ∷ [])) (shown_one p) in
+    let l3 = line_more (mark_line p) (mend_line p ++ 10 ∷ []) (mark_one p) in
+    let l4 : newlines (mend_line p ++ 10 ∷ []) ≡ 1 = line_more (mend_line p) [] (mend_one p) in
+    is ∙ l0 ∙ ap (λ n. newlines file + n) (l1 ∙ ap (λ n. n + 1) (l2 ∙ ap (λ n. n + 1) (l3 ∙ ap (λ n. n + 1) l4)))
+lines_of form.Json s file p =
+    let is : newlines (finding_text form.Json s file p) ≡ newlines (object_line s file p ++ 10 ∷ []) = ap newlines (sym (append-nil (finding_text form.Json s file p)) ∙ object_is s file p []) in
+    is ∙ line_more (object_line s file p) [] (object_one s file p)
+
+pub lines_of_all : (form : Form) (s : Severity) (file : List ℕ) (ps : List FindingParts) → newlines (flat_map (finding_text form s file) ps) ≡ length ps * finding_lines form file
+lines_of_all form s file [] = sym (zero-mul (finding_lines form file))
+lines_of_all form s file (p ∷ ps) =
+    newlines_in (finding_text form s file p) (flat_map (finding_text form s file) ps)
+    ∙ ap (λ n. n + newlines (flat_map (finding_text form s file) ps)) (lines_of form s file p)
+    ∙ ap (λ n. finding_lines form file + n) (lines_of_all form s file ps)
+    ∙ sym (suc-mul (length ps) (finding_lines form file) ∙ add_comm (length ps * finding_lines form file) (finding_lines form file))
+
+-- bytes that can be printed, and newlines
+pub both_printed : (a b : List ℕ) → IsTrue (is_printed a) → IsTrue (is_printed b) → IsTrue (is_printed (a ++ b))
+both_printed a b g h = all_more (λ b. (b == 10) || is_in_range 32 126 b) a b g h
+
+printable : (b : ℕ) → IsTrue (is_in_range 32 126 b) → IsTrue ((b == 10) || is_in_range 32 126 b)
+printable b h = grind (arith, nat_tests)
+
+words_printed : (text : List ℕ) → IsTrue (is_on_line text) → IsTrue (is_printed text)
+words_printed text h = all_weaker (λ b. (b == 10) || is_in_range 32 126 b) (is_in_range 32 126) printable text h
+
+digits_printed : (n : ℕ) → IsTrue (is_printed (decimal n))
+digits_printed n = words_printed (decimal n) (all_weaker (is_in_range 32 126) (is_in_range 48 57) digit_printable (decimal n) (decimal_is n))
+
+json_printed : (text : List ℕ) → IsTrue (is_on_line text) → IsTrue (is_printed (json_text text))
+json_printed text h =
+    words_printed (json_text text) (all_more (is_in_range 32 126) (codes "\"" ++ flat_map json_byte text) (codes "\"")
+    (all_more (is_in_range 32 126) (codes "\"") (flat_map json_byte text) refl (all_in_each (is_in_range 32 126) json_byte (is_in_range 32 126) json_printable text h)) refl)
+
+word_printed : (s : Severity) → IsTrue (is_printed (severity_word s))
+word_printed severity.Error = refl
+word_printed severity.Warning = refl
+
+record Printed (text : List ℕ) : Type 0 where
+  printed : IsTrue (is_printed text)
+
+add : (a b : List ℕ) → IsTrue (is_printed a) → Printed b → Printed (a ++ b)
+add a b g h = record { printed = both_printed a b g h.printed }
+
+last_words : (a : List ℕ) → IsTrue (is_printed a) → Printed a
+last_words a h = record { printed = h }
+
+text_printed : (form : Form) (s : Severity) (file : List ℕ) (p : FindingParts) → IsTrue (is_printed (finding_start form file)) → IsTrue (is_printed (finding_text form s file p))
+text_printed form.Text s file p h =
+    let parts = parts_of p in
+    let text : finding_text form.Text s file p ≡ finding_start form.Text file ++ (decimal p.line ++ (codes ":" ++ (decimal p.column ++ (codes ": " ++ (severity_word s ++ (codes ": " ++ (p.sentence ++ (codes "\n    " ++ (p.shown ++ (codes "\n    " ++ (p.mark ++ (codes "\n  mend: " ++ (p.mend ++ codes "\n"))))))))))))) = simp append_assoc refl in
+    subst (λ t. IsTrue (is_printed t)) (sym text)
+    (add (finding_start form.Text file) _ h (add (decimal p.line) _ (digits_printed p.line) (add (codes ":") _ refl (add (decimal p.column) _ (digits_printed p.column) (add (codes ": ") _ refl
+    (add (severity_word s) _ (word_printed s) (add (codes ": ") _ refl (add p.sentence _ (words_printed p.sentence parts.1) (add (codes "\n    ") _ refl (add p.shown _ (words_printed p.shown parts.2) (add (codes "\n    ") _ refl
+    (add p.mark _ (words_printed p.mark parts.3) (add (codes "\n  mend: ") _ refl (add p.mend _ (words_printed p.mend parts.4) (last_words (codes "\n") refl))))))))))))))).printed
+text_printed form.Json s file p h =
+    let parts = parts_of p in
+    let text = behind_start (finding_start form.Json file) (decimal p.line) (codes ",\"column\":") (decimal p.column) (codes ",\"severity\":\"") (severity_word s) (codes "\",\"code\":") (json_text p.code) (codes ",\"message\":") (json_text p.sentence) (codes ",\"mend\":") (json_text p.mend) (codes "}\n") in
+    subst (λ t. IsTrue (is_printed t)) (sym text)
+    (add (finding_start form.Json file) _ h (add (decimal p.line) _ (digits_printed p.line) (add (codes ",\"column\":") _ refl (add (decimal p.column) _ (digits_printed p.column) (add (codes ",\"severity\":\"") _ refl
+    (add (severity_word s) _ (word_printed s) (add (codes "\",\"code\":") _ refl (add (json_text p.code) _ (json_printed p.code parts.0) (add (codes ",\"message\":") _ refl
+    (add (json_text p.sentence) _ (json_printed p.sentence parts.1) (add (codes ",\"mend\":") _ refl (add (json_text p.mend) _ (json_printed p.mend parts.4) (last_words (codes "}\n") refl))))))))))))).printed
+
+pub findings_printed : (form : Form) (s : Severity) (file : List ℕ) → IsTrue (is_printed (finding_start form file)) → (ps : List FindingParts) → IsTrue (is_printed (flat_map (finding_text form s file) ps))
+findings_printed form s file h [] = refl
+findings_printed form s file h (p ∷ ps) = both_printed (finding_text form s file p) (flat_map (finding_text form s file) ps) (text_printed form s file p h) (findings_printed form s file h ps)

@@ -1,0 +1,5 @@
+use Rattle.bcheck.proofs.Excluded.{excluded}
+use Rattle.bcheck.proofs.checking.wrong_checks_are_excluded.Goals as goal
+
+pub returns : goal.returns
+returns c = excluded

@@ -1,0 +1,75 @@
+-- Closed facts on what is told of a source, each at its limits and one past them.
+use Rattle.std.specs.Prelude.{◌≡◌, ℕ, List, [], ◌∷◌, ◌++◌, codes, map, None, Some, refl, true, false}
+use Rattle.std.specs.Fmt.{digits}
+use Rattle.blang.specs.declared.token.About.TheVariants as about
+use Rattle.blang.specs.declared.token.Letters.TheVariants as letters
+use Rattle.blang.specs.declared.run.LoadFault.TheVariants as fault
+use Rattle.bcheck.specs.Checks.{FindingParts, finding_text, findings_text, is_on_line, json_byte, json_text}
+use Rattle.bcheck.specs.Checks.{severity_of, severity_word, shown_in_form, told_first}
+use Rattle.bcheck.specs.declared.finding.Severity.TheVariants as severity
+use Rattle.bcheck.specs.declared.form.Form.TheVariants as form
+
+-- a diagnostic comes before a fault of loading
+diagnostic_told : told_first (Some (record { letters = letters.Undefined; about = about.Name (codes "n"); line = 3 }))
+    (Some fault.TooLarge) ≡ (codes "un n 3\n", 1)
+unfolding digits
+diagnostic_told = refl
+
+-- each fault of loading, and none
+loading_told : map (λ f. told_first None (Some f))
+    (fault.Duplicate (codes "f") ∷ fault.TooLarge ∷ fault.Undefined (codes "f") ∷ fault.NoMain ∷ [])
+    ≡ ((codes "load 1\n", 132) ∷ (codes "load 2\n", 132) ∷ (codes "load 3\n", 132) ∷ ([], 0) ∷ [])
+loading_told = refl
+
+nothing_told : told_first None None ≡ ([], 0)
+nothing_told = refl
+
+line_shown : map (λ f. shown_in_form f (codes "sx 1\n")) (form.Text ∷ form.Json ∷ []) ≡ (codes "sx 1\n" ∷ [] ∷ [])
+line_shown = refl
+
+severities : map (λ status. severity_word (severity_of status)) (0 ∷ 1 ∷ 132 ∷ [])
+    ≡ (codes "warning" ∷ codes "error" ∷ codes "error" ∷ [])
+severities = refl
+
+-- the last control character and the blank, the bytes beside the quote and the backslash, the last of ASCII, and others
+json_bytes : map json_byte (0 ∷ 10 ∷ 31 ∷ 32 ∷ 33 ∷ 34 ∷ 35 ∷ 91 ∷ 92 ∷ 93 ∷ 126 ∷ 127 ∷ 128 ∷ 255 ∷ [])
+    ≡ (codes "\\u0000" ∷ codes "\\u000a" ∷ codes "\\u001f" ∷ codes " " ∷ codes "!" ∷ codes "\\\"" ∷ codes "#"
+    ∷ codes "[" ∷ codes "\\\\" ∷ codes "]" ∷ codes "~" ∷ (127 ∷ []) ∷ (128 ∷ []) ∷ (255 ∷ []) ∷ [])
+json_bytes = refl
+
+json_texts : map json_text ([] ∷ codes "a\"b" ∷ []) ≡ (codes "\"\"" ∷ codes "\"a\\\"b\"" ∷ [])
+json_texts = refl
+
+on_lines : map (λ b. is_on_line (b ∷ [])) (0 ∷ 9 ∷ 10 ∷ 31 ∷ 32 ∷ 126 ∷ 127 ∷ 128 ∷ [])
+    ≡ (false ∷ false ∷ false ∷ false ∷ true ∷ true ∷ false ∷ false ∷ [])
+on_lines = refl
+
+-- a newline among others
+past_line : map is_on_line ([] ∷ codes "a b" ∷ codes "a\nb" ∷ []) ≡ (true ∷ true ∷ false ∷ [])
+past_line = refl
+
+abbrev undefined : FindingParts
+undefined = record {
+  line = 3;
+  column = 10;
+  code = codes "un";
+  sentence = codes "no n";
+  shown = codes "i = n;";
+  mark = codes "    ^";
+  mend = codes "auto n;";
+  on_lines = refl;
+}
+
+error_for_people : finding_text form.Text severity.Error (codes "x.b") undefined
+    ≡ codes "x.b:3:10: error: no n\n    i = n;\n        ^\n  mend: auto n;\n"
+unfolding digits
+error_for_people = refl
+
+warning_for_editors : finding_text form.Json severity.Warning (codes "a\"b") undefined
+    ≡ codes "{\"file\":\"a\\\"b\",\"line\":3,\"column\":10,\"severity\":\"warning\","
+    ++ codes "\"code\":\"un\",\"message\":\"no n\",\"mend\":\"auto n;\"}\n"
+unfolding digits
+warning_for_editors = refl
+
+no_findings : findings_text form.Text 0 (codes "x.b") [] ≡ []
+no_findings = refl

@@ -1,0 +1,87 @@
+-- What the contract of a check excludes, whatever its source, its file and its output are.
+use Rattle.std.specs.Prelude.{◌≡◌, ◌≢◌, ℕ, ◌+◌, ◌*◌, ◌<◌, ◌==◌, Bool, ◌||◌, false, IsTrue}
+use Rattle.std.specs.Prelude.{List, [], ◌∷◌, ◌++◌, Some, codes, map}
+use Rattle.std.specs.Int.{is_in_range}
+use Rattle.std.specs.Io.{StartsWith}
+use Rattle.std.specs.List.{count_by, list_all}
+use Rattle.bword.specs.ByteEnds.{Grew}
+use Rattle.bword.specs.declared.edition.Edition.TheVariants as editions
+use Rattle.blang.specs.Code.{code_of}
+use Rattle.blang.specs.Compiles.{Compilation, CompilesTo}
+use Rattle.blang.specs.Cut.{tokens_from}
+use Rattle.blang.specs.Layout.{load_fault}
+use Rattle.blang.specs.declared.status.TheConstants.{DONE, DEVICE, MEMORY}
+use Rattle.bcheck.specs.Checks.{Check, Checks, FindingParts, finding_head, finding_start, findings_text}
+use Rattle.bcheck.specs.Checks.{severity_of, shown_in_form, told_first}
+use Rattle.bcheck.specs.declared.finding.Severity.{Severity}
+use Rattle.bcheck.specs.declared.form.Form.{Form}
+use Rattle.bcheck.specs.declared.form.Form.TheVariants as form
+
+-- The source comes to this line and this status.
+pub record ComesTo (c : Check) (line : List ℕ) (status : ℕ) : Type 0 where
+  pub outcome : Compilation
+  pub goes : CompilesTo [] (tokens_from c.edition 1 c.source) outcome
+  pub told : told_first outcome.stop (load_fault (map code_of goes.definitions)) ≡ (line, status)
+
+-- This text was written, and the status isn't that of a refused write.
+pub record IsTold (c : Check) (text : List ℕ) : Type 0 where
+  pub before : List ℕ
+  pub old : c.out.written ≡ Some before
+  pub new : c.out_behind.written ≡ Some (before ++ text)
+  pub whole : c.status < DEVICE
+
+-- No check keeps its promise that tells such a text of a source that comes to such a line and such a status.
+abbrev pub Never : ((c : Check) → (line : List ℕ) → (status : ℕ) → (text : List ℕ) → Type 0) → Type 0
+Never Wrong = (c : Check) (line : List ℕ) (status : ℕ) (text : List ℕ) → ComesTo c line status → IsTold c text
+    → Wrong c line status text → Checks c → ⊥
+
+abbrev pub newlines : List ℕ → ℕ
+newlines text = count_by (λ b. b == 10) text
+
+-- how many newlines the text of a finding has
+abbrev pub finding_lines : Form → (file : List ℕ) → ℕ
+finding_lines form.Text file = newlines file + 4
+finding_lines form.Json file = 1
+
+-- printable ASCII and newlines
+abbrev pub is_printed : List ℕ → Bool
+is_printed text = list_all (λ b. (b == 10) || is_in_range 32 126 b) text
+
+pub record Excluded : Type 0 where
+  -- another status than the source's, as 0 for a fault, that of code for one of the source, or one for no main
+  pub other_status : Never (λ c line status text. c.status ≢ status)
+  -- a text that doesn't begin with the line, since that is left out or comes last
+  pub no_line : Never (λ c line status text. StartsWith text (shown_in_form c.form line) → ⊥)
+  -- of a fault no finding behind the line, or one without its file, or for an editor one behind a line
+  pub no_finding : Never (λ c line status text.
+      (status ≢ DONE) × (StartsWith text (shown_in_form c.form line ++ finding_start c.form c.file) → ⊥))
+  -- a line where there is no fault
+  pub no_fault : Never (λ c line status text.
+      (status ≡ DONE) × (text ≢ []) × (StartsWith text (finding_start c.form c.file) → ⊥))
+  -- an error told as a warning, or a warning as an error, be it the first finding or behind others
+  pub other_severity : Never (λ c line status text.
+      (before : List FindingParts) × (s : Severity) × (row column : ℕ) × (rest : List ℕ) × (s ≢ severity_of status)
+      × (text ≡ shown_in_form c.form line ++ (findings_text c.form status c.file before
+      ++ (finding_head c.form s c.file row column ++ rest))))
+  -- of a fault no finding or two, or a newline in its words or its piece of the source
+  pub other_lines : Never (λ c line status text.
+      (status ≢ DONE) × (newlines text ≢ newlines (shown_in_form c.form line) + finding_lines c.form c.file))
+  -- without a fault, lines that are no whole findings
+  pub odd_lines : Never (λ c line status text.
+      (status ≡ DONE) × ((count : ℕ) → newlines text ≢ count * finding_lines c.form c.file))
+  -- a byte that can't be printed, where the line and the name of the file have none
+  pub other_bytes : Never (λ c line status text.
+      IsTrue (is_printed (shown_in_form c.form line)) × IsTrue (is_printed (finding_start c.form c.file))
+      × (is_printed text ≡ false))
+  -- 133 where no write failed; 134 behind something written where no write was refused memory; another status above
+  pub no_failure : (c : Check) (line : List ℕ) (status : ℕ) → ComesTo c line status → c.status ≡ DEVICE
+      → (Grew c.out.failures c.out_behind.failures → ⊥) → Checks c → ⊥
+  pub no_refusal : (c : Check) (line : List ℕ) (status : ℕ) → ComesTo c line status → c.status ≡ MEMORY
+      → (Grew c.out.refusals c.out_behind.refusals → ⊥) → c.out_behind ≢ c.out → Checks c → ⊥
+  pub no_such_status : (c : Check) (line : List ℕ) (status : ℕ) → ComesTo c line status → MEMORY < c.status
+      → Checks c → ⊥
+  -- of a `break` outside of every loop the line of the other edition
+  pub first_edition : (c : Check) (text : List ℕ) → c.source ≡ codes "f() break;" → c.edition ≡ editions.Two
+      → c.form ≡ form.Text → IsTold c text → StartsWith text (codes "un break 1\n") → Checks c → ⊥
+  pub second_edition : (c : Check) (text : List ℕ) → c.source ≡ codes "f() break;" → c.edition ≡ editions.One
+      → c.form ≡ form.Text → IsTold c text → StartsWith text (codes "sx break 1\n") → Checks c → ⊥

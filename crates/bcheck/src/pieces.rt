@@ -1,0 +1,111 @@
+//! The pieces that the text of a finding consists of.
+ghost use Rattle.std.specs.Char.{digit_char};
+ghost use Rattle.std.specs.List.{flat_map};
+ghost use Rattle.std.specs.Prelude.{◌≡◌, ◌<◌, ◌++◌, OnOk, replicate};
+ghost use Rattle.bcheck.specs.Checks.{json_byte, json_text};
+ghost use Rattle.bcheck.specs.Pieces.{piece_text, shown_byte, shown_text};
+
+use btools::Text;
+use std::alloc::AllocError;
+
+/// A piece of a text.
+#[derive(Clone, Copy)]
+pub(crate) enum Piece<'a> {
+    /// These bytes.
+    Words(&'a [u8]),
+    /// The digits of a number.
+    Number(u64),
+    /// A string of JSON.
+    Quoted(&'a [u8]),
+    /// One character for each byte of the source, so that a mark below it stands right.
+    Shown(&'a [u8]),
+    /// So many blanks.
+    Blanks(usize),
+    /// So many marks.
+    Marks(usize),
+}
+
+/// Adds pieces, one behind another.
+pub(crate) fn push_all(text: &mut Text, pieces: &[Piece<'_>]) -> Result<(), AllocError>
+    ensures { OnOk result (text.new ≡ text.old ++ flat_map piece_text pieces.now) }
+{
+    for piece in pieces {
+        push(text, *piece)?;
+    }
+    Ok(())
+}
+
+fn push(text: &mut Text, piece: Piece<'_>) -> Result<(), AllocError>
+    ensures { OnOk result (text.new ≡ text.old ++ piece_text piece.entry) }
+{
+    match piece {
+        Piece::Words(words) => text.push(words),
+        Piece::Number(number) => text.push_number(number),
+        Piece::Quoted(words) => push_quoted(text, words),
+        Piece::Shown(bytes) => push_shown(text, bytes),
+        Piece::Blanks(count) => text.push_blanks(count),
+        Piece::Marks(count) => push_marks(text, count),
+    }
+}
+
+fn push_quoted(text: &mut Text, words: &[u8]) -> Result<(), AllocError>
+    ensures { OnOk result (text.new ≡ text.old ++ json_text words.now) }
+{
+    text.push(b"\"")?;
+    for byte in words {
+        push_json(text, *byte)?;
+    }
+    text.push(b"\"")
+}
+
+// Adds a byte of a string of JSON.
+fn push_json(text: &mut Text, byte: u8) -> Result<(), AllocError>
+    ensures { OnOk result (text.new ≡ text.old ++ json_byte byte) }
+{
+    match byte {
+        b'"' => text.push(b"\\\""),
+        b'\\' => text.push(b"\\\\"),
+        0..=31 => text.push(&[b'\\', b'u', b'0', b'0', digit(byte / 16), digit(byte % 16)]),
+        _ => text.push(&[byte]),
+    }
+}
+
+fn digit(value: u8) -> u8
+    requires { value < 16 }
+    ensures { result ≡ digit_char value }
+{
+    if value < 10 {
+        b'0' + value
+    } else {
+        b'a' - 10 + value
+    }
+}
+
+fn push_shown(text: &mut Text, bytes: &[u8]) -> Result<(), AllocError>
+    ensures { OnOk result (text.new ≡ text.old ++ flat_map shown_text bytes.now) }
+{
+    for byte in bytes {
+        text.push(&[shown_as(*byte)])?;
+    }
+    Ok(())
+}
+
+fn shown_as(byte: u8) -> u8
+    ensures { result ≡ shown_byte byte }
+{
+    match byte {
+        b'\t' => b' ',
+        b' '..=b'~' => byte,
+        _ => b'?',
+    }
+}
+
+fn push_marks(text: &mut Text, count: usize) -> Result<(), AllocError>
+    ensures { OnOk result (text.new ≡ text.old ++ replicate count 94) }
+{
+    for marked in 0..count {
+        let _ = marked;
+        text.push(b"^")?;
+    }
+    Ok(())
+}

@@ -1,0 +1,58 @@
+//! What is said of a finding, with the name in its places.
+ghost use Rattle.std.specs.Prelude.{◌∷◌, [], IfOk, IsTrue, OnOk};
+ghost use Rattle.std.specs.Int.{is_in_range};
+ghost use Rattle.std.specs.List.{list_all};
+ghost use Rattle.bcheck.specs.Checks.{is_on_line};
+
+use crate::finding::Finding;
+use btools::Text;
+use bword::Name;
+use std::alloc::{AllocError, Global};
+
+/// A code, a sentence, and how to mend it.
+#[derive(Drop)]
+pub(crate) struct Words {
+    pub code: &'static str,
+    pub sentence: Text,
+    pub mend: Text,
+}
+
+impl Words {
+    /// What is said of a finding.
+    pub(crate) fn new(alloc: Global, finding: &Finding) -> Result<Self, AllocError>
+        ensures { IfOk result (λ words.
+            IsTrue (list_all is_on_line (words.code.now ∷ words.sentence ∷ words.mend ∷ []))) }
+    {
+        let (code, sentence, mend) = finding.matter.advice();
+        let sentence = named(alloc, sentence, finding.name)?;
+        let mend = named(alloc, mend, finding.name)?;
+        Ok(Words {
+            code,
+            sentence,
+            mend,
+        })
+    }
+}
+
+// A sentence with a name in the places of `@`.
+fn named(alloc: Global, sentence: &str, name: Option<Name>) -> Result<Text, AllocError>
+    requires { IsTrue (is_on_line sentence.now) }
+    ensures { IfOk result (λ text. IsTrue (is_on_line text)) }
+{
+    let mut text = Text::new(alloc);
+    let bytes = sentence.as_bytes();
+    for byte in bytes {
+        push_named(&mut text, *byte, &name)?;
+    }
+    Ok(text)
+}
+
+fn push_named(text: &mut Text, byte: u8, name: &Option<Name>) -> Result<(), AllocError>
+    requires { IsTrue (is_in_range 32 126 byte) }
+    ensures { IsTrue (is_on_line text.old) → OnOk result (IsTrue (is_on_line text.new)) }
+{
+    match (byte, name) {
+        (b'@', Some(name)) => text.push(name.as_bytes()),
+        _ => text.push(&[byte]),
+    }
+}

@@ -1,0 +1,3 @@
+mod GivenOptions
+mod ReadWords
+mod Shapes

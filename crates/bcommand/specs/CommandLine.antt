@@ -1,0 +1,243 @@
+-- The command line, and what its words ask for. How words are cut into options, and which have a fault, are definitions
+-- of `clap`, which reads them.
+use Rattle.std.specs.Prelude.{ℕ, ◌==◌, ◌&&◌, ◌^◌, Bool, true, false, List, [], length, codes, nat_lt}
+use Rattle.std.specs.Prelude.{Option, Some, None, if◌then◌else◌, option_and_then, option_map, unwrap_or}
+use Rattle.std.specs.Char.{digit_value}
+use Rattle.std.specs.List.{list_all}
+use Rattle.std.specs.Option.{option_map_or}
+use Rattle.std.specs.Str.{bytes_eq}
+use Rattle.std.specs.Str.Parse.{digits_value, without_leading_plus}
+use Rattle.clap.specs.Words.{App, Row, Rule, Text, first_of, one_of}
+use Rattle.clap.specs.Words.{new_app, new_rule, with_rule, with_subcommand}
+use Rattle.clap.specs.Simple.{on_top}
+use Rattle.clap.specs.declared.builder.action.ArgAction.TheVariants.{Set, SetTrue}
+use Rattle.clap.specs.declared.builder.value_parser.ValueParser.TheVariants as parser
+use Rattle.bword.specs.declared.edition.Edition.{Edition}
+use Rattle.bword.specs.declared.edition.Edition.TheVariants as editions
+use Rattle.bcommand.specs.declared.job.Job.{Job}
+use Rattle.bcommand.specs.declared.job.Job.TheVariants as job
+use Rattle.bcommand.specs.declared.job.Subject.{Subject}
+use Rattle.bcommand.specs.declared.job.Target.{Target}
+use Rattle.bcommand.specs.declared.job.Walk.{Walk}
+
+-- a flag
+abbrev pub flag_rule : Text → Rule
+flag_rule name = record (new_rule name) { long = Some name; action = Some SetTrue }
+
+-- an option whose value is a number from 1 to the most
+abbrev pub number_rule : Text → ℕ → Rule
+number_rule name most = record (new_rule name) {
+  long = Some name;
+  action = Some Set;
+  value_names = 1;
+  parser = Some (parser.Unsigned 1 most);
+}
+
+-- an option whose value is a name
+abbrev pub named_rule : Text → Rule
+named_rule name = record (new_rule name) { long = Some name; action = Some Set; value_names = 1 }
+
+-- an argument without an option, and whether it has to be there
+abbrev pub argument_rule : Text → Bool → Rule
+argument_rule name is_required = record (new_rule name) { required = is_required; action = Some Set }
+
+abbrev pub edition_rule : Rule
+edition_rule = number_rule (codes "edition") 2
+
+abbrev pub steps_rule : Rule
+steps_rule = number_rule (codes "steps") 4000000000
+
+abbrev pub from_rule : Rule
+from_rule = number_rule (codes "from") 4000000000
+
+abbrev pub no_limit_rule : Rule
+no_limit_rule = flag_rule (codes "no-limit")
+
+abbrev pub where_rule : Rule
+where_rule = flag_rule (codes "where")
+
+abbrev pub json_rule : Rule
+json_rule = flag_rule (codes "json")
+
+abbrev pub svg_rule : Rule
+svg_rule = flag_rule (codes "svg")
+
+abbrev pub function_rule : Rule
+function_rule = named_rule (codes "function")
+
+abbrev pub file_rule : Rule
+file_rule = argument_rule (codes "FILE") true
+
+abbrev pub name_rule : Rule
+name_rule = argument_rule (codes "NAME") false
+
+-- a command with the options of a run
+abbrev pub with_run_options : App → App
+with_run_options command = with_rule (with_rule (with_rule command steps_rule) no_limit_rule) file_rule
+
+abbrev pub compile_command : App
+compile_command = with_rule (new_app (codes "compile")) edition_rule
+
+abbrev pub run_command : App
+run_command = with_run_options (new_app (codes "run"))
+
+abbrev pub go_command : App
+go_command = with_rule (with_run_options (with_rule (new_app (codes "go")) edition_rule)) where_rule
+
+abbrev pub migrate_command : App
+migrate_command = new_app (codes "migrate")
+
+-- a command that tells of a source
+abbrev pub telling : App → App
+telling command = with_rule (with_rule command edition_rule) file_rule
+
+abbrev pub list_command : App
+list_command = with_rule (telling (new_app (codes "list"))) name_rule
+
+abbrev pub map_command : App
+map_command = with_rule (with_rule (telling (new_app (codes "map"))) svg_rule) steps_rule
+
+abbrev pub check_command : App
+check_command = with_rule (telling (new_app (codes "check"))) json_rule
+
+abbrev pub trace_command : App
+trace_command =
+    with_rule (with_rule (with_rule (telling (new_app (codes "trace"))) steps_rule) from_rule) function_rule
+
+-- the command line without its commands, one of which there has to be
+abbrev pub bare_line : App
+bare_line = on_top (λ s. record s { has_version = true; subcommand_required = true }) (new_app (codes "b"))
+
+-- `b compile`, `b run`, `b go`, `b migrate`, `b list`, `b map`, `b check` and `b trace`, one of which there has to be
+abbrev pub command_line : App
+command_line = with_subcommand (with_subcommand (with_subcommand (with_subcommand (with_subcommand (with_subcommand
+    (with_subcommand (with_subcommand bare_line compile_command.top) run_command.top) go_command.top)
+    migrate_command.top) list_command.top) map_command.top) check_command.top) trace_command.top
+
+-- the digits of a number that a u64 holds
+abbrev pub is_number : Text → Bool
+is_number digits = nat_lt 0 (length digits) && list_all (λ d. nat_lt (digit_value d) 10) digits
+    && nat_lt (digits_value 10 digits) (2 ^ 64)
+
+-- the number that a text writes
+abbrev pub written_number : Text → Option ℕ
+written_number text = let digits = without_leading_plus text in
+    if is_number digits then Some (digits_value 10 digits) else None
+
+-- the number that an option has among what was found
+abbrev pub option_number : Text → List Row → Option ℕ
+option_number id rows = option_and_then written_number (one_of id rows)
+
+abbrev pub edition_numbered : Option ℕ → Edition
+edition_numbered number = if unwrap_or number 1 == 2 then editions.Two else editions.One
+
+abbrev pub edition_in : List Row → Edition
+edition_in rows = edition_numbered (option_number (codes "edition") rows)
+
+-- whether a flag is among what was found
+abbrev pub is_set_in : Text → List Row → Bool
+is_set_in id rows = option_map_or (λ t. bytes_eq t (codes "true")) (one_of id rows) false
+
+-- the steps of a run; none where there is a limit and none
+abbrev pub steps_asked : Option ℕ → Bool → Option ℕ
+steps_asked (Some n) true = None
+steps_asked (Some n) false = Some n
+steps_asked None true = Some 18446744073709551615
+steps_asked None false = Some 10000000
+
+abbrev pub steps_in : List Row → Option ℕ
+steps_in rows = steps_asked (option_number (codes "steps") rows) (is_set_in (codes "no-limit") rows)
+
+-- the steps of a trace, and the first one that is shown
+abbrev pub trace_steps_in : List Row → ℕ
+trace_steps_in rows = unwrap_or (option_number (codes "steps") rows) 1000
+
+abbrev pub from_in : List Row → ℕ
+from_in rows = unwrap_or (option_number (codes "from") rows) 1
+
+abbrev pub file_in : List Row → Text
+file_in rows = unwrap_or (first_of (codes "FILE") rows) []
+
+abbrev pub name_in : List Row → Option Text
+name_in rows = first_of (codes "NAME") rows
+
+abbrev pub function_in : List Row → Option Text
+function_in rows = first_of (codes "function") rows
+
+-- What is asked for: that a source is compiled, that the code text in a file is run, that the source in a file is
+-- compiled and run, or is so and where the run was over is told, that a code text is migrated, that the code of the
+-- source in a file, or of its definitions of a name, is listed, that its layout is shown, that its memory is drawn,
+-- after so many steps if there is a number, that the source in a file is checked, for an editor or for people, that so
+-- many steps of its program are made and those from a number on, or of a function, are shown; or a limit of steps and
+-- none, which contradict each other.
+pub data Asked : Type 0 where
+  compile : (edition : Edition) → Asked
+  run : (file : Text) (steps : ℕ) → Asked
+  go : (file : Text) (steps : ℕ) (edition : Edition) → Asked
+  locate : (file : Text) (steps : ℕ) (edition : Edition) → Asked
+  migrate : Asked
+  list : (file : Text) (name : Option Text) (edition : Edition) → Asked
+  map : (file : Text) (edition : Edition) → Asked
+  draw : (file : Text) (edition : Edition) (steps : Option ℕ) → Asked
+  check : (file : Text) (edition : Edition) (for_editor : Bool) → Asked
+  trace : (file : Text) (steps from : ℕ) (function : Option Text) (edition : Edition) → Asked
+  contradiction : Asked
+
+abbrev pub run_asked : Text → Option ℕ → Asked
+run_asked file (Some steps) = run file steps
+run_asked file None = contradiction
+
+-- where the run was over is asked for by a flag
+abbrev pub go_asked : Text → Edition → (is_located : Bool) → Option ℕ → Asked
+go_asked file edition false (Some steps) = go file steps edition
+go_asked file edition true (Some steps) = locate file steps edition
+go_asked file edition is_located None = contradiction
+
+-- a picture is asked for by its flag, or by a number of steps
+abbrev pub map_asked : Text → Edition → Bool → Option ℕ → Asked
+map_asked file edition false None = map file edition
+map_asked file edition false (Some steps) = draw file edition (Some steps)
+map_asked file edition true steps = draw file edition steps
+
+-- what a command asks for, by its name and what was found of its options
+abbrev pub asked_by : Text → List Row → Asked
+asked_by name rows = if bytes_eq name (codes "run") then run_asked (file_in rows) (steps_in rows)
+    else (if bytes_eq name (codes "go")
+    then go_asked (file_in rows) (edition_in rows) (is_set_in (codes "where") rows) (steps_in rows)
+    else (if bytes_eq name (codes "migrate") then migrate
+    else (if bytes_eq name (codes "list") then list (file_in rows) (name_in rows) (edition_in rows)
+    else (if bytes_eq name (codes "map") then map_asked (file_in rows) (edition_in rows) (is_set_in (codes "svg") rows)
+    (option_number (codes "steps") rows)
+    else (if bytes_eq name (codes "check")
+    then check (file_in rows) (edition_in rows) (is_set_in (codes "json") rows)
+    else (if bytes_eq name (codes "trace")
+    then trace (file_in rows) (trace_steps_in rows) (from_in rows) (function_in rows) (edition_in rows)
+    else compile (edition_in rows)))))))
+
+abbrev pub asked : Option (Text × List Row) → Asked
+asked None = compile editions.One
+asked (Some command) = asked_by command.0 command.1
+
+-- what a job is of what can be asked for
+abbrev pub asked_of : Job → Asked
+asked_of (job.Compile edition) = compile edition
+asked_of (job.Run target) = run target.file.now target.steps
+asked_of (job.Go target edition) = go target.file.now target.steps edition
+asked_of (job.Locate target edition) = locate target.file.now target.steps edition
+asked_of job.Migrate = migrate
+asked_of (job.List subject) = list subject.file.now (option_map (λ n. n.now) subject.name) subject.edition
+asked_of (job.Map subject) = map subject.file.now subject.edition
+asked_of (job.Draw subject steps) = draw subject.file.now subject.edition steps
+asked_of (job.Check subject for_editor) = check subject.file.now subject.edition for_editor
+asked_of (job.Trace walk) =
+    trace walk.file.now walk.steps walk.from (option_map (λ n. n.now) walk.function) walk.edition
+asked_of job.Contradiction = contradiction
+
+abbrev pub target_shown : Target → Text × ℕ
+target_shown target = (target.file.now, target.steps)
+
+abbrev pub subject_shown : Subject → Text × Option Text × Edition
+subject_shown subject = (subject.file.now, option_map (λ n. n.now) subject.name, subject.edition)
+
+abbrev pub walk_shown : Walk → Text × Edition × ℕ × ℕ × Option Text
+walk_shown walk = (walk.file.now, walk.edition, walk.steps, walk.from, option_map (λ n. n.now) walk.function)

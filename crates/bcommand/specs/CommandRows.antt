@@ -1,0 +1,191 @@
+-- Closed facts: what command lines ask for, and their faults.
+use Rattle.std.specs.Prelude.{◌≡◌, true, false, List, [], ◌∷◌, Some, None, codes, refl}
+use Rattle.clap.specs.Words.{Text, fault_of, is_simple, is_simple_and_free, subcommand_of}
+use Rattle.clap.specs.declared.error.kind.ErrorKind.TheVariants as kind
+use Rattle.clap.proofs.OnLiterals.{clap_on_literals}
+use Rattle.bword.specs.declared.edition.Edition.TheVariants as editions
+use Rattle.bcommand.specs.CommandLine.{Asked, asked, command_line}
+use Rattle.bcommand.specs.CommandLine.{compile, run, go, locate, migrate, list, map, draw, check, trace, contradiction}
+
+pub is_simple_line : is_simple command_line ≡ true
+is_simple_line = refl
+
+pub is_free_line : is_simple_and_free command_line ≡ true
+is_free_line = refl
+
+-- what words ask for that have no fault
+abbrev Asks : List Text → Asked → Type 0
+Asks words what = (fault_of command_line words ≡ []) × (asked (subcommand_of command_line words) ≡ what)
+
+compiles : Asks (codes "b" ∷ codes "compile" ∷ []) (compile editions.One)
+unfolding clap_on_literals
+compiles = (refl, refl)
+
+compiles_the_second : Asks (codes "b" ∷ codes "compile" ∷ codes "--edition" ∷ codes "2" ∷ []) (compile editions.Two)
+unfolding clap_on_literals
+compiles_the_second = (refl, refl)
+
+compiles_the_first : Asks (codes "b" ∷ codes "compile" ∷ codes "--edition=1" ∷ []) (compile editions.One)
+unfolding clap_on_literals
+compiles_the_first = (refl, refl)
+
+runs : Asks (codes "b" ∷ codes "run" ∷ codes "x" ∷ []) (run (codes "x") 10000000)
+unfolding clap_on_literals
+runs = (refl, refl)
+
+runs_so_long : Asks (codes "b" ∷ codes "run" ∷ codes "--steps" ∷ codes "100" ∷ codes "x" ∷ []) (run (codes "x") 100)
+unfolding clap_on_literals
+runs_so_long = (refl, refl)
+
+goes : Asks (codes "b" ∷ codes "go" ∷ codes "x" ∷ codes "--edition" ∷ codes "2" ∷ [])
+    (go (codes "x") 10000000 editions.Two)
+unfolding clap_on_literals
+goes = (refl, refl)
+
+goes_without_limit : Asks (codes "b" ∷ codes "go" ∷ codes "--no-limit" ∷ codes "x" ∷ [])
+    (go (codes "x") 18446744073709551615 editions.One)
+unfolding clap_on_literals
+goes_without_limit = (refl, refl)
+
+locates : Asks (codes "b" ∷ codes "go" ∷ codes "--where" ∷ codes "--steps" ∷ codes "50" ∷ codes "x" ∷ [])
+    (locate (codes "x") 50 editions.One)
+unfolding clap_on_literals
+locates = (refl, refl)
+
+locates_within_limits : Asks (codes "b" ∷ codes "go" ∷ codes "--where" ∷ codes "--no-limit" ∷ codes "--steps=5"
+    ∷ codes "x" ∷ []) contradiction
+unfolding clap_on_literals
+locates_within_limits = (refl, refl)
+
+no_place_of_code : fault_of command_line (codes "b" ∷ codes "run" ∷ codes "--where" ∷ codes "x" ∷ [])
+    ≡ kind.UnknownArgument ∷ []
+unfolding clap_on_literals
+no_place_of_code = refl
+
+contradicts : Asks (codes "b" ∷ codes "go" ∷ codes "--no-limit" ∷ codes "--steps=5" ∷ codes "x" ∷ []) contradiction
+unfolding clap_on_literals
+contradicts = (refl, refl)
+
+migrates : Asks (codes "b" ∷ codes "migrate" ∷ []) migrate
+unfolding clap_on_literals
+migrates = (refl, refl)
+
+migrates_no_file : fault_of command_line (codes "b" ∷ codes "migrate" ∷ codes "x" ∷ []) ≡ kind.UnknownArgument ∷ []
+unfolding clap_on_literals
+migrates_no_file = refl
+
+migrates_one_edition : fault_of command_line (codes "b" ∷ codes "migrate" ∷ codes "--edition=2" ∷ [])
+    ≡ kind.UnknownArgument ∷ []
+unfolding clap_on_literals
+migrates_one_edition = refl
+
+lists : Asks (codes "b" ∷ codes "list" ∷ codes "x" ∷ []) (list (codes "x") None editions.One)
+unfolding clap_on_literals
+lists = (refl, refl)
+
+lists_one : Asks (codes "b" ∷ codes "list" ∷ codes "--edition" ∷ codes "2" ∷ codes "x" ∷ codes "f" ∷ [])
+    (list (codes "x") (Some (codes "f")) editions.Two)
+unfolding clap_on_literals
+lists_one = (refl, refl)
+
+lists_no_file : fault_of command_line (codes "b" ∷ codes "list" ∷ []) ≡ kind.MissingRequiredArgument ∷ []
+unfolding clap_on_literals
+lists_no_file = refl
+
+maps : Asks (codes "b" ∷ codes "map" ∷ codes "x" ∷ codes "--edition=2" ∷ []) (map (codes "x") editions.Two)
+unfolding clap_on_literals
+maps = (refl, refl)
+
+maps_no_name : fault_of command_line (codes "b" ∷ codes "map" ∷ codes "x" ∷ codes "f" ∷ []) ≡ kind.UnknownArgument ∷ []
+unfolding clap_on_literals
+maps_no_name = refl
+
+draws : Asks (codes "b" ∷ codes "map" ∷ codes "--svg" ∷ codes "x" ∷ []) (draw (codes "x") editions.One None)
+unfolding clap_on_literals
+draws = (refl, refl)
+
+draws_a_run : Asks (codes "b" ∷ codes "map" ∷ codes "x" ∷ codes "--svg" ∷ codes "--steps=40" ∷ [])
+    (draw (codes "x") editions.One (Some 40))
+unfolding clap_on_literals
+draws_a_run = (refl, refl)
+
+draws_by_a_number : Asks (codes "b" ∷ codes "map" ∷ codes "--edition=2" ∷ codes "--steps" ∷ codes "40" ∷ codes "x" ∷ [])
+    (draw (codes "x") editions.Two (Some 40))
+unfolding clap_on_literals
+draws_by_a_number = (refl, refl)
+
+checks : Asks (codes "b" ∷ codes "check" ∷ codes "x" ∷ []) (check (codes "x") editions.One false)
+unfolding clap_on_literals
+checks = (refl, refl)
+
+checks_for_editors : Asks (codes "b" ∷ codes "check" ∷ codes "--json" ∷ codes "--edition" ∷ codes "2" ∷ codes "x" ∷ [])
+    (check (codes "x") editions.Two true)
+unfolding clap_on_literals
+checks_for_editors = (refl, refl)
+
+checks_no_file : fault_of command_line (codes "b" ∷ codes "check" ∷ []) ≡ kind.MissingRequiredArgument ∷ []
+unfolding clap_on_literals
+checks_no_file = refl
+
+traces : Asks (codes "b" ∷ codes "trace" ∷ codes "x" ∷ []) (trace (codes "x") 1000 1 None editions.One)
+unfolding clap_on_literals
+traces = (refl, refl)
+
+traces_some : Asks (codes "b" ∷ codes "trace" ∷ codes "--edition=2" ∷ codes "--steps" ∷ codes "50" ∷ codes "--from=7"
+    ∷ codes "--function" ∷ codes "f" ∷ codes "x" ∷ []) (trace (codes "x") 50 7 (Some (codes "f")) editions.Two)
+unfolding clap_on_literals
+traces_some = (refl, refl)
+
+traces_no_file : fault_of command_line (codes "b" ∷ codes "trace" ∷ []) ≡ kind.MissingRequiredArgument ∷ []
+unfolding clap_on_literals
+traces_no_file = refl
+
+traces_within_limits : fault_of command_line (codes "b" ∷ codes "trace" ∷ codes "--no-limit" ∷ codes "x" ∷ [])
+    ≡ kind.UnknownArgument ∷ []
+unfolding clap_on_literals
+traces_within_limits = refl
+
+no_command : fault_of command_line (codes "b" ∷ []) ≡ kind.MissingSubcommand ∷ []
+unfolding clap_on_literals
+no_command = refl
+
+another_command : fault_of command_line (codes "b" ∷ codes "walk" ∷ [])
+    ≡ kind.UnknownArgument ∷ kind.InvalidSubcommand ∷ []
+unfolding clap_on_literals
+another_command = refl
+
+no_edition : fault_of command_line (codes "b" ∷ codes "compile" ∷ codes "--edition" ∷ codes "3" ∷ [])
+    ≡ kind.ValueValidation ∷ []
+unfolding clap_on_literals
+no_edition = refl
+
+no_steps : fault_of command_line (codes "b" ∷ codes "run" ∷ codes "--steps" ∷ codes "0" ∷ codes "x" ∷ [])
+    ≡ kind.ValueValidation ∷ []
+unfolding clap_on_literals
+no_steps = refl
+
+no_file : fault_of command_line (codes "b" ∷ codes "run" ∷ []) ≡ kind.MissingRequiredArgument ∷ []
+unfolding clap_on_literals
+no_file = refl
+
+no_edition_of_code : fault_of command_line (codes "b" ∷ codes "run" ∷ codes "--edition" ∷ codes "1" ∷ codes "x" ∷ [])
+    ≡ kind.UnknownArgument ∷ []
+unfolding clap_on_literals
+no_edition_of_code = refl
+
+two_editions : fault_of command_line (codes "b" ∷ codes "compile" ∷ codes "--edition=1" ∷ codes "--edition=2" ∷ [])
+    ≡ kind.ArgumentConflict ∷ []
+unfolding clap_on_literals
+two_editions = refl
+
+help : fault_of command_line (codes "b" ∷ codes "--help" ∷ []) ≡ kind.DisplayHelp ∷ []
+unfolding clap_on_literals
+help = refl
+
+help_of_a_command : fault_of command_line (codes "b" ∷ codes "go" ∷ codes "-h" ∷ []) ≡ kind.DisplayHelp ∷ []
+unfolding clap_on_literals
+help_of_a_command = refl
+
+version : fault_of command_line (codes "b" ∷ codes "--version" ∷ []) ≡ kind.DisplayVersion ∷ []
+unfolding clap_on_literals
+version = refl

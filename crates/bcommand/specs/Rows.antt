@@ -1,0 +1,25 @@
+-- What the rows of the table of commands say to `clap`.
+use Rattle.std.specs.Prelude.{List, fold}
+use Rattle.clap.specs.Words.{App, Rule, Text, new_app, with_rule, with_subcommand}
+use Rattle.bcommand.specs.CommandLine.{argument_rule, bare_line, flag_rule, named_rule, number_rule}
+use Rattle.bcommand.specs.declared.commands.ArgumentRow.{ArgumentRow}
+use Rattle.bcommand.specs.declared.commands.CommandRow.{CommandRow}
+use Rattle.bcommand.specs.declared.commands.Kind.{Kind}
+use Rattle.bcommand.specs.declared.commands.Kind.TheVariants.{Flag, Number, Named, Positional}
+
+abbrev pub rule_by : Kind → Text → Rule
+rule_by Flag id = flag_rule id
+rule_by (Number most) id = number_rule id most
+rule_by Named id = named_rule id
+rule_by (Positional is_required) id = argument_rule id is_required
+
+abbrev pub rule_in : ArgumentRow → Rule
+rule_in row = rule_by row.kind row.id.now
+
+abbrev pub command_in : CommandRow → App
+command_in row =
+    fold (λ command argument. with_rule command (rule_in argument)) (new_app row.name.now) row.arguments.now
+
+-- the command line with the commands of these rows
+abbrev pub line_in : List CommandRow → App
+line_in rows = fold (λ all row. with_subcommand all (command_in row).top) bare_line rows

@@ -1,0 +1,249 @@
+//! The commands of the program, their options and arguments, as `clap` reads them.
+ghost use Rattle.std.specs.Prelude.{◌≡◌, IfOk, false};
+ghost use Rattle.clap.specs.Words.{app_of, new_app, rule_of};
+ghost use Rattle.bcommand.specs.CommandLine.{bare_line, command_line};
+ghost use Rattle.bcommand.specs.Rows.{command_in, line_in, rule_in};
+
+use crate::texts::{
+    ABOUT, CHECK_HELP, COMPILE_HELP, GO_HELP, HELP, LIST_HELP, MAP_HELP, MIGRATE_HELP, RUN_HELP,
+    TRACE_HELP, VERSION,
+};
+use clap::{Arg, ArgAction, Command, value_parser};
+use std::alloc::{AllocError, Global};
+
+/// A command, with what help tells of it.
+#[derive(Clone, Copy)]
+pub(crate) struct CommandRow {
+    name: &'static str,
+    about: &'static str,
+    usage: Option<&'static str>,
+    help: &'static str,
+    arguments: &'static [ArgumentRow],
+}
+
+/// An option, a flag or an argument of a command, with what help tells of it.
+#[derive(Clone, Copy)]
+pub(crate) struct ArgumentRow {
+    id: &'static str,
+    kind: Kind,
+    help: &'static str,
+}
+
+/// How an option, a flag or an argument is given.
+#[derive(Clone, Copy)]
+pub(crate) enum Kind {
+    Flag,
+    /// An option with a number from 1 to this one.
+    Number(u32),
+    /// An option with a name.
+    Named,
+    /// An argument, and whether it has to be there.
+    Positional(bool),
+}
+
+/// The most steps that a command may ask for.
+const MOST_STEPS: u32 = 4_000_000_000;
+
+const EDITION: ArgumentRow = ArgumentRow {
+    id: "edition",
+    kind: Kind::Number(2),
+    help: "The edition of the source, 1 or 2; 1 if not given",
+};
+
+const STEPS: ArgumentRow = ArgumentRow {
+    id: "steps",
+    kind: Kind::Number(MOST_STEPS),
+    help: "The most steps, from 1 to 4000000000; 10000000 if not given",
+};
+
+const TRACE_STEPS: ArgumentRow = ArgumentRow {
+    id: "steps",
+    kind: Kind::Number(MOST_STEPS),
+    help: "The most steps, from 1 to 4000000000; 1000 if not given",
+};
+
+const MOMENT: ArgumentRow = ArgumentRow {
+    id: "steps",
+    kind: Kind::Number(MOST_STEPS),
+    help: "The picture after so many steps, from 1 to 4000000000",
+};
+
+const FROM: ArgumentRow = ArgumentRow {
+    id: "from",
+    kind: Kind::Number(MOST_STEPS),
+    help: "The first step shown, 1 to 4000000000; 1 if not given",
+};
+
+const FUNCTION: ArgumentRow = ArgumentRow {
+    id: "function",
+    kind: Kind::Named,
+    help: "The function whose steps are shown; all if not given",
+};
+
+const NO_LIMIT: ArgumentRow = ArgumentRow {
+    id: "no-limit",
+    kind: Kind::Flag,
+    help: "As many steps as it takes",
+};
+
+const WHERE: ArgumentRow = ArgumentRow {
+    id: "where",
+    kind: Kind::Flag,
+    help: "Tells where a trap or the limit came, on a second line",
+};
+
+const JSON: ArgumentRow = ArgumentRow {
+    id: "json",
+    kind: Kind::Flag,
+    help: "An object a line, for an editor",
+};
+
+const SVG: ArgumentRow = ArgumentRow {
+    id: "svg",
+    kind: Kind::Flag,
+    help: "A picture as an SVG file",
+};
+
+const FILE: ArgumentRow = ArgumentRow {
+    id: "FILE",
+    kind: Kind::Positional(true),
+    help: "The file",
+};
+
+const NAME: ArgumentRow = ArgumentRow {
+    id: "NAME",
+    kind: Kind::Positional(false),
+    help: "The definition to list; all of them if not given",
+};
+
+const COMMANDS: [CommandRow; 8] = [
+    CommandRow {
+        name: "compile",
+        about: "Compiles the source on standard input to code text on standard output",
+        usage: Some("b compile [OPTIONS] < FILE"),
+        help: COMPILE_HELP,
+        arguments: &[EDITION],
+    },
+    CommandRow {
+        name: "run",
+        about: "Runs the code text in FILE",
+        usage: None,
+        help: RUN_HELP,
+        arguments: &[STEPS, NO_LIMIT, FILE],
+    },
+    CommandRow {
+        name: "go",
+        about: "Compiles the source in FILE and runs it",
+        usage: None,
+        help: GO_HELP,
+        arguments: &[EDITION, STEPS, NO_LIMIT, FILE, WHERE],
+    },
+    CommandRow {
+        name: "migrate",
+        about: "Writes the code text of edition 1 on standard input in edition 2",
+        usage: Some("b migrate < FILE"),
+        help: MIGRATE_HELP,
+        arguments: &[],
+    },
+    CommandRow {
+        name: "list",
+        about: "Lists the code of the source in FILE, with the lines it comes from",
+        usage: None,
+        help: LIST_HELP,
+        arguments: &[EDITION, FILE, NAME],
+    },
+    CommandRow {
+        name: "map",
+        about: "Shows where each name of the source in FILE lies in memory",
+        usage: None,
+        help: MAP_HELP,
+        arguments: &[EDITION, FILE, SVG, MOMENT],
+    },
+    CommandRow {
+        name: "check",
+        about: "Tells what is wrong in the source in FILE, where, and how to mend it",
+        usage: None,
+        help: CHECK_HELP,
+        arguments: &[EDITION, FILE, JSON],
+    },
+    CommandRow {
+        name: "trace",
+        about: "Runs the source in FILE and shows each step",
+        usage: None,
+        help: TRACE_HELP,
+        arguments: &[EDITION, FILE, TRACE_STEPS, FROM, FUNCTION],
+    },
+];
+
+/// The command line of the program.
+pub(crate) fn command<'a>(alloc: Global) -> Result<Command<'a>, AllocError>
+    ensures { IfOk result (λ c. app_of c ≡ command_line) }
+{
+    line_of(alloc, &COMMANDS)
+}
+
+// The command line with the commands of these rows.
+fn line_of<'a>(alloc: Global, rows: &[CommandRow]) -> Result<Command<'a>, AllocError>
+    ensures { IfOk result (λ c. app_of c ≡ line_in rows.now) }
+{
+    let mut all = bare_command(alloc)?;
+    for row in rows {
+        all = all.subcommand(command_of(alloc, *row)?)?;
+    }
+    Ok(all)
+}
+
+// The command line without its commands.
+fn bare_command<'a>(alloc: Global) -> Result<Command<'a>, AllocError>
+    ensures { IfOk result (λ c. app_of c ≡ bare_line) }
+{
+    let all = Command::new(alloc, "b")
+        .bin_name("b")?
+        .about(ABOUT)
+        .version(VERSION)
+        .after_help(HELP)
+        .subcommand_required(true);
+    Ok(all)
+}
+
+// The command that a row tells of.
+fn command_of<'a>(alloc: Global, row: CommandRow) -> Result<Command<'a>, AllocError>
+    ensures { IfOk result (λ c. app_of c ≡ command_in row) }
+{
+    let mut command = named_command(alloc, row);
+    for argument in row.arguments {
+        command = command.arg(argument_of(alloc, *argument))?;
+    }
+    Ok(command)
+}
+
+// The same without its arguments.
+fn named_command<'a>(alloc: Global, row: CommandRow) -> Command<'a>
+    ensures { app_of result ≡ new_app row.name.now }
+{
+    let command = Command::new(alloc, row.name)
+        .about(row.about)
+        .after_help(row.help);
+    match row.usage {
+        Some(usage) => command.override_usage(usage),
+        None => command,
+    }
+}
+
+// The option, flag or argument that a row tells of.
+fn argument_of<'a>(alloc: Global, row: ArgumentRow) -> Arg<'a>
+    ensures rule { rule_of result ≡ rule_in row }
+    ensures local { result.global ≡ false }
+{
+    let arg = Arg::new(alloc, row.id).help(row.help);
+    match row.kind {
+        Kind::Flag => arg.long(row.id).action(ArgAction::SetTrue),
+        Kind::Number(most) => arg
+            .long(row.id)
+            .value_name("N")
+            .action(ArgAction::Set)
+            .value_parser(value_parser!(u64).range(1..=i64::from(most))),
+        Kind::Named => arg.long(row.id).value_name("NAME").action(ArgAction::Set),
+        Kind::Positional(is_required) => arg.required(is_required).action(ArgAction::Set),
+    }
+}

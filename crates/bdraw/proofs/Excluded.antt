@@ -1,0 +1,257 @@
+-- What no picture of memory is.
+use Rattle.std.proofs.Common.{◌≡◌, ◌≢◌, ◌∙◌, ℕ, Bool, true, false, List, [], ◌∷◌, ◌++◌, Option, Some, None, map, take, ap, arith, refl, subst, sym, ◌⊎◌, inl, inr}
+use Rattle.std.specs.Prelude.{codes, nat_lt, not, ◌==◌}
+use Rattle.std.specs.List.{list_all}
+use Rattle.std.specs.Io.KnownBytes.{Consumes}
+use Rattle.std.proofs.lemmas.Bool.{and_from, cond_both}
+use Rattle.std.proofs.lemmas.List.{map-append}
+use Rattle.std.proofs.lemmas.List.Folds.{list_all-append}
+use Rattle.bword.specs.declared.edition.Edition.{Edition}
+use Rattle.bword.specs.ByteEnds.{CanFollow, Grew, Incoming, Outgoing, Took, Writes, outgoing_of}
+use Rattle.bmach.specs.Resolved.{IsLoadedFrom}
+use Rattle.bmach.specs.Stepping.{HasEnd}
+use Rattle.blang.specs.declared.code.Definition.{Definition}
+use Rattle.blang.specs.declared.run.LoadFault.{LoadFault}
+use Rattle.blang.specs.declared.run.Outcome.{Outcome}
+use Rattle.blang.specs.declared.run.Outcome.TheVariants as outcome
+use Rattle.blang.specs.declared.token.Diagnostic.{Diagnostic}
+use Rattle.blang.specs.Compiles.{Compilation, CompilesTo, line_of}
+use Rattle.blang.specs.Cut.{tokens_from}
+use Rattle.blang.specs.Layout.{load_fault}
+use Rattle.blang.specs.Machine.{ComesTo, Image, Running, RunEnds, RunGives, run, state_world}
+use Rattle.btools.specs.Excluded.{Excluded, code_in}
+use Rattle.btools.specs.Programs.{load_line, nothing_written}
+use Rattle.btools.proofs.Excluded.{device_grew, excluded, no_done, not_grown, other_answer, was_told}
+use Rattle.bdraw.specs.Draws.{Drawn, Draws, DrawsProgram, DrawsRun, IsAfter, IsAtEnd, IsOver, IsPicture, ShowsMemory, drawn, named, row, seen}
+use Rattle.bdraw.specs.Draws as draws
+use Rattle.bdraw.specs.Shapes.{escape, escaped}
+use Rattle.bdraw.specs.Excluded.{IsOfStep, NoPictures, Shows, TellsBytes, WrongShapes, is_no_tag}
+use Rattle.bdraw.specs.declared.picture.TheConstants.{MOST_NAMES}
+use Rattle.bdraw.specs.declared.shapes.Fill.{Fill}
+use Rattle.bdraw.specs.declared.shapes.Shape.{Shape}
+
+-- what is drawn at addresses is what is seen there
+seen_there : (image : Image) (words addresses : List ℕ) → map (λ (box : ℕ × ℕ × Fill). seen image words box.0) (map (seen image words) addresses) ≡ map (seen image words) addresses
+seen_there image words [] = refl
+seen_there image words (a ∷ addresses) = ap (λ boxes. seen image words a ∷ boxes) (seen_there image words addresses)
+
+boxes : (ds : List Definition) (image : Image) (words : List ℕ) (shapes : List Shape) → Drawn ds image words shapes → map (λ (box : ℕ × ℕ × Fill). seen image words box.0) (drawn shapes) ≡ drawn shapes
+boxes ds image words shapes h =
+    ap (λ all. map (λ (box : ℕ × ℕ × Fill). seen image words box.0) all) h.1 ∙ seen_there image words (row 0 7 ++ named image (take MOST_NAMES ds) ++ h.0) ∙ sym h.1
+
+names : (ds : List Definition) (image : Image) (words : List ℕ) (shapes : List Shape) → Drawn ds image words shapes
+    → (others : List (ℕ × ℕ × Fill)) × (drawn shapes ≡ map (seen image words) (row 0 7 ++ named image (take MOST_NAMES ds)) ++ others)
+names ds image words shapes h =
+    let library = row 0 7 in
+    let defined = named image (take MOST_NAMES ds) in
+    (map (seen image words) h.0, h.1 ∙ map-append (seen image words) (library ++ defined) h.0)
+
+a_byte : (b : ℕ) → list_all is_no_tag (escape b) ≡ true
+a_byte b =
+    cond_both (b == 38) (codes "&amp;") _ (λ t. list_all is_no_tag t ≡ true) (λ e. refl) (λ e.
+    cond_both (b == 60) (codes "&lt;") _ (λ t. list_all is_no_tag t ≡ true) (λ e. refl) (λ less.
+    cond_both (b == 62) (codes "&gt;") _ (λ t. list_all is_no_tag t ≡ true) (λ e. refl) (λ greater.
+    cond_both (nat_lt b 32) (codes ".") _ (λ t. list_all is_no_tag t ≡ true) (λ e. refl) (λ e.
+    cond_both (nat_lt 126 b) (codes ".") (b ∷ []) (λ t. list_all is_no_tag t ≡ true) (λ e. refl) (λ e.
+    and_from (is_no_tag b) true (and_from _ _ (ap not less) (ap not greater)) refl)))))
+
+tags : (text : List ℕ) → list_all is_no_tag (escaped text) ≡ true
+tags [] = refl
+tags (b ∷ text) = list_all-append is_no_tag (escape b) (escaped text) ∙ and_from _ _ (a_byte b) (tags text)
+
+pub wrong_shapes : WrongShapes
+wrong_shapes = record { boxes = boxes; names = names; tags = tags }
+
+-- what an end that tells its bytes has left
+record Rest (i j : Incoming) (taken bytes : List ℕ) : Type 0 where
+  pub more : List ℕ
+  pub follows : CanFollow j more
+  pub whole : taken ++ more ≡ bytes
+  pub left : j.left ≡ Some more
+
+rest_of_bytes : (old new : Option (List ℕ)) (taken bytes : List ℕ) → old ≡ Some bytes → Consumes old new taken → (more : List ℕ) × (new ≡ Some more) × (taken ++ more ≡ bytes)
+rest_of_bytes None new taken bytes e c = absurd (no e)
+  where
+    no : None ≢ Some bytes
+    no e = cc
+rest_of_bytes (Some xs) None taken bytes e c = elim c [ ]
+rest_of_bytes (Some xs) (Some ys) taken bytes e c = let same : xs ≡ bytes = cc in (ys, refl, sym c ∙ same)
+
+cancel : (xs ys zs : List ℕ) → xs ++ ys ≡ xs ++ zs → ys ≡ zs
+cancel [] ys zs e = e
+cancel (x ∷ xs) ys zs e = let tails : xs ++ ys ≡ xs ++ zs = cc in cancel xs ys zs tails
+
+by_cases : {A : Type 0} (b : Bool) → (b ≡ true → A) → (b ≡ false → A) → A
+by_cases true f g = f refl
+by_cases false f g = g refl
+
+rest_of : (i j : Incoming) (taken bytes : List ℕ) → Took i taken j → TellsBytes i bytes → Rest i j taken bytes
+rest_of i j taken bytes t told =
+    let rest = rest_of_bytes i.left j.left taken bytes told.0 t.bytes in
+    record { more = rest.0; follows = follows rest.0 rest.2; whole = rest.2; left = rest.1 }
+  where
+    follows : (more : List ℕ) → taken ++ more ≡ bytes → CanFollow j more
+    follows more whole over =
+        by_cases i.is_over
+        (λ was. let nothing : taken ≡ [] = (t.over was).0 in subst (λ xs. xs ++ more ≡ bytes) nothing whole ∙ told.1 was)
+        (λ was_not.
+        let all = subst (λ o. Consumes o (Some []) taken) told.0 (t.all was_not over) in
+        cancel taken more [] (whole ∙ all))
+
+module _ (ds : List Definition) (image : Image) where
+  module _ (words : List ℕ) (o q : Outgoing) where
+    shown : ShowsMemory ds image words o q 0 → (text : List ℕ) × IsPicture ds image words text × Writes o text q
+    shown (draws.shown text picture report) = (text, picture, was_told text 0 o q (λ e. omega (arith, e)) (λ e. omega (arith, e)) report)
+    shown (draws.no_memory same is) = absurd (omega (arith, is))
+
+    show_device : ShowsMemory ds image words o q 133 → Grew o.failures q.failures
+    show_device (draws.shown text picture report) = device_grew text 0 o q (λ e. omega (arith, e)) report
+    show_device (draws.no_memory same is) = absurd (omega (arith, is))
+
+    show_fault : ShowsMemory ds image words o q 1 → ⊥
+    show_fault (draws.shown text picture report) = other_answer text 0 o q 1 (λ e. omega (arith, e)) (λ e. omega (arith, e)) (λ e. omega (arith, e)) report
+    show_fault (draws.no_memory same is) = omega (arith, is)
+
+    show_refused : ShowsMemory ds image words o q 132 → ⊥
+    show_refused (draws.shown text picture report) = other_answer text 0 o q 132 (λ e. omega (arith, e)) (λ e. omega (arith, e)) (λ e. omega (arith, e)) report
+    show_refused (draws.no_memory same is) = omega (arith, is)
+
+  module _ (i j : Incoming) (o q : Outgoing) where
+    fault_run : (n : ℕ) → DrawsRun ds image n i j o q 1 → ⊥
+    fault_run n (draws.after words h s) = show_fault words o q s
+    fault_run n (draws.over result words over end h s) = show_fault words o q s
+    fault_run n (draws.not_begun result b end s same) = show_fault image.words o q s
+    fault_run n (draws.unread over same is) = omega (arith, is)
+    fault_run n (draws.no_memory same quiet is) = omega (arith, is)
+
+    refused_run : (n : ℕ) → DrawsRun ds image n i j o q 132 → ⊥
+    refused_run n (draws.after words h s) = show_refused words o q s
+    refused_run n (draws.over result words over end h s) = show_refused words o q s
+    refused_run n (draws.not_begun result b end s same) = show_refused image.words o q s
+    refused_run n (draws.unread over same is) = omega (arith, is)
+    refused_run n (draws.no_memory same quiet is) = omega (arith, is)
+
+    no_fault : (steps : Option ℕ) → DrawsProgram ds image steps i j o q 1 → ⊥
+    no_fault None h = show_fault image.words o q h.0
+    no_fault (Some n) h = fault_run n h
+
+    no_refusal : (steps : Option ℕ) → DrawsProgram ds image steps i j o q 132 → ⊥
+    no_refusal None h = show_refused image.words o q h.0
+    no_refusal (Some n) h = refused_run n h
+
+    device_run : (n : ℕ) → DrawsRun ds image n i j o q 133 → Grew i.failures j.failures ⊎ Grew o.failures q.failures
+    device_run n (draws.after words h s) = inr (show_device words o q s)
+    device_run n (draws.over result words over end h s) = inr (show_device words o q s)
+    device_run n (draws.not_begun result b end s same) = inr (show_device image.words o q s)
+    device_run n (draws.unread over same is) = elim (over.1.reason) [ inl read ↦ inl read | inr written ↦ absurd (not_grown 0 0 refl refl written) ]
+    device_run n (draws.no_memory same quiet is) = absurd (omega (arith, is))
+
+    device_in : (steps : Option ℕ) → DrawsProgram ds image steps i j o q 133 → Grew i.failures j.failures ⊎ Grew o.failures q.failures
+    device_in None h = inr (show_device image.words o q h.0)
+    device_in (Some n) h = device_run n h
+
+    -- a run with an end of its own
+    comes : (n : ℕ) (result : Outcome) (p : Outgoing) → HasEnd result → RunGives (run image) n i j nothing_written p result → ComesTo (run image) n i j nothing_written p result
+    comes n (outcome.Exit status) p end h = h
+    comes n (outcome.Trap kind) p end h = h
+    comes n outcome.Limit p end h = absurd end
+    comes n outcome.Device p end h = absurd end
+    comes n outcome.Memory p end h = absurd end
+
+    unread_run : (n status : ℕ) → DrawsRun ds image n i j o q status → (j.failures ≡ i.failures → ⊥) → (status ≡ 133) × (q ≡ o)
+    unread_run n status (draws.after words h s) failed = absurd (failed h.no_failure)
+    unread_run n status (draws.over result words over end h s) failed = absurd (failed (comes n result (outgoing_of over.0) end over.1).no_failure)
+    unread_run n status (draws.not_begun result b end s same) failed = absurd (failed (ap (λ (x : Incoming). x.failures) same))
+    unread_run n status (draws.unread over same is) failed = (is, same)
+    unread_run n status (draws.no_memory same quiet is) failed = absurd (failed same)
+
+    unread_in : (steps : Option ℕ) (status : ℕ) → DrawsProgram ds image steps i j o q status → (j.failures ≡ i.failures → ⊥) → (status ≡ 133) × (q ≡ o)
+    unread_in None status h failed = absurd (failed (ap (λ (x : Incoming). x.failures) h.1))
+    unread_in (Some n) status h failed = unread_run n status h failed
+
+    module _ (n : ℕ) (bytes : List ℕ) (told : TellsBytes i bytes) where
+      -- a run between two steps has these words, and has read what was taken
+      of_step : (words : List ℕ) → IsAfter image n i j words → (words ≡ (state_world (run image bytes n)).store) × (j.left ≡ Some (state_world (run image bytes n)).input)
+      of_step words h =
+          let rest = rest_of i j h.taken bytes h.took told in
+          let at = h.holds rest.more rest.follows in
+          let is = subst (λ t. run image t n ≡ Running at.0 at.1 at.2) rest.whole at.3 in
+          (sym at.4 ∙ sym (ap (λ s. (state_world s).store) is), rest.left ∙ ap Some (sym at.5 ∙ sym (ap (λ s. (state_world s).input) is)))
+
+      of_end : (result : Outcome) (words : List ℕ) → IsOver image n i j result → HasEnd result → IsAtEnd image n i j words → (words ≡ (state_world (run image bytes n)).store) × (j.left ≡ Some (state_world (run image bytes n)).input)
+      of_end result words over end h =
+          let c = comes n result (outgoing_of over.0) end over.1 in
+          let rest = rest_of i j c.taken bytes c.took told in
+          let other = rest_of i j h.taken bytes h.took told in (
+            sym (subst (λ t. (state_world (run image t n)).store ≡ words) other.whole (h.holds other.more other.follows)),
+            rest.left ∙ ap Some (sym (subst (λ t. (state_world (run image t n)).input ≡ rest.more) rest.whole (c.shows rest.more rest.follows).left)),
+          )
+
+module _ (edition : Edition) (source : List ℕ) (r : Compilation) (g : CompilesTo [] (tokens_from edition 1 source) r) (ends : RunEnds) where
+  abbrev code : List Definition
+  code = code_in edition source r g
+
+  told : Excluded edition source r g ends.line ends.line_behind
+  told = excluded edition source r g ends.line ends.line_behind
+
+  done : (steps : Option ℕ) → Draws edition source steps ends 0 → (r.stop ≡ None) × (load_fault code ≡ None)
+  done steps (draws.drew ds image p h) = let is = told.program ds image p in (is.0, is.2)
+  done steps (draws.stopped why quiet unread) = absurd (no_done 0 refl (told.status 0 why))
+
+  -- a picture of the program of the source
+  shows_code : (ds : List Definition) (image : Image) (words : List ℕ) → ds ≡ code → ShowsMemory ds image words ends.out ends.out_behind 0 → Shows edition source r g ends image words
+  shows_code ds image words same h =
+      let s = shown ds image words ends.out ends.out_behind h in
+      (s.0, subst (λ (x : List Definition). IsPicture x image words s.0) same s.1, s.2)
+
+  before : Draws edition source None ends 0 → (image : Image) × IsLoadedFrom code image × Shows edition source r g ends image image.words × (ends.input_behind ≡ ends.input)
+  before (draws.drew ds image p h) =
+      let same = (told.program ds image p).1 in
+      (image, subst (λ (x : List Definition). IsLoadedFrom x image) same p.loaded, shows_code ds image image.words same h.0, h.1)
+  before (draws.stopped why quiet unread) = absurd (no_done 0 refl (told.status 0 why))
+
+  module _ (n : ℕ) (bytes : List ℕ) (tells : TellsBytes ends.input bytes) where
+    after_run : (ds : List Definition) (image : Image) → ds ≡ code → DrawsRun ds image n ends.input ends.input_behind ends.out ends.out_behind 0 → (words : List ℕ) × Shows edition source r g ends image words × IsOfStep edition source r g ends image n bytes words
+    after_run ds image same (draws.after words h s) = (words, shows_code ds image words same s, inl (of_step ds image ends.input ends.input_behind ends.out ends.out_behind n bytes tells words h))
+    after_run ds image same (draws.over result words over end h s) =
+        (words, shows_code ds image words same s, inl (of_end ds image ends.input ends.input_behind ends.out ends.out_behind n bytes tells result words over end h))
+    after_run ds image same (draws.not_begun result b end s unread) = (image.words, shows_code ds image image.words same s, inr (result, end, b, refl, unread))
+    after_run ds image same (draws.unread over quiet is) = absurd (omega (arith, is))
+    after_run ds image same (draws.no_memory read quiet is) = absurd (omega (arith, is))
+
+    after : Draws edition source (Some n) ends 0 → (image : Image) × (words : List ℕ) × IsLoadedFrom code image × Shows edition source r g ends image words × IsOfStep edition source r g ends image n bytes words
+    after (draws.drew ds image p h) =
+        let same = (told.program ds image p).1 in
+        let a = after_run ds image same h in
+        (image, a.0, subst (λ (x : List Definition). IsLoadedFrom x image) same p.loaded, a.1, a.2)
+    after (draws.stopped why quiet unread) = absurd (no_done 0 refl (told.status 0 why))
+
+  unread : (steps : Option ℕ) (status : ℕ) → Draws edition source steps ends status → (ends.input_behind.failures ≡ ends.input.failures → ⊥) → (status ≡ 133) × (ends.out_behind ≡ ends.out)
+  unread steps status (draws.drew ds image p h) failed = unread_in ds image ends.input ends.input_behind ends.out ends.out_behind steps status h failed
+  unread steps status (draws.stopped why quiet same) failed = absurd (failed (ap (λ (x : Incoming). x.failures) same))
+
+  device : (steps : Option ℕ) → Draws edition source steps ends 133 → Grew ends.input.failures ends.input_behind.failures ⊎ Grew ends.out.failures ends.out_behind.failures ⊎ Grew ends.line.failures ends.line_behind.failures
+  device steps (draws.drew ds image p h) =
+      elim (device_in ds image ends.input ends.input_behind ends.out ends.out_behind steps h) [ inl read ↦ inl read | inr written ↦ inr (inl written) ]
+  device steps (draws.stopped why quiet same) = inr (inr (told.device why))
+
+  fault : (steps : Option ℕ) → Draws edition source steps ends 1
+      → ((d : Diagnostic) × (r.stop ≡ Some d) × Writes ends.line (line_of d) ends.line_behind) × (ends.out_behind ≡ ends.out) × (ends.input_behind ≡ ends.input)
+  fault steps (draws.drew ds image p h) = absurd (no_fault ds image ends.input ends.input_behind ends.out ends.out_behind steps h)
+  fault steps (draws.stopped why quiet same) = (told.fault why, quiet, same)
+
+  unloaded : (steps : Option ℕ) → Draws edition source steps ends 132
+      → ((f : LoadFault) × (text : List ℕ) × (load_fault code ≡ Some f) × (load_line f ≡ Some text) × Writes ends.line text ends.line_behind) × (ends.out_behind ≡ ends.out) × (ends.input_behind ≡ ends.input)
+  unloaded steps (draws.drew ds image p h) = absurd (no_refusal ds image ends.input ends.input_behind ends.out ends.out_behind steps h)
+  unloaded steps (draws.stopped why quiet same) = (told.unloaded why, quiet, same)
+
+pub no_pictures : NoPictures
+no_pictures edition source r g ends = record {
+  done = done edition source r g ends;
+  before = before edition source r g ends;
+  after = after edition source r g ends;
+  unread = unread edition source r g ends;
+  device = device edition source r g ends;
+  fault = fault edition source r g ends;
+  unloaded = unloaded edition source r g ends;
+}

@@ -1,0 +1,5 @@
+use Rattle.bdraw.proofs.Excluded.{no_pictures, wrong_shapes}
+use Rattle.bdraw.proofs.drawing.wrong_pictures_are_excluded.Goals as goal
+
+pub returns : goal.returns
+returns c = record { shapes = wrong_shapes; pictures = no_pictures }

@@ -1,0 +1,96 @@
+-- What no picture of memory is, of each source and whatever its ends do.
+use Rattle.std.specs.Prelude.{◌≡◌, ℕ, ◌==◌, ◌&&◌, not, true, Bool, List, [], ◌++◌, map, take, Option, Some, None}
+use Rattle.std.specs.Prelude.{◌⊎◌, IsTrue}
+use Rattle.std.specs.List.{list_all}
+use Rattle.bword.specs.declared.edition.Edition.{Edition}
+use Rattle.bword.specs.ByteEnds.{Grew, Incoming, Writes}
+use Rattle.bmach.specs.Resolved.{IsLoadedFrom}
+use Rattle.bmach.specs.Stepping.{BeginsNot, HasEnd}
+use Rattle.blang.specs.declared.code.Definition.{Definition}
+use Rattle.blang.specs.declared.run.LoadFault.{LoadFault}
+use Rattle.blang.specs.declared.run.Outcome.{Outcome}
+use Rattle.blang.specs.declared.status.TheConstants.{DEVICE, DONE, FAULT, REFUSED}
+use Rattle.blang.specs.declared.token.Diagnostic.{Diagnostic}
+use Rattle.blang.specs.Compiles.{Compilation, CompilesTo, line_of}
+use Rattle.blang.specs.Cut.{tokens_from}
+use Rattle.blang.specs.Layout.{load_fault}
+use Rattle.blang.specs.Machine.{Image, RunEnds, run, state_world}
+use Rattle.btools.specs.Excluded.{code_in}
+use Rattle.btools.specs.Programs.{load_line}
+use Rattle.bdraw.specs.Draws.{Drawn, Draws, IsPicture, drawn, named, row, seen}
+use Rattle.bdraw.specs.Shapes.{escaped}
+use Rattle.bdraw.specs.declared.picture.TheConstants.{MOST_NAMES}
+use Rattle.bdraw.specs.declared.shapes.Fill.{Fill}
+use Rattle.bdraw.specs.declared.shapes.Shape.{Shape}
+
+-- a byte that begins or ends no tag
+abbrev pub is_no_tag : ℕ → Bool
+is_no_tag b = not (b == 60) && not (b == 62)
+
+-- What is excluded of the boxes and texts of a picture.
+pub record WrongShapes : Type 0 where
+  -- a box with another word than that of its address, or filled though it is the image's, or not though it isn't
+  pub boxes : (ds : List Definition) (image : Image) (words : List ℕ) (shapes : List Shape)
+      → Drawn ds image words shapes → map (λ (box : ℕ × ℕ × Fill). seen image words box.0) (drawn shapes) ≡ drawn shapes
+  -- a word of the library, or a name of the first 48, that is left out
+  pub names : (ds : List Definition) (image : Image) (words : List ℕ) (shapes : List Shape)
+      → Drawn ds image words shapes → (others : List (ℕ × ℕ × Fill))
+      × (drawn shapes ≡ map (seen image words) (row 0 7 ++ named image (take MOST_NAMES ds)) ++ others)
+  -- a text with a tag in it
+  pub tags : (text : List ℕ) → IsTrue (list_all is_no_tag (escaped text))
+
+-- the end tells its bytes, which are these
+abbrev pub TellsBytes : Incoming → List ℕ → Type 0
+TellsBytes end bytes = (end.left ≡ Some bytes) × (end.is_over ≡ true → bytes ≡ [])
+
+module _ (edition : Edition) (source : List ℕ) (r : Compilation) (g : CompilesTo [] (tokens_from edition 1 source) r)
+    (ends : RunEnds) where
+  -- a picture of these words of the program of the source was written
+  abbrev pub Shows : Image → List ℕ → Type 0
+  Shows image words =
+      (text : List ℕ) × IsPicture (code_in edition source r g) image words text
+      × Writes ends.out text ends.out_behind
+
+  -- a picture was drawn of a run of so many steps on these bytes: of the words that the machine has then, and just what
+  -- it has read was taken; or of those before a run that doesn't begin
+  abbrev pub IsOfStep : Image → ℕ → List ℕ → List ℕ → Type 0
+  IsOfStep image n bytes words =
+      ((words ≡ (state_world (run image bytes n)).store)
+      × (ends.input_behind.left ≡ Some (state_world (run image bytes n)).input))
+      ⊎ ((result : Outcome) × HasEnd result × BeginsNot image result × (words ≡ image.words)
+      × (ends.input_behind ≡ ends.input))
+
+  -- What is excluded of a picture.
+  pub record WrongPictures : Type 0 where
+    -- 0 for a source with a fault, or for what doesn't load
+    pub done : (steps : Option ℕ) → Draws edition source steps ends DONE
+        → (r.stop ≡ None) × (load_fault (code_in edition source r g) ≡ None)
+    -- a picture before the run that is one of other words, or for which something was read
+    pub before : Draws edition source None ends DONE
+        → (image : Image) × IsLoadedFrom (code_in edition source r g) image × Shows image image.words
+        × (ends.input_behind ≡ ends.input)
+    -- a picture of the machine a step earlier or later, or for which it read less or more
+    pub after : (n : ℕ) (bytes : List ℕ) → TellsBytes ends.input bytes → Draws edition source (Some n) ends DONE
+        → (image : Image) × (words : List ℕ) × IsLoadedFrom (code_in edition source r g) image × Shows image words
+        × IsOfStep image n bytes words
+    -- a failed read that isn't told by 133, or something written behind it
+    pub unread : (steps : Option ℕ) (status : ℕ) → Draws edition source steps ends status
+        → (ends.input_behind.failures ≡ ends.input.failures → ⊥) → (status ≡ DEVICE) × (ends.out_behind ≡ ends.out)
+    -- 133 where no read and no write failed
+    pub device : (steps : Option ℕ) → Draws edition source steps ends DEVICE
+        → Grew ends.input.failures ends.input_behind.failures ⊎ Grew ends.out.failures ends.out_behind.failures
+        ⊎ Grew ends.line.failures ends.line_behind.failures
+    -- 1 for a source without a fault, or with another line, or with anything else written or read
+    pub fault : (steps : Option ℕ) → Draws edition source steps ends FAULT
+        → ((d : Diagnostic) × (r.stop ≡ Some d) × Writes ends.line (line_of d) ends.line_behind)
+        × (ends.out_behind ≡ ends.out) × (ends.input_behind ≡ ends.input)
+    -- 132 for definitions that load, or with another line, or with anything else written or read
+    pub unloaded : (steps : Option ℕ) → Draws edition source steps ends REFUSED
+        → ((f : LoadFault) × (text : List ℕ) × (load_fault (code_in edition source r g) ≡ Some f)
+        × (load_line f ≡ Some text) × Writes ends.line text ends.line_behind)
+        × (ends.out_behind ≡ ends.out) × (ends.input_behind ≡ ends.input)
+
+abbrev pub NoPictures : Type 0
+NoPictures =
+    (edition : Edition) (source : List ℕ) (r : Compilation) (g : CompilesTo [] (tokens_from edition 1 source) r)
+    (ends : RunEnds) → WrongPictures edition source r g ends

@@ -1,0 +1,176 @@
+-- What no listing and no map is.
+use Rattle.std.proofs.Common.{◌≡◌, ◌∙◌, ◌+◌, ◌%◌, ℕ, zero, suc, List, [], ◌∷◌, ◌++◌, Option, Some, None, ap, ap₂, arith, refl, subst, ◌⊎◌, inl, inr}
+use Rattle.std.specs.Prelude.{codes, decimal, min, slice_index, unwrap_or}
+use Rattle.std.specs.List.{flat_map}
+use Rattle.bword.specs.declared.edition.Edition.{Edition}
+use Rattle.bword.specs.ByteEnds.{Grew, Outgoing, Writes}
+use Rattle.bmach.specs.Resolved.{IsLoadedFrom}
+use Rattle.blang.specs.declared.code.Definition.{Definition}
+use Rattle.blang.specs.Compiles.{Compilation, CompilesTo, line_of}
+use Rattle.blang.specs.Cut.{tokens_from}
+use Rattle.blang.specs.declared.run.LoadFault.{LoadFault}
+use Rattle.blang.specs.declared.token.Diagnostic.{Diagnostic}
+use Rattle.blang.specs.Layout.{Shape, load_fault, shape_of, size_of}
+use Rattle.blang.specs.Machine.{Image, image_of}
+use Rattle.blang.specs.Text.{lines_of}
+use Rattle.btools.specs.Columns.{left, right}
+use Rattle.btools.specs.Excluded.{Excluded, code_in}
+use Rattle.btools.specs.Programs.{ToldEnds, image_address, load_line}
+use Rattle.btools.proofs.Excluded.{clean, device_grew, excluded, no_done, other_answer, was_told}
+use Rattle.blist.specs.Excluded.{NoListings, NoMaps, WrongStatuses}
+use Rattle.blist.specs.declared.layout.TheConstants as layout_texts
+use Rattle.blist.specs.declared.listing.TheConstants.{HEADING, UNDEFINED}
+use Rattle.blist.specs.Listings.{AreRows, Lists, wanted}
+use Rattle.blist.specs.Listings as listing
+use Rattle.blist.specs.Maps.{Maps, dots, kind_text, map_row, map_text, words_from}
+use Rattle.blist.specs.Maps as layout
+
+-- the status of an unknown name is none of a source without a program
+no_unknown : (s : ℕ) → s ≡ 135 → (s ≡ 1) ⊎ (s ≡ 132) ⊎ (s ≡ 133) ⊎ (s ≡ 134) → ⊥
+no_unknown s is (inl a) = omega (arith, is, a)
+no_unknown s is (inr (inl b)) = omega (arith, is, b)
+no_unknown s is (inr (inr (inl c))) = omega (arith, is, c)
+no_unknown s is (inr (inr (inr d))) = omega (arith, is, d)
+
+-- A map looks at the words, the data end and the addresses of names alone.
+module _ (image other : Image) (words : image.words ≡ other.words) (addresses : (x : List ℕ) → image_address image x ≡ image_address other x) where
+  words_same : (address n : ℕ) → words_from image address n ≡ words_from other address n
+  words_same address zero = refl
+  words_same address (suc n) =
+      ap₂ (λ before ws. before ++ codes " " ++ decimal (slice_index ws ((address + n) % 65536))) (words_same address n) words
+
+  row_same : (d : Shape) → map_row image d ≡ map_row other d
+  row_same d =
+      let count = min (size_of d) layout_texts.SHOWN in
+      let same = addresses d.name in
+      ap₂ (λ address ws.
+      right 6 (decimal address) ++ codes "  " ++ left 10 d.name ++ left 8 (kind_text d.kind) ++ right 7 (decimal (size_of d)) ++ codes " " ++ ws ++ dots (size_of d) ++ codes "\n") same
+      (ap (λ address. words_from image address count) same ∙ words_same (image_address other d.name) count)
+
+  rows_same : (ds : List Definition) → flat_map (λ d. map_row image (shape_of d)) ds ≡ flat_map (λ d. map_row other (shape_of d)) ds
+  rows_same [] = refl
+  rows_same (d ∷ ds) = ap₂ (λ a b. a ++ b) (row_same (shape_of d)) (rows_same ds)
+
+map_same : (ds : List Definition) (image : Image) → IsLoadedFrom ds image → map_text image ds ≡ map_text (image_of ds) ds
+map_same ds image h =
+    ap₂ (λ rows end. layout_texts.HEADING.now ++ rows ++ codes "data end " ++ decimal end ++ codes "\n")
+    (rows_same image (image_of ds) h.words (λ x. ap (λ (a : Option ℕ). unwrap_or a 0) (h.addresses x)) ds) h.data_end
+
+module _ (edition : Edition) (source : List ℕ) (r : Compilation) (g : CompilesTo [] (tokens_from edition 1 source) r) (ends : ToldEnds) where
+  abbrev code : List Definition
+  code = code_in edition source r g
+
+  told : Excluded edition source r g ends.line ends.line_behind
+  told = excluded edition source r g ends.line ends.line_behind
+
+  module _ (name : Option (List ℕ)) where
+    abbrev Gives : ℕ → Type 0
+    Gives status = Lists edition source name ends status
+
+    list_done : Gives 0 → (r.stop ≡ None) × (load_fault code ≡ None) × (wanted name code ≡ [] → ⊥) × ((text : List ℕ) × AreRows (flat_map lines_of (wanted name code)) text × Writes ends.out (HEADING.now ++ text) ends.out_behind)
+    list_done (listing.listed ds image text p some rows report) =
+        let is = told.program ds image p in (
+          is.0,
+          is.2,
+          subst (λ (x : List Definition). wanted name x ≡ [] → ⊥) is.1 some,
+          (
+            text,
+            subst (λ (x : List Definition). AreRows (flat_map lines_of (wanted name x)) text) is.1 rows,
+            was_told (HEADING.now ++ text) 0 ends.out ends.out_behind (λ e. omega (arith, e)) (λ e. omega (arith, e)) report,
+          ),
+        )
+    list_done (listing.unnamed mid ds image p none report same) =
+        absurd (other_answer UNDEFINED.now 135 mid ends.line_behind 0 (λ e. omega (arith, e)) (λ e. omega (arith, e)) (λ e. omega (arith, e)) report)
+    list_done (listing.stopped why same) = absurd (no_done 0 refl (told.status 0 why))
+    list_done (listing.no_memory ds image p same is) = absurd (omega (arith, is))
+
+    list_unknown : Gives 135 → (wanted name code ≡ []) × Writes ends.line UNDEFINED.now ends.line_behind × (ends.out_behind ≡ ends.out)
+    list_unknown (listing.listed ds image text p some rows report) =
+        absurd (other_answer (HEADING.now ++ text) 0 ends.out ends.out_behind 135 (λ e. omega (arith, e)) (λ e. omega (arith, e)) (λ e. omega (arith, e)) report)
+    list_unknown (listing.unnamed mid ds image p none report same) =
+        let is = (excluded edition source r g ends.line mid).program ds image p in
+        let silent = (clean edition source r g ends.line mid p.code p.compiled).silent in (
+          subst (λ (x : List Definition). wanted name x ≡ []) is.1 none,
+          subst (λ (l : Outgoing). Writes l UNDEFINED.now ends.line_behind) silent (was_told UNDEFINED.now 135 mid ends.line_behind (λ e. omega (arith, e)) (λ e. omega (arith, e)) report),
+          same,
+        )
+    list_unknown (listing.stopped why same) = absurd (no_unknown 135 refl (told.status 135 why))
+    list_unknown (listing.no_memory ds image p same is) = absurd (omega (arith, is))
+
+    list_statuses : WrongStatuses edition source r g ends Gives
+    list_statuses = record { fault = fault; unloaded = unloaded; device = device }
+      where
+        fault : Gives 1 → ((d : Diagnostic) × (r.stop ≡ Some d) × Writes ends.line (line_of d) ends.line_behind) × (ends.out_behind ≡ ends.out)
+        fault (listing.listed ds image text p some rows report) =
+            absurd (other_answer (HEADING.now ++ text) 0 ends.out ends.out_behind 1 (λ e. omega (arith, e)) (λ e. omega (arith, e)) (λ e. omega (arith, e)) report)
+        fault (listing.unnamed mid ds image p none report same) =
+            absurd (other_answer UNDEFINED.now 135 mid ends.line_behind 1 (λ e. omega (arith, e)) (λ e. omega (arith, e)) (λ e. omega (arith, e)) report)
+        fault (listing.stopped why same) = (told.fault why, same)
+        fault (listing.no_memory ds image p same is) = absurd (omega (arith, is))
+
+        unloaded : Gives 132 → ((f : LoadFault) × (text : List ℕ) × (load_fault code ≡ Some f) × (load_line f ≡ Some text) × Writes ends.line text ends.line_behind) × (ends.out_behind ≡ ends.out)
+        unloaded (listing.listed ds image text p some rows report) =
+            absurd (other_answer (HEADING.now ++ text) 0 ends.out ends.out_behind 132 (λ e. omega (arith, e)) (λ e. omega (arith, e)) (λ e. omega (arith, e)) report)
+        unloaded (listing.unnamed mid ds image p none report same) =
+            absurd (other_answer UNDEFINED.now 135 mid ends.line_behind 132 (λ e. omega (arith, e)) (λ e. omega (arith, e)) (λ e. omega (arith, e)) report)
+        unloaded (listing.stopped why same) = (told.unloaded why, same)
+        unloaded (listing.no_memory ds image p same is) = absurd (omega (arith, is))
+
+        device : Gives 133 → Grew ends.out.failures ends.out_behind.failures ⊎ Grew ends.line.failures ends.line_behind.failures
+        device (listing.listed ds image text p some rows report) = inl (device_grew (HEADING.now ++ text) 0 ends.out ends.out_behind (λ e. omega (arith, e)) report)
+        device (listing.unnamed mid ds image p none report same) =
+            inr (subst (λ (l : Outgoing). Grew l.failures ends.line_behind.failures) (clean edition source r g ends.line mid p.code p.compiled).silent
+            (device_grew UNDEFINED.now 135 mid ends.line_behind (λ e. omega (arith, e)) report))
+        device (listing.stopped why same) = inr (told.device why)
+        device (listing.no_memory ds image p same is) = absurd (omega (arith, is))
+
+  map_done : Maps edition source ends 0 → (r.stop ≡ None) × (load_fault code ≡ None) × Writes ends.out (map_text (image_of code) code) ends.out_behind
+  map_done (layout.mapped ds image p report) =
+      let is = told.program ds image p in (
+        is.0,
+        is.2,
+        subst (λ t. Writes ends.out t ends.out_behind) (map_same ds image p.loaded ∙ ap (λ (x : List Definition). map_text (image_of x) x) is.1)
+            (was_told (map_text image ds) 0 ends.out ends.out_behind (λ e. omega (arith, e)) (λ e. omega (arith, e)) report),
+      )
+  map_done (layout.stopped why same) = absurd (no_done 0 refl (told.status 0 why))
+  map_done (layout.no_memory ds image p same is) = absurd (omega (arith, is))
+
+  map_unknown : Maps edition source ends 135 → ⊥
+  map_unknown (layout.mapped ds image p report) =
+      other_answer (map_text image ds) 0 ends.out ends.out_behind 135 (λ e. omega (arith, e)) (λ e. omega (arith, e)) (λ e. omega (arith, e)) report
+  map_unknown (layout.stopped why same) = no_unknown 135 refl (told.status 135 why)
+  map_unknown (layout.no_memory ds image p same is) = omega (arith, is)
+
+  map_statuses : WrongStatuses edition source r g ends (Maps edition source ends)
+  map_statuses = record { fault = fault; unloaded = unloaded; device = device }
+    where
+      fault : Maps edition source ends 1 → ((d : Diagnostic) × (r.stop ≡ Some d) × Writes ends.line (line_of d) ends.line_behind) × (ends.out_behind ≡ ends.out)
+      fault (layout.mapped ds image p report) =
+          absurd (other_answer (map_text image ds) 0 ends.out ends.out_behind 1 (λ e. omega (arith, e)) (λ e. omega (arith, e)) (λ e. omega (arith, e)) report)
+      fault (layout.stopped why same) = (told.fault why, same)
+      fault (layout.no_memory ds image p same is) = absurd (omega (arith, is))
+
+      unloaded : Maps edition source ends 132 → ((f : LoadFault) × (text : List ℕ) × (load_fault code ≡ Some f) × (load_line f ≡ Some text) × Writes ends.line text ends.line_behind) × (ends.out_behind ≡ ends.out)
+      unloaded (layout.mapped ds image p report) =
+          absurd (other_answer (map_text image ds) 0 ends.out ends.out_behind 132 (λ e. omega (arith, e)) (λ e. omega (arith, e)) (λ e. omega (arith, e)) report)
+      unloaded (layout.stopped why same) = (told.unloaded why, same)
+      unloaded (layout.no_memory ds image p same is) = absurd (omega (arith, is))
+
+      device : Maps edition source ends 133 → Grew ends.out.failures ends.out_behind.failures ⊎ Grew ends.line.failures ends.line_behind.failures
+      device (layout.mapped ds image p report) = inl (device_grew (map_text image ds) 0 ends.out ends.out_behind (λ e. omega (arith, e)) report)
+      device (layout.stopped why same) = inr (told.device why)
+      device (layout.no_memory ds image p same is) = absurd (omega (arith, is))
+
+pub no_listings : NoListings
+no_listings edition source r g ends name = record {
+  done = list_done edition source r g ends name;
+  unknown = list_unknown edition source r g ends name;
+  statuses = list_statuses edition source r g ends name;
+}
+
+pub no_maps : NoMaps
+no_maps edition source r g ends = record {
+  done = map_done edition source r g ends;
+  unknown = map_unknown edition source r g ends;
+  statuses = map_statuses edition source r g ends;
+}

@@ -1,0 +1,5 @@
+use Rattle.blist.proofs.Excluded.{no_maps}
+use Rattle.blist.proofs.layout.wrong_maps_are_excluded.Goals as goal
+
+pub returns : goal.returns
+returns c = no_maps

@@ -1,6 +1,0 @@
-use Rattle.std.proofs.Common.{refl}
-use Rattle.blist.specs.Programs.{not_read}
-use Rattle.blist.proofs.program.load_program.Goals as goal
-
-pub returns-in-Err-clause-gives : goal.returns-in-Err-clause-gives
-returns-in-Err-clause-gives g c = not_read c.in-Err.ensures refl

@@ -1,0 +1,5 @@
+use Rattle.bserve.proofs.Excluded.{excluded}
+use Rattle.bserve.proofs.serving.wrong_answers_are_excluded.Goals as goal
+
+pub returns : goal.returns
+returns c = excluded

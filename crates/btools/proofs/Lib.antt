@@ -1,0 +1,3 @@
+pub mod AddedTexts
+pub mod Excluded
+pub mod Loading

@@ -1,0 +1,46 @@
+-- What a source comes to decides what is told of its program, whatever its ends do: no other program, line or status.
+use Rattle.std.specs.Prelude.{◌≡◌, ℕ, List, [], map, Some, None, ◌⊎◌}
+use Rattle.bword.specs.declared.edition.Edition.{Edition}
+use Rattle.bword.specs.ByteEnds.{Grew, Outgoing, Writes}
+use Rattle.blang.specs.declared.code.Definition.{Definition}
+use Rattle.blang.specs.declared.run.LoadFault.{LoadFault}
+use Rattle.blang.specs.declared.status.TheConstants.{DEVICE, FAULT, MEMORY, REFUSED}
+use Rattle.blang.specs.declared.token.Diagnostic.{Diagnostic}
+use Rattle.blang.specs.Code.{code_of}
+use Rattle.blang.specs.Compiles.{Compilation, CompilesTo, line_of}
+use Rattle.blang.specs.Cut.{tokens_from}
+use Rattle.blang.specs.Layout.{load_fault}
+use Rattle.blang.specs.Machine.{Image}
+use Rattle.btools.specs.Programs.{HasProgram, NoProgram, load_line}
+
+module _ (edition : Edition) (source : List ℕ) (r : Compilation) (g : CompilesTo [] (tokens_from edition 1 source) r)
+  where
+    -- the code of the definitions of the source
+    abbrev pub code_in : List Definition
+    code_in = map code_of g.definitions
+
+    -- What is excluded of a source that comes to r, between any two states of the end of lines.
+    pub record Excluded (line line_behind : Outgoing) : Type 0 where
+      -- a program of a source with a fault, or of other definitions, or of definitions that don't load
+      pub program : (ds : List Definition) (image : Image) → HasProgram edition source line line_behind ds image
+          → (r.stop ≡ None) × (ds ≡ code_in) × (load_fault code_in ≡ None)
+      -- 0 without a program, and each other status but these
+      pub status : (status : ℕ) → NoProgram edition source line line_behind status
+          → (status ≡ FAULT) ⊎ (status ≡ REFUSED) ⊎ (status ≡ DEVICE) ⊎ (status ≡ MEMORY)
+      -- 1 for a source without a fault, or with another line
+      pub fault : NoProgram edition source line line_behind FAULT
+          → (d : Diagnostic) × (r.stop ≡ Some d) × Writes line (line_of d) line_behind
+      -- 132 for definitions that load, or with another line, or with none
+      pub unloaded : NoProgram edition source line line_behind REFUSED
+          → (f : LoadFault) × (text : List ℕ) × (load_fault code_in ≡ Some f) × (load_line f ≡ Some text)
+          × Writes line text line_behind
+      -- 133 where no write of a line failed
+      pub device : NoProgram edition source line line_behind DEVICE → Grew line.failures line_behind.failures
+      -- another status than that of refused memory where the source has a program
+      pub loads : (status : ℕ) → NoProgram edition source line line_behind status → r.stop ≡ None
+          → load_fault code_in ≡ None → status ≡ MEMORY
+
+abbrev pub WrongPrograms : Type 0
+WrongPrograms =
+    (edition : Edition) (source : List ℕ) (r : Compilation) (g : CompilesTo [] (tokens_from edition 1 source) r)
+    (line line_behind : Outgoing) → Excluded edition source r g line line_behind

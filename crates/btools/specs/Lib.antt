@@ -1,0 +1,5 @@
+pub mod Characters
+pub mod Columns
+pub mod Programs
+pub mod Excluded
+pub mod TextRows

@@ -1,0 +1,33 @@
+//! Words shown as characters.
+ghost use Rattle.std.specs.Prelude.{◌≡◌, ◌++◌, OnOk};
+ghost use Rattle.btools.specs.Characters.{shown_byte, shown_word};
+
+use crate::text::Text;
+use std::alloc::AllocError;
+
+/// The two characters of a word, the low byte first, between quotes and with B's escapes.
+pub fn push_characters(text: &mut Text, word: u16) -> Result<(), AllocError>
+    ensures { OnOk result (text.new ≡ text.old ++ shown_word word) }
+{
+    text.push(b"'")?;
+    push_byte(text, (word % 256) as u8)?;
+    if word >= 256 {
+        push_byte(text, (word / 256) as u8)?;
+    }
+    text.push(b"'")
+}
+
+/// A character, or the escape that stands for it; a byte that has none is shown as `.`.
+pub fn push_byte(text: &mut Text, byte: u8) -> Result<(), AllocError>
+    ensures { OnOk result (text.new ≡ text.old ++ shown_byte byte) }
+{
+    match byte {
+        b'\n' => text.push(b"*n"),
+        b'\t' => text.push(b"*t"),
+        b'*' => text.push(b"**"),
+        0 => text.push(b"*0"),
+        4 => text.push(b"*e"),
+        32..=126 => text.push(&[byte]),
+        _ => text.push(b"."),
+    }
+}

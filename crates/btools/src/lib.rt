@@ -1,0 +1,14 @@
+//! What the tools for a reader of a source share: its program, its texts, and how they are written.
+#![tactic(auto)]
+
+mod characters;
+mod frames;
+mod program;
+mod telling;
+mod text;
+
+pub use characters::{push_byte, push_characters};
+pub use frames::{Frame, FrameWord, frames_of};
+pub use program::{Names, Program, lines_in, load_line, read_program, wrong_programs_are_excluded};
+pub use telling::tell;
+pub use text::Text;

@@ -1,0 +1,87 @@
+//! Text that is put together in memory.
+ghost use Rattle.std.specs.Prelude.{◌≡◌, ◌++◌, [], OnOk, decimal, replicate};
+ghost use Rattle.btools.specs.Columns.{left, right};
+
+use itoa::Buffer;
+use std::alloc::{AllocError, Global};
+use std::marker::Model;
+
+/// A text that grows.
+#[derive(Drop)]
+pub struct Text {
+    bytes: Vec<u8>,
+}
+
+impl Model for Text {
+    ghost use Rattle.std.specs.Prelude.{ℕ, List};
+
+    ghost Value = { List ℕ };
+
+    ghost view = { λ t. t.bytes.items };
+}
+
+impl Text {
+    /// An empty text; it takes no memory yet.
+    pub fn new(alloc: Global) -> Self
+        ensures { result ≡ [] }
+    {
+        Text {
+            bytes: Vec::new(alloc),
+        }
+    }
+
+    /// Its bytes.
+    pub fn as_slice(&self) -> &[u8]
+        ensures { result.now ≡ self.now }
+    {
+        self.bytes.as_slice()
+    }
+
+    /// Bytes behind those that it has.
+    pub fn push(&mut self, bytes: &[u8]) -> Result<(), AllocError>
+        ensures { OnOk result (self.new ≡ self.old ++ bytes.now) }
+    {
+        self.bytes.extend_from_slice(bytes)
+    }
+
+    /// The digits of a number.
+    pub fn push_number(&mut self, number: u64) -> Result<(), AllocError>
+        ensures { OnOk result (self.new ≡ self.old ++ decimal number) }
+    {
+        self.push(Buffer::new().format(number).as_bytes())
+    }
+
+    /// So many blanks.
+    pub fn push_blanks(&mut self, count: usize) -> Result<(), AllocError>
+        ensures { OnOk result (self.new ≡ self.old ++ replicate count 32) }
+    {
+        for filled in 0..count {
+            let _ = filled;
+            self.push(b" ")?;
+        }
+        Ok(())
+    }
+
+    /// A text at the right of a column, which is wider where the text is.
+    pub fn push_right(&mut self, width: usize, text: &[u8]) -> Result<(), AllocError>
+        ensures { OnOk result (self.new ≡ self.old ++ right width text.now) }
+    {
+        self.push_blanks(width.saturating_sub(text.len()))?;
+        self.push(text)
+    }
+
+    /// A text at the left of a column, which is wider where the text is.
+    pub fn push_left(&mut self, width: usize, text: &[u8]) -> Result<(), AllocError>
+        ensures { OnOk result (self.new ≡ self.old ++ left width text.now) }
+    {
+        self.push(text)?;
+        self.push_blanks(width.saturating_sub(text.len()))
+    }
+
+    /// A number at the right of a column.
+    pub fn push_right_number(&mut self, width: usize, number: u64) -> Result<(), AllocError>
+        ensures { OnOk result (self.new ≡ self.old ++ right width (decimal number)) }
+    {
+        self.push_right(width, Buffer::new().format(number).as_bytes())
+    }
+}

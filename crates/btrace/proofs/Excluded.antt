@@ -1,0 +1,888 @@
+-- What the contracts of `trace` and `locate` exclude.
+use Rattle.std.proofs.Common.{◌≡◌, ◌∙◌, ℕ, ◌+◌, ◌<◌, ◌≤◌, ◌⊎◌, Bool, true, false, List, [], ◌∷◌, ◌++◌, Option, Some, None, ap, append-nil, append_assoc, arith, codes, decimal, drop, get_or, inl, inr, map, refl, reverse, subst, suc, sym, zero}
+use Rattle.std.specs.Prelude.{All}
+use Rattle.std.specs.Io.KnownBytes.{Appends}
+use Rattle.std.specs.List.{flat_map}
+use Rattle.std.specs.Fmt.{digits}
+use Rattle.std.proofs.lemmas.List.Elements.{All-head, All-tail}
+use Rattle.bword.specs.declared.edition.Edition.{Edition}
+use Rattle.bword.specs.declared.ends.EndFault.{EndFault}
+use Rattle.bword.specs.declared.ends.EndFault.TheVariants as end_fault
+use Rattle.bword.specs.ByteEnds.{CanFollow, Grew, Incoming, Outgoing, Refuses, Took, Unread, Writes, incoming_of}
+use Rattle.bword.proofs.Putting.{Writes-append}
+use Rattle.blang.specs.declared.code.Definition.{Definition}
+use Rattle.blang.specs.declared.code.Instr.{Instr}
+use Rattle.blang.specs.declared.code.Instr.TheVariants as instr
+use Rattle.blang.specs.declared.run.Outcome.{Outcome}
+use Rattle.blang.specs.declared.run.Outcome.TheVariants as outcome
+use Rattle.blang.specs.declared.run.Report.TheVariants as report
+use Rattle.blang.specs.declared.run.Trap.{Trap}
+use Rattle.blang.specs.declared.run.Trap.TheVariants as trap
+use Rattle.blang.specs.declared.status.TheConstants.{DEVICE, DONE, LIMIT, MEMORY, REFUSED, TRAP, WRONG_COMMAND}
+use Rattle.blang.specs.Compiles as compiled
+use Rattle.blang.specs.Compiles.{CompilesTo, Tells, code_text}
+use Rattle.blang.specs.Cut.{tokens_from}
+use Rattle.blang.specs.Layout.{World, refusal}
+use Rattle.blang.specs.Machine.{Call, Finishes, HasNotRun, Halted, Image, Loaded, Reported, Refused, RunEnds, RunGives, Running, Shows, State, Stuck, image_of, machine, machine_started, main_begun, report_text, run, state_outcome, state_world}
+use Rattle.blang.specs.Text.{IsCodeText}
+use Rattle.bcode.proofs.FaultLaws.{unique_code}
+use Rattle.bmach.specs.Resolved.{IsLoadedFrom}
+use Rattle.bmach.specs.Stepping.{BeginsNot, HasEnd}
+use Rattle.bmach.specs.Stops.{EndsAt, active_of}
+use Rattle.bmach.specs.declared.machine.Active.{Active}
+use Rattle.bmach.proofs.Resolving.{run-resolved}
+use Rattle.bparse.proofs.Remaining.{Rest, rest_of}
+use Rattle.brun.proofs.RunSteps.{outcome-resolved, run_loaded}
+use Rattle.btools.specs.Columns.{left, right}
+use Rattle.btools.specs.Programs as programs
+use Rattle.btools.specs.Programs.{HasProgram, NoProgram, WasCompiled}
+use Rattle.btrace.specs.Excluded.{ComesAlways, IsSourceOf, LocatesExcluded, NoPlace, NoTrace, TracesExcluded, calling, calling_f, closing, nothing, status_of, trapping, writing}
+use Rattle.btrace.specs.Locates as locates
+use Rattle.btrace.specs.Locates.{Locates, TellsSite, located_status, site_line}
+use Rattle.btrace.specs.Programs.{Placed, function_with, functions_of}
+use Rattle.btrace.specs.RowTexts.{Place, changed_text, code_of, margin, name_in, name_of, operands_text, place_text, places_text, site_text, step_row, words_text, written_row}
+use Rattle.btrace.specs.Traces as traces
+use Rattle.btrace.specs.Traces.{AreShown, EndsAs, IsWhere, ShowsRows, ShowsStep, TellsEnd, TellsPlace, TraceRow, Traces, Tries, rows_text, shown_of, waits_at, which_of}
+use Rattle.btrace.specs.declared.tracing.TheConstants.{HEADING, UNNAMED}
+use Rattle.btrace.specs.declared.tracing.Which.{Which}
+use Rattle.btrace.proofs.ReadTexts.{all_above, above_append, at, behind_line, behind_number, line_skipped, number_above, number_skipped, skip_digits, words_above}
+
+some_same : {A : Type 0} (a b : A) → Some a ≡ Some b → a ≡ b
+some_same a b e = cc
+
+cancel : (xs ys zs : List ℕ) → xs ++ ys ≡ xs ++ zs → ys ≡ zs
+cancel [] ys zs e = e
+cancel (x ∷ xs) ys zs e = let tails : xs ++ ys ≡ xs ++ zs = cc in cancel xs ys zs tails
+
+no_nothing : (o : Option (List ℕ)) (text : List ℕ) → o ≡ Some [] → o ≡ Some text → (text ≡ [] → ⊥) → ⊥
+no_nothing o text e f some = some (some_same text [] (sym f ∙ e))
+
+-- the bytes that were written
+wrote : (o p : Outgoing) (before text all : List ℕ) → o.written ≡ Some before → p.written ≡ Some all → Writes o text p → all ≡ before ++ text
+wrote o p before text all e f w = subst (λ x. Appends (Some before) x text) f (subst (λ x. Appends x p.written text) e w.appended)
+
+-- a status that is told of no refused write
+told : (line : List ℕ) (answer : ℕ) (o p : Outgoing) (status : ℕ) → status < 133 → Reported line answer o p status → Writes o line p × (status ≡ answer)
+told line answer o p status less (inl t) = t
+told line answer o p status less (inr r) = absurd (by_kind r.fault r.status)
+  where
+    by_kind : (fault : EndFault) → status ≡ compiled.status_of fault → ⊥
+    by_kind end_fault.Device e = let is : status ≡ 133 = e in omega arith
+    by_kind end_fault.Memory e = let is : status ≡ 134 = e in omega arith
+
+-- Programs of a source.
+module _ (edition : Edition) (source : List ℕ) (ds : List Definition) (is : IsSourceOf edition source ds) where
+  abbrev first : Unread
+  first = record { left = source; is_over = false }
+
+  rest : (behind : Unread) (taken : List ℕ) → Took (incoming_of first) taken (incoming_of behind) → Rest (incoming_of first) (incoming_of behind) taken source
+  rest behind taken t = rest_of (incoming_of first) (incoming_of behind) taken source t (record { left = refl; follow = λ e. cc })
+
+  goes : (i j : Incoming) (taken : List ℕ) (r : Rest i j taken source) → CompilesTo [] (tokens_from edition 1 (taken ++ r.more)) is.compilation
+  goes i j taken r = subst (λ t. CompilesTo [] (tokens_from edition 1 t) is.compilation) (sym r.whole) is.goes
+
+  compiles : (line line_behind : Outgoing) (code : List ℕ) → WasCompiled edition source line line_behind code 0 → (code ≡ code_text edition is.compilation) × (line_behind ≡ line)
+  compiles line line_behind code w =
+      let r = rest w.behind w.compiles.taken w.compiles.took in
+      let c = w.compiles.compiled refl r.more r.follows is.compilation (goes _ _ w.compiles.taken r) in
+      (sym w.code_is ∙ c.code.appended, c.silent)
+
+  not_faulty : (line line_behind : Outgoing) (code : List ℕ) (status : ℕ) → WasCompiled edition source line line_behind code status → status ≡ 1 → ⊥
+  not_faulty line line_behind code status w one =
+      let r = rest w.behind w.compiles.taken w.compiles.took in
+      let c = w.compiles.faulty one r.more r.follows is.compilation (goes _ _ w.compiles.taken r) in
+      let none : Some c.fault ≡ None = sym c.stop ∙ is.clean in
+      cc
+
+  only : (line mid : Outgoing) (other : List Definition) (image : Image) → HasProgram edition source line mid other image → other ≡ ds
+  only line mid other image p =
+      unique_code p.code other ds p.is_text (subst (λ t. IsCodeText t ds) (sym (compiles line mid p.code p.compiled).0) is.text)
+
+  silent : (line mid : Outgoing) (other : List Definition) (image : Image) → HasProgram edition source line mid other image → mid ≡ line
+  silent line mid other image p = (compiles line mid p.code p.compiled).1
+
+  -- a status of a run is not told where there is no program
+  has_program : (line line_behind : Outgoing) (status : ℕ) → status < 132 → NoProgram edition source line line_behind status → ⊥
+  has_program line line_behind status less (programs.faulty code w some) =
+      elim w.compiles.no_other [ inl h ↦ some h | inr (inl h) ↦ not_faulty line line_behind code status w h | inr (inr (inl h)) ↦ omega arith | inr (inr (inr h)) ↦ omega arith ]
+  has_program line line_behind status less (programs.unread code n w f none e) = let bad : status ≡ 132 = e in omega arith
+  has_program line line_behind status less (programs.refused mid code ds' f text w t l m r) =
+      let bad : status ≡ 132 = (told text 132 mid line_behind status (omega arith) r).1 in omega arith
+  has_program line line_behind status less (programs.no_memory code w e) = let bad : status ≡ 134 = e in omega arith
+
+-- what was loaded has the outcomes of its definitions
+outcome_loaded : (ds : List Definition) (image : Image) → IsLoadedFrom ds image → (input : List ℕ) (n : ℕ) → state_outcome (run image input n) ≡ state_outcome (machine ds input n)
+outcome_loaded ds image l input n = ap state_outcome (run_loaded ds image l input n ∙ run-resolved (image_of ds) input n) ∙ outcome-resolved (image_of ds) (run (image_of ds) input n)
+
+no_end : (result : Outcome) → HasEnd result → result ≡ outcome.Limit → ⊥
+no_end (outcome.Exit n) h e = cc
+no_end (outcome.Trap kind) h e = cc
+no_end outcome.Limit h e = h
+no_end outcome.Device h e = h
+no_end outcome.Memory h e = h
+
+-- a run that begins isn't over before its first step
+begins : (ds : List Definition) (image : Image) (result : Outcome) (line line_behind : Outgoing) (status : ℕ) → status < 132 → ComesAlways ds 0 outcome.Limit → IsLoadedFrom ds image → BeginsNot image result
+    → Finishes result line line_behind status → ⊥
+begins ds image result line line_behind status less first l (inl e) f =
+    let g : (line_behind ≡ line) × (status ≡ MEMORY) = subst (λ r. Finishes r line line_behind status) e f in
+    let bad : status ≡ 134 = g.1 in
+    omega arith
+begins ds image result line line_behind status less first l (inr h) f =
+    no_end result h.0 (sym (h.1 []).outcome ∙ outcome_loaded ds image l [] 0 ∙ first [])
+
+-- a run that is told with its own status came to its outcome
+came : (ds : List Definition) (steps : ℕ) (i j : Incoming) (o p line line_behind : Outgoing) (status : ℕ) → status < 132 → (result : Outcome) → RunGives (machine ds) steps i j o p result → Finishes result line line_behind status
+    → (status ≡ status_of result) × ((input : List ℕ) × (state_outcome (machine ds input steps) ≡ result))
+came ds steps i j o p line line_behind status less (outcome.Exit n) h f = (f.1, (h.taken ++ [], (h.shows [] (λ e. refl)).outcome))
+came ds steps i j o p line line_behind status less (outcome.Trap kind) h f = ((told _ TRAP line line_behind status (omega arith) f).1, (h.taken ++ [], (h.shows [] (λ e. refl)).outcome))
+came ds steps i j o p line line_behind status less outcome.Limit h f = ((told _ LIMIT line line_behind status (omega arith) f).1, (h.taken ++ [], (h.shows [] (λ e. refl)).outcome))
+came ds steps i j o p line line_behind status less outcome.Device h f = let bad : status ≡ 133 = f.1 in absurd (omega arith)
+came ds steps i j o p line line_behind status less outcome.Memory h f = let bad : status ≡ 134 = f.1 in absurd (omega arith)
+
+-- what was written of a run, and its status
+record Told (ds : List Definition) (steps from : ℕ) (name : Option (List ℕ)) (i j : Incoming) (text : List ℕ) (status : ℕ) : Type 0 where
+  which : Which
+  named : which_of (functions_of ds) from name ≡ Some which
+  result : Outcome
+  answer : status ≡ status_of result
+  input : List ℕ
+  comes : state_outcome (machine ds input steps) ≡ result
+  shows : ShowsRows (functions_of ds) which (machine ds) steps i j result HEADING.now text
+
+module _ (edition : Edition) (source : List ℕ) (ds : List Definition) (is : IsSourceOf edition source ds) (steps from : ℕ) (name : Option (List ℕ)) (ends : RunEnds) (status : ℕ) (less : status < 132) where
+  -- a text was written, and it is the trace of a run
+  traced_so : (mid : Outgoing) (other : List Definition) (image : Image) (which : Which) (result : Outcome) (text : List ℕ) (o p : Outgoing) (answer : ℕ) → HasProgram edition source ends.line mid other image
+      → which_of (functions_of other) from name ≡ Some which → RunGives (machine other) steps ends.input ends.input_behind o p result
+      → ShowsRows (functions_of other) which (machine other) steps ends.input ends.input_behind result HEADING.now text → Reported text DONE ends.out ends.out_behind answer → TellsEnd answer result mid ends.line_behind status
+      → Writes ends.out text ends.out_behind × Told ds steps from name ends.input ends.input_behind text status
+  traced_so mid other image which result text o p answer program named gives shows reported (inl t) =
+      let zero : answer ≡ 0 = t.0 in
+      let c = came other steps ends.input ends.input_behind o p mid ends.line_behind status less result gives t.1 in
+      let here : Told other steps from name ends.input ends.input_behind text status = record { which = which; named = named; result = result; answer = c.0; input = c.1.0; comes = c.1.1; shows = shows } in (
+        (told text DONE ends.out ends.out_behind answer (omega arith) reported).0,
+        subst (λ x. Told x steps from name ends.input ends.input_behind text status) (only edition source ds is ends.line mid other image program) here,
+      )
+  traced_so mid other image which result text o p answer program named gives shows reported (inr t) =
+      let same : status ≡ answer = t.2 in
+      absurd (t.0 ((told text DONE ends.out ends.out_behind answer (omega arith) reported).1))
+
+  -- where something was written it is the trace
+  told_so : (text : List ℕ) → ends.out.written ≡ Some [] → ends.out_behind.written ≡ Some text → (text ≡ [] → ⊥) → Traces edition source steps from name ends status
+      → Told ds steps from name ends.input ends.input_behind text status
+  told_so text before behind some (traces.traced mid other image which result t output answer program named gives shows reported tells) =
+      let h = traced_so mid other image which result t _ _ answer program named gives shows reported tells in
+      subst (λ x. Told ds steps from name ends.input ends.input_behind x status) (sym (wrote ends.out ends.out_behind [] t text before behind h.0)) h.1
+  told_so text before behind some (traces.not_begun mid other image which result program named never f quiet) =
+      absurd (no_nothing ends.out_behind.written text (ap (λ (o : Outgoing). o.written) quiet.silent ∙ before) behind some)
+  told_so text before behind some (traces.unnamed mid other image program unknown r quiet) =
+      absurd (no_nothing ends.out_behind.written text (ap (λ (o : Outgoing). o.written) quiet.silent ∙ before) behind some)
+  told_so text before behind some (traces.stopped none quiet) =
+      absurd (no_nothing ends.out_behind.written text (ap (λ (o : Outgoing). o.written) quiet.silent ∙ before) behind some)
+  told_so text before behind some (traces.no_memory other image program same unfailed e) =
+      absurd (no_nothing ends.out_behind.written text (ap (λ (o : Outgoing). o.written) same ∙ before) behind some)
+
+  -- a run that begins has its trace written
+  written_so : ComesAlways ds 0 outcome.Limit → Traces edition source steps from name ends status → (text : List ℕ) × (Writes ends.out text ends.out_behind × Told ds steps from name ends.input ends.input_behind text status)
+  written_so starts (traces.traced mid other image which result t output answer program named gives shows reported tells) =
+      (t, traced_so mid other image which result t _ _ answer program named gives shows reported tells)
+  written_so starts (traces.not_begun mid other image which result program named never f quiet) =
+      let loaded = subst (λ x. IsLoadedFrom x image) (only edition source ds is ends.line mid other image program) program.loaded in
+      absurd (begins ds image result mid ends.line_behind status less starts loaded never f)
+  written_so starts (traces.unnamed mid other image program unknown r quiet) =
+      let bad : status ≡ 135 = (told _ WRONG_COMMAND mid ends.line_behind status (omega arith) r).1 in absurd (omega arith)
+  written_so starts (traces.stopped none quiet) = absurd (has_program edition source ds is ends.line ends.line_behind status less none)
+  written_so starts (traces.no_memory other image program same unfailed e) = let bad : status ≡ 134 = e in absurd (omega arith)
+
+-- what stands under the heading of a trace at the limit: rows, and where the run was over
+record AtLimit (ds : List Definition) (steps : ℕ) (which : Which) (text : List ℕ) : Type 0 where
+  input : List ℕ
+  rows : List TraceRow
+  ending : List ℕ
+  text_is : text ≡ rows_text rows ++ ending
+  all : map (λ r. r.made) rows ≡ shown_of which (machine ds input) steps
+  each : All (λ r. ShowsStep (functions_of ds) (machine ds input) r.made r.text) rows
+  place : IsWhere (functions_of ds) (machine ds input) steps ending
+
+at_limit : (ds : List Definition) (steps from : ℕ) (name : Option (List ℕ)) (which : Which) (i j : Incoming) (text : List ℕ) (status : ℕ) → which_of (functions_of ds) from name ≡ Some which → ComesAlways ds steps outcome.Limit
+    → Told ds steps from name i j (HEADING.now ++ text) status → AtLimit ds steps which text
+at_limit ds steps from name which i j text status named comes t =
+    let fs = functions_of ds in
+    let limit : t.result ≡ outcome.Limit = sym t.comes ∙ comes t.input in
+    let same : t.which ≡ which = some_same t.which which (sym t.named ∙ named) in
+    let s = subst (λ x. ShowsRows fs x (machine ds) steps i j outcome.Limit HEADING.now (HEADING.now ++ text)) same
+    (subst (λ r. ShowsRows fs t.which (machine ds) steps i j r HEADING.now (HEADING.now ++ text)) limit t.shows) in
+    let ends = s.ends [] (λ e. refl) in
+    let states = machine ds (s.taken ++ []) in
+    let shown = subst (λ m. AreShown fs which states m s.rows) ends.0 (s.shown [] (λ e. refl)) in
+    record {
+      input = s.taken ++ [];
+      rows = s.rows;
+      ending = s.ending;
+      text_is = cancel HEADING.now text (rows_text s.rows ++ s.ending) (s.text_is ∙ append_assoc HEADING.now (rows_text s.rows) s.ending);
+      all = shown.all;
+      each = shown.each;
+      place = subst (λ m. IsWhere fs states m s.ending) ends.0 ends.1;
+    }
+
+-- the call that a machine runs, and those below it
+abbrev call_of : State → Option Call
+call_of (Running call below w) = Some call
+call_of (Halted e w) = None
+call_of (Stuck w) = None
+
+abbrev below_of : State → List Call
+below_of (Running call below w) = below
+below_of (Halted e w) = []
+below_of (Stuck w) = []
+
+abbrev output_of : State → List ℕ
+output_of s = (state_world s).output
+
+-- where a run was over, in so many parts as can be told apart
+abbrev place_head : List Placed → (strings place : ℕ) → List ℕ
+place_head fs strings place = ((codes "in " ++ left 8 (name_in (function_with fs strings))) ++ codes " place ") ++ right 4 (decimal place) ++ codes "  line "
+
+record Where (fs : List Placed) (call : Call) (below : List Call) (text : List ℕ) : Type 0 where
+  line : ℕ
+  words : List ℕ
+  has_more : Bool
+  callers : List Place
+  text_is : text ≡ codes "at     " ++ (place_head fs call.function.strings call.place ++ (right 4 (decimal line) ++ (words_text words has_more ++ (codes "\n" ++ flat_map (λ p. codes "called " ++ place_text fs p) callers))))
+  callers_are : map (λ p. (p.strings, p.place)) callers ≡ map waits_at below
+
+place_parts : (a b c d e f g h : List ℕ) → (a ++ (((b ++ c) ++ d) ++ e)) ++ f ≡ a ++ (b ++ (c ++ (d ++ (e ++ f))))
+place_parts a b c d e f g h = simp append_assoc
+
+where_of : (fs : List Placed) (states : ℕ → State) (made : ℕ) (text : List ℕ) (call : Call) (below : List Call) → call_of (states made) ≡ Some call → below_of (states made) ≡ below → IsWhere fs states made text → Where fs call below text
+where_of fs states made text call below at_call at_below h =
+    let t = h.1 in
+    let same : h.0.call ≡ call = some_same h.0.call call (sym (ap call_of h.0.state_is) ∙ at_call) in
+    let strings = t.function_is ∙ ap (λ (c : Call). c.function.strings) same in
+    let place = t.place_is ∙ ap (λ (c : Call). c.place) same in
+    record {
+      line = t.first.line;
+      words = t.first.words;
+      has_more = t.first.has_more;
+      callers = t.callers;
+      text_is = t.text_is ∙ place_parts (codes "at     ") (place_head fs t.first.strings t.first.place) (right 4 (decimal t.first.line)) (words_text t.first.words t.first.has_more) (codes "\n") (flat_map (λ p. codes "called " ++ place_text fs p) t.callers) [] []
+          ∙ ap (λ n. codes "at     " ++ (place_head fs n t.first.place ++ (right 4 (decimal t.first.line) ++ (words_text t.first.words t.first.has_more ++ (codes "\n" ++ flat_map (λ p. codes "called " ++ place_text fs p) t.callers))))) strings
+          ∙ ap (λ n. codes "at     " ++ (place_head fs call.function.strings n ++ (right 4 (decimal t.first.line) ++ (words_text t.first.words t.first.has_more ++ (codes "\n" ++ flat_map (λ p. codes "called " ++ place_text fs p) t.callers))))) place;
+      callers_are = t.callers_are ∙ ap (map waits_at) (ap below_of (sym h.0.state_is) ∙ at_below);
+    }
+
+-- a row, in so many parts as can be told apart
+abbrev row_head : List Placed → ℕ → Call → List ℕ
+row_head fs number call = ((right 8 (decimal number) ++ codes "  ") ++ left 8 (name_of fs call)) ++ right 6 (decimal call.place)
+
+abbrev row_tail : List Placed → Call → List ℕ
+row_tail fs call = ((codes "  " ++ left 12 (code_of fs call)) ++ operands_text (reverse call.operands)) ++ codes "\n"
+
+record FirstRow (fs : List Placed) (states : ℕ → State) (made : ℕ) (call : Call) (others : List ℕ) (ending text : List ℕ) : Type 0 where
+  line : ℕ
+  changed : List ℕ
+  bytes : List ℕ
+  rows : List TraceRow
+  text_is : text ≡ row_head fs (made + 1) call ++ (right 6 (decimal line) ++ (row_tail fs call ++ (changed_text (state_world (states (made + 1))).store changed ++ (written_row bytes ++ (rows_text rows ++ ending)))))
+  wrote : output_of (states (made + 1)) ≡ output_of (states made) ++ bytes
+  all : map (λ r. r.made) rows ≡ others
+  each : All (λ r. ShowsStep fs states r.made r.text) rows
+
+row_parts : (a b c d e f g h i j : List ℕ) → (((((((((a ++ b) ++ c) ++ d) ++ e) ++ f) ++ g) ++ h) ++ i) ++ j) ≡ (((a ++ b) ++ c) ++ d) ++ (e ++ ((((f ++ g) ++ h) ++ i) ++ j))
+row_parts a b c d e f g h i j = simp append_assoc
+
+behind_row : (row changed bytes rows ending : List ℕ) → (((row ++ changed) ++ bytes) ++ rows) ++ ending ≡ row ++ (changed ++ (bytes ++ (rows ++ ending)))
+behind_row row changed bytes rows ending = simp append_assoc
+
+row_shown : (fs : List Placed) (states : ℕ → State) (made n : ℕ) (call : Call) (text : List ℕ) → made ≡ n → call_of (states n) ≡ Some call → ShowsStep fs states made text
+    → (line : ℕ) × (changed : List ℕ) × (bytes : List ℕ)
+    × (text ≡ (step_row fs (n + 1) call line ++ changed_text (state_world (states (n + 1))).store changed) ++ written_row bytes)
+    × (output_of (states (n + 1)) ≡ output_of (states n) ++ bytes)
+row_shown fs states made n call text same at_call h =
+    let s = subst (λ m. ShowsStep fs states m text) same h in
+    let is : s.tries.call ≡ call = some_same s.tries.call call (sym (ap call_of s.tries.state_is) ∙ at_call) in (
+      s.line,
+      s.changed,
+      s.bytes,
+      s.text_is ∙ ap (λ c. (step_row fs (n + 1) c s.line ++ changed_text (state_world (states (n + 1))).store s.changed) ++ written_row s.bytes) is,
+      s.wrote ∙ ap (λ o. o ++ s.bytes) (sym (ap output_of s.tries.state_is)),
+    )
+
+module _ (fs : List Placed) (states : ℕ → State) (n : ℕ) (call : Call) (at_call : call_of (states n) ≡ Some call) (others ending : List ℕ) where
+  first_row : (rows : List TraceRow) → map (λ r. r.made) rows ≡ n ∷ others → All (λ r. ShowsStep fs states r.made r.text) rows → FirstRow fs states n call others ending (rows_text rows ++ ending)
+  first_row [] e each = cc
+  first_row (r ∷ rows) e each =
+      let P : TraceRow → Type 0 = λ x. ShowsStep fs states x.made x.text in
+      let same : r.made ≡ n = cc in
+      let tails : map (λ x. x.made) rows ≡ others = cc in
+      let s = row_shown fs states r.made n call r.text same at_call (All-head P r rows each) in
+      let row = step_row fs (n + 1) call s.0 in
+      let changed = changed_text (state_world (states (n + 1))).store s.1 in
+      record {
+        line = s.0;
+        changed = s.1;
+        bytes = s.2;
+        rows = rows;
+        text_is = ap (λ t. (t ++ rows_text rows) ++ ending) s.3 ∙ behind_row row changed (written_row s.2) (rows_text rows) ending
+            ∙ row_parts (right 8 (decimal (n + 1))) (codes "  ") (left 8 (name_of fs call)) (right 6 (decimal call.place)) (right 6 (decimal s.0)) (codes "  ") (left 12 (code_of fs call)) (operands_text (reverse call.operands)) (codes "\n") (changed ++ (written_row s.2 ++ (rows_text rows ++ ending)));
+        wrote = s.4;
+        all = tails;
+        each = All-tail P r rows each;
+      }
+
+no_row : (rows : List TraceRow) → map (λ r. r.made) rows ≡ [] → rows_text rows ≡ []
+no_row [] e = refl
+no_row (r ∷ rows) e = cc
+
+-- what stands behind a row begins with blanks, where the step has changed or written something
+behind_step : (store changed bytes text : List ℕ) → (at 7 (changed_text store changed ++ (written_row bytes ++ text)) ≡ 32) ⊎ (at 7 (changed_text store changed ++ (written_row bytes ++ text)) ≡ at 7 text)
+unfolding margin
+behind_step store [] [] text = inr refl
+behind_step store [] (b ∷ bytes) text = inl refl
+behind_step store (a ∷ changed) bytes text = inl refl
+
+behind_writing : (store changed bytes text : List ℕ) (b : ℕ) → bytes ≡ b ∷ [] → at 7 (changed_text store changed ++ (written_row bytes ++ text)) ≡ 32
+unfolding margin
+behind_writing store changed [] text b e = cc
+behind_writing store [] (c ∷ bytes) text b e = refl
+behind_writing store (a ∷ changed) (c ∷ bytes) text b e = refl
+
+-- A text that begins with this row. Behind it stand blanks, or a text with this character in its eighth column.
+record Begins (head tail : List ℕ) (seventh : ℕ) (text : List ℕ) : Type 0 where
+  line : ℕ
+  more : List ℕ
+  text_is : text ≡ head ++ (right 6 (decimal line) ++ (tail ++ more))
+  next : (at 7 more ≡ 32) ⊎ (at 7 more ≡ seventh)
+
+-- what stands behind the number of the line
+behind_line_number : (head tail start text : List ℕ) (seventh : ℕ) (b : Begins head tail seventh text) → text ≡ head ++ start → behind_number start ≡ skip_digits (tail ++ b.more)
+behind_line_number head tail start text seventh b e =
+    let rest = cancel head start (right 6 (decimal b.line) ++ (tail ++ b.more)) (sym e ∙ b.text_is) in
+    ap behind_number rest ∙ number_skipped 6 b.line (tail ++ b.more)
+
+abbrev loaded : List Instr → (strings : ℕ) → Loaded
+loaded code strings = record { parameters = 0; frame = 0; targets = []; code = code; strings = strings; first_label = 1 }
+
+abbrev call : Loaded → (start place : ℕ) → List ℕ → Call
+call f start place operands = record { function = f; start = start; place = place; operands = operands }
+
+-- the calls and the rows of the small programs
+abbrev nothing_main : Call
+nothing_main = call (loaded closing 8) 8 0 []
+
+nothing_runs : (input : List ℕ) → call_of (machine nothing input 0) ≡ Some nothing_main
+nothing_runs input = refl
+
+nothing_limit : ComesAlways nothing 1 outcome.Limit
+nothing_limit input = refl
+
+nothing_shown : (input : List ℕ) → shown_of (record { from = 1; function = None }) (machine nothing input) 1 ≡ 0 ∷ []
+nothing_shown input = refl
+
+nothing_head : row_head (functions_of nothing) 1 nothing_main ≡ codes "       1  main         0"
+unfolding digits
+nothing_head = refl
+
+nothing_tail : row_tail (functions_of nothing) nothing_main ≡ codes "  c 0         \n"
+unfolding digits
+nothing_tail = refl
+
+abbrev calling_main : (place : ℕ) → List ℕ → Call
+calling_main place operands = call (loaded calling_f 8) 9 place operands
+
+calling_runs : (input : List ℕ) → call_of (machine calling input 0) ≡ Some (calling_main 0 [])
+calling_runs input = refl
+
+calling_second : (input : List ℕ) → call_of (machine calling input 1) ≡ Some (calling_main 1 (8 ∷ []))
+calling_second input = refl
+
+calling_shown : (input : List ℕ) → shown_of (record { from = 1; function = None }) (machine calling input) 2 ≡ 0 ∷ 1 ∷ []
+calling_shown input = refl
+
+calling_head : row_head (functions_of calling) 1 (calling_main 0 []) ≡ codes "       1  main         0"
+unfolding digits
+calling_head = refl
+
+calling_tail : row_tail (functions_of calling) (calling_main 0 []) ≡ codes "  x f         \n"
+unfolding digits
+calling_tail = refl
+
+second_head : row_head (functions_of calling) 2 (calling_main 1 (8 ∷ [])) ≡ codes "       2  main         1"
+unfolding digits
+second_head = refl
+
+abbrev writing_main : Call
+writing_main = call (loaded (instr.External (codes "putchar") ∷ instr.Load ∷ instr.Constant 97 ∷ instr.Call 1 ∷ instr.Pop ∷ closing) 8) 8 3 (97 ∷ 4 ∷ [])
+
+writing_runs : (input : List ℕ) → call_of (machine writing input 3) ≡ Some writing_main
+writing_runs input = refl
+
+writing_shown : (input : List ℕ) → shown_of (record { from = 4; function = None }) (machine writing input) 4 ≡ 3 ∷ []
+writing_shown input = refl
+
+writing_head : row_head (functions_of writing) 4 writing_main ≡ codes "       4  main         3"
+unfolding digits
+writing_head = refl
+
+writing_tail : row_tail (functions_of writing) writing_main ≡ codes "  k 1          4 97\n"
+unfolding digits
+writing_tail = refl
+
+nothing_place : place_head (functions_of nothing) 8 1 ≡ codes "in main     place    1  line "
+unfolding digits
+nothing_place = refl
+
+trapping_place : place_head (functions_of trapping) 8 1 ≡ codes "in main     place    1  line "
+unfolding digits
+trapping_place = refl
+
+calling_place : place_head (functions_of calling) 9 0 ≡ codes "in f        place    0  line "
+unfolding digits
+calling_place = refl
+
+-- the ending of a trace begins so
+where_begins : (fs : List Placed) (c : Call) (below : List Call) (text : List ℕ) → Where fs c below text → at 7 text ≡ 105
+where_begins fs c below text w = ap (at 7) w.text_is
+
+row_begins : (fs : List Placed) (states : ℕ → State) (n : ℕ) (c : Call) (others ending text head tail : List ℕ) (seventh : ℕ) → row_head fs (n + 1) c ≡ head → row_tail fs c ≡ tail → (r : FirstRow fs states n c others ending text)
+    → (at 7 (changed_text (state_world (states (n + 1))).store r.changed ++ (written_row r.bytes ++ (rows_text r.rows ++ ending))) ≡ 32) ⊎ (at 7 (changed_text (state_world (states (n + 1))).store r.changed ++ (written_row r.bytes ++ (rows_text r.rows ++ ending))) ≡ seventh)
+    → Begins head tail seventh text
+row_begins fs states n c others ending text head tail seventh h t r next =
+    let behind = changed_text (state_world (states (n + 1))).store r.changed ++ (written_row r.bytes ++ (rows_text r.rows ++ ending)) in
+    record {
+      line = r.line;
+      more = behind;
+      text_is = r.text_is ∙ ap (λ x. x ++ (right 6 (decimal r.line) ++ (row_tail fs c ++ behind))) h ∙ ap (λ x. head ++ (right 6 (decimal r.line) ++ (x ++ behind))) t;
+      next = next;
+    }
+
+or_seventh : (store changed bytes text : List ℕ) (seventh : ℕ) → at 7 text ≡ seventh → (at 7 (changed_text store changed ++ (written_row bytes ++ text)) ≡ 32) ⊎ (at 7 (changed_text store changed ++ (written_row bytes ++ text)) ≡ seventh)
+or_seventh store changed bytes text seventh h = elim (behind_step store changed bytes text) [ inl x ↦ inl x | inr x ↦ inr (x ∙ h) ]
+
+module _ (input text ending : List ℕ) (rows : List TraceRow) (e : text ≡ rows_text rows ++ ending) where
+  -- the row of the first step of `nothing`
+  nothing_row : map (λ r. r.made) rows ≡ 0 ∷ [] → All (λ r. ShowsStep (functions_of nothing) (machine nothing input) r.made r.text) rows → IsWhere (functions_of nothing) (machine nothing input) 1 ending
+      → Begins (codes "       1  main         0") (codes "  c 0         \n") 105 text
+  nothing_row all each place =
+      let fs = functions_of nothing in
+      let states = machine nothing input in
+      let r = first_row fs states 0 nothing_main (nothing_runs input) [] ending rows all each in
+      let w = where_of fs states 1 ending (call (loaded closing 8) 8 1 (0 ∷ [])) [] refl refl place in
+      let next = or_seventh (state_world (states 1)).store r.changed r.bytes (rows_text r.rows ++ ending) 105 (ap (λ t. at 7 (t ++ ending)) (no_row r.rows r.all) ∙ where_begins fs _ [] ending w) in
+      subst (λ t. Begins (codes "       1  main         0") (codes "  c 0         \n") 105 t) (sym e) (row_begins fs states 0 nothing_main [] ending _ _ _ 105 nothing_head nothing_tail r next)
+
+  -- the first of two rows
+  calling_row : map (λ r. r.made) rows ≡ 0 ∷ 1 ∷ [] → All (λ r. ShowsStep (functions_of calling) (machine calling input) r.made r.text) rows
+      → Begins (codes "       1  main         0") (codes "  x f         \n") 50 text
+  calling_row all each =
+      let fs = functions_of calling in
+      let states = machine calling input in
+      let r = first_row fs states 0 (calling_main 0 []) (calling_runs input) (1 ∷ []) ending rows all each in
+      let s = first_row fs states 1 (calling_main 1 (8 ∷ [])) (calling_second input) [] ending r.rows r.all r.each in
+      let seventh : at 7 (rows_text r.rows ++ ending) ≡ 50 = ap (at 7) s.text_is ∙ ap (λ h. at 7 (h ++ (right 6 (decimal s.line) ++ (row_tail fs (calling_main 1 (8 ∷ [])) ++ (changed_text (state_world (states 2)).store s.changed ++ (written_row s.bytes ++ (rows_text s.rows ++ ending))))))) second_head in
+      let next = or_seventh (state_world (states 1)).store r.changed r.bytes (rows_text r.rows ++ ending) 50 seventh in
+      subst (λ t. Begins (codes "       1  main         0") (codes "  x f         \n") 50 t) (sym e) (row_begins fs states 0 (calling_main 0 []) (1 ∷ []) ending _ _ _ 50 calling_head calling_tail r next)
+
+  -- the row of the step that writes
+  writing_row : map (λ r. r.made) rows ≡ 3 ∷ [] → All (λ r. ShowsStep (functions_of writing) (machine writing input) r.made r.text) rows
+      → Begins (codes "       4  main         3") (codes "  k 1          4 97\n") 32 text
+  writing_row all each =
+      let fs = functions_of writing in
+      let states = machine writing input in
+      let r = first_row fs states 3 writing_main (writing_runs input) [] ending rows all each in
+      let next = behind_writing (state_world (states 4)).store r.changed r.bytes (rows_text r.rows ++ ending) 97 (sym r.wrote) in
+      subst (λ t. Begins (codes "       4  main         3") (codes "  k 1          4 97\n") 32 t) (sym e) (row_begins fs states 3 writing_main [] ending _ _ _ 32 writing_head writing_tail r (inl next))
+
+-- two texts with different characters in a column
+differ : (column a b : ℕ) (s t : List ℕ) → s ≡ t → at column s ≡ a → at column t ≡ b → (a ≡ b → ⊥) → ⊥
+differ column a b s t e p q different = different (sym p ∙ ap (at column) e ∙ q)
+
+seventh_is : (n a : ℕ) → (n ≡ 32) ⊎ (n ≡ a) → (m : ℕ) → n ≡ m → (m ≡ 32 → ⊥) → (m ≡ a → ⊥) → ⊥
+seventh_is n a (inl h) m e p q = p (sym e ∙ h)
+seventh_is n a (inr h) m e p q = q (sym e ∙ h)
+
+-- Small programs that are traced, each at its limit.
+module _ (edition : Edition) (source : List ℕ) (ends : RunEnds) (text : List ℕ) (before : ends.out.written ≡ Some []) (behind : ends.out_behind.written ≡ Some (HEADING.now ++ text)) where
+  limit_of : (ds : List Definition) (steps from : ℕ) (name : Option (List ℕ)) (which : Which) → IsSourceOf edition source ds → which_of (functions_of ds) from name ≡ Some which → ComesAlways ds steps outcome.Limit
+      → Traces edition source steps from name ends LIMIT → AtLimit ds steps which text
+  limit_of ds steps from name which is named comes h =
+      at_limit ds steps from name which ends.input ends.input_behind text LIMIT named comes
+      (told_so edition source ds is steps from name ends LIMIT (omega arith) (HEADING.now ++ text) before behind (λ e. cc) h)
+
+  nothing_traced : IsSourceOf edition source nothing → Traces edition source 1 1 None ends LIMIT → Begins (codes "       1  main         0") (codes "  c 0         \n") 105 text
+  nothing_traced is h =
+      let a = limit_of nothing 1 1 None (record { from = 1; function = None }) is refl nothing_limit h in
+      nothing_row a.input text a.ending a.rows a.text_is (a.all ∙ nothing_shown a.input) a.each a.place
+
+  calling_traced : IsSourceOf edition source calling → Traces edition source 2 1 None ends LIMIT → Begins (codes "       1  main         0") (codes "  x f         \n") 50 text
+  calling_traced is h =
+      let a = limit_of calling 2 1 None (record { from = 1; function = None }) is refl (λ input. refl) h in
+      calling_row a.input text a.ending a.rows a.text_is (a.all ∙ calling_shown a.input) a.each
+
+  writing_traced : IsSourceOf edition source writing → Traces edition source 4 4 None ends LIMIT → Begins (codes "       4  main         3") (codes "  k 1          4 97\n") 32 text
+  writing_traced is h =
+      let a = limit_of writing 4 4 None (record { from = 4; function = None }) is refl (λ input. refl) h in
+      writing_row a.input text a.ending a.rows a.text_is (a.all ∙ writing_shown a.input) a.each
+
+  -- a trace of which no row is asked for
+  nothing_placed : IsSourceOf edition source nothing → Traces edition source 1 2 None ends LIMIT → Where (functions_of nothing) (call (loaded closing 8) 8 1 (0 ∷ [])) [] text
+  nothing_placed is h =
+      let a = limit_of nothing 1 2 None (record { from = 2; function = None }) is refl nothing_limit h in
+      let none : text ≡ a.ending = a.text_is ∙ ap (λ t. t ++ a.ending) (no_row a.rows a.all) in
+      subst (λ t. Where (functions_of nothing) (call (loaded closing 8) 8 1 (0 ∷ [])) [] t) (sym none) (where_of (functions_of nothing) (machine nothing a.input) 1 a.ending (call (loaded closing 8) 8 1 (0 ∷ [])) [] refl refl a.place)
+
+  abbrev inner : ℕ → Call
+  inner start = call (record { parameters = 0; frame = 0; targets = []; code = calling_f; strings = 9; first_label = 1 }) start 0 []
+
+  f_placed : IsSourceOf edition source calling → Traces edition source 3 1 (Some (codes "f")) ends LIMIT → at 0 text ≡ 97
+  f_placed is h =
+      let a = limit_of calling 3 1 (Some (codes "f")) (record { from = 1; function = Some 9 }) is refl (λ input. refl) h in
+      let none : text ≡ a.ending = a.text_is ∙ ap (λ t. t ++ a.ending) (no_row a.rows a.all) in
+      let w = where_of (functions_of calling) (machine calling a.input) 3 a.ending (inner 9) (calling_main 3 [] ∷ []) refl refl a.place in
+      ap (at 0) (none ∙ w.text_is)
+
+  callers_placed : IsSourceOf edition source calling → Traces edition source 6 7 None ends LIMIT → Where (functions_of calling) (inner 9) (call (record { parameters = 0; frame = 0; targets = []; code = calling_f; strings = 9; first_label = 1 }) 9 3 [] ∷ calling_main 3 [] ∷ []) text
+  callers_placed is h =
+      let a = limit_of calling 6 7 None (record { from = 7; function = None }) is refl (λ input. refl) h in
+      let none : text ≡ a.ending = a.text_is ∙ ap (λ t. t ++ a.ending) (no_row a.rows a.all) in
+      let below = call (record { parameters = 0; frame = 0; targets = []; code = calling_f; strings = 9; first_label = 1 }) 9 3 [] ∷ calling_main 3 [] ∷ [] in
+      subst (λ t. Where (functions_of calling) (inner 9) below t) (sym none) (where_of (functions_of calling) (machine calling a.input) 6 a.ending (inner 9) below refl refl a.place)
+
+-- the place of the second step of `trapping`
+trapped_last : (input : List ℕ) (last made : ℕ) (kind : Trap) → last + 1 ≡ made → made ≤ 2 → state_outcome (machine trapping input made) ≡ outcome.Trap kind → last ≡ 1
+trapped_last input zero made kind e le comes =
+    let runs : state_outcome (machine trapping input 1) ≡ outcome.Trap kind = subst (λ m. state_outcome (machine trapping input m) ≡ outcome.Trap kind) (sym e) comes in
+    let bad : outcome.Limit ≡ outcome.Trap kind = runs in
+    cc
+trapped_last input (suc zero) made kind e le comes = refl
+trapped_last input (suc (suc n)) made kind e le comes = absurd (omega arith)
+
+-- no step is shown that comes before the third
+unshown : (input : List ℕ) (made : ℕ) → made ≤ 2 → shown_of (record { from = 3; function = None }) (machine trapping input) made ≡ []
+unshown input zero le = refl
+unshown input (suc zero) le = refl
+unshown input (suc (suc zero)) le = refl
+unshown input (suc (suc (suc n))) le = absurd (omega arith)
+
+trapping_placed : (i j : Incoming) (text : List ℕ) → Told trapping 2 3 None i j (HEADING.now ++ text) TRAP → at 28 text ≡ 49
+trapping_placed i j text t =
+    let fs = functions_of trapping in
+    let none : Which = record { from = 3; function = None } in
+    let result : t.result ≡ outcome.Trap trap.NotAFunction = sym t.comes in
+    let same : t.which ≡ none = sym (some_same none t.which t.named) in
+    let s = subst (λ x. ShowsRows fs x (machine trapping) 2 i j (outcome.Trap trap.NotAFunction) HEADING.now (HEADING.now ++ text)) same
+    (subst (λ r. ShowsRows fs t.which (machine trapping) 2 i j r HEADING.now (HEADING.now ++ text)) result t.shows) in
+    let input = s.taken ++ [] in
+    let ends = s.ends [] (λ e. refl) in
+    let shown = s.shown [] (λ e. refl) in
+    let last = trapped_last input ends.1.0 s.made trap.NotAFunction ends.1.1 s.within ends.0 in
+    let place = subst (λ n. IsWhere fs (machine trapping input) n s.ending) last ends.1.2 in
+    let w = where_of fs (machine trapping input) 1 s.ending (call (loaded (instr.Constant 0 ∷ instr.Call 0 ∷ instr.Pop ∷ closing) 8) 8 1 (0 ∷ [])) [] refl refl place in
+    let no_rows = no_row s.rows (shown.all ∙ unshown input s.made s.within) in
+    let is : text ≡ s.ending = cancel HEADING.now text s.ending (s.text_is ∙ append_assoc HEADING.now (rows_text s.rows) s.ending ∙ ap (λ r. HEADING.now ++ (r ++ s.ending)) no_rows) in
+    ap (at 28) (is ∙ w.text_is ∙ ap (λ p. codes "at     " ++ (p ++ (right 4 (decimal w.line) ++ (words_text w.words w.has_more ++ (codes "\n" ++ flat_map (λ q. codes "called " ++ place_text fs q) w.callers))))) trapping_place)
+
+no_more : (before text : List ℕ) → before ≡ before ++ text → text ≡ []
+no_more before text e = sym (cancel before [] text (append-nil before ∙ e))
+
+unwritten_text : (before text : List ℕ) (rows : List TraceRow) (ending : List ℕ) → before ≡ before ++ text → text ≡ (HEADING.now ++ rows_text rows) ++ ending → ⊥
+unwritten_text before text rows ending e is = let bad : [] ≡ (HEADING.now ++ rows_text rows) ++ ending = sym (no_more before text e) ∙ is in cc
+
+-- a run that came to its outcome read without a failure
+read_whole : (ds : List Definition) (steps : ℕ) (i j : Incoming) (o p line line_behind : Outgoing) (result : Outcome) → (j.failures ≡ i.failures → ⊥) → RunGives (machine ds) steps i j o p result → Finishes result line line_behind MEMORY → ⊥
+read_whole ds steps i j o p line line_behind (outcome.Exit n) failed h f = failed h.no_failure
+read_whole ds steps i j o p line line_behind (outcome.Trap kind) failed h f = failed h.no_failure
+read_whole ds steps i j o p line line_behind outcome.Limit failed h f = failed h.no_failure
+read_whole ds steps i j o p line line_behind outcome.Device failed h f = let bad : 134 ≡ 133 = f.1 in omega (arith, bad)
+read_whole ds steps i j o p line line_behind outcome.Memory failed h f = failed h.reason.0
+
+cut_off : (text : List ℕ) (o p : Outgoing) → (Grew o.refusals p.refusals → ⊥) → Reported text DONE o p MEMORY → ⊥
+cut_off text o p refused (inl t) = let bad : 134 ≡ 0 = t.1 in omega (arith, bad)
+cut_off text o p refused (inr r) = by_kind r.fault r.refuses r.status
+  where
+    by_kind : (fault : EndFault) → Refuses o text fault p → MEMORY ≡ compiled.status_of fault → ⊥
+    by_kind end_fault.Device h e = let bad : 134 ≡ 133 = e in omega (arith, bad)
+    by_kind end_fault.Memory h e = refused h.counted.0
+
+read_told : (edition : Edition) (source : List ℕ) (steps from : ℕ) (name : Option (List ℕ)) (ends : RunEnds) → (ends.input_behind.failures ≡ ends.input.failures → ⊥) → (Grew ends.out.refusals ends.out_behind.refusals → ⊥) → Traces edition source steps from name ends MEMORY → ⊥
+read_told edition source steps from name ends failed refused (traces.traced mid ds image which result t output answer program named gives shows reported tells) =
+    elim tells [
+      | inl d ↦ read_whole ds steps ends.input ends.input_behind _ _ mid ends.line_behind result failed gives d.1
+      | inr d ↦ cut_off t ends.out ends.out_behind refused (subst (λ n. Reported t DONE ends.out ends.out_behind n) (sym d.2) reported)
+    ]
+read_told edition source steps from name ends failed refused (traces.not_begun mid ds image which result program named never f quiet) = failed (ap (λ (i : Incoming). i.failures) quiet.unread)
+read_told edition source steps from name ends failed refused (traces.unnamed mid ds image program unknown r quiet) = failed (ap (λ (i : Incoming). i.failures) quiet.unread)
+read_told edition source steps from name ends failed refused (traces.stopped none quiet) = failed (ap (λ (i : Incoming). i.failures) quiet.unread)
+read_told edition source steps from name ends failed refused (traces.no_memory ds image program same unfailed e) = failed unfailed
+
+-- behind the first line of the place of `f`
+caller_parts : (a b c d e : List ℕ) → a ++ (b ++ (c ++ (d ++ (codes "\n" ++ e)))) ≡ (a ++ (b ++ (c ++ d))) ++ 10 ∷ e
+caller_parts a b c d e = simp append_assoc
+
+f_line_above : (line : ℕ) (words : List ℕ) (has_more : Bool) → all_above 10 (codes "at     " ++ (codes "in f        place    0  line " ++ (right 4 (decimal line) ++ words_text words has_more))) ≡ true
+f_line_above line words has_more = above_append 10 (codes "at     in f        place    0  line ") (right 4 (decimal line) ++ words_text words has_more) refl
+    (above_append 10 (right 4 (decimal line)) (words_text words has_more) (number_above 4 line) (words_above words has_more))
+
+-- the line of a caller names it
+caller_named : (strings : ℕ) (p : Place) (text : List ℕ) → p.strings ≡ 9 → at 10 ((codes "called " ++ place_text (functions_of calling) p) ++ text) ≡ 102
+caller_named strings p text e =
+    ap (λ n. at 10 ((codes "called " ++ place_text (functions_of calling) (record { strings = n; place = p.place; line = p.line; words = p.words; has_more = p.has_more })) ++ text)) e
+
+heads : {A : Type 0} {a b : A} {xs ys : List A} → a ∷ xs ≡ b ∷ ys → a ≡ b
+heads e = cc
+
+callers_named : (callers : List Place) → map {B = ℕ × ℕ} (λ p. (p.strings, p.place)) callers ≡ (9, 2) ∷ (8, 2) ∷ [] → at 10 (flat_map (λ p. codes "called " ++ place_text (functions_of calling) p) callers) ≡ 102
+callers_named [] e = cc
+callers_named (p ∷ ps) e = let first : ℕ × ℕ = (9, 2) in let here : ℕ × ℕ = (p.strings, p.place) in let head : here ≡ first = heads e in caller_named 0 p (flat_map (λ q. codes "called " ++ place_text (functions_of calling) q) ps) (ap (λ (x : ℕ × ℕ). x.0) head)
+
+pub excluded : TracesExcluded
+excluded = record {
+  number_before = λ rest edition source ends is before behind h.
+      let b = nothing_traced edition source ends (codes "       0" ++ rest) before behind is h in
+      differ 7 48 49 _ _ b.text_is refl refl (λ e. omega (arith, e));
+  place_behind = λ rest edition source ends is before behind h.
+      let b = nothing_traced edition source ends (codes "       1  main         1" ++ rest) before behind is h in
+      differ 23 49 48 _ _ b.text_is refl refl (λ e. omega (arith, e));
+  no_name = λ rest edition source ends is before behind h.
+      let b = nothing_traced edition source ends (codes "       1                 0" ++ rest) before behind is h in
+      differ 10 32 109 _ _ b.text_is refl refl (λ e. omega (arith, e));
+  other_instruction = λ rest edition source ends is before behind h.
+      let b = nothing_traced edition source ends (codes "       1  main         0     1  r  " ++ rest) before behind is h in
+      let start = codes "     1  r  " ++ rest in
+      differ 2 114 99 _ _ (behind_line_number (codes "       1  main         0") _ start _ 105 b refl) refl refl (λ e. omega (arith, e));
+  no_row = λ rest edition source ends is before behind h.
+      let b = nothing_traced edition source ends (codes "at     " ++ rest) before behind is h in
+      differ 0 97 32 _ _ b.text_is refl refl (λ e. omega (arith, e));
+  row_left_out = λ rest edition source ends is before behind h.
+      let b = calling_traced edition source ends (codes "       1  main         0     1  x f         \nat     i" ++ rest) before behind is h in
+      let start = codes "     1  x f         \nat     i" ++ rest in
+      let more = ap (drop 15) (behind_line_number (codes "       1  main         0") _ start _ 50 b refl) in
+      seventh_is (at 7 b.more) 50 b.next 105 (sym (ap (at 7) more)) (λ e. omega (arith, e)) (λ e. omega (arith, e));
+  row_twice = λ rest edition source ends is before behind h.
+      let b = nothing_traced edition source ends (codes "       1  main         0     1  c 0         \n       1" ++ rest) before behind is h in
+      let start = codes "     1  c 0         \n       1" ++ rest in
+      let more = ap (drop 15) (behind_line_number (codes "       1  main         0") _ start _ 105 b refl) in
+      seventh_is (at 7 b.more) 105 b.next 49 (sym (ap (at 7) more)) (λ e. omega (arith, e)) (λ e. omega (arith, e));
+  row_before = λ rest edition source ends is before behind h.
+      let w = nothing_placed edition source ends (codes "       1" ++ rest) before behind is h in
+      differ 0 32 97 _ _ w.text_is refl refl (λ e. omega (arith, e));
+  other_function = λ rest edition source ends is before behind h.
+      let bad : 32 ≡ 97 = f_placed edition source ends (codes "       1" ++ rest) before behind is h in
+      omega (arith, bad);
+  unknown_name = λ status less text edition source ends is before behind h.
+      let t = told_so edition source nothing is 1 1 (Some (codes "f")) ends status less (HEADING.now ++ text) before behind (λ e. cc) h in
+      let bad : None ≡ Some t.which = t.named in
+      cc;
+  written_left_out = λ rest edition source ends is before behind h.
+      let b = writing_traced edition source ends (codes "       4  main         3     1  k 1          4 97\nat     i" ++ rest) before behind is h in
+      let start = codes "     1  k 1          4 97\nat     i" ++ rest in
+      let more = ap (drop 20) (behind_line_number (codes "       4  main         3") _ start _ 32 b refl) in
+      seventh_is (at 7 b.more) 32 b.next 105 (sym (ap (at 7) more)) (λ e. omega (arith, e)) (λ e. omega (arith, e));
+  step_left_out = λ rest edition source ends is before behind h.
+      let w = nothing_placed edition source ends (codes "at     in main     place    0" ++ rest) before behind is h in
+      let placed = w.text_is ∙ ap (λ p. codes "at     " ++ (p ++ (right 4 (decimal w.line) ++ (words_text w.words w.has_more ++ (codes "\n" ++ flat_map (λ q. codes "called " ++ place_text (functions_of nothing) q) w.callers))))) nothing_place in
+      differ 28 48 49 _ _ placed refl refl (λ e. omega (arith, e));
+  trap_elsewhere = λ rest edition source ends is before behind h.
+      let text = codes "at     in main     place    2" ++ rest in
+      let t = told_so edition source trapping is 2 3 None ends TRAP (omega arith) (HEADING.now ++ text) before behind (λ e. cc) h in
+      let bad : 50 ≡ 49 = trapping_placed ends.input ends.input_behind text t in
+      omega (arith, bad);
+  caller_left_out = λ rest edition source ends is before behind h.
+      let w = callers_placed edition source ends (codes "at     in f        place    0  line    1\ncalled in main" ++ rest) before behind is h in
+      let callers = flat_map (λ q. codes "called " ++ place_text (functions_of calling) q) w.callers in
+      let line = right 4 (decimal w.line) in
+      let words = words_text w.words w.has_more in
+      let parts = w.text_is ∙ ap (λ p. codes "at     " ++ (p ++ (line ++ (words ++ (codes "\n" ++ callers))))) calling_place
+      ∙ caller_parts (codes "at     ") (codes "in f        place    0  line ") line words callers in
+      let behind = ap behind_line parts ∙ line_skipped (codes "at     " ++ (codes "in f        place    0  line " ++ (line ++ words))) callers (f_line_above w.line w.words w.has_more) in
+      differ 10 109 102 _ _ behind refl (callers_named w.callers w.callers_are) (λ e. omega (arith, e));
+  other_status = λ ds steps from name result status comes wrong less text edition source ends is before behind h.
+      let t = told_so edition source ds is steps from name ends status less (HEADING.now ++ text) before behind (λ e. cc) h in
+      wrong (t.answer ∙ ap status_of (sym t.comes ∙ comes t.input));
+  unwritten = λ ds steps from name status less starts edition source before ends is first last h.
+      let w = written_so edition source ds is steps from name ends status less starts h in
+      unwritten_text before w.0 w.1.1.shows.rows w.1.1.shows.ending (wrote ends.out ends.out_behind before w.0 before first last w.1.0) w.1.1.shows.text_is;
+  read_failed = λ edition source steps from name ends failed refused h. read_told edition source steps from name ends failed refused h;
+}
+
+abbrev line_in : Outcome → List ℕ
+line_in (outcome.Trap kind) = report_text (report.Trap kind)
+line_in outcome.Limit = report_text report.Limit
+line_in result = []
+
+-- a run that is told with its place: the line of its outcome, and where the machine was
+record Stops (ds : List Definition) (steps : ℕ) (text : List ℕ) (status : ℕ) : Type 0 where
+  result : Outcome
+  located : located_status result ≡ Some status
+  active : Active
+  input : List ℕ
+  stops : EndsAt (machine ds input) steps result active
+  line : ℕ
+  text_is : text ≡ line_in result ++ site_line (functions_of ds) active.strings active.place line
+
+line_told : (result : Outcome) (answer : ℕ) (mid behind : Outgoing) → located_status result ≡ Some answer → Finishes result mid behind answer → Writes mid (line_in result) behind
+line_told (outcome.Exit n) answer mid behind e f = cc
+line_told (outcome.Trap kind) answer mid behind e f = let is : 130 ≡ answer = some_same 130 answer e in (told _ TRAP mid behind answer (omega (arith, is)) f).0
+line_told outcome.Limit answer mid behind e f = let is : 131 ≡ answer = some_same 131 answer e in (told _ LIMIT mid behind answer (omega (arith, is)) f).0
+line_told outcome.Device answer mid behind e f = cc
+line_told outcome.Memory answer mid behind e f = cc
+
+site_told : (fs : List Placed) (strings place answer : ℕ) (old new : Outgoing) (status : ℕ) → status < 132 → TellsSite fs strings place answer old new status → (line : ℕ) × Writes old (site_line fs strings place line) new × (status ≡ answer)
+site_told fs strings place answer old new status less (inl t) = let r = told _ answer old new status (omega arith) t.1 in (t.0, r.0, r.1)
+site_told fs strings place answer old new status less (inr t) = let bad : status ≡ 134 = t.1 in absurd (omega arith)
+
+-- a run without a place that wrote something
+not_alone : (result : Outcome) (mid behind : Outgoing) (status : ℕ) (text : List ℕ) → status < 132 → Finishes result mid behind status → (located_status result ≡ Some status → ⊥) → mid.written ≡ Some [] → behind.written ≡ Some text → (text ≡ [] → ⊥) → ⊥
+not_alone (outcome.Exit n) mid behind status text less f unplaced e g some = no_nothing behind.written text (ap (λ (o : Outgoing). o.written) f.0 ∙ e) g some
+not_alone (outcome.Trap kind) mid behind status text less f unplaced e g some = unplaced (ap Some (sym (told _ TRAP mid behind status (omega arith) f).1))
+not_alone outcome.Limit mid behind status text less f unplaced e g some = unplaced (ap Some (sym (told _ LIMIT mid behind status (omega arith) f).1))
+not_alone outcome.Device mid behind status text less f unplaced e g some = let bad : status ≡ 133 = f.1 in omega arith
+not_alone outcome.Memory mid behind status text less f unplaced e g some = let bad : status ≡ 134 = f.1 in omega arith
+
+module _ (edition : Edition) (source : List ℕ) (ds : List Definition) (is : IsSourceOf edition source ds) (steps : ℕ) (ends : RunEnds) (status : ℕ) (less : status < 132) (starts : ComesAlways ds 0 outcome.Limit) where
+  never_begun : (mid : Outgoing) (other : List Definition) (image : Image) (result : Outcome) → HasProgram edition source ends.line mid other image → BeginsNot image result → Finishes result mid ends.line_behind status → ⊥
+  never_begun mid other image result program never f =
+      begins ds image result mid ends.line_behind status less starts (subst (λ x. IsLoadedFrom x image) (only edition source ds is ends.line mid other image program) program.loaded) never f
+
+  -- the place is told
+  stops_so : (text : List ℕ) → ends.line.written ≡ Some [] → ends.line_behind.written ≡ Some text → (text ≡ [] → ⊥) → Locates edition source steps ends status → Stops ds steps text status
+  stops_so text before behind some (locates.located mid out other image result answer active program gives f located stops tells) =
+      let same = only edition source ds is ends.line mid other image program in
+      let quiet = silent edition source ds is ends.line mid other image program in
+      let site = site_told (functions_of other) active.strings active.place answer out ends.line_behind status less tells in
+      let whole = Writes-append (line_told result answer mid out located f) site.1 in
+      let here : Stops other steps text status = record {
+        result = result;
+        located = located ∙ ap Some (sym site.2);
+        active = active;
+        input = stops.taken ++ [];
+        stops = stops.ends [] (λ e. refl);
+        line = site.0;
+        text_is = wrote mid ends.line_behind [] _ text (ap (λ (o : Outgoing). o.written) quiet ∙ before) behind whole;
+      } in
+      subst (λ x. Stops x steps text status) same here
+  stops_so text before behind some (locates.unlocated mid other image result program gives f unplaced) =
+      let quiet = silent edition source ds is ends.line mid other image program in
+      absurd (not_alone result mid ends.line_behind status text less f unplaced (ap (λ (o : Outgoing). o.written) quiet ∙ before) behind some)
+  stops_so text before behind some (locates.not_begun mid other image result program never f quiet) = absurd (never_begun mid other image result program never f)
+  stops_so text before behind some (locates.stopped none quiet) = absurd (has_program edition source ds is ends.line ends.line_behind status less none)
+  stops_so text before behind some (locates.no_memory other image program quiet e) = let bad : status ≡ 134 = e in absurd (omega arith)
+
+  -- the status is that of the machine's outcome
+  came_to : (result : Outcome) → ComesAlways ds steps result → Locates edition source steps ends status → status ≡ status_of result
+  came_to result comes (locates.located mid out other image r answer active program gives f located stops tells) =
+      let same = only edition source ds is ends.line mid other image program in
+      let site = site_told (functions_of other) active.strings active.place answer out ends.line_behind status less tells in
+      let c = came other steps ends.input ends.input_behind ends.out ends.out_behind mid out answer (omega (arith, site.2)) r gives f in
+      let at_end = subst (λ x. state_outcome (machine x c.1.0 steps) ≡ r) same c.1.1 in
+      site.2 ∙ c.0 ∙ ap status_of (sym at_end ∙ comes c.1.0)
+  came_to result comes (locates.unlocated mid other image r program gives f unplaced) =
+      let same = only edition source ds is ends.line mid other image program in
+      let c = came other steps ends.input ends.input_behind ends.out ends.out_behind mid ends.line_behind status less r gives f in
+      let at_end = subst (λ x. state_outcome (machine x c.1.0 steps) ≡ r) same c.1.1 in
+      c.0 ∙ ap status_of (sym at_end ∙ comes c.1.0)
+  came_to result comes (locates.not_begun mid other image r program never f quiet) = absurd (never_begun mid other image r program never f)
+  came_to result comes (locates.stopped none quiet) = absurd (has_program edition source ds is ends.line ends.line_behind status less none)
+  came_to result comes (locates.no_memory other image program quiet e) = let bad : status ≡ 134 = e in absurd (omega arith)
+
+limit_is : (result : Outcome) → located_status result ≡ Some 131 → result ≡ outcome.Limit
+limit_is (outcome.Exit n) e = cc
+limit_is (outcome.Trap kind) e = let bad : 130 ≡ 131 = some_same 130 131 e in absurd (omega (arith, bad))
+limit_is outcome.Limit e = refl
+limit_is outcome.Device e = cc
+limit_is outcome.Memory e = cc
+
+-- the line of a trap has eight characters, and a place stands behind it
+trap_ends : (kind : Trap) (text : List ℕ) → at 8 (report_text (report.Trap kind) ++ text) ≡ at 0 text
+trap_ends trap.ZeroDivisor text = refl
+trap_ends trap.NotAFunction text = refl
+trap_ends trap.NotALabel text = refl
+trap_ends trap.NoRoom text = refl
+trap_ends trap.TooDeep text = refl
+trap_ends trap.BadBase text = refl
+trap_ends trap.Stuck text = refl
+
+trap_alone : (result : Outcome) (kind : Trap) (fs : List Placed) (strings place line : ℕ) → located_status result ≡ Some 130 → report_text (report.Trap kind) ≡ line_in result ++ site_line fs strings place line → ⊥
+trap_alone (outcome.Exit n) kind fs strings place line e is = cc
+trap_alone (outcome.Trap other) kind fs strings place line e is =
+    let nothing_more : at 8 (report_text (report.Trap kind)) ≡ 0 = ap (at 8) (sym (append-nil (report_text (report.Trap kind)))) ∙ trap_ends kind [] in
+    let more : at 8 (report_text (report.Trap other) ++ site_line fs strings place line) ≡ 97 = trap_ends other (site_line fs strings place line) in
+    let bad : 0 ≡ 97 = sym nothing_more ∙ ap (at 8) is ∙ more in
+    omega (arith, bad)
+trap_alone outcome.Limit kind fs strings place line e is = let bad : 131 ≡ 130 = some_same 131 130 e in omega (arith, bad)
+trap_alone outcome.Device kind fs strings place line e is = cc
+trap_alone outcome.Memory kind fs strings place line e is = cc
+
+site_parts : (a b c d : List ℕ) → (a ++ (b ++ c)) ++ d ≡ a ++ (b ++ (c ++ d))
+site_parts a b c d = simp append_assoc
+
+-- the place of the limit
+limit_site : (ds : List Definition) (steps : ℕ) (text : List ℕ) (c : Call) → ((input : List ℕ) → call_of (machine ds input steps) ≡ Some c) → Stops ds steps text 131
+    → (line : ℕ) × (text ≡ codes "limit\n" ++ (codes "at     " ++ (place_head (functions_of ds) c.function.strings c.place ++ (right 4 (decimal line) ++ codes "\n"))))
+limit_site ds steps text c runs s =
+    let fs = functions_of ds in
+    let limit = limit_is s.result s.located in
+    let r = subst (λ x. EndsAt (machine ds s.input) steps x s.active) limit s.stops in
+    let call_is : r.call ≡ c = some_same r.call c (sym (ap call_of r.state_is) ∙ runs s.input) in
+    let strings : s.active.strings ≡ c.function.strings = ap (λ (a : Active). a.strings) (sym r.active_is) ∙ ap (λ (x : Call). x.function.strings) call_is in
+    let place : s.active.place ≡ c.place = ap (λ (a : Active). a.place) (sym r.active_is) ∙ ap (λ (x : Call). x.place) call_is in
+    let number = right 4 (decimal s.line) in (
+      s.line,
+      s.text_is ∙ ap (λ x. line_in x ++ site_line fs s.active.strings s.active.place s.line) limit
+          ∙ ap (λ t. codes "limit\n" ++ t) (site_parts (codes "at     ") (place_head fs s.active.strings s.active.place) number (codes "\n"))
+          ∙ ap (λ n. codes "limit\n" ++ (codes "at     " ++ (place_head fs n s.active.place ++ (number ++ codes "\n")))) strings
+          ∙ ap (λ n. codes "limit\n" ++ (codes "at     " ++ (place_head fs c.function.strings n ++ (number ++ codes "\n")))) place,
+    )
+
+located_read : (ds : List Definition) (steps : ℕ) (i j : Incoming) (o p : Outgoing) (result : Outcome) (answer : ℕ) → located_status result ≡ Some answer → RunGives (machine ds) steps i j o p result → j.failures ≡ i.failures
+located_read ds steps i j o p (outcome.Exit n) answer e h = cc
+located_read ds steps i j o p (outcome.Trap kind) answer e h = h.no_failure
+located_read ds steps i j o p outcome.Limit answer e h = h.no_failure
+located_read ds steps i j o p outcome.Device answer e h = cc
+located_read ds steps i j o p outcome.Memory answer e h = cc
+
+place_read : (edition : Edition) (source : List ℕ) (steps : ℕ) (ends : RunEnds) → (ends.input_behind.failures ≡ ends.input.failures → ⊥) → Locates edition source steps ends MEMORY → ⊥
+place_read edition source steps ends failed (locates.located mid out ds image result answer active program gives f located stops tells) =
+    failed (located_read ds steps ends.input ends.input_behind ends.out ends.out_behind result answer located gives)
+place_read edition source steps ends failed (locates.unlocated mid ds image result program gives f unplaced) =
+    read_whole ds steps ends.input ends.input_behind ends.out ends.out_behind mid ends.line_behind result failed gives f
+place_read edition source steps ends failed (locates.not_begun mid ds image result program never f quiet) = failed (ap (λ (i : Incoming). i.failures) quiet.unread)
+place_read edition source steps ends failed (locates.stopped none quiet) = failed (ap (λ (i : Incoming). i.failures) quiet.unread)
+place_read edition source steps ends failed (locates.no_memory ds image program quiet e) = failed (ap (λ (i : Incoming). i.failures) quiet.unread)
+
+nothing_stops : (edition : Edition) (source : List ℕ) (ends : RunEnds) (text : List ℕ) → IsSourceOf edition source nothing → ends.line.written ≡ Some [] → ends.line_behind.written ≡ Some text → (text ≡ [] → ⊥)
+    → Locates edition source 1 ends LIMIT → at 34 text ≡ 49
+nothing_stops edition source ends text is before behind some h =
+    let s = stops_so edition source nothing is 1 ends LIMIT (omega arith) (λ input. refl) text before behind some h in
+    let l = limit_site nothing 1 text (call (loaded closing 8) 8 1 (0 ∷ [])) (λ input. refl) s in
+    ap (at 34) (l.1 ∙ ap (λ p. codes "limit\n" ++ (codes "at     " ++ (p ++ (right 4 (decimal l.0) ++ codes "\n")))) nothing_place)
+
+calling_stops : (edition : Edition) (source : List ℕ) (ends : RunEnds) (text : List ℕ) → IsSourceOf edition source calling → ends.line.written ≡ Some [] → ends.line_behind.written ≡ Some text → (text ≡ [] → ⊥)
+    → Locates edition source 3 ends LIMIT → at 16 text ≡ 102
+calling_stops edition source ends text is before behind some h =
+    let s = stops_so edition source calling is 3 ends LIMIT (omega arith) (λ input. refl) text before behind some h in
+    let l = limit_site calling 3 text (call (record { parameters = 0; frame = 0; targets = []; code = calling_f; strings = 9; first_label = 1 }) 9 0 []) (λ input. refl) s in
+    ap (at 16) (l.1 ∙ ap (λ p. codes "limit\n" ++ (codes "at     " ++ (p ++ (right 4 (decimal l.0) ++ codes "\n")))) calling_place)
+
+pub places_excluded : LocatesExcluded
+places_excluded = record {
+  limit_alone = λ ds steps starts edition source ends is before behind h.
+      let s = stops_so edition source ds is steps ends LIMIT (omega arith) starts (codes "limit\n") before behind (λ e. cc) h in
+      let limit = s.text_is ∙ ap (λ x. line_in x ++ site_line (functions_of ds) s.active.strings s.active.place s.line) (limit_is s.result s.located) in
+      differ 6 0 97 _ _ limit refl refl (λ e. omega (arith, e));
+  trap_alone = λ ds steps kind starts edition source ends is before behind h.
+      let s = stops_so edition source ds is steps ends TRAP (omega arith) starts (report_text (report.Trap kind)) before behind (λ e. cc) h in
+      trap_alone s.result kind (functions_of ds) s.active.strings s.active.place s.line s.located s.text_is;
+  place_before = λ rest edition source ends is before behind h.
+      let bad : 48 ≡ 49 = nothing_stops edition source ends (codes "limit\nat     in main     place    0" ++ rest) is before behind (λ e. cc) h in
+      omega (arith, bad);
+  place_of_frame = λ rest edition source ends is before behind h.
+      let bad : 56 ≡ 49 = nothing_stops edition source ends (codes "limit\nat     in main     place    8" ++ rest) is before behind (λ e. cc) h in
+      omega (arith, bad);
+  caller_in_place = λ rest edition source ends is before behind h.
+      let bad : 109 ≡ 102 = calling_stops edition source ends (codes "limit\nat     in main" ++ rest) is before behind (λ e. cc) h in
+      omega (arith, bad);
+  other_status = λ ds steps result status starts comes wrong less edition source ends is h.
+      wrong (came_to edition source ds is steps ends status less starts result comes h);
+  read_failed = λ edition source steps ends failed h. place_read edition source steps ends failed h;
+}

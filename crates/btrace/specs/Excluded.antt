@@ -1,0 +1,144 @@
+-- What the contracts of `trace` and `locate` exclude.
+use Rattle.std.specs.Prelude.{◌≡◌, ℕ, ◌<◌, List, [], ◌∷◌, ◌++◌, Option, Some, None, codes}
+use Rattle.bword.specs.declared.edition.Edition.{Edition}
+use Rattle.bword.specs.ByteEnds.{Grew}
+use Rattle.blang.specs.declared.code.Definition.{Definition}
+use Rattle.blang.specs.declared.code.Definition.TheVariants as definition
+use Rattle.blang.specs.declared.code.Instr.{Instr}
+use Rattle.blang.specs.declared.code.Instr.TheVariants as instr
+use Rattle.blang.specs.declared.run.Outcome.{Outcome}
+use Rattle.blang.specs.declared.run.Outcome.TheVariants as outcome
+use Rattle.blang.specs.declared.run.Report.TheVariants as report
+use Rattle.blang.specs.declared.run.Trap.{Trap}
+use Rattle.blang.specs.declared.status.TheConstants.{DEVICE, LIMIT, MEMORY, REFUSED, TRAP}
+use Rattle.blang.specs.Compiles.{Compilation, CompilesTo, code_text}
+use Rattle.blang.specs.Cut.{tokens_from}
+use Rattle.blang.specs.Machine.{RunEnds, machine, report_text, state_outcome}
+use Rattle.blang.specs.Text.{IsCodeText}
+use Rattle.btrace.specs.Locates.{Locates}
+use Rattle.btrace.specs.Traces.{Traces}
+use Rattle.btrace.specs.declared.tracing.TheConstants.{HEADING}
+
+-- The source has no fault, and its code is that of these definitions.
+pub record IsSourceOf (edition : Edition) (source : List ℕ) (ds : List Definition) : Type 0 where
+  pub compilation : Compilation
+  pub goes : CompilesTo [] (tokens_from edition 1 source) compilation
+  pub clean : compilation.stop ≡ None
+  pub text : IsCodeText (code_text edition compilation) ds
+
+abbrev pub function : List ℕ → List Instr → Definition
+function name code = definition.Function (record {
+  name = name;
+  parameters = 0;
+  frame = 0;
+  targets = [];
+  strings = [];
+  code = code;
+})
+
+abbrev pub closing : List Instr
+closing = instr.Constant 0 ∷ instr.Return ∷ []
+
+abbrev pub calling_f : List Instr
+calling_f = instr.External (codes "f") ∷ instr.Load ∷ instr.Call 0 ∷ instr.Pop ∷ closing
+
+-- the code of `main(){}`, which halts with its second step
+abbrev pub nothing : List Definition
+nothing = function (codes "main") closing ∷ []
+
+-- of `main(){f();}f(){f();}`: each third step is a call
+abbrev pub calling : List Definition
+calling = function (codes "main") calling_f ∷ function (codes "f") calling_f ∷ []
+
+-- of `main(){putchar('a');}`, which writes in its fourth step
+abbrev pub writing : List Definition
+writing = function (codes "main")
+    (instr.External (codes "putchar") ∷ instr.Load ∷ instr.Constant 97 ∷ instr.Call 1 ∷ instr.Pop ∷ closing)
+    ∷ []
+
+-- of `main(){0();}`, whose second step is a trap
+abbrev pub trapping : List Definition
+trapping = function (codes "main") (instr.Constant 0 ∷ instr.Call 0 ∷ instr.Pop ∷ closing) ∷ []
+
+-- the run of a program is at this outcome after so many steps, whatever it reads
+abbrev pub ComesAlways : List Definition → (steps : ℕ) → Outcome → Type 0
+ComesAlways ds steps result = (input : List ℕ) → state_outcome (machine ds input steps) ≡ result
+
+-- the status of an outcome
+abbrev pub status_of : Outcome → ℕ
+status_of (outcome.Exit n) = n
+status_of (outcome.Trap kind) = TRAP
+status_of outcome.Limit = LIMIT
+status_of outcome.Device = DEVICE
+status_of outcome.Memory = MEMORY
+
+-- no trace of a program is this text under the heading, with this status
+abbrev pub NoTrace : List Definition → (steps from : ℕ) → (name : Option (List ℕ)) → (status : ℕ) → List ℕ → Type 0
+NoTrace ds steps from name status text =
+    (edition : Edition) (source : List ℕ) (ends : RunEnds) → IsSourceOf edition source ds
+    → ends.out.written ≡ Some [] → ends.out_behind.written ≡ Some (HEADING.now ++ text)
+    → Traces edition source steps from name ends status → ⊥
+
+pub record TracesExcluded : Type 0 where
+  -- a row with the number before, with the place behind the step, without a name, with another instruction
+  pub number_before : (rest : List ℕ) → NoTrace nothing 1 1 None LIMIT (codes "       0" ++ rest)
+  pub place_behind : (rest : List ℕ) → NoTrace nothing 1 1 None LIMIT (codes "       1  main         1" ++ rest)
+  pub no_name : (rest : List ℕ) → NoTrace nothing 1 1 None LIMIT (codes "       1                 0" ++ rest)
+  pub other_instruction : (rest : List ℕ)
+      → NoTrace nothing 1 1 None LIMIT (codes "       1  main         0     1  r  " ++ rest)
+  -- no row, the second one left out, one twice, one before the first that was asked for, one of another function
+  pub no_row : (rest : List ℕ) → NoTrace nothing 1 1 None LIMIT (codes "at     " ++ rest)
+  pub row_left_out : (rest : List ℕ)
+      → NoTrace calling 2 1 None LIMIT (codes "       1  main         0     1  x f         \nat     i" ++ rest)
+  pub row_twice : (rest : List ℕ)
+      → NoTrace nothing 1 1 None LIMIT (codes "       1  main         0     1  c 0         \n       1" ++ rest)
+  pub row_before : (rest : List ℕ) → NoTrace nothing 1 2 None LIMIT (codes "       1" ++ rest)
+  pub other_function : (rest : List ℕ) → NoTrace calling 3 1 (Some (codes "f")) LIMIT (codes "       1" ++ rest)
+  pub unknown_name : (status : ℕ) → status < REFUSED → (text : List ℕ)
+      → NoTrace nothing 1 1 (Some (codes "f")) status text
+  -- what a step has written left out
+  pub written_left_out : (rest : List ℕ)
+      → NoTrace writing 4 4 None LIMIT (codes "       4  main         3     1  k 1          4 97\nat     i" ++ rest)
+  -- the limit and a trap told at other places, and the nearest caller left out
+  pub step_left_out : (rest : List ℕ) → NoTrace nothing 1 2 None LIMIT (codes "at     in main     place    0" ++ rest)
+  pub trap_elsewhere : (rest : List ℕ) → NoTrace trapping 2 3 None TRAP (codes "at     in main     place    2" ++ rest)
+  pub caller_left_out : (rest : List ℕ)
+      → NoTrace calling 6 7 None LIMIT (codes "at     in f        place    0  line    1\ncalled in main" ++ rest)
+  -- another status than that of the machine after just so many steps, as the limit for a trap
+  pub other_status : (ds : List Definition) (steps from : ℕ) (name : Option (List ℕ)) (result : Outcome) (status : ℕ)
+      → ComesAlways ds steps result → (status ≡ status_of result → ⊥) → status < REFUSED → (text : List ℕ)
+      → NoTrace ds steps from name status text
+  -- the status of a run whose trace was not written
+  pub unwritten : (ds : List Definition) (steps from : ℕ) (name : Option (List ℕ)) (status : ℕ) → status < REFUSED
+      → ComesAlways ds 0 outcome.Limit → (edition : Edition) (source before : List ℕ) (ends : RunEnds)
+      → IsSourceOf edition source ds → ends.out.written ≡ Some before → ends.out_behind.written ≡ Some before
+      → Traces edition source steps from name ends status → ⊥
+  -- want of memory told where a read failed and no write was refused memory
+  pub read_failed : (edition : Edition) (source : List ℕ) (steps from : ℕ) (name : Option (List ℕ)) (ends : RunEnds)
+      → (ends.input_behind.failures ≡ ends.input.failures → ⊥)
+      → (Grew ends.out.refusals ends.out_behind.refusals → ⊥) → Traces edition source steps from name ends MEMORY → ⊥
+
+-- no run of a program has this text of lines and this status
+abbrev pub NoPlace : List Definition → (steps status : ℕ) → List ℕ → Type 0
+NoPlace ds steps status text =
+    (edition : Edition) (source : List ℕ) (ends : RunEnds) → IsSourceOf edition source ds
+    → ends.line.written ≡ Some [] → ends.line_behind.written ≡ Some text
+    → Locates edition source steps ends status → ⊥
+
+pub record LocatesExcluded : Type 0 where
+  -- the line of the limit or of a trap without a place
+  pub limit_alone : (ds : List Definition) (steps : ℕ) → ComesAlways ds 0 outcome.Limit
+      → NoPlace ds steps LIMIT (codes "limit\n")
+  pub trap_alone : (ds : List Definition) (steps : ℕ) (kind : Trap) → ComesAlways ds 0 outcome.Limit
+      → NoPlace ds steps TRAP (report_text (report.Trap kind))
+  -- another place, that of the frame, and another function
+  pub place_before : (rest : List ℕ) → NoPlace nothing 1 LIMIT (codes "limit\nat     in main     place    0" ++ rest)
+  pub place_of_frame : (rest : List ℕ) → NoPlace nothing 1 LIMIT (codes "limit\nat     in main     place    8" ++ rest)
+  pub caller_in_place : (rest : List ℕ) → NoPlace calling 3 LIMIT (codes "limit\nat     in main" ++ rest)
+  -- another status than that of the machine after just so many steps
+  pub other_status : (ds : List Definition) (steps : ℕ) (result : Outcome) (status : ℕ) → ComesAlways ds 0 outcome.Limit
+      → ComesAlways ds steps result → (status ≡ status_of result → ⊥) → status < REFUSED → (edition : Edition)
+      → (source : List ℕ) (ends : RunEnds) → IsSourceOf edition source ds → Locates edition source steps ends status → ⊥
+  -- want of memory told where a read failed
+  pub read_failed : (edition : Edition) (source : List ℕ) (steps : ℕ) (ends : RunEnds)
+      → (ends.input_behind.failures ≡ ends.input.failures → ⊥) → Locates edition source steps ends MEMORY → ⊥

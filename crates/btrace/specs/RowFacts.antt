@@ -1,0 +1,77 @@
+-- What stands in the rows of a trace, on small values.
+use Rattle.std.specs.Prelude.{◌≡◌, ℕ, true, false, List, [], ◌∷◌, ◌++◌, Some, None, codes, refl, replicate}
+use Rattle.std.specs.Fmt.{digits}
+use Rattle.blang.specs.declared.run.Outcome.TheVariants as outcome
+use Rattle.blang.specs.declared.run.Trap.TheVariants as trap
+use Rattle.btrace.specs.Locates.{located_status}
+use Rattle.btrace.specs.RowTexts.{changed_text, instr_text, margin, operands_text, word_row, words_text, written_row}
+use Rattle.btrace.specs.Traces.{is_wanted, which_of}
+
+-- the topmost five operands
+no_operands : operands_text [] ≡ []
+no_operands = refl
+
+all_operands : operands_text (1 ∷ 2 ∷ 3 ∷ 4 ∷ 5 ∷ []) ≡ codes " 1 2 3 4 5"
+unfolding digits
+all_operands = refl
+
+topmost_operands : operands_text (1 ∷ 2 ∷ 3 ∷ 4 ∷ 5 ∷ 6 ∷ []) ≡ codes " .. 2 3 4 5 6"
+unfolding digits
+topmost_operands = refl
+
+-- a word beside its address
+word_shown : word_row (7 ∷ 8 ∷ []) 1 ≡ replicate 43 32 ++ codes "@1 = 8\n"
+unfolding digits margin
+word_shown = refl
+
+no_word : changed_text (7 ∷ []) [] ≡ []
+no_word = refl
+
+-- what a step has written
+nothing_written : written_row [] ≡ []
+nothing_written = refl
+
+written_shown : written_row (codes "a\n") ≡ replicate 43 32 ++ codes "writes 'a*n'\n"
+unfolding margin
+written_shown = refl
+
+-- the words of parameters
+no_words : words_text [] false ≡ []
+no_words = refl
+
+words_shown : words_text (3 ∷ 4 ∷ []) true ≡ codes "  with 3 4 .."
+unfolding digits
+words_shown = refl
+
+-- an instruction that isn't there
+no_instruction : instr_text None ≡ []
+no_instruction = refl
+
+-- the first step that is shown, the one before it, and one of another function
+from_wanted : is_wanted (record { from = 3; function = None }) 3 8 ≡ true
+from_wanted = refl
+
+before_wanted : is_wanted (record { from = 3; function = None }) 2 8 ≡ false
+before_wanted = refl
+
+function_wanted : is_wanted (record { from = 3; function = Some 8 }) 3 8 ≡ true
+function_wanted = refl
+
+other_wanted : is_wanted (record { from = 3; function = Some 8 }) 3 9 ≡ false
+other_wanted = refl
+
+unknown_name : which_of [] 1 (Some (codes "f")) ≡ None
+unknown_name = refl
+
+no_name : which_of [] 1 None ≡ Some (record { from = 1; function = None })
+no_name = refl
+
+-- the outcomes that have a place
+trap_located : located_status (outcome.Trap trap.Stuck) ≡ Some 130
+trap_located = refl
+
+limit_located : located_status outcome.Limit ≡ Some 131
+limit_located = refl
+
+exit_located : located_status (outcome.Exit 0) ≡ None
+exit_located = refl
