@@ -227,4 +227,4 @@ abbrev pub CompileHeadline : Run → Type 0
 CompileHeadline run =
     (text : List ℕ) → Tells run.source text → IsUndisturbed run
     → HasOutcome run.edition text
-      × ((r : Compilation) → CompilesTo [] (tokens_from run.edition 1 text) r → CompileAnswers run r)
+    × ((r : Compilation) → CompilesTo [] (tokens_from run.edition 1 text) r → CompileAnswers run r)

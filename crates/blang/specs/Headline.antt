@@ -190,5 +190,5 @@ abbrev pub Headline : Edition → (steps : ℕ) (source source_behind : Incoming
 Headline edition steps source source_behind ends status =
     (text input : List ℕ) → Tells source text → Tells ends.input input → NothingFailed source source_behind ends status
     → HasOutcome edition text
-      × ((r : compiled.Compilation) (g : CompilesTo [] (tokens_from edition 1 text) r)
-        → GoAnswers r g.definitions input steps ends status)
+    × ((r : compiled.Compilation) (g : CompilesTo [] (tokens_from edition 1 text) r)
+    → GoAnswers r g.definitions input steps ends status)

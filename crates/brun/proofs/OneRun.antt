@@ -77,7 +77,7 @@ one_run source input out line status h = by_memory status answered
         let g = both.0.1 in
         let same = parted_once (tokens_from editions.One 1 (codes "main(){putchar('a');}")) g.definitions writes_a g.stop None g.parted parts in
         let clean : r.stop ≡ None =
-            ap (λ (o : compiled.Compilation). o.stop) g.outcome_is ∙ ap (λ ds. (compilation_of [] ds g.stop).stop) same.0 ∙ ap (λ s. (compilation_of [] writes_a s).stop) same.1 in
+        ap (λ (o : compiled.Compilation). o.stop) g.outcome_is ∙ ap (λ ds. (compilation_of [] ds g.stop).stop) same.0 ∙ ap (λ s. (compilation_of [] writes_a s).stop) same.1 in
         let runs = subst (λ ds. RunAnswers ds [] 100 (one_run_ends input out line) status) same.0 ((both.1 r g).runs clean (subst Loads (sym same.0) refl)) in
         let halt = runs.halts 7 (omega arith) (Exited 0) (runs_at.state_world (state writes_a 7)) refl in
         (halt.says.answered, halt.says.written.appended, halt.says.told.appended)

@@ -29,7 +29,7 @@ abbrev pub OneRunIsKnown : Type 0
 OneRunIsKnown =
     (source input : Unread) (out line : Kept) (status : ℕ)
     → Headline editions.One 100 (unread (codes "main(){putchar('a');}")) (incoming_of source)
-        (one_run_ends input out line) status
+    (one_run_ends input out line) status
     → (status ≡ 134) ⊎ ((status ≡ 0) × (out.bytes ≡ codes "a") × (line.bytes ≡ []))
 
 -- a run of the compiler on `n 2000;`
