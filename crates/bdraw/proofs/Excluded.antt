@@ -2,11 +2,11 @@
 use Rattle.std.proofs.Common.{◌≡◌, ◌≢◌, ◌∙◌, ℕ, Bool, true, false, List, [], ◌∷◌, ◌++◌, Option, Some, None, map, take, ap, arith, refl, subst, sym, ◌⊎◌, inl, inr}
 use Rattle.std.specs.Prelude.{codes, nat_lt, not, ◌==◌}
 use Rattle.std.specs.List.{list_all}
-use Rattle.std.specs.Io.KnownBytes.{Consumes}
 use Rattle.std.proofs.lemmas.Bool.{and_from, cond_both}
 use Rattle.std.proofs.lemmas.List.{map-append}
 use Rattle.std.proofs.lemmas.List.Folds.{list_all-append}
 use Rattle.bword.specs.declared.edition.Edition.{Edition}
+use Rattle.bword.proofs.Remaining.{rest_after}
 use Rattle.bword.specs.ByteEnds.{CanFollow, Grew, Incoming, Outgoing, Took, Writes, outgoing_of}
 use Rattle.bmach.specs.Resolved.{IsLoadedFrom}
 use Rattle.bmach.specs.Stepping.{HasEnd}
@@ -61,42 +61,6 @@ tags (b ∷ text) = list_all-append is_no_tag (escape b) (escaped text) ∙ and_
 
 pub wrong_shapes : WrongShapes
 wrong_shapes = record { boxes = boxes; names = names; tags = tags }
-
--- what an end that tells its bytes has left
-record Rest (i j : Incoming) (taken bytes : List ℕ) : Type 0 where
-  pub more : List ℕ
-  pub follows : CanFollow j more
-  pub whole : taken ++ more ≡ bytes
-  pub left : j.left ≡ Some more
-
-rest_of_bytes : (old new : Option (List ℕ)) (taken bytes : List ℕ) → old ≡ Some bytes → Consumes old new taken → (more : List ℕ) × (new ≡ Some more) × (taken ++ more ≡ bytes)
-rest_of_bytes None new taken bytes e c = absurd (no e)
-  where
-    no : None ≢ Some bytes
-    no e = cc
-rest_of_bytes (Some xs) None taken bytes e c = elim c [ ]
-rest_of_bytes (Some xs) (Some ys) taken bytes e c = let same : xs ≡ bytes = cc in (ys, refl, sym c ∙ same)
-
-cancel : (xs ys zs : List ℕ) → xs ++ ys ≡ xs ++ zs → ys ≡ zs
-cancel [] ys zs e = e
-cancel (x ∷ xs) ys zs e = let tails : xs ++ ys ≡ xs ++ zs = cc in cancel xs ys zs tails
-
-by_cases : {A : Type 0} (b : Bool) → (b ≡ true → A) → (b ≡ false → A) → A
-by_cases true f g = f refl
-by_cases false f g = g refl
-
-rest_of : (i j : Incoming) (taken bytes : List ℕ) → Took i taken j → TellsBytes i bytes → Rest i j taken bytes
-rest_of i j taken bytes t told =
-    let rest = rest_of_bytes i.left j.left taken bytes told.0 t.bytes in
-    record { more = rest.0; follows = follows rest.0 rest.2; whole = rest.2; left = rest.1 }
-  where
-    follows : (more : List ℕ) → taken ++ more ≡ bytes → CanFollow j more
-    follows more whole over =
-        by_cases i.is_over
-        (λ was. let nothing : taken ≡ [] = (t.over was).0 in subst (λ xs. xs ++ more ≡ bytes) nothing whole ∙ told.1 was)
-        (λ was_not.
-        let all = subst (λ o. Consumes o (Some []) taken) told.0 (t.all was_not over) in
-        cancel taken more [] (whole ∙ all))
 
 module _ (ds : List Definition) (image : Image) where
   module _ (words : List ℕ) (o q : Outgoing) where
@@ -173,7 +137,7 @@ module _ (ds : List Definition) (image : Image) where
       -- a run between two steps has these words, and has read what was taken
       of_step : (words : List ℕ) → IsAfter image n i j words → (words ≡ (state_world (run image bytes n)).store) × (j.left ≡ Some (state_world (run image bytes n)).input)
       of_step words h =
-          let rest = rest_of i j h.taken bytes h.took told in
+          let rest = rest_after i j h.taken bytes h.took told.0 told.1 in
           let at = h.holds rest.more rest.follows in
           let is = subst (λ t. run image t n ≡ Running at.0 at.1 at.2) rest.whole at.3 in
           (sym at.4 ∙ sym (ap (λ s. (state_world s).store) is), rest.left ∙ ap Some (sym at.5 ∙ sym (ap (λ s. (state_world s).input) is)))
@@ -181,8 +145,8 @@ module _ (ds : List Definition) (image : Image) where
       of_end : (result : Outcome) (words : List ℕ) → IsOver image n i j result → HasEnd result → IsAtEnd image n i j words → (words ≡ (state_world (run image bytes n)).store) × (j.left ≡ Some (state_world (run image bytes n)).input)
       of_end result words over end h =
           let c = comes n result (outgoing_of over.0) end over.1 in
-          let rest = rest_of i j c.taken bytes c.took told in
-          let other = rest_of i j h.taken bytes h.took told in (
+          let rest = rest_after i j c.taken bytes c.took told.0 told.1 in
+          let other = rest_after i j h.taken bytes h.took told.0 told.1 in (
             sym (subst (λ t. (state_world (run image t n)).store ≡ words) other.whole (h.holds other.more other.follows)),
             rest.left ∙ ap Some (sym (subst (λ t. (state_world (run image t n)).input ≡ rest.more) rest.whole (c.shows rest.more rest.follows).left)),
           )

@@ -5,10 +5,11 @@ use Rattle.bword.specs.declared.ends.EndFault.TheVariants as end_fault
 use Rattle.blang.specs.Cut.{tokens_from}
 use Rattle.blang.specs.Compiles.{Compilation, CompilesTo, Run, Compiles, SourceFailed, EndRefused, Tells, IsUndisturbed, CompileAnswers, CompileHeadline, fault_text, fault_status}
 use Rattle.btree.proofs.GoesLaws.{each_source_comes}
-use Rattle.bparse.proofs.Remaining.{Rest, rest_of, writes_nothing}
+use Rattle.bword.proofs.Remaining.{Rest}
+use Rattle.bparse.proofs.Remaining.{rest_of, writes_nothing}
 
 module _ (run : Run) (h : Compiles run) (text : List ℕ) (tells : Tells run.source text) (calm : IsUndisturbed run) (r : Compilation) (g : CompilesTo [] (tokens_from run.edition 1 text) r) where
-  rest : Rest run.source run.source_behind h.taken text
+  rest : Rest run.source_behind h.taken text
   rest = rest_of run.source run.source_behind h.taken text h.took tells
 
   behind : CompilesTo [] (tokens_from run.edition 1 (h.taken ++ rest.more)) r

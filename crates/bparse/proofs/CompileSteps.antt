@@ -124,16 +124,16 @@ module _ (first last : Compiler) (d e : Outgoing) where
         → Whatever first.first.edition taken last.tokens.source.end P
     whatever taken P h = subst (λ x. Whatever x.edition taken last.tokens.source.end P) same_first h
 
-    code_refused : (fault : EndFault) (status : ℕ) (h : compilers.OutRefused l.old fault last) → e ≡ d → CodeRefused (run status) h.2.taken fault
+    code_refused : (fault : EndFault) (status : ℕ) (h : compilers.OutRefused l.old fault last) → e ≡ d → CodeRefused (run status) h.2.0.taken fault
     code_refused fault status h same = record {
       read = read_all h.3;
       opened = split_out first.first.out (opening first.first.edition);
       begun = split_first first.first.out (opening first.first.edition);
       code = λ more f r g.
-          let q = whatever _ _ h.2.comes more f r g in (
-            (λ none. q.1.stop ∙ q.2.0 (nil_behind (map compiled_text h.2.before) q.0.code (sym q.1.code ∙ none))),
-            subst (λ t. Refuses (split_out first.first.out (opening first.first.edition)) t fault last.out) (sym (code_behind h.2.before q.0 r q.1))
-                (Refuses-behind (split_rest (opening first.first.edition) (written_before h.2.since h.1)) (refused_all q.0.code q.0.stop q.2.1)),
+          let q = whatever _ _ h.2.0.comes more f r g in (
+            (λ none. q.1.stop ∙ q.2.0 (nil_behind (map compiled_text h.2.0.before) q.0.code (sym q.1.code ∙ none))),
+            subst (λ t. Refuses (split_out first.first.out (opening first.first.edition)) t fault last.out) (sym (code_behind h.2.0.before q.0 r q.1))
+                (Refuses-behind (split_rest (opening first.first.edition) (written_before h.2.0.since h.1)) (refused_all q.0.code q.0.stop q.2.1)),
           );
       silent = same;
     }
@@ -164,13 +164,13 @@ module _ (first last : Compiler) (d e : Outgoing) where
       silent = same;
     }
 
-    names_refused : (status : ℕ) (h : compilers.GrowthRefused l.old last) → e ≡ d → NamesRefused (run status) h.0.taken
+    names_refused : (status : ℕ) (h : compilers.GrowthRefused l.old last) → e ≡ d → NamesRefused (run status) h.0.0.taken
     names_refused status h same = record {
       read = read_all h.1;
-      count = length (map compiled_text h.0.before);
+      count = length (map compiled_text h.0.0.before);
       code = λ more f r g.
-          let q = whatever _ _ h.0.comes more f r g in
-          (omega (arith, ap length q.1.code, length-append (map compiled_text h.0.before) q.0.code, some_length q.0.code q.2), texts_written status h.0.since h.2 q.0 r q.1);
+          let q = whatever _ _ h.0.0.comes more f r g in
+          (omega (arith, ap length q.1.code, length-append (map compiled_text h.0.0.before) q.0.code, some_length q.0.code q.2), texts_written status h.0.0.since h.2 q.0 r q.1);
       silent = same;
     }
 
@@ -258,15 +258,15 @@ module _ (first last : Compiler) (d e : Outgoing) where
     where
       go : CompilerGives l.old step.Device last → Compiles (run 133)
       go (inl h) = failing h.0.taken (took_all l h.0.took) (inl (source_failed l 133 h same))
-      go (inr (inl h)) = failing h.2.taken (took_all l h.2.took) (inr (inr (inl (code_refused l end_fault.Device 133 h same))))
+      go (inr (inl h)) = failing h.2.0.taken (took_all l h.2.0.took) (inr (inr (inl (code_refused l end_fault.Device 133 h same))))
       go (inr (inr h)) = let o = opening_refused l end_fault.Device 133 h (not_begun l h) same in failing [] (unread_took o) (inr (inl o))
 
   pub memory : LastGives first step.Memory last → e ≡ d → Compiles (run 134)
   memory l same = go l.gives
     where
       go : CompilerGives l.old step.Memory last → Compiles (run 134)
-      go (inl h) = refusing h.0.taken (took_all l h.0.took) (inl (names_refused l 134 h same))
-      go (inr (inl h)) = refusing h.2.taken (took_all l h.2.took) (inr (inr (inl (code_refused l end_fault.Memory 134 h same))))
+      go (inl h) = refusing h.0.0.taken (took_all l h.0.0.took) (inl (names_refused l 134 h same))
+      go (inr (inl h)) = refusing h.2.0.taken (took_all l h.2.0.took) (inr (inr (inl (code_refused l end_fault.Memory 134 h same))))
       go (inr (inr h)) = let o = opening_refused l end_fault.Memory 134 h (not_begun l h) same in refusing [] (unread_took o) (inr (inl o))
 
 -- no last call answers so

@@ -26,7 +26,7 @@ use Rattle.bexpr.specs.Tokens.{Tokens, tokens_of, tokens_with, IsLoaded, IsSingl
 use Rattle.bword.specs.ByteEnds.{CanFollow}
 use Rattle.bexpr.proofs.TokenSteps.{Reads-append, LooksAt-append, CanFollow-append}
 use Rattle.blex.proofs.Passing.{Grew-after}
-use Rattle.bparse.specs.Steps.{Point, point, SourceComesTo, next_text, Writing, Stopping, Breaking, ReadFails, OutRefuses, NamesRefuse, PointGives, refused_step}
+use Rattle.bparse.specs.Steps.{Point, point, SourceComesTo, next_text, Writing, Stopping, Breaking, ReadFails, OutRefuses, NamesRefuse, PointGives, StandsAt, refused_step}
 use Rattle.bparse.specs.declared.step.Step.{Step}
 use Rattle.bparse.specs.declared.step.Step.TheVariants as step
 
@@ -103,7 +103,9 @@ module _ (old mid : Tokens) (names : Defined) (l : Looks old mid) where
   fault_stops new out d m loaded not_end d_is = record {
     taken = both new m;
     reads = both_read new m;
+    looked = both_looked new m;
     failures = failed_none new m;
+    stands = λ more c. inl (ap definition (come new m more c) ∙ m.come more c, loaded);
     written = Writes-none out;
     comes = λ more c. stopped more c;
   }
@@ -126,15 +128,15 @@ module _ (old mid : Tokens) (names : Defined) (l : Looks old mid) where
         (goes_end names here.at here.rest (here.token_is ∙ at_end))
 
     pub end_stops : Writes out end_text out' → Stopping (point old names out) None (point mid names out')
-    end_stops w = record { taken = l.moves.taken; reads = l.moves.reads; failures = l.moves.failures; written = w; comes = comes_end }
+    end_stops w = record { taken = l.moves.taken; reads = l.moves.reads; looked = l.moves.looked; failures = l.moves.failures; stands = λ more c. inr (inr (sym (l.moves.come more c), l.loaded)); written = w; comes = comes_end }
 
     end_refused : (e : EndFault) → Refuses out end_text e out' → OutRefuses (point old names out) e (point mid names out')
     end_refused e w = (
-      record {
+      (record {
         taken = l.moves.taken;
         reads = l.moves.reads;
         each = λ more c r g. subst (λ q. HasCode q × Refuses out (next_text q.code q.stop) e out') (goes_once (comes_end more c) g) ((λ none. refl), w);
-      },
+      }, l.moves.looked, λ more c. inr (inr (sym (l.moves.come more c), l.loaded))),
       l.moves.failures,
     )
 
@@ -173,11 +175,13 @@ module _ (old mid : Tokens) (names : Defined) (l : Looks old mid) where
       comes = λ more c r g. comes_first clean more c r (by_membership names' (names ++ name ∷ []) (tokens_of new more) r added.members g);
     }
 
-    pub fault_behind : (names' : Defined) (fault : Diagnostic) → fault_of names tree ≡ Some fault → Stopping (point old names out) (Some fault) (point new names' out)
-    fault_behind names' fault wrong = record {
+    pub fault_behind : (names' : Defined) (fault : Diagnostic) → fault_of names tree ≡ Some fault → IsSingle new → Stopping (point old names out) (Some fault) (point new names' out)
+    fault_behind names' fault wrong single = record {
       taken = both new m;
       reads = both_read new m;
+      looked = both_looked new m;
       failures = failed_none new m;
+      stands = λ more c. inr (inl (tree, ap definition (come new m more c) ∙ m.come more c, single));
       written = Writes-none out;
       comes = λ more c. subst (λ ts. CompilesTo names ts (record { code = []; stop = Some fault })) (sym (come new m more c))
           (goes_fault_read names (tokens_of mid (m.taken ++ more)) (tokens_of new more) tree fault (m.come more c) wrong (tokens_of-ended new more));
@@ -186,25 +190,28 @@ module _ (old mid : Tokens) (names : Defined) (l : Looks old mid) where
     some_text : fault_of names tree ≡ None → (more : List ℕ) → CanFollow new.source.end more → (r : Compilation) → CompilesTo names (tokens_of old (both new m ++ more)) r → r.code ≡ [] → ⊥
     some_text clean more c r g e = let f = first_text clean more c r g in let h : [] ≡ compiled_text tree ∷ f.0.code = sym e ∙ ap (λ q. q.code) f.1 in cc
 
-    pub no_memory : fault_of names tree ≡ None → (names' : Defined) → PointGives (point old names out) (Err step.Memory) (point new names' out)
-    no_memory clean names' = inr (record { taken = both new m; reads = both_read new m; each = some_text clean }, failed_none new m, refl)
+    got_whole : IsSingle new → (more : List ℕ) → CanFollow new.source.end more → StandsAt new (tokens_of old (both new m ++ more)) (tokens_of new more)
+    got_whole single more c = inr (inl (tree, ap definition (come new m more c) ∙ m.come more c, single))
 
-    text_refused : (e : EndFault) (names' : Defined) (out' : Outgoing) → fault_of names tree ≡ None → Refuses out (compiled_text tree) e out' → OutRefuses (point old names out) e (point new names' out')
-    text_refused e names' out' clean w = (
-      record {
+    pub no_memory : fault_of names tree ≡ None → IsSingle new → (names' : Defined) → PointGives (point old names out) (Err step.Memory) (point new names' out)
+    no_memory clean single names' = inr ((record { taken = both new m; reads = both_read new m; each = some_text clean }, both_looked new m, got_whole single), failed_none new m, refl)
+
+    text_refused : (e : EndFault) (names' : Defined) (out' : Outgoing) → fault_of names tree ≡ None → IsSingle new → Refuses out (compiled_text tree) e out' → OutRefuses (point old names out) e (point new names' out')
+    text_refused e names' out' clean single w = (
+      (record {
         taken = both new m;
         reads = both_read new m;
         each = λ more c r g.
             let f = first_text clean more c r g in
             ((λ none. absurd (some_text clean more c r g none)), subst (λ q. Refuses out (next_text q.code q.stop) e out') (sym f.1) w);
-      },
+      }, both_looked new m, got_whole single),
       failed_none new m,
     )
 
-    pub write_breaks : (names' : Defined) (out' : Outgoing) (e : EndFault) → fault_of names tree ≡ None → Refuses out (compiled_text tree) e out'
+    pub write_breaks : (names' : Defined) (out' : Outgoing) (e : EndFault) → fault_of names tree ≡ None → IsSingle new → Refuses out (compiled_text tree) e out'
         → PointGives (point old names out) (Err (refused_step e)) (point new names' out')
-    write_breaks names' out' fault.Device clean w = inr (text_refused fault.Device names' out' clean w)
-    write_breaks names' out' fault.Memory clean w = inl (text_refused fault.Memory names' out' clean w)
+    write_breaks names' out' fault.Device clean single w = inr (text_refused fault.Device names' out' clean single w)
+    write_breaks names' out' fault.Memory clean single w = inl (text_refused fault.Memory names' out' clean single w)
 
 -- the exits of a `?`
 pub gives_stop : (old new : Point) (r : Result (Unit {0}) Step) (e : Step) → IsErrAnd r (λ y. y ≡ e) → PointGives old (Err e) new → PointGives old r new

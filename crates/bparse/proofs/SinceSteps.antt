@@ -25,11 +25,11 @@ use Rattle.btree.proofs.GoesReads.{Taken, got_taken}
 use Rattle.btree.proofs.LawProofs.{definition_read}
 use Rattle.btree.proofs.ProgramLaws.{read_there}
 use Rattle.btree.proofs.StatementUnread.{lines_unread}
-use Rattle.bexpr.specs.Tokens.{tokens_of, IsReady, EndsWith, last_ahead}
+use Rattle.bexpr.specs.Tokens.{tokens_of, IsReady, EndsWith, LooksAt, last_ahead}
 use Rattle.bword.specs.ByteEnds.{CanFollow}
 use Rattle.bexpr.proofs.TokenSteps.{EndsWith-append}
-use Rattle.bparse.specs.Steps.{Point, point, name_of, Writing, Stopping, Breaking, ReadFails, OutRefuses, NamesRefuse, BeginRefuses, OpensAndGives, GivesNext, PointGives, refused_step, to_begin}
-use Rattle.bparse.specs.Compilers.{CompilerStart, Compiler, compiler_of, Spelled, GoesOnBehind, OpeningWritten, HasWrittenSince, MoreCanBeWritten, Wrote, StoppedBehind, BrokeOff, CompilerGives}
+use Rattle.bparse.specs.Steps.{Point, point, name_of, Writing, Stopping, Breaking, BreakingNear, ReadFails, OutRefuses, NamesRefuse, BeginRefuses, OpensAndGives, GivesNext, PointGives, refused_step, to_begin}
+use Rattle.bparse.specs.Compilers.{CompilerStart, Compiler, compiler_of, Spelled, GoesOnBehind, OpeningWritten, HasWrittenSince, MoreCanBeWritten, Wrote, StoppedBehind, BrokeOff, BrokeOffNear, TakenNear, CompilerGives}
 use Rattle.bparse.specs.Compilers as compilers
 use Rattle.bparse.specs.declared.step.Step.{Step}
 use Rattle.bparse.specs.declared.step.Step.TheVariants as step
@@ -139,10 +139,21 @@ module _ (first : CompilerStart) (a b : Point) (lender lender' : List ℕ) (out 
   from_here ys more took f r g =
       s.comes (ys ++ more) (follow took more f) r (subst (λ bs. CompilesTo [] (tokens_from first.edition 1 bs) r) (append_assoc s.taken ys more) g)
 
+  module _ (taken : List ℕ) (k : LooksAt a.tokens taken b.tokens) where
+    ends_at : (p : Placed) → EndsWith p.token k.bytes ⊎ ((k.bytes ≡ []) × (last_ahead a.tokens.ahead ≡ Some p)) → EndsWith p.token (s.passed ++ k.bytes)
+    ends_at p (inl h) = EndsWith-append s.passed h
+    ends_at p (inr h) = subst (EndsWith p.token) (sym (append-nil s.passed) ∙ ap (λ l. s.passed ++ l) (sym h.0)) (s.ends p h.1)
+
+    near_now : (is_closed : Bool) → length b.tokens.source.ahead ≤ 2 → TakenNear (s.taken ++ taken) (compiler_at first b lender' true is_closed)
+    near_now is_closed few = record {
+      passed = s.passed ++ k.bytes;
+      split = ap (λ l. l ++ taken) s.split ∙ append_assoc s.passed a.tokens.source.ahead taken ∙ ap (λ l. s.passed ++ l) k.split
+          ∙ sym (append_assoc s.passed k.bytes b.tokens.source.ahead);
+      near = few;
+      ends = λ p e. ends_at p (k.ends p e);
+    }
+
   module _ (w : Writing a b) where
-    ends_now : (p : Placed) → EndsWith p.token w.looked.bytes ⊎ ((w.looked.bytes ≡ []) × (last_ahead a.tokens.ahead ≡ Some p)) → EndsWith p.token (s.passed ++ w.looked.bytes)
-    ends_now p (inl h) = EndsWith-append s.passed h
-    ends_now p (inr h) = subst (EndsWith p.token) (sym (append-nil s.passed) ∙ ap (λ l. s.passed ++ l) (sym h.0)) (s.ends p h.1)
 
     spelled_now : (more : List ℕ) → CanFollow b.tokens.source.end more → Spelled (before ++ w.tree ∷ []) (tokens_from first.edition 1 ((s.taken ++ w.taken) ++ more)) (tokens_of b.tokens more)
     spelled_now more f =
@@ -177,11 +188,10 @@ module _ (first : CompilerStart) (a b : Point) (lender lender' : List ℕ) (out 
       formed = AllFormed-append before w.tree s.formed (definition_read (tokens_of a.tokens (w.taken ++ [])) (tokens_of b.tokens []) w.tree (w.read [] (λ over. refl))).1;
       spelled = spelled_now;
       comes = comes_now;
-      passed = s.passed ++ w.looked.bytes;
-      split = ap (λ l. l ++ w.taken) s.split ∙ append_assoc s.passed a.tokens.source.ahead w.taken ∙ ap (λ l. s.passed ++ l) w.looked.split
-          ∙ sym (append_assoc s.passed w.looked.bytes b.tokens.source.ahead);
+      passed = (near_now w.taken w.looked false w.reads.near).passed;
+      split = (near_now w.taken w.looked false w.reads.near).split;
       near = w.reads.near;
-      ends = λ p e. ends_now p (w.looked.ends p e);
+      ends = (near_now w.taken w.looked false w.reads.near).ends;
       is_open = refl;
     }
 
@@ -190,6 +200,12 @@ module _ (first : CompilerStart) (a b : Point) (lender lender' : List ℕ) (out 
 
     pub is_open_more : IsReady b.tokens → MoreCanBeWritten (compiler_at first b lender' true false)
     is_open_more ready = record { before = before ++ w.tree ∷ []; since = since_now; ready = ready }
+
+  spelled_before : (ys : List ℕ) → Took a.tokens.source.end ys b.tokens.source.end → (more : List ℕ) → CanFollow b.tokens.source.end more
+      → Spelled before (tokens_from first.edition 1 ((s.taken ++ ys) ++ more)) (tokens_of a.tokens (ys ++ more))
+  spelled_before ys took more f =
+      let q = s.spelled (ys ++ more) (follow took more f) in
+      record { passed = q.passed; split = ap (tokens_from first.edition 1) (append_assoc s.taken ys more) ∙ q.split; spelled = q.spelled }
 
   abbrev closed : Compiler
   closed = compiler_at first b lender' true true
@@ -200,6 +216,8 @@ module _ (first : CompilerStart) (a b : Point) (lender lender' : List ℕ) (out 
     since = old_since;
     taken = s.taken ++ h.taken;
     took = Took-append s.took h.reads.took;
+    near = near_now h.taken h.looked true h.reads.near;
+    stands = λ more f. (tokens_of a.tokens (h.taken ++ more), spelled_before h.taken h.reads.took more f, h.stands more f);
     failures = h.failures ∙ s.failures;
     written = subst (λ t. Writes first.out t b.out) (append_assoc (opening first.edition) (joined (map compiled_text before)) (ending stop)) (Writes-append s.written h.written);
     comes = λ more f r g.
@@ -219,6 +237,11 @@ module _ (first : CompilerStart) (a b : Point) (lender lender' : List ℕ) (out 
     closed = refl;
   }
 
+  broke_near : (P : Compilation → Type 0) → BreakingNear a P b → BrokeOffNear old P closed
+  unfolding broke s
+  broke_near P h = (broke P h.0, near_now h.0.taken h.1 true h.0.reads.near,
+      λ more f. (tokens_of a.tokens (h.0.taken ++ more), spelled_before h.0.taken h.0.reads.took more f, h.2 more f))
+
   same_out : b.out ≡ a.out → OpeningWritten old b.out
   same_out e = subst (OpeningWritten old) (sym e) opens
 
@@ -226,10 +249,10 @@ module _ (first : CompilerStart) (a b : Point) (lender lender' : List ℕ) (out 
   read_failed h = (broke _ h.0, grew_since _ _ _ s.failures h.1, same_out h.2)
 
   out_refused : (e : EndFault) → OutRefuses a e b → compilers.OutRefused old e closed
-  out_refused e h = (a.out, opens, broke _ h.0, h.1 ∙ s.failures)
+  out_refused e h = (a.out, opens, broke_near _ h.0, h.1 ∙ s.failures)
 
   names_refused : NamesRefuse a b → compilers.GrowthRefused old closed
-  names_refused h = (broke _ h.0, h.1 ∙ s.failures, same_out h.2)
+  names_refused h = (broke_near _ h.0, h.1 ∙ s.failures, same_out h.2)
 
   pub stops : (answer : Step) → PointGives a (Err answer) b → CompilerGives old answer closed
   stops step.Written h = absurd h

@@ -3,7 +3,7 @@ use Rattle.std.specs.Prelude.{◌≡◌, ◌≢◌, ℕ, ◌≤◌, ◌<◌, Boo
 use Rattle.std.specs.Prelude.{None, ◌⊎◌, if◌then◌else◌}
 use Rattle.btree.specs.Compiled.{AreNames}
 use Rattle.bexpr.specs.Tokens.{Tokens, all_tokens, tokens_of, EndsWith, IsReady, IsSingle, last_ahead, work}
-use Rattle.bparse.specs.Steps.{name_of, next_text, to_begin}
+use Rattle.bparse.specs.Steps.{name_of, next_text, to_begin, StandsAt}
 use Rattle.bparse.specs.declared.step.Step.{Step}
 use Rattle.bparse.specs.declared.step.Step.TheVariants as step
 use Rattle.bword.specs.declared.edition.Edition.{Edition}
@@ -118,12 +118,22 @@ pub record Wrote (old new : Compiler) : Type 0 where
   pub held : IsSingle new.tokens
   pub falls : work new.tokens < work old.tokens
 
+-- Of the bytes taken, all but two at most were passed, and these end with the last token that is held.
+pub record TakenNear (taken : List ℕ) (c : Compiler) : Type 0 where
+  pub passed : List ℕ
+  pub split : taken ≡ passed ++ c.tokens.source.ahead
+  pub near : length c.tokens.source.ahead ≤ 2
+  pub ends : (p : Placed) → last_ahead c.tokens.ahead ≡ Some p → EndsWith p.token passed
+
 -- The source comes to the definitions written before and then stops so. Its last line was written, if it has no fault.
 pub record StoppedBehind (old : Compiler) (stop : Option Diagnostic) (new : Compiler) : Type 0 where
   pub before : List Definition
   pub since : HasWrittenSince old before
   pub taken : List ℕ
   pub took : Took new.first.source taken new.tokens.source.end
+  pub near : TakenNear taken new
+  pub stands : (more : List ℕ) → CanFollow new.tokens.source.end more → (u : List Placed)
+      × Spelled before (tokens_from new.first.edition 1 (taken ++ more)) u × StandsAt new.tokens u (tokens_of new.tokens more)
   pub failures : new.tokens.source.end.failures ≡ new.first.source.failures
   pub written : Writes new.first.out (opening new.first.edition ++ (joined (map compiled_text before) ++ ending stop))
       new.out
@@ -140,6 +150,12 @@ pub record BrokeOff (old : Compiler) (P : Compilation → Type 0) (new : Compile
   pub comes : Whatever new.first.edition taken new.tokens.source.end
       (λ r. (rest : Compilation) × GoesOnBehind before rest r × P rest)
   pub closed : new.is_closed ≡ true
+
+-- The same, and no more was taken than up to the last token that is held, but for two bytes.
+abbrev pub BrokeOffNear : Compiler → (Compilation → Type 0) → Compiler → Type 0
+BrokeOffNear old P new = (b : BrokeOff old P new) × TakenNear b.taken new
+    × ((more : List ℕ) → CanFollow new.tokens.source.end more → (u : List Placed)
+    × Spelled b.before (tokens_from new.first.edition 1 (b.taken ++ more)) u × StandsAt new.tokens u (tokens_of new.tokens more))
 
 -- a read failed, and no definition was written
 abbrev pub ReadFailed : Compiler → Compiler → Type 0
@@ -160,13 +176,13 @@ pub record BeginRefused (old : Compiler) (fault : EndFault) (new : Compiler) : T
 abbrev pub OutRefused : Compiler → EndFault → Compiler → Type 0
 OutRefused old fault new =
     (out : Outgoing) × OpeningWritten old out
-    × BrokeOff old (λ rest. HasCode rest × Refuses out (next_text rest.code rest.stop) fault new.out) new
+    × BrokeOffNear old (λ rest. HasCode rest × Refuses out (next_text rest.code rest.stop) fault new.out) new
     × (new.tokens.source.end.failures ≡ new.first.source.failures)
 
 -- the list of names was refused its growth, before anything was written of the definition that comes
 abbrev pub GrowthRefused : Compiler → Compiler → Type 0
 GrowthRefused old new =
-    BrokeOff old (λ rest. rest.code ≡ [] → ⊥) new × (new.tokens.source.end.failures ≡ new.first.source.failures)
+    BrokeOffNear old (λ rest. rest.code ≡ [] → ⊥) new × (new.tokens.source.end.failures ≡ new.first.source.failures)
     × OpeningWritten old new.out
 
 -- what a call does

@@ -3,8 +3,9 @@ use Rattle.std.specs.Prelude.{◌≡◌, ◌≢◌, ℕ, ◌<◌, Bool, false, t
 use Rattle.std.specs.Prelude.{Err, ◌⊎◌}
 use Rattle.btree.specs.Compiled.{AreNames}
 use Rattle.btree.specs.DefinitionReader.{definition}
-use Rattle.btree.specs.Reading.{Got}
-use Rattle.bexpr.specs.Tokens.{Tokens, tokens_of, IsSingle, TakesAhead, LooksAt, work}
+use Rattle.btree.specs.Reading.{Got, Stop}
+use Rattle.blang.specs.declared.token.Placed.{Placed}
+use Rattle.bexpr.specs.Tokens.{Tokens, tokens_of, IsLoaded, IsSingle, TakesAhead, LooksAt, work}
 use Rattle.bparse.specs.declared.step.Step.{Step}
 use Rattle.bparse.specs.declared.step.Step.TheVariants as step
 use Rattle.bword.specs.declared.edition.Edition.{Edition}
@@ -62,11 +63,21 @@ pub record Writing (old new : Point) : Type 0 where
       → CompilesTo new.names (tokens_of new.tokens more) r
       → SourceComesTo old taken more (record { code = compiled_text tree ∷ r.code; stop = r.stop })
 
+-- A definition was read up to where none goes on with the current token; or a whole one, and the token behind it is the
+-- only one ahead; or none was.
+abbrev pub StandsAt : Tokens → List Placed → List Placed → Type 0
+StandsAt new u v =
+    ((definition u ≡ Stop v) × IsLoaded new) ⊎ ((d : Definition) × (definition u ≡ Got d v) × IsSingle new)
+    ⊎ ((v ≡ u) × IsLoaded new)
+
 -- Nothing more comes, and the text's last line was written, or nothing where there is a fault.
 pub record Stopping (old : Point) (stop : Option Diagnostic) (new : Point) : Type 0 where
   pub taken : List ℕ
   pub reads : TakesAhead old.tokens.source taken new.tokens.source
+  pub looked : LooksAt old.tokens taken new.tokens
   pub failures : new.tokens.source.end.failures ≡ old.tokens.source.end.failures
+  pub stands : (more : List ℕ) → CanFollow new.tokens.source.end more
+      → StandsAt new.tokens (tokens_of old.tokens (taken ++ more)) (tokens_of new.tokens more)
   pub written : Writes old.out (ending stop) new.out
   pub comes : (more : List ℕ) → CanFollow new.tokens.source.end more
       → SourceComesTo old taken more (record { code = []; stop = stop })
@@ -77,6 +88,12 @@ pub record Breaking (old : Point) (P : Compilation → Type 0) (new : Point) : T
   pub reads : TakesAhead old.tokens.source taken new.tokens.source
   pub each : EachComing old taken new P
 
+-- The same, and no more was taken than up to the token behind a definition, but for two bytes.
+abbrev pub BreakingNear : Point → (Compilation → Type 0) → Point → Type 0
+BreakingNear old P new = (b : Breaking old P new) × LooksAt old.tokens b.taken new.tokens
+    × ((more : List ℕ) → CanFollow new.tokens.source.end more
+    → StandsAt new.tokens (tokens_of old.tokens (b.taken ++ more)) (tokens_of new.tokens more))
+
 -- a read failed, and nothing was written
 abbrev pub ReadFails : Point → Point → Type 0
 ReadFails old new =
@@ -86,13 +103,13 @@ ReadFails old new =
 -- the output refused what is written next
 abbrev pub OutRefuses : Point → EndFault → Point → Type 0
 OutRefuses old fault new =
-    Breaking old (λ r. HasCode r × Refuses old.out (next_text r.code r.stop) fault new.out) new
+    BreakingNear old (λ r. HasCode r × Refuses old.out (next_text r.code r.stop) fault new.out) new
     × (new.tokens.source.end.failures ≡ old.tokens.source.end.failures)
 
 -- the list of names was refused memory before a definition was written
 abbrev pub NamesRefuse : Point → Point → Type 0
 NamesRefuse old new =
-    Breaking old (λ r. r.code ≡ [] → ⊥) new × (new.tokens.source.end.failures ≡ old.tokens.source.end.failures)
+    BreakingNear old (λ r. r.code ≡ [] → ⊥) new × (new.tokens.source.end.failures ≡ old.tokens.source.end.failures)
     × (new.out ≡ old.out)
 
 -- what a call does: it writes a definition, or stops

@@ -4,6 +4,7 @@ use Rattle.std.specs.Prelude.{All}
 use Rattle.std.specs.Io.KnownBytes.{Appends}
 use Rattle.std.specs.List.{flat_map}
 use Rattle.std.specs.Fmt.{digits}
+use Rattle.std.proofs.lemmas.List.{append_cancel_left}
 use Rattle.std.proofs.lemmas.List.Elements.{All-head, All-tail}
 use Rattle.bword.specs.declared.edition.Edition.{Edition}
 use Rattle.bword.specs.declared.ends.EndFault.{EndFault}
@@ -31,7 +32,7 @@ use Rattle.bmach.specs.Stepping.{BeginsNot, HasEnd}
 use Rattle.bmach.specs.Stops.{EndsAt, active_of}
 use Rattle.bmach.specs.declared.machine.Active.{Active}
 use Rattle.bmach.proofs.Resolving.{run-resolved}
-use Rattle.bparse.proofs.Remaining.{Rest, rest_of}
+use Rattle.bword.proofs.Remaining.{Rest, rest_after}
 use Rattle.brun.proofs.RunSteps.{outcome-resolved, run_loaded}
 use Rattle.btools.specs.Columns.{left, right}
 use Rattle.btools.specs.Programs as programs
@@ -49,10 +50,6 @@ use Rattle.btrace.proofs.ReadTexts.{all_above, above_append, at, behind_line, be
 
 some_same : {A : Type 0} (a b : A) → Some a ≡ Some b → a ≡ b
 some_same a b e = cc
-
-cancel : (xs ys zs : List ℕ) → xs ++ ys ≡ xs ++ zs → ys ≡ zs
-cancel [] ys zs e = e
-cancel (x ∷ xs) ys zs e = let tails : xs ++ ys ≡ xs ++ zs = cc in cancel xs ys zs tails
 
 no_nothing : (o : Option (List ℕ)) (text : List ℕ) → o ≡ Some [] → o ≡ Some text → (text ≡ [] → ⊥) → ⊥
 no_nothing o text e f some = some (some_same text [] (sym f ∙ e))
@@ -75,22 +72,22 @@ module _ (edition : Edition) (source : List ℕ) (ds : List Definition) (is : Is
   abbrev first : Unread
   first = record { left = source; is_over = false }
 
-  rest : (behind : Unread) (taken : List ℕ) → Took (incoming_of first) taken (incoming_of behind) → Rest (incoming_of first) (incoming_of behind) taken source
-  rest behind taken t = rest_of (incoming_of first) (incoming_of behind) taken source t (record { left = refl; follow = λ e. cc })
+  rest : (behind : Unread) (taken : List ℕ) → Took (incoming_of first) taken (incoming_of behind) → Rest (incoming_of behind) taken source
+  rest behind taken t = rest_after (incoming_of first) (incoming_of behind) taken source t refl (λ e. cc)
 
-  goes : (i j : Incoming) (taken : List ℕ) (r : Rest i j taken source) → CompilesTo [] (tokens_from edition 1 (taken ++ r.more)) is.compilation
-  goes i j taken r = subst (λ t. CompilesTo [] (tokens_from edition 1 t) is.compilation) (sym r.whole) is.goes
+  goes : (j : Incoming) (taken : List ℕ) (r : Rest j taken source) → CompilesTo [] (tokens_from edition 1 (taken ++ r.more)) is.compilation
+  goes j taken r = subst (λ t. CompilesTo [] (tokens_from edition 1 t) is.compilation) (sym r.whole) is.goes
 
   compiles : (line line_behind : Outgoing) (code : List ℕ) → WasCompiled edition source line line_behind code 0 → (code ≡ code_text edition is.compilation) × (line_behind ≡ line)
   compiles line line_behind code w =
       let r = rest w.behind w.compiles.taken w.compiles.took in
-      let c = w.compiles.compiled refl r.more r.follows is.compilation (goes _ _ w.compiles.taken r) in
+      let c = w.compiles.compiled refl r.more r.follows is.compilation (goes _ w.compiles.taken r) in
       (sym w.code_is ∙ c.code.appended, c.silent)
 
   not_faulty : (line line_behind : Outgoing) (code : List ℕ) (status : ℕ) → WasCompiled edition source line line_behind code status → status ≡ 1 → ⊥
   not_faulty line line_behind code status w one =
       let r = rest w.behind w.compiles.taken w.compiles.took in
-      let c = w.compiles.faulty one r.more r.follows is.compilation (goes _ _ w.compiles.taken r) in
+      let c = w.compiles.faulty one r.more r.follows is.compilation (goes _ w.compiles.taken r) in
       let none : Some c.fault ≡ None = sym c.stop ∙ is.clean in
       cc
 
@@ -219,7 +216,7 @@ at_limit ds steps from name which i j text status named comes t =
       input = s.taken ++ [];
       rows = s.rows;
       ending = s.ending;
-      text_is = cancel HEADING.now text (rows_text s.rows ++ s.ending) (s.text_is ∙ append_assoc HEADING.now (rows_text s.rows) s.ending);
+      text_is = append_cancel_left HEADING.now text (rows_text s.rows ++ s.ending) (s.text_is ∙ append_assoc HEADING.now (rows_text s.rows) s.ending);
       all = shown.all;
       each = shown.each;
       place = subst (λ m. IsWhere fs states m s.ending) ends.0 ends.1;
@@ -357,7 +354,7 @@ record Begins (head tail : List ℕ) (seventh : ℕ) (text : List ℕ) : Type 0 
 -- what stands behind the number of the line
 behind_line_number : (head tail start text : List ℕ) (seventh : ℕ) (b : Begins head tail seventh text) → text ≡ head ++ start → behind_number start ≡ skip_digits (tail ++ b.more)
 behind_line_number head tail start text seventh b e =
-    let rest = cancel head start (right 6 (decimal b.line) ++ (tail ++ b.more)) (sym e ∙ b.text_is) in
+    let rest = append_cancel_left head start (right 6 (decimal b.line) ++ (tail ++ b.more)) (sym e ∙ b.text_is) in
     ap behind_number rest ∙ number_skipped 6 b.line (tail ++ b.more)
 
 abbrev loaded : List Instr → (strings : ℕ) → Loaded
@@ -579,11 +576,11 @@ trapping_placed i j text t =
     let place = subst (λ n. IsWhere fs (machine trapping input) n s.ending) last ends.1.2 in
     let w = where_of fs (machine trapping input) 1 s.ending (call (loaded (instr.Constant 0 ∷ instr.Call 0 ∷ instr.Pop ∷ closing) 8) 8 1 (0 ∷ [])) [] refl refl place in
     let no_rows = no_row s.rows (shown.all ∙ unshown input s.made s.within) in
-    let is : text ≡ s.ending = cancel HEADING.now text s.ending (s.text_is ∙ append_assoc HEADING.now (rows_text s.rows) s.ending ∙ ap (λ r. HEADING.now ++ (r ++ s.ending)) no_rows) in
+    let is : text ≡ s.ending = append_cancel_left HEADING.now text s.ending (s.text_is ∙ append_assoc HEADING.now (rows_text s.rows) s.ending ∙ ap (λ r. HEADING.now ++ (r ++ s.ending)) no_rows) in
     ap (at 28) (is ∙ w.text_is ∙ ap (λ p. codes "at     " ++ (p ++ (right 4 (decimal w.line) ++ (words_text w.words w.has_more ++ (codes "\n" ++ flat_map (λ q. codes "called " ++ place_text fs q) w.callers))))) trapping_place)
 
 no_more : (before text : List ℕ) → before ≡ before ++ text → text ≡ []
-no_more before text e = sym (cancel before [] text (append-nil before ∙ e))
+no_more before text e = sym (append_cancel_left before [] text (append-nil before ∙ e))
 
 unwritten_text : (before text : List ℕ) (rows : List TraceRow) (ending : List ℕ) → before ≡ before ++ text → text ≡ (HEADING.now ++ rows_text rows) ++ ending → ⊥
 unwritten_text before text rows ending e is = let bad : [] ≡ (HEADING.now ++ rows_text rows) ++ ending = sym (no_more before text e) ∙ is in cc

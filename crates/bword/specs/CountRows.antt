@@ -4,16 +4,16 @@ use Rattle.std.proofs.Common.{◌⊎◌, inl, inr, ⊎_elim, refl, arith}
 use Rattle.bword.specs.ByteEnds.{most, Grew}
 
 by_one : Grew 0 1
-by_one = inl (omega arith)
+by_one = refl
 
 -- at its greatest number it stays
 at_the_greatest : Grew most most
-at_the_greatest = inr (refl, refl)
+at_the_greatest = refl
 
 -- below that, a count that stays has not grown
 the_same : (count : ℕ) → count < most → Grew count count → ⊥
-the_same count below grew = ⊎_elim (λ less. omega arith) (λ full. omega arith) grew
+the_same count below grew = omega arith
 
 -- nor has one that fell
-less : (old new : ℕ) → new < old → Grew old new → ⊥
-less old new below grew = ⊎_elim (λ more. omega arith) (λ full. omega arith) grew
+less : (old new : ℕ) → old ≤ most → new < old → Grew old new → ⊥
+less old new few below grew = omega arith

@@ -40,7 +40,7 @@ returns-in-Some-clause-gives g c =
     let t = c.in-Ok.ensures in
     let d = drafted (keys_of c.args.names.now) c.look.new.self c.definition.new.parser.tokens c.in-Ok.header c.definition.new.parser.draft t in
     fault_behind c.args.parser.now.tokens c.look.new.self (keys_of c.args.names.now) c.in_ok-look.ensures.ok c.definition.new.parser.tokens _ t.tree c.in-Ok.header.name t.heads.name t.moves (keys_of c.args.names.now) c.in-Some.fault
-    (fault_some (keys_of c.args.names.now) t.tree c.in-Ok.header c.definition.new.parser.draft d c.in-Some.fault c.fault-2.result c.fault-2.ensures c.in-Some.is)
+    (fault_some (keys_of c.args.names.now) t.tree c.in-Ok.header c.definition.new.parser.draft d c.in-Some.fault c.fault-2.result c.fault-2.ensures c.in-Some.is) t.single
 
 pub returns-in_err-insert-clause-gives : goal.returns-in_err-insert-clause-gives
 returns-in_err-insert-clause-gives g c =
@@ -48,7 +48,7 @@ returns-in_err-insert-clause-gives g c =
     let d = drafted (keys_of c.args.names.now) c.look.new.self c.definition.new.parser.tokens c.in-Ok.header c.definition.new.parser.draft t in
     let clean = fault_none (keys_of c.args.names.now) t.tree c.in-Ok.header c.definition.new.parser.draft d c.fault-2.result c.fault-2.ensures c.in_default.not-Some in
     gives_stop _ (point c.definition.new.parser.tokens (keys_of c.insert.new.self) (g.O.ByteOut.outgoing c.args.out.now)) c.from_residual-in_err-insert.result step.Memory c.from_residual-in_err-insert.ensures.1
-    (no_memory c.args.parser.now.tokens c.look.new.self (keys_of c.args.names.now) c.in_ok-look.ensures.ok c.definition.new.parser.tokens _ t.tree c.in-Ok.header.name t.heads.name t.moves clean (keys_of c.insert.new.self))
+    (no_memory c.args.parser.now.tokens c.look.new.self (keys_of c.args.names.now) c.in_ok-look.ensures.ok c.definition.new.parser.tokens _ t.tree c.in-Ok.header.name t.heads.name t.moves clean t.single (keys_of c.insert.new.self))
 
 pub returns-in_err-write_definition-clause-gives : goal.returns-in_err-write_definition-clause-gives
 returns-in_err-write_definition-clause-gives g c =
@@ -57,7 +57,7 @@ returns-in_err-write_definition-clause-gives g c =
     let clean = fault_none (keys_of c.args.names.now) t.tree c.in-Ok.header c.definition.new.parser.draft d c.fault-2.result c.fault-2.ensures c.in_default.not-Some in
     let same = viewed (keys_of c.args.names.now) t.tree c.in-Ok.header c.definition.new.parser.draft d _ c.resolve.new.self clean c.resolve.ensures c.view.ensures in
     gives_stop _ (point c.definition.new.parser.tokens (keys_of c.insert.new.self) (g.O.ByteOut.outgoing c.write_definition.new.out)) c.from_residual-in_err-write_definition.result (refused_step c.in_err-write_definition.field-0.0) c.from_residual-in_err-write_definition.ensures.1
-    (write_breaks c.args.parser.now.tokens c.look.new.self (keys_of c.args.names.now) c.in_ok-look.ensures.ok c.definition.new.parser.tokens _ t.tree c.in-Ok.header.name t.heads.name t.moves (keys_of c.insert.new.self) _ c.in_err-write_definition.field-0.0 clean
+    (write_breaks c.args.parser.now.tokens c.look.new.self (keys_of c.args.names.now) c.in_ok-look.ensures.ok c.definition.new.parser.tokens _ t.tree c.in-Ok.header.name t.heads.name t.moves (keys_of c.insert.new.self) _ c.in_err-write_definition.field-0.0 clean t.single
     (subst (λ x. Refuses (g.O.ByteOut.outgoing c.args.out.now) (definition_text x) c.in_err-write_definition.field-0.0 (g.O.ByteOut.outgoing c.write_definition.new.out)) same c.in_err-write_definition.ensures.gives))
 
 pub returns-clause-gives : goal.returns-clause-gives
