@@ -157,4 +157,4 @@ no_opening text line none = (refl, λ rest e. none rest (cc))
 
 -- no read of a text in memory fails
 pub no_break : (old new : TextAhead) → BytesFail (ahead_in old) (ahead_in new) → ⊥
-no_break old new h = ⊎_elim (λ less. omega arith) (λ most. absurd (let a = most.0 in omega arith)) h.counted
+no_break old new h = let counted = h.counted in omega (arith, counted)

@@ -136,8 +136,7 @@ module _ (ds : List Definition) (loads : Loads ds) (steps : ℕ) (ends : RunEnds
     runs_so outcome.Memory h f = absurd (healthy.not_refused f.1)
 
 no_zero : Grew 0 0 → ⊥
-no_zero (inl less) = omega arith
-no_zero (inr same) = omega (arith, same.0)
+no_zero grew = omega (arith, grew)
 
 -- what compiling does to the source, the kept code and the line
 abbrev compiling : (edition : Edition) (source source_behind : Incoming) (ends : RunEnds) (status : ℕ) (kept : Kept) → Run

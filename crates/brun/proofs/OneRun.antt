@@ -26,8 +26,7 @@ use Rattle.brun.specs.OneRun.{OneRunIsKnown, OneCompilationIsKnown, one_run_ends
 use Rattle.brun.proofs.Excluded.{writes_a, main_a, state}
 
 no_failure : Grew 0 0 → ⊥
-no_failure (inl less) = omega arith
-no_failure (inr same) = omega (arith, same.0)
+no_failure grew = omega (arith, grew)
 
 by_memory : {A : Type 0} (status : ℕ) → ((status ≡ 134 → ⊥) → A) → (status ≡ 134) ⊎ A
 by_memory {A = A} status f = by_cases (status == 134) refl

@@ -26,8 +26,7 @@ follows : (source : List ℕ) (behind : Unread) (taken : List ℕ) → Took (inc
 follows source behind taken t over = no_more taken behind.left (sym t.bytes ∙ (t.all refl over ∙ append-nil taken))
 
 pub not_grown : (a b : ℕ) → a ≡ 0 → b ≡ 0 → Grew a b → ⊥
-not_grown a b e f (inl h) = absurd (omega (arith, e, f, h))
-not_grown a b e f (inr h) = absurd (omega (arith, e, f, h.0))
+not_grown a b e f h = omega (arith, e, f, h)
 
 -- a line with a status was told, and the answer is that of a failed device
 pub device_grew : (text : List ℕ) (status : ℕ) (old new : Outgoing) → (status ≡ 133 → ⊥) → Reported text status old new 133 → Grew old.failures new.failures
