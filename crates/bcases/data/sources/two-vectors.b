@@ -1,0 +1,1 @@
+main() auto v 1, w 1; ;
