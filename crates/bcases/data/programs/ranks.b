@@ -1,4 +1,5 @@
 main() {
+    printn(7-6/2, 10); putchar('*n');
     printn(7-2*3, 10); putchar('*n');
     printn(7-5%3, 10); putchar('*n');
     printn(7+6/2, 10); putchar('*n');
