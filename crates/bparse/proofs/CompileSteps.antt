@@ -6,15 +6,15 @@ use Rattle.std.proofs.lemmas.List.{take-append-le}
 use Rattle.bword.specs.ByteEnds.{Incoming, Outgoing, Took, Grew, Writes, Refuses}
 use Rattle.bword.specs.declared.ends.EndFault.{EndFault}
 use Rattle.bword.specs.declared.ends.EndFault.TheVariants as end_fault
-use Rattle.blex.proofs.Passing.{Took-none}
+use Rattle.blex.proofs.Passing.{Took-none, Took-append}
 use Rattle.bword.proofs.Putting.{Writes-append, Refuses-behind, Refuses-short}
 use Rattle.blang.specs.Text.{joined, opening}
 use Rattle.blang.specs.declared.token.Diagnostic.{Diagnostic}
 use Rattle.blang.specs.Compiles.{Compilation, ending, code_text, line_of, compiled_text, Whatever, Run, HasWritten, SourceFailed, OpeningRefused, CodeRefused, LineRefused, NamesRefused, EndRefused, Compiles, status_of, HasCode}
 use Rattle.blang.specs.Trees.{Definition}
-use Rattle.bparse.specs.Compilers.{Compiler, SameCompiler, GoesOnBehind, OpeningWritten, HasWrittenSince, Wrote, StoppedBehind, BrokeOff, CompilerGives, opening_written, unopened}
+use Rattle.bparse.specs.Compilers.{Compiler, SameCompiler, GoesOnBehind, OpeningWritten, HasWrittenSince, Wrote, StoppedBehind, GivesBehind, CompilerGives, unopened}
 use Rattle.bparse.specs.Compilers as compilers
-use Rattle.bparse.specs.Compiles.{LastGives, CodeGives}
+use Rattle.bparse.specs.Compiles.{LastGives, CodeGives, run_of}
 use Rattle.bparse.specs.Steps.{next_text, to_begin}
 use Rattle.bparse.specs.declared.step.Step.{Step}
 use Rattle.bparse.specs.declared.step.Step.TheVariants as step
@@ -25,6 +25,10 @@ keeps_none c = record { first = refl; lender = refl; out_lender = refl }
 
 pub keeps_more : {a b c : Compiler} → SameCompiler a b → SameCompiler b c → SameCompiler a c
 keeps_more h k = record { first = k.first ∙ h.first; lender = k.lender ∙ h.lender; out_lender = k.out_lender ∙ h.out_lender }
+
+-- what a call wrote after the definitions that are known
+pub written_last : {old new : Compiler} (h : CompilerGives old step.Written new) → Wrote h.0.before old new
+written_last h = h.1 h.0.before h.0.since
 
 -- the text of an outcome that begins with these texts
 code_behind : (ds : List Definition) (rest r : Compilation) → GoesOnBehind ds rest r
@@ -89,142 +93,114 @@ unbegun_out c ds s z =
 
 module _ (first last : Compiler) (d e : Outgoing) where
   abbrev run : ℕ → Run
-  run status = record { edition = first.first.edition; source = first.first.source; source_behind = last.tokens.source.end; code = first.first.out; code_behind = last.out; line = d; line_behind = e; status = status }
+  run status = run_of first.first.edition first.first.source last.tokens.source.end first.first.out last.out d e status
 
-  module _ {answer : Step} (l : LastGives first answer last) where
-    same_first : last.first ≡ first.first
-    same_first = l.keeps.first ∙ l.keeps_old.first
+  module _ {answer : Step} (l : LastGives first answer last) (before : List Definition) (since : HasWrittenSince l.old before) where
+    took_all : {taken : List ℕ} → Took l.old.tokens.source.end taken last.tokens.source.end → Took first.first.source (since.taken ++ taken) last.tokens.source.end
+    took_all {taken} h = subst (λ x. Took x.source (since.taken ++ taken) last.tokens.source.end) l.keeps_old.first (Took-append since.took h)
 
-    took_all : {taken : List ℕ} → Took last.first.source taken last.tokens.source.end → Took first.first.source taken last.tokens.source.end
-    took_all {taken} h = subst (λ x. Took x.source taken last.tokens.source.end) same_first h
-
-    read_all : last.tokens.source.end.failures ≡ last.first.source.failures → last.tokens.source.end.failures ≡ first.first.source.failures
-    read_all h = h ∙ ap (λ x. x.source.failures) same_first
+    read_all : last.tokens.source.end.failures ≡ l.old.first.source.failures → last.tokens.source.end.failures ≡ first.first.source.failures
+    read_all h = h ∙ ap (λ x. x.source.failures) l.keeps_old.first
 
     -- what is written when the last call has written what the text begins with
-    written_before : {before : List Definition} {out : Outgoing} → HasWrittenSince l.old before → OpeningWritten l.old out
-        → Writes first.first.out (opening first.first.edition ++ joined (map compiled_text before)) out
-    written_before {before} {out} s o =
+    written_before : {out : Outgoing} → OpeningWritten l.old out → Writes first.first.out (opening first.first.edition ++ joined (map compiled_text before)) out
+    written_before {out} o =
         subst (λ x. Writes x.out (opening x.edition ++ joined (map compiled_text before)) out) l.keeps_old.first
-        (written_begun l.old.first l.old.is_begun before l.old.out out (λ e. (s.unbegun e).0) s.written o.written o.nothing)
+        (written_begun l.old.first l.old.is_begun before l.old.out out (λ e. (since.unbegun e).0) since.written o.written o.nothing)
 
-    written_whole : {stop : Option Diagnostic} (s : StoppedBehind l.old stop last) (r : Compilation) → (r.code ≡ map compiled_text s.before) × (r.stop ≡ stop)
+    written_whole : {stop : Option Diagnostic} (s : StoppedBehind since stop last) (r : Compilation) → (r.code ≡ map compiled_text before) × (r.stop ≡ stop)
         → Writes first.first.out (code_text first.first.edition r) last.out
     written_whole {stop} s r q =
         subst (λ t. Writes first.first.out (opening first.first.edition ++ t) last.out) (ap (λ x. joined x ++ ending stop) (sym q.0) ∙ ap (λ x. joined r.code ++ ending x) (sym q.1))
-        (subst (λ x. Writes x.out (opening x.edition ++ (joined (map compiled_text s.before) ++ ending stop)) last.out) same_first s.written)
+        (subst (λ x. Writes x.out (opening x.edition ++ (joined (map compiled_text before) ++ ending stop)) last.out) l.keeps_old.first s.written)
 
-    texts_written : {before : List Definition} (status : ℕ) → HasWrittenSince l.old before → OpeningWritten l.old last.out → (rest r : Compilation) → GoesOnBehind before rest r
-        → HasWritten (run status) (length (map compiled_text before)) r
-    texts_written {before} status s o rest r h =
-        subst (λ x. Writes first.first.out (opening first.first.edition ++ joined x) last.out) (sym (take_first (map compiled_text before) rest.code r.code h.code)) (written_before s o)
+    texts_written : (status : ℕ) → OpeningWritten l.old last.out → (rest r : Compilation) → GoesOnBehind before rest r → HasWritten (run status) (length (map compiled_text before)) r
+    texts_written status o rest r h =
+        subst (λ x. Writes first.first.out (opening first.first.edition ++ joined x) last.out) (sym (take_first (map compiled_text before) rest.code r.code h.code)) (written_before o)
 
     -- what every source comes to that the last call can have seen
-    whatever : (taken : List ℕ) (P : Compilation → Type 0) → Whatever last.first.edition taken last.tokens.source.end P
+    whatever : (taken : List ℕ) (P : Compilation → Type 0) → Whatever l.old.first.edition taken last.tokens.source.end P
         → Whatever first.first.edition taken last.tokens.source.end P
-    whatever taken P h = subst (λ x. Whatever x.edition taken last.tokens.source.end P) same_first h
+    whatever taken P h = subst (λ x. Whatever x.edition taken last.tokens.source.end P) l.keeps_old.first h
 
-    code_refused : (fault : EndFault) (status : ℕ) (h : compilers.OutRefused l.old fault last) → e ≡ d → CodeRefused (run status) h.2.0.taken fault
+    code_refused : (fault : EndFault) (status : ℕ) (h : compilers.OutRefused since fault last) → e ≡ d → CodeRefused (run status) (since.taken ++ h.2.0.taken) fault
     code_refused fault status h same = record {
       read = read_all h.3;
       opened = split_out first.first.out (opening first.first.edition);
       begun = split_first first.first.out (opening first.first.edition);
       code = λ more f r g.
           let q = whatever _ _ h.2.0.comes more f r g in (
-            (λ none. q.1.stop ∙ q.2.0 (nil_behind (map compiled_text h.2.0.before) q.0.code (sym q.1.code ∙ none))),
-            subst (λ t. Refuses (split_out first.first.out (opening first.first.edition)) t fault last.out) (sym (code_behind h.2.0.before q.0 r q.1))
-                (Refuses-behind (split_rest (opening first.first.edition) (written_before h.2.0.since h.1)) (refused_all q.0.code q.0.stop q.2.1)),
+            (λ none. q.1.stop ∙ q.2.0 (nil_behind (map compiled_text before) q.0.code (sym q.1.code ∙ none))),
+            subst (λ t. Refuses (split_out first.first.out (opening first.first.edition)) t fault last.out) (sym (code_behind before q.0 r q.1))
+                (Refuses-behind (split_rest (opening first.first.edition) (written_before h.1)) (refused_all q.0.code q.0.stop q.2.1)),
           );
       silent = same;
     }
 
-    opening_refused : (fault : EndFault) (status : ℕ) (h : compilers.BeginRefused l.old fault last) → l.old.is_begun ≡ false → e ≡ d → OpeningRefused (run status) [] fault
-    opening_refused fault status h z same = record {
-      unread = (refl, ap (λ x. x.source.end) h.unread ∙ (h.since.unbegun z).1 ∙ ap (λ x. x.source) l.keeps_old.first);
+    opening_refused : (fault : EndFault) (status : ℕ) (h : compilers.BeginRefused l.old fault last) → e ≡ d → OpeningRefused (run status) [] fault
+    opening_refused fault status h same = record {
+      unread = (refl, ap (λ x. x.source.end) h.unread ∙ (since.unbegun not_begun).1 ∙ ap (λ x. x.source) l.keeps_old.first);
       some = λ none. h.some (to_open ∙ none);
       code = subst (λ x. Refuses x.out (opening x.edition) fault last.out) l.keeps_old.first
-          (Refuses-behind (unbegun_out l.old h.before h.since z) (subst (λ t. Refuses l.old.out t fault last.out) (unopened_all l.old z) h.refused));
+          (Refuses-behind (unbegun_out l.old before since not_begun) (subst (λ t. Refuses l.old.out t fault last.out) (unopened_all l.old not_begun) h.refused));
       silent = same;
     }
       where
+        -- a text that doesn't begin hadn't begun
+        not_begun : l.old.is_begun ≡ false
+        not_begun = bool_false l.old.is_begun (λ z. h.some (unopened_none l.old z))
+
         to_open : unopened l.old ≡ opening first.first.edition
-        to_open = unopened_all l.old z ∙ ap (λ x. opening x.edition) l.keeps_old.first
+        to_open = unopened_all l.old not_begun ∙ ap (λ x. opening x.edition) l.keeps_old.first
 
-    -- a text that doesn't begin hadn't begun
-    not_begun : {fault : EndFault} → compilers.BeginRefused l.old fault last → l.old.is_begun ≡ false
-    not_begun h = bool_false l.old.is_begun (λ z. h.some (unopened_none l.old z))
-
-    source_failed : (status : ℕ) (h : compilers.ReadFailed l.old last) → e ≡ d → SourceFailed (run status) h.0.taken
+    source_failed : (status : ℕ) (h : compilers.ReadFailed since last) → e ≡ d → SourceFailed (run status) (since.taken ++ h.0.taken)
     source_failed status h same = record {
-      counted = subst (λ x. Grew x.source.failures last.tokens.source.end.failures) same_first h.1;
-      count = length (map compiled_text h.0.before);
+      counted = subst (λ x. Grew x.source.failures last.tokens.source.end.failures) l.keeps_old.first h.1;
+      count = length (map compiled_text before);
       code = λ more f r g.
           let q = whatever _ _ h.0.comes more f r g in
-          (omega (arith, ap length q.1.code, length-append (map compiled_text h.0.before) q.0.code), texts_written status h.0.since h.2 q.0 r q.1);
+          (omega (arith, ap length q.1.code, length-append (map compiled_text before) q.0.code), texts_written status h.2 q.0 r q.1);
       silent = same;
     }
 
-    names_refused : (status : ℕ) (h : compilers.GrowthRefused l.old last) → e ≡ d → NamesRefused (run status) h.0.0.taken
+    names_refused : (status : ℕ) (h : compilers.GrowthRefused since last) → e ≡ d → NamesRefused (run status) (since.taken ++ h.0.0.taken)
     names_refused status h same = record {
       read = read_all h.1;
-      count = length (map compiled_text h.0.0.before);
+      count = length (map compiled_text before);
       code = λ more f r g.
           let q = whatever _ _ h.0.0.comes more f r g in
-          (omega (arith, ap length q.1.code, length-append (map compiled_text h.0.0.before) q.0.code, some_length q.0.code q.2), texts_written status h.0.0.since h.2 q.0 r q.1);
+          (omega (arith, ap length q.1.code, length-append (map compiled_text before) q.0.code, some_length q.0.code q.2), texts_written status h.2 q.0 r q.1);
       silent = same;
     }
 
-  pub done : LastGives first step.Finished last → e ≡ d → Compiles (run 0)
-  done l same =
-      let s = l.gives in
-      record {
-        taken = s.taken;
-        took = took_all l s.took;
-        compiled = λ z more f r g. let q = whatever l _ _ s.comes more f r g in record { read = read_all l s.failures; clean = q.1; code = written_whole l s r q; silent = same };
-        faulty = λ z. absurd (omega arith);
-        failed = λ z. absurd (omega arith);
-        refused = λ z. absurd (omega arith);
-        no_other = inl refl;
-      }
+    done_behind : StoppedBehind since None last → e ≡ d → Compiles (run 0)
+    done_behind s same = record {
+      taken = since.taken ++ s.taken;
+      took = took_all s.took;
+      compiled = λ z more f r g. let q = whatever _ _ s.comes more f r g in record { read = read_all s.failures; clean = q.1; code = written_whole s r q; silent = same };
+      faulty = λ z. absurd (omega arith);
+      failed = λ z. absurd (omega arith);
+      refused = λ z. absurd (omega arith);
+      no_other = inl refl;
+    }
 
-  pub faulty : (fault : Diagnostic) → LastGives first (step.Fault fault) last → Writes d (line_of fault) e → Compiles (run 1)
-  faulty fault l line =
-      let s = l.gives in
-      record {
-        taken = s.taken;
-        took = took_all l s.took;
+    module _ (fault : Diagnostic) (s : StoppedBehind since (Some fault) last) where
+      faulty_behind : Writes d (line_of fault) e → Compiles (run 1)
+      faulty_behind line = record {
+        taken = since.taken ++ s.taken;
+        took = took_all s.took;
         compiled = λ z. absurd (omega arith);
-        faulty = λ z more f r g. let q = whatever l _ _ s.comes more f r g in record { read = read_all l s.failures; fault = fault; stop = q.1; code = written_whole l s r q; line = line };
+        faulty = λ z more f r g. let q = whatever _ _ s.comes more f r g in record { read = read_all s.failures; fault = fault; stop = q.1; code = written_whole s r q; line = line };
         failed = λ z. absurd (omega arith);
         refused = λ z. absurd (omega arith);
         no_other = inr (inl refl);
       }
 
-  line_refused : (fault : Diagnostic) (end : EndFault) (status : ℕ) → (l : LastGives first (step.Fault fault) last) → Refuses d (line_of fault) end e → (s : StoppedBehind l.old (Some fault) last) → LineRefused (run status) s.taken end
-  line_refused fault end status l w s = record {
-    read = read_all l s.failures;
-    written = λ more f r g. let q = whatever l _ _ s.comes more f r g in record { diagnostic = fault; stop = q.1; code = written_whole l s r q; line = w };
-  }
-
-  pub cut_off : (fault : Diagnostic) (end : EndFault) → LastGives first (step.Fault fault) last → Refuses d (line_of fault) end e → Compiles (run (status_of end))
-  cut_off fault end_fault.Device l w = record {
-    taken = l.gives.taken;
-    took = took_all l l.gives.took;
-    compiled = λ z. absurd (omega arith);
-    faulty = λ z. absurd (omega arith);
-    failed = λ z. inr (inr (inr (line_refused fault end_fault.Device 133 l w l.gives)));
-    refused = λ z. absurd (omega arith);
-    no_other = inr (inr (inl refl));
-  }
-  cut_off fault end_fault.Memory l w = record {
-    taken = l.gives.taken;
-    took = took_all l l.gives.took;
-    compiled = λ z. absurd (omega arith);
-    faulty = λ z. absurd (omega arith);
-    failed = λ z. absurd (omega arith);
-    refused = λ z. inr (inr (inr (line_refused fault end_fault.Memory 134 l w l.gives)));
-    no_other = inr (inr (inr refl));
-  }
+      line_refused : (end : EndFault) (status : ℕ) → Refuses d (line_of fault) end e → LineRefused (run status) (since.taken ++ s.taken) end
+      line_refused end status w = record {
+        read = read_all s.failures;
+        written = λ more f r g. let q = whatever _ _ s.comes more f r g in record { diagnostic = fault; stop = q.1; code = written_whole s r q; line = w };
+      }
 
   failing : (taken : List ℕ) → Took first.first.source taken last.tokens.source.end
       → SourceFailed (run 133) taken ⊎ EndRefused (run 133) taken end_fault.Device → Compiles (run 133)
@@ -250,24 +226,40 @@ module _ (first last : Compiler) (d e : Outgoing) where
     no_other = inr (inr (inr refl));
   }
 
+  pub done : LastGives first step.Finished last → e ≡ d → Compiles (run 0)
+  done l same = let o = l.gives.0 in done_behind l o.before o.since (l.gives.1 o.before o.since) same
+
+  pub faulty : (fault : Diagnostic) → LastGives first (step.Fault fault) last → Writes d (line_of fault) e → Compiles (run 1)
+  faulty fault l line = let o = l.gives.0 in faulty_behind l o.before o.since fault (l.gives.1 o.before o.since) line
+
+  pub cut_off : (fault : Diagnostic) (end : EndFault) → LastGives first (step.Fault fault) last → Refuses d (line_of fault) end e → Compiles (run (status_of end))
+  cut_off fault end_fault.Device l w =
+      let o = l.gives.0 in
+      let s = l.gives.1 o.before o.since in
+      failing (o.since.taken ++ s.taken) (took_all l o.before o.since s.took) (inr (inr (inr (line_refused l o.before o.since fault s end_fault.Device 133 w))))
+  cut_off fault end_fault.Memory l w =
+      let o = l.gives.0 in
+      let s = l.gives.1 o.before o.since in
+      refusing (o.since.taken ++ s.taken) (took_all l o.before o.since s.took) (inr (inr (inr (line_refused l o.before o.since fault s end_fault.Memory 134 w))))
+
   unread_took : {status : ℕ} {fault : EndFault} → OpeningRefused (run status) [] fault → Took first.first.source [] last.tokens.source.end
   unread_took o = subst (Took first.first.source []) (sym o.unread.1) (Took-none first.first.source)
 
   pub device : LastGives first step.Device last → e ≡ d → Compiles (run 133)
-  device l same = go l.gives
+  device l same = let o = l.gives.0 in go o.before o.since (l.gives.1 o.before o.since)
     where
-      go : CompilerGives l.old step.Device last → Compiles (run 133)
-      go (inl h) = failing h.0.taken (took_all l h.0.took) (inl (source_failed l 133 h same))
-      go (inr (inl h)) = failing h.2.0.taken (took_all l h.2.0.took) (inr (inr (inl (code_refused l end_fault.Device 133 h same))))
-      go (inr (inr h)) = let o = opening_refused l end_fault.Device 133 h (not_begun l h) same in failing [] (unread_took o) (inr (inl o))
+      go : (before : List Definition) (since : HasWrittenSince l.old before) → GivesBehind since step.Device last → Compiles (run 133)
+      go before since (inl h) = failing (since.taken ++ h.0.taken) (took_all l before since h.0.took) (inl (source_failed l before since 133 h same))
+      go before since (inr (inl h)) = failing (since.taken ++ h.2.0.taken) (took_all l before since h.2.0.took) (inr (inr (inl (code_refused l before since end_fault.Device 133 h same))))
+      go before since (inr (inr h)) = let r = opening_refused l before since end_fault.Device 133 h same in failing [] (unread_took r) (inr (inl r))
 
   pub memory : LastGives first step.Memory last → e ≡ d → Compiles (run 134)
-  memory l same = go l.gives
+  memory l same = let o = l.gives.0 in go o.before o.since (l.gives.1 o.before o.since)
     where
-      go : CompilerGives l.old step.Memory last → Compiles (run 134)
-      go (inl h) = refusing h.0.0.taken (took_all l h.0.0.took) (inl (names_refused l 134 h same))
-      go (inr (inl h)) = refusing h.2.0.taken (took_all l h.2.0.took) (inr (inr (inl (code_refused l end_fault.Memory 134 h same))))
-      go (inr (inr h)) = let o = opening_refused l end_fault.Memory 134 h (not_begun l h) same in refusing [] (unread_took o) (inr (inl o))
+      go : (before : List Definition) (since : HasWrittenSince l.old before) → GivesBehind since step.Memory last → Compiles (run 134)
+      go before since (inl h) = refusing (since.taken ++ h.0.0.taken) (took_all l before since h.0.0.took) (inl (names_refused l before since 134 h same))
+      go before since (inr (inl h)) = refusing (since.taken ++ h.2.0.taken) (took_all l before since h.2.0.took) (inr (inr (inl (code_refused l before since end_fault.Memory 134 h same))))
+      go before since (inr (inr h)) = let r = opening_refused l before since end_fault.Memory 134 h same in refusing [] (unread_took r) (inr (inl r))
 
 -- no last call answers so
 pub last_not_closed : {first last : Compiler} → LastGives first step.Closed last → ⊥
@@ -279,7 +271,7 @@ last_not_written l = l.not_written refl
 -- between these ends
 pub compiles_between : {answer : Step} {status : ℕ} {edition : Edition} {i j : Incoming} {o p : Outgoing} (d e : Outgoing) (h : CodeGives edition i o answer j p)
     → ((first last : Compiler) → LastGives first answer last → Compiles (run first last d e status))
-    → Compiles (record { edition = edition; source = i; source_behind = j; code = o; code_behind = p; line = d; line_behind = e; status = status })
+    → Compiles (run_of edition i j o p d e status)
 compiles_between d e h f = rw (sym h.edition_is, sym h.source, sym h.source_behind, sym h.code, sym h.code_behind) (f h.first h.last h.gives)
 
 pub answers : {edition : Edition} {i j : Incoming} {o p : Outgoing} {a b : Step} → a ≡ b → CodeGives edition i o a j p → CodeGives edition i o b j p

@@ -128,15 +128,19 @@ module _ (old mid : Tokens) (names : Defined) (l : Looks old mid) where
         (goes_end names here.at here.rest (here.token_is ∙ at_end))
 
     pub end_stops : Writes out end_text out' → Stopping (point old names out) None (point mid names out')
-    end_stops w = record { taken = l.moves.taken; reads = l.moves.reads; looked = l.moves.looked; failures = l.moves.failures; stands = λ more c. inr (inr (sym (l.moves.come more c), l.loaded)); written = w; comes = comes_end }
+    end_stops w = record { taken = l.moves.taken; reads = l.moves.reads; looked = l.moves.looked; failures = l.moves.failures; stands = λ more c. inr (inr (sym (l.moves.come more c), at_end, l.loaded)); written = w; comes = comes_end }
 
     end_refused : (e : EndFault) → Refuses out end_text e out' → OutRefuses (point old names out) e (point mid names out')
     end_refused e w = (
-      (record {
-        taken = l.moves.taken;
-        reads = l.moves.reads;
-        each = λ more c r g. subst (λ q. HasCode q × Refuses out (next_text q.code q.stop) e out') (goes_once (comes_end more c) g) ((λ none. refl), w);
-      }, l.moves.looked, λ more c. inr (inr (sym (l.moves.come more c), l.loaded))),
+      (
+        record {
+          taken = l.moves.taken;
+          reads = l.moves.reads;
+          each = λ more c r g. subst (λ q. HasCode q × Refuses out (next_text q.code q.stop) e out') (goes_once (comes_end more c) g) ((λ none. refl), w);
+        },
+        l.moves.looked,
+        λ more c. inr (inr (sym (l.moves.come more c), at_end, l.loaded)),
+      ),
       l.moves.failures,
     )
 
@@ -198,13 +202,17 @@ module _ (old mid : Tokens) (names : Defined) (l : Looks old mid) where
 
     text_refused : (e : EndFault) (names' : Defined) (out' : Outgoing) → fault_of names tree ≡ None → IsSingle new → Refuses out (compiled_text tree) e out' → OutRefuses (point old names out) e (point new names' out')
     text_refused e names' out' clean single w = (
-      (record {
-        taken = both new m;
-        reads = both_read new m;
-        each = λ more c r g.
-            let f = first_text clean more c r g in
-            ((λ none. absurd (some_text clean more c r g none)), subst (λ q. Refuses out (next_text q.code q.stop) e out') (sym f.1) w);
-      }, both_looked new m, got_whole single),
+      (
+        record {
+          taken = both new m;
+          reads = both_read new m;
+          each = λ more c r g.
+              let f = first_text clean more c r g in
+              ((λ none. absurd (some_text clean more c r g none)), subst (λ q. Refuses out (next_text q.code q.stop) e out') (sym f.1) w);
+        },
+        both_looked new m,
+        got_whole single,
+      ),
       failed_none new m,
     )
 

@@ -11,6 +11,7 @@ use Rattle.btree.specs.SourceRows.{Comes}
 use Rattle.btree.proofs.SourceRows.{worked_rows, function_rows, outcome_at, outcome_sound}
 use Rattle.btree.proofs.GoesLaws.{tokens_from-ended}
 use Rattle.bparse.specs.Excluded.{Observed, NoneFailed, NoneRefused, Excluded}
+use Rattle.bparse.proofs.ReadingLaws.{held_at_fault}
 use Rattle.bparse.proofs.Remaining.{rest_of, all_written}
 
 rest_nil : (xs ys : List ℕ) → xs ++ ys ≡ [] → ys ≡ []
@@ -174,4 +175,5 @@ excluded = record {
   failure_invented = λ run o w h. some_failed run o h worked_rows.number.outcome worked_rows.number.goes refl w;
   failure_behind_line = λ run o w h. elim (failed run o h worked_rows.twice.outcome worked_rows.twice.goes refl) [ inl e ↦ differs e (λ n. absurd (omega (arith, n))) | inr g ↦ w g ];
   refusal_invented = λ run o w h. some_refused run o h (record { code = []; stop = None }) no_code refl refl w;
+  read_on = λ old new fault something h two. two (held_at_fault old new fault something h);
 }

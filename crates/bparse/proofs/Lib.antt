@@ -4,6 +4,7 @@ pub mod CompileSteps
 pub mod CompileHeadlines
 pub mod Excluded
 pub mod MadeSteps
+pub mod ReadingLaws
 pub mod Remaining
 pub mod SinceSteps
 pub mod NamesSteps

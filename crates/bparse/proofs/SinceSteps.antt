@@ -28,8 +28,8 @@ use Rattle.btree.proofs.StatementUnread.{lines_unread}
 use Rattle.bexpr.specs.Tokens.{tokens_of, IsReady, EndsWith, LooksAt, last_ahead}
 use Rattle.bword.specs.ByteEnds.{CanFollow}
 use Rattle.bexpr.proofs.TokenSteps.{EndsWith-append}
-use Rattle.bparse.specs.Steps.{Point, point, name_of, Writing, Stopping, Breaking, BreakingNear, ReadFails, OutRefuses, NamesRefuse, BeginRefuses, OpensAndGives, GivesNext, PointGives, refused_step, to_begin}
-use Rattle.bparse.specs.Compilers.{CompilerStart, Compiler, compiler_of, Spelled, GoesOnBehind, OpeningWritten, HasWrittenSince, MoreCanBeWritten, Wrote, StoppedBehind, BrokeOff, BrokeOffNear, TakenNear, CompilerGives}
+use Rattle.bparse.specs.Steps.{Point, point, name_of, Writing, Stopping, Breaking, BreakingNear, ReadFails, OutRefuses, NamesRefuse, OpensAndGives, GivesNext, PointGives, refused_step, to_begin}
+use Rattle.bparse.specs.Compilers.{CompilerStart, Compiler, compiler_of, Spelled, GoesOnBehind, OpeningWritten, HasWrittenSince, MoreCanBeWritten, Wrote, StoppedBehind, BrokeOff, BrokeOffNear, TakenNear, GivesBehind, CompilerGives}
 use Rattle.bparse.specs.Compilers as compilers
 use Rattle.bparse.specs.declared.step.Step.{Step}
 use Rattle.bparse.specs.declared.step.Step.TheVariants as step
@@ -62,10 +62,7 @@ since_new start = record {
   formed = tt;
   spelled = λ more f. record { passed = []; split = refl; spelled = refl };
   comes = λ more f r g. (r, g, record { code = refl; stop = refl });
-  passed = [];
-  split = refl;
-  near = omega arith;
-  ends = λ p e. cc;
+  near = record { passed = []; split = refl; few = omega arith; ends = λ p e. cc };
   is_open = refl;
 }
 
@@ -76,7 +73,7 @@ nil_both : (xs ys : List ℕ) → xs ≡ [] → ys ≡ [] → xs ++ ys ≡ []
 nil_both xs ys h k = rw (h, k) refl
 
 -- what could follow behind could follow before
-follow : {a b : Incoming} {ys : List ℕ} → Took a ys b → (more : List ℕ) → CanFollow b more → CanFollow a (ys ++ more)
+pub follow : {a b : Incoming} {ys : List ℕ} → Took a ys b → (more : List ℕ) → CanFollow b more → CanFollow a (ys ++ more)
 follow {a} {b} {ys} t more f = λ over. let o = t.over over in nil_both ys more o.0 (f o.1)
 
 grew_since : (a b c : ℕ) → b ≡ a → Grew b c → Grew a c
@@ -111,64 +108,48 @@ behind_more ds d rest later r h e = record {
 
 -- a call of a compiler with this output, which writes what the text begins with, and is then at a point
 module _ (first : CompilerStart) (a b : Point) (lender lender' : List ℕ) (out : Outgoing) (begun : Bool) (before : List Definition)
-    (old_since : HasWrittenSince (compiler_of first a.tokens a.names out lender begun false) before) (opens : OpeningWritten (compiler_of first a.tokens a.names out lender begun false) a.out) where
+    (since : HasWrittenSince (compiler_of first a.tokens a.names out lender begun false) before) (opens : OpeningWritten (compiler_of first a.tokens a.names out lender begun false) a.out) where
   abbrev old : Compiler
   old = compiler_of first a.tokens a.names out lender begun false
 
-  s : HasWrittenSince (compiler_at first a lender true false) before
-  s = record {
-    taken = old_since.taken;
-    took = old_since.took;
-    failures = old_since.failures;
-    unbegun = λ e. cc;
-    written = written_begun first begun before out a.out (λ e. (old_since.unbegun e).0) old_since.written opens.written opens.nothing;
-    names = old_since.names;
-    formed = old_since.formed;
-    spelled = old_since.spelled;
-    comes = old_since.comes;
-    passed = old_since.passed;
-    split = old_since.split;
-    near = old_since.near;
-    ends = old_since.ends;
-    is_open = refl;
-  }
+  written_before : Writes first.out (opening first.edition ++ joined (map compiled_text before)) a.out
+  written_before = written_begun first begun before out a.out (λ e. (since.unbegun e).0) since.written opens.written opens.nothing
 
   -- the outcome from this point on
-  from_here : (ys more : List ℕ) → Took a.tokens.source.end ys b.tokens.source.end → CanFollow b.tokens.source.end more → (r : Compilation) → CompilesTo [] (tokens_from first.edition 1 ((s.taken ++ ys) ++ more)) r
+  from_here : (ys more : List ℕ) → Took a.tokens.source.end ys b.tokens.source.end → CanFollow b.tokens.source.end more → (r : Compilation) → CompilesTo [] (tokens_from first.edition 1 ((since.taken ++ ys) ++ more)) r
       → (rest : Compilation) × CompilesTo a.names (tokens_of a.tokens (ys ++ more)) rest × GoesOnBehind before rest r
   from_here ys more took f r g =
-      s.comes (ys ++ more) (follow took more f) r (subst (λ bs. CompilesTo [] (tokens_from first.edition 1 bs) r) (append_assoc s.taken ys more) g)
+      since.comes (ys ++ more) (follow took more f) r (subst (λ bs. CompilesTo [] (tokens_from first.edition 1 bs) r) (append_assoc since.taken ys more) g)
 
   module _ (taken : List ℕ) (k : LooksAt a.tokens taken b.tokens) where
-    ends_at : (p : Placed) → EndsWith p.token k.bytes ⊎ ((k.bytes ≡ []) × (last_ahead a.tokens.ahead ≡ Some p)) → EndsWith p.token (s.passed ++ k.bytes)
-    ends_at p (inl h) = EndsWith-append s.passed h
-    ends_at p (inr h) = subst (EndsWith p.token) (sym (append-nil s.passed) ∙ ap (λ l. s.passed ++ l) (sym h.0)) (s.ends p h.1)
+    ends_at : (p : Placed) → EndsWith p.token k.bytes ⊎ ((k.bytes ≡ []) × (last_ahead a.tokens.ahead ≡ Some p)) → EndsWith p.token (since.near.passed ++ k.bytes)
+    ends_at p (inl h) = EndsWith-append since.near.passed h
+    ends_at p (inr h) = subst (EndsWith p.token) (sym (append-nil since.near.passed) ∙ ap (λ l. since.near.passed ++ l) (sym h.0)) (since.near.ends p h.1)
 
-    near_now : (is_closed : Bool) → length b.tokens.source.ahead ≤ 2 → TakenNear (s.taken ++ taken) (compiler_at first b lender' true is_closed)
-    near_now is_closed few = record {
-      passed = s.passed ++ k.bytes;
-      split = ap (λ l. l ++ taken) s.split ∙ append_assoc s.passed a.tokens.source.ahead taken ∙ ap (λ l. s.passed ++ l) k.split
-          ∙ sym (append_assoc s.passed k.bytes b.tokens.source.ahead);
-      near = few;
+    near_now : length b.tokens.source.ahead ≤ 2 → TakenNear (since.taken ++ taken) b.tokens
+    near_now few = record {
+      passed = since.near.passed ++ k.bytes;
+      split = ap (λ l. l ++ taken) since.near.split ∙ append_assoc since.near.passed a.tokens.source.ahead taken ∙ ap (λ l. since.near.passed ++ l) k.split
+          ∙ sym (append_assoc since.near.passed k.bytes b.tokens.source.ahead);
+      few = few;
       ends = λ p e. ends_at p (k.ends p e);
     }
 
   module _ (w : Writing a b) where
-
-    spelled_now : (more : List ℕ) → CanFollow b.tokens.source.end more → Spelled (before ++ w.tree ∷ []) (tokens_from first.edition 1 ((s.taken ++ w.taken) ++ more)) (tokens_of b.tokens more)
+    spelled_now : (more : List ℕ) → CanFollow b.tokens.source.end more → Spelled (before ++ w.tree ∷ []) (tokens_from first.edition 1 ((since.taken ++ w.taken) ++ more)) (tokens_of b.tokens more)
     spelled_now more f =
-        let q = s.spelled (w.taken ++ more) (follow w.reads.took more f) in
+        let q = since.spelled (w.taken ++ more) (follow w.reads.took more f) in
         let u = tokens_of a.tokens (w.taken ++ more) in
         let v = tokens_of b.tokens more in
         let t = got_taken u v w.tree (w.read more f) in
         record {
           passed = q.passed ++ t.tokens;
-          split = ap (tokens_from first.edition 1) (append_assoc s.taken w.taken more) ∙ q.split ∙ ap (λ l. q.passed ++ l) t.split ∙ sym (append_assoc q.passed t.tokens v);
+          split = ap (tokens_from first.edition 1) (append_assoc since.taken w.taken more) ∙ q.split ∙ ap (λ l. q.passed ++ l) t.split ∙ sym (append_assoc q.passed t.tokens v);
           spelled = map-append kept q.passed t.tokens ∙ ap (λ l. l ++ map kept t.tokens) q.spelled
               ∙ ap (λ l. spell_all before ++ l) (tree_spelled u v w.tree t (w.read more f)) ∙ sym (spell_all-append before w.tree);
         }
 
-    comes_now : (more : List ℕ) → CanFollow b.tokens.source.end more → (r : Compilation) → CompilesTo [] (tokens_from first.edition 1 ((s.taken ++ w.taken) ++ more)) r
+    comes_now : (more : List ℕ) → CanFollow b.tokens.source.end more → (r : Compilation) → CompilesTo [] (tokens_from first.edition 1 ((since.taken ++ w.taken) ++ more)) r
         → (rest : Compilation) × CompilesTo b.names (tokens_of b.tokens more) rest × GoesOnBehind (before ++ w.tree ∷ []) rest r
     comes_now more f r g =
         let q = from_here w.taken more w.reads.took f r g in
@@ -177,49 +158,37 @@ module _ (first : CompilerStart) (a b : Point) (lender lender' : List ℕ) (out 
 
     since_now : HasWrittenSince (compiler_at first b lender' true false) (before ++ w.tree ∷ [])
     since_now = record {
-      taken = s.taken ++ w.taken;
-      took = Took-append s.took w.reads.took;
-      failures = w.failures ∙ s.failures;
+      taken = since.taken ++ w.taken;
+      took = Took-append since.took w.reads.took;
+      near = near_now w.taken w.looked w.reads.near;
+      failures = w.failures ∙ since.failures;
       unbegun = λ e. cc;
       written = subst (λ t. Writes first.out t b.out)
           (append_assoc (opening first.edition) (joined (map compiled_text before)) (compiled_text w.tree) ∙ ap (λ l. opening first.edition ++ l) (sym (texts-append before w.tree)))
-          (Writes-append s.written w.written);
-      names = subst (AreNames b.names) (sym (map-append name_of before (w.tree ∷ []))) (are_names_behind _ _ _ w.names (are_names_push a.names (map name_of before) (name_of w.tree) s.names));
-      formed = AllFormed-append before w.tree s.formed (definition_read (tokens_of a.tokens (w.taken ++ [])) (tokens_of b.tokens []) w.tree (w.read [] (λ over. refl))).1;
+          (Writes-append written_before w.written);
+      names = subst (AreNames b.names) (sym (map-append name_of before (w.tree ∷ []))) (are_names_behind _ _ _ w.names (are_names_push a.names (map name_of before) (name_of w.tree) since.names));
+      formed = AllFormed-append before w.tree since.formed (definition_read (tokens_of a.tokens (w.taken ++ [])) (tokens_of b.tokens []) w.tree (w.read [] (λ over. refl))).1;
       spelled = spelled_now;
       comes = comes_now;
-      passed = (near_now w.taken w.looked false w.reads.near).passed;
-      split = (near_now w.taken w.looked false w.reads.near).split;
-      near = w.reads.near;
-      ends = (near_now w.taken w.looked false w.reads.near).ends;
       is_open = refl;
     }
 
-    pub wrote_more : Wrote old (compiler_at first b lender' true false)
-    wrote_more = record { before = before; definition = w.tree; since = old_since; now = since_now; held = w.single; falls = w.falls }
+    pub wrote_more : Wrote before old (compiler_at first b lender' true false)
+    wrote_more = record { definition = w.tree; now = since_now; held = w.single; falls = w.falls }
 
     pub is_open_more : IsReady b.tokens → MoreCanBeWritten (compiler_at first b lender' true false)
     is_open_more ready = record { before = before ++ w.tree ∷ []; since = since_now; ready = ready }
 
-  spelled_before : (ys : List ℕ) → Took a.tokens.source.end ys b.tokens.source.end → (more : List ℕ) → CanFollow b.tokens.source.end more
-      → Spelled before (tokens_from first.edition 1 ((s.taken ++ ys) ++ more)) (tokens_of a.tokens (ys ++ more))
-  spelled_before ys took more f =
-      let q = s.spelled (ys ++ more) (follow took more f) in
-      record { passed = q.passed; split = ap (tokens_from first.edition 1) (append_assoc s.taken ys more) ∙ q.split; spelled = q.spelled }
-
   abbrev closed : Compiler
   closed = compiler_at first b lender' true true
 
-  stopped : (stop : Option Diagnostic) → Stopping a stop b → StoppedBehind old stop closed
+  stopped : (stop : Option Diagnostic) → Stopping a stop b → StoppedBehind since stop closed
   stopped stop h = record {
-    before = before;
-    since = old_since;
-    taken = s.taken ++ h.taken;
-    took = Took-append s.took h.reads.took;
-    near = near_now h.taken h.looked true h.reads.near;
-    stands = λ more f. (tokens_of a.tokens (h.taken ++ more), spelled_before h.taken h.reads.took more f, h.stands more f);
-    failures = h.failures ∙ s.failures;
-    written = subst (λ t. Writes first.out t b.out) (append_assoc (opening first.edition) (joined (map compiled_text before)) (ending stop)) (Writes-append s.written h.written);
+    taken = h.taken;
+    took = h.reads.took;
+    no_further = record { near = near_now h.taken h.looked h.reads.near; stands = h.stands };
+    failures = h.failures ∙ since.failures;
+    written = subst (λ t. Writes first.out t b.out) (append_assoc (opening first.edition) (joined (map compiled_text before)) (ending stop)) (Writes-append written_before h.written);
     comes = λ more f r g.
         let q = from_here h.taken more h.reads.took f r g in
         let e = goes_once q.1 (h.comes more f) in
@@ -227,34 +196,30 @@ module _ (first : CompilerStart) (a b : Point) (lender lender' : List ℕ) (out 
     closed = refl;
   }
 
-  broke : (P : Compilation → Type 0) → Breaking a P b → BrokeOff old P closed
+  abbrev broke : (P : Compilation → Type 0) → Breaking a P b → BrokeOff since P closed
   broke P h = record {
-    before = before;
-    since = old_since;
-    taken = s.taken ++ h.taken;
-    took = Took-append s.took h.reads.took;
+    taken = h.taken;
+    took = h.reads.took;
     comes = λ more f r g. let q = from_here h.taken more h.reads.took f r g in (q.0, q.2, h.each more f q.0 q.1);
     closed = refl;
   }
 
-  broke_near : (P : Compilation → Type 0) → BreakingNear a P b → BrokeOffNear old P closed
-  unfolding broke s
-  broke_near P h = (broke P h.0, near_now h.0.taken h.1 true h.0.reads.near,
-      λ more f. (tokens_of a.tokens (h.0.taken ++ more), spelled_before h.0.taken h.0.reads.took more f, h.2 more f))
+  broke_near : (P : Compilation → Type 0) → BreakingNear a P b → BrokeOffNear since P closed
+  broke_near P h = (broke P h.0, record { near = near_now h.0.taken h.1 h.0.reads.near; stands = h.2 })
 
   same_out : b.out ≡ a.out → OpeningWritten old b.out
   same_out e = subst (OpeningWritten old) (sym e) opens
 
-  read_failed : ReadFails a b → compilers.ReadFailed old closed
-  read_failed h = (broke _ h.0, grew_since _ _ _ s.failures h.1, same_out h.2)
+  read_failed : ReadFails a b → compilers.ReadFailed since closed
+  read_failed h = (broke _ h.0, grew_since _ _ _ since.failures h.1, same_out h.2)
 
-  out_refused : (e : EndFault) → OutRefuses a e b → compilers.OutRefused old e closed
-  out_refused e h = (a.out, opens, broke_near _ h.0, h.1 ∙ s.failures)
+  out_refused : (e : EndFault) → OutRefuses a e b → compilers.OutRefused since e closed
+  out_refused e h = (a.out, opens, broke_near _ h.0, h.1 ∙ since.failures)
 
-  names_refused : NamesRefuse a b → compilers.GrowthRefused old closed
-  names_refused h = (broke_near _ h.0, h.1 ∙ s.failures, same_out h.2)
+  names_refused : NamesRefuse a b → compilers.GrowthRefused since closed
+  names_refused h = (broke_near _ h.0, h.1 ∙ since.failures, same_out h.2)
 
-  pub stops : (answer : Step) → PointGives a (Err answer) b → CompilerGives old answer closed
+  pub stops : (answer : Step) → PointGives a (Err answer) b → GivesBehind since answer closed
   stops step.Written h = absurd h
   stops step.Finished h = stopped None h
   stops (step.Fault fault) h = stopped (Some fault) h
@@ -266,18 +231,23 @@ module _ (first : CompilerStart) (a b : Point) (lender lender' : List ℕ) (out 
 
 -- where the text doesn't begin
 module _ (first : CompilerStart) (a b : Point) (lender lender' : List ℕ) (begun : Bool) (before : List Definition)
-    (s : HasWrittenSince (compiler_at first a lender begun false) before) where
+    (since : HasWrittenSince (compiler_at first a lender begun false) before) where
   abbrev unwritten : Compiler
   unwritten = compiler_at first a lender begun false
 
-  begin_refused : (fault : EndFault) → compilers.unopened unwritten ≢ [] → Refuses a.out (compilers.unopened unwritten) fault b.out → b.tokens ≡ a.tokens
-      → compilers.BeginRefused unwritten fault (compiler_at first b lender' true true)
-  begin_refused fault some w same = record { before = before; since = s; some = some; refused = w; unread = same; closed = refl }
-
   begin_stops : (fault : EndFault) → compilers.BeginRefused unwritten fault (compiler_at first b lender' true true)
-      → CompilerGives unwritten (refused_step fault) (compiler_at first b lender' true true)
+      → GivesBehind since (refused_step fault) (compiler_at first b lender' true true)
   begin_stops end_fault.Device h = inr (inr h)
   begin_stops end_fault.Memory h = inr (inr h)
+
+-- what is so after all definitions that can have been written is what the call does
+all_given : (answer : Step) (old new : Compiler) → MoreCanBeWritten old → ((before : List Definition) (since : HasWrittenSince old before) → GivesBehind since answer new) → CompilerGives old answer new
+all_given step.Written old new o h = (o, h)
+all_given step.Finished old new o h = (o, h)
+all_given (step.Fault fault) old new o h = (o, h)
+all_given step.Device old new o h = (o, h)
+all_given step.Memory old new o h = (o, h)
+all_given step.Closed old new o h = absurd (h o.before o.since)
 
 -- where the call found the compiler open
 module _ (first : CompilerStart) (a b : Point) (lender lender' : List ℕ) (begun closed : Bool) (open_now : closed ≡ false)
@@ -304,24 +274,26 @@ module _ (first : CompilerStart) (a b : Point) (lender lender' : List ℕ) (begu
       subst (λ x. MoreCanBeWritten (compiler_at first b lender' true x)) (sym open_now)
       (is_open_more first (behind h) b lender lender' a.out begun opened_now.before opened_now.since (opens h) h.gives ready)
 
-  wrote_open : (u : Unit {0}) → GivesNext start a (Ok u) b → Wrote (compiler_at first a lender begun false) (compiler_at first b lender' true false)
-  wrote_open u g = let h = gone_on u g in wrote_more first (behind h) b lender lender' a.out begun opened_now.before opened_now.since (opens h) h.gives
+  wrote_open : (u : Unit {0}) → GivesNext start a (Ok u) b → CompilerGives (compiler_at first a lender begun false) step.Written (compiler_at first b lender' true false)
+  wrote_open u g = let h = gone_on u g in (opened_now, λ before since. wrote_more first (behind h) b lender lender' a.out begun before since (opens h) h.gives)
 
   pub written_now : (old : Compiler) → compiler_at first a lender begun closed ≡ old → (u : Unit {0}) → GivesNext start a (Ok u) b
-      → Wrote old (compiler_at first b lender' true closed)
+      → CompilerGives old step.Written (compiler_at first b lender' true closed)
   written_now old e u g =
-      subst (λ x. Wrote x (compiler_at first b lender' true closed)) e
-      (subst (λ x. Wrote (compiler_at first a lender begun x) (compiler_at first b lender' true x)) (sym open_now) (wrote_open u g))
+      subst (λ x. CompilerGives x step.Written (compiler_at first b lender' true closed)) e
+      (subst (λ x. CompilerGives (compiler_at first a lender begun x) step.Written (compiler_at first b lender' true x)) (sym open_now) (wrote_open u g))
 
-  stopped_open : (answer : Step) → GivesNext start a (Err answer) b → CompilerGives (compiler_at first a lender begun false) answer (compiler_at first b lender' true true)
-  stopped_open answer (inl h) =
+  stopped_behind : (answer : Step) → GivesNext start a (Err answer) b → (before : List Definition) (since : HasWrittenSince (compiler_at first a lender begun false) before)
+      → GivesBehind since answer (compiler_at first b lender' true true)
+  stopped_behind answer (inl h) before since =
       let same : answer ≡ refused_step h.fault = let e = h.answered in cc in
-      subst (λ x. CompilerGives (compiler_at first a lender begun false) x (compiler_at first b lender' true true)) (sym same)
-      (begin_stops first a b lender lender' begun opened_now.before opened_now.since h.fault (begin_refused first a b lender lender' begun opened_now.before opened_now.since h.fault h.some h.refused h.unread))
-  stopped_open answer (inr h) = stops first (behind h) b lender lender' a.out begun opened_now.before opened_now.since (opens h) answer h.gives
+      subst (λ x. GivesBehind since x (compiler_at first b lender' true true)) (sym same)
+      (begin_stops first a b lender lender' begun before since h.fault (record { some = h.some; refused = h.refused; unread = h.unread; closed = refl }))
+  stopped_behind answer (inr h) before since = stops first (behind h) b lender lender' a.out begun before since (opens h) answer h.gives
 
   pub stopped_now : (old : Compiler) → compiler_at first a lender begun closed ≡ old → (answer : Step) → GivesNext start a (Err answer) b
       → CompilerGives old answer (compiler_at first b lender' true true)
   stopped_now old e answer g =
       subst (λ x. CompilerGives x answer (compiler_at first b lender' true true)) e
-      (subst (λ x. CompilerGives (compiler_at first a lender begun x) answer (compiler_at first b lender' true true)) (sym open_now) (stopped_open answer g))
+      (subst (λ x. CompilerGives (compiler_at first a lender begun x) answer (compiler_at first b lender' true true)) (sym open_now)
+      (all_given answer (compiler_at first a lender begun false) (compiler_at first b lender' true true) opened_now (stopped_behind answer g)))

@@ -80,13 +80,20 @@ pub record GoesOnBehind (ds : List Definition) (rest outcome : Compilation) : Ty
   pub code : outcome.code ≡ map compiled_text ds ++ rest.code
   pub stop : outcome.stop ≡ rest.stop
 
+-- Of the bytes taken, all but two at most were passed, and these end with the last token that is held.
+pub record TakenNear (taken : List ℕ) (tokens : Tokens) : Type 0 where
+  pub passed : List ℕ
+  pub split : taken ≡ passed ++ tokens.source.ahead
+  pub few : length tokens.source.ahead ≤ 2
+  pub ends : (p : Placed) → last_ahead tokens.ahead ≡ Some p → EndsWith p.token passed
+
 -- Since a compiler was made, it has written what its text begins with and the texts of these definitions, and nothing
 -- else; before its first call nothing, and nothing was taken. The definitions are the first ones of the source, none
--- has a fault, and the tokens to come are those directly behind them. Of the bytes taken, all but two at most were
--- passed, and these end with the last token that is held.
+-- has a fault, and the tokens to come are those directly after them.
 pub record HasWrittenSince (c : Compiler) (ds : List Definition) : Type 0 where
   pub taken : List ℕ
   pub took : Took c.first.source taken c.tokens.source.end
+  pub near : TakenNear taken c.tokens
   pub failures : c.tokens.source.end.failures ≡ c.first.source.failures
   pub unbegun : c.is_begun ≡ false → (ds ≡ []) × (c.tokens.source.end ≡ c.first.source)
   pub written : Writes c.first.out (opening_written c ++ joined (map compiled_text ds)) c.out
@@ -97,10 +104,6 @@ pub record HasWrittenSince (c : Compiler) (ds : List Definition) : Type 0 where
   pub comes : (more : List ℕ) → CanFollow c.tokens.source.end more → (r : Compilation)
       → CompilesTo [] (tokens_from c.first.edition 1 (taken ++ more)) r
       → (rest : Compilation) × CompilesTo c.names (tokens_of c.tokens more) rest × GoesOnBehind ds rest r
-  pub passed : List ℕ
-  pub split : taken ≡ passed ++ c.tokens.source.ahead
-  pub near : length c.tokens.source.ahead ≤ 2
-  pub ends : (p : Placed) → last_ahead c.tokens.ahead ≡ Some p → EndsWith p.token passed
   pub is_open : c.is_closed ≡ false
 
 -- more definitions can come
@@ -109,92 +112,92 @@ pub record MoreCanBeWritten (c : Compiler) : Type 0 where
   pub since : HasWrittenSince c before
   pub ready : IsReady c.tokens
 
--- A definition more was written, and one token is held, the one behind it.
-pub record Wrote (old new : Compiler) : Type 0 where
-  pub before : List Definition
+-- A definition more was written, and one token is held, the one after it.
+pub record Wrote (before : List Definition) (old new : Compiler) : Type 0 where
   pub definition : Definition
-  pub since : HasWrittenSince old before
   pub now : HasWrittenSince new (before ++ definition ∷ [])
   pub held : IsSingle new.tokens
   pub falls : work new.tokens < work old.tokens
 
--- Of the bytes taken, all but two at most were passed, and these end with the last token that is held.
-pub record TakenNear (taken : List ℕ) (c : Compiler) : Type 0 where
-  pub passed : List ℕ
-  pub split : taken ≡ passed ++ c.tokens.source.ahead
-  pub near : length c.tokens.source.ahead ≤ 2
-  pub ends : (p : Placed) → last_ahead c.tokens.ahead ≡ Some p → EndsWith p.token passed
+-- A call took these bytes. Of all taken so far all but two at most end with the last token held, and reading stands so.
+pub record ReadNoFurther {old : Compiler} {before : List Definition} (since : HasWrittenSince old before)
+    (taken : List ℕ) (new : Compiler) : Type 0 where
+  pub near : TakenNear (since.taken ++ taken) new.tokens
+  pub stands : (more : List ℕ) → CanFollow new.tokens.source.end more
+      → StandsAt new.tokens (tokens_of old.tokens (taken ++ more)) (tokens_of new.tokens more)
 
 -- The source comes to the definitions written before and then stops so. Its last line was written, if it has no fault.
-pub record StoppedBehind (old : Compiler) (stop : Option Diagnostic) (new : Compiler) : Type 0 where
-  pub before : List Definition
-  pub since : HasWrittenSince old before
+pub record StoppedBehind {old : Compiler} {before : List Definition} (since : HasWrittenSince old before)
+    (stop : Option Diagnostic) (new : Compiler) : Type 0 where
   pub taken : List ℕ
-  pub took : Took new.first.source taken new.tokens.source.end
-  pub near : TakenNear taken new
-  pub stands : (more : List ℕ) → CanFollow new.tokens.source.end more → (u : List Placed)
-      × Spelled before (tokens_from new.first.edition 1 (taken ++ more)) u × StandsAt new.tokens u (tokens_of new.tokens more)
-  pub failures : new.tokens.source.end.failures ≡ new.first.source.failures
-  pub written : Writes new.first.out (opening new.first.edition ++ (joined (map compiled_text before) ++ ending stop))
+  pub took : Took old.tokens.source.end taken new.tokens.source.end
+  pub no_further : ReadNoFurther since taken new
+  pub failures : new.tokens.source.end.failures ≡ old.first.source.failures
+  pub written : Writes old.first.out (opening old.first.edition ++ (joined (map compiled_text before) ++ ending stop))
       new.out
-  pub comes : Whatever new.first.edition taken new.tokens.source.end
+  pub comes : Whatever old.first.edition (since.taken ++ taken) new.tokens.source.end
       (λ r. (r.code ≡ map compiled_text before) × (r.stop ≡ stop))
   pub closed : new.is_closed ≡ true
 
--- A call broke off, and this holds of what comes behind the definitions written before.
-pub record BrokeOff (old : Compiler) (P : Compilation → Type 0) (new : Compiler) : Type 0 where
-  pub before : List Definition
-  pub since : HasWrittenSince old before
+-- A call broke off, and this holds of what comes after the definitions written before.
+pub record BrokeOff {old : Compiler} {before : List Definition} (since : HasWrittenSince old before)
+    (P : Compilation → Type 0) (new : Compiler) : Type 0 where
   pub taken : List ℕ
-  pub took : Took new.first.source taken new.tokens.source.end
-  pub comes : Whatever new.first.edition taken new.tokens.source.end
+  pub took : Took old.tokens.source.end taken new.tokens.source.end
+  pub comes : Whatever old.first.edition (since.taken ++ taken) new.tokens.source.end
       (λ r. (rest : Compilation) × GoesOnBehind before rest r × P rest)
   pub closed : new.is_closed ≡ true
 
--- The same, and no more was taken than up to the last token that is held, but for two bytes.
-abbrev pub BrokeOffNear : Compiler → (Compilation → Type 0) → Compiler → Type 0
-BrokeOffNear old P new = (b : BrokeOff old P new) × TakenNear b.taken new
-    × ((more : List ℕ) → CanFollow new.tokens.source.end more → (u : List Placed)
-    × Spelled b.before (tokens_from new.first.edition 1 (b.taken ++ more)) u × StandsAt new.tokens u (tokens_of new.tokens more))
+-- the same, and it took no more bytes than that
+abbrev pub BrokeOffNear : {old : Compiler} {before : List Definition} → HasWrittenSince old before
+    → (Compilation → Type 0) → Compiler → Type 0
+BrokeOffNear since P new = (b : BrokeOff since P new) × ReadNoFurther since b.taken new
 
 -- a read failed, and no definition was written
-abbrev pub ReadFailed : Compiler → Compiler → Type 0
-ReadFailed old new =
-    BrokeOff old (λ rest. Unit {0}) new × Grew new.first.source.failures new.tokens.source.end.failures
+abbrev pub ReadFailed : {old : Compiler} {before : List Definition} → HasWrittenSince old before → Compiler → Type 0
+ReadFailed {old = old} since new =
+    BrokeOff since (λ rest. Unit {0}) new × Grew old.first.source.failures new.tokens.source.end.failures
     × OpeningWritten old new.out
 
 -- the output refused what the text begins with, before anything was read
 pub record BeginRefused (old : Compiler) (fault : EndFault) (new : Compiler) : Type 0 where
-  pub before : List Definition
-  pub since : HasWrittenSince old before
   pub some : unopened old ≢ []
   pub refused : Refuses old.out (unopened old) fault new.out
   pub unread : new.tokens ≡ old.tokens
   pub closed : new.is_closed ≡ true
 
 -- the output refused what is written next, of which a beginning was written
-abbrev pub OutRefused : Compiler → EndFault → Compiler → Type 0
-OutRefused old fault new =
+abbrev pub OutRefused : {old : Compiler} {before : List Definition} → HasWrittenSince old before → EndFault → Compiler
+    → Type 0
+OutRefused {old = old} since fault new =
     (out : Outgoing) × OpeningWritten old out
-    × BrokeOffNear old (λ rest. HasCode rest × Refuses out (next_text rest.code rest.stop) fault new.out) new
-    × (new.tokens.source.end.failures ≡ new.first.source.failures)
+    × BrokeOffNear since (λ rest. HasCode rest × Refuses out (next_text rest.code rest.stop) fault new.out) new
+    × (new.tokens.source.end.failures ≡ old.first.source.failures)
 
 -- the list of names was refused its growth, before anything was written of the definition that comes
-abbrev pub GrowthRefused : Compiler → Compiler → Type 0
-GrowthRefused old new =
-    BrokeOffNear old (λ rest. rest.code ≡ [] → ⊥) new × (new.tokens.source.end.failures ≡ new.first.source.failures)
-    × OpeningWritten old new.out
+abbrev pub GrowthRefused : {old : Compiler} {before : List Definition} → HasWrittenSince old before → Compiler → Type 0
+GrowthRefused {old = old} since new =
+    BrokeOffNear since (λ rest. rest.code ≡ [] → ⊥) new
+    × (new.tokens.source.end.failures ≡ old.first.source.failures) × OpeningWritten old new.out
 
--- what a call does
+-- what a call does after these definitions
+abbrev pub GivesBehind : {old : Compiler} {before : List Definition} → HasWrittenSince old before → Step → Compiler
+    → Type 0
+GivesBehind {old} {before} since step.Written new = Wrote before old new
+GivesBehind {old} {before} since step.Finished new = StoppedBehind since None new
+GivesBehind {old} {before} since (step.Fault fault) new = StoppedBehind since (Some fault) new
+GivesBehind {old} {before} since step.Device new =
+    ReadFailed since new ⊎ OutRefused since end_fault.Device new ⊎ BeginRefused old end_fault.Device new
+GivesBehind {old} {before} since step.Memory new =
+    GrowthRefused since new ⊎ OutRefused since end_fault.Memory new ⊎ BeginRefused old end_fault.Memory new
+GivesBehind {old} {before} since step.Closed new = ⊥
+
+-- what a call does, whichever definitions were written before
 abbrev pub CompilerGives : Compiler → Step → Compiler → Type 0
-CompilerGives old step.Written new = Wrote old new
-CompilerGives old step.Finished new = StoppedBehind old None new
-CompilerGives old (step.Fault fault) new = StoppedBehind old (Some fault) new
-CompilerGives old step.Device new =
-    ReadFailed old new ⊎ OutRefused old end_fault.Device new ⊎ BeginRefused old end_fault.Device new
-CompilerGives old step.Memory new =
-    GrowthRefused old new ⊎ OutRefused old end_fault.Memory new ⊎ BeginRefused old end_fault.Memory new
 CompilerGives old step.Closed new = (old.is_closed ≡ true) × (new ≡ old)
+CompilerGives old answer new =
+    MoreCanBeWritten old
+    × ((before : List Definition) (since : HasWrittenSince old before) → GivesBehind since answer new)
 
 -- the compiler is over the same ends
 pub record SameCompiler (old new : Compiler) : Type 0 where

@@ -1,10 +1,24 @@
 -- What the compiler does with a whole source.
-use Rattle.std.specs.Prelude.{◌≡◌, ◌≢◌, false}
+use Rattle.std.specs.Prelude.{◌≡◌, ◌≢◌, ℕ, false}
 use Rattle.bparse.specs.Compilers.{Compiler, SameCompiler, CompilerGives}
 use Rattle.bparse.specs.declared.step.Step.{Step}
 use Rattle.bparse.specs.declared.step.Step.TheVariants as step
 use Rattle.bword.specs.declared.edition.Edition.{Edition}
 use Rattle.bword.specs.ByteEnds.{Incoming, Outgoing}
+use Rattle.blang.specs.Compiles.{Run}
+
+-- a run in this edition between these ends, each before and after it, with this status
+abbrev pub run_of : Edition → (source source_behind : Incoming) (code code_behind line line_behind : Outgoing) → ℕ → Run
+run_of edition source source_behind code code_behind line line_behind status = record {
+  edition = edition;
+  source = source;
+  source_behind = source_behind;
+  code = code;
+  code_behind = code_behind;
+  line = line;
+  line_behind = line_behind;
+  status = status;
+}
 
 -- The last of several calls answered this, and those before it that a definition was written.
 pub record LastGives (first : Compiler) (answer : Step) (new : Compiler) : Type 0 where

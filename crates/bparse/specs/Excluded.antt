@@ -3,6 +3,11 @@ use Rattle.std.specs.Prelude.{◌≡◌, ◌≢◌, ℕ, List, [], ◌∷◌, co
 use Rattle.bword.specs.declared.edition.Edition.TheVariants as editions
 use Rattle.bword.specs.ByteEnds.{Grew}
 use Rattle.blang.specs.Compiles.{Run, Compiles, Tells}
+use Rattle.blang.specs.declared.token.Diagnostic.{Diagnostic}
+use Rattle.blang.specs.declared.token.About.TheVariants as about
+use Rattle.btree.specs.Reading.{after}
+use Rattle.bparse.specs.Compilers.{Compiler, CompilerGives}
+use Rattle.bparse.specs.declared.step.Step.TheVariants as step
 
 -- A run in the first edition, over ends that tell their bytes, wrote this code and this line of a source, behind
 -- nothing, and answered this.
@@ -62,3 +67,6 @@ pub record Excluded : Type 0 where
       (λ run. Grew run.line.failures run.line_behind.failures → ⊥)
   -- want of memory where none is taken
   pub refusal_invented : NeverWhere [] [] [] 134 NoneRefused
+  -- a second token held where a fault of a whole definition is told
+  pub read_on : (old new : Compiler) (fault : Diagnostic) → fault.about ≢ about.Nothing
+      → CompilerGives old (step.Fault fault) new → after new.tokens.ahead ≢ [] → ⊥

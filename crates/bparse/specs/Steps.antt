@@ -3,7 +3,7 @@ use Rattle.std.specs.Prelude.{◌≡◌, ◌≢◌, ℕ, ◌<◌, Bool, false, t
 use Rattle.std.specs.Prelude.{Err, ◌⊎◌}
 use Rattle.btree.specs.Compiled.{AreNames}
 use Rattle.btree.specs.DefinitionReader.{definition}
-use Rattle.btree.specs.Reading.{Got, Stop}
+use Rattle.btree.specs.Reading.{Got, Stop, first}
 use Rattle.blang.specs.declared.token.Placed.{Placed}
 use Rattle.bexpr.specs.Tokens.{Tokens, tokens_of, IsLoaded, IsSingle, TakesAhead, LooksAt, work}
 use Rattle.bparse.specs.declared.step.Step.{Step}
@@ -63,12 +63,12 @@ pub record Writing (old new : Point) : Type 0 where
       → CompilesTo new.names (tokens_of new.tokens more) r
       → SourceComesTo old taken more (record { code = compiled_text tree ∷ r.code; stop = r.stop })
 
--- A definition was read up to where none goes on with the current token; or a whole one, and the token behind it is the
--- only one ahead; or none was.
+-- A definition was read up to where none goes on with the current token; or a whole one, and the token after it is the
+-- only one ahead; or none was, and the source ends.
 abbrev pub StandsAt : Tokens → List Placed → List Placed → Type 0
 StandsAt new u v =
     ((definition u ≡ Stop v) × IsLoaded new) ⊎ ((d : Definition) × (definition u ≡ Got d v) × IsSingle new)
-    ⊎ ((v ≡ u) × IsLoaded new)
+    ⊎ ((v ≡ u) × (first new.ahead ≡ token.End) × IsLoaded new)
 
 -- Nothing more comes, and the text's last line was written, or nothing where there is a fault.
 pub record Stopping (old : Point) (stop : Option Diagnostic) (new : Point) : Type 0 where

@@ -2,7 +2,7 @@
 ghost use Rattle.std.specs.Prelude.{◌≡◌, false};
 ghost use Rattle.bword.specs.declared.edition.Edition.TheVariants as editions;
 ghost use Rattle.blang.specs.Compiles.{CompileHeadline, Compiles};
-ghost use Rattle.bparse.specs.Compiles.{CodeGives, LastGives};
+ghost use Rattle.bparse.specs.Compiles.{CodeGives, LastGives, run_of};
 ghost use Rattle.bparse.specs.Excluded.{Excluded};
 
 use crate::compiler::Compiler;
@@ -19,26 +19,10 @@ pub fn compile<I: ByteIn, O: ByteOut, D: ByteOut>(
     code: &mut O,
     diag: &mut D,
 ) -> Status
-    ensures compiles { Compiles (record {
-      edition = editions.One;
-      source = I.incoming source.old;
-      source_behind = I.incoming source.new;
-      code = O.outgoing code.old;
-      code_behind = O.outgoing code.new;
-      line = D.outgoing diag.old;
-      line_behind = D.outgoing diag.new;
-      status = result;
-    }) }
-    ensures headline { CompileHeadline (record {
-      edition = editions.One;
-      source = I.incoming source.old;
-      source_behind = I.incoming source.new;
-      code = O.outgoing code.old;
-      code_behind = O.outgoing code.new;
-      line = D.outgoing diag.old;
-      line_behind = D.outgoing diag.new;
-      status = result;
-    }) }
+    ensures compiles { Compiles (run_of editions.One (I.incoming source.old) (I.incoming source.new)
+        (O.outgoing code.old) (O.outgoing code.new) (D.outgoing diag.old) (D.outgoing diag.new) result) }
+    ensures headline { CompileHeadline (run_of editions.One (I.incoming source.old) (I.incoming source.new)
+        (O.outgoing code.old) (O.outgoing code.new) (D.outgoing diag.old) (D.outgoing diag.new) result) }
     ensures source_lender { I.lender source.new ≡ I.lender source.old }
     ensures code_lender { O.lender code.new ≡ O.lender code.old }
     ensures diag_lender { D.lender diag.new ≡ D.lender diag.old }
@@ -59,26 +43,10 @@ pub fn compile_edition<I: ByteIn, O: ByteOut, D: ByteOut>(
     diag: &mut D,
     edition: Edition,
 ) -> Status
-    ensures compiles { Compiles (record {
-      edition = edition;
-      source = I.incoming source.old;
-      source_behind = I.incoming source.new;
-      code = O.outgoing code.old;
-      code_behind = O.outgoing code.new;
-      line = D.outgoing diag.old;
-      line_behind = D.outgoing diag.new;
-      status = result;
-    }) }
-    ensures headline { CompileHeadline (record {
-      edition = edition;
-      source = I.incoming source.old;
-      source_behind = I.incoming source.new;
-      code = O.outgoing code.old;
-      code_behind = O.outgoing code.new;
-      line = D.outgoing diag.old;
-      line_behind = D.outgoing diag.new;
-      status = result;
-    }) }
+    ensures compiles { Compiles (run_of edition (I.incoming source.old) (I.incoming source.new)
+        (O.outgoing code.old) (O.outgoing code.new) (D.outgoing diag.old) (D.outgoing diag.new) result) }
+    ensures headline { CompileHeadline (run_of edition (I.incoming source.old) (I.incoming source.new)
+        (O.outgoing code.old) (O.outgoing code.new) (D.outgoing diag.old) (D.outgoing diag.new) result) }
     ensures source_lender { I.lender source.new ≡ I.lender source.old }
     ensures code_lender { O.lender code.new ≡ O.lender code.old }
     ensures diag_lender { D.lender diag.new ≡ D.lender diag.old }
@@ -128,8 +96,8 @@ fn compile_all<I: ByteIn, O: ByteOut>(compiler: &mut Compiler<I, O>) -> Step
     }
 }
 
-/// What no compiling gives: other code than the source's, a line where there is no fault, none where there is one, or
-/// a failure that isn't told or was none.
+/// What no compiling gives: other code than the source's, a line where there is no fault, none where there is one,
+/// a failure that isn't told or was none, or a fault after tokens that it doesn't want.
 pub fn wrong_compilings_are_excluded()
     ensures { Excluded }
 {}

@@ -1,8 +1,12 @@
-use Rattle.bparse.proofs.CompileSteps.{keeps_none, keeps_more}
+use Rattle.bexpr.specs.Tokens.{work}
+use Rattle.bparse.proofs.CompileSteps.{keeps_none, keeps_more, written_last}
 use Rattle.bparse.proofs.compiling.compile_all.Goals as goal
 
 pub definitions-init : goal.definitions-init
 definitions-init g c = (keeps_none c.args.compiler.now, c.requires)
 
 pub definitions-preserved : goal.definitions-preserved
-definitions-preserved g c = (keeps_more c.definitions.invariant.0 c.next_definition.ensures.keeps, c.in-Written.ensures.gives.now.is_open)
+definitions-preserved g c = (keeps_more c.definitions.invariant.0 c.next_definition.ensures.keeps, (written_last c.in-Written.ensures.gives).now.is_open)
+
+pub definitions-smaller : goal.definitions-smaller
+definitions-smaller g c = (written_last c.in-Written.ensures.gives).falls
