@@ -8,3 +8,4 @@ pub mod RunSteps
 mod AlikeLaws
 mod TextLaws
 mod MigrateSteps
+mod Unmigrated

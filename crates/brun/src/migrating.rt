@@ -3,6 +3,7 @@ ghost use Rattle.std.specs.Prelude.{◌≡◌, []};
 ghost use Rattle.bword.specs.declared.edition.Edition.TheVariants as editions;
 ghost use Rattle.bcode.specs.Readers.{SameReader, HasTaken};
 ghost use Rattle.brun.specs.Migrates.{Migrates, RewritingGives, DefinitionsGive, halt_of};
+ghost use Rattle.brun.specs.Unmigrated.{Unmigrated};
 
 use crate::report::write_report;
 use bcode::{CodeFault, CodeReader, CodeStep, write_begin, write_definition, write_end};
@@ -106,3 +107,8 @@ fn write_definitions<I: ByteIn, O: ByteOut>(
         }
     }
 }
+
+/// No text goes well of which a definition isn't written, and none waits for the next.
+pub fn wrong_migrations_are_excluded()
+    ensures { Unmigrated }
+{}
