@@ -1,13 +1,14 @@
 -- What no picture of memory is.
-use Rattle.std.proofs.Common.{◌≡◌, ◌≢◌, ◌∙◌, ℕ, Bool, true, false, List, [], ◌∷◌, ◌++◌, Option, Some, None, map, take, ap, arith, refl, subst, sym, ◌⊎◌, inl, inr}
+use Rattle.std.proofs.Common.{◌≡◌, ◌∙◌, ℕ, true, List, [], ◌∷◌, ◌++◌, Option, Some, None, map, take, ap, arith, refl, subst, sym, ◌⊎◌, inl, inr}
 use Rattle.std.specs.Prelude.{codes, nat_lt, not, ◌==◌}
+use Rattle.std.specs.Io.KnownBytes.{Appends}
 use Rattle.std.specs.List.{list_all}
 use Rattle.std.proofs.lemmas.Bool.{and_from, cond_both}
 use Rattle.std.proofs.lemmas.List.{map-append}
 use Rattle.std.proofs.lemmas.List.Folds.{list_all-append}
 use Rattle.bword.specs.declared.edition.Edition.{Edition}
 use Rattle.bword.proofs.Remaining.{rest_after}
-use Rattle.bword.specs.ByteEnds.{CanFollow, Grew, Incoming, Outgoing, Took, Writes, outgoing_of}
+use Rattle.bword.specs.ByteEnds.{Grew, Incoming, Outgoing, Writes, outgoing_of}
 use Rattle.bmach.specs.Resolved.{IsLoadedFrom}
 use Rattle.bmach.specs.Stepping.{HasEnd}
 use Rattle.blang.specs.declared.code.Definition.{Definition}
@@ -25,7 +26,8 @@ use Rattle.btools.proofs.Excluded.{device_grew, excluded, no_done, not_grown, ot
 use Rattle.bdraw.specs.Draws.{Drawn, Draws, DrawsProgram, DrawsRun, IsAfter, IsAtEnd, IsOver, IsPicture, ShowsMemory, drawn, named, row, seen}
 use Rattle.bdraw.specs.Draws as draws
 use Rattle.bdraw.specs.Shapes.{escape, escaped}
-use Rattle.bdraw.specs.Excluded.{IsOfStep, NoPictures, Shows, TellsBytes, WrongShapes, is_no_tag}
+use Rattle.bdraw.specs.Excluded.{HasFills, IsOfStep, NoPictures, Shows, TellsBytes, WrongShapes, classes_in, fill_letter, is_no_tag}
+use Rattle.bdraw.proofs.Classes.{picture_classes}
 use Rattle.bdraw.specs.declared.picture.TheConstants.{MOST_NAMES}
 use Rattle.bdraw.specs.declared.shapes.Fill.{Fill}
 use Rattle.bdraw.specs.declared.shapes.Shape.{Shape}
@@ -59,8 +61,14 @@ tags : (text : List ℕ) → list_all is_no_tag (escaped text) ≡ true
 tags [] = refl
 tags (b ∷ text) = list_all-append is_no_tag (escape b) (escaped text) ∙ and_from _ _ (a_byte b) (tags text)
 
+fills : (ds : List Definition) (image : Image) (words text : List ℕ) → IsPicture ds image words text → HasFills ds image words text
+fills ds image words text h = (
+  h.drawn.0,
+  ap classes_in h.text_is ∙ picture_classes tags h.height h.shapes ∙ ap (λ boxes. codes "p" ++ map (λ (box : ℕ × ℕ × Fill). fill_letter box.2) boxes) h.drawn.1,
+)
+
 pub wrong_shapes : WrongShapes
-wrong_shapes = record { boxes = boxes; names = names; tags = tags }
+wrong_shapes = record { boxes = boxes; names = names; fills = fills; tags = tags }
 
 module _ (ds : List Definition) (image : Image) where
   module _ (words : List ℕ) (o q : Outgoing) where
@@ -190,6 +198,13 @@ module _ (edition : Edition) (source : List ℕ) (r : Compilation) (g : Compiles
         (image, a.0, subst (λ (x : List Definition). IsLoadedFrom x image) same p.loaded, a.1, a.2)
     after (draws.stopped why quiet unread) = absurd (no_done 0 refl (told.status 0 why))
 
+  filled : (n : ℕ) (bytes text : List ℕ) → TellsBytes ends.input bytes → ends.out.written ≡ Some [] → ends.out_behind.written ≡ Some text → Draws edition source (Some n) ends 0
+      → (image : Image) × (words : List ℕ) × IsLoadedFrom code image × IsOfStep edition source r g ends image n bytes words × HasFills code image words text
+  filled n bytes text tells empty written h =
+      let a = after n bytes tells h in
+      let is : text ≡ a.3.0 = subst (λ t. Appends (Some []) t a.3.0) written (subst (λ t. Appends t ends.out_behind.written a.3.0) empty a.3.2.appended) in
+      (a.0, a.1, a.2, a.4, subst (λ t. HasFills code a.0 a.1 t) (sym is) (fills code a.0 a.1 a.3.0 a.3.1))
+
   unread : (steps : Option ℕ) (status : ℕ) → Draws edition source steps ends status → (ends.input_behind.failures ≡ ends.input.failures → ⊥) → (status ≡ 133) × (ends.out_behind ≡ ends.out)
   unread steps status (draws.drew ds image p h) failed = unread_in ds image ends.input ends.input_behind ends.out ends.out_behind steps status h failed
   unread steps status (draws.stopped why quiet same) failed = absurd (failed (ap (λ (x : Incoming). x.failures) same))
@@ -214,6 +229,7 @@ no_pictures edition source r g ends = record {
   done = done edition source r g ends;
   before = before edition source r g ends;
   after = after edition source r g ends;
+  filled = filled edition source r g ends;
   unread = unread edition source r g ends;
   device = device edition source r g ends;
   fault = fault edition source r g ends;

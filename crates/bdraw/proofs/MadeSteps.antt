@@ -6,7 +6,7 @@ use Rattle.bword.proofs.Taking.{Took-append}
 use Rattle.blang.specs.declared.code.Definition.{Definition}
 use Rattle.blang.specs.declared.run.Outcome.{Outcome}
 use Rattle.blang.specs.declared.run.Outcome.TheVariants as outcome
-use Rattle.blang.specs.Machine.{Halted, Image, RunGives, Running, State, Stuck, run, state_outcome, state_world, step, steps}
+use Rattle.blang.specs.Machine.{ComesTo, Halted, Image, RunGives, Running, State, States, StopsShort, Stuck, run, state_outcome, state_world, step, steps}
 use Rattle.bmach.specs.Steps.{world_with}
 use Rattle.bmach.specs.Stepping.{HasEnd, IsUnstarted, Paused, machine_at}
 use Rattle.bmach.specs.Turns.{HasHalted, LeavesWords, MovesOn, TurnGives}
@@ -14,7 +14,7 @@ use Rattle.bmach.proofs.Beginning.{run_from}
 use Rattle.bmach.proofs.Running.{behind, one_more, run_over, same_run, steps_add}
 use Rattle.bmach.proofs.Turning.{follows, goes_on}
 use Rattle.btools.specs.Programs.{nothing_written}
-use Rattle.bdraw.specs.Draws.{DrawsRun, EndGives, IsAfter, IsAtEnd, IsMade, IsOver, LeavesAtEnd, ShowsMemory, no_memory, over, unread}
+use Rattle.bdraw.specs.Draws.{DrawsRun, EndGives, IsAfter, IsAtEnd, IsMade, IsOver, LeavesAtEnd, ShowsMemory, no_memory, over, unread, untold}
 
 -- a state behind which nothing happens
 abbrev HasStopped : State → Type 0
@@ -116,13 +116,39 @@ is_after image first now n i j o q b t = record {
   );
 }
 
-pub is_over : (image : Image) (first : Paused) (n : ℕ) (i j : Incoming) (before output : Kept) (r : Outcome) → IsUnstarted image first → before ≡ record { bytes = []; refusals = 0 }
-    → RunGives (λ input k. steps first.image k (machine_at first input [])) n i j (outgoing_of before) (outgoing_of output) r → IsOver image n i j r
-is_over image first n i j before output r b none gives = (
-  output,
-  same_run (run image) (λ input k. steps first.image k (machine_at first input [])) n i j nothing_written (outgoing_of output) r (run_from image first b)
-      (subst (λ (k : Kept). RunGives (λ input k'. steps first.image k' (machine_at first input [])) n i j (outgoing_of k) (outgoing_of output) r) none gives),
-)
+-- What a run writes to an end that doesn't tell it, it writes to one that does.
+module _ (states : States) (n : ℕ) (i j : Incoming) where
+  told_come : (r : Outcome) → (c : ComesTo states n i j untold untold r) → ComesTo states n i j nothing_written (outgoing_of (record { bytes = c.output; refusals = 0 })) r
+  told_come r c = record {
+    taken = c.taken;
+    took = c.took;
+    no_failure = c.no_failure;
+    output = c.output;
+    written = record { appended = refl; failures = refl; refusals = refl };
+    shows = c.shows;
+  }
+
+  told_stop : (why : Type 0) → StopsShort states n i j untold untold why → StopsShort states n i j nothing_written nothing_written why
+  told_stop why s = record {
+    taken = s.taken;
+    took = s.took;
+    made = s.made;
+    within = s.within;
+    began = λ more can. record { count = 0; within = omega arith; appended = refl };
+    reason = s.reason;
+  }
+
+  told_run : (r : Outcome) → RunGives states n i j untold untold r → (output : Kept) × RunGives states n i j nothing_written (outgoing_of output) r
+  told_run (outcome.Exit status) g = (_, told_come (outcome.Exit status) g)
+  told_run (outcome.Trap kind) g = (_, told_come (outcome.Trap kind) g)
+  told_run outcome.Limit g = (_, told_come outcome.Limit g)
+  told_run outcome.Device g = (record { bytes = []; refusals = 0 }, told_stop _ g)
+  told_run outcome.Memory g = (record { bytes = []; refusals = 0 }, told_stop _ g)
+
+pub is_over : (image : Image) (first : Paused) (n : ℕ) (i j : Incoming) (r : Outcome) → IsUnstarted image first
+    → RunGives (λ input k. steps first.image k (machine_at first input [])) n i j untold untold r → IsOver image n i j r
+is_over image first n i j r b gives =
+    told_run (run image) n i j r (same_run (run image) (λ input k. steps first.image k (machine_at first input [])) n i j untold untold r (run_from image first b) gives)
 
 pub is_at_end : (image : Image) (first : Paused) (n : ℕ) (i j : Incoming) (r : Outcome) (words : List ℕ) → IsUnstarted image first → LeavesAtEnd first n i j r words → HasEnd r → IsAtEnd image n i j words
 is_at_end image first n i j r words b leaves has =

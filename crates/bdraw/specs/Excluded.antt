@@ -1,6 +1,6 @@
 -- What no picture of memory is, of each source and whatever its ends do.
-use Rattle.std.specs.Prelude.{◌≡◌, ℕ, ◌==◌, ◌&&◌, not, true, Bool, List, [], ◌++◌, map, take, Option, Some, None}
-use Rattle.std.specs.Prelude.{◌⊎◌, IsTrue}
+use Rattle.std.specs.Prelude.{◌≡◌, ℕ, ◌==◌, ◌&&◌, not, true, Bool, List, [], ◌∷◌, ◌++◌, map, take, Option, Some, None}
+use Rattle.std.specs.Prelude.{◌⊎◌, IsTrue, codes, if◌then◌else◌, refl, slice_index}
 use Rattle.std.specs.List.{list_all}
 use Rattle.bword.specs.declared.edition.Edition.{Edition}
 use Rattle.bword.specs.ByteEnds.{Grew, Incoming, Writes}
@@ -18,7 +18,7 @@ use Rattle.blang.specs.Machine.{Image, RunEnds, run, state_world}
 use Rattle.btools.specs.Excluded.{code_in}
 use Rattle.btools.specs.Programs.{load_line}
 use Rattle.bdraw.specs.Draws.{Drawn, Draws, IsPicture, drawn, named, row, seen}
-use Rattle.bdraw.specs.Shapes.{escaped}
+use Rattle.bdraw.specs.Shapes.{escaped, fill_name}
 use Rattle.bdraw.specs.declared.picture.TheConstants.{MOST_NAMES}
 use Rattle.bdraw.specs.declared.shapes.Fill.{Fill}
 use Rattle.bdraw.specs.declared.shapes.Shape.{Shape}
@@ -26,6 +26,25 @@ use Rattle.bdraw.specs.declared.shapes.Shape.{Shape}
 -- a byte that begins or ends no tag
 abbrev pub is_no_tag : ℕ → Bool
 is_no_tag b = not (b == 60) && not (b == 62)
+
+-- the first letters of the classes of boxes in a text: what stands there in each `<rect class='`
+abbrev pub classes_in : List ℕ → List ℕ
+classes_in [] = []
+classes_in (b ∷ rest) =
+    (if b == 60 && slice_index rest 0 == 114 then slice_index rest 12 ∷ [] else []) ++ classes_in rest
+
+a_class : classes_in (codes "<rect class='same'/>r<text class='word'>") ≡ codes "s"
+a_class = refl
+
+abbrev pub fill_letter : Fill → ℕ
+fill_letter f = slice_index (fill_name f) 0
+
+-- The text has the page, and then boxes for the words of the library, of the first 48 names and of others, filled as
+-- these words are the image's or not.
+abbrev pub HasFills : List Definition → Image → List ℕ → List ℕ → Type 0
+HasFills ds image words text =
+    (others : List ℕ) × (classes_in text ≡ codes "p" ++ map (λ (box : ℕ × ℕ × Fill). fill_letter box.2)
+    (map (seen image words) (row 0 7 ++ named image (take MOST_NAMES ds) ++ others)))
 
 -- What is excluded of the boxes and texts of a picture.
 pub record WrongShapes : Type 0 where
@@ -36,6 +55,9 @@ pub record WrongShapes : Type 0 where
   pub names : (ds : List Definition) (image : Image) (words : List ℕ) (shapes : List Shape)
       → Drawn ds image words shapes → (others : List (ℕ × ℕ × Fill))
       × (drawn shapes ≡ map (seen image words) (row 0 7 ++ named image (take MOST_NAMES ds)) ++ others)
+  -- a text with a box that is filled though its word is the image's, or isn't though it is another one
+  pub fills : (ds : List Definition) (image : Image) (words text : List ℕ) → IsPicture ds image words text
+      → HasFills ds image words text
   -- a text with a tag in it
   pub tags : (text : List ℕ) → IsTrue (list_all is_no_tag (escaped text))
 
@@ -73,6 +95,11 @@ module _ (edition : Edition) (source : List ℕ) (r : Compilation) (g : Compiles
     pub after : (n : ℕ) (bytes : List ℕ) → TellsBytes ends.input bytes → Draws edition source (Some n) ends DONE
         → (image : Image) × (words : List ℕ) × IsLoadedFrom (code_in edition source r g) image × Shows image words
         × IsOfStep image n bytes words
+    -- a picture filled as that of another step, as of the memory before a run that is over by a trap
+    pub filled : (n : ℕ) (bytes text : List ℕ) → TellsBytes ends.input bytes → ends.out.written ≡ Some []
+        → ends.out_behind.written ≡ Some text → Draws edition source (Some n) ends DONE
+        → (image : Image) × (words : List ℕ) × IsLoadedFrom (code_in edition source r g) image
+        × IsOfStep image n bytes words × HasFills (code_in edition source r g) image words text
     -- a failed read that isn't told by 133, or something written behind it
     pub unread : (steps : Option ℕ) (status : ℕ) → Draws edition source steps ends status
         → (ends.input_behind.failures ≡ ends.input.failures → ⊥) → (status ≡ DEVICE) × (ends.out_behind ≡ ends.out)

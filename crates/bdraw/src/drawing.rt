@@ -1,19 +1,19 @@
 //! Drawing the memory of a program.
 ghost use Rattle.std.specs.Prelude.{◌≡◌, IfOk};
 ghost use Rattle.bmach.specs.Stepping.{IsUnstarted};
-ghost use Rattle.bword.specs.ByteEnds.{outgoing_of};
 ghost use Rattle.bdraw.specs.Excluded.{NoPictures, WrongShapes};
-ghost use Rattle.bdraw.specs.Draws.{Draws, DrawsRun, EndGives, IsPicture, Made, ShowsMemory, Unbegun};
+ghost use Rattle.bdraw.specs.Draws.{Draws, DrawsRun, EndGives, IsPicture, Made, ShowsMemory, Unbegun, untold};
 
 use crate::picture::picture_of;
 use crate::scene::{Memory, Moment, Scene, calls_of, no_calls};
 use crate::shapes::picture_text;
+use crate::sink::Sink;
 use blang::Outcome;
 use blang::status::{self, Status};
 use bmach::Stepper;
 use bpages::PagedStore;
 use btools::{Program, Text, read_program, tell};
-use bword::{ByteIn, ByteOut, Edition, MemOut, Store};
+use bword::{ByteIn, ByteOut, Edition, Store};
 use std::alloc::{AllocError, Global};
 
 /// Draws the memory of the program of a source as an SVG picture: before its run, or after so many steps of it.
@@ -103,8 +103,7 @@ fn draw_steps<S: Store + Drop, I: ByteIn, O: ByteOut>(
     ensures input_lender { I.lender input.new ≡ I.lender input.old }
     ensures out_lender { O.lender out.new ≡ O.lender out.old }
 {
-    let mut written = MemOut::new(alloc);
-    match make_steps(&mut stepper, steps, input, &mut written) {
+    match make_steps(&mut stepper, steps, input) {
         Ok(()) => show_run(alloc, program, &stepper, Moment::After(steps), out),
         Err(end) => draw_end(alloc, program, &stepper, end, out),
     }
@@ -129,19 +128,17 @@ fn draw_end<S: Store + Drop, O: ByteOut>(
     }
 }
 
-// Makes so many steps, or tells with how many the run is over, and how.
+// Makes so many steps, or tells with how many the run is over, and how. What they write is kept nowhere.
 fn make_steps<S: Store + Drop, I: ByteIn>(
     stepper: &mut Stepper<'_, S>,
     steps: u64,
     input: &mut I,
-    written: &mut MemOut,
 ) -> Result<(), (u64, Outcome)>
-    ensures gives { Made stepper.old stepper.new steps (I.incoming input.old) (I.incoming input.new)
-        (outgoing_of written.old) (outgoing_of written.new) result }
+    ensures gives { Made stepper.old stepper.new steps (I.incoming input.old) (I.incoming input.new) untold untold result }
     ensures same { I.lender input.new ≡ I.lender input.old }
 {
     for made in 0..steps {
-        match stepper.step(input, written) {
+        match stepper.step(input, &mut Sink) {
             Ok(()) => {}
             Err(outcome) => return Err((made + 1, outcome)),
         }

@@ -1,5 +1,5 @@
 -- What the contracts of `trace` and `locate` exclude.
-use Rattle.std.proofs.Common.{◌≡◌, ◌∙◌, ℕ, ◌+◌, ◌<◌, ◌≤◌, ◌⊎◌, Bool, true, false, List, [], ◌∷◌, ◌++◌, Option, Some, None, ap, append-nil, append_assoc, arith, codes, decimal, drop, get_or, inl, inr, map, refl, reverse, subst, suc, sym, zero}
+use Rattle.std.proofs.Common.{◌≡◌, ◌∙◌, ℕ, ◌+◌, ◌<◌, ◌≤◌, ◌⊎◌, Bool, true, false, List, [], ◌∷◌, ◌++◌, Option, Some, None, ap, append-nil, append_assoc, arith, codes, decimal, drop, inl, inr, map, refl, reverse, subst, suc, sym, take, zero}
 use Rattle.std.specs.Prelude.{All}
 use Rattle.std.specs.Io.KnownBytes.{Appends}
 use Rattle.std.specs.List.{flat_map}
@@ -9,7 +9,7 @@ use Rattle.std.proofs.lemmas.List.Elements.{All-head, All-tail}
 use Rattle.bword.specs.declared.edition.Edition.{Edition}
 use Rattle.bword.specs.declared.ends.EndFault.{EndFault}
 use Rattle.bword.specs.declared.ends.EndFault.TheVariants as end_fault
-use Rattle.bword.specs.ByteEnds.{CanFollow, Grew, Incoming, Outgoing, Refuses, Took, Unread, Writes, incoming_of}
+use Rattle.bword.specs.ByteEnds.{Grew, Incoming, Outgoing, Refuses, Took, Unread, Writes, incoming_of}
 use Rattle.bword.proofs.Putting.{Writes-append}
 use Rattle.blang.specs.declared.code.Definition.{Definition}
 use Rattle.blang.specs.declared.code.Instr.{Instr}
@@ -19,12 +19,11 @@ use Rattle.blang.specs.declared.run.Outcome.TheVariants as outcome
 use Rattle.blang.specs.declared.run.Report.TheVariants as report
 use Rattle.blang.specs.declared.run.Trap.{Trap}
 use Rattle.blang.specs.declared.run.Trap.TheVariants as trap
-use Rattle.blang.specs.declared.status.TheConstants.{DEVICE, DONE, LIMIT, MEMORY, REFUSED, TRAP, WRONG_COMMAND}
+use Rattle.blang.specs.declared.status.TheConstants.{DONE, LIMIT, MEMORY, TRAP, WRONG_COMMAND}
 use Rattle.blang.specs.Compiles as compiled
 use Rattle.blang.specs.Compiles.{CompilesTo, Tells, code_text}
 use Rattle.blang.specs.Cut.{tokens_from}
-use Rattle.blang.specs.Layout.{World, refusal}
-use Rattle.blang.specs.Machine.{Call, Finishes, HasNotRun, Halted, Image, Loaded, Reported, Refused, RunEnds, RunGives, Running, Shows, State, Stuck, image_of, machine, machine_started, main_begun, report_text, run, state_outcome, state_world}
+use Rattle.blang.specs.Machine.{Call, Finishes, Halted, Image, Loaded, Reported, RunEnds, RunGives, Running, State, Stuck, image_of, machine, report_text, run, state_outcome, state_world}
 use Rattle.blang.specs.Text.{IsCodeText}
 use Rattle.bcode.proofs.FaultLaws.{unique_code}
 use Rattle.bmach.specs.Resolved.{IsLoadedFrom}
@@ -37,14 +36,14 @@ use Rattle.brun.proofs.RunSteps.{outcome-resolved, run_loaded}
 use Rattle.btools.specs.Columns.{left, right}
 use Rattle.btools.specs.Programs as programs
 use Rattle.btools.specs.Programs.{HasProgram, NoProgram, WasCompiled}
-use Rattle.btrace.specs.Excluded.{ComesAlways, IsSourceOf, LocatesExcluded, NoPlace, NoTrace, TracesExcluded, calling, calling_f, closing, nothing, status_of, trapping, writing}
+use Rattle.btrace.specs.Excluded.{ComesAlways, IsSourceOf, LocatesExcluded, TracesExcluded, calling, calling_f, closing, nothing, passing, status_of, trapping, writing}
 use Rattle.btrace.specs.Locates as locates
 use Rattle.btrace.specs.Locates.{Locates, TellsSite, located_status, site_line}
 use Rattle.btrace.specs.Programs.{Placed, function_with, functions_of}
-use Rattle.btrace.specs.RowTexts.{Place, changed_text, code_of, margin, name_in, name_of, operands_text, place_text, places_text, site_text, step_row, words_text, written_row}
+use Rattle.btrace.specs.RowTexts.{Place, changed_text, code_of, first_words, has_more, margin, name_in, name_of, operands_text, place_text, step_row, words_text, written_row}
 use Rattle.btrace.specs.Traces as traces
-use Rattle.btrace.specs.Traces.{AreShown, EndsAs, IsWhere, ShowsRows, ShowsStep, TellsEnd, TellsPlace, TraceRow, Traces, Tries, rows_text, shown_of, waits_at, which_of}
-use Rattle.btrace.specs.declared.tracing.TheConstants.{HEADING, UNNAMED}
+use Rattle.btrace.specs.Traces.{AreShown, EndsAs, IsWhere, ShowsRows, ShowsStep, TellsEnd, TellsPlace, TraceRow, Traces, Tries, rows_text, shown_of, store_after, waits_at, which_of}
+use Rattle.btrace.specs.declared.tracing.TheConstants.{HEADING}
 use Rattle.btrace.specs.declared.tracing.Which.{Which}
 use Rattle.btrace.proofs.ReadTexts.{all_above, above_append, at, behind_line, behind_number, line_skipped, number_above, number_skipped, skip_digits, words_above}
 
@@ -199,7 +198,7 @@ record AtLimit (ds : List Definition) (steps : ℕ) (which : Which) (text : List
   text_is : text ≡ rows_text rows ++ ending
   all : map (λ r. r.made) rows ≡ shown_of which (machine ds input) steps
   each : All (λ r. ShowsStep (functions_of ds) (machine ds input) r.made r.text) rows
-  place : IsWhere (functions_of ds) (machine ds input) steps ending
+  place : IsWhere (functions_of ds) (machine ds input) steps (store_after (machine ds input) steps) ending
 
 at_limit : (ds : List Definition) (steps from : ℕ) (name : Option (List ℕ)) (which : Which) (i j : Incoming) (text : List ℕ) (status : ℕ) → which_of (functions_of ds) from name ≡ Some which → ComesAlways ds steps outcome.Limit
     → Told ds steps from name i j (HEADING.now ++ text) status → AtLimit ds steps which text
@@ -219,7 +218,7 @@ at_limit ds steps from name which i j text status named comes t =
       text_is = append_cancel_left HEADING.now text (rows_text s.rows ++ s.ending) (s.text_is ∙ append_assoc HEADING.now (rows_text s.rows) s.ending);
       all = shown.all;
       each = shown.each;
-      place = subst (λ m. IsWhere fs states m s.ending) ends.0 ends.1;
+      place = subst (λ m. IsWhere fs states m (store_after states m) s.ending) ends.0 ends.1;
     }
 
 -- the call that a machine runs, and those below it
@@ -240,31 +239,37 @@ output_of s = (state_world s).output
 abbrev place_head : List Placed → (strings place : ℕ) → List ℕ
 place_head fs strings place = ((codes "in " ++ left 8 (name_in (function_with fs strings))) ++ codes " place ") ++ right 4 (decimal place) ++ codes "  line "
 
-record Where (fs : List Placed) (call : Call) (below : List Call) (text : List ℕ) : Type 0 where
+-- the words of a call
+abbrev words_of : List ℕ → Call → List ℕ
+words_of store call = words_text (first_words store (active_of call)) (has_more (active_of call))
+
+abbrev callers_text : List Placed → List ℕ → List Place → List ℕ
+callers_text fs store callers = flat_map (λ p. codes "called " ++ place_text fs store p) callers
+
+-- where a run was over, from the head of the place on
+abbrev placed_text : List Placed → List ℕ → Call → (head : List ℕ) → (line : ℕ) → List Place → List ℕ
+placed_text fs store call head line callers =
+    codes "at     " ++ (head ++ (right 4 (decimal line) ++ (words_of store call ++ (codes "\n" ++ callers_text fs store callers))))
+
+record Where (fs : List Placed) (store : List ℕ) (call : Call) (below : List Call) (text : List ℕ) : Type 0 where
   line : ℕ
-  words : List ℕ
-  has_more : Bool
   callers : List Place
-  text_is : text ≡ codes "at     " ++ (place_head fs call.function.strings call.place ++ (right 4 (decimal line) ++ (words_text words has_more ++ (codes "\n" ++ flat_map (λ p. codes "called " ++ place_text fs p) callers))))
-  callers_are : map (λ p. (p.strings, p.place)) callers ≡ map waits_at below
+  text_is : text ≡ placed_text fs store call (place_head fs call.function.strings call.place) line callers
+  callers_are : map (λ p. p.call) callers ≡ map waits_at below
 
 place_parts : (a b c d e f g h : List ℕ) → (a ++ (((b ++ c) ++ d) ++ e)) ++ f ≡ a ++ (b ++ (c ++ (d ++ (e ++ f))))
 place_parts a b c d e f g h = simp append_assoc
 
-where_of : (fs : List Placed) (states : ℕ → State) (made : ℕ) (text : List ℕ) (call : Call) (below : List Call) → call_of (states made) ≡ Some call → below_of (states made) ≡ below → IsWhere fs states made text → Where fs call below text
-where_of fs states made text call below at_call at_below h =
+where_of : (fs : List Placed) (states : ℕ → State) (made : ℕ) (store text : List ℕ) (call : Call) (below : List Call) → call_of (states made) ≡ Some call → below_of (states made) ≡ below → IsWhere fs states made store text → Where fs store call below text
+where_of fs states made store text call below at_call at_below h =
     let t = h.1 in
     let same : h.0.call ≡ call = some_same h.0.call call (sym (ap call_of h.0.state_is) ∙ at_call) in
-    let strings = t.function_is ∙ ap (λ (c : Call). c.function.strings) same in
-    let place = t.place_is ∙ ap (λ (c : Call). c.place) same in
+    let head = place_head fs h.0.call.function.strings h.0.call.place in
     record {
-      line = t.first.line;
-      words = t.first.words;
-      has_more = t.first.has_more;
+      line = t.line;
       callers = t.callers;
-      text_is = t.text_is ∙ place_parts (codes "at     ") (place_head fs t.first.strings t.first.place) (right 4 (decimal t.first.line)) (words_text t.first.words t.first.has_more) (codes "\n") (flat_map (λ p. codes "called " ++ place_text fs p) t.callers) [] []
-          ∙ ap (λ n. codes "at     " ++ (place_head fs n t.first.place ++ (right 4 (decimal t.first.line) ++ (words_text t.first.words t.first.has_more ++ (codes "\n" ++ flat_map (λ p. codes "called " ++ place_text fs p) t.callers))))) strings
-          ∙ ap (λ n. codes "at     " ++ (place_head fs call.function.strings n ++ (right 4 (decimal t.first.line) ++ (words_text t.first.words t.first.has_more ++ (codes "\n" ++ flat_map (λ p. codes "called " ++ place_text fs p) t.callers))))) place;
+      text_is = t.text_is ∙ place_parts (codes "at     ") head (right 4 (decimal t.line)) (words_of store h.0.call) (codes "\n") (callers_text fs store t.callers) [] []
+          ∙ ap (λ (c : Call). placed_text fs store c (place_head fs c.function.strings c.place) t.line t.callers) same;
       callers_are = t.callers_are ∙ ap (map waits_at) (ap below_of (sym h.0.state_is) ∙ at_below);
     }
 
@@ -429,6 +434,9 @@ nothing_place : place_head (functions_of nothing) 8 1 ≡ codes "in main     pla
 unfolding digits
 nothing_place = refl
 
+abbrev trapping_main : Call
+trapping_main = call (loaded (instr.Constant 0 ∷ instr.Call 0 ∷ instr.Pop ∷ closing) 8) 8 1 (0 ∷ [])
+
 trapping_place : place_head (functions_of trapping) 8 1 ≡ codes "in main     place    1  line "
 unfolding digits
 trapping_place = refl
@@ -437,9 +445,27 @@ calling_place : place_head (functions_of calling) 9 0 ≡ codes "in f        pla
 unfolding digits
 calling_place = refl
 
+-- a call of `f` of `calling`
+abbrev inner : ℕ → ℕ → Call
+inner start place = call (record { parameters = 0; frame = 0; targets = []; code = calling_f; strings = 9; first_label = 1 }) start place []
+
+abbrev passing_main : Call
+passing_main = call (loaded (instr.External (codes "f") ∷ instr.Load ∷ map instr.Constant (1 ∷ 2 ∷ 3 ∷ 4 ∷ 5 ∷ 6 ∷ 7 ∷ []) ++ instr.Call 7 ∷ instr.Pop ∷ closing) 8) 9 10 []
+
+abbrev passing_f : Call
+passing_f = call (record { parameters = 7; frame = 7; targets = []; code = closing; strings = 9; first_label = 1 }) 9 0 []
+
+passing_place : place_head (functions_of passing) 9 0 ≡ codes "in f        place    0  line "
+unfolding digits
+passing_place = refl
+
+passing_words : (input : List ℕ) → words_of (store_after (machine passing input) 10) passing_f ≡ codes "  with 1 2 3 4 5 6 .."
+unfolding digits
+passing_words input = refl
+
 -- the ending of a trace begins so
-where_begins : (fs : List Placed) (c : Call) (below : List Call) (text : List ℕ) → Where fs c below text → at 7 text ≡ 105
-where_begins fs c below text w = ap (at 7) w.text_is
+where_begins : (fs : List Placed) (store : List ℕ) (c : Call) (below : List Call) (text : List ℕ) → Where fs store c below text → at 7 text ≡ 105
+where_begins fs store c below text w = ap (at 7) w.text_is
 
 row_begins : (fs : List Placed) (states : ℕ → State) (n : ℕ) (c : Call) (others ending text head tail : List ℕ) (seventh : ℕ) → row_head fs (n + 1) c ≡ head → row_tail fs c ≡ tail → (r : FirstRow fs states n c others ending text)
     → (at 7 (changed_text (state_world (states (n + 1))).store r.changed ++ (written_row r.bytes ++ (rows_text r.rows ++ ending))) ≡ 32) ⊎ (at 7 (changed_text (state_world (states (n + 1))).store r.changed ++ (written_row r.bytes ++ (rows_text r.rows ++ ending))) ≡ seventh)
@@ -458,14 +484,14 @@ or_seventh store changed bytes text seventh h = elim (behind_step store changed 
 
 module _ (input text ending : List ℕ) (rows : List TraceRow) (e : text ≡ rows_text rows ++ ending) where
   -- the row of the first step of `nothing`
-  nothing_row : map (λ r. r.made) rows ≡ 0 ∷ [] → All (λ r. ShowsStep (functions_of nothing) (machine nothing input) r.made r.text) rows → IsWhere (functions_of nothing) (machine nothing input) 1 ending
+  nothing_row : map (λ r. r.made) rows ≡ 0 ∷ [] → All (λ r. ShowsStep (functions_of nothing) (machine nothing input) r.made r.text) rows → IsWhere (functions_of nothing) (machine nothing input) 1 (store_after (machine nothing input) 1) ending
       → Begins (codes "       1  main         0") (codes "  c 0         \n") 105 text
   nothing_row all each place =
       let fs = functions_of nothing in
       let states = machine nothing input in
       let r = first_row fs states 0 nothing_main (nothing_runs input) [] ending rows all each in
-      let w = where_of fs states 1 ending (call (loaded closing 8) 8 1 (0 ∷ [])) [] refl refl place in
-      let next = or_seventh (state_world (states 1)).store r.changed r.bytes (rows_text r.rows ++ ending) 105 (ap (λ t. at 7 (t ++ ending)) (no_row r.rows r.all) ∙ where_begins fs _ [] ending w) in
+      let w = where_of fs states 1 (store_after states 1) ending (call (loaded closing 8) 8 1 (0 ∷ [])) [] refl refl place in
+      let next = or_seventh (state_world (states 1)).store r.changed r.bytes (rows_text r.rows ++ ending) 105 (ap (λ t. at 7 (t ++ ending)) (no_row r.rows r.all) ∙ where_begins fs _ _ [] ending w) in
       subst (λ t. Begins (codes "       1  main         0") (codes "  c 0         \n") 105 t) (sym e) (row_begins fs states 0 nothing_main [] ending _ _ _ 105 nothing_head nothing_tail r next)
 
   -- the first of two rows
@@ -522,28 +548,43 @@ module _ (edition : Edition) (source : List ℕ) (ends : RunEnds) (text : List �
       writing_row a.input text a.ending a.rows a.text_is (a.all ∙ writing_shown a.input) a.each
 
   -- a trace of which no row is asked for
-  nothing_placed : IsSourceOf edition source nothing → Traces edition source 1 2 None ends LIMIT → Where (functions_of nothing) (call (loaded closing 8) 8 1 (0 ∷ [])) [] text
+  nothing_placed : IsSourceOf edition source nothing → Traces edition source 1 2 None ends LIMIT → (store : List ℕ) × Where (functions_of nothing) store (call (loaded closing 8) 8 1 (0 ∷ [])) [] text
   nothing_placed is h =
       let a = limit_of nothing 1 2 None (record { from = 2; function = None }) is refl nothing_limit h in
+      let store = store_after (machine nothing a.input) 1 in
       let none : text ≡ a.ending = a.text_is ∙ ap (λ t. t ++ a.ending) (no_row a.rows a.all) in
-      subst (λ t. Where (functions_of nothing) (call (loaded closing 8) 8 1 (0 ∷ [])) [] t) (sym none) (where_of (functions_of nothing) (machine nothing a.input) 1 a.ending (call (loaded closing 8) 8 1 (0 ∷ [])) [] refl refl a.place)
-
-  abbrev inner : ℕ → Call
-  inner start = call (record { parameters = 0; frame = 0; targets = []; code = calling_f; strings = 9; first_label = 1 }) start 0 []
+      let stop = call (loaded closing 8) 8 1 (0 ∷ []) in
+      (store, subst (λ t. Where (functions_of nothing) store stop [] t) (sym none) (where_of (functions_of nothing) (machine nothing a.input) 1 store a.ending stop [] refl refl a.place))
 
   f_placed : IsSourceOf edition source calling → Traces edition source 3 1 (Some (codes "f")) ends LIMIT → at 0 text ≡ 97
   f_placed is h =
       let a = limit_of calling 3 1 (Some (codes "f")) (record { from = 1; function = Some 9 }) is refl (λ input. refl) h in
       let none : text ≡ a.ending = a.text_is ∙ ap (λ t. t ++ a.ending) (no_row a.rows a.all) in
-      let w = where_of (functions_of calling) (machine calling a.input) 3 a.ending (inner 9) (calling_main 3 [] ∷ []) refl refl a.place in
+      let w = where_of (functions_of calling) (machine calling a.input) 3 (store_after (machine calling a.input) 3) a.ending (inner 9 0) (calling_main 3 [] ∷ []) refl refl a.place in
       ap (at 0) (none ∙ w.text_is)
 
-  callers_placed : IsSourceOf edition source calling → Traces edition source 6 7 None ends LIMIT → Where (functions_of calling) (inner 9) (call (record { parameters = 0; frame = 0; targets = []; code = calling_f; strings = 9; first_label = 1 }) 9 3 [] ∷ calling_main 3 [] ∷ []) text
+  callers_placed : IsSourceOf edition source calling → Traces edition source 6 7 None ends LIMIT → (store : List ℕ) × Where (functions_of calling) store (inner 9 0) (inner 9 3 ∷ calling_main 3 [] ∷ []) text
   callers_placed is h =
       let a = limit_of calling 6 7 None (record { from = 7; function = None }) is refl (λ input. refl) h in
+      let store = store_after (machine calling a.input) 6 in
       let none : text ≡ a.ending = a.text_is ∙ ap (λ t. t ++ a.ending) (no_row a.rows a.all) in
-      let below = call (record { parameters = 0; frame = 0; targets = []; code = calling_f; strings = 9; first_label = 1 }) 9 3 [] ∷ calling_main 3 [] ∷ [] in
-      subst (λ t. Where (functions_of calling) (inner 9) below t) (sym none) (where_of (functions_of calling) (machine calling a.input) 6 a.ending (inner 9) below refl refl a.place)
+      let below = inner 9 3 ∷ calling_main 3 [] ∷ [] in
+      (store, subst (λ t. Where (functions_of calling) store (inner 9 0) below t) (sym none) (where_of (functions_of calling) (machine calling a.input) 6 store a.ending (inner 9 0) below refl refl a.place))
+
+  -- a call with parameters, and its words
+  passing_placed : IsSourceOf edition source passing → Traces edition source 10 11 None ends LIMIT
+      → (line : ℕ) × (rest : List ℕ) × (text ≡ codes "at     in f        place    0  line " ++ (right 4 (decimal line) ++ (codes "  with 1 2 3 4 5 6 ..\n" ++ rest)))
+  passing_placed is h =
+      let fs = functions_of passing in
+      let a = limit_of passing 10 11 None (record { from = 11; function = None }) is refl (λ input. refl) h in
+      let store = store_after (machine passing a.input) 10 in
+      let none : text ≡ a.ending = a.text_is ∙ ap (λ t. t ++ a.ending) (no_row a.rows a.all) in
+      let w = where_of fs (machine passing a.input) 10 store a.ending passing_f (passing_main ∷ []) refl refl a.place in (
+        w.line,
+        callers_text fs store w.callers,
+        none ∙ w.text_is ∙ ap (λ p. codes "at     " ++ (p ++ (right 4 (decimal w.line) ++ (words_of store passing_f ++ (codes "\n" ++ callers_text fs store w.callers))))) passing_place
+            ∙ ap (λ ws. codes "at     " ++ (codes "in f        place    0  line " ++ (right 4 (decimal w.line) ++ (ws ++ (codes "\n" ++ callers_text fs store w.callers))))) (passing_words a.input),
+      )
 
 -- the place of the second step of `trapping`
 trapped_last : (input : List ℕ) (last made : ℕ) (kind : Trap) → last + 1 ≡ made → made ≤ 2 → state_outcome (machine trapping input made) ≡ outcome.Trap kind → last ≡ 1
@@ -573,11 +614,12 @@ trapping_placed i j text t =
     let ends = s.ends [] (λ e. refl) in
     let shown = s.shown [] (λ e. refl) in
     let last = trapped_last input ends.1.0 s.made trap.NotAFunction ends.1.1 s.within ends.0 in
-    let place = subst (λ n. IsWhere fs (machine trapping input) n s.ending) last ends.1.2 in
-    let w = where_of fs (machine trapping input) 1 s.ending (call (loaded (instr.Constant 0 ∷ instr.Call 0 ∷ instr.Pop ∷ closing) 8) 8 1 (0 ∷ [])) [] refl refl place in
+    let store = store_after (machine trapping input) s.made in
+    let place = subst (λ n. IsWhere fs (machine trapping input) n store s.ending) last ends.1.2 in
+    let w = where_of fs (machine trapping input) 1 store s.ending trapping_main [] refl refl place in
     let no_rows = no_row s.rows (shown.all ∙ unshown input s.made s.within) in
     let is : text ≡ s.ending = append_cancel_left HEADING.now text s.ending (s.text_is ∙ append_assoc HEADING.now (rows_text s.rows) s.ending ∙ ap (λ r. HEADING.now ++ (r ++ s.ending)) no_rows) in
-    ap (at 28) (is ∙ w.text_is ∙ ap (λ p. codes "at     " ++ (p ++ (right 4 (decimal w.line) ++ (words_text w.words w.has_more ++ (codes "\n" ++ flat_map (λ q. codes "called " ++ place_text fs q) w.callers))))) trapping_place)
+    ap (at 28) (is ∙ w.text_is ∙ ap (λ p. placed_text fs store trapping_main p w.line w.callers) trapping_place)
 
 no_more : (before text : List ℕ) → before ≡ before ++ text → text ≡ []
 no_more before text e = sym (append_cancel_left before [] text (append-nil before ∙ e))
@@ -616,21 +658,21 @@ read_told edition source steps from name ends failed refused (traces.no_memory d
 caller_parts : (a b c d e : List ℕ) → a ++ (b ++ (c ++ (d ++ (codes "\n" ++ e)))) ≡ (a ++ (b ++ (c ++ d))) ++ 10 ∷ e
 caller_parts a b c d e = simp append_assoc
 
-f_line_above : (line : ℕ) (words : List ℕ) (has_more : Bool) → all_above 10 (codes "at     " ++ (codes "in f        place    0  line " ++ (right 4 (decimal line) ++ words_text words has_more))) ≡ true
-f_line_above line words has_more = above_append 10 (codes "at     in f        place    0  line ") (right 4 (decimal line) ++ words_text words has_more) refl
-    (above_append 10 (right 4 (decimal line)) (words_text words has_more) (number_above 4 line) (words_above words has_more))
+f_line_above : (line : ℕ) (words : List ℕ) (are_more : Bool) → all_above 10 (codes "at     " ++ (codes "in f        place    0  line " ++ (right 4 (decimal line) ++ words_text words are_more))) ≡ true
+f_line_above line words are_more = above_append 10 (codes "at     in f        place    0  line ") (right 4 (decimal line) ++ words_text words are_more) refl
+    (above_append 10 (right 4 (decimal line)) (words_text words are_more) (number_above 4 line) (words_above words are_more))
 
 -- the line of a caller names it
-caller_named : (strings : ℕ) (p : Place) (text : List ℕ) → p.strings ≡ 9 → at 10 ((codes "called " ++ place_text (functions_of calling) p) ++ text) ≡ 102
-caller_named strings p text e =
-    ap (λ n. at 10 ((codes "called " ++ place_text (functions_of calling) (record { strings = n; place = p.place; line = p.line; words = p.words; has_more = p.has_more })) ++ text)) e
+caller_named : (store : List ℕ) (p : Place) (text : List ℕ) → p.call ≡ waits_at (inner 9 3) → at 10 ((codes "called " ++ place_text (functions_of calling) store p) ++ text) ≡ 102
+caller_named store p text e =
+    ap (λ (a : Active). at 10 ((codes "called " ++ place_text (functions_of calling) store (record { call = a; line = p.line })) ++ text)) e
 
 heads : {A : Type 0} {a b : A} {xs ys : List A} → a ∷ xs ≡ b ∷ ys → a ≡ b
 heads e = cc
 
-callers_named : (callers : List Place) → map {B = ℕ × ℕ} (λ p. (p.strings, p.place)) callers ≡ (9, 2) ∷ (8, 2) ∷ [] → at 10 (flat_map (λ p. codes "called " ++ place_text (functions_of calling) p) callers) ≡ 102
-callers_named [] e = cc
-callers_named (p ∷ ps) e = let first : ℕ × ℕ = (9, 2) in let here : ℕ × ℕ = (p.strings, p.place) in let head : here ≡ first = heads e in caller_named 0 p (flat_map (λ q. codes "called " ++ place_text (functions_of calling) q) ps) (ap (λ (x : ℕ × ℕ). x.0) head)
+callers_named : (store : List ℕ) (callers : List Place) → map (λ (p : Place). p.call) callers ≡ waits_at (inner 9 3) ∷ waits_at (calling_main 3 []) ∷ [] → at 10 (callers_text (functions_of calling) store callers) ≡ 102
+callers_named store [] e = cc
+callers_named store (p ∷ ps) e = caller_named store p (callers_text (functions_of calling) store ps) (heads e)
 
 pub excluded : TracesExcluded
 excluded = record {
@@ -662,7 +704,7 @@ excluded = record {
       seventh_is (at 7 b.more) 105 b.next 49 (sym (ap (at 7) more)) (λ e. omega (arith, e)) (λ e. omega (arith, e));
   row_before = λ rest edition source ends is before behind h.
       let w = nothing_placed edition source ends (codes "       1" ++ rest) before behind is h in
-      differ 0 32 97 _ _ w.text_is refl refl (λ e. omega (arith, e));
+      differ 0 32 97 _ _ w.1.text_is refl refl (λ e. omega (arith, e));
   other_function = λ rest edition source ends is before behind h.
       let bad : 32 ≡ 97 = f_placed edition source ends (codes "       1" ++ rest) before behind is h in
       omega (arith, bad);
@@ -677,7 +719,8 @@ excluded = record {
       seventh_is (at 7 b.more) 32 b.next 105 (sym (ap (at 7) more)) (λ e. omega (arith, e)) (λ e. omega (arith, e));
   step_left_out = λ rest edition source ends is before behind h.
       let w = nothing_placed edition source ends (codes "at     in main     place    0" ++ rest) before behind is h in
-      let placed = w.text_is ∙ ap (λ p. codes "at     " ++ (p ++ (right 4 (decimal w.line) ++ (words_text w.words w.has_more ++ (codes "\n" ++ flat_map (λ q. codes "called " ++ place_text (functions_of nothing) q) w.callers))))) nothing_place in
+      let stop = call (loaded closing 8) 8 1 (0 ∷ []) in
+      let placed = w.1.text_is ∙ ap (λ p. placed_text (functions_of nothing) w.0 stop p w.1.line w.1.callers) nothing_place in
       differ 28 48 49 _ _ placed refl refl (λ e. omega (arith, e));
   trap_elsewhere = λ rest edition source ends is before behind h.
       let text = codes "at     in main     place    2" ++ rest in
@@ -686,13 +729,28 @@ excluded = record {
       omega (arith, bad);
   caller_left_out = λ rest edition source ends is before behind h.
       let w = callers_placed edition source ends (codes "at     in f        place    0  line    1\ncalled in main" ++ rest) before behind is h in
-      let callers = flat_map (λ q. codes "called " ++ place_text (functions_of calling) q) w.callers in
-      let line = right 4 (decimal w.line) in
-      let words = words_text w.words w.has_more in
-      let parts = w.text_is ∙ ap (λ p. codes "at     " ++ (p ++ (line ++ (words ++ (codes "\n" ++ callers))))) calling_place
+      let callers = callers_text (functions_of calling) w.0 w.1.callers in
+      let line = right 4 (decimal w.1.line) in
+      let words = words_of w.0 (inner 9 0) in
+      let parts = w.1.text_is ∙ ap (λ p. placed_text (functions_of calling) w.0 (inner 9 0) p w.1.line w.1.callers) calling_place
       ∙ caller_parts (codes "at     ") (codes "in f        place    0  line ") line words callers in
-      let behind = ap behind_line parts ∙ line_skipped (codes "at     " ++ (codes "in f        place    0  line " ++ (line ++ words))) callers (f_line_above w.line w.words w.has_more) in
-      differ 10 109 102 _ _ behind refl (callers_named w.callers w.callers_are) (λ e. omega (arith, e));
+      let behind = ap behind_line parts ∙ line_skipped (codes "at     " ++ (codes "in f        place    0  line " ++ (line ++ words))) callers (f_line_above w.1.line (first_words w.0 (active_of (inner 9 0))) false) in
+      differ 10 109 102 _ _ behind refl (callers_named w.0 w.1.callers w.1.callers_are) (λ e. omega (arith, e));
+  other_words = λ text other edition source ends is before behind h.
+      let p = passing_placed edition source ends (codes "at     in f        place    0  line    1  " ++ text) before behind is h in
+      let shown = append_cancel_left (codes "at     in f        place    0  line ") (codes "   1  " ++ text) _ p.2 in
+      other (ap (λ t. take 20 (drop 2 t)) (ap behind_number shown ∙ number_skipped 4 p.0 (codes "  with 1 2 3 4 5 6 ..\n" ++ p.1)));
+  words_left_out = λ rest edition source ends is before behind h.
+      let p = passing_placed edition source ends (codes "at     in f        place    0  line    1\n" ++ rest) before behind is h in
+      let shown = append_cancel_left (codes "at     in f        place    0  line ") (codes "   1\n" ++ rest) _ p.2 in
+      differ 0 10 32 _ _ (ap behind_number shown ∙ number_skipped 4 p.0 (codes "  with 1 2 3 4 5 6 ..\n" ++ p.1)) refl refl (λ e. omega (arith, e));
+  words_of_none = λ rest edition source ends is before behind h.
+      let text = codes "at     in f        place    0  line    1  " ++ rest in
+      let w = callers_placed edition source ends text before behind is h in
+      let more = codes "\n" ++ callers_text (functions_of calling) w.0 w.1.callers in
+      let placed = w.1.text_is ∙ ap (λ p. placed_text (functions_of calling) w.0 (inner 9 0) p w.1.line w.1.callers) calling_place in
+      let shown = append_cancel_left (codes "at     in f        place    0  line ") (codes "   1  " ++ rest) (right 4 (decimal w.1.line) ++ more) placed in
+      differ 0 32 10 _ _ (ap behind_number shown ∙ number_skipped 4 w.1.line more) refl refl (λ e. omega (arith, e));
   other_status = λ ds steps from name result status comes wrong less text edition source ends is before behind h.
       let t = told_so edition source ds is steps from name ends status less (HEADING.now ++ text) before behind (λ e. cc) h in
       wrong (t.answer ∙ ap status_of (sym t.comes ∙ comes t.input));

@@ -1,58 +1,67 @@
 -- The places of a run, one behind another.
-use Rattle.std.proofs.Common.{◌≡◌, ◌∙◌, ℕ, zero, suc, ◌+◌, ◌-◌, ◌<◌, Bool, None, Some, add-one, arith, List, [], ◌∷◌, ◌++◌, ap, append-nil, append_assoc, codes, decimal, length, nat_lt, refl, subst, sym, take, if◌then◌else◌}
-use Rattle.std.specs.List.{flat_map}
+use Rattle.std.proofs.Common.{◌≡◌, ◌∙◌, ℕ, zero, suc, ◌+◌, ◌-◌, ◌<◌, None, Some, add-one, arith, List, [], ◌∷◌, ◌++◌, ap, append-nil, append_assoc, codes, decimal, length, map, min, nat_lt, refl, subst, sym, take, if◌then◌else◌}
+use Rattle.std.specs.List.{flat_map, range_with_len}
 use Rattle.std.proofs.lemmas.List.Concat.{flat_map-append}
 use Rattle.btools.specs.Columns.{left}
 use Rattle.btools.proofs.AddedTexts.{piece}
 use Rattle.std.specs.Prelude.{option_map, slice_get}
-use Rattle.std.proofs.lemmas.List.{map-append}
+use Rattle.std.proofs.lemmas.List.{flat_map_more, map-append}
+use Rattle.std.proofs.lemmas.List.FromFn.{length-map-range_with_len, map-range_with_len_more}
 use Rattle.blang.specs.Machine.{Call}
 use Rattle.bmach.specs.Stops.{active_of}
 use Rattle.bmach.specs.declared.machine.Active.{Active}
 use Rattle.btrace.specs.Programs.{Placed}
-use Rattle.btrace.specs.RowTexts.{Place, place_text, places_text, words_text}
+use Rattle.btrace.specs.RowTexts.{Place, first_words, has_more, parameter_at, place_text, places_text, words_text}
 use Rattle.btrace.specs.Traces.{AddsPlaces, waits_at}
 
-pub words_shown : (old text new words : List ℕ) (count : ℕ) (has_more : Bool) → length words ≡ count → text ≡ (old ++ (if nat_lt 0 count then codes "  with" else [])) ++ flat_map (λ w. codes " " ++ decimal w) words
-    → new ≡ text ++ (if has_more then codes " .." else []) → new ≡ old ++ words_text words has_more
-words_shown old text new words count has_more same before end =
+-- the words of the first parameters, where so many are shown
+pub words_shown : (old text new store : List ℕ) (call : Active) (count : ℕ) → count ≡ min call.parameters 6 → text ≡ (old ++ (if nat_lt 0 count then codes "  with" else [])) ++ flat_map (λ w. codes " " ++ decimal w) (map (parameter_at store call) (range_with_len 0 count))
+    → new ≡ text ++ (if has_more call then codes " .." else []) → new ≡ old ++ words_text (first_words store call) (has_more call)
+words_shown old text new store call count is before end =
+    let words = map (parameter_at store call) (range_with_len 0 count) in
     let with : List ℕ = if nat_lt 0 (length words) then codes "  with" else [] in
     let all : List ℕ = flat_map (λ w. codes " " ++ decimal w) words in
-    end ∙ ap (λ x. x ++ (if has_more then codes " .." else [])) (before ∙ ap (λ n. (old ++ (if nat_lt 0 n then codes "  with" else [])) ++ all) (sym same) ∙ append_assoc old with all)
-    ∙ append_assoc old (with ++ all) (if has_more then codes " .." else [])
+    let dots : List ℕ = if has_more call then codes " .." else [] in
+    let same : length words ≡ count = length-map-range_with_len (parameter_at store call) 0 count in
+    end ∙ ap (λ x. x ++ dots) (before ∙ ap (λ n. (old ++ (if nat_lt 0 n then codes "  with" else [])) ++ all) (sym same) ∙ append_assoc old with all)
+    ∙ append_assoc old (with ++ all) dots
+    ∙ ap (λ n. old ++ words_text (map (parameter_at store call) (range_with_len 0 n)) (has_more call)) is
 
-pub one_word : (start text t1 t2 words : List ℕ) (word : ℕ) → text ≡ start ++ flat_map (λ w. codes " " ++ decimal w) words → t1 ≡ text ++ codes " " → t2 ≡ t1 ++ decimal word
-    → t2 ≡ start ++ flat_map (λ w. codes " " ++ decimal w) (words ++ word ∷ [])
-one_word start text t1 t2 words word before e1 e2 =
+-- with the word of one parameter more
+pub one_word : (start text t1 t2 store : List ℕ) (call : Active) (index word : ℕ) → word ≡ parameter_at store call index
+    → text ≡ start ++ flat_map (λ w. codes " " ++ decimal w) (map (parameter_at store call) (range_with_len 0 index)) → t1 ≡ text ++ codes " " → t2 ≡ t1 ++ decimal word
+    → t2 ≡ start ++ flat_map (λ w. codes " " ++ decimal w) (map (parameter_at store call) (range_with_len 0 (index + 1)))
+one_word start text t1 t2 store call index word is before e1 e2 =
     let f : ℕ → List ℕ = λ w. codes " " ++ decimal w in
-    e2 ∙ ap (λ x. x ++ decimal word) e1 ∙ append_assoc text (codes " ") (decimal word) ∙ ap (λ x. x ++ f word) before ∙ append_assoc start (flat_map f words) (f word)
-    ∙ ap (λ x. start ++ x) (ap (λ x. flat_map f words ++ x) (sym (append-nil (f word))) ∙ sym (flat_map-append f words (word ∷ [])))
+    let words = map (parameter_at store call) (range_with_len 0 index) in
+    e2 ∙ ap (λ x. x ++ decimal word) e1 ∙ append_assoc text (codes " ") (decimal word) ∙ ap (λ x. x ++ f word) before
+    ∙ flat_map_more f start words word ∙ ap (λ w. start ++ flat_map f (words ++ w ∷ [])) is
+    ∙ ap (λ ws. start ++ flat_map f ws) (sym (map-range_with_len_more (parameter_at store call) 0 index index (omega arith)))
 
-pub first_place : (fs : List Placed) (p : Place) (old t1 t2 : List ℕ) → t1 ≡ old ++ codes "at     " → t2 ≡ t1 ++ place_text fs p → AddsPlaces fs p.strings p.place [] old t2
-first_place fs p old t1 t2 e1 e2 = (
-  places_text fs p [],
-  record { first = p; callers = []; text_is = refl; function_is = refl; place_is = refl; callers_are = refl },
-  e2 ∙ ap (λ x. x ++ place_text fs p) e1 ∙ append_assoc old (codes "at     ") (place_text fs p) ∙ ap (λ x. old ++ x) (sym (append-nil (codes "at     " ++ place_text fs p))),
-)
+pub first_place : (fs : List Placed) (store : List ℕ) (call : Active) (line : ℕ) (old t1 t2 : List ℕ) → t1 ≡ old ++ codes "at     " → t2 ≡ t1 ++ place_text fs store (record { call = call; line = line }) → AddsPlaces fs store call [] old t2
+first_place fs store call line old t1 t2 e1 e2 =
+    let shown = place_text fs store (record { call = call; line = line }) in (
+      places_text fs store (record { call = call; line = line }) [],
+      record { line = line; callers = []; text_is = refl; callers_are = refl },
+      e2 ∙ ap (λ x. x ++ shown) e1 ∙ append_assoc old (codes "at     ") shown ∙ ap (λ x. old ++ x) (sym (append-nil (codes "at     " ++ shown))),
+    )
 
-one_caller : (fs : List Placed) (strings place : ℕ) (below : List Call) (c : Call) (p : Place) (old text t1 t2 : List ℕ) → p.strings ≡ c.function.strings → p.place ≡ c.place - 1
-    → AddsPlaces fs strings place below old text → t1 ≡ text ++ codes "called " → t2 ≡ t1 ++ place_text fs p → AddsPlaces fs strings place (below ++ c ∷ []) old t2
-one_caller fs strings place below c p old text t1 t2 function_is place_is before e1 e2 =
-    let f : Place → List ℕ = λ q. codes "called " ++ place_text fs q in
-    let site : Place → ℕ × ℕ = λ q. (q.strings, q.place) in
-    let first = codes "at     " ++ place_text fs before.1.first in
-    let callers = before.1.callers in
-    let same : site p ≡ waits_at c = λ i. (function_is i, place_is i) in (
-      places_text fs before.1.first (callers ++ p ∷ []),
+one_caller : (fs : List Placed) (store : List ℕ) (call : Active) (below : List Call) (c : Call) (p : Place) (old text t1 t2 : List ℕ) → p.call ≡ waits_at c
+    → AddsPlaces fs store call below old text → t1 ≡ text ++ codes "called " → t2 ≡ t1 ++ place_text fs store p → AddsPlaces fs store call (below ++ c ∷ []) old t2
+one_caller fs store call below c p old text t1 t2 is before e1 e2 =
+    let f : Place → List ℕ = λ q. codes "called " ++ place_text fs store q in
+    let site : Place → Active = λ q. q.call in
+    let at : Place = record { call = call; line = before.1.line } in
+    let first = codes "at     " ++ place_text fs store at in
+    let callers = before.1.callers in (
+      places_text fs store at (callers ++ p ∷ []),
       record {
-        first = before.1.first;
+        line = before.1.line;
         callers = callers ++ p ∷ [];
         text_is = refl;
-        function_is = before.1.function_is;
-        place_is = before.1.place_is;
-        callers_are = map-append site callers (p ∷ []) ∙ (λ i. before.1.callers_are i ++ same i ∷ []) ∙ sym (map-append waits_at below (c ∷ []));
+        callers_are = map-append site callers (p ∷ []) ∙ (λ i. before.1.callers_are i ++ is i ∷ []) ∙ sym (map-append waits_at below (c ∷ []));
       },
-      e2 ∙ ap (λ x. x ++ place_text fs p) e1 ∙ append_assoc text (codes "called ") (place_text fs p) ∙ ap (λ x. x ++ f p) (before.2 ∙ ap (λ x. old ++ x) before.1.text_is)
+      e2 ∙ ap (λ x. x ++ place_text fs store p) e1 ∙ append_assoc text (codes "called ") (place_text fs store p) ∙ ap (λ x. x ++ f p) (before.2 ∙ ap (λ x. old ++ x) before.1.text_is)
           ∙ append_assoc old (first ++ flat_map f callers) (f p)
           ∙ ap (λ x. old ++ x) (append_assoc first (flat_map f callers) (f p) ∙ ap (λ x. first ++ x) (ap (λ x. flat_map f callers ++ x) (sym (append-nil (f p))) ∙ sym (flat_map-append f callers (p ∷ [])))),
     )
@@ -66,13 +75,13 @@ next_caller (c ∷ below) (suc number) active is =
     let next = next_caller below number active is in
     (next.0, ap (λ rest. c ∷ rest) next.1, next.2)
 
-pub one_more : (fs : List Placed) (strings place : ℕ) (below : List Call) (number : ℕ) (active : Active) (p : Place) (old text t1 t2 : List ℕ) → Some active ≡ option_map active_of (slice_get below number) → p.strings ≡ active.strings → p.place ≡ active.place - 1
-    → AddsPlaces fs strings place (take number below) old text → t1 ≡ text ++ codes "called " → t2 ≡ t1 ++ place_text fs p → AddsPlaces fs strings place (take (number + 1) below) old t2
-one_more fs strings place below number active p old text t1 t2 is function_is place_is before e1 e2 =
+pub one_more : (fs : List Placed) (store : List ℕ) (call : Active) (below : List Call) (number : ℕ) (active : Active) (p : Place) (old text t1 t2 : List ℕ) → Some active ≡ option_map active_of (slice_get below number) → p.call ≡ record active { place = active.place - 1 }
+    → AddsPlaces fs store call (take number below) old text → t1 ≡ text ++ codes "called " → t2 ≡ t1 ++ place_text fs store p → AddsPlaces fs store call (take (number + 1) below) old t2
+one_more fs store call below number active p old text t1 t2 is waits before e1 e2 =
     let next = next_caller below number active is in
     let told : take (number + 1) below ≡ take number below ++ next.0 ∷ [] = ap (λ n. take n below) (add-one number) ∙ next.1 in
-    subst (λ (calls : List Call). AddsPlaces fs strings place calls old t2) (sym told)
-    (one_caller fs strings place (take number below) next.0 p old text t1 t2 (function_is ∙ ap (λ (a : Active). a.strings) next.2) (place_is ∙ ap (λ (a : Active). a.place - 1) next.2) before e1 e2)
+    subst (λ (calls : List Call). AddsPlaces fs store call calls old t2) (sym told)
+    (one_caller fs store call (take number below) next.0 p old text t1 t2 (waits ∙ ap (λ (a : Active). record a { place = a.place - 1 }) next.2) before e1 e2)
 
 pub some_caller : (below : List Call) (number : ℕ) → number < length below → None ≡ option_map active_of (slice_get below number) → ⊥
 some_caller [] number within is = omega arith

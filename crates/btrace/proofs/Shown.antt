@@ -14,13 +14,14 @@ use Rattle.blang.specs.Machine.{Image, State, Running, Shows, state_outcome, ste
 use Rattle.blang.specs.Machine as machine
 use Rattle.bmach.specs.Steps.{world_with}
 use Rattle.bmach.specs.Stepping.{Paused, machine_at}
-use Rattle.bmach.specs.Turns.{KeepsBelow, MovesOn, HasHalted, TurnGives}
+use Rattle.bmach.specs.Stops.{active_of}
+use Rattle.bmach.specs.Turns.{KeepsBelow, LeavesWords, MovesOn, HasHalted, TurnGives}
 use Rattle.bmach.proofs.Running.{at_limit, behind, one_more, run_over}
 use Rattle.bmach.proofs.Turning.{follows, goes_on}
 use Rattle.btrace.specs.Programs.{Placed}
 use Rattle.btrace.specs.RowTexts.{changed_text, step_row, written_row}
 use Rattle.btrace.specs.Traces as traces
-use Rattle.btrace.specs.Traces.{AddsEnd, AddsIf, AddsLast, AddsPlaces, AddsStep, AreShown, EndsAs, IsTried, TraceRow, ShowsStep, StepsGive, Tries, is_shown, is_wanted, rows_text, shown_of, steps_from}
+use Rattle.btrace.specs.Traces.{AddsEnd, AddsIf, AddsLast, AddsPlaces, AddsStep, AreShown, EndsAs, IsTried, TellsPlace, TraceRow, ShowsStep, StepsGive, Tries, is_shown, is_wanted, rows_text, shown_of, steps_from, store_after}
 use Rattle.btrace.specs.declared.tracing.Which.{Which}
 
 -- So many steps were made from a state on, and the rows of those that are to be shown added to a text.
@@ -264,24 +265,37 @@ module _ (fs : List Placed) (which : Which) (first now : Paused) (made : ℕ) (i
           ends = ends last.0 last.2;
         }
 
+  -- the words where it is over
+  words_left : (new : Paused) (t : IsTraced fs which first made now i j o p old text) → ((left before : List ℕ) → (state_world (step now.image (machine_at now left before))).store ≡ new.store)
+      → (more : List ℕ) → CanFollow j more → new.store ≡ store_after (steps_from first (t.goes.taken ++ more)) (made + 1)
+  words_left new t words more can =
+      sym (ap (λ s. (state_world s).store) (behind_it fs which first now made i j m o p old text text' b is t more can)
+      ∙ ap (λ (x : Image). (state_world (step x (machine_at now more t.goes.output))).store) (sym t.image_is) ∙ words more t.goes.output)
+
   pub over_shows : (new : Paused) (q : Kept) (n : ℕ) (r : Outcome) → made < n → IsTraced fs which first made now i j o p old text → TurnGives now.image (machine_at now) (machine_at new) j m (outgoing_of p) (outgoing_of q) (Err r)
-      → AddsIf b fs (made + 1) now.call new.store p.bytes q.bytes (Err r) text text' → KeepsBelow (Err r) now.below new.below → (text'' : List ℕ) → AddsEnd fs now.call.function.strings now.call.place new.below r text' text'' → traces.ShowsRows fs which (steps_from first) n i m r old text''
-  over_shows new q n (outcome.Exit status) lt t g a kept text'' end =
+      → LeavesWords (λ left before. step now.image (machine_at now left before)) (Err r) new.store → AddsIf b fs (made + 1) now.call new.store p.bytes q.bytes (Err r) text text' → KeepsBelow (Err r) now.below new.below
+      → (text'' : List ℕ) → AddsEnd fs new.store (active_of now.call) new.below r text' text'' → traces.ShowsRows fs which (steps_from first) n i m r old text''
+  over_shows new q n (outcome.Exit status) lt t g words a kept text'' end =
       let h = halted now new first.image (outcome.Exit status) t.image_is g in
       over_by new q n (outcome.Exit status) lt t h [] b refl a text'' (end ∙ sym (append-nil text')) (λ more can. ((last_shows new q n (outcome.Exit status) lt t h [] more can).outcome, refl))
-  over_shows new q n (outcome.Trap kind) lt t g a kept text'' end =
+  over_shows new q n (outcome.Trap kind) lt t g words a kept text'' end =
       let h = halted now new first.image (outcome.Trap kind) t.image_is g in
+      let told = subst (λ (below : List machine.Call). TellsPlace fs new.store (active_of now.call) below end.0) kept end.1 in
       over_by new q n (outcome.Trap kind) lt t h end.0 b refl a text'' end.2
-      (λ more can. ((last_shows new q n (outcome.Trap kind) lt t h end.0 more can).outcome, (made, refl, (record { call = now.call; below = now.below; world = world_with now.store more t.goes.output; state_is = there fs which first now made i j m o p old text text' b is t more (can_before new q n (outcome.Trap kind) lt t h end.0 more can) }, subst (λ (below : List machine.Call). traces.TellsPlace fs now.call.function.strings now.call.place below end.0) kept end.1))))
-  over_shows new q n outcome.Limit lt t g a kept text'' end = absurd g
-  over_shows new q n outcome.Device lt t g a kept text'' end = over_failed new q n outcome.Device lt t g.taken g.took text'' a end (λ ending f more can. f more can)
-  over_shows new q n outcome.Memory lt t g a kept text'' end = over_failed new q n outcome.Memory lt t g.2.taken g.2.took text'' a end (λ ending f more can. f more can)
+      (λ more can.
+      let before = can_before new q n (outcome.Trap kind) lt t h end.0 more can in (
+        (last_shows new q n (outcome.Trap kind) lt t h end.0 more can).outcome,
+        (made, refl, (tries fs which first now made i j m o p old text text' b is t more before, subst (λ (store : List ℕ). TellsPlace fs store (active_of now.call) now.below end.0) (words_left new t words more before) told)),
+      ))
+  over_shows new q n outcome.Limit lt t g words a kept text'' end = absurd g
+  over_shows new q n outcome.Device lt t g words a kept text'' end = over_failed new q n outcome.Device lt t g.taken g.took text'' a end (λ ending f more can. f more can)
+  over_shows new q n outcome.Memory lt t g words a kept text'' end = over_failed new q n outcome.Memory lt t g.2.taken g.2.took text'' a end (λ ending f more can. f more can)
 
 -- all steps were made
 pub all_give : (fs : List Placed) (which : Which) (first now : Paused) (made : ℕ) (i j : Incoming) (o p : Kept) (old text : List ℕ) → IsTraced fs which first made now i j o p old text → StepsGive first made i j (outgoing_of o) (outgoing_of p) outcome.Limit
 all_give fs which first now made i j o p old text t = at_limit first.image made (machine_at first) now.call now.below now.store t.goes
 
-pub all_show : (fs : List Placed) (which : Which) (first now : Paused) (made : ℕ) (i j : Incoming) (o p : Kept) (old text text' : List ℕ) → IsTraced fs which first made now i j o p old text → AddsPlaces fs now.call.function.strings now.call.place now.below text text'
+pub all_show : (fs : List Placed) (which : Which) (first now : Paused) (made : ℕ) (i j : Incoming) (o p : Kept) (old text text' : List ℕ) → IsTraced fs which first made now i j o p old text → AddsPlaces fs now.store (active_of now.call) now.below text text'
     → traces.ShowsRows fs which (steps_from first) made i j outcome.Limit old text'
 all_show fs which first now made i j o p old text text' t end = record {
   made = made;
@@ -292,5 +306,9 @@ all_show fs which first now made i j o p old text text' t end = record {
   taken = t.goes.taken;
   took = t.goes.took;
   shown = t.shown;
-  ends = λ more can. (refl, (record { call = now.call; below = now.below; world = world_with now.store more t.goes.output; state_is = t.goes.comes more [] can }, end.1));
+  ends = λ more can.
+      let there = t.goes.comes more [] can in (
+        refl,
+        (record { call = now.call; below = now.below; world = world_with now.store more t.goes.output; state_is = there }, subst (λ (store : List ℕ). TellsPlace fs store (active_of now.call) now.below end.0) (sym (ap (λ s. (state_world s).store) there)) end.1),
+      );
 }

@@ -12,14 +12,15 @@ use Rattle.blang.specs.Layout.{World}
 use Rattle.blang.specs.Machine.{Call, Halted, Image, RunEnds, Running, State, Stuck, image_of, machine, state_outcome, run, state_world, Reported}
 use Rattle.bmach.specs.Resolved.{IsLoadedFrom, call_resolved, state_resolved}
 use Rattle.bmach.specs.Stepping.{IsUnstarted, Paused}
+use Rattle.bmach.specs.Stops.{active_of}
 use Rattle.bmach.proofs.Beginning.{run_from}
 use Rattle.bmach.proofs.Resolving.{run-resolved}
 use Rattle.bmach.proofs.Running.{same_run}
 use Rattle.brun.proofs.RunSteps.{outcome-resolved, run_loaded, run_of_loaded, world-resolved}
 use Rattle.btools.specs.Programs.{HasProgram, nothing_written}
 use Rattle.btrace.specs.Programs.{Placed, functions_of}
-use Rattle.btrace.specs.RowTexts.{changed_text, step_row, written_row}
-use Rattle.btrace.specs.Traces.{AreShown, EndsAs, IsTried, IsWhere, TraceRow, ShowsRows, ShowsStep, StepsGive, TellsEnd, Traces, Tries, is_step, shown_of, steps_from, traced, waits_at, which_of}
+use Rattle.btrace.specs.RowTexts.{changed_text, places_text, step_row, written_row}
+use Rattle.btrace.specs.Traces.{AreShown, EndsAs, IsTried, IsWhere, TraceRow, ShowsRows, ShowsStep, StepsGive, TellsEnd, TellsPlace, Traces, Tries, is_step, shown_of, steps_from, store_after, traced, waits_at, which_of}
 use Rattle.btrace.specs.declared.tracing.TheConstants.{HEADING}
 use Rattle.btrace.specs.declared.tracing.Which.{Which}
 
@@ -77,17 +78,16 @@ module _ (fs : List Placed) (which : Which) (I : Image) (f g : ℕ → State) (e
     each = All-weaker (λ (r : TraceRow). ShowsStep fs g r.made r.text) (λ (r : TraceRow). ShowsStep fs f r.made r.text) (λ r s. step_shown r.made r.text s) rows h.each;
   }
 
-  where_same : (made : ℕ) (text : List ℕ) → IsWhere fs g made text → IsWhere fs f made text
-  where_same made text h =
-      let t = tries_same made h.0 in (
+  where_same : (made n : ℕ) (text : List ℕ) → IsWhere fs g made (store_after g n) text → IsWhere fs f made (store_after f n) text
+  where_same made n text h =
+      let t = tries_same made h.0 in
+      let told : TellsPlace fs (store_after f n) (active_of h.0.call) h.0.below text = subst (λ (w : World). TellsPlace fs w.store (active_of h.0.call) h.0.below text) (world_same n) h.1 in (
         t.0,
         record {
-          first = h.1.first;
-          callers = h.1.callers;
-          text_is = h.1.text_is;
-          function_is = h.1.function_is ∙ ap (λ (c : Call). c.function.strings) (sym t.1);
-          place_is = h.1.place_is ∙ ap (λ (c : Call). c.place) (sym t.1);
-          callers_are = h.1.callers_are ∙ ap (map waits_at) (sym t.3) ∙ waits_same I t.0.below;
+          line = told.line;
+          callers = told.callers;
+          text_is = told.text_is ∙ ap (λ (c : Call). places_text fs (store_after f n) (record { call = active_of c; line = told.line }) told.callers) (sym t.1);
+          callers_are = told.callers_are ∙ ap (map waits_at) (sym t.3) ∙ waits_same I t.0.below;
         },
       )
 
@@ -99,8 +99,8 @@ module _ (fs : List Placed) (which : Which) (I : Image) (f g : ℕ → State) (e
 
   pub ends_same : (made n : ℕ) (r : Outcome) (text : List ℕ) → EndsAs fs g made n r text → EndsAs fs f made n r text
   ends_same made n (outcome.Exit status) text h = (sym (outcome_same made) ∙ h.0, h.1)
-  ends_same made n (outcome.Trap kind) text h = (sym (outcome_same made) ∙ h.0, (h.1.0, h.1.1, where_same h.1.0 text h.1.2))
-  ends_same made n outcome.Limit text h = (h.0, where_same made text h.1)
+  ends_same made n (outcome.Trap kind) text h = (sym (outcome_same made) ∙ h.0, (h.1.0, h.1.1, where_same h.1.0 made text h.1.2))
+  ends_same made n outcome.Limit text h = (h.0, where_same made made text h.1)
   ends_same made n outcome.Device text h = tried_same made text h
   ends_same made n outcome.Memory text h = tried_same made text h
 

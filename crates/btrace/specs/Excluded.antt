@@ -1,5 +1,5 @@
 -- What the contracts of `trace` and `locate` exclude.
-use Rattle.std.specs.Prelude.{◌≡◌, ℕ, ◌<◌, List, [], ◌∷◌, ◌++◌, Option, Some, None, codes}
+use Rattle.std.specs.Prelude.{◌≡◌, ℕ, ◌<◌, List, [], ◌∷◌, ◌++◌, Option, Some, None, codes, map, take}
 use Rattle.bword.specs.declared.edition.Edition.{Edition}
 use Rattle.bword.specs.ByteEnds.{Grew}
 use Rattle.blang.specs.declared.code.Definition.{Definition}
@@ -49,6 +49,21 @@ nothing = function (codes "main") closing ∷ []
 -- of `main(){f();}f(){f();}`: each third step is a call
 abbrev pub calling : List Definition
 calling = function (codes "main") calling_f ∷ function (codes "f") calling_f ∷ []
+
+-- the code of `main(){f(1,2,3,4,5,6,7);}f(a,b,c,d,e,g,h){}`: the tenth step calls `f`
+abbrev pub passing : List Definition
+passing = function (codes "main")
+    (instr.External (codes "f") ∷ instr.Load ∷ map instr.Constant (1 ∷ 2 ∷ 3 ∷ 4 ∷ 5 ∷ 6 ∷ 7 ∷ [])
+    ++ instr.Call 7 ∷ instr.Pop ∷ closing)
+    ∷ definition.Function (record {
+      name = codes "f";
+      parameters = 7;
+      frame = 7;
+      targets = [];
+      strings = [];
+      code = closing;
+    })
+    ∷ []
 
 -- of `main(){putchar('a');}`, which writes in its fourth step
 abbrev pub writing : List Definition
@@ -104,6 +119,14 @@ pub record TracesExcluded : Type 0 where
   pub trap_elsewhere : (rest : List ℕ) → NoTrace trapping 2 3 None TRAP (codes "at     in main     place    2" ++ rest)
   pub caller_left_out : (rest : List ℕ)
       → NoTrace calling 6 7 None LIMIT (codes "at     in f        place    0  line    1\ncalled in main" ++ rest)
+  -- other words than those of the first six parameters of the call, none of them, no mark of the seventh, or words of
+  -- a call that has none
+  pub other_words : (text : List ℕ) → (take 20 text ≡ codes "with 1 2 3 4 5 6 ..\n" → ⊥)
+      → NoTrace passing 10 11 None LIMIT (codes "at     in f        place    0  line    1  " ++ text)
+  pub words_left_out : (rest : List ℕ)
+      → NoTrace passing 10 11 None LIMIT (codes "at     in f        place    0  line    1\n" ++ rest)
+  pub words_of_none : (rest : List ℕ)
+      → NoTrace calling 6 7 None LIMIT (codes "at     in f        place    0  line    1  " ++ rest)
   -- another status than that of the machine after just so many steps, as the limit for a trap
   pub other_status : (ds : List Definition) (steps from : ℕ) (name : Option (List ℕ)) (result : Outcome) (status : ℕ)
       → ComesAlways ds steps result → (status ≡ status_of result → ⊥) → status < REFUSED → (text : List ℕ)

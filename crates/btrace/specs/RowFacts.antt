@@ -1,10 +1,12 @@
 -- What stands in the rows of a trace, on small values.
-use Rattle.std.specs.Prelude.{◌≡◌, ℕ, true, false, List, [], ◌∷◌, ◌++◌, Some, None, codes, refl, replicate}
+use Rattle.std.specs.Prelude.{◌≡◌, ℕ, true, false, [], ◌∷◌, ◌++◌, Some, None, codes, refl, replicate}
 use Rattle.std.specs.Fmt.{digits}
 use Rattle.blang.specs.declared.run.Outcome.TheVariants as outcome
 use Rattle.blang.specs.declared.run.Trap.TheVariants as trap
 use Rattle.btrace.specs.Locates.{located_status}
-use Rattle.btrace.specs.RowTexts.{changed_text, instr_text, margin, operands_text, word_row, words_text, written_row}
+use Rattle.bmach.specs.declared.machine.Active.{Active}
+use Rattle.btrace.specs.RowTexts.{changed_text, first_words, has_more, instr_text, margin, operands_text, word_row}
+use Rattle.btrace.specs.RowTexts.{words_text, written_row}
 use Rattle.btrace.specs.Traces.{is_wanted, which_of}
 
 -- the topmost five operands
@@ -35,7 +37,25 @@ written_shown : written_row (codes "a\n") ≡ replicate 43 32 ++ codes "writes '
 unfolding margin
 written_shown = refl
 
--- the words of parameters
+-- The parameters of a call stand at the beginning of its frame, and six of them are shown.
+abbrev a_call : (parameters start : ℕ) → Active
+a_call parameters start = record { strings = 9; parameters = parameters; place = 0; start = start }
+
+first_two : first_words (7 ∷ 8 ∷ 9 ∷ 10 ∷ []) (a_call 2 1) ≡ 8 ∷ 9 ∷ []
+first_two = refl
+
+first_six : first_words (1 ∷ 2 ∷ 3 ∷ 4 ∷ 5 ∷ 6 ∷ 7 ∷ 8 ∷ []) (a_call 7 0) ≡ 1 ∷ 2 ∷ 3 ∷ 4 ∷ 5 ∷ 6 ∷ []
+first_six = refl
+
+around_memory : first_words (7 ∷ 8 ∷ []) (a_call 2 65535) ≡ 0 ∷ 7 ∷ []
+around_memory = refl
+
+six_are_all : has_more (a_call 6 0) ≡ false
+six_are_all = refl
+
+seven_are_more : has_more (a_call 7 0) ≡ true
+seven_are_more = refl
+
 no_words : words_text [] false ≡ []
 no_words = refl
 

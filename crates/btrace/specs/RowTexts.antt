@@ -1,13 +1,17 @@
 -- The texts of the rows of a trace.
 use Rattle.std.specs.Prelude.{◌≡◌, ℕ, Bool, ◌-◌, List, [], ◌∷◌, ◌++◌, Option, Some, None, codes, decimal, drop}
-use Rattle.std.specs.Prelude.{length, nat_lt, refl, replicate, reverse, slice_get, slice_index, if◌then◌else◌}
-use Rattle.std.specs.List.{flat_map}
+use Rattle.std.specs.Prelude.{◌+◌, ◌%◌, length, map, min, nat_lt, refl, replicate, reverse, slice_get, slice_index}
+use Rattle.std.specs.Prelude.{if◌then◌else◌}
+use Rattle.std.specs.List.{flat_map, range_with_len}
+use Rattle.blang.specs.Layout.{store_words}
 use Rattle.blang.specs.Machine.{Call}
 use Rattle.blang.specs.Text.{instr_line}
 use Rattle.blang.specs.declared.code.Instr.{Instr}
+use Rattle.bmach.specs.declared.machine.Active.{Active}
 use Rattle.btools.specs.Characters.{shown_byte}
 use Rattle.btools.specs.Columns.{left, right, without_newline}
 use Rattle.btrace.specs.Programs.{Placed, function_with}
+use Rattle.btrace.specs.declared.places.TheConstants.{SHOWN_PARAMETERS}
 use Rattle.btrace.specs.declared.rows.TheConstants.{MARGIN, SHOWN_OPERANDS}
 
 -- the name of a function
@@ -69,19 +73,29 @@ written_row [] = []
 written_row (byte ∷ bytes) =
     margin ++ codes "writes '" ++ flat_map shown_byte (byte ∷ bytes) ++ codes "'\n"
 
--- a place of a run: the function of a call, a place in it, a line of the source, and the words of the first parameters,
--- and whether there are more
+-- a place of a run: a call, and a line of the source
 pub record Place : Type 0 where
-  pub strings : ℕ
-  pub place : ℕ
+  pub call : Active
   pub line : ℕ
-  pub words : List ℕ
-  pub has_more : Bool
 
-abbrev pub words_text : List ℕ → Bool → List ℕ
-words_text words has_more =
+parameters_shown : SHOWN_PARAMETERS ≡ 6
+parameters_shown = refl
+
+-- The parameters of a call are the first words of its frame.
+abbrev pub parameter_at : (store : List ℕ) → Active → ℕ → ℕ
+parameter_at store call k = slice_index store ((call.start + k) % store_words)
+
+-- the words of the first parameters of a call, and whether there are more
+abbrev pub first_words : (store : List ℕ) → Active → List ℕ
+first_words store call = map (parameter_at store call) (range_with_len 0 (min call.parameters SHOWN_PARAMETERS))
+
+abbrev pub has_more : Active → Bool
+has_more call = nat_lt SHOWN_PARAMETERS call.parameters
+
+abbrev pub words_text : List ℕ → (are_more : Bool) → List ℕ
+words_text words are_more =
     (if nat_lt 0 (length words) then codes "  with" else []) ++ flat_map (λ w. codes " " ++ decimal w) words
-    ++ (if has_more then codes " .." else [])
+    ++ (if are_more then codes " .." else [])
 
 -- a function, a place in it, and a line of the source
 abbrev pub site_text : List Placed → (strings place line : ℕ) → List ℕ
@@ -89,10 +103,12 @@ site_text fs strings place line =
     codes "in " ++ left 8 (name_in (function_with fs strings)) ++ codes " place " ++ right 4 (decimal place)
     ++ codes "  line " ++ right 4 (decimal line)
 
-abbrev pub place_text : List Placed → Place → List ℕ
-place_text fs p = site_text fs p.strings p.place p.line ++ words_text p.words p.has_more ++ codes "\n"
+abbrev pub place_text : List Placed → (store : List ℕ) → Place → List ℕ
+place_text fs store p =
+    site_text fs p.call.strings p.call.place p.line ++ words_text (first_words store p.call) (has_more p.call)
+    ++ codes "\n"
 
 -- where a run was over, and the calls that led there
-abbrev pub places_text : List Placed → Place → List Place → List ℕ
-places_text fs first callers =
-    codes "at     " ++ place_text fs first ++ flat_map (λ p. codes "called " ++ place_text fs p) callers
+abbrev pub places_text : List Placed → (store : List ℕ) → Place → List Place → List ℕ
+places_text fs store first callers =
+    codes "at     " ++ place_text fs store first ++ flat_map (λ p. codes "called " ++ place_text fs store p) callers

@@ -11,6 +11,8 @@ use Rattle.blang.specs.Machine.{Call, Image, State, Running, Halted, Stuck, Stat
 use Rattle.blang.specs.Machine.{HasNotRun, RunGives, machine, state_outcome, state_world}
 use Rattle.blang.specs.Machine as runs
 use Rattle.bmach.specs.Stepping.{BeginsNot, Paused, machine_at}
+use Rattle.bmach.specs.Stops.{active_of}
+use Rattle.bmach.specs.declared.machine.Active.{Active}
 use Rattle.blang.specs.declared.run.Outcome.{Outcome}
 use Rattle.blang.specs.declared.run.Outcome.TheVariants as outcome
 use Rattle.blang.specs.Layout.{World}
@@ -82,39 +84,44 @@ pub record AreShown (fs : List Placed) (which : Which) (states : ℕ → State) 
     pub all : map (λ r. r.made) rows ≡ shown_of which states made
     pub each : All (λ r. ShowsStep fs states r.made r.text) rows
 
--- the function and the place of a call that waits: the place of its next instruction is behind that call
-abbrev pub waits_at : Call → ℕ × ℕ
-waits_at c = (c.function.strings, c.place - 1)
+-- a call that waits, at its instruction that called: its next one comes after that
+abbrev pub waits_at : Call → Active
+waits_at c = record (active_of c) { place = c.place - 1 }
 
--- A text tells where a run was over: at this place of this function, and the calls below, the nearest first.
-pub record TellsPlace (fs : List Placed) (strings place : ℕ) (below : List Call) (text : List ℕ) : Type 0 where
-  pub first : Place
-  pub callers : List Place
-  pub text_is : text ≡ places_text fs first callers
-  pub function_is : first.strings ≡ strings
-  pub place_is : first.place ≡ place
-  pub callers_are : map (λ p. (p.strings, p.place)) callers ≡ map waits_at below
+-- A text tells where a run was over: at this call, and the calls below, the nearest first; the words of their
+-- parameters are those of this store.
+pub record TellsPlace (fs : List Placed) (store : List ℕ) (call : Active) (below : List Call) (text : List ℕ) : Type 0
+  where
+    pub line : ℕ
+    pub callers : List Place
+    pub text_is : text ≡ places_text fs store (record { call = call; line = line }) callers
+    pub callers_are : map (λ p. p.call) callers ≡ map waits_at below
 
-abbrev pub AddsPlaces : List Placed → (strings place : ℕ) → List Call → List ℕ → List ℕ → Type 0
-AddsPlaces fs strings place below old new =
-    (text : List ℕ) × TellsPlace fs strings place below text × (new ≡ old ++ text)
+abbrev pub AddsPlaces : List Placed → (store : List ℕ) → Active → List Call → List ℕ → List ℕ → Type 0
+AddsPlaces fs store call below old new =
+    (text : List ℕ) × TellsPlace fs store call below text × (new ≡ old ++ text)
 
-abbrev pub IsWhere : List Placed → (ℕ → State) → ℕ → List ℕ → Type 0
-IsWhere fs states made text =
-    (t : Tries states made) × TellsPlace fs t.call.function.strings t.call.place t.below text
+abbrev pub IsWhere : List Placed → (ℕ → State) → ℕ → (store : List ℕ) → List ℕ → Type 0
+IsWhere fs states made store text =
+    (t : Tries states made) × TellsPlace fs store (active_of t.call) t.below text
 
 -- a step that failed has a row, if it was to be shown, or none
 abbrev pub IsTried : List Placed → (ℕ → State) → ℕ → List ℕ → Type 0
 IsTried fs states made text =
     (text ≡ []) ⊎ ((t : Tries states made) × (line : ℕ) × (text ≡ step_row fs (made + 1) t.call line))
 
+abbrev pub store_after : (ℕ → State) → (made : ℕ) → List ℕ
+store_after states made = (state_world (states made)).store
+
 -- Behind so many steps the run is over, or all were made; or the next one failed. What stands behind their rows.
 abbrev pub EndsAs : List Placed → (ℕ → State) → (made steps : ℕ) → Outcome → List ℕ → Type 0
 EndsAs fs states made steps (outcome.Exit status) ending =
     (state_outcome (states made) ≡ outcome.Exit status) × (ending ≡ [])
 EndsAs fs states made steps (outcome.Trap kind) ending =
-    (state_outcome (states made) ≡ outcome.Trap kind) × ((last : ℕ) × (last + 1 ≡ made) × IsWhere fs states last ending)
-EndsAs fs states made steps outcome.Limit ending = (made ≡ steps) × IsWhere fs states made ending
+    (state_outcome (states made) ≡ outcome.Trap kind)
+    × ((last : ℕ) × (last + 1 ≡ made) × IsWhere fs states last (store_after states made) ending)
+EndsAs fs states made steps outcome.Limit ending =
+    (made ≡ steps) × IsWhere fs states made (store_after states made) ending
 EndsAs fs states made steps outcome.Device ending = IsTried fs states made ending
 EndsAs fs states made steps outcome.Memory ending = IsTried fs states made ending
 
@@ -153,10 +160,10 @@ AddsIf true fs number call store before behind (Ok u) old new =
 AddsIf true fs number call store before behind (Err r) old new = AddsLast fs number call old new
 
 -- what was added for an outcome
-abbrev pub AddsEnd : List Placed → (strings place : ℕ) → List Call → Outcome → List ℕ → List ℕ → Type 0
-AddsEnd fs strings place below (outcome.Trap kind) old new = AddsPlaces fs strings place below old new
-AddsEnd fs strings place below outcome.Limit old new = AddsPlaces fs strings place below old new
-AddsEnd fs strings place below r old new = new ≡ old
+abbrev pub AddsEnd : List Placed → (store : List ℕ) → Active → List Call → Outcome → List ℕ → List ℕ → Type 0
+AddsEnd fs store call below (outcome.Trap kind) old new = AddsPlaces fs store call below old new
+AddsEnd fs store call below outcome.Limit old new = AddsPlaces fs store call below old new
+AddsEnd fs store call below r old new = new ≡ old
 
 -- the machine from this state on, by its input and the number of its steps
 abbrev pub steps_from : Paused → States

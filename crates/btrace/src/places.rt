@@ -1,7 +1,7 @@
 //! The places where a run was.
-ghost use Rattle.std.specs.Prelude.{◌≡◌, ◌-◌, ℕ, Bool, List, [], ◌++◌, OnOk, if◌then◌else◌};
+ghost use Rattle.std.specs.Prelude.{◌≡◌, ◌-◌, ℕ, [], ◌++◌, OnOk, if◌then◌else◌};
 ghost use Rattle.btrace.specs.Programs.{entries_of};
-ghost use Rattle.btrace.specs.RowTexts.{Place, place_text, site_text, words_text};
+ghost use Rattle.btrace.specs.RowTexts.{first_words, has_more, place_text, site_text, words_text};
 ghost use Rattle.btrace.specs.Traces.{AddsPlaces};
 
 use crate::rows::{frame_address, name_of};
@@ -21,7 +21,7 @@ pub fn push_places<S: Store + Drop>(
     stepper: &Stepper<'_, S>,
     call: Active,
 ) -> Result<(), AllocError>
-    ensures { OnOk result (AddsPlaces (entries_of tables.now) call.strings call.place stepper.now.below text.old text.new) }
+    ensures { OnOk result (AddsPlaces (entries_of tables.now) stepper.now.store call stepper.now.below text.old text.new) }
 {
     text.push(b"at     ")?;
     push_place(text, tables, stepper, call)?;
@@ -36,8 +36,7 @@ pub fn push_places<S: Store + Drop>(
 
 // The place of a call that waits is behind the instruction that called; this is that instruction.
 fn at_its_call(call: Active) -> Active
-    ensures strings { result.strings ≡ call.strings }
-    ensures place { result.place ≡ call.place - 1 }
+    ensures { result ≡ record call { place = call.place - 1 } }
 {
     Active {
         strings: call.strings,
@@ -54,8 +53,8 @@ fn push_place<S: Store + Drop>(
     stepper: &Stepper<'_, S>,
     call: Active,
 ) -> Result<(), AllocError>
-    ensures { OnOk result ((line : ℕ) × (words : List ℕ) × (has_more : Bool) ×
-        (text.new ≡ text.old ++ place_text (entries_of tables.now) (record { strings = call.strings; place = call.place; line = line; words = words; has_more = has_more }))) }
+    ensures { OnOk result ((line : ℕ) ×
+        (text.new ≡ text.old ++ place_text (entries_of tables.now) stepper.now.store (record { call = call; line = line }))) }
 {
     push_site(text, tables, call)?;
     push_words(text, stepper, call)?;
@@ -82,7 +81,7 @@ fn push_words<S: Store + Drop>(
     stepper: &Stepper<'_, S>,
     call: Active,
 ) -> Result<(), AllocError>
-    ensures { OnOk result ((words : List ℕ) × (has_more : Bool) × (text.new ≡ text.old ++ words_text words has_more)) }
+    ensures { OnOk result (text.new ≡ text.old ++ words_text (first_words stepper.now.store call) (has_more call)) }
 {
     let count = call.parameters.min(SHOWN_PARAMETERS);
     push_if(text, count > 0, b"  with")?;

@@ -1,5 +1,5 @@
 //! The rows of a trace.
-ghost use Rattle.std.specs.Prelude.{◌≡◌, ℕ, List, [], ◌+◌, ◌^◌, ◌<◌, ◌++◌, OnOk, option_map};
+ghost use Rattle.std.specs.Prelude.{◌≡◌, ℕ, List, [], ◌+◌, ◌%◌, ◌^◌, ◌<◌, ◌++◌, OnOk, option_map};
 ghost use Rattle.std.specs.List.{flat_map};
 ghost use Rattle.btools.specs.Characters.{shown_byte};
 ghost use Rattle.btools.specs.Columns.{left};
@@ -177,7 +177,9 @@ fn push_parameters<S: Store + Drop>(
 }
 
 /// The address of a word of a call's frame.
-pub fn frame_address(call: Active, index: u16) -> u16 {
+pub fn frame_address(call: Active, index: u16) -> u16
+    ensures { result ≡ (call.start + index) % 65536 }
+{
     let start = (call.start % 65536) as u16;
     start.wrapping_add(index)
 }

@@ -1,8 +1,9 @@
 //! Tracing a program.
 ghost use Rattle.std.specs.Prelude.{◌≡◌, ◌+◌, ◌^◌, ◌<◌, ◌≤◌, ◌++◌, IfOk, OnErr, OnOk, drop, map, option_map};
 ghost use Rattle.blang.specs.Layout.{data_end, shape_of};
+ghost use Rattle.blang.specs.Machine.{step};
 ghost use Rattle.bmach.specs.Stepping.{machine_at};
-ghost use Rattle.bmach.specs.Turns.{KeepsBelow, TurnGives};
+ghost use Rattle.bmach.specs.Turns.{KeepsBelow, LeavesWords, TurnGives};
 ghost use Rattle.bword.specs.ByteEnds.{Kept, outgoing_of};
 ghost use Rattle.btrace.specs.Excluded.{TracesExcluded};
 ghost use Rattle.btrace.specs.Programs.{entries_of, functions_of};
@@ -201,6 +202,8 @@ fn trace_step<S: Store + Drop, I: ByteIn>(
     ensures shows { IfOk result (λ r. AddsIf is_shown (entries_of tables.now) (made + 1) stepper.old.call stepper.new.store
         written.old.bytes written.new.bytes r text.old text.new) }
     ensures unfailed { OnErr result ((I.incoming input.new).failures ≡ (I.incoming input.old).failures) }
+    ensures words { IfOk result (λ r. LeavesWords (λ left before. step stepper.old.image (machine_at stepper.old left before)) r
+        stepper.new.store) }
     ensures below { IfOk result (λ r. KeepsBelow r stepper.old.below stepper.new.below) }
     ensures image { stepper.new.image ≡ stepper.old.image }
     ensures same { I.lender input.new ≡ I.lender input.old }
@@ -237,7 +240,7 @@ fn push_end<S: Store + Drop>(
     call: Active,
     outcome: Outcome,
 ) -> Result<(), AllocError>
-    ensures { OnOk result (AddsEnd (entries_of tables.now) call.strings call.place stepper.now.below outcome text.old text.new) }
+    ensures { OnOk result (AddsEnd (entries_of tables.now) stepper.now.store call stepper.now.below outcome text.old text.new) }
 {
     match outcome {
         Outcome::Trap(_) | Outcome::Limit => push_places(text, tables, stepper, call),

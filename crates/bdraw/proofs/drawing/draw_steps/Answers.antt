@@ -11,5 +11,5 @@ pub returns-clause-draws : goal.returns-clause-draws
 returns-clause-draws g c = λ begins.
     let made = rw c.in-Err.is at c.make_steps.ensures.gives in
     ends_drawn c.args.program.now.definitions.items c.args.program.now.image c.make_steps.new.stepper.store c.args.steps _ _ c.in-Err.end.1 _ _ _
-    (is_over c.args.program.now.image c.args.stepper c.args.steps _ _ c.new-written.result c.make_steps.new.written c.in-Err.end.1 begins c.new-written.ensures made.0) made.1
+    (is_over c.args.program.now.image c.args.stepper c.args.steps _ _ c.in-Err.end.1 begins made.0) made.1
     (is_at_end c.args.program.now.image c.args.stepper c.args.steps _ _ c.in-Err.end.1 c.make_steps.new.stepper.store begins made.2) c.draw_end.ensures.ends

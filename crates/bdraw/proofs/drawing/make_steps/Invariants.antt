@@ -1,9 +1,8 @@
 use Rattle.std.proofs.Common.{◌≡◌}
-use Rattle.bword.specs.ByteEnds.{outgoing_of}
-use Rattle.bdraw.specs.Draws.{IsMade}
+use Rattle.bdraw.specs.Draws.{IsMade, untold}
 use Rattle.bdraw.proofs.drawing.make_steps.Given as goal
 
 abbrev pub invariant-loop-made : goal.invariant-loop-made
 invariant-loop-made g l =
-    IsMade l.fn.stepper l.made l.stepper (g.I.ByteIn.incoming l.fn.input) (g.I.ByteIn.incoming l.input) (outgoing_of l.fn.written) (outgoing_of l.written)
+    IsMade l.fn.stepper l.made l.stepper (g.I.ByteIn.incoming l.fn.input) (g.I.ByteIn.incoming l.input) untold untold
     × (g.I.ByteIn.lender l.input ≡ g.I.ByteIn.lender l.fn.input)

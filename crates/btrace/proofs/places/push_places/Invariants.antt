@@ -6,4 +6,4 @@ use Rattle.btrace.proofs.places.push_places.Given as goal
 -- the place, and those of the nearest callers
 abbrev pub invariant-loop-number : goal.invariant-loop-number
 invariant-loop-number g l =
-    AddsPlaces (entries_of l.tables) l.fn.call.strings l.fn.call.place (take l.number l.stepper.below) l.fn.text l.text
+    AddsPlaces (entries_of l.tables) l.stepper.store l.fn.call (take l.number l.stepper.below) l.fn.text l.text

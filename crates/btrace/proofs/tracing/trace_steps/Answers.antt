@@ -36,7 +36,7 @@ returns-in-Err-Device-clause-shows g c =
     let is = c.shows-is_shown.ensures ∙ ap (λ (a : Active). is_wanted c.args.which (c.loop-made.made + 1) a.strings) c.top-call.ensures in
     over_shows (entries_of c.args.tables.now) c.args.which c.args.stepper c.loop-made.stepper c.loop-made.made (g.I.ByteIn.incoming c.args.input.now) (g.I.ByteIn.incoming c.loop-made.input) (g.I.ByteIn.incoming c.trace_step.new.input)
     c.args.written.now c.loop-made.written c.args.text.now c.loop-made.text c.trace_step.new.text c.shows-is_shown.result is c.trace_step.new.stepper c.trace_step.new.written
-    c.args.steps outcome.Device c.loop-made-test.true c.loop-made.invariant.0 gives shows tt c.trace_step.new.text refl
+    c.args.steps outcome.Device c.loop-made-test.true c.loop-made.invariant.0 gives tt shows tt c.trace_step.new.text refl
 
 pub returns-in-Err-clause-gives : goal.returns-in-Err-clause-gives
 returns-in-Err-clause-gives g c =
@@ -50,12 +50,13 @@ pub returns-in-Err-clause-shows : goal.returns-in-Err-clause-shows
 returns-in-Err-clause-shows g c =
     let gives = rw c.in-Err.is at c.in_ok-trace_step.ensures.gives in
     let shows = rw c.in-Err.is at c.in_ok-trace_step.ensures.shows in
+    let words = rw c.in-Err.is at c.in_ok-trace_step.ensures.words in
     let below = rw c.in-Err.is at c.in_ok-trace_step.ensures.below in
     let is = c.shows-is_shown.ensures ∙ ap (λ (a : Active). is_wanted c.args.which (c.loop-made.made + 1) a.strings) c.top-call.ensures in
     let end = rw c.top-call.ensures at c.in_ok-push_end-in-Err.ensures in
     over_shows (entries_of c.args.tables.now) c.args.which c.args.stepper c.loop-made.stepper c.loop-made.made (g.I.ByteIn.incoming c.args.input.now) (g.I.ByteIn.incoming c.loop-made.input) (g.I.ByteIn.incoming c.trace_step.new.input)
     c.args.written.now c.loop-made.written c.args.text.now c.loop-made.text c.trace_step.new.text c.shows-is_shown.result is c.trace_step.new.stepper c.trace_step.new.written
-    c.args.steps c.in-Err.outcome c.loop-made-test.true c.loop-made.invariant.0 gives shows below c.push_end.new.text end
+    c.args.steps c.in-Err.outcome c.loop-made-test.true c.loop-made.invariant.0 gives words shows below c.push_end.new.text end
 
 pub returns-clause-gives : goal.returns-clause-gives
 returns-clause-gives g c =

@@ -1,0 +1,21 @@
+//! An end for what nobody looks at.
+ghost use Rattle.std.specs.Prelude.{[], true};
+ghost use Rattle.bdraw.specs.Draws.{untold};
+
+use bword::{ByteOut, EndFault};
+
+/// An end that takes all bytes and keeps none.
+#[derive(Clone, Copy)]
+pub struct Sink;
+
+impl ByteOut for Sink {
+    ghost outgoing = { λ _. untold };
+
+    ghost lender = { λ _. [] };
+
+    ghost refuses_whole = { true };
+
+    fn put(&mut self, _bytes: &[u8]) -> Result<(), EndFault> {
+        Ok(())
+    }
+}
