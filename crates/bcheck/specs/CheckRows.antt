@@ -54,33 +54,39 @@ on_lines = refl
 past_line : map is_on_line ([] ∷ codes "a b" ∷ codes "a\nb" ∷ []) ≡ (true ∷ true ∷ false ∷ [])
 past_line = refl
 
-abbrev undefined : FindingParts
+-- a finding on the third line of a source, where a tab is shown as a blank
+abbrev undefined : FindingParts (codes "n 5;\nf() {\n\ti = n; } g;\n")
 undefined = record {
-  line = 3;
-  column = 10;
+  before = codes "n 5;\nf() {\n";
+  left = codes "\ti = ";
+  right = codes "n; } g;";
+  after = codes "\n";
+  split = refl;
+  from_line = refl;
+  in_line = refl;
+  marks = 1;
+  marked = refl;
   code = codes "un";
   sentence = codes "no n";
-  shown = codes "i = n;";
-  mark = codes "    ^";
   mend = codes "auto n;";
   on_lines = refl;
 }
 
 error_for_people : finding_text form.Text severity.Error (codes "x.b") undefined
-    ≡ codes "x.b:3:10: error: no n\n    i = n;\n        ^\n  mend: auto n;\n"
+    ≡ codes "x.b:3:6: error: no n\n     i = n; } g;\n         ^\n  mend: auto n;\n"
 unfolding digits
 error_for_people = refl
 
 file_on_one_line : finding_text form.Text severity.Error (codes "x\n1:1: error: y") undefined
-    ≡ codes "x\\u000a1:1: error: y:3:10: error: no n\n    i = n;\n        ^\n  mend: auto n;\n"
+    ≡ codes "x\\u000a1:1: error: y:3:6: error: no n\n     i = n; } g;\n         ^\n  mend: auto n;\n"
 unfolding digits
 file_on_one_line = refl
 
 warning_for_editors : finding_text form.Json severity.Warning (codes "a\"b") undefined
-    ≡ codes "{\"file\":\"a\\\"b\",\"line\":3,\"column\":10,\"severity\":\"warning\","
+    ≡ codes "{\"file\":\"a\\\"b\",\"line\":3,\"column\":6,\"severity\":\"warning\","
     ++ codes "\"code\":\"un\",\"message\":\"no n\",\"mend\":\"auto n;\"}\n"
 unfolding digits
 warning_for_editors = refl
 
-no_findings : findings_text form.Text 0 (codes "x.b") [] ≡ []
+no_findings : findings_text {source = []} form.Text 0 (codes "x.b") [] ≡ []
 no_findings = refl

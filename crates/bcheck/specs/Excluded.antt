@@ -60,7 +60,7 @@ pub record Excluded : Type 0 where
       (status ≡ DONE) × (text ≢ []) × (StartsWith text (finding_start c.form c.file) → ⊥))
   -- an error told as a warning, or a warning as an error, be it the first finding or behind others
   pub other_severity : Never (λ c line status text.
-      (before : List FindingParts) × (s : Severity) × (row column : ℕ) × (rest : List ℕ) × (s ≢ severity_of status)
+      (before : List (FindingParts c.source)) × (s : Severity) × (row column : ℕ) × (rest : List ℕ) × (s ≢ severity_of status)
       × (text ≡ shown_in_form c.form line ++ (findings_text c.form status c.file before
       ++ (finding_head c.form s c.file row column ++ rest))))
   -- of a fault no finding or two, or a newline in its words, its piece of the source or the name of its file
