@@ -1,8 +1,8 @@
 -- What the contract of a check excludes.
-use Rattle.std.proofs.Common.{◌≡◌, ◌≢◌, ◌∙◌, ◌<◌, ◌+◌, ◌*◌, ℕ, zero, suc, List, [], ◌∷◌, ◌++◌, Bool, true, false, IsTrue, Option, Some, None, ap, append-nil, append_assoc, arith, codes, decimal, length, map, refl, subst, sym, take, inl, inr}
+use Rattle.std.proofs.Common.{◌≡◌, ◌≢◌, ◌∙◌, ◌<◌, ◌≤◌, ◌+◌, ◌*◌, ℕ, zero, suc, List, [], ◌∷◌, ◌++◌, Bool, true, false, IsTrue, Option, Some, None, ap, append-nil, append_assoc, arith, codes, decimal, drop, length, map, refl, subst, sym, take, inl, inr, ⊎_elim}
 use Rattle.std.specs.Io.{StartsWith}
 use Rattle.std.specs.Io.KnownBytes.{Appends}
-use Rattle.std.specs.List.{flat_map}
+use Rattle.std.specs.List.{All, flat_map}
 use Rattle.std.proofs.Math.Nat.{one-mul, zero-add}
 use Rattle.std.proofs.Math.Seq.{take-append_seam}
 use Rattle.std.proofs.lemmas.List.{append_cancel_left}
@@ -12,8 +12,10 @@ use Rattle.bword.specs.declared.edition.Edition.TheVariants as editions
 use Rattle.bword.specs.declared.ends.EndFault.{EndFault}
 use Rattle.bword.specs.declared.ends.EndFault.TheVariants as end_fault
 use Rattle.blang.specs.Code.{code_of}
-use Rattle.blang.specs.Compiles.{CompilesTo, fault_text, line_of, status_of}
-use Rattle.blang.specs.Cut.{tokens_from}
+use Rattle.blang.specs.Compiles.{CompilesTo, fault_text, letters_text, line_of, status_of}
+use Rattle.blang.specs.Cut.{line_after, tokens_from}
+use Rattle.blang.specs.declared.token.Letters.{Letters}
+use Rattle.blang.specs.declared.token.Letters.TheVariants as letters
 use Rattle.blang.specs.declared.run.LoadFault.{LoadFault}
 use Rattle.blang.specs.declared.run.LoadFault.TheVariants as fault
 use Rattle.blang.specs.Layout.{load_fault}
@@ -22,12 +24,14 @@ use Rattle.blang.specs.declared.token.Diagnostic.{Diagnostic}
 use Rattle.btree.specs.SourceRows.{ComesIn}
 use Rattle.btree.proofs.SourceRows.{edition_rows}
 use Rattle.bcheck.specs.Checks as checks
+use Rattle.bcheck.specs.Checks.{IsOver, Reason, StandsOn, code_keyword, column_after, diagnostic_code, json_text}
 use Rattle.bcheck.specs.Checks.{AreFindings, Check, Checks, FindingParts, Outcome, TellsFirst, finding_column, finding_head, finding_line, finding_start, finding_text, outcome_of, findings_text, severity_of, shown_in_form, told_first}
-use Rattle.bcheck.specs.Excluded.{ComesTo, Excluded, IsTold, Never, finding_lines, is_printed, newlines}
+use Rattle.bcheck.specs.Excluded.{BeginsWith, ComesTo, Excluded, IsTold, Never, NeverOf, finding_lines, is_printed, newlines}
 use Rattle.bcheck.specs.declared.finding.Severity.{Severity}
+use Rattle.bcheck.specs.declared.finding.Severity.TheVariants as severity
 use Rattle.bcheck.specs.declared.form.Form.{Form}
 use Rattle.bcheck.specs.declared.form.Form.TheVariants as form
-use Rattle.bcheck.proofs.FindingTexts.{both_printed, findings_printed, first_byte, lines_of_all, newlines_in, no_cons, other_severity_behind, starts_of, text_placed}
+use Rattle.bcheck.proofs.FindingTexts.{both_printed, findings_printed, first_byte, head_placed, lines_of_all, same_places, newlines_in, no_cons, other_severity_behind, starts_of, text_placed}
 
 -- a check of a source that comes to this tells it
 abbrev comes_to : (c : Check) (line : List ℕ) (status : ℕ) → ComesTo c line status → Outcome
@@ -135,6 +139,90 @@ other_severity c line status text to t wrong h =
     other_severity_behind c.form wrong.1 (severity_of status) c.file wrong.0 w.are.0 wrong.2 wrong.3 wrong.4 wrong.5
     (append_cancel_left (shown_in_form c.form line) _ _ (sym wrong.6 ∙ w.text_is ∙ ap (λ x. shown_in_form c.form line ++ x) w.are.3))
 
+-- the first finding of a fault: it is one of what the source comes to, and these are its numbers
+record First (c : Check) (d : Diagnostic) (row column : ℕ) (rest : List ℕ) : Type 0 where
+  parts : FindingParts c.source
+  after : List ℕ
+  row_is : decimal row ≡ decimal (finding_line parts)
+  column_is : decimal column ≡ decimal (finding_column parts)
+  rest_is : rest ≡ (text_placed c.form severity.Error c.file parts).0 ++ after
+  code : parts.code ≡ diagnostic_code d
+  stands : StandsOn c.edition d.line (parts.before ++ parts.left) (parts.right ++ parts.after)
+
+first_in : (c : Check) (o : Outcome) (s : Severity) (d : Diagnostic) (row column : ℕ) (rest more : List ℕ) (ps : List (FindingParts c.source)) → o ≡ outcome_of c.edition c.source (Some d) o.fault → (ps ≡ [] → ⊥)
+    → All (λ p. Reason o.edition o.stop o.fault p.code (p.before ++ p.left) (p.right ++ p.after)) ps → more ≡ flat_map (finding_text c.form severity.Error c.file) ps → more ≡ finding_head c.form s c.file row column ++ rest → First c d row column rest
+first_in c o s d row column rest more [] is some all e f = absurd (some refl)
+first_in c o s d row column rest more (p ∷ ps) is some all e f =
+    let text = text_placed c.form severity.Error c.file p in
+    let later = flat_map (finding_text c.form severity.Error c.file) ps in
+    let same : finding_head c.form s c.file row column ++ rest ≡ finding_head c.form severity.Error c.file (finding_line p) (finding_column p) ++ (text.0 ++ later) =
+    sym f ∙ e ∙ ap (λ x. x ++ later) text.1 ∙ append_assoc (finding_head c.form severity.Error c.file (finding_line p) (finding_column p)) text.0 later in
+    let places = same_places c.form s severity.Error row column (finding_line p) (finding_column p) rest (text.0 ++ later)
+    (append_cancel_left (finding_start c.form c.file) _ _ (sym (head_placed c.form s c.file row column rest) ∙ same ∙ head_placed c.form severity.Error c.file (finding_line p) (finding_column p) (text.0 ++ later))) in
+    let reason : Reason c.edition (Some d) o.fault p.code (p.before ++ p.left) (p.right ++ p.after) =
+    subst (λ (x : Outcome). Reason x.edition x.stop x.fault p.code (p.before ++ p.left) (p.right ++ p.after)) is (all 0 p (omega arith)) in
+    record { parts = p; after = later; row_is = places.0; column_is = places.1; rest_is = places.2; code = reason.0; stands = reason.1 }
+
+status_one : (stop : Option Diagnostic) (f : Option LoadFault) (d : Diagnostic) (line : List ℕ) (status : ℕ) → stop ≡ Some d → told_first stop f ≡ (line, status) → 1 ≡ status
+status_one (Some x) f d line status e told = ap (λ (p : List ℕ × ℕ). p.1) told
+status_one None f d line status e told = cc
+
+first_told : (c : Check) (line : List ℕ) (status : ℕ) (text : List ℕ) (to : ComesTo c line status) (d : Diagnostic) → to.outcome.stop ≡ Some d → IsTold c text → (row column : ℕ) (rest : List ℕ) → BeginsWith c line text row column rest → Checks c
+    → First c d row column rest
+first_told c line status text to d stop t row column rest b h =
+    let w = told_in c line status text to t h in
+    let one : 1 ≡ status = status_one to.outcome.stop (load_fault (map code_of to.goes.definitions)) d line status stop to.told in
+    let more : w.more ≡ finding_head c.form b.severity c.file row column ++ rest = append_cancel_left (shown_in_form c.form line) _ _ (sym w.text_is ∙ b.is) in
+    let texts : w.more ≡ findings_text c.form 1 c.file w.are.0 = w.are.3 ∙ ap (λ n. findings_text c.form n c.file w.are.0) (sym one) in
+    first_in c (comes_to c line status to) b.severity d row column rest w.more w.are.0 (ap (λ s. outcome_of c.edition c.source s (load_fault (map code_of to.goes.definitions))) stop)
+    (none_of_one w.are.0 (w.are.1 (λ done. let no : ◌≡◌ {A = ℕ} 1 0 = one ∙ done in absurd (omega (arith, no))))) w.are.2 texts more
+
+other_line : NeverOf (λ c d row column rest. (decimal row ≢ decimal d.line)
+    × ((before after : List ℕ) → c.source ≡ before ++ after → line_after 1 before < d.line → IsOver c.edition after → ⊥))
+other_line c line status text to d stop t row column rest b wrong h =
+    let f = first_told c line status text to d stop t row column rest b h in
+    ⊎_elim (λ on. wrong.0 (f.row_is ∙ ap decimal on)) (λ over. wrong.1 (f.parts.before ++ f.parts.left) (f.parts.right ++ f.parts.after) f.parts.split over.0 over.1) f.stands
+
+later_line : NeverOf (λ c d row column rest. (n : ℕ) → n ≤ d.line → decimal row ≢ decimal n)
+later_line c line status text to d stop t row column rest b wrong h =
+    let f = first_told c line status text to d stop t row column rest b h in
+    ⊎_elim (λ on. wrong (finding_line f.parts) (omega (arith, on)) f.row_is) (λ over. wrong (finding_line f.parts) (omega (arith, over.0)) f.row_is) f.stands
+
+no_place : NeverOf (λ c d row column rest. (before after : List ℕ) → c.source ≡ before ++ after → decimal row ≡ decimal (line_after 1 before) → decimal column ≢ decimal (column_after 1 before))
+no_place c line status text to d stop t row column rest b wrong h =
+    let f = first_told c line status text to d stop t row column rest b h in
+    wrong (f.parts.before ++ f.parts.left) (f.parts.right ++ f.parts.after) f.parts.split f.row_is f.column_is
+
+-- the letters of a code in JSON
+letters_in : (l : Letters) (keyword after : List ℕ) (a b : ℕ) (more : List ℕ) → 34 ∷ a ∷ b ∷ more ≡ json_text (letters_text l ++ keyword) ++ after → a ∷ b ∷ [] ≡ letters_text l
+letters_in letters.OpenComment keyword after a b more e = ap (λ t. take 2 (drop 1 t)) e
+letters_in letters.Character keyword after a b more e = ap (λ t. take 2 (drop 1 t)) e
+letters_in letters.LongName keyword after a b more e = ap (λ t. take 2 (drop 1 t)) e
+letters_in letters.Constant keyword after a b more e = ap (λ t. take 2 (drop 1 t)) e
+letters_in letters.Syntax keyword after a b more e = ap (λ t. take 2 (drop 1 t)) e
+letters_in letters.Redeclared keyword after a b more e = ap (λ t. take 2 (drop 1 t)) e
+letters_in letters.NotLvalue keyword after a b more e = ap (λ t. take 2 (drop 1 t)) e
+letters_in letters.TooManyNames keyword after a b more e = ap (λ t. take 2 (drop 1 t)) e
+letters_in letters.TooManyCases keyword after a b more e = ap (λ t. take 2 (drop 1 t)) e
+letters_in letters.Undefined keyword after a b more e = ap (λ t. take 2 (drop 1 t)) e
+letters_in letters.TooLarge keyword after a b more e = ap (λ t. take 2 (drop 1 t)) e
+
+words_after : (k h s i m q a : List ℕ) → ((k ++ h ++ s ++ i ++ m) ++ q) ++ a ≡ k ++ (h ++ (s ++ (i ++ (m ++ (q ++ a)))))
+words_after k h s i m q a = simp append_assoc refl
+
+json_words : {source : List ℕ} (p : FindingParts source) (file after : List ℕ) → (more : List ℕ) × ((text_placed form.Json severity.Error file p).0 ++ after ≡ json_text p.code ++ more)
+unfolding text_placed
+json_words p file after = (_, words_after (json_text p.code) (codes ",\"message\":") (json_text p.sentence) (codes ",\"mend\":") (json_text p.mend) (codes "}\n") after)
+
+other_letters : NeverOf (λ c d row column rest. (c.form ≡ form.Json) × (first : ℕ) × (second : ℕ) × (more : List ℕ)
+    × (rest ≡ 34 ∷ first ∷ second ∷ more) × (first ∷ second ∷ [] ≢ letters_text d.letters))
+other_letters c line status text to d stop t row column rest b wrong h =
+    let f = first_told c line status text to d stop t row column rest b h in
+    let words = json_words f.parts c.file f.after in
+    let here : rest ≡ json_text f.parts.code ++ words.0 = f.rest_is ∙ ap (λ x. (text_placed x severity.Error c.file f.parts).0 ++ f.after) wrong.0 ∙ words.1 in
+    let code : 34 ∷ wrong.1 ∷ wrong.2 ∷ wrong.3 ≡ json_text (letters_text d.letters ++ code_keyword d.letters d.about) ++ words.0 = sym wrong.4 ∙ here ∙ ap (λ x. json_text x ++ words.0) f.code in
+    wrong.5 (letters_in d.letters (code_keyword d.letters d.about) words.0 wrong.1 wrong.2 wrong.3 code)
+
 lines_told : (c : Check) (o : Outcome) (line : List ℕ) (status : ℕ) (text : List ℕ) (w : WasTold c.form o c.file (shown_in_form c.form line) status c.status text)
     → newlines text ≡ newlines (shown_in_form c.form line) + length w.are.0 * finding_lines c.form
 lines_told c o line status text w =
@@ -232,6 +320,10 @@ excluded = record {
   no_finding = no_finding;
   no_fault = no_fault;
   other_severity = other_severity;
+  other_line = other_line;
+  later_line = later_line;
+  no_place = no_place;
+  other_letters = other_letters;
   other_lines = other_lines;
   odd_lines = odd_lines;
   other_bytes = other_bytes;

@@ -148,8 +148,26 @@ same_severity form.Json s t l c m d u v e =
     let word = (same_to (is_in_range 48 57) (decimal c) (decimal d) _ _ 44 44 (decimal_is c) (decimal_is d) refl refl column).1 in
     same_word s t (codes "\",\"code\":" ++ u) (codes "\",\"code\":" ++ v) (append_cancel_left (codes ",\"severity\":\"") _ _ word)
 
+word_rest : (s t : Severity) (u v : List ℕ) → severity_word s ++ u ≡ severity_word t ++ v → u ≡ v
+word_rest s t u v e = append_cancel_left (severity_word s) u v (e ∙ ap (λ x. severity_word x ++ v) (sym (same_word s t u v e)))
+
+-- and so are the line, the column and what comes after them
+pub same_places : (form : Form) (s t : Severity) (l c m d : ℕ) (u v : List ℕ) → placed form s l c u ≡ placed form t m d v → (decimal l ≡ decimal m) × (decimal c ≡ decimal d) × (u ≡ v)
+same_places form.Text s t l c m d u v e =
+    let line = same_to (is_in_range 48 57) (decimal l) (decimal m) _ _ 58 58 (decimal_is l) (decimal_is m) refl refl e in
+    let column : decimal c ++ (codes ": " ++ (severity_word s ++ (codes ": " ++ u))) ≡ decimal d ++ (codes ": " ++ (severity_word t ++ (codes ": " ++ v))) = append_cancel_left (codes ":") _ _ line.1 in
+    let word = same_to (is_in_range 48 57) (decimal c) (decimal d) _ _ 58 58 (decimal_is c) (decimal_is d) refl refl column in
+    let rest = word_rest s t (codes ": " ++ u) (codes ": " ++ v) (append_cancel_left (codes ": ") _ _ word.1) in
+    (line.0, word.0, append_cancel_left (codes ": ") u v rest)
+same_places form.Json s t l c m d u v e =
+    let line = same_to (is_in_range 48 57) (decimal l) (decimal m) _ _ 44 44 (decimal_is l) (decimal_is m) refl refl e in
+    let column = append_cancel_left (codes ",\"column\":") _ _ line.1 in
+    let word = same_to (is_in_range 48 57) (decimal c) (decimal d) _ _ 44 44 (decimal_is c) (decimal_is d) refl refl column in
+    let rest = word_rest s t (codes "\",\"code\":" ++ u) (codes "\",\"code\":" ++ v) (append_cancel_left (codes ",\"severity\":\"") _ _ word.1) in
+    (line.0, word.0, append_cancel_left (codes "\",\"code\":") u v rest)
+
 -- each finding begins so
-pub text_placed : {source : List ℕ} → (form : Form) (s : Severity) (file : List ℕ) (p : FindingParts source) → (rest : List ℕ) × (finding_text form s file p ≡ finding_head form s file (finding_line p) (finding_column p) ++ rest)
+unfoldable pub text_placed : {source : List ℕ} → (form : Form) (s : Severity) (file : List ℕ) (p : FindingParts source) → (rest : List ℕ) × (finding_text form s file p ≡ finding_head form s file (finding_line p) (finding_column p) ++ rest)
 text_placed form.Text s file p = (finding_words form.Text p ++ codes "\n", append_assoc (finding_head form.Text s file (finding_line p) (finding_column p)) (finding_words form.Text p) (codes "\n"))
 text_placed form.Json s file p = (finding_words form.Json p ++ codes "}\n", append_assoc (finding_head form.Json s file (finding_line p) (finding_column p)) (finding_words form.Json p) (codes "}\n"))
 

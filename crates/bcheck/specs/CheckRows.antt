@@ -5,7 +5,8 @@ use Rattle.blang.specs.declared.token.About.TheVariants as about
 use Rattle.blang.specs.declared.token.Letters.TheVariants as letters
 use Rattle.blang.specs.declared.run.LoadFault.TheVariants as fault
 use Rattle.bcheck.specs.Checks.{FindingParts, finding_text, findings_text, is_on_line, json_byte, json_text, file_byte}
-use Rattle.bcheck.specs.Checks.{severity_of, severity_word, shown_in_form, told_first}
+use Rattle.bcheck.specs.Checks.{column_after, diagnostic_code, severity_of, severity_word, shown_in_form, told_first}
+use Rattle.blang.specs.Cut.{line_after}
 use Rattle.bcheck.specs.declared.finding.Severity.TheVariants as severity
 use Rattle.bcheck.specs.declared.form.Form.TheVariants as form
 
@@ -26,6 +27,19 @@ nothing_told = refl
 
 line_shown : map (λ f. shown_in_form f (codes "sx 1\n")) (form.Text ∷ form.Json ∷ []) ≡ (codes "sx 1\n" ∷ [] ∷ [])
 line_shown = refl
+
+-- the code of a diagnostic, with a keyword and without, and with a name
+fault_codes : map (λ a. diagnostic_code (record { letters = letters.Syntax; about = a; line = 3 }))
+    (about.Nothing ∷ about.Case ∷ about.Break ∷ about.Default ∷ about.Name (codes "n") ∷ [])
+    ≡ (codes "sx" ∷ codes "sx case" ∷ codes "sx break" ∷ codes "sx default" ∷ codes "sx" ∷ [])
+fault_codes = refl
+
+-- the line and the column of a place after a text
+lines : map (line_after 1) ([] ∷ codes "a" ∷ codes "a\n" ∷ codes "\n\nab" ∷ []) ≡ (1 ∷ 1 ∷ 2 ∷ 3 ∷ [])
+lines = refl
+
+columns : map (column_after 1) ([] ∷ codes "a" ∷ codes "a\n" ∷ codes "\n\nab" ∷ []) ≡ (1 ∷ 2 ∷ 1 ∷ 3 ∷ [])
+columns = refl
 
 severities : map (λ status. severity_word (severity_of status)) (0 ∷ 1 ∷ 132 ∷ [])
     ≡ (codes "warning" ∷ codes "error" ∷ codes "error" ∷ [])
