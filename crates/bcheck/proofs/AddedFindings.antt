@@ -1,5 +1,5 @@
 -- Findings one behind another, and what stands in each.
-use Rattle.std.proofs.Common.{◌≡◌, ◌≢◌, ◌∙◌, ◌+◌, ◌<◌, List, [], ℕ, ◌∷◌, ◌++◌, IsTrue, OnOk, Result, Ok, Err, ap, arith, append-nil, append_assoc, codes, decimal, drop, get_or, length, map, replicate, refl, subst, sym, take}
+use Rattle.std.proofs.Common.{◌≡◌, ◌≢◌, ◌∙◌, ◌+◌, ◌<◌, List, [], ℕ, ◌∷◌, ◌++◌, IsTrue, OnOk, Result, Ok, Err, ap, arith, append-nil, append_assoc, codes, decimal, get_or, length, map, replicate, refl, subst, sym, take}
 use Rattle.std.specs.Prelude.{nat_lt}
 use Rattle.std.proofs.lemmas.Bool.Decides.{nat_tests}
 use Rattle.std.specs.List.{All, flat_map, list_all}
@@ -13,8 +13,8 @@ use Rattle.blang.specs.Code.{code_of}
 use Rattle.blang.specs.Compiles.{Compilation, CompilesTo}
 use Rattle.blang.specs.Cut.{line_after, tokens_from}
 use Rattle.blang.specs.Layout.{load_fault}
-use Rattle.bcheck.specs.Checks.{AreFindings, EachOutcome, FindingParts, IsReason, Outcome, Reason, column_after, file_text, finding_column, finding_line, finding_text, findings_text, is_on_line, json_text, outcome_of, severity_of, severity_word, shown_text}
-use Rattle.bcheck.specs.Findings.{AddsFinding, IsExcerpt, IsReasoned, ReasonAt}
+use Rattle.bcheck.specs.Checks.{AreFindings, EachOutcome, FindingParts, IsReason, Reason, column_after, file_text, finding_column, finding_line, finding_text, findings_text, is_on_line, json_text, outcome_of, severity_of, severity_word, shown_text}
+use Rattle.bcheck.specs.Findings.{AddsFinding, IsExcerpt, ReasonAt}
 use Rattle.bcheck.specs.Pieces.{piece_text}
 use Rattle.bcheck.specs.declared.excerpt.Excerpt.{Excerpt}
 use Rattle.bcheck.specs.declared.pieces.Piece.{Piece}

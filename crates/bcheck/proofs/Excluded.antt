@@ -1,5 +1,5 @@
 -- What the contract of a check excludes.
-use Rattle.std.proofs.Common.{◌≡◌, ◌≢◌, ◌∙◌, ◌<◌, ◌≤◌, ◌+◌, ◌*◌, ℕ, zero, suc, List, [], ◌∷◌, ◌++◌, Bool, true, false, IsTrue, Option, Some, None, ap, append-nil, append_assoc, arith, codes, decimal, drop, length, map, refl, subst, sym, take, inl, inr, ⊎_elim}
+use Rattle.std.proofs.Common.{◌≡◌, ◌≢◌, ◌∙◌, ◌<◌, ◌≤◌, ◌+◌, ◌*◌, ℕ, suc, List, [], ◌∷◌, ◌++◌, false, IsTrue, Option, Some, None, ap, append_assoc, arith, codes, decimal, drop, length, map, refl, subst, sym, take, inl, inr, ⊎_elim}
 use Rattle.std.specs.Io.{StartsWith}
 use Rattle.std.specs.Io.KnownBytes.{Appends}
 use Rattle.std.specs.List.{All, flat_map}
@@ -19,7 +19,7 @@ use Rattle.blang.specs.declared.token.Letters.TheVariants as letters
 use Rattle.blang.specs.declared.run.LoadFault.{LoadFault}
 use Rattle.blang.specs.declared.run.LoadFault.TheVariants as fault
 use Rattle.blang.specs.Layout.{load_fault}
-use Rattle.blang.specs.declared.status.TheConstants.{DEVICE, DONE, FAULT, MEMORY}
+use Rattle.blang.specs.declared.status.TheConstants.{DEVICE, DONE, FAULT}
 use Rattle.blang.specs.declared.token.Diagnostic.{Diagnostic}
 use Rattle.btree.specs.SourceRows.{ComesIn}
 use Rattle.btree.proofs.SourceRows.{edition_rows}

@@ -1,15 +1,15 @@
 -- The texts of findings: where each ends, how many lines it has, and of which bytes it consists.
-use Rattle.std.proofs.Common.{◌≡◌, ◌≢◌, ◌∙◌, ◌<◌, ◌≤◌, ◌+◌, ◌*◌, ◌/◌, ◌%◌, ◌==◌, ℕ, zero, suc, List, [], ◌∷◌, ◌++◌, Bool, true, false, IsTrue, if◌then◌else◌, ap, append-nil, append_assoc, arith, codes, decimal, length, nat_le, refl, replicate, subst, sym}
-use Rattle.std.specs.Prelude.{◌&&◌, ◌||◌, nat_lt}
+use Rattle.std.proofs.Common.{◌≡◌, ◌≢◌, ◌∙◌, ◌<◌, ◌+◌, ◌*◌, ◌/◌, ◌%◌, ◌==◌, ℕ, zero, suc, List, [], ◌∷◌, ◌++◌, Bool, true, false, IsTrue, if◌then◌else◌, ap, append-nil, append_assoc, arith, codes, decimal, length, nat_le, refl, replicate, subst, sym}
+use Rattle.std.specs.Prelude.{◌&&◌, ◌||◌}
 use Rattle.std.specs.Fmt.{digits, digits_onto, digit_glyph}
 use Rattle.std.specs.Int.{is_in_range}
-use Rattle.std.specs.List.{count_by, flat_map, list_all}
+use Rattle.std.specs.List.{flat_map, list_all}
 use Rattle.std.proofs.lemmas.Bool.Decides.{nat_tests}
 use Rattle.std.proofs.lemmas.List.{append_cancel_left}
 use Rattle.std.proofs.Math.Nat.{add_comm, mod-lt, suc-mul, zero-add, zero-mul}
 use Rattle.std.proofs.lemmas.List.Folds.{list_all-append}
 use Rattle.std.proofs.lemmas.List.Sums.{sum_by-append}
-use Rattle.bcheck.specs.Checks.{FindingParts, file_byte, file_text, finding_column, finding_head, finding_line, finding_mark, finding_shown, finding_start, finding_text, finding_words, is_on_line, shown_text, json_byte, json_text, severity_of, severity_word}
+use Rattle.bcheck.specs.Checks.{FindingParts, file_byte, file_text, finding_column, finding_head, finding_line, finding_mark, finding_shown, finding_start, finding_text, finding_words, is_on_line, shown_text, json_byte, json_text, severity_word}
 use Rattle.bcheck.specs.Excluded.{finding_lines, is_printed, newlines}
 use Rattle.bcheck.proofs.OnLine.{both_on_line, of_three, replicate_on_line, shown_on_line}
 use Rattle.bcheck.specs.declared.finding.Severity.{Severity}

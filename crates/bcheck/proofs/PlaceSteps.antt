@@ -1,9 +1,6 @@
 -- Lines and columns along a text, and what stands where a source comes to a fault.
-use Rattle.std.proofs.Common.{◌≡◌, ◌∙◌, ◌+◌, ◌<◌, ℕ, zero, suc, List, [], ◌∷◌, ◌++◌, Bool, true, false, IsTrue, Some, Ok, ap, arith, get_or, length, refl, subst, sym, take}
-use Rattle.std.specs.Prelude.{◌&&◌}
-use Rattle.std.specs.List.{list_all}
+use Rattle.std.proofs.Common.{◌≡◌, ◌∙◌, ◌+◌, ◌<◌, ℕ, zero, suc, List, [], ◌∷◌, ◌++◌, Bool, true, false, Some, Ok, ap, arith, get_or, length, refl, subst, sym, take}
 use Rattle.std.proofs.lemmas.Bool.Decides.{nat_tests}
-use Rattle.std.proofs.lemmas.List.Folds.{list_all_more}
 use Rattle.bword.specs.declared.edition.Edition.{Edition}
 use Rattle.bword.specs.ByteEnds.{Incoming}
 use Rattle.bword.proofs.Remaining.{rest_after}
@@ -11,7 +8,6 @@ use Rattle.blang.specs.Compiles.{Compilation, CompilesTo}
 use Rattle.blang.specs.Cut.{line_after, next_line, placed, tokens_from}
 use Rattle.blang.specs.declared.token.Diagnostic.{Diagnostic}
 use Rattle.blang.specs.declared.token.Placed.{Placed}
-use Rattle.blang.specs.declared.token.Token.TheVariants as token
 use Rattle.blex.specs.Calls.{first_tokens}
 use Rattle.blex.specs.Lexemes.{placed_of, token_of_lexeme}
 use Rattle.blex.specs.Lexers.{Lexer, LexGives}
@@ -20,7 +16,7 @@ use Rattle.blex.specs.declared.lexeme.Lexeme.TheVariants as lexeme
 use Rattle.blex.specs.declared.lexeme.Seen.{Seen}
 use Rattle.blex.proofs.CallLaws.{calls_give_first}
 use Rattle.bparse.specs.Compilers.{Compiler, SameCompiler, StoppedBehind}
-use Rattle.bcheck.specs.Checks.{IsOver, column_after, is_in_line, next_column}
+use Rattle.bcheck.specs.Checks.{IsOver, column_after, next_column}
 use Rattle.bcheck.specs.Findings.{Reads, TellsEach, TellsFault}
 use Rattle.bcheck.specs.declared.finding.Finding.{Finding}
 

@@ -1,5 +1,5 @@
 -- Why an error is told: it is one of what the source comes to.
-use Rattle.std.proofs.Common.{◌≡◌, ◌≢◌, ◌∙◌, ◌<◌, ◌++◌, ℕ, List, [], ◌∷◌, Option, Some, None, Result, Ok, Err, IfOk, ap, arith, codes, drop, get_or, length, map, refl, subst, sym, take}
+use Rattle.std.proofs.Common.{◌≡◌, ◌∙◌, ◌<◌, ◌++◌, ℕ, List, [], ◌∷◌, Option, Some, None, Result, Ok, Err, IfOk, ap, arith, codes, drop, get_or, length, map, refl, subst, sym, take}
 use Rattle.std.specs.List.{All}
 use Rattle.std.specs.Prelude.{unwrap_or}
 use Rattle.std.proofs.lemmas.List.Elements.{All-cons, All-get_or, All-nil}
@@ -13,7 +13,7 @@ use Rattle.blang.specs.declared.run.LoadFault.TheVariants as fault
 use Rattle.blang.specs.declared.token.Diagnostic.{Diagnostic}
 use Rattle.btools.specs.Programs.{load_line}
 use Rattle.bcheck.specs.Checks.{EachOutcome, Judged, Reason, told_first, told_of, verdict_line, status_told}
-use Rattle.bcheck.specs.Findings.{IsReasoned, ReasonAt, TellsEach, TellsFault, matter_code}
+use Rattle.bcheck.specs.Findings.{IsReasoned, ReasonAt, TellsEach, matter_code}
 use Rattle.bcheck.specs.declared.advice.Matter.TheVariants as matter
 use Rattle.bcheck.specs.declared.finding.Finding.{Finding}
 use Rattle.bcheck.specs.declared.verdict.Verdict.{Verdict}

@@ -1,8 +1,8 @@
-use Rattle.std.proofs.Common.{◌∙◌, ◌++◌, OnOk, ap, append_assoc, arith, codes, get_or, sym}
+use Rattle.std.proofs.Common.{◌∙◌, ◌++◌, ap, append_assoc, arith, codes, get_or, sym}
 use Rattle.std.specs.List.{flat_map}
 use Rattle.std.proofs.lemmas.List.{get_or_default, take_all}
 use Rattle.btools.proofs.AddedTexts.{each_more}
-use Rattle.bcheck.specs.Checks.{json_byte, json_text}
+use Rattle.bcheck.specs.Checks.{json_byte}
 use Rattle.bcheck.proofs.AddedFindings.{on_ok}
 use Rattle.bcheck.proofs.pieces.push_quoted.Goals as goal
 

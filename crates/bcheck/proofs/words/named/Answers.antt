@@ -1,4 +1,4 @@
-use Rattle.std.proofs.Common.{ap, length, subst, sym}
+use Rattle.std.proofs.Common.{subst, sym}
 use Rattle.std.specs.Prelude.{IsTrue}
 use Rattle.bcheck.specs.Checks.{is_on_line}
 use Rattle.bcheck.proofs.OnLine.{byte_on_line}
