@@ -5,7 +5,7 @@ use Rattle.std.proofs.lemmas.List.{get_or_default, length_push}
 use Rattle.std.proofs.lemmas.List.Concat.{flat_map-append}
 use Rattle.btools.proofs.AddedTexts.{each_more}
 use Rattle.blang.specs.declared.status.TheConstants.{DONE}
-use Rattle.bcheck.specs.Checks.{AddsFinding, AreFindings, FindingParts, finding_text, findings_text, is_on_line, json_text, severity_of, severity_word}
+use Rattle.bcheck.specs.Checks.{AddsFinding, AreFindings, FindingParts, file_text, finding_text, findings_text, is_on_line, json_text, severity_of, severity_word}
 use Rattle.bcheck.specs.Pieces.{piece_text, shown_text}
 use Rattle.bcheck.specs.declared.pieces.Piece.{Piece}
 use Rattle.bcheck.specs.declared.finding.Severity.{Severity}
@@ -32,7 +32,7 @@ editor_pieces : (a f b l c d e w g k h s i m q : List ℕ)
 editor_pieces a f b l c d e w g k h s i m q = simp append_assoc refl
 
 pub text_finding : (s : Severity) (file code sentence shown mend f w t m old new : List ℕ) (line column blanks marks : ℕ) → IsTrue (list_all is_on_line (code ∷ sentence ∷ mend ∷ [])) → f ≡ file → w ≡ severity_word s → t ≡ sentence → m ≡ mend
-    → new ≡ old ++ (f ++ (codes ":" ++ (decimal line ++ (codes ":" ++ (decimal column ++ (codes ": " ++ (w ++ (codes ": " ++ (t ++ (codes "\n    " ++ (flat_map shown_text shown ++ (codes "\n    " ++ (replicate blanks 32 ++ (replicate marks 94 ++ (codes "\n  mend: " ++ (m ++ codes "\n"))))))))))))))))
+    → new ≡ old ++ (file_text f ++ (codes ":" ++ (decimal line ++ (codes ":" ++ (decimal column ++ (codes ": " ++ (w ++ (codes ": " ++ (t ++ (codes "\n    " ++ (flat_map shown_text shown ++ (codes "\n    " ++ (replicate blanks 32 ++ (replicate marks 94 ++ (codes "\n  mend: " ++ (m ++ codes "\n"))))))))))))))))
     → AddsFinding form.Text s file old new
 text_finding s file code sentence shown mend f w t m old new line column blanks marks are ef ew et em e =
     let parts = of_three code sentence mend are in
@@ -49,7 +49,7 @@ text_finding s file code sentence shown mend f w t m old new line column blanks 
         mend = mend;
         on_lines = each_on_line code sentence piece (left ++ right) mend parts.0 parts.1 (shown_on_line shown) (both_on_line left right (replicate_on_line blanks 32 refl) (replicate_on_line marks 94 refl)) parts.2;
       },
-      (rw (ef, ew, et, em) at e) ∙ ap (λ x. old ++ x) (people_pieces file (codes ":") (decimal line) (codes ":") (decimal column) (codes ": ") (severity_word s) (codes ": ") sentence (codes "\n    ") piece (codes "\n    ") left right (codes "\n  mend: ") mend (codes "\n")),
+      (rw (ef, ew, et, em) at e) ∙ ap (λ x. old ++ x) (people_pieces (file_text file) (codes ":") (decimal line) (codes ":") (decimal column) (codes ": ") (severity_word s) (codes ": ") sentence (codes "\n    ") piece (codes "\n    ") left right (codes "\n  mend: ") mend (codes "\n")),
     )
 
 pub json_finding : (s : Severity) (file code sentence mend f w k t m old new : List ℕ) (line column : ℕ) → IsTrue (list_all is_on_line (code ∷ sentence ∷ mend ∷ [])) → f ≡ file → w ≡ severity_word s → k ≡ code → t ≡ sentence → m ≡ mend

@@ -133,22 +133,22 @@ other_severity c line status text to t wrong h =
     (append_cancel_left (shown_in_form c.form line) _ _ (sym wrong.6 ∙ w.text_is ∙ ap (λ x. shown_in_form c.form line ++ x) w.are.2))
 
 lines_told : (c : Check) (line : List ℕ) (status : ℕ) (text : List ℕ) (w : WasTold c.form c.file (shown_in_form c.form line) status c.status text)
-    → newlines text ≡ newlines (shown_in_form c.form line) + length w.are.0 * finding_lines c.form c.file
+    → newlines text ≡ newlines (shown_in_form c.form line) + length w.are.0 * finding_lines c.form
 lines_told c line status text w =
     ap newlines w.text_is ∙ newlines_in (shown_in_form c.form line) w.more
     ∙ ap (λ n. newlines (shown_in_form c.form line) + n) (ap newlines w.are.2 ∙ lines_of_all c.form (severity_of status) c.file w.are.0)
 
-other_lines : Never (λ c line status text. (status ≢ DONE) × (newlines text ≢ newlines (shown_in_form c.form line) + finding_lines c.form c.file))
+other_lines : Never (λ c line status text. (status ≢ DONE) × (newlines text ≢ newlines (shown_in_form c.form line) + finding_lines c.form))
 other_lines c line status text to t wrong h =
     let w = told_in c line status text to t h in
-    let one : length w.are.0 * finding_lines c.form c.file ≡ finding_lines c.form c.file = ap (λ n. n * finding_lines c.form c.file) (w.are.1 wrong.0) ∙ one-mul (finding_lines c.form c.file) in
+    let one : length w.are.0 * finding_lines c.form ≡ finding_lines c.form = ap (λ n. n * finding_lines c.form) (w.are.1 wrong.0) ∙ one-mul (finding_lines c.form) in
     wrong.1 (lines_told c line status text w ∙ ap (λ n. newlines (shown_in_form c.form line) + n) one)
 
-odd_lines : Never (λ c line status text. (status ≡ DONE) × ((count : ℕ) → newlines text ≢ count * finding_lines c.form c.file))
+odd_lines : Never (λ c line status text. (status ≡ DONE) × ((count : ℕ) → newlines text ≢ count * finding_lines c.form))
 odd_lines c line status text to t wrong h =
     let w = told_in c line status text to t h in
     let none : newlines (shown_in_form c.form line) ≡ 0 = ap newlines (nothing_shown c line status to wrong.0) in
-    wrong.1 (length w.are.0) (lines_told c line status text w ∙ ap (λ n. n + length w.are.0 * finding_lines c.form c.file) none ∙ zero-add (length w.are.0 * finding_lines c.form c.file))
+    wrong.1 (length w.are.0) (lines_told c line status text w ∙ ap (λ n. n + length w.are.0 * finding_lines c.form) none ∙ zero-add (length w.are.0 * finding_lines c.form))
 
 other_bytes : Never (λ c line status text. IsTrue (is_printed (shown_in_form c.form line)) × IsTrue (is_printed (finding_start c.form c.file)) × (is_printed text ≡ false))
 other_bytes c line status text to t wrong h =

@@ -9,7 +9,7 @@ use Rattle.std.proofs.lemmas.List.{append_cancel_left}
 use Rattle.std.proofs.Math.Nat.{add_comm, mod-lt, suc-mul, zero-add, zero-mul}
 use Rattle.std.proofs.lemmas.List.Folds.{list_all-append}
 use Rattle.std.proofs.lemmas.List.Sums.{sum_by-append}
-use Rattle.bcheck.specs.Checks.{FindingParts, finding_head, finding_start, finding_text, finding_words, findings_text, is_on_line, json_byte, json_text, severity_of, severity_word}
+use Rattle.bcheck.specs.Checks.{FindingParts, file_byte, file_text, finding_head, finding_start, finding_text, finding_words, findings_text, is_on_line, json_byte, json_text, severity_of, severity_word}
 use Rattle.bcheck.specs.Excluded.{finding_lines, is_printed, newlines}
 use Rattle.bcheck.specs.declared.finding.Severity.{Severity}
 use Rattle.bcheck.specs.declared.finding.Severity.TheVariants as severity
@@ -90,6 +90,13 @@ json_line b = grind (arith, nat_tests)
 
 json_printable : (b : ℕ) → IsTrue (is_in_range 32 126 b) → IsTrue (list_all (is_in_range 32 126) (json_byte b))
 json_printable b h = grind (arith, nat_tests)
+
+file_line : (b : ℕ) → IsTrue (is_one_line (file_byte b))
+file_line b = grind (arith, nat_tests)
+
+file_one : (file : List ℕ) → IsTrue (is_one_line (file_text file))
+file_one [] = refl
+file_one (b ∷ bs) = all_more (nat_le 32) (file_byte b) (file_text bs) (file_line b) (file_one bs)
 
 digits_line : (n : ℕ) → IsTrue (is_one_line (decimal n))
 digits_line n = all_weaker (nat_le 32) (is_in_range 48 57) digit_line (decimal n) (decimal_is n)
@@ -232,7 +239,7 @@ behind_start : (f l c d e w g k h s i m q : List ℕ)
 behind_start f l c d e w g k h s i m q = simp append_assoc refl
 
 people_is : (s : Severity) (file : List ℕ) (p : FindingParts) (rest : List ℕ)
-    → finding_text form.Text s file p ++ rest ≡ file ++ (sentence_line s p ++ 10 ∷ (shown_line p ++ 10 ∷ (mark_line p ++ 10 ∷ (mend_line p ++ 10 ∷ rest))))
+    → finding_text form.Text s file p ++ rest ≡ file_text file ++ (sentence_line s p ++ 10 ∷ (shown_line p ++ 10 ∷ (mark_line p ++ 10 ∷ (mend_line p ++ 10 ∷ rest))))
 people_is s file p rest = simp append_assoc refl
 
 object_is : (s : Severity) (file : List ℕ) (p : FindingParts) (rest : List ℕ) → finding_text form.Json s file p ++ rest ≡ object_line s file p ++ 10 ∷ rest
@@ -249,7 +256,7 @@ behind a b u v g h e = tails u v (same_to (nat_le 32) a b u v 10 10 g h refl ref
 -- behind a finding that both begin with, both go on alike
 pub one_of : (form : Form) (s : Severity) (file : List ℕ) (p q : FindingParts) (a b : List ℕ) → finding_text form s file p ++ a ≡ finding_text form s file q ++ b → a ≡ b
 one_of form.Text s file p q a b e =
-    let here = append_cancel_left file _ _ (sym (people_is s file p a) ∙ e ∙ people_is s file q b) in
+    let here = append_cancel_left (file_text file) _ _ (sym (people_is s file p a) ∙ e ∙ people_is s file q b) in
     let l1 = behind (sentence_line s p) (sentence_line s q) _ _ (sentence_one s p) (sentence_one s q) here in
     let l2 = behind (shown_line p) (shown_line q) _ _ (shown_one p) (shown_one q) l1 in
     let l3 = behind (mark_line p) (mark_line q) _ _ (mark_one p) (mark_one q) l2 in
@@ -270,8 +277,8 @@ no_byte (x ∷ a) b e = no_cons x (a ++ 58 ∷ b) e
 no_start : (form : Form) (s : Severity) (file : List ℕ) (line column : ℕ) (rest : List ℕ) → finding_head form s file line column ++ rest ≡ [] → ⊥
 no_start form.Text s file line column rest e =
     let behind = decimal line ++ (codes ":" ++ (decimal column ++ (codes ": " ++ (severity_word s ++ (codes ": " ++ rest))))) in
-    let is : file ++ 58 ∷ behind ≡ finding_head form.Text s file line column ++ rest = simp append_assoc refl in
-    no_byte file behind (is ∙ e)
+    let is : file_text file ++ 58 ∷ behind ≡ finding_head form.Text s file line column ++ rest = simp append_assoc refl in
+    no_byte (file_text file) behind (is ∙ e)
 no_start form.Json s file line column rest e = no_cons _ _ e
 
 -- behind findings of one severity none of another begins
@@ -296,27 +303,28 @@ other_severity_behind form s t file (p ∷ ps) (q ∷ qs) line column rest other
     (one_of form t file p q _ _ (sym (append_assoc (text p) (flat_map text ps) (finding_head form s file line column ++ rest)) ∙ e))
 
 -- the lines of findings
-pub lines_of : (form : Form) (s : Severity) (file : List ℕ) (p : FindingParts) → newlines (finding_text form s file p) ≡ finding_lines form file
+pub lines_of : (form : Form) (s : Severity) (file : List ℕ) (p : FindingParts) → newlines (finding_text form s file p) ≡ finding_lines form
 lines_of form.Text s file p =
-    let is : newlines (finding_text form.Text s file p) ≡ newlines (file ++ (sentence_line s p ++ 10 ∷ (shown_line p ++ 10 ∷ (mark_line p ++ 10 ∷ (mend_line p ++ 10 ∷ []))))) =
+    let is : newlines (finding_text form.Text s file p) ≡ newlines (file_text file ++ (sentence_line s p ++ 10 ∷ (shown_line p ++ 10 ∷ (mark_line p ++ 10 ∷ (mend_line p ++ 10 ∷ []))))) =
     ap newlines (sym (append-nil (finding_text form.Text s file p)) ∙ people_is s file p []) in
-    let l0 = newlines_in file (sentence_line s p ++ 10 ∷ (shown_line p ++ 10 ∷ (mark_line p ++ 10 ∷ (mend_line p ++ 10 ∷ [])))) in
+    let l0 = newlines_in (file_text file) (sentence_line s p ++ 10 ∷ (shown_line p ++ 10 ∷ (mark_line p ++ 10 ∷ (mend_line p ++ 10 ∷ [])))) in
     let l1 = line_more (sentence_line s p) (shown_line p ++ 10 ∷ (mark_line p ++ 10 ∷ (mend_line p ++ 10 ∷ []))) (sentence_one s p) in
     let l2 = line_more (shown_line p) (mark_line p ++ 10 ∷ (mend_line p ++ 10 ∷ [])) (shown_one p) in
     let l3 = line_more (mark_line p) (mend_line p ++ 10 ∷ []) (mark_one p) in
     let l4 : newlines (mend_line p ++ 10 ∷ []) ≡ 1 = line_more (mend_line p) [] (mend_one p) in
-    is ∙ l0 ∙ ap (λ n. newlines file + n) (l1 ∙ ap (λ n. n + 1) (l2 ∙ ap (λ n. n + 1) (l3 ∙ ap (λ n. n + 1) l4)))
+    let none = no_newlines (file_text file) (file_one file) in
+    omega (arith, is, l0, l1, l2, l3, l4, none)
 lines_of form.Json s file p =
     let is : newlines (finding_text form.Json s file p) ≡ newlines (object_line s file p ++ 10 ∷ []) = ap newlines (sym (append-nil (finding_text form.Json s file p)) ∙ object_is s file p []) in
     is ∙ line_more (object_line s file p) [] (object_one s file p)
 
-pub lines_of_all : (form : Form) (s : Severity) (file : List ℕ) (ps : List FindingParts) → newlines (flat_map (finding_text form s file) ps) ≡ length ps * finding_lines form file
-lines_of_all form s file [] = sym (zero-mul (finding_lines form file))
+pub lines_of_all : (form : Form) (s : Severity) (file : List ℕ) (ps : List FindingParts) → newlines (flat_map (finding_text form s file) ps) ≡ length ps * finding_lines form
+lines_of_all form s file [] = sym (zero-mul (finding_lines form))
 lines_of_all form s file (p ∷ ps) =
     newlines_in (finding_text form s file p) (flat_map (finding_text form s file) ps)
     ∙ ap (λ n. n + newlines (flat_map (finding_text form s file) ps)) (lines_of form s file p)
-    ∙ ap (λ n. finding_lines form file + n) (lines_of_all form s file ps)
-    ∙ sym (suc-mul (length ps) (finding_lines form file) ∙ add_comm (length ps * finding_lines form file) (finding_lines form file))
+    ∙ ap (λ n. finding_lines form + n) (lines_of_all form s file ps)
+    ∙ sym (suc-mul (length ps) (finding_lines form) ∙ add_comm (length ps * finding_lines form) (finding_lines form))
 
 -- bytes that can be printed, and newlines
 pub both_printed : (a b : List ℕ) → IsTrue (is_printed a) → IsTrue (is_printed b) → IsTrue (is_printed (a ++ b))

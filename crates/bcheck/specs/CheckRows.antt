@@ -4,7 +4,7 @@ use Rattle.std.specs.Fmt.{digits}
 use Rattle.blang.specs.declared.token.About.TheVariants as about
 use Rattle.blang.specs.declared.token.Letters.TheVariants as letters
 use Rattle.blang.specs.declared.run.LoadFault.TheVariants as fault
-use Rattle.bcheck.specs.Checks.{FindingParts, finding_text, findings_text, is_on_line, json_byte, json_text}
+use Rattle.bcheck.specs.Checks.{FindingParts, finding_text, findings_text, is_on_line, json_byte, json_text, file_byte}
 use Rattle.bcheck.specs.Checks.{severity_of, severity_word, shown_in_form, told_first}
 use Rattle.bcheck.specs.declared.finding.Severity.TheVariants as severity
 use Rattle.bcheck.specs.declared.form.Form.TheVariants as form
@@ -37,6 +37,12 @@ json_bytes : map json_byte (0 ∷ 10 ∷ 31 ∷ 32 ∷ 33 ∷ 34 ∷ 35 ∷ 91 �
     ∷ codes "[" ∷ codes "\\\\" ∷ codes "]" ∷ codes "~" ∷ (127 ∷ []) ∷ (128 ∷ []) ∷ (255 ∷ []) ∷ [])
 json_bytes = refl
 
+-- the control characters of a file's name, with the bytes beside them, and those of other alphabets
+file_bytes : map file_byte (0 ∷ 10 ∷ 31 ∷ 32 ∷ 126 ∷ 127 ∷ 128 ∷ 255 ∷ [])
+    ≡ (codes "\\u0000" ∷ codes "\\u000a" ∷ codes "\\u001f" ∷ codes " " ∷ codes "~" ∷ codes "\\u007f" ∷ (128 ∷ [])
+    ∷ (255 ∷ []) ∷ [])
+file_bytes = refl
+
 json_texts : map json_text ([] ∷ codes "a\"b" ∷ []) ≡ (codes "\"\"" ∷ codes "\"a\\\"b\"" ∷ [])
 json_texts = refl
 
@@ -64,6 +70,11 @@ error_for_people : finding_text form.Text severity.Error (codes "x.b") undefined
     ≡ codes "x.b:3:10: error: no n\n    i = n;\n        ^\n  mend: auto n;\n"
 unfolding digits
 error_for_people = refl
+
+file_on_one_line : finding_text form.Text severity.Error (codes "x\n1:1: error: y") undefined
+    ≡ codes "x\\u000a1:1: error: y:3:10: error: no n\n    i = n;\n        ^\n  mend: auto n;\n"
+unfolding digits
+file_on_one_line = refl
 
 warning_for_editors : finding_text form.Json severity.Warning (codes "a\"b") undefined
     ≡ codes "{\"file\":\"a\\\"b\",\"line\":3,\"column\":10,\"severity\":\"warning\","

@@ -1,5 +1,5 @@
 -- What is written of a source that is checked.
-use Rattle.std.specs.Prelude.{◌≡◌, ◌≢◌, ℕ, ◌/◌, ◌%◌, ◌==◌, nat_lt, Bool, IsTrue, if◌then◌else◌, List, [], ◌∷◌, ◌++◌}
+use Rattle.std.specs.Prelude.{◌≡◌, ◌≢◌, ℕ, ◌/◌, ◌%◌, ◌==◌, ◌||◌, nat_lt, Bool, IsTrue, if◌then◌else◌, List, [], ◌∷◌, ◌++◌}
 use Rattle.std.specs.Prelude.{codes, decimal, length, map, Option, Some, None, unwrap_or}
 use Rattle.std.specs.Char.{digit_char}
 use Rattle.std.specs.Int.{is_in_range}
@@ -61,14 +61,25 @@ abbrev pub severity_word : Severity → List ℕ
 severity_word severity.Error = codes "error"
 severity_word severity.Warning = codes "warning"
 
+-- a byte in hexadecimal digits, as JSON has it
+abbrev pub escaped : ℕ → List ℕ
+escaped b = codes "\\u00" ++ digit_char (b / 16) ∷ digit_char (b % 16) ∷ []
+
 -- a byte of a text in JSON, where 34 is the quote, 92 the backslash, and the control characters are below 32
 abbrev pub json_byte : ℕ → List ℕ
 json_byte b =
     if b == 34 then codes "\\\"" else (if b == 92 then codes "\\\\" else
-    (if nat_lt b 32 then codes "\\u00" ++ digit_char (b / 16) ∷ digit_char (b % 16) ∷ [] else b ∷ []))
+    (if nat_lt b 32 then escaped b else b ∷ []))
 
 abbrev pub json_text : List ℕ → List ℕ
 json_text text = codes "\"" ++ flat_map json_byte text ++ codes "\""
+
+-- a byte of the name of a file for people: a control character is escaped, so that no name has two lines
+abbrev pub file_byte : ℕ → List ℕ
+file_byte b = if nat_lt b 32 || (b == 127) then escaped b else b ∷ []
+
+abbrev pub file_text : List ℕ → List ℕ
+file_text name = flat_map file_byte name
 
 -- a text on one line: blanks, and letters, digits and signs of ASCII
 abbrev pub is_on_line : List ℕ → Bool
@@ -92,9 +103,9 @@ finding_words form.Text p =
 finding_words form.Json p =
     json_text p.code ++ codes ",\"message\":" ++ json_text p.sentence ++ codes ",\"mend\":" ++ json_text p.mend
 
--- A finding begins with the name of the file: for people as it is, for editors as the first member of an object.
+-- A finding begins with the name of the file: for people on one line, for editors as the first member of an object.
 abbrev pub finding_start : Form → (file : List ℕ) → List ℕ
-finding_start form.Text file = file ++ codes ":"
+finding_start form.Text file = file_text file ++ codes ":"
 finding_start form.Json file = codes "{\"file\":" ++ json_text file ++ codes ",\"line\":"
 
 -- Then come a line, a column and the severity.

@@ -39,9 +39,9 @@ abbrev pub newlines : List ℕ → ℕ
 newlines text = count_by (λ b. b == 10) text
 
 -- how many newlines the text of a finding has
-abbrev pub finding_lines : Form → (file : List ℕ) → ℕ
-finding_lines form.Text file = newlines file + 4
-finding_lines form.Json file = 1
+abbrev pub finding_lines : Form → ℕ
+finding_lines form.Text = 4
+finding_lines form.Json = 1
 
 -- printable ASCII and newlines
 abbrev pub is_printed : List ℕ → Bool
@@ -63,12 +63,12 @@ pub record Excluded : Type 0 where
       (before : List FindingParts) × (s : Severity) × (row column : ℕ) × (rest : List ℕ) × (s ≢ severity_of status)
       × (text ≡ shown_in_form c.form line ++ (findings_text c.form status c.file before
       ++ (finding_head c.form s c.file row column ++ rest))))
-  -- of a fault no finding or two, or a newline in its words or its piece of the source
+  -- of a fault no finding or two, or a newline in its words, its piece of the source or the name of its file
   pub other_lines : Never (λ c line status text.
-      (status ≢ DONE) × (newlines text ≢ newlines (shown_in_form c.form line) + finding_lines c.form c.file))
+      (status ≢ DONE) × (newlines text ≢ newlines (shown_in_form c.form line) + finding_lines c.form))
   -- without a fault, lines that are no whole findings
   pub odd_lines : Never (λ c line status text.
-      (status ≡ DONE) × ((count : ℕ) → newlines text ≢ count * finding_lines c.form c.file))
+      (status ≡ DONE) × ((count : ℕ) → newlines text ≢ count * finding_lines c.form))
   -- a byte that can't be printed, where the line and the name of the file have none
   pub other_bytes : Never (λ c line status text.
       IsTrue (is_printed (shown_in_form c.form line)) × IsTrue (is_printed (finding_start c.form c.file))

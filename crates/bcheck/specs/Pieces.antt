@@ -2,7 +2,7 @@
 use Rattle.std.specs.Prelude.{ℕ, ◌==◌, if◌then◌else◌, List, [], ◌∷◌, decimal, replicate}
 use Rattle.std.specs.List.{flat_map}
 use Rattle.std.specs.Int.{is_in_range}
-use Rattle.bcheck.specs.Checks.{json_text}
+use Rattle.bcheck.specs.Checks.{file_text, json_text}
 use Rattle.bcheck.specs.declared.pieces.Piece.{Piece}
 use Rattle.bcheck.specs.declared.pieces.Piece.TheVariants as piece
 
@@ -17,6 +17,7 @@ abbrev pub piece_text : Piece → List ℕ
 piece_text (piece.Words words) = words.now
 piece_text (piece.Number n) = decimal n
 piece_text (piece.Quoted words) = json_text words.now
+piece_text (piece.File name) = file_text name.now
 piece_text (piece.Shown bytes) = flat_map shown_text bytes.now
 piece_text (piece.Blanks n) = replicate n 32
 piece_text (piece.Marks n) = replicate n 94

@@ -2,7 +2,7 @@
 ghost use Rattle.std.specs.Char.{digit_char};
 ghost use Rattle.std.specs.List.{flat_map};
 ghost use Rattle.std.specs.Prelude.{◌≡◌, ◌<◌, ◌++◌, OnOk, replicate};
-ghost use Rattle.bcheck.specs.Checks.{json_byte, json_text};
+ghost use Rattle.bcheck.specs.Checks.{escaped, file_byte, file_text, json_byte, json_text};
 ghost use Rattle.bcheck.specs.Pieces.{piece_text, shown_byte, shown_text};
 
 use btools::Text;
@@ -17,6 +17,8 @@ pub(crate) enum Piece<'a> {
     Number(u64),
     /// A string of JSON.
     Quoted(&'a [u8]),
+    /// The name of a file, on one line.
+    File(&'a [u8]),
     /// One character for each byte of the source, so that a mark below it stands right.
     Shown(&'a [u8]),
     /// So many blanks.
@@ -42,6 +44,7 @@ fn push(text: &mut Text, piece: Piece<'_>) -> Result<(), AllocError>
         Piece::Words(words) => text.push(words),
         Piece::Number(number) => text.push_number(number),
         Piece::Quoted(words) => push_quoted(text, words),
+        Piece::File(name) => push_file(text, name),
         Piece::Shown(bytes) => push_shown(text, bytes),
         Piece::Blanks(count) => text.push_blanks(count),
         Piece::Marks(count) => push_marks(text, count),
@@ -65,9 +68,33 @@ fn push_json(text: &mut Text, byte: u8) -> Result<(), AllocError>
     match byte {
         b'"' => text.push(b"\\\""),
         b'\\' => text.push(b"\\\\"),
-        0..=31 => text.push(&[b'\\', b'u', b'0', b'0', digit(byte / 16), digit(byte % 16)]),
+        0..=31 => push_escaped(text, byte),
         _ => text.push(&[byte]),
     }
+}
+
+fn push_file(text: &mut Text, name: &[u8]) -> Result<(), AllocError>
+    ensures { OnOk result (text.new ≡ text.old ++ file_text name.now) }
+{
+    for byte in name {
+        push_file_byte(text, *byte)?;
+    }
+    Ok(())
+}
+
+fn push_file_byte(text: &mut Text, byte: u8) -> Result<(), AllocError>
+    ensures { OnOk result (text.new ≡ text.old ++ file_byte byte) }
+{
+    match byte {
+        0..=31 | 127 => push_escaped(text, byte),
+        _ => text.push(&[byte]),
+    }
+}
+
+fn push_escaped(text: &mut Text, byte: u8) -> Result<(), AllocError>
+    ensures { OnOk result (text.new ≡ text.old ++ escaped byte) }
+{
+    text.push(&[b'\\', b'u', b'0', b'0', digit(byte / 16), digit(byte % 16)])
 }
 
 fn digit(value: u8) -> u8

@@ -28,7 +28,7 @@ pub(crate) fn write<'a>(
     push_all(
         text,
         &[
-            Piece::Words(file.as_bytes()),
+            Piece::File(file.as_bytes()),
             Piece::Words(b":"),
             Piece::Number(place.line),
             Piece::Words(b":"),
