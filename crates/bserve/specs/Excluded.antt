@@ -1,5 +1,5 @@
 -- What no answer to a command line is, and what each one is.
-use Rattle.std.specs.Prelude.{◌≡◌, ◌⊎◌, ℕ, List, [], ◌∷◌, Some, codes}
+use Rattle.std.specs.Prelude.{◌≡◌, ◌⊎◌, ℕ, List, [], ◌∷◌, codes}
 use Rattle.clap.specs.Words.{IsAmong, Text, fault_of, subcommand_of}
 use Rattle.clap.specs.declared.error.kind.ErrorKind.{ErrorKind}
 use Rattle.clap.specs.declared.error.kind.ErrorKind.TheVariants as kind
@@ -14,7 +14,7 @@ use Rattle.brun.specs.Runs.{RunsText}
 use Rattle.bcommand.specs.CommandLine.{asked, command_line, contradiction, go, run}
 use Rattle.bserve.specs.declared.shelf.MemFile.{MemFile}
 use Rattle.bserve.specs.Serves.{Does, HasNoFile, IsHelp, NamesFile, SaysNothing, Serves, unread_line}
-use Rattle.bserve.specs.Shelves.{Holdings, listed, text_in}
+use Rattle.bserve.specs.Shelves.{Holdings, holding}
 
 -- The words have a fault, and don't ask for help.
 pub record AreWrong (words : List Text) : Type 0 where
@@ -54,38 +54,20 @@ pub record Excluded (shelf : Holdings) : Type 0 where
   -- words that can't be read and end well
   pub unread_words_done : (old new : Outgoing) → Reported unread_line WRONG_COMMAND old new DONE → ⊥
 
--- what a shelf in memory says of a file that it holds
-abbrev pub OfFile : (List MemFile → Text → List ℕ → Type 0) → Type 0
-OfFile claim = (files : List MemFile) (file : Text) (text : List ℕ) → text_in files file ≡ Some text
-    → claim files file text
-
--- A FILE that a shelf in memory holds.
-pub record FileIsRead : Type 0 where
-  -- one that is said to be missing
-  pub no_file : OfFile (λ files file text. (ends : RunEnds)
-      → HasNoFile (Holdings.lacks (listed files) file) ends DEVICE → ⊥)
-  pub unread : OfFile (λ files file text. (ends : RunEnds)
-      → NamesFile (Holdings.lacks (listed files) file) file ends DEVICE → ⊥)
-  -- another code text than its own that is run
-  pub run_alone : OfFile (λ files file text. (steps : ℕ) (ends : RunEnds) (status : ℕ)
-      → Does (listed files) (run file steps) ends status
-      → RunsText steps text ends status ⊎ SaysNothing ends status MEMORY)
-  -- another source than its own that is compiled and run, and one of another edition
-  pub go_alone : OfFile (λ files file text. (edition : Edition) (steps : ℕ) (ends : RunEnds) (status : ℕ)
-      → Does (listed files) (go file steps edition) ends status
-      → ((behind : Unread) × GoesOff edition steps (unread text) (incoming_of behind) ends status)
-      ⊎ SaysNothing ends status MEMORY)
-  -- another output than `a`, and no status but 0
-  pub one_go : OfFile (λ files file text. (input : Unread) (out line : Kept) (status : ℕ)
-      → text ≡ codes "main(){putchar('a');}"
-      → Does (listed files) (go file 100 editions.One) (one_run_ends input out line) status
-      → (status ≡ MEMORY) ⊎ ((status ≡ 0) × (out.bytes ≡ codes "a") × (line.bytes ≡ [])))
-  -- a fault of edition 2 that isn't told
-  pub one_edition : OfFile (λ files file text. (input : Unread) (out line : Kept) (status : ℕ)
-      → text ≡ codes "break;"
-      → Does (listed files) (go file 100 editions.Two) (one_run_ends input out line) status
-      → (status ≡ MEMORY) ⊎ ((status ≡ 1) × (line.bytes ≡ codes "sx 1\n")))
-  -- a listing that is a map
-  pub list_as_map : OfFile (λ files file text. (name : Option Text) (edition : Edition) (ends : RunEnds)
-      → ends.out ≡ outgoing_of nothing_written
-      → Does (listed files) (list file name edition) ends DONE → Does (listed files) (map file edition) ends DONE → ⊥)
+-- of a file in memory
+pub record FileIsRead (file : MemFile) : Type 0 where
+  -- it is said to be missing
+  pub no_file : (ends : RunEnds) → HasNoFile (Holdings.lacks (holding file) file.name.now) ends DEVICE → ⊥
+  pub named : (ends : RunEnds) → NamesFile (Holdings.lacks (holding file) file.name.now) file.name.now ends DEVICE → ⊥
+  -- another code text is run
+  pub run_alone : (steps : ℕ) (ends : RunEnds) (status : ℕ) → Does (holding file) (run file.name.now steps) ends status
+      → RunsText steps file.text.now ends status ⊎ SaysNothing ends status MEMORY
+  -- another source is compiled and run, or this one as of another edition
+  pub go_alone : (edition : Edition) (steps : ℕ) (ends : RunEnds) (status : ℕ)
+      → Does (holding file) (go file.name.now steps edition) ends status
+      → ((behind : Unread) × GoesOff edition steps (unread file.text.now) (incoming_of behind) ends status)
+      ⊎ SaysNothing ends status MEMORY
+  -- another output than `a`, or another status than 0
+  pub one_go : (input : Unread) (out line : Kept) (status : ℕ) → file.text.now ≡ codes "main(){putchar('a');}"
+      → Does (holding file) (go file.name.now 100 editions.One) (one_run_ends input out line) status
+      → (status ≡ MEMORY) ⊎ ((status ≡ 0) × (out.bytes ≡ codes "a") × (line.bytes ≡ []))

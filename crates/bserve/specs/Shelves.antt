@@ -1,6 +1,5 @@
 -- What is known of files, by their names.
-use Rattle.std.specs.Prelude.{◌≡◌, ℕ, List, [], ◌∷◌, Option, Some, None, if◌then◌else◌}
-use Rattle.std.specs.Str.{bytes_eq}
+use Rattle.std.specs.Prelude.{◌≡◌, ◌≢◌, ℕ, List}
 use Rattle.clap.specs.Words.{Text}
 use Rattle.bserve.specs.declared.shelf.MemFile.{MemFile}
 
@@ -13,14 +12,9 @@ pub record Holdings : Type 1 where
 abbrev pub anything : Holdings
 anything = record { holds = λ name text. Unit {0}; lacks = λ name. Unit {0} }
 
--- the text of the first file of a name
-abbrev pub text_in : List MemFile → Text → Option (List ℕ)
-text_in [] name = None
-text_in (file ∷ files) name = if bytes_eq file.name.now name then Some file.text.now else text_in files name
-
--- files in a list: under a name the text of the first one is read
-abbrev pub listed : List MemFile → Holdings
-listed files = record {
-  holds = λ name text. text_in files name ≡ Some text;
-  lacks = λ name. text_in files name ≡ None;
+-- one file: under its name its text is read, and no other
+abbrev pub holding : MemFile → Holdings
+holding file = record {
+  holds = λ name text. (name ≡ file.name.now) × (text ≡ file.text.now);
+  lacks = λ name. name ≢ file.name.now;
 }

@@ -5,11 +5,11 @@ ghost use Rattle.bword.specs.ByteEnds.{Incoming, Outgoing};
 ghost use Rattle.blang.specs.declared.status.TheConstants.{DEVICE, MEMORY, WRONG_COMMAND};
 ghost use Rattle.blang.specs.Machine.{Reported};
 ghost use Rattle.bcommand.specs.CommandLine.{check, draw, go, list, locate, map, run, asked_of, trace};
-ghost use Rattle.bserve.specs.Excluded.{Excluded};
+ghost use Rattle.bserve.specs.Excluded.{Excluded, FileIsRead};
 ghost use Rattle.bserve.specs.Serves.{Does, NamesFile, RefusesWords, Serves, form_of, no_file_line, unread_line};
 ghost use Rattle.bserve.specs.Shelves.{anything};
 
-use crate::shelf::{FileFault, Shelf, SystemFiles};
+use crate::shelf::{FileFault, MemFile, Shelf, SystemFiles};
 use bcheck::{Form, Request, check};
 use bcommand::{CONTRADICTION, Job, Subject, Target, UNREAD, Walk, parse};
 use bdraw::draw;
@@ -108,7 +108,9 @@ fn perform<S: Shelf, I: ByteIn, O: ByteOut, D: ByteOut>(
         Job::Compile(edition) => compile_edition(alloc, input, out, diag, edition),
         Job::Run(target) => run_file(alloc, shelf, target, input, out, diag),
         Job::Go(target, edition) => go_file(alloc, shelf, target, edition, input, out, diag),
-        Job::Locate(target, edition) => locate_file(alloc, shelf, target, edition, input, out, diag),
+        Job::Locate(target, edition) => locate_file(
+            alloc, shelf, target, edition, input, out, diag,
+        ),
         Job::Migrate => migrate(alloc, input, out, diag),
         Job::List(subject) => list_file(alloc, shelf, subject, out, diag),
         Job::Map(subject) => map_file(alloc, shelf, subject, out, diag),
@@ -478,8 +480,13 @@ fn or_untold(text: &str) -> &str
     if text.is_empty() { UNTOLD } else { text }
 }
 
-/// What no command line comes to: wrong words that end well or act, help that is a complaint, a file that can't be read
-/// and after which all is well, a limit of steps and none that run.
-pub fn wrong_answers_are_excluded()
-    ensures { Excluded }
+/// What no command line comes to, whatever the shelf holds: wrong words that end well or act, help that is a complaint, a
+/// file that can't be read and after which all is well, a limit of steps and none that run.
+pub fn wrong_answers_are_excluded<S: Shelf>(_shelf: &S)
+    ensures { Excluded (S.holdings _shelf.now) }
+{}
+
+/// What is said of a file in memory: its own text is compiled or run, and no other, and it isn't missing.
+pub fn files_are_read(_file: MemFile<'_>)
+    ensures { FileIsRead _file.entry }
 {}

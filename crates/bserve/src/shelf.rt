@@ -1,13 +1,13 @@
 //! Files, by their names.
-ghost use Rattle.std.specs.Prelude.{◌≡◌, IfOk, IfErr, option_map};
-ghost use Rattle.bserve.specs.Shelves.{Holdings, anything, listed, text_in};
+ghost use Rattle.std.specs.Prelude.{◌≡◌, IfOk, IfErr};
+ghost use Rattle.bserve.specs.Shelves.{Holdings, anything, holding};
 
 use std::alloc::Global;
 use std::rt::Files;
 use std::{fs, io};
 
 /// Why a file was not read.
-#[derive(Clone, Copy, Debug, PartialEq, Eq)]
+#[derive(Clone, Copy)]
 pub enum FileFault {
     /// It can't be opened, or not be read to its end.
     Device,
@@ -49,41 +49,23 @@ impl<R: AllocGlobal + Files> Shelf for SystemFiles<'_, R> {
     }
 }
 
-/// A file in memory.
+/// A file in memory, and no other.
 #[derive(Clone, Copy)]
 pub struct MemFile<'a> {
     pub name: &'a str,
     pub text: &'a [u8],
 }
 
-/// Files in memory. Of two that have the same name the first one is read.
-#[derive(Clone, Copy)]
-pub struct MemShelf<'a> {
-    pub files: &'a [MemFile<'a>],
-}
-
-impl Shelf for MemShelf<'_> {
-    ghost holdings = { λ shelf. listed shelf.files.now };
+impl Shelf for MemFile<'_> {
+    ghost holdings = { holding };
 
     fn read(&self, alloc: Global, name: &str) -> Result<Vec<u8>, FileFault> {
-        let Some(text) = find(self.files, name) else {
+        if name != self.name {
             return Err(FileFault::Device);
-        };
-        match Vec::from_slice(alloc, text) {
+        }
+        match Vec::from_slice(alloc, self.text) {
             Ok(text) => Ok(text),
             Err(_) => Err(FileFault::Memory),
         }
     }
-}
-
-// The bytes of the first file of a name.
-fn find<'a>(files: &[MemFile<'a>], name: &str) -> Option<&'a [u8]>
-    ensures { option_map (λ t. t.now) result ≡ text_in files.now name.now }
-{
-    for file in files {
-        if file.name == name {
-            return Some(file.text);
-        }
-    }
-    None
 }
