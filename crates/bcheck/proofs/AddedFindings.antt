@@ -1,17 +1,26 @@
 -- Findings one behind another, and what stands in each.
-use Rattle.std.proofs.Common.{◌≡◌, ◌≢◌, ◌∙◌, ◌+◌, ◌<◌, List, [], ℕ, ◌∷◌, ◌++◌, IsTrue, OnOk, Result, Ok, Err, ap, append-nil, append_assoc, codes, decimal, get_or, length, replicate, refl, subst, sym, take}
-use Rattle.std.specs.List.{flat_map, list_all}
-use Rattle.std.proofs.lemmas.List.{get_or_default, length_push}
+use Rattle.std.proofs.Common.{◌≡◌, ◌≢◌, ◌∙◌, ◌+◌, ◌<◌, List, [], ℕ, ◌∷◌, ◌++◌, IsTrue, OnOk, Result, Ok, Err, ap, arith, append-nil, append_assoc, codes, decimal, drop, get_or, length, map, replicate, refl, subst, sym, take}
+use Rattle.std.specs.Prelude.{nat_lt}
+use Rattle.std.proofs.lemmas.Bool.Decides.{nat_tests}
+use Rattle.std.specs.List.{All, flat_map, list_all}
+use Rattle.std.proofs.lemmas.List.{get_or_default, length_push, take-append-drop}
 use Rattle.std.proofs.lemmas.List.Concat.{flat_map-append}
+use Rattle.std.proofs.lemmas.List.Elements.{All-push, All-weaker}
 use Rattle.btools.proofs.AddedTexts.{each_more}
 use Rattle.blang.specs.declared.status.TheConstants.{DONE}
-use Rattle.bcheck.specs.Checks.{AddsFinding, AreFindings, FindingParts, file_text, finding_text, findings_text, is_on_line, json_text, severity_of, severity_word}
-use Rattle.bcheck.specs.Pieces.{piece_text, shown_text}
+use Rattle.bword.specs.declared.edition.Edition.{Edition}
+use Rattle.blang.specs.Code.{code_of}
+use Rattle.blang.specs.Compiles.{Compilation, CompilesTo}
+use Rattle.blang.specs.Cut.{line_after, tokens_from}
+use Rattle.blang.specs.Layout.{load_fault}
+use Rattle.bcheck.specs.Checks.{AreFindings, EachOutcome, FindingParts, IsReason, Outcome, Reason, column_after, file_text, finding_column, finding_line, finding_text, findings_text, is_on_line, json_text, outcome_of, severity_of, severity_word, shown_text}
+use Rattle.bcheck.specs.Findings.{AddsFinding, IsExcerpt, IsReasoned, ReasonAt}
+use Rattle.bcheck.specs.Pieces.{piece_text}
+use Rattle.bcheck.specs.declared.excerpt.Excerpt.{Excerpt}
 use Rattle.bcheck.specs.declared.pieces.Piece.{Piece}
 use Rattle.bcheck.specs.declared.finding.Severity.{Severity}
 use Rattle.bcheck.specs.declared.form.Form.{Form}
 use Rattle.bcheck.specs.declared.form.Form.TheVariants as form
-use Rattle.bcheck.proofs.OnLine.{both_on_line, each_on_line, of_three, replicate_on_line, shown_on_line}
 
 pub on_ok : {E : Type 0} (r : Result (Unit {0}) E) (P Q : Type 0) → (P → Q) → OnOk r P → OnOk r Q
 on_ok (Ok u) P Q f h = f h
@@ -23,71 +32,98 @@ pub piece_more : (head text new : List ℕ) (pieces : List Piece) (i : ℕ) (oth
 piece_more head text new pieces i other lt e f = each_more piece_text head text new pieces i (get_or pieces i other) lt (get_or_default _ _ _ _ lt) e f
 
 -- the pieces of a finding for people, and of one for editors, in its three parts
-people_pieces : (f a l b c d w e s x p y m n z k q : List ℕ)
-    → f ++ (a ++ (l ++ (b ++ (c ++ (d ++ (w ++ (e ++ (s ++ (x ++ (p ++ (y ++ (m ++ (n ++ (z ++ (k ++ q))))))))))))))) ≡ f ++ a ++ l ++ b ++ c ++ d ++ w ++ e ++ (s ++ x ++ p ++ y ++ (m ++ n) ++ z ++ k) ++ q
-people_pieces f a l b c d w e s x p y m n z k q = simp append_assoc refl
+people_pieces : (f a l b c d w e s x p r y m n z k q : List ℕ)
+    → f ++ (a ++ (l ++ (b ++ (c ++ (d ++ (w ++ (e ++ (s ++ (x ++ (p ++ (r ++ (y ++ (m ++ (n ++ (z ++ (k ++ q)))))))))))))))) ≡ f ++ a ++ l ++ b ++ c ++ d ++ w ++ e ++ (s ++ x ++ (p ++ r) ++ y ++ (m ++ n) ++ z ++ k) ++ q
+people_pieces f a l b c d w e s x p r y m n z k q = simp append_assoc refl
 
 editor_pieces : (a f b l c d e w g k h s i m q : List ℕ)
     → a ++ (f ++ (b ++ (l ++ (c ++ (d ++ (e ++ (w ++ (g ++ (k ++ (h ++ (s ++ (i ++ (m ++ q))))))))))))) ≡ a ++ f ++ b ++ l ++ c ++ d ++ e ++ w ++ g ++ (k ++ h ++ s ++ i ++ m) ++ q
 editor_pieces a f b l c d e w g k h s i m q = simp append_assoc refl
 
-pub text_finding : (s : Severity) (file code sentence shown mend f w t m old new : List ℕ) (line column blanks marks : ℕ) → IsTrue (list_all is_on_line (code ∷ sentence ∷ mend ∷ [])) → f ≡ file → w ≡ severity_word s → t ≡ sentence → m ≡ mend
-    → new ≡ old ++ (file_text f ++ (codes ":" ++ (decimal line ++ (codes ":" ++ (decimal column ++ (codes ": " ++ (w ++ (codes ": " ++ (t ++ (codes "\n    " ++ (flat_map shown_text shown ++ (codes "\n    " ++ (replicate blanks 32 ++ (replicate marks 94 ++ (codes "\n  mend: " ++ (m ++ codes "\n"))))))))))))))))
-    → AddsFinding form.Text s file old new
-text_finding s file code sentence shown mend f w t m old new line column blanks marks are ef ew et em e =
-    let parts = of_three code sentence mend are in
-    let piece = flat_map shown_text shown in
-    let left = replicate blanks 32 in
-    let right = replicate marks 94 in (
-      record {
-        line = line;
-        column = column;
-        code = code;
-        sentence = sentence;
-        shown = piece;
-        mark = left ++ right;
-        mend = mend;
-        on_lines = each_on_line code sentence piece (left ++ right) mend parts.0 parts.1 (shown_on_line shown) (both_on_line left right (replicate_on_line blanks 32 refl) (replicate_on_line marks 94 refl)) parts.2;
-      },
-      (rw (ef, ew, et, em) at e) ∙ ap (λ x. old ++ x) (people_pieces (file_text file) (codes ":") (decimal line) (codes ":") (decimal column) (codes ": ") (severity_word s) (codes ": ") sentence (codes "\n    ") piece (codes "\n    ") left right (codes "\n  mend: ") mend (codes "\n")),
-    )
+text_finding : {source : List ℕ} (p : FindingParts source) (s : Severity) (file f w t m old new : List ℕ) (line column blanks : ℕ) → f ≡ file → w ≡ severity_word s → t ≡ p.sentence → m ≡ p.mend → line ≡ finding_line p → column ≡ finding_column p → blanks ≡ length p.left
+    → new ≡ old ++ (file_text f ++ (codes ":" ++ (decimal line ++ (codes ":" ++ (decimal column ++ (codes ": " ++ (w ++ (codes ": " ++ (t ++ (codes "\n    " ++ (flat_map shown_text p.left ++ (flat_map shown_text p.right ++ (codes "\n    " ++ (replicate blanks 32 ++ (replicate p.marks 94 ++ (codes "\n  mend: " ++ (m ++ codes "\n")))))))))))))))))
+    → new ≡ old ++ finding_text form.Text s file p
+text_finding p s file f w t m old new line column blanks ef ew et em el ec eb e =
+    (rw (ef, ew, et, em, el, ec, eb) at e) ∙ ap (λ x. old ++ x) (people_pieces (file_text file) (codes ":") (decimal (finding_line p)) (codes ":") (decimal (finding_column p)) (codes ": ") (severity_word s) (codes ": ") p.sentence (codes "\n    ") (flat_map shown_text p.left) (flat_map shown_text p.right) (codes "\n    ") (replicate (length p.left) 32) (replicate p.marks 94) (codes "\n  mend: ") p.mend (codes "\n"))
 
-pub json_finding : (s : Severity) (file code sentence mend f w k t m old new : List ℕ) (line column : ℕ) → IsTrue (list_all is_on_line (code ∷ sentence ∷ mend ∷ [])) → f ≡ file → w ≡ severity_word s → k ≡ code → t ≡ sentence → m ≡ mend
+json_finding : {source : List ℕ} (p : FindingParts source) (s : Severity) (file f w k t m old new : List ℕ) (line column : ℕ) → f ≡ file → w ≡ severity_word s → k ≡ p.code → t ≡ p.sentence → m ≡ p.mend → line ≡ finding_line p → column ≡ finding_column p
     → new ≡ old ++ (codes "{\"file\":" ++ (json_text f ++ (codes ",\"line\":" ++ (decimal line ++ (codes ",\"column\":" ++ (decimal column ++ (codes ",\"severity\":\"" ++ (w ++ (codes "\",\"code\":" ++ (json_text k ++ (codes ",\"message\":" ++ (json_text t ++ (codes ",\"mend\":" ++ (json_text m ++ codes "}\n"))))))))))))))
-    → AddsFinding form.Json s file old new
-json_finding s file code sentence mend f w k t m old new line column are ef ew ek et em e =
-    let parts = of_three code sentence mend are in (
-      record {
-        line = line;
-        column = column;
-        code = code;
-        sentence = sentence;
-        shown = [];
-        mark = [];
-        mend = mend;
-        on_lines = each_on_line code sentence [] [] mend parts.0 parts.1 refl refl parts.2;
-      },
-      (rw (ef, ew, ek, et, em) at e) ∙ ap (λ x. old ++ x) (editor_pieces (codes "{\"file\":") (json_text file) (codes ",\"line\":") (decimal line) (codes ",\"column\":") (decimal column) (codes ",\"severity\":\"") (severity_word s) (codes "\",\"code\":") (json_text code) (codes ",\"message\":") (json_text sentence) (codes ",\"mend\":") (json_text mend) (codes "}\n")),
-    )
+    → new ≡ old ++ finding_text form.Json s file p
+json_finding p s file f w k t m old new line column ef ew ek et em el ec e =
+    (rw (ef, ew, ek, et, em, el, ec) at e) ∙ ap (λ x. old ++ x) (editor_pieces (codes "{\"file\":") (json_text file) (codes ",\"line\":") (decimal (finding_line p)) (codes ",\"column\":") (decimal (finding_column p)) (codes ",\"severity\":\"") (severity_word s) (codes "\",\"code\":") (json_text p.code) (codes ",\"message\":") (json_text p.sentence) (codes ",\"mend\":") (json_text p.mend) (codes "}\n"))
+
+less : (a b : ℕ) → a < b → IsTrue (nat_lt a b)
+less a b h = grind (arith, nat_tests)
+
+-- the finding of an excerpt
+module _ (source : List ℕ) (start : ℕ) (e : Excerpt) (x : IsExcerpt source start e) (code sentence mend : List ℕ) (are : IsTrue (list_all is_on_line (code ∷ sentence ∷ mend ∷ []))) where
+  abbrev finding_at : FindingParts source
+  finding_at = record {
+    before = x.before;
+    left = e.left.now;
+    right = e.right.now;
+    after = x.after;
+    split = sym (ap (λ a. a ++ (e.right.now ++ x.after)) x.first ∙ ap (λ b. take start source ++ b) x.rest ∙ take-append-drop start source);
+    from_line = less _ _ (subst (λ b. length e.left.now < column_after 1 b) (sym x.first) (subst (λ n. length e.left.now < n) x.column x.from_line));
+    in_line = x.in_line;
+    marks = e.marks;
+    marked = less _ _ x.marked;
+    code = code;
+    sentence = sentence;
+    mend = mend;
+    on_lines = are;
+  }
+
+  on_its_line : e.line ≡ finding_line finding_at
+  on_its_line = x.line ∙ ap (line_after 1) (sym x.first)
+
+  at_its_column : e.column ≡ finding_column finding_at
+  at_its_column = x.column ∙ ap (column_after 1) (sym x.first)
+
+  pub adds_text : (s : Severity) (file f w t m old new : List ℕ) (blanks : ℕ) → f ≡ file → w ≡ severity_word s → t ≡ sentence → m ≡ mend → blanks ≡ length e.left.now
+      → new ≡ old ++ (file_text f ++ (codes ":" ++ (decimal e.line ++ (codes ":" ++ (decimal e.column ++ (codes ": " ++ (w ++ (codes ": " ++ (t ++ (codes "\n    " ++ (flat_map shown_text e.left.now ++ (flat_map shown_text e.right.now ++ (codes "\n    " ++ (replicate blanks 32 ++ (replicate e.marks 94 ++ (codes "\n  mend: " ++ (m ++ codes "\n")))))))))))))))))
+      → AddsFinding form.Text s file source start code old new
+  adds_text s file f w t m old new blanks ef ew et em eb is =
+      (finding_at, refl, x.first, x.rest, text_finding finding_at s file f w t m old new e.line e.column blanks ef ew et em on_its_line at_its_column eb is)
+
+  pub adds_json : (s : Severity) (file f w k t m old new : List ℕ) → f ≡ file → w ≡ severity_word s → k ≡ code → t ≡ sentence → m ≡ mend
+      → new ≡ old ++ (codes "{\"file\":" ++ (json_text f ++ (codes ",\"line\":" ++ (decimal e.line ++ (codes ",\"column\":" ++ (decimal e.column ++ (codes ",\"severity\":\"" ++ (w ++ (codes "\",\"code\":" ++ (json_text k ++ (codes ",\"message\":" ++ (json_text t ++ (codes ",\"mend\":" ++ (json_text m ++ codes "}\n"))))))))))))))
+      → AddsFinding form.Json s file source start code old new
+  adds_json s file f w k t m old new ef ew ek et em is =
+      (finding_at, refl, x.first, x.rest, json_finding finding_at s file f w k t m old new e.line e.column ef ew ek et em on_its_line at_its_column is)
+
+-- the finding is one of whatever the source comes to
+abbrev pub Reasoned : Edition → (source : List ℕ) → FindingParts source → Type 0
+Reasoned edition source p = EachOutcome edition source (λ o. Reason o.edition o.stop o.fault p.code (p.before ++ p.left) (p.right ++ p.after))
 
 -- the text of so many findings
-abbrev pub FindingsSoFar : Form → (status : ℕ) → (file : List ℕ) → (count : ℕ) → (text : List ℕ) → Type 0
-FindingsSoFar form status file count text = (findings : List FindingParts) × (length findings ≡ count) × (text ≡ findings_text form status file findings)
+abbrev pub FindingsSoFar : Form → Edition → (status : ℕ) → (file source : List ℕ) → (count : ℕ) → (text : List ℕ) → Type 0
+FindingsSoFar form edition status file source count text =
+    (findings : List (FindingParts source)) × (length findings ≡ count) × All (Reasoned edition source) findings × (text ≡ findings_text form status file findings)
 
 -- one finding more
-pub finding_more : (form f : Form) (status : ℕ) (s : Severity) (file old new said : List ℕ) (count : ℕ) → form ≡ f → s ≡ severity_of status → said ≡ new
-    → FindingsSoFar form status file count old → AddsFinding f s file old new → FindingsSoFar form status file (count + 1) said
-finding_more form f status s file old new said count same also is a more =
-    let severity = severity_of status in
-    let text = finding_text form severity file in
-    let b : AddsFinding form severity file old said =
-    subst (λ x. AddsFinding x severity file old said) (sym same) (subst (λ y. AddsFinding f y file old said) also (subst (λ t. AddsFinding f s file old t) (sym is) more)) in (
-      a.0 ++ b.0 ∷ [],
-      length_push a.0 b.0 ∙ ap (λ n. n + 1) a.1,
-      b.1 ∙ ap (λ t. t ++ text b.0) a.2 ∙ sym (flat_map-append text a.0 (b.0 ∷ []) ∙ ap (λ t. flat_map text a.0 ++ t) (append-nil (text b.0))),
-    )
+module _ (form f : Form) (edition : Edition) (status : ℕ) (s : Severity) (file source : List ℕ) (start : ℕ) (code old new said : List ℕ) (count : ℕ) where
+  pub finding_more : form ≡ f → s ≡ severity_of status → said ≡ new → EachOutcome edition source (ReasonAt code start)
+      → FindingsSoFar form edition status file source count old → AddsFinding f s file source start code old new → FindingsSoFar form edition status file source (count + 1) said
+  finding_more same also is reason a more =
+      let severity = severity_of status in
+      let text = finding_text form severity file in
+      let b : AddsFinding form severity file source start code old said =
+      subst (λ x. AddsFinding x severity file source start code old said) (sym same) (subst (λ y. AddsFinding f y file source start code old said) also (subst (λ t. AddsFinding f s file source start code old t) (sym is) more)) in
+      let reasoned : Reasoned edition source b.0 =
+      λ r g. subst (λ c. Reason edition r.stop (load_fault (map code_of g.definitions)) c (b.0.before ++ b.0.left) (b.0.right ++ b.0.after)) (sym b.1)
+      (subst (λ x. Reason edition r.stop (load_fault (map code_of g.definitions)) code x (b.0.right ++ b.0.after)) (sym b.2)
+      (subst (λ x. Reason edition r.stop (load_fault (map code_of g.definitions)) code (take start source) x) (sym b.3) (reason r g))) in (
+        a.0 ++ b.0 ∷ [],
+        length_push a.0 b.0 ∙ ap (λ n. n + 1) a.1,
+        All-push (Reasoned edition source) a.0 b.0 a.2 reasoned,
+        b.4 ∙ ap (λ t. t ++ text b.0) a.3 ∙ sym (flat_map-append text a.0 (b.0 ∷ []) ∙ ap (λ t. flat_map text a.0 ++ t) (append-nil (text b.0))),
+      )
+
+reasons_at : (edition : Edition) (source : List ℕ) (r : Compilation) (g : CompilesTo [] (tokens_from edition 1 source) r) (ps : List (FindingParts source)) → All (Reasoned edition source) ps → All (IsReason (outcome_of edition source r.stop (load_fault (map code_of g.definitions)))) ps
+reasons_at edition source r g ps h = All-weaker (Reasoned edition source) (IsReason (outcome_of edition source r.stop (load_fault (map code_of g.definitions)))) (λ p is. is r g) ps h
 
 -- all of them, of which there is one where the source has a fault
-pub all_findings : (form : Form) (status : ℕ) (file said : List ℕ) (count all : ℕ) → (status ≢ DONE → all ≡ 1) → count ≡ all → FindingsSoFar form status file count said
-    → AreFindings form status file said
-all_findings form status file said count all one is a = (a.0, (λ fault. a.1 ∙ is ∙ one fault), a.2)
+pub all_findings : (form : Form) (edition : Edition) (status : ℕ) (file source said : List ℕ) (count all : ℕ) → (status ≢ DONE → all ≡ 1) → count ≡ all → FindingsSoFar form edition status file source count said
+    → EachOutcome edition source (λ o. AreFindings form o status file said)
+all_findings form edition status file source said count all one is a = λ r g. (a.0, (λ fault. a.1 ∙ is ∙ one fault), reasons_at edition source r g a.0 a.2, a.3)

@@ -13,7 +13,7 @@ use Rattle.blang.specs.declared.run.LoadFault.{LoadFault}
 use Rattle.blang.specs.declared.run.LoadFault.TheVariants as fault
 use Rattle.bmach.specs.Loading.{IsFault}
 use Rattle.blang.specs.declared.status.TheConstants.{REFUSED}
-use Rattle.bcheck.specs.Checks.{AreFindings, Judged, EachTold, TellsFirst, told, shown_in_form, verdict_line, status_told, told_first}
+use Rattle.bcheck.specs.Checks.{AreFindings, Judged, EachOutcome, Outcome, outcome_of, TellsFirst, told, shown_in_form, verdict_line, status_told, told_first}
 use Rattle.btools.specs.Programs.{load_line}
 use Rattle.blang.specs.Machine.{Reported}
 use Rattle.bcheck.specs.declared.form.Form.{Form}
@@ -31,10 +31,10 @@ both_kept : (a b c : Kept) (first more : List ℕ) → a ≡ nothing_kept → Wr
 both_kept a b c first more e v w = w.appended ∙ ap (λ t. t ++ more) (v.appended ∙ ap (λ (k : Kept). k.bytes ++ first) e)
 
 -- a text that is told is one that begins with the first
-pub tells_both : (form : Form) (file : List ℕ) (a b c : Kept) (first more text : List ℕ) (status : ℕ) (old new : Outgoing) (result : ℕ) → a ≡ nothing_kept
+pub tells_both : (form : Form) (o : Outcome) (file : List ℕ) (a b c : Kept) (first more text : List ℕ) (status : ℕ) (old new : Outgoing) (result : ℕ) → a ≡ nothing_kept
     → Writes (outgoing_of a) first (outgoing_of b) → Writes (outgoing_of b) more (outgoing_of c) → text ≡ c.bytes
-    → Reported text status old new result → AreFindings form status file more → TellsFirst form file first status old new result
-tells_both form file a b c first more text status old new result e v w is t are =
+    → Reported text status old new result → AreFindings form o status file more → TellsFirst form o file first status old new result
+tells_both form o file a b c first more text status old new result e v w is t are =
     told more are (subst (λ x. Reported x status old new result) (is ∙ both_kept a b c first more e v w) t)
 
 no_more : (taken rest : List ℕ) → taken ++ rest ≡ taken → rest ≡ []
@@ -101,9 +101,14 @@ told_fault (fault.Undefined name) items ds a b e h = told_as (Some (fault.Undefi
 told_fault fault.NoMain items ds a b e h = absurd (a refl)
 told_fault fault.Memory items ds a b e h = absurd (b refl)
 
-pub checked : (form : Form) (file : List ℕ) (v : Verdict) (edition : Edition) (source first : List ℕ) (status : ℕ) (old new : Outgoing) (result : ℕ)
-    → Judged edition source v → first ≡ shown_in_form form (verdict_line v) → status ≡ status_told v → TellsFirst form file first status old new result
-    → EachTold edition source (λ p. TellsFirst form file (shown_in_form form p.0) p.1 old new result)
-checked form file v edition source first status old new result j f s t =
-    λ r g. subst (λ (p : List ℕ × ℕ). TellsFirst form file (shown_in_form form p.0) p.1 old new result) (j r g)
-    (subst (λ n. TellsFirst form file (shown_in_form form (verdict_line v)) n old new result) s (subst (λ x. TellsFirst form file x status old new result) f t))
+pub checked : (form : Form) (file : List ℕ) (v : Verdict) (edition : Edition) (source first more : List ℕ) (status : ℕ) (old new : Outgoing) (result : ℕ)
+    → Judged edition source v → first ≡ shown_in_form form (verdict_line v) → status ≡ status_told v
+    → EachOutcome edition source (λ o. AreFindings form o (status_told v) file more)
+    → ((o : Outcome) → AreFindings form o status file more → TellsFirst form o file first status old new result)
+    → EachOutcome edition source (λ o. TellsFirst form o file (shown_in_form form (told_first o.stop o.fault).0) (told_first o.stop o.fault).1 old new result)
+checked form file v edition source first more status old new result j f s are t =
+    λ r g.
+    let o = outcome_of edition source r.stop (load_fault (map code_of g.definitions)) in
+    let here : TellsFirst form o file first status old new result = t o (subst (λ n. AreFindings form o n file more) (sym s) (are r g)) in
+    subst (λ (p : List ℕ × ℕ). TellsFirst form o file (shown_in_form form p.0) p.1 old new result) (j r g)
+    (subst (λ n. TellsFirst form o file (shown_in_form form (verdict_line v)) n old new result) s (subst (λ x. TellsFirst form o file x status old new result) f here))

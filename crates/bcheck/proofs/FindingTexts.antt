@@ -1,5 +1,5 @@
 -- The texts of findings: where each ends, how many lines it has, and of which bytes it consists.
-use Rattle.std.proofs.Common.{◌≡◌, ◌≢◌, ◌∙◌, ◌<◌, ◌≤◌, ◌+◌, ◌*◌, ◌/◌, ◌%◌, ◌==◌, ℕ, zero, suc, List, [], ◌∷◌, ◌++◌, Bool, true, false, IsTrue, if◌then◌else◌, ap, append-nil, append_assoc, arith, codes, decimal, length, nat_le, refl, subst, sym}
+use Rattle.std.proofs.Common.{◌≡◌, ◌≢◌, ◌∙◌, ◌<◌, ◌≤◌, ◌+◌, ◌*◌, ◌/◌, ◌%◌, ◌==◌, ℕ, zero, suc, List, [], ◌∷◌, ◌++◌, Bool, true, false, IsTrue, if◌then◌else◌, ap, append-nil, append_assoc, arith, codes, decimal, length, nat_le, refl, replicate, subst, sym}
 use Rattle.std.specs.Prelude.{◌&&◌, ◌||◌, nat_lt}
 use Rattle.std.specs.Fmt.{digits, digits_onto, digit_glyph}
 use Rattle.std.specs.Int.{is_in_range}
@@ -9,8 +9,9 @@ use Rattle.std.proofs.lemmas.List.{append_cancel_left}
 use Rattle.std.proofs.Math.Nat.{add_comm, mod-lt, suc-mul, zero-add, zero-mul}
 use Rattle.std.proofs.lemmas.List.Folds.{list_all-append}
 use Rattle.std.proofs.lemmas.List.Sums.{sum_by-append}
-use Rattle.bcheck.specs.Checks.{FindingParts, file_byte, file_text, finding_head, finding_start, finding_text, finding_words, findings_text, is_on_line, json_byte, json_text, severity_of, severity_word}
+use Rattle.bcheck.specs.Checks.{FindingParts, file_byte, file_text, finding_column, finding_head, finding_line, finding_mark, finding_shown, finding_start, finding_text, finding_words, is_on_line, shown_text, json_byte, json_text, severity_of, severity_word}
 use Rattle.bcheck.specs.Excluded.{finding_lines, is_printed, newlines}
+use Rattle.bcheck.proofs.OnLine.{both_on_line, of_three, replicate_on_line, shown_on_line}
 use Rattle.bcheck.specs.declared.finding.Severity.{Severity}
 use Rattle.bcheck.specs.declared.finding.Severity.TheVariants as severity
 use Rattle.bcheck.specs.declared.form.Form.{Form}
@@ -147,10 +148,28 @@ same_severity form.Json s t l c m d u v e =
     let word = (same_to (is_in_range 48 57) (decimal c) (decimal d) _ _ 44 44 (decimal_is c) (decimal_is d) refl refl column).1 in
     same_word s t (codes "\",\"code\":" ++ u) (codes "\",\"code\":" ++ v) (append_cancel_left (codes ",\"severity\":\"") _ _ word)
 
+word_rest : (s t : Severity) (u v : List ℕ) → severity_word s ++ u ≡ severity_word t ++ v → u ≡ v
+word_rest s t u v e = append_cancel_left (severity_word s) u v (e ∙ ap (λ x. severity_word x ++ v) (sym (same_word s t u v e)))
+
+-- and so are the line, the column and what comes after them
+pub same_places : (form : Form) (s t : Severity) (l c m d : ℕ) (u v : List ℕ) → placed form s l c u ≡ placed form t m d v → (decimal l ≡ decimal m) × (decimal c ≡ decimal d) × (u ≡ v)
+same_places form.Text s t l c m d u v e =
+    let line = same_to (is_in_range 48 57) (decimal l) (decimal m) _ _ 58 58 (decimal_is l) (decimal_is m) refl refl e in
+    let column : decimal c ++ (codes ": " ++ (severity_word s ++ (codes ": " ++ u))) ≡ decimal d ++ (codes ": " ++ (severity_word t ++ (codes ": " ++ v))) = append_cancel_left (codes ":") _ _ line.1 in
+    let word = same_to (is_in_range 48 57) (decimal c) (decimal d) _ _ 58 58 (decimal_is c) (decimal_is d) refl refl column in
+    let rest = word_rest s t (codes ": " ++ u) (codes ": " ++ v) (append_cancel_left (codes ": ") _ _ word.1) in
+    (line.0, word.0, append_cancel_left (codes ": ") u v rest)
+same_places form.Json s t l c m d u v e =
+    let line = same_to (is_in_range 48 57) (decimal l) (decimal m) _ _ 44 44 (decimal_is l) (decimal_is m) refl refl e in
+    let column = append_cancel_left (codes ",\"column\":") _ _ line.1 in
+    let word = same_to (is_in_range 48 57) (decimal c) (decimal d) _ _ 44 44 (decimal_is c) (decimal_is d) refl refl column in
+    let rest = word_rest s t (codes "\",\"code\":" ++ u) (codes "\",\"code\":" ++ v) (append_cancel_left (codes ",\"severity\":\"") _ _ word.1) in
+    (line.0, word.0, append_cancel_left (codes "\",\"code\":") u v rest)
+
 -- each finding begins so
-pub text_placed : (form : Form) (s : Severity) (file : List ℕ) (p : FindingParts) → (rest : List ℕ) × (finding_text form s file p ≡ finding_head form s file p.line p.column ++ rest)
-text_placed form.Text s file p = (finding_words form.Text p ++ codes "\n", append_assoc (finding_head form.Text s file p.line p.column) (finding_words form.Text p) (codes "\n"))
-text_placed form.Json s file p = (finding_words form.Json p ++ codes "}\n", append_assoc (finding_head form.Json s file p.line p.column) (finding_words form.Json p) (codes "}\n"))
+unfoldable pub text_placed : {source : List ℕ} → (form : Form) (s : Severity) (file : List ℕ) (p : FindingParts source) → (rest : List ℕ) × (finding_text form s file p ≡ finding_head form s file (finding_line p) (finding_column p) ++ rest)
+text_placed form.Text s file p = (finding_words form.Text p ++ codes "\n", append_assoc (finding_head form.Text s file (finding_line p) (finding_column p)) (finding_words form.Text p) (codes "\n"))
+text_placed form.Json s file p = (finding_words form.Json p ++ codes "}\n", append_assoc (finding_head form.Json s file (finding_line p) (finding_column p)) (finding_words form.Json p) (codes "}\n"))
 
 -- newlines
 pub newlines_in : (a b : List ℕ) → newlines (a ++ b) ≡ newlines a + newlines b
@@ -182,51 +201,51 @@ more a b g h = record { line = all_more (nat_le 32) a b g h.line }
 last_line : (a : List ℕ) → IsTrue (is_one_line a) → Line a
 last_line a h = record { line = h }
 
-part : (a b c d e : Bool) → IsTrue (a && (b && (c && (d && (e && true))))) → IsTrue a × IsTrue b × IsTrue c × IsTrue d × IsTrue e
-part a b c d e h =
-    let h1 = second a _ h in
-    let h2 = second b _ h1 in
-    let h3 = second c _ h2 in
-    (first a _ h, first b _ h1, first c _ h2, first d _ h3, first e _ (second d _ h3))
-
-parts_of : (p : FindingParts) → IsTrue (is_on_line p.code) × IsTrue (is_on_line p.sentence) × IsTrue (is_on_line p.shown) × IsTrue (is_on_line p.mark) × IsTrue (is_on_line p.mend)
-parts_of p = part (is_on_line p.code) (is_on_line p.sentence) (is_on_line p.shown) (is_on_line p.mark) (is_on_line p.mend) p.on_lines
+parts_of : {source : List ℕ} → (p : FindingParts source) → IsTrue (is_on_line p.code) × IsTrue (is_on_line p.sentence) × IsTrue (is_on_line (finding_shown p)) × IsTrue (is_on_line (finding_mark p)) × IsTrue (is_on_line p.mend)
+parts_of p =
+    let words = of_three p.code p.sentence p.mend p.on_lines in (
+      words.0,
+      words.1,
+      both_on_line (flat_map shown_text p.left) (flat_map shown_text p.right) (shown_on_line p.left) (shown_on_line p.right),
+      both_on_line (replicate (length p.left) 32) (replicate p.marks 94) (replicate_on_line (length p.left) 32 refl) (replicate_on_line p.marks 94 refl),
+      words.2,
+    )
 
 -- the four lines of a finding for people, behind the name of the file, and the one for editors
-abbrev sentence_line : Severity → FindingParts → List ℕ
-sentence_line s p = codes ":" ++ (decimal p.line ++ (codes ":" ++ (decimal p.column ++ (codes ": " ++ (severity_word s ++ (codes ": " ++ p.sentence))))))
+abbrev sentence_line : {source : List ℕ} → Severity → FindingParts source → List ℕ
+sentence_line s p = codes ":" ++ (decimal (finding_line p) ++ (codes ":" ++ (decimal (finding_column p) ++ (codes ": " ++ (severity_word s ++ (codes ": " ++ p.sentence))))))
 
-abbrev shown_line : FindingParts → List ℕ
-shown_line p = codes "    " ++ p.shown
+abbrev shown_line : {source : List ℕ} → FindingParts source → List ℕ
+shown_line p = codes "    " ++ (finding_shown p)
 
-abbrev mark_line : FindingParts → List ℕ
-mark_line p = codes "    " ++ p.mark
+abbrev mark_line : {source : List ℕ} → FindingParts source → List ℕ
+mark_line p = codes "    " ++ (finding_mark p)
 
-abbrev mend_line : FindingParts → List ℕ
+abbrev mend_line : {source : List ℕ} → FindingParts source → List ℕ
 mend_line p = codes "  mend: " ++ p.mend
 
-abbrev object_line : Severity → (file : List ℕ) → FindingParts → List ℕ
+abbrev object_line : {source : List ℕ} → Severity → (file : List ℕ) → FindingParts source → List ℕ
 object_line s file p =
-    codes "{\"file\":" ++ (json_text file ++ (codes ",\"line\":" ++ (decimal p.line ++ (codes ",\"column\":" ++ (decimal p.column ++ (codes ",\"severity\":\"" ++ (severity_word s ++ (codes "\",\"code\":" ++ (json_text p.code ++ (codes ",\"message\":" ++ (json_text p.sentence ++ (codes ",\"mend\":" ++ (json_text p.mend ++ codes "}")))))))))))))
+    codes "{\"file\":" ++ (json_text file ++ (codes ",\"line\":" ++ (decimal (finding_line p) ++ (codes ",\"column\":" ++ (decimal (finding_column p) ++ (codes ",\"severity\":\"" ++ (severity_word s ++ (codes "\",\"code\":" ++ (json_text p.code ++ (codes ",\"message\":" ++ (json_text p.sentence ++ (codes ",\"mend\":" ++ (json_text p.mend ++ codes "}")))))))))))))
 
-sentence_one : (s : Severity) (p : FindingParts) → IsTrue (is_one_line (sentence_line s p))
+sentence_one : {source : List ℕ} → (s : Severity) (p : FindingParts source) → IsTrue (is_one_line (sentence_line s p))
 sentence_one s p =
-    (more (codes ":") _ refl (more (decimal p.line) _ (digits_line p.line) (more (codes ":") _ refl (more (decimal p.column) _ (digits_line p.column)
+    (more (codes ":") _ refl (more (decimal (finding_line p)) _ (digits_line (finding_line p)) (more (codes ":") _ refl (more (decimal (finding_column p)) _ (digits_line (finding_column p))
     (more (codes ": ") _ refl (more (severity_word s) _ (word_line s) (more (codes ": ") _ refl (last_line p.sentence (words_line p.sentence (parts_of p).1))))))))).line
 
-shown_one : (p : FindingParts) → IsTrue (is_one_line (shown_line p))
-shown_one p = all_more (nat_le 32) (codes "    ") p.shown refl (words_line p.shown (parts_of p).2)
+shown_one : {source : List ℕ} → (p : FindingParts source) → IsTrue (is_one_line (shown_line p))
+shown_one p = all_more (nat_le 32) (codes "    ") (finding_shown p) refl (words_line (finding_shown p) (parts_of p).2)
 
-mark_one : (p : FindingParts) → IsTrue (is_one_line (mark_line p))
-mark_one p = all_more (nat_le 32) (codes "    ") p.mark refl (words_line p.mark (parts_of p).3)
+mark_one : {source : List ℕ} → (p : FindingParts source) → IsTrue (is_one_line (mark_line p))
+mark_one p = all_more (nat_le 32) (codes "    ") (finding_mark p) refl (words_line (finding_mark p) (parts_of p).3)
 
-mend_one : (p : FindingParts) → IsTrue (is_one_line (mend_line p))
+mend_one : {source : List ℕ} → (p : FindingParts source) → IsTrue (is_one_line (mend_line p))
 mend_one p = all_more (nat_le 32) (codes "  mend: ") p.mend refl (words_line p.mend (parts_of p).4)
 
-object_one : (s : Severity) (file : List ℕ) (p : FindingParts) → IsTrue (is_one_line (object_line s file p))
+object_one : {source : List ℕ} → (s : Severity) (file : List ℕ) (p : FindingParts source) → IsTrue (is_one_line (object_line s file p))
 object_one s file p =
-    (more (codes "{\"file\":") _ refl (more (json_text file) _ (json_one file) (more (codes ",\"line\":") _ refl (more (decimal p.line) _ (digits_line p.line)
-    (more (codes ",\"column\":") _ refl (more (decimal p.column) _ (digits_line p.column) (more (codes ",\"severity\":\"") _ refl (more (severity_word s) _ (word_line s)
+    (more (codes "{\"file\":") _ refl (more (json_text file) _ (json_one file) (more (codes ",\"line\":") _ refl (more (decimal (finding_line p)) _ (digits_line (finding_line p))
+    (more (codes ",\"column\":") _ refl (more (decimal (finding_column p)) _ (digits_line (finding_column p)) (more (codes ",\"severity\":\"") _ refl (more (severity_word s) _ (word_line s)
     (more (codes "\",\"code\":") _ refl (more (json_text p.code) _ (json_one p.code) (more (codes ",\"message\":") _ refl (more (json_text p.sentence) _ (json_one p.sentence)
     (more (codes ",\"mend\":") _ refl (more (json_text p.mend) _ (json_one p.mend) (last_line (codes "}") refl))))))))))))))).line
 
@@ -238,13 +257,13 @@ behind_start : (f l c d e w g k h s i m q : List ℕ)
     → f ++ l ++ c ++ d ++ e ++ w ++ g ++ (k ++ h ++ s ++ i ++ m) ++ q ≡ f ++ (l ++ (c ++ (d ++ (e ++ (w ++ (g ++ (k ++ (h ++ (s ++ (i ++ (m ++ q)))))))))))
 behind_start f l c d e w g k h s i m q = simp append_assoc refl
 
-people_is : (s : Severity) (file : List ℕ) (p : FindingParts) (rest : List ℕ)
+people_is : {source : List ℕ} → (s : Severity) (file : List ℕ) (p : FindingParts source) (rest : List ℕ)
     → finding_text form.Text s file p ++ rest ≡ file_text file ++ (sentence_line s p ++ 10 ∷ (shown_line p ++ 10 ∷ (mark_line p ++ 10 ∷ (mend_line p ++ 10 ∷ rest))))
 people_is s file p rest = simp append_assoc refl
 
-object_is : (s : Severity) (file : List ℕ) (p : FindingParts) (rest : List ℕ) → finding_text form.Json s file p ++ rest ≡ object_line s file p ++ 10 ∷ rest
+object_is : {source : List ℕ} → (s : Severity) (file : List ℕ) (p : FindingParts source) (rest : List ℕ) → finding_text form.Json s file p ++ rest ≡ object_line s file p ++ 10 ∷ rest
 object_is s file p rest =
-    in_object (codes "{\"file\":") (json_text file) (codes ",\"line\":") (decimal p.line) (codes ",\"column\":") (decimal p.column) (codes ",\"severity\":\"") (severity_word s) (codes "\",\"code\":") (json_text p.code) (codes ",\"message\":") (json_text p.sentence) (codes ",\"mend\":") (json_text p.mend) (codes "}") (codes "\n") rest
+    in_object (codes "{\"file\":") (json_text file) (codes ",\"line\":") (decimal (finding_line p)) (codes ",\"column\":") (decimal (finding_column p)) (codes ",\"severity\":\"") (severity_word s) (codes "\",\"code\":") (json_text p.code) (codes ",\"message\":") (json_text p.sentence) (codes ",\"mend\":") (json_text p.mend) (codes "}") (codes "\n") rest
 
 tails : (xs ys : List ℕ) → 10 ∷ xs ≡ 10 ∷ ys → xs ≡ ys
 tails xs ys e = cc
@@ -254,7 +273,7 @@ behind : (a b u v : List ℕ) → IsTrue (is_one_line a) → IsTrue (is_one_line
 behind a b u v g h e = tails u v (same_to (nat_le 32) a b u v 10 10 g h refl refl e).1
 
 -- behind a finding that both begin with, both go on alike
-pub one_of : (form : Form) (s : Severity) (file : List ℕ) (p q : FindingParts) (a b : List ℕ) → finding_text form s file p ++ a ≡ finding_text form s file q ++ b → a ≡ b
+pub one_of : {source : List ℕ} → (form : Form) (s : Severity) (file : List ℕ) (p q : FindingParts source) (a b : List ℕ) → finding_text form s file p ++ a ≡ finding_text form s file q ++ b → a ≡ b
 one_of form.Text s file p q a b e =
     let here = append_cancel_left (file_text file) _ _ (sym (people_is s file p a) ∙ e ∙ people_is s file q b) in
     let l1 = behind (sentence_line s p) (sentence_line s q) _ _ (sentence_one s p) (sentence_one s q) here in
@@ -282,28 +301,28 @@ no_start form.Text s file line column rest e =
 no_start form.Json s file line column rest e = no_cons _ _ e
 
 -- behind findings of one severity none of another begins
-pub other_severity_behind : (form : Form) (s t : Severity) (file : List ℕ) (ps qs : List FindingParts) (line column : ℕ) (rest : List ℕ) → s ≢ t
+pub other_severity_behind : {source : List ℕ} → (form : Form) (s t : Severity) (file : List ℕ) (ps qs : List (FindingParts source)) (line column : ℕ) (rest : List ℕ) → s ≢ t
     → flat_map (finding_text form t file) ps ++ (finding_head form s file line column ++ rest) ≡ flat_map (finding_text form t file) qs → ⊥
 other_severity_behind form s t file [] [] line column rest other e = no_start form s file line column rest e
 other_severity_behind form s t file [] (q ∷ qs) line column rest other e =
     let text = text_placed form t file q in
     let later = flat_map (finding_text form t file) qs in
-    let here : finding_head form s file line column ++ rest ≡ finding_head form t file q.line q.column ++ (text.0 ++ later) =
-    e ∙ ap (λ x. x ++ later) text.1 ∙ append_assoc (finding_head form t file q.line q.column) text.0 later in
-    other (same_severity form s t line column q.line q.column rest (text.0 ++ later)
-    (append_cancel_left (finding_start form file) _ _ (sym (head_placed form s file line column rest) ∙ here ∙ head_placed form t file q.line q.column (text.0 ++ later))))
+    let here : finding_head form s file line column ++ rest ≡ finding_head form t file (finding_line q) (finding_column q) ++ (text.0 ++ later) =
+    e ∙ ap (λ x. x ++ later) text.1 ∙ append_assoc (finding_head form t file (finding_line q) (finding_column q)) text.0 later in
+    other (same_severity form s t line column (finding_line q) (finding_column q) rest (text.0 ++ later)
+    (append_cancel_left (finding_start form file) _ _ (sym (head_placed form s file line column rest) ∙ here ∙ head_placed form t file (finding_line q) (finding_column q) (text.0 ++ later))))
 other_severity_behind form s t file (p ∷ ps) [] line column rest other e =
     let text = text_placed form t file p in
     let later = flat_map (finding_text form t file) ps ++ (finding_head form s file line column ++ rest) in
-    no_start form t file p.line p.column (text.0 ++ later)
-    (sym (append_assoc (finding_text form t file p) (flat_map (finding_text form t file) ps) (finding_head form s file line column ++ rest) ∙ ap (λ x. x ++ later) text.1 ∙ append_assoc (finding_head form t file p.line p.column) text.0 later) ∙ e)
+    no_start form t file (finding_line p) (finding_column p) (text.0 ++ later)
+    (sym (append_assoc (finding_text form t file p) (flat_map (finding_text form t file) ps) (finding_head form s file line column ++ rest) ∙ ap (λ x. x ++ later) text.1 ∙ append_assoc (finding_head form t file (finding_line p) (finding_column p)) text.0 later) ∙ e)
 other_severity_behind form s t file (p ∷ ps) (q ∷ qs) line column rest other e =
     let text = finding_text form t file in
     other_severity_behind form s t file ps qs line column rest other
     (one_of form t file p q _ _ (sym (append_assoc (text p) (flat_map text ps) (finding_head form s file line column ++ rest)) ∙ e))
 
 -- the lines of findings
-pub lines_of : (form : Form) (s : Severity) (file : List ℕ) (p : FindingParts) → newlines (finding_text form s file p) ≡ finding_lines form
+pub lines_of : {source : List ℕ} → (form : Form) (s : Severity) (file : List ℕ) (p : FindingParts source) → newlines (finding_text form s file p) ≡ finding_lines form
 lines_of form.Text s file p =
     let is : newlines (finding_text form.Text s file p) ≡ newlines (file_text file ++ (sentence_line s p ++ 10 ∷ (shown_line p ++ 10 ∷ (mark_line p ++ 10 ∷ (mend_line p ++ 10 ∷ []))))) =
     ap newlines (sym (append-nil (finding_text form.Text s file p)) ∙ people_is s file p []) in
@@ -318,7 +337,7 @@ lines_of form.Json s file p =
     let is : newlines (finding_text form.Json s file p) ≡ newlines (object_line s file p ++ 10 ∷ []) = ap newlines (sym (append-nil (finding_text form.Json s file p)) ∙ object_is s file p []) in
     is ∙ line_more (object_line s file p) [] (object_one s file p)
 
-pub lines_of_all : (form : Form) (s : Severity) (file : List ℕ) (ps : List FindingParts) → newlines (flat_map (finding_text form s file) ps) ≡ length ps * finding_lines form
+pub lines_of_all : {source : List ℕ} → (form : Form) (s : Severity) (file : List ℕ) (ps : List (FindingParts source)) → newlines (flat_map (finding_text form s file) ps) ≡ length ps * finding_lines form
 lines_of_all form s file [] = sym (zero-mul (finding_lines form))
 lines_of_all form s file (p ∷ ps) =
     newlines_in (finding_text form s file p) (flat_map (finding_text form s file) ps)
@@ -357,22 +376,22 @@ add a b g h = record { printed = both_printed a b g h.printed }
 last_words : (a : List ℕ) → IsTrue (is_printed a) → Printed a
 last_words a h = record { printed = h }
 
-text_printed : (form : Form) (s : Severity) (file : List ℕ) (p : FindingParts) → IsTrue (is_printed (finding_start form file)) → IsTrue (is_printed (finding_text form s file p))
+text_printed : {source : List ℕ} → (form : Form) (s : Severity) (file : List ℕ) (p : FindingParts source) → IsTrue (is_printed (finding_start form file)) → IsTrue (is_printed (finding_text form s file p))
 text_printed form.Text s file p h =
     let parts = parts_of p in
-    let text : finding_text form.Text s file p ≡ finding_start form.Text file ++ (decimal p.line ++ (codes ":" ++ (decimal p.column ++ (codes ": " ++ (severity_word s ++ (codes ": " ++ (p.sentence ++ (codes "\n    " ++ (p.shown ++ (codes "\n    " ++ (p.mark ++ (codes "\n  mend: " ++ (p.mend ++ codes "\n"))))))))))))) = simp append_assoc refl in
+    let text : finding_text form.Text s file p ≡ finding_start form.Text file ++ (decimal (finding_line p) ++ (codes ":" ++ (decimal (finding_column p) ++ (codes ": " ++ (severity_word s ++ (codes ": " ++ (p.sentence ++ (codes "\n    " ++ (finding_shown p ++ (codes "\n    " ++ (finding_mark p ++ (codes "\n  mend: " ++ (p.mend ++ codes "\n"))))))))))))) = simp append_assoc refl in
     subst (λ t. IsTrue (is_printed t)) (sym text)
-    (add (finding_start form.Text file) _ h (add (decimal p.line) _ (digits_printed p.line) (add (codes ":") _ refl (add (decimal p.column) _ (digits_printed p.column) (add (codes ": ") _ refl
-    (add (severity_word s) _ (word_printed s) (add (codes ": ") _ refl (add p.sentence _ (words_printed p.sentence parts.1) (add (codes "\n    ") _ refl (add p.shown _ (words_printed p.shown parts.2) (add (codes "\n    ") _ refl
-    (add p.mark _ (words_printed p.mark parts.3) (add (codes "\n  mend: ") _ refl (add p.mend _ (words_printed p.mend parts.4) (last_words (codes "\n") refl))))))))))))))).printed
+    (add (finding_start form.Text file) _ h (add (decimal (finding_line p)) _ (digits_printed (finding_line p)) (add (codes ":") _ refl (add (decimal (finding_column p)) _ (digits_printed (finding_column p)) (add (codes ": ") _ refl
+    (add (severity_word s) _ (word_printed s) (add (codes ": ") _ refl (add p.sentence _ (words_printed p.sentence parts.1) (add (codes "\n    ") _ refl (add (finding_shown p) _ (words_printed (finding_shown p) parts.2) (add (codes "\n    ") _ refl
+    (add (finding_mark p) _ (words_printed (finding_mark p) parts.3) (add (codes "\n  mend: ") _ refl (add p.mend _ (words_printed p.mend parts.4) (last_words (codes "\n") refl))))))))))))))).printed
 text_printed form.Json s file p h =
     let parts = parts_of p in
-    let text = behind_start (finding_start form.Json file) (decimal p.line) (codes ",\"column\":") (decimal p.column) (codes ",\"severity\":\"") (severity_word s) (codes "\",\"code\":") (json_text p.code) (codes ",\"message\":") (json_text p.sentence) (codes ",\"mend\":") (json_text p.mend) (codes "}\n") in
+    let text = behind_start (finding_start form.Json file) (decimal (finding_line p)) (codes ",\"column\":") (decimal (finding_column p)) (codes ",\"severity\":\"") (severity_word s) (codes "\",\"code\":") (json_text p.code) (codes ",\"message\":") (json_text p.sentence) (codes ",\"mend\":") (json_text p.mend) (codes "}\n") in
     subst (λ t. IsTrue (is_printed t)) (sym text)
-    (add (finding_start form.Json file) _ h (add (decimal p.line) _ (digits_printed p.line) (add (codes ",\"column\":") _ refl (add (decimal p.column) _ (digits_printed p.column) (add (codes ",\"severity\":\"") _ refl
+    (add (finding_start form.Json file) _ h (add (decimal (finding_line p)) _ (digits_printed (finding_line p)) (add (codes ",\"column\":") _ refl (add (decimal (finding_column p)) _ (digits_printed (finding_column p)) (add (codes ",\"severity\":\"") _ refl
     (add (severity_word s) _ (word_printed s) (add (codes "\",\"code\":") _ refl (add (json_text p.code) _ (json_printed p.code parts.0) (add (codes ",\"message\":") _ refl
     (add (json_text p.sentence) _ (json_printed p.sentence parts.1) (add (codes ",\"mend\":") _ refl (add (json_text p.mend) _ (json_printed p.mend parts.4) (last_words (codes "}\n") refl))))))))))))).printed
 
-pub findings_printed : (form : Form) (s : Severity) (file : List ℕ) → IsTrue (is_printed (finding_start form file)) → (ps : List FindingParts) → IsTrue (is_printed (flat_map (finding_text form s file) ps))
+pub findings_printed : {source : List ℕ} → (form : Form) (s : Severity) (file : List ℕ) → IsTrue (is_printed (finding_start form file)) → (ps : List (FindingParts source)) → IsTrue (is_printed (flat_map (finding_text form s file) ps))
 findings_printed form s file h [] = refl
 findings_printed form s file h (p ∷ ps) = both_printed (finding_text form s file p) (flat_map (finding_text form s file) ps) (text_printed form s file p h) (findings_printed form s file h ps)

@@ -3,3 +3,5 @@ pub mod CheckSteps
 pub mod Excluded
 pub mod FindingTexts
 pub mod OnLine
+pub mod PlaceSteps
+pub mod Reasons

@@ -6,8 +6,7 @@ use Rattle.std.specs.List.{flat_map, list_all}
 use Rattle.std.proofs.lemmas.Bool.Decides.{nat_tests}
 use Rattle.std.proofs.lemmas.List.Folds.{list_all-append}
 use Rattle.bword.specs.Words.{is_name, is_name_byte, is_name_start}
-use Rattle.bcheck.specs.Checks.{is_on_line}
-use Rattle.bcheck.specs.Pieces.{shown_byte, shown_text}
+use Rattle.bcheck.specs.Checks.{is_on_line, shown_byte, shown_text}
 
 both : (a b : Bool) → IsTrue a → IsTrue b → IsTrue (a && b)
 both a b g h = rw (g, h) refl
@@ -60,10 +59,6 @@ shown b = grind (arith, nat_tests)
 pub shown_on_line : (bs : List ℕ) → IsTrue (is_on_line (flat_map shown_text bs))
 shown_on_line [] = refl
 shown_on_line (b ∷ bs) = both _ _ (shown b) (shown_on_line bs)
-
-pub each_on_line : (a b c d e : List ℕ) → IsTrue (is_on_line a) → IsTrue (is_on_line b) → IsTrue (is_on_line c) → IsTrue (is_on_line d) → IsTrue (is_on_line e)
-    → IsTrue (list_all is_on_line (a ∷ b ∷ c ∷ d ∷ e ∷ []))
-each_on_line a b c d e f g h i j = rw (f, g, h, i, j) refl
 
 -- each of three
 pub of_three : (a b c : List ℕ) → IsTrue (list_all is_on_line (a ∷ b ∷ c ∷ [])) → IsTrue (is_on_line a) × IsTrue (is_on_line b) × IsTrue (is_on_line c)

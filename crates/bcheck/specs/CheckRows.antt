@@ -5,7 +5,8 @@ use Rattle.blang.specs.declared.token.About.TheVariants as about
 use Rattle.blang.specs.declared.token.Letters.TheVariants as letters
 use Rattle.blang.specs.declared.run.LoadFault.TheVariants as fault
 use Rattle.bcheck.specs.Checks.{FindingParts, finding_text, findings_text, is_on_line, json_byte, json_text, file_byte}
-use Rattle.bcheck.specs.Checks.{severity_of, severity_word, shown_in_form, told_first}
+use Rattle.bcheck.specs.Checks.{column_after, diagnostic_code, severity_of, severity_word, shown_in_form, told_first}
+use Rattle.blang.specs.Cut.{line_after}
 use Rattle.bcheck.specs.declared.finding.Severity.TheVariants as severity
 use Rattle.bcheck.specs.declared.form.Form.TheVariants as form
 
@@ -26,6 +27,19 @@ nothing_told = refl
 
 line_shown : map (λ f. shown_in_form f (codes "sx 1\n")) (form.Text ∷ form.Json ∷ []) ≡ (codes "sx 1\n" ∷ [] ∷ [])
 line_shown = refl
+
+-- the code of a diagnostic, with a keyword and without, and with a name
+fault_codes : map (λ a. diagnostic_code (record { letters = letters.Syntax; about = a; line = 3 }))
+    (about.Nothing ∷ about.Case ∷ about.Break ∷ about.Default ∷ about.Name (codes "n") ∷ [])
+    ≡ (codes "sx" ∷ codes "sx case" ∷ codes "sx break" ∷ codes "sx default" ∷ codes "sx" ∷ [])
+fault_codes = refl
+
+-- the line and the column of a place after a text
+lines : map (line_after 1) ([] ∷ codes "a" ∷ codes "a\n" ∷ codes "\n\nab" ∷ []) ≡ (1 ∷ 1 ∷ 2 ∷ 3 ∷ [])
+lines = refl
+
+columns : map (column_after 1) ([] ∷ codes "a" ∷ codes "a\n" ∷ codes "\n\nab" ∷ []) ≡ (1 ∷ 2 ∷ 1 ∷ 3 ∷ [])
+columns = refl
 
 severities : map (λ status. severity_word (severity_of status)) (0 ∷ 1 ∷ 132 ∷ [])
     ≡ (codes "warning" ∷ codes "error" ∷ codes "error" ∷ [])
@@ -54,33 +68,39 @@ on_lines = refl
 past_line : map is_on_line ([] ∷ codes "a b" ∷ codes "a\nb" ∷ []) ≡ (true ∷ true ∷ false ∷ [])
 past_line = refl
 
-abbrev undefined : FindingParts
+-- a finding on the third line of a source, where a tab is shown as a blank
+abbrev undefined : FindingParts (codes "n 5;\nf() {\n\ti = n; } g;\n")
 undefined = record {
-  line = 3;
-  column = 10;
+  before = codes "n 5;\nf() {\n";
+  left = codes "\ti = ";
+  right = codes "n; } g;";
+  after = codes "\n";
+  split = refl;
+  from_line = refl;
+  in_line = refl;
+  marks = 1;
+  marked = refl;
   code = codes "un";
   sentence = codes "no n";
-  shown = codes "i = n;";
-  mark = codes "    ^";
   mend = codes "auto n;";
   on_lines = refl;
 }
 
 error_for_people : finding_text form.Text severity.Error (codes "x.b") undefined
-    ≡ codes "x.b:3:10: error: no n\n    i = n;\n        ^\n  mend: auto n;\n"
+    ≡ codes "x.b:3:6: error: no n\n     i = n; } g;\n         ^\n  mend: auto n;\n"
 unfolding digits
 error_for_people = refl
 
 file_on_one_line : finding_text form.Text severity.Error (codes "x\n1:1: error: y") undefined
-    ≡ codes "x\\u000a1:1: error: y:3:10: error: no n\n    i = n;\n        ^\n  mend: auto n;\n"
+    ≡ codes "x\\u000a1:1: error: y:3:6: error: no n\n     i = n; } g;\n         ^\n  mend: auto n;\n"
 unfolding digits
 file_on_one_line = refl
 
 warning_for_editors : finding_text form.Json severity.Warning (codes "a\"b") undefined
-    ≡ codes "{\"file\":\"a\\\"b\",\"line\":3,\"column\":10,\"severity\":\"warning\","
+    ≡ codes "{\"file\":\"a\\\"b\",\"line\":3,\"column\":6,\"severity\":\"warning\","
     ++ codes "\"code\":\"un\",\"message\":\"no n\",\"mend\":\"auto n;\"}\n"
 unfolding digits
 warning_for_editors = refl
 
-no_findings : findings_text form.Text 0 (codes "x.b") [] ≡ []
+no_findings : findings_text {source = []} form.Text 0 (codes "x.b") [] ≡ []
 no_findings = refl

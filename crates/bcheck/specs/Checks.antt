@@ -1,15 +1,22 @@
 -- What is written of a source that is checked.
-use Rattle.std.specs.Prelude.{◌≡◌, ◌≢◌, ℕ, ◌/◌, ◌%◌, ◌==◌, ◌||◌, nat_lt, Bool, IsTrue, if◌then◌else◌, List, [], ◌∷◌, ◌++◌}
-use Rattle.std.specs.Prelude.{codes, decimal, length, map, Option, Some, None, unwrap_or}
+use Rattle.std.specs.Prelude.{◌≡◌, ◌≢◌, ℕ, ◌/◌, ◌%◌, ◌+◌, ◌<◌, ◌==◌, ◌||◌, nat_lt, not, Bool, IsTrue, if◌then◌else◌}
+use Rattle.std.specs.Prelude.{List, [], ◌∷◌, ◌++◌, ◌⊎◌, codes, decimal, length, map, min, replicate, Option, Some, None}
+use Rattle.std.specs.Prelude.{unwrap_or}
 use Rattle.std.specs.Char.{digit_char}
 use Rattle.std.specs.Int.{is_in_range}
-use Rattle.std.specs.List.{flat_map, list_all}
+use Rattle.std.specs.List.{All, flat_map, list_all}
 use Rattle.bword.specs.declared.edition.Edition.{Edition}
-use Rattle.bword.specs.ByteEnds.{Outgoing}
-use Rattle.blang.specs.Cut.{tokens_from}
+use Rattle.bword.specs.ByteEnds.{Outgoing, most}
+use Rattle.blang.specs.Cut.{tokens_from, placed, line_after}
+use Rattle.blang.specs.declared.token.About.{About}
+use Rattle.blang.specs.declared.token.About.TheVariants as about
+use Rattle.blang.specs.declared.token.Letters.{Letters}
+use Rattle.blang.specs.declared.token.Letters.TheVariants as letters
+use Rattle.blang.specs.declared.token.Placed.{Placed}
+use Rattle.blang.specs.declared.token.Token.TheVariants as token
 use Rattle.blang.specs.declared.token.Diagnostic.{Diagnostic}
 use Rattle.blang.specs.Code.{code_of}
-use Rattle.blang.specs.Compiles.{Compilation, CompilesTo, line_of}
+use Rattle.blang.specs.Compiles.{Compilation, CompilesTo, letters_text, line_of}
 use Rattle.blang.specs.Layout.{load_fault}
 use Rattle.blang.specs.declared.run.LoadFault.{LoadFault}
 use Rattle.blang.specs.declared.run.LoadFault.TheVariants as fault
@@ -44,14 +51,25 @@ status_told verdict.Clean = DONE
 status_told (verdict.Faulty line) = FAULT
 status_told (verdict.Unloaded f) = REFUSED
 
--- the line and the status of whatever a source comes to in an edition
-abbrev pub EachTold : Edition → List ℕ → (List ℕ × ℕ → Type 0) → Type 0
-EachTold edition source P =
+-- a source in an edition, and what it comes to: a diagnostic, and the first fault of loading its code
+pub record Outcome : Type 0 where
+  pub edition : Edition
+  pub source : List ℕ
+  pub stop : Option Diagnostic
+  pub fault : Option LoadFault
+
+abbrev pub outcome_of : Edition → List ℕ → Option Diagnostic → Option LoadFault → Outcome
+outcome_of edition source stop f = record { edition = edition; source = source; stop = stop; fault = f }
+
+-- whatever a source comes to in an edition
+abbrev pub EachOutcome : Edition → List ℕ → (Outcome → Type 0) → Type 0
+EachOutcome edition source P =
     (r : Compilation) (g : CompilesTo [] (tokens_from edition 1 source) r)
-    → P (told_first r.stop (load_fault (map code_of g.definitions)))
+    → P (outcome_of edition source r.stop (load_fault (map code_of g.definitions)))
 
 abbrev pub Judged : Edition → List ℕ → Verdict → Type 0
-Judged edition source v = EachTold edition source (λ told. (verdict_line v, status_told v) ≡ told)
+Judged edition source v =
+    EachOutcome edition source (λ o. (verdict_line v, status_told v) ≡ told_first o.stop o.fault)
 
 -- what is found of a source that compiles and whose code loads is a warning, and of any other an error
 abbrev pub severity_of : (status : ℕ) → Severity
@@ -85,21 +103,60 @@ file_text name = flat_map file_byte name
 abbrev pub is_on_line : List ℕ → Bool
 is_on_line text = list_all (λ c. is_in_range 32 126 c) text
 
--- A finding: where it stands, and the sentence and the mend that are told of it. For people a piece of the source's
--- line and a mark below it are shown, and for editors there is a code.
-pub record FindingParts : Type 0 where
-  pub line : ℕ
-  pub column : ℕ
+-- the column after a byte: a newline begins the next line
+abbrev pub next_column : ℕ → ℕ → ℕ
+next_column column byte = if byte == 10 then 1 else min (column + 1) most
+
+-- the column after a text
+abbrev pub column_after : ℕ → List ℕ → ℕ
+column_after column [] = column
+column_after column (b ∷ bs) = column_after (next_column column b) bs
+
+-- no newline is among the bytes
+abbrev pub is_in_line : List ℕ → Bool
+is_in_line bytes = list_all (λ b. not (b == 10)) bytes
+
+-- a byte of the source as it is shown, with a blank for a tab, and `?` for what can't be printed
+abbrev pub shown_byte : ℕ → ℕ
+shown_byte b = if b == 9 then 32 else (if is_in_range 32 126 b then b else 63)
+
+abbrev pub shown_text : ℕ → List ℕ
+shown_text b = shown_byte b ∷ []
+
+-- A finding. It stands at a place of the source, of whose line it shows some bytes before the place, and some from it
+-- on. A sentence and a mend are told of it, and for editors a code.
+pub record FindingParts (source : List ℕ) : Type 0 where
+  pub before : List ℕ
+  pub left : List ℕ
+  pub right : List ℕ
+  pub after : List ℕ
+  pub split : source ≡ (before ++ left) ++ (right ++ after)
+  pub from_line : IsTrue (nat_lt (length left) (column_after 1 (before ++ left)))
+  pub in_line : IsTrue (is_in_line right)
+  pub marks : ℕ
+  pub marked : IsTrue (nat_lt 0 marks)
   pub code : List ℕ
   pub sentence : List ℕ
-  pub shown : List ℕ
-  pub mark : List ℕ
   pub mend : List ℕ
-  pub on_lines : IsTrue (list_all is_on_line (code ∷ sentence ∷ shown ∷ mark ∷ mend ∷ []))
+  pub on_lines : IsTrue (list_all is_on_line (code ∷ sentence ∷ mend ∷ []))
 
-abbrev pub finding_words : Form → FindingParts → List ℕ
+-- the line and the column of its place, from 1
+abbrev pub finding_line : {source : List ℕ} → FindingParts source → ℕ
+finding_line p = line_after 1 (p.before ++ p.left)
+
+abbrev pub finding_column : {source : List ℕ} → FindingParts source → ℕ
+finding_column p = column_after 1 (p.before ++ p.left)
+
+-- the piece of its line, and the marks below its place
+abbrev pub finding_shown : {source : List ℕ} → FindingParts source → List ℕ
+finding_shown p = flat_map shown_text p.left ++ flat_map shown_text p.right
+
+abbrev pub finding_mark : {source : List ℕ} → FindingParts source → List ℕ
+finding_mark p = replicate (length p.left) 32 ++ replicate p.marks 94
+
+abbrev pub finding_words : {source : List ℕ} → Form → FindingParts source → List ℕ
 finding_words form.Text p =
-    p.sentence ++ codes "\n    " ++ p.shown ++ codes "\n    " ++ p.mark ++ codes "\n  mend: " ++ p.mend
+    p.sentence ++ codes "\n    " ++ finding_shown p ++ codes "\n    " ++ finding_mark p ++ codes "\n  mend: " ++ p.mend
 finding_words form.Json p =
     json_text p.code ++ codes ",\"message\":" ++ json_text p.sentence ++ codes ",\"mend\":" ++ json_text p.mend
 
@@ -118,31 +175,61 @@ finding_head form.Json s file line column =
     ++ codes ",\"severity\":\"" ++ severity_word s ++ codes "\",\"code\":"
 
 -- Its words follow, and the end of the line.
-abbrev pub finding_text : Form → Severity → (file : List ℕ) → FindingParts → List ℕ
+abbrev pub finding_text : {source : List ℕ} → Form → Severity → (file : List ℕ) → FindingParts source → List ℕ
 finding_text form.Text s file p =
-    finding_head form.Text s file p.line p.column ++ finding_words form.Text p ++ codes "\n"
+    finding_head form.Text s file (finding_line p) (finding_column p) ++ finding_words form.Text p ++ codes "\n"
 finding_text form.Json s file p =
-    finding_head form.Json s file p.line p.column ++ finding_words form.Json p ++ codes "}\n"
+    finding_head form.Json s file (finding_line p) (finding_column p) ++ finding_words form.Json p ++ codes "}\n"
 
 -- the text of these findings of a source with this status
-abbrev pub findings_text : Form → (status : ℕ) → (file : List ℕ) → List FindingParts → List ℕ
+abbrev pub findings_text : {source : List ℕ} → Form → (status : ℕ) → (file : List ℕ) → List (FindingParts source)
+    → List ℕ
 findings_text form status file findings = flat_map (finding_text form (severity_of status) file) findings
 
+-- the keyword that a diagnostic is about, where its code has it
+abbrev pub code_keyword : Letters → About → List ℕ
+code_keyword letters.Syntax about.Case = codes " case"
+code_keyword letters.Syntax about.Break = codes " break"
+code_keyword letters.Syntax about.Default = codes " default"
+code_keyword letters.Redeclared about.Case = codes " case"
+code_keyword letters.Redeclared about.Default = codes " default"
+code_keyword _ _ = []
+
+-- by which code a diagnostic is known
+abbrev pub diagnostic_code : Diagnostic → List ℕ
+diagnostic_code d = letters_text d.letters ++ code_keyword d.letters d.about
+
+-- no token comes but the end: these are blanks and comments
+abbrev pub IsOver : Edition → List ℕ → Type 0
+IsOver edition rest = (line : ℕ) × (none : List Placed) × (tokens_from edition 1 rest ≡ placed token.End line ∷ none)
+
+-- a place between these bytes is on the line, or on one before it where no token comes any more
+abbrev pub StandsOn : Edition → (line : ℕ) → (before rest : List ℕ) → Type 0
+StandsOn edition line before rest =
+    (line_after 1 before ≡ line) ⊎ ((line_after 1 before < line) × IsOver edition rest)
+
+-- An error has the code of the diagnostic and stands on its line, or it has the code of the fault of loading.
+abbrev pub Reason : Edition → Option Diagnostic → Option LoadFault → (code before rest : List ℕ) → Type 0
+Reason edition (Some d) f code before rest = (code ≡ diagnostic_code d) × StandsOn edition d.line before rest
+Reason edition None (Some fault.TooLarge) code before rest = code ≡ codes "load 2"
+Reason edition None (Some (fault.Undefined name)) code before rest = code ≡ codes "load 3"
+Reason edition None f code before rest = Unit {0}
+
+abbrev pub IsReason : (o : Outcome) → FindingParts o.source → Type 0
+IsReason o p = Reason o.edition o.stop o.fault p.code (p.before ++ p.left) (p.right ++ p.after)
+
 -- The text of some findings of a source with this status, or of none: where it isn't 0 there is one.
-abbrev pub AreFindings : Form → (status : ℕ) → (file text : List ℕ) → Type 0
-AreFindings form status file text =
-    (findings : List FindingParts) × (status ≢ DONE → length findings ≡ 1)
+abbrev pub AreFindings : Form → Outcome → (status : ℕ) → (file text : List ℕ) → Type 0
+AreFindings form o status file text =
+    (findings : List (FindingParts o.source)) × (status ≢ DONE → length findings ≡ 1) × All (IsReason o) findings
     × (text ≡ findings_text form status file findings)
 
--- the text has a finding more
-abbrev pub AddsFinding : Form → Severity → (file old new : List ℕ) → Type 0
-AddsFinding form s file old new = (parts : FindingParts) × (new ≡ old ++ finding_text form s file parts)
-
 -- A text and then findings were told with this status; or memory was refused, and nothing was written.
-pub data TellsFirst (form : Form) (file first : List ℕ) (status : ℕ) (old new : Outgoing) (result : ℕ) : Type 0 where
-  told : (more : List ℕ) → AreFindings form status file more → Reported (first ++ more) status old new result
-      → TellsFirst form file first status old new result
-  no_memory : new ≡ old → result ≡ MEMORY → TellsFirst form file first status old new result
+pub data TellsFirst (form : Form) (o : Outcome) (file first : List ℕ) (status : ℕ) (old new : Outgoing) (result : ℕ)
+    : Type 0 where
+  told : (more : List ℕ) → AreFindings form o status file more → Reported (first ++ more) status old new result
+      → TellsFirst form o file first status old new result
+  no_memory : new ≡ old → result ≡ MEMORY → TellsFirst form o file first status old new result
 
 -- the name of a file, its source, the output, before and after, and the status
 pub record Check : Type 0 where
@@ -159,7 +246,11 @@ abbrev pub shown_in_form : Form → List ℕ → List ℕ
 shown_in_form form.Text line = line
 shown_in_form form.Json line = []
 
+-- A line, in this form, and then findings were told with this status.
+abbrev pub TellsOutcome : Check → Outcome → (List ℕ × ℕ) → Type 0
+TellsOutcome c o (line, status) =
+    TellsFirst c.form o c.file (shown_in_form c.form line) status c.out c.out_behind c.status
+
 -- What is written is the line of the source and then findings, and the status is the source's.
 abbrev pub Checks : Check → Type 0
-Checks c = EachTold c.edition c.source
-    (λ told. TellsFirst c.form c.file (shown_in_form c.form told.0) told.1 c.out c.out_behind c.status)
+Checks c = EachOutcome c.edition c.source (λ o. TellsOutcome c o (told_first o.stop o.fault))

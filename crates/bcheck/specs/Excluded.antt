@@ -1,17 +1,18 @@
 -- What the contract of a check excludes, whatever its source, its file and its output are.
-use Rattle.std.specs.Prelude.{◌≡◌, ◌≢◌, ℕ, ◌+◌, ◌*◌, ◌<◌, ◌==◌, Bool, ◌||◌, false, IsTrue}
-use Rattle.std.specs.Prelude.{List, [], ◌∷◌, ◌++◌, Some, codes, map}
+use Rattle.std.specs.Prelude.{◌≡◌, ◌≢◌, ℕ, ◌+◌, ◌*◌, ◌<◌, ◌≤◌, ◌==◌, Bool, ◌||◌, false, IsTrue}
+use Rattle.std.specs.Prelude.{List, [], ◌∷◌, ◌++◌, Some, codes, decimal, map}
 use Rattle.std.specs.Int.{is_in_range}
 use Rattle.std.specs.Io.{StartsWith}
 use Rattle.std.specs.List.{count_by, list_all}
 use Rattle.bword.specs.ByteEnds.{Grew}
 use Rattle.bword.specs.declared.edition.Edition.TheVariants as editions
 use Rattle.blang.specs.Code.{code_of}
-use Rattle.blang.specs.Compiles.{Compilation, CompilesTo}
-use Rattle.blang.specs.Cut.{tokens_from}
+use Rattle.blang.specs.Compiles.{Compilation, CompilesTo, letters_text}
+use Rattle.blang.specs.Cut.{line_after, tokens_from}
+use Rattle.blang.specs.declared.token.Diagnostic.{Diagnostic}
 use Rattle.blang.specs.Layout.{load_fault}
 use Rattle.blang.specs.declared.status.TheConstants.{DONE, DEVICE, MEMORY}
-use Rattle.bcheck.specs.Checks.{Check, Checks, FindingParts, finding_head, finding_start, findings_text}
+use Rattle.bcheck.specs.Checks.{Check, Checks, FindingParts, IsOver, column_after, finding_head, finding_start, findings_text}
 use Rattle.bcheck.specs.Checks.{severity_of, shown_in_form, told_first}
 use Rattle.bcheck.specs.declared.finding.Severity.{Severity}
 use Rattle.bcheck.specs.declared.form.Form.{Form}
@@ -34,6 +35,17 @@ pub record IsTold (c : Check) (text : List ℕ) : Type 0 where
 abbrev pub Never : ((c : Check) → (line : List ℕ) → (status : ℕ) → (text : List ℕ) → Type 0) → Type 0
 Never Wrong = (c : Check) (line : List ℕ) (status : ℕ) (text : List ℕ) → ComesTo c line status → IsTold c text
     → Wrong c line status text → Checks c → ⊥
+
+-- The text begins with a finding of these numbers, and this comes after them.
+pub record BeginsWith (c : Check) (line text : List ℕ) (row column : ℕ) (rest : List ℕ) : Type 0 where
+  pub severity : Severity
+  pub is : text ≡ shown_in_form c.form line ++ (finding_head c.form severity c.file row column ++ rest)
+
+-- No check keeps its promise that tells such a finding first of a source that comes to this diagnostic.
+abbrev pub NeverOf : ((c : Check) → (d : Diagnostic) → (row column : ℕ) → (rest : List ℕ) → Type 0) → Type 0
+NeverOf Wrong = (c : Check) (line : List ℕ) (status : ℕ) (text : List ℕ) (to : ComesTo c line status) (d : Diagnostic)
+    → to.outcome.stop ≡ Some d → IsTold c text → (row column : ℕ) (rest : List ℕ) → BeginsWith c line text row column rest
+    → Wrong c d row column rest → Checks c → ⊥
 
 abbrev pub newlines : List ℕ → ℕ
 newlines text = count_by (λ b. b == 10) text
@@ -60,9 +72,19 @@ pub record Excluded : Type 0 where
       (status ≡ DONE) × (text ≢ []) × (StartsWith text (finding_start c.form c.file) → ⊥))
   -- an error told as a warning, or a warning as an error, be it the first finding or behind others
   pub other_severity : Never (λ c line status text.
-      (before : List FindingParts) × (s : Severity) × (row column : ℕ) × (rest : List ℕ) × (s ≢ severity_of status)
+      (before : List (FindingParts c.source)) × (s : Severity) × (row column : ℕ) × (rest : List ℕ) × (s ≢ severity_of status)
       × (text ≡ shown_in_form c.form line ++ (findings_text c.form status c.file before
       ++ (finding_head c.form s c.file row column ++ rest))))
+  -- of a fault a finding on another line, where a token comes after each place before its own line; or on a later one
+  pub other_line : NeverOf (λ c d row column rest. (decimal row ≢ decimal d.line)
+      × ((before after : List ℕ) → c.source ≡ before ++ after → line_after 1 before < d.line → IsOver c.edition after → ⊥))
+  pub later_line : NeverOf (λ c d row column rest. (n : ℕ) → n ≤ d.line → decimal row ≢ decimal n)
+  -- of a fault a line and a column at which the source has no place
+  pub no_place : NeverOf (λ c d row column rest. (before after : List ℕ) → c.source ≡ before ++ after
+      → decimal row ≡ decimal (line_after 1 before) → decimal column ≢ decimal (column_after 1 before))
+  -- of a fault, for an editor, other letters than the diagnostic's
+  pub other_letters : NeverOf (λ c d row column rest. (c.form ≡ form.Json) × (first : ℕ) × (second : ℕ) × (more : List ℕ)
+      × (rest ≡ 34 ∷ first ∷ second ∷ more) × (first ∷ second ∷ [] ≢ letters_text d.letters))
   -- of a fault no finding or two, or a newline in its words, its piece of the source or the name of its file
   pub other_lines : Never (λ c line status text.
       (status ≢ DONE) × (newlines text ≢ newlines (shown_in_form c.form line) + finding_lines c.form))

@@ -1,4 +1,5 @@
 pub mod CheckRows
 pub mod Checks
 pub mod Excluded
+pub mod Findings
 pub mod Pieces

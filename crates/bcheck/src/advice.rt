@@ -1,7 +1,8 @@
 //! What is said of each matter, once. The table of the page on the language has the same words.
 ghost use Rattle.std.specs.List.{list_all};
-ghost use Rattle.std.specs.Prelude.{◌∷◌, [], IsTrue};
+ghost use Rattle.std.specs.Prelude.{◌≡◌, ◌∷◌, [], IsTrue};
 ghost use Rattle.bcheck.specs.Checks.{is_on_line};
+ghost use Rattle.bcheck.specs.Findings.{matter_code};
 
 /// What a finding is about.
 #[derive(Clone, Copy)]
@@ -47,7 +48,8 @@ pub(crate) enum Matter {
 impl Matter {
     /// By which code it is known, one sentence on it, and how to mend it. `@` stands for the name.
     pub(crate) fn advice(self) -> (&'static str, &'static str, &'static str)
-        ensures { IsTrue (list_all is_on_line (result.0.now ∷ result.1.now ∷ result.2.now ∷ [])) }
+        ensures on_lines { IsTrue (list_all is_on_line (result.0.now ∷ result.1.now ∷ result.2.now ∷ [])) }
+        ensures code { result.0.now ≡ matter_code self }
     {
         match self {
             Matter::OpenComment => ("*/", "this comment has no end", "write */ where it ends"),

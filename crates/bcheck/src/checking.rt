@@ -1,6 +1,6 @@
 //! Checking a source.
 ghost use Rattle.std.specs.Prelude.{◌≡◌, List, ℕ};
-ghost use Rattle.bcheck.specs.Checks.{AreFindings, Checks, TellsFirst, verdict_line, shown_in_form};
+ghost use Rattle.bcheck.specs.Checks.{AreFindings, Checks, Outcome, TellsFirst, verdict_line, shown_in_form};
 ghost use Rattle.bcheck.specs.Excluded.{Excluded};
 ghost use Rattle.bcheck.specs.declared.form.Form.{Form};
 
@@ -58,8 +58,8 @@ fn tell_both<O: ByteOut>(
     status: Status,
     out: &mut O,
 ) -> Status
-    ensures tells { (form : Form) (file : List ℕ) → AreFindings form status file more.now
-        → TellsFirst form file first.now status (O.outgoing out.old) (O.outgoing out.new) result }
+    ensures tells { (form : Form) (o : Outcome) (file : List ℕ) → AreFindings form o status file more.now
+        → TellsFirst form o file first.now status (O.outgoing out.old) (O.outgoing out.new) result }
     ensures out_lender { O.lender out.new ≡ O.lender out.old }
 {
     let mut text = MemOut::new(alloc);

@@ -1,5 +1,10 @@
-//! Where a place stands in its line of the source, and the piece of that line that is shown.
+//! The piece of the source that is shown of a place.
+ghost use Rattle.std.specs.Prelude.{◌<◌, ◌≤◌, IsTrue, length, take};
+ghost use Rattle.bcheck.specs.Checks.{is_in_line};
+ghost use Rattle.bcheck.specs.Findings.{IsExcerpt};
+
 use crate::finding::Place;
+use crate::places::{end_of, parts};
 
 /// The most bytes of a line of the source that are shown.
 const SHOWN_BYTES: usize = 76;
@@ -7,57 +12,59 @@ const SHOWN_BYTES: usize = 76;
 /// How many bytes stand before a mark in a line that isn't shown from its beginning.
 const BEFORE_MARK: usize = 38;
 
-/// Where a place stands: the bytes of its line, and its first byte among them.
+/// Where a place stands, the bytes of its line that are shown, before it and from it on, and how many are marked.
 #[derive(Clone, Copy)]
 pub(crate) struct Excerpt<'a> {
-    pub line: &'a [u8],
+    pub line: u64,
     pub column: usize,
-}
-
-/// A piece of a line, and so many marks below it behind so many blanks.
-#[derive(Clone, Copy)]
-pub(crate) struct Shown<'a> {
-    pub bytes: &'a [u8],
-    pub blanks: usize,
+    pub left: &'a [u8],
+    pub right: &'a [u8],
     pub marks: usize,
 }
 
-impl<'a> Excerpt<'a> {
-    /// Where a place of the source stands.
-    pub(crate) fn new(source: &'a [u8], place: &Place) -> Self {
-        let start = place.start.min(source.len());
-        let before = &source[..start];
-        let first = match before.iter().rposition(|byte| *byte == b'\n') {
-            Some(newline) => newline.saturating_add(1),
-            None => 0,
-        };
-        let rest = source.get(first..).unwrap_or(&[]);
-        let end = rest.iter().position(|byte| *byte == b'\n');
-        Excerpt {
-            line: rest.get(..end.unwrap_or(rest.len())).unwrap_or(&[]),
-            column: start.saturating_sub(first),
+/// What is shown of a place of the source.
+pub(crate) fn excerpt_at<'a>(source: &'a [u8], place: &Place) -> Excerpt<'a>
+    ensures { IsExcerpt source.now place.now.start result }
+{
+    let (before, rest) = parts(source, place.start);
+    let (line, column) = end_of(before);
+    let len = place.len.max(1);
+    let left_len = left_length(column, len).min(before.len());
+    let room = SHOWN_BYTES.saturating_sub(left_len);
+    let (_, left) = before.split_at(before.len() - left_len);
+    let (right, _) = rest.split_at(line_length(rest, room));
+    Excerpt {
+        line,
+        column,
+        left,
+        right,
+        marks: len.min(room).max(1),
+    }
+}
+
+// How many bytes before a place are shown that has so many itself.
+fn left_length(column: usize, len: usize) -> usize
+    requires { 0 < column }
+    ensures { result < column }
+{
+    let before = column - 1;
+    if before.saturating_add(len) <= SHOWN_BYTES {
+        before
+    } else {
+        before.min(BEFORE_MARK)
+    }
+}
+
+// How many bytes stand before the end of the line, up to so many.
+fn line_length(rest: &[u8], most: usize) -> usize
+    ensures within { result ≤ length rest.now }
+    ensures in_line { IsTrue (is_in_line (take result rest.now)) }
+{
+    let end = rest.len().min(most);
+    for index in 0..end {
+        if rest[index] == b'\n' {
+            return index;
         }
     }
-
-    /// The column of the place, from 1.
-    pub(crate) fn number(&self) -> u64 {
-        (self.column as u64).saturating_add(1)
-    }
-
-    /// What is shown of the line, with marks under so many bytes of the place.
-    pub(crate) fn shown(&self, len: usize) -> Shown<'a> {
-        let last = self.column.saturating_add(len);
-        let from = if last <= SHOWN_BYTES {
-            0
-        } else {
-            self.column.saturating_sub(BEFORE_MARK)
-        };
-        let bytes = self.line.get(from..).unwrap_or(&[]);
-        let end = last.min(from.saturating_add(SHOWN_BYTES));
-        Shown {
-            bytes: bytes.get(..SHOWN_BYTES).unwrap_or(bytes),
-            blanks: self.column.saturating_sub(from),
-            marks: end.saturating_sub(self.column),
-        }
-    }
+    end
 }

@@ -1,15 +1,21 @@
 //! What is said of a source behind the line of the compiler.
+ghost use Rattle.std.specs.List.{All};
 ghost use Rattle.std.specs.Prelude.{◌≡◌, ◌≢◌, IfOk, length, vec_items};
 ghost use Rattle.blang.specs.declared.status.TheConstants.{DONE};
-ghost use Rattle.bcheck.specs.Checks.{AreFindings, status_told};
+ghost use Rattle.bcheck.specs.Checks.{AreFindings, EachOutcome, Judged, status_told};
+ghost use Rattle.bcheck.specs.Findings.{IsReasoned, TellsEach, TellsFault};
+ghost use Rattle.bcheck.specs.declared.advice.Matter.TheVariants as matter;
+ghost use Rattle.bcheck.specs.declared.verdict.Verdict.TheVariants as verdict;
 
 use crate::advice::Matter;
+use crate::excerpt::excerpt_at;
 use crate::faults::{self, token_named};
-use crate::finding::Finding;
+use crate::finding::{Finding, Told};
 use crate::form::{Form, Request};
 use crate::mention::first_mention;
-use crate::passes::{Extent, Pass};
+use crate::passes::{Extent, Fault, Pass};
 use crate::patterns::find;
+use crate::places::place_on;
 use crate::spans::{Span, place_of, spans};
 use crate::verdict::Verdict;
 use crate::words::Words;
@@ -17,7 +23,7 @@ use crate::{json, text};
 use blang::LoadFault;
 use bparse::Step;
 use btools::Text;
-use bword::Name;
+use bword::{Edition, Name};
 use std::alloc::{AllocError, Global};
 
 /// What is said of a source with this verdict.
@@ -27,18 +33,24 @@ pub(crate) fn explain(
     asked: Request<'_>,
     verdict: &Verdict,
 ) -> Result<Text, AllocError>
-    ensures { IfOk result (λ said. AreFindings asked.entry.form (status_told verdict.now) asked.entry.file.now
-        said) }
+    requires { Judged asked.edition source.now verdict.now }
+    ensures { IfOk result (λ said. EachOutcome asked.entry.edition source.now
+        (λ o. AreFindings asked.entry.form o (status_told verdict.now) asked.entry.file.now said)) }
 {
     let mut said = Text::new(alloc);
     let findings = findings(alloc, source, asked, verdict)?;
     let (file, severity) = (asked.file, verdict.severity());
     for finding in findings.as_slice() {
         let words = Words::new(alloc, finding)?;
-        let place = &finding.place;
+        let told = Told {
+            file,
+            excerpt: excerpt_at(source, &finding.place),
+            severity,
+            words: &words,
+        };
         match asked.form {
-            Form::Text => text::write(&mut said, file, source, place, severity, &words)?,
-            Form::Json => json::write(&mut said, file, source, place, severity, &words)?,
+            Form::Text => text::write(&mut said, &told)?,
+            Form::Json => json::write(&mut said, &told)?,
         }
     }
     Ok(said)
@@ -50,48 +62,82 @@ fn findings(
     asked: Request<'_>,
     verdict: &Verdict,
 ) -> Result<Vec<Finding>, AllocError>
-    ensures { IfOk result (λ found. status_told verdict.now ≢ DONE → length (vec_items found) ≡ 1) }
+    requires { Judged asked.edition source.now verdict.now }
+    ensures one { IfOk result (λ found. status_told verdict.now ≢ DONE → length (vec_items found) ≡ 1) }
+    ensures reasons { IfOk result (λ found. All (IsReasoned asked.entry.edition source.now) (vec_items found)) }
 {
     let spans = spans(alloc, source, asked.edition)?;
+    let error = match verdict {
+        Verdict::Clean => return warnings(alloc, source, asked, &spans),
+        Verdict::Faulty(_) => fault_of(alloc, source, asked, &spans)?,
+        Verdict::Unloaded(fault) => unloaded(alloc, source, asked, &spans, fault)?,
+    };
     let mut findings = Vec::new(alloc);
-    match verdict {
-        Verdict::Clean => warn(alloc, source, asked, &spans, &mut findings)?,
-        Verdict::Faulty(_) => findings.push(fault_of(alloc, source, asked, &spans)?)?,
-        Verdict::Unloaded(LoadFault::Undefined(name)) => {
-            findings.push(undefined(alloc, source, asked, &spans, *name)?)?;
-        }
-        Verdict::Unloaded(_) => findings.push(Finding {
-            matter: Matter::DataTooLarge,
-            name: None,
-            place: place_of(&spans, 0),
-        })?,
-    }
+    findings.push(error)?;
     Ok(findings)
 }
 
-// What is said of the fault that a source has; were it not seen again, of the token where reading stopped.
+// What is said of the fault that a source has.
 fn fault_of(
     alloc: Global,
     source: &[u8],
     asked: Request<'_>,
     spans: &[Span],
-) -> Result<Finding, AllocError> {
+) -> Result<Finding, AllocError>
+    ensures { IfOk result (TellsEach asked.entry.edition source.now) }
+{
     let mut pass = Pass::new(alloc, source, asked.edition);
-    for _ in 0..=source.len() {
+    'definitions: loop {
         match pass.next() {
             Step::Written => {}
-            Step::Memory => return Err(AllocError),
             Step::Fault(diagnostic) => {
-                let fault = pass.fault(diagnostic);
-                return Ok(faults::finding(source, spans, &fault));
+                return fault_at(source, asked.edition, spans, &pass.fault(diagnostic));
             }
-            _ => break,
+            // Memory was refused: the source has a fault, and no read of memory fails.
+            _ => return Err(AllocError),
         }
     }
+}
+
+// What is said of this fault, on its line.
+fn fault_at(
+    source: &[u8],
+    edition: Edition,
+    spans: &[Span],
+    fault: &Fault,
+) -> Result<Finding, AllocError>
+    ensures { IfOk result (TellsFault edition source.now fault.now.diagnostic) }
+{
+    let found = faults::finding(source, spans, fault);
+    // Each diagnostic has a line of the source.
+    let Some(place) = place_on(source, edition, &found.place, fault.diagnostic.line) else {
+        return Err(AllocError);
+    };
     Ok(Finding {
-        matter: Matter::Syntax,
+        matter: found.matter,
+        name: found.name,
+        place,
+    })
+}
+
+// What is said of code that doesn't load.
+fn unloaded(
+    alloc: Global,
+    source: &[u8],
+    asked: Request<'_>,
+    spans: &[Span],
+    fault: &LoadFault,
+) -> Result<Finding, AllocError>
+    requires { Judged asked.edition source.now (verdict.Unloaded fault.now) }
+    ensures { IfOk result (IsReasoned asked.entry.edition source.now) }
+{
+    if let LoadFault::Undefined(name) = fault {
+        return undefined(alloc, source, asked, spans, *name);
+    }
+    Ok(Finding {
+        matter: Matter::DataTooLarge,
         name: None,
-        place: place_of(spans, pass.extent.end),
+        place: place_of(spans, 0),
     })
 }
 
@@ -102,7 +148,9 @@ fn undefined(
     asked: Request<'_>,
     spans: &[Span],
     name: Name,
-) -> Result<Finding, AllocError> {
+) -> Result<Finding, AllocError>
+    ensures { IfOk result (λ finding. finding.matter ≡ matter.NotDefined) }
+{
     let mention = first_mention(alloc, source, asked.edition, name)?;
     let token = match mention {
         Some(mention) => token_named(spans, mention.extent, name, mention.line),
@@ -115,19 +163,19 @@ fn undefined(
     })
 }
 
-// Adds what compiles and is hardly meant.
-fn warn(
+// What compiles and is hardly meant.
+fn warnings(
     alloc: Global,
     source: &[u8],
     asked: Request<'_>,
     spans: &[Span],
-    findings: &mut Vec<Finding>,
-) -> Result<(), AllocError> {
+) -> Result<Vec<Finding>, AllocError> {
     let functions = functions(alloc, source, asked)?;
+    let mut findings = Vec::new(alloc);
     for function in functions.as_slice() {
-        find(spans, functions.as_slice(), *function, findings)?;
+        find(spans, functions.as_slice(), *function, &mut findings)?;
     }
-    Ok(())
+    Ok(findings)
 }
 
 // The functions of a source that compiles.

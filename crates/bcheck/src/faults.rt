@@ -1,4 +1,8 @@
 //! What is said of a diagnostic.
+ghost use Rattle.std.specs.Prelude.{◌≡◌, IfSome, codes};
+ghost use Rattle.bcheck.specs.Checks.{diagnostic_code};
+ghost use Rattle.bcheck.specs.Findings.{matter_code};
+
 use crate::advice::Matter;
 use crate::finding::Finding;
 use crate::passes::{Extent, Fault};
@@ -8,11 +12,15 @@ use blex::Lexeme;
 use bword::{BinOp, Name};
 
 /// What is said of a fault.
-pub(crate) fn finding(source: &[u8], spans: &[Span], fault: &Fault) -> Finding {
+pub(crate) fn finding(source: &[u8], spans: &[Span], fault: &Fault) -> Finding
+    ensures { matter_code result.matter ≡ diagnostic_code fault.now.diagnostic }
+{
     let diagnostic = &fault.diagnostic;
     let token = token_of(spans, fault);
-    if let (Letters::NotLvalue, Some(finding)) = (diagnostic.letters, no_address(spans, token)) {
-        return finding;
+    if let Letters::NotLvalue = diagnostic.letters {
+        if let Some(finding) = no_address(spans, token, diagnostic.line) {
+            return finding;
+        }
     }
     let place = place_of(spans, token);
     let first = source.get(place.start).copied();
@@ -27,8 +35,10 @@ pub(crate) fn finding(source: &[u8], spans: &[Span], fault: &Fault) -> Finding {
     }
 }
 
-// What is said of the name that the operator at this place wants the address of, if it is a name.
-fn no_address(spans: &[Span], operator: usize) -> Option<Finding> {
+// What is said of the name that the operator at this place wants the address of, if it is a name on this line.
+fn no_address(spans: &[Span], operator: usize, line: u64) -> Option<Finding>
+    ensures { IfSome result (λ finding. matter_code finding.matter ≡ codes "lv") }
+{
     let (before, behind) = (operator.wrapping_sub(1), operator.wrapping_add(1));
     let op = lexeme_at(spans, operator);
     let is_prefix = op == Lexeme::Operator(BinOp::And)
@@ -37,10 +47,14 @@ fn no_address(spans: &[Span], operator: usize) -> Option<Finding> {
     let Lexeme::Name(name) = lexeme_at(spans, token) else {
         return None;
     };
+    let place = place_of(spans, token);
+    if place.line != line {
+        return None;
+    }
     Some(Finding {
         matter: Matter::NoAddress,
         name: Some(name),
-        place: place_of(spans, token),
+        place,
     })
 }
 
@@ -75,7 +89,9 @@ pub(crate) fn token_named(spans: &[Span], extent: Extent, name: Name, line: u64)
 }
 
 // What is said of a diagnostic whose token begins with this byte.
-fn matter_of(diagnostic: &Diagnostic, spans: &[Span], token: usize, first: Option<u8>) -> Matter {
+fn matter_of(diagnostic: &Diagnostic, spans: &[Span], token: usize, first: Option<u8>) -> Matter
+    ensures { matter_code result ≡ diagnostic_code diagnostic.now }
+{
     match (diagnostic.letters, diagnostic.about) {
         (Letters::OpenComment, _) => Matter::OpenComment,
         (Letters::Character, _) => Matter::Character,
@@ -108,7 +124,9 @@ fn is_word_of_edition_two(name: Name) -> bool {
 }
 
 // What is said of a token with which no program goes on.
-fn syntax_matter(spans: &[Span], token: usize) -> Matter {
+fn syntax_matter(spans: &[Span], token: usize) -> Matter
+    ensures { matter_code result ≡ codes "sx" }
+{
     let before = lexeme_at(spans, token.wrapping_sub(1));
     match (before, lexeme_at(spans, token)) {
         (_, Lexeme::End) => Matter::SourceEnds,

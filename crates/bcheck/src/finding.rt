@@ -3,6 +3,8 @@ ghost use Rattle.std.specs.Prelude.{◌≡◌};
 ghost use Rattle.bcheck.specs.Checks.{severity_word};
 
 use crate::advice::Matter;
+use crate::excerpt::Excerpt;
+use crate::words::Words;
 use bword::Name;
 
 /// A piece of the source.
@@ -21,6 +23,15 @@ pub(crate) struct Finding {
     pub matter: Matter,
     pub name: Option<Name>,
     pub place: Place,
+}
+
+/// What is told of a finding.
+#[derive(Clone, Copy)]
+pub(crate) struct Told<'a> {
+    pub file: &'a str,
+    pub excerpt: Excerpt<'a>,
+    pub severity: Severity,
+    pub words: &'a Words,
 }
 
 /// Whether a source is refused for what was found.

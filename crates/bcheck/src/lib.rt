@@ -13,6 +13,7 @@ mod mention;
 mod passes;
 mod patterns;
 mod pieces;
+mod places;
 mod spans;
 mod text;
 mod verdict;

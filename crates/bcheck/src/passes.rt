@@ -1,4 +1,8 @@
 //! The compiler once more, for what its line doesn't tell: which tokens a definition has, and the one at fault.
+ghost use Rattle.std.specs.Prelude.{◌≡◌, false};
+ghost use Rattle.bparse.specs.Compilers.{CompilerGives, SameCompiler};
+ghost use Rattle.bcheck.specs.Findings.{Reads};
+
 use blang::Diagnostic;
 use bparse::{Compiler, Step};
 use bword::{Edition, MemIn, MemOut};
@@ -23,13 +27,16 @@ pub(crate) struct Fault {
 /// A compiler that tells where its definitions stand.
 #[derive(Drop)]
 pub(crate) struct Pass<'a> {
-    compiler: Compiler<MemIn<'a>, MemOut>,
+    pub compiler: Compiler<MemIn<'a>, MemOut>,
     /// Of the definition that was read last.
     pub extent: Extent,
 }
 
 impl<'a> Pass<'a> {
-    pub(crate) fn new(alloc: Global, source: &'a [u8], edition: Edition) -> Self {
+    pub(crate) fn new(alloc: Global, source: &'a [u8], edition: Edition) -> Self
+        ensures reads { Reads edition source.now result.compiler }
+        ensures is_open { result.compiler.is_closed ≡ false }
+    {
         let out = MemOut::new(alloc);
         Pass {
             compiler: Compiler::with_edition(alloc, MemIn::new(source), out, edition),
@@ -38,7 +45,10 @@ impl<'a> Pass<'a> {
     }
 
     /// Compiles the next definition.
-    pub(crate) fn next(&mut self) -> Step {
+    pub(crate) fn next(&mut self) -> Step
+        ensures gives { CompilerGives self.old.compiler result self.new.compiler }
+        ensures keeps { SameCompiler self.old.compiler self.new.compiler }
+    {
         let step = self.compiler.next_definition();
         self.extent = Extent {
             first: self.extent.end,
@@ -48,7 +58,9 @@ impl<'a> Pass<'a> {
     }
 
     /// The fault that this diagnostic tells of the definition that was read last.
-    pub(crate) fn fault(&self, diagnostic: Diagnostic) -> Fault {
+    pub(crate) fn fault(&self, diagnostic: Diagnostic) -> Fault
+        ensures { result.diagnostic ≡ diagnostic }
+    {
         Fault {
             diagnostic,
             extent: self.extent,

@@ -1,8 +1,9 @@
 //! What is said of a finding, with the name in its places.
-ghost use Rattle.std.specs.Prelude.{◌∷◌, [], IfOk, IsTrue, OnOk};
+ghost use Rattle.std.specs.Prelude.{◌≡◌, ◌∷◌, [], IfOk, IsTrue, OnOk};
 ghost use Rattle.std.specs.Int.{is_in_range};
 ghost use Rattle.std.specs.List.{list_all};
 ghost use Rattle.bcheck.specs.Checks.{is_on_line};
+ghost use Rattle.bcheck.specs.Findings.{matter_code};
 
 use crate::finding::Finding;
 use btools::Text;
@@ -20,7 +21,8 @@ pub(crate) struct Words {
 impl Words {
     /// What is said of a finding.
     pub(crate) fn new(alloc: Global, finding: &Finding) -> Result<Self, AllocError>
-        ensures { IfOk result (λ words.
+        ensures code { IfOk result (λ words. words.code.now ≡ matter_code finding.now.matter) }
+        ensures on_lines { IfOk result (λ words.
             IsTrue (list_all is_on_line (words.code.now ∷ words.sentence ∷ words.mend ∷ []))) }
     {
         let (code, sentence, mend) = finding.matter.advice();

@@ -4,12 +4,12 @@ use Rattle.std.specs.Prelude.{All}
 use Rattle.std.specs.Io.KnownBytes.{Appends}
 use Rattle.std.specs.List.{flat_map}
 use Rattle.std.specs.Fmt.{digits}
-use Rattle.std.proofs.lemmas.List.{append_cancel_left}
+use Rattle.std.proofs.lemmas.List.{append_cancel_left, take-append-drop}
 use Rattle.std.proofs.lemmas.List.Elements.{All-head, All-tail}
 use Rattle.bword.specs.declared.edition.Edition.{Edition}
 use Rattle.bword.specs.declared.ends.EndFault.{EndFault}
 use Rattle.bword.specs.declared.ends.EndFault.TheVariants as end_fault
-use Rattle.bword.specs.ByteEnds.{Grew, Incoming, Outgoing, Refuses, Took, Unread, Writes, incoming_of}
+use Rattle.bword.specs.ByteEnds.{Kept, outgoing_of, Grew, Incoming, Outgoing, Refuses, Took, Unread, Writes, incoming_of}
 use Rattle.bword.proofs.Putting.{Writes-append}
 use Rattle.blang.specs.declared.code.Definition.{Definition}
 use Rattle.blang.specs.declared.code.Instr.{Instr}
@@ -35,7 +35,8 @@ use Rattle.bword.proofs.Remaining.{Rest, rest_after}
 use Rattle.brun.proofs.RunSteps.{outcome-resolved, run_loaded}
 use Rattle.btools.specs.Columns.{left, right}
 use Rattle.btools.specs.Programs as programs
-use Rattle.btools.specs.Programs.{HasProgram, NoProgram, WasCompiled}
+use Rattle.btools.specs.Programs.{HasProgram, NoProgram, WasCompiled, nothing_written}
+use Rattle.btools.proofs.Excluded.{not_grown}
 use Rattle.btrace.specs.Excluded.{ComesAlways, IsSourceOf, LocatesExcluded, TracesExcluded, calling, calling_f, closing, nothing, passing, status_of, trapping, writing}
 use Rattle.btrace.specs.Locates as locates
 use Rattle.btrace.specs.Locates.{Locates, TellsSite, located_status, site_line}
@@ -220,6 +221,45 @@ at_limit ds steps from name which i j text status named comes t =
       each = shown.each;
       place = subst (λ m. IsWhere fs states m (store_after states m) s.ending) ends.0 ends.1;
     }
+
+-- what was written is a beginning of a text
+begun_text : (line : List ℕ) (answer : ℕ) (o p : Outgoing) (status : ℕ) (all : List ℕ) → o.written ≡ Some [] → p.written ≡ Some all → Reported line answer o p status → (more : List ℕ) × (line ≡ all ++ more)
+begun_text line answer o p status all e f (inl t) = ([], sym (wrote o p [] line all e f t.0) ∙ sym (append-nil all))
+begun_text line answer o p status all e f (inr r) =
+    let n = r.refuses.count in
+    let is : all ≡ take n line = subst (λ x. Appends (Some []) x (take n line)) f (subst (λ x. Appends x p.written (take n line)) e r.refuses.appended) in
+    (drop n line, sym (take-append-drop n line) ∙ ap (λ x. x ++ drop n line) (sym is))
+
+-- a run that has a trace and didn't fail to read came to its outcome
+came_unfailed : (ds : List Definition) (steps : ℕ) (i j : Incoming) (output : Kept) (fs : List Placed) (which : Which) (old new : List ℕ) → (Grew i.failures j.failures → ⊥) → (result : Outcome)
+    → RunGives (machine ds) steps i j nothing_written (outgoing_of output) result → ShowsRows fs which (machine ds) steps i j result old new → (input : List ℕ) × (state_outcome (machine ds input steps) ≡ result)
+came_unfailed ds steps i j output fs which old new unread (outcome.Exit n) h s = (h.taken ++ [], (h.shows [] (λ e. refl)).outcome)
+came_unfailed ds steps i j output fs which old new unread (outcome.Trap kind) h s = (h.taken ++ [], (h.shows [] (λ e. refl)).outcome)
+came_unfailed ds steps i j output fs which old new unread outcome.Limit h s = (h.taken ++ [], (h.shows [] (λ e. refl)).outcome)
+came_unfailed ds steps i j output fs which old new unread outcome.Device h s = absurd (elim (h.reason) [ inl read ↦ unread read | inr written ↦ not_grown 0 0 refl refl written ])
+came_unfailed ds steps i j output fs which old new unread outcome.Memory h s = absurd (s.ends [] (λ e. refl))
+
+-- What was written under the heading is a beginning of the trace of a run to its limit.
+module _ (edition : Edition) (source : List ℕ) (ds : List Definition) (is : IsSourceOf edition source ds) (steps from : ℕ) (which : Which) (named : which_of (functions_of ds) from None ≡ Some which) (comes : ComesAlways ds steps outcome.Limit)
+    (ends : RunEnds) (status : ℕ) (unread : Grew ends.input.failures ends.input_behind.failures → ⊥) (text : List ℕ) (before : ends.out.written ≡ Some []) (behind : ends.out_behind.written ≡ Some (HEADING.now ++ text)) where
+  silent_out : ends.out_behind ≡ ends.out → ⊥
+  silent_out same = no_nothing ends.out_behind.written (HEADING.now ++ text) (ap (λ (o : Outgoing). o.written) same ∙ before) behind (λ e. cc)
+
+  begins_so : Traces edition source steps from None ends status → (more : List ℕ) × AtLimit ds steps which (text ++ more)
+  begins_so (traces.traced mid other image w result t output answer program chosen gives shows reported tells) =
+      let b = begun_text t DONE ends.out ends.out_behind answer (HEADING.now ++ text) before behind reported in
+      let c = came_unfailed other steps ends.input ends.input_behind output (functions_of other) w HEADING.now t unread result gives shows in
+      let here : Told other steps from None ends.input ends.input_behind t (status_of result) = record { which = w; named = chosen; result = result; answer = refl; input = c.0; comes = c.1; shows = shows } in
+      let whole : t ≡ HEADING.now ++ (text ++ b.0) = b.1 ∙ append_assoc HEADING.now text b.0 in
+      let mine = subst (λ x. Told x steps from None ends.input ends.input_behind t (status_of result)) (only edition source ds is ends.line mid other image program) here in (
+        b.0,
+        at_limit ds steps from None which ends.input ends.input_behind (text ++ b.0) (status_of result) named comes
+            (subst (λ x. Told ds steps from None ends.input ends.input_behind x (status_of result)) whole mine),
+      )
+  begins_so (traces.not_begun mid other image w result program chosen never f quiet) = absurd (silent_out quiet.silent)
+  begins_so (traces.unnamed mid other image program unknown r quiet) = absurd (silent_out quiet.silent)
+  begins_so (traces.stopped none quiet) = absurd (silent_out quiet.silent)
+  begins_so (traces.no_memory other image program same unfailed e) = absurd (silent_out same)
 
 -- the call that a machine runs, and those below it
 abbrev call_of : State → Option Call
@@ -757,6 +797,21 @@ excluded = record {
   unwritten = λ ds steps from name status less starts edition source before ends is first last h.
       let w = written_so edition source ds is steps from name ends status less starts h in
       unwritten_text before w.0 w.1.1.shows.rows w.1.1.shows.ending (wrote ends.out ends.out_behind before w.0 before first last w.1.0) w.1.1.shows.text_is;
+  cut_off_elsewhere = λ rest edition source ends status is unread before behind h.
+      let a = begins_so edition source nothing is 1 1 (record { from = 1; function = None }) refl nothing_limit ends status unread (codes "       0" ++ rest) before behind h in
+      let b = nothing_row a.1.input ((codes "       0" ++ rest) ++ a.0) a.1.ending a.1.rows a.1.text_is (a.1.all ∙ nothing_shown a.1.input) a.1.each a.1.place in
+      differ 7 48 49 _ _ b.text_is refl refl (λ e. omega (arith, e));
+  cut_off_without_row = λ rest edition source ends status is unread before behind h.
+      let a = begins_so edition source nothing is 1 1 (record { from = 1; function = None }) refl nothing_limit ends status unread (codes "at     " ++ rest) before behind h in
+      let b = nothing_row a.1.input ((codes "at     " ++ rest) ++ a.0) a.1.ending a.1.rows a.1.text_is (a.1.all ∙ nothing_shown a.1.input) a.1.each a.1.place in
+      differ 0 97 32 _ _ b.text_is refl refl (λ e. omega (arith, e));
+  cut_out = λ rest edition source ends status is unread before behind h.
+      let text = codes "       1  main         0     1  x f         \nat     i" ++ rest in
+      let a = begins_so edition source calling is 2 1 (record { from = 1; function = None }) refl (λ input. refl) ends status unread text before behind h in
+      let b = calling_row a.1.input (text ++ a.0) a.1.ending a.1.rows a.1.text_is (a.1.all ∙ calling_shown a.1.input) a.1.each in
+      let start = codes "     1  x f         \nat     i" ++ (rest ++ a.0) in
+      let more = ap (drop 15) (behind_line_number (codes "       1  main         0") _ start _ 50 b refl) in
+      seventh_is (at 7 b.more) 50 b.next 105 (sym (ap (at 7) more)) (λ e. omega (arith, e)) (λ e. omega (arith, e));
   read_failed = λ edition source steps from name ends failed refused h. read_told edition source steps from name ends failed refused h;
 }
 

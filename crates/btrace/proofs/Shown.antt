@@ -1,5 +1,5 @@
 -- Steps that are made and shown, one after another.
-use Rattle.std.proofs.Common.{◌≡◌, ◌∙◌, ℕ, ◌+◌, ◌<◌, Bool, true, false, cond, List, [], ◌∷◌, ◌++◌, Ok, Err, ap, append-nil, append_assoc, arith, drop, inl, inr, length, refl, subst, sym}
+use Rattle.std.proofs.Common.{◌≡◌, ◌∙◌, ℕ, ◌+◌, ◌<◌, Bool, true, false, cond, List, [], ◌∷◌, ◌++◌, Ok, Err, ap, append-nil, append_assoc, arith, drop, length, refl, subst, sym, if◌then◌else◌}
 use Rattle.std.proofs.Math.Seq.{drop-append_seam}
 use Rattle.std.proofs.lemmas.List.{map-append, map-id}
 use Rattle.std.proofs.lemmas.List.Concat.{flat_map-append}
@@ -203,7 +203,7 @@ module _ (fs : List Placed) (which : Which) (first now : Paused) (made : ℕ) (i
         }
 
     over_by : (c : Bool) → b ≡ c → AddsIf c fs (made + 1) now.call new.store p.bytes q.bytes (Err r) text text' → (text'' : List ℕ) → text'' ≡ text' ++ ending
-        → ((more : List ℕ) → CanFollow m more → EndsAs fs (steps_from first (t.goes.taken ++ more)) (made + 1) n r ending) → traces.ShowsRows fs which (steps_from first) n i m r old text''
+        → ((more : List ℕ) → CanFollow m more → EndsAs fs which (steps_from first (t.goes.taken ++ more)) (made + 1) n r ending) → traces.ShowsRows fs which (steps_from first) n i m r old text''
     over_by false hidden none text'' end ends = record {
       made = made + 1;
       within = omega (arith, lt);
@@ -233,26 +233,39 @@ module _ (fs : List Placed) (which : Which) (first now : Paused) (made : ℕ) (i
     fed more = (t.goes.taken ++ taken) ++ more
 
     abbrev Failed : List ℕ → Type 0
-    Failed ending = (more : List ℕ) → CanFollow m more → IsTried fs (steps_from first (fed more)) made ending
+    Failed ending = (more : List ℕ) → CanFollow m more → IsTried fs which (steps_from first (fed more)) made ending
 
     tried : (more : List ℕ) → CanFollow m more → Tries (steps_from first (fed more)) made
-    tried more can =
-        subst (λ (xs : List ℕ). Tries (steps_from first xs) made) (sym (append_assoc t.goes.taken taken more)) (tries fs which first now made i j m o p old text text' b is t (taken ++ more) (follows took can))
+    tried more can = record {
+      call = now.call;
+      below = now.below;
+      world = world_with now.store (taken ++ more) t.goes.output;
+      state_is = ap (λ xs. steps_from first xs made) (append_assoc t.goes.taken taken more) ∙ there fs which first now made i j m o p old text text' b is t (taken ++ more) (follows took can);
+    }
 
-    failed_by : (c : Bool) → AddsIf c fs (made + 1) now.call new.store p.bytes q.bytes (Err r) text text' → (ending : List ℕ) × (text' ≡ text ++ ending) × Failed ending
-    failed_by false none = ([], none ∙ sym (append-nil text), λ more can. inl refl)
-    failed_by true a = (_, a.1, λ more can. inr (tried_row more can a.0))
-      where
-        tried_row : (more : List ℕ) → CanFollow m more → (line : ℕ) → (u : Tries (steps_from first (fed more)) made) × (l : ℕ) × (step_row fs (made + 1) now.call line ≡ step_row fs (made + 1) u.call l)
-        tried_row more can line =
-            let e : steps_from first (fed more) made ≡ machine_at now (taken ++ more) t.goes.output =
-            ap (λ xs. steps_from first xs made) (append_assoc t.goes.taken taken more) ∙ there fs which first now made i j m o p old text text' b is t (taken ++ more) (follows took can) in
-            (record { call = now.call; below = now.below; world = world_with now.store (taken ++ more) t.goes.output; state_is = e }, line, refl)
+    -- whether it is to be shown
+    told : (more : List ℕ) → CanFollow m more → is_shown which (steps_from first (fed more)) made ≡ b
+    told more can =
+        ap (λ xs. is_shown which (steps_from first xs) made) (append_assoc t.goes.taken taken more)
+        ∙ decided fs which first now made i j m o p old text text' b is t (taken ++ more) (follows took can)
+
+    failed_by : (c : Bool) → b ≡ c → AddsIf c fs (made + 1) now.call new.store p.bytes q.bytes (Err r) text text' → (ending : List ℕ) × (text' ≡ text ++ ending) × Failed ending
+    unfolding tried
+    failed_by false hidden none = (
+      [],
+      none ∙ sym (append-nil text),
+      λ more can. (tried more can, 0, sym (ap (λ (x : Bool). if x then step_row fs (made + 1) now.call 0 else []) (told more can ∙ hidden))),
+    )
+    failed_by true seen a = (
+      step_row fs (made + 1) now.call a.0,
+      a.1,
+      λ more can. (tried more can, a.0, sym (ap (λ (x : Bool). if x then step_row fs (made + 1) now.call a.0 else []) (told more can ∙ seen))),
+    )
 
     over_failed : (text'' : List ℕ) → AddsIf b fs (made + 1) now.call new.store p.bytes q.bytes (Err r) text text' → text'' ≡ text'
-        → ((ending : List ℕ) → Failed ending → (more : List ℕ) → CanFollow m more → EndsAs fs (steps_from first (fed more)) made n r ending) → traces.ShowsRows fs which (steps_from first) n i m r old text''
+        → ((ending : List ℕ) → Failed ending → (more : List ℕ) → CanFollow m more → EndsAs fs which (steps_from first (fed more)) made n r ending) → traces.ShowsRows fs which (steps_from first) n i m r old text''
     over_failed text'' a end ends =
-        let last = failed_by b a in
+        let last = failed_by b refl a in
         record {
           made = made;
           within = omega (arith, lt);
@@ -289,7 +302,7 @@ module _ (fs : List Placed) (which : Which) (first now : Paused) (made : ℕ) (i
       ))
   over_shows new q n outcome.Limit lt t g words a kept text'' end = absurd g
   over_shows new q n outcome.Device lt t g words a kept text'' end = over_failed new q n outcome.Device lt t g.taken g.took text'' a end (λ ending f more can. f more can)
-  over_shows new q n outcome.Memory lt t g words a kept text'' end = over_failed new q n outcome.Memory lt t g.2.taken g.2.took text'' a end (λ ending f more can. f more can)
+  over_shows new q n outcome.Memory lt t g words a kept text'' end = absurd end
 
 -- all steps were made
 pub all_give : (fs : List Placed) (which : Which) (first now : Paused) (made : ℕ) (i j : Incoming) (o p : Kept) (old text : List ℕ) → IsTraced fs which first made now i j o p old text → StepsGive first made i j (outgoing_of o) (outgoing_of p) outcome.Limit

@@ -1,5 +1,5 @@
 -- What is shown of a program that was loaded is what its definitions do.
-use Rattle.std.proofs.Common.{◌≡◌, ◌∙◌, ℕ, ◌+◌, List, [], ◌∷◌, ◌++◌, Option, Some, ap, filter, inl, inr, map, refl, subst, sym}
+use Rattle.std.proofs.Common.{◌≡◌, ◌∙◌, ℕ, ◌+◌, Bool, List, [], ◌∷◌, ◌++◌, Option, Some, ap, filter, map, refl, subst, sym, if◌then◌else◌}
 use Rattle.std.specs.List.{range_with_len}
 use Rattle.std.proofs.lemmas.List.Elements.{All-weaker}
 use Rattle.bword.specs.declared.edition.Edition.{Edition}
@@ -20,7 +20,7 @@ use Rattle.brun.proofs.RunSteps.{outcome-resolved, run_loaded, run_of_loaded, wo
 use Rattle.btools.specs.Programs.{HasProgram, nothing_written}
 use Rattle.btrace.specs.Programs.{Placed, functions_of}
 use Rattle.btrace.specs.RowTexts.{changed_text, places_text, step_row, written_row}
-use Rattle.btrace.specs.Traces.{AreShown, EndsAs, IsTried, IsWhere, TraceRow, ShowsRows, ShowsStep, StepsGive, TellsEnd, TellsPlace, Traces, Tries, is_step, shown_of, steps_from, store_after, traced, waits_at, which_of}
+use Rattle.btrace.specs.Traces.{AreShown, EndsAs, IsTried, IsWhere, TraceRow, ShowsRows, ShowsStep, StepsGive, TellsEnd, TellsPlace, Traces, Tries, is_shown, is_step, shown_of, steps_from, store_after, traced, waits_at, which_of}
 use Rattle.btrace.specs.declared.tracing.TheConstants.{HEADING}
 use Rattle.btrace.specs.declared.tracing.Which.{Which}
 
@@ -91,18 +91,21 @@ module _ (fs : List Placed) (which : Which) (I : Image) (f g : ℕ → State) (e
         },
       )
 
-  tried_same : (made : ℕ) (text : List ℕ) → IsTried fs g made text → IsTried fs f made text
-  tried_same made text (inl none) = inl none
-  tried_same made text (inr h) =
+  tried_same : (made : ℕ) (text : List ℕ) → IsTried fs which g made text → IsTried fs which f made text
+  tried_same made text h =
       let t = tries_same made h.0 in
-      inr (t.0, h.1, h.2 ∙ ap (λ c. step_row fs (made + 1) c h.1) (sym t.1))
+      let shown : is_shown which g made ≡ is_shown which f made = ap (is_step which (made + 1)) (e made) ∙ step_same I which (made + 1) (f made) in (
+        t.0,
+        h.1,
+        h.2 ∙ ap (λ c. if is_shown which g made then step_row fs (made + 1) c h.1 else []) (sym t.1) ∙ ap (λ (b : Bool). if b then step_row fs (made + 1) t.0.call h.1 else []) shown,
+      )
 
-  pub ends_same : (made n : ℕ) (r : Outcome) (text : List ℕ) → EndsAs fs g made n r text → EndsAs fs f made n r text
+  pub ends_same : (made n : ℕ) (r : Outcome) (text : List ℕ) → EndsAs fs which g made n r text → EndsAs fs which f made n r text
   ends_same made n (outcome.Exit status) text h = (sym (outcome_same made) ∙ h.0, h.1)
   ends_same made n (outcome.Trap kind) text h = (sym (outcome_same made) ∙ h.0, (h.1.0, h.1.1, where_same h.1.0 made text h.1.2))
   ends_same made n outcome.Limit text h = (h.0, where_same made made text h.1)
   ends_same made n outcome.Device text h = tried_same made text h
-  ends_same made n outcome.Memory text h = tried_same made text h
+  ends_same made n outcome.Memory text h = h
 
 shows_run : (fs : List Placed) (which : Which) (ds : List Definition) (image : Image) (p : Paused) → IsLoadedFrom ds image → IsUnstarted image p → (n : ℕ) (i j : Incoming) (r : Outcome) (old new : List ℕ) → ShowsRows fs which (steps_from p) n i j r old new → ShowsRows fs which (machine ds) n i j r old new
 shows_run fs which ds image p loaded begins n i j r old new s =

@@ -94,6 +94,13 @@ NoTrace ds steps from name status text =
     → ends.out.written ≡ Some [] → ends.out_behind.written ≡ Some (HEADING.now ++ text)
     → Traces edition source steps from name ends status → ⊥
 
+-- Where no read failed, what was written of a trace doesn't begin with this text, whatever the status.
+abbrev pub NoBeginning : List Definition → (steps from : ℕ) → List ℕ → Type 0
+NoBeginning ds steps from text =
+    (edition : Edition) (source : List ℕ) (ends : RunEnds) (status : ℕ) → IsSourceOf edition source ds
+    → (Grew ends.input.failures ends.input_behind.failures → ⊥) → ends.out.written ≡ Some []
+    → ends.out_behind.written ≡ Some (HEADING.now ++ text) → Traces edition source steps from None ends status → ⊥
+
 pub record TracesExcluded : Type 0 where
   -- a row with the number before, with the place behind the step, without a name, with another instruction
   pub number_before : (rest : List ℕ) → NoTrace nothing 1 1 None LIMIT (codes "       0" ++ rest)
@@ -136,6 +143,11 @@ pub record TracesExcluded : Type 0 where
       → ComesAlways ds 0 outcome.Limit → (edition : Edition) (source before : List ℕ) (ends : RunEnds)
       → IsSourceOf edition source ds → ends.out.written ≡ Some before → ends.out_behind.written ≡ Some before
       → Traces edition source steps from name ends status → ⊥
+  -- of a trace that was cut off: a row with another number, none, or the second one left out
+  pub cut_off_elsewhere : (rest : List ℕ) → NoBeginning nothing 1 1 (codes "       0" ++ rest)
+  pub cut_off_without_row : (rest : List ℕ) → NoBeginning nothing 1 1 (codes "at     " ++ rest)
+  pub cut_out : (rest : List ℕ)
+      → NoBeginning calling 2 1 (codes "       1  main         0     1  x f         \nat     i" ++ rest)
   -- want of memory told where a read failed and no write was refused memory
   pub read_failed : (edition : Edition) (source : List ℕ) (steps from : ℕ) (name : Option (List ℕ)) (ends : RunEnds)
       → (ends.input_behind.failures ≡ ends.input.failures → ⊥)

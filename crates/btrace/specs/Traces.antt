@@ -1,6 +1,7 @@
 -- What comes of a source whose steps are written.
-use Rattle.std.specs.Prelude.{◌≡◌, ◌⊎◌, ℕ, ◌+◌, ◌-◌, ◌≤◌, ◌==◌, ◌&&◌, Bool, true, false, List, [], ◌++◌, All, Option, Some}
+use Rattle.std.specs.Prelude.{◌≡◌, ◌⊎◌, ℕ, ◌+◌, ◌-◌, ◌≤◌, ◌==◌, ◌&&◌, Bool, true, false, List, [], ◌++◌}
 use Rattle.std.specs.Prelude.{None, Result, Ok, Err, codes, drop, filter, length, map, nat_le, option_map, refl}
+use Rattle.std.specs.Prelude.{All, Option, Some, if◌then◌else◌}
 use Rattle.std.specs.List.{flat_map, range_with_len}
 use Rattle.std.specs.Option.{option_map_or}
 use Rattle.bword.specs.declared.edition.Edition.{Edition}
@@ -105,25 +106,27 @@ abbrev pub IsWhere : List Placed → (ℕ → State) → ℕ → (store : List �
 IsWhere fs states made store text =
     (t : Tries states made) × TellsPlace fs store (active_of t.call) t.below text
 
--- a step that failed has a row, if it was to be shown, or none
-abbrev pub IsTried : List Placed → (ℕ → State) → ℕ → List ℕ → Type 0
-IsTried fs states made text =
-    (text ≡ []) ⊎ ((t : Tries states made) × (line : ℕ) × (text ≡ step_row fs (made + 1) t.call line))
+-- A step that failed was tried, and has a row just if it is to be shown.
+abbrev pub IsTried : List Placed → Which → (ℕ → State) → ℕ → List ℕ → Type 0
+IsTried fs which states made text =
+    (t : Tries states made) × (line : ℕ)
+    × (text ≡ (if is_shown which states made then step_row fs (made + 1) t.call line else []))
 
 abbrev pub store_after : (ℕ → State) → (made : ℕ) → List ℕ
 store_after states made = (state_world (states made)).store
 
--- Behind so many steps the run is over, or all were made; or the next one failed. What stands behind their rows.
-abbrev pub EndsAs : List Placed → (ℕ → State) → (made steps : ℕ) → Outcome → List ℕ → Type 0
-EndsAs fs states made steps (outcome.Exit status) ending =
+-- After so many steps the run is over, or all were made, or a read failed in the next one; and this comes after their
+-- rows. A run that was refused memory has no trace.
+abbrev pub EndsAs : List Placed → Which → (ℕ → State) → (made steps : ℕ) → Outcome → List ℕ → Type 0
+EndsAs fs which states made steps (outcome.Exit status) ending =
     (state_outcome (states made) ≡ outcome.Exit status) × (ending ≡ [])
-EndsAs fs states made steps (outcome.Trap kind) ending =
+EndsAs fs which states made steps (outcome.Trap kind) ending =
     (state_outcome (states made) ≡ outcome.Trap kind)
     × ((last : ℕ) × (last + 1 ≡ made) × IsWhere fs states last (store_after states made) ending)
-EndsAs fs states made steps outcome.Limit ending =
+EndsAs fs which states made steps outcome.Limit ending =
     (made ≡ steps) × IsWhere fs states made (store_after states made) ending
-EndsAs fs states made steps outcome.Device ending = IsTried fs states made ending
-EndsAs fs states made steps outcome.Memory ending = IsTried fs states made ending
+EndsAs fs which states made steps outcome.Device ending = IsTried fs which states made ending
+EndsAs fs which states made steps outcome.Memory ending = ⊥
 
 -- The rows of the steps of this machine were added to a text, and an ending. Its input is what was taken and what may
 -- follow.
@@ -138,7 +141,7 @@ pub record ShowsRows (fs : List Placed) (which : Which) (states : States) (steps
   pub taken : List ℕ
   pub took : Took i taken j
   pub shown : (more : List ℕ) → CanFollow j more → AreShown fs which (states (taken ++ more)) made rows
-  pub ends : (more : List ℕ) → CanFollow j more → EndsAs fs (states (taken ++ more)) made steps result ending
+  pub ends : (more : List ℕ) → CanFollow j more → EndsAs fs which (states (taken ++ more)) made steps result ending
 
 -- A step was shown before it was made, with these words as they are behind it and these bytes written.
 pub record AddsStep (fs : List Placed) (number : ℕ) (call : Call) (store bytes : List ℕ) (old new : List ℕ) : Type 0
@@ -163,6 +166,7 @@ AddsIf true fs number call store before behind (Err r) old new = AddsLast fs num
 abbrev pub AddsEnd : List Placed → (store : List ℕ) → Active → List Call → Outcome → List ℕ → List ℕ → Type 0
 AddsEnd fs store call below (outcome.Trap kind) old new = AddsPlaces fs store call below old new
 AddsEnd fs store call below outcome.Limit old new = AddsPlaces fs store call below old new
+AddsEnd fs store call below outcome.Memory old new = ⊥
 AddsEnd fs store call below r old new = new ≡ old
 
 -- the machine from this state on, by its input and the number of its steps

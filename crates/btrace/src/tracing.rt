@@ -63,7 +63,7 @@ impl Which {
 /// Compiles a source and runs its program for so many steps at most, and writes each step when the run is over.
 ///
 /// The status and the line are those of `go_edition`, but that all of the output goes into the trace. The status is
-/// 135 where no function has the name, and a line says so.
+/// 135 where no function has the name, and a line says so. Where the run is refused memory, nothing is written.
 pub fn trace<I: ByteIn, O: ByteOut, D: ByteOut>(
     alloc: Global,
     source: &[u8],
@@ -232,7 +232,7 @@ fn since(written: &MemOut, before: usize) -> &[u8]
     &bytes[before.min(bytes.len())..]
 }
 
-// Adds where a run ended, if it was by a trap or at the limit.
+// Adds where a run ended, if it was by a trap or at the limit. A run that was refused memory has no trace.
 fn push_end<S: Store + Drop>(
     text: &mut Text,
     tables: &Tables<'_>,
@@ -244,7 +244,8 @@ fn push_end<S: Store + Drop>(
 {
     match outcome {
         Outcome::Trap(_) | Outcome::Limit => push_places(text, tables, stepper, call),
-        Outcome::Exit(_) | Outcome::Device | Outcome::Memory => Ok(()),
+        Outcome::Exit(_) | Outcome::Device => Ok(()),
+        Outcome::Memory => Err(AllocError),
     }
 }
 

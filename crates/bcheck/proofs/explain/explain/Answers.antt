@@ -1,7 +1,8 @@
 use Rattle.std.proofs.Common.{◌≡◌, ap, arith, length, vec_items}
-use Rattle.bcheck.specs.declared.form.Form.TheVariants as form
 use Rattle.bcheck.specs.Checks.{status_told}
+use Rattle.bcheck.specs.declared.form.Form.TheVariants as form
 use Rattle.bcheck.proofs.AddedFindings.{all_findings, finding_more}
+use Rattle.bcheck.proofs.Reasons.{item_reason}
 use Rattle.bcheck.proofs.explain.explain.Goals as goal
 use Rattle.bcheck.proofs.explain.explain.Goals.{in-Text+in_ok-write-in-Text, in-Json+in_ok-write-in-Json}
 
@@ -10,12 +11,18 @@ returns c =
     let found = vec_items c.in_ok-findings.findings in
     let all : c.loop-finding.finding-index ≡ length found =
     omega (arith, ap length c.as_slice-finding-items.ensures.value, c.loop-finding-test.false, c.loop-finding.auto.finding-index-end) in
-    all_findings c.args.asked.form (status_told c.args.verdict.now) c.args.asked.file.now _ _ _ c.in_ok-findings.ensures all c.loop-finding.invariant
+    all_findings c.args.asked.form c.args.asked.edition (status_told c.args.verdict.now) c.args.asked.file.now c.args.source.now _ _ _ c.in_ok-findings.ensures.one all c.loop-finding.invariant
 
 pub loop-finding-preserved : goal.loop-finding-preserved
-loop-finding-preserved c = elim c.match-asked.branch [
-  | in-Text+in_ok-write-in-Text w ↦
-      finding_more c.args.asked.form form.Text _ c.severity-severity.result c.args.asked.file.now _ _ _ c.loop-finding.finding-index w.in-Text.is c.severity-severity.ensures w.said-is c.loop-finding.invariant w.in_ok-write-in-Text.ensures
-  | in-Json+in_ok-write-in-Json w ↦
-      finding_more c.args.asked.form form.Json _ c.severity-severity.result c.args.asked.file.now _ _ _ c.loop-finding.finding-index w.in-Json.is c.severity-severity.ensures w.said-is c.loop-finding.invariant w.in_ok-write-in-Json.ensures
-]
+loop-finding-preserved c =
+    let edition = c.args.asked.edition in
+    let source = c.args.source.now in
+    let f = c.finding-item.result in
+    let code = c.in_ok-words.words.code.now in
+    let reason = item_reason edition source _ c.as_slice-finding-items.result.now c.loop-finding.finding-index f code c.as_slice-finding-items.ensures.value c.loop-finding-test.true c.finding-item.is c.in_ok-findings.ensures.reasons c.in_ok-words.ensures.code in
+    elim c.match-asked.branch [
+      | in-Text+in_ok-write-in-Text w ↦
+          finding_more c.args.asked.form form.Text edition _ c.severity-severity.result c.args.asked.file.now source f.place.start code _ _ _ c.loop-finding.finding-index w.in-Text.is c.severity-severity.ensures w.said-is reason c.loop-finding.invariant (w.in_ok-write-in-Text.ensures source f.place.start c.excerpt_at.ensures)
+      | in-Json+in_ok-write-in-Json w ↦
+          finding_more c.args.asked.form form.Json edition _ c.severity-severity.result c.args.asked.file.now source f.place.start code _ _ _ c.loop-finding.finding-index w.in-Json.is c.severity-severity.ensures w.said-is reason c.loop-finding.invariant (w.in_ok-write-in-Json.ensures source f.place.start c.excerpt_at.ensures)
+    ]

@@ -2,7 +2,7 @@ use Rattle.std.proofs.Common.{[], ◌∷◌, ◌∙◌, ◌++◌, ap, arith, get
 use Rattle.std.specs.List.{flat_map}
 use Rattle.std.proofs.lemmas.List.{get_or_default, take_all}
 use Rattle.btools.proofs.AddedTexts.{each_more}
-use Rattle.bcheck.specs.Pieces.{shown_text}
+use Rattle.bcheck.specs.Checks.{shown_text}
 use Rattle.bcheck.proofs.pieces.push_shown.Goals as goal
 
 pub loop-byte-preserved : goal.loop-byte-preserved

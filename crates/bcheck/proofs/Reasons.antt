@@ -1,0 +1,116 @@
+-- Why an error is told: it is one of what the source comes to.
+use Rattle.std.proofs.Common.{◌≡◌, ◌≢◌, ◌∙◌, ◌<◌, ◌++◌, ℕ, List, [], ◌∷◌, Option, Some, None, Result, Ok, Err, IfOk, ap, arith, codes, drop, get_or, length, map, refl, subst, sym, take}
+use Rattle.std.specs.List.{All}
+use Rattle.std.specs.Prelude.{unwrap_or}
+use Rattle.std.proofs.lemmas.List.Elements.{All-cons, All-get_or, All-nil}
+use Rattle.blang.specs.Code.{code_of}
+use Rattle.blang.specs.Compiles.{Compilation, CompilesTo}
+use Rattle.blang.specs.Cut.{tokens_from}
+use Rattle.blang.specs.Layout.{load_fault}
+use Rattle.bword.specs.declared.edition.Edition.{Edition}
+use Rattle.blang.specs.declared.run.LoadFault.{LoadFault}
+use Rattle.blang.specs.declared.run.LoadFault.TheVariants as fault
+use Rattle.blang.specs.declared.token.Diagnostic.{Diagnostic}
+use Rattle.btools.specs.Programs.{load_line}
+use Rattle.bcheck.specs.Checks.{EachOutcome, Judged, Reason, told_first, told_of, verdict_line, status_told}
+use Rattle.bcheck.specs.Findings.{IsReasoned, ReasonAt, TellsEach, TellsFault, matter_code}
+use Rattle.bcheck.specs.declared.advice.Matter.TheVariants as matter
+use Rattle.bcheck.specs.declared.finding.Finding.{Finding}
+use Rattle.bcheck.specs.declared.verdict.Verdict.{Verdict}
+use Rattle.bcheck.specs.declared.verdict.Verdict.TheVariants as verdict
+
+pub if_ok : {X E : Type 0} (r : Result X E) (P Q : X → Type 0) → ((x : X) → P x → Q x) → IfOk r P → IfOk r Q
+if_ok (Ok x) P Q f h = f x h
+if_ok (Err e) P Q f h = h
+
+status_in : {line other : List ℕ} {a b : ℕ} → ◌≡◌ {A = List ℕ × ℕ} (line, a) (other, b) → a ≡ b
+status_in e = ap (λ (p : List ℕ × ℕ). p.1) e
+
+line_in : {line other : List ℕ} {a b : ℕ} → ◌≡◌ {A = List ℕ × ℕ} (line, a) (other, b) → line ≡ other
+line_in e = ap (λ (p : List ℕ × ℕ). p.0) e
+
+not_of_load : (g : LoadFault) (line : List ℕ) → ◌≡◌ {A = List ℕ × ℕ} (line, 1) (told_of g) → ⊥
+not_of_load (fault.Duplicate name) line e = let no : ◌≡◌ {A = ℕ} 1 132 = status_in e in absurd (omega (arith, no))
+not_of_load fault.TooLarge line e = let no : ◌≡◌ {A = ℕ} 1 132 = status_in e in absurd (omega (arith, no))
+not_of_load (fault.Undefined name) line e = let no : ◌≡◌ {A = ℕ} 1 132 = status_in e in absurd (omega (arith, no))
+not_of_load fault.NoMain line e = let no : ◌≡◌ {A = ℕ} 1 0 = status_in e in absurd (omega (arith, no))
+not_of_load fault.Memory line e = let no : ◌≡◌ {A = ℕ} 1 132 = status_in e in absurd (omega (arith, no))
+
+module _ (edition : Edition) (before rest : List ℕ) where
+  of_fault : (code : List ℕ) (line : List ℕ) (stop : Option Diagnostic) (f : Option LoadFault) → ((d : Diagnostic) → stop ≡ Some d → Reason edition (Some d) f code before rest)
+      → ◌≡◌ {A = List ℕ × ℕ} (line, 1) (told_first stop f) → Reason edition stop f code before rest
+  of_fault code line (Some d) f t e = t d refl
+  of_fault code line None None t e = let no : ◌≡◌ {A = ℕ} 1 0 = status_in e in absurd (omega (arith, no))
+  of_fault code line None (Some g) t e = absurd (not_of_load g line e)
+
+  of_none : (code : List ℕ) (stop : Option Diagnostic) (f : Option LoadFault) → ◌≡◌ {A = List ℕ × ℕ} ([], 0) (told_first stop f) → Reason edition stop f code before rest
+  of_none code (Some d) f e = let no : ◌≡◌ {A = ℕ} 0 1 = status_in e in absurd (omega (arith, no))
+  of_none code None None e = tt
+  of_none code None (Some (fault.Duplicate name)) e = tt
+  of_none code None (Some fault.TooLarge) e = let no : ◌≡◌ {A = ℕ} 0 132 = status_in e in absurd (omega (arith, no))
+  of_none code None (Some (fault.Undefined name)) e = let no : ◌≡◌ {A = ℕ} 0 132 = status_in e in absurd (omega (arith, no))
+  of_none code None (Some fault.NoMain) e = tt
+  of_none code None (Some fault.Memory) e = tt
+
+  of_undefined : (stop : Option Diagnostic) (f : Option LoadFault) → ◌≡◌ {A = List ℕ × ℕ} (codes "load 3\n", 132) (told_first stop f) → Reason edition stop f (codes "load 3") before rest
+  of_undefined (Some d) f e = let no : ◌≡◌ {A = ℕ} 132 1 = status_in e in absurd (omega (arith, no))
+  of_undefined None None e = tt
+  of_undefined None (Some (fault.Duplicate name)) e = tt
+  of_undefined None (Some fault.TooLarge) e = let no : ◌≡◌ {A = ℕ} 51 50 = ap (λ l. get_or l 5 0) (line_in e) in absurd (omega (arith, no))
+  of_undefined None (Some (fault.Undefined name)) e = refl
+  of_undefined None (Some fault.NoMain) e = tt
+  of_undefined None (Some fault.Memory) e = tt
+
+  not_third : (g : LoadFault) → ((name : List ℕ) → g ≡ fault.Undefined name → ⊥) → unwrap_or (load_line g) [] ≡ codes "load 3\n" → ⊥
+  not_third (fault.Duplicate name) other e = let no : ◌≡◌ {A = ℕ} 49 51 = ap (λ l. get_or l 5 0) e in absurd (omega (arith, no))
+  not_third fault.TooLarge other e = let no : ◌≡◌ {A = ℕ} 50 51 = ap (λ l. get_or l 5 0) e in absurd (omega (arith, no))
+  not_third (fault.Undefined name) other e = other name refl
+  not_third fault.NoMain other e = let no : ◌≡◌ {A = ℕ} 52 51 = ap (λ l. get_or l 5 0) e in absurd (omega (arith, no))
+  not_third fault.Memory other e = let no : ◌≡◌ {A = ℕ} 0 51 = ap (λ l. get_or l 5 0) e in absurd (omega (arith, no))
+
+  of_other : (g : LoadFault) → ((name : List ℕ) → g ≡ fault.Undefined name → ⊥) → (stop : Option Diagnostic) (f : Option LoadFault) → ◌≡◌ {A = List ℕ × ℕ} (unwrap_or (load_line g) [], 132) (told_first stop f)
+      → Reason edition stop f (codes "load 2") before rest
+  of_other g other (Some d) f e = let no : ◌≡◌ {A = ℕ} 132 1 = status_in e in absurd (omega (arith, no))
+  of_other g other None None e = tt
+  of_other g other None (Some (fault.Duplicate name)) e = tt
+  of_other g other None (Some fault.TooLarge) e = refl
+  of_other g other None (Some (fault.Undefined name)) e = absurd (not_third g other (line_in e))
+  of_other g other None (Some fault.NoMain) e = tt
+  of_other g other None (Some fault.Memory) e = tt
+
+pub every_ok : {X E : Type 0} (r : Result X E) (P : X → Type 0) → ((x : X) → P x) → IfOk r P
+every_ok (Ok x) P f = f x
+every_ok (Err e) P f = tt
+
+module _ (edition : Edition) (source : List ℕ) where
+  abbrev found : (r : Compilation) (g : CompilesTo [] (tokens_from edition 1 source) r) → Option LoadFault
+  found r g = load_fault (map code_of g.definitions)
+
+  pub faulty_reason : (v : Verdict) (f : Finding) → status_told v ≡ 1 → Judged edition source v → TellsEach edition source f → IsReasoned edition source f
+  faulty_reason v f one j tells =
+      λ r g. of_fault edition (take f.place.start source) (drop f.place.start source) (matter_code f.matter) (verdict_line v) r.stop (found r g) (λ d stop. tells r g d stop)
+      (subst (λ n. ◌≡◌ {A = List ℕ × ℕ} (verdict_line v, n) (told_first r.stop (found r g))) one (j r g))
+
+  pub clean_reasons : Judged edition source verdict.Clean → (fs : List Finding) → All (IsReasoned edition source) fs
+  clean_reasons j fs = λ k d lt r g.
+      let f = get_or fs k d in
+      of_none edition (take f.place.start source) (drop f.place.start source) (matter_code f.matter) r.stop (found r g) (j r g)
+
+  pub undefined_reason : (name : List ℕ) (v : LoadFault) (f : Finding) → v ≡ fault.Undefined name → Judged edition source (verdict.Unloaded v) → f.matter ≡ matter.NotDefined → IsReasoned edition source f
+  undefined_reason name v f is j e =
+      λ r g. subst (λ m. Reason edition r.stop (found r g) (matter_code m) (take f.place.start source) (drop f.place.start source)) (sym e)
+      (of_undefined edition (take f.place.start source) (drop f.place.start source) r.stop (found r g) (subst (λ x. ◌≡◌ {A = List ℕ × ℕ} (unwrap_or (load_line x) [], 132) (told_first r.stop (found r g))) is (j r g)))
+
+  pub other_reason : (v : LoadFault) (start : ℕ) → ((name : List ℕ) → v ≡ fault.Undefined name → ⊥) → Judged edition source (verdict.Unloaded v) → EachOutcome edition source (ReasonAt (codes "load 2") start)
+  other_reason v start other j = λ r g. of_other edition (take start source) (drop start source) v other r.stop (found r g) (j r g)
+
+  -- one finding, and one among several
+  pub alone : (fs old : List Finding) (f : Finding) → fs ≡ old ++ f ∷ [] → old ≡ [] → IsReasoned edition source f → All (IsReasoned edition source) fs
+  alone fs old f e none is =
+      subst (λ x. All (IsReasoned edition source) x) (sym (e ∙ ap (λ x. x ++ f ∷ []) none)) (All-cons (IsReasoned edition source) f [] is (All-nil (IsReasoned edition source)))
+
+  pub item_reason : (fs xs : List Finding) (i : ℕ) (f : Finding) (code : List ℕ) → xs ≡ fs → i < length xs → f ≡ get_or xs i f → All (IsReasoned edition source) fs → code ≡ matter_code f.matter
+      → EachOutcome edition source (ReasonAt code f.place.start)
+  item_reason fs xs i f code same lt is all e =
+      subst (λ k. EachOutcome edition source (ReasonAt k f.place.start)) (sym e)
+      (subst (λ x. IsReasoned edition source x) (sym is) (All-get_or (IsReasoned edition source) xs i f lt (subst (λ x. All (IsReasoned edition source) x) (sym same) all)))
