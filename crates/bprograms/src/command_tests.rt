@@ -1,6 +1,6 @@
 //! Command lines: what is written, the line beside it and the status.
 use bparse::Status;
-use bserve::serve;
+use bserve::{MemFile, serve, serve_with};
 use bword::{ByteIn, ByteOut, MemIn, MemOut};
 use std::alloc::Global;
 use std::process::Abort;
@@ -52,6 +52,30 @@ pub(crate) fn serves(
 fn a_file_that_is_not_there(rt: HostRuntime) -> Result<(), Fail> {
     let (out, line) = serves(&rt, "b run none.code", "", 133)?;
     assert!(rt; out.bytes().is_empty() && line.bytes().is_empty());
+    Ok(())
+}
+
+// A file in memory is read under its own name alone.
+#[test]
+fn a_file_in_memory(rt: HostRuntime) -> Result<(), Fail> {
+    let file = MemFile {
+        name: "a.b",
+        text: b"main() putchar('a');",
+    };
+    for (line, status, written) in [("b go a.b", 0, "a"), ("b go b.b", 133, "")] {
+        let words = words_of(rt.alloc(), line)?;
+        let mut out = MemOut::new(rt.alloc());
+        let answer = serve_with(
+            rt.alloc(),
+            &file,
+            words.as_slice(),
+            &mut MemIn::new(&[]),
+            &mut out,
+            &mut MemOut::new(rt.alloc()),
+        );
+        assert_eq!(rt; answer, status, "the status of {line}");
+        assert_eq!(rt; out.bytes(), written.as_bytes(), "the output of {line}");
+    }
     Ok(())
 }
 

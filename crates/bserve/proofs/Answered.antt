@@ -1,12 +1,19 @@
 -- What is answered where memory was refused, and what is done for a job.
-use Rattle.std.proofs.Common.{subst, ◌≡◌, ℕ, sym, inl, inr}
+use Rattle.std.proofs.Common.{subst, ◌≡◌, ◌⊎◌, ℕ, List, false, sym, inl, inr}
 use Rattle.clap.specs.declared.error.kind.ErrorKind.{ErrorKind}
 use Rattle.clap.specs.declared.error.kind.ErrorKind.TheVariants as kind
-use Rattle.blang.specs.declared.status.TheConstants.{MEMORY}
-use Rattle.blang.specs.Machine.{RunEnds}
-use Rattle.bcommand.specs.CommandLine.{asked_of}
+use Rattle.blang.specs.declared.status.TheConstants.{DEVICE, MEMORY}
+use Rattle.bword.specs.ByteEnds.{Unread, incoming_of}
+use Rattle.bword.specs.declared.edition.Edition.{Edition}
+use Rattle.blang.specs.Headline.{GoesOff, Headline}
+use Rattle.blang.specs.Machine.{HasNotRun, RunEnds}
+use Rattle.bcommand.specs.CommandLine.{asked_of, go}
 use Rattle.bcommand.specs.declared.job.Job.{Job}
-use Rattle.bserve.specs.Serves.{Does, IsHelp, SaysNothing, RefusesWords}
+use Rattle.clap.specs.Words.{Text}
+use Rattle.bserve.specs.Serves.{Does, HasNoFile, IsHelp, NamesFile, SaysNothing, RefusesWords}
+use Rattle.bserve.specs.declared.shelf.FileFault.{FileFault}
+use Rattle.bserve.specs.declared.shelf.FileFault.TheVariants as file_fault
+use Rattle.bserve.specs.Shelves.{Holdings}
 
 no_help : (k : ErrorKind) → k ≡ kind.OutOfMemory → IsHelp k → ⊥
 no_help k is (inl help) = cc
@@ -18,5 +25,31 @@ memory_alone k ends status is (inl tells) = absurd (no_help k is tells.help)
 memory_alone k ends status is (inr (inl complains)) = absurd (complains.no_memory is)
 memory_alone k ends status is (inr (inr silent)) = silent
 
-pub answered : (job same : Job) (ends : RunEnds) (status : ℕ) → job ≡ same → Does (asked_of same) ends status → Does (asked_of job) ends status
-answered job same ends status is does = subst (λ (j : Job). Does (asked_of j) ends status) (sym is) does
+pub answered : (shelf : Holdings) (job same : Job) (ends : RunEnds) (status : ℕ) → job ≡ same → Does shelf (asked_of same) ends status → Does shelf (asked_of job) ends status
+answered shelf job same ends status is does = subst (λ (j : Job). Does shelf (asked_of j) ends status) (sym is) does
+
+-- the text that is given is the one that was read
+pub held : (shelf : Holdings) (file : Text) (given read : List ℕ) → given ≡ read → shelf.holds file read → shelf.holds file given
+held shelf file given read same holds = subst (λ t. shelf.holds file t) (sym same) holds
+
+pub not_read : (reason : Type 0) (fault : FileFault) (ends : RunEnds) (status : ℕ) → HasNotRun ends → ends.line_behind ≡ ends.line → (fault ≡ file_fault.Device → reason)
+    → (fault ≡ file_fault.Device) × (status ≡ DEVICE) ⊎ (status ≡ MEMORY) → HasNoFile reason ends status
+not_read reason fault ends status still silent why (inl device) = inl (why device.0, record { unread = still; no_line = silent; status_is = device.1 })
+not_read reason fault ends status still silent why (inr memory) = inr (record { unread = still; no_line = silent; status_is = memory })
+
+pub named_for : (reason other : Type 0) (file : Text) (ends : RunEnds) (status : ℕ) → (reason → other) → NamesFile reason file ends status → NamesFile other file ends status
+named_for reason other file ends status why (inl named) = inl (why named.0, named.1, named.2)
+named_for reason other file ends status why (inr silent) = inr silent
+
+-- the source in a file, over an end in memory
+pub gone : (shelf : Holdings) (file : Text) (edition : Edition) (steps : ℕ) (given read : List ℕ) (first behind : Unread) (ends : RunEnds) (status : ℕ)
+    → given ≡ read → shelf.holds file read → first ≡ record { left = given; is_over = false } → GoesOff edition steps (incoming_of first) (incoming_of behind) ends status
+    → Headline edition steps (incoming_of first) (incoming_of behind) ends status → Does shelf (go file steps edition) ends status
+gone shelf file edition steps given read first behind ends status same holds is goes headline =
+    inr (
+      given,
+      behind,
+      held shelf file given read same holds,
+      subst (λ (u : Unread). GoesOff edition steps (incoming_of u) (incoming_of behind) ends status) is goes,
+      subst (λ (u : Unread). Headline edition steps (incoming_of u) (incoming_of behind) ends status) is headline,
+    )

@@ -1,2 +1,3 @@
 pub mod Excluded
 pub mod Serves
+pub mod Shelves

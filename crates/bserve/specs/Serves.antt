@@ -3,11 +3,12 @@ use Rattle.std.specs.Prelude.{◌≡◌, ◌≢◌, ℕ, Bool, List, [], ◌++�
 use Rattle.clap.specs.Words.{IsAmong, Text, fault_of, subcommand_of}
 use Rattle.clap.specs.declared.error.kind.ErrorKind.{ErrorKind}
 use Rattle.clap.specs.declared.error.kind.ErrorKind.TheVariants as kind
-use Rattle.bword.specs.ByteEnds.{Incoming}
+use Rattle.bword.specs.ByteEnds.{Unread, incoming_of}
 use Rattle.blang.specs.Compiles.{Compiles}
 use Rattle.blang.specs.declared.status.TheConstants.{DONE, DEVICE, MEMORY, WRONG_COMMAND}
-use Rattle.blang.specs.Headline.{GoesOff}
+use Rattle.blang.specs.Headline.{GoesOff, Headline}
 use Rattle.brun.specs.Migrates.{Migrates}
+use Rattle.brun.specs.OneRun.{unread}
 use Rattle.blang.specs.Machine.{Reported, RunEnds, HasNotRun}
 use Rattle.brun.specs.Runs.{RunsText}
 use Rattle.bcheck.specs.Checks.{Checks}
@@ -21,6 +22,7 @@ use Rattle.btrace.specs.Locates.{Locates}
 use Rattle.btrace.specs.Traces.{Traces}
 use Rattle.bcommand.specs.CommandLine.{Asked, asked, command_line}
 use Rattle.bcommand.specs.CommandLine.{compile, run, go, locate, migrate, list, map, draw, check, trace, contradiction}
+use Rattle.bserve.specs.Shelves.{Holdings}
 
 -- what is said of words that aren't UTF-8
 abbrev pub unread_line : List ℕ
@@ -37,18 +39,18 @@ pub record SaysNothing (ends : RunEnds) (status answer : ℕ) : Type 0 where
   pub no_line : ends.line_behind ≡ ends.line
   pub status_is : status ≡ answer
 
--- The file could not be opened or read.
-abbrev pub HasNoFile : RunEnds → ℕ → Type 0
-HasNoFile ends status = SaysNothing ends status DEVICE ⊎ SaysNothing ends status MEMORY
+-- The file could not be opened or read, for which there is this reason, or memory was refused.
+abbrev pub HasNoFile : Type 0 → RunEnds → ℕ → Type 0
+HasNoFile reason ends status = reason × SaysNothing ends status DEVICE ⊎ SaysNothing ends status MEMORY
 
 -- what is said of a file that can't be opened or read
 abbrev pub no_file_line : List ℕ → List ℕ
 no_file_line file = codes "error: the file '" ++ file ++ codes "' can't be read\n"
 
--- The file could not be opened or read, and its name was told, unless memory was refused.
-abbrev pub NamesFile : List ℕ → RunEnds → ℕ → Type 0
-NamesFile file ends status =
-    HasNotRun ends × Reported (no_file_line file) DEVICE ends.line ends.line_behind status
+-- The file could not be opened or read, for which there is this reason, and its name was told; or memory was refused.
+abbrev pub NamesFile : Type 0 → Text → RunEnds → ℕ → Type 0
+NamesFile reason file ends status =
+    reason × HasNotRun ends × Reported (no_file_line file) DEVICE ends.line ends.line_behind status
     ⊎ SaysNothing ends status MEMORY
 
 -- the ends of a command that tells of a source
@@ -60,9 +62,9 @@ telling_ends ends =
 abbrev pub form_of : (for_editor : Bool) → Form
 form_of for_editor = if for_editor then forms.Json else forms.Text
 
--- what was asked for is done; no contract can say what a file holds
-abbrev pub Does : Asked → RunEnds → ℕ → Type 0
-Does (compile edition) ends status = Compiles (record {
+-- what was asked for is done, for a text that the shelf holds under the name of the file
+abbrev pub Does : Holdings → Asked → RunEnds → ℕ → Type 0
+Does shelf (compile edition) ends status = Compiles (record {
   edition = edition;
   source = ends.input;
   source_behind = ends.input_behind;
@@ -72,25 +74,31 @@ Does (compile edition) ends status = Compiles (record {
   line_behind = ends.line_behind;
   status = status;
 })
-Does (run file steps) ends status = HasNoFile ends status ⊎ ((text : List ℕ) × RunsText steps text ends status)
-Does (go file steps edition) ends status =
-    HasNoFile ends status ⊎ ((source behind : Incoming) × GoesOff edition steps source behind ends status)
-Does (locate file steps edition) ends status =
-    NamesFile file ends status ⊎ ((source : List ℕ) × Locates edition source steps ends status)
-Does migrate ends status = Migrates (record {
+Does shelf (run file steps) ends status = HasNoFile (shelf.lacks file) ends status
+    ⊎ ((text : List ℕ) × shelf.holds file text × RunsText steps text ends status)
+Does shelf (go file steps edition) ends status = HasNoFile (shelf.lacks file) ends status
+    ⊎ ((source : List ℕ) × (behind : Unread) × shelf.holds file source
+    × GoesOff edition steps (unread source) (incoming_of behind) ends status
+    × Headline edition steps (unread source) (incoming_of behind) ends status)
+Does shelf (locate file steps edition) ends status = NamesFile (shelf.lacks file) file ends status
+    ⊎ ((source : List ℕ) × shelf.holds file source × Locates edition source steps ends status)
+Does shelf migrate ends status = Migrates (record {
   input = ends.input;
   input_behind = ends.input_behind;
   out = ends.out;
   out_behind = ends.out_behind;
 }) ends.line ends.line_behind status
-Does (list file name edition) ends status = NamesFile file ends status
-    ⊎ ((source : List ℕ) × (ends.input_behind ≡ ends.input) × Lists edition source name (telling_ends ends) status)
-Does (map file edition) ends status = NamesFile file ends status
-    ⊎ ((source : List ℕ) × (ends.input_behind ≡ ends.input) × Maps edition source (telling_ends ends) status)
-Does (draw file edition steps) ends status =
-    NamesFile file ends status ⊎ ((source : List ℕ) × Draws edition source steps ends status)
-Does (check file edition for_editor) ends status = NamesFile file ends status
-    ⊎ ((source : List ℕ) × (ends.input_behind ≡ ends.input) × (ends.line_behind ≡ ends.line) × Checks (record {
+Does shelf (list file name edition) ends status = NamesFile (shelf.lacks file) file ends status
+    ⊎ ((source : List ℕ) × shelf.holds file source × (ends.input_behind ≡ ends.input)
+    × Lists edition source name (telling_ends ends) status)
+Does shelf (map file edition) ends status = NamesFile (shelf.lacks file) file ends status
+    ⊎ ((source : List ℕ) × shelf.holds file source × (ends.input_behind ≡ ends.input)
+    × Maps edition source (telling_ends ends) status)
+Does shelf (draw file edition steps) ends status = NamesFile (shelf.lacks file) file ends status
+    ⊎ ((source : List ℕ) × shelf.holds file source × Draws edition source steps ends status)
+Does shelf (check file edition for_editor) ends status = NamesFile (shelf.lacks file) file ends status
+    ⊎ ((source : List ℕ) × shelf.holds file source × (ends.input_behind ≡ ends.input)
+    × (ends.line_behind ≡ ends.line) × Checks (record {
       edition = edition;
       form = form_of for_editor;
       file = file;
@@ -99,9 +107,9 @@ Does (check file edition for_editor) ends status = NamesFile file ends status
       out_behind = ends.out_behind;
       status = status;
     }))
-Does (trace file steps from function edition) ends status = NamesFile file ends status
-    ⊎ ((source : List ℕ) × Traces edition source steps from function ends status)
-Does contradiction ends status =
+Does shelf (trace file steps from function edition) ends status = NamesFile (shelf.lacks file) file ends status
+    ⊎ ((source : List ℕ) × shelf.holds file source × Traces edition source steps from function ends status)
+Does shelf contradiction ends status =
     HasNotRun ends × Reported contradiction_line WRONG_COMMAND ends.line ends.line_behind status
 
 abbrev pub IsHelp : ErrorKind → Type 0
@@ -113,6 +121,7 @@ pub record AnswersHelp (k : ErrorKind) (ends : RunEnds) (status : ℕ) : Type 0 
   pub unread : ends.input_behind ≡ ends.input
   pub no_line : ends.line_behind ≡ ends.line
   pub text : List ℕ
+  pub some_text : text ≢ []
   pub told : Reported text DONE ends.out ends.out_behind status
 
 -- A text was written beside the output, for a reason of another kind.
@@ -121,17 +130,18 @@ pub record Complains (k : ErrorKind) (ends : RunEnds) (status : ℕ) : Type 0 wh
   pub no_memory : k ≢ kind.OutOfMemory
   pub unread : HasNotRun ends
   pub text : List ℕ
+  pub some_text : text ≢ []
   pub told : Reported text WRONG_COMMAND ends.line ends.line_behind status
 
 -- what is answered for a reason of this kind
 abbrev pub RefusesWords : ErrorKind → RunEnds → ℕ → Type 0
 RefusesWords k ends status = AnswersHelp k ends status ⊎ Complains k ends status ⊎ SaysNothing ends status MEMORY
 
--- Words without a fault get what they ask for. Others are answered for one of their faults, of which help is one.
--- Memory may be refused for either.
-pub data Serves (words : List Text) (ends : RunEnds) (status : ℕ) : Type 0 where
-  did : fault_of command_line words ≡ [] → Does (asked (subcommand_of command_line words)) ends status
-      → Serves words ends status
+-- Words without a fault get what they ask for, of the files on this shelf. Others are answered for one of their faults,
+-- of which help is one. To read any words takes memory; where it is refused, nothing is read or written.
+pub data Serves (shelf : Holdings) (words : List Text) (ends : RunEnds) (status : ℕ) : Type 0 where
+  did : fault_of command_line words ≡ [] → Does shelf (asked (subcommand_of command_line words)) ends status
+      → Serves shelf words ends status
   refused : (k : ErrorKind) → IsAmong k (fault_of command_line words) → RefusesWords k ends status
-      → Serves words ends status
-  no_memory : SaysNothing ends status MEMORY → Serves words ends status
+      → Serves shelf words ends status
+  no_memory : SaysNothing ends status MEMORY → Serves shelf words ends status

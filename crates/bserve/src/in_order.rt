@@ -32,32 +32,28 @@ where
     O: Write + Drop,
     D: Write + Drop,
 {
-    match Output::new(rt.alloc(), streams.output, streams.at_once) {
-        Ok(output) => serve_over(rt, words, streams.input, &output, streams.diag),
-        Err(_) => status::MEMORY,
-    }
-}
-
-// The same over output that is shown before each read, and before each line.
-fn serve_over<R, I, O, D>(
-    rt: &R,
-    words: Option<Vec<String>>,
-    reader: I,
-    output: &Output<O>,
-    writer: D,
-) -> Status
-where
-    R: AllocGlobal + Files,
-    I: Read + Drop,
-    O: Write + Drop,
-    D: Write + Drop,
-{
-    let Ok(reader) = BufReader::new(rt.alloc(), Asking { reader, output }) else {
+    let alloc = rt.alloc();
+    let Ok(output) = Output::new(alloc, streams.output, streams.at_once) else {
         return status::MEMORY;
     };
-    let mut input = Reading::new(reader);
-    let mut diag = Writing::new(Beside { writer, output });
-    let status = answer(rt, words, &mut input, &mut Writing::new(output), &mut diag);
+    let asking = Asking {
+        reader: streams.input,
+        output: &output,
+    };
+    let Ok(reader) = BufReader::new(alloc, asking) else {
+        return status::MEMORY;
+    };
+    let beside = Beside {
+        writer: streams.diag,
+        output: &output,
+    };
+    let status = answer(
+        rt,
+        words,
+        &mut Reading::new(reader),
+        &mut Writing::new(&output),
+        &mut Writing::new(beside),
+    );
     match output.show() {
         Ok(()) => status,
         Err(_) => status::DEVICE,

@@ -3,6 +3,8 @@
 
 mod in_order;
 mod serving;
+mod shelf;
 
 pub use in_order::{Streams, serve_in_order};
-pub use serving::{refuse_words, serve, wrong_answers_are_excluded};
+pub use serving::{files_are_read, refuse_words, serve, serve_with, wrong_answers_are_excluded};
+pub use shelf::{FileFault, MemFile, Shelf, SystemFiles};

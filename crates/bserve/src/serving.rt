@@ -1,13 +1,15 @@
 //! Serving a command line.
-ghost use Rattle.std.specs.Prelude.{◌≡◌, ◌⊎◌, IfOk, map as map_each, option_map, string_bytes};
+ghost use Rattle.std.specs.Prelude.{◌≡◌, ◌≢◌, ◌⊎◌, [], IfOk, map as map_each, option_map, string_bytes};
 ghost use Rattle.clap.specs.Words.{kind_of};
 ghost use Rattle.bword.specs.ByteEnds.{Incoming, Outgoing};
 ghost use Rattle.blang.specs.declared.status.TheConstants.{DEVICE, MEMORY, WRONG_COMMAND};
 ghost use Rattle.blang.specs.Machine.{Reported};
 ghost use Rattle.bcommand.specs.CommandLine.{check, draw, go, list, locate, map, run, asked_of, trace};
-ghost use Rattle.bserve.specs.Excluded.{Excluded};
+ghost use Rattle.bserve.specs.Excluded.{Excluded, FileIsRead};
 ghost use Rattle.bserve.specs.Serves.{Does, NamesFile, RefusesWords, Serves, form_of, no_file_line, unread_line};
+ghost use Rattle.bserve.specs.Shelves.{anything};
 
+use crate::shelf::{FileFault, MemFile, Shelf, SystemFiles};
 use bcheck::{Form, Request, check};
 use bcommand::{CONTRADICTION, Job, Subject, Target, UNREAD, Walk, parse};
 use bdraw::draw;
@@ -17,18 +19,18 @@ use bparse::compile_edition;
 use brun::{go_edition, migrate, run_text};
 use btools::tell;
 use btrace::{Wanted, locate, trace};
-use bword::{ByteIn, ByteOut, Edition, Reading};
+use bword::{ByteIn, ByteOut, Edition, MemIn};
 use clap::Error;
 use clap::error::ErrorKind;
 use std::alloc::{AllocError, Global};
-use std::io::Read;
 use std::rt::Files;
-use std::{fs, io};
 
-/// Does what the words of a command line ask for; the first one is the program's own name.
+// What is said where `clap` says nothing.
+const UNTOLD: &str = "b: there is nothing to say of these words\n";
+
+/// Does what the words of a command line ask for, of the files of the system; the first word is the program's own name.
 ///
-/// Help goes to `out` with status 0, and what is wrong with the words to `diag` with status 135. A FILE is opened and
-/// read where it is needed: 133 where it can't be.
+/// As `serve_with`.
 pub fn serve<R: AllocGlobal + Files, I: ByteIn, O: ByteOut, D: ByteOut>(
     rt: &R,
     words: &[String],
@@ -36,7 +38,7 @@ pub fn serve<R: AllocGlobal + Files, I: ByteIn, O: ByteOut, D: ByteOut>(
     out: &mut O,
     diag: &mut D,
 ) -> Status
-    ensures serves { Serves (map_each string_bytes words.now) (record {
+    ensures serves { Serves anything (map_each string_bytes words.now) (record {
       input = I.incoming input.old;
       input_behind = I.incoming input.new;
       out = O.outgoing out.old;
@@ -48,21 +50,49 @@ pub fn serve<R: AllocGlobal + Files, I: ByteIn, O: ByteOut, D: ByteOut>(
     ensures out_lender { O.lender out.new ≡ O.lender out.old }
     ensures diag_lender { D.lender diag.new ≡ D.lender diag.old }
 {
-    match parse(rt.alloc(), words) {
-        Ok(job) => perform(rt, job, input, out, diag),
-        Err(error) => refuse(rt.alloc(), error, out, diag),
+    serve_with(rt.alloc(), &SystemFiles { rt }, words, input, out, diag)
+}
+
+/// Does what the words of a command line ask for, of the files on a shelf; the first word is the program's own name.
+///
+/// Help goes to `out` with status 0, and what is wrong with the words to `diag` with status 135. The words are read
+/// first, then FILE where it is needed, with 133 where it can't be, and then the input.
+pub fn serve_with<S: Shelf, I: ByteIn, O: ByteOut, D: ByteOut>(
+    alloc: Global,
+    shelf: &S,
+    words: &[String],
+    input: &mut I,
+    out: &mut O,
+    diag: &mut D,
+) -> Status
+    ensures serves { Serves (S.holdings shelf.now) (map_each string_bytes words.now) (record {
+      input = I.incoming input.old;
+      input_behind = I.incoming input.new;
+      out = O.outgoing out.old;
+      out_behind = O.outgoing out.new;
+      line = D.outgoing diag.old;
+      line_behind = D.outgoing diag.new;
+    }) result }
+    ensures input_lender { I.lender input.new ≡ I.lender input.old }
+    ensures out_lender { O.lender out.new ≡ O.lender out.old }
+    ensures diag_lender { D.lender diag.new ≡ D.lender diag.old }
+{
+    match parse(alloc, words) {
+        Ok(job) => perform(alloc, shelf, job, input, out, diag),
+        Err(error) => refuse(alloc, error, out, diag),
     }
 }
 
 // Does what is asked for.
-fn perform<R: AllocGlobal + Files, I: ByteIn, O: ByteOut, D: ByteOut>(
-    rt: &R,
+fn perform<S: Shelf, I: ByteIn, O: ByteOut, D: ByteOut>(
+    alloc: Global,
+    shelf: &S,
     job: Job<'_>,
     input: &mut I,
     out: &mut O,
     diag: &mut D,
 ) -> Status
-    ensures does { Does (asked_of job.entry) (record {
+    ensures does { Does (S.holdings shelf.now) (asked_of job.entry) (record {
       input = I.incoming input.old;
       input_behind = I.incoming input.new;
       out = O.outgoing out.old;
@@ -75,29 +105,32 @@ fn perform<R: AllocGlobal + Files, I: ByteIn, O: ByteOut, D: ByteOut>(
     ensures diag_lender { D.lender diag.new ≡ D.lender diag.old }
 {
     match job {
-        Job::Compile(edition) => compile_edition(rt.alloc(), input, out, diag, edition),
-        Job::Run(target) => run_file(rt, target, input, out, diag),
-        Job::Go(target, edition) => go_file(rt, target, edition, input, out, diag),
-        Job::Locate(target, edition) => locate_file(rt, target, edition, input, out, diag),
-        Job::Migrate => migrate(rt.alloc(), input, out, diag),
-        Job::List(subject) => list_file(rt, subject, out, diag),
-        Job::Map(subject) => map_file(rt, subject, out, diag),
-        Job::Draw(subject, steps) => draw_file(rt, subject, steps, input, out, diag),
-        Job::Check(subject, for_editor) => check_file(rt, subject, for_editor, out, diag),
-        Job::Trace(walk) => trace_file(rt, walk, input, out, diag),
+        Job::Compile(edition) => compile_edition(alloc, input, out, diag, edition),
+        Job::Run(target) => run_file(alloc, shelf, target, input, out, diag),
+        Job::Go(target, edition) => go_file(alloc, shelf, target, edition, input, out, diag),
+        Job::Locate(target, edition) => locate_file(
+            alloc, shelf, target, edition, input, out, diag,
+        ),
+        Job::Migrate => migrate(alloc, input, out, diag),
+        Job::List(subject) => list_file(alloc, shelf, subject, out, diag),
+        Job::Map(subject) => map_file(alloc, shelf, subject, out, diag),
+        Job::Draw(subject, steps) => draw_file(alloc, shelf, subject, steps, input, out, diag),
+        Job::Check(subject, for_editor) => check_file(alloc, shelf, subject, for_editor, out, diag),
+        Job::Trace(walk) => trace_file(alloc, shelf, walk, input, out, diag),
         Job::Contradiction => refuse_with(CONTRADICTION, diag),
     }
 }
 
 // Runs the code text in a file.
-fn run_file<R: AllocGlobal + Files, I: ByteIn, O: ByteOut, D: ByteOut>(
-    rt: &R,
+fn run_file<S: Shelf, I: ByteIn, O: ByteOut, D: ByteOut>(
+    alloc: Global,
+    shelf: &S,
     target: Target<'_>,
     input: &mut I,
     out: &mut O,
     diag: &mut D,
 ) -> Status
-    ensures does { Does (run target.entry.file.now target.entry.steps) (record {
+    ensures does { Does (S.holdings shelf.now) (run target.entry.file.now target.entry.steps) (record {
       input = I.incoming input.old;
       input_behind = I.incoming input.new;
       out = O.outgoing out.old;
@@ -109,22 +142,23 @@ fn run_file<R: AllocGlobal + Files, I: ByteIn, O: ByteOut, D: ByteOut>(
     ensures out_lender { O.lender out.new ≡ O.lender out.old }
     ensures diag_lender { D.lender diag.new ≡ D.lender diag.old }
 {
-    match fs::read(rt, target.file) {
-        Ok(code) => run_text(rt.alloc(), code.as_slice(), input, out, diag, target.steps),
-        Err(error) => status_of(&error),
+    match shelf.read(alloc, target.file) {
+        Ok(code) => run_text(alloc, code.as_slice(), input, out, diag, target.steps),
+        Err(fault) => status_of(fault),
     }
 }
 
 // Compiles the source in a file and runs it.
-fn go_file<R: AllocGlobal + Files, I: ByteIn, O: ByteOut, D: ByteOut>(
-    rt: &R,
+fn go_file<S: Shelf, I: ByteIn, O: ByteOut, D: ByteOut>(
+    alloc: Global,
+    shelf: &S,
     target: Target<'_>,
     edition: Edition,
     input: &mut I,
     out: &mut O,
     diag: &mut D,
 ) -> Status
-    ensures does { Does (go target.entry.file.now target.entry.steps edition) (record {
+    ensures does { Does (S.holdings shelf.now) (go target.entry.file.now target.entry.steps edition) (record {
       input = I.incoming input.old;
       input_behind = I.incoming input.new;
       out = O.outgoing out.old;
@@ -136,28 +170,29 @@ fn go_file<R: AllocGlobal + Files, I: ByteIn, O: ByteOut, D: ByteOut>(
     ensures out_lender { O.lender out.new ≡ O.lender out.old }
     ensures diag_lender { D.lender diag.new ≡ D.lender diag.old }
 {
-    match fs::open(rt, target.file) {
-        Ok(file) => go_edition(
-            rt.alloc(),
-            &mut Reading::new(Closing { file: Some(file) }),
+    match shelf.read(alloc, target.file) {
+        Ok(source) => go_edition(
+            alloc,
+            &mut MemIn::new(source.as_slice()),
             input,
             out,
             diag,
             target.steps,
             edition,
         ),
-        Err(error) => status_of(&error),
+        Err(fault) => status_of(fault),
     }
 }
 
 // Lists the code of the source in a file.
-fn list_file<R: AllocGlobal + Files, O: ByteOut, D: ByteOut>(
-    rt: &R,
+fn list_file<S: Shelf, O: ByteOut, D: ByteOut>(
+    alloc: Global,
+    shelf: &S,
     subject: Subject<'_>,
     out: &mut O,
     diag: &mut D,
 ) -> Status
-    ensures does { (unread : Incoming) → Does (list subject.entry.file.now (option_map (λ n. n.now) subject.entry.name) subject.entry.edition) (record {
+    ensures does { (unread : Incoming) → Does (S.holdings shelf.now) (list subject.entry.file.now (option_map (λ n. n.now) subject.entry.name) subject.entry.edition) (record {
       input = unread;
       input_behind = unread;
       out = O.outgoing out.old;
@@ -168,27 +203,28 @@ fn list_file<R: AllocGlobal + Files, O: ByteOut, D: ByteOut>(
     ensures out_lender { O.lender out.new ≡ O.lender out.old }
     ensures diag_lender { D.lender diag.new ≡ D.lender diag.old }
 {
-    match fs::read(rt, subject.file) {
+    match shelf.read(alloc, subject.file) {
         Ok(source) => list(
-            rt.alloc(),
+            alloc,
             source.as_slice(),
             subject.edition,
             subject.name,
             out,
             diag,
         ),
-        Err(error) => name_file(rt.alloc(), subject.file, &error, diag),
+        Err(fault) => name_file(alloc, subject.file, fault, diag),
     }
 }
 
 // Shows the layout of the source in a file.
-fn map_file<R: AllocGlobal + Files, O: ByteOut, D: ByteOut>(
-    rt: &R,
+fn map_file<S: Shelf, O: ByteOut, D: ByteOut>(
+    alloc: Global,
+    shelf: &S,
     subject: Subject<'_>,
     out: &mut O,
     diag: &mut D,
 ) -> Status
-    ensures does { (unread : Incoming) → Does (map subject.entry.file.now subject.entry.edition) (record {
+    ensures does { (unread : Incoming) → Does (S.holdings shelf.now) (map subject.entry.file.now subject.entry.edition) (record {
       input = unread;
       input_behind = unread;
       out = O.outgoing out.old;
@@ -199,22 +235,23 @@ fn map_file<R: AllocGlobal + Files, O: ByteOut, D: ByteOut>(
     ensures out_lender { O.lender out.new ≡ O.lender out.old }
     ensures diag_lender { D.lender diag.new ≡ D.lender diag.old }
 {
-    match fs::read(rt, subject.file) {
-        Ok(source) => map(rt.alloc(), source.as_slice(), subject.edition, out, diag),
-        Err(error) => name_file(rt.alloc(), subject.file, &error, diag),
+    match shelf.read(alloc, subject.file) {
+        Ok(source) => map(alloc, source.as_slice(), subject.edition, out, diag),
+        Err(fault) => name_file(alloc, subject.file, fault, diag),
     }
 }
 
 // Draws the memory of the source in a file.
-fn draw_file<R: AllocGlobal + Files, I: ByteIn, O: ByteOut, D: ByteOut>(
-    rt: &R,
+fn draw_file<S: Shelf, I: ByteIn, O: ByteOut, D: ByteOut>(
+    alloc: Global,
+    shelf: &S,
     subject: Subject<'_>,
     steps: Option<u64>,
     input: &mut I,
     out: &mut O,
     diag: &mut D,
 ) -> Status
-    ensures does { Does (draw subject.entry.file.now subject.entry.edition steps) (record {
+    ensures does { Does (S.holdings shelf.now) (draw subject.entry.file.now subject.entry.edition steps) (record {
       input = I.incoming input.old;
       input_behind = I.incoming input.new;
       out = O.outgoing out.old;
@@ -226,9 +263,9 @@ fn draw_file<R: AllocGlobal + Files, I: ByteIn, O: ByteOut, D: ByteOut>(
     ensures out_lender { O.lender out.new ≡ O.lender out.old }
     ensures diag_lender { D.lender diag.new ≡ D.lender diag.old }
 {
-    match fs::read(rt, subject.file) {
+    match shelf.read(alloc, subject.file) {
         Ok(source) => draw(
-            rt.alloc(),
+            alloc,
             source.as_slice(),
             subject.edition,
             steps,
@@ -236,19 +273,20 @@ fn draw_file<R: AllocGlobal + Files, I: ByteIn, O: ByteOut, D: ByteOut>(
             out,
             diag,
         ),
-        Err(error) => name_file(rt.alloc(), subject.file, &error, diag),
+        Err(fault) => name_file(alloc, subject.file, fault, diag),
     }
 }
 
 // Checks the source in a file.
-fn check_file<R: AllocGlobal + Files, O: ByteOut, D: ByteOut>(
-    rt: &R,
+fn check_file<S: Shelf, O: ByteOut, D: ByteOut>(
+    alloc: Global,
+    shelf: &S,
     subject: Subject<'_>,
     for_editor: bool,
     out: &mut O,
     diag: &mut D,
 ) -> Status
-    ensures does { (unread : Incoming) → Does (check subject.entry.file.now subject.entry.edition for_editor) (record {
+    ensures does { (unread : Incoming) → Does (S.holdings shelf.now) (check subject.entry.file.now subject.entry.edition for_editor) (record {
       input = unread;
       input_behind = unread;
       out = O.outgoing out.old;
@@ -264,9 +302,9 @@ fn check_file<R: AllocGlobal + Files, O: ByteOut, D: ByteOut>(
         file: subject.file,
         form: form_of(for_editor),
     };
-    match fs::read(rt, subject.file) {
-        Ok(source) => check(rt.alloc(), source.as_slice(), request, out),
-        Err(error) => name_file(rt.alloc(), subject.file, &error, diag),
+    match shelf.read(alloc, subject.file) {
+        Ok(source) => check(alloc, source.as_slice(), request, out),
+        Err(fault) => name_file(alloc, subject.file, fault, diag),
     }
 }
 
@@ -277,14 +315,15 @@ fn form_of(for_editor: bool) -> Form
 }
 
 // Runs the source in a file and writes its steps.
-fn trace_file<R: AllocGlobal + Files, I: ByteIn, O: ByteOut, D: ByteOut>(
-    rt: &R,
+fn trace_file<S: Shelf, I: ByteIn, O: ByteOut, D: ByteOut>(
+    alloc: Global,
+    shelf: &S,
     walk: Walk<'_>,
     input: &mut I,
     out: &mut O,
     diag: &mut D,
 ) -> Status
-    ensures does { Does (trace walk.entry.file.now walk.entry.steps walk.entry.from (option_map (λ n. n.now) walk.entry.function) walk.entry.edition) (record {
+    ensures does { Does (S.holdings shelf.now) (trace walk.entry.file.now walk.entry.steps walk.entry.from (option_map (λ n. n.now) walk.entry.function) walk.entry.edition) (record {
       input = I.incoming input.old;
       input_behind = I.incoming input.new;
       out = O.outgoing out.old;
@@ -301,9 +340,9 @@ fn trace_file<R: AllocGlobal + Files, I: ByteIn, O: ByteOut, D: ByteOut>(
         from: walk.from,
         function: walk.function,
     };
-    match fs::read(rt, walk.file) {
+    match shelf.read(alloc, walk.file) {
         Ok(source) => trace(
-            rt.alloc(),
+            alloc,
             source.as_slice(),
             walk.edition,
             wanted,
@@ -311,20 +350,21 @@ fn trace_file<R: AllocGlobal + Files, I: ByteIn, O: ByteOut, D: ByteOut>(
             out,
             diag,
         ),
-        Err(error) => name_file(rt.alloc(), walk.file, &error, diag),
+        Err(fault) => name_file(alloc, walk.file, fault, diag),
     }
 }
 
 // Compiles the source in a file, runs it and tells where the run was over.
-fn locate_file<R: AllocGlobal + Files, I: ByteIn, O: ByteOut, D: ByteOut>(
-    rt: &R,
+fn locate_file<S: Shelf, I: ByteIn, O: ByteOut, D: ByteOut>(
+    alloc: Global,
+    shelf: &S,
     target: Target<'_>,
     edition: Edition,
     input: &mut I,
     out: &mut O,
     diag: &mut D,
 ) -> Status
-    ensures does { Does (locate target.entry.file.now target.entry.steps edition) (record {
+    ensures does { Does (S.holdings shelf.now) (locate target.entry.file.now target.entry.steps edition) (record {
       input = I.incoming input.old;
       input_behind = I.incoming input.new;
       out = O.outgoing out.old;
@@ -336,9 +376,9 @@ fn locate_file<R: AllocGlobal + Files, I: ByteIn, O: ByteOut, D: ByteOut>(
     ensures out_lender { O.lender out.new ≡ O.lender out.old }
     ensures diag_lender { D.lender diag.new ≡ D.lender diag.old }
 {
-    match fs::read(rt, target.file) {
+    match shelf.read(alloc, target.file) {
         Ok(source) => locate(
-            rt.alloc(),
+            alloc,
             source.as_slice(),
             edition,
             target.steps,
@@ -346,13 +386,13 @@ fn locate_file<R: AllocGlobal + Files, I: ByteIn, O: ByteOut, D: ByteOut>(
             out,
             diag,
         ),
-        Err(error) => name_file(rt.alloc(), target.file, &error, diag),
+        Err(fault) => name_file(alloc, target.file, fault, diag),
     }
 }
 
-// Tells that a file can't be opened or read.
-fn name_file<D: ByteOut>(alloc: Global, file: &str, error: &io::Error, diag: &mut D) -> Status
-    ensures names { (unread : Incoming) (out : Outgoing) → NamesFile file.now (record {
+// Tells that a file can't be opened or read, unless there was no memory for it.
+fn name_file<D: ByteOut>(alloc: Global, file: &str, fault: FileFault, diag: &mut D) -> Status
+    ensures names { (unread : Incoming) (out : Outgoing) → NamesFile (fault ≡ FileFault.Device) file.now (record {
       input = unread;
       input_behind = unread;
       out = out;
@@ -362,12 +402,12 @@ fn name_file<D: ByteOut>(alloc: Global, file: &str, error: &io::Error, diag: &mu
     }) result }
     ensures diag_lender { D.lender diag.new ≡ D.lender diag.old }
 {
-    if status_of(error) == status::MEMORY {
-        return status::MEMORY;
-    }
-    match no_file_line(alloc, file) {
-        Ok(text) => tell(text.as_bytes(), status::DEVICE, diag),
-        Err(_) => status::MEMORY,
+    match fault {
+        FileFault::Device => match no_file_line(alloc, file) {
+            Ok(text) => tell(text.as_bytes(), status::DEVICE, diag),
+            Err(_) => status::MEMORY,
+        },
+        FileFault::Memory => status::MEMORY,
     }
 }
 
@@ -380,33 +420,13 @@ fn no_file_line(alloc: Global, file: &str) -> Result<String, AllocError>
     Ok(text)
 }
 
-// A file that is closed at its end: a run whose standard input is closed doesn't find it in that place.
-#[derive(Drop)]
-struct Closing<F: Read + Drop> {
-    file: Option<F>,
-}
-
-impl<F: Read + Drop> Read for Closing<F> {
-    fn read(&mut self, buf: &mut [u8]) -> io::Result<usize> {
-        let Some(file) = &mut self.file else {
-            return Ok(0);
-        };
-        let count = file.read(buf)?;
-        if count == 0 {
-            self.file = None;
-        }
-        Ok(count)
-    }
-}
-
-// The status of a file that can't be opened or read.
-fn status_of(error: &io::Error) -> Status
-    ensures { (result ≡ DEVICE) ⊎ (result ≡ MEMORY) }
+// The status where a file was not read.
+fn status_of(fault: FileFault) -> Status
+    ensures { (fault ≡ FileFault.Device) × (result ≡ DEVICE) ⊎ (result ≡ MEMORY) }
 {
-    if error.kind() == io::ErrorKind::OutOfMemory {
-        status::MEMORY
-    } else {
-        status::DEVICE
+    match fault {
+        FileFault::Device => status::DEVICE,
+        FileFault::Memory => status::MEMORY,
     }
 }
 
@@ -445,15 +465,28 @@ fn refuse<O: ByteOut, D: ByteOut>(alloc: Global, error: Error, out: &mut O, diag
     let Ok(text) = error.to_string(alloc) else {
         return status::MEMORY;
     };
+    let said = or_untold(text.as_str());
     if error.use_stderr() {
-        refuse_with(text.as_str(), diag)
+        refuse_with(said, diag)
     } else {
-        tell(text.as_bytes(), status::DONE, out)
+        tell(said.as_bytes(), status::DONE, out)
     }
 }
 
-/// What no command line comes to: wrong words that end well or act, help that is a complaint, a file that can't be read
-/// and after which all is well, a limit of steps and none that run.
-pub fn wrong_answers_are_excluded()
-    ensures { Excluded }
+// The text of an error, or another one where it is empty. No contract of `clap` says that it isn't.
+fn or_untold(text: &str) -> &str
+    ensures { result.now ≢ [] }
+{
+    if text.is_empty() { UNTOLD } else { text }
+}
+
+/// What no command line comes to, whatever the shelf holds: wrong words that end well or act, help that is a complaint, a
+/// file that can't be read and after which all is well, a limit of steps and none that run.
+pub fn wrong_answers_are_excluded<S: Shelf>(_shelf: &S)
+    ensures { Excluded (S.holdings _shelf.now) }
+{}
+
+/// What is said of a file in memory: its own text is compiled or run, and no other, and it isn't missing.
+pub fn files_are_read(_file: MemFile<'_>)
+    ensures { FileIsRead _file.entry }
 {}

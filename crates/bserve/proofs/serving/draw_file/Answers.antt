@@ -1,8 +1,11 @@
 use Rattle.std.proofs.Common.{inl, inr}
+use Rattle.bserve.proofs.Answered.{held, named_for}
 use Rattle.bserve.proofs.serving.draw_file.Goals as goal
 
 pub returns-in-Ok-clause-does : goal.returns-in-Ok-clause-does
-returns-in-Ok-clause-does g c = inr (c.as_slice.result.now, c.draw.ensures.draws)
+returns-in-Ok-clause-does g c =
+    inr (c.as_slice.result.now, held (g.S.Shelf.holdings c.args.shelf.now) c.args.subject.file.now _ _ c.as_slice.ensures.value c.in-Ok.ensures.text, c.draw.ensures.draws)
 
 pub returns-in-Err-clause-does : goal.returns-in-Err-clause-does
-returns-in-Err-clause-does g c = inl (c.name_file.ensures.names (g.I.ByteIn.incoming c.args.input.now) (g.O.ByteOut.outgoing c.args.out.now))
+returns-in-Err-clause-does g c =
+    inl (named_for _ _ _ _ _ c.in-Err.ensures.fault (c.name_file.ensures.names (g.I.ByteIn.incoming c.args.input.now) (g.O.ByteOut.outgoing c.args.out.now)))

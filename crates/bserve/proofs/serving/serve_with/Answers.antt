@@ -1,7 +1,7 @@
 use Rattle.std.proofs.Common.{inl, inr}
 use Rattle.bserve.specs.Serves.{no_memory, refused}
 use Rattle.bserve.proofs.Answered.{memory_alone}
-use Rattle.bserve.proofs.serving.serve.Goals as goal
+use Rattle.bserve.proofs.serving.serve_with.Goals as goal
 
 pub returns-in-Err-clause-serves : goal.returns-in-Err-clause-serves
 returns-in-Err-clause-serves g c = elim c.in-Err.ensures.err [

@@ -1,0 +1,12 @@
+use Rattle.std.proofs.Common.{inl, refl}
+use Rattle.bserve.proofs.Answered.{gone, not_read}
+use Rattle.bserve.proofs.serving.go_file.Goals as goal
+
+pub returns-in-Ok-clause-does : goal.returns-in-Ok-clause-does
+returns-in-Ok-clause-does g c =
+    gone (g.S.Shelf.holdings c.args.shelf.now) c.args.target.file.now c.args.edition c.args.target.steps _ _ _ _ _ _ c.as_slice.ensures.value c.in-Ok.ensures.text c.new.ensures
+    c.go_edition.ensures.goes c.go_edition.ensures.headline
+
+pub returns-in-Err-clause-does : goal.returns-in-Err-clause-does
+returns-in-Err-clause-does g c =
+    inl (not_read _ c.in-Err.fault _ _ (record { unread = refl; silent = refl }) refl c.in-Err.ensures.fault c.status_of.ensures)
