@@ -4,6 +4,7 @@ use Rattle.std.proofs.lemmas.Bool.Decides.{nat_tests}
 use Rattle.bword.specs.declared.edition.Edition.{Edition}
 use Rattle.bword.specs.ByteEnds.{Incoming}
 use Rattle.bword.proofs.Remaining.{rest_after}
+use Rattle.bword.proofs.Taking.{Took-append}
 use Rattle.blang.specs.Compiles.{Compilation, CompilesTo}
 use Rattle.blang.specs.Cut.{line_after, next_line, placed, tokens_from}
 use Rattle.blang.specs.declared.token.Diagnostic.{Diagnostic}
@@ -15,7 +16,8 @@ use Rattle.blex.specs.Lexers as lexers
 use Rattle.blex.specs.declared.lexeme.Lexeme.TheVariants as lexeme
 use Rattle.blex.specs.declared.lexeme.Seen.{Seen}
 use Rattle.blex.proofs.CallLaws.{calls_give_first}
-use Rattle.bparse.specs.Compilers.{Compiler, SameCompiler, StoppedBehind}
+use Rattle.bparse.specs.Compilers.{Compiler, CompilerGives, SameCompiler}
+use Rattle.bparse.specs.declared.step.Step.TheVariants as step
 use Rattle.bcheck.specs.Checks.{IsOver, column_after, next_column}
 use Rattle.bcheck.specs.Findings.{Reads, TellsEach, TellsFault}
 use Rattle.bcheck.specs.declared.finding.Finding.{Finding}
@@ -60,12 +62,15 @@ over_here edition end lender old new seen characters rest e left live gives is =
     (seen.line, one.0, one.1 ∙ ap (λ l. placed (token_of_lexeme l characters) seen.line ∷ one.0) is)
 
 -- the diagnostic with which a compiler of a source stops is the one that the source comes to
-pub stopped : (edition : Edition) (source : List ℕ) (old new : Compiler) (fault : Diagnostic) → Reads edition source new → StoppedBehind old (Some fault) new
+pub stopped : (edition : Edition) (source : List ℕ) (old new : Compiler) (fault : Diagnostic) → Reads edition source old → CompilerGives old (step.Fault fault) new
     → (r : Compilation) → CompilesTo [] (tokens_from edition 1 source) r → r.stop ≡ Some fault
-stopped edition source old new fault reads s r g =
-    let rest = rest_after new.first.source new.tokens.source.end s.taken source s.took (ap (λ i. i.left) reads.1) (λ over. absurd (never new.first.source.is_over over (ap (λ i. i.is_over) reads.1))) in
-    let goes : CompilesTo [] (tokens_from new.first.edition 1 (s.taken ++ rest.more)) r =
-    subst (λ e. CompilesTo [] (tokens_from e 1 (s.taken ++ rest.more)) r) (sym reads.0) (subst (λ t. CompilesTo [] (tokens_from edition 1 t) r) (sym rest.whole) g) in
+stopped edition source old new fault reads gives r g =
+    let since = gives.0.since in
+    let s = gives.1 gives.0.before since in
+    let rest = rest_after old.first.source new.tokens.source.end (since.taken ++ s.taken) source (Took-append since.took s.took) (ap (λ i. i.left) reads.1)
+    (λ over. absurd (never old.first.source.is_over over (ap (λ i. i.is_over) reads.1))) in
+    let goes : CompilesTo [] (tokens_from old.first.edition 1 ((since.taken ++ s.taken) ++ rest.more)) r =
+    subst (λ e. CompilesTo [] (tokens_from e 1 ((since.taken ++ s.taken) ++ rest.more)) r) (sym reads.0) (subst (λ t. CompilesTo [] (tokens_from edition 1 t) r) (sym rest.whole) g) in
     (s.comes rest.more rest.follows r goes).1
   where
     never : (b : Bool) → b ≡ true → b ≡ false → ⊥
@@ -78,7 +83,7 @@ pub keeps_reading : (edition : Edition) (source : List ℕ) (old new : Compiler)
 keeps_reading edition source old new k h = (ap (λ x. x.edition) k.first ∙ h.0, ap (λ x. x.source) k.first ∙ h.1)
 
 -- what is told of the diagnostic with which a compiler stops is told of each that the source comes to
-pub tells_each : (edition : Edition) (source : List ℕ) (old new : Compiler) (fault also : Diagnostic) (f : Finding) → Reads edition source new → StoppedBehind old (Some fault) new
+pub tells_each : (edition : Edition) (source : List ℕ) (old new : Compiler) (fault also : Diagnostic) (f : Finding) → Reads edition source old → CompilerGives old (step.Fault fault) new
     → also ≡ fault → TellsFault edition source also f → TellsEach edition source f
-tells_each edition source old new fault also f reads s e tells =
-    λ r g d stop. subst (λ x. TellsFault edition source x f) (e ∙ same_fault r fault d (stopped edition source old new fault reads s r g) stop) tells
+tells_each edition source old new fault also f reads gives e tells =
+    λ r g d stop. subst (λ x. TellsFault edition source x f) (e ∙ same_fault r fault d (stopped edition source old new fault reads gives r g) stop) tells
