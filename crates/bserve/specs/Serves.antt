@@ -4,7 +4,8 @@ use Rattle.clap.specs.Words.{IsAmong, Text, fault_of, subcommand_of}
 use Rattle.clap.specs.declared.error.kind.ErrorKind.{ErrorKind}
 use Rattle.clap.specs.declared.error.kind.ErrorKind.TheVariants as kind
 use Rattle.bword.specs.ByteEnds.{Unread, incoming_of}
-use Rattle.blang.specs.Compiles.{Compiles}
+use Rattle.bword.specs.declared.edition.Edition.{Edition}
+use Rattle.blang.specs.Compiles.{CompileHeadline, Compiles, Run}
 use Rattle.blang.specs.declared.status.TheConstants.{DONE, DEVICE, MEMORY, WRONG_COMMAND}
 use Rattle.blang.specs.Headline.{GoesOff, Headline}
 use Rattle.brun.specs.Migrates.{Migrates}
@@ -62,9 +63,9 @@ telling_ends ends =
 abbrev pub form_of : (for_editor : Bool) → Form
 form_of for_editor = if for_editor then forms.Json else forms.Text
 
--- what was asked for is done, for a text that the shelf holds under the name of the file
-abbrev pub Does : Holdings → Asked → RunEnds → ℕ → Type 0
-Does shelf (compile edition) ends status = Compiles (record {
+-- the compiler over the ends of the program
+abbrev pub compiling : Edition → RunEnds → ℕ → Run
+compiling edition ends status = record {
   edition = edition;
   source = ends.input;
   source_behind = ends.input_behind;
@@ -73,7 +74,12 @@ Does shelf (compile edition) ends status = Compiles (record {
   line = ends.line;
   line_behind = ends.line_behind;
   status = status;
-})
+}
+
+-- what was asked for is done, for a text that the shelf holds under the name of the file
+abbrev pub Does : Holdings → Asked → RunEnds → ℕ → Type 0
+Does shelf (compile edition) ends status =
+    Compiles (compiling edition ends status) × CompileHeadline (compiling edition ends status)
 Does shelf (run file steps) ends status = HasNoFile (shelf.lacks file) ends status
     ⊎ ((text : List ℕ) × shelf.holds file text × RunsText steps text ends status)
 Does shelf (go file steps edition) ends status = HasNoFile (shelf.lacks file) ends status

@@ -27,3 +27,7 @@ returns-in-Check-clause-does g c =
 
 pub returns-in-Go-clause-does : goal.returns-in-Go-clause-does
 returns-in-Go-clause-does g c = answered _ c.args.job (jobs.Go c.in-Go.target c.in-Go.edition) _ _ c.in-Go.is c.go_file.ensures.does
+
+pub returns-in-Compile-clause-does : goal.returns-in-Compile-clause-does
+returns-in-Compile-clause-does g c =
+    answered _ c.args.job (jobs.Compile c.in-Compile.edition) _ _ c.in-Compile.is (c.compile_edition.ensures.compiles, c.compile_edition.ensures.headline)
