@@ -1,4 +1,4 @@
-/* A number to a base from 2 to 36, with letters behind 9. */
+/* A number to a base from 2 to 36, with letters after 9. */
 main() {
     write(1972, 2);
     write(1972, 8);

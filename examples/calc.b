@@ -1,4 +1,4 @@
-/* Reckons each line of its input, operators behind their operands: 2 3 4 * - is 2 - 3 * 4.
+/* Reckons each line of its input, operators after their operands: 2 3 4 * - is 2 - 3 * 4.
    This is a program of edition 2 of the language. */
 stack[99];
 depth;

@@ -20,7 +20,7 @@ main() {
     putchar('*n');
 }
 
-/* How many days behind a Monday a month of 1972 begins. */
+/* How many days after a Monday a month of 1972 begins. */
 first(month) {
     auto m, sum;
 

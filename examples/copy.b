@@ -1,4 +1,4 @@
-/* Copies strings into a vector, one behind another, and compares them. */
+/* Copies strings into a vector, one after another, and compares them. */
 main() {
     auto line 20, end;
 

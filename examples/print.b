@@ -2,7 +2,7 @@
 main()
     print("%s: %d is %o to the base 8, 100%% %s%c*n", "sum", 64, 64, "sure", '!');
 
-/* The parameters stand one behind another, so the next one is at the next address. */
+/* The parameters stand one after another, so the next one is at the next address. */
 print(form, a, b, c, d, e) {
     auto next, i, k;
 

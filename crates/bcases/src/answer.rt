@@ -1,4 +1,4 @@
-//! What a command line comes to, beside what is kept of it.
+//! The answer of a command line, beside the one that is kept.
 use anyhow::{Result, bail, ensure};
 use blang::status::Status;
 use bserve::serve;

@@ -53,7 +53,7 @@ fn text_of<R: AllocGlobal + Files>(
     }
 }
 
-// The words of a command line, one a line, behind the program's own name.
+// The words of a command line, one a line, after the program's own name.
 fn words_of(alloc: Global, lines: &str, edition: &str) -> Result<Vec<String>, AllocError> {
     let mut words = Vec::new(alloc);
     words.push(String::from_str(alloc, "b")?)?;

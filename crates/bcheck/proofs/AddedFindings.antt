@@ -1,4 +1,4 @@
--- Findings one behind another, and what stands in each.
+-- Findings one after another, and what stands in each.
 use Rattle.std.proofs.Common.{◌≡◌, ◌≢◌, ◌∙◌, ◌+◌, ◌<◌, List, [], ℕ, ◌∷◌, ◌++◌, IsTrue, OnOk, Result, Ok, Err, ap, arith, append-nil, append_assoc, codes, decimal, get_or, length, map, replicate, refl, subst, sym, take}
 use Rattle.std.specs.Prelude.{nat_lt}
 use Rattle.std.proofs.lemmas.Bool.Decides.{nat_tests}
@@ -11,7 +11,7 @@ use Rattle.blang.specs.declared.status.TheConstants.{DONE}
 use Rattle.bword.specs.declared.edition.Edition.{Edition}
 use Rattle.blang.specs.Code.{code_of}
 use Rattle.blang.specs.Compiles.{Compilation, CompilesTo}
-use Rattle.blang.specs.Cut.{line_after, tokens_from}
+use Rattle.blang.specs.Cut.{line_number_after, tokens_from}
 use Rattle.blang.specs.Layout.{load_fault}
 use Rattle.bcheck.specs.Checks.{AreFindings, EachOutcome, FindingParts, IsReason, Reason, column_after, file_text, finding_column, finding_line, finding_text, findings_text, is_on_line, json_text, outcome_of, severity_of, severity_word, shown_text}
 use Rattle.bcheck.specs.Findings.{AddsFinding, IsExcerpt, ReasonAt}
@@ -40,23 +40,23 @@ editor_pieces : (a f b l c d e w g k h s i m q : List ℕ)
     → a ++ (f ++ (b ++ (l ++ (c ++ (d ++ (e ++ (w ++ (g ++ (k ++ (h ++ (s ++ (i ++ (m ++ q))))))))))))) ≡ a ++ f ++ b ++ l ++ c ++ d ++ e ++ w ++ g ++ (k ++ h ++ s ++ i ++ m) ++ q
 editor_pieces a f b l c d e w g k h s i m q = simp append_assoc refl
 
-text_finding : {source : List ℕ} (p : FindingParts source) (s : Severity) (file f w t m old new : List ℕ) (line column blanks : ℕ) → f ≡ file → w ≡ severity_word s → t ≡ p.sentence → m ≡ p.mend → line ≡ finding_line p → column ≡ finding_column p → blanks ≡ length p.left
-    → new ≡ old ++ (file_text f ++ (codes ":" ++ (decimal line ++ (codes ":" ++ (decimal column ++ (codes ": " ++ (w ++ (codes ": " ++ (t ++ (codes "\n    " ++ (flat_map shown_text p.left ++ (flat_map shown_text p.right ++ (codes "\n    " ++ (replicate blanks 32 ++ (replicate p.marks 94 ++ (codes "\n  mend: " ++ (m ++ codes "\n")))))))))))))))))
+text_finding : {source : List ℕ} (p : FindingParts source) (s : Severity) (file f w t m old new : List ℕ) (line column blanks : ℕ) → f ≡ file → w ≡ severity_word s → t ≡ p.sentence → m ≡ p.fix → line ≡ finding_line p → column ≡ finding_column p → blanks ≡ length p.left
+    → new ≡ old ++ (file_text f ++ (codes ":" ++ (decimal line ++ (codes ":" ++ (decimal column ++ (codes ": " ++ (w ++ (codes ": " ++ (t ++ (codes "\n    " ++ (flat_map shown_text p.left ++ (flat_map shown_text p.right ++ (codes "\n    " ++ (replicate blanks 32 ++ (replicate p.marks 94 ++ (codes "\n  fix: " ++ (m ++ codes "\n")))))))))))))))))
     → new ≡ old ++ finding_text form.Text s file p
 text_finding p s file f w t m old new line column blanks ef ew et em el ec eb e =
-    (rw (ef, ew, et, em, el, ec, eb) at e) ∙ ap (λ x. old ++ x) (people_pieces (file_text file) (codes ":") (decimal (finding_line p)) (codes ":") (decimal (finding_column p)) (codes ": ") (severity_word s) (codes ": ") p.sentence (codes "\n    ") (flat_map shown_text p.left) (flat_map shown_text p.right) (codes "\n    ") (replicate (length p.left) 32) (replicate p.marks 94) (codes "\n  mend: ") p.mend (codes "\n"))
+    (rw (ef, ew, et, em, el, ec, eb) at e) ∙ ap (λ x. old ++ x) (people_pieces (file_text file) (codes ":") (decimal (finding_line p)) (codes ":") (decimal (finding_column p)) (codes ": ") (severity_word s) (codes ": ") p.sentence (codes "\n    ") (flat_map shown_text p.left) (flat_map shown_text p.right) (codes "\n    ") (replicate (length p.left) 32) (replicate p.marks 94) (codes "\n  fix: ") p.fix (codes "\n"))
 
-json_finding : {source : List ℕ} (p : FindingParts source) (s : Severity) (file f w k t m old new : List ℕ) (line column : ℕ) → f ≡ file → w ≡ severity_word s → k ≡ p.code → t ≡ p.sentence → m ≡ p.mend → line ≡ finding_line p → column ≡ finding_column p
-    → new ≡ old ++ (codes "{\"file\":" ++ (json_text f ++ (codes ",\"line\":" ++ (decimal line ++ (codes ",\"column\":" ++ (decimal column ++ (codes ",\"severity\":\"" ++ (w ++ (codes "\",\"code\":" ++ (json_text k ++ (codes ",\"message\":" ++ (json_text t ++ (codes ",\"mend\":" ++ (json_text m ++ codes "}\n"))))))))))))))
+json_finding : {source : List ℕ} (p : FindingParts source) (s : Severity) (file f w k t m old new : List ℕ) (line column : ℕ) → f ≡ file → w ≡ severity_word s → k ≡ p.code → t ≡ p.sentence → m ≡ p.fix → line ≡ finding_line p → column ≡ finding_column p
+    → new ≡ old ++ (codes "{\"file\":" ++ (json_text f ++ (codes ",\"line\":" ++ (decimal line ++ (codes ",\"column\":" ++ (decimal column ++ (codes ",\"severity\":\"" ++ (w ++ (codes "\",\"code\":" ++ (json_text k ++ (codes ",\"message\":" ++ (json_text t ++ (codes ",\"fix\":" ++ (json_text m ++ codes "}\n"))))))))))))))
     → new ≡ old ++ finding_text form.Json s file p
 json_finding p s file f w k t m old new line column ef ew ek et em el ec e =
-    (rw (ef, ew, ek, et, em, el, ec) at e) ∙ ap (λ x. old ++ x) (editor_pieces (codes "{\"file\":") (json_text file) (codes ",\"line\":") (decimal (finding_line p)) (codes ",\"column\":") (decimal (finding_column p)) (codes ",\"severity\":\"") (severity_word s) (codes "\",\"code\":") (json_text p.code) (codes ",\"message\":") (json_text p.sentence) (codes ",\"mend\":") (json_text p.mend) (codes "}\n"))
+    (rw (ef, ew, ek, et, em, el, ec) at e) ∙ ap (λ x. old ++ x) (editor_pieces (codes "{\"file\":") (json_text file) (codes ",\"line\":") (decimal (finding_line p)) (codes ",\"column\":") (decimal (finding_column p)) (codes ",\"severity\":\"") (severity_word s) (codes "\",\"code\":") (json_text p.code) (codes ",\"message\":") (json_text p.sentence) (codes ",\"fix\":") (json_text p.fix) (codes "}\n"))
 
 less : (a b : ℕ) → a < b → IsTrue (nat_lt a b)
 less a b h = grind (arith, nat_tests)
 
 -- the finding of an excerpt
-module _ (source : List ℕ) (start : ℕ) (e : Excerpt) (x : IsExcerpt source start e) (code sentence mend : List ℕ) (are : IsTrue (list_all is_on_line (code ∷ sentence ∷ mend ∷ []))) where
+module _ (source : List ℕ) (start : ℕ) (e : Excerpt) (x : IsExcerpt source start e) (code sentence fix : List ℕ) (are : IsTrue (list_all is_on_line (code ∷ sentence ∷ fix ∷ []))) where
   abbrev finding_at : FindingParts source
   finding_at = record {
     before = x.before;
@@ -70,24 +70,24 @@ module _ (source : List ℕ) (start : ℕ) (e : Excerpt) (x : IsExcerpt source s
     marked = less _ _ x.marked;
     code = code;
     sentence = sentence;
-    mend = mend;
+    fix = fix;
     on_lines = are;
   }
 
   on_its_line : e.line ≡ finding_line finding_at
-  on_its_line = x.line ∙ ap (line_after 1) (sym x.first)
+  on_its_line = x.line ∙ ap (line_number_after 1) (sym x.first)
 
   at_its_column : e.column ≡ finding_column finding_at
   at_its_column = x.column ∙ ap (column_after 1) (sym x.first)
 
-  pub adds_text : (s : Severity) (file f w t m old new : List ℕ) (blanks : ℕ) → f ≡ file → w ≡ severity_word s → t ≡ sentence → m ≡ mend → blanks ≡ length e.left.now
-      → new ≡ old ++ (file_text f ++ (codes ":" ++ (decimal e.line ++ (codes ":" ++ (decimal e.column ++ (codes ": " ++ (w ++ (codes ": " ++ (t ++ (codes "\n    " ++ (flat_map shown_text e.left.now ++ (flat_map shown_text e.right.now ++ (codes "\n    " ++ (replicate blanks 32 ++ (replicate e.marks 94 ++ (codes "\n  mend: " ++ (m ++ codes "\n")))))))))))))))))
+  pub adds_text : (s : Severity) (file f w t m old new : List ℕ) (blanks : ℕ) → f ≡ file → w ≡ severity_word s → t ≡ sentence → m ≡ fix → blanks ≡ length e.left.now
+      → new ≡ old ++ (file_text f ++ (codes ":" ++ (decimal e.line ++ (codes ":" ++ (decimal e.column ++ (codes ": " ++ (w ++ (codes ": " ++ (t ++ (codes "\n    " ++ (flat_map shown_text e.left.now ++ (flat_map shown_text e.right.now ++ (codes "\n    " ++ (replicate blanks 32 ++ (replicate e.marks 94 ++ (codes "\n  fix: " ++ (m ++ codes "\n")))))))))))))))))
       → AddsFinding form.Text s file source start code old new
   adds_text s file f w t m old new blanks ef ew et em eb is =
       (finding_at, refl, x.first, x.rest, text_finding finding_at s file f w t m old new e.line e.column blanks ef ew et em on_its_line at_its_column eb is)
 
-  pub adds_json : (s : Severity) (file f w k t m old new : List ℕ) → f ≡ file → w ≡ severity_word s → k ≡ code → t ≡ sentence → m ≡ mend
-      → new ≡ old ++ (codes "{\"file\":" ++ (json_text f ++ (codes ",\"line\":" ++ (decimal e.line ++ (codes ",\"column\":" ++ (decimal e.column ++ (codes ",\"severity\":\"" ++ (w ++ (codes "\",\"code\":" ++ (json_text k ++ (codes ",\"message\":" ++ (json_text t ++ (codes ",\"mend\":" ++ (json_text m ++ codes "}\n"))))))))))))))
+  pub adds_json : (s : Severity) (file f w k t m old new : List ℕ) → f ≡ file → w ≡ severity_word s → k ≡ code → t ≡ sentence → m ≡ fix
+      → new ≡ old ++ (codes "{\"file\":" ++ (json_text f ++ (codes ",\"line\":" ++ (decimal e.line ++ (codes ",\"column\":" ++ (decimal e.column ++ (codes ",\"severity\":\"" ++ (w ++ (codes "\",\"code\":" ++ (json_text k ++ (codes ",\"message\":" ++ (json_text t ++ (codes ",\"fix\":" ++ (json_text m ++ codes "}\n"))))))))))))))
       → AddsFinding form.Json s file source start code old new
   adds_json s file f w k t m old new ef ew ek et em is =
       (finding_at, refl, x.first, x.rest, json_finding finding_at s file f w k t m old new e.line e.column ef ew ek et em on_its_line at_its_column is)

@@ -26,7 +26,7 @@ nothing_kept = record { bytes = []; refusals = 0 }
 abbrev all_unread : List ℕ → Unread
 all_unread source = record { left = source; is_over = false }
 
--- two texts that were kept, one behind the other, stand in memory so
+-- two texts that were kept, one after the other, stand in memory so
 both_kept : (a b c : Kept) (first more : List ℕ) → a ≡ nothing_kept → Writes (outgoing_of a) first (outgoing_of b) → Writes (outgoing_of b) more (outgoing_of c) → c.bytes ≡ first ++ more
 both_kept a b c first more e v w = w.appended ∙ ap (λ t. t ++ more) (v.appended ∙ ap (λ (k : Kept). k.bytes ++ first) e)
 
@@ -42,48 +42,48 @@ no_more [] rest h = h
 no_more (x ∷ xs) rest h = no_more xs rest cc
 
 -- what is left of a source can follow what was taken
-follows : (source : List ℕ) (behind : Unread) (taken : List ℕ) → Took (incoming_of (all_unread source)) taken (incoming_of behind) → CanFollow (incoming_of behind) behind.left
-follows source behind taken t over = no_more taken behind.left (sym t.bytes ∙ (t.all refl over ∙ append-nil taken))
+follows : (source : List ℕ) (following : Unread) (taken : List ℕ) → Took (incoming_of (all_unread source)) taken (incoming_of following) → CanFollow (incoming_of following) following.left
+follows source following taken t over = no_more taken following.left (sym t.bytes ∙ (t.all refl over ∙ append-nil taken))
 
 -- what compiling a source over memory does
 abbrev Compiling : Edition → Unread → Unread → Kept → Kept → Kept → Kept → ℕ → Type 0
-Compiling edition first behind code_first code line_first line status =
-    Compiles (record { edition = edition; source = incoming_of first; source_behind = incoming_of behind; code = outgoing_of code_first; code_behind = outgoing_of code; line = outgoing_of line_first; line_behind = outgoing_of line; status = status })
+Compiling edition first following code_first code line_first line status =
+    Compiles (record { edition = edition; source = incoming_of first; source_after = incoming_of following; code = outgoing_of code_first; code_after = outgoing_of code; line = outgoing_of line_first; line_after = outgoing_of line; status = status })
 
-faulty_text : (edition : Edition) (source : List ℕ) (behind : Unread) (code line : Kept)
-    → Compiling edition (all_unread source) behind nothing_kept code nothing_kept line 1 → Judged edition source (verdict.Faulty line)
-faulty_text edition source behind code line h =
+faulty_text : (edition : Edition) (source : List ℕ) (following : Unread) (code line : Kept)
+    → Compiling edition (all_unread source) following nothing_kept code nothing_kept line 1 → Judged edition source (verdict.Faulty line)
+faulty_text edition source following code line h =
     subst (λ s. Judged edition s (verdict.Faulty line)) (sym h.took.bytes)
     (λ r g.
-    let is = h.faulty refl behind.left (follows source behind h.taken h.took) r g in
+    let is = h.faulty refl following.left (follows source following h.taken h.took) r g in
     let line_is : line.bytes ≡ line_of is.fault = is.line.appended in
     rw (is.stop, line_is) refl)
 
-clean_text : (edition : Edition) (source : List ℕ) (behind : Unread) (code line : Kept) (v : Verdict)
-    → Compiling edition (all_unread source) behind nothing_kept code nothing_kept line 0
+clean_text : (edition : Edition) (source : List ℕ) (following : Unread) (code line : Kept) (v : Verdict)
+    → Compiling edition (all_unread source) following nothing_kept code nothing_kept line 0
     → ((ds : List Definition) → IsCodeText code.bytes ds → (verdict_line v, status_told v) ≡ told_first None (load_fault ds))
     → Judged edition source v
-clean_text edition source behind code line v h told_of =
+clean_text edition source following code line v h told_of =
     subst (λ s. Judged edition s v) (sym h.took.bytes)
     (λ r g.
-    let is = h.compiled refl behind.left (follows source behind h.taken h.took) r g in
+    let is = h.compiled refl following.left (follows source following h.taken h.took) r g in
     let text : code_text edition r ≡ code.bytes = sym is.code.appended in
-    let back = subst (λ t. IsCodeText t (map code_of g.definitions)) text (edition, reads_back edition 1 (h.taken ++ behind.left) r g is.clean) in
+    let back = subst (λ t. IsCodeText t (map code_of g.definitions)) text (edition, reads_back edition 1 (h.taken ++ following.left) r g is.clean) in
     rw is.clean (told_of (map code_of g.definitions) back))
 
-pub faulty_judged : (edition : Edition) (source : List ℕ) (first behind : Unread) (code_first code line_first line : Kept) (status : ℕ)
+pub faulty_judged : (edition : Edition) (source : List ℕ) (first following : Unread) (code_first code line_first line : Kept) (status : ℕ)
     → first ≡ all_unread source → code_first ≡ nothing_kept → line_first ≡ nothing_kept → status ≡ 1
-    → Compiling edition first behind code_first code line_first line status → Judged edition source (verdict.Faulty line)
-faulty_judged edition source first behind code_first code line_first line status e f k s h =
-    faulty_text edition source behind code line (rw (e, f, k, s) at h)
+    → Compiling edition first following code_first code line_first line status → Judged edition source (verdict.Faulty line)
+faulty_judged edition source first following code_first code line_first line status e f k s h =
+    faulty_text edition source following code line (rw (e, f, k, s) at h)
 
-pub clean_judged : (edition : Edition) (source : List ℕ) (first behind : Unread) (code_first code line_first line : Kept) (status : ℕ) (v : Verdict)
+pub clean_judged : (edition : Edition) (source : List ℕ) (first following : Unread) (code_first code line_first line : Kept) (status : ℕ) (v : Verdict)
     → first ≡ all_unread source → code_first ≡ nothing_kept → line_first ≡ nothing_kept → status ≡ 0
-    → Compiling edition first behind code_first code line_first line status
+    → Compiling edition first following code_first code line_first line status
     → ((ds : List Definition) → IsCodeText code.bytes ds → (verdict_line v, status_told v) ≡ told_first None (load_fault ds))
     → Judged edition source v
-clean_judged edition source first behind code_first code line_first line status v e f k s h told_of =
-    clean_text edition source behind code line v (rw (e, f, k, s) at h) told_of
+clean_judged edition source first following code_first code line_first line status v e f k s h told_of =
+    clean_text edition source following code line v (rw (e, f, k, s) at h) told_of
 
 pub some_judged : (o : Option Verdict) (P Q : Verdict → Type 0) → ((v : Verdict) → P v → Q v) → IfSome o P → IfSome o Q
 some_judged (Some v) P Q f h = f v h

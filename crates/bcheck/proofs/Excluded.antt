@@ -13,7 +13,7 @@ use Rattle.bword.specs.declared.ends.EndFault.{EndFault}
 use Rattle.bword.specs.declared.ends.EndFault.TheVariants as end_fault
 use Rattle.blang.specs.Code.{code_of}
 use Rattle.blang.specs.Compiles.{CompilesTo, fault_text, letters_text, line_of, status_of}
-use Rattle.blang.specs.Cut.{line_after, tokens_from}
+use Rattle.blang.specs.Cut.{line_number_after, tokens_from}
 use Rattle.blang.specs.declared.token.Letters.{Letters}
 use Rattle.blang.specs.declared.token.Letters.TheVariants as letters
 use Rattle.blang.specs.declared.run.LoadFault.{LoadFault}
@@ -31,15 +31,15 @@ use Rattle.bcheck.specs.declared.finding.Severity.{Severity}
 use Rattle.bcheck.specs.declared.finding.Severity.TheVariants as severity
 use Rattle.bcheck.specs.declared.form.Form.{Form}
 use Rattle.bcheck.specs.declared.form.Form.TheVariants as form
-use Rattle.bcheck.proofs.FindingTexts.{both_printed, findings_printed, first_byte, head_placed, lines_of_all, same_places, newlines_in, no_cons, other_severity_behind, starts_of, text_placed}
+use Rattle.bcheck.proofs.FindingTexts.{both_printed, findings_printed, first_byte, head_placed, lines_of_all, same_places, newlines_in, no_cons, other_severity_after, starts_of, text_placed}
 
 -- a check of a source that comes to this tells it
 abbrev comes_to : (c : Check) (line : List ℕ) (status : ℕ) → ComesTo c line status → Outcome
 comes_to c line status to = outcome_of c.edition c.source to.outcome.stop (load_fault (map code_of to.goes.definitions))
 
-abbrev tells : (c : Check) (line : List ℕ) (status : ℕ) (to : ComesTo c line status) → Checks c → TellsFirst c.form (comes_to c line status to) c.file (shown_in_form c.form line) status c.out c.out_behind c.status
+abbrev tells : (c : Check) (line : List ℕ) (status : ℕ) (to : ComesTo c line status) → Checks c → TellsFirst c.form (comes_to c line status to) c.file (shown_in_form c.form line) status c.out c.out_after c.status
 tells c line status to h =
-    subst (λ (p : List ℕ × ℕ). TellsFirst c.form (comes_to c line status to) c.file (shown_in_form c.form p.0) p.1 c.out c.out_behind c.status) to.told (h to.outcome to.goes)
+    subst (λ (p : List ℕ × ℕ). TellsFirst c.form (comes_to c line status to) c.file (shown_in_form c.form p.0) p.1 c.out c.out_after c.status) to.told (h to.outcome to.goes)
 
 appended : (a b : Option (List ℕ)) (text x y : List ℕ) → a ≡ Some x → b ≡ Some y → Appends a b text → y ≡ x ++ text
 appended None b text x y e f h = cc
@@ -69,7 +69,7 @@ was_told form outcome file first status result text before old new o n less (che
 was_told form outcome file first status result text before old new o n less (checks.no_memory same is) = absurd (not_refused end_fault.Memory result is less)
 
 told_in : (c : Check) (line : List ℕ) (status : ℕ) (text : List ℕ) (to : ComesTo c line status) → IsTold c text → Checks c → WasTold c.form (comes_to c line status to) c.file (shown_in_form c.form line) status c.status text
-told_in c line status text to t h = was_told c.form (comes_to c line status to) c.file (shown_in_form c.form line) status c.status text t.before c.out c.out_behind t.old t.new t.whole (tells c line status to h)
+told_in c line status text to t h = was_told c.form (comes_to c line status to) c.file (shown_in_form c.form line) status c.status text t.before c.out c.out_after t.old t.new t.whole (tells c line status to h)
 
 begins : (text a b : List ℕ) → text ≡ a ++ b → StartsWith text a
 begins text a b e = subst (λ t. StartsWith t a) (sym e) (take-append_seam a b)
@@ -84,10 +84,10 @@ find_start form s file p ps =
       ap (λ t. t ++ later) text.1 ∙ append_assoc (finding_head form s file (finding_line p) (finding_column p)) text.0 later ∙ head.1,
     )
 
-behind_line : {source : List ℕ} (form : Form) (status : ℕ) (file first text more : List ℕ) (ps : List (FindingParts source)) → (ps ≡ [] → ⊥) → text ≡ first ++ more → more ≡ findings_text form status file ps
+after_line : {source : List ℕ} (form : Form) (status : ℕ) (file first text more : List ℕ) (ps : List (FindingParts source)) → (ps ≡ [] → ⊥) → text ≡ first ++ more → more ≡ findings_text form status file ps
     → StartsWith text (first ++ finding_start form file)
-behind_line form status file first text more [] some e is = absurd (some refl)
-behind_line form status file first text more (p ∷ ps) some e is =
+after_line form status file first text more [] some e is = absurd (some refl)
+after_line form status file first text more (p ∷ ps) some e is =
     let f = find_start form (severity_of status) file p ps in
     begins text (first ++ finding_start form file) f.0 (e ∙ ap (λ t. first ++ t) (is ∙ f.1) ∙ sym (append_assoc first (finding_start form file) f.0))
 
@@ -101,7 +101,7 @@ no_line c line status text to t wrong h = let w = told_in c line status text to 
 no_finding : Never (λ c line status text. (status ≢ DONE) × (StartsWith text (shown_in_form c.form line ++ finding_start c.form c.file) → ⊥))
 no_finding c line status text to t wrong h =
     let w = told_in c line status text to t h in
-    wrong.1 (behind_line c.form status c.file (shown_in_form c.form line) text w.more w.are.0 (none_of_one w.are.0 (w.are.1 wrong.0)) w.text_is w.are.3)
+    wrong.1 (after_line c.form status c.file (shown_in_form c.form line) text w.more w.are.0 (none_of_one w.are.0 (w.are.1 wrong.0)) w.text_is w.are.3)
 
 -- what has no fault has no line
 done_line : (stop : Option Diagnostic) (f : Option LoadFault) (line : List ℕ) → told_first stop f ≡ (line, DONE) → line ≡ []
@@ -136,7 +136,7 @@ other_severity : Never (λ c line status text.
     × (text ≡ shown_in_form c.form line ++ (findings_text c.form status c.file before ++ (finding_head c.form s c.file row column ++ rest))))
 other_severity c line status text to t wrong h =
     let w = told_in c line status text to t h in
-    other_severity_behind c.form wrong.1 (severity_of status) c.file wrong.0 w.are.0 wrong.2 wrong.3 wrong.4 wrong.5
+    other_severity_after c.form wrong.1 (severity_of status) c.file wrong.0 w.are.0 wrong.2 wrong.3 wrong.4 wrong.5
     (append_cancel_left (shown_in_form c.form line) _ _ (sym wrong.6 ∙ w.text_is ∙ ap (λ x. shown_in_form c.form line ++ x) w.are.3))
 
 -- the first finding of a fault: it is one of what the source comes to, and these are its numbers
@@ -178,7 +178,7 @@ first_told c line status text to d stop t row column rest b h =
     (none_of_one w.are.0 (w.are.1 (λ done. let no : ◌≡◌ {A = ℕ} 1 0 = one ∙ done in absurd (omega (arith, no))))) w.are.2 texts more
 
 other_line : NeverOf (λ c d row column rest. (decimal row ≢ decimal d.line)
-    × ((before after : List ℕ) → c.source ≡ before ++ after → line_after 1 before < d.line → IsOver c.edition after → ⊥))
+    × ((before after : List ℕ) → c.source ≡ before ++ after → line_number_after 1 before < d.line → IsOver c.edition after → ⊥))
 other_line c line status text to d stop t row column rest b wrong h =
     let f = first_told c line status text to d stop t row column rest b h in
     ⊎_elim (λ on. wrong.0 (f.row_is ∙ ap decimal on)) (λ over. wrong.1 (f.parts.before ++ f.parts.left) (f.parts.right ++ f.parts.after) f.parts.split over.0 over.1) f.stands
@@ -188,7 +188,7 @@ later_line c line status text to d stop t row column rest b wrong h =
     let f = first_told c line status text to d stop t row column rest b h in
     ⊎_elim (λ on. wrong (finding_line f.parts) (omega (arith, on)) f.row_is) (λ over. wrong (finding_line f.parts) (omega (arith, over.0)) f.row_is) f.stands
 
-no_place : NeverOf (λ c d row column rest. (before after : List ℕ) → c.source ≡ before ++ after → decimal row ≡ decimal (line_after 1 before) → decimal column ≢ decimal (column_after 1 before))
+no_place : NeverOf (λ c d row column rest. (before after : List ℕ) → c.source ≡ before ++ after → decimal row ≡ decimal (line_number_after 1 before) → decimal column ≢ decimal (column_after 1 before))
 no_place c line status text to d stop t row column rest b wrong h =
     let f = first_told c line status text to d stop t row column rest b h in
     wrong (f.parts.before ++ f.parts.left) (f.parts.right ++ f.parts.after) f.parts.split f.row_is f.column_is
@@ -212,7 +212,7 @@ words_after k h s i m q a = simp append_assoc refl
 
 json_words : {source : List ℕ} (p : FindingParts source) (file after : List ℕ) → (more : List ℕ) × ((text_placed form.Json severity.Error file p).0 ++ after ≡ json_text p.code ++ more)
 unfolding text_placed
-json_words p file after = (_, words_after (json_text p.code) (codes ",\"message\":") (json_text p.sentence) (codes ",\"mend\":") (json_text p.mend) (codes "}\n") after)
+json_words p file after = (_, words_after (json_text p.code) (codes ",\"message\":") (json_text p.sentence) (codes ",\"fix\":") (json_text p.fix) (codes "}\n") after)
 
 other_letters : NeverOf (λ c d row column rest. (c.form ≡ form.Json) × (first : ℕ) × (second : ℕ) × (more : List ℕ)
     × (rest ≡ 34 ∷ first ∷ second ∷ more) × (first ∷ second ∷ [] ≢ letters_text d.letters))
@@ -327,9 +327,9 @@ excluded = record {
   other_lines = other_lines;
   odd_lines = odd_lines;
   other_bytes = other_bytes;
-  no_failure = λ c line status to is none h. device c.form (comes_to c line status to) c.file (shown_in_form c.form line) status c.status c.out c.out_behind (comes_small c line status to) is none (tells c line status to h);
-  no_refusal = λ c line status to is none some h. memory c.form (comes_to c line status to) c.file (shown_in_form c.form line) status c.status c.out c.out_behind (comes_small c line status to) is none some (tells c line status to h);
-  no_such_status = λ c line status to is h. above c.form (comes_to c line status to) c.file (shown_in_form c.form line) status c.status c.out c.out_behind (comes_small c line status to) is (tells c line status to h);
+  no_failure = λ c line status to is none h. device c.form (comes_to c line status to) c.file (shown_in_form c.form line) status c.status c.out c.out_after (comes_small c line status to) is none (tells c line status to h);
+  no_refusal = λ c line status to is none some h. memory c.form (comes_to c line status to) c.file (shown_in_form c.form line) status c.status c.out c.out_after (comes_small c line status to) is none some (tells c line status to h);
+  no_such_status = λ c line status to is h. above c.form (comes_to c line status to) c.file (shown_in_form c.form line) status c.status c.out c.out_after (comes_small c line status to) is (tells c line status to h);
   first_edition = λ c text s e f t start h. let no = known_line c editions.Two _ _ _ text _ 115 117 e s f edition_rows.break_outside t start h in absurd (omega (arith, no));
   second_edition = λ c text s e f t start h. let no = known_line c editions.One _ _ _ text _ 117 115 e s f edition_rows.mention_break t start h in absurd (omega (arith, no));
 }

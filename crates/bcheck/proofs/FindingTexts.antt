@@ -116,7 +116,7 @@ word_line : (s : Severity) → IsTrue (is_one_line (severity_word s))
 word_line severity.Error = refl
 word_line severity.Warning = refl
 
--- the severity that a text tells behind a line and a column is one alone
+-- the severity that a text tells after a line and a column is one alone
 abbrev pub placed : Form → Severity → (line column : ℕ) → List ℕ → List ℕ
 placed form.Text s line column rest = decimal line ++ (codes ":" ++ (decimal column ++ (codes ": " ++ (severity_word s ++ (codes ": " ++ rest)))))
 placed form.Json s line column rest =
@@ -138,13 +138,13 @@ same_word severity.Warning severity.Error u v e = let no : 119 ≡ 101 = ap firs
 
 pub same_severity : (form : Form) (s t : Severity) (l c m d : ℕ) (u v : List ℕ) → placed form s l c u ≡ placed form t m d v → s ≡ t
 same_severity form.Text s t l c m d u v e =
-    let behind = (same_to (is_in_range 48 57) (decimal l) (decimal m) _ _ 58 58 (decimal_is l) (decimal_is m) refl refl e).1 in
-    let column : decimal c ++ (codes ": " ++ (severity_word s ++ (codes ": " ++ u))) ≡ decimal d ++ (codes ": " ++ (severity_word t ++ (codes ": " ++ v))) = append_cancel_left (codes ":") _ _ behind in
+    let following = (same_to (is_in_range 48 57) (decimal l) (decimal m) _ _ 58 58 (decimal_is l) (decimal_is m) refl refl e).1 in
+    let column : decimal c ++ (codes ": " ++ (severity_word s ++ (codes ": " ++ u))) ≡ decimal d ++ (codes ": " ++ (severity_word t ++ (codes ": " ++ v))) = append_cancel_left (codes ":") _ _ following in
     let word = (same_to (is_in_range 48 57) (decimal c) (decimal d) _ _ 58 58 (decimal_is c) (decimal_is d) refl refl column).1 in
     same_word s t (codes ": " ++ u) (codes ": " ++ v) (append_cancel_left (codes ": ") _ _ word)
 same_severity form.Json s t l c m d u v e =
-    let behind = (same_to (is_in_range 48 57) (decimal l) (decimal m) _ _ 44 44 (decimal_is l) (decimal_is m) refl refl e).1 in
-    let column = append_cancel_left (codes ",\"column\":") _ _ behind in
+    let following = (same_to (is_in_range 48 57) (decimal l) (decimal m) _ _ 44 44 (decimal_is l) (decimal_is m) refl refl e).1 in
+    let column = append_cancel_left (codes ",\"column\":") _ _ following in
     let word = (same_to (is_in_range 48 57) (decimal c) (decimal d) _ _ 44 44 (decimal_is c) (decimal_is d) refl refl column).1 in
     same_word s t (codes "\",\"code\":" ++ u) (codes "\",\"code\":" ++ v) (append_cancel_left (codes ",\"severity\":\"") _ _ word)
 
@@ -191,7 +191,7 @@ line_more line rest h =
     let one : newlines (10 ∷ rest) ≡ 1 + newlines rest = newlines_in (10 ∷ []) rest in
     omega (arith, here, both_in, one)
 
--- texts of one line, one behind another
+-- texts of one line, one after another
 record Line (text : List ℕ) : Type 0 where
   line : IsTrue (is_one_line text)
 
@@ -201,9 +201,9 @@ more a b g h = record { line = all_more (nat_le 32) a b g h.line }
 last_line : (a : List ℕ) → IsTrue (is_one_line a) → Line a
 last_line a h = record { line = h }
 
-parts_of : {source : List ℕ} → (p : FindingParts source) → IsTrue (is_on_line p.code) × IsTrue (is_on_line p.sentence) × IsTrue (is_on_line (finding_shown p)) × IsTrue (is_on_line (finding_mark p)) × IsTrue (is_on_line p.mend)
+parts_of : {source : List ℕ} → (p : FindingParts source) → IsTrue (is_on_line p.code) × IsTrue (is_on_line p.sentence) × IsTrue (is_on_line (finding_shown p)) × IsTrue (is_on_line (finding_mark p)) × IsTrue (is_on_line p.fix)
 parts_of p =
-    let words = of_three p.code p.sentence p.mend p.on_lines in (
+    let words = of_three p.code p.sentence p.fix p.on_lines in (
       words.0,
       words.1,
       both_on_line (flat_map shown_text p.left) (flat_map shown_text p.right) (shown_on_line p.left) (shown_on_line p.right),
@@ -211,7 +211,7 @@ parts_of p =
       words.2,
     )
 
--- the four lines of a finding for people, behind the name of the file, and the one for editors
+-- the four lines of a finding for people, after the name of the file, and the one for editors
 abbrev sentence_line : {source : List ℕ} → Severity → FindingParts source → List ℕ
 sentence_line s p = codes ":" ++ (decimal (finding_line p) ++ (codes ":" ++ (decimal (finding_column p) ++ (codes ": " ++ (severity_word s ++ (codes ": " ++ p.sentence))))))
 
@@ -221,12 +221,12 @@ shown_line p = codes "    " ++ (finding_shown p)
 abbrev mark_line : {source : List ℕ} → FindingParts source → List ℕ
 mark_line p = codes "    " ++ (finding_mark p)
 
-abbrev mend_line : {source : List ℕ} → FindingParts source → List ℕ
-mend_line p = codes "  mend: " ++ p.mend
+abbrev fix_line : {source : List ℕ} → FindingParts source → List ℕ
+fix_line p = codes "  fix: " ++ p.fix
 
 abbrev object_line : {source : List ℕ} → Severity → (file : List ℕ) → FindingParts source → List ℕ
 object_line s file p =
-    codes "{\"file\":" ++ (json_text file ++ (codes ",\"line\":" ++ (decimal (finding_line p) ++ (codes ",\"column\":" ++ (decimal (finding_column p) ++ (codes ",\"severity\":\"" ++ (severity_word s ++ (codes "\",\"code\":" ++ (json_text p.code ++ (codes ",\"message\":" ++ (json_text p.sentence ++ (codes ",\"mend\":" ++ (json_text p.mend ++ codes "}")))))))))))))
+    codes "{\"file\":" ++ (json_text file ++ (codes ",\"line\":" ++ (decimal (finding_line p) ++ (codes ",\"column\":" ++ (decimal (finding_column p) ++ (codes ",\"severity\":\"" ++ (severity_word s ++ (codes "\",\"code\":" ++ (json_text p.code ++ (codes ",\"message\":" ++ (json_text p.sentence ++ (codes ",\"fix\":" ++ (json_text p.fix ++ codes "}")))))))))))))
 
 sentence_one : {source : List ℕ} → (s : Severity) (p : FindingParts source) → IsTrue (is_one_line (sentence_line s p))
 sentence_one s p =
@@ -239,51 +239,51 @@ shown_one p = all_more (nat_le 32) (codes "    ") (finding_shown p) refl (words_
 mark_one : {source : List ℕ} → (p : FindingParts source) → IsTrue (is_one_line (mark_line p))
 mark_one p = all_more (nat_le 32) (codes "    ") (finding_mark p) refl (words_line (finding_mark p) (parts_of p).3)
 
-mend_one : {source : List ℕ} → (p : FindingParts source) → IsTrue (is_one_line (mend_line p))
-mend_one p = all_more (nat_le 32) (codes "  mend: ") p.mend refl (words_line p.mend (parts_of p).4)
+fix_one : {source : List ℕ} → (p : FindingParts source) → IsTrue (is_one_line (fix_line p))
+fix_one p = all_more (nat_le 32) (codes "  fix: ") p.fix refl (words_line p.fix (parts_of p).4)
 
 object_one : {source : List ℕ} → (s : Severity) (file : List ℕ) (p : FindingParts source) → IsTrue (is_one_line (object_line s file p))
 object_one s file p =
     (more (codes "{\"file\":") _ refl (more (json_text file) _ (json_one file) (more (codes ",\"line\":") _ refl (more (decimal (finding_line p)) _ (digits_line (finding_line p))
     (more (codes ",\"column\":") _ refl (more (decimal (finding_column p)) _ (digits_line (finding_column p)) (more (codes ",\"severity\":\"") _ refl (more (severity_word s) _ (word_line s)
     (more (codes "\",\"code\":") _ refl (more (json_text p.code) _ (json_one p.code) (more (codes ",\"message\":") _ refl (more (json_text p.sentence) _ (json_one p.sentence)
-    (more (codes ",\"mend\":") _ refl (more (json_text p.mend) _ (json_one p.mend) (last_line (codes "}") refl))))))))))))))).line
+    (more (codes ",\"fix\":") _ refl (more (json_text p.fix) _ (json_one p.fix) (last_line (codes "}") refl))))))))))))))).line
 
 in_object : (a f b l c d e w g k h s i m q r x : List ℕ)
     → a ++ f ++ b ++ l ++ c ++ d ++ e ++ w ++ g ++ (k ++ h ++ s ++ i ++ m) ++ (q ++ r) ++ x ≡ a ++ (f ++ (b ++ (l ++ (c ++ (d ++ (e ++ (w ++ (g ++ (k ++ (h ++ (s ++ (i ++ (m ++ q))))))))))))) ++ (r ++ x)
 in_object a f b l c d e w g k h s i m q r x = simp append_assoc refl
 
-behind_start : (f l c d e w g k h s i m q : List ℕ)
+after_start : (f l c d e w g k h s i m q : List ℕ)
     → f ++ l ++ c ++ d ++ e ++ w ++ g ++ (k ++ h ++ s ++ i ++ m) ++ q ≡ f ++ (l ++ (c ++ (d ++ (e ++ (w ++ (g ++ (k ++ (h ++ (s ++ (i ++ (m ++ q)))))))))))
-behind_start f l c d e w g k h s i m q = simp append_assoc refl
+after_start f l c d e w g k h s i m q = simp append_assoc refl
 
 people_is : {source : List ℕ} → (s : Severity) (file : List ℕ) (p : FindingParts source) (rest : List ℕ)
-    → finding_text form.Text s file p ++ rest ≡ file_text file ++ (sentence_line s p ++ 10 ∷ (shown_line p ++ 10 ∷ (mark_line p ++ 10 ∷ (mend_line p ++ 10 ∷ rest))))
+    → finding_text form.Text s file p ++ rest ≡ file_text file ++ (sentence_line s p ++ 10 ∷ (shown_line p ++ 10 ∷ (mark_line p ++ 10 ∷ (fix_line p ++ 10 ∷ rest))))
 people_is s file p rest = simp append_assoc refl
 
 object_is : {source : List ℕ} → (s : Severity) (file : List ℕ) (p : FindingParts source) (rest : List ℕ) → finding_text form.Json s file p ++ rest ≡ object_line s file p ++ 10 ∷ rest
 object_is s file p rest =
-    in_object (codes "{\"file\":") (json_text file) (codes ",\"line\":") (decimal (finding_line p)) (codes ",\"column\":") (decimal (finding_column p)) (codes ",\"severity\":\"") (severity_word s) (codes "\",\"code\":") (json_text p.code) (codes ",\"message\":") (json_text p.sentence) (codes ",\"mend\":") (json_text p.mend) (codes "}") (codes "\n") rest
+    in_object (codes "{\"file\":") (json_text file) (codes ",\"line\":") (decimal (finding_line p)) (codes ",\"column\":") (decimal (finding_column p)) (codes ",\"severity\":\"") (severity_word s) (codes "\",\"code\":") (json_text p.code) (codes ",\"message\":") (json_text p.sentence) (codes ",\"fix\":") (json_text p.fix) (codes "}") (codes "\n") rest
 
 tails : (xs ys : List ℕ) → 10 ∷ xs ≡ 10 ∷ ys → xs ≡ ys
 tails xs ys e = cc
 
--- behind a line that both begin with, both go on alike
-behind : (a b u v : List ℕ) → IsTrue (is_one_line a) → IsTrue (is_one_line b) → a ++ 10 ∷ u ≡ b ++ 10 ∷ v → u ≡ v
-behind a b u v g h e = tails u v (same_to (nat_le 32) a b u v 10 10 g h refl refl e).1
+-- after a line that both begin with, both go on alike
+following : (a b u v : List ℕ) → IsTrue (is_one_line a) → IsTrue (is_one_line b) → a ++ 10 ∷ u ≡ b ++ 10 ∷ v → u ≡ v
+following a b u v g h e = tails u v (same_to (nat_le 32) a b u v 10 10 g h refl refl e).1
 
--- behind a finding that both begin with, both go on alike
+-- after a finding that both begin with, both go on alike
 pub one_of : {source : List ℕ} → (form : Form) (s : Severity) (file : List ℕ) (p q : FindingParts source) (a b : List ℕ) → finding_text form s file p ++ a ≡ finding_text form s file q ++ b → a ≡ b
 one_of form.Text s file p q a b e =
     let here = append_cancel_left (file_text file) _ _ (sym (people_is s file p a) ∙ e ∙ people_is s file q b) in
-    let l1 = behind (sentence_line s p) (sentence_line s q) _ _ (sentence_one s p) (sentence_one s q) here in
-    let l2 = behind (shown_line p) (shown_line q) _ _ (shown_one p) (shown_one q) l1 in
-    let l3 = behind (mark_line p) (mark_line q) _ _ (mark_one p) (mark_one q) l2 in
-    behind (mend_line p) (mend_line q) a b (mend_one p) (mend_one q) l3
+    let l1 = following (sentence_line s p) (sentence_line s q) _ _ (sentence_one s p) (sentence_one s q) here in
+    let l2 = following (shown_line p) (shown_line q) _ _ (shown_one p) (shown_one q) l1 in
+    let l3 = following (mark_line p) (mark_line q) _ _ (mark_one p) (mark_one q) l2 in
+    following (fix_line p) (fix_line q) a b (fix_one p) (fix_one q) l3
 one_of form.Json s file p q a b e =
-    behind (object_line s file p) (object_line s file q) a b (object_one s file p) (object_one s file q) (sym (object_is s file p a) ∙ e ∙ object_is s file q b)
+    following (object_line s file p) (object_line s file q) a b (object_one s file p) (object_one s file q) (sym (object_is s file p a) ∙ e ∙ object_is s file q b)
 
-pub starts_of : (form : Form) (s : Severity) (file : List ℕ) (line column : ℕ) (rest : List ℕ) → (behind : List ℕ) × (finding_head form s file line column ++ rest ≡ finding_start form file ++ behind)
+pub starts_of : (form : Form) (s : Severity) (file : List ℕ) (line column : ℕ) (rest : List ℕ) → (following : List ℕ) × (finding_head form s file line column ++ rest ≡ finding_start form file ++ following)
 starts_of form s file line column rest = (placed form s line column rest, head_placed form s file line column rest)
 
 pub no_cons : (x : ℕ) (xs : List ℕ) → x ∷ xs ≡ [] → ⊥
@@ -295,42 +295,42 @@ no_byte (x ∷ a) b e = no_cons x (a ++ 58 ∷ b) e
 
 no_start : (form : Form) (s : Severity) (file : List ℕ) (line column : ℕ) (rest : List ℕ) → finding_head form s file line column ++ rest ≡ [] → ⊥
 no_start form.Text s file line column rest e =
-    let behind = decimal line ++ (codes ":" ++ (decimal column ++ (codes ": " ++ (severity_word s ++ (codes ": " ++ rest))))) in
-    let is : file_text file ++ 58 ∷ behind ≡ finding_head form.Text s file line column ++ rest = simp append_assoc refl in
-    no_byte (file_text file) behind (is ∙ e)
+    let following = decimal line ++ (codes ":" ++ (decimal column ++ (codes ": " ++ (severity_word s ++ (codes ": " ++ rest))))) in
+    let is : file_text file ++ 58 ∷ following ≡ finding_head form.Text s file line column ++ rest = simp append_assoc refl in
+    no_byte (file_text file) following (is ∙ e)
 no_start form.Json s file line column rest e = no_cons _ _ e
 
--- behind findings of one severity none of another begins
-pub other_severity_behind : {source : List ℕ} → (form : Form) (s t : Severity) (file : List ℕ) (ps qs : List (FindingParts source)) (line column : ℕ) (rest : List ℕ) → s ≢ t
+-- after findings of one severity none of another begins
+pub other_severity_after : {source : List ℕ} → (form : Form) (s t : Severity) (file : List ℕ) (ps qs : List (FindingParts source)) (line column : ℕ) (rest : List ℕ) → s ≢ t
     → flat_map (finding_text form t file) ps ++ (finding_head form s file line column ++ rest) ≡ flat_map (finding_text form t file) qs → ⊥
-other_severity_behind form s t file [] [] line column rest other e = no_start form s file line column rest e
-other_severity_behind form s t file [] (q ∷ qs) line column rest other e =
+other_severity_after form s t file [] [] line column rest other e = no_start form s file line column rest e
+other_severity_after form s t file [] (q ∷ qs) line column rest other e =
     let text = text_placed form t file q in
     let later = flat_map (finding_text form t file) qs in
     let here : finding_head form s file line column ++ rest ≡ finding_head form t file (finding_line q) (finding_column q) ++ (text.0 ++ later) =
     e ∙ ap (λ x. x ++ later) text.1 ∙ append_assoc (finding_head form t file (finding_line q) (finding_column q)) text.0 later in
     other (same_severity form s t line column (finding_line q) (finding_column q) rest (text.0 ++ later)
     (append_cancel_left (finding_start form file) _ _ (sym (head_placed form s file line column rest) ∙ here ∙ head_placed form t file (finding_line q) (finding_column q) (text.0 ++ later))))
-other_severity_behind form s t file (p ∷ ps) [] line column rest other e =
+other_severity_after form s t file (p ∷ ps) [] line column rest other e =
     let text = text_placed form t file p in
     let later = flat_map (finding_text form t file) ps ++ (finding_head form s file line column ++ rest) in
     no_start form t file (finding_line p) (finding_column p) (text.0 ++ later)
     (sym (append_assoc (finding_text form t file p) (flat_map (finding_text form t file) ps) (finding_head form s file line column ++ rest) ∙ ap (λ x. x ++ later) text.1 ∙ append_assoc (finding_head form t file (finding_line p) (finding_column p)) text.0 later) ∙ e)
-other_severity_behind form s t file (p ∷ ps) (q ∷ qs) line column rest other e =
+other_severity_after form s t file (p ∷ ps) (q ∷ qs) line column rest other e =
     let text = finding_text form t file in
-    other_severity_behind form s t file ps qs line column rest other
+    other_severity_after form s t file ps qs line column rest other
     (one_of form t file p q _ _ (sym (append_assoc (text p) (flat_map text ps) (finding_head form s file line column ++ rest)) ∙ e))
 
 -- the lines of findings
 pub lines_of : {source : List ℕ} → (form : Form) (s : Severity) (file : List ℕ) (p : FindingParts source) → newlines (finding_text form s file p) ≡ finding_lines form
 lines_of form.Text s file p =
-    let is : newlines (finding_text form.Text s file p) ≡ newlines (file_text file ++ (sentence_line s p ++ 10 ∷ (shown_line p ++ 10 ∷ (mark_line p ++ 10 ∷ (mend_line p ++ 10 ∷ []))))) =
+    let is : newlines (finding_text form.Text s file p) ≡ newlines (file_text file ++ (sentence_line s p ++ 10 ∷ (shown_line p ++ 10 ∷ (mark_line p ++ 10 ∷ (fix_line p ++ 10 ∷ []))))) =
     ap newlines (sym (append-nil (finding_text form.Text s file p)) ∙ people_is s file p []) in
-    let l0 = newlines_in (file_text file) (sentence_line s p ++ 10 ∷ (shown_line p ++ 10 ∷ (mark_line p ++ 10 ∷ (mend_line p ++ 10 ∷ [])))) in
-    let l1 = line_more (sentence_line s p) (shown_line p ++ 10 ∷ (mark_line p ++ 10 ∷ (mend_line p ++ 10 ∷ []))) (sentence_one s p) in
-    let l2 = line_more (shown_line p) (mark_line p ++ 10 ∷ (mend_line p ++ 10 ∷ [])) (shown_one p) in
-    let l3 = line_more (mark_line p) (mend_line p ++ 10 ∷ []) (mark_one p) in
-    let l4 : newlines (mend_line p ++ 10 ∷ []) ≡ 1 = line_more (mend_line p) [] (mend_one p) in
+    let l0 = newlines_in (file_text file) (sentence_line s p ++ 10 ∷ (shown_line p ++ 10 ∷ (mark_line p ++ 10 ∷ (fix_line p ++ 10 ∷ [])))) in
+    let l1 = line_more (sentence_line s p) (shown_line p ++ 10 ∷ (mark_line p ++ 10 ∷ (fix_line p ++ 10 ∷ []))) (sentence_one s p) in
+    let l2 = line_more (shown_line p) (mark_line p ++ 10 ∷ (fix_line p ++ 10 ∷ [])) (shown_one p) in
+    let l3 = line_more (mark_line p) (fix_line p ++ 10 ∷ []) (mark_one p) in
+    let l4 : newlines (fix_line p ++ 10 ∷ []) ≡ 1 = line_more (fix_line p) [] (fix_one p) in
     let none = no_newlines (file_text file) (file_one file) in
     omega (arith, is, l0, l1, l2, l3, l4, none)
 lines_of form.Json s file p =
@@ -379,18 +379,18 @@ last_words a h = record { printed = h }
 text_printed : {source : List ℕ} → (form : Form) (s : Severity) (file : List ℕ) (p : FindingParts source) → IsTrue (is_printed (finding_start form file)) → IsTrue (is_printed (finding_text form s file p))
 text_printed form.Text s file p h =
     let parts = parts_of p in
-    let text : finding_text form.Text s file p ≡ finding_start form.Text file ++ (decimal (finding_line p) ++ (codes ":" ++ (decimal (finding_column p) ++ (codes ": " ++ (severity_word s ++ (codes ": " ++ (p.sentence ++ (codes "\n    " ++ (finding_shown p ++ (codes "\n    " ++ (finding_mark p ++ (codes "\n  mend: " ++ (p.mend ++ codes "\n"))))))))))))) = simp append_assoc refl in
+    let text : finding_text form.Text s file p ≡ finding_start form.Text file ++ (decimal (finding_line p) ++ (codes ":" ++ (decimal (finding_column p) ++ (codes ": " ++ (severity_word s ++ (codes ": " ++ (p.sentence ++ (codes "\n    " ++ (finding_shown p ++ (codes "\n    " ++ (finding_mark p ++ (codes "\n  fix: " ++ (p.fix ++ codes "\n"))))))))))))) = simp append_assoc refl in
     subst (λ t. IsTrue (is_printed t)) (sym text)
     (add (finding_start form.Text file) _ h (add (decimal (finding_line p)) _ (digits_printed (finding_line p)) (add (codes ":") _ refl (add (decimal (finding_column p)) _ (digits_printed (finding_column p)) (add (codes ": ") _ refl
     (add (severity_word s) _ (word_printed s) (add (codes ": ") _ refl (add p.sentence _ (words_printed p.sentence parts.1) (add (codes "\n    ") _ refl (add (finding_shown p) _ (words_printed (finding_shown p) parts.2) (add (codes "\n    ") _ refl
-    (add (finding_mark p) _ (words_printed (finding_mark p) parts.3) (add (codes "\n  mend: ") _ refl (add p.mend _ (words_printed p.mend parts.4) (last_words (codes "\n") refl))))))))))))))).printed
+    (add (finding_mark p) _ (words_printed (finding_mark p) parts.3) (add (codes "\n  fix: ") _ refl (add p.fix _ (words_printed p.fix parts.4) (last_words (codes "\n") refl))))))))))))))).printed
 text_printed form.Json s file p h =
     let parts = parts_of p in
-    let text = behind_start (finding_start form.Json file) (decimal (finding_line p)) (codes ",\"column\":") (decimal (finding_column p)) (codes ",\"severity\":\"") (severity_word s) (codes "\",\"code\":") (json_text p.code) (codes ",\"message\":") (json_text p.sentence) (codes ",\"mend\":") (json_text p.mend) (codes "}\n") in
+    let text = after_start (finding_start form.Json file) (decimal (finding_line p)) (codes ",\"column\":") (decimal (finding_column p)) (codes ",\"severity\":\"") (severity_word s) (codes "\",\"code\":") (json_text p.code) (codes ",\"message\":") (json_text p.sentence) (codes ",\"fix\":") (json_text p.fix) (codes "}\n") in
     subst (λ t. IsTrue (is_printed t)) (sym text)
     (add (finding_start form.Json file) _ h (add (decimal (finding_line p)) _ (digits_printed (finding_line p)) (add (codes ",\"column\":") _ refl (add (decimal (finding_column p)) _ (digits_printed (finding_column p)) (add (codes ",\"severity\":\"") _ refl
     (add (severity_word s) _ (word_printed s) (add (codes "\",\"code\":") _ refl (add (json_text p.code) _ (json_printed p.code parts.0) (add (codes ",\"message\":") _ refl
-    (add (json_text p.sentence) _ (json_printed p.sentence parts.1) (add (codes ",\"mend\":") _ refl (add (json_text p.mend) _ (json_printed p.mend parts.4) (last_words (codes "}\n") refl))))))))))))).printed
+    (add (json_text p.sentence) _ (json_printed p.sentence parts.1) (add (codes ",\"fix\":") _ refl (add (json_text p.fix) _ (json_printed p.fix parts.4) (last_words (codes "}\n") refl))))))))))))).printed
 
 pub findings_printed : {source : List ℕ} → (form : Form) (s : Severity) (file : List ℕ) → IsTrue (is_printed (finding_start form file)) → (ps : List (FindingParts source)) → IsTrue (is_printed (flat_map (finding_text form s file) ps))
 findings_printed form s file h [] = refl

@@ -6,7 +6,7 @@ use Rattle.bword.specs.ByteEnds.{Incoming}
 use Rattle.bword.proofs.Remaining.{rest_after}
 use Rattle.bword.proofs.Taking.{Took-append}
 use Rattle.blang.specs.Compiles.{Compilation, CompilesTo}
-use Rattle.blang.specs.Cut.{line_after, next_line, placed, tokens_from}
+use Rattle.blang.specs.Cut.{line_number_after, next_line, placed, tokens_from}
 use Rattle.blang.specs.declared.token.Diagnostic.{Diagnostic}
 use Rattle.blang.specs.declared.token.Placed.{Placed}
 use Rattle.blex.specs.Calls.{first_tokens}
@@ -22,7 +22,7 @@ use Rattle.bcheck.specs.Checks.{IsOver, column_after, next_column}
 use Rattle.bcheck.specs.Findings.{Reads, TellsEach, TellsFault}
 use Rattle.bcheck.specs.declared.finding.Finding.{Finding}
 
-line_next : (line : ℕ) (bs : List ℕ) (i : ℕ) → i < length bs → line_after line (take (suc i) bs) ≡ next_line (line_after line (take i bs)) (get_or bs i 0)
+line_next : (line : ℕ) (bs : List ℕ) (i : ℕ) → i < length bs → line_number_after line (take (suc i) bs) ≡ next_line (line_number_after line (take i bs)) (get_or bs i 0)
 line_next line [] i h = absurd (omega (arith, h))
 line_next line (b ∷ bs) zero h = refl
 line_next line (b ∷ bs) (suc i) h = line_next (next_line line b) bs i (omega (arith, h))
@@ -33,7 +33,7 @@ column_next column (b ∷ bs) zero h = refl
 column_next column (b ∷ bs) (suc i) h = column_next (next_column column b) bs i (omega (arith, h))
 
 -- a byte more
-pub line_more : (line now next : ℕ) (bs : List ℕ) (i : ℕ) → i < length bs → now ≡ line_after line (take i bs) → next ≡ next_line now (get_or bs i 0) → next ≡ line_after line (take (i + 1) bs)
+pub line_more : (line now next : ℕ) (bs : List ℕ) (i : ℕ) → i < length bs → now ≡ line_number_after line (take i bs) → next ≡ next_line now (get_or bs i 0) → next ≡ line_number_after line (take (i + 1) bs)
 line_more line now next bs i h e f =
     let one : i + 1 ≡ suc i = omega arith in
     rw one (f ∙ ap (λ n. next_line n (get_or bs i 0)) e ∙ sym (line_next line bs i h))

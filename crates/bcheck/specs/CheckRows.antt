@@ -6,7 +6,7 @@ use Rattle.blang.specs.declared.token.Letters.TheVariants as letters
 use Rattle.blang.specs.declared.run.LoadFault.TheVariants as fault
 use Rattle.bcheck.specs.Checks.{FindingParts, finding_text, findings_text, is_on_line, json_byte, json_text, file_byte}
 use Rattle.bcheck.specs.Checks.{column_after, diagnostic_code, severity_of, severity_word, shown_in_form, told_first}
-use Rattle.blang.specs.Cut.{line_after}
+use Rattle.blang.specs.Cut.{line_number_after}
 use Rattle.bcheck.specs.declared.finding.Severity.TheVariants as severity
 use Rattle.bcheck.specs.declared.form.Form.TheVariants as form
 
@@ -35,7 +35,7 @@ fault_codes : map (λ a. diagnostic_code (record { letters = letters.Syntax; abo
 fault_codes = refl
 
 -- the line and the column of a place after a text
-lines : map (line_after 1) ([] ∷ codes "a" ∷ codes "a\n" ∷ codes "\n\nab" ∷ []) ≡ (1 ∷ 1 ∷ 2 ∷ 3 ∷ [])
+lines : map (line_number_after 1) ([] ∷ codes "a" ∷ codes "a\n" ∷ codes "\n\nab" ∷ []) ≡ (1 ∷ 1 ∷ 2 ∷ 3 ∷ [])
 lines = refl
 
 columns : map (column_after 1) ([] ∷ codes "a" ∷ codes "a\n" ∷ codes "\n\nab" ∷ []) ≡ (1 ∷ 2 ∷ 1 ∷ 3 ∷ [])
@@ -82,23 +82,23 @@ undefined = record {
   marked = refl;
   code = codes "un";
   sentence = codes "no n";
-  mend = codes "auto n;";
+  fix = codes "auto n;";
   on_lines = refl;
 }
 
 error_for_people : finding_text form.Text severity.Error (codes "x.b") undefined
-    ≡ codes "x.b:3:6: error: no n\n     i = n; } g;\n         ^\n  mend: auto n;\n"
+    ≡ codes "x.b:3:6: error: no n\n     i = n; } g;\n         ^\n  fix: auto n;\n"
 unfolding digits
 error_for_people = refl
 
 file_on_one_line : finding_text form.Text severity.Error (codes "x\n1:1: error: y") undefined
-    ≡ codes "x\\u000a1:1: error: y:3:6: error: no n\n     i = n; } g;\n         ^\n  mend: auto n;\n"
+    ≡ codes "x\\u000a1:1: error: y:3:6: error: no n\n     i = n; } g;\n         ^\n  fix: auto n;\n"
 unfolding digits
 file_on_one_line = refl
 
 warning_for_editors : finding_text form.Json severity.Warning (codes "a\"b") undefined
     ≡ codes "{\"file\":\"a\\\"b\",\"line\":3,\"column\":6,\"severity\":\"warning\","
-    ++ codes "\"code\":\"un\",\"message\":\"no n\",\"mend\":\"auto n;\"}\n"
+    ++ codes "\"code\":\"un\",\"message\":\"no n\",\"fix\":\"auto n;\"}\n"
 unfolding digits
 warning_for_editors = refl
 

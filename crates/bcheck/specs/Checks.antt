@@ -7,7 +7,7 @@ use Rattle.std.specs.Int.{is_in_range}
 use Rattle.std.specs.List.{All, flat_map, list_all}
 use Rattle.bword.specs.declared.edition.Edition.{Edition}
 use Rattle.bword.specs.ByteEnds.{Outgoing, most}
-use Rattle.blang.specs.Cut.{tokens_from, placed, line_after}
+use Rattle.blang.specs.Cut.{tokens_from, placed, line_number_after}
 use Rattle.blang.specs.declared.token.About.{About}
 use Rattle.blang.specs.declared.token.About.TheVariants as about
 use Rattle.blang.specs.declared.token.Letters.{Letters}
@@ -51,7 +51,7 @@ status_told verdict.Clean = DONE
 status_told (verdict.Faulty line) = FAULT
 status_told (verdict.Unloaded f) = REFUSED
 
--- a source in an edition, and what it comes to: a diagnostic, and the first fault of loading its code
+-- a source in an edition, and its outcome: a diagnostic, and the first fault of loading its code
 pub record Outcome : Type 0 where
   pub edition : Edition
   pub source : List ℕ
@@ -61,7 +61,7 @@ pub record Outcome : Type 0 where
 abbrev pub outcome_of : Edition → List ℕ → Option Diagnostic → Option LoadFault → Outcome
 outcome_of edition source stop f = record { edition = edition; source = source; stop = stop; fault = f }
 
--- whatever a source comes to in an edition
+-- for each outcome of a source in an edition
 abbrev pub EachOutcome : Edition → List ℕ → (Outcome → Type 0) → Type 0
 EachOutcome edition source P =
     (r : Compilation) (g : CompilesTo [] (tokens_from edition 1 source) r)
@@ -124,7 +124,7 @@ abbrev pub shown_text : ℕ → List ℕ
 shown_text b = shown_byte b ∷ []
 
 -- A finding. It stands at a place of the source, of whose line it shows some bytes before the place, and some from it
--- on. A sentence and a mend are told of it, and for editors a code.
+-- on. A sentence and a fix are told of it, and for editors a code.
 pub record FindingParts (source : List ℕ) : Type 0 where
   pub before : List ℕ
   pub left : List ℕ
@@ -137,12 +137,12 @@ pub record FindingParts (source : List ℕ) : Type 0 where
   pub marked : IsTrue (nat_lt 0 marks)
   pub code : List ℕ
   pub sentence : List ℕ
-  pub mend : List ℕ
-  pub on_lines : IsTrue (list_all is_on_line (code ∷ sentence ∷ mend ∷ []))
+  pub fix : List ℕ
+  pub on_lines : IsTrue (list_all is_on_line (code ∷ sentence ∷ fix ∷ []))
 
 -- the line and the column of its place, from 1
 abbrev pub finding_line : {source : List ℕ} → FindingParts source → ℕ
-finding_line p = line_after 1 (p.before ++ p.left)
+finding_line p = line_number_after 1 (p.before ++ p.left)
 
 abbrev pub finding_column : {source : List ℕ} → FindingParts source → ℕ
 finding_column p = column_after 1 (p.before ++ p.left)
@@ -156,9 +156,9 @@ finding_mark p = replicate (length p.left) 32 ++ replicate p.marks 94
 
 abbrev pub finding_words : {source : List ℕ} → Form → FindingParts source → List ℕ
 finding_words form.Text p =
-    p.sentence ++ codes "\n    " ++ finding_shown p ++ codes "\n    " ++ finding_mark p ++ codes "\n  mend: " ++ p.mend
+    p.sentence ++ codes "\n    " ++ finding_shown p ++ codes "\n    " ++ finding_mark p ++ codes "\n  fix: " ++ p.fix
 finding_words form.Json p =
-    json_text p.code ++ codes ",\"message\":" ++ json_text p.sentence ++ codes ",\"mend\":" ++ json_text p.mend
+    json_text p.code ++ codes ",\"message\":" ++ json_text p.sentence ++ codes ",\"fix\":" ++ json_text p.fix
 
 -- A finding begins with the name of the file: for people on one line, for editors as the first member of an object.
 abbrev pub finding_start : Form → (file : List ℕ) → List ℕ
@@ -206,7 +206,7 @@ IsOver edition rest = (line : ℕ) × (none : List Placed) × (tokens_from editi
 -- a place between these bytes is on the line, or on one before it where no token comes any more
 abbrev pub StandsOn : Edition → (line : ℕ) → (before rest : List ℕ) → Type 0
 StandsOn edition line before rest =
-    (line_after 1 before ≡ line) ⊎ ((line_after 1 before < line) × IsOver edition rest)
+    (line_number_after 1 before ≡ line) ⊎ ((line_number_after 1 before < line) × IsOver edition rest)
 
 -- An error has the code of the diagnostic and stands on its line, or it has the code of the fault of loading.
 abbrev pub Reason : Edition → Option Diagnostic → Option LoadFault → (code before rest : List ℕ) → Type 0
@@ -238,7 +238,7 @@ pub record Check : Type 0 where
   pub file : List ℕ
   pub source : List ℕ
   pub out : Outgoing
-  pub out_behind : Outgoing
+  pub out_after : Outgoing
   pub status : ℕ
 
 -- For people the line of the compiler, or of the code that doesn't load, comes first; for editors it is an object's.
@@ -249,7 +249,7 @@ shown_in_form form.Json line = []
 -- A line, in this form, and then findings were told with this status.
 abbrev pub TellsOutcome : Check → Outcome → (List ℕ × ℕ) → Type 0
 TellsOutcome c o (line, status) =
-    TellsFirst c.form o c.file (shown_in_form c.form line) status c.out c.out_behind c.status
+    TellsFirst c.form o c.file (shown_in_form c.form line) status c.out c.out_after c.status
 
 -- What is written is the line of the source and then findings, and the status is the source's.
 abbrev pub Checks : Check → Type 0

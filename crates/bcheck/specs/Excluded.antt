@@ -8,7 +8,7 @@ use Rattle.bword.specs.ByteEnds.{Grew}
 use Rattle.bword.specs.declared.edition.Edition.TheVariants as editions
 use Rattle.blang.specs.Code.{code_of}
 use Rattle.blang.specs.Compiles.{Compilation, CompilesTo, letters_text}
-use Rattle.blang.specs.Cut.{line_after, tokens_from}
+use Rattle.blang.specs.Cut.{line_number_after, tokens_from}
 use Rattle.blang.specs.declared.token.Diagnostic.{Diagnostic}
 use Rattle.blang.specs.Layout.{load_fault}
 use Rattle.blang.specs.declared.status.TheConstants.{DONE, DEVICE, MEMORY}
@@ -29,7 +29,7 @@ pub record ComesTo (c : Check) (line : List ℕ) (status : ℕ) : Type 0 where
 pub record IsTold (c : Check) (text : List ℕ) : Type 0 where
   pub before : List ℕ
   pub old : c.out.written ≡ Some before
-  pub new : c.out_behind.written ≡ Some (before ++ text)
+  pub new : c.out_after.written ≡ Some (before ++ text)
   pub whole : c.status < DEVICE
 
 -- No check keeps its promise that tells such a text of a source that comes to such a line and such a status.
@@ -65,25 +65,25 @@ pub record Excluded : Type 0 where
   pub other_status : Never (λ c line status text. c.status ≢ status)
   -- a text that doesn't begin with the line, since that is left out or comes last
   pub no_line : Never (λ c line status text. StartsWith text (shown_in_form c.form line) → ⊥)
-  -- of a fault no finding behind the line, or one without its file, or for an editor one behind a line
+  -- of a fault no finding after the line, or one without its file, or for an editor one after a line
   pub no_finding : Never (λ c line status text.
       (status ≢ DONE) × (StartsWith text (shown_in_form c.form line ++ finding_start c.form c.file) → ⊥))
   -- a line where there is no fault
   pub no_fault : Never (λ c line status text.
       (status ≡ DONE) × (text ≢ []) × (StartsWith text (finding_start c.form c.file) → ⊥))
-  -- an error told as a warning, or a warning as an error, be it the first finding or behind others
+  -- an error told as a warning, or a warning as an error, be it the first finding or after others
   pub other_severity : Never (λ c line status text.
       (before : List (FindingParts c.source)) × (s : Severity) × (row column : ℕ) × (rest : List ℕ)
       × (s ≢ severity_of status) × (text ≡ shown_in_form c.form line ++ (findings_text c.form status c.file before
       ++ (finding_head c.form s c.file row column ++ rest))))
   -- of a fault a finding on another line, where a token comes after each place before its own line; or on a later one
   pub other_line : NeverOf (λ c d row column rest. (decimal row ≢ decimal d.line)
-      × ((before after : List ℕ) → c.source ≡ before ++ after → line_after 1 before < d.line
+      × ((before after : List ℕ) → c.source ≡ before ++ after → line_number_after 1 before < d.line
       → IsOver c.edition after → ⊥))
   pub later_line : NeverOf (λ c d row column rest. (n : ℕ) → n ≤ d.line → decimal row ≢ decimal n)
   -- of a fault a line and a column at which the source has no place
   pub no_place : NeverOf (λ c d row column rest. (before after : List ℕ) → c.source ≡ before ++ after
-      → decimal row ≡ decimal (line_after 1 before) → decimal column ≢ decimal (column_after 1 before))
+      → decimal row ≡ decimal (line_number_after 1 before) → decimal column ≢ decimal (column_after 1 before))
   -- of a fault, for an editor, other letters than the diagnostic's
   pub other_letters : NeverOf (λ c d row column rest. (c.form ≡ form.Json) × (first : ℕ) × (second : ℕ)
       × (more : List ℕ) × (rest ≡ 34 ∷ first ∷ second ∷ more) × (first ∷ second ∷ [] ≢ letters_text d.letters))
@@ -97,11 +97,11 @@ pub record Excluded : Type 0 where
   pub other_bytes : Never (λ c line status text.
       IsTrue (is_printed (shown_in_form c.form line)) × IsTrue (is_printed (finding_start c.form c.file))
       × (is_printed text ≡ false))
-  -- 133 where no write failed; 134 behind something written where no write was refused memory; another status above
+  -- 133 where no write failed; 134 after something written where no write was refused memory; another status above
   pub no_failure : (c : Check) (line : List ℕ) (status : ℕ) → ComesTo c line status → c.status ≡ DEVICE
-      → (Grew c.out.failures c.out_behind.failures → ⊥) → Checks c → ⊥
+      → (Grew c.out.failures c.out_after.failures → ⊥) → Checks c → ⊥
   pub no_refusal : (c : Check) (line : List ℕ) (status : ℕ) → ComesTo c line status → c.status ≡ MEMORY
-      → (Grew c.out.refusals c.out_behind.refusals → ⊥) → c.out_behind ≢ c.out → Checks c → ⊥
+      → (Grew c.out.refusals c.out_after.refusals → ⊥) → c.out_after ≢ c.out → Checks c → ⊥
   pub no_such_status : (c : Check) (line : List ℕ) (status : ℕ) → ComesTo c line status → MEMORY < c.status
       → Checks c → ⊥
   -- of a `break` outside of every loop the line of the other edition

@@ -3,7 +3,7 @@ use Rattle.std.specs.Prelude.{◌≡◌, ℕ, ◌<◌, IsTrue, false, List, [], 
 use Rattle.bword.specs.declared.edition.Edition.{Edition}
 use Rattle.bword.specs.ByteEnds.{incoming_of}
 use Rattle.blang.specs.Compiles.{Compilation, CompilesTo}
-use Rattle.blang.specs.Cut.{line_after, tokens_from}
+use Rattle.blang.specs.Cut.{line_number_after, tokens_from}
 use Rattle.blang.specs.declared.token.Diagnostic.{Diagnostic}
 use Rattle.bparse.specs.Compilers.{Compiler}
 use Rattle.bcheck.specs.Checks.{EachOutcome, FindingParts, Outcome, Reason, StandsOn, column_after, diagnostic_code}
@@ -27,7 +27,7 @@ matter_code matter.Syntax = codes "sx"
 matter_code matter.SourceEnds = codes "sx"
 matter_code matter.NoStatement = codes "sx"
 matter_code matter.ReturnValue = codes "sx"
-matter_code matter.EqualsBehind = codes "sx"
+matter_code matter.EqualsAfter = codes "sx"
 matter_code matter.OrOr = codes "sx"
 matter_code matter.CaseOutside = codes "sx case"
 matter_code matter.DefaultOutside = codes "sx default"
@@ -84,7 +84,7 @@ pub record IsExcerpt (source : List ℕ) (start : ℕ) (e : Excerpt) : Type 0 wh
   pub after : List ℕ
   pub first : before ++ e.left.now ≡ take start source
   pub rest : e.right.now ++ after ≡ drop start source
-  pub line : e.line ≡ line_after 1 (take start source)
+  pub line : e.line ≡ line_number_after 1 (take start source)
   pub column : e.column ≡ column_after 1 (take start source)
   pub from_line : length e.left.now < e.column
   pub in_line : IsTrue (is_in_line e.right.now)

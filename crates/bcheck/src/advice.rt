@@ -17,7 +17,7 @@ pub(crate) enum Matter {
     SourceEnds,
     NoStatement,
     ReturnValue,
-    EqualsBehind,
+    EqualsAfter,
     OrOr,
     CaseOutside,
     DefaultOutside,
@@ -46,7 +46,7 @@ pub(crate) enum Matter {
 }
 
 impl Matter {
-    /// By which code it is known, one sentence on it, and how to mend it. `@` stands for the name.
+    /// By which code it is known, one sentence on it, and how to fix it. `@` stands for the name.
     pub(crate) fn advice(self) -> (&'static str, &'static str, &'static str)
         ensures on_lines { IsTrue (list_all is_on_line (result.0.now ∷ result.1.now ∷ result.2.now ∷ [])) }
         ensures code { result.0.now ≡ matter_code self }
@@ -71,12 +71,12 @@ impl Matter {
             Matter::WrongCharacter => (
                 "ct",
                 "this is no character constant",
-                "one or two characters and a quote behind; * begins an escape",
+                "one or two characters and then a quote; * begins an escape",
             ),
             Matter::WrongString => (
                 "ct",
                 "this is no string",
-                "at most 254 characters and a quote behind, on one line",
+                "at most 254 characters and then a quote, on one line",
             ),
             Matter::Syntax => (
                 "sx",
@@ -91,14 +91,14 @@ impl Matter {
             Matter::NoStatement => (
                 "sx",
                 "a statement has to come before this",
-                "write a ; behind the declaration or the label",
+                "write a ; after the declaration or the label",
             ),
             Matter::ReturnValue => (
                 "sx",
                 "the value of a return stands in parentheses",
                 "return(x);",
             ),
-            Matter::EqualsBehind => (
+            Matter::EqualsAfter => (
                 "sx",
                 "the = of an assignment comes first",
                 "x =+ 2; and not x += 2;",
@@ -187,7 +187,7 @@ impl Matter {
             Matter::OperatorAssigns => (
                 "op",
                 "this operator changes what stands before it",
-                "a blank behind the = sets it: x = -1;",
+                "a blank after the = sets it: x = -1;",
             ),
             Matter::ConditionAssigns => (
                 "if",

@@ -13,11 +13,11 @@ use bword::{ByteOut, MemOut};
 use std::alloc::Global;
 
 /// Says what is wrong with a source, if something is: first the very line that compiling it or running its code
-/// writes, and then for a reader where and why, and how to mend it. Where nothing is wrong, it tells what is hardly
-/// meant.
+/// writes, and then for a reader where and why, and how to fix it. If nothing is wrong, it tells what is probably a
+/// mistake.
 ///
-/// The status is 0 where the source compiles and its code loads but for a function `main`; 1 for a fault of the source;
-/// and 132 for code that doesn't load. All is written by one call of the end, and nothing where memory is refused.
+/// The status is 0 if the source compiles and its code loads, a missing `main` aside; 1 for a fault of the source; and
+/// 132 for code that doesn't load. All is written by one call of the stream, and nothing if memory runs out.
 pub fn check<O: ByteOut>(alloc: Global, source: &[u8], asked: Request<'_>, out: &mut O) -> Status
     ensures checks { Checks (record {
       edition = asked.entry.edition;
@@ -25,7 +25,7 @@ pub fn check<O: ByteOut>(alloc: Global, source: &[u8], asked: Request<'_>, out: 
       file = asked.entry.file.now;
       source = source.now;
       out = O.outgoing out.old;
-      out_behind = O.outgoing out.new;
+      out_after = O.outgoing out.new;
       status = result;
     }) }
     ensures out_lender { O.lender out.new ≡ O.lender out.old }
@@ -50,7 +50,7 @@ fn shown<'a>(form: Form, verdict: &'a Verdict) -> &'a [u8]
     }
 }
 
-// Writes a text behind another, and answers this status or that of a refused write.
+// Writes a text after another, and answers this status or that of a refused write.
 fn tell_both<O: ByteOut>(
     alloc: Global,
     first: &[u8],

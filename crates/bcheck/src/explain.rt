@@ -1,4 +1,4 @@
-//! What is said of a source behind the line of the compiler.
+//! What is said of a source after the line of the compiler.
 ghost use Rattle.std.specs.List.{All};
 ghost use Rattle.std.specs.Prelude.{◌≡◌, ◌≢◌, IfOk, length, vec_items};
 ghost use Rattle.blang.specs.declared.status.TheConstants.{DONE};

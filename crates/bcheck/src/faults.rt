@@ -39,11 +39,11 @@ pub(crate) fn finding(source: &[u8], spans: &[Span], fault: &Fault) -> Finding
 fn no_address(spans: &[Span], operator: usize, line: u64) -> Option<Finding>
     ensures { IfSome result (λ finding. matter_code finding.matter ≡ codes "lv") }
 {
-    let (before, behind) = (operator.wrapping_sub(1), operator.wrapping_add(1));
+    let (before, following) = (operator.wrapping_sub(1), operator.wrapping_add(1));
     let op = lexeme_at(spans, operator);
     let is_prefix = op == Lexeme::Operator(BinOp::And)
         || matches!(op, Lexeme::Increment | Lexeme::Decrement if !is_name(spans, before));
-    let token = if is_prefix { behind } else { before };
+    let token = if is_prefix { following } else { before };
     let Lexeme::Name(name) = lexeme_at(spans, token) else {
         return None;
     };
@@ -76,7 +76,7 @@ fn token_of(spans: &[Span], fault: &Fault) -> usize {
     }
 }
 
-/// The first token of this name on a line of a definition, behind the definition's own name.
+/// The first token of this name on a line of a definition, after the definition's own name.
 pub(crate) fn token_named(spans: &[Span], extent: Extent, name: Name, line: u64) -> usize {
     for token in extent.first.saturating_add(1)..extent.end {
         if let Some(span) = spans.get(token) {
@@ -130,7 +130,7 @@ fn syntax_matter(spans: &[Span], token: usize) -> Matter
     let before = lexeme_at(spans, token.wrapping_sub(1));
     match (before, lexeme_at(spans, token)) {
         (_, Lexeme::End) => Matter::SourceEnds,
-        (Lexeme::Operator(_), Lexeme::Assign(_)) => Matter::EqualsBehind,
+        (Lexeme::Operator(_), Lexeme::Assign(_)) => Matter::EqualsAfter,
         (Lexeme::Operator(BinOp::Or), Lexeme::Operator(BinOp::Or)) => Matter::OrOr,
         (Lexeme::Keyword(Keyword::Return), _) => Matter::ReturnValue,
         (Lexeme::Semicolon | Lexeme::Colon, Lexeme::CloseBrace) => Matter::NoStatement,

@@ -5,7 +5,7 @@ use bword::Edition;
 #[derive(Clone, Copy)]
 pub enum Form {
     /// For people: the line of compiling, or of code that doesn't load; then of each finding its place and a sentence,
-    /// the line of the source with a mark, and a mend.
+    /// the line of the source with a mark, and a fix.
     Text,
     /// For editors: an object a line.
     Json,

@@ -13,7 +13,7 @@ use std::alloc::AllocError;
 /// Adds a finding.
 pub(crate) fn write(text: &mut Text, told: &Told<'_>) -> Result<(), AllocError>
     requires { IsTrue (list_all is_on_line
-        (told.now.words.now.code.now ∷ told.now.words.now.sentence ∷ told.now.words.now.mend ∷ [])) }
+        (told.now.words.now.code.now ∷ told.now.words.now.sentence ∷ told.now.words.now.fix ∷ [])) }
     ensures { (source : List ℕ) (start : ℕ) → IsExcerpt source start told.now.excerpt
         → OnOk result (AddsFinding form.Json told.now.severity told.now.file.now source start
         told.now.words.now.code.now text.old text.new) }
@@ -34,8 +34,8 @@ pub(crate) fn write(text: &mut Text, told: &Told<'_>) -> Result<(), AllocError>
             Piece::Quoted(told.words.code.as_bytes()),
             Piece::Words(b",\"message\":"),
             Piece::Quoted(told.words.sentence.as_slice()),
-            Piece::Words(b",\"mend\":"),
-            Piece::Quoted(told.words.mend.as_slice()),
+            Piece::Words(b",\"fix\":"),
+            Piece::Quoted(told.words.fix.as_slice()),
             Piece::Words(b"}\n"),
         ],
     )

@@ -1,4 +1,4 @@
-//! Checking a source for a reader: what is wrong with it, where, and how to mend it.
+//! Checking a source for a reader: what is wrong with it, where, and how to fix it.
 #![tactic(auto)]
 
 mod advice;

@@ -78,7 +78,7 @@ fn said(token: usize, matter: Matter) -> Option<Found> {
     })
 }
 
-// Whether the next token stands directly behind this one.
+// Whether the next token stands directly after this one.
 fn is_joined(spans: &[Span], token: usize) -> bool {
     match (spans.get(token), spans.get(token.wrapping_add(1))) {
         (Some(span), Some(next)) => span.end() == next.place.start,
@@ -111,7 +111,7 @@ fn condition(spans: &[Span], function: Extent, token: usize) -> Option<Found> {
         match lexeme_at(spans, inner) {
             Lexeme::OpenParen | Lexeme::OpenBracket => depth = depth.saturating_add(1),
             Lexeme::CloseParen | Lexeme::CloseBracket => depth = depth.saturating_sub(1),
-            Lexeme::Assign(None) => is_assigned = is_closed_behind(spans, inner),
+            Lexeme::Assign(None) => is_assigned = is_closed_after(spans, inner),
             Lexeme::Assign(Some(BinOp::Eq)) => is_assigned = true,
             _ => {}
         }
@@ -126,18 +126,20 @@ fn condition(spans: &[Span], function: Extent, token: usize) -> Option<Found> {
     None
 }
 
-// Whether a parenthesis closes behind the token behind this one.
-fn is_closed_behind(spans: &[Span], token: usize) -> bool {
+// Whether a parenthesis closes after the token after this one.
+fn is_closed_after(spans: &[Span], token: usize) -> bool {
     lexeme_at(spans, token.wrapping_add(2)) == Lexeme::CloseParen
 }
 
 // A string that is compared, or the argument of `putchar`.
 fn for_character(spans: &[Span], token: usize) -> Option<Found> {
     let before = lexeme_at(spans, token.wrapping_sub(1));
-    let behind = lexeme_at(spans, token.wrapping_add(1));
+    let following = lexeme_at(spans, token.wrapping_add(1));
     let callee = lexeme_at(spans, token.wrapping_sub(2));
-    let is_put = before == Lexeme::OpenParen && behind == Lexeme::CloseParen && is_putchar(callee);
-    if is_put || compares(before) || compares(behind) {
+    let is_put = before == Lexeme::OpenParen
+        && following == Lexeme::CloseParen
+        && is_putchar(callee);
+    if is_put || compares(before) || compares(following) {
         return said(token, Matter::StringForCharacter);
     }
     None
@@ -267,7 +269,7 @@ fn is_local(spans: &[Span], function: Extent, name: Name) -> bool {
     false
 }
 
-// How many things stand in the parentheses behind a name, parted by commas.
+// How many things stand in the parentheses after a name, parted by commas.
 fn count_in(spans: &[Span], name: usize) -> u64 {
     let mut depth: u64 = 0;
     let mut count: u64 = 0;

@@ -27,7 +27,7 @@ pub(crate) enum Piece<'a> {
     Marks(usize),
 }
 
-/// Adds pieces, one behind another.
+/// Adds pieces, one after another.
 pub(crate) fn push_all(text: &mut Text, pieces: &[Piece<'_>]) -> Result<(), AllocError>
     ensures { OnOk result (text.new ≡ text.old ++ flat_map piece_text pieces.now) }
 {

@@ -1,6 +1,6 @@
 //! Where a place stands in the source.
 ghost use Rattle.std.specs.Prelude.{◌≡◌, ◌<◌, IfSome, IsTrue, drop, take};
-ghost use Rattle.blang.specs.Cut.{line_after, next_line};
+ghost use Rattle.blang.specs.Cut.{line_number_after, next_line};
 ghost use Rattle.bcheck.specs.Checks.{IsOver, StandsOn, column_after, next_column};
 
 use crate::finding::Place;
@@ -21,7 +21,7 @@ pub(crate) fn parts(source: &[u8], start: usize) -> (&[u8], &[u8])
 
 /// The line and the column of the place after a text, from 1.
 pub(crate) fn end_of(text: &[u8]) -> (u64, usize)
-    ensures line { result.0 ≡ line_after 1 text.now }
+    ensures line { result.0 ≡ line_number_after 1 text.now }
     ensures column { result.1 ≡ column_after 1 text.now }
     ensures some { 0 < result.1 }
 {
@@ -95,7 +95,7 @@ fn is_over(rest: &[u8], edition: Edition) -> bool
 
 // Where a line begins.
 fn line_start(source: &[u8], line: u64) -> Option<usize>
-    ensures { IfSome result (λ start. line_after 1 (take start source.now) ≡ line) }
+    ensures { IfSome result (λ start. line_number_after 1 (take start source.now) ≡ line) }
 {
     let mut now: u64 = 1;
     for index in 0..source.len() {

@@ -13,7 +13,7 @@ pub(crate) struct Span {
 }
 
 impl Span {
-    /// The place of the first byte behind it.
+    /// The place of the first byte after it.
     pub(crate) fn end(&self) -> usize {
         self.place.start.saturating_add(self.place.len)
     }
@@ -59,7 +59,7 @@ pub(crate) fn lexeme_at(spans: &[Span], token: usize) -> Lexeme {
     }
 }
 
-/// Where a token stands. The end of the source stands behind the token before it.
+/// Where a token stands. The end of the source stands after the token before it.
 pub(crate) fn place_of(spans: &[Span], token: usize) -> Place {
     match (spans.get(token), spans.get(token.wrapping_sub(1))) {
         (Some(span), Some(before)) if span.lexeme == Lexeme::End => Place {
@@ -76,7 +76,7 @@ pub(crate) fn place_of(spans: &[Span], token: usize) -> Place {
     }
 }
 
-// Where the next token begins, behind blanks and comments; a comment without an end is one.
+// Where the next token begins, after blanks and comments; a comment without an end is one.
 fn next_start(source: &[u8], from: usize) -> usize {
     let mut opened: Option<usize> = None;
     let mut is_second = false;

@@ -1,4 +1,4 @@
-//! Findings for people: where, what and how to mend it, with the line of the source and a mark.
+//! Findings for people: where, what and how to fix it, with the line of the source and a mark.
 ghost use Rattle.std.specs.List.{list_all};
 ghost use Rattle.std.specs.Prelude.{ℕ, ◌∷◌, List, [], IsTrue, OnOk};
 ghost use Rattle.bcheck.specs.Checks.{is_on_line};
@@ -13,7 +13,7 @@ use std::alloc::AllocError;
 /// Adds a finding.
 pub(crate) fn write(text: &mut Text, told: &Told<'_>) -> Result<(), AllocError>
     requires { IsTrue (list_all is_on_line
-        (told.now.words.now.code.now ∷ told.now.words.now.sentence ∷ told.now.words.now.mend ∷ [])) }
+        (told.now.words.now.code.now ∷ told.now.words.now.sentence ∷ told.now.words.now.fix ∷ [])) }
     ensures { (source : List ℕ) (start : ℕ) → IsExcerpt source start told.now.excerpt
         → OnOk result (AddsFinding form.Text told.now.severity told.now.file.now source start
         told.now.words.now.code.now text.old text.new) }
@@ -37,8 +37,8 @@ pub(crate) fn write(text: &mut Text, told: &Told<'_>) -> Result<(), AllocError>
             Piece::Words(b"\n    "),
             Piece::Blanks(excerpt.left.len()),
             Piece::Marks(excerpt.marks),
-            Piece::Words(b"\n  mend: "),
-            Piece::Words(told.words.mend.as_slice()),
+            Piece::Words(b"\n  fix: "),
+            Piece::Words(told.words.fix.as_slice()),
             Piece::Words(b"\n"),
         ],
     )

@@ -10,12 +10,12 @@ use btools::Text;
 use bword::Name;
 use std::alloc::{AllocError, Global};
 
-/// A code, a sentence, and how to mend it.
+/// A code, a sentence, and how to fix it.
 #[derive(Drop)]
 pub(crate) struct Words {
     pub code: &'static str,
     pub sentence: Text,
-    pub mend: Text,
+    pub fix: Text,
 }
 
 impl Words {
@@ -23,15 +23,15 @@ impl Words {
     pub(crate) fn new(alloc: Global, finding: &Finding) -> Result<Self, AllocError>
         ensures code { IfOk result (λ words. words.code.now ≡ matter_code finding.now.matter) }
         ensures on_lines { IfOk result (λ words.
-            IsTrue (list_all is_on_line (words.code.now ∷ words.sentence ∷ words.mend ∷ []))) }
+            IsTrue (list_all is_on_line (words.code.now ∷ words.sentence ∷ words.fix ∷ []))) }
     {
-        let (code, sentence, mend) = finding.matter.advice();
+        let (code, sentence, fix) = finding.matter.advice();
         let sentence = named(alloc, sentence, finding.name)?;
-        let mend = named(alloc, mend, finding.name)?;
+        let fix = named(alloc, fix, finding.name)?;
         Ok(Words {
             code,
             sentence,
-            mend,
+            fix,
         })
     }
 }

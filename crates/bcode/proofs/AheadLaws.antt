@@ -1,9 +1,8 @@
 -- Lines read from the text ahead.
-use Rattle.std.proofs.Common.{subst, ◌≡◌, ℕ, ◌+◌, ◌<◌, true, List, [], ◌∷◌, ◌++◌, length, Some, None, Result, Ok, Err, IsErrAnd, refl, sym, ap, ◌∙◌, arith, append-nil, length-append, eqb, ⊎_elim}
+use Rattle.std.proofs.Common.{subst, ◌≡◌, ℕ, ◌+◌, ◌<◌, true, List, [], ◌∷◌, ◌++◌, length, Option, Some, None, Result, Ok, Err, IsErrAnd, refl, sym, ap, ◌∙◌, arith, append_assoc, append-nil, length-append, eqb, ⊎_elim, ◌⊎◌, inl, inr}
 use Rattle.std.specs.List.{flat_map}
 use Rattle.std.proofs.lemmas.List.Concat.{flat_map-append}
 use Rattle.std.proofs.lemmas.List.Elements.{All-nil, All-push}
-use Rattle.bword.specs.ByteEnds.{Grew}
 use Rattle.bword.proofs.Taking.{Took-none, Took-append}
 use Rattle.bcode.specs.Ahead.{Ahead, ahead_of, TextAhead, ahead_in, ReadsOpening, TakesBytes, TakesText, BytesFail, ReadsLine, RefusesLine, LineGives, ReadsLines, LinesGive}
 use Rattle.bcode.specs.declared.fault.CodeFault.TheVariants as fault
@@ -13,10 +12,11 @@ use Rattle.bcode.specs.declared.stop.Stop.{Stop}
 use Rattle.bcode.specs.declared.stop.Stop.TheVariants as stop
 use Rattle.bcode.specs.LineReading.{LineReader}
 use Rattle.bcode.proofs.LineLaws.{IsExact}
+use Rattle.bcode.specs.Streams.{AreLines, IsWholeLine, HasNoNewline, after_line, TakesLine}
+use Rattle.blang.specs.declared.limits.TheConstants.{LINE_LEN}
 use Rattle.bcode.proofs.PartLaws.{is_same}
-
-pub Grew-after : (a b c : ℕ) → b ≡ a → Grew b c → Grew a c
-Grew-after a b c e g = rw e at g
+use Rattle.bcode.proofs.ShapeLaws.{IsLine}
+use Rattle.bcode.proofs.StreamLaws.{AreLines-none, AreLines-one, AreLines-append, shape_whole, FirstLine, first_line, stream_refuses, FailsAfter-append, FailsAfter-counted}
 
 pub Reads-none : (at : Ahead) → TakesBytes at [] at
 Reads-none at = record { took = Took-none at.end; failures = refl; lender = refl }
@@ -25,16 +25,15 @@ pub Reads-append : {a b c : Ahead} {xs ys : List ℕ} → TakesBytes a xs b → 
 Reads-append h k = record { took = Took-append h.took k.took; failures = k.failures ∙ h.failures; lender = k.lender ∙ h.lender }
 
 pub Passes-none : (at : Ahead) → TakesText at [] 0 at
-Passes-none at = record { reads = Reads-none at; counted = omega arith }
+Passes-none at = record { reads = Reads-none at; lines = AreLines-none; counted = omega arith }
 
 pub Passes-append : {a b c : Ahead} {xs ys : List ℕ} {n m : ℕ} → TakesText a xs n b → TakesText b ys m c → TakesText a (xs ++ ys) (n + m) c
-Passes-append h k = record { reads = Reads-append h.reads k.reads; counted = (let x = h.counted in let y = k.counted in omega arith) }
+Passes-append h k = record { reads = Reads-append h.reads k.reads; lines = AreLines-append h.lines k.lines; counted = (let x = h.counted in let y = k.counted in omega arith) }
 
 unfoldable pub Breaks-after : {a b c : Ahead} {xs : List ℕ} → TakesBytes a xs b → BytesFail b c → BytesFail a c
 Breaks-after {a} {b} {c} {xs} h k = record {
   taken = xs ++ k.taken;
-  took = Took-append h.took k.took;
-  counted = Grew-after _ _ _ h.failures k.counted;
+  fails = FailsAfter-append h.took h.failures k.fails;
   lender = k.lender ∙ h.lender;
 }
 
@@ -48,8 +47,8 @@ pub both_empty : (xs ys : List ℕ) → xs ++ ys ≡ [] → (xs ≡ []) × (ys �
 both_empty [] ys e = (refl, e)
 both_empty (x ∷ xs) ys e = absurd (cc)
 
-behind_none : (text taken rest : List ℕ) → text ≡ taken ++ rest → eqb (length text) 0 ≡ true → (taken ≡ []) × (eqb (length rest) 0 ≡ true)
-behind_none text taken rest same e =
+after_none : (text taken rest : List ℕ) → text ≡ taken ++ rest → eqb (length text) 0 ≡ true → (taken ≡ []) × (eqb (length rest) 0 ≡ true)
+after_none text taken rest same e =
     let h = both_empty taken rest (sym same ∙ no_length text e) in (h.0, rw h.1 refl)
 
 pub reads_text : (text taken rest : List ℕ) (line line' : ℕ) → text ≡ taken ++ rest → TakesBytes (ahead_of text line) taken (ahead_of rest line')
@@ -57,32 +56,51 @@ reads_text text taken rest line line' same = record {
   took = record {
     bytes = same;
     bound = omega (arith, ap length same, length-append taken rest);
-    over = behind_none text taken rest same;
+    over = after_none text taken rest same;
     all = λ _ e. same ∙ ap (λ l. taken ++ l) (no_length rest e);
   };
   failures = refl;
   lender = refl;
 }
 
-pub passes_text : (text taken rest : List ℕ) (line : ℕ) → text ≡ taken ++ rest → TakesText (ahead_of text line) taken 1 (ahead_of rest (line + 1))
-passes_text text taken rest line same = record { reads = reads_text text taken rest line (line + 1) same; counted = refl }
+pub passes_text : (text taken rest : List ℕ) (line : ℕ) → IsWholeLine taken → text ≡ taken ++ rest → TakesText (ahead_of text line) taken 1 (ahead_of rest (line + 1))
+passes_text text taken rest line whole same = record { reads = reads_text text taken rest line (line + 1) same; lines = AreLines-one taken whole; counted = refl }
 
-module _ {X : Type 0} {spell : X → List ℕ} {within : X → Type 0} {read : LineReader X} (exact : IsExact spell within read) where
+-- the first line of a text in memory
+takes_first : (text : List ℕ) (line : ℕ) (h : FirstLine LINE_LEN text (after_line LINE_LEN text))
+    → TakesLine (ahead_of text line).end h.taken (ahead_of (after_line LINE_LEN text) line).end
+takes_first text line h = record {
+  took = (reads_text text h.taken (after_line LINE_LEN text) line line h.split).took;
+  failures = refl;
+  whole = split h.whole;
+}
+  where
+    split : IsWholeLine h.taken ⊎ (HasNoNewline h.taken × ((after_line LINE_LEN text ≡ []) ⊎ (length h.taken ≡ LINE_LEN)))
+        → IsWholeLine h.taken ⊎ (HasNoNewline h.taken × ((eqb (length (after_line LINE_LEN text)) 0 ≡ true) ⊎ (length h.taken ≡ LINE_LEN)))
+    split (inl w) = inl w
+    split (inr (clean, inl none)) = inr (clean, inl (rw none refl))
+    split (inr (clean, inr full)) = inr (clean, inr full)
+
+module _ {X : Type 0} {spell : X → List ℕ} {within : X → Type 0} {read : LineReader X} (exact : IsExact spell within read) (shape : (x : X) → within x → IsLine 128 (spell x)) where
   pub reads_line : (text : List ℕ) (line : ℕ) (x : X) (rest : List ℕ) → read text ≡ Some (x, rest)
       → ReadsLine spell within (ahead_of text line) x (ahead_of rest (line + 1))
   reads_line text line x rest e =
-      let h = exact.sound text x rest e in record { inside = h.0; passes = passes_text text (spell x) rest line h.1 }
+      let h = exact.sound text x rest e in record { inside = h.0; passes = passes_text text (spell x) rest line (shape_whole (shape x h.0)) h.1 }
 
-  pub refuses_line : (text : List ℕ) (line : ℕ) → read text ≡ None → RefusesLine spell within (ahead_of text line) line (ahead_of [] line)
-  refuses_line text line e = record {
-    here = refl;
-    taken = text;
-    reads = reads_text text text [] line line (sym (append-nil text));
-    none = λ more can x rest inside same.
-        let whole : text ≡ spell x ++ rest = sym (append-nil text) ∙ ap (λ l. text ++ l) (sym (can refl)) ∙ same in
-        let some : read text ≡ Some (x, rest) = ap read whole ∙ exact.again x rest inside in
-        cc;
-  }
+  pub refuses_line : (text : List ℕ) (line : ℕ) → read text ≡ None → RefusesLine spell within (ahead_of text line) line (ahead_of (after_line LINE_LEN text) line)
+  refuses_line text line e = stream_refuses exact shape line (takes_first text line first) refl first.few (none (read first.taken) refl)
+    where
+      first : FirstLine LINE_LEN text (after_line LINE_LEN text)
+      first = first_line LINE_LEN text
+
+      none : (o : Option (X × List ℕ)) → read first.taken ≡ o → read first.taken ≡ None
+      none None same = same
+      none (Some (x, rest)) same =
+          let h = exact.sound first.taken x rest same in
+          let whole : text ≡ spell x ++ (rest ++ after_line LINE_LEN text) =
+          first.split ∙ ap (λ l. l ++ after_line LINE_LEN text) h.1 ∙ append_assoc (spell x) rest (after_line LINE_LEN text) in
+          let some : read text ≡ Some (x, rest ++ after_line LINE_LEN text) = ap read whole ∙ exact.again x (rest ++ after_line LINE_LEN text) h.0 in
+          absurd (cc)
 
   pub shorter : (text : List ℕ) (x : X) (rest : List ℕ) → read text ≡ Some (x, rest) → length rest < length text
   shorter text x rest e =
@@ -105,7 +123,7 @@ module _ {X : Type 0} {spell : X → List ℕ} {within : X → Type 0} where
         passes = rw more (Passes-append before.passes step.passes);
       }
 
-  -- the exit of a `?` behind some lines
+  -- the exit of a `?` after some lines
   pub gives_lines : {V : Type 0} (items : V → List X) {old mid : Ahead} {i : ℕ} {xs : List X} (count : ℕ) (now : Ahead) (r : Result V Stop) (e : Stop)
       → ReadsLines spell within i old xs mid → i < count → IsErrAnd r (λ f. f ≡ e) → LineGives spell within mid (Err e) now → LinesGive spell within items count old r now
   gives_lines items count now (Ok v) e before less same gives = absurd same
@@ -157,4 +175,4 @@ no_opening text line none = (refl, λ rest e. none rest (cc))
 
 -- no read of a text in memory fails
 pub no_break : (old new : TextAhead) → BytesFail (ahead_in old) (ahead_in new) → ⊥
-no_break old new h = let counted = h.counted in omega (arith, counted)
+no_break old new h = let counted = FailsAfter-counted h.fails in omega (arith, counted)

@@ -19,11 +19,12 @@ use Rattle.bcode.specs.declared.header.Header.TheVariants as header
 use Rattle.bcode.specs.declared.stop.Stop.{Stop}
 use Rattle.bcode.specs.declared.stop.Stop.TheVariants as stop
 use Rattle.bcode.proofs.AheadLaws.{Reads-append, Passes-append, Breaks-after}
+use Rattle.bcode.proofs.StreamLaws.{EndsInLine-after, ends_first}
 use Rattle.bcode.proofs.HeaderLaws.{header_at-exact}
 use Rattle.bcode.proofs.StoppingLaws.{AreGoodKinds, IsGoodState, good_after, sample, same_spelling, greatest_path}
-use Rattle.bcode.proofs.CodeLaws.{made, OfKinds, OfState, stops_behind, stops_last, stops_among, header_of-text, header_of-within, path_body, ended_path}
+use Rattle.bcode.proofs.CodeLaws.{made, OfKinds, OfState, stops_after, stops_last, stops_among, header_of-text, header_of-within, path_body, ended_path}
 
--- lines lead from one state to another: what stops behind them stops so many lines later before them
+-- lines lead from one state to another: what stops after them stops so many lines later before them
 abbrev pub GoesOn : LineState → List ℕ → ℕ → LineState → Type 0
 GoesOn from text count to = (n : ℕ) (rest : List ℕ) → IsStuckAfter n to rest → IsStuckAfter (count + n) from (text ++ rest)
 
@@ -33,28 +34,29 @@ GoesOn-append s t u x y i j h k n rest stops =
     subst (λ (m : ℕ). IsStuckAfter m s (x ++ y ++ rest)) count
     (subst (λ (l : List ℕ). IsStuckAfter (i + (j + n)) s l) (sym (append_assoc x y rest)) (h (j + n) (y ++ rest) (k n rest stops)))
 
-pub StopsAhead-behind : {a b c : Ahead} {s t : LineState} {text : List ℕ} {count n : ℕ} → TakesText a text count b → GoesOn s text count t → StopsAhead t b n c → StopsAhead s a n c
-StopsAhead-behind {a} {b} {c} {s} {t} {text} {count} {n} p goes h = record {
+pub StopsAhead-following : {a b c : Ahead} {s t : LineState} {text : List ℕ} {count n : ℕ} → TakesText a text count b → GoesOn s text count t → StopsAhead t b n c → StopsAhead s a n c
+StopsAhead-following {a} {b} {c} {s} {t} {text} {count} {n} p goes h = record {
   good = count + h.good;
   there = (let x = p.counted in let y = h.there in omega arith);
   taken = text ++ h.taken;
+  near = EndsInLine-after p.lines h.near (omega arith);
   reads = Reads-append p.reads h.reads;
   stops = λ more can. subst (λ (l : List ℕ). IsStuckAfter (count + h.good) s l) (sym (append_assoc text h.taken more)) (goes h.good (h.taken ++ more) (h.stops more can));
 }
 
-pub StopsAmong-behind : {a b c : Ahead} {ks ls : List LineKind} {text : List ℕ} {count n : ℕ} → TakesText a text count b → GoesOn (expects ks) text count (expects ls) → length ks ≡ count + length ls
+pub StopsAmong-following : {a b c : Ahead} {ks ls : List LineKind} {text : List ℕ} {count n : ℕ} → TakesText a text count b → GoesOn (expects ks) text count (expects ls) → length ks ≡ count + length ls
     → StopsAmong ls b n c → StopsAmong ks a n c
-unfolding StopsAhead-behind
-StopsAmong-behind p goes all h = record { stopped = StopsAhead-behind p goes h.stopped; among = (let l = h.among in omega arith) }
+unfolding StopsAhead-following
+StopsAmong-following p goes all h = record { stopped = StopsAhead-following p goes h.stopped; among = (let l = h.among in omega arith) }
 
 pub flat_joined : {X : Type 0} (f : X → List ℕ) (xs : List X) → flat_map f xs ≡ joined (map f xs)
 flat_joined f [] = refl
 flat_joined f (x ∷ xs) = ap (λ l. f x ++ l) (flat_joined f xs)
 
-BreaksAmong-behind : {a b c : Ahead} {ks ls : List LineKind} {text : List ℕ} {count : ℕ} → TakesText a text count b → GoesOn (expects ks) text count (expects ls) → length ks ≡ count + length ls
+BreaksAmong-following : {a b c : Ahead} {ks ls : List LineKind} {text : List ℕ} {count : ℕ} → TakesText a text count b → GoesOn (expects ks) text count (expects ls) → length ks ≡ count + length ls
     → BreaksAmong ls b c → BreaksAmong ks a c
 unfolding Breaks-after
-BreaksAmong-behind {a} {b} {c} {ks} {ls} {text} {count} p goes all h = record {
+BreaksAmong-following {a} {b} {c} {ks} {ls} {text} {count} p goes all h = record {
   breaks = Breaks-after p.reads h.breaks;
   good = count + h.good;
   stops = goes h.good h.breaks.taken h.stops;
@@ -63,7 +65,7 @@ BreaksAmong-behind {a} {b} {c} {ks} {ls} {text} {count} p goes all h = record {
 
 module _ {X : Type 0} (spell : X → List ℕ) (within : X → Type 0) (kind : LineKind) (of_kind : (x : X) → within x → IsOfKind kind (spell x)) where
   pub items_go : (xs : List X) (ks : List LineKind) → All within xs → GoesOn (expects (replicate (length xs) kind ++ ks)) (flat_map spell xs) (length xs) (expects ks)
-  items_go xs ks all n rest stops = stops_behind spell within kind of_kind xs ks n rest all stops
+  items_go xs ks all n rest stops = stops_after spell within kind of_kind xs ks n rest all stops
 
   pub items_go_last : (xs : List X) → All within xs → GoesOn (expects (replicate (length xs) kind)) (flat_map spell xs) (length xs) (expects [])
   items_go_last xs all n rest stops = stops_last spell within kind of_kind xs n rest all stops
@@ -73,9 +75,9 @@ module _ {X : Type 0} (spell : X → List ℕ) (within : X → Type 0) (kind : L
   goes_on {old} {new} {xs} count ks r =
       subst (λ (c : ℕ). GoesOn (expects (replicate c kind ++ ks)) (flat_map spell xs) c (expects ks)) r.all (items_go xs ks r.inside)
 
-  first_behind : (xs : List X) (ks : List LineKind) (ls : List (List ℕ)) → All within xs → AreFirst ls ks → AreFirst (map spell xs ++ ls) (replicate (length xs) kind ++ ks)
-  first_behind [] ks ls all first = first
-  first_behind (x ∷ xs) ks ls all first = (of_kind x (All-head within x xs all), first_behind xs ks ls (All-tail within x xs all) first)
+  first_after : (xs : List X) (ks : List LineKind) (ls : List (List ℕ)) → All within xs → AreFirst ls ks → AreFirst (map spell xs ++ ls) (replicate (length xs) kind ++ ks)
+  first_after [] ks ls all first = first
+  first_after (x ∷ xs) ks ls all first = (of_kind x (All-head within x xs all), first_after xs ks ls (All-tail within x xs all) first)
 
   some_first : (xs : List X) (count : ℕ) (ks : List LineKind) → length xs ≤ count → All within xs → AreFirst (map spell xs) (replicate count kind ++ ks)
   some_first [] count ks few all = tt
@@ -92,6 +94,7 @@ module _ {X : Type 0} (spell : X → List ℕ) (within : X → Type 0) (kind : L
         good = length r.read;
         there = (let x = r.refused.here in let y = r.passes.counted in omega arith);
         taken = flat_map spell r.read ++ r.refused.taken;
+        near = EndsInLine-after r.passes.lines (ends_first r.refused.taken r.refused.part) (omega arith);
         reads = Reads-append r.passes.reads r.refused.reads;
         stops = λ more can. subst (λ (t : List ℕ). IsStuckAfter (length r.read) (expects (replicate count kind ++ ks)) t)
             (sym (append_assoc (flat_map spell r.read) r.refused.taken more))
@@ -125,20 +128,20 @@ module _ {X : Type 0} (spell : X → List ℕ) (within : X → Type 0) (kind : L
     ends_among_last items old new count e r =
         subst (λ (ks : List LineKind). EndsAmong ks old e new) (append-nil (replicate count kind)) (ends_among items old new count [] e r)
 
-  -- lines were not read behind those of a kind
-  pub ends_behind : {a b : Ahead} {xs : List X} (c : Ahead) (count : ℕ) (ks : List LineKind) (e : Stop) → ReadsLines spell within count a xs b → EndsAmong ks b e c
+  -- lines were not read after those of a kind
+  pub ends_after : {a b : Ahead} {xs : List X} (c : Ahead) (count : ℕ) (ks : List LineKind) (e : Stop) → ReadsLines spell within count a xs b → EndsAmong ks b e c
       → EndsAmong (replicate count kind ++ ks) a e c
-  ends_behind c count ks (stop.Fault (fault.Line n)) r h = StopsAmong-behind r.passes (goes_on count ks r) (kinds_length count ks) h
-  ends_behind {a} {b} {xs} c count ks (stop.Fault fault.Memory) r h = record {
+  ends_after c count ks (stop.Fault (fault.Line n)) r h = StopsAmong-following r.passes (goes_on count ks r) (kinds_length count ks) h
+  ends_after {a} {b} {xs} c count ks (stop.Fault fault.Memory) r h = record {
     lines = map spell xs ++ h.lines;
-    first = subst (λ (n : ℕ). AreFirst (map spell xs ++ h.lines) (replicate n kind ++ ks)) r.all (first_behind xs ks h.lines r.inside h.first);
+    first = subst (λ (n : ℕ). AreFirst (map spell xs ++ h.lines) (replicate n kind ++ ks)) r.all (first_after xs ks h.lines r.inside h.first);
     reads = subst (λ (t : List ℕ). TakesBytes a t c)
         (ap (λ l. l ++ joined h.lines) (flat_joined spell xs) ∙ sym (flat_map-append (λ l. l) (map spell xs) h.lines))
         (Reads-append r.passes.reads h.reads);
   }
-  ends_behind c count ks stop.Device r h = BreaksAmong-behind r.passes (goes_on count ks r) (kinds_length count ks) h
+  ends_after c count ks stop.Device r h = BreaksAmong-following r.passes (goes_on count ks r) (kinds_length count ks) h
 
--- the exit of a `?` behind lines
+-- the exit of a `?` after lines
 pub body_exit : (h : Header) (old now : Ahead) (r : Result Definition Stop) (e : Stop) → IsErrAnd r (λ f. f ≡ e) → EndsAmong (kinds_after h) old e now → BodyGives h old r now
 body_exit h old now (Ok d) e same ends = absurd same
 body_exit h old now (Err f) e same ends = subst (λ (s : Stop). BodyGives h old (Err s) now) (sym same) ends
@@ -245,7 +248,7 @@ state_of (header.Simple name values strings) more = refl
 state_of (header.Vector name words values strings) more = refl
 state_of header.End more = absurd (more refl)
 
--- a definition's text as its header and what is behind it
+-- a definition's text as its header and what is after it
 pub text_header : (d : Definition) (rest : List ℕ) → definition_text d ++ rest ≡ header_text (header_of d) ++ (joined (body_lines d) ++ rest)
 text_header d rest = append_assoc (header_line d) (joined (body_lines d)) rest ∙ ap (λ l. l ++ (joined (body_lines d) ++ rest)) (sym (header_of-text d))
 
@@ -272,6 +275,7 @@ header_stops {old} {new} n r = record {
     good = 0;
     there = (let x = r.here in omega arith);
     taken = r.taken;
+    near = ends_first r.taken r.part;
     reads = r.reads;
     stops = λ more can. record {
       refused = λ l to rest leads same. r.none more can leads.0 rest leads.1 (same ∙ ap (λ t. t ++ rest) leads.2);
@@ -339,7 +343,7 @@ next_from {old} {mid} {now} h state r body =
           ∙ sym (append_assoc (header_text h) (joined body.lines) (joined others.0));
     }
 
--- a text that stops among the lines behind a header has no whole definition
+-- a text that stops among the lines after a header has no whole definition
 none_among : (h : Header) (good : ℕ) (text : List ℕ) → state_after h ≡ expects (kinds_after h) → IsHeaderWithin h → IsStuckAfter good (expects (kinds_after h)) text → good < length (kinds_after h)
     → (d : Definition) (rest : List ℕ) → IsWithinRanges d → header_text h ++ text ≡ definition_text d ++ rest → ⊥
 none_among h good text state in_h stops among d rest inside same =
@@ -351,9 +355,9 @@ none_among h good text state in_h stops among d rest inside same =
 
 body_stops : {old mid now : Ahead} (h : Header) (n : ℕ) → state_after h ≡ expects (kinds_after h) → ReadsLine header_text IsHeaderWithin old h mid → StopsAmong (kinds_after h) mid n now
     → StopsInside old n now
-unfolding StopsAhead-behind
+unfolding StopsAhead-following
 body_stops h n state r s = record {
-  stopped = StopsAhead-behind r.passes (subst (λ (z : LineState). GoesOn (expects []) (header_text h) 1 z) state (header_go h r.inside)) s.stopped;
+  stopped = StopsAhead-following r.passes (subst (λ (z : LineState). GoesOn (expects []) (header_text h) 1 z) state (header_go h r.inside)) s.stopped;
   none = λ more can d rest inside same.
       none_among h s.stopped.good (s.stopped.taken ++ more) state r.inside (s.stopped.stops more can) s.among d rest inside (sym (append_assoc (header_text h) s.stopped.taken more) ∙ same);
 }
@@ -365,7 +369,7 @@ body_breaks h state r s = record {
   none = none_among h s.good s.breaks.taken state r.inside s.stops s.among;
 }
 
--- the exit of a `?` behind a header
+-- the exit of a `?` after a header
 pub next_exit : {old mid : Ahead} (h : Header) (now : Ahead) (r : Result (Option Definition) Stop) (e : Stop) → (h ≡ header.End → ⊥)
     → ReadsLine header_text IsHeaderWithin old h mid → IsErrAnd r (λ f. f ≡ e) → BodyGives h mid (Err e) now → DefinitionGives old r now
 next_exit h now (Ok o) e more read same gives = absurd same

@@ -104,14 +104,14 @@ module _ {X : Type 0} (spell : X → List ℕ) (within : X → Type 0) (kind : L
   path_last : (xs : List X) (ls : List (List ℕ)) → All within xs → Path (expects []) ls → Path (expects (replicate (length xs) kind)) (map spell xs ++ ls)
   path_last xs ls all path = subst (λ (ks : List LineKind). Path (expects ks) (map spell xs ++ ls)) (append-nil (replicate (length xs) kind)) (path_items xs [] ls all path)
 
-  -- behind these lines as text
-  pub stops_behind : (xs : List X) (ks : List LineKind) (n : ℕ) (rest : List ℕ) → All within xs → IsStuckAfter n (expects ks) rest
+  -- after these lines as text
+  pub stops_after : (xs : List X) (ks : List LineKind) (n : ℕ) (rest : List ℕ) → All within xs → IsStuckAfter n (expects ks) rest
       → IsStuckAfter (length xs + n) (expects (replicate (length xs) kind ++ ks)) (flat_map spell xs ++ rest)
-  stops_behind [] ks n rest all stops =
+  stops_after [] ks n rest all stops =
       let same : n ≡ 0 + n = omega arith in subst (λ (m : ℕ). IsStuckAfter m (expects ks) rest) same stops
-  stops_behind (x ∷ xs) ks n rest all stops =
+  stops_after (x ∷ xs) ks n rest all stops =
       let same : suc (length xs + n) ≡ suc (length xs) + n = omega arith in
-      let others = stops_behind xs ks n rest (All-tail within x xs all) stops in
+      let others = stops_after xs ks n rest (All-tail within x xs all) stops in
       let to = expects (replicate (length xs) kind ++ ks) in
       let first : IsStuckAfter (suc (length xs + n)) (expects (kind ∷ (replicate (length xs) kind ++ ks))) (spell x ++ flat_map spell xs ++ rest) =
       (spell x, to, flat_map spell xs ++ rest, (of_kind x (All-head within x xs all), refl), append_assoc (spell x) (flat_map spell xs) rest, others) in
@@ -120,17 +120,17 @@ module _ {X : Type 0} (spell : X → List ℕ) (within : X → Type 0) (kind : L
   pub stops_last : (xs : List X) (n : ℕ) (rest : List ℕ) → All within xs → IsStuckAfter n (expects []) rest
       → IsStuckAfter (length xs + n) (expects (replicate (length xs) kind)) (flat_map spell xs ++ rest)
   stops_last xs n rest all stops =
-      subst (λ (ks : List LineKind). IsStuckAfter (length xs + n) (expects ks) (flat_map spell xs ++ rest)) (append-nil (replicate (length xs) kind)) (stops_behind xs [] n rest all stops)
+      subst (λ (ks : List LineKind). IsStuckAfter (length xs + n) (expects ks) (flat_map spell xs ++ rest)) (append-nil (replicate (length xs) kind)) (stops_after xs [] n rest all stops)
 
   -- fewer lines than are expected, and then none
   module _ (is_kind : (l : List ℕ) → IsOfKind kind l → (x : X) × within x × (l ≡ spell x)) where
     pub stops_among : (xs : List X) (count : ℕ) (ks : List LineKind) (rest : List ℕ) → length xs < count → All within xs
-        → ((x : X) (behind : List ℕ) → within x → rest ≡ spell x ++ behind → ⊥)
+        → ((x : X) (following : List ℕ) → within x → rest ≡ spell x ++ following → ⊥)
         → IsStuckAfter (length xs) (expects (replicate count kind ++ ks)) (flat_map spell xs ++ rest)
     stops_among xs zero ks rest fewer all none = absurd (omega arith)
     stops_among [] (suc count) ks rest fewer all none = record {
-      refused = λ l to behind leads same.
-          let read = is_kind l leads.0 in none read.0 behind read.1 (same ∙ ap (λ t. t ++ behind) read.2);
+      refused = λ l to following leads same.
+          let read = is_kind l leads.0 in none read.0 following read.1 (same ∙ ap (λ t. t ++ following) read.2);
       not_finished = λ same. absurd (cc);
     }
     stops_among (x ∷ xs) (suc count) ks rest fewer all none = (
@@ -143,7 +143,7 @@ module _ {X : Type 0} (spell : X → List ℕ) (within : X → Type 0) (kind : L
     )
 
     pub stops_among_last : (xs : List X) (count : ℕ) (rest : List ℕ) → length xs < count → All within xs
-        → ((x : X) (behind : List ℕ) → within x → rest ≡ spell x ++ behind → ⊥)
+        → ((x : X) (following : List ℕ) → within x → rest ≡ spell x ++ following → ⊥)
         → IsStuckAfter (length xs) (expects (replicate count kind)) (flat_map spell xs ++ rest)
     stops_among_last xs count rest fewer all none =
         subst (λ (ks : List LineKind). IsStuckAfter (length xs) (expects ks) (flat_map spell xs ++ rest)) (append-nil (replicate count kind)) (stops_among xs count [] rest fewer all none)
@@ -224,22 +224,22 @@ OfState finished bs = ⊥
 -- values whose lines these are
 record Items {X : Type 0} (spell : X → List ℕ) (within : X → Type 0) (n : ℕ) (ks : List LineKind) (bs : List (List ℕ)) : Type 0 where
   values : List X
-  behind : List (List ℕ)
+  following : List (List ℕ)
   count : length values ≡ n
   inside : All within values
-  lines : bs ≡ map spell values ++ behind
-  others : OfKinds ks behind
+  lines : bs ≡ map spell values ++ following
+  others : OfKinds ks following
 
 module _ {X : Type 0} (spell : X → List ℕ) (within : X → Type 0) (kind : LineKind) (is_kind : (l : List ℕ) → IsOfKind kind l → (x : X) × within x × (l ≡ spell x)) where
   items_of : (n : ℕ) (ks : List LineKind) (bs : List (List ℕ)) → OfKinds (replicate n kind ++ ks) bs → Items spell within n ks bs
-  items_of zero ks bs of = record { values = []; behind = bs; count = refl; inside = All-nil within; lines = refl; others = of }
+  items_of zero ks bs of = record { values = []; following = bs; count = refl; inside = All-nil within; lines = refl; others = of }
   items_of (suc n) ks [] of = absurd of
   items_of (suc n) ks (l ∷ bs) of =
       let first = is_kind l of.0 in
       let more = items_of n ks bs of.1 in
       record {
         values = first.0 ∷ more.values;
-        behind = more.behind;
+        following = more.following;
         count = let c = more.count in omega arith;
         inside = All-cons within first.0 more.values first.1 more.inside;
         lines = ap (λ m. m ∷ bs) first.2 ∙ ap (λ m. spell first.0 ∷ m) more.lines;
@@ -268,8 +268,8 @@ made_function : (name : List ℕ) (parameters : ℕ) (s : Sizes) (bs : List (Lis
     → Made (header.Function name parameters s) bs
 made_function name parameters s bs h of =
     let t = items_of target_line (λ n. n < s.code) (target s.code) (λ l x. x) s.labels (replicate s.strings string ++ replicate s.code (instruction s)) bs of in
-    let w = items_of string_line IsWord string (λ l x. x) s.strings (replicate s.code (instruction s)) t.behind t.others in
-    let c = last_items instr_line (IsInstrWithin s) (instruction s) (λ l x. x) s.code w.behind w.others in
+    let w = items_of string_line IsWord string (λ l x. x) s.strings (replicate s.code (instruction s)) t.following t.others in
+    let c = last_items instr_line (IsInstrWithin s) (instruction s) (λ l x. x) s.code w.following w.others in
     let f : Function = record { name = name; parameters = parameters; frame = s.frame; targets = t.values; strings = w.values; code = c.0 } in
     let sizes = same_sizes s (length t.values) (length w.values) (length c.0) t.count w.count c.1 in
     record {
@@ -286,7 +286,7 @@ made_values : (values strings : ℕ) (bs : List (List ℕ)) → OfKinds (replica
     × (bs ≡ map ival_line vs ++ map string_line ws)
 made_values values strings bs of =
     let v = items_of ival_line (IsIvalWithin strings) (value strings) (λ l x. x) values (replicate strings string) bs of in
-    let w = last_items string_line IsWord string (λ l x. x) strings v.behind v.others in (
+    let w = last_items string_line IsWord string (λ l x. x) strings v.following v.others in (
       v.values,
       w.0,
       v.count,

@@ -24,6 +24,8 @@ use Rattle.blang.specs.declared.code.Sizes.{Sizes}
 use Rattle.blang.specs.declared.code.Instr.{Instr}
 use Rattle.blang.specs.declared.code.Ival.{Ival}
 use Rattle.bcode.proofs.AheadLaws.{Reads-append, Breaks-after, Passes-none, Passes-append, no_length, both_empty}
+use Rattle.bcode.specs.Streams.{IsLinePart}
+use Rattle.bcode.proofs.StreamLaws.{EndsInLine-after, ends_first}
 use Rattle.bcode.proofs.BodyLaws.{two_kinds, three_kinds, two_goes, three_goes, GoesOn, GoesOn-append, items_go, items_go_last, header_go, not_end, text_header}
 use Rattle.bcode.proofs.CodeLaws.{header_of-text, header_of-within, code_path, path_code, path_ended, ended_path, of_value, of_target, of_string, of_instr}
 use Rattle.bcode.proofs.HeaderLaws.{header_at-exact, end_within}
@@ -55,7 +57,7 @@ fault_line text good stops =
 pub no_code : (text : List ℕ) (good : ℕ) → IsStuckAfter good opens text → (ds : List Definition) → IsCodeText text ds → ⊥
 no_code text good stops ds code = no_path good opens text tt stops (code_lines code.0 ds) (code_path code.0 ds code.1.within) code.1.spelled
 
--- the same in one edition, behind what its texts begin with
+-- the same in one edition, after what its texts begin with
 pub fault_line_in : (edition : Edition) (text : List ℕ) (good : ℕ) → IsStuckAfter good (expects []) text → IsFaultLineIn edition (opening edition ++ text) (suc (length (opening_lines edition) + good))
 fault_line_in editions.One text good stops =
     let b = begins_path good (expects []) text tt stops in
@@ -146,7 +148,7 @@ same_vector : (n m : List ℕ) (k l : ℕ) (v w : List Ival) (s t : List ℕ) �
     → let a : Vector = record { name = n; words = k; values = v; strings = s } in let b : Vector = record { name = m; words = l; values = w; strings = t } in a ≡ b
 same_vector n m k l v w s t e1 e2 e3 e4 = rw (e1, e2, e3, e4) refl
 
--- two bodies behind one first line are one
+-- two bodies after one first line are one
 pub same_body : (d e : Definition) (r s : List ℕ) → IsWithinRanges d → IsWithinRanges e → header_of d ≡ header_of e → joined (body_lines d) ++ r ≡ joined (body_lines e) ++ s
     → (d ≡ e) × (r ≡ s)
 same_body (definition.Function f) (definition.Function g) r s in_f in_g header same =
@@ -362,10 +364,10 @@ follow text taken new (Some more) e h = (more, whole, can (eqb (length text) 0) 
 left_text : (text taken : List ℕ) (new : Ahead) → TakesBytes (ahead_of text 1) taken new → (more : List ℕ) × (text ≡ taken ++ more) × CanFollow new.end more
 left_text text taken new h = follow text taken new.end new.end.left refl h.took
 
--- behind these definitions the text stops
-stops_behind_known : (text : List ℕ) (known : List Definition) (at : Ahead) (rest : List ℕ) (good : ℕ) (h : Knows text known at) → text ≡ opening h.edition ++ flat_map definition_text known ++ rest → IsStuckAfter good (expects []) rest
+-- after these definitions the text stops
+stops_after_known : (text : List ℕ) (known : List Definition) (at : Ahead) (rest : List ℕ) (good : ℕ) (h : Knows text known at) → text ≡ opening h.edition ++ flat_map definition_text known ++ rest → IsStuckAfter good (expects []) rest
     → IsStuckAfter (length (opening_lines h.edition) + (length (flat_map lines_of known) + good)) opens text
-stops_behind_known text known at rest good h same stops =
+stops_after_known text known at rest good h same stops =
     let o = opening h.edition in
     let whole : text ≡ o ++ (flat_map definition_text known ++ rest) = same ∙ append_assoc o (flat_map definition_text known) rest in
     let k = length (opening_lines h.edition) + (length (flat_map lines_of known) + good) in
@@ -381,7 +383,7 @@ stop_line text known at new n h s =
     let o = opening h.edition ++ flat_map definition_text known in (
       length (opening_lines h.edition) + (length (flat_map lines_of known) + s.good),
       (let x = h.passes.counted in let y = s.there in omega arith),
-      stops_behind_known text known at (s.taken ++ left.0) s.good h (left.1 ∙ append_assoc o s.taken left.0) (s.stops left.0 left.2),
+      stops_after_known text known at (s.taken ++ left.0) s.good h (left.1 ∙ append_assoc o s.taken left.0) (s.stops left.0 left.2),
     )
 
 fault_here : (text : List ℕ) (known : List Definition) (at new : Ahead) (n : ℕ) → Knows text known at → StopsAhead (expects []) at n new → IsFaultLine text n
@@ -397,7 +399,7 @@ exit_only P text known at new (Ok v) e same gives h ds code = absurd same
 exit_only P text known at new (Err f) (fault.Line n) same gives h ds code = absurd (no_code_here text known (ahead_in at) (ahead_in new) n h gives.stopped ds code)
 exit_only P text known at new (Err f) fault.Memory same gives h ds code = same
 
--- a definition's first line was taken behind these definitions
+-- a definition's first line was taken after these definitions
 header_taken : (text : List ℕ) (known : List Definition) (at new : Ahead) (taken rest : List ℕ) (d : Definition) → Knows text known at → TakesBytes at taken new → IsWithinRanges d → taken ≡ header_line d ++ rest
     → HasHeader text
 header_taken text known at new taken rest d h reads inside spelled =
@@ -424,7 +426,7 @@ exit_fault text known at new (Err f) e same gives h = subst (IsFaultOf text) (sy
     exit (fault.Line n) gives = fault_here text known (ahead_in at) (ahead_in new) n h gives.stopped
     exit fault.Memory gives = header_taken text known (ahead_in at) (ahead_in new) gives.taken gives.rest gives.next h gives.reads gives.inside gives.spelled
 
--- memory that was refused behind a definition
+-- memory that was refused after a definition
 pub push_fault : {V : Type 0} (text : List ℕ) (known : List Definition) (d : Definition) (at new : Ahead) (r : Result V CodeFault) → IsErrAnd r (λ f. f ≡ fault.Memory)
     → ReadsDefinition at d new → Knows text known at → IfErr r (IsFaultOf text)
 push_fault text known d at new (Ok v) same read h = absurd same
@@ -438,15 +440,16 @@ definition_shorter at new d read =
     let falls = read.passes.reads.took.bound in
     omega (arith, falls, length-append (header_line d) (joined (body_lines d)))
 
--- the last line, and what is behind it
+-- the last line, and what is after it
 
--- the text stops behind the last line
-pub end_stops : {at end new : Ahead} (taken : List ℕ) → TakesText at end_text 1 end → TakesBytes end taken new → (taken ≢ []) → StopsInside at end.line new
-end_stops {at} {end} {new} taken passes reads some = record {
+-- the text stops after the last line
+pub end_stops : {at end new : Ahead} (taken : List ℕ) → TakesText at end_text 1 end → IsLinePart taken → TakesBytes end taken new → (taken ≢ []) → StopsInside at end.line new
+end_stops {at} {end} {new} taken passes part reads some = record {
   stopped = record {
     good = 1 + 0;
     there = (let x = passes.counted in omega arith);
     taken = end_text ++ taken;
+    near = EndsInLine-after passes.lines (ends_first taken part) (omega arith);
     reads = Reads-append passes.reads reads;
     stops = λ more can. subst (λ (l : List ℕ). IsStuckAfter (1 + 0) (expects []) l) (sym (append_assoc end_text taken more))
         (header_go header.End end_within 0 (taken ++ more) record { refused = λ l to rest leads same. leads; not_finished = λ e same. some (both_empty taken more same).0 });
@@ -456,7 +459,7 @@ end_stops {at} {end} {new} taken passes reads some = record {
       (sym (append_assoc end_text taken more) ∙ same ∙ text_header d rest)).0);
 }
 
--- a read failed behind the last line
+-- a read failed after the last line
 pub end_breaks : {at end new : Ahead} → TakesText at end_text 1 end → BytesFail end new → BreaksInside at new
 unfolding Breaks-after
 end_breaks passes breaks = record {
@@ -465,7 +468,7 @@ end_breaks passes breaks = record {
       not_end d (sym (same_spelling header_at-exact header.End (header_of d) breaks.taken (joined (body_lines d) ++ rest) end_within (header_of-within d inside) (same ∙ text_header d rest)).0);
 }
 
--- a text in memory goes on behind its last line
+-- a text in memory goes on after its last line
 over_line : (text : List ℕ) (known : List Definition) (at new : Ahead) → Knows text known at → TakesText at end_text 1 new → (new.end.left ≡ Some [] → ⊥)
     → (good : ℕ) × (new.line ≡ suc good) × IsStuckAfter good opens text
 over_line text known at new h passes some =
@@ -474,7 +477,7 @@ over_line text known at new h passes some =
     let o = opening h.edition ++ flat_map definition_text known in (
       length (opening_lines h.edition) + (length (flat_map lines_of known) + (1 + 0)),
       (let x = h.passes.counted in let y = passes.counted in omega arith),
-      stops_behind_known text known at (end_text ++ left.0) (1 + 0) h (left.1 ∙ append_assoc o end_text left.0)
+      stops_after_known text known at (end_text ++ left.0) (1 + 0) h (left.1 ∙ append_assoc o end_text left.0)
           (header_go header.End end_within 0 left.0 record { refused = λ l to rest leads same. leads; not_finished = λ e same. none left.0 left.1 same }),
     )
   where

@@ -1,4 +1,4 @@
--- The line of the fault of some texts, which is behind the whole lines that are right.
+-- The line of the fault of some texts, which is after the whole lines that are right.
 use Rattle.std.proofs.Common.{◌≡◌, ℕ, zero, suc, ◌^◌, Bool, true, false, ◌&&◌, List, [], ◌∷◌, ◌++◌, Option, Some, None, refl, sym, ap, ◌∙◌, arith, eqb, take, drop, if◌then◌else◌, inl, inr}
 use Rattle.std.specs.Prelude.{codes}
 use Rattle.std.specs.Cmp.Lexicographic.{pointwise}
@@ -18,16 +18,16 @@ use Rattle.bcode.proofs.PartLaws.{same_read}
 use Rattle.bcode.proofs.StoppingLaws.{IsGoodKind, IsGoodState, good_next, no_header}
 use Rattle.bcode.proofs.StreamLaws.{is_two, two_line, line_two}
 
--- the text behind a line of a kind
-abbrev behind : {X : Type 0} → Option (X × List ℕ) → Option (List ℕ)
-behind (Some r) = Some r.1
-behind None = None
+-- the text after a line of a kind
+abbrev following : {X : Type 0} → Option (X × List ℕ) → Option (List ℕ)
+following (Some r) = Some r.1
+following None = None
 
-abbrev line_behind : LineKind → List ℕ → Option (List ℕ)
-line_behind (value strings) text = behind (ival_line_at strings text)
-line_behind (target code) text = behind (number_line_at 116 code text)
-line_behind string text = behind (number_line_at 119 (2 ^ 16) text)
-line_behind (instruction sizes) text = behind (instr_at sizes text)
+abbrev line_after : LineKind → List ℕ → Option (List ℕ)
+line_after (value strings) text = following (ival_line_at strings text)
+line_after (target code) text = following (number_line_at 116 code text)
+line_after string text = following (number_line_at 119 (2 ^ 16) text)
+line_after (instruction sizes) text = following (instr_at sizes text)
 
 abbrev to_expect : List LineKind → Option (List ℕ) → Option (LineState × List ℕ)
 to_expect ks (Some text) = Some (expects ks, text)
@@ -44,7 +44,7 @@ after_opening two text = if two then Some (expects [], drop 4 text) else after_h
 abbrev step : LineState → List ℕ → Option (LineState × List ℕ)
 step opens text = after_opening (is_two text) text
 step (expects []) text = after_header (header_at text)
-step (expects (k ∷ ks)) text = to_expect ks (line_behind k text)
+step (expects (k ∷ ks)) text = to_expect ks (line_after k text)
 step finished text = None
 
 -- whether the text is stuck after so many lines
@@ -62,26 +62,26 @@ stops_at zero from text = is_stuck from text (step from text)
 stops_at (suc n) from text = on (stops_at n) (step from text)
 
 module _ {X : Type 0} {spell : X → List ℕ} {within : X → Type 0} {read : LineReader X} (exact : IsExact spell within read) where
-  line_read : (text rest : List ℕ) → behind (read text) ≡ Some rest → (x : X) × within x × (text ≡ spell x ++ rest)
+  line_read : (text rest : List ℕ) → following (read text) ≡ Some rest → (x : X) × within x × (text ≡ spell x ++ rest)
   line_read text rest e = on_read (read text) refl e
     where
-      on_read : (o : Option (X × List ℕ)) → read text ≡ o → behind o ≡ Some rest → (x : X) × within x × (text ≡ spell x ++ rest)
+      on_read : (o : Option (X × List ℕ)) → read text ≡ o → following o ≡ Some rest → (x : X) × within x × (text ≡ spell x ++ rest)
       on_read (Some r) is e =
           let found = exact.sound text r.0 r.1 is in
           let same : r.1 ≡ rest = cc in
           (r.0, found.0, found.1 ∙ ap (λ t. spell r.0 ++ t) same)
       on_read None is e = absurd (cc)
 
-  line_there : (text rest : List ℕ) (x : X) → within x → text ≡ spell x ++ rest → behind (read text) ≡ Some rest
-  line_there text rest x inside same = ap behind (ap read same ∙ exact.again x rest inside)
+  line_there : (text rest : List ℕ) (x : X) → within x → text ≡ spell x ++ rest → following (read text) ≡ Some rest
+  line_there text rest x inside same = ap following (ap read same ∙ exact.again x rest inside)
 
-kind_read : (k : LineKind) → IsGoodKind k → (text rest : List ℕ) → line_behind k text ≡ Some rest → (l : List ℕ) × IsOfKind k l × (text ≡ l ++ rest)
+kind_read : (k : LineKind) → IsGoodKind k → (text rest : List ℕ) → line_after k text ≡ Some rest → (l : List ℕ) × IsOfKind k l × (text ≡ l ++ rest)
 kind_read (value strings) good text rest e = let h = line_read (ival_at-exact strings good) text rest e in (ival_line h.0, (h.0, h.1, refl), h.2)
 kind_read (target code) good text rest e = let h = line_read (number_line_at-exact 116 code good.1) text rest e in (target_line h.0, (h.0, h.1, refl), h.2)
 kind_read string good text rest e = let h = line_read (number_line_at-exact 119 (2 ^ 16) (omega arith)) text rest e in (string_line h.0, (h.0, h.1, refl), h.2)
 kind_read (instruction sizes) good text rest e = let h = line_read (instr_at-exact sizes good) text rest e in (instr_line h.0, (h.0, h.1, refl), h.2)
 
-kind_there : (k : LineKind) → IsGoodKind k → (l text rest : List ℕ) → IsOfKind k l → text ≡ l ++ rest → line_behind k text ≡ Some rest
+kind_there : (k : LineKind) → IsGoodKind k → (l text rest : List ℕ) → IsOfKind k l → text ≡ l ++ rest → line_after k text ≡ Some rest
 kind_there (value strings) good l text rest of same = line_there (ival_at-exact strings good) text rest of.0 of.1 (same ∙ ap (λ t. t ++ rest) of.2)
 kind_there (target code) good l text rest of same = line_there (number_line_at-exact 116 code good.1) text rest of.0 of.1 (same ∙ ap (λ t. t ++ rest) of.2)
 kind_there string good l text rest of same = line_there (number_line_at-exact 119 (2 ^ 16) (omega arith)) text rest of.0 of.1 (same ∙ ap (λ t. t ++ rest) of.2)
@@ -112,7 +112,7 @@ step_leads (expects []) text to rest good e =
     let read = header_at-exact.sound text h.0 rest h.1 in
     (header_text h.0, (h.0, read.0, refl, h.2), read.1)
 step_leads (expects (k ∷ ks)) text to rest good e =
-    let h = expected ks (line_behind k text) to rest e in
+    let h = expected ks (line_after k text) to rest e in
     let read = kind_read k good.0 text rest h.0 in
     (read.0, (read.1, h.1), read.2)
 step_leads finished text to rest good e = absurd (cc)
@@ -120,8 +120,8 @@ step_leads finished text to rest good e = absurd (cc)
 leads_step : (from : LineState) (l : List ℕ) (to : LineState) (text rest : List ℕ) → IsGoodState from → Leads from l to → text ≡ l ++ rest → step from text ≡ Some (to, rest)
 leads_step opens l to text rest good (inl x) same =
     let line : text ≡ edition_line ++ rest = same ∙ ap (λ t. t ++ rest) x.0 in
-    let behind_line : drop 4 text ≡ rest = ap (λ t. drop 4 t) line in
-    ap (λ b. after_opening b text) (line_two text rest line) ∙ ap (λ t. Some (expects [], t)) behind_line ∙ ap (λ s. Some (s, rest)) (sym x.1)
+    let after_line : drop 4 text ≡ rest = ap (λ t. drop 4 t) line in
+    ap (λ b. after_opening b text) (line_two text rest line) ∙ ap (λ t. Some (expects [], t)) after_line ∙ ap (λ s. Some (s, rest)) (sym x.1)
 leads_step opens l to text rest good (inr x) same = ap (λ b. after_opening b text) one ∙ ap after_header there ∙ ap (λ s. Some (s, rest)) (sym x.3)
   where
     spelled : text ≡ header_text x.0 ++ rest
@@ -152,12 +152,12 @@ stuck_step opens text None e = (refl, λ p q. cc)
 stuck_step (expects ks) text (Some r) e = absurd (cc)
 stuck_step (expects ks) text None e = (refl, λ p q. cc)
 
-stops_behind : (n : ℕ) (from : LineState) (text : List ℕ) → IsGoodState from → (o : Option (LineState × List ℕ)) → step from text ≡ o
+stops_after : (n : ℕ) (from : LineState) (text : List ℕ) → IsGoodState from → (o : Option (LineState × List ℕ)) → step from text ≡ o
     → on (stops_at n) o ≡ true → ((to : LineState) (rest : List ℕ) → IsGoodState to → stops_at n to rest ≡ true → IsStuckAfter n to rest) → IsStuckAfter (suc n) from text
-stops_behind n from text good (Some r) is e onward =
+stops_after n from text good (Some r) is e onward =
     let h = step_leads from text r.0 r.1 good is in
     (h.0, r.0, r.1, h.1, h.2, onward r.0 r.1 (good_next from h.0 r.0 good h.1) e)
-stops_behind n from text good None is e onward = absurd (cc)
+stops_after n from text good None is e onward = absurd (cc)
 
 stops : (n : ℕ) (from : LineState) (text : List ℕ) → IsGoodState from → stops_at n from text ≡ true → IsStuckAfter n from text
 stops zero from text good e =
@@ -166,7 +166,7 @@ stops zero from text good e =
       refused = λ l to rest leads same. let there = leads_step from l to text rest good leads same in let none = h.0 in cc;
       not_finished = h.1;
     }
-stops (suc n) from text good e = stops_behind n from text good (step from text) refl e (stops n)
+stops (suc n) from text good e = stops_after n from text good (step from text) refl e (stops n)
 
 -- Texts, and how many of their lines are right.
 abbrev Row : Type 0

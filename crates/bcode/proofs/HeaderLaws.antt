@@ -12,7 +12,7 @@ use Rattle.bcode.specs.declared.header.Header.{Header}
 use Rattle.bcode.specs.declared.header.Header.TheVariants as header
 use Rattle.blang.specs.declared.code.Sizes.{Sizes}
 use Rattle.bcode.proofs.PartLaws.{bind_some, only_if, same_read, expect-sound, expect-again, number_at-sound, number_at-again, name_at-sound, name_at-again}
-use Rattle.bcode.proofs.LineLaws.{IsExact, IsSoundBehind, by_first-sound, ended_entry}
+use Rattle.bcode.proofs.LineLaws.{IsExact, IsSoundAfter, by_first-sound, ended_entry}
 
 -- numbers within their ranges are words
 pub record AreWords (count : ℕ) (s : Sizes) : Type 0 where
@@ -41,7 +41,7 @@ simple_words values strings h = (grind (arith, nat_tests), grind (arith, nat_tes
 pub vector_words : (words values strings : ℕ) → vector_fits words values strings ≡ true → IsWord words × IsWord values × IsWord strings
 vector_words words values strings h = (grind (arith, nat_tests), grind (arith, nat_tests), grind (arith, nat_tests))
 
--- a line with the text behind it
+-- a line with the text after it
 
 function_text : (name : List ℕ) (p : ℕ) (s : Sizes) (rest : List ℕ)
     → 70 ∷ 32 ∷ (name ++ 32 ∷ (decimal p ++ 32 ∷ (decimal s.frame ++ 32 ∷ (decimal s.labels ++ 32 ∷ (decimal s.strings ++ 32 ∷ (decimal s.code ++ 10 ∷ rest))))))
@@ -77,7 +77,7 @@ sizes_at-sound bytes s rest e =
     ∙ ap (λ l. decimal strings.0.0 ++ 32 ∷ l) code_read.1)) in
     text ∙ ap (λ z. sizes_text z code.0.1) read.0 ∙ ap (sizes_text s) read.1
 
-function_header_entry : IsSoundBehind header_text IsNamed 70 function_header_at
+function_header_entry : IsSoundAfter header_text IsNamed 70 function_header_at
 unfolding function_header_at
 function_header_entry bytes x rest e =
     let space = bind_some (expect_byte 32 bytes) _ (x, rest) e in
@@ -94,7 +94,7 @@ function_header_entry bytes x rest e =
     let line_is = function_text name.0.0 parameters.0.0 sizes.0.0 sizes.0.1 in
     (subst IsNamed read.0 named, ap (λ l. 70 ∷ l) text ∙ line_is ∙ ap (λ h. header_text h ++ sizes.0.1) read.0 ∙ ap (λ r. header_text x ++ r) read.1)
 
-simple_header_entry : IsSoundBehind header_text IsNamed 88 simple_header_at
+simple_header_entry : IsSoundAfter header_text IsNamed 88 simple_header_at
 unfolding simple_header_at
 simple_header_entry bytes x rest e =
     let space = bind_some (expect_byte 32 bytes) _ (x, rest) e in
@@ -110,7 +110,7 @@ simple_header_entry bytes x rest e =
     let line_is = simple_text name.0.0 values.0.0 strings.0.0 strings.0.1 in
     (subst IsNamed read.0 named, ap (λ l. 88 ∷ l) text ∙ line_is ∙ ap (λ h. header_text h ++ strings.0.1) read.0 ∙ ap (λ r. header_text x ++ r) read.1)
 
-vector_header_entry : IsSoundBehind header_text IsNamed 86 vector_header_at
+vector_header_entry : IsSoundAfter header_text IsNamed 86 vector_header_at
 unfolding vector_header_at
 vector_header_entry bytes x rest e =
     let space = bind_some (expect_byte 32 bytes) _ (x, rest) e in

@@ -31,15 +31,15 @@ mapped_some f (Some x) y rest e =
 mapped_some f None y rest e = absurd (cc)
 
 module _ {X : Type 0} (text : X → List ℕ) (within : X → Type 0) where
-  -- what is read behind a byte
-  abbrev pub IsSoundBehind : ℕ → LineReader X → Type 0
-  IsSoundBehind byte read = (bytes : List ℕ) (x : X) (rest : List ℕ) → read bytes ≡ Some (x, rest) → within x × (byte ∷ bytes ≡ text x ++ rest)
+  -- what is read after a byte
+  abbrev pub IsSoundAfter : ℕ → LineReader X → Type 0
+  IsSoundAfter byte read = (bytes : List ℕ) (x : X) (rest : List ℕ) → read bytes ≡ Some (x, rest) → within x × (byte ∷ bytes ≡ text x ++ rest)
 
   abbrev pub AllSound : List (ℕ × LineReader X) → Type 0
   AllSound [] = Unit {0}
-  AllSound (r ∷ rs) = IsSoundBehind r.0 r.1 × AllSound rs
+  AllSound (r ∷ rs) = IsSoundAfter r.0 r.1 × AllSound rs
 
-  choose-step : (r : ℕ × LineReader X) (rs : List (ℕ × LineReader X)) (byte : ℕ) (bytes : List ℕ) (x : X) (rest : List ℕ) → IsSoundBehind r.0 r.1
+  choose-step : (r : ℕ × LineReader X) (rs : List (ℕ × LineReader X)) (byte : ℕ) (bytes : List ℕ) (x : X) (rest : List ℕ) → IsSoundAfter r.0 r.1
       → (choose rs byte bytes ≡ Some (x, rest) → within x × (byte ∷ bytes ≡ text x ++ rest))
       → (t : Bool) → eqb byte r.0 ≡ t → cond t (r.1 bytes) (choose rs byte bytes) ≡ Some (x, rest) → within x × (byte ∷ bytes ≡ text x ++ rest)
   choose-step r rs byte bytes x rest first others true same e =
@@ -96,14 +96,14 @@ name_operand_at-again name rest named =
 
 -- the entries of a table
 module _ {X : Type 0} (text : X → List ℕ) (within : X → Type 0) (byte : ℕ) where
-  pub ended_entry : (x : X) → within x → text x ≡ byte ∷ 10 ∷ [] → IsSoundBehind text within byte (line_ended x)
+  pub ended_entry : (x : X) → within x → text x ≡ byte ∷ 10 ∷ [] → IsSoundAfter text within byte (line_ended x)
   ended_entry x inside same bytes y rest e =
       let read = ended-sound x y bytes rest e in
       let at : within y = subst within read.0 inside in
       (at, ap (λ l. byte ∷ l) read.1 ∙ ap (λ l. l ++ rest) (sym same) ∙ ap (λ z. text z ++ rest) read.0)
 
   number_entry : (make : ℕ → X) (below : ℕ) → ((n : ℕ) → n < below → within (make n))
-      → ((n : ℕ) → text (make n) ≡ byte ∷ 32 ∷ (decimal n ++ 10 ∷ [])) → IsSoundBehind text within byte (λ rest. mapped make (operand_at below rest))
+      → ((n : ℕ) → text (make n) ≡ byte ∷ 32 ∷ (decimal n ++ 10 ∷ [])) → IsSoundAfter text within byte (λ rest. mapped make (operand_at below rest))
   number_entry make below inside same bytes y rest e =
       let found = mapped_some make (operand_at below bytes) y rest e in
       let read = operand_at-sound below bytes found.0 rest found.1 in
@@ -111,7 +111,7 @@ module _ {X : Type 0} (text : X → List ℕ) (within : X → Type 0) (byte : �
       (at, ap (λ l. byte ∷ l) read.1 ∙ ap (λ l. l ++ rest) (sym (same found.0)) ∙ ap (λ z. text z ++ rest) found.2)
 
   name_entry : (make : List ℕ → X) → ((name : List ℕ) → IsTrue (is_name name) → within (make name))
-      → ((name : List ℕ) → text (make name) ≡ byte ∷ 32 ∷ (name ++ 10 ∷ [])) → IsSoundBehind text within byte (λ rest. mapped make (name_operand_at rest))
+      → ((name : List ℕ) → text (make name) ≡ byte ∷ 32 ∷ (name ++ 10 ∷ [])) → IsSoundAfter text within byte (λ rest. mapped make (name_operand_at rest))
   name_entry make inside same bytes y rest e =
       let found = mapped_some make (name_operand_at bytes) y rest e in
       let read = name_operand_at-sound bytes found.0 rest found.1 in
@@ -160,7 +160,7 @@ abbrev operator_end : BinOp → List ℕ
 operator_end o = operator_text o ++ 10 ∷ []
 
 two_entry : (byte : ℕ) (x : BinOp) → operator_text x ≡ byte ∷ 61 ∷ []
-    → IsSoundBehind operator_end (λ o. Unit {0}) byte (λ rest. expect_byte 61 rest >>= line_ended x)
+    → IsSoundAfter operator_end (λ o. Unit {0}) byte (λ rest. expect_byte 61 rest >>= line_ended x)
 two_entry byte x same bytes y rest e =
     let found = bind_some (expect_byte 61 bytes) (line_ended x) (y, rest) e in
     let read = ended-sound x y found.0 rest found.2 in (
@@ -169,34 +169,34 @@ two_entry byte x same bytes y rest e =
           ∙ ap (λ o. operator_text o ++ 10 ∷ [] ++ rest) read.0,
     )
 
--- what stands behind the first byte of an operator
-abbrev behind_first : BinOp → List ℕ
-behind_first o = drop 1 (operator_end o)
+-- what stands after the first byte of an operator
+abbrev after_first : BinOp → List ℕ
+after_first o = drop 1 (operator_end o)
 
 abbrev BeginsWith : ℕ → BinOp → Type 0
-BeginsWith byte o = byte ∷ behind_first o ≡ operator_end o
+BeginsWith byte o = byte ∷ after_first o ≡ operator_end o
 
-one_byte : (byte : ℕ) (x : BinOp) → operator_text x ≡ byte ∷ [] → IsSoundBehind behind_first (BeginsWith byte) 10 (λ rest. Some (x, rest))
+one_byte : (byte : ℕ) (x : BinOp) → operator_text x ≡ byte ∷ [] → IsSoundAfter after_first (BeginsWith byte) 10 (λ rest. Some (x, rest))
 one_byte byte x same bytes y rest e =
     let read = same_read (x, bytes) (y, rest) e in
     let whole : BeginsWith byte x = rw same refl in
     let at : BeginsWith byte y = subst (BeginsWith byte) read.0 whole in
-    let end : behind_first x ≡ 10 ∷ [] = rw same refl in
-    (at, ap (λ l. 10 ∷ l) read.1 ∙ ap (λ l. l ++ rest) (sym end) ∙ ap (λ o. behind_first o ++ rest) read.0)
+    let end : after_first x ≡ 10 ∷ [] = rw same refl in
+    (at, ap (λ l. 10 ∷ l) read.1 ∙ ap (λ l. l ++ rest) (sym end) ∙ ap (λ o. after_first o ++ rest) read.0)
 
-less_entry : IsSoundBehind operator_end (λ o. Unit {0}) 60 less_at
+less_entry : IsSoundAfter operator_end (λ o. Unit {0}) 60 less_at
 unfolding less_at
 less_entry bytes x rest e =
-    let read = by_first-sound behind_first (BeginsWith 60) ((10, λ r. Some (op.Lt, r)) ∷ (61, line_ended op.Le) ∷ (60, line_ended op.Shl) ∷ [])
-    (one_byte 60 op.Lt refl, (ended_entry behind_first (BeginsWith 60) 61 op.Le refl refl, (ended_entry behind_first (BeginsWith 60) 60 op.Shl refl refl, tt)))
+    let read = by_first-sound after_first (BeginsWith 60) ((10, λ r. Some (op.Lt, r)) ∷ (61, line_ended op.Le) ∷ (60, line_ended op.Shl) ∷ [])
+    (one_byte 60 op.Lt refl, (ended_entry after_first (BeginsWith 60) 61 op.Le refl refl, (ended_entry after_first (BeginsWith 60) 60 op.Shl refl refl, tt)))
     bytes x rest e in
     (tt, ap (λ l. 60 ∷ l) read.1 ∙ ap (λ l. l ++ rest) read.0)
 
-greater_entry : IsSoundBehind operator_end (λ o. Unit {0}) 62 greater_at
+greater_entry : IsSoundAfter operator_end (λ o. Unit {0}) 62 greater_at
 unfolding greater_at
 greater_entry bytes x rest e =
-    let read = by_first-sound behind_first (BeginsWith 62) ((10, λ r. Some (op.Gt, r)) ∷ (61, line_ended op.Ge) ∷ (62, line_ended op.Shr) ∷ [])
-    (one_byte 62 op.Gt refl, (ended_entry behind_first (BeginsWith 62) 61 op.Ge refl refl, (ended_entry behind_first (BeginsWith 62) 62 op.Shr refl refl, tt)))
+    let read = by_first-sound after_first (BeginsWith 62) ((10, λ r. Some (op.Gt, r)) ∷ (61, line_ended op.Ge) ∷ (62, line_ended op.Shr) ∷ [])
+    (one_byte 62 op.Gt refl, (ended_entry after_first (BeginsWith 62) 61 op.Ge refl refl, (ended_entry after_first (BeginsWith 62) 62 op.Shr refl refl, tt)))
     bytes x rest e in
     (tt, ap (λ l. 62 ∷ l) read.1 ∙ ap (λ l. l ++ rest) read.0)
 
@@ -254,21 +254,21 @@ increment_at-again _ rest = refl
 
 module _ (sizes : Sizes) where
   operator_entry : (byte : ℕ) (make : BinOp → Instr) → ((o : BinOp) → IsInstrWithin sizes (make o)) → ((o : BinOp) → instr_line (make o) ≡ byte ∷ 32 ∷ operator_end o)
-      → IsSoundBehind instr_line (IsInstrWithin sizes) byte (λ rest. mapped make (operator_at rest))
+      → IsSoundAfter instr_line (IsInstrWithin sizes) byte (λ rest. mapped make (operator_at rest))
   operator_entry byte make inside same bytes y rest e =
       let found = mapped_some make (operator_at bytes) y rest e in
       let read = operator_at-sound bytes found.0 rest found.1 in
       let at : IsInstrWithin sizes y = subst (IsInstrWithin sizes) found.2 (inside found.0) in
       (at, ap (λ l. byte ∷ l) read ∙ ap (λ l. l ++ rest) (sym (same found.0)) ∙ ap (λ z. instr_line z ++ rest) found.2)
 
-  increment_entry : IsSoundBehind instr_line (IsInstrWithin sizes) 105 (λ rest. mapped instr.Increment (increment_at rest))
+  increment_entry : IsSoundAfter instr_line (IsInstrWithin sizes) 105 (λ rest. mapped instr.Increment (increment_at rest))
   increment_entry bytes y rest e =
       let found = mapped_some instr.Increment (increment_at bytes) y rest e in
       let read = increment_at-sound bytes found.0 rest found.1 in
       let at : IsInstrWithin sizes y = subst (IsInstrWithin sizes) found.2 tt in
       (at, ap (λ l. 105 ∷ l) read ∙ ap (λ z. instr_line z ++ rest) found.2)
 
-  case_entry : IsSoundBehind instr_line (IsInstrWithin sizes) 101 (case_at sizes.code)
+  case_entry : IsSoundAfter instr_line (IsInstrWithin sizes) 101 (case_at sizes.code)
   unfolding case_at
   case_entry bytes y rest e =
       let space = bind_some (expect_byte 32 bytes) _ (y, rest) e in

@@ -5,7 +5,7 @@ use Rattle.std.proofs.lemmas.List.{map-append, take_more, take-append-drop}
 use Rattle.std.proofs.lemmas.List.Concat.{flat_map-append}
 use Rattle.bword.specs.ByteEnds.{Outgoing, Refuses, PutGives}
 use Rattle.bword.specs.declared.ends.EndFault.{EndFault}
-use Rattle.bword.proofs.Putting.{gives_last, gives_same, Writes-none, Writes-append, Refuses-behind, Refuses-short}
+use Rattle.bword.proofs.Putting.{gives_last, gives_same, Writes-none, Writes-append, Refuses-following, Refuses-short}
 use Rattle.bcode.specs.Pages.{PageWritten, PageGives}
 use Rattle.blang.specs.Text.{line, joined}
 
@@ -29,7 +29,7 @@ pub Refuses-after : {a b c : Outgoing} {p q xs : List ℕ} {e : EndFault} (ys : 
 Refuses-after {a} {b} {c} {p} {q} {xs} {e} ys h k =
     let same : h.sent ++ (q ++ ys) ≡ p ++ (xs ++ ys) = sym (append_assoc h.sent q ys) ∙ ap (λ l. l ++ ys) (sym h.rest) ∙ append_assoc p xs ys in
     let P : List ℕ → Type 0 = λ l. Refuses a l e c in
-    subst P same (Refuses-behind h.written k)
+    subst P same (Refuses-following h.written k)
 
 pub joined-two : (xs ys : List (List ℕ)) → joined (xs ++ ys) ≡ joined xs ++ joined ys
 joined-two xs ys = flat_map-append (λ l. l) xs ys

@@ -117,7 +117,7 @@ module _ (end below : ℕ) where
         let less : ltb (v * 10 + d) (2 ^ 16) ≡ true = grind (arith, nat_tests) in
         rw (digit_not_end d small, not_zero, is_digit d small, value, less) refl
 
-    -- the digits of a number, whatever stands behind them
+    -- the digits of a number, whatever stands after them
     ReadsOn : ℕ → List ℕ → Type 0
     ReadsOn n ds = n < 2 ^ 16 → (rest : List ℕ) → number_at end below (ds ++ rest) ≡ number_from end below n rest
 
@@ -190,5 +190,5 @@ module _ (end : ℕ) (not_in_name : is_name_byte end ≡ false) where
       let len = first_end name rest (name_bytes name named) in
       let less : ltb (length name) (length (name ++ end ∷ rest)) ≡ true = grind (arith, nat_tests, length-append name (end ∷ rest)) in
       let before : take (length name) (name ++ end ∷ rest) ≡ name = take-append_seam name (end ∷ rest) in
-      let behind : drop (length name + 1) (name ++ end ∷ rest) ≡ rest = drop-append-add name (end ∷ rest) 1 in
-      rw (len, less) (rw (before, named, behind) refl)
+      let following : drop (length name + 1) (name ++ end ∷ rest) ≡ rest = drop-append-add name (end ∷ rest) 1 in
+      rw (len, less) (rw (before, named, following) refl)

@@ -18,6 +18,7 @@ use Rattle.bcode.specs.declared.stop.Stop.TheVariants as stop
 use Rattle.bcode.proofs.AheadLaws.{Reads-append, Passes-none, Passes-append, Breaks-after}
 use Rattle.bcode.proofs.FaultLaws.{definition_shorter, definitions_go, fault_line_in, no_code_in, no_opening_line, no_opening_code, passes_more, same_rest, code_spelled, end_stops, end_breaks}
 use Rattle.bcode.proofs.StoppingLaws.{same_after}
+use Rattle.bcode.proofs.StreamLaws.{EndsInLine-after, ends_first}
 
 pub is_open_new : (start : ReaderStart) → MoreCanBeRead (reader_of start (all_ahead start) false false)
 is_open_new start = record {
@@ -26,29 +27,29 @@ is_open_new start = record {
 }
 
 -- what a text begins with, and definitions, were read
-abbrev Behind : ReaderStart → List Definition → Ahead → Type 0
-Behind start ds at =
+abbrev After : ReaderStart → List Definition → Ahead → Type 0
+After start ds at =
     TakesText (all_ahead start) (opening start.edition ++ flat_map definition_text ds) (length (opening_lines start.edition) + length (flat_map lines_of ds)) at
 
 abbrev beginning : Edition → Incoming → List ℕ → ReaderStart
 beginning edition source lender = record { edition = edition; source = source; lender = lender }
 
-behind_opening : (edition : Edition) (source : Incoming) (lender : List ℕ) (b : Bool) (at mid : Ahead) (ds : List Definition) → HasTaken (reader_of (beginning edition source lender) at b false) ds
-    → OpeningRead (to_open b edition) at mid → Behind (beginning edition source lender) ds mid
-behind_opening editions.One source lender true at mid ds s e = rw e s.passes
-behind_opening editions.Two source lender true at mid ds s e = rw e s.passes
-behind_opening editions.One source lender false at mid ds s e = rw e s.passes
-behind_opening editions.Two source lender false at mid ds s p =
+after_opening : (edition : Edition) (source : Incoming) (lender : List ℕ) (b : Bool) (at mid : Ahead) (ds : List Definition) → HasTaken (reader_of (beginning edition source lender) at b false) ds
+    → OpeningRead (to_open b edition) at mid → After (beginning edition source lender) ds mid
+after_opening editions.One source lender true at mid ds s e = rw e s.passes
+after_opening editions.Two source lender true at mid ds s e = rw e s.passes
+after_opening editions.One source lender false at mid ds s e = rw e s.passes
+after_opening editions.Two source lender false at mid ds s p =
     let start = beginning editions.Two source lender in
     let none = s.unbegun refl in
     let first : TakesText (all_ahead start) [] (0 + 0) at = subst (λ (es : List Definition). TakesText (all_ahead start) ([] ++ flat_map definition_text es) (0 + length (flat_map lines_of es)) at) none s.passes in
     let all = Passes-append first p in
     let count : 0 + 0 + 1 ≡ 1 + 0 = omega arith in
-    subst (λ (es : List Definition). Behind start es mid) (sym none) (subst (λ (n : ℕ). TakesText (all_ahead start) edition_line n mid) count all)
+    subst (λ (es : List Definition). After start es mid) (sym none) (subst (λ (n : ℕ). TakesText (all_ahead start) edition_line n mid) count all)
 
--- bytes were taken behind those that were read before
+-- bytes were taken after those that were read before
 split_there : (edition : Edition) (source : Incoming) (lender : List ℕ) (b : Bool) (at : Ahead) (ds : List Definition) → HasTaken (reader_of (beginning edition source lender) at b false) ds → (taken : List ℕ)
-    → (behind : List ℕ) × (opening edition ++ flat_map definition_text ds ++ taken ≡ opening_read (reader_of (beginning edition source lender) at b false) ++ flat_map definition_text ds ++ behind)
+    → (following : List ℕ) × (opening edition ++ flat_map definition_text ds ++ taken ≡ opening_read (reader_of (beginning edition source lender) at b false) ++ flat_map definition_text ds ++ following)
 split_there edition source lender true at ds s taken = (taken, refl)
 split_there edition source lender false at ds s taken =
     (opening edition ++ flat_map definition_text ds ++ taken, ap (λ es. flat_map definition_text es ++ (opening edition ++ flat_map definition_text ds ++ taken)) (sym (s.unbegun refl)))
@@ -75,7 +76,7 @@ module _ (edition : Edition) (source : Incoming) (lender : List ℕ) (b : Bool) 
     now = record {
       within = All-push IsWithinRanges ds d s.within read.inside;
       unbegun = λ e. absurd (cc);
-      passes = passes_more (opening edition) (length (opening_lines edition)) ds d (behind_opening edition source lender b at mid ds s o) read;
+      passes = passes_more (opening edition) (length (opening_lines edition)) ds d (after_opening edition source lender b at mid ds s o) read;
       is_open = refl;
     };
     falls = (let l = definition_shorter mid new d read in let k = opens_bound (to_open b edition) at mid o in omega arith);
@@ -84,7 +85,7 @@ module _ (edition : Edition) (source : Incoming) (lender : List ℕ) (b : Bool) 
   ended : (mid new : Ahead) → OpeningRead (to_open b edition) at mid → ReadsLast mid new → TextEnded ds before (after new true)
   ended mid new o last = record {
     taken = texts ++ end_text;
-    reads = Reads-append (behind_opening edition source lender b at mid ds s o).reads last.reads;
+    reads = Reads-append (after_opening edition source lender b at mid ds s o).reads last.reads;
     whole = record { within = s.within; spelled = sym (code_spelled edition ds) };
     over = last.over;
     closed = refl;
@@ -93,8 +94,9 @@ module _ (edition : Edition) (source : Incoming) (lender : List ℕ) (b : Bool) 
   stopped_inside : (mid new : Ahead) (n : ℕ) → OpeningRead (to_open b edition) at mid → StopsInside mid n new → StoppedAtLine ds before n (after new true)
   stopped_inside mid new n o h = record {
     taken = texts ++ h.stopped.taken;
-    reads = Reads-append behind.reads h.stopped.reads;
-    behind = rest.0;
+    near = EndsInLine-after following.lines h.stopped.near (let x = following.counted in let y = h.stopped.there in omega arith);
+    reads = Reads-append following.reads h.stopped.reads;
+    following = rest.0;
     split = rest.1;
     fault = λ more can. subst (IsFaultLineIn edition (texts ++ h.stopped.taken ++ more)) line
         (subst (λ (t : List ℕ). IsFaultLineIn edition t (suc good)) (sym (all more)) (fault_line_in edition (later more) known (stops more can)));
@@ -104,10 +106,10 @@ module _ (edition : Edition) (source : Incoming) (lender : List ℕ) (b : Bool) 
     closed = refl;
   }
     where
-      behind : Behind start ds mid
-      behind = behind_opening edition source lender b at mid ds s o
+      following : After start ds mid
+      following = after_opening edition source lender b at mid ds s o
 
-      rest : (behind : List ℕ) × (texts ++ h.stopped.taken ≡ opening_read before ++ flat_map definition_text ds ++ behind)
+      rest : (following : List ℕ) × (texts ++ h.stopped.taken ≡ opening_read before ++ flat_map definition_text ds ++ following)
       rest = split_there edition source lender b at ds s h.stopped.taken
 
       known : ℕ
@@ -126,12 +128,12 @@ module _ (edition : Edition) (source : Incoming) (lender : List ℕ) (b : Bool) 
       stops more can = definitions_go ds s.within h.stopped.good (h.stopped.taken ++ more) (h.stopped.stops more can)
 
       line : suc good ≡ n
-      line = let x = behind.counted in let y = h.stopped.there in omega arith
+      line = let x = following.counted in let y = h.stopped.there in omega arith
 
   refused : (mid new : Ahead) → OpeningRead (to_open b edition) at mid → HasNext mid new → MemoryRefused ds before (after new true)
   refused mid new o h = record {
     taken = texts ++ h.taken;
-    reads = Reads-append (behind_opening edition source lender b at mid ds s o).reads h.reads;
+    reads = Reads-append (after_opening edition source lender b at mid ds s o).reads h.reads;
     next = h.next;
     inside = h.inside;
     rest = h.rest;
@@ -141,7 +143,7 @@ module _ (edition : Edition) (source : Incoming) (lender : List ℕ) (b : Bool) 
     closed = refl;
   }
 
--- none comes whole behind what was read before, where none does in what was taken then
+-- none comes whole after what was read before, where none does in what was taken then
 none_whole : (edition : Edition) (source : Incoming) (lender : List ℕ) (b : Bool) (at : Ahead) (ds : List Definition) → HasTaken (reader_of (beginning edition source lender) at b false) ds → (taken : List ℕ)
     → ((d : Definition) (rest : List ℕ) → IsWithinRanges d → taken ≡ opening_line (to_open b edition) ++ (definition_text d ++ rest) → ⊥)
     → NoneWhole edition (opening_read (reader_of (beginning edition source lender) at b false) ++ flat_map definition_text ds ++ taken) ds
@@ -161,8 +163,9 @@ stopped_opening editions.Two source lender true at new ds n s e r = absurd (cc)
 stopped_opening editions.One source lender false at new ds n s e r = absurd (cc)
 stopped_opening editions.Two source lender false at new ds n s e r = record {
   taken = flat_map definition_text ds ++ r.taken;
+  near = EndsInLine-after s.passes.lines (ends_first r.taken r.part) (let x = r.here in let y = s.passes.counted in omega arith);
   reads = Reads-append s.passes.reads r.reads;
-  behind = r.taken;
+  following = r.taken;
   split = refl;
   fault = λ more can. subst (IsFaultLineIn editions.Two (flat_map definition_text ds ++ r.taken ++ more)) line (no_opening_line (flat_map definition_text ds ++ r.taken ++ more) (none more can));
   no_text = λ more can es code. no_opening_code (flat_map definition_text ds ++ r.taken ++ more) (none more can) es code;
@@ -251,7 +254,7 @@ end_exit opens old mid end now (Err f) e h last same gives = subst (λ (s : Stop
   where
     exit : (e : Stop) → EndingGives end (Err e) now → NextDefinitionGives opens old (Err e) now
     exit (stop.Fault (fault.Line n)) gives =
-        inr (mid, h, subst (λ (k : ℕ). StopsInside mid k now) (sym gives.0) (end_stops gives.1.0 last gives.1.2 gives.1.1))
+        inr (mid, h, subst (λ (k : ℕ). StopsInside mid k now) (sym gives.0) (end_stops gives.1.0 last gives.1.2 gives.1.3 gives.1.1))
     exit (stop.Fault fault.Memory) gives = absurd gives
     exit stop.Device gives = breaks_next opens old mid now h (end_breaks last gives)
 

@@ -14,10 +14,10 @@ use Rattle.bcode.proofs.LineLaws.{IsExact, FitSizes, ival_at-exact, instr_at-exa
 use Rattle.bcode.proofs.PartLaws.{same_read}
 
 -- two spellings that a text begins with are one
-pub same_spelling : {X : Type 0} {spell : X → List ℕ} {within : X → Type 0} {read : LineReader X} → IsExact spell within read → (x y : X) (rest behind : List ℕ)
-    → within x → within y → spell x ++ rest ≡ spell y ++ behind → (x ≡ y) × (rest ≡ behind)
-same_spelling {X} {spell} {within} {read} exact x y rest behind in_x in_y same =
-    same_read (x, rest) (y, behind) (sym (exact.again x rest in_x) ∙ ap read same ∙ exact.again y behind in_y)
+pub same_spelling : {X : Type 0} {spell : X → List ℕ} {within : X → Type 0} {read : LineReader X} → IsExact spell within read → (x y : X) (rest following : List ℕ)
+    → within x → within y → spell x ++ rest ≡ spell y ++ following → (x ≡ y) × (rest ≡ following)
+same_spelling {X} {spell} {within} {read} exact x y rest following in_x in_y same =
+    same_read (x, rest) (y, following) (sym (exact.again x rest in_x) ∙ ap read same ∙ exact.again y following in_y)
 
 -- a kind that has lines, with numbers that are read as such
 abbrev pub IsGoodKind : LineKind → Type 0
@@ -79,49 +79,49 @@ good_next (expects []) l to good leads = subst IsGoodState (sym leads.3) (good_a
 good_next (expects (k ∷ ks)) l to good leads = subst IsGoodState (sym leads.1) good.1
 good_next finished l to good leads = absurd leads
 
--- the text behind a line of a kind is one
-same_behind : (k : LineKind) (l m rest behind : List ℕ) → IsGoodKind k → IsOfKind k l → IsOfKind k m → l ++ rest ≡ m ++ behind → rest ≡ behind
-same_behind (value strings) l m rest behind good x y same =
-    (same_spelling (ival_at-exact strings good) x.0 y.0 rest behind x.1 y.1 (ap (λ t. t ++ rest) (sym x.2) ∙ same ∙ ap (λ t. t ++ behind) y.2)).1
-same_behind (target code) l m rest behind good x y same =
-    (same_spelling (number_line_at-exact 116 code good.1) x.0 y.0 rest behind x.1 y.1 (ap (λ t. t ++ rest) (sym x.2) ∙ same ∙ ap (λ t. t ++ behind) y.2)).1
-same_behind string l m rest behind good x y same =
-    (same_spelling (number_line_at-exact 119 (2 ^ 16) (omega arith)) x.0 y.0 rest behind x.1 y.1 (ap (λ t. t ++ rest) (sym x.2) ∙ same ∙ ap (λ t. t ++ behind) y.2)).1
-same_behind (instruction sizes) l m rest behind good x y same =
-    (same_spelling (instr_at-exact sizes good) x.0 y.0 rest behind x.1 y.1 (ap (λ t. t ++ rest) (sym x.2) ∙ same ∙ ap (λ t. t ++ behind) y.2)).1
+-- the text after a line of a kind is one
+same_following : (k : LineKind) (l m rest following : List ℕ) → IsGoodKind k → IsOfKind k l → IsOfKind k m → l ++ rest ≡ m ++ following → rest ≡ following
+same_following (value strings) l m rest following good x y same =
+    (same_spelling (ival_at-exact strings good) x.0 y.0 rest following x.1 y.1 (ap (λ t. t ++ rest) (sym x.2) ∙ same ∙ ap (λ t. t ++ following) y.2)).1
+same_following (target code) l m rest following good x y same =
+    (same_spelling (number_line_at-exact 116 code good.1) x.0 y.0 rest following x.1 y.1 (ap (λ t. t ++ rest) (sym x.2) ∙ same ∙ ap (λ t. t ++ following) y.2)).1
+same_following string l m rest following good x y same =
+    (same_spelling (number_line_at-exact 119 (2 ^ 16) (omega arith)) x.0 y.0 rest following x.1 y.1 (ap (λ t. t ++ rest) (sym x.2) ∙ same ∙ ap (λ t. t ++ following) y.2)).1
+same_following (instruction sizes) l m rest following good x y same =
+    (same_spelling (instr_at-exact sizes good) x.0 y.0 rest following x.1 y.1 (ap (λ t. t ++ rest) (sym x.2) ∙ same ∙ ap (λ t. t ++ following) y.2)).1
 
 first_differs : (a b : ℕ) (xs ys : List ℕ) → a < b → a ∷ xs ≡ b ∷ ys → ⊥
 first_differs a b xs ys l e = let h : a ≡ b = cc in omega (arith, h, l)
 
 -- no header begins as the edition's line does
-pub no_header : (h : Header) (rest behind : List ℕ) → edition_line ++ rest ≡ header_text h ++ behind → ⊥
-no_header (header.Function name parameters s) rest behind e = first_differs 66 70 _ _ (omega arith) e
-no_header (header.Simple name values strings) rest behind e = first_differs 66 88 _ _ (omega arith) e
-no_header (header.Vector name words values strings) rest behind e = first_differs 66 86 _ _ (omega arith) e
-no_header header.End rest behind e = first_differs 66 69 _ _ (omega arith) e
+pub no_header : (h : Header) (rest following : List ℕ) → edition_line ++ rest ≡ header_text h ++ following → ⊥
+no_header (header.Function name parameters s) rest following e = first_differs 66 70 _ _ (omega arith) e
+no_header (header.Simple name values strings) rest following e = first_differs 66 88 _ _ (omega arith) e
+no_header (header.Vector name words values strings) rest following e = first_differs 66 86 _ _ (omega arith) e
+no_header header.End rest following e = first_differs 66 69 _ _ (omega arith) e
 
-pub same_after : (rest behind : List ℕ) → edition_line ++ rest ≡ edition_line ++ behind → rest ≡ behind
-same_after rest behind e = cc
+pub same_after : (rest following : List ℕ) → edition_line ++ rest ≡ edition_line ++ following → rest ≡ following
+same_after rest following e = cc
 
-leads_in_one_way : (l m rest behind : List ℕ) (to other : LineState) → LeadsIn l to → LeadsIn m other → l ++ rest ≡ m ++ behind → (to ≡ other) × (rest ≡ behind)
-leads_in_one_way l m rest behind to other x y same =
-    let one = same_spelling header_at-exact x.0 y.0 rest behind x.1 y.1 (ap (λ t. t ++ rest) (sym x.2) ∙ same ∙ ap (λ t. t ++ behind) y.2) in
+leads_in_one_way : (l m rest following : List ℕ) (to other : LineState) → LeadsIn l to → LeadsIn m other → l ++ rest ≡ m ++ following → (to ≡ other) × (rest ≡ following)
+leads_in_one_way l m rest following to other x y same =
+    let one = same_spelling header_at-exact x.0 y.0 rest following x.1 y.1 (ap (λ t. t ++ rest) (sym x.2) ∙ same ∙ ap (λ t. t ++ following) y.2) in
     (x.3 ∙ ap state_after one.0 ∙ sym y.3, one.1)
 
 -- a text goes on in one way
-leads_one_way : (from : LineState) (l m rest behind : List ℕ) (to other : LineState) → IsGoodState from → Leads from l to → Leads from m other → l ++ rest ≡ m ++ behind
-    → (to ≡ other) × (rest ≡ behind)
-leads_one_way opens l m rest behind to other good (inl x) (inl y) same =
-    (x.1 ∙ sym y.1, same_after rest behind (ap (λ t. t ++ rest) (sym x.0) ∙ same ∙ ap (λ t. t ++ behind) y.0))
-leads_one_way opens l m rest behind to other good (inl x) (inr y) same =
-    absurd (no_header y.0 rest behind (ap (λ t. t ++ rest) (sym x.0) ∙ same ∙ ap (λ t. t ++ behind) y.2))
-leads_one_way opens l m rest behind to other good (inr x) (inl y) same =
-    absurd (no_header x.0 behind rest (ap (λ t. t ++ behind) (sym y.0) ∙ sym same ∙ ap (λ t. t ++ rest) x.2))
-leads_one_way opens l m rest behind to other good (inr x) (inr y) same = leads_in_one_way l m rest behind to other x y same
-leads_one_way (expects []) l m rest behind to other good x y same = leads_in_one_way l m rest behind to other x y same
-leads_one_way (expects (k ∷ ks)) l m rest behind to other good x y same =
-    (x.1 ∙ sym y.1, same_behind k l m rest behind good.0 x.0 y.0 same)
-leads_one_way finished l m rest behind to other good x y same = absurd x
+leads_one_way : (from : LineState) (l m rest following : List ℕ) (to other : LineState) → IsGoodState from → Leads from l to → Leads from m other → l ++ rest ≡ m ++ following
+    → (to ≡ other) × (rest ≡ following)
+leads_one_way opens l m rest following to other good (inl x) (inl y) same =
+    (x.1 ∙ sym y.1, same_after rest following (ap (λ t. t ++ rest) (sym x.0) ∙ same ∙ ap (λ t. t ++ following) y.0))
+leads_one_way opens l m rest following to other good (inl x) (inr y) same =
+    absurd (no_header y.0 rest following (ap (λ t. t ++ rest) (sym x.0) ∙ same ∙ ap (λ t. t ++ following) y.2))
+leads_one_way opens l m rest following to other good (inr x) (inl y) same =
+    absurd (no_header x.0 following rest (ap (λ t. t ++ following) (sym y.0) ∙ sym same ∙ ap (λ t. t ++ rest) x.2))
+leads_one_way opens l m rest following to other good (inr x) (inr y) same = leads_in_one_way l m rest following to other x y same
+leads_one_way (expects []) l m rest following to other good x y same = leads_in_one_way l m rest following to other x y same
+leads_one_way (expects (k ∷ ks)) l m rest following to other good x y same =
+    (x.1 ∙ sym y.1, same_following k l m rest following good.0 x.0 y.0 same)
+leads_one_way finished l m rest following to other good x y same = absurd x
 
 -- lines that lead to the end
 abbrev pub Path : LineState → List (List ℕ) → Type 0

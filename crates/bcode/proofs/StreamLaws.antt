@@ -1,22 +1,27 @@
 -- Bytes taken up to a newline.
-use Rattle.std.proofs.Common.{subst, ◌≡◌, ◌≢◌, ℕ, eqb, take, drop, if◌then◌else◌, Bool, ◌+◌, ◌<◌, ◌≤◌, true, false, List, [], ◌∷◌, ◌++◌, length, Option, Some, None, Result, Ok, Err, IsErrAnd, refl, sym, ap, ◌∙◌, arith, append_assoc, append-nil, length-append, ◌⊎◌, inl, inr}
+use Rattle.std.proofs.Common.{subst, ◌≡◌, ◌≢◌, ℕ, eqb, take, drop, if◌then◌else◌, Bool, ◌+◌, ◌<◌, ◌≤◌, true, false, List, [], ◌∷◌, ◌++◌, length, Option, Some, None, Result, Ok, Err, IsErrAnd, refl, sym, ap, ◌∙◌, ◌-◌, suc, cond, arith, append_assoc, append-nil, length-append, ◌⊎◌, inl, inr}
 use Rattle.std.specs.Prelude.{is_some, not}
-use Rattle.std.proofs.lemmas.List.Elements.{All-nil, All-push, All-head, All-tail}
-use Rattle.bword.specs.ByteEnds.{Incoming, Took, NextGives, CanFollow}
+use Rattle.std.specs.List.{flat_map}
+use Rattle.std.proofs.lemmas.List.Concat.{flat_map-append}
+use Rattle.std.proofs.lemmas.Bool.{false≢true}
+use Rattle.std.proofs.lemmas.List.Elements.{All-nil, All-cons, All-push, All-head, All-tail, All-append}
+use Rattle.bword.specs.ByteEnds.{Incoming, Took, Fails, Grew, NextGives, CanFollow}
+use Rattle.bword.specs.declared.ends.Device.{Device}
+use Rattle.std.proofs.KnownBytes.{Consumes-nil, Consumes-kept}
 use Rattle.bword.proofs.Taking.{Took-none, Took-append, Took-next}
-use Rattle.bcode.specs.Ahead.{Ahead, ReadsLine, RefusesLine, LineGives, SeesEnd}
+use Rattle.bcode.specs.Ahead.{Ahead, BytesFail, ReadsLine, RefusesLine, LineGives, SeesEnd, EndGives}
 use Rattle.bcode.specs.LineReading.{LineReader}
-use Rattle.bcode.specs.Streams.{HasNoNewline, IsWholeLine, TakesLine, FailsInLine}
+use Rattle.bcode.specs.Streams.{HasNoNewline, IsWholeLine, AreLines, IsLinePart, EndsInLine, after_line, TakesLine, FailsAfter, FailsInLine}
 use Rattle.blang.specs.declared.limits.TheConstants.{LINE_LEN}
 use Rattle.bcode.specs.declared.stop.Stop.{Stop}
 use Rattle.bcode.specs.declared.stop.Stop.TheVariants as stop
 use Rattle.bcode.proofs.LineLaws.{IsExact}
-use Rattle.bcode.proofs.PartLaws.{only_if, same_read}
+use Rattle.bcode.proofs.PartLaws.{only_if, same_read, is_same}
 use Rattle.bcode.proofs.ShapeLaws.{IsLine, edition_line-shape}
 use Rattle.std.specs.Cmp.Lexicographic.{pointwise}
-use Rattle.std.proofs.lemmas.Bool.Decides.{Decides-eqb}
+use Rattle.std.proofs.lemmas.Bool.Decides.{Decides-eqb, nat_tests}
 use Rattle.std.proofs.lemmas.Slice.Eq.{starts_is}
-use Rattle.blang.specs.Text.{edition_line}
+use Rattle.blang.specs.Text.{edition_line, joined}
 
 abbrev Other : ℕ → Type 0
 Other b = b ≢ 10
@@ -52,25 +57,136 @@ module _ {old mid new : Incoming} {bytes : List ℕ} where
     whole = inr (h.clean, inl next.over);
   }
 
+  pub fails_in_line : (e : Device) → InLine old bytes mid → NextGives mid (Err e) new → FailsInLine old new
+  fails_in_line e h next = record { taken = bytes; clean = h.clean; fails = record { mid = mid; took = h.took; read = h.failures; failed = next } }
+
+-- a failed read
+
+Took-failed : {old new : Incoming} → Fails old new → Took old [] new
+Took-failed {old} {new} f = record {
+  bytes = Consumes-kept old.left old.left new.left [] (Consumes-nil old.left) f.bytes;
+  bound = let b = f.bound in omega arith;
+  over = λ o. (refl, f.over ∙ o);
+  all = λ o p. absurd (false≢true (sym o ∙ sym f.over ∙ p));
+}
+
+pub FailsAfter-took : {old new : Incoming} {taken : List ℕ} → FailsAfter old taken new → Took old taken new
+FailsAfter-took {old} {new} {taken} h = subst (λ (l : List ℕ). Took old l new) (append-nil taken) (Took-append h.took (Took-failed h.failed))
+
+pub FailsAfter-counted : {old new : Incoming} {taken : List ℕ} → FailsAfter old taken new → Grew old.failures new.failures
+FailsAfter-counted {old} {new} {taken} h = subst (λ (n : ℕ). Grew n new.failures) h.read h.failed.counted
+
+pub FailsAfter-append : {a b c : Incoming} {xs ys : List ℕ} → Took a xs b → b.failures ≡ a.failures → FailsAfter b ys c → FailsAfter a (xs ++ ys) c
+FailsAfter-append took read h = record { mid = h.mid; took = Took-append took h.took; read = h.read ∙ read; failed = h.failed }
+
 -- the first newline of a text is one
-first_newline : (i j rest behind : List ℕ) → HasNoNewline i → HasNoNewline j → i ++ 10 ∷ rest ≡ j ++ 10 ∷ behind → (i ≡ j) × (rest ≡ behind)
-first_newline [] [] rest behind p q same = (refl, cc)
-first_newline [] (y ∷ j) rest behind p q same = absurd (All-head Other y j q (let h : 10 ≡ y = cc in sym h))
-first_newline (x ∷ i) [] rest behind p q same = absurd (All-head Other x i p (cc))
-first_newline (x ∷ i) (y ∷ j) rest behind p q same =
-    let others = first_newline i j rest behind (All-tail Other x i p) (All-tail Other y j q) (cc) in
+pub first_newline : (i j rest following : List ℕ) → HasNoNewline i → HasNoNewline j → i ++ 10 ∷ rest ≡ j ++ 10 ∷ following → (i ≡ j) × (rest ≡ following)
+first_newline [] [] rest following p q same = (refl, cc)
+first_newline [] (y ∷ j) rest following p q same = absurd (All-head Other y j q (let h : 10 ≡ y = cc in sym h))
+first_newline (x ∷ i) [] rest following p q same = absurd (All-head Other x i p (cc))
+first_newline (x ∷ i) (y ∷ j) rest following p q same =
+    let others = first_newline i j rest following (All-tail Other x i p) (All-tail Other y j q) (cc) in
     let head : x ≡ y = cc in
     (ap (λ z. z ∷ i) head ∙ ap (λ l. y ∷ l) others.0, others.1)
 
-newline_behind : (bytes j more rest : List ℕ) → HasNoNewline bytes → length j < length bytes → bytes ++ more ≡ j ++ 10 ∷ rest → ⊥
-newline_behind [] j more rest p less same = omega arith
-newline_behind (x ∷ bytes) [] more rest p less same = All-head Other x bytes p (cc)
-newline_behind (x ∷ bytes) (y ∷ j) more rest p less same =
-    newline_behind bytes j more rest (All-tail Other x bytes p) (omega arith) (cc)
+newline_after : (bytes j more rest : List ℕ) → HasNoNewline bytes → length j < length bytes → bytes ++ more ≡ j ++ 10 ∷ rest → ⊥
+newline_after [] j more rest p less same = omega arith
+newline_after (x ∷ bytes) [] more rest p less same = All-head Other x bytes p (cc)
+newline_after (x ∷ bytes) (y ∷ j) more rest p less same =
+    newline_after bytes j more rest (All-tail Other x bytes p) (omega arith) (cc)
 
-no_newline : (bytes j rest : List ℕ) → HasNoNewline bytes → bytes ≡ j ++ 10 ∷ rest → ⊥
+pub no_newline : (bytes j rest : List ℕ) → HasNoNewline bytes → bytes ≡ j ++ 10 ∷ rest → ⊥
 no_newline bytes j rest p same =
-    newline_behind bytes j [] rest p (omega (arith, ap length same, length-append j (10 ∷ rest))) (append-nil bytes ∙ same)
+    newline_after bytes j [] rest p (omega (arith, ap length same, length-append j (10 ∷ rest))) (append-nil bytes ∙ same)
+
+-- whole lines
+
+pub AreLines-none : AreLines 0 []
+AreLines-none = record { lines = []; each = All-nil IsWholeLine; counted = refl; split = refl }
+
+pub AreLines-one : (text : List ℕ) → IsWholeLine text → AreLines 1 text
+AreLines-one text whole = record { lines = text ∷ []; each = All-cons IsWholeLine text [] whole (All-nil IsWholeLine); counted = refl; split = sym (append-nil text) }
+
+pub AreLines-append : {n m : ℕ} {xs ys : List ℕ} → AreLines n xs → AreLines m ys → AreLines (n + m) (xs ++ ys)
+AreLines-append {n} {m} {xs} {ys} h k = record {
+  lines = h.lines ++ k.lines;
+  each = All-append IsWholeLine h.lines k.lines h.each k.each;
+  counted = omega (arith, length-append h.lines k.lines, h.counted, k.counted);
+  split = ap (λ t. t ++ ys) h.split ∙ ap (λ t. joined h.lines ++ t) k.split ∙ sym (flat_map-append (λ l. l) h.lines k.lines);
+}
+
+pub shape_whole : {most : ℕ} {l : List ℕ} → IsLine most l → IsWholeLine l
+shape_whole s = record { before = s.before; clean = s.clean; ends = s.ends }
+
+pub ends_first : (bytes : List ℕ) → IsLinePart bytes → EndsInLine 1 bytes
+ends_first bytes part = record { count = 0; number = refl; before = []; lines = AreLines-none; last = bytes; part = part; split = refl }
+
+pub EndsInLine-after : {n m k : ℕ} {xs ys : List ℕ} → AreLines n xs → EndsInLine m ys → k ≡ n + m → EndsInLine k (xs ++ ys)
+EndsInLine-after {n} {m} {k} {xs} {ys} h e all = record {
+  count = n + e.count;
+  number = (let x = e.number in omega arith);
+  before = xs ++ e.before;
+  lines = AreLines-append h e.lines;
+  last = e.last;
+  part = e.part;
+  split = ap (λ t. xs ++ t) e.split ∙ sym (append_assoc xs e.before e.last);
+}
+
+part_of : (bytes : List ℕ) (new : Incoming) → IsWholeLine bytes ⊎ (HasNoNewline bytes × ((new.is_over ≡ true) ⊎ (length bytes ≡ LINE_LEN))) → length bytes ≤ LINE_LEN
+    → IsLinePart bytes
+part_of bytes new (inl whole) few = record { newline = inl whole; few = few }
+part_of bytes new (inr h) few = record { newline = inr h.0; few = few }
+
+byte_part : (b : ℕ) (is : Bool) → eqb b 10 ≡ is → IsLinePart (b ∷ [])
+byte_part b true e = record { newline = inl (record { before = []; clean = All-nil Other; ends = ap (λ x. x ∷ []) (is_same b 10 e) }); few = omega arith }
+byte_part b false e = record {
+  newline = inr (All-cons Other b [] (λ same. false≢true (sym e ∙ ap (λ x. eqb x 10) same)) (All-nil Other));
+  few = omega arith;
+}
+
+-- a text whose first line, or as many bytes of it, comes before some others
+pub record FirstLine (most : ℕ) (text after : List ℕ) : Type 0 where
+  pub taken : List ℕ
+  pub split : text ≡ taken ++ after
+  pub few : length taken ≤ most
+  pub whole : IsWholeLine taken ⊎ (HasNoNewline taken × ((after ≡ []) ⊎ (length taken ≡ most)))
+
+no_zero : (most : ℕ) → eqb most 0 ≡ false → 1 ≤ most
+no_zero most e = grind (arith, nat_tests)
+
+first_step : (most b : ℕ) (bs after : List ℕ) (full ends : Bool) → eqb most 0 ≡ full → eqb b 10 ≡ ends → FirstLine (most - 1) bs after
+    → FirstLine most (b ∷ bs) (if full then b ∷ bs else if ends then bs else after)
+first_step most b bs after true ends e n h = record {
+  taken = [];
+  split = refl;
+  few = omega arith;
+  whole = inr (All-nil Other, inr (sym (is_same most 0 e)));
+}
+first_step most b bs after false true e n h = record {
+  taken = b ∷ [];
+  split = refl;
+  few = no_zero most e;
+  whole = inl (record { before = []; clean = All-nil Other; ends = ap (λ x. x ∷ []) (is_same b 10 n) });
+}
+first_step most b bs after false false e n h = record {
+  taken = b ∷ h.taken;
+  split = ap (λ l. b ∷ l) h.split;
+  few = (let x = h.few in let y = no_zero most e in omega arith);
+  whole = more h.whole;
+}
+  where
+    other : Other b
+    other same = false≢true (sym n ∙ ap (λ x. eqb x 10) same)
+
+    more : IsWholeLine h.taken ⊎ (HasNoNewline h.taken × ((after ≡ []) ⊎ (length h.taken ≡ most - 1)))
+        → IsWholeLine (b ∷ h.taken) ⊎ (HasNoNewline (b ∷ h.taken) × ((after ≡ []) ⊎ (length (b ∷ h.taken) ≡ most)))
+    more (inl w) = inl (record { before = b ∷ w.before; clean = All-cons Other b w.before other w.clean; ends = ap (λ l. b ∷ l) w.ends })
+    more (inr (clean, inl none)) = inr (All-cons Other b h.taken other clean, inl none)
+    more (inr (clean, inr all)) = inr (All-cons Other b h.taken other clean, inr (let y = no_zero most e in omega (arith, all)))
+
+pub first_line : (most : ℕ) (text : List ℕ) → FirstLine most text (after_line most text)
+first_line most [] = record { taken = []; split = refl; few = omega arith; whole = inr (All-nil Other, inl refl) }
+first_line most (b ∷ bs) = first_step most b bs (after_line (most - 1) bs) (eqb most 0) (eqb b 10) refl refl (first_line (most - 1) bs)
 
 abbrev at : Incoming → List ℕ → ℕ → Ahead
 at end lender line = record { end = end; lender = lender; line = line }
@@ -99,6 +215,7 @@ module _ {X : Type 0} {spell : X → List ℕ} {within : X → Type 0} {read : L
           inside = h.0;
           passes = record {
             reads = record { took = subst (λ (l : List ℕ). Took old l new) (spelled x rest h.0 h.1) t.took; failures = t.failures; lender = same_end };
+            lines = AreLines-one (spell x) (shape_whole (shape x h.0));
             counted = refl;
           };
         }
@@ -112,10 +229,11 @@ module _ {X : Type 0} {spell : X → List ℕ} {within : X → Type 0} {read : L
         let falls = t.took.bound in
         omega (arith, ap length (spelled x rest h.0 h.1 ∙ s.ends), length-append s.before (10 ∷ []))
 
-    pub stream_refuses : read bytes ≡ None → RefusesLine spell within (at old lender line) line (at new lender' line)
-    stream_refuses e = record {
+    pub stream_refuses : length bytes ≤ LINE_LEN → read bytes ≡ None → RefusesLine spell within (at old lender line) line (at new lender' line)
+    stream_refuses few e = record {
       here = refl;
       taken = bytes;
+      part = part_of bytes new t.whole few;
       reads = record { took = t.took; failures = t.failures; lender = same_end };
       none = none;
     }
@@ -139,15 +257,15 @@ module _ {X : Type 0} {spell : X → List ℕ} {within : X → Type 0} {read : L
             split (inr (clean, inl over)) =
                 no_newline bytes s.before rest clean (sym (append-nil bytes) ∙ ap (λ l. bytes ++ l) (sym (can over)) ∙ text)
             split (inr (clean, inr full)) =
-                newline_behind bytes s.before more rest clean (let few = s.few in omega (arith, full)) text
+                newline_after bytes s.before more rest clean (let few = s.few in omega (arith, full)) text
 
--- the exit of a `?` behind a line that was not read to its end
+-- the exit of a `?` after a line that was not read to its end
 pub stream_breaks : {X : Type 0} {spell : X → List ℕ} {within : X → Type 0} → ((x : X) → within x → IsLine 128 (spell x)) → {old new : Incoming} {lender lender' : List ℕ} (line : ℕ)
     → FailsInLine old new → lender' ≡ lender → (r : Result X Stop) → IsErrAnd r (λ s. s ≡ stop.Device) → LineGives spell within (at old lender line) r (at new lender' line)
 stream_breaks shape line f same (Ok x) is = absurd is
 stream_breaks {X} {spell} {within} shape {old} {new} {lender} {lender'} line f same (Err e) is =
     subst (λ (s : Stop). LineGives spell within (at old lender line) (Err s) (at new lender' line)) (sym is) record {
-      breaks = record { taken = f.taken; took = f.took; counted = f.counted; lender = same };
+      breaks = record { taken = f.taken; fails = f.fails; lender = same };
       none = none;
     }
   where
@@ -156,11 +274,17 @@ stream_breaks {X} {spell} {within} shape {old} {new} {lender} {lender'} line f s
         let s = shape x inside in
         no_newline f.taken s.before rest f.clean (whole ∙ ap (λ l. l ++ rest) s.ends ∙ append_assoc s.before (10 ∷ []) rest)
 
+-- the exit of a `?` where the end was not seen
+pub end_fails : {old new : Incoming} {lender lender' : List ℕ} (e : Device) (line : ℕ) → NextGives old (Err e) new → lender' ≡ lender
+    → EndGives (record { end = old; lender = lender; line = line }) (Err e) (record { end = new; lender = lender'; line = line })
+end_fails {old} e line next same = record { taken = []; fails = record { mid = old; took = Took-none old; read = refl; failed = next }; lender = same }
+
 pub sees_end : {old new : Incoming} {lender lender' : List ℕ} (o : Option ℕ) (b : Bool) (line : ℕ) → is_some o ≡ not b → NextGives old (Ok o) new → lender' ≡ lender
     → SeesEnd (at old lender line) b (at new lender' line)
 sees_end None false line e next same = absurd (cc)
 sees_end {old} {new} None true line e next same = record {
   taken = [];
+  part = record { newline = inr (All-nil Other); few = omega arith };
   reads = record { took = Took-next old new None next; failures = next.failures; lender = same };
   same = refl;
   nothing = λ _. (refl, next.over);
@@ -169,6 +293,7 @@ sees_end {old} {new} None true line e next same = record {
 sees_end (Some b) true line e next same = absurd (cc)
 sees_end {old} {new} (Some b) false line e next same = record {
   taken = b ∷ [];
+  part = byte_part b (eqb b 10) refl;
   reads = record { took = Took-next old new (Some b) next; failures = next.failures; lender = same };
   same = refl;
   nothing = λ e. absurd (cc);

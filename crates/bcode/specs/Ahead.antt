@@ -1,12 +1,13 @@
 -- What reading some lines takes from where they come from.
-use Rattle.std.specs.Prelude.{◌≡◌, ◌≢◌, ℕ, Bool, true, false, ◌+◌, ◌<◌, ◌≤◌, List, [], ◌∷◌, ◌++◌, length, ◌==◌, All}
+use Rattle.std.specs.Prelude.{◌≡◌, ◌≢◌, ℕ, suc, Bool, true, false, ◌+◌, ◌<◌, ◌≤◌, List, [], ◌∷◌, ◌++◌, length, ◌==◌, All}
 use Rattle.std.specs.Prelude.{Option, Some, None, Result, Ok, Err, ◌⊎◌}
 use Rattle.std.specs.List.{flat_map}
-use Rattle.bword.specs.ByteEnds.{Incoming, Took, Grew, CanFollow}
+use Rattle.bword.specs.ByteEnds.{Incoming, Took, CanFollow}
 use Rattle.bword.specs.declared.ends.Device.{Device}
 use Rattle.bword.specs.declared.edition.Edition.{Edition}
 use Rattle.bword.specs.declared.edition.Edition.TheVariants as editions
 use Rattle.bcode.specs.Headers.{header_of}
+use Rattle.bcode.specs.Streams.{AreLines, FailsAfter, IsLinePart, EndsInLine}
 use Rattle.bcode.specs.Stopping.{LineKind, IsOfKind, LineState, expects, IsStuckAfter, kinds_after}
 use Rattle.blang.specs.Text.{joined, lines_of, body_lines, header_line, definition_text, end_text, edition_line}
 use Rattle.blang.specs.Text.{IsWithinRanges}
@@ -48,13 +49,13 @@ pub record TakesBytes (old : Ahead) (taken : List ℕ) (new : Ahead) : Type 0 wh
 -- A text of so many lines was taken.
 pub record TakesText (old : Ahead) (text : List ℕ) (count : ℕ) (new : Ahead) : Type 0 where
   pub reads : TakesBytes old text new
+  pub lines : AreLines count text
   pub counted : new.line ≡ old.line + count
 
--- A read failed behind these bytes.
+-- A read failed after these bytes, and nothing was read after that.
 pub record BytesFail (old new : Ahead) : Type 0 where
   pub taken : List ℕ
-  pub took : Took old.end taken new.end
-  pub counted : Grew old.end.failures new.end.failures
+  pub fails : FailsAfter old.end taken new.end
   pub lender : new.lender ≡ old.lender
 
 module _ {X : Type 0} (spell : X → List ℕ) (within : X → Type 0) where
@@ -63,10 +64,11 @@ module _ {X : Type 0} (spell : X → List ℕ) (within : X → Type 0) where
     pub inside : within x
     pub passes : TakesText old (spell x) 1 new
 
-  -- No such line comes first, whatever follows the bytes that were taken.
+  -- No such line comes first, whatever follows the bytes that were taken, all of one line.
   pub record RefusesLine (old : Ahead) (n : ℕ) (new : Ahead) : Type 0 where
     pub here : n ≡ old.line
     pub taken : List ℕ
+    pub part : IsLinePart taken
     pub reads : TakesBytes old taken new
     pub none : (more : List ℕ) → CanFollow new.end more
         → (x : X) (rest : List ℕ) → within x → taken ++ more ≡ spell x ++ rest → ⊥
@@ -97,7 +99,7 @@ module _ {X : Type 0} (spell : X → List ℕ) (within : X → Type 0) where
     pub passes : TakesText old (flat_map spell read) (length read) mid
     pub refused : RefusesLine mid n new
 
-  -- A read failed behind fewer such lines.
+  -- A read failed after fewer such lines.
   pub record BreaksLines (count : ℕ) (old new : Ahead) : Type 0 where
     pub read : List X
     pub fewer : length read < count
@@ -124,11 +126,12 @@ abbrev pub ReadsOpening : Ahead → Edition → Ahead → Type 0
 ReadsOpening old editions.Two new = TakesText old edition_line 1 new
 ReadsOpening old editions.One new = (new ≡ old) × ((rest : List ℕ) → old.end.left ≡ Some (edition_line ++ rest) → ⊥)
 
--- The text stops at line n, whatever follows the bytes that were taken.
+-- The text stops at line n, whatever follows the bytes that were taken, none of which is of a later line.
 pub record StopsAhead (from : LineState) (old : Ahead) (n : ℕ) (new : Ahead) : Type 0 where
   pub good : ℕ
   pub there : n ≡ old.line + good
   pub taken : List ℕ
+  pub near : EndsInLine (suc good) taken
   pub reads : TakesBytes old taken new
   pub stops : (more : List ℕ) → CanFollow new.end more → IsStuckAfter good from (taken ++ more)
 
@@ -137,7 +140,7 @@ pub record StopsAmong (kinds : List LineKind) (old : Ahead) (n : ℕ) (new : Ahe
   pub stopped : StopsAhead (expects kinds) old n new
   pub among : stopped.good < length kinds
 
--- The lines behind the header of d were read.
+-- The lines after the header of d were read.
 pub record ReadsBody (h : Header) (old : Ahead) (d : Definition) (new : Ahead) : Type 0 where
   pub header : header_of d ≡ h
   pub inside : IsWithinRanges d
@@ -183,7 +186,7 @@ pub record StopsInside (old : Ahead) (n : ℕ) (new : Ahead) : Type 0 where
   pub none : (more : List ℕ) → CanFollow new.end more
       → (d : Definition) (rest : List ℕ) → IsWithinRanges d → stopped.taken ++ more ≡ definition_text d ++ rest → ⊥
 
--- A definition comes, of which the first line was read, and nothing behind the last one.
+-- A definition comes, of which the first line was read, and nothing after the last one.
 pub record HasNext (old new : Ahead) : Type 0 where
   pub taken : List ℕ
   pub reads : TakesBytes old taken new
@@ -215,6 +218,7 @@ TextGives old (Err f) new = DefinitionGives (ahead_in old) (Err (stop.Fault f)) 
 -- No byte was left; or one was taken.
 pub record SeesEnd (old : Ahead) (is_over : Bool) (new : Ahead) : Type 0 where
   pub taken : List ℕ
+  pub part : IsLinePart taken
   pub reads : TakesBytes old taken new
   pub same : new.line ≡ old.line
   pub nothing : is_over ≡ true → (taken ≡ []) × (new.end.is_over ≡ true)
@@ -247,7 +251,7 @@ abbrev pub opening_line : Bool → List ℕ
 opening_line true = edition_line
 opening_line false = []
 
--- A read failed before a definition is whole behind what may have to come before it.
+-- A read failed before a definition is whole after what may have to come before it.
 pub record BreaksNext (opens : Bool) (old new : Ahead) : Type 0 where
   pub breaks : BytesFail old new
   pub none : (d : Definition) (rest : List ℕ) → IsWithinRanges d
@@ -264,10 +268,10 @@ NextDefinitionGives opens old (Err (stop.Fault fault.Memory)) new = (mid : Ahead
     × HasNext mid new
 NextDefinitionGives opens old (Err stop.Device) new = BreaksNext opens old new
 
--- nothing came behind the last line; or something did, in a line of this number
+-- nothing came after the last line; or something did, in a line of this number
 abbrev pub EndingGives : Ahead → Result (Unit {0}) Stop → Ahead → Type 0
 EndingGives old (Ok u) new = TakesBytes old [] new × (new.end.is_over ≡ true)
 EndingGives old (Err (stop.Fault (fault.Line n))) new = (n ≡ old.line)
-    × ((taken : List ℕ) × (taken ≢ []) × TakesBytes old taken new)
+    × ((taken : List ℕ) × (taken ≢ []) × IsLinePart taken × TakesBytes old taken new)
 EndingGives old (Err (stop.Fault fault.Memory)) new = ⊥
 EndingGives old (Err stop.Device) new = BytesFail old new

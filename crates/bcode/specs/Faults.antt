@@ -20,7 +20,7 @@ abbrev pub BeginsCodeText : List ℕ → ℕ → Type 0
 BeginsCodeText text m = (edition : Edition) × BeginsIn edition text m
 
 -- n is one more than the greatest number of which this holds.
-pub record IsBehind (P : ℕ → Type 0) (n : ℕ) : Type 0 where
+pub record IsLineAfter (P : ℕ → Type 0) (n : ℕ) : Type 0 where
   pub good : ℕ
   pub next : n ≡ suc good
   pub begins : P good
@@ -28,13 +28,13 @@ pub record IsBehind (P : ℕ → Type 0) (n : ℕ) : Type 0 where
 
 -- n is one more than the greatest number of first lines of the text that begin a code text
 abbrev pub IsFaultLine : List ℕ → ℕ → Type 0
-IsFaultLine text n = IsBehind (BeginsCodeText text) n
+IsFaultLine text n = IsLineAfter (BeginsCodeText text) n
 
 -- the same of the texts of one edition
 abbrev pub IsFaultLineIn : Edition → List ℕ → ℕ → Type 0
-IsFaultLineIn edition text n = IsBehind (BeginsIn edition text) n
+IsFaultLineIn edition text n = IsLineAfter (BeginsIn edition text) n
 
--- Behind some definitions the first line of another one stands.
+-- After some definitions the first line of another one stands.
 pub record HasHeader (text : List ℕ) : Type 0 where
   pub edition : Edition
   pub definitions : List Definition

@@ -7,6 +7,7 @@ use Rattle.bword.specs.declared.edition.Edition.{Edition}
 use Rattle.bword.specs.declared.edition.Edition.TheVariants as editions
 use Rattle.bcode.specs.Ahead.{Ahead, TakesBytes, TakesText, BytesFail}
 use Rattle.bcode.specs.Faults.{IsFaultLineIn}
+use Rattle.bcode.specs.Streams.{EndsInLine}
 use Rattle.blang.specs.Text.{opening, opening_lines, header_line, lines_of, definition_text, IsTextOf, IsWithinRanges}
 use Rattle.bcode.specs.declared.code_step.CodeStep.{CodeStep}
 use Rattle.bcode.specs.declared.code_step.CodeStep.TheVariants as step
@@ -69,7 +70,7 @@ pub record MoreCanBeRead (r : CodeReader) : Type 0 where
   pub before : List Definition
   pub since : HasTaken r before
 
--- d was read: the one behind those that were read before.
+-- d was read: the one after those that were read before.
 pub record Gave (before : List Definition) (old : CodeReader) (d : Definition) (new : CodeReader) : Type 0 where
   pub now : HasTaken new (before ++ d ∷ [])
   pub falls : new.ahead.end.bound < old.ahead.end.bound
@@ -82,25 +83,27 @@ pub record TextEnded (before : List Definition) (old new : CodeReader) : Type 0 
   pub over : new.ahead.end.is_over ≡ true
   pub closed : new.is_closed ≡ true
 
--- No definition comes whole behind those that were read before.
+-- No definition comes whole after those that were read before.
 abbrev pub NoneWhole : Edition → List ℕ → List Definition → Type 0
 NoneWhole edition text before =
     (d : Definition) (rest : List ℕ) → IsWithinRanges d
     → text ≡ opening edition ++ flat_map definition_text before ++ (definition_text d ++ rest) → ⊥
 
--- Whatever follows the bytes taken, line n is the first that no text of the edition goes on with.
+-- Whatever follows the bytes taken, line n is the first that no text of the edition goes on with. No byte after it was
+-- taken.
 pub record StoppedAtLine (before : List Definition) (old : CodeReader) (n : ℕ) (new : CodeReader) : Type 0 where
   pub taken : List ℕ
+  pub near : EndsInLine n taken
   pub reads : TakesBytes (all_ahead old.first) taken new.ahead
-  pub behind : List ℕ
-  pub split : taken ≡ opening_read old ++ flat_map definition_text before ++ behind
+  pub following : List ℕ
+  pub split : taken ≡ opening_read old ++ flat_map definition_text before ++ following
   pub fault : (more : List ℕ) → CanFollow new.ahead.end more → IsFaultLineIn old.first.edition (taken ++ more) n
   pub no_text : (more : List ℕ) → CanFollow new.ahead.end more → (ds : List Definition)
       → IsTextOf old.first.edition (taken ++ more) ds → ⊥
   pub none : (more : List ℕ) → CanFollow new.ahead.end more → NoneWhole old.first.edition (taken ++ more) before
   pub closed : new.is_closed ≡ true
 
--- Memory was refused behind the first line of a definition, behind whose last line no byte was taken.
+-- Memory was refused after the first line of a definition, after whose last line no byte was taken.
 pub record MemoryRefused (before : List Definition) (old new : CodeReader) : Type 0 where
   pub taken : List ℕ
   pub reads : TakesBytes (all_ahead old.first) taken new.ahead
@@ -112,7 +115,7 @@ pub record MemoryRefused (before : List Definition) (old new : CodeReader) : Typ
   pub whole : definition_text next ≡ header_line next ++ rest ++ more
   pub closed : new.is_closed ≡ true
 
--- A read failed before a further definition was whole.
+-- A read failed before a further definition was whole, and nothing was read after that.
 pub record ReadBroke (before : List Definition) (old new : CodeReader) : Type 0 where
   pub breaks : BytesFail old.ahead new.ahead
   pub none : NoneWhole old.first.edition (opening_read old ++ flat_map definition_text before ++ breaks.taken) before
@@ -129,20 +132,20 @@ abbrev pub is_last_step : CodeStep → Bool
 is_last_step (step.Definition d) = false
 is_last_step _ = true
 
--- what a call does behind these definitions
-abbrev pub GivesBehind : List Definition → CodeReader → CodeStep → CodeReader → Type 0
-GivesBehind before old (step.Definition d) new = Gave before old d new
-GivesBehind before old step.End new = TextEnded before old new
-GivesBehind before old (step.Fault (fault.Line n)) new = StoppedAtLine before old n new
-GivesBehind before old (step.Fault fault.Memory) new = MemoryRefused before old new
-GivesBehind before old step.Device new = ReadBroke before old new
-GivesBehind before old step.Closed new = ⊥
+-- what a call does after these definitions
+abbrev pub GivesAfter : List Definition → CodeReader → CodeStep → CodeReader → Type 0
+GivesAfter before old (step.Definition d) new = Gave before old d new
+GivesAfter before old step.End new = TextEnded before old new
+GivesAfter before old (step.Fault (fault.Line n)) new = StoppedAtLine before old n new
+GivesAfter before old (step.Fault fault.Memory) new = MemoryRefused before old new
+GivesAfter before old step.Device new = ReadBroke before old new
+GivesAfter before old step.Closed new = ⊥
 
 -- what a call does, whichever definitions were read before
 abbrev pub StepGives : CodeReader → CodeStep → CodeReader → Type 0
 StepGives old step.Closed new = (old.is_closed ≡ true) × (new ≡ old)
 StepGives old answer new =
-    MoreCanBeRead old × ((before : List Definition) → HasTaken old before → GivesBehind before old answer new)
+    MoreCanBeRead old × ((before : List Definition) → HasTaken old before → GivesAfter before old answer new)
 
 -- the reader is over the same end
 pub record SameReader (old new : CodeReader) : Type 0 where

@@ -29,7 +29,7 @@ pub data LineState : Type 0 where
   expects : List LineKind → LineState
   finished : LineState
 
--- the lines behind a first line
+-- the lines after a first line
 abbrev pub kinds_after : Header → List LineKind
 kinds_after (header.Function name parameters s) =
     replicate s.labels (target s.code) ++ (replicate s.strings string ++ replicate s.code (instruction s))

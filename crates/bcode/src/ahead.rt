@@ -1,6 +1,7 @@
 //! The lines of a text in memory.
-ghost use Rattle.std.specs.Prelude.{◌≡◌, ◌≢◌, ◌+◌, ◌<◌, true, false, length, []};
+ghost use Rattle.std.specs.Prelude.{◌≡◌, ◌≢◌, ◌+◌, ◌<◌, ◌≤◌, true, false, length, []};
 ghost use Rattle.bcode.specs.Ahead.{ahead_in, ReadsOpening};
+ghost use Rattle.bcode.specs.Streams.{after_line};
 ghost use Rattle.bcode.specs.declared.fault.CodeFault.TheVariants as faults;
 ghost use Rattle.bcode.specs.declared.stop.Stop.TheVariants as stops;
 
@@ -9,7 +10,7 @@ use crate::line_source::LineSource;
 use crate::lines::{header, instr, ival, number_line};
 use crate::stop::Stop;
 use crate::{CodeFault, Instr, Ival};
-use blang::Sizes;
+use blang::{LINE_LEN, Sizes};
 use bword::Edition;
 use std::marker::Model;
 
@@ -55,7 +56,7 @@ impl<'a> Ahead<'a> {
         self.line
     }
 
-    /// The edition of the text, behind whose first line the text goes on if that is the edition's.
+    /// The edition of the text, after whose first line the text goes on if that is the edition's.
     pub fn edition(&mut self) -> Edition
         ensures { ReadsOpening (ahead_in self.old) result (ahead_in self.new) }
     {
@@ -66,7 +67,7 @@ impl<'a> Ahead<'a> {
         Edition::Two
     }
 
-    // Goes on behind a line.
+    // Goes on after a line.
     fn advance(&mut self, rest: &'a [u8])
         requires { length rest.now < length self.old.text }
         ensures { self.new ≡ record { text = rest.now; line = self.old.line + 1 } }
@@ -75,12 +76,12 @@ impl<'a> Ahead<'a> {
         self.line += 1;
     }
 
-    // All that is left was looked at.
+    // Takes the line that is at fault, or as many of its bytes as a line of code has.
     fn refuse(&mut self) -> Stop
-        ensures all { self.new ≡ record { text = []; line = self.old.line } }
+        ensures taken { self.new ≡ record { text = after_line LINE_LEN self.old.text; line = self.old.line } }
         ensures stop { result ≡ stops.Fault (faults.Line self.old.line) }
     {
-        self.text = &[];
+        self.text = after_line(LINE_LEN, self.text);
         Stop::Fault(CodeFault::Line(self.line))
     }
 }
@@ -119,4 +120,21 @@ impl LineSource for Ahead<'_> {
         self.advance(rest);
         Ok(n)
     }
+}
+
+// What comes after the first line, or after so many bytes of it.
+fn after_line(most: usize, text: &[u8]) -> &[u8]
+    ensures after { result.now ≡ after_line most text.now }
+    ensures fewer { length result.now ≤ length text.now }
+{
+    let [byte, rest @ ..] = text else {
+        return text;
+    };
+    if most == 0 {
+        return text;
+    }
+    if *byte == b'\n' {
+        return rest;
+    }
+    after_line(most - 1, rest)
 }

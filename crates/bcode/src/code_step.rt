@@ -12,7 +12,7 @@ pub enum CodeStep {
     Definition(Definition),
     /// There is none, and the text ends.
     End,
-    /// No code text goes on so, or memory was refused.
+    /// No code text goes on so, or memory ran out.
     Fault(CodeFault),
     /// A read failed.
     Device,
@@ -33,7 +33,7 @@ impl CodeStep {
         }
     }
 
-    /// Whether nothing comes behind it.
+    /// Whether nothing comes after it.
     pub(crate) fn is_last(&self) -> bool
         ensures { result ≡ is_last_step self.now }
     {

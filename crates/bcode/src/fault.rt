@@ -11,7 +11,7 @@ pub enum CodeFault {
     /// No code text goes on with this line, or the text ends before the line does. Lines count from 1.
     #[error("code {0}")]
     Line(u64),
-    /// A growth was refused.
+    /// Out of memory.
     #[error("memory")]
     Memory,
 }

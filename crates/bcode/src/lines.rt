@@ -27,7 +27,7 @@ use crate::{Increment, Instr, Ival};
 use blang::{Sizes, WORD_VALUES};
 use bword::{BinOp, Name};
 
-// The text behind the end of a line, beside what stood in the line.
+// The text after the end of a line, beside what stood in the line.
 #[tactic(auto, unfolding(crate::specs::LineReading::line_ended))]
 fn ended<T: Drop>(value: T, text: &[u8]) -> Option<(T, &[u8])>
     ensures { Gives (λ r. (r.0, r.1.now)) result (line_ended value text.now) }

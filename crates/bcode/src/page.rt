@@ -12,7 +12,7 @@ use bword::{BinOp, ByteOut, EndFault, Name};
 use itoa::{Buffer, write_digits};
 use std::marker::Model;
 
-/// The most bytes that go to an end at once.
+/// The most bytes that go to a stream at once.
 pub const PAGE_LEN: usize = 4096;
 
 /// Lines that are to be put.
@@ -75,15 +75,15 @@ impl Page {
         self.len = end;
     }
 
-    // The digits of a number, which are written where they are to stand, and a byte behind them.
-    fn push_digits(&mut self, n: u16, behind: u8)
+    // The digits of a number, which are written where they are to stand, and a byte after them.
+    fn push_digits(&mut self, n: u16, following: u8)
         requires { length self.old + 6 ≤ PAGE_LEN }
-        ensures digits { self.new ≡ self.old ++ decimal n ++ behind ∷ [] }
+        ensures digits { self.new ≡ self.old ++ decimal n ++ following ∷ [] }
         ensures len { length self.new ≤ length self.old + 6 }
     {
         let end = self.len + digits(n);
         write_digits(u64::from(n), &mut self.bytes, end);
-        self.bytes[end] = behind;
+        self.bytes[end] = following;
         self.len = end + 1;
     }
 }
@@ -115,7 +115,7 @@ pub fn make_room<O: ByteOut>(page: &mut Page, out: &mut O) -> Result<(), EndFaul
     Ok(())
 }
 
-// Another part of a line, behind a space.
+// Another part of a line, after a space.
 fn push_part(page: &mut Page, part: &[u8])
     requires { length page.old + length part.now + 1 ≤ PAGE_LEN }
     ensures { page.new ≡ page.old ++ codes " " ++ part.now }

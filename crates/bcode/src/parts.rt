@@ -6,7 +6,7 @@ ghost use Rattle.bcode.specs.Reading.{Gives, expect_byte, number_from, number_at
 use blang::WORD_VALUES;
 use bword::Name;
 
-/// The text behind this byte, where it begins with it.
+/// The text after this byte, where it begins with it.
 #[tactic(auto, unfolding(crate::specs::Reading::expect_byte))]
 pub fn expect(text: &[u8], byte: u8) -> Option<&[u8]>
     ensures { Gives (λ rest. rest.now) result (expect_byte byte text.now) }
@@ -17,7 +17,7 @@ pub fn expect(text: &[u8], byte: u8) -> Option<&[u8]>
     }
 }
 
-/// A number below a bound without needless zeros, and the text behind the byte that ends it.
+/// A number below a bound without needless zeros, and the text after the byte that ends it.
 #[tactic(auto, unfolding(crate::specs::Reading::number_at, crate::specs::Reading::number_from))]
 pub fn number(text: &[u8], end: u8, below: u32) -> Option<(u16, &[u8])>
     requires { below ≤ WORD_VALUES }
@@ -25,10 +25,10 @@ pub fn number(text: &[u8], end: u8, below: u32) -> Option<(u16, &[u8])>
 {
     let (first, mut rest) = text.split_first()?;
     let mut value = digit(*first)?;
-    while let Some((byte, behind)) = rest.split_first() {
+    while let Some((byte, following)) = rest.split_first() {
         if *byte == end {
             return if value < below {
-                Some((value as u16, behind))
+                Some((value as u16, following))
             } else {
                 None
             };
@@ -40,7 +40,7 @@ pub fn number(text: &[u8], end: u8, below: u32) -> Option<(u16, &[u8])>
         if value > u32::from(u16::MAX) {
             return None;
         }
-        rest = behind;
+        rest = following;
     }
     None
 }
@@ -55,7 +55,7 @@ fn digit(byte: u8) -> Option<u32>
     }
 }
 
-/// A name, and the text behind the byte that ends it.
+/// A name, and the text after the byte that ends it.
 #[tactic(auto, unfolding(crate::specs::Reading::name_text_at))]
 pub fn name(text: &[u8], end: u8) -> Option<(Name, &[u8])>
     ensures { Gives (λ r. (r.0, r.1.now)) result (name_text_at end text.now) }

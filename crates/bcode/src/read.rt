@@ -23,8 +23,8 @@ use std::alloc::Global;
 
 /// Reads a code text, all of it.
 ///
-/// A `Line` tells how far the text could still have become a code text: with more text behind the lines
-/// before this one it could, and with no text behind this one, if it is there, it could not.
+/// A `Line` tells how far the text could still have become a code text: with more text after the lines
+/// before this one it could, and with no text after this one, if it is there, it could not.
 pub fn read_code(alloc: Global, text: &[u8]) -> Result<Vec<Definition>, CodeFault>
     ensures ok { IfOk result (λ v. IsCodeText text.now v.items) }
     ensures only { (ds : List Definition) → IsCodeText text.now ds

@@ -1,6 +1,7 @@
 //! The reader of a code text that comes in a stream.
 ghost use Rattle.std.specs.Prelude.{◌≡◌};
 ghost use Rattle.bcode.specs.Ahead.{NextDefinitionGives, OpeningGives, EndingGives};
+ghost use Rattle.bcode.specs.Excluded.{Excluded};
 ghost use Rattle.bcode.specs.Readers.{SameReader, StepGives, reader_start, to_open};
 ghost use Rattle.bcode.specs.Readers as readers;
 
@@ -57,8 +58,9 @@ impl<I: ByteIn> CodeReader<I> {
 
     /// Reads the next definition, to the end of its last line and no byte further.
     ///
-    /// A line that is longer than any of a code text is at fault when its 128th byte was taken. After the first answer
-    /// that isn't `Definition`, each call answers `Closed` and reads nothing.
+    /// A line at fault is read to its end, and no byte further. One that is longer than any of a code text is at fault
+    /// when its 128th byte was taken. After the first answer that isn't `Definition`, each call answers `Closed` and
+    /// reads nothing.
     pub fn next(&mut self) -> CodeStep
         ensures gives { StepGives self.old result self.new }
         ensures keeps { SameReader self.old self.new }
@@ -73,7 +75,7 @@ impl<I: ByteIn> CodeReader<I> {
         step
     }
 
-    /// The end, behind the bytes that were taken.
+    /// The stream, after the bytes that were taken.
     pub fn into_end(self) -> I
         ensures end { I.incoming result ≡ self.ahead.end }
         ensures lender { I.lender result ≡ self.ahead.lender }
@@ -117,7 +119,7 @@ fn read_opening<I: ByteIn>(opens: bool, lines: &mut Stream<I>) -> Result<(), Sto
     if opens { lines.opening() } else { Ok(()) }
 }
 
-// The end of the input, behind the last line.
+// The end of the input, after the last line.
 fn read_end<I: ByteIn>(lines: &mut Stream<I>) -> Result<(), Stop>
     ensures { EndingGives lines.old result lines.new }
 {
@@ -126,3 +128,8 @@ fn read_end<I: ByteIn>(lines: &mut Stream<I>) -> Result<(), Stop>
     }
     Err(Stop::Fault(CodeFault::Line(lines.line())))
 }
+
+/// At a line that is at fault no byte after it is taken, and no more of its bytes than a line of code has.
+pub fn wrong_readers_are_excluded()
+    ensures { Excluded }
+{}

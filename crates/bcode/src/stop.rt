@@ -9,7 +9,7 @@ use std::alloc::{AllocError, AllocFailed};
 /// Why reading goes no further.
 #[derive(Clone, Copy, Drop)]
 pub enum Stop {
-    /// The text goes on otherwise, or memory was refused.
+    /// The text goes on otherwise, or memory ran out.
     Fault(CodeFault),
     /// A read failed.
     Device,

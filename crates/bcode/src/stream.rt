@@ -1,5 +1,5 @@
 //! The lines of a text that comes byte by byte.
-ghost use Rattle.std.specs.Prelude.{ℕ, ◌≡◌, ◌≢◌, ◌<◌, ◌≤◌, ◌∷◌, [], decimal};
+ghost use Rattle.std.specs.Prelude.{ℕ, ◌≡◌, ◌≢◌, ◌<◌, ◌≤◌, ◌∷◌, [], decimal, length, OnOk};
 ghost use Rattle.bcode.specs.Ahead.{LineGives, EndGives};
 ghost use Rattle.blang.specs.CodeParts.{IsInstrWithin, IsIvalWithin};
 ghost use Rattle.bcode.specs.Headers.{header_text, IsHeaderWithin};
@@ -19,7 +19,7 @@ use std::marker::Model;
 /// A line, or as much of one as tells that it is none of a code text.
 type Line = ArrayVec<u8, LINE_LEN>;
 
-/// The lines of an end, of which it takes each to its last byte and no byte behind it.
+/// The lines of a stream. It takes each to its last byte, and no byte after it.
 #[derive(Drop)]
 pub struct Stream<I: ByteIn> {
     input: I,
@@ -42,7 +42,7 @@ impl<I: ByteIn> Model for Stream<I> {
 }
 
 impl<I: ByteIn> Stream<I> {
-    /// All lines of the end.
+    /// All lines of the stream.
     pub fn new(input: I) -> Self
         ensures { result ≡ record { end = I.incoming input; lender = I.lender input; line = 1 } }
     {
@@ -53,7 +53,7 @@ impl<I: ByteIn> Stream<I> {
         }
     }
 
-    /// The end, behind the lines that were read.
+    /// The stream, after the lines that were read.
     pub fn into_end(self) -> I
         ensures end { I.incoming result ≡ self.end }
         ensures lender { I.lender result ≡ self.lender }
@@ -131,6 +131,7 @@ impl<I: ByteIn> LineSource for Stream<I> {
 // Takes a line, or as much of one as tells that it is none of a code text.
 fn read_line<I: ByteIn>(input: &mut I, line: &mut Line) -> Result<(), Device>
     ensures gives { TakingGives (I.incoming input.old) result line.new.items (I.incoming input.new) }
+    ensures few { OnOk result (length line.new.items ≤ LINE_LEN) }
     ensures same { I.lender input.new ≡ I.lender input.old }
 {
     line.clear();

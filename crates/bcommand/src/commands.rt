@@ -1,4 +1,4 @@
-//! The commands of the program, their options and arguments, as `clap` reads them.
+//! The commands of the program with their options and arguments, as `clap` reads them.
 ghost use Rattle.std.specs.Prelude.{◌≡◌, IfOk, false};
 ghost use Rattle.clap.specs.Words.{app_of, new_app, rule_of};
 ghost use Rattle.bcommand.specs.CommandLine.{bare_line, command_line};
@@ -11,7 +11,7 @@ use crate::texts::{
 use clap::{Arg, ArgAction, Command, value_parser};
 use std::alloc::{AllocError, Global};
 
-/// A command, with what help tells of it.
+/// A command, with its texts of help.
 #[derive(Clone, Copy)]
 pub(crate) struct CommandRow {
     name: &'static str,
@@ -21,7 +21,7 @@ pub(crate) struct CommandRow {
     arguments: &'static [ArgumentRow],
 }
 
-/// An option, a flag or an argument of a command, with what help tells of it.
+/// An option, a flag or an argument of a command, with its text of help.
 #[derive(Clone, Copy)]
 pub(crate) struct ArgumentRow {
     id: &'static str,
@@ -53,37 +53,37 @@ const EDITION: ArgumentRow = ArgumentRow {
 const STEPS: ArgumentRow = ArgumentRow {
     id: "steps",
     kind: Kind::Number(MOST_STEPS),
-    help: "The most steps, from 1 to 4000000000; 10000000 if not given",
+    help: "At most N steps, 1 to 4000000000; 10000000 if not given",
 };
 
 const TRACE_STEPS: ArgumentRow = ArgumentRow {
     id: "steps",
     kind: Kind::Number(MOST_STEPS),
-    help: "The most steps, from 1 to 4000000000; 1000 if not given",
+    help: "At most N steps, 1 to 4000000000; 1000 if not given",
 };
 
 const MOMENT: ArgumentRow = ArgumentRow {
     id: "steps",
     kind: Kind::Number(MOST_STEPS),
-    help: "The picture after so many steps, from 1 to 4000000000",
+    help: "Draws memory after N steps, 1 to 4000000000",
 };
 
 const FROM: ArgumentRow = ArgumentRow {
     id: "from",
     kind: Kind::Number(MOST_STEPS),
-    help: "The first step shown, 1 to 4000000000; 1 if not given",
+    help: "Shows steps from N on, 1 to 4000000000; 1 if not given",
 };
 
 const FUNCTION: ArgumentRow = ArgumentRow {
     id: "function",
     kind: Kind::Named,
-    help: "The function whose steps are shown; all if not given",
+    help: "Shows the steps of this function; of all if not given",
 };
 
 const NO_LIMIT: ArgumentRow = ArgumentRow {
     id: "no-limit",
     kind: Kind::Flag,
-    help: "As many steps as it takes",
+    help: "Makes as many steps as the run takes",
 };
 
 const WHERE: ArgumentRow = ArgumentRow {
@@ -95,13 +95,13 @@ const WHERE: ArgumentRow = ArgumentRow {
 const JSON: ArgumentRow = ArgumentRow {
     id: "json",
     kind: Kind::Flag,
-    help: "An object a line, for an editor",
+    help: "Writes one object on each line, for an editor",
 };
 
 const SVG: ArgumentRow = ArgumentRow {
     id: "svg",
     kind: Kind::Flag,
-    help: "A picture as an SVG file",
+    help: "Draws a picture, an SVG file",
 };
 
 const FILE: ArgumentRow = ArgumentRow {
@@ -113,7 +113,7 @@ const FILE: ArgumentRow = ArgumentRow {
 const NAME: ArgumentRow = ArgumentRow {
     id: "NAME",
     kind: Kind::Positional(false),
-    help: "The definition to list; all of them if not given",
+    help: "The definition to list; all if not given",
 };
 
 const COMMANDS: [CommandRow; 8] = [
@@ -161,7 +161,7 @@ const COMMANDS: [CommandRow; 8] = [
     },
     CommandRow {
         name: "check",
-        about: "Tells what is wrong in the source in FILE, where, and how to mend it",
+        about: "Tells what is wrong in the source in FILE, where, and how to fix it",
         usage: None,
         help: CHECK_HELP,
         arguments: &[EDITION, FILE, JSON],
@@ -206,7 +206,7 @@ fn bare_command<'a>(alloc: Global) -> Result<Command<'a>, AllocError>
     Ok(all)
 }
 
-// The command that a row tells of.
+// The command of a row.
 fn command_of<'a>(alloc: Global, row: CommandRow) -> Result<Command<'a>, AllocError>
     ensures { IfOk result (λ c. app_of c ≡ command_in row) }
 {
@@ -230,7 +230,7 @@ fn named_command<'a>(alloc: Global, row: CommandRow) -> Command<'a>
     }
 }
 
-// The option, flag or argument that a row tells of.
+// The option, flag or argument of a row.
 fn argument_of<'a>(alloc: Global, row: ArgumentRow) -> Arg<'a>
     ensures rule { rule_of result ≡ rule_in row }
     ensures local { result.global ≡ false }

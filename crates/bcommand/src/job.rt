@@ -7,17 +7,17 @@ pub enum Job<'a> {
     Compile(Edition),
     Run(Target<'a>),
     Go(Target<'a>, Edition),
-    /// A run that tells where it was over.
+    /// A run that tells where it ended.
     Locate(Target<'a>, Edition),
     Migrate,
     List(Subject<'a>),
     Map(Subject<'a>),
     /// A picture of memory, after so many steps if a number is given.
     Draw(Subject<'a>, Option<u64>),
-    /// What is wrong in a source, and whether it is told to an editor.
+    /// A check of a source, and whether an editor reads it.
     Check(Subject<'a>, bool),
     Trace(Walk<'a>),
-    /// A limit of steps and none.
+    /// Both a limit of steps and no limit, which contradict each other.
     Contradiction,
 }
 
@@ -33,7 +33,7 @@ pub struct Walk<'a> {
     pub function: Option<&'a str>,
 }
 
-/// A source that is told of, and of its definitions those of a name alone, if there is one.
+/// A source to show, or only its definitions of a name, if there is one.
 #[derive(Clone, Copy)]
 pub struct Subject<'a> {
     pub file: &'a str,

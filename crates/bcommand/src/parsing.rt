@@ -9,15 +9,15 @@ use bword::Edition;
 use clap::{ArgMatches, Error};
 use std::alloc::Global;
 
-/// The steps of a run where the command doesn't say how many.
+/// The steps of a run if the command doesn't say how many.
 const DEFAULT_STEPS: u64 = 10_000_000;
 
-/// The steps of a trace where the command doesn't say how many.
+/// The steps of a trace if the command doesn't say how many.
 const DEFAULT_TRACE_STEPS: u64 = 1_000;
 
 /// What the words of a command line ask for; the first one is the program's own name.
 ///
-/// Help that is asked for is an error, too.
+/// A request for help is an error, too.
 pub fn parse<'a>(alloc: Global, words: &'a [String]) -> Result<Job<'a>, Error>
     ensures ok { IfOk result (λ job. (fault_of command_line (map string_bytes words.entry.now) ≡ [])
         × (asked_of job ≡ asked (subcommand_of command_line (map string_bytes words.entry.now)))) }

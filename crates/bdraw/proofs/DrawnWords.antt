@@ -1,4 +1,4 @@
--- The words that shapes show, one behind another.
+-- The words that shapes show, one after another.
 use Rattle.std.proofs.Common.{◌≡◌, ◌∙◌, ℕ, ◌+◌, ◌%◌, ◌<◌, List, [], ◌∷◌, ◌++◌, ap, append-nil, append_assoc, arith, get_or, length, map, suc, sym, take}
 use Rattle.std.specs.Prelude.{slice_index}
 use Rattle.std.specs.List.{flat_map}
@@ -15,7 +15,7 @@ next_address : (first n : ℕ) → addresses_from first (n + 1) ≡ addresses_fr
 next_address first n = let e : n + 1 ≡ suc n = omega arith in ap (addresses_from first) e
 
 module _ (image : Image) (words : List ℕ) where
-  -- words of these addresses behind others
+  -- words of these addresses after others
   pub both : (a b c : List Shape) (xs ys : List ℕ) → drawn b ≡ drawn a ++ map (seen image words) xs → drawn c ≡ drawn b ++ map (seen image words) ys → drawn c ≡ drawn a ++ map (seen image words) (xs ++ ys)
   both a b c xs ys first second =
       second ∙ ap (λ d. d ++ map (seen image words) ys) first ∙ append_assoc (drawn a) (map (seen image words) xs) (map (seen image words) ys)

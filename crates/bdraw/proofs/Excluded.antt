@@ -11,6 +11,7 @@ use Rattle.bword.proofs.Remaining.{rest_after}
 use Rattle.bword.specs.ByteEnds.{Grew, Incoming, Outgoing, Writes, outgoing_of}
 use Rattle.bmach.specs.Resolved.{IsLoadedFrom}
 use Rattle.bmach.specs.Stepping.{HasEnd}
+use Rattle.bmach.proofs.Running.{device_failed}
 use Rattle.blang.specs.declared.code.Definition.{Definition}
 use Rattle.blang.specs.declared.run.LoadFault.{LoadFault}
 use Rattle.blang.specs.declared.run.Outcome.{Outcome}
@@ -115,7 +116,7 @@ module _ (ds : List Definition) (image : Image) where
     device_run n (draws.after words h s) = inr (show_device words o q s)
     device_run n (draws.over result words over end h s) = inr (show_device words o q s)
     device_run n (draws.not_begun result b end s same) = inr (show_device image.words o q s)
-    device_run n (draws.unread over same is) = elim (over.1.reason) [ inl read ↦ inl read | inr written ↦ absurd (not_grown 0 0 refl refl written) ]
+    device_run n (draws.unread over same is) = elim (device_failed (run image) n i j nothing_written (outgoing_of over.0) over.1) [ inl read ↦ inl read | inr written ↦ absurd (not_grown 0 0 refl refl written) ]
     device_run n (draws.no_memory same quiet is) = absurd (omega (arith, is))
 
     device_in : (steps : Option ℕ) → DrawsProgram ds image steps i j o q 133 → Grew i.failures j.failures ⊎ Grew o.failures q.failures
@@ -163,30 +164,30 @@ module _ (edition : Edition) (source : List ℕ) (r : Compilation) (g : Compiles
   abbrev code : List Definition
   code = code_in edition source r g
 
-  told : Excluded edition source r g ends.line ends.line_behind
-  told = excluded edition source r g ends.line ends.line_behind
+  told : Excluded edition source r g ends.line ends.line_after
+  told = excluded edition source r g ends.line ends.line_after
 
   done : (steps : Option ℕ) → Draws edition source steps ends 0 → (r.stop ≡ None) × (load_fault code ≡ None)
   done steps (draws.drew ds image p h) = let is = told.program ds image p in (is.0, is.2)
   done steps (draws.stopped why quiet unread) = absurd (no_done 0 refl (told.status 0 why))
 
   -- a picture of the program of the source
-  shows_code : (ds : List Definition) (image : Image) (words : List ℕ) → ds ≡ code → ShowsMemory ds image words ends.out ends.out_behind 0 → Shows edition source r g ends image words
+  shows_code : (ds : List Definition) (image : Image) (words : List ℕ) → ds ≡ code → ShowsMemory ds image words ends.out ends.out_after 0 → Shows edition source r g ends image words
   shows_code ds image words same h =
-      let s = shown ds image words ends.out ends.out_behind h in
+      let s = shown ds image words ends.out ends.out_after h in
       (s.0, subst (λ (x : List Definition). IsPicture x image words s.0) same s.1, s.2)
 
-  before : Draws edition source None ends 0 → (image : Image) × IsLoadedFrom code image × Shows edition source r g ends image image.words × (ends.input_behind ≡ ends.input)
+  before : Draws edition source None ends 0 → (image : Image) × IsLoadedFrom code image × Shows edition source r g ends image image.words × (ends.input_after ≡ ends.input)
   before (draws.drew ds image p h) =
       let same = (told.program ds image p).1 in
       (image, subst (λ (x : List Definition). IsLoadedFrom x image) same p.loaded, shows_code ds image image.words same h.0, h.1)
   before (draws.stopped why quiet unread) = absurd (no_done 0 refl (told.status 0 why))
 
   module _ (n : ℕ) (bytes : List ℕ) (tells : TellsBytes ends.input bytes) where
-    after_run : (ds : List Definition) (image : Image) → ds ≡ code → DrawsRun ds image n ends.input ends.input_behind ends.out ends.out_behind 0 → (words : List ℕ) × Shows edition source r g ends image words × IsOfStep edition source r g ends image n bytes words
-    after_run ds image same (draws.after words h s) = (words, shows_code ds image words same s, inl (of_step ds image ends.input ends.input_behind ends.out ends.out_behind n bytes tells words h))
+    after_run : (ds : List Definition) (image : Image) → ds ≡ code → DrawsRun ds image n ends.input ends.input_after ends.out ends.out_after 0 → (words : List ℕ) × Shows edition source r g ends image words × IsOfStep edition source r g ends image n bytes words
+    after_run ds image same (draws.after words h s) = (words, shows_code ds image words same s, inl (of_step ds image ends.input ends.input_after ends.out ends.out_after n bytes tells words h))
     after_run ds image same (draws.over result words over end h s) =
-        (words, shows_code ds image words same s, inl (of_end ds image ends.input ends.input_behind ends.out ends.out_behind n bytes tells result words over end h))
+        (words, shows_code ds image words same s, inl (of_end ds image ends.input ends.input_after ends.out ends.out_after n bytes tells result words over end h))
     after_run ds image same (draws.not_begun result b end s unread) = (image.words, shows_code ds image image.words same s, inr (result, end, b, refl, unread))
     after_run ds image same (draws.unread over quiet is) = absurd (omega (arith, is))
     after_run ds image same (draws.no_memory read quiet is) = absurd (omega (arith, is))
@@ -198,30 +199,30 @@ module _ (edition : Edition) (source : List ℕ) (r : Compilation) (g : Compiles
         (image, a.0, subst (λ (x : List Definition). IsLoadedFrom x image) same p.loaded, a.1, a.2)
     after (draws.stopped why quiet unread) = absurd (no_done 0 refl (told.status 0 why))
 
-  filled : (n : ℕ) (bytes text : List ℕ) → TellsBytes ends.input bytes → ends.out.written ≡ Some [] → ends.out_behind.written ≡ Some text → Draws edition source (Some n) ends 0
+  filled : (n : ℕ) (bytes text : List ℕ) → TellsBytes ends.input bytes → ends.out.written ≡ Some [] → ends.out_after.written ≡ Some text → Draws edition source (Some n) ends 0
       → (image : Image) × (words : List ℕ) × IsLoadedFrom code image × IsOfStep edition source r g ends image n bytes words × HasFills code image words text
   filled n bytes text tells empty written h =
       let a = after n bytes tells h in
-      let is : text ≡ a.3.0 = subst (λ t. Appends (Some []) t a.3.0) written (subst (λ t. Appends t ends.out_behind.written a.3.0) empty a.3.2.appended) in
+      let is : text ≡ a.3.0 = subst (λ t. Appends (Some []) t a.3.0) written (subst (λ t. Appends t ends.out_after.written a.3.0) empty a.3.2.appended) in
       (a.0, a.1, a.2, a.4, subst (λ t. HasFills code a.0 a.1 t) (sym is) (fills code a.0 a.1 a.3.0 a.3.1))
 
-  unread : (steps : Option ℕ) (status : ℕ) → Draws edition source steps ends status → (ends.input_behind.failures ≡ ends.input.failures → ⊥) → (status ≡ 133) × (ends.out_behind ≡ ends.out)
-  unread steps status (draws.drew ds image p h) failed = unread_in ds image ends.input ends.input_behind ends.out ends.out_behind steps status h failed
+  unread : (steps : Option ℕ) (status : ℕ) → Draws edition source steps ends status → (ends.input_after.failures ≡ ends.input.failures → ⊥) → (status ≡ 133) × (ends.out_after ≡ ends.out)
+  unread steps status (draws.drew ds image p h) failed = unread_in ds image ends.input ends.input_after ends.out ends.out_after steps status h failed
   unread steps status (draws.stopped why quiet same) failed = absurd (failed (ap (λ (x : Incoming). x.failures) same))
 
-  device : (steps : Option ℕ) → Draws edition source steps ends 133 → Grew ends.input.failures ends.input_behind.failures ⊎ Grew ends.out.failures ends.out_behind.failures ⊎ Grew ends.line.failures ends.line_behind.failures
+  device : (steps : Option ℕ) → Draws edition source steps ends 133 → Grew ends.input.failures ends.input_after.failures ⊎ Grew ends.out.failures ends.out_after.failures ⊎ Grew ends.line.failures ends.line_after.failures
   device steps (draws.drew ds image p h) =
-      elim (device_in ds image ends.input ends.input_behind ends.out ends.out_behind steps h) [ inl read ↦ inl read | inr written ↦ inr (inl written) ]
+      elim (device_in ds image ends.input ends.input_after ends.out ends.out_after steps h) [ inl read ↦ inl read | inr written ↦ inr (inl written) ]
   device steps (draws.stopped why quiet same) = inr (inr (told.device why))
 
   fault : (steps : Option ℕ) → Draws edition source steps ends 1
-      → ((d : Diagnostic) × (r.stop ≡ Some d) × Writes ends.line (line_of d) ends.line_behind) × (ends.out_behind ≡ ends.out) × (ends.input_behind ≡ ends.input)
-  fault steps (draws.drew ds image p h) = absurd (no_fault ds image ends.input ends.input_behind ends.out ends.out_behind steps h)
+      → ((d : Diagnostic) × (r.stop ≡ Some d) × Writes ends.line (line_of d) ends.line_after) × (ends.out_after ≡ ends.out) × (ends.input_after ≡ ends.input)
+  fault steps (draws.drew ds image p h) = absurd (no_fault ds image ends.input ends.input_after ends.out ends.out_after steps h)
   fault steps (draws.stopped why quiet same) = (told.fault why, quiet, same)
 
   unloaded : (steps : Option ℕ) → Draws edition source steps ends 132
-      → ((f : LoadFault) × (text : List ℕ) × (load_fault code ≡ Some f) × (load_line f ≡ Some text) × Writes ends.line text ends.line_behind) × (ends.out_behind ≡ ends.out) × (ends.input_behind ≡ ends.input)
-  unloaded steps (draws.drew ds image p h) = absurd (no_refusal ds image ends.input ends.input_behind ends.out ends.out_behind steps h)
+      → ((f : LoadFault) × (text : List ℕ) × (load_fault code ≡ Some f) × (load_line f ≡ Some text) × Writes ends.line text ends.line_after) × (ends.out_after ≡ ends.out) × (ends.input_after ≡ ends.input)
+  unloaded steps (draws.drew ds image p h) = absurd (no_refusal ds image ends.input ends.input_after ends.out ends.out_after steps h)
   unloaded steps (draws.stopped why quiet same) = (told.unloaded why, quiet, same)
 
 pub no_pictures : NoPictures

@@ -1,22 +1,24 @@
 -- Steps that are made one after another.
-use Rattle.std.proofs.Common.{◌≡◌, ◌∙◌, ℕ, zero, suc, ◌+◌, ◌-◌, ◌<◌, List, [], ◌++◌, Ok, Err, ap, append_assoc, arith, refl, subst, sym}
+use Rattle.std.proofs.Common.{◌≡◌, ◌∙◌, ℕ, zero, suc, ◌+◌, ◌-◌, ◌<◌, List, [], ◌++◌, Ok, Err, ap, append_assoc, arith, refl, subst, sym, inl, ⊎_elim}
 use Rattle.bword.specs.ByteEnds.{CanFollow, Incoming, Kept, Outgoing, Took, outgoing_of}
+use Rattle.bword.specs.declared.ends.EndFault.{EndFault}
+use Rattle.bword.specs.declared.ends.EndFault.TheVariants as end_fault
 use Rattle.bword.proofs.Putting.{Writes-append}
 use Rattle.bword.proofs.Taking.{Took-append}
 use Rattle.blang.specs.declared.code.Definition.{Definition}
 use Rattle.blang.specs.declared.run.Outcome.{Outcome}
 use Rattle.blang.specs.declared.run.Outcome.TheVariants as outcome
-use Rattle.blang.specs.Machine.{ComesTo, Halted, Image, RunGives, Running, State, States, StopsShort, Stuck, run, state_outcome, state_world, step, steps}
+use Rattle.blang.specs.Machine.{ComesTo, Halted, Image, RunGives, Running, State, States, StopsAtWrite, Stuck, run, state_outcome, state_world, step, steps}
 use Rattle.bmach.specs.Steps.{world_with}
 use Rattle.bmach.specs.Stepping.{HasEnd, IsUnstarted, Paused, machine_at}
 use Rattle.bmach.specs.Turns.{HasHalted, LeavesWords, MovesOn, TurnGives}
 use Rattle.bmach.proofs.Beginning.{run_from}
-use Rattle.bmach.proofs.Running.{behind, one_more, run_over, same_run, steps_add}
-use Rattle.bmach.proofs.Turning.{follows, goes_on}
+use Rattle.bmach.proofs.Running.{following, memory_unfailed, one_more, run_over, same_run, steps_add}
+use Rattle.bmach.proofs.Turning.{follows, goes_on, runs_on}
 use Rattle.btools.specs.Programs.{nothing_written}
 use Rattle.bdraw.specs.Draws.{DrawsRun, EndGives, IsAfter, IsAtEnd, IsMade, IsOver, LeavesAtEnd, ShowsMemory, no_memory, over, unread, untold}
 
--- a state behind which nothing happens
+-- a state after which nothing happens
 abbrev HasStopped : State → Type 0
 HasStopped (Running call below w) = ⊥
 HasStopped (Halted e w) = Unit {0}
@@ -34,7 +36,7 @@ stopped r other (Halted h w) e = tt
 stopped r other (Stuck w) e = tt
 
 pub made_none : (first : Paused) (i : Incoming) (o : Outgoing) → IsMade first 0 first i i o o
-made_none first i o = (refl, goes_on (behind first.image 0 (machine_at first)) (machine_at first) i o (λ left before. refl))
+made_none first i o = (refl, goes_on (following first.image 0 (machine_at first)) (machine_at first) i o (λ left before. refl))
 
 module _ (first now : Paused) (made : ℕ) (i j m : Incoming) (o p q : Outgoing) (new : Paused) where
   pub made_one : IsMade first made now i j o p → TurnGives now.image (machine_at now) (machine_at new) j m p q (Ok tt) → new.image ≡ now.image → IsMade first (made + 1) new i m o q
@@ -94,7 +96,7 @@ module _ (first now : Paused) (made : ℕ) (i j m : Incoming) (o p q : Outgoing)
       → LeavesWords (λ left before. step now.image (machine_at now left before)) (Err r) new.store
       → RunGives (λ input k. steps first.image k (machine_at first input [])) n i m o q r × (r ≡ outcome.Limit → ⊥) × LeavesAtEnd first n i m r new.store
   made_over n r lt t g words = (
-    run_over first.image made (machine_at first) (machine_at now) (machine_at new) n m q r (omega (arith, lt)) t.1
+    run_over first.image made (machine_at first) (machine_at now) (machine_at new) n m q r (omega (arith, lt)) (runs_on now.call now.below now.store) t.1
         (subst (λ (x : Image). TurnGives x (machine_at now) (machine_at new) j m p q (Err r)) t.0 g),
     no_limit r g,
     leaves_at_end n r lt t g words,
@@ -117,9 +119,9 @@ is_after image first now n i j o q b t = record {
 }
 
 -- What a run writes to an end that doesn't tell it, it writes to one that does.
-module _ (states : States) (n : ℕ) (i j : Incoming) where
-  told_come : (r : Outcome) → (c : ComesTo states n i j untold untold r) → ComesTo states n i j nothing_written (outgoing_of (record { bytes = c.output; refusals = 0 })) r
-  told_come r c = record {
+module _ (states : States) (i : Incoming) where
+  told_come : (n : ℕ) (j : Incoming) (r : Outcome) → (c : ComesTo states n i j untold untold r) → ComesTo states n i j nothing_written (outgoing_of (record { bytes = c.output; refusals = 0 })) r
+  told_come n j r c = record {
     taken = c.taken;
     took = c.took;
     no_failure = c.no_failure;
@@ -128,27 +130,33 @@ module _ (states : States) (n : ℕ) (i j : Incoming) where
     shows = c.shows;
   }
 
-  told_stop : (why : Type 0) → StopsShort states n i j untold untold why → StopsShort states n i j nothing_written nothing_written why
-  told_stop why s = record {
-    taken = s.taken;
-    took = s.took;
-    made = s.made;
-    within = s.within;
-    began = λ more can. record { count = 0; within = omega arith; appended = refl };
-    reason = s.reason;
-  }
+  -- such an end refuses nothing
+  not_refused : (n : ℕ) (j : Incoming) (why : EndFault) → StopsAtWrite states n i j untold untold why → ⊥
+  not_refused n j end_fault.Device w =
+      let none : w.before.failures ≡ 0 = w.comes.written.failures in
+      let grew = w.refuses.counted.0 in
+      omega (arith, none, grew)
+  not_refused n j end_fault.Memory w =
+      let none : w.before.refusals ≡ 0 = w.comes.written.refusals in
+      let grew = w.refuses.counted.0 in
+      omega (arith, none, grew)
 
-  told_run : (r : Outcome) → RunGives states n i j untold untold r → (output : Kept) × RunGives states n i j nothing_written (outgoing_of output) r
-  told_run (outcome.Exit status) g = (_, told_come (outcome.Exit status) g)
-  told_run (outcome.Trap kind) g = (_, told_come (outcome.Trap kind) g)
-  told_run outcome.Limit g = (_, told_come outcome.Limit g)
-  told_run outcome.Device g = (record { bytes = []; refusals = 0 }, told_stop _ g)
-  told_run outcome.Memory g = (record { bytes = []; refusals = 0 }, told_stop _ g)
+  told_run : (n : ℕ) (j : Incoming) (r : Outcome) → RunGives states n i j untold untold r → (output : Kept) × RunGives states n i j nothing_written (outgoing_of output) r
+  unfolding told_come
+  told_run n j (outcome.Exit status) g = (_, told_come n j (outcome.Exit status) g)
+  told_run n j (outcome.Trap kind) g = (_, told_come n j (outcome.Trap kind) g)
+  told_run n j outcome.Limit g = (_, told_come n j outcome.Limit g)
+  told_run n j outcome.Device g =
+      ⊎_elim (λ r. (record { bytes = r.comes.output; refusals = 0 }, inl (record { made = r.made; within = r.within; before = r.before; comes = told_come r.made r.before outcome.Limit r.comes; fails = r.fails; reads = r.reads })))
+      (λ w. absurd (not_refused n j end_fault.Device w)) g
+  told_run n j outcome.Memory g =
+      ⊎_elim (λ m. (record { bytes = m.comes.output; refusals = 0 }, inl (record { made = m.made; within = m.within; comes = told_come m.made j outcome.Limit m.comes })))
+      (λ w. absurd (not_refused n j end_fault.Memory w)) g
 
 pub is_over : (image : Image) (first : Paused) (n : ℕ) (i j : Incoming) (r : Outcome) → IsUnstarted image first
     → RunGives (λ input k. steps first.image k (machine_at first input [])) n i j untold untold r → IsOver image n i j r
 is_over image first n i j r b gives =
-    told_run (run image) n i j r (same_run (run image) (λ input k. steps first.image k (machine_at first input [])) n i j untold untold r (run_from image first b) gives)
+    told_run (run image) i n j r (same_run (run image) (λ input k. steps first.image k (machine_at first input [])) n i j untold untold r (run_from image first b) gives)
 
 pub is_at_end : (image : Image) (first : Paused) (n : ℕ) (i j : Incoming) (r : Outcome) (words : List ℕ) → IsUnstarted image first → LeavesAtEnd first n i j r words → HasEnd r → IsAtEnd image n i j words
 is_at_end image first n i j r words b leaves has =
@@ -172,4 +180,4 @@ ends_drawn ds image words n i j (outcome.Exit m) old new status is no_limit end 
 ends_drawn ds image words n i j (outcome.Trap kind) old new status is no_limit end s = over (outcome.Trap kind) words is tt (end tt) s
 ends_drawn ds image words n i j outcome.Limit old new status is no_limit end s = absurd (no_limit refl)
 ends_drawn ds image words n i j outcome.Device old new status is no_limit end s = unread is s.0 s.1
-ends_drawn ds image words n i j outcome.Memory old new status is no_limit end s = no_memory is.1.reason.0 s.0 s.1
+ends_drawn ds image words n i j outcome.Memory old new status is no_limit end s = no_memory (memory_unfailed (run image) n i j nothing_written (outgoing_of is.0) is.1).0 s.0 s.1

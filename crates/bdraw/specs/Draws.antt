@@ -27,7 +27,7 @@ most_names = refl
 most_words : MOST_WORDS ≡ 9
 most_words = refl
 
--- the word that a shape shows, behind its address, and whether its box is filled
+-- the word that a shape shows, after its address, and whether its box is filled
 abbrev pub shown_in : Shape → List (ℕ × ℕ × Fill)
 shown_in (shape.Cell c) = (c.address, c.word, c.fill) ∷ []
 shown_in (shape.Label l) = []
@@ -45,7 +45,7 @@ the_same_word = refl
 another_word : fill_of 7 8 ≡ fill.Changed
 another_word = refl
 
--- a word of memory, behind its address, and whether its box is filled
+-- a word of memory, after its address, and whether its box is filled
 abbrev pub seen : Image → List ℕ → ℕ → ℕ × ℕ × Fill
 seen image words address =
     (address, slice_index words address, fill_of (slice_index words address) (slice_index image.words address))
@@ -65,7 +65,7 @@ name_row image d = row (image_address image d.name) (size_of d)
 abbrev pub named : Image → List Definition → List ℕ
 named image ds = flat_map (λ d. name_row image (shape_of d)) ds
 
--- words of these addresses were drawn, and of others behind them
+-- words of these addresses were drawn, and of others after them
 abbrev pub AddsRow : Image → List ℕ → List Shape → List Shape → Type 0
 AddsRow image words old new = (addresses : List ℕ) × (drawn new ≡ drawn old ++ map (seen image words) addresses)
 
@@ -145,13 +145,13 @@ DrawsProgram ds image (Some n) i j old new status = DrawsRun ds image n i j old 
 
 -- The memory of the program of the source was drawn; or there is none, and nothing but why was written.
 pub data Draws (edition : Edition) (source : List ℕ) (steps : Option ℕ) (ends : RunEnds) (status : ℕ) : Type 0 where
-  drew : (ds : List Definition) (image : Image) → HasProgram edition source ends.line ends.line_behind ds image
-      → DrawsProgram ds image steps ends.input ends.input_behind ends.out ends.out_behind status
+  drew : (ds : List Definition) (image : Image) → HasProgram edition source ends.line ends.line_after ds image
+      → DrawsProgram ds image steps ends.input ends.input_after ends.out ends.out_after status
       → Draws edition source steps ends status
-  stopped : NoProgram edition source ends.line ends.line_behind status → ends.out_behind ≡ ends.out
-      → ends.input_behind ≡ ends.input → Draws edition source steps ends status
+  stopped : NoProgram edition source ends.line ends.line_after status → ends.out_after ≡ ends.out
+      → ends.input_after ≡ ends.input → Draws edition source steps ends status
 
--- an end that doesn't tell what it took
+-- a stream that doesn't tell what it took
 abbrev pub untold : Outgoing
 untold = record { written = None; failures = 0; refusals = 0 }
 

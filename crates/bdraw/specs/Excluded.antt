@@ -71,16 +71,16 @@ module _ (edition : Edition) (source : List ℕ) (r : Compilation) (g : Compiles
   abbrev pub Shows : Image → List ℕ → Type 0
   Shows image words =
       (text : List ℕ) × IsPicture (code_in edition source r g) image words text
-      × Writes ends.out text ends.out_behind
+      × Writes ends.out text ends.out_after
 
   -- a picture was drawn of a run of so many steps on these bytes: of the words that the machine has then, and just what
   -- it has read was taken; or of those before a run that doesn't begin
   abbrev pub IsOfStep : Image → ℕ → List ℕ → List ℕ → Type 0
   IsOfStep image n bytes words =
       ((words ≡ (state_world (run image bytes n)).store)
-      × (ends.input_behind.left ≡ Some (state_world (run image bytes n)).input))
+      × (ends.input_after.left ≡ Some (state_world (run image bytes n)).input))
       ⊎ ((result : Outcome) × HasEnd result × BeginsNot image result × (words ≡ image.words)
-      × (ends.input_behind ≡ ends.input))
+      × (ends.input_after ≡ ends.input))
 
   -- What is excluded of a picture.
   pub record WrongPictures : Type 0 where
@@ -90,32 +90,32 @@ module _ (edition : Edition) (source : List ℕ) (r : Compilation) (g : Compiles
     -- a picture before the run that is one of other words, or for which something was read
     pub before : Draws edition source None ends DONE
         → (image : Image) × IsLoadedFrom (code_in edition source r g) image × Shows image image.words
-        × (ends.input_behind ≡ ends.input)
+        × (ends.input_after ≡ ends.input)
     -- a picture of the machine a step earlier or later, or for which it read less or more
     pub after : (n : ℕ) (bytes : List ℕ) → TellsBytes ends.input bytes → Draws edition source (Some n) ends DONE
         → (image : Image) × (words : List ℕ) × IsLoadedFrom (code_in edition source r g) image × Shows image words
         × IsOfStep image n bytes words
     -- a picture filled as that of another step, as of the memory before a run that is over by a trap
     pub filled : (n : ℕ) (bytes text : List ℕ) → TellsBytes ends.input bytes → ends.out.written ≡ Some []
-        → ends.out_behind.written ≡ Some text → Draws edition source (Some n) ends DONE
+        → ends.out_after.written ≡ Some text → Draws edition source (Some n) ends DONE
         → (image : Image) × (words : List ℕ) × IsLoadedFrom (code_in edition source r g) image
         × IsOfStep image n bytes words × HasFills (code_in edition source r g) image words text
-    -- a failed read that isn't told by 133, or something written behind it
+    -- a failed read that isn't told by 133, or something written after it
     pub unread : (steps : Option ℕ) (status : ℕ) → Draws edition source steps ends status
-        → (ends.input_behind.failures ≡ ends.input.failures → ⊥) → (status ≡ DEVICE) × (ends.out_behind ≡ ends.out)
+        → (ends.input_after.failures ≡ ends.input.failures → ⊥) → (status ≡ DEVICE) × (ends.out_after ≡ ends.out)
     -- 133 where no read and no write failed
     pub device : (steps : Option ℕ) → Draws edition source steps ends DEVICE
-        → Grew ends.input.failures ends.input_behind.failures ⊎ Grew ends.out.failures ends.out_behind.failures
-        ⊎ Grew ends.line.failures ends.line_behind.failures
+        → Grew ends.input.failures ends.input_after.failures ⊎ Grew ends.out.failures ends.out_after.failures
+        ⊎ Grew ends.line.failures ends.line_after.failures
     -- 1 for a source without a fault, or with another line, or with anything else written or read
     pub fault : (steps : Option ℕ) → Draws edition source steps ends FAULT
-        → ((d : Diagnostic) × (r.stop ≡ Some d) × Writes ends.line (line_of d) ends.line_behind)
-        × (ends.out_behind ≡ ends.out) × (ends.input_behind ≡ ends.input)
+        → ((d : Diagnostic) × (r.stop ≡ Some d) × Writes ends.line (line_of d) ends.line_after)
+        × (ends.out_after ≡ ends.out) × (ends.input_after ≡ ends.input)
     -- 132 for definitions that load, or with another line, or with anything else written or read
     pub unloaded : (steps : Option ℕ) → Draws edition source steps ends REFUSED
         → ((f : LoadFault) × (text : List ℕ) × (load_fault (code_in edition source r g) ≡ Some f)
-        × (load_line f ≡ Some text) × Writes ends.line text ends.line_behind)
-        × (ends.out_behind ≡ ends.out) × (ends.input_behind ≡ ends.input)
+        × (load_line f ≡ Some text) × Writes ends.line text ends.line_after)
+        × (ends.out_after ≡ ends.out) × (ends.input_after ≡ ends.input)
 
 abbrev pub NoPictures : Type 0
 NoPictures =

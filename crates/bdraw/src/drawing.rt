@@ -18,8 +18,8 @@ use std::alloc::{AllocError, Global};
 
 /// Draws the memory of the program of a source as an SVG picture: before its run, or after so many steps of it.
 ///
-/// What the program writes in these steps is not written. The status is 0, or as `go` has it where the source doesn't
-/// compile or load; 133 where the program can't read its input.
+/// The output of these steps is dropped. The status is 0, or that of `go` if the source doesn't compile or load. It is
+/// 133 if the program can't read its input.
 pub fn draw<I: ByteIn, O: ByteOut, D: ByteOut>(
     alloc: Global,
     source: &[u8],
@@ -31,11 +31,11 @@ pub fn draw<I: ByteIn, O: ByteOut, D: ByteOut>(
 ) -> Status
     ensures draws { Draws edition source.now steps (record {
       input = I.incoming input.old;
-      input_behind = I.incoming input.new;
+      input_after = I.incoming input.new;
       out = O.outgoing out.old;
-      out_behind = O.outgoing out.new;
+      out_after = O.outgoing out.new;
       line = D.outgoing diag.old;
-      line_behind = D.outgoing diag.new;
+      line_after = D.outgoing diag.new;
     }) result }
     ensures input_lender { I.lender input.new ≡ I.lender input.old }
     ensures out_lender { O.lender out.new ≡ O.lender out.old }
@@ -89,7 +89,7 @@ fn draw_unbegun<O: ByteOut>(
     }
 }
 
-// Makes steps of a run that has begun, and draws memory behind them.
+// Makes steps of a run that has begun, and draws memory after them.
 fn draw_steps<S: Store + Drop, I: ByteIn, O: ByteOut>(
     alloc: Global,
     program: &Program,
@@ -204,8 +204,7 @@ fn text_of<M: Memory>(alloc: Global, scene: &Scene<'_, M>) -> Result<Text, Alloc
     picture_text(alloc, picture.height, picture.shapes.as_slice())
 }
 
-/// What no picture is: one of the machine at another step, of a word at another address, or with another fill, text or
-/// status.
+/// No picture shows the machine at another step, or a word at another address, or has another fill, text or status.
 pub fn wrong_pictures_are_excluded()
     ensures shapes { WrongShapes }
     ensures pictures { NoPictures }

@@ -19,7 +19,7 @@ const MOST_NAMES: usize = 48;
 /// The most words of a name or of a frame that are drawn.
 const MOST_WORDS: u16 = 9;
 
-/// Where texts begin, where the boxes of a row begin, and how far apart boxes and rows stand.
+/// Where texts and the boxes of a row begin, and the distance of boxes and of rows.
 const MARGIN: u32 = 16;
 
 const FIRST_BOX: u32 = 160;
@@ -66,12 +66,12 @@ fn title_of(alloc: Global, moment: Moment) -> Result<Text, AllocError> {
         Moment::After(steps) => {
             title.push(b"memory after ")?;
             push_count(&mut title, steps, b"step")?;
-            title.push(b"; filled is what they have changed")?;
+            title.push(b"; filled words have changed")?;
         }
         Moment::End(steps) => {
             title.push(b"memory where the run is over, after ")?;
             push_count(&mut title, steps, b"step")?;
-            title.push(b"; filled is what they have changed")?;
+            title.push(b"; filled words have changed")?;
         }
     }
     Ok(title)

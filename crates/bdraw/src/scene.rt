@@ -43,7 +43,7 @@ pub enum Moment {
     Before,
     /// After so many steps.
     After(u64),
-    /// Where it is over, with the last of so many steps.
+    /// At its end, after so many steps.
     End(u64),
 }
 
@@ -95,7 +95,7 @@ pub fn function_of<'a>(program: &'a Program, call: Active) -> Option<(usize, &'a
     let mut number: usize = 0;
     for definition in &program.definitions {
         if let Definition::Function(function) = definition {
-            // Its string words stand behind its own word.
+            // Its string words stand after its own word.
             if call.strings == address.saturating_add(1) {
                 return Some((number, function.parts()));
             }

@@ -4,7 +4,7 @@ ghost use Rattle.bdraw.specs.Draws.{untold};
 
 use bword::{ByteOut, EndFault};
 
-/// An end that takes all bytes and keeps none.
+/// A stream that takes all bytes and keeps none.
 #[derive(Clone, Copy)]
 pub struct Sink;
 

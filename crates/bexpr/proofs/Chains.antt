@@ -17,11 +17,11 @@ use Rattle.btree.proofs.ExpressionFine.{closing, has_room, op_loop}
 use Rattle.bexpr.specs.Parsers.{op_within}
 use Rattle.bexpr.proofs.Moving.{bind_twice}
 
--- the operators of one rank behind an expression
+-- the operators of one rank after an expression
 abbrev level : ℕ → ℕ → ℕ → Expr → Reader Expr
 level room r off e ts = many (always (op_at (suc r))) (operation (chain (inner room) r) off) e ts
 
--- the operators of each rank up to this one behind an operand, the tightest first
+-- the operators of each rank up to this one after an operand, the tightest first
 abbrev pub climb : ℕ → ℕ → ℕ → Expr → Reader Expr
 climb room zero off e ts = Got e ts
 climb room (suc r) off e ts = climb room r off e ts >>= level room r off
@@ -99,7 +99,7 @@ module _ (room : ℕ) where
   loop_at : (r off : ℕ) → Loop closing (always (op_at (suc r))) (operation (chain (inner room) r) off)
   loop_at r off = op_loop (inner room) (has_room room) r off
 
-  -- the levels of the grammar, one behind the other
+  -- the levels of the grammar, one after the other
   pub chain_climbs : (r off : ℕ) (ts : List Placed) → chain (inner room) r off ts ≡ (operand (inner room) off ts >>= climb room r off)
   chain_climbs zero off ts = unit (operand (inner room) off ts)
     where
@@ -110,7 +110,7 @@ module _ (room : ℕ) where
       ap (λ x. x >>= level room r off) (chain_climbs r off ts)
       ∙ bind_twice (operand (inner room) off ts) (climb room r off) (level room r off)
 
-  -- no operator is left behind that the reader takes
+  -- no operator is left after that the reader takes
   level_past : (r off : ℕ) → ((off : ℕ) (u : List Placed) (e : Expr) (rest : List Placed) → chain (inner room) r off u ≡ Got e rest → Past r rest) → (n : ℕ) (a : Expr) (ts : List Placed) (e : Expr) (rest : List Placed) → length ts ≤ n → Past r ts → turns (always (op_at (suc r))) (operation (chain (inner room) r) off) n a ts ≡ Got e rest → Past (suc r) rest
   level_past r off tighter zero a [] e rest le past h = let same : [] ≡ rest = cc in subst (Past (suc r)) same (λ i le. refl)
   level_past r off tighter zero a (t ∷ ts) e rest le past h = absurd (omega arith)
@@ -142,7 +142,7 @@ module _ (room : ℕ) where
       ap (λ x. x >>= level room r off) (climb_none r off e ts (λ i le. past i (omega arith)))
       ∙ many_none (always (op_at (suc r))) (operation (chain (inner room) r) off) e ts (past (suc r) (omega arith))
 
-  -- What reads an operator, and what stands behind it that binds tighter, and goes on.
+  -- What reads an operator, and what stands after it that binds tighter, and goes on.
   abbrev operated : ℕ → ℕ → BinOp → ℕ → Expr → (Expr → Reader Expr) → List Placed → Read Expr
   operated j off p line e more ts = chain (inner room) j (off + words e) ts >>= λ f. more (Binary p line e f)
 
@@ -151,11 +151,11 @@ module _ (room : ℕ) where
       ap (λ x. x >>= level room j off) (climb_none j off e ts (op_past j ts p is h))
       ∙ many_some closing (always (op_at (suc j))) (operation (chain (inner room) j) off) (loop_at j off) p e ts (op_here j (first ts) p is h)
       ∙ bind_twice (chain (inner room) j (off + words e) (after ts)) (λ f. Got (Binary p (line_ahead ts) e f)) (level room j off)
-      ∙ behind (chain (inner room) j (off + words e) (after ts)) refl
+      ∙ following (chain (inner room) j (off + words e) (after ts)) refl
     where
-      behind : (x : Read Expr) → chain (inner room) j (off + words e) (after ts) ≡ x → (x >>= λ f. level room j off (Binary p (line_ahead ts) e f)) ≡ (x >>= λ f. climb room (suc j) off (Binary p (line_ahead ts) e f))
-      behind (Got f rest) eq = sym (ap (λ x. x >>= level room j off) (climb_none j off (Binary p (line_ahead ts) e f) rest (chain_past j (off + words e) (after ts) f rest eq)))
-      behind (Stop rest) eq = refl
+      following : (x : Read Expr) → chain (inner room) j (off + words e) (after ts) ≡ x → (x >>= λ f. level room j off (Binary p (line_ahead ts) e f)) ≡ (x >>= λ f. climb room (suc j) off (Binary p (line_ahead ts) e f))
+      following (Got f rest) eq = sym (ap (λ x. x >>= level room j off) (climb_none j off (Binary p (line_ahead ts) e f) rest (chain_past j (off + words e) (after ts) f rest eq)))
+      following (Stop rest) eq = refl
 
   -- the loop takes an operator
   pub climb_some : (r j off : ℕ) (p : BinOp) (e : Expr) (ts : List Placed) → first ts ≡ token.Operator p → rank p ≡ suc j → suc j ≤ r → climb room r off e ts ≡ operated j off p (line_ahead ts) e (climb room r off) (after ts)

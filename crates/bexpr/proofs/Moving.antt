@@ -1,14 +1,18 @@
 -- How reading goes on: from reader to reader, or to a halt.
-use Rattle.std.proofs.Common.{◌≡◌, ℕ, Bool, List, ◌∷◌, ◌++◌, Result, Ok, Err, IsErrAnd, refl, sym, ap, ◌∙◌, subst}
+use Rattle.std.proofs.Common.{◌≡◌, ℕ, Bool, false, List, ◌∷◌, ◌++◌, Result, Ok, Err, IsErrAnd, refl, sym, ap, ◌∙◌, subst}
 use Rattle.bword.specs.declared.edition.Edition.{Edition}
 use Rattle.blang.specs.declared.token.Placed.{Placed}
+use Rattle.blang.specs.declared.token.Token.{Token}
 use Rattle.blang.specs.Trees.{Expr}
+use Rattle.blex.specs.Lexemes.{token_of_lexeme}
+use Rattle.blex.specs.declared.lexeme.Lexeme.{Lexeme}
+use Rattle.blex.specs.declared.lexeme.Lexeme.TheVariants as lexeme
 use Rattle.btree.specs.Reading.{Read, Reader, Got, Stop, ◌>>=◌, first, line_ahead, after}
 use Rattle.bemit.specs.Drafts.{Draft}
 use Rattle.bemit.specs.declared.form.Form.{Form}
 use Rattle.bexpr.specs.declared.halt.Halt.{Halt}
 use Rattle.bexpr.specs.declared.halt.Halt.TheVariants as halt
-use Rattle.bexpr.specs.Tokens.{Tokens, tokens_with, tokens_of, IsLoaded, Moves, Runs, TokensFail, Same, Advances}
+use Rattle.bexpr.specs.Tokens.{Tokens, tokens_with, tokens_of, is_name, IsLoaded, IsSingle, Moves, Runs, TokensFail, Same, Advances}
 use Rattle.bexpr.specs.Parsers.{Halts, Follows, Continues, Evaluates, Passes}
 use Rattle.bexpr.proofs.TokenSteps.{Moves-append, Moves-as, Moves-breaks, stays_same}
 
@@ -30,10 +34,10 @@ run_here {A} {t} {f} {g} l k =
       falls = s.falls;
       come = λ more c.
           subst (λ u. f u ≡ g (tokens_of t more)) (sym (s.come more c))
-          (k (tokens_of t more) (first_with t.ahead t.source.edition t.source.line (t.source.ahead ++ more) l.current l.behind l.ahead) (line_with t.ahead t.source.edition t.source.line (t.source.ahead ++ more) l.current l.behind l.ahead));
+          (k (tokens_of t more) (first_with t.ahead t.source.edition t.source.line (t.source.ahead ++ more) l.current l.following l.ahead) (line_with t.ahead t.source.edition t.source.line (t.source.ahead ++ more) l.current l.following l.ahead));
     }
 
--- reading goes on behind the current token
+-- reading goes on after the current token
 pub run_past : {A : Type 0} {a b : Tokens} {f g : Reader A} → Advances a b → ((u : List Placed) → first u ≡ first a.ahead → line_ahead u ≡ line_ahead a.ahead → f u ≡ g (after u)) → Runs a b f g
 run_past {A} {a} {b} {f} {g} h k = Moves-as (λ u v. f u ≡ g v) (λ u v m. k u m.token m.line ∙ ap g (sym m.rest)) h.moves
 
@@ -50,10 +54,10 @@ run_then {A} {a} {b} {c} {f} {g} {h} m n = Moves-append (λ u w. f u ≡ h w) (�
 pub run_bind : {A B : Type 0} {a b : Tokens} {f g : Reader A} (k : A → Reader B) → Runs a b f g → Runs a b (λ u. f u >>= k) (λ v. g v >>= k)
 run_bind {A} {B} {a} {b} {f} {g} k m = Moves-as (λ u v. (f u >>= k) ≡ (g v >>= k)) (λ u v e. ap (λ x. x >>= k) e) m
 
--- a halt behind what was read
-pub halt_behind : {A B : Type 0} {a b : Tokens} {f : Reader B} (g : Reader A) (k : A → Reader B) (why : Halt) (c : Tokens) → Runs a b f (λ v. g v >>= k) → Halts g b why c → Halts f a why c
-halt_behind g k halt.Fault c m h = (run_then m (run_bind k h.0), h.1)
-halt_behind g k halt.Device c m h = Moves-breaks m h
+-- a halt after what was read
+pub halt_after : {A B : Type 0} {a b : Tokens} {f : Reader B} (g : Reader A) (k : A → Reader B) (why : Halt) (c : Tokens) → Runs a b f (λ v. g v >>= k) → Halts g b why c → Halts f a why c
+halt_after g k halt.Fault c m h = (run_then m (run_bind k h.0), h.1)
+halt_after g k halt.Device c m h = Moves-breaks m h
 
 pub halt_as : {A : Type 0} (a : Tokens) {f g : Reader A} (why : Halt) (c : Tokens) → ((u : List Placed) → f u ≡ g u) → Halts g a why c → Halts f a why c
 halt_as a halt.Fault c agree h = (run_as agree h.0, h.1)
@@ -63,9 +67,20 @@ pub halt_then : {A : Type 0} {a b : Tokens} {f g : Reader A} (why : Halt) (c : T
 halt_then halt.Fault c m h = (run_then m h.0, h.1)
 halt_then halt.Device c m h = Moves-breaks m h
 
+-- no other token is ahead where the current one is no name
+pub single_here : {t : Tokens} → IsLoaded t → is_name (first t.ahead) ≡ false → IsSingle t
+single_here {t} l h = (l, ap after l.ahead ∙ l.alone (sym (ap (λ ps. is_name (first ps)) l.ahead) ∙ h))
+
+pub not_named : (l : Lexeme) (text : List ℕ) {t : Token} → token_of_lexeme l text ≡ t → ((x : List ℕ) → l ≡ lexeme.Name x → ⊥) → is_name t ≡ false
+not_named l text e h = sym (ap is_name e) ∙ plain l text h
+  where
+    plain : (l : Lexeme) (text : List ℕ) → ((x : List ℕ) → l ≡ lexeme.Name x → ⊥) → is_name (token_of_lexeme l text) ≡ false
+    plain (lexeme.Name x) text h = absurd (h x refl)
+    plain _ text h = refl
+
 -- a halt at the current token
-pub halt_here : {A : Type 0} {t : Tokens} {f : Reader A} → IsLoaded t → ((u : List Placed) → first u ≡ first t.ahead → line_ahead u ≡ line_ahead t.ahead → f u ≡ Stop u) → Halts f t halt.Fault t
-halt_here l k = (run_here l k, l)
+pub halt_here : {A : Type 0} {t : Tokens} {f : Reader A} → IsSingle t → ((u : List Placed) → first u ≡ first t.ahead → line_ahead u ≡ line_ahead t.ahead → f u ≡ Stop u) → Halts f t halt.Fault t
+halt_here l k = (run_here l.0 k, l)
 
 pub halt_device : {A : Type 0} {a b : Tokens} (f : Reader A) (why : Halt) → why ≡ halt.Device → TokensFail a b → Halts f a why b
 halt_device {A} {a} {b} f why e h = subst (λ w. Halts f a w b) (sym e) h

@@ -36,7 +36,7 @@ use Rattle.bexpr.specs.declared.operators.Prefix.{Prefix}
 use Rattle.bexpr.specs.declared.operators.Prefix.TheVariants as prefixes
 use Rattle.bexpr.specs.Parsers.{assigned_at, op_within, prefix_meant, prefix_form, called_at, Halts, ExpressionTaken, Follows, Continues, TookWord, TookArguments, TakesCurrent}
 use Rattle.bexpr.proofs.TokenSteps.{Moves-breaks}
-use Rattle.bexpr.proofs.Moving.{run_here, run_past, run_same, run_as, run_then, run_bind, halt_behind, halt_bind, halt_as, bind_twice, halt_then, halt_device}
+use Rattle.bexpr.proofs.Moving.{run_here, run_past, run_same, run_as, run_then, run_bind, halt_after, halt_bind, halt_as, bind_twice, halt_then, halt_device}
 use Rattle.bexpr.proofs.Chains.{climb, rank_positive, within_some, within_none, chain_climbs, climb_none, climb_some}
 
 -- what a loop has read and made so far
@@ -129,17 +129,17 @@ module _ (room k : ℕ) (a b : Tokens) (enters : (room ≡ k + 1) × Advances a 
     group_runs off = run_past enters.1 (λ u f n. group_read room k off u enters.0 (f ∙ open_is (first a.ahead) here))
 
     pub group_stops : (c : Tokens) (why : Halt) → ((off : ℕ) → Halts (reader k Rvalue off) b why c) → (off : ℕ) → Halts (primary (inner room) off) a why c
-    group_stops c why h off = halt_behind (reader k Rvalue off) (λ e r. expect is_close_paren r >>= λ o. Got (Grouped e)) why c (group_runs off) (h off)
+    group_stops c why h off = halt_after (reader k Rvalue off) (λ e r. expect is_close_paren r >>= λ o. Got (Grouped e)) why c (group_runs off) (h off)
 
     module _ (c : Tokens) (start mid draft : Draft) (found : Form) (t : (off : ℕ) → ExpressionTaken (reader k Rvalue off) mid false b c draft found) where
       closing_runs : (off : ℕ) → Runs a c (primary (inner room) off) (λ v. expect is_close_paren v >>= λ o. Got (Grouped (t off).tree))
       closing_runs off = run_then (group_runs off) (run_bind (λ e r. expect is_close_paren r >>= λ o. Got (Grouped e)) (t off).runs)
 
       pub group_open : (d : Tokens) (why : Halt) → Halts (expect is_close_paren) c why d → (off : ℕ) → Halts (primary (inner room) off) a why d
-      group_open d why h off = halt_behind (expect is_close_paren) (λ o. Got (Grouped (t off).tree)) why d (closing_runs off) h
+      group_open d why h off = halt_after (expect is_close_paren) (λ o. Got (Grouped (t off).tree)) why d (closing_runs off) h
 
-      pub group_took : (d : Tokens) (behind : Draft) (given : Form) → mid ≡ start → Runs c d (expect is_close_paren) (λ v. Got tt v) × IsSingle d × (work d < work c) → behind ≡ draft → given ≡ drafts.grouped found → ((off : ℕ) → ExpressionTaken (primary (inner room) off) start (called_at d) a d behind given) × IsSingle d
-      group_took d behind given es x eb g = (
+      pub group_took : (d : Tokens) (following : Draft) (given : Form) → mid ≡ start → Runs c d (expect is_close_paren) (λ v. Got tt v) × IsSingle d × (work d < work c) → following ≡ draft → given ≡ drafts.grouped found → ((off : ℕ) → ExpressionTaken (primary (inner room) off) start (called_at d) a d following given) × IsSingle d
+      group_took d following given es x eb g = (
         (λ off. record {
           tree = Grouped (t off).tree;
           runs = run_then (closing_runs off) (run_bind (λ o. Got (Grouped (t off).tree)) x.0);
@@ -149,7 +149,7 @@ module _ (room k : ℕ) (a b : Tokens) (enters : (room ≡ k + 1) × Advances a 
         x.1,
       )
 
--- what goes on behind a postfix expression
+-- what goes on after a postfix expression
 suffix_many : (room off : ℕ) (b : reading.Suffix) (e : Expr) (u : List Placed) → suffix (first u) ≡ Some b → suffixes room off e u ≡ (postfix_with (inner room) off b e u >>= suffixes room off)
 suffix_many room off b e u h = many_some closing (always suffix) (postfix_with (inner room) off) (suffix_loop (inner room) (has_room room) off) b e u h
 
@@ -180,10 +180,10 @@ module _ (room : ℕ) (a m : Tokens) (start draft : Draft) (found : Form) (s : I
     turn_runs off = run_then (s.so_far off).runs (run_here s.single.0 (λ u f n. suffix_many room off b (s.so_far off).tree u (ap suffix f ∙ h)))
 
     pub postfix_stops : (c : Tokens) (why : Halt) → ((off : ℕ) (e : Expr) → Halts (postfix_with (inner room) off b e) m why c) → (off : ℕ) → Halts (postfix (inner room) off) a why c
-    postfix_stops c why k off = halt_behind (postfix_with (inner room) off b (s.so_far off).tree) (suffixes room off) why c (turn_runs off) (k off (s.so_far off).tree)
+    postfix_stops c why k off = halt_after (postfix_with (inner room) off b (s.so_far off).tree) (suffixes room off) why c (turn_runs off) (k off (s.so_far off).tree)
 
-    pub postfix_goes : (c : Tokens) (behind : Draft) (given : Form) → ((off : ℕ) (e : Expr) (d : Draft) → draft ≡ held (called_at m) e d → found ≡ form e draft → ExpressionTaken (postfix_with (inner room) off b e) d (called_at c) m c behind given) × IsSingle c → InPostfix room a start c behind given
-    postfix_goes c behind given k = record {
+    pub postfix_goes : (c : Tokens) (following : Draft) (given : Form) → ((off : ℕ) (e : Expr) (d : Draft) → draft ≡ held (called_at m) e d → found ≡ form e draft → ExpressionTaken (postfix_with (inner room) off b e) d (called_at c) m c following given) × IsSingle c → InPostfix room a start c following given
+    postfix_goes c following given k = record {
       so_far = λ off. let x = s.so_far off in let t = k.0 off x.tree start x.made x.form_is in
           record { tree = t.tree; runs = run_then (turn_runs off) (run_bind (suffixes room off) t.runs); made = t.made; form_is = t.form_is };
       single = k.1;
@@ -195,18 +195,18 @@ module _ (room k : ℕ) (a b : Tokens) (enters : (room ≡ k + 1) × Advances a 
   index_runs off e = run_past enters.1 (λ u f n. ap (λ i. postfix_with i off Index e u) (at_room room k enters.0))
 
   pub index_stops : (c : Tokens) (why : Halt) → ((off : ℕ) → Halts (reader k Rvalue off) b why c) → (off : ℕ) (e : Expr) → Halts (postfix_with (inner room) off Index e) a why c
-  index_stops c why h off e = halt_behind (reader k Rvalue (off + words e)) (λ f r. expect is_close_bracket r >>= λ o. Got (Indexed e f)) why c (index_runs off e) (h (off + words e))
+  index_stops c why h off e = halt_after (reader k Rvalue (off + words e)) (λ f r. expect is_close_bracket r >>= λ o. Got (Indexed e f)) why c (index_runs off e) (h (off + words e))
 
   module _ (c : Tokens) (mid draft : Draft) (t : (off : ℕ) → TookWord (reader k Rvalue off) mid b c draft) where
     bracket_runs : (off : ℕ) (e : Expr) → Runs a c (postfix_with (inner room) off Index e) (λ v. expect is_close_bracket v >>= λ o. Got (Indexed e (t (off + words e)).tree))
     bracket_runs off e = run_then (index_runs off e) (run_bind (λ f r. expect is_close_bracket r >>= λ o. Got (Indexed e f)) (t (off + words e)).runs)
 
     pub index_open : (d : Tokens) (why : Halt) → Halts (expect is_close_bracket) c why d → (off : ℕ) (e : Expr) → Halts (postfix_with (inner room) off Index e) a why d
-    index_open d why h off e = halt_behind (expect is_close_bracket) (λ o. Got (Indexed e (t (off + words e)).tree)) why d (bracket_runs off e) h
+    index_open d why h off e = halt_after (expect is_close_bracket) (λ o. Got (Indexed e (t (off + words e)).tree)) why d (bracket_runs off e) h
 
-    pub index_took : (d : Tokens) (before loads_ before_emit behind : Draft) (given : Form) → called_at a ≡ false → loads_ ≡ loads given before → mid ≡ loads_ → Runs c d (expect is_close_bracket) (λ v. Got tt v) × IsSingle d × (work d < work c) → before_emit ≡ draft → behind ≡ emitted (instr.Binary op.Add) before_emit
-        → ((off : ℕ) (e : Expr) (start : Draft) → before ≡ held (called_at a) e start → given ≡ form e before → ExpressionTaken (postfix_with (inner room) off Index e) start (called_at d) a d behind Place) × IsSingle d
-    index_took d before loads_ before_emit behind given nc l em x eb eo = (
+    pub index_took : (d : Tokens) (before loads_ before_emit following : Draft) (given : Form) → called_at a ≡ false → loads_ ≡ loads given before → mid ≡ loads_ → Runs c d (expect is_close_bracket) (λ v. Got tt v) × IsSingle d × (work d < work c) → before_emit ≡ draft → following ≡ emitted (instr.Binary op.Add) before_emit
+        → ((off : ℕ) (e : Expr) (start : Draft) → before ≡ held (called_at a) e start → given ≡ form e before → ExpressionTaken (postfix_with (inner room) off Index e) start (called_at d) a d following Place) × IsSingle d
+    index_took d before loads_ before_emit following given nc l em x eb eo = (
       (λ off e start h f. record {
         tree = Indexed e (t (off + words e)).tree;
         runs = run_then (bracket_runs off e) (run_bind (λ o. Got (Indexed e (t (off + words e)).tree)) x.0);
@@ -223,9 +223,9 @@ module _ (room k : ℕ) (a b : Tokens) (enters : (room ≡ k + 1) × Advances a 
   pub call_stops : (c : Tokens) (why : Halt) → ((off : ℕ) (e : Expr) → Halts (call (inner (k + 1)) off e) b why c) → (off : ℕ) (e : Expr) → Halts (postfix_with (inner room) off Call e) a why c
   call_stops c why h off e = halt_then why c (call_runs off e) (h off e)
 
-  pub call_took : (c : Tokens) (before loads_ mid draft behind : Draft) (given : Form) (count : ℕ) → called_at a ≡ true → loads_ ≡ loads given before → mid ≡ loads_ → ((off : ℕ) (e : Expr) → TookArguments (call (inner (k + 1)) off e) e mid b c draft count) × IsSingle c → behind ≡ emitted (instr.Call count) draft
-      → ((off : ℕ) (e : Expr) (start : Draft) → before ≡ held (called_at a) e start → given ≡ form e before → ExpressionTaken (postfix_with (inner room) off Call e) start (called_at c) a c behind Lone) × IsSingle c
-  call_took c before loads_ mid draft behind given count yes_ l em t eo = (
+  pub call_took : (c : Tokens) (before loads_ mid draft following : Draft) (given : Form) (count : ℕ) → called_at a ≡ true → loads_ ≡ loads given before → mid ≡ loads_ → ((off : ℕ) (e : Expr) → TookArguments (call (inner (k + 1)) off e) e mid b c draft count) × IsSingle c → following ≡ emitted (instr.Call count) draft
+      → ((off : ℕ) (e : Expr) (start : Draft) → before ≡ held (called_at a) e start → given ≡ form e before → ExpressionTaken (postfix_with (inner room) off Call e) start (called_at c) a c following Lone) × IsSingle c
+  call_took c before loads_ mid draft following given count yes_ l em t eo = (
     (λ off e start h f. let x = t.0 off e in record {
       tree = Called e x.arguments;
       runs = run_then (call_runs off e) x.runs;
@@ -251,9 +251,9 @@ step_called token.OpenParen p h = cc
 step_called _ p h = refl
 
 -- `++` or `--`
-step_took : (room : ℕ) (p : tree.PostfixOp) (a b : Tokens) (before behind : Draft) (given : Form) (r : Result Form Halt) → called_at a ≡ false → TakesCurrent a Lone r b → ((line : ℕ) → line ≡ line_ahead a.ahead → behind ≡ emitted (stepping p) (checked given line before))
-    → Continues (λ off e. postfix_with (inner room) off (Step p) e) (called_at a) given (called_at b) a before r b behind
-step_took room p a b before behind given (Ok x) nc k m = (
+step_took : (room : ℕ) (p : tree.PostfixOp) (a b : Tokens) (before following : Draft) (given : Form) (r : Result Form Halt) → called_at a ≡ false → TakesCurrent a Lone r b → ((line : ℕ) → line ≡ line_ahead a.ahead → following ≡ emitted (stepping p) (checked given line before))
+    → Continues (λ off e. postfix_with (inner room) off (Step p) e) (called_at a) given (called_at b) a before r b following
+step_took room p a b before following given (Ok x) nc k m = (
   (λ off e start h f. record {
     tree = Postfixed p (line_ahead a.ahead) e;
     runs = run_past k.0 (λ u g n. ap (λ i. Got (Postfixed p i e) (after u)) n);
@@ -262,25 +262,25 @@ step_took room p a b before behind given (Ok x) nc k m = (
   }),
   k.0.single,
 )
-step_took room p a b before behind given (Err why) nc k m = λ off e. halt_device (postfix_with (inner room) off (Step p) e) why k.0 k.1
+step_took room p a b before following given (Err why) nc k m = λ off e. halt_device (postfix_with (inner room) off (Step p) e) why k.0 k.1
 
 pub text_took : (a b : Tokens) (before mid put draft : Draft) (r : Result Form Halt) (text bytes : List ℕ) (offset : ℕ) → TakesCurrent a Lone r b → draft ≡ put → first a.ahead ≡ string_token text → bytes ≡ text → mid ≡ stringed bytes before → offset ≡ offset_of before → put ≡ emitted (instr.Text offset) mid → (room : ℕ) → Follows (primary (inner room)) (called_at b) a before r b draft
 text_took a b before mid put draft r text bytes offset k e h eb em eo ep room =
     atom_took room a b before put draft r (λ off. Text text off) k e (λ off u f. rw (f ∙ h) refl)
     (λ off c. ep ∙ ap (λ i. emitted (instr.Text i) mid) eo ∙ ap (emitted (instr.Text (offset_of before))) (em ∙ ap (λ x. stringed x before) eb)) (λ off d. refl)
 
-pub increment_took : (room : ℕ) (a b : Tokens) (before behind : Draft) (given : Form) (r : Result Form Halt) → suffix (first a.ahead) ≡ Some (Step tree.PostIncrement) → TakesCurrent a Lone r b → behind ≡ emitted (instr.Increment increment.PostIncrement) (checked given (line_ahead a.ahead) before)
-    → Continues (λ off e. postfix_with (inner room) off (Step tree.PostIncrement) e) (called_at a) given (called_at b) a before r b behind
-increment_took room a b before behind given r h k m = step_took room tree.PostIncrement a b before behind given r (step_called (first a.ahead) tree.PostIncrement h) k (λ line e. m ∙ ap (λ i. emitted (instr.Increment increment.PostIncrement) (checked given i before)) (sym e))
+pub increment_took : (room : ℕ) (a b : Tokens) (before following : Draft) (given : Form) (r : Result Form Halt) → suffix (first a.ahead) ≡ Some (Step tree.PostIncrement) → TakesCurrent a Lone r b → following ≡ emitted (instr.Increment increment.PostIncrement) (checked given (line_ahead a.ahead) before)
+    → Continues (λ off e. postfix_with (inner room) off (Step tree.PostIncrement) e) (called_at a) given (called_at b) a before r b following
+increment_took room a b before following given r h k m = step_took room tree.PostIncrement a b before following given r (step_called (first a.ahead) tree.PostIncrement h) k (λ line e. m ∙ ap (λ i. emitted (instr.Increment increment.PostIncrement) (checked given i before)) (sym e))
 
-pub decrement_took : (room : ℕ) (a b : Tokens) (before behind : Draft) (given : Form) (r : Result Form Halt) → suffix (first a.ahead) ≡ Some (Step tree.PostDecrement) → TakesCurrent a Lone r b → behind ≡ emitted (instr.Increment increment.PostDecrement) (checked given (line_ahead a.ahead) before)
-    → Continues (λ off e. postfix_with (inner room) off (Step tree.PostDecrement) e) (called_at a) given (called_at b) a before r b behind
-decrement_took room a b before behind given r h k m = step_took room tree.PostDecrement a b before behind given r (step_called (first a.ahead) tree.PostDecrement h) k (λ line e. m ∙ ap (λ i. emitted (instr.Increment increment.PostDecrement) (checked given i before)) (sym e))
+pub decrement_took : (room : ℕ) (a b : Tokens) (before following : Draft) (given : Form) (r : Result Form Halt) → suffix (first a.ahead) ≡ Some (Step tree.PostDecrement) → TakesCurrent a Lone r b → following ≡ emitted (instr.Increment increment.PostDecrement) (checked given (line_ahead a.ahead) before)
+    → Continues (λ off e. postfix_with (inner room) off (Step tree.PostDecrement) e) (called_at a) given (called_at b) a before r b following
+decrement_took room a b before following given r h k m = step_took room tree.PostDecrement a b before following given r (step_called (first a.ahead) tree.PostDecrement h) k (λ line e. m ∙ ap (λ i. emitted (instr.Increment increment.PostDecrement) (checked given i before)) (sym e))
 
 -- an operand
-pub operand_none : (room : ℕ) (a b : Tokens) (before behind : Draft) (r : Result Form Halt) → IsLoaded a → prefix_op (first a.ahead) ≡ None → Follows (postfix (inner room)) false a before r b behind → Follows (operand (inner room)) false a before r b behind
-operand_none room a b before behind (Ok x) l h k = ((λ off. let t = k.0 off in record { tree = t.tree; runs = run_then (run_here l (λ u f n. rw (ap prefix_op f ∙ h) refl)) t.runs; made = t.made; form_is = t.form_is }), k.1)
-operand_none room a b before behind (Err why) l h k = λ off. halt_then why b (run_here l (λ u f n. rw (ap prefix_op f ∙ h) refl)) (k off)
+pub operand_none : (room : ℕ) (a b : Tokens) (before following : Draft) (r : Result Form Halt) → IsLoaded a → prefix_op (first a.ahead) ≡ None → Follows (postfix (inner room)) false a before r b following → Follows (operand (inner room)) false a before r b following
+operand_none room a b before following (Ok x) l h k = ((λ off. let t = k.0 off in record { tree = t.tree; runs = run_then (run_here l (λ u f n. rw (ap prefix_op f ∙ h) refl)) t.runs; made = t.made; form_is = t.form_is }), k.1)
+operand_none room a b before following (Err why) l h k = λ off. halt_then why b (run_here l (λ u f n. rw (ap prefix_op f ∙ h) refl)) (k off)
 
 prefix_read : (room k off line : ℕ) (p : tree.PrefixOp) (u : List Placed) → room ≡ k + 1 → prefix_op (first u) ≡ Some p → line_ahead u ≡ line → operand (inner room) off u ≡ (operand (inner k) off (after u) >>= λ e. Got (Prefixed p line e))
 prefix_read room k off line p u h f n = ap (λ i. operand i off u) (at_room room k h) ∙ rw f (ap (λ i. operand (inner k) off (after u) >>= λ e. Got (Prefixed p i e)) n)
@@ -290,16 +290,16 @@ module _ (room k : ℕ) (p : tree.PrefixOp) (a b : Tokens) (enters : (room ≡ k
   prefix_runs off = run_past enters.1 (λ u f n. prefix_read room k off (line_ahead a.ahead) p u enters.0 (ap prefix_op f ∙ here) n)
 
   pub prefix_stops : (c : Tokens) (why : Halt) → ((off : ℕ) → Halts (operand (inner k) off) b why c) → (off : ℕ) → Halts (operand (inner room) off) a why c
-  prefix_stops c why h off = halt_behind (operand (inner k) off) (λ e. Got (Prefixed p (line_ahead a.ahead) e)) why c (prefix_runs off) (h off)
+  prefix_stops c why h off = halt_after (operand (inner k) off) (λ e. Got (Prefixed p (line_ahead a.ahead) e)) why c (prefix_runs off) (h off)
 
-  pub prefix_took : (c : Tokens) (start mid draft behind : Draft) (given found : Form) (line : ℕ) → mid ≡ start → ((off : ℕ) → ExpressionTaken (operand (inner k) off) mid false b c draft given) × IsSingle c → line ≡ line_ahead a.ahead → behind ≡ prefixed p line given draft → ((e : Expr) (l : ℕ) (d : Draft) → found ≡ form (Prefixed p l e) d)
-      → ((off : ℕ) → ExpressionTaken (operand (inner room) off) start false a c behind found) × IsSingle c
-  prefix_took c start mid draft behind given found line es t n m f = (
+  pub prefix_took : (c : Tokens) (start mid draft following : Draft) (given found : Form) (line : ℕ) → mid ≡ start → ((off : ℕ) → ExpressionTaken (operand (inner k) off) mid false b c draft given) × IsSingle c → line ≡ line_ahead a.ahead → following ≡ prefixed p line given draft → ((e : Expr) (l : ℕ) (d : Draft) → found ≡ form (Prefixed p l e) d)
+      → ((off : ℕ) → ExpressionTaken (operand (inner room) off) start false a c following found) × IsSingle c
+  prefix_took c start mid draft following given found line es t n m f = (
     (λ off. let x = t.0 off in record {
       tree = Prefixed p (line_ahead a.ahead) x.tree;
       runs = run_then (prefix_runs off) (run_bind (λ e. Got (Prefixed p (line_ahead a.ahead) e)) x.runs);
       made = m ∙ ap (λ i. prefixed p i given draft) n ∙ ap (λ y. prefixed p (line_ahead a.ahead) y draft) x.form_is ∙ ap (λ d. prefixed p (line_ahead a.ahead) (form x.tree d) d) (x.made ∙ ap (held false x.tree) es);
-      form_is = f x.tree (line_ahead a.ahead) behind;
+      form_is = f x.tree (line_ahead a.ahead) following;
     }),
     t.1,
   )
@@ -352,10 +352,10 @@ module _ (room loosest : ℕ) (a m : Tokens) (start draft : Draft) (found : Form
     operator_runs off = run_then (s.so_far off).runs (run_past ad (λ u f n. operator_read off (s.so_far off).tree u f n))
 
     pub right_stops : (c : Tokens) (why : Halt) → ((off : ℕ) → Halts (chain (inner room) j off) b why c) → (off : ℕ) → Halts (chain (inner room) loosest off) a why c
-    right_stops c why k off = halt_behind (chain (inner room) j (off + words (s.so_far off).tree)) (λ f. climb room loosest off (Binary p (line_ahead m.ahead) (s.so_far off).tree f)) why c (operator_runs off) (k (off + words (s.so_far off).tree))
+    right_stops c why k off = halt_after (chain (inner room) j (off + words (s.so_far off).tree)) (λ f. climb room loosest off (Binary p (line_ahead m.ahead) (s.so_far off).tree f)) why c (operator_runs off) (k (off + words (s.so_far off).tree))
 
-    pub chain_goes : (c : Tokens) (mid last loads_ behind : Draft) (given : Form) → mid ≡ loads found draft → ((off : ℕ) → ExpressionTaken (chain (inner room) j off) mid false b c last given) × IsSingle c → loads_ ≡ loads given last → behind ≡ emitted (instr.Binary p) loads_ → InChain room loosest a start c behind Joined
-    chain_goes c mid last loads_ behind given l k l2 m2 = record {
+    pub chain_goes : (c : Tokens) (mid last loads_ following : Draft) (given : Form) → mid ≡ loads found draft → ((off : ℕ) → ExpressionTaken (chain (inner room) j off) mid false b c last given) × IsSingle c → loads_ ≡ loads given last → following ≡ emitted (instr.Binary p) loads_ → InChain room loosest a start c following Joined
+    chain_goes c mid last loads_ following given l k l2 m2 = record {
       so_far = λ off. let x = s.so_far off in let t = k.0 (off + words x.tree) in record {
         tree = Binary p (line_ahead m.ahead) x.tree t.tree;
         runs = run_then (operator_runs off) (run_bind (λ f. climb room loosest off (Binary p (line_ahead m.ahead) x.tree f)) t.runs);
@@ -369,8 +369,8 @@ pub operator_stops : (room rank : ℕ) (a m b : Tokens) (start draft : Draft) (f
 operator_stops room rank a m b start draft found why s br e off = halt_device (chain (inner room) rank off) why e (Moves-breaks (s.so_far off).runs br)
 
 -- the word of an expression
-pub evaluate_took : (room : ℕ) (a b : Tokens) (start draft behind : Draft) (found : Form) → ((off : ℕ) → ExpressionTaken (reader room Rvalue off) start false a b draft found) × IsSingle b → behind ≡ loads found draft → ((off : ℕ) → TookWord (reader room Rvalue off) start a b behind) × IsSingle b
-evaluate_took room a b start draft behind found t l = ((λ off. let x = t.0 off in record { tree = x.tree; runs = x.runs; made = word_is draft behind start found false x.tree l x.made x.form_is }), t.1)
+pub evaluate_took : (room : ℕ) (a b : Tokens) (start draft following : Draft) (found : Form) → ((off : ℕ) → ExpressionTaken (reader room Rvalue off) start false a b draft found) × IsSingle b → following ≡ loads found draft → ((off : ℕ) → TookWord (reader room Rvalue off) start a b following) × IsSingle b
+evaluate_took room a b start draft following found t l = ((λ off. let x = t.0 off in record { tree = x.tree; runs = x.runs; made = word_is draft following start found false x.tree l x.made x.form_is }), t.1)
 
 -- arguments
 is_full : (k : ℕ) → Good (inner (suc k))
@@ -399,7 +399,7 @@ module _ (k : ℕ) (a : Tokens) (l : IsLoaded a) (h : is_close_paren (first a.ah
   first_runs off e = run_here l (λ u f n. call_at k off e u ∙ some_read k off e u (ap is_close_paren f ∙ h))
 
   pub first_stops : (c : Tokens) (why : Halt) → ((off : ℕ) → Halts (reader k Rvalue off) a why c) → (off : ℕ) (e : Expr) → Halts (call (inner (k + 1)) off e) a why c
-  first_stops c why s off e = halt_behind (reader k Rvalue (off + words e)) (λ f. more_arguments k off e (Another No_arguments f)) why c (first_runs off e) (s (off + words e))
+  first_stops c why s off e = halt_after (reader k Rvalue (off + words e)) (λ f. more_arguments k off e (Another No_arguments f)) why c (first_runs off e) (s (off + words e))
 
   pub arguments_begin : (b : Tokens) (start draft : Draft) → ((off : ℕ) → TookWord (reader k Rvalue off) start a b draft) × IsSingle b → InArguments k a start b draft 1
   arguments_begin b start draft t = record {
@@ -429,10 +429,10 @@ module _ (k : ℕ) (a m : Tokens) (start draft : Draft) (count : ℕ) (s : InArg
     comma_runs off e = run_then (s.so_far off e).runs (run_past ad (λ u f n. comma_read k off e (s.so_far off e).arguments u (ap comma f ∙ comma_is (first m.ahead) is)))
 
     pub more_stops : (c : Tokens) (why : Halt) → ((off : ℕ) → Halts (reader k Rvalue off) b why c) → (off : ℕ) (e : Expr) → Halts (call (inner (k + 1)) off e) a why c
-    more_stops c why h off e = halt_behind (reader k Rvalue (off + words e + argument_words (s.so_far off e).arguments)) (λ f. more_arguments k off e (Another (s.so_far off e).arguments f)) why c (comma_runs off e) (h (off + words e + argument_words (s.so_far off e).arguments))
+    more_stops c why h off e = halt_after (reader k Rvalue (off + words e + argument_words (s.so_far off e).arguments)) (λ f. more_arguments k off e (Another (s.so_far off e).arguments f)) why c (comma_runs off e) (h (off + words e + argument_words (s.so_far off e).arguments))
 
-    pub arguments_go : (c : Tokens) (behind : Draft) (next : ℕ) → ((off : ℕ) → TookWord (reader k Rvalue off) draft b c behind) × IsSingle c → next ≡ min (count + 1) 65535 → InArguments k a start c behind next
-    arguments_go c behind next t n = record {
+    pub arguments_go : (c : Tokens) (following : Draft) (next : ℕ) → ((off : ℕ) → TookWord (reader k Rvalue off) draft b c following) × IsSingle c → next ≡ min (count + 1) 65535 → InArguments k a start c following next
+    arguments_go c following next t n = record {
       so_far = λ off e. let x = s.so_far off e in let y = t.0 (off + words e + argument_words x.arguments) in record {
         arguments = Another x.arguments y.tree;
         runs = run_then (comma_runs off e) (run_bind (λ f. more_arguments k off e (Another x.arguments f)) y.runs);
@@ -450,10 +450,10 @@ module _ (k : ℕ) (a m : Tokens) (start draft : Draft) (count : ℕ) (s : InArg
     end_runs off e = run_then (s.so_far off e).runs (run_here s.single.0 (λ u f n. ap (λ x. x >>= λ args r. expect is_close_paren r >>= λ o. Got (Called e args)) (many_none (always comma) (another (inner (suc k)) (off + words e)) (s.so_far off e).arguments u (ap comma f ∙ no_comma_is (first m.ahead) none))))
 
     pub end_stops : (c : Tokens) (why : Halt) → Halts (expect is_close_paren) m why c → (off : ℕ) (e : Expr) → Halts (call (inner (k + 1)) off e) a why c
-    end_stops c why h off e = halt_behind (expect is_close_paren) (λ o. Got (Called e (s.so_far off e).arguments)) why c (end_runs off e) h
+    end_stops c why h off e = halt_after (expect is_close_paren) (λ o. Got (Called e (s.so_far off e).arguments)) why c (end_runs off e) h
 
-    pub arguments_end : (c : Tokens) (behind : Draft) → Runs m c (expect is_close_paren) (λ v. Got tt v) × IsSingle c × (work c < work m) → behind ≡ draft → ((off : ℕ) (e : Expr) → TookArguments (call (inner (k + 1)) off e) e start a c behind count) × IsSingle c
-    arguments_end c behind x eb = (
+    pub arguments_end : (c : Tokens) (following : Draft) → Runs m c (expect is_close_paren) (λ v. Got tt v) × IsSingle c × (work c < work m) → following ≡ draft → ((off : ℕ) (e : Expr) → TookArguments (call (inner (k + 1)) off e) e start a c following count) × IsSingle c
+    arguments_end c following x eb = (
       (λ off e. let y = s.so_far off e in record {
         arguments = y.arguments;
         runs = run_then (end_runs off e) (run_bind (λ o. Got (Called e y.arguments)) x.0);
@@ -475,14 +475,14 @@ module _ (room k : ℕ) (a b : Tokens) (enters : (room ≡ k + 1) × Advances a 
   test_runs off e = run_past enters.1 (λ u f n. choice_read room k off e u enters.0 (ap is_question f ∙ q))
 
   pub arm_stops : (c : Tokens) (why : Halt) → ((off : ℕ) → Halts (reader k Rvalue off) b why c) → (off : ℕ) (e : Expr) → Halts (conditional (inner room) off e) a why c
-  arm_stops c why h off e = halt_behind (reader k Rvalue (off + words e)) (λ f r. expect is_colon r >>= λ o r. reader k Choice (off + words e + words f) r >>= λ g. Got (Conditional e f g)) why c (test_runs off e) (h (off + words e))
+  arm_stops c why h off e = halt_after (reader k Rvalue (off + words e)) (λ f r. expect is_colon r >>= λ o r. reader k Choice (off + words e + words f) r >>= λ g. Got (Conditional e f g)) why c (test_runs off e) (h (off + words e))
 
   module _ (c : Tokens) (start1 draft1 : Draft) (t : (off : ℕ) → TookWord (reader k Rvalue off) start1 b c draft1) where
     arm_runs : (off : ℕ) (e : Expr) → Runs a c (conditional (inner room) off e) (λ v. expect is_colon v >>= λ o r. reader k Choice (off + words e + words (t (off + words e)).tree) r >>= λ g. Got (Conditional e (t (off + words e)).tree g))
     arm_runs off e = run_then (test_runs off e) (run_bind (λ f r. expect is_colon r >>= λ o r. reader k Choice (off + words e + words f) r >>= λ g. Got (Conditional e f g)) (t (off + words e)).runs)
 
     pub colon_stops : (d : Tokens) (why : Halt) → Halts (expect is_colon) c why d → (off : ℕ) (e : Expr) → Halts (conditional (inner room) off e) a why d
-    colon_stops d why h off e = halt_behind (expect is_colon) (λ o r. reader k Choice (off + words e + words (t (off + words e)).tree) r >>= λ g. Got (Conditional e (t (off + words e)).tree g)) why d (arm_runs off e) h
+    colon_stops d why h off e = halt_after (expect is_colon) (λ o r. reader k Choice (off + words e + words (t (off + words e)).tree) r >>= λ g. Got (Conditional e (t (off + words e)).tree g)) why d (arm_runs off e) h
 
     module _ (d : Tokens) (x : Runs c d (expect is_colon) (λ v. Got tt v)) where
       colon_runs : (off : ℕ) (e : Expr) → Runs a d (conditional (inner room) off e) (λ v. (chain (inner k) or_rank (off + words e + words (t (off + words e)).tree) v >>= conditional (inner k) (off + words e + words (t (off + words e)).tree)) >>= λ g. Got (Conditional e (t (off + words e)).tree g))
@@ -490,7 +490,7 @@ module _ (room k : ℕ) (a b : Tokens) (enters : (room ≡ k + 1) × Advances a 
 
       pub chain_stops : (m : Tokens) (why : Halt) → ((off : ℕ) → Halts (chain (inner k) or_rank off) d why m) → (off : ℕ) (e : Expr) → Halts (conditional (inner room) off e) a why m
       chain_stops m why h off e = let i = off + words e + words (t (off + words e)).tree in
-          halt_behind (λ v. chain (inner k) or_rank i v >>= conditional (inner k) i) (λ g. Got (Conditional e (t (off + words e)).tree g)) why m (colon_runs off e) (halt_bind d (chain (inner k) or_rank i) (conditional (inner k) i) why m (h i))
+          halt_after (λ v. chain (inner k) or_rank i v >>= conditional (inner k) i) (λ g. Got (Conditional e (t (off + words e)).tree g)) why m (colon_runs off e) (halt_bind d (chain (inner k) or_rank i) (conditional (inner k) i) why m (h i))
 
       module _ (m : Tokens) (start2 draft2 : Draft) (form2 : Form) (y : (off : ℕ) → ExpressionTaken (chain (inner k) or_rank off) start2 false d m draft2 form2) where
         rest_runs : (off : ℕ) (e : Expr) → Runs a m (conditional (inner room) off e) (λ v. conditional (inner k) (off + words e + words (t (off + words e)).tree) (y (off + words e + words (t (off + words e)).tree)).tree v >>= λ g. Got (Conditional e (t (off + words e)).tree g))
@@ -499,14 +499,14 @@ module _ (room k : ℕ) (a b : Tokens) (enters : (room ≡ k + 1) × Advances a 
 
         pub rest_stops : (n : Tokens) (why : Halt) → ((off : ℕ) (e : Expr) → Halts (conditional (inner k) off e) m why n) → (off : ℕ) (e : Expr) → Halts (conditional (inner room) off e) a why n
         rest_stops n why h off e = let i = off + words e + words (t (off + words e)).tree in
-            halt_behind (conditional (inner k) i (y i).tree) (λ g. Got (Conditional e (t (off + words e)).tree g)) why n (rest_runs off e) (h i (y i).tree)
+            halt_after (conditional (inner k) i (y i).tree) (λ g. Got (Conditional e (t (off + words e)).tree g)) why n (rest_runs off e) (h i (y i).tree)
 
-        pub conditional_took : (n : Tokens) (before loads_ jumps colon jump draft3 loads3 behind : Draft) (given form3 : Form) (test end second last : ℕ)
+        pub conditional_took : (n : Tokens) (before loads_ jumps colon jump draft3 loads3 following : Draft) (given form3 : Form) (test end second last : ℕ)
             → ((off : ℕ) (e : Expr) (start : Draft) → draft2 ≡ held false e start → form2 ≡ form e draft2 → ExpressionTaken (conditional (inner k) off e) start false m n draft3 form3) × IsSingle n
             → loads_ ≡ loads given before → jumps ≡ loads_ → test ≡ place_of jumps → start1 ≡ emitted (instr.JumpIfZero 0) jumps → colon ≡ draft1 → end ≡ place_of colon → jump ≡ emitted (instr.Jump 0) colon → second ≡ place_of jump
-            → start2 ≡ filled test (instr.JumpIfZero second) jump → loads3 ≡ loads form3 draft3 → last ≡ place_of loads3 → behind ≡ filled end (instr.Jump last) loads3
-            → ((off : ℕ) (e : Expr) (start : Draft) → before ≡ held false e start → given ≡ form e before → ExpressionTaken (conditional (inner room) off e) start false a n behind Joined) × IsSingle n
-        conditional_took n before loads_ jumps colon jump draft3 loads3 behind given form3 test end second last z l1 ej e1 e2 e3 e4 e5 e6 e7 l2 e8 e9 = (
+            → start2 ≡ filled test (instr.JumpIfZero second) jump → loads3 ≡ loads form3 draft3 → last ≡ place_of loads3 → following ≡ filled end (instr.Jump last) loads3
+            → ((off : ℕ) (e : Expr) (start : Draft) → before ≡ held false e start → given ≡ form e before → ExpressionTaken (conditional (inner room) off e) start false a n following Joined) × IsSingle n
+        conditional_took n before loads_ jumps colon jump draft3 loads3 following given form3 test end second last z l1 ej e1 e2 e3 e4 e5 e6 e7 l2 e8 e9 = (
           (λ off e start h f.
               let i = off + words e + words (t (off + words e)).tree in
               let w = t (off + words e) in
@@ -514,7 +514,7 @@ module _ (room k : ℕ) (a b : Tokens) (enters : (room ≡ k + 1) × Advances a 
               record {
                 tree = Conditional e w.tree g.tree;
                 runs = run_then (rest_runs off e) (run_bind (λ g. Got (Conditional e w.tree g)) g.runs);
-                made = arms_made (evaluated w.tree) (evaluated g.tree) jumps start1 colon jump start2 loads3 behind test end second last e1 e2 (e3 ∙ w.made) e4 e5 e6 e7 (word_is draft3 loads3 start2 form3 false g.tree l2 g.made g.form_is) e8 e9
+                made = arms_made (evaluated w.tree) (evaluated g.tree) jumps start1 colon jump start2 loads3 following test end second last e1 e2 (e3 ∙ w.made) e4 e5 e6 e7 (word_is draft3 loads3 start2 form3 false g.tree l2 g.made g.form_is) e8 e9
                     ∙ ap (ways (evaluated w.tree) (evaluated g.tree)) (ej ∙ word_is before loads_ start given false e l1 h f);
                 form_is = refl;
               }),
@@ -583,9 +583,9 @@ module _ (room : ℕ) (a b : Tokens) (start draft : Draft) (found : Form) (t : (
     condition : (off : ℕ) → Runs a b (reader room Rvalue off) (conditional (inner room) off (t.0 off).tree)
     condition off = run_then (chained off) (run_here t.1.0 (λ u f n. rw (ap (assigns (t.0 off).tree) f ∙ assigns_form (t.0 off).tree draft found (first b.ahead) (t.0 off).form_is ∙ none) refl))
 
-    pub rvalue_goes : (c : Tokens) (behind : Draft) (r : Result Form Halt) → Continues (conditional (inner room)) false found false b draft r c behind → Follows (reader room Rvalue) false a start r c behind
-    rvalue_goes c behind (Ok x) k = ((λ off. let g = k.0 off (t.0 off).tree start (t.0 off).made (t.0 off).form_is in record { tree = g.tree; runs = run_then (condition off) g.runs; made = g.made; form_is = g.form_is }), k.1)
-    rvalue_goes c behind (Err why) k = λ off. halt_then why c (condition off) (k off (t.0 off).tree)
+    pub rvalue_goes : (c : Tokens) (following : Draft) (r : Result Form Halt) → Continues (conditional (inner room)) false found false b draft r c following → Follows (reader room Rvalue) false a start r c following
+    rvalue_goes c following (Ok x) k = ((λ off. let g = k.0 off (t.0 off).tree start (t.0 off).made (t.0 off).form_is in record { tree = g.tree; runs = run_then (condition off) g.runs; made = g.made; form_is = g.form_is }), k.1)
+    rvalue_goes c following (Err why) k = λ off. halt_then why c (condition off) (k off (t.0 off).tree)
 
   module _ (p : Option BinOp) (is : assigned_at found (first b.ahead) ≡ Some p) where
     assign_runs : (off : ℕ) → Runs a b (reader room Rvalue off) (λ v. (inner room).enter v >>= λ o r. (inner room).read Rvalue (off + words (t.0 off).tree) r >>= λ f. Got (Assigned p (line_ahead b.ahead) (t.0 off).tree f))
@@ -594,17 +594,17 @@ module _ (room : ℕ) (a b : Tokens) (start draft : Draft) (found : Form) (t : (
         (ap (λ i. (inner room).enter u >>= λ o r. (inner room).read Rvalue (off + words (t.0 off).tree) r >>= λ f. Got (Assigned p i (t.0 off).tree f)) n)))
 
     pub assign_full : (c : Tokens) (why : Halt) → Halts (inner room).enter b why c → (off : ℕ) → Halts (reader room Rvalue off) a why c
-    assign_full c why h off = halt_behind (inner room).enter (λ o r. (inner room).read Rvalue (off + words (t.0 off).tree) r >>= λ f. Got (Assigned p (line_ahead b.ahead) (t.0 off).tree f)) why c (assign_runs off) h
+    assign_full c why h off = halt_after (inner room).enter (λ o r. (inner room).read Rvalue (off + words (t.0 off).tree) r >>= λ f. Got (Assigned p (line_ahead b.ahead) (t.0 off).tree f)) why c (assign_runs off) h
 
     module _ (k : ℕ) (c : Tokens) (enters : (room ≡ k + 1) × Advances b c) where
       value_runs : (off : ℕ) → Runs a c (reader room Rvalue off) (λ v. reader k Rvalue (off + words (t.0 off).tree) v >>= λ f. Got (Assigned p (line_ahead b.ahead) (t.0 off).tree f))
       value_runs off = run_then (assign_runs off) (run_past enters.1 (λ u f n. ap (λ i. i.enter u >>= λ o r. i.read Rvalue (off + words (t.0 off).tree) r >>= λ f. Got (Assigned p (line_ahead b.ahead) (t.0 off).tree f)) (at_room room k enters.0)))
 
       pub assign_stops : (d : Tokens) (why : Halt) → ((off : ℕ) → Halts (reader k Rvalue off) c why d) → (off : ℕ) → Halts (reader room Rvalue off) a why d
-      assign_stops d why h off = halt_behind (reader k Rvalue (off + words (t.0 off).tree)) (λ f. Got (Assigned p (line_ahead b.ahead) (t.0 off).tree f)) why d (value_runs off) (h (off + words (t.0 off).tree))
+      assign_stops d why h off = halt_after (reader k Rvalue (off + words (t.0 off).tree)) (λ f. Got (Assigned p (line_ahead b.ahead) (t.0 off).tree f)) why d (value_runs off) (h (off + words (t.0 off).tree))
 
-      pub assign_took : (d : Tokens) (wants mid last behind : Draft) (line : ℕ) → line ≡ line_ahead b.ahead → wants ≡ checked found line draft → mid ≡ wants → ((off : ℕ) → TookWord (reader k Rvalue off) mid c d last) × IsSingle d → behind ≡ emitted (assignment p) last → ((off : ℕ) → ExpressionTaken (reader room Rvalue off) start false a d behind Joined) × IsSingle d
-      assign_took d wants mid last behind line n m em v eo = (
+      pub assign_took : (d : Tokens) (wants mid last following : Draft) (line : ℕ) → line ≡ line_ahead b.ahead → wants ≡ checked found line draft → mid ≡ wants → ((off : ℕ) → TookWord (reader k Rvalue off) mid c d last) × IsSingle d → following ≡ emitted (assignment p) last → ((off : ℕ) → ExpressionTaken (reader room Rvalue off) start false a d following Joined) × IsSingle d
+      assign_took d wants mid last following line n m em v eo = (
         (λ off. let x = t.0 off in let w = v.0 (off + words x.tree) in record {
           tree = Assigned p (line_ahead b.ahead) x.tree w.tree;
           runs = run_then (value_runs off) (run_bind (λ f. Got (Assigned p (line_ahead b.ahead) x.tree f)) w.runs);
@@ -615,5 +615,5 @@ module _ (room : ℕ) (a b : Tokens) (start draft : Draft) (found : Form) (t : (
       )
 
 -- what goes on by a suffix that is known
-pub as_suffix : (room : ℕ) (s b : reading.Suffix) (given : Form) (a c : Tokens) (before behind : Draft) (r : Result Form Halt) → s ≡ b → Continues (λ off e. postfix_with (inner room) off b e) (called_at a) given (called_at c) a before r c behind → Continues (λ off e. postfix_with (inner room) off s e) (called_at a) given (called_at c) a before r c behind
-as_suffix room s b given a c before behind r e k = subst (λ x. Continues (λ off y. postfix_with (inner room) off x y) (called_at a) given (called_at c) a before r c behind) (sym e) k
+pub as_suffix : (room : ℕ) (s b : reading.Suffix) (given : Form) (a c : Tokens) (before following : Draft) (r : Result Form Halt) → s ≡ b → Continues (λ off e. postfix_with (inner room) off b e) (called_at a) given (called_at c) a before r c following → Continues (λ off e. postfix_with (inner room) off s e) (called_at a) given (called_at c) a before r c following
+as_suffix room s b given a c before following r e k = subst (λ x. Continues (λ off y. postfix_with (inner room) off x y) (called_at a) given (called_at c) a before r c following) (sym e) k

@@ -1,4 +1,3 @@
-mod EndRows
 pub mod Marks
 pub mod Parsers
 pub mod Tokens

@@ -15,7 +15,7 @@ use Rattle.bemit.specs.Drafts.{Draft}
 use Rattle.bemit.specs.Effects.{form, held, passed, evaluated, most_arguments}
 use Rattle.bemit.specs.declared.form.Form.{Form}
 use Rattle.bemit.specs.declared.form.Form.TheVariants.{Place, Lone, Joined}
-use Rattle.bexpr.specs.Tokens.{Tokens, IsLoaded, IsSingle, Runs, TokensFail, Advances, work}
+use Rattle.bexpr.specs.Tokens.{Tokens, IsSingle, Runs, TokensFail, Advances, work}
 use Rattle.bexpr.specs.declared.halt.Halt.{Halt}
 use Rattle.bexpr.specs.declared.halt.Halt.TheVariants as halt
 use Rattle.bexpr.specs.declared.operators.Prefix.{Prefix}
@@ -25,10 +25,10 @@ use Rattle.bexpr.specs.declared.operators.Suffix.TheVariants as suffixes
 
 -- Reading stops at the current token, or a read failed.
 abbrev pub Halts : {A : Type 0} → Reader A → Tokens → Halt → Tokens → Type 0
-Halts reader old halt.Fault new = Runs old new reader (λ v. Stop v) × IsLoaded new
+Halts reader old halt.Fault new = Runs old new reader (λ v. Stop v) × IsSingle new
 Halts reader old halt.Device new = TokensFail old new
 
--- a name is called if an opening parenthesis is the current token behind it
+-- a name is called if an opening parenthesis is the current token after it
 abbrev pub called_at : Tokens → Bool
 called_at t = is_open_paren (first t.ahead)
 
@@ -46,7 +46,7 @@ Follows reader called old before (Ok found) new draft =
     ((offset : ℕ) → ExpressionTaken (reader offset) before called old new draft found) × IsSingle new
 Follows reader called old before (Err halt) new draft = (offset : ℕ) → Halts (reader offset) old halt new
 
--- what reads on behind an expression does so, whatever that is, where the draft holds it
+-- what reads on after an expression does so, whatever that is, where the draft holds it
 abbrev pub Continues : (ℕ → Expr → Reader Expr) → Bool → Form → Bool → Tokens → Draft
     → Result Form Halt → Tokens → Draft → Type 0
 Continues reader was given called old before (Ok found) new draft =
@@ -66,7 +66,7 @@ Evaluates reader old before (Ok u) new draft =
     ((offset : ℕ) → TookWord (reader offset) before old new draft) × IsSingle new
 Evaluates reader old before (Err halt) new draft = (offset : ℕ) → Halts (reader offset) old halt new
 
--- The arguments of a call were read, through the parenthesis behind them, and compiled.
+-- The arguments of a call were read, through the parenthesis after them, and compiled.
 pub record TookArguments (reader : Reader Expr) (callee : Expr) (start : Draft) (old new : Tokens)
     (draft : Draft) (count : ℕ) : Type 0 where
   pub arguments : Arguments
@@ -122,7 +122,7 @@ abbrev pub some_suffix : Option Suffix → Option reader.Suffix
 some_suffix None = None
 some_suffix (Some s) = Some (suffix_meant s)
 
--- the operator of an assignment that a token begins behind what has this form
+-- the operator of an assignment that a token begins after what has this form
 abbrev pub assigned_at : Form → Token → Option (Option BinOp)
 assigned_at Joined t = None
 assigned_at form (token.Assign op) = Some op

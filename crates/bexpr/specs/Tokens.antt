@@ -7,8 +7,9 @@ use Rattle.bword.specs.declared.edition.Edition.{Edition}
 use Rattle.std.specs.Option.{option_map}
 use Rattle.blex.specs.Sources.{Source, room}
 use Rattle.bword.specs.ByteEnds.{Took}
-use Rattle.blex.specs.Lexemes.{placed_of}
-use Rattle.blang.specs.Cut.{is_last, Word, whole, token_first, tokens_from}
+use Rattle.blex.specs.Lexemes.{placed_of, token_of_lexeme}
+use Rattle.blang.specs.Cut.{is_last, token_first, tokens_from}
+use Rattle.blang.specs.Endings.{EndsWith}
 use Rattle.blex.specs.declared.lexer.Progress.{Progress}
 use Rattle.blex.specs.declared.lexer.Progress.TheVariants as progress
 use Rattle.blex.specs.declared.lexeme.Seen.{Seen}
@@ -17,7 +18,7 @@ use Rattle.blang.specs.declared.token.Token.TheVariants as token
 use Rattle.blang.specs.declared.token.Placed.{Placed}
 use Rattle.btree.specs.Reading.{Reader, first, line_ahead, after}
 
--- the source behind the tokens that are ahead, what its lexer has come to, and the text of its last string
+-- the source after the tokens that are ahead, what its lexer has come to, and the text of its last string
 pub record Tokens : Type 0 where
   pub source : Source
   pub progress : Progress
@@ -28,22 +29,31 @@ abbrev pub is_string : Token → Bool
 is_string (token.String characters) = true
 is_string _ = false
 
+abbrev pub is_name : Token → Bool
+is_name (token.Name text) = true
+is_name _ = false
+
 -- the token that was seen, if one was, which has this text if it is a string
 abbrev pub token_seen : List ℕ → Option Seen → Option Placed
 token_seen text seen = option_map (placed_of text) seen
 
--- the tokens that are ahead: the current one, and perhaps the one behind it
+-- the tokens that are ahead: the current one, and perhaps the one after it
 abbrev pub both : Option Placed → Option Placed → List Placed
-both None behind = []
+both None following = []
 both (Some current) None = current ∷ []
-both (Some current) (Some behind) = current ∷ behind ∷ []
+both (Some current) (Some following) = current ∷ following ∷ []
 
--- Few bytes are ahead, and a token behind the current one only where that is there.
-pub record InOrder (bytes : List ℕ) (current behind : Option Seen) : Type 0 where
+-- a name was seen
+abbrev pub is_name_seen : Option Seen → Bool
+is_name_seen None = false
+is_name_seen (Some seen) = is_name (token_of_lexeme seen.lexeme [])
+
+-- Few bytes are ahead, and a token after the current one only where that is a name.
+pub record InOrder (bytes : List ℕ) (current following : Option Seen) : Type 0 where
   pub near : length bytes ≤ 2
-  pub order : current ≡ None → behind ≡ None
+  pub alone : is_name_seen current ≡ false → following ≡ None
 
--- the tokens of what an end has left, in an edition
+-- the tokens of what a stream has left, in an edition
 abbrev pub all_tokens : Edition → Incoming → List ℕ → Tokens
 all_tokens edition end lender = record {
   source = record { ahead = []; line = 1; end = end; lender = lender; edition = edition };
@@ -68,11 +78,12 @@ IsReadyWith (p ∷ ps) reached = is_last p.token ≡ false → IsReadyWith ps re
 abbrev pub IsReady : Tokens → Type 0
 IsReady t = IsReadyWith t.ahead t.progress
 
--- The current token is ahead.
+-- The current token is ahead, and one after it only where it is a name.
 pub record IsLoaded (t : Tokens) : Type 0 where
   pub current : Placed
-  pub behind : List Placed
-  pub ahead : t.ahead ≡ current ∷ behind
+  pub following : List Placed
+  pub ahead : t.ahead ≡ current ∷ following
+  pub alone : is_name current.token ≡ false → following ≡ []
   pub ready : IsReady t
   pub near : length t.source.ahead ≤ 2
 
@@ -103,20 +114,13 @@ last_ahead [] = None
 last_ahead (p ∷ []) = Some p
 last_ahead (p ∷ q ∷ ps) = last_ahead (q ∷ ps)
 
--- The bytes end with those of this token, in some edition.
-pub record EndsWith (token : Token) (bytes : List ℕ) : Type 0 where
-  pub edition : Edition
-  pub before : List ℕ
-  pub text : List ℕ
-  pub split : bytes ≡ before ++ text
-  pub is : whole edition text ≡ Some (Word token)
-
 -- Bytes were looked at, of those read before and those taken. The last token ahead ends them, or was ahead before.
 pub record LooksAt (old : Tokens) (taken : List ℕ) (new : Tokens) : Type 0 where
+  pub edition : new.source.edition ≡ old.source.edition
   pub bytes : List ℕ
   pub split : old.source.ahead ++ taken ≡ bytes ++ new.source.ahead
   pub ends : (p : Placed) → last_ahead new.ahead ≡ Some p
-      → EndsWith p.token bytes ⊎ ((bytes ≡ []) × (last_ahead old.ahead ≡ Some p))
+      → EndsWith old.source.edition p.token bytes ⊎ ((bytes ≡ []) × (last_ahead old.ahead ≡ Some p))
 
 -- Bytes were taken, and this holds of the tokens that came before and of those that come now, whatever the end
 -- still gives.
@@ -142,7 +146,7 @@ pub record TokensFail (old new : Tokens) : Type 0 where
 abbrev pub Same : List Placed → List Placed → Type 0
 Same u v = u ≡ v
 
--- The current token, and where it is there the one behind it, are ahead as they were.
+-- The current token, and where it is there the one after it, are ahead as they were.
 abbrev pub KeepsAhead : List Placed → List Placed → Type 0
 KeepsAhead [] new = Unit {0}
 KeepsAhead (p ∷ ps) new = (first new ≡ p.token) × (line_ahead new ≡ p.line)
@@ -154,20 +158,20 @@ pub record Looks (old new : Tokens) : Type 0 where
   pub alone : after new.ahead ≡ after old.ahead
   pub keeps : KeepsAhead old.ahead new.ahead
 
--- These tokens are those behind the current one.
-pub record AreBehind (ahead u v : List Placed) : Type 0 where
+-- These tokens are those after the current one.
+pub record AreAfter (ahead u v : List Placed) : Type 0 where
   pub rest : v ≡ after u
   pub token : first u ≡ first ahead
   pub line : line_ahead u ≡ line_ahead ahead
 
 -- The current token was taken, and the next one is ahead.
 pub record Advances (old new : Tokens) : Type 0 where
-  pub moves : Moves old new (AreBehind old.ahead)
+  pub moves : Moves old new (AreAfter old.ahead)
   pub single : IsSingle new
   pub keeps : KeepsAhead (after old.ahead) new.ahead
   pub falls : work new + 1 ≤ work old
 
--- The tokens are as they were, and the one behind the current one is ahead.
+-- The tokens are as they were, and the one after the current one is ahead.
 pub record LooksOn (old new : Tokens) : Type 0 where
   pub moves : Moves old new Same
   pub loaded : IsLoaded new

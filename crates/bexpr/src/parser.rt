@@ -11,7 +11,7 @@ ghost use Rattle.blang.specs.declared.code.Instr.TheVariants as instr;
 ghost use Rattle.bemit.specs.Drafts.{fresh, emitted, checked};
 ghost use Rattle.bemit.specs.Effects.{loads, prefixed};
 ghost use Rattle.bexpr.specs.Marks.{is_mark};
-ghost use Rattle.bexpr.specs.Tokens.{all_tokens, IsLoaded, IsSingle, work};
+ghost use Rattle.bexpr.specs.Tokens.{all_tokens, is_name, IsLoaded, IsSingle, work};
 ghost use Rattle.bemit.specs.declared.form.Form.TheVariants.{Lone};
 ghost use Rattle.blang.specs.declared.token.Token.TheVariants as token;
 ghost use Rattle.bexpr.specs.Parsers.{called_at, prefix_meant, prefix_form, suffix_meant, assigned_at, Follows, Continues, Evaluates, Passes, Expects, Enters, TakesCurrent};
@@ -44,7 +44,7 @@ fn load(draft: &mut Draft, form: Form)
     }
 }
 
-// A prefix operator on this line, behind its operand.
+// A prefix operator on this line, after its operand.
 fn prefix(draft: &mut Draft, op: Prefix, line: u64, form: Form) -> Form
     ensures draft { draft.new ≡ prefixed (prefix_meant op) line form draft.old }
     ensures form { result ≡ prefix_form op }
@@ -75,7 +75,7 @@ fn prefix(draft: &mut Draft, op: Prefix, line: u64, form: Form) -> Form
     Form::Lone
 }
 
-// The operator of an assignment that a token begins behind an expression, of which only an operand is assigned to.
+// The operator of an assignment that a token begins after an expression, of which only an operand is assigned to.
 fn assigned_at(form: Form, lexeme: Lexeme) -> Option<Option<BinOp>>
     ensures { (text : List ℕ) → result ≡ assigned_at form (token_of_lexeme lexeme text) }
 {
@@ -108,7 +108,7 @@ impl<I: ByteIn> Parser<I> {
         }
     }
 
-    /// The end, without what was read ahead.
+    /// The stream, without what was read ahead.
     pub fn into_input(self) -> I
         ensures end { I.incoming result ≡ self.tokens.source.end }
         ensures lender { I.lender result ≡ self.tokens.source.lender }
@@ -124,7 +124,7 @@ impl<I: ByteIn> Parser<I> {
 
     /// Takes a token that must come.
     pub fn expect(&mut self, mark: Mark) -> Result<(), Halt>
-        requires { IsLoaded self.old.tokens }
+        requires { IsSingle self.old.tokens }
         ensures tokens { Expects (is_mark mark) self.old.tokens result self.new.tokens }
         ensures draft { self.new.draft ≡ self.old.draft }
     {
@@ -135,9 +135,10 @@ impl<I: ByteIn> Parser<I> {
         Ok(())
     }
 
-    /// Takes the token that opens a level, and answers how many levels are left there.
+    /// Takes the token that opens a level, which is no name, and answers how many levels are left there.
     pub fn enter(&mut self, room: u8) -> Result<u8, Halt>
         requires loaded { IsLoaded self.old.tokens }
+        requires no_name { is_name (first self.old.tokens.ahead) ≡ false }
         requires goes_on { is_last (first self.old.tokens.ahead) ≡ false }
         ensures tokens { Enters room self.old.tokens result self.new.tokens }
         ensures draft { self.new.draft ≡ self.old.draft }
@@ -149,7 +150,7 @@ impl<I: ByteIn> Parser<I> {
         Ok(room - 1)
     }
 
-    // Takes the current token, behind which this stands.
+    // Takes the current token, after which this stands.
     fn take(&mut self, form: Form) -> Result<Form, Halt>
         requires loaded { IsLoaded self.old.tokens }
         requires goes_on { is_last (first self.old.tokens.ahead) ≡ false }
@@ -198,7 +199,7 @@ impl<I: ByteIn> Parser<I> {
         }
     }
 
-    // `++` or `--` behind its operand.
+    // `++` or `--` after its operand.
     fn step(&mut self, increment: Increment, form: Form) -> Result<Form, Halt>
         requires loaded { IsLoaded self.old.tokens }
         requires goes_on { is_last (first self.old.tokens.ahead) ≡ false }
@@ -226,7 +227,7 @@ impl<I: ByteIn> Parser<I> {
         Ok(form.grouped())
     }
 
-    // A primary expression with what goes on behind it.
+    // A primary expression with what goes on after it.
     #[cycle(expressions)]
     fn postfix(&mut self, room: u8) -> Result<Form, Halt>
         requires { IsLoaded self.old.tokens }
@@ -239,7 +240,7 @@ impl<I: ByteIn> Parser<I> {
         Ok(form)
     }
 
-    // What goes on behind a postfix expression.
+    // What goes on after a postfix expression.
     #[cycle(expressions)]
     fn suffixed(&mut self, room: u8, next: Suffix, form: Form) -> Result<Form, Halt>
         requires loaded { IsLoaded self.old.tokens }
@@ -268,7 +269,7 @@ impl<I: ByteIn> Parser<I> {
         }
     }
 
-    // The arguments of a call through the parenthesis behind them; answers how many they are.
+    // The arguments of a call through the parenthesis after them; answers how many they are.
     #[cycle(expressions)]
     fn arguments(&mut self, room: u8) -> Result<u16, Halt>
         requires { IsLoaded self.old.tokens }
@@ -306,7 +307,7 @@ impl<I: ByteIn> Parser<I> {
         Ok(prefix(&mut self.draft, op, line, form))
     }
 
-    // Operands and the binary operators up to a rank. Behind an operator stands what binds tighter.
+    // Operands and the binary operators up to a rank. After an operator stands what binds tighter.
     #[cycle(expressions)]
     fn chain(&mut self, room: u8, rank: u8) -> Result<Form, Halt>
         requires loaded { IsLoaded self.old.tokens }
@@ -325,7 +326,7 @@ impl<I: ByteIn> Parser<I> {
         Ok(form)
     }
 
-    // Behind a chain of operands: the arms of a conditional, and the jumps round them.
+    // After a chain of operands: the arms of a conditional, and the jumps round them.
     #[cycle(expressions)]
     fn conditional(&mut self, room: u8, form: Form) -> Result<Form, Halt>
         requires { IsSingle self.old.tokens }
@@ -347,8 +348,8 @@ impl<I: ByteIn> Parser<I> {
         let form = self.chain(room, LOOSEST)?;
         let form = self.conditional(room, form)?;
         load(&mut self.draft, form);
-        let behind = self.draft.place();
-        self.draft.fill(end, Instr::Jump(behind));
+        let following = self.draft.place();
+        self.draft.fill(end, Instr::Jump(following));
         Ok(Form::Joined)
     }
 

@@ -1,10 +1,10 @@
 //! The tokens of a source, two of which may be ahead.
-ghost use Rattle.std.specs.Prelude.{◌≡◌, false, OnOk, OnErr};
+ghost use Rattle.std.specs.Prelude.{◌≡◌, true, false, OnOk, OnErr};
 ghost use Rattle.blex.specs.Lexemes.{token_of_lexeme};
 ghost use Rattle.blang.specs.Cut.{is_last, placed};
 ghost use Rattle.blang.specs.WellFormed.{fault_at};
 ghost use Rattle.btree.specs.Reading.{first, line_ahead, after};
-ghost use Rattle.bexpr.specs.Tokens.{all_tokens, is_string, IsReady, IsLoaded, Looks, LooksOn, Advances, TokensFail};
+ghost use Rattle.bexpr.specs.Tokens.{all_tokens, is_name, IsReady, IsLoaded, Looks, LooksOn, Advances, TokensFail};
 ghost use Rattle.bexpr.specs.Marks.{is_mark};
 
 use crate::mark::Mark;
@@ -20,7 +20,7 @@ use std::marker::Model;
 pub struct Tokens<I: ByteIn> {
     lexer: Lexer<I>,
     current: Option<Seen>,
-    behind: Option<Seen>,
+    following: Option<Seen>,
     // How many tokens were taken. No contract speaks of it.
     taken: Cell<u64>,
 }
@@ -34,10 +34,10 @@ impl<I: ByteIn> Model for Tokens<I> {
       source = t.lexer.source;
       progress = t.lexer.progress;
       text = t.lexer.characters;
-      ahead = both (token_seen t.lexer.characters t.current) (token_seen t.lexer.characters t.behind);
+      ahead = both (token_seen t.lexer.characters t.current) (token_seen t.lexer.characters t.following);
     } };
 
-    ghost invariant = { λ t. InOrder t.lexer.source.ahead t.current t.behind };
+    ghost invariant = { λ t. InOrder t.lexer.source.ahead t.current t.following };
 }
 
 impl<I: ByteIn> Tokens<I> {
@@ -48,12 +48,12 @@ impl<I: ByteIn> Tokens<I> {
         Tokens {
             lexer: Lexer::with_edition(input, edition),
             current: None,
-            behind: None,
+            following: None,
             taken: Cell::new(0),
         }
     }
 
-    /// The end, without what was read ahead.
+    /// The stream, without what was read ahead.
     pub fn into_input(self) -> I
         ensures end { I.incoming result ≡ self.source.end }
         ensures lender { I.lender result ≡ self.source.lender }
@@ -61,7 +61,7 @@ impl<I: ByteIn> Tokens<I> {
         let Tokens {
             lexer,
             current: _,
-            behind: _,
+            following: _,
             taken: _,
         } = self;
         lexer.into_input()
@@ -95,12 +95,12 @@ impl<I: ByteIn> Tokens<I> {
         }
     }
 
-    /// How many tokens were taken: as many as stand before the current one.
+    /// How many tokens were taken: as many as come before the current one.
     pub fn taken(&self) -> u64 {
         self.taken.get()
     }
 
-    /// Where the current token stands.
+    /// Where the current token is.
     pub fn origin(&self) -> Origin {
         Origin {
             line: self.line(),
@@ -149,28 +149,27 @@ impl<I: ByteIn> Tokens<I> {
         Ok(())
     }
 
-    /// Reads the token behind the current one, which is no last one and no string, unless it is there.
+    /// Reads the token after the current one, which is a name, unless it is there.
     pub fn look_on(&mut self) -> Result<(), Device>
         requires loaded { IsLoaded self.old }
-        requires goes_on { is_last (first self.old.ahead) ≡ false }
-        requires no_string { is_string (first self.old.ahead) ≡ false }
+        requires name { is_name (first self.old.ahead) ≡ true }
         ensures ok { OnOk result (LooksOn self.old self.new) }
         ensures err { OnErr result (TokensFail self.old self.new) }
     {
-        if self.behind.is_none() {
+        if self.following.is_none() {
             let Ok(seen) = self.lexer.next_lexeme() else {
                 return Err(Device);
             };
-            self.behind = Some(seen);
+            self.following = Some(seen);
         }
         Ok(())
     }
 
-    /// Whether this token was read behind the current one.
-    pub fn is_behind(&self, mark: Mark) -> bool
+    /// Whether this token was read after the current one.
+    pub fn is_after(&self, mark: Mark) -> bool
         ensures { result ≡ is_mark mark (first (after self.now.ahead)) }
     {
-        match self.behind {
+        match self.following {
             Some(seen) => mark.is(seen.lexeme),
             None => false,
         }
@@ -184,8 +183,8 @@ impl<I: ByteIn> Tokens<I> {
         ensures err { OnErr result (TokensFail self.old self.new) }
     {
         self.taken.set(self.taken.get().wrapping_add(1));
-        if self.behind.is_some() {
-            self.current = self.behind.take();
+        if self.following.is_some() {
+            self.current = self.following.take();
             return Ok(());
         }
         self.current = None;

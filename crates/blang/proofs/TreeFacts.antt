@@ -4,8 +4,9 @@ use Rattle.bword.specs.declared.operators.BinOp.TheVariants as op
 use Rattle.blang.specs.declared.token.Token.{Token}
 use Rattle.blang.specs.declared.token.Placed.{Placed}
 use Rattle.blang.specs.declared.token.Diagnostic.{Diagnostic}
-use Rattle.blang.specs.Trees.{Number, Negate, PostIncrement, Expr, Arguments, Literal, Text, Grouped, Indexed, Called, Postfixed, Prefixed, Binary, Conditional, Assigned, No_arguments, Another, Heading, Label, Stmt, Headed, Compound, If, IfElse, While, Switch, Goto, ReturnValue, Evaluate, Empty, Nothing, More, Ival_constant, Ival_text, Definition, Simple, Function, spell_definition}
-use Rattle.blang.specs.WellFormed.{rvalue_rank, Binds, StatementBinds, nesting, statement_nesting, TextAt, texts, statement_texts, IsFormed, IsViable, StopsAt, Parts, Parted}
+use Rattle.blang.specs.Trees.{Number, Negate, PostIncrement, Expr, Arguments, Literal, Text, Grouped, Indexed, Called, Postfixed, Prefixed, Binary, Conditional, Assigned, No_arguments, Another, Heading, Label, Stmt, Headed, Compound, If, IfElse, While, Switch, Goto, ReturnValue, Evaluate, Empty, Nothing, More, Ival_constant, Ival_text, Definition, Simple, Function}
+use Rattle.blang.specs.WellFormed.{rvalue_rank, Binds, StatementBinds, IsFormed, IsViable, StopsAt, Parts, Parted}
+use Rattle.blang.specs.Walk.{TextAt, levels_in, texts_in, walk, walk_statement, spell_definition}
 use Rattle.blang.specs.Code.{strings_of}
 
 abbrev one : Expr
@@ -30,6 +31,13 @@ product_in_difference = (leb-true _ _ refl, tt, (leb-true _ _ refl, tt, tt))
 
 pub difference_in_product : Binds (times (minus one one) one) rvalue_rank → ⊥
 difference_in_product f = let no : 2 ≤ 1 = f.1.0 in omega arith
+
+-- 1?1:1?1:1 is no conditional of a conditional, nor 1?1:1=1 one that ends in an assignment
+pub choice_of_choice : Binds (Conditional (Conditional one one one) one one) rvalue_rank → ⊥
+choice_of_choice f = let no : 8 ≤ 7 = f.1.0 in omega arith
+
+pub choice_before_assignment : Binds (Conditional one one (Assigned None 1 one one)) rvalue_rank → ⊥
+choice_before_assignment f = let no : 9 ≤ 8 = f.3.0 in omega arith
 
 -- -1[1]: what stands before an index has no prefix operator
 pub index_of_negative : Binds (Indexed (Prefixed Negate 1 one) one) rvalue_rank → ⊥
@@ -66,7 +74,7 @@ abbrev argument : Arguments → Expr → Arguments
 argument before e = Another before e
 
 pub expression_levels :
-    map nesting (
+    map (λ e. levels_in (walk e)) (
     Indexed three one ∷ Indexed one three ∷ Called three No_arguments
     ∷ Called one (argument (argument No_arguments three) one)
     ∷ Called one (argument (argument No_arguments one) three)
@@ -81,7 +89,7 @@ abbrev label : Heading
 label = Label (record { text = codes "l"; line = 1 })
 
 pub statement_levels :
-    map statement_nesting (
+    map (λ s. levels_in (walk_statement s)) (
     Headed label (Goto three) ∷ Compound (More (More Nothing (Goto three)) Empty)
     ∷ Compound (More (More Nothing Empty) (Goto three)) ∷ If three Empty ∷ If one (Goto three)
     ∷ IfElse three Empty Empty ∷ IfElse one (Goto three) Empty ∷ IfElse one Empty (Goto three)
@@ -97,41 +105,41 @@ string n = Text (n ∷ []) n
 abbrev offsets : List TextAt → List ℕ
 offsets texts = map (λ t. t.offset) texts
 
-pub expression_order : offsets (texts (Assigned None 1 (Indexed (string 0) (string 1)) (Conditional
+pub expression_order : offsets (texts_in (walk (Assigned None 1 (Indexed (string 0) (string 1)) (Conditional
     (Called (string 2) (argument (argument No_arguments (string 3)) (string 4)))
     (minus (string 5) (Grouped (string 6)))
-    (Prefixed Negate 1 (Postfixed PostIncrement 1 (string 7))))))
+    (Prefixed Negate 1 (Postfixed PostIncrement 1 (string 7)))))))
     ≡ 0 ∷ 1 ∷ 2 ∷ 3 ∷ 4 ∷ 5 ∷ 6 ∷ 7 ∷ []
 expression_order = refl
 
-pub statement_order : offsets (statement_texts (Compound (More (More (More (More Nothing
+pub statement_order : offsets (texts_in (walk_statement (Compound (More (More (More (More Nothing
     (If (string 0) (Goto (string 1)))) (IfElse (string 2) (ReturnValue (string 3)) (Evaluate (string 4))))
-    (While (string 5) (Headed label (Goto (string 6))))) (Switch (string 7) (More Nothing (Goto (string 8)))))))
+    (While (string 5) (Headed label (Goto (string 6))))) (Switch (string 7) (More Nothing (Goto (string 8))))))))
     ≡ 0 ∷ 1 ∷ 2 ∷ 3 ∷ 4 ∷ 5 ∷ 6 ∷ 7 ∷ 8 ∷ []
 statement_order = refl
 
--- "abc" takes two words, so the string behind it has the offset 2, in a function and among initial values
-abbrev behind_abc : ℕ → Definition
-behind_abc n = f (Evaluate (minus (Text (codes "abc") 0) (Text (codes "c") n)))
+-- "abc" takes two words, so the string after it has the offset 2, in a function and among initial values
+abbrev after_abc : ℕ → Definition
+after_abc n = f (Evaluate (minus (Text (codes "abc") 0) (Text (codes "c") n)))
 
-pub second_string : IsFormed (behind_abc 2)
+pub second_string : IsFormed (after_abc 2)
 second_string = ((leb-true _ _ refl, tt, tt), leb-true _ _ refl, (refl, (refl, tt)))
 
-pub second_string_too_near : IsFormed (behind_abc 1) → ⊥
+pub second_string_too_near : IsFormed (after_abc 1) → ⊥
 second_string_too_near h = let no : ◌≡◌ {A = ℕ} 1 2 = h.2.1.0 in omega arith
 
-abbrev values_behind_abc : ℕ → Definition
-values_behind_abc n =
+abbrev values_after_abc : ℕ → Definition
+values_after_abc n =
     Simple (record { text = codes "s"; line = 1 })
     (Ival_text (codes "abc") 0 ∷ Ival_constant (Number 1) ∷ Ival_text (codes "c") n ∷ [])
 
-pub second_value : IsFormed (values_behind_abc 2)
+pub second_value : IsFormed (values_after_abc 2)
 second_value = (refl, (refl, tt))
 
-pub second_value_too_near : IsFormed (values_behind_abc 1) → ⊥
+pub second_value_too_near : IsFormed (values_after_abc 1) → ⊥
 second_value_too_near h = let no : ◌≡◌ {A = ℕ} 1 2 = h.1.0 in omega arith
 
-pub words_of_both : strings_of (behind_abc 2) ≡ 25185 ∷ 1123 ∷ 1123 ∷ []
+pub words_of_both : strings_of (after_abc 2) ≡ 25185 ∷ 1123 ∷ 1123 ∷ []
 words_of_both = refl
 
 -- Where a source is at fault, no program goes on

@@ -12,9 +12,9 @@ use Rattle.blang.specs.Trees.{PostIncrement, PostDecrement, Named, Literal, Text
 use Rattle.blang.specs.Trees.{Prefixed, Binary, Conditional, Assigned, No_arguments, Another, Heading, Auto, Extrn}
 use Rattle.blang.specs.Trees.{Label, Case, Default, Stmt, Headed, Compound, If, IfElse, While, Switch, Goto, Break}
 use Rattle.blang.specs.Trees.{Return, ReturnValue, Evaluate, Empty, Stmts, Nothing, More, Ival, Ival_constant}
-use Rattle.blang.specs.Trees.{Ival_text, Ival_name, Definition, Simple, Vector, Function}
+use Rattle.blang.specs.Trees.{Ival_text, Ival_name, Definition, Simple, Vector, Function, constant_value}
 use Rattle.blang.specs.WellFormed.{packed, texts_of}
-use Rattle.blang.specs.Scan.{Entry, NameKind, Automatic, Labelled, kind_of, fault, Scope, no_scope, constant_value}
+use Rattle.blang.specs.Scan.{Entry, NameKind, Automatic, Labelled, kind_of, fault, Scope, no_scope}
 use Rattle.blang.specs.Scan.{function_scope, scan, identifier_of}
 use Rattle.blang.specs.declared.token.Letters.TheVariants as letters
 use Rattle.blang.specs.declared.code.Instr.TheVariants as instr
@@ -24,7 +24,7 @@ use Rattle.blang.specs.declared.code.Ival.TheVariants as ival
 use Rattle.blang.specs.declared.code.Definition as coded
 use Rattle.blang.specs.declared.code.Definition.TheVariants as code
 
--- what a name stands for: a word of the frame, an external, the label of this number
+-- what a name means: a word of the frame, an external, the label of this number
 pub data Referent : Type 0 where
   In_frame : (word : ℕ) → Referent
   Outside : Referent
@@ -64,11 +64,23 @@ assignment (Some op) = instr.Modify op
 abbrev pub Arms : Type 0 → Type 0
 Arms A = List (Option ℕ × A)
 
--- a heading's own arm, which leads there
-abbrev pub heading_arm : {A : Type 0} → Heading → A → Arms A
-heading_arm (Case line c) there = (Some (constant_value c), there) ∷ []
-heading_arm (Default line) there = (None, there) ∷ []
-heading_arm _ there = []
+-- what the labels of a statement lead to, and its arms of the switch around it, in source order
+pub record Targets (A : Type 0) : Type 0 where
+  pub labels : List A
+  pub arms : Arms A
+
+abbrev pub no_targets : {A : Type 0} → Targets A
+no_targets = record { labels = []; arms = [] }
+
+abbrev pub both_targets : {A : Type 0} → Targets A → Targets A → Targets A
+both_targets a b = record { labels = a.labels ++ b.labels; arms = a.arms ++ b.arms }
+
+-- a heading's own, which leads there
+abbrev pub heading_targets : {A : Type 0} → Heading → A → Targets A
+heading_targets (Label w) there = record { labels = there ∷ []; arms = [] }
+heading_targets (Case line c) there = record { labels = []; arms = (Some (constant_value c), there) ∷ [] }
+heading_targets (Default line) there = record { labels = []; arms = (None, there) ∷ [] }
+heading_targets _ there = no_targets
 
 -- what the first default leads to
 abbrev pub default_in : {A : Type 0} → Arms A → Option A
@@ -82,7 +94,7 @@ tests_code [] = []
 tests_code ((None, t) ∷ arms) = tests_code arms
 tests_code ((Some v, t) ∷ arms) = instr.JumpIfCase v t ∷ tests_code arms
 
--- behind the tests
+-- after the tests
 abbrev pub default_code : Option ℕ → List Instr
 default_code None = instr.Pop ∷ []
 default_code (Some t) = instr.Pop ∷ instr.Jump t ∷ []
@@ -90,9 +102,25 @@ default_code (Some t) = instr.Pop ∷ instr.Jump t ∷ []
 abbrev pub arms_code : Arms ℕ → List Instr
 arms_code arms = tests_code arms ++ default_code (default_in arms)
 
+-- A piece of code at a place: its instructions, where a break with no loop and no switch of the piece around leads out,
+-- the place after it, and the places of its labels and arms.
+pub record Piece : Type 0 where
+  pub code : (out : ℕ) → List Instr
+  pub end : ℕ
+  pub targets : Targets ℕ
+
+-- without labels and arms
+abbrev pub plain : ((out : ℕ) → List Instr) → (end : ℕ) → Piece
+plain code end = record { code = code; end = end; targets = no_targets }
+
+-- one piece after another
+abbrev pub joined : Piece → Piece → Piece
+joined a b =
+    record { code = λ out. a.code out ++ b.code out; end = b.end; targets = both_targets a.targets b.targets }
+
 module _ (names : Environment) where
   abbrev mutual
-    -- leaves the word of an expression that stands at p
+    -- leaves the word of an expression at p
     pub word_code : Expr → ℕ → List Instr
     word_code (Named w) p = name_word_code (names w.text) w.text
     word_code (Literal c) p = instr.Constant (constant_value c) ∷ []
@@ -148,100 +176,59 @@ module _ (names : Environment) where
   heading_code (Auto declared) = flat_map (λ d. vector_code (names d.word.text) d.size) declared
   heading_code _ = []
 
-  -- the place of a heading's own label
-  abbrev pub heading_label_places : Heading → ℕ → List ℕ
-  heading_label_places (Label w) p = p ∷ []
-  heading_label_places _ p = []
+  abbrev pub heading_piece : Heading → (p : ℕ) → Piece
+  heading_piece h p =
+      record { code = λ out. heading_code h; end = p + length (heading_code h); targets = heading_targets h p }
 
-  -- the place behind a statement that stands at p, and the arms of the switch around it
+  -- an expression and an instruction after it
+  abbrev pub word_then : Expr → Instr → (p : ℕ) → Piece
+  word_then e i p = plain (λ out. word_code e p ++ (i ∷ [])) (p + length (word_code e p) + 1)
+
+  -- the code of a statement at p
   abbrev mutual
-    pub statement_end : Stmt → (p : ℕ) → ℕ
-    statement_end (Headed h s) p = statement_end s (p + length (heading_code h))
-    statement_end (Compound body) p = body_end body p
-    statement_end (If e s) p = statement_end s (p + length (word_code e p) + 1)
-    statement_end (IfElse e s other) p = statement_end other (statement_end s (p + length (word_code e p) + 1) + 1)
-    statement_end (While e s) p = statement_end s (p + length (word_code e p) + 1) + 1
-    statement_end (Switch e body) p =
-        let q = p + length (word_code e p) + 1 in
-        body_end body q + 1 + length (arms_code (body_arm_places body q))
-    statement_end (Goto e) p = p + length (word_code e p) + 1
-    statement_end (Break line) p = p + 1
-    statement_end Return p = p + 2
-    statement_end (ReturnValue e) p = p + length (word_code e p) + 1
-    statement_end (Evaluate e) p = p + length (word_code e p) + 1
-    statement_end Empty p = p
+    pub piece : Stmt → (p : ℕ) → Piece
+    piece (Headed h s) p = let a = heading_piece h p in joined a (piece s a.end)
+    piece (Compound body) p = body_piece body p
+    piece (If e s) p =
+        let test = word_code e p in
+        let a = piece s (p + length test + 1) in
+        record a { code = λ out. test ++ (instr.JumpIfZero a.end ∷ a.code out) }
+    piece (IfElse e s other) p =
+        let test = word_code e p in
+        let a = piece s (p + length test + 1) in
+        let b = piece other (a.end + 1) in
+        record (joined a b) {
+          code = λ out. test
+              ++ (instr.JumpIfZero (a.end + 1) ∷ (a.code out ++ (instr.Jump b.end ∷ b.code out)));
+        }
+    piece (While e s) p =
+        let test = word_code e p in
+        let a = piece s (p + length test + 1) in
+        let end = a.end + 1 in
+        record a { code = λ out. test ++ (instr.JumpIfZero end ∷ (a.code end ++ (instr.Jump p ∷ []))); end = end }
+    piece (Switch e body) p =
+        let test = word_code e p in
+        let a = body_piece body (p + length test + 1) in
+        let d = a.end + 1 in
+        let tests = arms_code a.targets.arms in
+        let end = d + length tests in
+        record {
+          code = λ out. test ++ (instr.Jump d ∷ (a.code end ++ (instr.Jump end ∷ tests)));
+          end = end;
+          targets = record a.targets { arms = [] };
+        }
+    piece (Goto e) p = word_then e instr.Goto p
+    piece (Break line) p = plain (λ out. instr.Jump out ∷ []) (p + 1)
+    piece Return p = plain (λ out. instr.Constant 0 ∷ instr.Return ∷ []) (p + 2)
+    piece (ReturnValue e) p = word_then e instr.Return p
+    piece (Evaluate e) p = word_then e instr.Pop p
+    piece Empty p = plain (λ out. []) p
 
-    pub body_end : Stmts → (p : ℕ) → ℕ
-    body_end Nothing p = p
-    body_end (More before s) p = statement_end s (body_end before p)
+    pub body_piece : Stmts → (p : ℕ) → Piece
+    body_piece Nothing p = plain (λ out. []) p
+    body_piece (More before s) p = let a = body_piece before p in joined a (piece s a.end)
 
-    pub arm_places : Stmt → (p : ℕ) → Arms ℕ
-    arm_places (Headed h s) p = heading_arm h p ++ arm_places s (p + length (heading_code h))
-    arm_places (Compound body) p = body_arm_places body p
-    arm_places (If e s) p = arm_places s (p + length (word_code e p) + 1)
-    arm_places (IfElse e s other) p =
-        let q = p + length (word_code e p) + 1 in
-        arm_places s q ++ arm_places other (statement_end s q + 1)
-    arm_places (While e s) p = arm_places s (p + length (word_code e p) + 1)
-    arm_places _ p = []
-
-    pub body_arm_places : Stmts → (p : ℕ) → Arms ℕ
-    body_arm_places Nothing p = []
-    body_arm_places (More before s) p = body_arm_places before p ++ arm_places s (body_end before p)
-
-  -- The code of a statement that stands at p. A break with no loop and no switch of it around leads to out.
-  abbrev mutual
-    pub statement_code : Stmt → (p out : ℕ) → List Instr
-    statement_code (Headed h s) p out = heading_code h ++ statement_code s (p + length (heading_code h)) out
-    statement_code (Compound body) p out = body_code body p out
-    statement_code (If e s) p out =
-        let q = p + length (word_code e p) + 1 in
-        word_code e p ++ (instr.JumpIfZero (statement_end s q) ∷ statement_code s q out)
-    statement_code (IfElse e s other) p out =
-        let q = p + length (word_code e p) + 1 in
-        let a = statement_end s q + 1 in
-        word_code e p
-        ++ (instr.JumpIfZero a ∷ (statement_code s q out
-        ++ (instr.Jump (statement_end other a) ∷ statement_code other a out)))
-    statement_code (While e s) p out =
-        let q = p + length (word_code e p) + 1 in
-        let end = statement_end s q + 1 in
-        word_code e p ++ (instr.JumpIfZero end ∷ (statement_code s q end ++ (instr.Jump p ∷ [])))
-    statement_code (Switch e body) p out =
-        let q = p + length (word_code e p) + 1 in
-        let arms = arms_code (body_arm_places body q) in
-        let d = body_end body q + 1 in
-        let end = d + length arms in
-        word_code e p ++ (instr.Jump d ∷ (body_code body q end ++ (instr.Jump end ∷ arms)))
-    statement_code (Goto e) p out = word_code e p ++ (instr.Goto ∷ [])
-    statement_code (Break line) p out = instr.Jump out ∷ []
-    statement_code Return p out = instr.Constant 0 ∷ instr.Return ∷ []
-    statement_code (ReturnValue e) p out = word_code e p ++ (instr.Return ∷ [])
-    statement_code (Evaluate e) p out = word_code e p ++ (instr.Pop ∷ [])
-    statement_code Empty p out = []
-
-    pub body_code : Stmts → (p out : ℕ) → List Instr
-    body_code Nothing p out = []
-    body_code (More before s) p out = body_code before p out ++ statement_code s (body_end before p) out
-
-  -- the places of the labels, in source order
-  abbrev mutual
-    pub label_places : Stmt → ℕ → List ℕ
-    label_places (Headed h s) p = heading_label_places h p ++ label_places s (p + length (heading_code h))
-    label_places (Compound body) p = body_label_places body p
-    label_places (If e s) p = label_places s (p + length (word_code e p) + 1)
-    label_places (IfElse e s other) p =
-        let q = p + length (word_code e p) + 1 in
-        label_places s q ++ label_places other (statement_end s q + 1)
-    label_places (While e s) p = label_places s (p + length (word_code e p) + 1)
-    label_places (Switch e body) p = body_label_places body (p + length (word_code e p) + 1)
-    label_places _ p = []
-
-    pub body_label_places : Stmts → ℕ → List ℕ
-    body_label_places Nothing p = []
-    body_label_places (More before s) p = body_label_places before p ++ label_places s (body_end before p)
-
--- the words of the strings of a definition, one behind another
+-- the words of the strings of a definition, one after another
 abbrev pub strings_of : Definition → List ℕ
 strings_of d = flat_map (λ t. packed t.bytes) (texts_of d)
 
@@ -275,14 +262,14 @@ code_of (Vector w size values) =
     }
 code_of (Function w parameters body) =
     let scope = clean (function_scope parameters body) in
-    let names = environment_of scope.names in
+    let a = piece (environment_of scope.names) body 0 in
     code.Function (record {
       name = w.text;
       parameters = length parameters;
       frame = scope.frame;
-      targets = label_places names body 0;
+      targets = a.targets.labels;
       strings = strings_of (Function w parameters body);
-      code = statement_code names body 0 (statement_end names body 0) ++ (instr.Constant 0 ∷ instr.Return ∷ []);
+      code = a.code a.end ++ (instr.Constant 0 ∷ instr.Return ∷ []);
     })
 
 -- within the limits of a definition
@@ -298,6 +285,6 @@ abbrev pub or_too_large : Option Diagnostic → ℕ → coded.Definition → Opt
 or_too_large (Some f) line c = Some f
 or_too_large None line c = if fits_limits c then None else Some (fault letters.TooLarge line)
 
--- the fault of a definition behind definitions of these names
+-- the fault of a definition after definitions of these names
 abbrev pub fault_of : List (List ℕ) → Definition → Option Diagnostic
 fault_of defined d = or_too_large (scan defined d) (identifier_of d).line (code_of d)

@@ -71,7 +71,7 @@ word_token edition text =
 abbrev pub is_digit : ℕ → Bool
 is_digit b = nat_le 48 b && nat_le b 57
 
--- what digits stand for
+-- the number of these digits
 abbrev pub digits_value : ℕ → List ℕ → ℕ
 digits_value base digits = fold (λ value digit. value * base + (digit - 48)) 0 digits
 
@@ -79,7 +79,7 @@ digits_value base digits = fold (λ value digit. value * base + (digit - 48)) 0 
 abbrev pub is_digit_of : ℕ → ℕ → Bool
 is_digit_of base b = nat_lt (b - 48) base
 
--- the base of a number that begins with this byte: octal behind a 0
+-- the base of a number that begins with this byte: octal after a 0
 abbrev pub base_of : ℕ → ℕ
 base_of b = if b == 48 then 8 else 10
 
@@ -111,11 +111,11 @@ comment_of (Some (b ∷ bs)) = None
 
 -- Constants in quotes.
 
--- a tab and what can be printed stands for itself in quotes, where it is neither a star nor the quote
+-- in quotes a tab and what can be printed is itself, if it is neither a star nor the quote
 abbrev pub plain_of : ℕ → Option ℕ
 plain_of b = if (b == 9) || (nat_le 32 b && nat_le b 126) then Some b else None
 
--- what stands behind the star of an escape, and the byte that the escape is
+-- what comes after the star of an escape, and the byte that the escape means
 abbrev pub escapes : List (List ℕ × ℕ)
 escapes =
     (codes "0", 0) ∷ (codes "e", 4) ∷ (codes "(", 123) ∷ (codes ")", 125) ∷ (codes "n", 10) ∷ (codes "t", 9) ∷
@@ -124,7 +124,7 @@ escapes =
 unfoldable pub escape_of : ℕ → Option ℕ
 escape_of b = lookup (is_text (b ∷ [])) escapes
 
--- What the bytes behind an opening quote have come to.
+-- What the bytes after an opening quote are so far.
 pub data Quoted : Type 0 where
   -- characters, and the star of an escape too
   Open : (characters : List ℕ) → Quoted
@@ -133,7 +133,7 @@ pub data Quoted : Type 0 where
   Closed : (characters : List ℕ) → Quoted
   -- a byte that doesn't fit
   Wrong : Quoted
-  -- bytes behind a closing quote or a byte that doesn't fit
+  -- bytes after a closing quote or a byte that doesn't fit
   Past : Quoted
 
 -- the same with a character more
@@ -221,14 +221,14 @@ greatest p (suc n) = if p (suc n) then suc n else greatest p n
 unfoldable pub longest : Edition → List ℕ → ℕ
 longest edition bytes = greatest (λ n. is_some (whole edition (take n bytes))) (length bytes)
 
--- the line behind a byte: a newline begins the next one, if there is a number for it
+-- the line after a byte: a newline begins the next one, if there is a number for it
 abbrev pub next_line : ℕ → ℕ → ℕ
 next_line line byte = if byte == 10 then min (line + 1) most else line
 
--- the line behind a text
-abbrev pub line_after : ℕ → List ℕ → ℕ
-line_after line [] = line
-line_after line (b ∷ bs) = line_after (next_line line b) bs
+-- the line after a text
+abbrev pub line_number_after : ℕ → List ℕ → ℕ
+line_number_after line [] = line
+line_number_after line (b ∷ bs) = line_number_after (next_line line b) bs
 
 abbrev pub placed : Token → ℕ → Placed
 placed t line = record { token = t; line = line }
@@ -250,7 +250,7 @@ is_last t = is_some (last_of t)
 abbrev pub token_first : Token → ℕ → List Placed → List Placed
 token_first t line rest = placed t line ∷ (if is_last t then [] else rest)
 
--- the tokens from a piece on, with those behind it; there is always a piece
+-- the tokens from a piece on, with those after it; there is always a piece
 abbrev pub piece_first : Option Piece → ℕ → List Placed → List Placed
 piece_first None line rest = placed (token.Bad letters.Character) line ∷ []
 piece_first (Some Space) line rest = rest
@@ -263,7 +263,7 @@ cut edition (suc fuel) line [] = placed token.End line ∷ []
 cut edition (suc fuel) line (b ∷ bs) =
     let n = longest edition (b ∷ bs) in
     let text = take n (b ∷ bs) in
-    piece_first (whole edition text) line (cut edition fuel (line_after line text) (drop n (b ∷ bs)))
+    piece_first (whole edition text) line (cut edition fuel (line_number_after line text) (drop n (b ∷ bs)))
 
 -- the tokens of a source from this line on
 unfoldable pub tokens_from : Edition → ℕ → List ℕ → List Placed

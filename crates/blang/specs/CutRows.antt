@@ -21,7 +21,7 @@ tokens_in edition bytes = map (λ p. p.token) (tokens_from edition 1 bytes)
 abbrev pub tokens : List ℕ → List Token
 tokens bytes = tokens_in editions.One bytes
 
--- a source and its tokens, without the `End` behind them
+-- a source and its tokens, without the `End` after them
 abbrev Row : Type 0
 Row = List ℕ × List Token
 
@@ -291,7 +291,7 @@ open_comments : Wrong (token.Bad letters.OpenComment) (codes "/*/" ∷ codes "/*
 unfolding tokens_from cut longest greatest whole operator_of other_of fixed_of
 open_comments = refl
 
--- Behind a piece that fits nothing there are no tokens.
+-- After a piece that fits nothing there are no tokens.
 stops : map tokens (codes "x # y" ∷ codes "x 08 y" ∷ []) ≡
     (x ∷ token.Bad letters.Character ∷ []) ∷ (x ∷ token.Bad letters.Constant ∷ []) ∷ []
 unfolding tokens_from cut longest greatest whole word_token keyword_of number_in operator_of other_of fixed_of

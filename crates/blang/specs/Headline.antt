@@ -1,11 +1,11 @@
 -- What a run has to do with the meaning of its program, and what comes of a source that is compiled and run; where
--- nothing fails, the whole promise of `go_edition`, over ends that tell their bytes.
+-- nothing fails, the whole promise of `go_edition`, over streams that tell their bytes.
 use Rattle.std.specs.Prelude.{◌≡◌, ◌≢◌, ℕ, ◌+◌, ◌≤◌, List, ◌++◌, map, [], Some, None}
-use Rattle.bword.specs.ByteEnds.{Incoming, Outgoing, Took, Writes, CanFollow, Began, Kept, outgoing_of, Grew}
+use Rattle.bword.specs.ByteEnds.{Incoming, Outgoing, Took, Writes, CanFollow, Kept, outgoing_of, Grew}
 use Rattle.bword.specs.declared.edition.Edition.{Edition}
 use Rattle.blang.specs.Code.{code_of}
 use Rattle.blang.specs.Trees.{Definition}
-use Rattle.blang.specs.Machine.{State, Halted, Shows, AnyFailed, NoneFailed, RunGives, IsOwnStatus, machine}
+use Rattle.blang.specs.Machine.{State, Halted, Shows, RunGives, IsOwnStatus, machine, state_world}
 use Rattle.blang.specs.Machine.{load_number, RunEnds, HasNotRun, NotLoaded, Finishes, report_text}
 use Rattle.blang.specs.Layout.{World, Ending, load_fault, Exited, Trapped}
 use Rattle.blang.specs.declared.run.Outcome.{Outcome}
@@ -57,22 +57,17 @@ pub record ReachesLimit (ds : List Definition) (steps : ℕ) (i j : Incoming) (o
   pub later : (more : List ℕ) → CanFollow j more → (n : ℕ) (e : Ending) (w : World)
       → meant ds (taken ++ more) n ≡ Ends e w → HaltsLater (machine (map code_of ds) (taken ++ more)) steps e w
 
--- A beginning was written of what the program writes.
-pub record BreaksOff (ds : List Definition) (steps : ℕ) (i j : Incoming) (o p : Outgoing) (why : Type 0) : Type 0 where
-  pub taken : List ℕ
-  pub took : Took i taken j
-  pub made : ℕ
-  pub within : made ≤ steps
-  pub began : (more : List ℕ) → CanFollow j more
-      → (text : List ℕ) × IsBeginningOf text (answer_world (meant ds (taken ++ more) (made + 1))).output
-      × Began o text p
-  pub reason : why
+-- What any number of the code's steps write is a beginning of what the program writes.
+abbrev pub WritesAsMeant : List Definition → Type 0
+WritesAsMeant ds =
+    (input : List ℕ) (n : ℕ)
+    → IsBeginningOf (state_world (machine (map code_of ds) input n)).output (answer_world (meant ds input (n + 1))).output
 
 -- what a run of so many steps does, by its outcome
 abbrev pub RunsAsMeant : List Definition → ℕ → (i j : Incoming) (o p : Outgoing) → Outcome → Type 0
 RunsAsMeant ds steps i j o p outcome.Limit = ReachesLimit ds steps i j o p
-RunsAsMeant ds steps i j o p outcome.Device = BreaksOff ds steps i j o p (AnyFailed i j o p)
-RunsAsMeant ds steps i j o p outcome.Memory = BreaksOff ds steps i j o p (NoneFailed i j o p)
+RunsAsMeant ds steps i j o p outcome.Device = WritesAsMeant ds
+RunsAsMeant ds steps i j o p outcome.Memory = WritesAsMeant ds
 RunsAsMeant ds steps i j o p result = EndsSo ds steps i j o p result
 
 -- Just so many steps of the program's code were made, or those up to its halt, and what they did is what the program
@@ -87,57 +82,57 @@ pub record DoesAsMeant (ds : List Definition) (steps : ℕ) (i j : Incoming) (o 
 -- A program whose code doesn't load is reported. Any other is run, for so many steps at most, and does what it means.
 pub data RunsProgram (steps : ℕ) (ds : List Definition) (ends : RunEnds) (status : ℕ) : Type 0 where
   refused : (f : LoadFault) (n : ℕ) → load_fault (map code_of ds) ≡ Some f → load_number f ≡ Some n → HasNotRun ends
-      → NotLoaded n ends.line ends.line_behind status → RunsProgram steps ds ends status
+      → NotLoaded n ends.line ends.line_after status → RunsProgram steps ds ends status
   ran : (outcome : Outcome) → Loads ds
-      → DoesAsMeant ds steps ends.input ends.input_behind ends.out ends.out_behind outcome
-      → Finishes outcome ends.line ends.line_behind status → RunsProgram steps ds ends status
-  no_memory : HasNotRun ends → ends.line_behind ≡ ends.line → status ≡ MEMORY → RunsProgram steps ds ends status
+      → DoesAsMeant ds steps ends.input ends.input_after ends.out ends.out_after outcome
+      → Finishes outcome ends.line ends.line_after status → RunsProgram steps ds ends status
+  no_memory : HasNotRun ends → ends.line_after ≡ ends.line → status ≡ MEMORY → RunsProgram steps ds ends status
 
--- the output end that keeps the code
+-- the output stream that keeps the code
 abbrev pub no_code : Outgoing
 no_code = outgoing_of (record { bytes = []; refusals = 0 })
 
 -- The source was compiled in the edition, and its program run.
-pub record RunsSource (edition : Edition) (steps : ℕ) (source source_behind : Incoming) (ends : RunEnds) (status : ℕ)
+pub record RunsSource (edition : Edition) (steps : ℕ) (source source_after : Incoming) (ends : RunEnds) (status : ℕ)
     : Type 0 where
   pub taken : List ℕ
-  pub took : Took source taken source_behind
-  pub runs : (more : List ℕ) → CanFollow source_behind more
+  pub took : Took source taken source_after
+  pub runs : (more : List ℕ) → CanFollow source_after more
       → (r : compiled.Compilation) → (g : CompilesTo [] (tokens_from edition 1 (taken ++ more)) r)
-      → (source_behind.failures ≡ source.failures) × (r.stop ≡ None) × RunsProgram steps g.definitions ends status
+      → (source_after.failures ≡ source.failures) × (r.stop ≡ None) × RunsProgram steps g.definitions ends status
 
 -- A source that isn't compiled in the edition, for a fault or a failure, is not run. The code is kept in memory, which
 -- fails for want of memory alone.
-pub data GoesOff (edition : Edition) (steps : ℕ) (source source_behind : Incoming) (ends : RunEnds) (status : ℕ)
+pub data GoesOff (edition : Edition) (steps : ℕ) (source source_after : Incoming) (ends : RunEnds) (status : ℕ)
     : Type 0 where
   stopped : (kept : Kept) → (status ≡ DONE → ⊥) → HasNotRun ends
       → Compiles (record {
         edition = edition;
         source = source;
-        source_behind = source_behind;
+        source_after = source_after;
         code = no_code;
-        code_behind = outgoing_of kept;
+        code_after = outgoing_of kept;
         line = ends.line;
-        line_behind = ends.line_behind;
+        line_after = ends.line_after;
         status = status;
       })
-      → GoesOff edition steps source source_behind ends status
-  ran : RunsSource edition steps source source_behind ends status
-      → GoesOff edition steps source source_behind ends status
+      → GoesOff edition steps source source_after ends status
+  ran : RunsSource edition steps source source_after ends status
+      → GoesOff edition steps source source_after ends status
 
--- No read and no write failed, and memory was not refused.
-pub record NothingFailed (source source_behind : Incoming) (ends : RunEnds) (status : ℕ) : Type 0 where
-  pub source_read : Grew source.failures source_behind.failures → ⊥
-  pub input_read : Grew ends.input.failures ends.input_behind.failures → ⊥
-  pub output_written : Grew ends.out.failures ends.out_behind.failures → ⊥
-  pub line_written : Grew ends.line.failures ends.line_behind.failures → ⊥
+-- No read and no write failed, and memory did not run out.
+pub record NothingFailed (source source_after : Incoming) (ends : RunEnds) (status : ℕ) : Type 0 where
+  pub source_read : Grew source.failures source_after.failures → ⊥
+  pub input_read : Grew ends.input.failures ends.input_after.failures → ⊥
+  pub output_written : Grew ends.out.failures ends.out_after.failures → ⊥
+  pub line_written : Grew ends.line.failures ends.line_after.failures → ⊥
   pub not_refused : status ≢ MEMORY
 
 -- So much input is left, these bytes and this line were written, and this is the status.
 pub record Says (ends : RunEnds) (status : ℕ) (left output line : List ℕ) (answer : ℕ) : Type 0 where
-  pub unread : ends.input_behind.left ≡ Some left
-  pub written : Writes ends.out output ends.out_behind
-  pub told : Writes ends.line line ends.line_behind
+  pub unread : ends.input_after.left ≡ Some left
+  pub written : Writes ends.out output ends.out_after
+  pub told : Writes ends.line line ends.line_after
   pub answered : status ≡ answer
 
 -- the line and the status of a program that ends
@@ -186,9 +181,9 @@ pub record GoAnswers
 
 -- The bytes that the source gives have an outcome in the edition, and what was written and answered is that of its
 -- program on the bytes that the input gives.
-abbrev pub Headline : Edition → (steps : ℕ) (source source_behind : Incoming) (ends : RunEnds) (status : ℕ) → Type 0
-Headline edition steps source source_behind ends status =
-    (text input : List ℕ) → Tells source text → Tells ends.input input → NothingFailed source source_behind ends status
+abbrev pub Headline : Edition → (steps : ℕ) (source source_after : Incoming) (ends : RunEnds) (status : ℕ) → Type 0
+Headline edition steps source source_after ends status =
+    (text input : List ℕ) → Tells source text → Tells ends.input input → NothingFailed source source_after ends status
     → HasOutcome edition text
     × ((r : compiled.Compilation) (g : CompilesTo [] (tokens_from edition 1 text) r)
     → GoAnswers r g.definitions input steps ends status)

@@ -54,7 +54,7 @@ strings_end = refl
 first_seven : take 7 (first_words (map shape_of strings)) ≡ 0 ∷ 1 ∷ 2 ∷ 3 ∷ 4 ∷ 5 ∷ 6 ∷ []
 first_seven = refl
 
--- v[2] 1,2,3,4; has as many words as values, and v[2] 1; has zeros behind them
+-- v[2] 1,2,3,4; has as many words as values, and v[2] 1; has zeros after them
 vector_full : words_of
     (vector (codes "v") 4 (ival.Number 1 ∷ ival.Number 2 ∷ ival.Number 3 ∷ ival.Number 4 ∷ []) [] ∷ main ∷ [])
     ≡ 8 ∷ 1 ∷ 2 ∷ 3 ∷ 4 ∷ 7 ∷ []
@@ -123,7 +123,7 @@ too_large : load_fault
     ≡ Some fault.TooLarge
 too_large = refl
 
--- the data may end at 65536, and not behind it
+-- the data may end at 65536, and not after it
 largest : load_fault (vector (codes "v") 32767 [] [] ∷ vector (codes "w") 32759 [] [] ∷ main ∷ []) ≡ None
 largest = refl
 
@@ -131,7 +131,7 @@ one_too_large : load_fault (vector (codes "v") 32767 [] [] ∷ vector (codes "w"
     ≡ Some fault.TooLarge
 one_too_large = refl
 
--- Labels may count to 65535; the first label of a function behind them is 65536.
+-- Labels may count to 65535; the first label of a function after them is 65536.
 many_labels : load_fault (function (codes "f") (replicate 65535 0) [] [] ∷ main ∷ []) ≡ None
 many_labels = refl
 
@@ -139,9 +139,9 @@ too_many_labels : load_fault
     (function (codes "f") (replicate 65535 0) [] [] ∷ function (codes "main") (0 ∷ []) [] [] ∷ []) ≡ Some fault.TooLarge
 too_many_labels = refl
 
-label_behind_many : map (λ (s : Spot). s.first_label)
+label_after_many : map (λ (s : Spot). s.first_label)
     (spots (map shape_of (function (codes "f") (replicate 65535 0) [] [] ∷ main ∷ []))) ≡ 1 ∷ 65536 ∷ []
-label_behind_many = refl
+label_after_many = refl
 
 -- main() g();
 undefined : load_fault (function (codes "main") [] [] (External (codes "g") ∷ Call 0 ∷ Pop ∷ []) ∷ [])

@@ -1,5 +1,8 @@
 pub mod Cut
+pub mod Endings
+pub mod EndRows
 pub mod Trees
+pub mod Walk
 pub mod WellFormed
 pub mod Scan
 pub mod CodeParts

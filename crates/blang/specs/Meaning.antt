@@ -1,15 +1,15 @@
 -- What a program means, on an input and with so much fuel: going on with the statements that remain.
-use Rattle.std.specs.Prelude.{ℕ, zero, suc, ◌+◌, ◌-◌, ◌%◌, List, [], ◌∷◌, Option, Some, None, option_map, unwrap_or}
-use Rattle.std.specs.Prelude.{nat_lt, slice_get, ◌==◌, if◌then◌else◌, map, ◌≡◌, ◌++◌}
+use Rattle.std.specs.Prelude.{ℕ, zero, suc, ◌+◌, ◌%◌, List, [], ◌∷◌, Option, Some, None, unwrap_or, ◌==◌}
+use Rattle.std.specs.Prelude.{if◌then◌else◌, map, ◌≡◌, ◌++◌}
 use Rattle.blang.specs.Trees.{Declared, Heading, Auto, Stmt, Headed, Compound, If, IfElse, While, Switch, Goto, Break}
 use Rattle.blang.specs.Trees.{Return, ReturnValue, Evaluate, Empty, Stmts, Nothing, More, Definition}
 use Rattle.blang.specs.Code.{Environment, Referent, In_frame, Arms, default_in, code_of}
 use Rattle.blang.specs.declared.run.Trap.TheVariants.{NotALabel}
 use Rattle.blang.specs.Layout.{store_words, World, with_word, Exited, Trapped, refusal, Spot, laid_out, first_world}
-use Rattle.blang.specs.Layout.{shape_of, is_main, load_fault}
-use Rattle.blang.specs.Value.{Computation, ◌>>=◌, gives, trap, Remaining, Do, Loop_mark, Switch_mark, body_arms}
+use Rattle.blang.specs.Layout.{label_target, shape_of, is_main, load_fault}
+use Rattle.blang.specs.Value.{Computation, ◌>>=◌, gives, trap, Remaining, Do, Loop_mark, Switch_mark, body_targets}
 use Rattle.blang.specs.Value.{Program, environment_in, labels_of, Frame, Evaluator, Fuel, spend, is_true, value, Answer}
-use Rattle.blang.specs.Value.{Gives, Ends, Wants, labels, SourceFunction, frame_words}
+use Rattle.blang.specs.Value.{Gives, Ends, Wants, SourceFunction, frame_words}
 use Rattle.blang.specs.declared.run.Trap.{Trap}
 
 -- the own word of a vector is the address of the word after it
@@ -36,11 +36,6 @@ case_in v ((Some x, there) ∷ arms) other = if v == x then there else case_in v
 abbrev pub arm_selected : ℕ → Arms Remaining → Remaining → Remaining
 arm_selected v arms rest = case_in v arms (unwrap_or (default_in arms) rest)
 
--- what the label with this value leads to, among labels whose values count from the first one on
-abbrev pub label_at : (first value : ℕ) → List (List ℕ × Remaining) → Option Remaining
-label_at first value labels =
-    if nat_lt value first then None else option_map (λ l. l.1) (slice_get labels (value - first))
-
 -- a jump to a label of this function spends one fuel
 abbrev pub gone_to_label : Fuel → Frame → Option Remaining → Computation ℕ
 gone_to_label fuel frame None = trap NotALabel
@@ -48,8 +43,8 @@ gone_to_label fuel frame (Some there) = spend fuel (λ less. less.go_on frame th
 
 module _ (program : Program) (fuel : Fuel) (frame : Frame) where
   abbrev mutual
-    -- Does a statement. What remains behind it is kept twice: as statements, which a jump or a loop goes on with, and
-    -- as what is done next, or behind a break. That both come to the same is the law `statements_are_done_in_place`
+    -- Does a statement. What remains after it is kept twice: as statements, which a jump or a loop goes on with, and
+    -- as what is done next, or after a break. That both come to the same is the law `statements_are_done_in_place`
     -- (`bmean`): going on with a statement is going on with what it puts in front of the rest.
     pub take_up : Stmt → Remaining → (next out : Computation ℕ) → Computation ℕ
     take_up (Headed h s) rest next out = λ w. take_up s rest next out (heading_passed h frame w)
@@ -67,10 +62,10 @@ module _ (program : Program) (fuel : Fuel) (frame : Frame) where
     take_up (Switch e body) rest next out =
         spend fuel (λ less. do
           v ← less.value frame e
-          less.go_on frame (arm_selected v (body_arms body (Switch_mark ∷ rest)) rest))
+          less.go_on frame (arm_selected v (body_targets body (Switch_mark ∷ rest)).arms rest))
     take_up (Goto e) rest next out = do
       v ← value program fuel frame e
-      gone_to_label fuel frame (label_at frame.function.first_label v (labels_of frame.function))
+      gone_to_label fuel frame (label_target frame.function.first_label (labels_of frame.function) v)
     take_up (Break line) rest next out = out
     take_up Return rest next out = gives 0
     take_up (ReturnValue e) rest next out = value program fuel frame e
@@ -90,7 +85,7 @@ abbrev mutual
   go_on program fuel frame (Loop_mark ∷ rest) = go_on program fuel frame rest
   go_on program fuel frame (Switch_mark ∷ rest) = go_on program fuel frame rest
 
-  -- the same behind a break
+  -- the same after a break
   pub broken : Program → Fuel → Frame → Remaining → Computation ℕ
   broken program fuel frame [] = gives 0
   broken program fuel frame (Do s ∷ rest) = broken program fuel frame rest

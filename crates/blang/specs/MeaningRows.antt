@@ -5,7 +5,7 @@ use Rattle.bword.specs.declared.operators.BinOp.TheVariants as op
 use Rattle.blang.specs.Trees.{Identifier, Number, Character, Expr, Arguments, Address, Indirection, Not, PreIncrement, PostIncrement}
 use Rattle.blang.specs.Trees.{PostDecrement, Named, Literal, Text, Grouped, Indexed, Called, Postfixed, Prefixed}
 use Rattle.blang.specs.Trees.{Binary, Conditional, Assigned, No_arguments, Another, Auto, Extrn, Label, Case, Default}
-use Rattle.blang.specs.Trees.{Stmt, Headed, Compound, If, While, Switch, Goto, Break, ReturnValue, Evaluate, Empty}
+use Rattle.blang.specs.Trees.{Stmt, Headed, Compound, If, IfElse, While, Switch, Goto, Break, ReturnValue, Evaluate, Empty}
 use Rattle.blang.specs.Trees.{Stmts, Nothing, More, Definition, Ival_constant}
 use Rattle.blang.specs.declared.run.Trap.TheVariants.{ZeroDivisor, NotAFunction, NotALabel, NoRoom, TooDeep}
 use Rattle.blang.specs.Layout.{Ending, Exited, Trapped}
@@ -21,12 +21,12 @@ name x = Named (word x)
 abbrev number : ℕ → Expr
 number n = Literal (Number n)
 
-abbrev arguments_behind : Arguments → List Expr → Arguments
-arguments_behind before [] = before
-arguments_behind before (e ∷ es) = arguments_behind (Another before e) es
+abbrev arguments_after : Arguments → List Expr → Arguments
+arguments_after before [] = before
+arguments_after before (e ∷ es) = arguments_after (Another before e) es
 
 abbrev call : List ℕ → List Expr → Expr
-call f es = Called (name f) (arguments_behind No_arguments es)
+call f es = Called (name f) (arguments_after No_arguments es)
 
 abbrev set : List ℕ → Expr → Stmt
 set x e = Evaluate (Assigned None 1 (name x) e)
@@ -37,12 +37,12 @@ printn e = Evaluate (call (codes "printn") (e ∷ number 10 ∷ []))
 abbrev putchar : Expr → Stmt
 putchar e = Evaluate (call (codes "putchar") (e ∷ []))
 
-abbrev statements_behind : Stmts → List Stmt → Stmts
-statements_behind before [] = before
-statements_behind before (s ∷ ss) = statements_behind (More before s) ss
+abbrev statements_after : Stmts → List Stmt → Stmts
+statements_after before [] = before
+statements_after before (s ∷ ss) = statements_after (More before s) ss
 
 abbrev block : List Stmt → Stmt
-block ss = Compound (statements_behind Nothing ss)
+block ss = Compound (statements_after Nothing ss)
 
 -- a name with or without the constant of a vector, before a statement
 abbrev auto : List ℕ → Option ℕ → Stmt → Stmt
@@ -98,14 +98,14 @@ left_first : does
 left_first = refl
 
 -- n 1; f(){extrn n; n=5; return(1);} main(){extrn n; n =+ f(); printn(n,10);}
-reads_behind : does
+reads_after : does
     (Definition.Simple (word (codes "n")) (Ival_constant (Number 1) ∷ []) ∷ function (codes "f") []
     (Headed (Extrn (word (codes "n") ∷ [])) (set (codes "n") (number 5)) ∷ ReturnValue (number 1) ∷ []) ∷ main
     (Headed (Extrn (word (codes "n") ∷ []))
     (Evaluate (Assigned (Some op.Add) 1 (name (codes "n")) (call (codes "f") []))) ∷ printn (name (codes "n")) ∷ [])
     ∷ []) [] 1 ≡ (Some (Exited 0), codes "6")
 unfolding digits
-reads_behind = refl
+reads_after = refl
 
 -- main(){auto i; i=0; goto in; while(i<3){in: putchar('a'+i); i++;}}
 abbrev into_loop : List Definition
@@ -128,7 +128,7 @@ goes_into_loop_0 = refl
 abbrev switched : ℕ → List Definition
 switched s =
     main (Switch (number s)
-    (statements_behind Nothing
+    (statements_after Nothing
     (case 1 (putchar (number 49)) ∷ case 2 (putchar (number 50)) ∷ case 3 (putchar (number 51)) ∷ [])) ∷ putchar
     (number 46) ∷ []) ∷ []
 
@@ -140,7 +140,7 @@ falls_through = refl
 abbrev defaulted : ℕ → List Definition
 defaulted s =
     main (Switch (number s)
-    (statements_behind Nothing
+    (statements_after Nothing
     (case 1 (putchar (number 49)) ∷ default (putchar (number 100)) ∷ case 2 (putchar (number 50)) ∷ [])) ∷ []) ∷ []
 
 goes_to_default : map (λ s. does (defaulted s) [] 1) (9 ∷ 2 ∷ 1 ∷ [])
@@ -152,7 +152,7 @@ goes_to_default = refl
 breaks_a_switch : does
     (main (auto (codes "i") None (set (codes "i") (number 0)) ∷ While (Binary op.Lt 1 (name (codes "i")) (number 2))
     (block (Switch (name (codes "i"))
-    (statements_behind Nothing (case 0 (Break 1) ∷ default (putchar (number 120)) ∷ [])) ∷ Evaluate
+    (statements_after Nothing (case 0 (Break 1) ∷ default (putchar (number 120)) ∷ [])) ∷ Evaluate
     (Postfixed PostIncrement 1 (name (codes "i"))) ∷ [])) ∷ []) ∷ []) [] 5 ≡ (Some (Exited 0), codes "x")
 breaks_a_switch = refl
 
@@ -164,11 +164,11 @@ breaks_a_loop : does
 breaks_a_loop = refl
 
 -- main(){goto in; switch 1 {case 1: in: break;} putchar('k');}
-breaks_behind_a_goto : does
+breaks_after_a_goto : does
     (main (Goto (name (codes "in")) ∷ Switch (number 1)
-    (statements_behind Nothing (case 1 (label (codes "in") (Break 1)) ∷ [])) ∷ putchar (number 107) ∷ []) ∷ []) [] 1
+    (statements_after Nothing (case 1 (label (codes "in") (Break 1)) ∷ [])) ∷ putchar (number 107) ∷ []) ∷ []) [] 1
     ≡ (Some (Exited 0), codes "k")
-breaks_behind_a_goto = refl
+breaks_after_a_goto = refl
 
 -- main(){goto in; while(1) {putchar('a'); in: while(1) {break;} putchar('b'); break;} putchar('c');}: each leaves its
 -- own
@@ -185,6 +185,21 @@ label_values : does
     (codes "d") Empty ∷ []) ∷ []) [] 0 ≡ (Some (Exited 0), codes "4")
 unfolding digits
 label_values = refl
+
+-- main(){goto x; a: b: putchar('1'); if(0) c: putchar('2'); else d: putchar('3'); while(1) {e: putchar('4'); break;}
+-- switch 9 {case 1: f: putchar('5');} g: putchar('6');}: each name leads to its own label
+abbrev going_to : List ℕ → List Definition
+going_to x =
+    main (Goto (name x) ∷ label (codes "a") (label (codes "b") (putchar (number 49))) ∷ IfElse (number 0)
+    (label (codes "c") (putchar (number 50))) (label (codes "d") (putchar (number 51))) ∷ While (number 1)
+    (block (label (codes "e") (putchar (number 52)) ∷ Break 1 ∷ [])) ∷ Switch (number 9)
+    (statements_after Nothing (case 1 (label (codes "f") (putchar (number 53))) ∷ [])) ∷ label (codes "g")
+    (putchar (number 54)) ∷ []) ∷ []
+
+goes_to_each : map (λ x. (does (going_to x) [] 9).1)
+    (codes "a" ∷ codes "b" ∷ codes "c" ∷ codes "d" ∷ codes "e" ∷ codes "f" ∷ codes "g" ∷ [])
+    ≡ codes "1346" ∷ codes "1346" ∷ codes "246" ∷ codes "346" ∷ codes "46" ∷ codes "56" ∷ codes "6" ∷ []
+goes_to_each = refl
 
 -- main(){goto 9;}, and f(l){goto l;} main(){f(x); x: ;}
 goes_nowhere : does (main (Goto (number 9) ∷ []) ∷ []) [] 0 ≡ (Some (Trapped NotALabel), [])
@@ -244,7 +259,7 @@ external_words : does
 unfolding digits
 external_words = refl
 
--- main(){putchar(char("hi",1)); printn("a",10);}: each string has its own words, behind the function's
+-- main(){putchar(char("hi",1)); printn("a",10);}: each string has its own words, after the function's
 words_of_strings : does
     (main (putchar (call (codes "char") (Text (codes "hi") 0 ∷ number 1 ∷ [])) ∷ printn (Text (codes "a") 2) ∷ [])
     ∷ []) [] 0 ≡ (Some (Exited 0), codes "i10")
@@ -285,7 +300,7 @@ first_frame = refl
 -- main(){auto i; i=0; switch 1 {while(i<2) {case 1: putchar('a'); i++;}} putchar('.');}
 case_in_loop : does
     (main (auto (codes "i") None (set (codes "i") (number 0)) ∷ Switch (number 1)
-    (statements_behind Nothing
+    (statements_after Nothing
     (While (Binary op.Lt 1 (name (codes "i")) (number 2))
     (block (case 1 (putchar (number 97)) ∷ Evaluate (Postfixed PostIncrement 1 (name (codes "i"))) ∷ [])) ∷ []))
     ∷ putchar (number 46) ∷ []) ∷ []) [] 5 ≡ (Some (Exited 0), codes "aa.")
@@ -394,7 +409,7 @@ if_256 = refl
 -- main(){switch 264 {case 8: putchar('8'); case 264: putchar('x');}}
 case_of_a_word : does
     (main (Switch (number 264)
-    (statements_behind Nothing (case 8 (putchar (number 56)) ∷ case 264 (putchar (number 120)) ∷ [])) ∷ []) ∷ []) [] 1
+    (statements_after Nothing (case 8 (putchar (number 56)) ∷ case 264 (putchar (number 120)) ∷ [])) ∷ []) ∷ []) [] 1
     ≡ (Some (Exited 0), codes "x")
 case_of_a_word = refl
 

@@ -5,12 +5,16 @@ use Rattle.bword.specs.declared.operators.BinOp.TheVariants as op
 use Rattle.blang.specs.Trees.{Number, Negate, Not, Indirection, Address, PreIncrement, PreDecrement, PostIncrement}
 use Rattle.blang.specs.Trees.{PostDecrement, Expr, Literal, Text, Grouped, Indexed, Called, Postfixed, Prefixed, Binary}
 use Rattle.blang.specs.Trees.{Conditional, Assigned, No_arguments, Named}
-use Rattle.blang.specs.WellFormed.{rank}
-use Rattle.blang.specs.Scan.{is_lvalue, events, Entry, Automatic, External, Unlabelled, Labelled}
+use Rattle.blang.specs.WellFormed.{rank, or_rank, conditional_rank, rvalue_rank}
+use Rattle.blang.specs.Scan.{is_lvalue, Entry, Automatic, External, Unlabelled, Labelled}
+use Rattle.blang.specs.Walk.{events_in, walk}
 
 -- or, and, equal, unequal, below, at most, above, at least, shifted left and right, minus, plus, remainder, times, over
 ranks : map rank operators ≡ 7 ∷ 6 ∷ 5 ∷ 5 ∷ 4 ∷ 4 ∷ 4 ∷ 4 ∷ 3 ∷ 3 ∷ 2 ∷ 2 ∷ 1 ∷ 1 ∷ 1 ∷ []
 ranks = refl
+
+looser_ranks : or_rank ∷ conditional_rank ∷ rvalue_rank ∷ [] ≡ 7 ∷ 8 ∷ 9 ∷ []
+looser_ranks = refl
 
 abbrev one : Expr
 one = Literal (Number 1)
@@ -29,7 +33,7 @@ some_lvalues : map (is_lvalue []) (at ∷ Prefixed Indirection 1 one ∷ Grouped
 some_lvalues = refl
 
 -- which operators want one
-want_lvalues : map (λ e. length (events e)) (
+want_lvalues : map (λ e. length (events_in (walk e))) (
     Prefixed Address 1 one ∷ Prefixed PreIncrement 1 one ∷ Prefixed PreDecrement 1 one ∷ Postfixed PostIncrement 1 one
     ∷ Postfixed PostDecrement 1 one ∷ Assigned None 1 one one ∷ Prefixed Negate 1 one ∷ Prefixed Not 1 one
     ∷ Prefixed Indirection 1 one ∷ []

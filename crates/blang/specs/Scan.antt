@@ -1,16 +1,15 @@
 -- The first fault of a definition beside its syntax: its names in their one table, its cases, defaults, breaks and
 -- lvalues, in source order.
 use Rattle.std.specs.Prelude.{ℕ, List, [], ◌∷◌, ◌++◌, length, Bool, true, false, nat_lt, Option, Some, None, Result, Ok}
-use Rattle.std.specs.Prelude.{Err, if◌then◌else◌, ◌+◌, ◌-◌, map, nat_eq}
+use Rattle.std.specs.Prelude.{Err, if◌then◌else◌, ◌+◌, ◌-◌, nat_eq}
 use Rattle.std.specs.List.{list_any}
 use Rattle.bword.specs.Words.{same_name}
 use Rattle.blang.specs.declared.token.Letters.{Letters}
 use Rattle.blang.specs.declared.token.Diagnostic.{Diagnostic}
-use Rattle.blang.specs.Trees.{Identifier, Constant, Number, Character, Expr, Arguments, PrefixOp, Negate, Not}
-use Rattle.blang.specs.Trees.{Indirection, Named, Grouped, Indexed, Called, Postfixed, Prefixed, Binary, Conditional}
-use Rattle.blang.specs.Trees.{Assigned, No_arguments, Another, Heading, Auto, Extrn, Label, Case, Default, Stmt, Headed}
-use Rattle.blang.specs.Trees.{Compound, If, IfElse, While, Switch, Goto, Break, ReturnValue, Evaluate, Stmts, Nothing}
-use Rattle.blang.specs.Trees.{More, Definition, Simple, Vector, Function}
+use Rattle.blang.specs.Trees.{Identifier, Expr, Indirection, Named, Grouped, Indexed, Prefixed, Stmt, Definition, Simple}
+use Rattle.blang.specs.Trees.{Vector, Function}
+use Rattle.blang.specs.Walk.{Event, Declaration, Import, Mention, LabelHere, CaseHere, DefaultHere, BreakHere, Lvalue}
+use Rattle.blang.specs.Walk.{LoopBegins, LoopEnds, SwitchBegins, SwitchEnds, events_in, walk_function}
 use Rattle.blang.specs.declared.limits.TheConstants.{MAX_NAMES, MAX_CASES}
 use Rattle.blang.specs.declared.token.About.{About}
 use Rattle.blang.specs.declared.token.Letters.TheVariants as letters
@@ -83,85 +82,15 @@ with_label w number es = labelled_at (kind_of w.text es)
     labelled_at (Some (Unlabelled line)) = Ok (with_kind w.text (Labelled number) es)
     labelled_at (Some _) = Err (name_fault letters.Redeclared w)
 
--- the fault of an internal name without a label, or one behind it
+-- the fault of an internal name without a label, or one after it
 abbrev pub undefined_at : List ℕ → NameKind → Option Diagnostic → Option Diagnostic
-undefined_at x (Unlabelled line) behind = Some (name_fault letters.Undefined (record { text = x; line = line }))
-undefined_at x _ behind = behind
+undefined_at x (Unlabelled line) following = Some (name_fault letters.Undefined (record { text = x; line = line }))
+undefined_at x _ following = following
 
 -- the first internal name without a label
 abbrev pub undefined : List Entry → Option Diagnostic
 undefined [] = None
 undefined (e ∷ es) = undefined_at e.name e.kind (undefined es)
-
--- what may be a fault
-pub data Event : Type 0 where
-  -- an automatic name, and the constant of its vector
-  Declaration : (w : Identifier) → (size : Option ℕ) → Event
-  Import : (w : Identifier) → Event
-  Mention : (called : Bool) → (w : Identifier) → Event
-  LabelHere : (w : Identifier) → Event
-  CaseHere : (line value : ℕ) → Event
-  DefaultHere : (line : ℕ) → Event
-  BreakHere : (line : ℕ) → Event
-  -- the operator on this line wants an lvalue
-  Lvalue : (line : ℕ) → (e : Expr) → Event
-  LoopBegins : Event
-  LoopEnds : Event
-  SwitchBegins : Event
-  SwitchEnds : Event
-
-abbrev pub prefix_events : PrefixOp → ℕ → Expr → List Event
-prefix_events Negate line e = []
-prefix_events Not line e = []
-prefix_events Indirection line e = []
-prefix_events _ line e = Lvalue line e ∷ []
-
-abbrev mutual
-  pub events : Expr → List Event
-  events (Named w) = Mention false w ∷ []
-  events (Grouped e) = events e
-  events (Indexed e f) = events e ++ events f
-  events (Called (Named w) args) = Mention true w ∷ argument_events args
-  events (Called e args) = events e ++ argument_events args
-  events (Postfixed op line e) = events e ++ (Lvalue line e ∷ [])
-  events (Prefixed op line e) = events e ++ prefix_events op line e
-  events (Binary op line e f) = events e ++ events f
-  events (Conditional e f g) = events e ++ (events f ++ events g)
-  events (Assigned op line e f) = events e ++ (Lvalue line e ∷ events f)
-  events _ = []
-
-  pub argument_events : Arguments → List Event
-  argument_events No_arguments = []
-  argument_events (Another before e) = argument_events before ++ events e
-
-abbrev pub constant_value : Constant → ℕ
-constant_value (Number n) = n
-constant_value (Character n) = n
-
-abbrev pub heading_events : Heading → List Event
-heading_events (Auto declared) = map (λ d. Declaration d.word d.size) declared
-heading_events (Extrn names) = map Import names
-heading_events (Label w) = LabelHere w ∷ []
-heading_events (Case line c) = CaseHere line (constant_value c) ∷ []
-heading_events (Default line) = DefaultHere line ∷ []
-
-abbrev mutual
-  pub statement_events : Stmt → List Event
-  statement_events (Headed h s) = heading_events h ++ statement_events s
-  statement_events (Compound body) = body_events body
-  statement_events (If e s) = events e ++ statement_events s
-  statement_events (IfElse e s other) = events e ++ (statement_events s ++ statement_events other)
-  statement_events (While e s) = events e ++ (LoopBegins ∷ (statement_events s ++ (LoopEnds ∷ [])))
-  statement_events (Switch e body) = events e ++ (SwitchBegins ∷ (body_events body ++ (SwitchEnds ∷ [])))
-  statement_events (Goto e) = events e
-  statement_events (Break line) = BreakHere line ∷ []
-  statement_events (ReturnValue e) = events e
-  statement_events (Evaluate e) = events e
-  statement_events _ = []
-
-  pub body_events : Stmts → List Event
-  body_events Nothing = []
-  body_events (More before s) = body_events before ++ statement_events s
 
 -- a switch up to a place
 pub record Around : Type 0 where
@@ -239,7 +168,7 @@ abbrev pub rest_of : {A : Type 0} → List A → List A
 rest_of [] = []
 rest_of (x ∷ xs) = xs
 
--- the scope behind an event, or its fault
+-- the scope after an event, or its fault
 abbrev pub scan_event : Event → Scope → Result Scope Diagnostic
 scan_event (Declaration w size) s =
     with_names (record s { frame = s.frame + automatic_words size }) (with_declaration w (Automatic s.frame) s.names)
@@ -262,12 +191,12 @@ scanned (e ∷ es) (Ok s) = scanned es (scan_event e s)
 scanned (e ∷ es) (Err d) = Err d
 
 abbrev pub function_events : List Identifier → Stmt → List Event
-function_events parameters body = map (λ w. Declaration w None) parameters ++ statement_events body
+function_events parameters body = events_in (walk_function parameters body)
 
 abbrev pub function_scope : List Identifier → Stmt → Result Scope Diagnostic
 function_scope parameters body = scanned (function_events parameters body) (Ok no_scope)
 
--- a name without a label is a fault behind all others
+-- a name without a label is a fault after all others
 abbrev pub scope_fault : Result Scope Diagnostic → Option Diagnostic
 scope_fault (Ok s) = undefined s.names
 scope_fault (Err d) = Some d
@@ -281,7 +210,7 @@ identifier_of (Simple w values) = w
 identifier_of (Vector w size values) = w
 identifier_of (Function w parameters body) = w
 
--- the first fault of a definition behind definitions of these names
+-- the first fault of a definition after definitions of these names
 abbrev pub scan : List (List ℕ) → Definition → Option Diagnostic
 scan defined d =
     if list_any (same_name (identifier_of d).text) defined then Some (name_fault letters.Redeclared (identifier_of d))

@@ -98,7 +98,7 @@ header_line (definition.Simple s) =
 header_line (definition.Vector v) =
     line (codes "V" ∷ v.name ∷ decimal v.words ∷ decimal (length v.values) ∷ decimal (length v.strings) ∷ [])
 
--- the lines behind it
+-- the lines after it
 abbrev pub body_lines : Definition → List (List ℕ)
 body_lines (definition.Function f) = map target_line f.targets ++ map string_line f.strings ++ map instr_line f.code
 body_lines (definition.Simple s) = map ival_line s.values ++ map string_line s.strings

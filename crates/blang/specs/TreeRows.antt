@@ -7,7 +7,7 @@ use Rattle.blang.specs.declared.code.Instr.TheVariants as instr
 use Rattle.blang.specs.declared.code.Definition as coded
 use Rattle.blang.specs.declared.code.Definition.TheVariants as code
 use Rattle.blang.specs.Trees.{Identifier, Number, Expr, Named, Literal, Binary, Stmt, Headed, Default, While, Switch}
-use Rattle.blang.specs.Trees.{Break, Evaluate, Nothing, More, Function}
+use Rattle.blang.specs.Trees.{Break, Evaluate, Empty, Auto, Nothing, More, Function}
 use Rattle.blang.specs.Scan.{Unlabelled, undefined, name_fault}
 use Rattle.blang.specs.Code.{code_of}
 
@@ -44,6 +44,22 @@ left_first : code_in (codes "a" ∷ codes "b" ∷ [])
     ≡ of_f 2 (instr.Automatic 0 ∷ instr.Load ∷ instr.Automatic 1 ∷ instr.Load ∷ instr.Binary op.Sub ∷ instr.Pop
     ∷ instr.Constant 0 ∷ instr.Return ∷ [])
 left_first = refl
+
+-- f() {auto v 1, w 1; }: the first vector is set first
+first_vector_first : code_in []
+    (Headed
+    (Auto (record { word = word (codes "v"); size = Some 1 } ∷ record { word = word (codes "w"); size = Some 1 } ∷ []))
+    Empty)
+    ≡ code.Function (record {
+      name = codes "f";
+      parameters = 0;
+      frame = 6;
+      targets = [];
+      strings = [];
+      code = instr.Automatic 0 ∷ instr.Automatic 1 ∷ instr.Store ∷ instr.Pop ∷ instr.Automatic 3 ∷ instr.Automatic 4
+          ∷ instr.Store ∷ instr.Pop ∷ instr.Constant 0 ∷ instr.Return ∷ [];
+    })
+first_vector_first = refl
 
 -- f() while(1) while(2) break;
 breaks_the_inner_loop : code_in [] (While (number 1) (While (number 2) (Break 1)))

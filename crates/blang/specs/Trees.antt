@@ -1,11 +1,11 @@
--- Trees of expressions, statements and definitions, and how each is spelled.
-use Rattle.std.specs.Prelude.{Bool, true, false, List, map, if◌then◌else◌, [], ◌∷◌, ◌++◌, ℕ, Option, Some, None}
+-- Trees of expressions, statements and definitions, and the tokens that stand alone in them.
+use Rattle.std.specs.Prelude.{Bool, true, false, List, map, if◌then◌else◌, ℕ, Option}
 use Rattle.bword.specs.declared.operators.BinOp.{BinOp}
 use Rattle.bword.specs.declared.operators.BinOp.TheVariants as op
 use Rattle.blang.specs.declared.token.Keyword.{Keyword}
 use Rattle.blang.specs.declared.token.Token.{Token}
 use Rattle.blang.specs.declared.token.Placed.{Placed}
-use Rattle.blang.specs.Cut.{placed, string_token}
+use Rattle.blang.specs.Cut.{placed}
 use Rattle.blang.specs.declared.token.Keyword.TheVariants as keyword
 use Rattle.blang.specs.declared.token.Token.TheVariants as token
 
@@ -41,15 +41,6 @@ kept_tokens tokens = map kept tokens
 abbrev pub bare : Placed → Token
 bare p = p.token
 
--- each of them behind a comma
-abbrev pub comma_spelling : {A : Type 0} → (A → List Placed) → List A → List Placed
-comma_spelling say [] = []
-comma_spelling say (x ∷ xs) = mark token.Comma ∷ (say x ++ comma_spelling say xs)
-
-abbrev pub list_spelling : {A : Type 0} → (A → List Placed) → List A → List Placed
-list_spelling say [] = []
-list_spelling say (x ∷ xs) = say x ++ comma_spelling say xs
-
 -- a name and its line
 pub record Identifier : Type 0 where
   pub text : List ℕ
@@ -58,6 +49,10 @@ pub record Identifier : Type 0 where
 pub data Constant : Type 0 where
   Number : (n : ℕ) → Constant
   Character : (n : ℕ) → Constant
+
+abbrev pub constant_value : Constant → ℕ
+constant_value (Number n) = n
+constant_value (Character n) = n
 
 pub data PrefixOp : Type 0 where
   Negate : PrefixOp
@@ -110,35 +105,12 @@ abbrev pub postfix_token : PostfixOp → Token
 postfix_token PostIncrement = token.Increment
 postfix_token PostDecrement = token.Decrement
 
--- what stands between these arguments and a further one
-abbrev pub comma_behind : Arguments → List Placed
-comma_behind No_arguments = []
-comma_behind (Another before e) = mark token.Comma ∷ []
-
-abbrev mutual
-  pub spell : Expr → List Placed
-  spell (Named w) = name_token w ∷ []
-  spell (Literal c) = mark (constant_token c) ∷ []
-  spell (Text bytes offset) = mark (string_token bytes) ∷ []
-  spell (Grouped e) = mark token.OpenParen ∷ (spell e ++ (mark token.CloseParen ∷ []))
-  spell (Indexed e f) = spell e ++ (mark token.OpenBracket ∷ (spell f ++ (mark token.CloseBracket ∷ [])))
-  spell (Called e args) = spell e ++ (mark token.OpenParen ∷ (spell_arguments args ++ (mark token.CloseParen ∷ [])))
-  spell (Postfixed op line e) = spell e ++ (placed (postfix_token op) line ∷ [])
-  spell (Prefixed op line e) = placed (prefix_token op) line ∷ spell e
-  spell (Binary op line e f) = spell e ++ (placed (token.Operator op) line ∷ spell f)
-  spell (Conditional e f g) = spell e ++ (mark token.Question ∷ (spell f ++ (mark token.Colon ∷ spell g)))
-  spell (Assigned op line e f) = spell e ++ (placed (token.Assign op) line ∷ spell f)
-
-  pub spell_arguments : Arguments → List Placed
-  spell_arguments No_arguments = []
-  spell_arguments (Another before e) = spell_arguments before ++ (comma_behind before ++ spell e)
-
 -- an automatic name, and the constant of its vector
 pub record Declared : Type 0 where
   pub word : Identifier
   pub size : Option ℕ
 
--- what may stand before a statement
+-- what may come before a statement
 pub data Heading : Type 0 where
   Auto : (declared : List Declared) → Heading
   Extrn : (names : List Identifier) → Heading
@@ -169,52 +141,6 @@ mutual
 abbrev pub keyword_mark : Keyword → Placed
 keyword_mark k = mark (token.Keyword k)
 
-abbrev pub size_spelling : Option ℕ → List Placed
-size_spelling None = []
-size_spelling (Some n) = mark (token.Number n) ∷ []
-
-abbrev pub declared_spelling : Declared → List Placed
-declared_spelling d = name_token d.word ∷ size_spelling d.size
-
-abbrev pub name_spelling : Identifier → List Placed
-name_spelling w = name_token w ∷ []
-
-abbrev pub spell_heading : Heading → List Placed
-spell_heading (Auto declared) =
-    keyword_mark keyword.Auto ∷ (list_spelling declared_spelling declared ++ (mark token.Semicolon ∷ []))
-spell_heading (Extrn names) =
-    keyword_mark keyword.Extrn ∷ (list_spelling name_spelling names ++ (mark token.Semicolon ∷ []))
-spell_heading (Label w) = name_token w ∷ mark token.Colon ∷ []
-spell_heading (Case line c) = placed (token.Keyword keyword.Case) line ∷ mark (constant_token c) ∷ mark token.Colon ∷ []
-spell_heading (Default line) = placed (token.Keyword keyword.Default) line ∷ mark token.Colon ∷ []
-
--- a rvalue in the parentheses of a statement
-abbrev pub spell_condition : Expr → List Placed
-spell_condition e = mark token.OpenParen ∷ (spell e ++ (mark token.CloseParen ∷ []))
-
-abbrev mutual
-  pub spell_statement : Stmt → List Placed
-  spell_statement (Headed h s) = spell_heading h ++ spell_statement s
-  spell_statement (Compound body) = mark token.OpenBrace ∷ (spell_body body ++ (mark token.CloseBrace ∷ []))
-  spell_statement (If e s) = keyword_mark keyword.If ∷ (spell_condition e ++ spell_statement s)
-  spell_statement (IfElse e s other) =
-      keyword_mark keyword.If
-      ∷ (spell_condition e ++ (spell_statement s ++ (keyword_mark keyword.Else ∷ spell_statement other)))
-  spell_statement (While e s) = keyword_mark keyword.While ∷ (spell_condition e ++ spell_statement s)
-  spell_statement (Switch e body) =
-      keyword_mark keyword.Switch
-      ∷ (spell e ++ (mark token.OpenBrace ∷ (spell_body body ++ (mark token.CloseBrace ∷ []))))
-  spell_statement (Goto e) = keyword_mark keyword.Goto ∷ (spell e ++ (mark token.Semicolon ∷ []))
-  spell_statement (Break line) = placed (token.Keyword keyword.Break) line ∷ mark token.Semicolon ∷ []
-  spell_statement Return = keyword_mark keyword.Return ∷ mark token.Semicolon ∷ []
-  spell_statement (ReturnValue e) = keyword_mark keyword.Return ∷ (spell_condition e ++ (mark token.Semicolon ∷ []))
-  spell_statement (Evaluate e) = spell e ++ (mark token.Semicolon ∷ [])
-  spell_statement Empty = mark token.Semicolon ∷ []
-
-  pub spell_body : Stmts → List Placed
-  spell_body Nothing = []
-  spell_body (More before s) = spell_body before ++ spell_statement s
-
 -- an initial value
 pub data Ival : Type 0 where
   Ival_constant : (c : Constant) → Ival
@@ -225,24 +151,3 @@ pub data Definition : Type 0 where
   Simple : (w : Identifier) → (values : List Ival) → Definition
   Vector : (w : Identifier) → (size : Option ℕ) → (values : List Ival) → Definition
   Function : (w : Identifier) → (parameters : List Identifier) → (body : Stmt) → Definition
-
-abbrev pub ival_spelling : Ival → List Placed
-ival_spelling (Ival_constant c) = mark (constant_token c) ∷ []
-ival_spelling (Ival_text bytes offset) = mark (string_token bytes) ∷ []
-ival_spelling (Ival_name w) = name_token w ∷ []
-
-abbrev pub spell_values : List Ival → List Placed
-spell_values values = list_spelling ival_spelling values ++ (mark token.Semicolon ∷ [])
-
-abbrev pub spell_definition : Definition → List Placed
-spell_definition (Simple w values) = name_token w ∷ spell_values values
-spell_definition (Vector w size values) =
-    name_token w ∷ mark token.OpenBracket ∷ (size_spelling size ++ (mark token.CloseBracket ∷ spell_values values))
-spell_definition (Function w parameters body) =
-    name_token w ∷ mark token.OpenParen
-    ∷ (list_spelling name_spelling parameters ++ (mark token.CloseParen ∷ spell_statement body))
-
--- the tokens of definitions, one behind another
-abbrev pub spell_all : List Definition → List Placed
-spell_all [] = []
-spell_all (d ∷ ds) = spell_definition d ++ spell_all ds

@@ -1,21 +1,22 @@
 -- Programs as trees, and the value of an expression.
-use Rattle.std.specs.Prelude.{ℕ, Option, Some, None, List, [], ◌∷◌, ◌++◌, suc, if◌then◌else◌, ◌+◌, ◌%◌, length, Bool}
+use Rattle.std.specs.Prelude.{ℕ, Option, Some, None, List, [], ◌∷◌, ◌++◌, if◌then◌else◌, ◌+◌, ◌%◌, length, Bool}
 use Rattle.std.specs.Prelude.{not, unwrap_or, ◌==◌}
 use Rattle.bword.specs.declared.operators.BinOp.{BinOp}
-use Rattle.bword.specs.Words.{binary_of, same_name, negate_of, not_of}
-use Rattle.bword.specs.declared.operators.BinOp.TheVariants as op
+use Rattle.bword.specs.Words.{binary_of, negate_of, not_of}
+use Rattle.blang.specs.declared.code.Increment.{Increment}
+use Rattle.blang.specs.declared.code.Increment.TheVariants as increments
 use Rattle.blang.specs.declared.run.Trap.{Trap}
 use Rattle.blang.specs.declared.run.Trap.TheVariants.{ZeroDivisor, NotAFunction}
-use Rattle.blang.specs.Layout.{World, word_at, with_word, Ending, Trapped, Reply, store_words, with_words, stepped}
+use Rattle.blang.specs.Layout.{World, word_at, with_word, Ending, Trapped, Reply, store_words, with_words}
 use Rattle.blang.specs.Layout.{library, Callee, NoFunction, OfLibrary, OfProgram, callee_of, refusal, parameter_words}
-use Rattle.blang.specs.Layout.{address_in, LaidOut}
-use Rattle.blang.specs.Scan.{constant_value, NameKind, Automatic, Labelled, kind_of, Scope, function_scope}
-use Rattle.blang.specs.Code.{Arms, heading_arm, Environment, Referent, In_frame, Outside, At_label, clean}
-use Rattle.blang.specs.Trees.{Heading, Label, Stmt, Headed, Compound, If, IfElse, While, Switch, Stmts}
+use Rattle.blang.specs.Layout.{address_in, LaidOut, stored_word, left_word}
+use Rattle.blang.specs.Scan.{Scope, function_scope}
+use Rattle.blang.specs.Code.{Targets, no_targets, both_targets, heading_targets, Environment, environment_of, Referent, In_frame, Outside, At_label, clean}
+use Rattle.blang.specs.Trees.{Stmt, Headed, Compound, If, IfElse, While, Switch, Stmts}
 use Rattle.blang.specs.Trees.{Nothing, More, Identifier, Expr, Arguments, Negate, Not, Indirection, Address}
 use Rattle.blang.specs.Trees.{PreIncrement, PreDecrement, PostIncrement, PostDecrement, Named, Literal, Text, Grouped}
 use Rattle.blang.specs.Trees.{Indexed, Called, Postfixed, Prefixed, Binary, Conditional, Assigned, No_arguments}
-use Rattle.blang.specs.Trees.{Another}
+use Rattle.blang.specs.Trees.{Another, constant_value}
 
 -- a result, an end of the run, or want of fuel, each with its world
 pub data Answer (A : Type 0) : Type 0 where
@@ -49,6 +50,13 @@ fetch a w = Gives (word_at w a) w
 abbrev pub store : ℕ → ℕ → Computation ℕ
 store a v w = Gives v (with_word w a v)
 
+-- increments or decrements a word, and gives what that leaves
+abbrev pub increment : Increment → ℕ → Computation ℕ
+increment which a = do
+  x ← fetch a
+  v ← store a (stored_word which x)
+  gives (left_word which x)
+
 -- an operator makes nothing of a zero divisor
 abbrev pub operated : Option ℕ → Computation ℕ
 operated (Some v) = gives v
@@ -63,7 +71,7 @@ abbrev pub answer_of : Reply → Answer ℕ
 answer_of (Reply.Gives v w) = Gives v w
 answer_of (Reply.Ends e w) = Ends e w
 
--- a statement still to do, or a mark, which ends what a break drops: behind a loop's body, or a switch's
+-- a statement still to do, or a mark, which ends what a break drops: after a loop's body, or a switch's
 pub data Item : Type 0 where
   Do : (s : Stmt) → Item
   Loop_mark : Item
@@ -73,41 +81,22 @@ pub data Item : Type 0 where
 abbrev pub Remaining : Type 0
 Remaining = List Item
 
--- a heading's own label, with what is done there
-abbrev pub heading_label : Heading → Remaining → List (List ℕ × Remaining)
-heading_label (Label w) there = (w.text, there) ∷ []
-heading_label _ there = []
-
 abbrev mutual
-  -- Each label of a statement, in source order: its name, the statement there and what remains after it,
-  -- where this remains after the whole. Behind the body of a while come a mark and the while again, behind that of
-  -- a switch a mark.
-  pub labels : Stmt → Remaining → List (List ℕ × Remaining)
-  labels (Headed h s) rest = heading_label h (Do s ∷ rest) ++ labels s rest
-  labels (Compound body) rest = body_labels body rest
-  labels (If e s) rest = labels s rest
-  labels (IfElse e s other) rest = labels s rest ++ labels other rest
-  labels (While e s) rest = labels s (Loop_mark ∷ Do (While e s) ∷ rest)
-  labels (Switch e body) rest = body_labels body (Switch_mark ∷ rest)
-  labels _ rest = []
+  -- What the labels and arms of a statement lead to: the statement there and what remains after it, where this remains
+  -- after the whole. After the body of a while come a mark and the while again, after that of a switch a mark. A switch
+  -- keeps its own arms.
+  pub targets : Stmt → Remaining → Targets Remaining
+  targets (Headed h s) rest = both_targets (heading_targets h (Do s ∷ rest)) (targets s rest)
+  targets (Compound body) rest = body_targets body rest
+  targets (If e s) rest = targets s rest
+  targets (IfElse e s other) rest = both_targets (targets s rest) (targets other rest)
+  targets (While e s) rest = targets s (Loop_mark ∷ Do (While e s) ∷ rest)
+  targets (Switch e body) rest = record (body_targets body (Switch_mark ∷ rest)) { arms = [] }
+  targets _ rest = no_targets
 
-  pub body_labels : Stmts → Remaining → List (List ℕ × Remaining)
-  body_labels Nothing rest = []
-  body_labels (More before s) rest = body_labels before (Do s ∷ rest) ++ labels s rest
-
-abbrev mutual
-  -- The same of the arms of the switch around a statement. A switch keeps its own.
-  pub arms : Stmt → Remaining → Arms Remaining
-  arms (Headed h s) rest = heading_arm h (Do s ∷ rest) ++ arms s rest
-  arms (Compound body) rest = body_arms body rest
-  arms (If e s) rest = arms s rest
-  arms (IfElse e s other) rest = arms s rest ++ arms other rest
-  arms (While e s) rest = arms s (Loop_mark ∷ Do (While e s) ∷ rest)
-  arms _ rest = []
-
-  pub body_arms : Stmts → Remaining → Arms Remaining
-  body_arms Nothing rest = []
-  body_arms (More before s) rest = body_arms before (Do s ∷ rest) ++ arms s rest
+  pub body_targets : Stmts → Remaining → Targets Remaining
+  body_targets Nothing rest = no_targets
+  body_targets (More before s) rest = both_targets (body_targets before (Do s ∷ rest)) (targets s rest)
 
 -- a function, the address of its first string word and the value of its first label
 pub record SourceFunction : Type 0 where
@@ -126,22 +115,11 @@ scope_of f = clean (function_scope f.parameters f.body)
 abbrev pub frame_words : SourceFunction → ℕ
 frame_words f = (scope_of f).frame
 
-abbrev pub labels_of : SourceFunction → List (List ℕ × Remaining)
-labels_of f = labels f.body []
-
--- a label's number is how many labels stand before it
-abbrev pub number_of_label : List ℕ → List (List ℕ × Remaining) → ℕ
-number_of_label x [] = 0
-number_of_label x (l ∷ ls) = if same_name l.0 x then 0 else suc (number_of_label x ls)
-
--- what a name stands for: a word of the frame, a label, or an external
-abbrev pub referent_in : List (List ℕ × Remaining) → List ℕ → Option NameKind → Referent
-referent_in labels x (Some (Automatic word)) = In_frame word
-referent_in labels x (Some (Labelled number)) = At_label (number_of_label x labels)
-referent_in labels x _ = Outside
+abbrev pub labels_of : SourceFunction → List Remaining
+labels_of f = (targets f.body []).labels
 
 abbrev pub environment_in : SourceFunction → Environment
-environment_in f x = referent_in (labels_of f) x (kind_of x (scope_of f).names)
+environment_in f = environment_of (scope_of f).names
 
 -- the function that is executed, where its frame starts, and how many calls are active
 pub record Frame : Type 0 where
@@ -173,7 +151,7 @@ module _ (program : Program) (fuel : Fuel) (frame : Frame) where
       spend fuel (λ less w. less.go_on (record { function = f; start = start; active = frame.active + 1 })
       (Do f.body ∷ []) (with_words w start (parameter_words (length f.parameters) args)))
 
-  -- the frame of a called function begins behind the caller's
+  -- the frame of a called function begins after the caller's
   abbrev pub call_value : Callee SourceFunction → List ℕ → Computation ℕ
   call_value NoFunction args = trap NotAFunction
   call_value (OfLibrary f) args = λ w. answer_of (library f args w)
@@ -206,28 +184,14 @@ module _ (program : Program) (fuel : Fuel) (frame : Frame) where
       f ← value e
       vs ← values args
       call_value (callee_of program.functions f) vs
-    value (Postfixed PostIncrement line e) = do
-      a ← address e
-      x ← fetch a
-      v ← store a (stepped op.Add x)
-      gives x
-    value (Postfixed PostDecrement line e) = do
-      a ← address e
-      x ← fetch a
-      v ← store a (stepped op.Sub x)
-      gives x
+    value (Postfixed PostIncrement line e) = address e >>= increment increments.PostIncrement
+    value (Postfixed PostDecrement line e) = address e >>= increment increments.PostDecrement
     value (Prefixed Negate line e) = value e >>= λ x. gives (negate_of x)
     value (Prefixed Not line e) = value e >>= λ x. gives (not_of x)
     value (Prefixed Indirection line e) = value e >>= fetch
     value (Prefixed Address line e) = address e
-    value (Prefixed PreIncrement line e) = do
-      a ← address e
-      x ← fetch a
-      store a (stepped op.Add x)
-    value (Prefixed PreDecrement line e) = do
-      a ← address e
-      x ← fetch a
-      store a (stepped op.Sub x)
+    value (Prefixed PreIncrement line e) = address e >>= increment increments.PreIncrement
+    value (Prefixed PreDecrement line e) = address e >>= increment increments.PreDecrement
     value (Binary op line e f) = do
       left ← value e
       right ← value f

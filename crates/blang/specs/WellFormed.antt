@@ -1,16 +1,17 @@
 -- Which trees are well formed, by three rules (how operators and `else` bind, how deep trees nest, where strings lie),
 -- and where the tokens of a source stop being those of a program.
-use Rattle.std.specs.Prelude.{List, [], ◌∷◌, ◌++◌, ◌≡◌, ℕ, suc, ◌+◌, ◌-◌, ◌*◌, ◌≤◌, max, length, Bool, true, false}
-use Rattle.std.specs.Prelude.{Option, Some, None, map, ◌⊎◌}
-use Rattle.std.specs.List.{flat_map}
+use Rattle.std.specs.Prelude.{List, [], ◌∷◌, ◌++◌, ◌≡◌, ℕ, ◌+◌, ◌-◌, ◌*◌, ◌≤◌, length, Bool, true, false, Option}
+use Rattle.std.specs.Prelude.{Some, None, map, ◌⊎◌}
 use Rattle.bword.specs.declared.operators.BinOp.{BinOp}
 use Rattle.bword.specs.declared.operators.BinOp.TheVariants as op
 use Rattle.blang.specs.declared.token.Placed.{Placed}
 use Rattle.blang.specs.declared.token.Token.{Token}
 use Rattle.blang.specs.Trees.{Another, Arguments, Assigned, Binary, Called, Conditional, Expr, Grouped, Indexed}
-use Rattle.blang.specs.Trees.{No_arguments, Postfixed, Prefixed, Text, Auto, Compound, Evaluate, Extrn, Goto, Headed}
+use Rattle.blang.specs.Trees.{No_arguments, Postfixed, Prefixed, Auto, Compound, Evaluate, Extrn, Goto, Headed}
 use Rattle.blang.specs.Trees.{Heading, If, IfElse, More, Nothing, ReturnValue, Stmt, Stmts, Switch, While, Definition}
-use Rattle.blang.specs.Trees.{Function, Ival, Ival_text, Simple, Vector, spell_definition, kept, bare, spell_all}
+use Rattle.blang.specs.Trees.{Function, kept, bare}
+use Rattle.blang.specs.Walk.{TextAt, levels_in, texts_in, walk_statement, walk_definition, spell_definition}
+use Rattle.blang.specs.Walk.{spell_all}
 use Rattle.blang.specs.declared.limits.TheConstants.{MAX_NESTING}
 use Rattle.blang.specs.declared.token.Letters.{Letters}
 use Rattle.blang.specs.declared.token.Diagnostic.{Diagnostic}
@@ -18,7 +19,7 @@ use Rattle.blang.specs.declared.token.Token.TheVariants as token
 use Rattle.blang.specs.declared.token.Letters.TheVariants as letters
 use Rattle.blang.specs.declared.token.About.TheVariants as about
 
--- Binding: where an operator and an `else` may stand.
+-- Binding: where an operator and an `else` may be.
 
 -- how loosely an operator binds: 0 is an operand of a prefix operator, then the binary operators
 abbrev pub rank : BinOp → ℕ
@@ -48,7 +49,7 @@ conditional_rank = 8
 abbrev pub rvalue_rank : ℕ
 rvalue_rank = 9
 
--- a primary, with any number of indices, arguments and operators behind it
+-- a primary, with any number of indices, arguments and operators after it
 abbrev pub IsPostfix : Expr → Type 0
 IsPostfix (Prefixed op line e) = ⊥
 IsPostfix (Binary op line e f) = ⊥
@@ -57,7 +58,7 @@ IsPostfix (Assigned op line e f) = ⊥
 IsPostfix _ = Unit {0}
 
 abbrev mutual
-  -- The expression may stand where operators of this rank may, and so may each part of it.
+  -- The expression may be where operators of this rank may be, and so may each part of it.
   pub Binds : Expr → ℕ → Type 0
   Binds (Grouped e) loose = Binds e rvalue_rank
   Binds (Indexed e f) loose = IsPostfix e × Binds e 0 × Binds f rvalue_rank
@@ -74,7 +75,7 @@ abbrev mutual
   ArgumentsBind No_arguments = Unit {0}
   ArgumentsBind (Another before e) = ArgumentsBind before × Binds e rvalue_rank
 
--- whether an else behind it would be its own
+-- whether an else after it would be its own
 abbrev pub is_open : Stmt → Bool
 is_open (Headed h s) = is_open s
 is_open (If e s) = true
@@ -110,99 +111,15 @@ abbrev mutual
   BodyBinds Nothing = Unit {0}
   BodyBinds (More before s) = BodyBinds before × StatementBinds s
 
--- Nesting: how many levels of a tree stand one within another.
-
-abbrev mutual
-  -- the levels that an expression needs
-  pub nesting : Expr → ℕ
-  nesting (Grouped e) = suc (nesting e)
-  nesting (Indexed e f) = max (nesting e) (suc (nesting f))
-  nesting (Called e args) = max (nesting e) (suc (argument_nesting args))
-  nesting (Postfixed op line e) = nesting e
-  nesting (Prefixed op line e) = suc (nesting e)
-  nesting (Binary op line e f) = max (nesting e) (nesting f)
-  nesting (Conditional e f g) = max (nesting e) (suc (max (nesting f) (nesting g)))
-  nesting (Assigned op line e f) = max (nesting e) (suc (nesting f))
-  nesting _ = 0
-
-  pub argument_nesting : Arguments → ℕ
-  argument_nesting No_arguments = 0
-  argument_nesting (Another before e) = max (argument_nesting before) (nesting e)
-
-abbrev mutual
-  -- the levels that a statement needs
-  pub statement_nesting : Stmt → ℕ
-  statement_nesting (Headed h s) = statement_nesting s
-  statement_nesting (Compound body) = suc (body_nesting body)
-  statement_nesting (If e s) = suc (max (nesting e) (statement_nesting s))
-  statement_nesting (IfElse e s other) = suc (max (nesting e) (max (statement_nesting s) (statement_nesting other)))
-  statement_nesting (While e s) = suc (max (nesting e) (statement_nesting s))
-  statement_nesting (Switch e body) = suc (max (nesting e) (body_nesting body))
-  statement_nesting (Goto e) = nesting e
-  statement_nesting (ReturnValue e) = nesting e
-  statement_nesting (Evaluate e) = nesting e
-  statement_nesting _ = 0
-
-  pub body_nesting : Stmts → ℕ
-  body_nesting Nothing = 0
-  body_nesting (More before s) = max (body_nesting before) (statement_nesting s)
-
 -- the greatest level of nesting
 abbrev pub nesting_limit : ℕ
 nesting_limit = MAX_NESTING
 
 -- Offsets: where the strings of a definition lie among its string words.
 
--- a string and its offset
-pub record TextAt : Type 0 where
-  pub bytes : List ℕ
-  pub offset : ℕ
-
-abbrev mutual
-  -- the strings of an expression, in the order of its tokens
-  pub texts : Expr → List TextAt
-  texts (Text bytes offset) = record { bytes = bytes; offset = offset } ∷ []
-  texts (Grouped e) = texts e
-  texts (Indexed e f) = texts e ++ texts f
-  texts (Called e args) = texts e ++ argument_texts args
-  texts (Postfixed op line e) = texts e
-  texts (Prefixed op line e) = texts e
-  texts (Binary op line e f) = texts e ++ texts f
-  texts (Conditional e f g) = texts e ++ (texts f ++ texts g)
-  texts (Assigned op line e f) = texts e ++ texts f
-  texts _ = []
-
-  pub argument_texts : Arguments → List TextAt
-  argument_texts No_arguments = []
-  argument_texts (Another before e) = argument_texts before ++ texts e
-
-abbrev mutual
-  -- the strings of a statement
-  pub statement_texts : Stmt → List TextAt
-  statement_texts (Headed h s) = statement_texts s
-  statement_texts (Compound body) = body_texts body
-  statement_texts (If e s) = texts e ++ statement_texts s
-  statement_texts (IfElse e s other) = texts e ++ (statement_texts s ++ statement_texts other)
-  statement_texts (While e s) = texts e ++ statement_texts s
-  statement_texts (Switch e body) = texts e ++ body_texts body
-  statement_texts (Goto e) = texts e
-  statement_texts (ReturnValue e) = texts e
-  statement_texts (Evaluate e) = texts e
-  statement_texts _ = []
-
-  pub body_texts : Stmts → List TextAt
-  body_texts Nothing = []
-  body_texts (More before s) = body_texts before ++ statement_texts s
-
-abbrev pub value_texts : Ival → List TextAt
-value_texts (Ival_text bytes offset) = record { bytes = bytes; offset = offset } ∷ []
-value_texts _ = []
-
 -- the strings of a definition
 abbrev pub texts_of : Definition → List TextAt
-texts_of (Simple w values) = flat_map value_texts values
-texts_of (Vector w size values) = flat_map value_texts values
-texts_of (Function w parameters body) = statement_texts body
+texts_of d = texts_in (walk_definition d)
 
 -- the words of a string: the characters and a final 4, two to a word, the even one in the low byte
 abbrev pub packed : List ℕ → List ℕ
@@ -218,7 +135,8 @@ OffsetsFrom off (t ∷ ts) = (t.offset ≡ off) × OffsetsFrom (off + length (pa
 -- The three rules. Initial values have no operators and no levels.
 abbrev pub IsFormed : Definition → Type 0
 IsFormed (Function w parameters body) =
-    StatementBinds body × (statement_nesting body ≤ nesting_limit) × OffsetsFrom 0 (statement_texts body)
+    StatementBinds body × (levels_in (walk_statement body) ≤ nesting_limit)
+    × OffsetsFrom 0 (texts_in (walk_statement body))
 IsFormed d = OffsetsFrom 0 (texts_of d)
 
 abbrev pub AllFormed : List Definition → Type 0
@@ -272,8 +190,8 @@ pub record Parts (tokens : List Placed) (definitions : List Definition) : Type 0
 pub record Parted (tokens : List Placed) (definitions : List Definition) (stop : Option Diagnostic) : Type 0 where
   pub before : List Placed
   pub at : Placed
-  pub behind : List Placed
-  pub split : tokens ≡ before ++ at ∷ behind
+  pub following : List Placed
+  pub split : tokens ≡ before ++ at ∷ following
   pub stops : StopsAt (map bare before) at stop
   pub parts : Parts before definitions
   pub longest : (others : List Definition) → Parts before others → length others ≤ length definitions

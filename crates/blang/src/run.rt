@@ -38,7 +38,7 @@ pub enum LoadFault {
     /// No function of the name `main`.
     #[error("load 4")]
     NoMain,
-    /// A growth was refused, at any point.
+    /// Out of memory, at any point.
     #[error("memory")]
     Memory,
 }
@@ -70,7 +70,7 @@ impl<T: Drop> From<AllocFailed<T>> for LoadFault {
 /// Why a run can't go on.
 #[derive(Clone, Copy, PartialEq, Eq)]
 pub enum Trap {
-    /// A zero divisor.
+    /// A division by 0.
     ZeroDivisor,
     /// A call of a value that is not a function's.
     NotAFunction,
@@ -86,7 +86,7 @@ pub enum Trap {
     Stuck,
 }
 
-/// What comes of a run.
+/// The outcome of a run.
 #[derive(Clone, Copy, PartialEq, Eq)]
 pub enum Outcome {
     /// `exit` was called, with its argument modulo 128, or `main` has returned, which is 0.
@@ -97,11 +97,11 @@ pub enum Outcome {
     Limit,
     /// A read or a write failed.
     Device,
-    /// Memory was refused.
+    /// Out of memory.
     Memory,
 }
 
-/// What the line tells that says why a run has no end of its own.
+/// Why a run didn't end by itself, as its line tells it.
 #[derive(Clone, Copy)]
 pub enum Report {
     /// No code text goes on with this line.

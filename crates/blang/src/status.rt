@@ -4,7 +4,7 @@ ghost use Rattle.blang.specs.Compiles.{status_of};
 
 use bword::EndFault;
 
-/// What a run of the program ends with.
+/// The status with which the program ends.
 pub type Status = u8;
 
 /// All went well.
@@ -25,7 +25,7 @@ pub const REFUSED: Status = 132;
 /// A read or a write failed, or a file could not be opened.
 pub const DEVICE: Status = 133;
 
-/// Memory was refused.
+/// Out of memory.
 pub const MEMORY: Status = 134;
 
 /// The words are no command line.

@@ -58,7 +58,7 @@ pub enum Token {
     Character(u16),
     /// The characters between the quotes, each escape as its byte.
     String(ArrayVec<u8, STRING_LEN>),
-    /// One of the fifteen binary operators; `-`, `*` and `&` stand before an operand too.
+    /// One of the fifteen binary operators; `-`, `*` and `&` may come before an operand, too.
     Operator(BinOp),
     /// `=`, or `=` and a binary operator.
     Assign(Option<BinOp>),
@@ -90,7 +90,7 @@ pub struct Placed {
     pub line: u64,
 }
 
-/// A token that no other comes behind.
+/// A token that no other comes after.
 #[derive(Clone, Copy)]
 pub enum Last {
     Bad(Letters),

@@ -12,8 +12,8 @@ use Rattle.std.proofs.lemmas.List.{take-take}
 use Rattle.std.proofs.lemmas.List.Sums.{sum_by-cons}
 use Rattle.bword.specs.declared.edition.Edition.{Edition}
 use Rattle.bword.specs.ByteEnds.{most, Incoming, TakesReady}
-use Rattle.blang.specs.Cut.{after_close, line_after, next_line}
-use Rattle.blex.specs.Sources.{Source, GoesBehind, room}
+use Rattle.blang.specs.Cut.{after_close, line_number_after, next_line}
+use Rattle.blex.specs.Sources.{Source, GoesAfter, room}
 use Rattle.blex.specs.Runs.{PassesRun, is_no_star}
 use Rattle.blex.proofs.Passing.{Passes-refl, Passes-append}
 use Rattle.blex.proofs.ByteSteps.{room-falls}
@@ -31,14 +31,14 @@ take_shown ready block n h l = rw (← h) (sym (take-take n (length block) ready
 
 -- bytes of the block were taken, with none ahead before it
 pub block_taken : {edition : Edition} (line line' : ℕ) (lender lender' : List ℕ) (old new : Incoming) (first second : Option ℕ) (ready block : List ℕ) (n : ℕ)
-    → first ≡ None → second ≡ None → StartsWith ready block → n ≤ length block → TakesReady old (take n ready) new → lender' ≡ lender → line' ≡ line_after line (take n block)
-    → GoesBehind (record { ahead = option_to_list first ++ option_to_list second; line = line; end = old; lender = lender; edition = edition })
+    → first ≡ None → second ≡ None → StartsWith ready block → n ≤ length block → TakesReady old (take n ready) new → lender' ≡ lender → line' ≡ line_number_after line (take n block)
+    → GoesAfter (record { ahead = option_to_list first ++ option_to_list second; line = line; end = old; lender = lender; edition = edition })
     (take n block) (record { ahead = option_to_list first ++ option_to_list second; line = line'; end = new; lender = lender'; edition = edition })
-block_taken line line' lender lender' old new first second ready block n f s shows within takes same behind = record {
+block_taken line line' lender lender' old new first second ready block n f s shows within takes same following = record {
   taken = take n block;
   took = rw (take_shown ready block n shows within) at takes.took;
   split = rw (f, s) (sym (append-nil (take n block)));
-  line = behind;
+  line = following;
   failures = takes.failures;
   lender = same;
   edition = refl;
@@ -46,14 +46,14 @@ block_taken line line' lender lender' old new first second ready block n f s sho
 }
 
 pub block_passes : {edition : Edition} (p : ℕ → Bool) (line line' : ℕ) (lender lender' : List ℕ) (old new : Incoming) (first second : Option ℕ) (ready block : List ℕ) (n : ℕ)
-    → first ≡ None → second ≡ None → StartsWith ready block → n ≤ length block → TakesReady old (take n ready) new → lender' ≡ lender → line' ≡ line_after line (take n block)
+    → first ≡ None → second ≡ None → StartsWith ready block → n ≤ length block → TakesReady old (take n ready) new → lender' ≡ lender → line' ≡ line_number_after line (take n block)
     → list_all p (take n block) ≡ true
     → PassesRun p (record { ahead = option_to_list first ++ option_to_list second; line = line; end = old; lender = lender; edition = edition })
     (record { ahead = option_to_list first ++ option_to_list second; line = line'; end = new; lender = lender'; edition = edition })
-block_passes p line line' lender lender' old new first second ready block n f s shows within takes same behind all =
+block_passes p line line' lender lender' old new first second ready block n f s shows within takes same following all =
     record {
       run = take n block;
-      passes = block_taken line line' lender lender' old new first second ready block n f s shows within takes same behind;
+      passes = block_taken line line' lender lender' old new first second ready block n f s shows within takes same following;
       all = all;
     }
 
@@ -66,10 +66,10 @@ next_within : (b : Bool) (line : ℕ) → line ≤ most → (if b then min (line
 next_within true line h = omega arith
 next_within false line h = h
 
-pub line_after-count : (line : ℕ) (bytes : List ℕ) → line ≤ most → line_after line bytes ≡ min (line + count_by (λ b. b == 10) bytes) most
-line_after-count line [] h = omega arith
-line_after-count line (b ∷ bs) h =
-    line_after-count (next_line line b) bs (next_within (b == 10) line h) ∙ line_cases (b == 10) line (count_by (λ x. x == 10) bs) h ∙ ap (λ n. min (line + n) most) (sym (sum_by-cons (λ x. if x == 10 then 1 else 0) b bs))
+pub line_number_after-count : (line : ℕ) (bytes : List ℕ) → line ≤ most → line_number_after line bytes ≡ min (line + count_by (λ b. b == 10) bytes) most
+line_number_after-count line [] h = omega arith
+line_number_after-count line (b ∷ bs) h =
+    line_number_after-count (next_line line b) bs (next_within (b == 10) line h) ∙ line_cases (b == 10) line (count_by (λ x. x == 10) bs) h ∙ ap (λ n. min (line + n) most) (sym (sum_by-cons (λ x. if x == 10 then 1 else 0) b bs))
 
 -- no star stands before the first
 not_star : (b : Bool) → (b ≡ true → ⊥) → not b ≡ true
@@ -111,7 +111,7 @@ pub before_first_star : (bytes : List ℕ) (r : Option ℕ) (n : ℕ) → IsFirs
 before_first_star bytes None n h e = rw e (no_star_before bytes (length bytes) (omega arith) (λ k l. h k (omega arith) l))
 before_first_star bytes (Some m) n h e = rw e (no_star_before bytes m (omega (arith, h.0.high)) (λ k l. h.0.before k (omega arith) l))
 
-pub byte_less : {a b : Source} {byte : ℕ} → GoesBehind a (byte ∷ []) b → room b < room a
+pub byte_less : {a b : Source} {byte : ℕ} → GoesAfter a (byte ∷ []) b → room b < room a
 byte_less {a} {b} {byte} h = omega (arith, room-falls h)
 
 pub other_than_star : (b : ℕ) → (b ≡ 42 → ⊥) → (b == 42) ≡ false

@@ -4,7 +4,7 @@ use Rattle.std.proofs.lemmas.Bool.Decides.{nat_tests}
 use Rattle.std.specs.List.{list_all}
 use Rattle.std.proofs.lemmas.List.Folds.{list_all-append}
 use Rattle.std.specs.Prelude.{option_to_list}
-use Rattle.blex.specs.Sources.{Source, GoesBehind, NextIs, StaysAtEnd, CanCome, room}
+use Rattle.blex.specs.Sources.{Source, GoesAfter, NextIs, StaysAtEnd, CanCome, room}
 use Rattle.blex.specs.Lexing.{EndsRun, TakesIf}
 use Rattle.blex.proofs.Passing.{Passes-append, CanCome-none, CanCome-some}
 
@@ -13,18 +13,18 @@ on_err (Ok x) p = tt
 on_err (Err e) p = p
 
 -- each byte that is passed leaves less room
-pub room-falls : {a b : Source} {xs : List ℕ} → GoesBehind a xs b → room b + length xs ≤ room a
+pub room-falls : {a b : Source} {xs : List ℕ} → GoesAfter a xs b → room b + length xs ≤ room a
 room-falls {a} {b} {xs} h =
     let taken = h.taken in let split = h.split in let bound = h.took.bound in
     let lengths : length a.ahead + length taken ≡ length xs + length b.ahead =
     sym (length-append a.ahead taken) ∙ ap length split ∙ length-append xs b.ahead in
     omega arith
 
-pub Passes-then : {a b c : Source} {xs : List ℕ} → GoesBehind a xs b → GoesBehind b [] c → GoesBehind a xs c
+pub Passes-then : {a b c : Source} {xs : List ℕ} → GoesAfter a xs b → GoesAfter b [] c → GoesAfter a xs c
 Passes-then {a} {b} {c} {xs} h k = let p = Passes-append h k in rw append-nil at p
 
 -- a peek and what it saw
-pub take_if : (p : ℕ → Bool) (a b c : Source) (byte : ℕ) → GoesBehind a [] b × NextIs (Some byte) b → ((x : ℕ) → NextIs (Some x) b → GoesBehind b (x ∷ []) c) → p byte ≡ true → TakesIf p a (Some byte) c
+pub take_if : (p : ℕ → Bool) (a b c : Source) (byte : ℕ) → GoesAfter a [] b × NextIs (Some byte) b → ((x : ℕ) → NextIs (Some x) b → GoesAfter b (x ∷ []) c) → p byte ≡ true → TakesIf p a (Some byte) c
 take_if p a b c byte h k e = (Passes-append h.0 (k byte h.1), e)
 
 ends-nil : (p : ℕ → Bool) (xs : List ℕ) → xs ≡ [] → EndsRun p xs
@@ -35,10 +35,10 @@ ends-cons : (p : ℕ → Bool) (b : ℕ) (ys xs : List ℕ) → p b ≡ false �
 ends-cons p b ys [] h e = tt
 ends-cons p b ys (x ∷ xs) h e = let same : x ≡ b = cc in rw same h
 
-pub take_none : (p : ℕ → Bool) (a b : Source) → GoesBehind a [] b × NextIs None b → TakesIf p a None b
+pub take_none : (p : ℕ → Bool) (a b : Source) → GoesAfter a [] b × NextIs None b → TakesIf p a None b
 take_none p a b h = (h.0, λ xs k. ends-nil p xs (CanCome-none b xs h.1 k))
 
-pub take_other : (p : ℕ → Bool) (a b : Source) (byte : ℕ) → GoesBehind a [] b × NextIs (Some byte) b → p byte ≡ false → TakesIf p a None b
+pub take_other : (p : ℕ → Bool) (a b : Source) (byte : ℕ) → GoesAfter a [] b × NextIs (Some byte) b → p byte ≡ false → TakesIf p a None b
 take_other p a b byte h e = (h.0, λ xs k. let c = CanCome-some b xs byte h.1 k in ends-cons p byte c.0 xs e c.1)
 
 -- the loop's turns take bytes
@@ -47,16 +47,16 @@ taken_falls p a b None byte e h = cc
 taken_falls p a b (Some x) byte e h = omega (arith, room-falls h.0)
 
 -- the byte that a call of `next` gave
-pub byte_passed : (o : Option ℕ) (first : ℕ) (b m : Source) → o ≡ Some first → GoesBehind b (option_to_list o) m × StaysAtEnd o m → GoesBehind b (first ∷ []) m
+pub byte_passed : (o : Option ℕ) (first : ℕ) (b m : Source) → o ≡ Some first → GoesAfter b (option_to_list o) m × StaysAtEnd o m → GoesAfter b (first ∷ []) m
 byte_passed None first b m e h = cc
 byte_passed (Some x) first b m e h = let same : x ≡ first = cc in rw same at h.0
 
 -- where it gave none, none can come
-pub none_passed : (o : Option ℕ) (a b : Source) → o ≡ None → GoesBehind a (option_to_list o) b × StaysAtEnd o b → GoesBehind a [] b × ((xs : List ℕ) → CanCome b xs → xs ≡ [])
+pub none_passed : (o : Option ℕ) (a b : Source) → o ≡ None → GoesAfter a (option_to_list o) b × StaysAtEnd o b → GoesAfter a [] b × ((xs : List ℕ) → CanCome b xs → xs ≡ [])
 none_passed (Some x) a b e h = cc
 none_passed None a b e h = (h.0, λ xs m. CanCome-none b xs h.1 m)
 
-pub byte_falls : {a b c : Source} {xs ys : List ℕ} → GoesBehind a xs b → 0 < length xs → GoesBehind b ys c → room c < room a
+pub byte_falls : {a b c : Source} {xs ys : List ℕ} → GoesAfter a xs b → 0 < length xs → GoesAfter b ys c → room c < room a
 byte_falls {a} {b} {c} {xs} {ys} h some k = omega (arith, room-falls h, room-falls k)
 
 pub more_bytes : (p : ℕ → Bool) (run : List ℕ) (b : ℕ) → list_all p run ≡ true → p b ≡ true → list_all p (run ++ b ∷ []) ≡ true

@@ -8,12 +8,12 @@ use Rattle.blang.specs.declared.token.Token.{Token}
 use Rattle.blang.specs.declared.token.Token.TheVariants as token
 use Rattle.blang.specs.declared.token.Placed.{Placed}
 use Rattle.blex.specs.declared.lexer.Progress.TheVariants as progress
-use Rattle.blang.specs.Cut.{tokens_from, token_first, token_of, last_of, placed, line_after}
-use Rattle.blex.specs.Sources.{GoesBehind, CanCome}
+use Rattle.blang.specs.Cut.{tokens_from, token_first, token_of, last_of, placed, line_number_after}
+use Rattle.blex.specs.Sources.{GoesAfter, CanCome}
 use Rattle.blex.specs.Lexing.{PassesToken}
-use Rattle.blex.specs.Lexers.{Lexer, GivesAt, new, progress_behind}
+use Rattle.blex.specs.Lexers.{Lexer, GivesAt, new, progress_after}
 use Rattle.blex.specs.Calls.{Calls, first_tokens, once, Spells, CallsGiveFirst}
-use Rattle.blex.proofs.Passing.{Passes-refl, Passes-append, CanCome-behind}
+use Rattle.blex.proofs.Passing.{Passes-refl, Passes-append, CanCome-following}
 
 first_cons : (t : Placed) (ps ts : List Placed) → first_tokens (length ps) ts ≡ ps → first_tokens (suc (length ps)) (t ∷ ts) ≡ t ∷ ps
 first_cons t [] [] e = refl
@@ -42,7 +42,7 @@ last_token _ l e = cc
 -- What calls from one state to another come to.
 record Gave (old : Lexer) (answers : List Placed) (after : Lexer) : Type 0 where
   passed : List ℕ
-  passes : GoesBehind old.source passed after.source
+  passes : GoesAfter old.source passed after.source
   spells : Spells old.source.edition old.source.line (once answers) passed
   any : (xs : List ℕ) → CanCome after.source xs
       → first_tokens (length answers) (tokens_from old.source.edition old.source.line (passed ++ xs)) ≡ answers
@@ -50,7 +50,7 @@ record Gave (old : Lexer) (answers : List Placed) (after : Lexer) : Type 0 where
 gave_nothing : (old : Lexer) → Gave old [] old
 gave_nothing old = record { passed = []; passes = Passes-refl old.source; spells = refl; any = λ xs c. refl }
 
--- behind the last token
+-- after the last token
 gave_again : (t : Placed) (l : Last) (line : ℕ) → t ≡ placed (token_of l) line → (ps : List Placed) (old after : Lexer)
     → old.progress ≡ progress.Ended l line → Calls old ps after
     → (after ≡ old) × (first_tokens (length ps) (t ∷ []) ≡ ps)
@@ -67,14 +67,14 @@ module _ (p : Placed) (ps : List Placed) (old between after : Lexer) (s : Passes
     passed = s.bytes ++ g.passed;
     passes = Passes-append s.passes g.passes;
     spells =
-        let line : between.source.line ≡ line_after old.source.line (s.space ++ s.text) =
-        s.passes.line ∙ ap (line_after old.source.line) s.split in
+        let line : between.source.line ≡ line_number_after old.source.line (s.space ++ s.text) =
+        s.passes.line ∙ ap (line_number_after old.source.line) s.split in
         subst (λ ts. Spells old.source.edition old.source.line ts (s.bytes ++ g.passed)) (sym (once_more p ps e))
         (s.space, s.text, g.passed, ap (λ b. b ++ g.passed) s.split, s.before, s.is, subst (λ n. Spells old.source.edition n (once ps) g.passed) line (subst (λ e. Spells e between.source.line (once ps) g.passed) s.passes.edition g.spells));
     any = λ xs c.
         let rest = tokens_from old.source.edition between.source.line (g.passed ++ xs) in
         let all : tokens_from old.source.edition old.source.line ((s.bytes ++ g.passed) ++ xs) ≡ p ∷ rest =
-        ap (tokens_from old.source.edition old.source.line) (append_assoc s.bytes g.passed xs) ∙ s.cut (g.passed ++ xs) (CanCome-behind g.passes c)
+        ap (tokens_from old.source.edition old.source.line) (append_assoc s.bytes g.passed xs) ∙ s.cut (g.passed ++ xs) (CanCome-following g.passes c)
         ∙ token_first_more p rest e in
         ap (first_tokens (suc (length ps))) all ∙ first_cons p ps rest (subst (λ e. first_tokens (length ps) (tokens_from e between.source.line (g.passed ++ xs)) ≡ ps) s.passes.edition (g.any xs c));
   }
@@ -82,7 +82,7 @@ module _ (p : Placed) (ps : List Placed) (old between after : Lexer) (s : Passes
   gave_last : (l : Last) → last_of p.token ≡ Some l → (after ≡ between) × (first_tokens (length ps) (p ∷ []) ≡ ps) → Gave old (p ∷ ps) after
   gave_last l e again = record {
     passed = s.bytes;
-    passes = subst (λ n. GoesBehind old.source s.bytes n.source) (sym again.0) s.passes;
+    passes = subst (λ n. GoesAfter old.source s.bytes n.source) (sym again.0) s.passes;
     spells = subst (λ ts. Spells old.source.edition old.source.line ts s.bytes) (sym (once_last p ps l e))
         (s.space, s.text, [], s.split ∙ sym (append-nil (s.space ++ s.text)), s.before, s.is, refl);
     any = λ xs c.
@@ -91,7 +91,7 @@ module _ (p : Placed) (ps : List Placed) (old between after : Lexer) (s : Passes
         ∙ ap (λ l. p ∷ l) again.1;
   }
 
-  gave_one : (o : Option Last) → last_of p.token ≡ o → between.progress ≡ progress_behind o p.line
+  gave_one : (o : Option Last) → last_of p.token ≡ o → between.progress ≡ progress_after o p.line
       → Calls between ps after → (between.progress ≡ progress.Open → Gave between ps after) → Gave old (p ∷ ps) after
   gave_one None e at calls onward = gave_more e (onward at)
   gave_one (Some l) e at calls onward =

@@ -12,7 +12,7 @@ use Rattle.bword.specs.declared.edition.Edition.{Edition}
 use Rattle.blex.specs.declared.lexeme.Lexeme.{Lexeme}
 use Rattle.blex.specs.Lexemes.{token_of_lexeme}
 use Rattle.blang.specs.Cut.{is_blank, is_digit, after_close, whole}
-use Rattle.blex.specs.Sources.{Source, GoesBehind, SourceFails, StaysAtEnd}
+use Rattle.blex.specs.Sources.{Source, GoesAfter, SourceFails, StaysAtEnd}
 use Rattle.blex.specs.Lexing.{piece_of, PassesPiece, PassesComment, TakesIf, IsLongest, BeginsFixed}
 use Rattle.bword.specs.Words.{is_name_start}
 use Rattle.blex.proofs.Passing.{Passes-refl, Passes-append, Breaks-after, CanCome-none}
@@ -20,14 +20,14 @@ use Rattle.blex.proofs.ByteSteps.{Passes-then}
 use Rattle.blex.proofs.EachPiece.{whole-blank, blank-stops, comment-is, comment-stops, open_comment-is, whole-fixed, whole-slash}
 
 -- what a comment's body does to its rest: a star may begin its end
-abbrev pub behind_star : Bool → List ℕ → List ℕ
-behind_star b more = if b then 42 ∷ more else more
+abbrev pub past_star : Bool → List ℕ → List ℕ
+past_star b more = if b then 42 ∷ more else more
 
 -- a comment so far
 pub record InComment (old : Source) (after_star : Bool) (new : Source) : Type 0 where
   pub body : List ℕ
-  pub passes : GoesBehind old body new
-  pub rest : (more : List ℕ) → after_close (body ++ more) ≡ after_close (behind_star after_star more)
+  pub passes : GoesAfter old body new
+  pub rest : (more : List ℕ) → after_close (body ++ more) ≡ after_close (past_star after_star more)
 
 -- one blank
 pub piece_blank : (b : ℕ) (s : Source) → is_blank b ≡ true → PassesPiece b s None s
@@ -41,13 +41,13 @@ pub slash_begins : (a b : Source) (o : Option ℕ) → is_some o ≡ false → T
 slash_begins a b (Some x) e h = cc
 slash_begins a b None e h = record { whole_is = λ xs m n. whole-slash _ n xs (h.1 xs m) }
 
-pub no_star : (a b : Source) (o : Option ℕ) → is_some o ≡ false → TakesIf (λ b. b == 42) a o b → GoesBehind a [] b
+pub no_star : (a b : Source) (o : Option ℕ) → is_some o ≡ false → TakesIf (λ b. b == 42) a o b → GoesAfter a [] b
 no_star a b (Some x) e h = cc
 no_star a b None e h = h.0
 
--- a piece behind a look at no byte
-pub piece_behind : {a b c : Source} {first : ℕ} {piece : Option Token} → GoesBehind a [] b → PassesPiece first b piece c → PassesPiece first a piece c
-piece_behind {a} {b} {c} {first} {piece} h k = record {
+-- a piece after a look at no byte
+pub piece_after : {a b c : Source} {first : ℕ} {piece : Option Token} → GoesAfter a [] b → PassesPiece first b piece c → PassesPiece first a piece c
+piece_after {a} {b} {c} {first} {piece} h k = record {
   rest = k.rest;
   passes = Passes-append h k.passes;
   is = subst (λ e. whole e (first ∷ k.rest) ≡ Some (piece_of piece)) h.edition k.is;
@@ -57,7 +57,7 @@ piece_behind {a} {b} {c} {first} {piece} h k = record {
 equal : (b : ℕ) → (b == 42) ≡ true → b ≡ 42
 equal b h = grind (arith, nat_tests)
 
-star_passed : (a b : Source) (o : Option ℕ) → is_some o ≡ true → TakesIf (λ b. b == 42) a o b → GoesBehind a (42 ∷ []) b
+star_passed : (a b : Source) (o : Option ℕ) → is_some o ≡ true → TakesIf (λ b. b == 42) a o b → GoesAfter a (42 ∷ []) b
 star_passed a b None e h = cc
 star_passed a b (Some x) e h = let star : x ≡ 42 = equal x h.1 in rw star at h.0
 
@@ -78,29 +78,29 @@ piece_open a b c o ended e h k t =
     record { rest = 42 ∷ k.body; passes = Passes-append (star_passed a b o e h) k.passes; is = open_comment-is _ k.body endless.0; stops = λ xs m. stops-nil _ (47 ∷ 42 ∷ k.body) xs (endless.1 xs m) }
 
 -- a comment's body
-nothing : (s : Bool) → None ≡ after_close (behind_star s [])
+nothing : (s : Bool) → None ≡ after_close (past_star s [])
 nothing true = refl
 nothing false = refl
 
-plain_cases : (s : Bool) (b c : ℕ) (cs : List ℕ) → (b == 42) ≡ s → (if (b == 42) && (c == 47) then Some cs else after_close (c ∷ cs)) ≡ after_close (behind_star s (c ∷ cs))
+plain_cases : (s : Bool) (b c : ℕ) (cs : List ℕ) → (b == 42) ≡ s → (if (b == 42) && (c == 47) then Some cs else after_close (c ∷ cs)) ≡ after_close (past_star s (c ∷ cs))
 plain_cases true b c cs e = rw e refl
 plain_cases false b c cs e = rw e refl
 
-pub plain_step : (b : ℕ) (more : List ℕ) → after_close (b ∷ more) ≡ after_close (behind_star (b == 42) more)
+pub plain_step : (b : ℕ) (more : List ℕ) → after_close (b ∷ more) ≡ after_close (past_star (b == 42) more)
 plain_step b [] = nothing (b == 42)
 plain_step b (c ∷ cs) = plain_cases (b == 42) b c cs refl
 
 not_slash : (b : ℕ) → (b ≡ 47 → ⊥) → (b == 47) ≡ false
 not_slash b h = grind (arith, nat_tests)
 
-comment_step : (s : Bool) (b : ℕ) (more : List ℕ) → (s ≡ true → b ≡ 47 → ⊥) → after_close (behind_star s (b ∷ more)) ≡ after_close (behind_star (b == 42) more)
+comment_step : (s : Bool) (b : ℕ) (more : List ℕ) → (s ≡ true → b ≡ 47 → ⊥) → after_close (past_star s (b ∷ more)) ≡ after_close (past_star (b == 42) more)
 comment_step true b more h = rw (not_slash b (h refl)) (plain_step b more)
 comment_step false b more h = plain_step b more
 
 pub comment_none : (s : Source) → InComment s false s
 comment_none s = record { body = []; passes = Passes-refl s; rest = λ more. refl }
 
-pub comment_more : {a b c : Source} {s : Bool} (byte : ℕ) → InComment a s b → GoesBehind b (byte ∷ []) c → (s ≡ true → byte ≡ 47 → ⊥) → InComment a (byte == 42) c
+pub comment_more : {a b c : Source} {s : Bool} (byte : ℕ) → InComment a s b → GoesAfter b (byte ∷ []) c → (s ≡ true → byte ≡ 47 → ⊥) → InComment a (byte == 42) c
 comment_more {a} {b} {c} {s} byte h k n = record {
   body = h.body ++ byte ∷ [];
   passes = Passes-append h.passes k;
@@ -113,7 +113,7 @@ differ e = cc
 slash_ends : (byte : ℕ) → byte ≡ 47 → after_close (42 ∷ byte ∷ []) ≡ Some []
 slash_ends byte e = rw e refl
 
-pub comment_ends : {a b c : Source} (byte : ℕ) → InComment a true b → GoesBehind b (byte ∷ []) c → byte ≡ 47 → PassesComment a true c
+pub comment_ends : {a b c : Source} (byte : ℕ) → InComment a true b → GoesAfter b (byte ∷ []) c → byte ≡ 47 → PassesComment a true c
 comment_ends {a} {b} {c} byte h k e = record {
   body = h.body ++ byte ∷ [];
   passes = Passes-append h.passes k;
@@ -125,7 +125,7 @@ pub not_both : (s : Bool) (byte : ℕ) → ((s ≡ true) × (byte ≢ 47)) ⊎ (
 not_both s byte (inl h) e f = h.1 f
 not_both s byte (inr h) e f = cc
 
-pub comment_endless : {a b c : Source} {s : Bool} (o : Option ℕ) → o ≡ None → InComment a s b → GoesBehind b (option_to_list o) c × StaysAtEnd o c → PassesComment a false c
+pub comment_endless : {a b c : Source} {s : Bool} (o : Option ℕ) → o ≡ None → InComment a s b → GoesAfter b (option_to_list o) c × StaysAtEnd o c → PassesComment a false c
 comment_endless {a} {b} {c} {s} (Some x) n h k = cc
 comment_endless {a} {b} {c} {s} None n h k = record {
   body = h.body;

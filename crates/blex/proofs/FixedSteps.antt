@@ -6,9 +6,9 @@ use Rattle.blang.specs.declared.token.Token.{Token}
 use Rattle.blang.specs.declared.token.Token.TheVariants as token
 use Rattle.blang.specs.declared.token.Letters.TheVariants as letters
 use Rattle.blang.specs.Cut.{Piece, Word, whole, alone, fixed_of, fixed_or_stray}
-use Rattle.blex.specs.Sources.{Source, GoesBehind, NextIs, BeginsTwo, CanCome}
+use Rattle.blex.specs.Sources.{Source, GoesAfter, NextIs, BeginsTwo, CanCome}
 use Rattle.blex.specs.Lexing.{PassesPiece, BeginsFixed, IsLongest, NoneOfThree, fixed_of_two, fixed_of_three}
-use Rattle.blex.proofs.Passing.{Passes-refl, Passes-append, CanCome-behind, CanCome-none, CanCome-some}
+use Rattle.blex.proofs.Passing.{Passes-refl, Passes-append, CanCome-following, CanCome-none, CanCome-some}
 use Rattle.blex.proofs.FixedTexts.{fixed_of-long}
 
 CanCome-ahead : (s : Source) → CanCome s s.ahead
@@ -18,27 +18,27 @@ alone-some : (piece : Piece) (xs : List ℕ) (b : ℕ) (bs : List ℕ) → alone
 alone-some piece [] b bs = refl
 alone-some piece (x ∷ xs) b bs = refl
 
-fixed_here : {old new : Source} {rest : List ℕ} (first : ℕ) → BeginsFixed first old → GoesBehind old rest new
+fixed_here : {old new : Source} {rest : List ℕ} (first : ℕ) → BeginsFixed first old → GoesAfter old rest new
     → whole old.edition (first ∷ rest) ≡ fixed_or_stray (fixed_of (first ∷ rest)) rest
 fixed_here {old} {new} {rest} first begins passes =
-    rw (take-append_seam rest new.ahead) at (begins.whole_is (rest ++ new.ahead) (CanCome-behind passes (CanCome-ahead new)) (length rest))
+    rw (take-append_seam rest new.ahead) at (begins.whole_is (rest ++ new.ahead) (CanCome-following passes (CanCome-ahead new)) (length rest))
 
-fixed_longer : {old new : Source} {rest : List ℕ} (first c : ℕ) (cs : List ℕ) (n : ℕ) → BeginsFixed first old → GoesBehind old rest new → CanCome new (c ∷ cs)
+fixed_longer : {old new : Source} {rest : List ℕ} (first c : ℕ) (cs : List ℕ) (n : ℕ) → BeginsFixed first old → GoesAfter old rest new → CanCome new (c ∷ cs)
     → fixed_of (first ∷ (rest ++ c ∷ take n cs)) ≡ None → whole old.edition (first ∷ (rest ++ c ∷ take n cs)) ≡ None
 fixed_longer {old} {new} {rest} first c cs n begins passes comes none =
-    let is = rw (take-append-add rest (c ∷ cs) (suc n)) at (begins.whole_is (rest ++ c ∷ cs) (CanCome-behind passes comes) (length rest + suc n)) in
+    let is = rw (take-append-add rest (c ∷ cs) (suc n)) at (begins.whole_is (rest ++ c ∷ cs) (CanCome-following passes comes) (length rest + suc n)) in
     is ∙ ap (λ o. fixed_or_stray o (rest ++ c ∷ take n cs)) none ∙ alone-some (Word (token.Bad letters.Character)) rest c (take n cs)
 
 -- no longer text with these bytes is a token's
 abbrev pub IsNoLonger : ℕ → List ℕ → Source → Type 0
 IsNoLonger first rest new = (c : ℕ) (cs : List ℕ) → CanCome new (c ∷ cs) → (n : ℕ) → fixed_of (first ∷ (rest ++ c ∷ take n cs)) ≡ None
 
-fixed_stops : {old new : Source} {rest : List ℕ} (first : ℕ) → BeginsFixed first old → GoesBehind old rest new → IsNoLonger first rest new
+fixed_stops : {old new : Source} {rest : List ℕ} (first : ℕ) → BeginsFixed first old → GoesAfter old rest new → IsNoLonger first rest new
     → (xs : List ℕ) → CanCome new xs → IsLongest old.edition (first ∷ rest) xs
 fixed_stops {old} {new} {rest} first begins passes longer [] comes = tt
 fixed_stops {old} {new} {rest} first begins passes longer (c ∷ cs) comes = λ n. fixed_longer first c cs n begins passes comes (longer c cs comes n)
 
-fixed_piece : {old new : Source} {rest : List ℕ} (first : ℕ) (t : Token) → BeginsFixed first old → GoesBehind old rest new
+fixed_piece : {old new : Source} {rest : List ℕ} (first : ℕ) (t : Token) → BeginsFixed first old → GoesAfter old rest new
     → fixed_or_stray (fixed_of (first ∷ rest)) rest ≡ Some (Word t) → IsNoLonger first rest new → PassesPiece first old (Some t) new
 fixed_piece {old} {new} {rest} first t begins passes is longer =
     record { rest = rest; passes = passes; is = fixed_here first begins passes ∙ is; stops = fixed_stops first begins passes longer }
@@ -66,8 +66,8 @@ not_three first b c third e h = sym (rw e at h)
 not_two : (first c : ℕ) (second : Option ℕ) → second ≡ Some c → None ≡ fixed_of_two first second → fixed_of (first ∷ c ∷ []) ≡ None
 not_two first c second e h = sym (rw e at h)
 
-pub three_piece : {a mid one two : Source} (first : ℕ) (second third : Option ℕ) (t : Token) → BeginsFixed first a → GoesBehind a [] mid × BeginsTwo second third mid
-    → ((x : ℕ) → NextIs (Some x) mid → GoesBehind mid (x ∷ []) one) → one.ahead ≡ drop 1 mid.ahead → ((x : ℕ) → NextIs (Some x) one → GoesBehind one (x ∷ []) two)
+pub three_piece : {a mid one two : Source} (first : ℕ) (second third : Option ℕ) (t : Token) → BeginsFixed first a → GoesAfter a [] mid × BeginsTwo second third mid
+    → ((x : ℕ) → NextIs (Some x) mid → GoesAfter mid (x ∷ []) one) → one.ahead ≡ drop 1 mid.ahead → ((x : ℕ) → NextIs (Some x) one → GoesAfter one (x ∷ []) two)
     → Some t ≡ fixed_of_three first second third → PassesPiece first a (Some t) two
 three_piece {a} {mid} {one} {two} first None third t begins h skip ahead again e = cc
 three_piece {a} {mid} {one} {two} first (Some b) None t begins h skip ahead again e = cc
@@ -75,20 +75,20 @@ three_piece {a} {mid} {one} {two} first (Some b) (Some c) t begins h skip ahead 
     let passes = Passes-append h.0 (Passes-append (skip b (c ∷ [], h.1.ahead)) (again c ([], rw h.1.ahead at ahead))) in
     fixed_piece first t begins passes (ap (λ o. fixed_or_stray o (b ∷ c ∷ [])) (sym e)) (λ d ds m n. fixed_of-long (first ∷ b ∷ c ∷ d ∷ take n ds) (omega arith))
 
-pub two_piece : {a mid one : Source} (first : ℕ) (second third : Option ℕ) (t : Token) → BeginsFixed first a → GoesBehind a [] mid × BeginsTwo second third mid
-    → ((x : ℕ) → NextIs (Some x) mid → GoesBehind mid (x ∷ []) one)
+pub two_piece : {a mid one : Source} (first : ℕ) (second third : Option ℕ) (t : Token) → BeginsFixed first a → GoesAfter a [] mid × BeginsTwo second third mid
+    → ((x : ℕ) → NextIs (Some x) mid → GoesAfter mid (x ∷ []) one)
     → None ≡ fixed_of_three first second third → Some t ≡ fixed_of_two first second → PassesPiece first a (Some t) one
 two_piece {a} {mid} {one} first None third t begins h skip three e = cc
 two_piece {a} {mid} {one} first (Some b) third t begins h skip three e =
-    let behind = skip b (option_to_list third, h.1.ahead) in
-    fixed_piece first t begins (Passes-append h.0 behind) (ap (λ o. fixed_or_stray o (b ∷ [])) (sym e))
-    (λ c cs m n. two_or_long first b c (take n cs) (not_three first b c third (third_comes b third mid c cs h.1 (CanCome-behind behind m)) three))
+    let following = skip b (option_to_list third, h.1.ahead) in
+    fixed_piece first t begins (Passes-append h.0 following) (ap (λ o. fixed_or_stray o (b ∷ [])) (sym e))
+    (λ c cs m n. two_or_long first b c (take n cs) (not_three first b c third (third_comes b third mid c cs h.1 (CanCome-following following m)) three))
 
 take-nil : (n : ℕ) → take {A = ℕ} n [] ≡ []
 take-nil zero = refl
 take-nil (suc n) = refl
 
--- what comes behind one byte is no part of a longer text
+-- what comes after one byte is no part of a longer text
 alone_longer : (first : ℕ) (second third : Option ℕ) (s : Source) → BeginsTwo second third s → None ≡ fixed_of_three first second third → None ≡ fixed_of_two first second
     → IsNoLonger first [] s
 alone_longer first second third s h three two c [] m n =
@@ -99,19 +99,19 @@ alone_longer first second third s h three two c (d ∷ ds) m (suc n) =
     let there : third ≡ Some d = third_comes c third s d ds (rw here at h) m in
     two_or_long first c d (take n ds) (not_three first c d third there (rw here at three))
 
-pub one_piece : {a mid : Source} (first : ℕ) (second third : Option ℕ) (t : Token) → BeginsFixed first a → GoesBehind a [] mid × BeginsTwo second third mid
+pub one_piece : {a mid : Source} (first : ℕ) (second third : Option ℕ) (t : Token) → BeginsFixed first a → GoesAfter a [] mid × BeginsTwo second third mid
     → None ≡ fixed_of_three first second third → None ≡ fixed_of_two first second → fixed_or_stray (fixed_of (first ∷ [])) [] ≡ Some (Word t) → PassesPiece first a (Some t) mid
 one_piece {a} {mid} first second third t begins h three two e = fixed_piece first t begins h.0 e (alone_longer first second third mid h.1 three two)
 
--- with no look at the bytes behind
+-- with no look at the bytes after
 pub alone_piece : {a : Source} (first : ℕ) (t : Token) → BeginsFixed first a → fixed_of (first ∷ []) ≡ Some t → ((c : ℕ) (cs : List ℕ) → fixed_of (first ∷ c ∷ cs) ≡ None)
     → PassesPiece first a (Some t) a
 alone_piece {a} first t begins is longer =
     fixed_piece first t begins (Passes-refl a) (ap (λ o. fixed_or_stray o []) is) (λ c cs m n. longer c (take n cs))
 
 -- with a look at one byte
-pub two_seen : {a mid one : Source} (first : ℕ) (second : Option ℕ) (t : Token) → BeginsFixed first a → GoesBehind a [] mid × NextIs second mid
-    → ((x : ℕ) → NextIs (Some x) mid → GoesBehind mid (x ∷ []) one) → NoneOfThree first second → Some t ≡ fixed_of_two first second → PassesPiece first a (Some t) one
+pub two_seen : {a mid one : Source} (first : ℕ) (second : Option ℕ) (t : Token) → BeginsFixed first a → GoesAfter a [] mid × NextIs second mid
+    → ((x : ℕ) → NextIs (Some x) mid → GoesAfter mid (x ∷ []) one) → NoneOfThree first second → Some t ≡ fixed_of_two first second → PassesPiece first a (Some t) one
 two_seen {a} {mid} {one} first None t begins h skip three e = cc
 two_seen {a} {mid} {one} first (Some b) t begins h skip three e =
     fixed_piece first t begins (Passes-append h.0 (skip b h.1)) (ap (λ o. fixed_or_stray o (b ∷ [])) (sym e))
@@ -126,11 +126,11 @@ no_longer first (Some b) s h three two c (d ∷ ds) m zero =
 no_longer first (Some b) s h three two c (d ∷ ds) m (suc n) =
     let comes = CanCome-some s (c ∷ d ∷ ds) b h m in let same : b ≡ c = let e = comes.1 in cc in rw (← same) (two_or_long first b d (take n ds) (three d))
 
-pub one_seen : {a mid : Source} (first : ℕ) (second : Option ℕ) (t : Token) → BeginsFixed first a → GoesBehind a [] mid × NextIs second mid → NoneOfThree first second
+pub one_seen : {a mid : Source} (first : ℕ) (second : Option ℕ) (t : Token) → BeginsFixed first a → GoesAfter a [] mid × NextIs second mid → NoneOfThree first second
     → None ≡ fixed_of_two first second → fixed_or_stray (fixed_of (first ∷ [])) [] ≡ Some (Word t) → PassesPiece first a (Some t) mid
 one_seen {a} {mid} first second t begins h three two e = fixed_piece first t begins h.0 e (no_longer first second mid h.1 three two)
 
-pub begins_behind : {a b : Source} {first : ℕ} → GoesBehind a [] b → BeginsFixed first a → BeginsFixed first b
-begins_behind {a} {b} {first} h k = record {
-  whole_is = λ xs m n. subst (λ e. whole e (first ∷ take n xs) ≡ fixed_or_stray (fixed_of (first ∷ take n xs)) (take n xs)) (sym h.edition) (k.whole_is xs (CanCome-behind h m) n);
+pub begins_after : {a b : Source} {first : ℕ} → GoesAfter a [] b → BeginsFixed first a → BeginsFixed first b
+begins_after {a} {b} {first} h k = record {
+  whole_is = λ xs m n. subst (λ e. whole e (first ∷ take n xs) ≡ fixed_or_stray (fixed_of (first ∷ take n xs)) (take n xs)) (sym h.edition) (k.whole_is xs (CanCome-following h m) n);
 }

@@ -12,8 +12,8 @@ use Rattle.bword.specs.ByteEnds.{Incoming, TakesReady}
 use Rattle.bword.specs.Words.{is_name_byte}
 use Rattle.bword.specs.declared.edition.Edition.{Edition}
 use Rattle.blex.specs.Runs.{PassesRun, TakesName}
-use Rattle.blex.specs.Sources.{Source, GoesBehind}
-use Rattle.blang.specs.Cut.{line_after, next_line}
+use Rattle.blex.specs.Sources.{Source, GoesAfter}
+use Rattle.blang.specs.Cut.{line_number_after, next_line}
 use Rattle.blex.proofs.BlockSteps.{and-true_both, block_taken}
 use Rattle.blex.proofs.Passing.{Passes-refl}
 
@@ -53,13 +53,13 @@ name_end_run bytes r n e f =
 same_line : (line b : ℕ) → is_name_byte b ≡ true → next_line line b ≡ line
 same_line line b e = let other : (b == 10) ≡ false = grind (arith, nat_tests) in rw other refl
 
-names_line : (line : ℕ) (bytes : List ℕ) → list_all is_name_byte bytes ≡ true → line_after line bytes ≡ line
+names_line : (line : ℕ) (bytes : List ℕ) → list_all is_name_byte bytes ≡ true → line_number_after line bytes ≡ line
 names_line line [] e = refl
 names_line line (b ∷ bs) e =
     let both = and-true_both (is_name_byte b) (list_all is_name_byte bs) e in
-    ap (λ l. line_after l bs) (same_line line b both.0) ∙ names_line line bs both.1
+    ap (λ l. line_number_after l bs) (same_line line b both.0) ∙ names_line line bs both.1
 
--- what there is room for is put behind
+-- what there is room for is put after
 pub has_room : {T E : Type 0} (r : Result T E) {P : Type 0} (text run : List ℕ) (n k : ℕ) → (length text + length (take k run) ≤ 8 → IsOk r) → OnOk r P
     → length text ≤ 8 → k ≡ min n (8 - length text) → P
 has_room (Ok v) text run n k can ok h e = ok
@@ -75,7 +75,7 @@ TakesName-none s text h = record {
   long = let l = ap length (append-nil text) in grind (arith, nat_tests);
 }
 
--- a text behind another, as far as there is room
+-- a text after another, as far as there is room
 kept_is : (m : ℕ) (text run : List ℕ) (k : ℕ) → length text ≤ m → k ≡ min (length run) (m - length text) → text ++ take k run ≡ take m (text ++ run)
 kept_is m [] run k h e =
     let least : k ≡ min m (length run) = omega (arith, e) in
@@ -91,7 +91,7 @@ pub TakesName-block : {edition : Edition} (line : ℕ) (lender lender' : List �
     → r ≡ position (λ b. not (is_name_byte b)) block → n ≡ unwrap_or r (length block) → length text ≤ 8 → k ≡ min n (8 - length text) → text' ≡ text ++ take k block
     → TakesName (record { ahead = option_to_list first ++ option_to_list second; line = line; end = old; lender = lender; edition = edition }) text (nat_lt k n)
     (record { ahead = option_to_list first ++ option_to_list second; line = line; end = new; lender = lender'; edition = edition }) text'
-TakesName-block {edition} line lender lender' old new first second ready block text text' r n k f s shows takes same found whole fits kept behind =
+TakesName-block {edition} line lender lender' old new first second ready block text text' r n k f s shows takes same found whole fits kept following =
     let h = name_end_run block r n found whole in
     let size : length (take n block) ≡ n = let l = h.1 in omega (arith, l, length-take n block) in
     let k_is : k ≡ min (length (take n block)) (8 - length text) = kept ∙ ap (λ m. min m (8 - length text)) (sym size) in
@@ -100,6 +100,6 @@ TakesName-block {edition} line lender lender' old new first second ready block t
       run = take n block;
       passes = block_taken line line lender lender' old new first second ready block n f s shows h.1 takes same (sym (names_line line (take n block) h.0));
       bytes = h.0;
-      kept = behind ∙ ap (λ l. text ++ l) (sym (take-take k n block short)) ∙ kept_is 8 text (take n block) k fits k_is;
+      kept = following ∙ ap (λ l. text ++ l) (sym (take-take k n block short)) ∙ kept_is 8 text (take n block) k fits k_is;
       long = ap (nat_lt k) (sym size) ∙ long_is text (take n block) k fits k_is;
     }

@@ -10,7 +10,7 @@ use Rattle.std.proofs.Math.Bool.{and-true}
 use Rattle.std.proofs.Math.Nat.{zero-mul, mul-le-mul_left, mul-le-mul_right}
 use Rattle.blang.specs.declared.token.Token.{Token}
 use Rattle.blang.specs.Cut.{Word, is_digit, is_digit_of, digits_value, base_of, number_in, number_when}
-use Rattle.blex.specs.Sources.{Source, GoesBehind}
+use Rattle.blex.specs.Sources.{Source, GoesAfter}
 use Rattle.blex.specs.Lexing.{PassesPiece, TakesIf}
 use Rattle.blex.proofs.Passing.{Passes-refl, Passes-append}
 use Rattle.blex.proofs.ByteSteps.{Passes-then, more_bytes}
@@ -19,7 +19,7 @@ use Rattle.blex.proofs.EachPiece.{number-is, number-stops}
 -- a number so far
 pub record InNumber (first : ℕ) (old : Source) (base value : ℕ) (is_of_base : Bool) (new : Source) : Type 0 where
   pub run : List ℕ
-  pub passes : GoesBehind old run new
+  pub passes : GoesAfter old run new
   pub digits : list_all is_digit run ≡ true
   pub value_is : value ≡ min (digits_value base (first ∷ run)) 65536
   pub of_base : is_of_base ≡ list_all (is_digit_of base) (first ∷ run)

@@ -7,7 +7,7 @@ use Rattle.blang.specs.declared.token.Token.{Token}
 use Rattle.blang.specs.declared.token.Token.TheVariants as token
 use Rattle.blang.specs.declared.token.Letters.TheVariants as letters
 use Rattle.blang.specs.Cut.{whole, Quoted, Open, Starred, Closed, Wrong, Past, quoted, with_quoted_byte, with_character, plain_of, escape_of, quoted_constant}
-use Rattle.blex.specs.Sources.{Source, GoesBehind, StaysAtEnd}
+use Rattle.blex.specs.Sources.{Source, GoesAfter, StaysAtEnd}
 use Rattle.blex.specs.Lexing.{PassesPiece, PassesCharacter, PassesQuoted, ReadsCharacter, IsCutOff, IsLongest}
 use Rattle.blex.proofs.Passing.{Passes-refl, Passes-append}
 use Rattle.blex.proofs.ByteSteps.{Passes-then, byte_passed, none_passed}
@@ -43,7 +43,7 @@ character_plain first s e = record {
   reads = λ quote room characters q f. rw (open-plain quote room characters first q f e) (reads-some (plain_of first) characters s);
 }
 
-pub character_escape : {a b : Source} (first byte : ℕ) (o : Option ℕ) → first ≡ 42 → o ≡ Some byte → GoesBehind a (option_to_list o) b × StaysAtEnd o b → PassesCharacter first a (escape_of byte) b
+pub character_escape : {a b : Source} (first byte : ℕ) (o : Option ℕ) → first ≡ 42 → o ≡ Some byte → GoesAfter a (option_to_list o) b × StaysAtEnd o b → PassesCharacter first a (escape_of byte) b
 character_escape {a} {b} first byte o e f h = record {
   rest = byte ∷ [];
   passes = byte_passed o byte a b f h;
@@ -52,7 +52,7 @@ character_escape {a} {b} first byte o e f h = record {
       rw (e, open-star quote room characters q' g, starred quote room characters byte) (reads-some (escape_of byte) characters b);
 }
 
-pub character_cut_off : {a b : Source} (first : ℕ) (o : Option ℕ) → first ≡ 42 → o ≡ None → GoesBehind a (option_to_list o) b × StaysAtEnd o b → PassesCharacter first a None b
+pub character_cut_off : {a b : Source} (first : ℕ) (o : Option ℕ) → first ≡ 42 → o ≡ None → GoesAfter a (option_to_list o) b × StaysAtEnd o b → PassesCharacter first a None b
 character_cut_off {a} {b} first o e f h =
     let none = none_passed o a b f h in
     record {
@@ -67,7 +67,7 @@ character_cut_off {a} {b} first o e f h =
 -- a constant so far
 pub record InQuoted (quote room : ℕ) (old : Source) (characters : List ℕ) (new : Source) : Type 0 where
   pub run : List ℕ
-  pub passes : GoesBehind old run new
+  pub passes : GoesAfter old run new
   pub is : quoted quote room run ≡ Open characters
 
 pub quoted_start : (quote room : ℕ) (s : Source) (characters : List ℕ) → characters ≡ [] → InQuoted quote room s characters s
@@ -81,7 +81,7 @@ at_full : (quote room : ℕ) (characters : List ℕ) (b : ℕ) → (b == quote) 
 unfolding with_quoted_byte
 at_full quote room characters b e f = rw (e, f) refl
 
--- what an open constant comes to behind more bytes
+-- what an open constant comes to after more bytes
 more_quoted : {quote room : ℕ} {a b : Source} {characters : List ℕ} (h : InQuoted quote room a characters b) (xs : List ℕ) (now : Quoted)
     → fold (with_quoted_byte quote room) (Open characters) xs ≡ now → quoted quote room (h.run ++ xs) ≡ now
 more_quoted {quote} {room} {a} {b} {characters} h xs now e = quoted-append quote room h.run xs ∙ ap (λ q. fold (with_quoted_byte quote room) q xs) h.is ∙ e
@@ -90,7 +90,7 @@ equal : (a b : ℕ) → a ≡ b → (a == b) ≡ true
 equal a b e = grind (arith, nat_tests)
 
 pub quoted_closes : {quote room : ℕ} {a b c : Source} (characters : List ℕ) (byte : ℕ) (o : Option ℕ) → o ≡ Some byte → byte ≡ quote
-    → InQuoted quote room a characters b → GoesBehind b (option_to_list o) c × StaysAtEnd o c → PassesQuoted quote room a true characters c
+    → InQuoted quote room a characters b → GoesAfter b (option_to_list o) c × StaysAtEnd o c → PassesQuoted quote room a true characters c
 quoted_closes {quote} {room} {a} {b} {c} characters byte o e f h k = record {
   run = h.run ++ byte ∷ [];
   passes = Passes-append h.passes (byte_passed o byte b c e k);
@@ -98,7 +98,7 @@ quoted_closes {quote} {room} {a} {b} {c} characters byte o e f h k = record {
 }
 
 pub quoted_full : {quote room : ℕ} {a b c : Source} (characters : List ℕ) (byte : ℕ) (o : Option ℕ) → o ≡ Some byte → byte ≢ quote → length characters ≡ room
-    → InQuoted quote room a characters b → GoesBehind b (option_to_list o) c × StaysAtEnd o c → PassesQuoted quote room a false characters c
+    → InQuoted quote room a characters b → GoesAfter b (option_to_list o) c × StaysAtEnd o c → PassesQuoted quote room a false characters c
 quoted_full {quote} {room} {a} {b} {c} characters byte o e f full h k =
     let wrong = more_quoted h (byte ∷ []) Wrong (at_full quote room characters byte (not_equal byte quote f) (equal (length characters) room full)) in
     record {
@@ -109,11 +109,11 @@ quoted_full {quote} {room} {a} {b} {c} characters byte o e f full h k =
 
 -- the same with a character more
 module _ {quote room : ℕ} {a b m c : Source} (characters : List ℕ) (byte : ℕ) (o character : Option ℕ) (e : o ≡ Some byte) (f : byte ≢ quote) (g : length characters < room)
-    (h : InQuoted quote room a characters b) (k : GoesBehind b (option_to_list o) m × StaysAtEnd o m) (p : PassesCharacter byte m character c) where
+    (h : InQuoted quote room a characters b) (k : GoesAfter b (option_to_list o) m × StaysAtEnd o m) (p : PassesCharacter byte m character c) where
   room_left : (length characters == room) ≡ false
   room_left = grind (arith, nat_tests)
 
-  passed : GoesBehind a (h.run ++ byte ∷ p.rest) c
+  passed : GoesAfter a (h.run ++ byte ∷ p.rest) c
   passed = Passes-append h.passes (Passes-append (byte_passed o byte b m e k) p.passes)
 
   is_now : quoted quote room (h.run ++ byte ∷ p.rest) ≡ fold (with_quoted_byte quote room) (Open characters) (byte ∷ p.rest)
@@ -133,7 +133,7 @@ module _ {quote room : ℕ} {a b m c : Source} (characters : List ℕ) (byte : �
       record { run = h.run ++ byte ∷ p.rest; passes = passed; ends = rw is_now wrong }
 
 pub quoted_endless : {quote room : ℕ} {a b c : Source} {characters : List ℕ} (o : Option ℕ) → o ≡ None → InQuoted quote room a characters b
-    → GoesBehind b (option_to_list o) c × StaysAtEnd o c → PassesQuoted quote room a false characters c
+    → GoesAfter b (option_to_list o) c × StaysAtEnd o c → PassesQuoted quote room a false characters c
 quoted_endless {quote} {room} {a} {b} {c} {characters} o e h k =
     let none = none_passed o b c e k in
     record { run = h.run; passes = Passes-then h.passes none.0; ends = rw h.is none.1 }
@@ -144,7 +144,7 @@ stops-nil edition text [] e = tt
 stops-nil edition text (x ∷ xs) e = cc
 
 module _ (quote room : ℕ) (constant : List ℕ → Token) (whole_is : (edition : Edition) (bs : List ℕ) → whole edition (quote ∷ bs) ≡ quoted_constant constant (quoted quote room bs)) where
-  closed_piece : {a b : Source} (characters run : List ℕ) → GoesBehind a run b → quoted quote room run ≡ Closed characters → PassesPiece quote a (Some (constant characters)) b
+  closed_piece : {a b : Source} (characters run : List ℕ) → GoesAfter a run b → quoted quote room run ≡ Closed characters → PassesPiece quote a (Some (constant characters)) b
   closed_piece {a} {b} characters run p e = record {
     rest = run;
     passes = p;
@@ -152,7 +152,7 @@ module _ (quote room : ℕ) (constant : List ℕ → Token) (whole_is : (edition
     stops = λ xs m. quoted-stops _ quote room constant (whole_is a.edition) run xs (rw e tt);
   }
 
-  wrong_piece : {a b : Source} (run : List ℕ) (now : Quoted) → GoesBehind a run b → quoted quote room run ≡ now → IsCutOff now b → PassesPiece quote a (Some (token.Bad letters.Constant)) b
+  wrong_piece : {a b : Source} (run : List ℕ) (now : Quoted) → GoesAfter a run b → quoted quote room run ≡ now → IsCutOff now b → PassesPiece quote a (Some (token.Bad letters.Constant)) b
   wrong_piece {a} {b} run (Open characters) p e h = record { rest = run; passes = p; is = whole_is a.edition run ∙ ap (quoted_constant constant) e; stops = λ xs m. stops-nil _ (quote ∷ run) xs (h xs m) }
   wrong_piece {a} {b} run (Starred characters) p e h = record { rest = run; passes = p; is = whole_is a.edition run ∙ ap (quoted_constant constant) e; stops = λ xs m. stops-nil _ (quote ∷ run) xs (h xs m) }
   wrong_piece {a} {b} run (Closed characters) p e h = absurd h

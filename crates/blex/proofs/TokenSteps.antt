@@ -6,8 +6,8 @@ use Rattle.blang.specs.declared.token.Token.{Token}
 use Rattle.blang.specs.declared.token.Token.TheVariants as token
 use Rattle.blang.specs.declared.token.Placed.{Placed}
 use Rattle.blang.specs.Cut.{Word, whole, is_last, placed, piece_first, tokens_from}
-use Rattle.blex.specs.Sources.{Source, GoesBehind, SourceFails, StaysAtEnd, room}
-use Rattle.blex.specs.Lexing.{PassesPiece, PassesToken, piece_of, ComesBehind, IsLongest}
+use Rattle.blex.specs.Sources.{Source, GoesAfter, SourceFails, StaysAtEnd, room}
+use Rattle.blex.specs.Lexing.{PassesPiece, PassesToken, piece_of, ComesAfter, IsLongest}
 use Rattle.blex.proofs.Passing.{Passes-refl, Passes-append, Breaks-after}
 use Rattle.blex.proofs.ByteSteps.{Passes-then, room-falls, none_passed}
 use Rattle.blex.proofs.Cutting.{tokens_from-piece, tokens_from-nil, whole-nil}
@@ -15,7 +15,7 @@ use Rattle.blex.proofs.Cutting.{tokens_from-piece, tokens_from-nil, whole-nil}
 -- space so far
 pub record InSpace (old : Source) (line : ℕ) (new : Source) : Type 0 where
   pub bytes : List ℕ
-  pub passes : GoesBehind old bytes new
+  pub passes : GoesAfter old bytes new
   pub line_is : line ≡ new.line
   pub cut : (xs : List ℕ) → tokens_from old.edition old.line (bytes ++ xs) ≡ tokens_from old.edition new.line xs
 
@@ -27,17 +27,17 @@ space_end : {a b : Source} {line : ℕ} (h : InSpace a line b) → tokens_from a
 space_end {a} {b} {line} h =
     ap (tokens_from a.edition a.line) (sym (append-nil h.bytes)) ∙ h.cut [] ∙ tokens_from-nil _ b.line ∙ ap (λ l. placed token.End l ∷ []) (sym h.line_is)
 
-pub space_breaks : {a b m c : Source} {line first : ℕ} → InSpace a line b → GoesBehind b (first ∷ []) m → SourceFails m c → SourceFails a c
+pub space_breaks : {a b m c : Source} {line first : ℕ} → InSpace a line b → GoesAfter b (first ∷ []) m → SourceFails m c → SourceFails a c
 space_breaks {a} {b} {m} {c} {line} {first} h n k = Breaks-after h.passes (Breaks-after n k)
 
-module _ {a b m c : Source} {line : ℕ} (first : ℕ) (piece : Option Token) (h : InSpace a line b) (n : GoesBehind b (first ∷ []) m) (k : PassesPiece first m piece c) where
+module _ {a b m c : Source} {line : ℕ} (first : ℕ) (piece : Option Token) (h : InSpace a line b) (n : GoesAfter b (first ∷ []) m) (k : PassesPiece first m piece c) where
   abbrev text : List ℕ
   text = first ∷ k.rest
 
-  here : GoesBehind b text c
+  here : GoesAfter b text c
   here = Passes-append n k.passes
 
-  passed : GoesBehind a (h.bytes ++ text) c
+  passed : GoesAfter a (h.bytes ++ text) c
   passed = Passes-append h.passes here
 
   same_edition : m.edition ≡ a.edition
@@ -47,7 +47,7 @@ module _ {a b m c : Source} {line : ℕ} (first : ℕ) (piece : Option Token) (h
   piece_is = subst (λ e. whole e text ≡ Some (piece_of piece)) same_edition k.is
 
   -- the tokens from the piece on
-  piece_cut : (xs : List ℕ) → ComesBehind piece c xs → tokens_from a.edition a.line ((h.bytes ++ text) ++ xs) ≡ piece_first (Some (piece_of piece)) line (tokens_from a.edition c.line xs)
+  piece_cut : (xs : List ℕ) → ComesAfter piece c xs → tokens_from a.edition a.line ((h.bytes ++ text) ++ xs) ≡ piece_first (Some (piece_of piece)) line (tokens_from a.edition c.line xs)
   piece_cut xs m =
       let some : 0 < length text = omega arith in
       ap (tokens_from a.edition a.line) (append_assoc h.bytes text xs) ∙ h.cut (text ++ xs)
@@ -55,7 +55,7 @@ module _ {a b m c : Source} {line : ℕ} (first : ℕ) (piece : Option Token) (h
       ∙ ap (λ l. piece_first (Some (piece_of piece)) b.line (tokens_from a.edition l xs)) (sym here.line)
       ∙ ap (λ l. piece_first (Some (piece_of piece)) l (tokens_from a.edition c.line xs)) (sym h.line_is)
 
-token_here : {a b m c : Source} {line : ℕ} (first : ℕ) (t : Token) → InSpace a line b → GoesBehind b (first ∷ []) m → PassesPiece first m (Some t) c → PassesToken a (placed t line) c
+token_here : {a b m c : Source} {line : ℕ} (first : ℕ) (t : Token) → InSpace a line b → GoesAfter b (first ∷ []) m → PassesPiece first m (Some t) c → PassesToken a (placed t line) c
 token_here {a} {b} {m} {c} {line} first t h n k = record {
   bytes = h.bytes ++ text first (Some t) h n k;
   passes = passed first (Some t) h n k;
@@ -67,7 +67,7 @@ token_here {a} {b} {m} {c} {line} first t h n k = record {
   cut = piece_cut first (Some t) h n k;
 }
 
-pub space_more : {a b m c : Source} {line : ℕ} (first line' : ℕ) (piece : Option Token) → InSpace a line b → GoesBehind b (first ∷ []) m → PassesPiece first m piece c
+pub space_more : {a b m c : Source} {line : ℕ} (first line' : ℕ) (piece : Option Token) → InSpace a line b → GoesAfter b (first ∷ []) m → PassesPiece first m piece c
     → line' ≡ c.line → piece ≡ None → InSpace a line' c
 space_more {a} {b} {m} {c} {line} first line' (Some t) h n k e f = cc
 space_more {a} {b} {m} {c} {line} first line' None h n k e f = record {
@@ -77,14 +77,14 @@ space_more {a} {b} {m} {c} {line} first line' None h n k e f = record {
   cut = λ xs. piece_cut first None h n k xs tt;
 }
 
-pub token_passed : {a b m c : Source} {line : ℕ} (first : ℕ) (piece : Option Token) → InSpace a line b → GoesBehind b (first ∷ []) m → PassesPiece first m piece c
+pub token_passed : {a b m c : Source} {line : ℕ} (first : ℕ) (piece : Option Token) → InSpace a line b → GoesAfter b (first ∷ []) m → PassesPiece first m piece c
     → (t : Token) → piece ≡ Some t → PassesToken a (placed t line) c
 token_passed {a} {b} {m} {c} {line} first None h n k t f = cc
 token_passed {a} {b} {m} {c} {line} first (Some u) h n k t f =
     let same : u ≡ t = cc in
     rw same at (token_here first u h n k)
 
-pub end_passed : {a b c : Source} {line : ℕ} (o : Option ℕ) → o ≡ None → InSpace a line b → GoesBehind b (option_to_list o) c × StaysAtEnd o c → PassesToken a (placed token.End line) c
+pub end_passed : {a b c : Source} {line : ℕ} (o : Option ℕ) → o ≡ None → InSpace a line b → GoesAfter b (option_to_list o) c × StaysAtEnd o c → PassesToken a (placed token.End line) c
 end_passed {a} {b} {c} {line} o e h k =
     let none = none_passed o b c e k in
     record {
@@ -98,7 +98,7 @@ end_passed {a} {b} {c} {line} o e h k =
       cut = λ xs m. ap (λ l. tokens_from a.edition a.line (h.bytes ++ l)) (none.1 xs m) ∙ h.cut [] ∙ tokens_from-nil _ b.line ∙ ap (λ l. placed token.End l ∷ []) (sym h.line_is);
     }
 
-pub piece_falls : {b m c : Source} {first : ℕ} {piece : Option Token} → GoesBehind b (first ∷ []) m → PassesPiece first m piece c → room c < room b
+pub piece_falls : {b m c : Source} {first : ℕ} {piece : Option Token} → GoesAfter b (first ∷ []) m → PassesPiece first m piece c → room c < room b
 piece_falls {b} {m} {c} {first} {piece} n k = omega (arith, room-falls n, room-falls k.passes)
 
 -- a token that is not the last has a byte

@@ -12,7 +12,7 @@ use Rattle.blang.specs.declared.token.Token.TheVariants as token
 use Rattle.blang.specs.declared.token.Letters.TheVariants as letters
 use Rattle.blang.specs.Cut.{Word, word_token}
 use Rattle.blex.specs.Runs.{TakesName}
-use Rattle.blex.specs.Sources.{Source, GoesBehind}
+use Rattle.blex.specs.Sources.{Source, GoesAfter}
 use Rattle.blex.specs.Lexing.{PassesPiece, TakesIf}
 use Rattle.blex.proofs.Passing.{Passes-append}
 use Rattle.blex.proofs.ByteSteps.{Passes-then, more_bytes}
@@ -21,7 +21,7 @@ use Rattle.blex.proofs.EachPiece.{word-is, word-stops}
 -- a word so far
 pub record InWord (first : ℕ) (old : Source) (text : List ℕ) (is_long : Bool) (new : Source) : Type 0 where
   pub run : List ℕ
-  pub passes : GoesBehind old run new
+  pub passes : GoesAfter old run new
   pub bytes : list_all is_name_byte run ≡ true
   pub text_is : text ≡ take 8 (first ∷ run)
   pub long : is_long ≡ nat_lt 8 (length (first ∷ run))
@@ -83,7 +83,7 @@ word_room {first} {a} {b} {c} {text} {is_long} (Some x) byte text' e h k f t =
       long = short_more first x h.run is_long h.long short;
     }
 
-word_piece : (first : ℕ) (a b c : Source) (run : List ℕ) (t : Token) → is_name_start first ≡ true → list_all is_name_byte run ≡ true → GoesBehind a run b
+word_piece : (first : ℕ) (a b c : Source) (run : List ℕ) (t : Token) → is_name_start first ≡ true → list_all is_name_byte run ≡ true → GoesAfter a run b
     → TakesIf is_name_byte b None c → word_token a.edition (first ∷ run) ≡ t → PassesPiece first a (Some t) c
 word_piece first a b c run t s h p k e = record {
   rest = run;

@@ -4,7 +4,7 @@ use Rattle.bword.specs.ByteEnds.{Incoming, Took, CanFollow}
 use Rattle.bword.specs.declared.edition.Edition.{Edition}
 use Rattle.blang.specs.declared.token.Token.TheVariants as token
 use Rattle.blang.specs.declared.token.Placed.{Placed}
-use Rattle.blang.specs.Cut.{Word, whole, placed, is_last, line_after, tokens_from}
+use Rattle.blang.specs.Cut.{Word, whole, placed, is_last, line_number_after, tokens_from}
 use Rattle.blex.specs.Lexers.{Lexer, LexGives, new}
 
 -- Calls, one after the other, gave these tokens, and none failed.
@@ -24,15 +24,15 @@ abbrev pub once : List Placed → List Placed
 once [] = []
 once (t ∷ ts) = t ∷ (if is_last t.token then [] else once ts)
 
--- The bytes are these tokens, with space before each and nothing behind the last one.
+-- The bytes are these tokens, with space before each and nothing after the last one.
 abbrev pub Spells : Edition → ℕ → List Placed → List ℕ → Type 0
 Spells edition line [] bytes = bytes ≡ []
 Spells edition line (t ∷ ts) bytes = (space : List ℕ) × (text : List ℕ) × (rest : List ℕ)
     × (bytes ≡ (space ++ text) ++ rest)
     × (tokens_from edition line space ≡ placed token.End t.line ∷ []) × (whole edition text ≡ Some (Word t.token))
-    × Spells edition (line_after line (space ++ text)) ts rest
+    × Spells edition (line_number_after line (space ++ text)) ts rest
 
--- The lexer of an end has given the first tokens of the source.
+-- The lexer of a stream has given the first tokens of the source.
 pub record GaveFirst (edition : Edition) (end : Incoming) (answers : List Placed) (l : Lexer) : Type 0 where
   -- what was taken from the end are the tokens that were given, and at most two bytes
   pub passed : List ℕ

@@ -1,8 +1,8 @@
-//! What calls of the lexer come to. Laws alone: each function is a law, by its contract.
+//! What calls of the lexer give. These are laws: each function is one, by its contract.
 ghost use Rattle.blex.specs.Calls.{CallsGiveFirst};
 
 /// So many calls of `next` from `Lexer::new` on, of which none failed, give so many tokens of the source, from the
-/// first on; behind the last one that comes again.
+/// first on; after the last one that comes again.
 pub fn calls_give_the_first_tokens()
     ensures { CallsGiveFirst }
 {}

@@ -18,7 +18,7 @@ pub enum Lexeme {
     Character(u16),
     /// A string, whose characters the lexer has.
     String,
-    /// One of the fifteen binary operators; `-`, `*` and `&` stand before an operand too.
+    /// One of the fifteen binary operators; `-`, `*` and `&` may come before an operand, too.
     Operator(BinOp),
     /// `=`, or `=` and a binary operator.
     Assign(Option<BinOp>),
@@ -82,7 +82,7 @@ impl Lexeme {
         }
     }
 
-    /// This one, if no other token comes behind it.
+    /// This one, if no other token comes after it.
     pub(crate) fn last(self) -> Option<Last>
         ensures { (characters : List ℕ) → result ≡ last_of (token_of_lexeme self characters) }
     {

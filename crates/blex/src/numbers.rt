@@ -42,7 +42,7 @@ fn digit<I: ByteIn>(source: &mut Source<I>) -> Result<Option<u8>, Device>
     Ok(Some(byte))
 }
 
-// The base of a number that begins with this digit: octal behind a 0.
+// The base of a number that begins with this digit: octal after a 0.
 fn base_of(first: u8) -> u32
     ensures { result ≡ base_of first }
 {

@@ -99,7 +99,7 @@ fn plain(byte: u8) -> Option<u8>
     }
 }
 
-// The byte of an escape with this one behind its star.
+// The byte of an escape with this one after its star.
 #[tactic(auto, unfolding(blang::specs::Cut::escape_of))]
 fn escape(byte: u8) -> Option<u8>
     ensures { result ≡ escape_of byte }

@@ -1,4 +1,4 @@
--- Rows of a listing, one behind another.
+-- Rows of a listing, one after another.
 use Rattle.std.proofs.Common.{◌≡◌, ◌∙◌, ◌+◌, ◌-◌, ◌<◌, ℕ, zero, suc, Bool, true, false, cond, List, [], ◌∷◌, ◌++◌, map, filter, get_or, length, take, ap, ap₂, append-nil, append_assoc, arith, refl, replicate, subst, sym}
 use Rattle.std.specs.List.{flat_map}
 use Rattle.std.specs.Prelude.{codes}
@@ -35,8 +35,8 @@ in_order old margin code beside end = simp append_assoc
 
 pub adds_row : (old : List ℕ) (spot : Spot) (number : Option ℕ) (line beside : List ℕ) → IsPrintable beside → IsApart (length (without_newline line)) beside
     → Adds old (line ∷ []) ((((old ++ margin_text spot number) ++ without_newline line) ++ beside) ++ codes "\n")
-adds_row old spot number line beside behind apart =
-    let r : ListingRow = record { spot = spot; number = number; line = line; beside = beside; beside_is_printable = behind; beside_is_apart = apart } in (
+adds_row old spot number line beside following apart =
+    let r : ListingRow = record { spot = spot; number = number; line = line; beside = beside; beside_is_printable = following; beside_is_apart = apart } in (
       row_text r,
       record {
         rows = r ∷ [];
@@ -72,7 +72,7 @@ address_added t t' t'' t''' digits n is a b c =
     let blanks : t' ≡ t ++ replicate (6 - suc (length digits)) 32 = a ∙ ap (λ m. t ++ replicate m 32) room in
     piece t t' t''' (replicate (6 - suc (length digits)) 32) (codes "@" ++ digits) blanks (piece t' t'' t''' (codes "@") digits b c)
 
--- the parts of a row, one behind another
+-- the parts of a row, one after another
 pub row_added : (old t1 t2 t3 t4 t5 code page : List ℕ) (spot : Spot) (number : Option ℕ) → t1 ≡ old ++ right 6 (spot_text spot) → t2 ≡ t1 ++ right 6 (number_text number) ++ codes "  "
     → t3 ≡ t2 ++ code → code ≡ without_newline page → AddsBeside (length code) t3 t4 → t5 ≡ t4 ++ codes "\n" → Adds old (page ∷ []) t5
 row_added old t1 t2 t3 t4 t5 code page spot number a b three same d end =

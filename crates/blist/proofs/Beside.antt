@@ -6,7 +6,7 @@ use Rattle.blist.proofs.Printable.{blanks, both}
 pub nothing_beside : (used : ℕ) (old : List ℕ) → AddsBeside used old old
 nothing_beside used old = ([], refl, inl refl, sym (append-nil old))
 
--- so many blanks, and something behind them
+-- so many blanks, and something after them
 pub beside_blanks : (used n : ℕ) (old mid new : List ℕ) → n ≡ max (14 - used) 1 → mid ≡ old ++ replicate n 32 → Extends mid new → AddsBeside used old new
 beside_blanks used n old mid new is e more = (
   replicate n 32 ++ more.0,

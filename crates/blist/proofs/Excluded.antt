@@ -60,14 +60,14 @@ module _ (edition : Edition) (source : List ℕ) (r : Compilation) (g : Compiles
   abbrev code : List Definition
   code = code_in edition source r g
 
-  told : Excluded edition source r g ends.line ends.line_behind
-  told = excluded edition source r g ends.line ends.line_behind
+  told : Excluded edition source r g ends.line ends.line_after
+  told = excluded edition source r g ends.line ends.line_after
 
   module _ (name : Option (List ℕ)) where
     abbrev Gives : ℕ → Type 0
     Gives status = Lists edition source name ends status
 
-    list_done : Gives 0 → (r.stop ≡ None) × (load_fault code ≡ None) × (wanted name code ≡ [] → ⊥) × ((text : List ℕ) × AreRows (flat_map lines_of (wanted name code)) text × Writes ends.out (HEADING.now ++ text) ends.out_behind)
+    list_done : Gives 0 → (r.stop ≡ None) × (load_fault code ≡ None) × (wanted name code ≡ [] → ⊥) × ((text : List ℕ) × AreRows (flat_map lines_of (wanted name code)) text × Writes ends.out (HEADING.now ++ text) ends.out_after)
     list_done (listing.listed ds image text p some rows report) =
         let is = told.program ds image p in (
           is.0,
@@ -76,22 +76,22 @@ module _ (edition : Edition) (source : List ℕ) (r : Compilation) (g : Compiles
           (
             text,
             subst (λ (x : List Definition). AreRows (flat_map lines_of (wanted name x)) text) is.1 rows,
-            was_told (HEADING.now ++ text) 0 ends.out ends.out_behind (λ e. omega (arith, e)) (λ e. omega (arith, e)) report,
+            was_told (HEADING.now ++ text) 0 ends.out ends.out_after (λ e. omega (arith, e)) (λ e. omega (arith, e)) report,
           ),
         )
     list_done (listing.unnamed mid ds image p none report same) =
-        absurd (other_answer UNDEFINED.now 135 mid ends.line_behind 0 (λ e. omega (arith, e)) (λ e. omega (arith, e)) (λ e. omega (arith, e)) report)
+        absurd (other_answer UNDEFINED.now 135 mid ends.line_after 0 (λ e. omega (arith, e)) (λ e. omega (arith, e)) (λ e. omega (arith, e)) report)
     list_done (listing.stopped why same) = absurd (no_done 0 refl (told.status 0 why))
     list_done (listing.no_memory ds image p same is) = absurd (omega (arith, is))
 
-    list_unknown : Gives 135 → (wanted name code ≡ []) × Writes ends.line UNDEFINED.now ends.line_behind × (ends.out_behind ≡ ends.out)
+    list_unknown : Gives 135 → (wanted name code ≡ []) × Writes ends.line UNDEFINED.now ends.line_after × (ends.out_after ≡ ends.out)
     list_unknown (listing.listed ds image text p some rows report) =
-        absurd (other_answer (HEADING.now ++ text) 0 ends.out ends.out_behind 135 (λ e. omega (arith, e)) (λ e. omega (arith, e)) (λ e. omega (arith, e)) report)
+        absurd (other_answer (HEADING.now ++ text) 0 ends.out ends.out_after 135 (λ e. omega (arith, e)) (λ e. omega (arith, e)) (λ e. omega (arith, e)) report)
     list_unknown (listing.unnamed mid ds image p none report same) =
         let is = (excluded edition source r g ends.line mid).program ds image p in
         let silent = (clean edition source r g ends.line mid p.code p.compiled).silent in (
           subst (λ (x : List Definition). wanted name x ≡ []) is.1 none,
-          subst (λ (l : Outgoing). Writes l UNDEFINED.now ends.line_behind) silent (was_told UNDEFINED.now 135 mid ends.line_behind (λ e. omega (arith, e)) (λ e. omega (arith, e)) report),
+          subst (λ (l : Outgoing). Writes l UNDEFINED.now ends.line_after) silent (was_told UNDEFINED.now 135 mid ends.line_after (λ e. omega (arith, e)) (λ e. omega (arith, e)) report),
           same,
         )
     list_unknown (listing.stopped why same) = absurd (no_unknown 135 refl (told.status 135 why))
@@ -100,64 +100,64 @@ module _ (edition : Edition) (source : List ℕ) (r : Compilation) (g : Compiles
     list_statuses : WrongStatuses edition source r g ends Gives
     list_statuses = record { fault = fault; unloaded = unloaded; device = device }
       where
-        fault : Gives 1 → ((d : Diagnostic) × (r.stop ≡ Some d) × Writes ends.line (line_of d) ends.line_behind) × (ends.out_behind ≡ ends.out)
+        fault : Gives 1 → ((d : Diagnostic) × (r.stop ≡ Some d) × Writes ends.line (line_of d) ends.line_after) × (ends.out_after ≡ ends.out)
         fault (listing.listed ds image text p some rows report) =
-            absurd (other_answer (HEADING.now ++ text) 0 ends.out ends.out_behind 1 (λ e. omega (arith, e)) (λ e. omega (arith, e)) (λ e. omega (arith, e)) report)
+            absurd (other_answer (HEADING.now ++ text) 0 ends.out ends.out_after 1 (λ e. omega (arith, e)) (λ e. omega (arith, e)) (λ e. omega (arith, e)) report)
         fault (listing.unnamed mid ds image p none report same) =
-            absurd (other_answer UNDEFINED.now 135 mid ends.line_behind 1 (λ e. omega (arith, e)) (λ e. omega (arith, e)) (λ e. omega (arith, e)) report)
+            absurd (other_answer UNDEFINED.now 135 mid ends.line_after 1 (λ e. omega (arith, e)) (λ e. omega (arith, e)) (λ e. omega (arith, e)) report)
         fault (listing.stopped why same) = (told.fault why, same)
         fault (listing.no_memory ds image p same is) = absurd (omega (arith, is))
 
-        unloaded : Gives 132 → ((f : LoadFault) × (text : List ℕ) × (load_fault code ≡ Some f) × (load_line f ≡ Some text) × Writes ends.line text ends.line_behind) × (ends.out_behind ≡ ends.out)
+        unloaded : Gives 132 → ((f : LoadFault) × (text : List ℕ) × (load_fault code ≡ Some f) × (load_line f ≡ Some text) × Writes ends.line text ends.line_after) × (ends.out_after ≡ ends.out)
         unloaded (listing.listed ds image text p some rows report) =
-            absurd (other_answer (HEADING.now ++ text) 0 ends.out ends.out_behind 132 (λ e. omega (arith, e)) (λ e. omega (arith, e)) (λ e. omega (arith, e)) report)
+            absurd (other_answer (HEADING.now ++ text) 0 ends.out ends.out_after 132 (λ e. omega (arith, e)) (λ e. omega (arith, e)) (λ e. omega (arith, e)) report)
         unloaded (listing.unnamed mid ds image p none report same) =
-            absurd (other_answer UNDEFINED.now 135 mid ends.line_behind 132 (λ e. omega (arith, e)) (λ e. omega (arith, e)) (λ e. omega (arith, e)) report)
+            absurd (other_answer UNDEFINED.now 135 mid ends.line_after 132 (λ e. omega (arith, e)) (λ e. omega (arith, e)) (λ e. omega (arith, e)) report)
         unloaded (listing.stopped why same) = (told.unloaded why, same)
         unloaded (listing.no_memory ds image p same is) = absurd (omega (arith, is))
 
-        device : Gives 133 → Grew ends.out.failures ends.out_behind.failures ⊎ Grew ends.line.failures ends.line_behind.failures
-        device (listing.listed ds image text p some rows report) = inl (device_grew (HEADING.now ++ text) 0 ends.out ends.out_behind (λ e. omega (arith, e)) report)
+        device : Gives 133 → Grew ends.out.failures ends.out_after.failures ⊎ Grew ends.line.failures ends.line_after.failures
+        device (listing.listed ds image text p some rows report) = inl (device_grew (HEADING.now ++ text) 0 ends.out ends.out_after (λ e. omega (arith, e)) report)
         device (listing.unnamed mid ds image p none report same) =
-            inr (subst (λ (l : Outgoing). Grew l.failures ends.line_behind.failures) (clean edition source r g ends.line mid p.code p.compiled).silent
-            (device_grew UNDEFINED.now 135 mid ends.line_behind (λ e. omega (arith, e)) report))
+            inr (subst (λ (l : Outgoing). Grew l.failures ends.line_after.failures) (clean edition source r g ends.line mid p.code p.compiled).silent
+            (device_grew UNDEFINED.now 135 mid ends.line_after (λ e. omega (arith, e)) report))
         device (listing.stopped why same) = inr (told.device why)
         device (listing.no_memory ds image p same is) = absurd (omega (arith, is))
 
-  map_done : Maps edition source ends 0 → (r.stop ≡ None) × (load_fault code ≡ None) × Writes ends.out (map_text (image_of code) code) ends.out_behind
+  map_done : Maps edition source ends 0 → (r.stop ≡ None) × (load_fault code ≡ None) × Writes ends.out (map_text (image_of code) code) ends.out_after
   map_done (layout.mapped ds image p report) =
       let is = told.program ds image p in (
         is.0,
         is.2,
-        subst (λ t. Writes ends.out t ends.out_behind) (map_same ds image p.loaded ∙ ap (λ (x : List Definition). map_text (image_of x) x) is.1)
-            (was_told (map_text image ds) 0 ends.out ends.out_behind (λ e. omega (arith, e)) (λ e. omega (arith, e)) report),
+        subst (λ t. Writes ends.out t ends.out_after) (map_same ds image p.loaded ∙ ap (λ (x : List Definition). map_text (image_of x) x) is.1)
+            (was_told (map_text image ds) 0 ends.out ends.out_after (λ e. omega (arith, e)) (λ e. omega (arith, e)) report),
       )
   map_done (layout.stopped why same) = absurd (no_done 0 refl (told.status 0 why))
   map_done (layout.no_memory ds image p same is) = absurd (omega (arith, is))
 
   map_unknown : Maps edition source ends 135 → ⊥
   map_unknown (layout.mapped ds image p report) =
-      other_answer (map_text image ds) 0 ends.out ends.out_behind 135 (λ e. omega (arith, e)) (λ e. omega (arith, e)) (λ e. omega (arith, e)) report
+      other_answer (map_text image ds) 0 ends.out ends.out_after 135 (λ e. omega (arith, e)) (λ e. omega (arith, e)) (λ e. omega (arith, e)) report
   map_unknown (layout.stopped why same) = no_unknown 135 refl (told.status 135 why)
   map_unknown (layout.no_memory ds image p same is) = omega (arith, is)
 
   map_statuses : WrongStatuses edition source r g ends (Maps edition source ends)
   map_statuses = record { fault = fault; unloaded = unloaded; device = device }
     where
-      fault : Maps edition source ends 1 → ((d : Diagnostic) × (r.stop ≡ Some d) × Writes ends.line (line_of d) ends.line_behind) × (ends.out_behind ≡ ends.out)
+      fault : Maps edition source ends 1 → ((d : Diagnostic) × (r.stop ≡ Some d) × Writes ends.line (line_of d) ends.line_after) × (ends.out_after ≡ ends.out)
       fault (layout.mapped ds image p report) =
-          absurd (other_answer (map_text image ds) 0 ends.out ends.out_behind 1 (λ e. omega (arith, e)) (λ e. omega (arith, e)) (λ e. omega (arith, e)) report)
+          absurd (other_answer (map_text image ds) 0 ends.out ends.out_after 1 (λ e. omega (arith, e)) (λ e. omega (arith, e)) (λ e. omega (arith, e)) report)
       fault (layout.stopped why same) = (told.fault why, same)
       fault (layout.no_memory ds image p same is) = absurd (omega (arith, is))
 
-      unloaded : Maps edition source ends 132 → ((f : LoadFault) × (text : List ℕ) × (load_fault code ≡ Some f) × (load_line f ≡ Some text) × Writes ends.line text ends.line_behind) × (ends.out_behind ≡ ends.out)
+      unloaded : Maps edition source ends 132 → ((f : LoadFault) × (text : List ℕ) × (load_fault code ≡ Some f) × (load_line f ≡ Some text) × Writes ends.line text ends.line_after) × (ends.out_after ≡ ends.out)
       unloaded (layout.mapped ds image p report) =
-          absurd (other_answer (map_text image ds) 0 ends.out ends.out_behind 132 (λ e. omega (arith, e)) (λ e. omega (arith, e)) (λ e. omega (arith, e)) report)
+          absurd (other_answer (map_text image ds) 0 ends.out ends.out_after 132 (λ e. omega (arith, e)) (λ e. omega (arith, e)) (λ e. omega (arith, e)) report)
       unloaded (layout.stopped why same) = (told.unloaded why, same)
       unloaded (layout.no_memory ds image p same is) = absurd (omega (arith, is))
 
-      device : Maps edition source ends 133 → Grew ends.out.failures ends.out_behind.failures ⊎ Grew ends.line.failures ends.line_behind.failures
-      device (layout.mapped ds image p report) = inl (device_grew (map_text image ds) 0 ends.out ends.out_behind (λ e. omega (arith, e)) report)
+      device : Maps edition source ends 133 → Grew ends.out.failures ends.out_after.failures ⊎ Grew ends.line.failures ends.line_after.failures
+      device (layout.mapped ds image p report) = inl (device_grew (map_text image ds) 0 ends.out ends.out_after (λ e. omega (arith, e)) report)
       device (layout.stopped why same) = inr (told.device why)
       device (layout.no_memory ds image p same is) = absurd (omega (arith, is))
 

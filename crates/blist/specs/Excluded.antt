@@ -43,7 +43,7 @@ pub record WrongRows : Type 0 where
       → (beside others : List ℕ)
       × (from_letter text ≡ without_newline line ++ beside ++ codes "\n" ++ others) × IsPrintable beside
       × IsApart (length (without_newline line)) beside × AreRows lines others
-  -- another byte than a blank directly behind code
+  -- another byte than a blank directly after code
   pub apart : (used b : ℕ) (rest : List ℕ) → IsApart used (b ∷ rest) → b ≡ 32
 
 module _ (edition : Edition) (source : List ℕ) (r : Compilation) (g : CompilesTo [] (tokens_from edition 1 source) r)
@@ -52,16 +52,16 @@ module _ (edition : Edition) (source : List ℕ) (r : Compilation) (g : Compiles
   pub record WrongStatuses (Gives : ℕ → Type 0) : Type 0 where
     -- 1 for a source without a fault, or with another line, or with anything else written
     pub fault : Gives FAULT
-        → ((d : Diagnostic) × (r.stop ≡ Some d) × Writes ends.line (line_of d) ends.line_behind)
-        × (ends.out_behind ≡ ends.out)
+        → ((d : Diagnostic) × (r.stop ≡ Some d) × Writes ends.line (line_of d) ends.line_after)
+        × (ends.out_after ≡ ends.out)
     -- 132 for definitions that load, or with another line, or with anything else written
     pub unloaded : Gives REFUSED
         → ((f : LoadFault) × (text : List ℕ) × (load_fault (code_in edition source r g) ≡ Some f)
-        × (load_line f ≡ Some text) × Writes ends.line text ends.line_behind)
-        × (ends.out_behind ≡ ends.out)
+        × (load_line f ≡ Some text) × Writes ends.line text ends.line_after)
+        × (ends.out_after ≡ ends.out)
     -- 133 where no write failed
     pub device : Gives DEVICE
-        → Grew ends.out.failures ends.out_behind.failures ⊎ Grew ends.line.failures ends.line_behind.failures
+        → Grew ends.out.failures ends.out_after.failures ⊎ Grew ends.line.failures ends.line_after.failures
 
   -- What is excluded of a listing.
   pub record WrongListings (name : Option (List ℕ)) : Type 0 where
@@ -70,11 +70,11 @@ module _ (edition : Edition) (source : List ℕ) (r : Compilation) (g : Compiles
         → (r.stop ≡ None) × (load_fault (code_in edition source r g) ≡ None)
         × (wanted name (code_in edition source r g) ≡ [] → ⊥)
         × ((text : List ℕ) × AreRows (flat_map lines_of (wanted name (code_in edition source r g))) text
-        × Writes ends.out (HEADING.now ++ text) ends.out_behind)
+        × Writes ends.out (HEADING.now ++ text) ends.out_after)
     -- 135 for a name that is defined, or with another line, or with anything else written
     pub unknown : Lists edition source name ends WRONG_COMMAND
-        → (wanted name (code_in edition source r g) ≡ []) × Writes ends.line UNDEFINED.now ends.line_behind
-        × (ends.out_behind ≡ ends.out)
+        → (wanted name (code_in edition source r g) ≡ []) × Writes ends.line UNDEFINED.now ends.line_after
+        × (ends.out_after ≡ ends.out)
     pub statuses : WrongStatuses (Lists edition source name ends)
 
   -- What is excluded of a map.
@@ -83,7 +83,7 @@ module _ (edition : Edition) (source : List ℕ) (r : Compilation) (g : Compiles
     pub done : Maps edition source ends DONE
         → (r.stop ≡ None) × (load_fault (code_in edition source r g) ≡ None)
         × Writes ends.out (map_text (image_of (code_in edition source r g)) (code_in edition source r g))
-        ends.out_behind
+        ends.out_after
     -- 135
     pub unknown : Maps edition source ends WRONG_COMMAND → ⊥
     pub statuses : WrongStatuses (Maps edition source ends)

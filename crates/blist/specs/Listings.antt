@@ -91,14 +91,14 @@ wanted name ds = filter (is_wanted name) ds
 pub data Lists (edition : Edition) (source : List ℕ) (name : Option (List ℕ)) (ends : ToldEnds) (status : ℕ) : Type 0
   where
     listed : (ds : List Definition) (image : Image) (text : List ℕ)
-        → HasProgram edition source ends.line ends.line_behind ds image → (wanted name ds ≡ [] → ⊥)
+        → HasProgram edition source ends.line ends.line_after ds image → (wanted name ds ≡ [] → ⊥)
         → AreRows (flat_map lines_of (wanted name ds)) text
-        → Reported (HEADING.now ++ text) DONE ends.out ends.out_behind status → Lists edition source name ends status
+        → Reported (HEADING.now ++ text) DONE ends.out ends.out_after status → Lists edition source name ends status
     unnamed : (mid : Outgoing) (ds : List Definition) (image : Image)
         → HasProgram edition source ends.line mid ds image → wanted name ds ≡ []
-        → Reported UNDEFINED.now WRONG_COMMAND mid ends.line_behind status → ends.out_behind ≡ ends.out
+        → Reported UNDEFINED.now WRONG_COMMAND mid ends.line_after status → ends.out_after ≡ ends.out
         → Lists edition source name ends status
-    stopped : NoProgram edition source ends.line ends.line_behind status → ends.out_behind ≡ ends.out
+    stopped : NoProgram edition source ends.line ends.line_after status → ends.out_after ≡ ends.out
         → Lists edition source name ends status
-    no_memory : (ds : List Definition) (image : Image) → HasProgram edition source ends.line ends.line_behind ds image
-        → ends.out_behind ≡ ends.out → status ≡ MEMORY → Lists edition source name ends status
+    no_memory : (ds : List Definition) (image : Image) → HasProgram edition source ends.line ends.line_after ds image
+        → ends.out_after ≡ ends.out → status ≡ MEMORY → Lists edition source name ends status

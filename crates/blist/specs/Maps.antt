@@ -57,9 +57,9 @@ map_text image ds =
 
 -- What is written for a source: its layout; or nothing but why there is none.
 pub data Maps (edition : Edition) (source : List ℕ) (ends : ToldEnds) (status : ℕ) : Type 0 where
-  mapped : (ds : List Definition) (image : Image) → HasProgram edition source ends.line ends.line_behind ds image
-      → Reported (map_text image ds) DONE ends.out ends.out_behind status → Maps edition source ends status
-  stopped : NoProgram edition source ends.line ends.line_behind status → ends.out_behind ≡ ends.out
+  mapped : (ds : List Definition) (image : Image) → HasProgram edition source ends.line ends.line_after ds image
+      → Reported (map_text image ds) DONE ends.out ends.out_after status → Maps edition source ends status
+  stopped : NoProgram edition source ends.line ends.line_after status → ends.out_after ≡ ends.out
       → Maps edition source ends status
-  no_memory : (ds : List Definition) (image : Image) → HasProgram edition source ends.line ends.line_behind ds image
-      → ends.out_behind ≡ ends.out → status ≡ MEMORY → Maps edition source ends status
+  no_memory : (ds : List Definition) (image : Image) → HasProgram edition source ends.line ends.line_after ds image
+      → ends.out_after ≡ ends.out → status ≡ MEMORY → Maps edition source ends status

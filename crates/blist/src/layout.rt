@@ -25,9 +25,9 @@ const HEADING: &[u8] = b"  word  name      kind      words  values
      6  exit      library       1  6
 ";
 
-/// Writes where each name of a source lies, how many words it has and its first ones, and where the data end.
+/// Writes the address of each name of a source, how many words it has, its first words, and the data end.
 ///
-/// The status is 0, or as `go` has it where the source doesn't compile or load.
+/// The status is 0, or that of `go` if the source doesn't compile or load.
 pub fn map<O: ByteOut, D: ByteOut>(
     alloc: Global,
     source: &[u8],
@@ -37,9 +37,9 @@ pub fn map<O: ByteOut, D: ByteOut>(
 ) -> Status
     ensures maps { Maps edition source.now (record {
       out = O.outgoing out.old;
-      out_behind = O.outgoing out.new;
+      out_after = O.outgoing out.new;
       line = D.outgoing diag.old;
-      line_behind = D.outgoing diag.new;
+      line_after = D.outgoing diag.new;
     }) result }
     ensures out_lender { O.lender out.new ≡ O.lender out.old }
     ensures diag_lender { D.lender diag.new ≡ D.lender diag.old }
@@ -117,7 +117,7 @@ fn kind(definition: &Definition) -> &'static [u8]
     }
 }
 
-/// What no map is: another text than that of the layout of the code that the source comes to, or another status or line.
+/// No map has another text than that of the layout of the source's code, or another status or line.
 pub fn wrong_maps_are_excluded()
     ensures { NoMaps }
 {}

@@ -21,14 +21,14 @@ use std::alloc::{AllocError, Global};
 const HEADING: &[u8] =
     b" place  line  code          source                                  name\n";
 
-/// What is said of a name that the source doesn't define.
+/// The message for a name that the source doesn't define.
 const UNDEFINED: &[u8] = b"error: the source has no definition of this NAME\n";
 
-/// Writes the code of a source, or of its definitions of one name, with the line of the source that each instruction
+/// Writes the code of a source, or of its definitions of one name, beside the line of the source that each instruction
 /// comes from.
 ///
-/// The status is 0, or as `go` has it where the source doesn't compile or load. It is 135 where no definition has the
-/// name, and a line says so.
+/// The status is 0, or that of `go` if the source doesn't compile or load. If no definition has the name, a line says
+/// so, and the status is 135.
 pub fn list<O: ByteOut, D: ByteOut>(
     alloc: Global,
     source: &[u8],
@@ -39,9 +39,9 @@ pub fn list<O: ByteOut, D: ByteOut>(
 ) -> Status
     ensures lists { Lists edition source.now (option_map (λ n. n.now) name.entry) (record {
       out = O.outgoing out.old;
-      out_behind = O.outgoing out.new;
+      out_after = O.outgoing out.new;
       line = D.outgoing diag.old;
-      line_behind = D.outgoing diag.new;
+      line_after = D.outgoing diag.new;
     }) result }
     ensures out_lender { O.lender out.new ≡ O.lender out.old }
     ensures diag_lender { D.lender diag.new ≡ D.lender diag.old }
@@ -349,7 +349,7 @@ fn label_in(frame: Option<&Frame>, number: usize) -> Named {
     }
 }
 
-/// What no listing is: other rows than those of the code that the source comes to, or another status or line.
+/// No listing has other rows than those of the source's code, or another status or line.
 pub fn wrong_listings_are_excluded()
     ensures rows { WrongRows }
     ensures listings { NoListings }

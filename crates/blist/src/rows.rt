@@ -14,7 +14,7 @@ const CODE_WIDTH: usize = 14;
 
 const SOURCE_WIDTH: usize = 40;
 
-/// Where a line of code lies.
+/// The place or the address of a line of code.
 #[derive(Clone, Copy)]
 pub enum Spot {
     Nowhere,
@@ -24,7 +24,7 @@ pub enum Spot {
     Address(u16),
 }
 
-/// The name of what a line of code speaks of.
+/// The name beside a line of code.
 #[derive(Clone, Copy)]
 pub enum Named {
     Nothing,
@@ -35,17 +35,17 @@ pub enum Named {
     Characters(u16),
 }
 
-/// What is told of a line of code.
+/// The columns beside a line of code.
 #[derive(Clone, Copy)]
 pub struct Told<'a> {
     pub spot: Spot,
-    /// The line of the source, and its text where that is to be shown.
+    /// The line of the source, and its text if the row shows it.
     pub line: Option<u64>,
     pub source: &'a [u8],
     pub named: Named,
 }
 
-/// Adds the row of the line of code that stands on a page.
+/// Adds the row of the line of code on a page.
 pub fn push_row(text: &mut Text, page: &Page, told: Told<'_>) -> Result<(), AllocError>
     ensures { OnOk result (Adds text.old (page.now ∷ []) text.new) }
 {

@@ -1,11 +1,11 @@
 //! The lines of a source.
 use std::alloc::{AllocError, Global};
 
-/// Where the lines of a source lie.
+/// The lines of a source.
 #[derive(Drop)]
 pub struct SourceLines<'a> {
     source: &'a [u8],
-    // Where each line begins, and where one would begin behind the source.
+    // Where each line begins, and where one would begin after the source.
     starts: Vec<usize>,
 }
 

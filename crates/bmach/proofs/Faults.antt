@@ -7,10 +7,10 @@ use Rattle.blang.specs.declared.code.Definition.{Definition}
 use Rattle.blang.specs.declared.code.Definition.TheVariants as definition
 use Rattle.blang.specs.declared.run.LoadFault.{LoadFault}
 use Rattle.blang.specs.declared.run.LoadFault.TheVariants as fault
-use Rattle.blang.specs.Layout.{Shape, shape_of, spot_behind, spots_behind, first_some, is_main, functions_in}
+use Rattle.blang.specs.Layout.{Shape, shape_of, spot_after, spots_after, first_some, is_main, functions_in}
 use Rattle.blang.specs.Machine.{loaded_at}
 use Rattle.bmach.specs.Loading.{IsFault, main_from}
-use Rattle.bmach.proofs.Whole.{functions_behind}
+use Rattle.bmach.proofs.Whole.{functions_after}
 
 -- a fault of the first kind, and of a later one where the first kind has none
 pub first_fault : (f : LoadFault) (o : Option LoadFault) (later : List (Option LoadFault)) → IsFault f o → IsFault f (first_some (o ∷ later))
@@ -19,13 +19,13 @@ first_fault f (Some g) later h = h
 first_fault f None later h = cc
 
 -- which of the functions is main
-pub find_main : (known : List ℕ → Option ℕ) (before : List Shape) (ds : List Definition) (n k : ℕ) → main_from n ds ≡ Some k → (place : ℕ) × (k ≡ n + place) × (slice_get (functions_behind known before ds) place ≡ option_and_then loaded_at (find (λ p. is_main p.1) (zip (spots_behind before (map shape_of ds)) ds)))
+pub find_main : (known : List ℕ → Option ℕ) (before : List Shape) (ds : List Definition) (n k : ℕ) → main_from n ds ≡ Some k → (place : ℕ) × (k ≡ n + place) × (slice_get (functions_after known before ds) place ≡ option_and_then loaded_at (find (λ p. is_main p.1) (zip (spots_after before (map shape_of ds)) ds)))
 find_main known before [] n k h = cc
 find_main known before (definition.Function f ∷ ds) n k h =
     let d = definition.Function f in
-    let s = spot_behind before (shape_of d) in
-    let later = find (λ p. is_main p.1) (zip (spots_behind (before ++ shape_of d ∷ []) (map shape_of ds)) ds) in
-    elim (is_main d) as (λ b. cond b (Some n) (main_from (n + 1) ds) ≡ Some k → (place : ℕ) × (k ≡ n + place) × (slice_get (functions_behind known before (d ∷ ds)) place ≡ option_and_then loaded_at (cond b (Some (s, d)) later))) [
+    let s = spot_after before (shape_of d) in
+    let later = find (λ p. is_main p.1) (zip (spots_after (before ++ shape_of d ∷ []) (map shape_of ds)) ds) in
+    elim (is_main d) as (λ b. cond b (Some n) (main_from (n + 1) ds) ≡ Some k → (place : ℕ) × (k ≡ n + place) × (slice_get (functions_after known before (d ∷ ds)) place ≡ option_and_then loaded_at (cond b (Some (s, d)) later))) [
       | true ↦ λ e. let same : k ≡ n = cc in (0, omega (arith, same), refl)
       | false ↦ λ e. let r = find_main known (before ++ shape_of d ∷ []) ds (n + 1) k e in (suc r.0, omega (arith, r.1), r.2)
     ] h

@@ -16,8 +16,10 @@ pub mod Digits
 pub mod Running
 pub mod Copying
 pub mod Told
+pub mod Losing
 pub mod Excluded
 pub mod Stopping
 pub mod Fusing
 pub mod Fetching
 pub mod Beginning
+pub mod Storing

@@ -6,10 +6,10 @@ use Rattle.std.proofs.lemmas.Option.{slice_get-map}
 use Rattle.blang.specs.declared.code.Definition.{Definition}
 use Rattle.blang.specs.declared.run.LoadFault.{LoadFault}
 use Rattle.blang.specs.declared.run.LoadFault.TheVariants as fault
-use Rattle.blang.specs.Layout.{store_words, shape_of, defined_names, names_in, duplicate_behind, data_end, label_count, first_undefined, addresses, address_in, Addresses, library_addresses, first_some, some_if, is_main, load_fault, spots, definition_words}
+use Rattle.blang.specs.Layout.{store_words, shape_of, defined_names, names_in, duplicate_after, data_end, label_count, first_undefined, addresses, address_in, Addresses, library_addresses, first_some, some_if, is_main, load_fault, spots, definition_words}
 use Rattle.bmach.specs.Resolved.{resolved_function, IsLoadedFrom}
 use Rattle.bmach.specs.Loading.{Part, IsFault, fits_store, first_part, main_from, undefined_fault}
-use Rattle.bmach.proofs.Whole.{whole, functions_behind, length-words}
+use Rattle.bmach.proofs.Whole.{whole, functions_after, length-words}
 use Rattle.bmach.proofs.Faults.{first_fault, find_main}
 
 -- the fault of a load by what the four kinds look at
@@ -30,10 +30,10 @@ not_false true e = refl
 not_false false e = sym e
 
 module _ (ds : List Definition) where
-  pub duplicate_first : (f : LoadFault) → IsFault f (option_map fault.Duplicate (duplicate_behind [] (defined_names (map shape_of ds)))) → IsFault f (load_fault ds)
+  pub duplicate_first : (f : LoadFault) → IsFault f (option_map fault.Duplicate (duplicate_after [] (defined_names (map shape_of ds)))) → IsFault f (load_fault ds)
   duplicate_first f h = first_fault f _ _ h
 
-  module _ (unique : duplicate_behind [] (defined_names (map shape_of ds)) ≡ None) where
+  module _ (unique : duplicate_after [] (defined_names (map shape_of ds)) ≡ None) where
     pub too_large_next : fits_store (map shape_of ds) ≡ false → load_fault ds ≡ Some fault.TooLarge
     too_large_next large =
         let e = not_false (nat_lt store_words (data_end (map shape_of ds)) || nat_lt 65535 (label_count (map shape_of ds))) large in
@@ -58,7 +58,7 @@ pub is_loaded : (ds : List Definition) (entries : Addresses) (part : Part) (k : 
 is_loaded ds entries part k same is main =
     let look_up : List ℕ → Option ℕ = address_in (entries ++ library_addresses) in
     let names : look_up ≡ address_in (addresses (map shape_of ds)) = λ i x. same x i in
-    let fs = functions_behind look_up [] ds in
+    let fs = functions_after look_up [] ds in
     let resolve = resolved_function (address_in (addresses (map shape_of ds))) in
     let functions : part.functions ≡ map resolve fs =
     ap (λ (p : Part). p.functions) is ∙ ap (λ a. map (resolved_function a) fs) names in

@@ -8,7 +8,7 @@ use Rattle.std.specs.Cmp.Lexicographic.{slice_cmp, texts_ties, nat_list_eq_equiv
 use Rattle.std.specs.BTreeMap.{is_at}
 use Rattle.std.specs.Map.{lookup}
 use Rattle.bword.specs.Words.{same_name}
-use Rattle.blang.specs.Layout.{Addresses, address_in, duplicate_behind}
+use Rattle.blang.specs.Layout.{Addresses, address_in, duplicate_after}
 use Rattle.bmach.specs.Loading.{Knows}
 
 pub lookup-append : {K X : Type 0} (test : K → Bool) (xs ys : List (K × X)) → lookup test (xs ++ ys) ≡ option_or (lookup test xs) (lookup test ys)
@@ -52,7 +52,7 @@ known_push known k x v true e none =
 known_push known k x v false e none =
     elim (address_in known x) as (λ o. o ≡ option_or o None) [ Some a ↦ refl | None ↦ refl ]
 
--- a new name comes behind the others
+-- a new name comes after the others
 pub address_in-push : (known : Addresses) (k x : List ℕ) (v : ℕ) → address_in known k ≡ None → cond (same_name k x) (Some v) (address_in known x) ≡ address_in (known ++ (k, v) ∷ []) x
 address_in-push known k x v none =
     ap (λ b. cond b (Some v) (address_in known x)) (nat_list_eq_equiv.symm k x)
@@ -64,7 +64,7 @@ none_in_front true x front whole later step h = cc
 none_in_front false x front whole later step h = step h
 
 -- whether a name stands twice among names and more names
-pub duplicate_behind-append : (before xs ys : List (List ℕ)) → duplicate_behind before xs ≡ None → duplicate_behind before (xs ++ ys) ≡ duplicate_behind (before ++ xs) ys
-duplicate_behind-append before [] ys e = ap (λ b. duplicate_behind b ys) (sym (append-nil before))
-duplicate_behind-append before (x ∷ xs) ys e =
-    none_in_front (list_any (same_name x) before) x _ _ _ (λ h. duplicate_behind-append (before ++ x ∷ []) xs ys h ∙ ap (λ b. duplicate_behind b ys) (append_assoc before (x ∷ []) xs)) e
+pub duplicate_after-append : (before xs ys : List (List ℕ)) → duplicate_after before xs ≡ None → duplicate_after before (xs ++ ys) ≡ duplicate_after (before ++ xs) ys
+duplicate_after-append before [] ys e = ap (λ b. duplicate_after b ys) (sym (append-nil before))
+duplicate_after-append before (x ∷ xs) ys e =
+    none_in_front (list_any (same_name x) before) x _ _ _ (λ h. duplicate_after-append (before ++ x ∷ []) xs ys h ∙ ap (λ b. duplicate_after b ys) (append_assoc before (x ∷ []) xs)) e

@@ -6,9 +6,9 @@ use Rattle.std.specs.Option.{option_or}
 use Rattle.std.proofs.lemmas.List.{map-append, take_more}
 use Rattle.std.proofs.Math.Seq.{split_at}
 use Rattle.blang.specs.declared.code.Definition.{Definition}
-use Rattle.blang.specs.Layout.{Shape, shape_of, defined_names, Addresses, address_in, addresses, duplicate_behind, data_end, spots, library_addresses}
+use Rattle.blang.specs.Layout.{Shape, shape_of, defined_names, Addresses, address_in, addresses, duplicate_after, data_end, spots, library_addresses}
 use Rattle.bword.specs.Words.{same_name}
-use Rattle.bmach.proofs.Lookups.{lookup-append, is_some-lookup-zip, duplicate_behind-append}
+use Rattle.bmach.proofs.Lookups.{lookup-append, is_some-lookup-zip, duplicate_after-append}
 use Rattle.bmach.proofs.Spots.{wrapped, length-wrapped, addresses_fit}
 
 -- the shapes of one definition more, and of all
@@ -24,19 +24,19 @@ shapes_split ds i d lt is =
 among : (before : List Shape) (x : List ℕ) → list_any (same_name x) (defined_names before) ≡ is_some (address_in (wrapped before) x)
 among before x = sym (is_some-lookup-zip (same_name x) (defined_names before) _ (length-wrapped before))
 
-behind : (before : List Shape) (d : Shape) (rest : List Shape) → duplicate_behind [] (defined_names before) ≡ None → duplicate_behind [] (defined_names (before ++ (d ∷ rest))) ≡ cond (is_some (address_in (wrapped before) d.name)) (Some d.name) (duplicate_behind (defined_names before ++ d.name ∷ []) (defined_names rest))
-behind before d rest none =
-    ap (duplicate_behind []) (map-append (λ (e : Shape). e.name) before (d ∷ rest))
-    ∙ duplicate_behind-append [] (defined_names before) (d.name ∷ defined_names rest) none
-    ∙ ap (λ b. cond b (Some d.name) (duplicate_behind (defined_names before ++ d.name ∷ []) (defined_names rest))) (among before d.name)
+following : (before : List Shape) (d : Shape) (rest : List Shape) → duplicate_after [] (defined_names before) ≡ None → duplicate_after [] (defined_names (before ++ (d ∷ rest))) ≡ cond (is_some (address_in (wrapped before) d.name)) (Some d.name) (duplicate_after (defined_names before ++ d.name ∷ []) (defined_names rest))
+following before d rest none =
+    ap (duplicate_after []) (map-append (λ (e : Shape). e.name) before (d ∷ rest))
+    ∙ duplicate_after-append [] (defined_names before) (d.name ∷ defined_names rest) none
+    ∙ ap (λ b. cond b (Some d.name) (duplicate_after (defined_names before ++ d.name ∷ []) (defined_names rest))) (among before d.name)
 
-pub new_name : (before : List Shape) (d : Shape) → duplicate_behind [] (defined_names before) ≡ None → address_in (wrapped before) d.name ≡ None → duplicate_behind [] (defined_names (before ++ d ∷ [])) ≡ None
-new_name before d none fresh = behind before d [] none ∙ ap (λ o. cond (is_some o) (Some d.name) None) fresh
+pub new_name : (before : List Shape) (d : Shape) → duplicate_after [] (defined_names before) ≡ None → address_in (wrapped before) d.name ≡ None → duplicate_after [] (defined_names (before ++ d ∷ [])) ≡ None
+new_name before d none fresh = following before d [] none ∙ ap (λ o. cond (is_some o) (Some d.name) None) fresh
 
-pub old_name : (before : List Shape) (d : Shape) (rest : List Shape) → duplicate_behind [] (defined_names before) ≡ None → is_some (address_in (wrapped before) d.name) ≡ true → duplicate_behind [] (defined_names (before ++ (d ∷ rest))) ≡ Some d.name
+pub old_name : (before : List Shape) (d : Shape) (rest : List Shape) → duplicate_after [] (defined_names before) ≡ None → is_some (address_in (wrapped before) d.name) ≡ true → duplicate_after [] (defined_names (before ++ (d ∷ rest))) ≡ Some d.name
 old_name before d rest none found =
-    behind before d rest none
-    ∙ ap (λ b. cond b (Some d.name) (duplicate_behind (defined_names before ++ d.name ∷ []) (defined_names rest))) found
+    following before d rest none
+    ∙ ap (λ b. cond b (Some d.name) (duplicate_after (defined_names before ++ d.name ∷ []) (defined_names rest))) found
 
 -- all names with their addresses
 pub all_known : (ds : List Shape) (known : Addresses) (x : List ℕ) → data_end ds ≤ 65536 → address_in known x ≡ address_in (wrapped ds) x → address_in (known ++ library_addresses) x ≡ address_in (addresses ds) x

@@ -1,20 +1,20 @@
--- The spots of definitions, one behind another.
+-- The spots of definitions, one after another.
 use Rattle.std.proofs.Common.{◌≡◌, ℕ, suc, ◌+◌, ◌%◌, ◌<◌, ◌≤◌, List, [], ◌∷◌, ◌++◌, length, map, refl, sym, ap, ◌∙◌, arith, append_assoc, append-nil}
 use Rattle.std.specs.Prelude.{zip}
 use Rattle.std.proofs.Math.Nat.{mod-eq_of_lt}
 use Rattle.std.proofs.lemmas.List.{map-append, length-map}
 use Rattle.std.proofs.lemmas.List.Sums.{sum_by-append}
 use Rattle.blang.specs.declared.code.Ival.{Ival}
-use Rattle.blang.specs.Layout.{DefinitionKind, Function, Simple, Vector, Shape, Spot, size_of, words_before_strings, data_end, spot_behind, spots_behind, spots, defined_names, Addresses}
+use Rattle.blang.specs.Layout.{DefinitionKind, Function, Simple, Vector, Shape, Spot, size_of, words_before_strings, data_end, spot_after, spots_after, spots, defined_names, Addresses}
 
-pub spots_behind-push : (before ds : List Shape) (d : Shape) → spots_behind before (ds ++ d ∷ []) ≡ spots_behind before ds ++ spot_behind (before ++ ds) d ∷ []
-spots_behind-push before [] d = ap (λ b. spot_behind b d ∷ []) (sym (append-nil before))
-spots_behind-push before (e ∷ ds) d =
-    ap (λ ss. spot_behind before e ∷ ss) (spots_behind-push (before ++ e ∷ []) ds d ∙ ap (λ b. spots_behind (before ++ e ∷ []) ds ++ spot_behind b d ∷ []) (append_assoc before (e ∷ []) ds))
+pub spots_after-push : (before ds : List Shape) (d : Shape) → spots_after before (ds ++ d ∷ []) ≡ spots_after before ds ++ spot_after (before ++ ds) d ∷ []
+spots_after-push before [] d = ap (λ b. spot_after b d ∷ []) (sym (append-nil before))
+spots_after-push before (e ∷ ds) d =
+    ap (λ ss. spot_after before e ∷ ss) (spots_after-push (before ++ e ∷ []) ds d ∙ ap (λ b. spots_after (before ++ e ∷ []) ds ++ spot_after b d ∷ []) (append_assoc before (e ∷ []) ds))
 
-pub length-spots_behind : (before ds : List Shape) → length (spots_behind before ds) ≡ length ds
-length-spots_behind before [] = refl
-length-spots_behind before (d ∷ ds) = ap suc (length-spots_behind (before ++ d ∷ []) ds)
+pub length-spots_after : (before ds : List Shape) → length (spots_after before ds) ≡ length ds
+length-spots_after before [] = refl
+length-spots_after before (d ∷ ds) = ap suc (length-spots_after (before ++ d ∷ []) ds)
 
 pub zip-push : {A B : Type 0} (xs : List A) (ys : List B) (x : A) (y : B) → length xs ≡ length ys → zip (xs ++ x ∷ []) (ys ++ y ∷ []) ≡ zip xs ys ++ (x, y) ∷ []
 zip-push [] [] x y e = refl
@@ -31,15 +31,15 @@ wrapped ds = zip (defined_names ds) (map (λ s. s.address % 65536) (spots ds))
 
 pub length-wrapped : (ds : List Shape) → length (defined_names ds) ≡ length (map (λ (s : Spot). s.address % 65536) (spots ds))
 length-wrapped ds =
-    length-map ds (λ (e : Shape). e.name) ∙ sym (length-spots_behind [] ds) ∙ sym (length-map (spots ds) (λ (s : Spot). s.address % 65536))
+    length-map ds (λ (e : Shape). e.name) ∙ sym (length-spots_after [] ds) ∙ sym (length-map (spots ds) (λ (s : Spot). s.address % 65536))
 
 pub wrapped-push : (ds : List Shape) (d : Shape) → wrapped (ds ++ d ∷ []) ≡ wrapped ds ++ (d.name, data_end ds % 65536) ∷ []
 wrapped-push ds d =
     let address : Spot → ℕ = λ s. s.address % 65536 in
     ap (λ ns. zip ns (map address (spots (ds ++ d ∷ [])))) (map-append (λ (e : Shape). e.name) ds (d ∷ []))
-    ∙ ap (λ ss. zip (map (λ (e : Shape). e.name) ds ++ d.name ∷ []) (map address ss)) (spots_behind-push [] ds d)
-    ∙ ap (λ ps. zip (map (λ (e : Shape). e.name) ds ++ d.name ∷ []) ps) (map-append address (spots ds) (spot_behind ds d ∷ []))
-    ∙ zip-push (map (λ (e : Shape). e.name) ds) (map address (spots ds)) d.name (address (spot_behind ds d)) (length-wrapped ds)
+    ∙ ap (λ ss. zip (map (λ (e : Shape). e.name) ds ++ d.name ∷ []) (map address ss)) (spots_after-push [] ds d)
+    ∙ ap (λ ps. zip (map (λ (e : Shape). e.name) ds ++ d.name ∷ []) ps) (map-append address (spots ds) (spot_after ds d ∷ []))
+    ∙ zip-push (map (λ (e : Shape). e.name) ds) (map address (spots ds)) d.name (address (spot_after ds d)) (length-wrapped ds)
 
 some_words : (k : DefinitionKind) (values : List Ival) → 1 ≤ words_before_strings k values
 some_words (Function labels) values = omega arith
@@ -47,11 +47,11 @@ some_words Simple values = omega arith
 some_words (Vector n) values = omega arith
 
 -- Where the data end in the store, each address is a word.
-pub addresses_fit : (before ds : List Shape) → data_end (before ++ ds) ≤ 65536 → map (λ s. s.address % 65536) (spots_behind before ds) ≡ map (λ (s : Spot). s.address) (spots_behind before ds)
+pub addresses_fit : (before ds : List Shape) → data_end (before ++ ds) ≤ 65536 → map (λ s. s.address % 65536) (spots_after before ds) ≡ map (λ (s : Spot). s.address) (spots_after before ds)
 addresses_fit before [] fits = refl
 addresses_fit before (d ∷ ds) fits =
     let whole : before ++ (d ∷ ds) ≡ (before ++ d ∷ []) ++ ds = sym (append_assoc before (d ∷ []) ds) in
     let some : 1 ≤ words_before_strings d.kind d.values = some_words d.kind d.values in
     let below : data_end before < 65536 = omega (arith, sum_by-append size_of before (d ∷ ds), sum_by-append size_of (d ∷ []) ds) in
-    ap (λ a. a ∷ map (λ s. s.address % 65536) (spots_behind (before ++ d ∷ []) ds)) (mod-eq_of_lt below)
+    ap (λ a. a ∷ map (λ s. s.address % 65536) (spots_after (before ++ d ∷ []) ds)) (mod-eq_of_lt below)
     ∙ ap (λ ps. data_end before ∷ ps) (addresses_fit (before ++ d ∷ []) ds (rw whole at fits))

@@ -15,7 +15,7 @@ pub map_more : {A B : Type 0} (f : A → B) (xs : List A) (i : ℕ) (x : A) → 
 map_more f xs i x lt is =
     ap (map f) (take_more xs i x lt) ∙ map-append f (take i xs) (get_or xs i x ∷ []) ∙ ap (λ y. map f (take i xs) ++ f y ∷ []) (sym is)
 
--- the fault of names is that of names with more behind
+-- the fault of names is that of names with more after
 pub fault_in_front : (f : LoadFault) (o rest : Option (List ℕ)) → IsFault f (option_map fault.Undefined o) → IsFault f (option_map fault.Undefined (option_or o rest))
 fault_in_front fault.Memory o rest h = tt
 fault_in_front f (Some x) rest h = h
@@ -31,19 +31,19 @@ module _ (address_of : List ℕ → Option ℕ) {A : Type 0} (names : A → List
   first_of_rest x rest = find-append (λ x. is_none (address_of x)) (names x) (flat_map names rest)
 
   -- one part more
-  pub defined_behind : (xs : List A) (x : A) → first_undefined address_of (flat_map names xs) ≡ None
+  pub defined_after : (xs : List A) (x : A) → first_undefined address_of (flat_map names xs) ≡ None
       → first_undefined address_of (names x) ≡ None
       → first_undefined address_of (flat_map names (xs ++ x ∷ [])) ≡ None
-  defined_behind xs x before here =
+  defined_after xs x before here =
       first_of_two xs (x ∷ [])
       ∙ ap (λ o. option_or o (first_undefined address_of (flat_map names (x ∷ [])))) before
       ∙ first_of_rest x []
       ∙ ap (λ o. option_or o None) here
 
-  pub undefined_behind : (xs : List A) (x : A) (rest : List A) (f : LoadFault)
+  pub undefined_after : (xs : List A) (x : A) (rest : List A) (f : LoadFault)
       → first_undefined address_of (flat_map names xs) ≡ None → IsFault f (undefined_fault address_of (names x))
       → IsFault f (undefined_fault address_of (flat_map names (xs ++ x ∷ rest)))
-  undefined_behind xs x rest f before here =
+  undefined_after xs x rest f before here =
       let whole : first_undefined address_of (flat_map names (xs ++ x ∷ rest)) ≡ option_or (first_undefined address_of (names x)) (first_undefined address_of (flat_map names rest)) =
       first_of_two xs (x ∷ rest)
       ∙ ap (λ o. option_or o (first_undefined address_of (flat_map names (x ∷ rest)))) before
@@ -53,9 +53,9 @@ module _ (address_of : List ℕ → Option ℕ) {A : Type 0} (names : A → List
   pub defined_more : (xs : List A) (i : ℕ) (x : A) → i < length xs → x ≡ get_or xs i x → first_undefined address_of (flat_map names (take i xs)) ≡ None → first_undefined address_of (names x) ≡ None → first_undefined address_of (flat_map names (take (i + 1) xs)) ≡ None
   defined_more xs i x lt is before here =
       ap (λ ys. first_undefined address_of (flat_map names ys)) (take_more xs i x lt ∙ ap (λ y. take i xs ++ y ∷ []) (sym is))
-      ∙ defined_behind (take i xs) x before here
+      ∙ defined_after (take i xs) x before here
 
   pub undefined_at : (xs : List A) (i : ℕ) (x : A) (f : LoadFault) → i < length xs → x ≡ get_or xs i x → first_undefined address_of (flat_map names (take i xs)) ≡ None → IsFault f (undefined_fault address_of (names x)) → IsFault f (undefined_fault address_of (flat_map names xs))
   undefined_at xs i x f lt is before here =
       let split : xs ≡ take i xs ++ x ∷ drop (suc i) xs = split_at xs i x lt ∙ ap (λ y. take i xs ++ y ∷ drop (suc i) xs) (sym is) in
-      subst (λ ys. IsFault f (undefined_fault address_of (flat_map names ys))) (sym split) (undefined_behind (take i xs) x (drop (suc i) xs) f before here)
+      subst (λ ys. IsFault f (undefined_fault address_of (flat_map names ys))) (sym split) (undefined_after (take i xs) x (drop (suc i) xs) f before here)

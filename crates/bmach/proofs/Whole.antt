@@ -9,11 +9,11 @@ use Rattle.std.proofs.lemmas.Grind.{flat_map-append}
 use Rattle.blang.specs.declared.code.Ival.{Ival}
 use Rattle.blang.specs.declared.code.Definition.{Definition}
 use Rattle.blang.specs.declared.code.Definition.TheVariants as definition
-use Rattle.blang.specs.Layout.{DefinitionKind, Function, Simple, Vector, Shape, shape_of, Spot, size_of, words_before_strings, functions_in, labels_in, data_end, function_count, label_count, spot_behind, spots_behind, spots, definition_words, words_of_kind, value_word, padded}
+use Rattle.blang.specs.Layout.{DefinitionKind, Function, Simple, Vector, Shape, shape_of, Spot, size_of, words_before_strings, functions_in, labels_in, data_end, function_count, label_count, spot_after, spots_after, spots, definition_words, words_of_kind, value_word, padded}
 use Rattle.blang.specs.Machine.{Loaded, loaded_at}
 use Rattle.bmach.specs.Resolved.{resolved_function}
 use Rattle.bmach.specs.Loading.{Part, first_part, next_spot, loaded_functions, with_definition}
-use Rattle.bmach.proofs.Spots.{spots_behind-push, length-spots_behind, zip-push}
+use Rattle.bmach.proofs.Spots.{spots_after-push, length-spots_after, zip-push}
 
 length-padded : (n : ℕ) (ws : List ℕ) → length (padded n ws) ≡ max n (length ws)
 length-padded n ws = omega (arith, length-append ws (replicate (n - length ws) 0), length-replicate {A = ℕ} (n - length ws) 0)
@@ -29,38 +29,38 @@ length-definition_words address_of s d =
     ∙ ap (λ n. n + length d.strings) (length-words_of_kind d.kind s _ d.values (length-map d.values (value_word address_of s.strings)))
 
 module _ (address_of : List ℕ → Option ℕ) where
-  -- the words of definitions behind others
-  abbrev pub words_behind : List Shape → List Shape → List ℕ
-  words_behind before ds = flat_map (λ p. definition_words address_of p.0 p.1) (zip (spots_behind before ds) ds)
+  -- the words of definitions after others
+  abbrev pub words_after : List Shape → List Shape → List ℕ
+  words_after before ds = flat_map (λ p. definition_words address_of p.0 p.1) (zip (spots_after before ds) ds)
 
-  pub length-words_behind : (before ds : List Shape) → length (words_behind before ds) ≡ sum_by size_of ds
-  length-words_behind before [] = refl
-  length-words_behind before (d ∷ ds) =
-      omega (arith, length-append (definition_words address_of (spot_behind before d) d) (words_behind (before ++ d ∷ []) ds), length-definition_words address_of (spot_behind before d) d, length-words_behind (before ++ d ∷ []) ds, sum_by-append size_of (d ∷ []) ds)
+  pub length-words_after : (before ds : List Shape) → length (words_after before ds) ≡ sum_by size_of ds
+  length-words_after before [] = refl
+  length-words_after before (d ∷ ds) =
+      omega (arith, length-append (definition_words address_of (spot_after before d) d) (words_after (before ++ d ∷ []) ds), length-definition_words address_of (spot_after before d) d, length-words_after (before ++ d ∷ []) ds, sum_by-append size_of (d ∷ []) ds)
 
-  -- the functions of definitions behind others
-  abbrev pub functions_behind : List Shape → List Definition → List Loaded
-  functions_behind before ds = filter_map loaded_at (zip (spots_behind before (map shape_of ds)) ds)
+  -- the functions of definitions after others
+  abbrev pub functions_after : List Shape → List Definition → List Loaded
+  functions_after before ds = filter_map loaded_at (zip (spots_after before (map shape_of ds)) ds)
 
   -- what was loaded with these definitions
   abbrev pub whole : List Definition → Part
   whole ds =
       let shapes = map shape_of ds in
       record {
-        words = first_part.words ++ words_behind [] shapes;
-        functions = map (resolved_function address_of) (functions_behind [] ds);
+        words = first_part.words ++ words_after [] shapes;
+        functions = map (resolved_function address_of) (functions_after [] ds);
         first_label = 1 + label_count shapes;
       }
 
-length-functions_behind : (address_of : List ℕ → Option ℕ) (before : List Shape) (ds : List Definition) → length (functions_behind address_of before ds) ≡ function_count (map shape_of ds)
-length-functions_behind address_of before [] = refl
-length-functions_behind address_of before (definition.Function f ∷ ds) =
-    ap suc (length-functions_behind address_of (before ++ shape_of (definition.Function f) ∷ []) ds)
+length-functions_after : (address_of : List ℕ → Option ℕ) (before : List Shape) (ds : List Definition) → length (functions_after address_of before ds) ≡ function_count (map shape_of ds)
+length-functions_after address_of before [] = refl
+length-functions_after address_of before (definition.Function f ∷ ds) =
+    ap suc (length-functions_after address_of (before ++ shape_of (definition.Function f) ∷ []) ds)
     ∙ omega (arith, sum_by-append (λ (d : Shape). functions_in d.kind) (shape_of (definition.Function f) ∷ []) (map shape_of ds))
-length-functions_behind address_of before (definition.Simple x ∷ ds) =
-    length-functions_behind address_of (before ++ shape_of (definition.Simple x) ∷ []) ds
-length-functions_behind address_of before (definition.Vector v ∷ ds) =
-    length-functions_behind address_of (before ++ shape_of (definition.Vector v) ∷ []) ds
+length-functions_after address_of before (definition.Simple x ∷ ds) =
+    length-functions_after address_of (before ++ shape_of (definition.Simple x) ∷ []) ds
+length-functions_after address_of before (definition.Vector v ∷ ds) =
+    length-functions_after address_of (before ++ shape_of (definition.Vector v) ∷ []) ds
 
 as_list : (address_of : List ℕ → Option ℕ) (o : Option Loaded) → map (resolved_function address_of) (cons_option o []) ≡ loaded_functions address_of o
 as_list address_of (Some f) = refl
@@ -69,14 +69,14 @@ as_list address_of None = refl
 module _ (address_of : List ℕ → Option ℕ) where
   pub length-words : (ds : List Definition) → length (whole address_of ds).words ≡ data_end (map shape_of ds)
   length-words ds =
-      length-append first_part.words (words_behind address_of [] (map shape_of ds))
-      ∙ ap (λ n. 7 + n) (length-words_behind address_of [] (map shape_of ds))
+      length-append first_part.words (words_after address_of [] (map shape_of ds))
+      ∙ ap (λ n. 7 + n) (length-words_after address_of [] (map shape_of ds))
 
   pub length-functions : (ds : List Definition) → length (whole address_of ds).functions ≡ function_count (map shape_of ds)
   length-functions ds =
-      length-map (functions_behind address_of [] ds) (resolved_function address_of) ∙ length-functions_behind address_of [] ds
+      length-map (functions_after address_of [] ds) (resolved_function address_of) ∙ length-functions_after address_of [] ds
 
-  spot_is : (ds : List Definition) (d : Definition) → next_spot (whole address_of ds) (shape_of d) ≡ spot_behind (map shape_of ds) (shape_of d)
+  spot_is : (ds : List Definition) (d : Definition) → next_spot (whole address_of ds) (shape_of d) ≡ spot_after (map shape_of ds) (shape_of d)
   spot_is ds d = λ i. record {
     address = length-words ds i;
     strings = length-words ds i + words_before_strings (shape_of d).kind (shape_of d).values;
@@ -84,34 +84,34 @@ module _ (address_of : List ℕ → Option ℕ) where
     first_label = 1 + label_count (map shape_of ds);
   }
 
-  words_push : (ds : List Shape) (d : Shape) → words_behind address_of [] (ds ++ d ∷ []) ≡ words_behind address_of [] ds ++ definition_words address_of (spot_behind ds d) d
+  words_push : (ds : List Shape) (d : Shape) → words_after address_of [] (ds ++ d ∷ []) ≡ words_after address_of [] ds ++ definition_words address_of (spot_after ds d) d
   words_push ds d =
       let words : Spot × Shape → List ℕ = λ p. definition_words address_of p.0 p.1 in
-      ap (λ ss. flat_map words (zip ss (ds ++ d ∷ []))) (spots_behind-push [] ds d)
-      ∙ ap (flat_map words) (zip-push (spots ds) ds (spot_behind ds d) d (length-spots_behind [] ds))
-      ∙ flat_map-append words (zip (spots ds) ds) ((spot_behind ds d, d) ∷ [])
-      ∙ ap (λ ws. words_behind address_of [] ds ++ ws) (append-nil (definition_words address_of (spot_behind ds d) d))
+      ap (λ ss. flat_map words (zip ss (ds ++ d ∷ []))) (spots_after-push [] ds d)
+      ∙ ap (flat_map words) (zip-push (spots ds) ds (spot_after ds d) d (length-spots_after [] ds))
+      ∙ flat_map-append words (zip (spots ds) ds) ((spot_after ds d, d) ∷ [])
+      ∙ ap (λ ws. words_after address_of [] ds ++ ws) (append-nil (definition_words address_of (spot_after ds d) d))
 
-  functions_push : (ds : List Definition) (d : Definition) → map (resolved_function address_of) (functions_behind address_of [] (ds ++ d ∷ [])) ≡ map (resolved_function address_of) (functions_behind address_of [] ds) ++ loaded_functions address_of (loaded_at (spot_behind (map shape_of ds) (shape_of d), d))
+  functions_push : (ds : List Definition) (d : Definition) → map (resolved_function address_of) (functions_after address_of [] (ds ++ d ∷ [])) ≡ map (resolved_function address_of) (functions_after address_of [] ds) ++ loaded_functions address_of (loaded_at (spot_after (map shape_of ds) (shape_of d), d))
   functions_push ds d =
       let shapes = map shape_of ds in
-      let s = spot_behind shapes (shape_of d) in
+      let s = spot_after shapes (shape_of d) in
       let resolve = resolved_function address_of in
       ap (λ es. map resolve (filter_map loaded_at (zip (spots es) (ds ++ d ∷ [])))) (map-append shape_of ds (d ∷ []))
-      ∙ ap (λ ss. map resolve (filter_map loaded_at (zip ss (ds ++ d ∷ [])))) (spots_behind-push [] shapes (shape_of d))
-      ∙ ap (λ ps. map resolve (filter_map loaded_at ps)) (zip-push (spots shapes) ds s d (length-spots_behind [] shapes ∙ length-map ds shape_of))
+      ∙ ap (λ ss. map resolve (filter_map loaded_at (zip ss (ds ++ d ∷ [])))) (spots_after-push [] shapes (shape_of d))
+      ∙ ap (λ ps. map resolve (filter_map loaded_at ps)) (zip-push (spots shapes) ds s d (length-spots_after [] shapes ∙ length-map ds shape_of))
       ∙ ap (map resolve) (filter_map-append loaded_at (zip (spots shapes) ds) ((s, d) ∷ []))
-      ∙ map-append resolve (functions_behind address_of [] ds) (filter_map loaded_at ((s, d) ∷ []))
-      ∙ ap (λ fs. map resolve (functions_behind address_of [] ds) ++ fs) (as_list address_of (loaded_at (s, d)))
+      ∙ map-append resolve (functions_after address_of [] ds) (filter_map loaded_at ((s, d) ∷ []))
+      ∙ ap (λ fs. map resolve (functions_after address_of [] ds) ++ fs) (as_list address_of (loaded_at (s, d)))
 
   one_more : (ds : List Definition) (d : Definition) → with_definition address_of (whole address_of ds) d ≡ whole address_of (ds ++ d ∷ [])
   one_more ds d =
       let shapes = map shape_of ds in
       let words : (whole address_of ds).words ++ definition_words address_of (next_spot (whole address_of ds) (shape_of d)) (shape_of d) ≡ (whole address_of (ds ++ d ∷ [])).words =
       ap (λ s. (whole address_of ds).words ++ definition_words address_of s (shape_of d)) (spot_is ds d)
-      ∙ append_assoc first_part.words (words_behind address_of [] shapes) (definition_words address_of (spot_behind shapes (shape_of d)) (shape_of d))
+      ∙ append_assoc first_part.words (words_after address_of [] shapes) (definition_words address_of (spot_after shapes (shape_of d)) (shape_of d))
       ∙ ap (λ ws. first_part.words ++ ws) (sym (words_push shapes (shape_of d)))
-      ∙ ap (λ es. first_part.words ++ words_behind address_of [] es) (sym (map-append shape_of ds (d ∷ []))) in
+      ∙ ap (λ es. first_part.words ++ words_after address_of [] es) (sym (map-append shape_of ds (d ∷ []))) in
       let functions : (whole address_of ds).functions ++ loaded_functions address_of (loaded_at (next_spot (whole address_of ds) (shape_of d), d)) ≡ (whole address_of (ds ++ d ∷ [])).functions =
       ap (λ s. (whole address_of ds).functions ++ loaded_functions address_of (loaded_at (s, d))) (spot_is ds d) ∙ sym (functions_push ds d) in
       let labels : 1 + label_count shapes + labels_in (shape_of d).kind ≡ 1 + label_count (map shape_of (ds ++ d ∷ [])) =

@@ -11,3 +11,5 @@ pub mod Turns
 pub mod Excluded
 pub mod Stepping
 pub mod Stops
+pub mod Stored
+pub mod StoredRows

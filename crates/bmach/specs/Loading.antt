@@ -32,7 +32,7 @@ undefined_fault address_of names = option_map fault.Undefined (first_undefined a
 abbrev pub fits_store : List Shape → Bool
 fits_store ds = not (nat_lt store_words (data_end ds) || nat_lt MAX_PROGRAM_LABELS (label_count ds))
 
--- the words and functions of the definitions so far, and the value of the label behind theirs
+-- the words and functions of the definitions so far, and the value of the label after theirs
 pub record Part : Type 0 where
   pub words : List ℕ
   pub functions : List Loaded

@@ -23,6 +23,7 @@ mod resolve;
 mod runs;
 mod step;
 mod stepper;
+mod stored;
 mod text;
 
 pub use addresses::FIRST_ADDRESS;

@@ -61,9 +61,9 @@ pub enum Pace {
     Gives(u16),
     Traps(Trap),
     IsStuck,
-    /// The store was refused memory.
+    /// The store has no memory.
     IsRefused,
-    /// The callee below so many arguments is to be called; the call is behind its operation.
+    /// The callee below so many arguments is to be called; the call is after its operation.
     Calls(u16),
     /// The topmost word is to be returned.
     Returns,
@@ -114,7 +114,7 @@ pub struct Active {
 #[derive(Clone, Copy)]
 pub struct Stop {
     pub outcome: Outcome,
-    /// After a trap the running call before the step that was one; at the limit the one behind the last step.
+    /// After a trap the running call before the step that was one; at the limit the one after the last step.
     pub call: Active,
 }
 

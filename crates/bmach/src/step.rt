@@ -2,7 +2,8 @@
 ghost use Rattle.std.specs.Prelude.{◌≡◌, ℕ, ◌+◌, ◌^◌, ◌<◌, ◌∷◌, List, IfOk, OnOk, slice_set};
 ghost use Rattle.blang.specs.declared.code.Instr.TheVariants as instr;
 ghost use Rattle.blang.specs.Machine as machine;
-ghost use Rattle.blang.specs.Machine.{Running, at_place, label_target, left_word, stored_word};
+ghost use Rattle.blang.specs.Layout.{label_target, left_word, stored_word};
+ghost use Rattle.blang.specs.Machine.{Running, at_place};
 ghost use Rattle.bmach.specs.Steps.{Acts, Paced, machine_call};
 ghost use Rattle.blang.specs.Layout.{World};
 
@@ -12,7 +13,7 @@ use blang::Increment;
 use bword::{BinOp, Store, binary, negate, not};
 use std::alloc::AllocError;
 
-/// Puts a word on top, and goes on behind the operation.
+/// Puts a word on top, and goes on after the operation.
 #[inline(always)]
 pub fn put<'a>(call: &mut Call<'a>, word: u16) -> Pace
     requires { call.old.place + 1 < 2 ^ 64 }
@@ -281,7 +282,7 @@ pub fn pop<'a>(call: &mut Call<'a>) -> Pace
     }
 }
 
-/// Goes on behind a call, which is left to do.
+/// Goes on after a call, which is left to do.
 #[inline(always)]
 pub fn begin_call<'a>(call: &mut Call<'a>, count: u16) -> Pace
     requires { call.old.place + 1 < 2 ^ 64 }

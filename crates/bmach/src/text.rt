@@ -8,7 +8,7 @@ use crate::number::Base;
 /// The length of the longest number, which has a minus sign and 16 digits.
 pub const NUMBER_LEN: usize = 17;
 
-/// Where the last digit of a number stands.
+/// Where the last digit of a number is.
 const LAST_DIGIT: usize = 16;
 
 // Puts the digits of a number at the end of a buffer, and tells where they begin.

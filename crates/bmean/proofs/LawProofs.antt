@@ -8,7 +8,7 @@ use Rattle.blang.specs.Value.{Answer}
 use Rattle.blang.specs.Meaning.{program_of, Loads, meant}
 use Rattle.bmean.proofs.Whole.{Agree, agree}
 use Rattle.bmean.proofs.Loads.{image_is, has_main}
-use Rattle.bmean.proofs.LoadedImages.{Resolves, loaded_run, halted_before, stuck_before, running_before, running_behind}
+use Rattle.bmean.proofs.LoadedImages.{Resolves, loaded_run, halted_before, stuck_before, running_before, running_after}
 
 pub code_agrees : (ds : List Definition) → Loads ds → (input : List ℕ) → Agree (run (image_of (map code_of ds)) input) (meant ds input)
 code_agrees ds loads input =
@@ -27,7 +27,7 @@ resolved_agrees image state state' answer same laws = record {
       laws.writes_as_meant n before.0 before.1 w before.2;
   wants_as_it_runs = λ n w h.
       let runs = laws.wants_as_it_runs n w h in
-      (runs.0, _, _, runs.3, same runs.0 ∙ running_behind image (state runs.0) runs.1 runs.2 w runs.4);
+      (runs.0, _, _, runs.3, same runs.0 ∙ running_after image (state runs.0) runs.1 runs.2 w runs.4);
   runs_without_end = λ wants n e w h. laws.runs_without_end wants n e w (halted_before image (state n) e w (sym (same n) ∙ h));
 }
 

@@ -5,7 +5,6 @@ pub mod Statements
 pub mod Fuel
 pub mod Runs
 pub mod Whole
-pub mod Names
 pub mod Loads
 pub mod LawProofs
 pub mod Sentences

@@ -71,5 +71,5 @@ running_before image (Running c b w') call below w h = (c, b, ap (Running c b) (
 running_before image (Halted e' w') call below w h = cc
 running_before image (Stuck w') call below w h = cc
 
-pub running_behind : (image : Image) (s : State) (call : Call) (below : List Call) (w : World) → s ≡ Running call below w → state_resolved image s ≡ Running (call_resolved image call) (map (call_resolved image) below) w
-running_behind image s call below w h = ap (state_resolved image) h
+pub running_after : (image : Image) (s : State) (call : Call) (below : List Call) (w : World) → s ≡ Running call below w → state_resolved image s ≡ Running (call_resolved image call) (map (call_resolved image) below) w
+running_after image s call below w h = ap (state_resolved image) h

@@ -5,16 +5,15 @@ use Rattle.std.specs.List.{cons_option, flat_map, list_any}
 use Rattle.std.specs.Option.{option_map, option_and_then}
 use Rattle.blang.specs.declared.code.Definition as coded
 use Rattle.blang.specs.Trees.{Definition}
-use Rattle.blang.specs.Code.{label_places, code_of}
+use Rattle.blang.specs.Code.{code_of, piece}
 use Rattle.blang.specs.declared.run.LoadFault.{LoadFault}
 use Rattle.blang.specs.declared.run.LoadFault.TheVariants as fault
-use Rattle.blang.specs.Layout.{store_words, Shape, shape_of, is_main, defined_names, names_in, Spot, spot_behind, spots_behind, spots, data_end, first_words, addresses, first_some, some_if, duplicate_behind, label_count, address_in, first_undefined, load_fault}
+use Rattle.blang.specs.Layout.{store_words, Shape, shape_of, is_main, defined_names, names_in, Spot, spot_after, spots_after, spots, data_end, first_words, addresses, first_some, some_if, duplicate_after, label_count, address_in, first_undefined, load_fault}
 use Rattle.blang.specs.Machine.{Loaded, Image, loaded_at, image_of}
 use Rattle.blang.specs.Value.{SourceFunction, scope_of}
 use Rattle.blang.specs.Meaning.{function_at, program_of}
 use Rattle.bmean.proofs.Stands.{whole_code}
 use Rattle.bmean.proofs.Values.{loaded_code, image_code}
-use Rattle.bmean.proofs.Names.{names_of_is}
 
 -- definitions lie as their code does
 abbrev lies : Definition → Shape
@@ -27,16 +26,7 @@ same_shapes (d ∷ ds) = ap (λ l. lies d ∷ l) (same_shapes ds)
 loaded_at_is : (s : Spot) (d : Definition) → loaded_at (s, code_of d) ≡ option_map loaded_code (function_at (s, d))
 loaded_at_is s (Definition.Simple w values) = refl
 loaded_at_is s (Definition.Vector w size values) = refl
-loaded_at_is s (Definition.Function w parameters body) =
-    let f : SourceFunction = record { parameters = parameters; body = body; strings = s.strings; first_label = s.first_label } in
-    ap (λ names. Some (record {
-      parameters = length parameters;
-      frame = (scope_of f).frame;
-      targets = label_places names body 0;
-      code = whole_code names body;
-      strings = s.strings;
-      first_label = s.first_label;
-    })) (sym (names_of_is f))
+loaded_at_is s (Definition.Function w parameters body) = refl
 
 cons_option-map : {A B : Type 0} (f : A → B) (o : Option A) (xs : List A) → cons_option (option_map f o) (map f xs) ≡ map f (cons_option o xs)
 cons_option-map f None xs = refl
@@ -94,7 +84,7 @@ some_main : (ds : List Definition) → load_fault (map code_of ds) ≡ None → 
 some_main ds e =
     let codes = map code_of ds in
     let shapes = map shape_of codes in
-    passed_test (list_any is_main codes) (last_of_four (option_map fault.Duplicate (duplicate_behind [] (defined_names shapes))) (some_if (nat_lt store_words (data_end shapes) || nat_lt 65535 (label_count shapes)) fault.TooLarge) (option_map fault.Undefined (first_undefined (address_in (addresses shapes)) (flat_map names_in codes))) (some_if (not (list_any is_main codes)) fault.NoMain) e)
+    passed_test (list_any is_main codes) (last_of_four (option_map fault.Duplicate (duplicate_after [] (defined_names shapes))) (some_if (nat_lt store_words (data_end shapes) || nat_lt 65535 (label_count shapes)) fault.TooLarge) (option_map fault.Undefined (first_undefined (address_in (addresses shapes)) (flat_map names_in codes))) (some_if (not (list_any is_main codes)) fault.NoMain) e)
 
 main_is_function : (s : Spot) (d : Definition) → is_main (code_of d) ≡ true → (f : SourceFunction) × (function_at (s, d) ≡ Some f)
 main_is_function s (Definition.Simple w values) e = cc
@@ -105,11 +95,11 @@ found_if : (b : Bool) (s : Spot) (d : Definition) (o : Option TreeAt) (c : Bool)
 found_if true s d o c m h e = main_is_function s d m
 found_if false s d o c m h e = h e
 
-main_found : (before : List Shape) (ds : List Definition) → list_any is_main (map code_of ds) ≡ true → (f : SourceFunction) × (option_and_then function_at (find (λ p. is_main (code_of p.1)) (zip (spots_behind before (map lies ds)) ds)) ≡ Some f)
+main_found : (before : List Shape) (ds : List Definition) → list_any is_main (map code_of ds) ≡ true → (f : SourceFunction) × (option_and_then function_at (find (λ p. is_main (code_of p.1)) (zip (spots_after before (map lies ds)) ds)) ≡ Some f)
 main_found before [] e = cc
 main_found before (d ∷ ds) e =
-    let behind = before ++ lies d ∷ [] in
-    found_if (is_main (code_of d)) (spot_behind before (lies d)) d (find (λ p. is_main (code_of p.1)) (zip (spots_behind behind (map lies ds)) ds)) (list_any is_main (map code_of ds)) refl (main_found behind ds) e
+    let following = before ++ lies d ∷ [] in
+    found_if (is_main (code_of d)) (spot_after before (lies d)) d (find (λ p. is_main (code_of p.1)) (zip (spots_after following (map lies ds)) ds)) (list_any is_main (map code_of ds)) refl (main_found following ds) e
 
 pub has_main : (ds : List Definition) → load_fault (map code_of ds) ≡ None → (f : SourceFunction) × ((program_of ds).main ≡ Some f)
 has_main ds e = main_found [] ds (some_main ds e)

@@ -8,9 +8,9 @@ use Rattle.blang.specs.declared.code.Instr.TheVariants as instr
 use Rattle.blang.specs.declared.run.Library.{Library}
 use Rattle.blang.specs.declared.run.Library.TheVariants.{Char, Lchar, Getchar, Putchar, Printn, Exit}
 use Rattle.blang.specs.declared.run.Trap.{Trap}
-use Rattle.blang.specs.Layout.{World, Reply, Gives, Ends, word_at, with_word, with_words, parameter_words, next_byte, is_base, argument, printed, with_output, library, Trapped, Callee, NoFunction, OfLibrary, OfProgram, callee_of, refusal}
+use Rattle.blang.specs.Layout.{label_target, World, Reply, Gives, Ends, word_at, with_word, with_words, parameter_words, next_byte, is_base, argument, printed, with_output, library, Trapped, Callee, NoFunction, OfLibrary, OfProgram, callee_of, refusal}
 use Rattle.blang.specs.declared.run.Trap.TheVariants.{BadBase}
-use Rattle.blang.specs.Machine.{Loaded, Image, Call, State, Running, Halted, Stuck, take_one, take_two, on_reply, operator_reply, label_target, at_place, returned, gone_to_place, program_function_called, callee_called, act, act_if, step, steps}
+use Rattle.blang.specs.Machine.{Loaded, Image, Call, State, Running, Halted, Stuck, take_one, take_two, on_reply, operator_reply, at_place, returned, gone_to_place, program_function_called, callee_called, act, act_if, step, steps}
 use Rattle.blang.specs.Meaning.{IsBeginningOf}
 use Rattle.bmean.proofs.Does.{IsAt, steps_add}
 

@@ -103,7 +103,7 @@ wants_and_halts law = law (λ n. (written [], refl)) 0 (Exited 0) (written []) r
 pub wants_once_and_halts : RunsWithoutEnd halted_at_once one_fuel
 wants_once_and_halts wants n e w halted = let same : 1 ≡ 2 = ap kind (wants 1).1 in omega (arith, same)
 
--- a break drops all before the first mark, and the while behind a loop's
+-- a break drops all before the first mark, and the while after a loop's
 abbrev ended : Item
 ended = Do (Break 1)
 

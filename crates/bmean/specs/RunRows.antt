@@ -17,7 +17,7 @@ use Rattle.blang.specs.Machine.{State, Halted, image_of, run, state_outcome, sta
 use Rattle.blang.specs.Value.{Answer, Gives, Ends, Wants}
 use Rattle.blang.specs.Meaning.{meant}
 
--- at most so many definitions, read one behind another
+-- at most so many definitions, read one after another
 abbrev read_all : ℕ → List Placed → List Definition
 read_all zero tokens = []
 read_all (suc n) tokens = elim (definition tokens) [ Got d rest ↦ d ∷ read_all n rest | Stop rest ↦ [] ]
@@ -114,10 +114,10 @@ record Breaks : Type 0 where
       both_in_two
       (codes "main(){auto i; i=0; while(i<2) { switch i { case 0: break; default: putchar('x'); } i++; }}") [] 400
       ≡ replicate 2 (Exit 0, codes "x")
-  loop_behind :
+  loop_after :
       both_in_two (codes "main(){auto i; i=0; while(i<2) {i++; putchar('a'); break; while(1) ;} putchar('k');}") [] 400
       ≡ replicate 2 (Exit 0, codes "ak")
-  loop_behind_a_label :
+  loop_after_a_label :
       both_in_two
       (codes "main(){auto i; i=0; goto in; while(i<2) {i++; putchar('a'); in: break; while(1) ;} putchar('k');}") []
       400
@@ -148,8 +148,8 @@ breaks = record {
   case_before_default = refl;
   default_alone = refl;
   leaves_the_switch = refl;
-  loop_behind = refl;
-  loop_behind_a_label = refl;
+  loop_after = refl;
+  loop_after_a_label = refl;
   case_in_loop = refl;
   goto_to_a_break = refl;
   goto_into_both = refl;
@@ -230,7 +230,7 @@ record Calls : Type 0 where
       ≡ replicate 2 (Exit 0, codes "02")
   left_first : both (codes "p(x){putchar(x);return(x);} main(){p('a')-p('b');}") [] 400
       ≡ replicate 2 (Exit 0, codes "ab")
-  read_behind : both (codes "n 1; f(){extrn n; n=5; return(1);} main(){extrn n; n =+ f(); printn(n,10);}") [] 400
+  read_after : both (codes "n 1; f(){extrn n; n=5; return(1);} main(){extrn n; n =+ f(); printn(n,10);}") [] 400
       ≡ replicate 2 (Exit 0, codes "6")
   factorial : both (codes "f(n){if(n==0) return(1); return(n*f(n-1));} main(){printn(f(8),10);}") [] 400
       ≡ replicate 2 (Exit 0, codes "-25216")
@@ -243,7 +243,7 @@ unfolding tokens_from cut longest greatest whole word_token keyword_of number_in
 calls = record {
   arguments = refl;
   left_first = refl;
-  read_behind = refl;
+  read_after = refl;
   factorial = refl;
   main_returns = refl;
   exits = refl;

@@ -54,7 +54,7 @@ pub fn a_program_without_end_runs_forever()
     bmach::resolving_changes_no_run();
 }
 
-/// More fuel changes no end of a program.
+/// More fuel doesn't change how a program ends.
 pub fn more_fuel_changes_no_end()
     ensures { EndsForGood }
 {}

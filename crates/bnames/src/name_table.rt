@@ -13,7 +13,7 @@ use std::alloc::Global;
 use std::cmp::Ordering;
 use std::marker::Model;
 
-// The most entries of a piece, and the least of one that has another behind it.
+// The most entries of a piece, and the least of one that has another after it.
 const MOST: usize = 511;
 
 const LEAST: usize = 256;
@@ -67,7 +67,7 @@ struct Entry {
 
 /// Names with their values, in the order of their bytes.
 ///
-/// They stand in pieces of at most 511, of which all but the last have at least 256.
+/// They are in pieces of at most 511, of which all but the last have at least 256.
 #[derive(Drop)]
 pub struct NameTable {
     alloc: Global,
@@ -125,7 +125,7 @@ impl NameTable {
 
     /// Puts a name with its value in and answers true, or answers false where the name is there.
     ///
-    /// Where memory is refused nothing has changed.
+    /// If memory runs out, nothing has changed.
     pub fn insert(&mut self, name: Name, value: u32) -> Result<bool, NoMemory>
         ensures there { IfOk result (λ new. new ≡ is_none (value_in name self.old)) }
         ensures entries { IfOk result (λ new. self.new
@@ -215,7 +215,7 @@ fn put_in(
     put_at(&mut pieces[index], place, entry)
 }
 
-// Puts an entry into a piece of its own, behind all others.
+// Puts an entry into a piece of its own, after all others.
 fn push_piece(alloc: Global, pieces: &mut Vec<Vec<Entry>>, entry: Entry) -> Result<(), NoMemory>
     ensures ok { OnOk result ((d : Vec Entry) × (d.items ≡ entry ∷ [])
         × (pieces.new.items ≡ pieces.old.items ++ d ∷ [])) }

@@ -4,7 +4,7 @@ use Rattle.std.proofs.Math.Seq.{set-append_seam}
 use Rattle.blang.specs.declared.code.Instr.{Instr}
 use Rattle.blang.specs.declared.code.Instr.TheVariants as instr
 use Rattle.blang.specs.Trees.{Stmt, Headed, Compound, If, IfElse, While, Switch, Goto, Break, Return, ReturnValue, Evaluate, Empty, Stmts, Nothing, More}
-use Rattle.blang.specs.Code.{Environment, word_code, heading_code, statement_end, body_end, statement_code, body_code}
+use Rattle.blang.specs.Code.{Environment, word_code, heading_code, piece, body_piece}
 use Rattle.btree.proofs.CodeLaws.{statement_ends, body_ends}
 use Rattle.bemit.specs.Drafts.{led}
 
@@ -25,9 +25,9 @@ fills_one out p = record {
       ap (λ n. slice_set (before ++ (instr.Jump 0 ∷ after)) n (instr.Jump out)) (sym h) ∙ set-append_seam before (instr.Jump 0) after (instr.Jump out);
 }
 
--- behind other code
-pub fills_behind : {out p q : ℕ} {places : List ℕ} {c c2 : List Instr} (x : List Instr) → p + length x ≡ q → Fills out q places c c2 → Fills out p places (x ++ c) (x ++ c2)
-fills_behind {out = out} {q = q} {places = places} {c = c} {c2 = c2} x h f = record {
+-- after other code
+pub fills_after : {out p q : ℕ} {places : List ℕ} {c c2 : List Instr} (x : List Instr) → p + length x ≡ q → Fills out q places c c2 → Fills out p places (x ++ c) (x ++ c2)
+fills_after {out = out} {q = q} {places = places} {c = c} {c2 = c2} x h f = record {
   within = λ before after l.
       ap (led out places) (regrouped before c after)
       ∙ f.within (before ++ x) after (let e : length (before ++ x) ≡ q = omega (arith, length-append before x, l, h) in e)
@@ -47,7 +47,7 @@ fills_before {out = out} {places = places} {c = c} {c2 = c2} x f = record {
 pub fills_both : {out p q : ℕ} {xs ys : List ℕ} {c c2 d d2 : List Instr} → p + length c2 ≡ q → Fills out p xs c c2 → Fills out q ys d d2 → Fills out p (xs ++ ys) (c ++ d) (c2 ++ d2)
 fills_both {out = out} {xs = xs} {ys = ys} {c = c} {c2 = c2} {d = d} h f g = record {
   within = λ before after l.
-      led-append out xs ys (before ++ ((c ++ d) ++ after)) ∙ ap (led out ys) ((fills_before d f).within before after l) ∙ (fills_behind c2 h g).within before after l;
+      led-append out xs ys (before ++ ((c ++ d) ++ after)) ∙ ap (led out ys) ((fills_before d f).within before after l) ∙ (fills_after c2 h g).within before after l;
 }
 
 pub fills_whole : {out p : ℕ} {places : List ℕ} {c c2 : List Instr} (before : List Instr) → Fills out p places c c2 → length before ≡ p → led out places (before ++ c) ≡ before ++ c2
@@ -63,38 +63,38 @@ module _ (names : Environment) where
     statement_breaks (If e s) p = statement_breaks s (p + length (word_code names e p) + 1)
     statement_breaks (IfElse e s other) p =
         let q = p + length (word_code names e p) + 1 in
-        statement_breaks s q ++ statement_breaks other (statement_end names s q + 1)
+        statement_breaks s q ++ statement_breaks other ((piece names s q).end + 1)
     statement_breaks (Break line) p = p ∷ []
     statement_breaks _ p = []
 
     pub body_breaks : Stmts → ℕ → List ℕ
     body_breaks Nothing p = []
-    body_breaks (More before s) p = body_breaks before p ++ statement_breaks s (body_end names before p)
+    body_breaks (More before s) p = body_breaks before p ++ statement_breaks s ((body_piece names before p).end)
 
   -- filled with out, the open breaks of a statement's code lead out
   mutual
-    pub statement_closes : (s : Stmt) (p out : ℕ) → Fills out p (statement_breaks s p) (statement_code names s p 0) (statement_code names s p out)
-    statement_closes (Headed h s) p out = fills_behind (heading_code names h) refl (statement_closes s (p + length (heading_code names h)) out)
+    pub statement_closes : (s : Stmt) (p out : ℕ) → Fills out p (statement_breaks s p) ((piece names s p).code 0) ((piece names s p).code out)
+    statement_closes (Headed h s) p out = fills_after (heading_code names h) refl (statement_closes s (p + length (heading_code names h)) out)
     statement_closes (Compound body) p out = body_closes body p out
     statement_closes (If e s) p out =
         let q = p + length (word_code names e p) + 1 in
-        fills_behind (word_code names e p) refl (fills_behind (instr.JumpIfZero (statement_end names s q) ∷ []) refl (statement_closes s q out))
+        fills_after (word_code names e p) refl (fills_after (instr.JumpIfZero ((piece names s q).end) ∷ []) refl (statement_closes s q out))
     statement_closes (IfElse e s other) p out =
         let q = p + length (word_code names e p) + 1 in
-        let a = statement_end names s q + 1 in
-        let jump = instr.Jump (statement_end names other a) ∷ [] in
-        fills_behind (word_code names e p) refl
-        (fills_behind (instr.JumpIfZero a ∷ []) refl
-        (fills_both (statement_ends names s q out) (statement_closes s q out) (fills_behind jump refl (statement_closes other a out))))
+        let a = (piece names s q).end + 1 in
+        let jump = instr.Jump ((piece names other a).end) ∷ [] in
+        fills_after (word_code names e p) refl
+        (fills_after (instr.JumpIfZero a ∷ []) refl
+        (fills_both (statement_ends names s q out) (statement_closes s q out) (fills_after jump refl (statement_closes other a out))))
     statement_closes (Break line) p out = fills_one out p
-    statement_closes (While e s) p out = fills_none out p (statement_code names (While e s) p 0)
-    statement_closes (Switch e body) p out = fills_none out p (statement_code names (Switch e body) p 0)
-    statement_closes (Goto e) p out = fills_none out p (statement_code names (Goto e) p 0)
-    statement_closes Return p out = fills_none out p (statement_code names Return p 0)
-    statement_closes (ReturnValue e) p out = fills_none out p (statement_code names (ReturnValue e) p 0)
-    statement_closes (Evaluate e) p out = fills_none out p (statement_code names (Evaluate e) p 0)
+    statement_closes (While e s) p out = fills_none out p ((piece names (While e s) p).code 0)
+    statement_closes (Switch e body) p out = fills_none out p ((piece names (Switch e body) p).code 0)
+    statement_closes (Goto e) p out = fills_none out p ((piece names (Goto e) p).code 0)
+    statement_closes Return p out = fills_none out p ((piece names Return p).code 0)
+    statement_closes (ReturnValue e) p out = fills_none out p ((piece names (ReturnValue e) p).code 0)
+    statement_closes (Evaluate e) p out = fills_none out p ((piece names (Evaluate e) p).code 0)
     statement_closes Empty p out = fills_none out p []
 
-    pub body_closes : (ss : Stmts) (p out : ℕ) → Fills out p (body_breaks ss p) (body_code names ss p 0) (body_code names ss p out)
+    pub body_closes : (ss : Stmts) (p out : ℕ) → Fills out p (body_breaks ss p) ((body_piece names ss p).code 0) ((body_piece names ss p).code out)
     body_closes Nothing p out = fills_none out p []
-    body_closes (More before s) p out = fills_both (body_ends names before p out) (body_closes before p out) (statement_closes s (body_end names before p) out)
+    body_closes (More before s) p out = fills_both (body_ends names before p out) (body_closes before p out) (statement_closes s ((body_piece names before p).end) out)

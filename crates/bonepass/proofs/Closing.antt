@@ -1,4 +1,4 @@
--- A body whose breaks are filled behind it.
+-- A body whose breaks are filled after it.
 use Rattle.std.proofs.Common.{◌≡◌, ℕ, ◌+◌, ◌≤◌, List, [], ◌++◌, length, take, drop, Some, refl, sym, ap, ap₂, ◌∙◌, arith, le_refl, append-nil, length-append}
 use Rattle.std.proofs.Math.Seq.{drop-append_seam, take-append_seam}
 use Rattle.blang.specs.declared.code.Instr.{Instr}
@@ -12,7 +12,7 @@ use Rattle.bonepass.proofs.Parts.{Parts, added, drafted, Roomy, smaller, noted, 
 abbrev pub closed : Parts → (ℕ → List Instr) → Parts
 closed a c = record a { code = c; breaks = λ p. [] }
 
--- The breaks behind the first ones are filled, where the marks are known.
+-- The breaks after the first ones are filled, where the marks are known.
 pub fill_breaks : (mark target out : ℕ) (s : Scope) (m : Made) (first places : List ℕ) (new : List Instr) → m.breaks ≡ first ++ places → length new ≡ length m.code
     → (Roomy s.frame m → (mark ≡ length first) × (target ≡ out)) → led out places m.code ≡ new
     → breaks_filled mark target (drafted s m) ≡ drafted s (record m { code = new; breaks = first })

@@ -13,10 +13,10 @@ use Rattle.blang.specs.declared.code.Definition as coded
 use Rattle.blang.specs.declared.code.Definition.TheVariants as code
 use Rattle.blang.specs.Trees.{Identifier, Text, Stmt, Evaluate, Ival, Ival_constant, Ival_text, Ival_name, Definition, Simple, Vector, Function}
 use Rattle.blang.specs.WellFormed.{nesting_limit, IsFormed, packed}
-use Rattle.btree.specs.Fitting.{EachBehind, Sits, ival_words, values_words, IvalFits, statement_strings, ival_strings}
+use Rattle.btree.specs.Fitting.{EachAfter, Sits, ival_words, values_words, IvalFits, statement_strings, ival_strings}
 use Rattle.blang.specs.Scan.{fault, name_fault, undefined, Scope, no_scope, function_events, function_scope, inner_fault, scope_fault, identifier_of, scan}
 use Rattle.bword.specs.Words.{same_name}
-use Rattle.blang.specs.Code.{Environment, environment_of, statement_end, statement_code, label_places, ival_code, vector_words, clean, code_of, fits_limits, fault_of, or_too_large}
+use Rattle.blang.specs.Code.{Environment, environment_of, ival_code, vector_words, clean, code_of, fits_limits, fault_of, or_too_large, Piece, piece}
 use Rattle.btree.proofs.CodeLaws.{counts_words}
 use Rattle.btree.proofs.Fitting.{simple_strings, vector_strings, function_strings, formed_in}
 use Rattle.btree.proofs.ScanSteps.{scanned-Err}
@@ -30,7 +30,8 @@ use Rattle.bonepass.proofs.Headings.{parameters_make, worded_scope}
 use Rattle.bonepass.proofs.Breaks.{statement_breaks, fills_whole, statement_closes}
 use Rattle.bonepass.proofs.Trees.{statement_parts}
 use Rattle.bonepass.proofs.StatementMakes.{done_makes}
-use Rattle.bonepass.proofs.Numbered.{renumbered, names_renumbered, statement_numbered, labels_same}
+use Rattle.bonepass.proofs.Numbered.{renumbered, names_renumbered, numbered_piece, piece_numbered}
+use Rattle.btree.proofs.WalkLaws.{function_events_are}
 
 faulty_is : (r : Draft) (f : Diagnostic) → scope_of r ≡ Err f → r ≡ Faulty f
 faulty_is (Faulty g) f h = let e : g ≡ f = cc in ap (λ x. Faulty x) e
@@ -71,7 +72,7 @@ ival_length (Ival_name w) = refl
 more_more : (m : Made) (vs us : List coded_value.Ival) (ss ts : List ℕ) → more (more m vs ss) us ts ≡ more m (vs ++ us) (ss ++ ts)
 more_more m vs us ss ts = λ i. record m { values = append_assoc m.values vs us i; strings = append_assoc m.strings ss ts i }
 
-values_are : (values before : List Ival) (s : Scope) (m : Made) → EachBehind IvalFits before values → length m.strings ≡ values_words before → values_done values (drafted s m) ≡ drafted s (more m (map ival_code values) (flat_map ival_strings values))
+values_are : (values before : List Ival) (s : Scope) (m : Made) → EachAfter IvalFits before values → length m.strings ≡ values_words before → values_done values (drafted s m) ≡ drafted s (more m (map ival_code values) (flat_map ival_strings values))
 values_are [] before s m h l = ap (drafted s) (λ i. record m { values = sym (append-nil m.values) i; strings = sym (append-nil m.strings) i })
 values_are (x ∷ xs) before s m h l =
     let m1 = more m (ival_code x ∷ []) (ival_strings x) in
@@ -133,7 +134,9 @@ abbrev function_parts : Environment → Stmt → Parts
 function_parts names body = ending (ending (joined no_parts (statement_parts names body)) (λ p. instr.Constant 0)) (λ p. instr.Return)
 
 function_makes : (names : Environment) (w : Identifier) (parameters : List Identifier) (body : Stmt) → Sits body nesting_limit 0 → Makes names (definition_done (Function w parameters body)) (function_events parameters body) nesting_limit 0 (function_parts names body)
-function_makes names w parameters body sits = emits instr.Return (emits (instr.Constant 0) (then_ (parameters_make parameters) (done_makes names body nesting_limit 0 sits) refl))
+function_makes names w parameters body sits =
+    subst (λ es. Makes names (definition_done (Function w parameters body)) es nesting_limit 0 (function_parts names body)) (sym (function_events_are parameters body))
+    (emits instr.Return (emits (instr.Constant 0) (then_ (parameters_make parameters) (done_makes names body nesting_limit 0 sits) refl)))
 
 -- the code of a function with this scope and these words of its strings
 abbrev function_code : Identifier → List Identifier → Stmt → Scope → List ℕ → coded.Definition
@@ -141,9 +144,9 @@ function_code w parameters body s strings = code.Function (record {
   name = w.text;
   parameters = length parameters;
   frame = s.frame;
-  targets = label_places (environment_of s.names) body 0;
+  targets = (piece (environment_of s.names) body 0).targets.labels;
   strings = strings;
-  code = statement_code (environment_of s.names) body 0 (statement_end (environment_of s.names) body 0) ++ (instr.Constant 0 ∷ instr.Return ∷ []);
+  code = (piece (environment_of s.names) body 0).code ((piece (environment_of s.names) body 0).end) ++ (instr.Constant 0 ∷ instr.Return ∷ []);
 })
 
 function_comes : (w : Identifier) (parameters : List Identifier) (body : Stmt) → Sits body nesting_limit 0 → Comes (Function w parameters body) (definition_done (Function w parameters body) fresh)
@@ -171,23 +174,26 @@ function_comes w parameters body sits = go (function_scope parameters body) refl
         renamed = names_renumbered s.names u
 
         out : ℕ
-        out = statement_end (environment_of s.names) body 0
+        out = (piece (environment_of s.names) body 0).end
 
         tree : List Instr
-        tree = statement_code (environment_of s.names) body 0 out
+        tree = (piece (environment_of s.names) body 0).code out
 
         -- No break stands outside of loops and switches.
         no_breaks : statement_breaks (environment_of s.names) body 0 ≡ []
         no_breaks = (function_makes (environment_of s.names) w parameters body sits).inside no_scope s h refl 0
 
-        closed : statement_code (environment_of s.names) body 0 0 ≡ tree
-        closed = ap (λ l. led out l (statement_code (environment_of s.names) body 0 0)) (sym no_breaks) ∙ fills_whole [] (statement_closes (environment_of s.names) body 0 out) refl
+        closed : (piece (environment_of s.names) body 0).code 0 ≡ tree
+        closed = ap (λ l. led out l ((piece (environment_of s.names) body 0).code 0)) (sym no_breaks) ∙ fills_whole [] (statement_closes (environment_of s.names) body 0 out) refl
+
+        numbered_body : numbered_piece s.names names (environment_of s.names) renamed (piece names body 0) ≡ piece (environment_of s.names) body 0
+        numbered_body = piece_numbered s.names names (environment_of s.names) renamed body 0
 
         coded : map (numbered s.names) m.code ≡ tree ++ ends
         coded =
-            ap (map (numbered s.names)) (append_assoc (statement_code names body 0 0) (instr.Constant 0 ∷ []) (instr.Return ∷ []))
-            ∙ map-append (numbered s.names) (statement_code names body 0 0) ends
-            ∙ ap (λ l. l ++ ends) (statement_numbered s.names names (environment_of s.names) renamed body 0 0 ∙ closed)
+            ap (map (numbered s.names)) (append_assoc ((piece names body 0).code 0) (instr.Constant 0 ∷ []) (instr.Return ∷ []))
+            ∙ map-append (numbered s.names) ((piece names body 0).code 0) ends
+            ∙ ap (λ l. l ++ ends) (ap (λ (a : Piece). a.code 0) numbered_body ∙ closed)
 
         whole : code_of d ≡ function_code w parameters body s (statement_strings body)
         whole = λ i. function_code w parameters body (clean (h i)) (function_strings w parameters body i)
@@ -201,8 +207,8 @@ function_comes w parameters body sits = go (function_scope parameters body) refl
             ∙ ap (λ o. Going s o) (function_fits s.frame m (tree ++ ends) long refl)
             ∙ ap (λ c. Going s (if fits_limits c then Some m else None)) (sym whole)
 
-        labels : label_places names body 0 ≡ label_places (environment_of s.names) body 0
-        labels = labels_same s.names names (environment_of s.names) renamed body 0
+        labels : (piece names body 0).targets.labels ≡ (piece (environment_of s.names) body 0).targets.labels
+        labels = ap (λ (a : Piece). a.targets.labels) numbered_body
 
         code_is : code_with d s.frame (record m { code = map (numbered s.names) m.code }) ≡ code_of d
         code_is = (λ i. code.Function (record { name = w.text; parameters = length parameters; frame = s.frame; targets = labels i; strings = statement_strings body; code = coded i })) ∙ sym whole
@@ -211,7 +217,7 @@ function_comes w parameters body sits = go (function_scope parameters body) refl
     settled s None h u = coded_by s h u
     settled s (Some f) h u =
         let r = going_is (definition_done d fresh) s (scope_is ∙ h) in
-        Refused f (ap scope_fault h ∙ u) (ap (fault_in w.line) r.1 ∙ ap (λ o. drafts.fault_behind o r.0 w.line) u)
+        Refused f (ap scope_fault h ∙ u) (ap (fault_in w.line) r.1 ∙ ap (λ o. drafts.fault_after o r.0 w.line) u)
 
     go : (r : Result Scope Diagnostic) → function_scope parameters body ≡ r → Comes d (definition_done d fresh)
     go (Err f) h = Refused f (ap scope_fault h) (ap (fault_in w.line) (faulty_is (definition_done d fresh) f (scope_is ∙ h)))
@@ -263,17 +269,17 @@ settles defined d r (Coded s m i u h c) e = go (fits_limits (code_of d)) refl
     small : fault_of defined d ≡ (if fits_limits (code_of d) then None else Some (fault letters.TooLarge (identifier_of d).line))
     small = e ∙ ap (λ o. or_too_large o (identifier_of d).line (code_of d)) i
 
-    found : fault_in (identifier_of d).line r ≡ drafts.fault_behind None (if fits_limits (code_of d) then Some m else None) (identifier_of d).line
-    found = ap (fault_in (identifier_of d).line) h ∙ ap (λ o. drafts.fault_behind o (if fits_limits (code_of d) then Some m else None) (identifier_of d).line) u
+    found : fault_in (identifier_of d).line r ≡ drafts.fault_after None (if fits_limits (code_of d) then Some m else None) (identifier_of d).line
+    found = ap (fault_in (identifier_of d).line) h ∙ ap (λ o. drafts.fault_after o (if fits_limits (code_of d) then Some m else None) (identifier_of d).line) u
 
     go : (b : Bool) → fits_limits (code_of d) ≡ b → Settles defined d r
     go true q = (
-      found ∙ ap (λ b. drafts.fault_behind None (if b then Some m else None) (identifier_of d).line) q ∙ sym (ap (λ b. if b then None else Some (fault letters.TooLarge (identifier_of d).line)) q) ∙ sym small,
+      found ∙ ap (λ b. drafts.fault_after None (if b then Some m else None) (identifier_of d).line) q ∙ sym (ap (λ b. if b then None else Some (fault letters.TooLarge (identifier_of d).line)) q) ∙ sym small,
       λ n. (s, record m { code = map (numbered s.names) m.code }, ap draft_resolved h ∙ ap (λ b. draft_resolved (Going s (if b then Some m else None))) q, c),
     )
     go false q =
         let large : fault_of defined d ≡ Some (fault letters.TooLarge (identifier_of d).line) = small ∙ ap (λ b. if b then None else Some (fault letters.TooLarge (identifier_of d).line)) q in (
-          found ∙ ap (λ b. drafts.fault_behind None (if b then Some m else None) (identifier_of d).line) q ∙ sym large,
+          found ∙ ap (λ b. drafts.fault_after None (if b then Some m else None) (identifier_of d).line) q ∙ sym large,
           λ n. let bad : Some (fault letters.TooLarge (identifier_of d).line) ≡ None = sym large ∙ n in cc,
         )
 

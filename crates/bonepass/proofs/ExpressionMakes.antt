@@ -5,10 +5,11 @@ use Rattle.bword.specs.declared.operators.BinOp.TheVariants as op
 use Rattle.blang.specs.declared.code.Instr.{Instr}
 use Rattle.blang.specs.declared.code.Instr.TheVariants as instr
 use Rattle.blang.specs.declared.code.Increment.TheVariants as increment
-use Rattle.blang.specs.Trees.{Number, Expr, Arguments, Negate, Not, Indirection, Address, PreIncrement, PreDecrement, PostIncrement, PostDecrement, Named, Literal, Text, Grouped, Indexed, Called, Postfixed, Prefixed, Binary, Conditional, Assigned, No_arguments, Another, Evaluate}
+use Rattle.blang.specs.Trees.{Number, Expr, Arguments, Negate, Not, Indirection, Address, PreIncrement, PreDecrement, PostIncrement, PostDecrement, Named, Literal, Text, Grouped, Indexed, Called, Postfixed, Prefixed, Binary, Conditional, Assigned, No_arguments, Another, Evaluate, constant_value}
 use Rattle.blang.specs.WellFormed.{rvalue_rank, or_rank, conditional_rank, rank}
 use Rattle.btree.specs.Fitting.{words, argument_words, Deeper, Fits, ArgumentsFit, strings, argument_strings}
-use Rattle.blang.specs.Scan.{Lvalue, events, argument_events, constant_value}
+use Rattle.blang.specs.Walk.{Lvalue}
+use Rattle.btree.specs.Events.{events, argument_events}
 use Rattle.blang.specs.Code.{Environment, Referent, In_frame, Outside, At_label, name_word_code, word_code, address_code, argument_code, argument_count, assignment}
 use Rattle.btree.proofs.CodeLaws.{counts_words}
 use Rattle.bemit.specs.Drafts.{most_instructions}
@@ -24,8 +25,8 @@ inside P (suc k) h = (k, h)
 ends_some : (xs : List Instr) (i : Instr) (ys : List Instr) → 1 ≤ length (xs ++ i ∷ ys)
 ends_some xs i ys = omega (arith, length-append xs (i ∷ ys))
 
-behind_some : (xs ys : List Instr) → 1 ≤ length ys → 1 ≤ length (xs ++ ys)
-behind_some xs ys h = omega (arith, length-append xs ys, h)
+after_some : (xs ys : List Instr) → 1 ≤ length ys → 1 ≤ length (xs ++ ys)
+after_some xs ys h = omega (arith, length-append xs ys, h)
 
 pub expression_words : (e : Expr) (off : ℕ) → off + words e ≡ off + length (strings e)
 expression_words e off = ap (λ n. off + n) (sym (counts_words (Evaluate e)))
@@ -46,8 +47,8 @@ module _ (names : Environment) where
     word_some (Literal c) p = omega arith
     word_some (Text bytes offset) p = omega arith
     word_some (Grouped e) p = word_some e p
-    word_some (Indexed e f) p = behind_some (word_code names e p) _ (ends_some (word_code names f _) _ _)
-    word_some (Called e args) p = behind_some (word_code names e p) _ (ends_some (argument_code names args _) _ _)
+    word_some (Indexed e f) p = after_some (word_code names e p) _ (ends_some (word_code names f _) _ _)
+    word_some (Called e args) p = after_some (word_code names e p) _ (ends_some (argument_code names args _) _ _)
     word_some (Postfixed PostIncrement line e) p = ends_some (address_code names e p) _ _
     word_some (Postfixed PostDecrement line e) p = ends_some (address_code names e p) _ _
     word_some (Prefixed Negate line e) p = ends_some (word_code names e p) _ _
@@ -56,15 +57,15 @@ module _ (names : Environment) where
     word_some (Prefixed Address line e) p = address_some e p
     word_some (Prefixed PreIncrement line e) p = ends_some (address_code names e p) _ _
     word_some (Prefixed PreDecrement line e) p = ends_some (address_code names e p) _ _
-    word_some (Binary op line e f) p = behind_some (word_code names e p) _ (ends_some (word_code names f _) _ _)
+    word_some (Binary op line e f) p = after_some (word_code names e p) _ (ends_some (word_code names f _) _ _)
     word_some (Conditional e f g) p = ends_some (word_code names e p) _ _
-    word_some (Assigned op line e f) p = behind_some (address_code names e p) _ (ends_some (word_code names f _) _ _)
+    word_some (Assigned op line e f) p = after_some (address_code names e p) _ (ends_some (word_code names f _) _ _)
 
     address_some : (e : Expr) (p : ℕ) → 1 ≤ length (address_code names e p)
     address_some (Named w) p = omega arith
     address_some (Grouped e) p = address_some e p
     address_some (Prefixed Indirection line e) p = word_some e p
-    address_some (Indexed e f) p = behind_some (word_code names e p) _ (ends_some (word_code names f _) _ _)
+    address_some (Indexed e f) p = after_some (word_code names e p) _ (ends_some (word_code names f _) _ _)
     address_some e p = omega arith
 
   arguments_some : (args : Arguments) (p : ℕ) → argument_count args ≤ length (argument_code names args p)

@@ -4,15 +4,17 @@ use Rattle.blang.specs.declared.token.Diagnostic.{Diagnostic}
 use Rattle.bword.specs.declared.operators.BinOp.TheVariants as op
 use Rattle.blang.specs.declared.code.Instr.{Instr}
 use Rattle.blang.specs.declared.code.Instr.TheVariants as instr
-use Rattle.blang.specs.Trees.{Identifier, Expr, Arguments, Indirection, Named, Literal, Text, Grouped, Indexed, Called, Postfixed, Prefixed, Binary, Conditional, Assigned}
-use Rattle.blang.specs.Scan.{Entry, NameKind, Automatic, External, Unlabelled, Labelled, kind_of, Scope, Event, Mention, Lvalue, scan_event, scanned, events, argument_events, is_lvalue, constant_value}
+use Rattle.blang.specs.Trees.{Identifier, Expr, Arguments, Indirection, Named, Literal, Text, Grouped, Indexed, Called, Postfixed, Prefixed, Binary, Conditional, Assigned, constant_value}
+use Rattle.blang.specs.Scan.{Entry, NameKind, Automatic, External, Unlabelled, Labelled, kind_of, Scope, scan_event, scanned, is_lvalue}
+use Rattle.blang.specs.Walk.{Event, Mention, Lvalue}
+use Rattle.btree.specs.Events.{events, argument_events}
 use Rattle.blang.specs.Scan as scan
 use Rattle.blang.specs.Code.{Environment, Referent, In_frame, Outside, At_label, name_address_code, name_word_code, word_code, address_code}
 use Rattle.blang.specs.WellFormed.{packed}
 use Rattle.btree.specs.Fitting.{strings}
 use Rattle.btree.proofs.CodeLaws.{scanned-append}
 use Rattle.btree.proofs.ScanSteps.{mentions, scanned-Err}
-use Rattle.bemit.specs.Drafts.{Made, Draft, Faulty, Going, behind, event_done, emitted, stringed, offset_of, address_instr, address_at, named, draft_names, form_at, grouped, checked, entry_of}
+use Rattle.bemit.specs.Drafts.{Made, Draft, Faulty, Going, following, event_done, emitted, stringed, offset_of, address_instr, address_at, named, draft_names, form_at, grouped, checked, entry_of}
 use Rattle.bemit.specs.Effects.{form, loads, loaded, held, evaluated}
 use Rattle.bemit.specs.declared.form.Form.{Form}
 use Rattle.bemit.specs.declared.form.Form.TheVariants.{Place, Lone, Joined}
@@ -154,7 +156,7 @@ lvalue_is e s made r = refl
 
 -- an event that only changes names
 pub stepped_is : (e : Event) (s s2 : Scope) (m : Made) → scan_event e s ≡ Ok s2 → s2.frame ≡ s.frame → event_done e (drafted s m) ≡ drafted s2 m
-stepped_is e s s2 m h f = ap (λ r. behind r (kept s.frame m)) h ∙ ap (λ n. Going s2 (kept n m)) (sym f)
+stepped_is e s s2 m h f = ap (λ r. following r (kept s.frame m)) h ∙ ap (λ n. Going s2 (kept n m)) (sym f)
 
 put_only : (m : Made) (i : Instr) → put m i ≡ added m (only (λ p. i ∷ []) [])
 put_only m i = λ j. record { code = m.code ++ i ∷ []; strings = sym (append-nil m.strings) j; values = m.values; targets = sym (append-nil m.targets) j; arms = sym (add_arms-none m.arms) j; breaks = sym (append-nil m.breaks) j }
@@ -254,9 +256,9 @@ check_scope e line (Going s made) r = go (form e (Going s made)) refl
     go Lone q = rw q (rw (sym same ∙ ap is_place_form q) refl)
     go Joined q = rw q (rw (sym same ∙ ap is_place_form q) refl)
 
-rooted_behind : (e : Expr) (r : Result Scope Diagnostic) (s : Scope) → scanned (events_of false e) r ≡ Ok s → Rooted s.names e
-rooted_behind e (Ok t) s h = rooted e false t s h
-rooted_behind e (Err d) s h = let bad : Err d ≡ Ok s = sym (scanned-Err (events_of false e) d) ∙ h in cc
+rooted_after : (e : Expr) (r : Result Scope Diagnostic) (s : Scope) → scanned (events_of false e) r ≡ Ok s → Rooted s.names e
+rooted_after e (Ok t) s h = rooted e false t s h
+rooted_after e (Err d) s h = let bad : Err d ≡ Ok s = sym (scanned-Err (events_of false e) d) ∙ h in cc
 
 record IsPlace (e : Expr) (line : ℕ) (s s2 : Scope) : Type 0 where
   same : s2 ≡ s
@@ -279,7 +281,7 @@ pub checked_makes : {names : Environment} {room off : ℕ} (e : Expr) (line : �
     → Makes names (λ d. checked (form e (held false e d)) line (held false e d)) (events e ++ Lvalue line e ∷ []) room off (only (address_code names e) (strings e))
 checked_makes {names = names} {room = room} {off = off} e line x = rescanned (ap (λ l. l ++ Lvalue line e ∷ []) (events_false e)) (record {
   scans = λ d n.
-      check_scope e line (held false e d) (λ s q. rooted_behind e (scope_of d) s (sym (x.scans d n) ∙ q))
+      check_scope e line (held false e d) (λ s q. rooted_after e (scope_of d) s (sym (x.scans d n) ∙ q))
       ∙ ap (scanned (Lvalue line e ∷ [])) (x.scans d n)
       ∙ sym (scanned-append (events_of false e) (Lvalue line e ∷ []) (scope_of d));
   depth = λ s s3 h.

@@ -2,15 +2,18 @@
 use Rattle.std.proofs.Common.{◌≡◌, ℕ, ◌+◌, ◌≤◌, Bool, true, false, List, [], ◌∷◌, ◌++◌, length, map, fold, flat_map, Option, Some, None, Ok, refl, sym, ap, ◌∙◌, subst, arith, le_refl, append_assoc, append-nil, length-append, unwrap_or, nat_lt, ltb-true, ltb-false, add-zero}
 use Rattle.blang.specs.declared.code.Instr.{Instr}
 use Rattle.blang.specs.declared.code.Instr.TheVariants as instr
-use Rattle.blang.specs.Trees.{Identifier, Declared, Heading, Auto, Extrn, Label, Case, Default}
-use Rattle.blang.specs.Scan.{Automatic, kind_of, Scope, Declaration, Import, LabelHere, CaseHere, DefaultHere, scan_event, constant_value, heading_events, Event, BreakHere}
-use Rattle.blang.specs.Code.{Environment, Referent, In_frame, Outside, At_label, vector_code, heading_code, heading_label_places, heading_arm}
-use Rattle.bemit.specs.Drafts.{Made, Draft, Going, most_words, with_made, behind, event_done, emitted, worded, frame_of, vector_set, declared, imported, labelled, within_room, break_drafted, Switch, with_innermost, with_case, with_default}
+use Rattle.blang.specs.Trees.{Identifier, Declared, Heading, Auto, Extrn, Label, Case, Default, constant_value}
+use Rattle.blang.specs.Scan.{Automatic, kind_of, Scope, scan_event}
+use Rattle.blang.specs.Walk.{Declaration, Import, LabelHere, CaseHere, DefaultHere, Event, BreakHere}
+use Rattle.btree.specs.Events.{heading_events}
+use Rattle.blang.specs.Code.{Environment, Referent, In_frame, Outside, At_label, vector_code, heading_piece}
+use Rattle.bemit.specs.Drafts.{Made, Draft, Going, most_words, with_made, following, event_done, emitted, worded, frame_of, vector_set, declared, imported, labelled, within_room, break_drafted, Switch, with_innermost, with_case, with_default}
 use Rattle.bemit.specs.Effects.{headed, parameters_done}
 use Rattle.btree.proofs.ScanSteps.{ArmAdded, kind_of-entered, declares, imports, labels_here, selects, defaults, breaks}
 use Rattle.bonepass.proofs.Names.{later}
 use Rattle.bonepass.proofs.Parts.{Parts, no_parts, added, first_of, first_of-none, add_arms, add_arms-none, drafted, kept, kept_within, kept_none, Roomy, smaller, changed, noted, put, emit, scope_of, scope_kept, scope_stepped, level_by, Makes, nothing_added, then_, retold, idle}
 use Rattle.bonepass.proofs.Expressions.{only, stepped_is}
+use Rattle.bonepass.proofs.Trees.{open_piece}
 
 vector_scope : (size : Option ℕ) (k : ℕ) (d : Draft) → scope_of (vector_set size k d) ≡ scope_of d
 vector_scope None k d = refl
@@ -66,7 +69,7 @@ declared_makes {names = names} w size = record {
   makes = λ s s2 m n h agree l.
       let d = declares w size s s2 h in
       let kind : kind_of w.text s2.names ≡ Some (Automatic s.frame) = subst (λ (t : Scope). kind_of w.text t.names ≡ Some (Automatic s.frame)) (sym d.is) (kind_of-entered d.come) in
-      ap (λ b. vector_set size s.frame (worded (frame_of b) b)) (ap (λ r. behind r (kept s.frame m)) h)
+      ap (λ b. vector_set size s.frame (worded (frame_of b) b)) (ap (λ r. following r (kept s.frame m)) h)
       ∙ ap (vector_set size s.frame) (worded_is s2 s.frame m (later (Declaration w size ∷ []) s s2 h).frame)
       ∙ vector_made names size s.frame s2 m
       ∙ ap (λ k. drafted s2 (added m (only (λ p. vector_code names k size) []))) (sym (agree w.text (Automatic s.frame) kind));
@@ -182,7 +185,7 @@ broken_makes line = record {
     whole m = λ i. record { code = m.code ++ instr.Jump 0 ∷ []; strings = sym (append-nil m.strings) i; values = m.values; targets = sym (append-nil m.targets) i; arms = sym (add_arms-none m.arms) i; breaks = m.breaks ++ length m.code ∷ [] }
 
 abbrev pub heading_parts : Environment → Heading → Parts
-heading_parts names h = record { code = λ p. heading_code names h; strings = []; targets = heading_label_places names h; arms = heading_arm h; breaks = λ p. [] }
+heading_parts names h = open_piece (heading_piece names h) [] (λ p. [])
 
 pub heading_makes : {names : Environment} {room off : ℕ} (h : Heading) → Makes names (headed h) (heading_events h) room off (heading_parts names h)
 heading_makes {names = names} (Auto ds) = retold (heading_parts names (Auto ds)) (λ p. record { code = refl; strings = refl; targets = refl; arms = refl; breaks = refl }) (autos_make ds)

@@ -3,13 +3,14 @@ use Rattle.std.proofs.Common.{◌≡◌, ℕ, ◌+◌, ◌≤◌, List, [], ◌�
 use Rattle.std.proofs.Math.Seq.{set-append_seam}
 use Rattle.blang.specs.declared.code.Instr.{Instr}
 use Rattle.blang.specs.declared.code.Instr.TheVariants as instr
-use Rattle.blang.specs.Scan.{Scope, Event, scanned}
+use Rattle.blang.specs.Scan.{Scope, scanned}
+use Rattle.blang.specs.Walk.{Event}
 use Rattle.blang.specs.Code.{Environment}
 use Rattle.btree.proofs.CodeLaws.{scanned-append}
 use Rattle.bemit.specs.Drafts.{Made, Draft, emitted, place_of, filled}
 use Rattle.bemit.specs.Effects.{ways, skipping}
 use Rattle.bonepass.proofs.Names.{agrees_before, later}
-use Rattle.bonepass.proofs.Parts.{Parts, added, add_arms, add_arms-two, drafted, Roomy, smaller, put, put_smaller, emit, fill, place_is, scope_of, scope_kept, Nested, level_then, same_depth, Makes, scanned_twice, nested_behind}
+use Rattle.bonepass.proofs.Parts.{Parts, added, add_arms, add_arms-two, drafted, Roomy, smaller, put, put_smaller, emit, fill, place_is, scope_of, scope_kept, Nested, level_then, same_depth, Makes, scanned_twice, nested_after}
 
 second_jump : (c a b : List Instr) (x j v : Instr) (end : ℕ) → end ≡ length (c ++ (x ∷ a)) → slice_set ((c ++ (x ∷ (a ++ (j ∷ [])))) ++ b) end v ≡ c ++ (x ∷ (a ++ (v ∷ b)))
 second_jump c a b x j v end h =
@@ -43,7 +44,7 @@ pub skip_at : (body : Draft → Draft) (s s2 : Scope) (m : Made) (a : Parts) →
     → body (drafted s (put m (instr.JumpIfZero 0))) ≡ drafted s2 (added (put m (instr.JumpIfZero 0)) a)
     → skipping body (drafted s m) ≡ drafted s2 (added m (skipped a))
 skip_at body s s2 m a f h =
-    ap (λ b. filled (place_of (drafted s m)) (instr.JumpIfZero (place_of b)) b) behind_body
+    ap (λ b. filled (place_of (drafted s m)) (instr.JumpIfZero (place_of b)) b) after_body
     ∙ fill (place_of (drafted s m)) (instr.JumpIfZero (place_of (drafted s2 m2))) s2 m2 new same_length known
     ∙ ap (drafted s2) whole
   where
@@ -62,8 +63,8 @@ skip_at body s s2 m a f h =
     place1 : length m1.code ≡ length m.code + 1
     place1 = length_put m (instr.JumpIfZero 0)
 
-    behind_body : body (emitted (instr.JumpIfZero 0) (drafted s m)) ≡ drafted s2 m2
-    behind_body = ap body (emit (instr.JumpIfZero 0) (instr.JumpIfZero 0) s m (λ r. refl)) ∙ h
+    after_body : body (emitted (instr.JumpIfZero 0) (drafted s m)) ≡ drafted s2 m2
+    after_body = ap body (emit (instr.JumpIfZero 0) (instr.JumpIfZero 0) s m (λ r. refl)) ∙ h
 
     flat : m2.code ≡ m.code ++ (instr.JumpIfZero 0 ∷ ca)
     flat = append_assoc m.code (instr.JumpIfZero 0 ∷ []) (a.code (length m1.code)) ∙ ap (λ n. m.code ++ (instr.JumpIfZero 0 ∷ a.code n)) place1
@@ -108,8 +109,8 @@ ways_at : (first second : Draft → Draft) (s s2 s3 : Scope) (m : Made) (a b : P
     → ((c : Made) → c.strings ≡ m.strings ++ a.strings → second (drafted s2 c) ≡ drafted s3 (added c b))
     → ways first second (drafted s m) ≡ drafted s3 (added m (ways_parts a b))
 ways_at first second s s2 s3 m a b f f2 h k =
-    ap (λ g. filled (place_of behind_first) (instr.Jump (place_of g)) g) behind_second
-    ∙ fill (place_of behind_first) (instr.Jump (place_of (drafted s3 m5))) s3 m5 new same_length2 known2
+    ap (λ g. filled (place_of after_first) (instr.Jump (place_of g)) g) after_second
+    ∙ fill (place_of after_first) (instr.Jump (place_of (drafted s3 m5))) s3 m5 new same_length2 known2
     ∙ ap (drafted s3) whole
   where
     m1 : Made
@@ -145,13 +146,13 @@ ways_at first second s s2 s3 m a b f f2 h k =
     place1 : length m1.code ≡ length m.code + 1
     place1 = length_put m (instr.JumpIfZero 0)
 
-    behind_first : Draft
-    behind_first = first (emitted (instr.JumpIfZero 0) (drafted s m))
+    after_first : Draft
+    after_first = first (emitted (instr.JumpIfZero 0) (drafted s m))
 
-    first_is : behind_first ≡ drafted s2 m2
+    first_is : after_first ≡ drafted s2 m2
     first_is = ap first (emit (instr.JumpIfZero 0) (instr.JumpIfZero 0) s m (λ r. refl)) ∙ h
 
-    jump_is : emitted (instr.Jump 0) behind_first ≡ drafted s2 m3
+    jump_is : emitted (instr.Jump 0) after_first ≡ drafted s2 m3
     jump_is = ap (emitted (instr.Jump 0)) first_is ∙ emit (instr.Jump 0) (instr.Jump 0) s2 m2 (λ r. refl)
 
     flat2 : m2.code ≡ m.code ++ (instr.JumpIfZero 0 ∷ ca)
@@ -181,13 +182,13 @@ ways_at first second s s2 s3 m a b f f2 h k =
         ∙ ap (λ l. slice_set l (length m.code) (instr.JumpIfZero q)) flat3
         ∙ set-append_seam m.code (instr.JumpIfZero 0) (ca ++ (instr.Jump 0 ∷ [])) (instr.JumpIfZero q)
 
-    filled_is : filled (place_of (drafted s m)) (instr.JumpIfZero (place_of (emitted (instr.Jump 0) behind_first))) (emitted (instr.Jump 0) behind_first) ≡ drafted s2 m4
+    filled_is : filled (place_of (drafted s m)) (instr.JumpIfZero (place_of (emitted (instr.Jump 0) after_first))) (emitted (instr.Jump 0) after_first) ≡ drafted s2 m4
     filled_is =
         ap (λ j. filled (place_of (drafted s m)) (instr.JumpIfZero (place_of j)) j) jump_is
         ∙ fill (place_of (drafted s m)) (instr.JumpIfZero (place_of (drafted s2 m3))) s2 m3 first_code (omega (arith, long3, long4)) known
 
-    behind_second : second (filled (place_of (drafted s m)) (instr.JumpIfZero (place_of (emitted (instr.Jump 0) behind_first))) (emitted (instr.Jump 0) behind_first)) ≡ drafted s3 m5
-    behind_second = ap second filled_is ∙ k m4 refl
+    after_second : second (filled (place_of (drafted s m)) (instr.JumpIfZero (place_of (emitted (instr.Jump 0) after_first))) (emitted (instr.Jump 0) after_first)) ≡ drafted s3 m5
+    after_second = ap second filled_is ∙ k m4 refl
 
     flat5 : m5.code ≡ first_code ++ cb
     flat5 = ap (λ n. first_code ++ b.code n) long4
@@ -201,13 +202,13 @@ ways_at first second s s2 s3 m a b f f2 h k =
     less5 : Roomy s3.frame m5 → Roomy s2.frame m2
     less5 r = smaller s2.frame s3.frame m2 m5 f2 (omega (arith, long2, long5)) (omega (arith, length-append m2.strings b.strings)) (le_refl _) r
 
-    known2 : Roomy s3.frame m5 → slice_set m5.code (place_of behind_first) (instr.Jump (place_of (drafted s3 m5))) ≡ new
+    known2 : Roomy s3.frame m5 → slice_set m5.code (place_of after_first) (instr.Jump (place_of (drafted s3 m5))) ≡ new
     known2 r =
-        let p : place_of behind_first ≡ length (m.code ++ (instr.JumpIfZero q ∷ ca)) = ap place_of first_is ∙ place_is s2 m2 (less5 r) ∙ (let e : length m2.code ≡ length (m.code ++ (instr.JumpIfZero q ∷ ca)) = omega (arith, long2, length-append m.code (instr.JumpIfZero q ∷ ca)) in e) in
+        let p : place_of after_first ≡ length (m.code ++ (instr.JumpIfZero q ∷ ca)) = ap place_of first_is ∙ place_is s2 m2 (less5 r) ∙ (let e : length m2.code ≡ length (m.code ++ (instr.JumpIfZero q ∷ ca)) = omega (arith, long2, length-append m.code (instr.JumpIfZero q ∷ ca)) in e) in
         let t : place_of (drafted s3 m5) ≡ q + length cb = place_is s3 m5 r ∙ long5 in
-        ap (λ n. slice_set m5.code (place_of behind_first) (instr.Jump n)) t
-        ∙ ap (λ l. slice_set l (place_of behind_first) (instr.Jump (q + length cb))) flat5
-        ∙ second_jump m.code ca cb (instr.JumpIfZero q) (instr.Jump 0) (instr.Jump (q + length cb)) (place_of behind_first) p
+        ap (λ n. slice_set m5.code (place_of after_first) (instr.Jump n)) t
+        ∙ ap (λ l. slice_set l (place_of after_first) (instr.Jump (q + length cb))) flat5
+        ∙ second_jump m.code ca cb (instr.JumpIfZero q) (instr.Jump 0) (instr.Jump (q + length cb)) (place_of after_first) p
 
     strings : (m.strings ++ a.strings) ++ b.strings ≡ m.strings ++ (a.strings ++ b.strings)
     strings = append_assoc m.strings a.strings b.strings
@@ -247,5 +248,5 @@ parts_ways {names = names} {first = first} {second = second} {es = es} {fs = fs}
         let j = emitted (instr.Jump 0) (first d1) in
         let d2 = filled (place_of d) (instr.JumpIfZero (place_of j)) j in
         let e : scope_of d2 ≡ scope_of (first d1) = scope_kept _ j ∙ scope_kept _ (first d1) in
-        let n2 : Nested room (scope_of d2) = subst (Nested room) (sym e) (nested_behind x d1 n1) in
+        let n2 : Nested room (scope_of d2) = subst (Nested room) (sym e) (nested_after x d1 n1) in
         scope_kept _ (second d2) ∙ y.scans d2 n2 ∙ ap (scanned fs) (e ∙ x.scans d1 n1 ∙ ap (scanned es) (scope_kept _ d)) ∙ sym (scanned-append es fs (scope_of d))

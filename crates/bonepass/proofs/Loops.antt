@@ -1,18 +1,20 @@
--- A loop jumps back to its test, and its breaks lead behind it.
+-- A loop jumps back to its test, and its breaks lead after it.
 use Rattle.std.proofs.Common.{◌≡◌, ℕ, suc, ◌+◌, ◌-◌, ◌≤◌, List, [], ◌∷◌, ◌++◌, length, Result, Ok, Err, refl, sym, ap, ◌∙◌, subst, arith, le_refl, length-append, lt-ltb}
 use Rattle.blang.specs.declared.token.Diagnostic.{Diagnostic}
 use Rattle.blang.specs.declared.code.Instr.{Instr}
 use Rattle.blang.specs.declared.code.Instr.TheVariants as instr
 use Rattle.blang.specs.Trees.{Expr, Stmt, While}
-use Rattle.blang.specs.Scan.{Scope, Event, LoopBegins, LoopEnds, scan_event, scanned, events, statement_events}
-use Rattle.blang.specs.Code.{Environment, word_code, statement_end, statement_code}
+use Rattle.blang.specs.Scan.{Scope, scan_event, scanned}
+use Rattle.blang.specs.Walk.{Event, LoopBegins, LoopEnds}
+use Rattle.btree.specs.Events.{events, statement_events}
+use Rattle.blang.specs.Code.{Environment, word_code, piece}
 use Rattle.btree.specs.Fitting.{strings, statement_strings}
 use Rattle.btree.proofs.CodeLaws.{scanned-append, statement_ends}
 use Rattle.bemit.specs.Drafts.{Made, Draft, Faulty, Going, most_loops, emitted, place_of, loop_begun, loop_ended}
 use Rattle.bemit.specs.Effects.{skipping, breaking, turning, evaluated, done}
 use Rattle.bonepass.proofs.Breaks.{statement_closes, fills_before}
 use Rattle.bonepass.proofs.Names.{agrees_before, later}
-use Rattle.bonepass.proofs.Parts.{Parts, added, drafted, Roomy, smaller, put, emit, put_ending, place_is, scope_of, scope_kept, scope_stepped, Nested, same_depth, Makes, scanned_twice, nested_behind, added_same, two, joined, ending}
+use Rattle.bonepass.proofs.Parts.{Parts, added, drafted, Roomy, smaller, put, emit, put_ending, place_is, scope_of, scope_kept, scope_stepped, Nested, same_depth, Makes, scanned_twice, nested_after, added_same, two, joined, ending}
 use Rattle.bonepass.proofs.Jumps.{skipped, skip_at, length_put}
 use Rattle.bonepass.proofs.Closing.{closed, break_at}
 use Rattle.bonepass.proofs.Expressions.{only, stepped_is}
@@ -73,7 +75,7 @@ loops {names = names} {room = room} {off = off} {off2 = off2} e s x y o = record
     loop_scans : (d : Draft) → Nested (suc room) (scope_of d) → scope_of (done (While e s) d) ≡ scanned (statement_events (While e s)) (scope_of d)
     loop_scans d n =
         let d1 = emitted (instr.JumpIfZero 0) (evaluated e d) in
-        let n1 : Nested (suc room) (scope_of d1) = subst (Nested (suc room)) (sym (scope_kept _ (evaluated e d))) (nested_behind x d n) in
+        let n1 : Nested (suc room) (scope_of d1) = subst (Nested (suc room)) (sym (scope_kept _ (evaluated e d))) (nested_after x d n) in
         let b1 = begun_scope room d1 n1 in
         let n2 : Nested room (scope_of (loop_begun d1)) = subst (Nested room) (sym b1) (nested_inside room (scope_of d1) n1) in
         let d2 = done s (loop_begun d1) in
@@ -109,13 +111,13 @@ loops {names = names} {room = room} {off = off} {off2 = off2} e s x y o = record
         q = length m2.code
 
         out : ℕ
-        out = statement_end names s q + 1
+        out = (piece names s q).end + 1
 
         back : Parts
         back = ending (statement_parts names s) (λ p. instr.Jump (length m.code))
 
         closed_code : ℕ → List Instr
-        closed_code p = statement_code names s p (statement_end names s p + 1) ++ (instr.Jump (length m.code) ∷ [])
+        closed_code p = (piece names s p).code ((piece names s p).end + 1) ++ (instr.Jump (length m.code) ∷ [])
 
         whole : Parts
         whole = closed back closed_code
@@ -128,7 +130,7 @@ loops {names = names} {room = room} {off = off} {off2 = off2} e s x y o = record
 
         less : Roomy s3.frame m3 → Roomy s1.frame m
         less r = smaller s1.frame s3.frame m m3 (omega (arith, f, f2))
-            (omega (arith, length-append m.code (word_code names e (length m.code)), length_put m1 (instr.JumpIfZero 0), length-append m2.code (statement_code names s q 0)))
+            (omega (arith, length-append m.code (word_code names e (length m.code)), length_put m1 (instr.JumpIfZero 0), length-append m2.code ((piece names s q).code 0)))
             (omega (arith, length-append m.strings (strings e), length-append m1.strings (statement_strings s))) (le_refl _) r
 
         turned : turning start (λ x. done s x) (drafted s2 m2) ≡ drafted s4 (added m2 back)
@@ -140,20 +142,20 @@ loops {names = names} {room = room} {off = off} {off2 = off2} e s x y o = record
             ∙ stepped_is LoopEnds s3 s4 (added m2 back) ends same_frame
 
         same_length : length (closed_code q) ≡ length (back.code q)
-        same_length = omega (arith, length-append (statement_code names s q out) (instr.Jump (length m.code) ∷ []), length-append (statement_code names s q 0) (instr.Jump (length m.code) ∷ []), statement_ends names s q out, statement_ends names s q 0)
+        same_length = omega (arith, length-append ((piece names s q).code out) (instr.Jump (length m.code) ∷ []), length-append ((piece names s q).code 0) (instr.Jump (length m.code) ∷ []), statement_ends names s q out, statement_ends names s q 0)
 
         end : q + length (back.code q) ≡ out
-        end = omega (arith, length-append (statement_code names s q 0) (instr.Jump (length m.code) ∷ []), statement_ends names s q 0)
+        end = omega (arith, length-append ((piece names s q).code 0) (instr.Jump (length m.code) ∷ []), statement_ends names s q 0)
 
         ce : List Instr
         ce = word_code names e (length m.code)
 
-        behind : List Instr
-        behind = closed_code (length m.code + length ce + 1)
+        following : List Instr
+        following = closed_code (length m.code + length ce + 1)
 
-        code : ce ++ (instr.JumpIfZero (length m.code + length ce + 1 + length behind) ∷ behind) ≡ ce ++ (instr.JumpIfZero (statement_end names s (length m.code + length ce + 1) + 1) ∷ behind)
+        code : ce ++ (instr.JumpIfZero (length m.code + length ce + 1 + length following) ∷ following) ≡ ce ++ (instr.JumpIfZero ((piece names s (length m.code + length ce + 1)).end + 1) ∷ following)
         code =
             let r = length m.code + length ce + 1 in
-            let there = statement_end names s r + 1 in
-            let e : r + length behind ≡ there = omega (arith, length-append (statement_code names s r there) (instr.Jump (length m.code) ∷ []), statement_ends names s r there) in
-            ap (λ n. ce ++ (instr.JumpIfZero n ∷ behind)) e
+            let there = (piece names s r).end + 1 in
+            let e : r + length following ≡ there = omega (arith, length-append ((piece names s r).code there) (instr.Jump (length m.code) ∷ []), statement_ends names s r there) in
+            ap (λ n. ce ++ (instr.JumpIfZero n ∷ following)) e

@@ -4,7 +4,8 @@ use Rattle.std.specs.List.{position_from}
 use Rattle.std.proofs.lemmas.Iterator.Adapters.{position_from-zero}
 use Rattle.blang.specs.declared.token.Diagnostic.{Diagnostic}
 use Rattle.blang.specs.Trees.{Identifier}
-use Rattle.blang.specs.Scan.{Entry, NameKind, Automatic, External, Unlabelled, Labelled, kind_of, with_entry, with_declaration, with_mention, with_label, kind_mentioned, Scope, Event, Declaration, Import, Mention, LabelHere, CaseHere, DefaultHere, BreakHere, Lvalue, LoopBegins, LoopEnds, SwitchBegins, SwitchEnds, scan_event, scanned, automatic_words}
+use Rattle.blang.specs.Scan.{Entry, NameKind, Automatic, External, Unlabelled, Labelled, kind_of, with_entry, with_declaration, with_mention, with_label, kind_mentioned, Scope, scan_event, scanned, automatic_words}
+use Rattle.blang.specs.Walk.{Event, Declaration, Import, Mention, LabelHere, CaseHere, DefaultHere, BreakHere, Lvalue, LoopBegins, LoopEnds, SwitchBegins, SwitchEnds}
 use Rattle.bword.specs.Words.{same_name}
 use Rattle.blang.specs.Scan as scope
 use Rattle.blang.specs.Code.{Environment, Referent, In_frame, Outside, At_label}
@@ -121,7 +122,7 @@ mentioned_extends called w es fs m = ⊎_elim (λ k. subst (Extends es) (sym k.i
 labelled_extends : (w : Identifier) (number : ℕ) (es fs : List Entry) → LabelStands w number es fs → Extends es fs
 labelled_extends w number es fs l = ⊎_elim entered_extends (λ r. subst (Extends es) (sym r.is) (extends_with_kind w.text number r.line es r.was)) l
 
--- the kind of a name behind its mention
+-- the kind of a name after its mention
 pub kind_mentioned_is : (called : Bool) (w : Identifier) (es fs : List Entry) → Mentioned called w es fs → (k : NameKind) × (kind_of w.text fs ≡ Some k)
 kind_mentioned_is called w es fs m =
     ⊎_elim (λ k. (k.kind, ap (kind_of w.text) k.is ∙ k.there)) (λ e. (kind_mentioned called w.line, kind_of-entered e)) m

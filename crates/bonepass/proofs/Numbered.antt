@@ -10,7 +10,7 @@ use Rattle.blang.specs.declared.code.Instr.{Instr}
 use Rattle.blang.specs.declared.code.Instr.TheVariants as instr
 use Rattle.blang.specs.Trees.{Expr, Arguments, Negate, Not, Indirection, Address, PreIncrement, PreDecrement, PostIncrement, PostDecrement, Named, Literal, Text, Grouped, Indexed, Called, Postfixed, Prefixed, Binary, Conditional, Assigned, No_arguments, Another, Declared, Heading, Auto, Extrn, Label, Case, Default, Stmt, Headed, Compound, If, IfElse, While, Switch, Goto, Break, Return, ReturnValue, Evaluate, Empty, Stmts, Nothing, More}
 use Rattle.blang.specs.Scan.{Entry, NameKind, Automatic, External, Unlabelled, Labelled, kind_of, undefined, undefined_at}
-use Rattle.blang.specs.Code.{Environment, Referent, In_frame, Outside, At_label, environment_of, referent_of, name_address_code, name_word_code, word_code, address_code, argument_code, argument_count, assignment, vector_code, Arms, default_in, tests_code, default_code, arms_code, heading_code, heading_label_places, heading_arm, statement_end, body_end, arm_places, body_arm_places, statement_code, body_code, label_places, body_label_places}
+use Rattle.blang.specs.Code.{Environment, Referent, In_frame, Outside, At_label, environment_of, referent_of, name_address_code, name_word_code, word_code, address_code, argument_code, argument_count, assignment, vector_code, Arms, default_in, tests_code, default_code, arms_code, heading_code, heading_targets, Piece, plain, joined, heading_piece, word_then, piece, body_piece}
 use Rattle.bemit.specs.Drafts.{entry_of, kind_number, label_number, numbered}
 use Rattle.bonepass.proofs.Jumps.{ways_code}
 use Rattle.bonepass.proofs.Names.{standing_of, names_by, is, kind_here, kind_there, position_here, position_there}
@@ -46,11 +46,11 @@ label_is x es k h =
     let place : entry_of x es ≡ r.place = ap (λ o. unwrap_or o 0) (position_from-zero (is x) es ∙ r.place_is) ∙ (let z : 0 + r.place ≡ r.place = omega arith in z) in
     ap (label_number es) place ∙ r.number_is
 
-defined_head : (x : List ℕ) (k : NameKind) (behind : Option Diagnostic) → undefined_at x k behind ≡ None → (behind ≡ None) × ((line : ℕ) → k ≡ Unlabelled line → ⊥)
-defined_head x (Automatic word) behind h = (h, λ line q. cc)
-defined_head x External behind h = (h, λ line q. cc)
-defined_head x (Unlabelled line) behind h = cc
-defined_head x (Labelled number) behind h = (h, λ line q. cc)
+defined_head : (x : List ℕ) (k : NameKind) (following : Option Diagnostic) → undefined_at x k following ≡ None → (following ≡ None) × ((line : ℕ) → k ≡ Unlabelled line → ⊥)
+defined_head x (Automatic word) following h = (h, λ line q. cc)
+defined_head x External following h = (h, λ line q. cc)
+defined_head x (Unlabelled line) following h = cc
+defined_head x (Labelled number) following h = (h, λ line q. cc)
 
 all_labelled : (x : List ℕ) (es : List Entry) (line : ℕ) → undefined es ≡ None → kind_of x es ≡ Some (Unlabelled line) → ⊥
 all_labelled x [] line u h = cc
@@ -100,12 +100,12 @@ module _ (es : List Entry) (names names2 : Environment) (renamed : (x : List ℕ
   same_length : (c c2 : List Instr) → map (numbered es) c ≡ c2 → length c ≡ length c2
   same_length c c2 h = sym (length-map c (numbered es)) ∙ ap length h
 
-  -- code, and what stands behind it
+  -- code, and what stands after it
   tail_numbered : (c c2 tail : List Instr) → map (numbered es) c ≡ c2 → map (numbered es) (c ++ tail) ≡ c2 ++ map (numbered es) tail
   tail_numbered c c2 tail h = map-append (numbered es) c tail ∙ ap (λ l. l ++ map (numbered es) tail) h
 
-  behind_numbered : (c c2 : List Instr) (g g2 : ℕ → List Instr) (p : ℕ) → map (numbered es) c ≡ c2 → ((q : ℕ) → map (numbered es) (g q) ≡ g2 q) → map (numbered es) (c ++ g (p + length c)) ≡ c2 ++ g2 (p + length c2)
-  behind_numbered c c2 g g2 p h k = tail_numbered c c2 (g (p + length c)) h ∙ ap (λ l. c2 ++ l) (k (p + length c) ∙ ap (λ n. g2 (p + n)) (same_length c c2 h))
+  after_numbered : (c c2 : List Instr) (g g2 : ℕ → List Instr) (p : ℕ) → map (numbered es) c ≡ c2 → ((q : ℕ) → map (numbered es) (g q) ≡ g2 q) → map (numbered es) (c ++ g (p + length c)) ≡ c2 ++ g2 (p + length c2)
+  after_numbered c c2 g g2 p h k = tail_numbered c c2 (g (p + length c)) h ∙ ap (λ l. c2 ++ l) (k (p + length c) ∙ ap (λ n. g2 (p + n)) (same_length c c2 h))
 
   ways_numbered : (a a2 b b2 : ℕ → List Instr) → ((q : ℕ) → map (numbered es) (a q) ≡ a2 q) → ((q : ℕ) → map (numbered es) (b q) ≡ b2 q) → (p : ℕ) → map (numbered es) (ways_code a b p) ≡ ways_code a2 b2 p
   ways_numbered a a2 b b2 h k p =
@@ -133,10 +133,10 @@ module _ (es : List Entry) (names names2 : Environment) (renamed : (x : List ℕ
     word_numbered (Text bytes offset) p = refl
     word_numbered (Grouped e) p = word_numbered e p
     word_numbered (Indexed e g) p =
-        behind_numbered (word_code names e p) (word_code names2 e p) (λ q. word_code names g q ++ (instr.Binary op.Add ∷ instr.Load ∷ [])) (λ q. word_code names2 g q ++ (instr.Binary op.Add ∷ instr.Load ∷ [])) p (word_numbered e p)
+        after_numbered (word_code names e p) (word_code names2 e p) (λ q. word_code names g q ++ (instr.Binary op.Add ∷ instr.Load ∷ [])) (λ q. word_code names2 g q ++ (instr.Binary op.Add ∷ instr.Load ∷ [])) p (word_numbered e p)
         (λ q. tail_numbered _ _ _ (word_numbered g q))
     word_numbered (Called e args) p =
-        behind_numbered (word_code names e p) (word_code names2 e p) (λ q. argument_code names args q ++ (instr.Call (argument_count args) ∷ [])) (λ q. argument_code names2 args q ++ (instr.Call (argument_count args) ∷ [])) p (word_numbered e p)
+        after_numbered (word_code names e p) (word_code names2 e p) (λ q. argument_code names args q ++ (instr.Call (argument_count args) ∷ [])) (λ q. argument_code names2 args q ++ (instr.Call (argument_count args) ∷ [])) p (word_numbered e p)
         (λ q. tail_numbered _ _ _ (arguments_numbered args q))
     word_numbered (Postfixed PostIncrement line e) p = tail_numbered _ _ _ (address_numbered e p)
     word_numbered (Postfixed PostDecrement line e) p = tail_numbered _ _ _ (address_numbered e p)
@@ -147,13 +147,13 @@ module _ (es : List Entry) (names names2 : Environment) (renamed : (x : List ℕ
     word_numbered (Prefixed PreIncrement line e) p = tail_numbered _ _ _ (address_numbered e p)
     word_numbered (Prefixed PreDecrement line e) p = tail_numbered _ _ _ (address_numbered e p)
     word_numbered (Binary op line e g) p =
-        behind_numbered (word_code names e p) (word_code names2 e p) (λ q. word_code names g q ++ (instr.Binary op ∷ [])) (λ q. word_code names2 g q ++ (instr.Binary op ∷ [])) p (word_numbered e p)
+        after_numbered (word_code names e p) (word_code names2 e p) (λ q. word_code names g q ++ (instr.Binary op ∷ [])) (λ q. word_code names2 g q ++ (instr.Binary op ∷ [])) p (word_numbered e p)
         (λ q. tail_numbered _ _ _ (word_numbered g q))
     word_numbered (Conditional e g h) p =
-        behind_numbered (word_code names e p) (word_code names2 e p) (ways_code (word_code names g) (word_code names h)) (ways_code (word_code names2 g) (word_code names2 h)) p (word_numbered e p)
+        after_numbered (word_code names e p) (word_code names2 e p) (ways_code (word_code names g) (word_code names h)) (ways_code (word_code names2 g) (word_code names2 h)) p (word_numbered e p)
         (ways_numbered (word_code names g) (word_code names2 g) (word_code names h) (word_code names2 h) (λ q. word_numbered g q) (λ q. word_numbered h q))
     word_numbered (Assigned op line e g) p =
-        behind_numbered (address_code names e p) (address_code names2 e p) (λ q. word_code names g q ++ (assignment op ∷ [])) (λ q. word_code names2 g q ++ (assignment op ∷ [])) p (address_numbered e p)
+        after_numbered (address_code names e p) (address_code names2 e p) (λ q. word_code names g q ++ (assignment op ∷ [])) (λ q. word_code names2 g q ++ (assignment op ∷ [])) p (address_numbered e p)
         (λ q. tail_numbered _ _ _ (word_numbered g q) ∙ ap (λ i. word_code names2 g q ++ (i ∷ [])) (assignment_same op))
 
     address_numbered : (e : Expr) (p : ℕ) → map (numbered es) (address_code names e p) ≡ address_code names2 e p
@@ -161,14 +161,14 @@ module _ (es : List Entry) (names names2 : Environment) (renamed : (x : List ℕ
     address_numbered (Grouped e) p = address_numbered e p
     address_numbered (Prefixed Indirection line e) p = word_numbered e p
     address_numbered (Indexed e g) p =
-        behind_numbered (word_code names e p) (word_code names2 e p) (λ q. word_code names g q ++ (instr.Binary op.Add ∷ [])) (λ q. word_code names2 g q ++ (instr.Binary op.Add ∷ [])) p (word_numbered e p)
+        after_numbered (word_code names e p) (word_code names2 e p) (λ q. word_code names g q ++ (instr.Binary op.Add ∷ [])) (λ q. word_code names2 g q ++ (instr.Binary op.Add ∷ [])) p (word_numbered e p)
         (λ q. tail_numbered _ _ _ (word_numbered g q))
     address_numbered e p = refl
 
     arguments_numbered : (args : Arguments) (p : ℕ) → map (numbered es) (argument_code names args p) ≡ argument_code names2 args p
     arguments_numbered No_arguments p = refl
     arguments_numbered (Another before e) p =
-        behind_numbered (argument_code names before p) (argument_code names2 before p) (word_code names e) (word_code names2 e) p (arguments_numbered before p) (λ q. word_numbered e q)
+        after_numbered (argument_code names before p) (argument_code names2 before p) (word_code names e) (word_code names2 e) p (arguments_numbered before p) (λ q. word_numbered e q)
 
   vectors_numbered : (ds : List Declared) → map (numbered es) (flat_map (λ d. vector_code names (names d.word.text) d.size) ds) ≡ flat_map (λ d. vector_code names2 (names2 d.word.text) d.size) ds
   vectors_numbered [] = refl
@@ -186,142 +186,91 @@ module _ (es : List Entry) (names names2 : Environment) (renamed : (x : List ℕ
   heading_length : (h : Heading) → length (heading_code names h) ≡ length (heading_code names2 h)
   heading_length h = same_length _ _ (heading_numbered h)
 
-  heading_label_same : (h : Heading) (p : ℕ) → heading_label_places names h p ≡ heading_label_places names2 h p
-  heading_label_same (Auto ds) p = refl
-  heading_label_same (Extrn ws) p = refl
-  heading_label_same (Label w) p = refl
-  heading_label_same (Case line c) p = refl
-  heading_label_same (Default line) p = refl
-
   word_length : (e : Expr) (p : ℕ) → length (word_code names e p) ≡ length (word_code names2 e p)
   word_length e p = same_length _ _ (word_numbered e p)
 
-  -- where a statement ends, and its arms
-  mutual
-    ends_same : (s : Stmt) (p : ℕ) → statement_end names s p ≡ statement_end names2 s p
-    ends_same (Headed h s) p = ends_same s _ ∙ ap (λ n. statement_end names2 s (p + n)) (heading_length h)
-    ends_same (Compound body) p = body_ends_same body p
-    ends_same (If e s) p = ends_same s _ ∙ ap (λ n. statement_end names2 s (p + n + 1)) (word_length e p)
-    ends_same (IfElse e s other) p = ends_same other _ ∙ ap (λ n. statement_end names2 other (n + 1)) (ends_same s _ ∙ ap (λ n. statement_end names2 s (p + n + 1)) (word_length e p))
-    ends_same (While e s) p = ap (λ n. n + 1) (ends_same s _ ∙ ap (λ n. statement_end names2 s (p + n + 1)) (word_length e p))
-    ends_same (Switch e body) p =
-        let q = p + length (word_code names e p) + 1 in
-        ap₂ (λ n arms. n + 1 + length (arms_code arms)) (body_ends_same body q) (body_arms_same body q)
-        ∙ ap (λ n. body_end names2 body (p + n + 1) + 1 + length (arms_code (body_arm_places names2 body (p + n + 1)))) (word_length e p)
-    ends_same (Goto e) p = ap (λ n. p + n + 1) (word_length e p)
-    ends_same (Break line) p = refl
-    ends_same Return p = refl
-    ends_same (ReturnValue e) p = ap (λ n. p + n + 1) (word_length e p)
-    ends_same (Evaluate e) p = ap (λ n. p + n + 1) (word_length e p)
-    ends_same Empty p = refl
+  abbrev pub numbered_piece : Piece → Piece
+  numbered_piece a = record a { code = λ out. map (numbered es) (a.code out) }
 
-    body_ends_same : (ss : Stmts) (p : ℕ) → body_end names ss p ≡ body_end names2 ss p
-    body_ends_same Nothing p = refl
-    body_ends_same (More before s) p = ends_same s _ ∙ ap (statement_end names2 s) (body_ends_same before p)
+  -- a piece, and what stands after it
+  followed_numbered : (a a2 : Piece) (b b2 : ℕ → Piece) → numbered_piece a ≡ a2 → ((q : ℕ) → numbered_piece (b q) ≡ b2 q) → numbered_piece (joined a (b a.end)) ≡ joined a2 (b2 a2.end)
+  followed_numbered a a2 b b2 h k =
+      (λ i. record (joined a (b a.end)) { code = λ out. map-append (numbered es) (a.code out) ((b a.end).code out) i })
+      ∙ ap (joined (numbered_piece a)) (k a.end)
+      ∙ ap (λ x. joined x (b2 x.end)) h
 
-    arms_same : (s : Stmt) (p : ℕ) → arm_places names s p ≡ arm_places names2 s p
-    arms_same (Headed h s) p = ap (λ y. heading_arm h p ++ y) (arms_same s _ ∙ ap (λ n. arm_places names2 s (p + n)) (heading_length h))
-    arms_same (Compound body) p = body_arms_same body p
-    arms_same (If e s) p = arms_same s _ ∙ ap (λ n. arm_places names2 s (p + n + 1)) (word_length e p)
-    arms_same (IfElse e s other) p =
-        ap₂ (λ x y. x ++ y)
-        (arms_same s _ ∙ ap (λ n. arm_places names2 s (p + n + 1)) (word_length e p))
-        (arms_same other _ ∙ ap (λ n. arm_places names2 other (n + 1)) (ends_same s _ ∙ ap (λ n. statement_end names2 s (p + n + 1)) (word_length e p)))
-    arms_same (While e s) p = arms_same s _ ∙ ap (λ n. arm_places names2 s (p + n + 1)) (word_length e p)
-    arms_same (Switch e body) p = refl
-    arms_same (Goto e) p = refl
-    arms_same (Break line) p = refl
-    arms_same Return p = refl
-    arms_same (ReturnValue e) p = refl
-    arms_same (Evaluate e) p = refl
-    arms_same Empty p = refl
+  -- an expression, and what stands an instruction after it
+  abbrev tested_piece : List Instr → Piece → Piece
+  tested_piece c a = record a { code = λ out. c ++ a.code out }
 
-    body_arms_same : (ss : Stmts) (p : ℕ) → body_arm_places names ss p ≡ body_arm_places names2 ss p
-    body_arms_same Nothing p = refl
-    body_arms_same (More before s) p = ap₂ (λ x y. x ++ y) (body_arms_same before p) (arms_same s _ ∙ ap (arm_places names2 s) (body_ends_same before p))
+  tested_numbered : (e : Expr) (p : ℕ) (b b2 : ℕ → Piece) → ((q : ℕ) → numbered_piece (b q) ≡ b2 q) → numbered_piece (tested_piece (word_code names e p) (b (p + length (word_code names e p) + 1))) ≡ tested_piece (word_code names2 e p) (b2 (p + length (word_code names2 e p) + 1))
+  tested_numbered e p b b2 h =
+      let c = word_code names e p in
+      let q = p + length c + 1 in
+      (λ i. record (b q) { code = λ out. map-append (numbered es) c ((b q).code out) i })
+      ∙ ap (tested_piece (map (numbered es) c)) (h q)
+      ∙ ap₂ (λ n l. tested_piece l (b2 (p + n + 1))) (word_length e p) (word_numbered e p)
 
-  -- of a statement behind a test
-  behind_same : (e : Expr) (s : Stmt) (p : ℕ) → statement_end names s (p + length (word_code names e p) + 1) ≡ statement_end names2 s (p + length (word_code names2 e p) + 1)
-  behind_same e s p = ends_same s _ ∙ ap (λ n. statement_end names2 s (p + n + 1)) (word_length e p)
+  word_then_numbered : (e : Expr) (i : Instr) (p : ℕ) → numbered es i ≡ i → numbered_piece (word_then names e i p) ≡ word_then names2 e i p
+  word_then_numbered e i p h =
+      λ k. plain (λ out. (tail_numbered (word_code names e p) (word_code names2 e p) (i ∷ []) (word_numbered e p) ∙ ap (λ j. word_code names2 e p ++ j ∷ []) h) k) (p + word_length e p k + 1)
 
-  mutual
-    pub statement_numbered : (s : Stmt) (p out : ℕ) → map (numbered es) (statement_code names s p out) ≡ statement_code names2 s p out
-    statement_numbered (Headed h s) p out =
-        behind_numbered (heading_code names h) (heading_code names2 h) (λ q. statement_code names s q out) (λ q. statement_code names2 s q out) p (heading_numbered h) (λ q. statement_numbered s q out)
-    statement_numbered (Compound body) p out = body_numbered body p out
-    statement_numbered (If e s) p out =
-        behind_numbered (word_code names e p) (word_code names2 e p) (λ r. instr.JumpIfZero (statement_end names s (r + 1)) ∷ statement_code names s (r + 1) out) (λ r. instr.JumpIfZero (statement_end names2 s (r + 1)) ∷ statement_code names2 s (r + 1) out) p (word_numbered e p)
-        (λ r. ap₂ (λ n l. instr.JumpIfZero n ∷ l) (ends_same s (r + 1)) (statement_numbered s (r + 1) out))
-    statement_numbered (IfElse e s other) p out =
-        behind_numbered (word_code names e p) (word_code names2 e p) (both names) (both names2) p (word_numbered e p)
-        (λ r.
-        let a = statement_end names s (r + 1) + 1 in
-        let cs = statement_code names2 s (r + 1) out in
-        ap (λ l. instr.JumpIfZero a ∷ l) (tail_numbered (statement_code names s (r + 1) out) cs _ (statement_numbered s (r + 1) out))
-        ∙ ap₂ (λ n l. instr.JumpIfZero a ∷ (cs ++ (instr.Jump n ∷ l))) (ends_same other a) (statement_numbered other a out)
-        ∙ ap (λ n. instr.JumpIfZero (n + 1) ∷ (cs ++ (instr.Jump (statement_end names2 other (n + 1)) ∷ statement_code names2 other (n + 1) out))) (ends_same s (r + 1)))
-      where
-        both : Environment → ℕ → List Instr
-        both names r =
-            let a = statement_end names s (r + 1) + 1 in
-            instr.JumpIfZero a ∷ (statement_code names s (r + 1) out ++ (instr.Jump (statement_end names other a) ∷ statement_code names other a out))
-    statement_numbered (While e s) p out =
-        behind_numbered (word_code names e p) (word_code names2 e p) (loop names) (loop names2) p (word_numbered e p)
-        (λ r.
-        let end = statement_end names s (r + 1) + 1 in
-        ap (λ l. instr.JumpIfZero end ∷ l) (tail_numbered (statement_code names s (r + 1) end) (statement_code names2 s (r + 1) end) (instr.Jump p ∷ []) (statement_numbered s (r + 1) end))
-        ∙ ap (λ n. instr.JumpIfZero (n + 1) ∷ (statement_code names2 s (r + 1) (n + 1) ++ (instr.Jump p ∷ []))) (ends_same s (r + 1)))
-      where
-        loop : Environment → ℕ → List Instr
-        loop names r =
-            let end = statement_end names s (r + 1) + 1 in
-            instr.JumpIfZero end ∷ (statement_code names s (r + 1) end ++ (instr.Jump p ∷ []))
-    statement_numbered (Switch e body) p out =
-        behind_numbered (word_code names e p) (word_code names2 e p) (choice names) (choice names2) p (word_numbered e p)
-        (λ r.
-        let arms = body_arm_places names body (r + 1) in
-        let d = body_end names body (r + 1) + 1 in
-        let end = d + length (arms_code arms) in
-        ap (λ l. instr.Jump d ∷ l) (tail_numbered (body_code names body (r + 1) end) (body_code names2 body (r + 1) end) (instr.Jump end ∷ arms_code arms) (body_numbered body (r + 1) end))
-        ∙ ap (λ l. instr.Jump d ∷ (body_code names2 body (r + 1) end ++ (instr.Jump end ∷ l))) (arms_numbered arms)
-        ∙ ap₂ (λ n x. instr.Jump (n + 1) ∷ (body_code names2 body (r + 1) (n + 1 + length (arms_code x)) ++ (instr.Jump (n + 1 + length (arms_code x)) ∷ arms_code x))) (body_ends_same body (r + 1)) (body_arms_same body (r + 1)))
-      where
-        choice : Environment → ℕ → List Instr
-        choice names r =
-            let arms = arms_code (body_arm_places names body (r + 1)) in
-            let d = body_end names body (r + 1) + 1 in
-            instr.Jump d ∷ (body_code names body (r + 1) (d + length arms) ++ (instr.Jump (d + length arms) ∷ arms))
-    statement_numbered (Goto e) p out = tail_numbered _ _ _ (word_numbered e p)
-    statement_numbered (Break line) p out = refl
-    statement_numbered Return p out = refl
-    statement_numbered (ReturnValue e) p out = tail_numbered _ _ _ (word_numbered e p)
-    statement_numbered (Evaluate e) p out = tail_numbered _ _ _ (word_numbered e p)
-    statement_numbered Empty p out = refl
+  abbrev skip_piece : Piece → Piece
+  skip_piece a = record a { code = λ out. instr.JumpIfZero a.end ∷ a.code out }
 
-    body_numbered : (ss : Stmts) (p out : ℕ) → map (numbered es) (body_code names ss p out) ≡ body_code names2 ss p out
-    body_numbered Nothing p out = refl
-    body_numbered (More before s) p out =
-        tail_numbered (body_code names before p out) (body_code names2 before p out) _ (body_numbered before p out)
-        ∙ ap (λ l. body_code names2 before p out ++ l) (statement_numbered s (body_end names before p) out ∙ ap (λ n. statement_code names2 s n out) (body_ends_same before p))
+  abbrev ways_piece : Piece → Piece → Piece
+  ways_piece a b = record (joined a b) { code = λ out. instr.JumpIfZero (a.end + 1) ∷ (a.code out ++ (instr.Jump b.end ∷ b.code out)) }
+
+  both_numbered : (a a2 : Piece) (b b2 : ℕ → Piece) → numbered_piece a ≡ a2 → ((q : ℕ) → numbered_piece (b q) ≡ b2 q) → numbered_piece (ways_piece a (b (a.end + 1))) ≡ ways_piece a2 (b2 (a2.end + 1))
+  both_numbered a a2 b b2 h k =
+      let after = b (a.end + 1) in
+      (λ i. record (joined a after) { code = λ out. instr.JumpIfZero (a.end + 1) ∷ map-append (numbered es) (a.code out) (instr.Jump after.end ∷ after.code out) i })
+      ∙ ap (ways_piece (numbered_piece a)) (k (a.end + 1))
+      ∙ ap (λ x. ways_piece x (b2 (x.end + 1))) h
+
+  abbrev loop_piece : ℕ → Piece → Piece
+  loop_piece p a = record a { code = λ out. instr.JumpIfZero (a.end + 1) ∷ (a.code (a.end + 1) ++ (instr.Jump p ∷ [])); end = a.end + 1 }
+
+  loop_numbered : (p : ℕ) (a a2 : Piece) → numbered_piece a ≡ a2 → numbered_piece (loop_piece p a) ≡ loop_piece p a2
+  loop_numbered p a a2 h =
+      (λ i. record a { code = λ out. instr.JumpIfZero (a.end + 1) ∷ map-append (numbered es) (a.code (a.end + 1)) (instr.Jump p ∷ []) i; end = a.end + 1 })
+      ∙ ap (loop_piece p) h
+
+  abbrev switch_piece : Piece → Piece
+  switch_piece a =
+      let tests = arms_code a.targets.arms in
+      let end = a.end + 1 + length tests in
+      record { code = λ out. instr.Jump (a.end + 1) ∷ (a.code end ++ (instr.Jump end ∷ tests)); end = end; targets = record a.targets { arms = [] } }
+
+  choice_numbered : (a a2 : Piece) → numbered_piece a ≡ a2 → numbered_piece (switch_piece a) ≡ switch_piece a2
+  choice_numbered a a2 h =
+      let tests = arms_code a.targets.arms in
+      let end = a.end + 1 + length tests in
+      (λ i. record (switch_piece a) { code = λ out. instr.Jump (a.end + 1) ∷ (map-append (numbered es) (a.code end) (instr.Jump end ∷ tests) ∙ ap (λ l. map (numbered es) (a.code end) ++ (instr.Jump end ∷ l)) (arms_numbered a.targets.arms)) i })
+      ∙ ap switch_piece h
 
   mutual
-    pub labels_same : (s : Stmt) (p : ℕ) → label_places names s p ≡ label_places names2 s p
-    labels_same (Headed h s) p = ap₂ (λ x y. x ++ y) (heading_label_same h p) (labels_same s _ ∙ ap (λ n. label_places names2 s (p + n)) (heading_length h))
-    labels_same (Compound body) p = body_labels_same body p
-    labels_same (If e s) p = labels_same s _ ∙ ap (λ n. label_places names2 s (p + n + 1)) (word_length e p)
-    labels_same (IfElse e s other) p =
-        ap₂ (λ x y. x ++ y)
-        (labels_same s _ ∙ ap (λ n. label_places names2 s (p + n + 1)) (word_length e p))
-        (labels_same other _ ∙ ap (λ n. label_places names2 other (n + 1)) (behind_same e s p))
-    labels_same (While e s) p = labels_same s _ ∙ ap (λ n. label_places names2 s (p + n + 1)) (word_length e p)
-    labels_same (Switch e body) p = body_labels_same body _ ∙ ap (λ n. body_label_places names2 body (p + n + 1)) (word_length e p)
-    labels_same (Goto e) p = refl
-    labels_same (Break line) p = refl
-    labels_same Return p = refl
-    labels_same (ReturnValue e) p = refl
-    labels_same (Evaluate e) p = refl
-    labels_same Empty p = refl
+    pub piece_numbered : (s : Stmt) (p : ℕ) → numbered_piece (piece names s p) ≡ piece names2 s p
+    piece_numbered (Headed h s) p =
+        followed_numbered (heading_piece names h p) (heading_piece names2 h p) (piece names s) (piece names2 s)
+        (λ i. record { code = λ out. heading_numbered h i; end = p + heading_length h i; targets = heading_targets h p }) (λ q. piece_numbered s q)
+    piece_numbered (Compound body) p = body_numbered body p
+    piece_numbered (If e s) p = tested_numbered e p (λ q. skip_piece (piece names s q)) (λ q. skip_piece (piece names2 s q)) (λ q. ap skip_piece (piece_numbered s q))
+    piece_numbered (IfElse e s other) p =
+        tested_numbered e p (λ q. ways_piece (piece names s q) (piece names other ((piece names s q).end + 1))) (λ q. ways_piece (piece names2 s q) (piece names2 other ((piece names2 s q).end + 1)))
+        (λ q. both_numbered (piece names s q) (piece names2 s q) (piece names other) (piece names2 other) (piece_numbered s q) (λ r. piece_numbered other r))
+    piece_numbered (While e s) p =
+        tested_numbered e p (λ q. loop_piece p (piece names s q)) (λ q. loop_piece p (piece names2 s q)) (λ q. loop_numbered p (piece names s q) (piece names2 s q) (piece_numbered s q))
+    piece_numbered (Switch e body) p =
+        tested_numbered e p (λ q. switch_piece (body_piece names body q)) (λ q. switch_piece (body_piece names2 body q)) (λ q. choice_numbered (body_piece names body q) (body_piece names2 body q) (body_numbered body q))
+    piece_numbered (Goto e) p = word_then_numbered e instr.Goto p refl
+    piece_numbered (Break line) p = refl
+    piece_numbered Return p = refl
+    piece_numbered (ReturnValue e) p = word_then_numbered e instr.Return p refl
+    piece_numbered (Evaluate e) p = word_then_numbered e instr.Pop p refl
+    piece_numbered Empty p = refl
 
-    body_labels_same : (ss : Stmts) (p : ℕ) → body_label_places names ss p ≡ body_label_places names2 ss p
-    body_labels_same Nothing p = refl
-    body_labels_same (More before s) p = ap₂ (λ x y. x ++ y) (body_labels_same before p) (labels_same s _ ∙ ap (label_places names2 s) (body_ends_same before p))
+    body_numbered : (ss : Stmts) (p : ℕ) → numbered_piece (body_piece names ss p) ≡ body_piece names2 ss p
+    body_numbered Nothing p = refl
+    body_numbered (More before s) p =
+        followed_numbered (body_piece names before p) (body_piece names2 before p) (piece names s) (piece names2 s) (body_numbered before p) (λ q. piece_numbered s q)

@@ -3,11 +3,12 @@ use Rattle.std.proofs.Common.{◌≡◌, ℕ, suc, ◌+◌, ◌≤◌, Bool, tru
 use Rattle.blang.specs.declared.token.Diagnostic.{Diagnostic}
 use Rattle.blang.specs.declared.code.Instr.{Instr}
 use Rattle.blang.specs.declared.code.Instr.TheVariants as instr
-use Rattle.blang.specs.Scan.{Scope, Event, scan_event, scanned}
+use Rattle.blang.specs.Scan.{Scope, scan_event, scanned}
+use Rattle.blang.specs.Walk.{Event}
 use Rattle.blang.specs.Code.{Environment, Arms, default_in, tests_code, default_code, arms_code}
 use Rattle.btree.proofs.CodeLaws.{scanned-append}
 use Rattle.btree.proofs.ScanSteps.{scanned-Err}
-use Rattle.bemit.specs.Drafts.{Switch, no_arms, tests, leading, Made, Draft, Faulty, Going, most_instructions, most_string_words, most_values, most_words, within_room, with_made, emitted, place_of, mark_of, offset_of, filled, behind, event_done}
+use Rattle.bemit.specs.Drafts.{Switch, no_arms, tests, leading, Made, Draft, Faulty, Going, most_instructions, most_string_words, most_values, most_words, within_room, with_made, emitted, place_of, mark_of, offset_of, filled, following, event_done}
 use Rattle.bonepass.proofs.Names.{Agrees, agrees_before, later}
 
 -- What a piece of a definition adds, by the place where it begins. Its breaks have no target yet.
@@ -220,13 +221,13 @@ scope_kept f (Faulty d) = refl
 scope_kept f (Going s None) = refl
 scope_kept f (Going s (Some m)) = refl
 
-scope_behind : (r : Result Scope Diagnostic) (made : Option Made) → scope_of (behind r made) ≡ r
-scope_behind (Ok s) made = refl
-scope_behind (Err d) made = refl
+scope_after : (r : Result Scope Diagnostic) (made : Option Made) → scope_of (following r made) ≡ r
+scope_after (Ok s) made = refl
+scope_after (Err d) made = refl
 
 pub scope_stepped : (e : Event) (d : Draft) → scope_of (event_done e d) ≡ scanned (e ∷ []) (scope_of d)
 scope_stepped e (Faulty d) = refl
-scope_stepped e (Going s made) = scope_behind (scan_event e s) made
+scope_stepped e (Going s made) = scope_after (scan_event e s) made
 
 -- how many loops and switches are around
 abbrev pub depth_of : Scope → ℕ
@@ -277,12 +278,12 @@ nested_scanned es room depth (Ok s) n = go (scanned es (Ok s)) refl
     go (Ok s2) q = subst (Nested room) (sym q) (let le : depth_of s2 + room ≤ most_levels = omega (arith, n, depth s s2 q) in le)
     go (Err d) q = subst (Nested room) (sym q) tt
 
-pub nested_behind : {names : Environment} {f : Draft → Draft} {es : List Event} {room off : ℕ} {a : Parts} → Makes names f es room off a → (d : Draft) → Nested room (scope_of d) → Nested room (scope_of (f d))
-nested_behind {es = es} {room = room} x d n = subst (Nested room) (sym (x.scans d n)) (nested_scanned es room (λ s s2 h. same_depth s s2 (x.depth s s2 h)) (scope_of d) n)
+pub nested_after : {names : Environment} {f : Draft → Draft} {es : List Event} {room off : ℕ} {a : Parts} → Makes names f es room off a → (d : Draft) → Nested room (scope_of d) → Nested room (scope_of (f d))
+nested_after {es = es} {room = room} x d n = subst (Nested room) (sym (x.scans d n)) (nested_scanned es room (λ s s2 h. same_depth s s2 (x.depth s s2 h)) (scope_of d) n)
 
 pub then_ : {names : Environment} {f g : Draft → Draft} {es fs : List Event} {room off off2 : ℕ} {a b : Parts} → Makes names f es room off a → Makes names g fs room off2 b → off2 ≡ off + length a.strings → Makes names (λ d. g (f d)) (es ++ fs) room off (joined a b)
 then_ {names = names} {f = f} {g = g} {es = es} {fs = fs} {room = room} {off = off} {off2 = off2} {a = a} {b = b} x y o = record {
-  scans = λ d n. y.scans (f d) (nested_behind x d n) ∙ ap (scanned fs) (x.scans d n) ∙ sym (scanned-append es fs (scope_of d));
+  scans = λ d n. y.scans (f d) (nested_after x d n) ∙ ap (scanned fs) (x.scans d n) ∙ sym (scanned-append es fs (scope_of d));
   depth = λ s s3 h. let t = scanned_twice es fs s s3 h in level_then s t.0 s3 (x.depth s t.0 t.1) (y.depth t.0 s3 t.2);
   makes = λ s s3 m n h agree l.
       let t = scanned_twice es fs s s3 h in

@@ -5,8 +5,9 @@ use Rattle.blang.specs.declared.code.Instr.TheVariants as instr
 use Rattle.blang.specs.Trees.{Expr, Stmt, Headed, Compound, If, IfElse, While, Switch, Goto, Break, Return, ReturnValue, Evaluate, Empty, Stmts, Nothing, More}
 use Rattle.blang.specs.WellFormed.{rvalue_rank}
 use Rattle.btree.specs.Fitting.{words, Deeper, Fits, statement_words, body_words, Sits, AllSit, strings, statement_strings, body_strings}
-use Rattle.blang.specs.Scan.{Event, statement_events, body_events}
-use Rattle.blang.specs.Code.{Environment, word_code, arms_code, statement_end, arm_places, body_arm_places, statement_code, body_code, label_places, body_label_places}
+use Rattle.blang.specs.Walk.{Event}
+use Rattle.btree.specs.Events.{statement_events, body_events}
+use Rattle.blang.specs.Code.{Environment, word_code, arms_code, piece, body_piece}
 use Rattle.btree.proofs.CodeLaws.{counts_words, statement_ends, body_ends}
 use Rattle.bemit.specs.Drafts.{Draft}
 use Rattle.bemit.specs.Effects.{done, all_done}
@@ -36,17 +37,17 @@ module _ (names : Environment) where
   if_same e s p =
       let ce = word_code names e p in
       let q = p + length ce + 1 in
-      record { code = ap (λ n. ce ++ (instr.JumpIfZero n ∷ statement_code names s q 0)) (statement_ends names s q 0); strings = refl; targets = refl; arms = refl; breaks = refl }
+      record { code = ap (λ n. ce ++ (instr.JumpIfZero n ∷ (piece names s q).code 0)) (statement_ends names s q 0); strings = refl; targets = refl; arms = refl; breaks = refl }
 
   ways_same : (e : Expr) (s other : Stmt) (p : ℕ) → Same p (joined (only (word_code names e) (strings e)) (ways_parts (statement_parts names s) (statement_parts names other))) (statement_parts names (IfElse e s other))
   ways_same e s other p = record {
     code =
-        ap (λ n. ce ++ (instr.JumpIfZero n ∷ (cs ++ (instr.Jump (n + length (statement_code names other n 0)) ∷ statement_code names other n 0)))) behind
-        ∙ ap (λ n. ce ++ (instr.JumpIfZero a ∷ (cs ++ (instr.Jump n ∷ statement_code names other a 0)))) (statement_ends names other a 0);
+        ap (λ n. ce ++ (instr.JumpIfZero n ∷ (cs ++ (instr.Jump (n + length ((piece names other n).code 0)) ∷ (piece names other n).code 0)))) following
+        ∙ ap (λ n. ce ++ (instr.JumpIfZero a ∷ (cs ++ (instr.Jump n ∷ (piece names other a).code 0)))) (statement_ends names other a 0);
     strings = refl;
-    targets = ap (λ n. label_places names s q ++ label_places names other n) behind;
-    arms = ap (λ n. arm_places names s q ++ arm_places names other n) behind;
-    breaks = ap (λ n. statement_breaks names s q ++ statement_breaks names other n) behind;
+    targets = ap (λ n. (piece names s q).targets.labels ++ (piece names other n).targets.labels) following;
+    arms = ap (λ n. (piece names s q).targets.arms ++ (piece names other n).targets.arms) following;
+    breaks = ap (λ n. statement_breaks names s q ++ statement_breaks names other n) following;
   }
     where
       ce : List Instr
@@ -56,24 +57,27 @@ module _ (names : Environment) where
       q = p + length ce + 1
 
       cs : List Instr
-      cs = statement_code names s q 0
+      cs = (piece names s q).code 0
 
       a : ℕ
-      a = statement_end names s q + 1
+      a = (piece names s q).end + 1
 
-      behind : q + length cs + 1 ≡ a
-      behind = ap (λ n. n + 1) (statement_ends names s q 0)
+      following : q + length cs + 1 ≡ a
+      following = ap (λ n. n + 1) (statement_ends names s q 0)
 
-  closes : (ss : Stmts) → Closes (body_parts names ss) (body_code names ss)
+  abbrev body_code : Stmts → (p out : ℕ) → List Instr
+  body_code ss p out = (body_piece names ss p).code out
+
+  closes : (ss : Stmts) → Closes (body_parts names ss) (body_code ss)
   closes ss = record { fills = λ p out. body_closes names ss p out; same_length = λ p out. omega (arith, body_ends names ss p out, body_ends names ss p 0) }
 
-  switch_same : (e : Expr) (ss : Stmts) (p : ℕ) → Same p (joined (only (word_code names e) (strings e)) (switched_parts (body_parts names ss) (body_code names ss))) (statement_parts names (Switch e ss))
+  switch_same : (e : Expr) (ss : Stmts) (p : ℕ) → Same p (joined (only (word_code names e) (strings e)) (switched_parts (body_parts names ss) (body_code ss))) (statement_parts names (Switch e ss))
   switch_same e ss p =
       let ce = word_code names e p in
       let q = p + length ce + 1 in
-      let arms = arms_code (body_arm_places names ss q) in
+      let arms = arms_code ((body_piece names ss q).targets.arms) in
       record {
-        code = ap (λ n. ce ++ (instr.Jump (n + 1) ∷ (body_code names ss q (n + 1 + length arms) ++ (instr.Jump (n + 1 + length arms) ∷ arms)))) (body_ends names ss q 0);
+        code = ap (λ n. ce ++ (instr.Jump (n + 1) ∷ ((body_piece names ss q).code (n + 1 + length arms) ++ (instr.Jump (n + 1 + length arms) ∷ arms)))) (body_ends names ss q 0);
         strings = refl;
         targets = refl;
         arms = refl;
@@ -82,13 +86,13 @@ module _ (names : Environment) where
 
   more_same : (before : Stmts) (s : Stmt) (p : ℕ) → Same p (joined (body_parts names before) (statement_parts names s)) (body_parts names (More before s))
   more_same before s p =
-      let behind = body_ends names before p 0 in
+      let following = body_ends names before p 0 in
       record {
-        code = ap (λ n. body_code names before p 0 ++ statement_code names s n 0) behind;
+        code = ap (λ n. (body_piece names before p).code 0 ++ (piece names s n).code 0) following;
         strings = refl;
-        targets = ap (λ n. body_label_places names before p ++ label_places names s n) behind;
-        arms = ap (λ n. body_arm_places names before p ++ arm_places names s n) behind;
-        breaks = ap (λ n. body_breaks names before p ++ statement_breaks names s n) behind;
+        targets = ap (λ n. (body_piece names before p).targets.labels ++ (piece names s n).targets.labels) following;
+        arms = ap (λ n. (body_piece names before p).targets.arms ++ (piece names s n).targets.arms) following;
+        breaks = ap (λ n. body_breaks names before p ++ statement_breaks names s n) following;
       }
 
   mutual
@@ -112,7 +116,7 @@ module _ (names : Environment) where
     done_makes (Switch e body) zero off sits = elim sits [ ]
     done_makes (Switch e body) (suc k) off sits =
         retold (statement_parts names (Switch e body)) (switch_same e body)
-        (then_ (evaluated_makes names e k off (suc k) sits.0) (switches (body_code names body) (closes body) (all_make body k (off + words e) sits.1)) (expression_words e off))
+        (then_ (evaluated_makes names e k off (suc k) sits.0) (switches (body_code body) (closes body) (all_make body k (off + words e) sits.1)) (expression_words e off))
     done_makes (Goto e) room off sits = emits instr.Goto (evaluated_makes names e room off room sits)
     done_makes (Break line) room off sits = broken_makes line
     done_makes Return room off sits = emits instr.Return (emits (instr.Constant 0) idle)

@@ -1,10 +1,11 @@
--- The statements of a switch, and what leads to its arms behind them.
+-- The statements of a switch, and what leads to its arms after them.
 use Rattle.std.proofs.Common.{◌≡◌, ℕ, suc, ◌+◌, ◌≤◌, List, [], ◌∷◌, ◌++◌, length, Some, Result, Ok, Err, refl, sym, ap, ◌∙◌, subst, arith, le_refl, append_assoc, append-nil, length-append, slice_set, lt-ltb}
 use Rattle.std.proofs.Math.Seq.{set-append_seam}
 use Rattle.blang.specs.declared.token.Diagnostic.{Diagnostic}
 use Rattle.blang.specs.declared.code.Instr.{Instr}
 use Rattle.blang.specs.declared.code.Instr.TheVariants as instr
-use Rattle.blang.specs.Scan.{Scope, Event, Around, empty_switch, SwitchBegins, SwitchEnds, scan_event, scanned, rest_of}
+use Rattle.blang.specs.Scan.{Scope, Around, empty_switch, scan_event, scanned, rest_of}
+use Rattle.blang.specs.Walk.{Event, SwitchBegins, SwitchEnds}
 use Rattle.blang.specs.Code.{Environment, arms_code}
 use Rattle.btree.proofs.CodeLaws.{scanned-append}
 use Rattle.bemit.specs.Drafts as drafts
@@ -89,10 +90,10 @@ switch_at body s s2 s3 m a c closes le f h k =
     end : ℕ
     end = start + length arms
 
-    behind_body : Draft
-    behind_body = body (begun (emitted (instr.Jump 0) (drafted s m)))
+    after_body : Draft
+    after_body = body (begun (emitted (instr.Jump 0) (drafted s m)))
 
-    body_is : behind_body ≡ drafted s2 m3
+    body_is : after_body ≡ drafted s2 m3
     body_is = ap (λ d. body (begun d)) (emit (instr.Jump 0) (instr.Jump 0) s m (λ r. refl)) ∙ ap body (begun_is s (put m (instr.Jump 0)) le) ∙ k m2 refl
 
     m4 : Made
@@ -116,25 +117,25 @@ switch_at body s s2 s3 m a c closes le f h k =
     long3 : length m3.code ≡ q + length ca
     long3 = length-append m2.code ca
 
-    place3 : Roomy s2.frame m3 → place_of behind_body ≡ q + length ca
+    place3 : Roomy s2.frame m3 → place_of after_body ≡ q + length ca
     place3 r = ap place_of body_is ∙ place_is s2 m3 r ∙ long3
 
-    size3 : Roomy s2.frame m3 → arms_size behind_body ≡ length arms
+    size3 : Roomy s2.frame m3 → arms_size after_body ≡ length arms
     size3 r = ap arms_size body_is ∙ ap (λ o. arms_size (Going s2 o)) (kept_some s2.frame m3 r) ∙ ap length (leading_is (a.arms q))
 
-    end_known : Roomy s2.frame m3 → instr.Jump (place_of behind_body + 1 + arms_size behind_body) ≡ instr.Jump end
-    end_known r = let e : place_of behind_body + 1 + arms_size behind_body ≡ end = omega (arith, place3 r, size3 r) in ap (λ n. instr.Jump n) e
+    end_known : Roomy s2.frame m3 → instr.Jump (place_of after_body + 1 + arms_size after_body) ≡ instr.Jump end
+    end_known r = let e : place_of after_body + 1 + arms_size after_body ≡ end = omega (arith, place3 r, size3 r) in ap (λ n. instr.Jump n) e
 
-    behind_end : Draft
-    behind_end = emitted (instr.Jump (place_of behind_body + 1 + arms_size behind_body)) behind_body
+    after_end : Draft
+    after_end = emitted (instr.Jump (place_of after_body + 1 + arms_size after_body)) after_body
 
-    end_is : behind_end ≡ drafted s2 m4
-    end_is = ap (emitted (instr.Jump (place_of behind_body + 1 + arms_size behind_body))) body_is ∙ emit (instr.Jump (place_of behind_body + 1 + arms_size behind_body)) (instr.Jump end) s2 m3 end_known
+    end_is : after_end ≡ drafted s2 m4
+    end_is = ap (emitted (instr.Jump (place_of after_body + 1 + arms_size after_body))) body_is ∙ emit (instr.Jump (place_of after_body + 1 + arms_size after_body)) (instr.Jump end) s2 m3 end_known
 
     less5 : Roomy s2.frame m5 → Roomy s2.frame m4
     less5 r = smaller _ _ m4 m5 (le_refl _) (omega (arith, length-append m4.code arms)) (le_refl _) (le_refl _) r
 
-    tests_are : tested behind_end ≡ drafted s2 m5
+    tests_are : tested after_end ≡ drafted s2 m5
     tests_are = ap tested end_is ∙ changed _ s2 m4 m5 less5 (λ r. ap (λ l. drafts.within_room (record m4 { code = m4.code ++ l })) (leading_is (a.arms q)) ∙ sym (kept_within s2.frame m5 r.frame_fits))
 
     less3 : Roomy s2.frame m5 → Roomy s2.frame m3
@@ -152,39 +153,39 @@ switch_at body s s2 s3 m a c closes le f h k =
     long6 : length closed_code ≡ length m5.code
     long6 = omega (arith, long5, length-append m2.code (c q end ++ (instr.Jump end ∷ arms)), length-append (c q end) (instr.Jump end ∷ arms), closes.same_length q end)
 
-    breaks_known : Roomy s2.frame m5 → (mark_of (drafted s m) ≡ length m.breaks) × (place_of (tested behind_end) ≡ end)
+    breaks_known : Roomy s2.frame m5 → (mark_of (drafted s m) ≡ length m.breaks) × (place_of (tested after_end) ≡ end)
     breaks_known r = (mark_is s m (less (less3 r)), ap place_of tests_are ∙ place_is s2 m5 r ∙ long5)
 
-    breaks_are : breaks_filled (mark_of (drafted s m)) (place_of (tested behind_end)) (tested behind_end) ≡ drafted s2 m6
+    breaks_are : breaks_filled (mark_of (drafted s m)) (place_of (tested after_end)) (tested after_end) ≡ drafted s2 m6
     breaks_are =
-        ap (breaks_filled (mark_of (drafted s m)) (place_of (tested behind_end))) tests_are
-        ∙ fill_breaks (mark_of (drafted s m)) (place_of (tested behind_end)) end s2 m5 m.breaks (a.breaks q) closed_code refl long6 breaks_known
+        ap (breaks_filled (mark_of (drafted s m)) (place_of (tested after_end))) tests_are
+        ∙ fill_breaks (mark_of (drafted s m)) (place_of (tested after_end)) end s2 m5 m.breaks (a.breaks q) closed_code refl long6 breaks_known
         (ap (led end (a.breaks q)) flat5 ∙ fills_whole m2.code (fills_before (instr.Jump end ∷ arms) (closes.fills q end)) refl)
 
     less6 : Roomy s2.frame m6 → Roomy s2.frame m3
     less6 r = less3 (smaller _ _ m5 m6 (le_refl _) (omega (arith, long6)) (le_refl _) (le_refl _) r)
 
-    behind_jump : List Instr
-    behind_jump = c q end ++ (instr.Jump end ∷ arms)
+    after_jump : List Instr
+    after_jump = c q end ++ (instr.Jump end ∷ arms)
 
-    flat6 : m6.code ≡ m.code ++ (instr.Jump 0 ∷ behind_jump)
-    flat6 = append_assoc m.code (instr.Jump 0 ∷ []) behind_jump
+    flat6 : m6.code ≡ m.code ++ (instr.Jump 0 ∷ after_jump)
+    flat6 = append_assoc m.code (instr.Jump 0 ∷ []) after_jump
 
     long7 : length new ≡ length m6.code
-    long7 = omega (arith, ap length flat6, length-append m.code (instr.Jump 0 ∷ behind_jump), length-append m.code (switch_code a c q))
+    long7 = omega (arith, ap length flat6, length-append m.code (instr.Jump 0 ∷ after_jump), length-append m.code (switch_code a c q))
 
-    known : Roomy s2.frame m6 → slice_set m6.code (place_of (drafted s m)) (instr.Jump (place_of behind_body + 1)) ≡ new
+    known : Roomy s2.frame m6 → slice_set m6.code (place_of (drafted s m)) (instr.Jump (place_of after_body + 1)) ≡ new
     known r =
         let r3 = less6 r in
         let p : place_of (drafted s m) ≡ length m.code = place_is s m (less r3) in
-        let t : place_of behind_body + 1 ≡ start = omega (arith, place3 r3) in
-        ap (λ n. slice_set m6.code n (instr.Jump (place_of behind_body + 1))) p
+        let t : place_of after_body + 1 ≡ start = omega (arith, place3 r3) in
+        ap (λ n. slice_set m6.code n (instr.Jump (place_of after_body + 1))) p
         ∙ ap (λ n. slice_set m6.code (length m.code) (instr.Jump n)) t
         ∙ ap (λ l. slice_set l (length m.code) (instr.Jump start)) flat6
-        ∙ set-append_seam m.code (instr.Jump 0) behind_jump (instr.Jump start)
+        ∙ set-append_seam m.code (instr.Jump 0) after_jump (instr.Jump start)
 
-    filled_is : filled (place_of (drafted s m)) (instr.Jump (place_of behind_body + 1)) (breaks_filled (mark_of (drafted s m)) (place_of (tested behind_end)) (tested behind_end)) ≡ drafted s2 m7
-    filled_is = ap (filled (place_of (drafted s m)) (instr.Jump (place_of behind_body + 1))) breaks_are ∙ fill (place_of (drafted s m)) (instr.Jump (place_of behind_body + 1)) s2 m6 new long7 known
+    filled_is : filled (place_of (drafted s m)) (instr.Jump (place_of after_body + 1)) (breaks_filled (mark_of (drafted s m)) (place_of (tested after_end)) (tested after_end)) ≡ drafted s2 m7
+    filled_is = ap (filled (place_of (drafted s m)) (instr.Jump (place_of after_body + 1))) breaks_are ∙ fill (place_of (drafted s m)) (instr.Jump (place_of after_body + 1)) s2 m6 new long7 known
 
     whole : record m7 { arms = rest_of m7.arms } ≡ added m (switched_parts a c)
     whole = λ i. record { code = m.code ++ switch_code a c (q_is i); strings = m.strings ++ a.strings; values = m.values; targets = m.targets ++ a.targets (q_is i); arms = sym (add_arms-none m.arms) i; breaks = sym (append-nil m.breaks) i }

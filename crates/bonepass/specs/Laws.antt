@@ -7,7 +7,7 @@ use Rattle.blang.specs.Code.{code_of, fault_of}
 use Rattle.bemit.specs.Drafts.{Made, Draft, Going, draft_resolved, fault_in, started}
 use Rattle.bemit.specs.Effects.{definition_done, code_with}
 
--- a pass over a definition, behind definitions of these names
+-- a pass over a definition, after definitions of these names
 abbrev pub pass_over : List (List ℕ) → Definition → Draft
 pass_over defined d = definition_done d (started defined (identifier_of d))
 

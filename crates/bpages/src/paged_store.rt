@@ -16,7 +16,7 @@ const PAGES: usize = 256;
 pub struct PagedStore {
     // Where each page starts in the list, or 0 where it isn't made.
     starts: [u32; PAGES],
-    // A page of zeros that is never written, and behind it the pages made.
+    // A page of zeros that is never written, and after it the pages made.
     list: Vec<u16>,
     ghost paged: { IsPaged starts list.items },
 }
@@ -32,7 +32,7 @@ impl PagedStore {
     ///
     /// # Errors
     ///
-    /// `NoMemory` where its page of zeros was refused memory.
+    /// `NoMemory` if there is no memory for its page of zeros.
     pub fn new(alloc: Global) -> Result<PagedStore, NoMemory>
         ensures words { IfOk result (λ store. paged_words store ≡ zeros) }
         ensures pages { IfOk result (λ store. pages_of store ≡ set.empty) }
@@ -122,7 +122,7 @@ impl Store for PagedStore {
     ///
     /// # Errors
     ///
-    /// `NoMemory` where the page was refused memory. Nothing has changed then.
+    /// `NoMemory` if there is no memory for the page. Nothing has changed then.
     #[inline]
     fn set(&mut self, a: u16, w: u16) -> Result<(), NoMemory>
         ensures stored { OnOk result (paged_words self.new ≡ slice_set (paged_words self.old) a w) }
@@ -154,7 +154,7 @@ fn zero_words(alloc: Global, count: usize) -> Result<Vec<u16>, AllocError>
     vec![in alloc; 0; count]
 }
 
-// Puts so many zeros behind a list.
+// Puts so many zeros after a list.
 fn push_zeros(list: &mut Vec<u16>, count: usize) -> Result<(), NoMemory>
     requires { length list.old.items + count < 2 ^ 64 }
     ensures pushed { OnOk result (list.new.items ≡ list.old.items ++ replicate count 0) }

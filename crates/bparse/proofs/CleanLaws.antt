@@ -7,10 +7,13 @@ use Rattle.blang.specs.declared.token.Diagnostic.{Diagnostic}
 use Rattle.blang.specs.declared.token.Letters.TheVariants as letters
 use Rattle.blang.specs.declared.code.Definition as coded
 use Rattle.blang.specs.Trees.{Identifier, Stmt, Definition, Simple, Vector, Function}
-use Rattle.blang.specs.Scan.{Entry, NameKind, Automatic, kind_of, with_declaration, with_entry, fault, name_fault, most_names, Event, Declaration, Scope, no_scope, scanned, scan_event, with_names, automatic_words, function_events, function_scope, statement_events, scope_fault, inner_fault, scan, identifier_of}
+use Rattle.blang.specs.Scan.{Entry, NameKind, Automatic, kind_of, with_declaration, with_entry, fault, name_fault, most_names, Scope, no_scope, scanned, scan_event, with_names, automatic_words, function_events, function_scope, scope_fault, inner_fault, scan, identifier_of}
+use Rattle.blang.specs.Walk.{Event, Declaration}
+use Rattle.btree.specs.Events.{statement_events}
 use Rattle.bword.specs.Words.{same_name}
 use Rattle.blang.specs.Code.{ival_code, strings_of, code_of, fits_limits, fault_of, or_too_large, vector_words}
 use Rattle.bparse.specs.Sizes.{IsSmall}
+use Rattle.btree.proofs.WalkLaws.{function_events_are}
 
 abbrev parameter : Identifier → Event
 parameter w = Declaration w None
@@ -36,20 +39,20 @@ declared_grown None w k es names e h = entered_grown (nat_lt (length es) most_na
 
 few : (ps : List Identifier) (es : List Event) (s s2 : Scope) → length s.names ≤ most_names → scanned (map parameter ps ++ es) (Ok s) ≡ Ok s2 → length ps + length s.names ≤ most_names
 few [] es s s2 h e = omega (arith, h)
-few (w ∷ ps) es s s2 h e = go (with_declaration w (Automatic s.frame) s.names) refl (λ n le g. few ps es (record behind { names = n }) s2 le g)
+few (w ∷ ps) es s s2 h e = go (with_declaration w (Automatic s.frame) s.names) refl (λ n le g. few ps es (record following { names = n }) s2 le g)
   where
-    behind : Scope
-    behind = record s { frame = s.frame + automatic_words None }
+    following : Scope
+    following = record s { frame = s.frame + automatic_words None }
 
     go : (r : Result (List Entry) Diagnostic) → with_declaration w (Automatic s.frame) s.names ≡ r
-        → ((n : List Entry) → length n ≤ most_names → scanned (map parameter ps ++ es) (Ok (record behind { names = n })) ≡ Ok s2 → length ps + length n ≤ most_names)
+        → ((n : List Entry) → length n ≤ most_names → scanned (map parameter ps ++ es) (Ok (record following { names = n })) ≡ Ok s2 → length ps + length n ≤ most_names)
         → length (w ∷ ps) + length s.names ≤ most_names
     go (Ok names) r more =
         let grown = declared_grown (kind_of w.text s.names) w (Automatic s.frame) s.names names refl r in
-        let rest = more names (omega (arith, grown.0, grown.1)) (subst (λ x. scanned (map parameter ps ++ es) (with_names behind x) ≡ Ok s2) r e) in
+        let rest = more names (omega (arith, grown.0, grown.1)) (subst (λ x. scanned (map parameter ps ++ es) (with_names following x) ≡ Ok s2) r e) in
         omega (arith, grown.0, rest)
     go (Err d) r more =
-        let bad : scanned (map parameter ps ++ es) (Err d) ≡ Ok s2 = subst (λ x. scanned (map parameter ps ++ es) (with_names behind x) ≡ Ok s2) r e in
+        let bad : scanned (map parameter ps ++ es) (Err d) ≡ Ok s2 = subst (λ x. scanned (map parameter ps ++ es) (with_names following x) ≡ Ok s2) r e in
         let no : Err d ≡ Ok s2 = sym (scanned-Err (map parameter ps ++ es) d) ∙ bad in
         cc
 
@@ -86,5 +89,5 @@ clean_small defined (Function w ps body) e =
     let f = no_fault (scan defined (Function w ps body)) w.line (code_of (Function w ps body)) e in
     let inner = no_inner (list_any (same_name w.text) defined) (name_fault letters.Redeclared w) (inner_fault (Function w ps body)) f.0 in
     let s = scope_clean (function_scope ps body) inner in
-    let n = few ps (statement_events body) no_scope s.0 (omega arith) s.1 in
+    let n = few ps (statement_events body) no_scope s.0 (omega arith) (ap (λ es. scanned es (Ok no_scope)) (sym (function_events_are ps body)) ∙ s.1) in
     omega (arith, n)

@@ -9,32 +9,33 @@ use Rattle.bword.proofs.Remaining.{Rest}
 use Rattle.bparse.proofs.Remaining.{rest_of, writes_nothing}
 
 module _ (run : Run) (h : Compiles run) (text : List ℕ) (tells : Tells run.source text) (calm : IsUndisturbed run) (r : Compilation) (g : CompilesTo [] (tokens_from run.edition 1 text) r) where
-  rest : Rest run.source_behind h.taken text
-  rest = rest_of run.source run.source_behind h.taken text h.took tells
+  rest : Rest run.source_after h.taken text
+  rest = rest_of run.source run.source_after h.taken text h.took tells
 
-  behind : CompilesTo [] (tokens_from run.edition 1 (h.taken ++ rest.more)) r
-  behind = subst (λ t. CompilesTo [] (tokens_from run.edition 1 t) r) (sym rest.whole) g
+  following : CompilesTo [] (tokens_from run.edition 1 (h.taken ++ rest.more)) r
+  following = subst (λ t. CompilesTo [] (tokens_from run.edition 1 t) r) (sym rest.whole) g
 
   no_failure : SourceFailed run h.taken ⊎ EndRefused run h.taken end_fault.Device → ⊥
   no_failure (inl f) = calm.source_read f.counted
   no_failure (inr (inl o)) = calm.code_written o.code.counted.0
   no_failure (inr (inr (inl c))) =
-      calm.code_written (subst (λ n. Grew n run.code_behind.failures) c.begun.failures (c.code rest.more rest.follows r behind).1.counted.0)
-  no_failure (inr (inr (inr l))) = calm.line_written (l.written rest.more rest.follows r behind).line.counted.0
+      let cut = c.code rest.more rest.follows r following in
+      calm.code_written (subst (λ n. Grew n run.code_after.failures) cut.written.failures cut.refused.counted.0)
+  no_failure (inr (inr (inr l))) = calm.line_written (l.written rest.more rest.follows r following).line.counted.0
 
   by_status : ((run.status ≡ 0) ⊎ (run.status ≡ 1) ⊎ (run.status ≡ 133) ⊎ (run.status ≡ 134)) → CompileAnswers run r
   by_status (inl none) =
-      let c = h.compiled none rest.more rest.follows r behind in
+      let c = h.compiled none rest.more rest.follows r following in
       record {
         code = c.code;
-        line = subst (λ s. Writes run.line (fault_text s) run.line_behind) (sym c.clean) (writes_nothing run.line run.line_behind c.silent);
+        line = subst (λ s. Writes run.line (fault_text s) run.line_after) (sym c.clean) (writes_nothing run.line run.line_after c.silent);
         answered = none ∙ sym (ap fault_status c.clean);
       }
   by_status (inr (inl one)) =
-      let f = h.faulty one rest.more rest.follows r behind in
+      let f = h.faulty one rest.more rest.follows r following in
       record {
         code = f.code;
-        line = subst (λ s. Writes run.line (fault_text s) run.line_behind) (sym f.stop) f.line;
+        line = subst (λ s. Writes run.line (fault_text s) run.line_after) (sym f.stop) f.line;
         answered = one ∙ sym (ap fault_status f.stop);
       }
   by_status (inr (inr (inl device))) = absurd (no_failure (h.failed device))

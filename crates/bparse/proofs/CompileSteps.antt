@@ -1,24 +1,25 @@
 -- What compiling a whole source comes to, by its last call.
-use Rattle.std.specs.Io.KnownBytes.{Appends, append_known}
-use Rattle.std.proofs.Common.{◌≡◌, ℕ, ◌+◌, ◌<◌, ◌≤◌, Bool, true, false, List, [], ◌∷◌, ◌++◌, length, map, take, Option, Some, None, Result, Ok, Err, refl, sym, ap, ◌∙◌, subst, append_assoc, length-append, arith, ◌⊎◌, inl, inr, if◌then◌else◌}
+use Rattle.std.proofs.Common.{◌≡◌, ℕ, ◌+◌, ◌<◌, ◌≤◌, Bool, true, false, List, [], ◌∷◌, ◌++◌, length, map, take, drop, suc, Option, Some, None, Result, Ok, Err, refl, sym, ap, ◌∙◌, subst, append_assoc, length-append, arith, ◌⊎◌, inl, inr, if◌then◌else◌}
+use Rattle.std.proofs.Math.Seq.{drop-append_seam}
 use Rattle.bword.specs.declared.edition.Edition.{Edition}
-use Rattle.std.proofs.lemmas.List.{take-append-le}
+use Rattle.std.proofs.lemmas.List.{take-append-le, length-map}
 use Rattle.bword.specs.ByteEnds.{Incoming, Outgoing, Took, Grew, Writes, Refuses}
 use Rattle.bword.specs.declared.ends.EndFault.{EndFault}
 use Rattle.bword.specs.declared.ends.EndFault.TheVariants as end_fault
 use Rattle.blex.proofs.Passing.{Took-none, Took-append}
-use Rattle.bword.proofs.Putting.{Writes-append, Refuses-behind, Refuses-short}
+use Rattle.bword.proofs.Putting.{Writes-append, Refuses-following}
 use Rattle.blang.specs.Text.{joined, opening}
 use Rattle.blang.specs.declared.token.Diagnostic.{Diagnostic}
-use Rattle.blang.specs.Compiles.{Compilation, ending, code_text, line_of, compiled_text, Whatever, Run, HasWritten, SourceFailed, OpeningRefused, CodeRefused, LineRefused, NamesRefused, EndRefused, Compiles, status_of, HasCode}
+use Rattle.blang.specs.Compiles.{Compilation, ending, next_text, code_text, line_of, compiled_text, TakenUpTo, Whatever, ReadsNoFurther, Run, HasWritten, SourceFailed, OpeningRefused, CodeRefused, LineRefused, NamesRefused, EndRefused, Compiles, status_of}
 use Rattle.blang.specs.Trees.{Definition}
-use Rattle.bparse.specs.Compilers.{Compiler, SameCompiler, GoesOnBehind, OpeningWritten, HasWrittenSince, Wrote, StoppedBehind, GivesBehind, CompilerGives, unopened}
+use Rattle.bparse.specs.Compilers.{Compiler, SameCompiler, GoesOnAfter, OpeningWritten, HasWrittenSince, ReadNoFurther, Wrote, StoppedAfter, GivesAfter, CompilerGives, unopened}
 use Rattle.bparse.specs.Compilers as compilers
 use Rattle.bparse.specs.Compiles.{LastGives, CodeGives, run_of}
-use Rattle.bparse.specs.Steps.{next_text, to_begin}
+use Rattle.bparse.specs.Steps.{to_begin}
 use Rattle.bparse.specs.declared.step.Step.{Step}
 use Rattle.bparse.specs.declared.step.Step.TheVariants as step
-use Rattle.bparse.proofs.SinceSteps.{joined-append, written_begun}
+use Rattle.bparse.proofs.SinceSteps.{written_begun}
+use Rattle.bparse.proofs.TakenSteps.{taken_up_to}
 
 pub keeps_none : (c : Compiler) → SameCompiler c c
 keeps_none c = record { first = refl; lender = refl; out_lender = refl }
@@ -30,21 +31,9 @@ keeps_more h k = record { first = k.first ∙ h.first; lender = k.lender ∙ h.l
 pub written_last : {old new : Compiler} (h : CompilerGives old step.Written new) → Wrote h.0.before old new
 written_last h = h.1 h.0.before h.0.since
 
--- the text of an outcome that begins with these texts
-code_behind : (ds : List Definition) (rest r : Compilation) → GoesOnBehind ds rest r
-    → joined r.code ++ ending r.stop ≡ joined (map compiled_text ds) ++ (joined rest.code ++ ending rest.stop)
-code_behind ds rest r h =
-    ap (λ x. joined x ++ ending r.stop) h.code ∙ ap (λ x. joined (map compiled_text ds ++ rest.code) ++ ending x) h.stop
-    ∙ ap (λ l. l ++ ending rest.stop) (joined-append (map compiled_text ds) rest.code) ∙ append_assoc (joined (map compiled_text ds)) (joined rest.code) (ending rest.stop)
-
--- what is refused of the next text is refused of all texts to come
-refused_all : {a b : Outgoing} {fault : EndFault} (texts : List (List ℕ)) (stop : Option Diagnostic) → Refuses a (next_text texts stop) fault b → Refuses a (joined texts ++ ending stop) fault b
-refused_all [] stop h = h
-refused_all (t ∷ ts) stop h = rw append_assoc (Refuses-short (joined ts ++ ending stop) h)
-
-nil_behind : (xs ys : List (List ℕ)) → xs ++ ys ≡ [] → ys ≡ []
-nil_behind [] ys e = e
-nil_behind (x ∷ xs) ys e = cc
+-- what is left after texts
+texts_left : (ds : List Definition) (rest r : Compilation) → GoesOnAfter ds rest r → drop (length (map compiled_text ds)) r.code ≡ rest.code
+texts_left ds rest r h = ap (drop (length (map compiled_text ds))) h.code ∙ drop-append_seam (map compiled_text ds) rest.code
 
 some_length : (xs : List (List ℕ)) → (xs ≡ [] → ⊥) → 0 < length xs
 some_length [] h = absurd (h refl)
@@ -60,25 +49,6 @@ take_first xs ys zs e = ap (take (length xs)) e ∙ take-append-le (length xs) x
 bool_false : (b : Bool) → (b ≡ true → ⊥) → b ≡ false
 bool_false true h = absurd (h refl)
 bool_false false h = refl
-
--- what stands between two writes that are seen as one
-append_first : (old : Option (List ℕ)) (xs : List ℕ) → Appends old (append_known old xs) xs
-append_first None xs = tt
-append_first (Some known) xs = refl
-
-append_rest : (old new : Option (List ℕ)) (xs ys : List ℕ) → Appends old new (xs ++ ys) → Appends (append_known old xs) new ys
-append_rest None new xs ys h = tt
-append_rest (Some known) None xs ys h = h
-append_rest (Some known) (Some all) xs ys h = h ∙ sym (append_assoc known xs ys)
-
-abbrev pub split_out : Outgoing → List ℕ → Outgoing
-split_out a xs = record { written = append_known a.written xs; failures = a.failures; refusals = a.refusals }
-
-split_first : (a : Outgoing) (xs : List ℕ) → Writes a xs (split_out a xs)
-split_first a xs = record { appended = append_first a.written xs; failures = refl; refusals = refl }
-
-split_rest : {a b : Outgoing} (xs : List ℕ) {ys : List ℕ} → Writes a (xs ++ ys) b → Writes (split_out a xs) ys b
-split_rest {a} {b} xs {ys} h = record { appended = append_rest a.written b.written xs ys h.appended; failures = h.failures; refusals = h.refusals }
 
 unopened_all : (c : Compiler) → c.is_begun ≡ false → unopened c ≡ opening c.first.edition
 unopened_all c z = ap (λ b. to_begin b c.first.edition) z
@@ -108,13 +78,13 @@ module _ (first last : Compiler) (d e : Outgoing) where
         subst (λ x. Writes x.out (opening x.edition ++ joined (map compiled_text before)) out) l.keeps_old.first
         (written_begun l.old.first l.old.is_begun before l.old.out out (λ e. (since.unbegun e).0) since.written o.written o.nothing)
 
-    written_whole : {stop : Option Diagnostic} (s : StoppedBehind since stop last) (r : Compilation) → (r.code ≡ map compiled_text before) × (r.stop ≡ stop)
+    written_whole : {stop : Option Diagnostic} (s : StoppedAfter since stop last) (r : Compilation) → (r.code ≡ map compiled_text before) × (r.stop ≡ stop)
         → Writes first.first.out (code_text first.first.edition r) last.out
     written_whole {stop} s r q =
         subst (λ t. Writes first.first.out (opening first.first.edition ++ t) last.out) (ap (λ x. joined x ++ ending stop) (sym q.0) ∙ ap (λ x. joined r.code ++ ending x) (sym q.1))
         (subst (λ x. Writes x.out (opening x.edition ++ (joined (map compiled_text before) ++ ending stop)) last.out) l.keeps_old.first s.written)
 
-    texts_written : (status : ℕ) → OpeningWritten l.old last.out → (rest r : Compilation) → GoesOnBehind before rest r → HasWritten (run status) (length (map compiled_text before)) r
+    texts_written : (status : ℕ) → OpeningWritten l.old last.out → (rest r : Compilation) → GoesOnAfter before rest r → HasWritten (run status) (length (map compiled_text before)) r
     texts_written status o rest r h =
         subst (λ x. Writes first.first.out (opening first.first.edition ++ joined x) last.out) (sym (take_first (map compiled_text before) rest.code r.code h.code)) (written_before o)
 
@@ -123,17 +93,27 @@ module _ (first last : Compiler) (d e : Outgoing) where
         → Whatever first.first.edition taken last.tokens.source.end P
     whatever taken P h = subst (λ x. Whatever x.edition taken last.tokens.source.end P) l.keeps_old.first h
 
+    stays_near : (status : ℕ) {taken : List ℕ} → Took l.old.tokens.source.end taken last.tokens.source.end → ReadNoFurther since taken last → (count : Compilation → ℕ)
+        → Whatever first.first.edition (since.taken ++ taken) last.tokens.source.end (λ r. count r ≡ length (map compiled_text before)) → ReadsNoFurther (run status) (since.taken ++ taken) count
+    stays_near status {taken} took near count same more f r g =
+        subst (λ n. TakenUpTo first.first.edition (since.taken ++ taken) more (suc n)) (sym (same more f r g ∙ length-map before compiled_text))
+        (subst (λ x. TakenUpTo x.edition (since.taken ++ taken) more (suc (length before))) l.keeps_old.first (taken_up_to since taken took near more f))
+
     code_refused : (fault : EndFault) (status : ℕ) (h : compilers.OutRefused since fault last) → e ≡ d → CodeRefused (run status) (since.taken ++ h.2.0.taken) fault
     code_refused fault status h same = record {
       read = read_all h.3;
-      opened = split_out first.first.out (opening first.first.edition);
-      begun = split_first first.first.out (opening first.first.edition);
+      count = length (map compiled_text before);
       code = λ more f r g.
-          let q = whatever _ _ h.2.0.comes more f r g in (
-            (λ none. q.1.stop ∙ q.2.0 (nil_behind (map compiled_text before) q.0.code (sym q.1.code ∙ none))),
-            subst (λ t. Refuses (split_out first.first.out (opening first.first.edition)) t fault last.out) (sym (code_behind before q.0 r q.1))
-                (Refuses-behind (split_rest (opening first.first.edition) (written_before h.1)) (refused_all q.0.code q.0.stop q.2.1)),
-          );
+          let q = whatever _ _ h.2.0.comes more f r g in
+          let left = texts_left before q.0 r q.1 in
+          record {
+            within = omega (arith, ap length q.1.code, length-append (map compiled_text before) q.0.code);
+            before = h.0;
+            written = subst (λ x. Writes first.first.out (opening first.first.edition ++ joined x) h.0) (sym (take_first (map compiled_text before) q.0.code r.code q.1.code)) (written_before h.1);
+            some = λ none. q.1.stop ∙ q.2.0 (sym left ∙ none);
+            refused = subst (λ t. Refuses h.0 t fault last.out) (ap (λ c. next_text c q.0.stop) (sym left) ∙ ap (next_text (drop (length (map compiled_text before)) r.code)) (sym q.1.stop)) q.2.1;
+          };
+      no_further = stays_near status h.2.0.took h.2.1 (λ r. length (map compiled_text before)) (λ more f r g. refl);
       silent = same;
     }
 
@@ -142,7 +122,7 @@ module _ (first last : Compiler) (d e : Outgoing) where
       unread = (refl, ap (λ x. x.source.end) h.unread ∙ (since.unbegun not_begun).1 ∙ ap (λ x. x.source) l.keeps_old.first);
       some = λ none. h.some (to_open ∙ none);
       code = subst (λ x. Refuses x.out (opening x.edition) fault last.out) l.keeps_old.first
-          (Refuses-behind (unbegun_out l.old before since not_begun) (subst (λ t. Refuses l.old.out t fault last.out) (unopened_all l.old not_begun) h.refused));
+          (Refuses-following (unbegun_out l.old before since not_begun) (subst (λ t. Refuses l.old.out t fault last.out) (unopened_all l.old not_begun) h.refused));
       silent = same;
     }
       where
@@ -159,7 +139,7 @@ module _ (first last : Compiler) (d e : Outgoing) where
       count = length (map compiled_text before);
       code = λ more f r g.
           let q = whatever _ _ h.0.comes more f r g in
-          (omega (arith, ap length q.1.code, length-append (map compiled_text before) q.0.code), texts_written status h.2 q.0 r q.1);
+          texts_written status h.2 q.0 r q.1;
       silent = same;
     }
 
@@ -170,27 +150,33 @@ module _ (first last : Compiler) (d e : Outgoing) where
       code = λ more f r g.
           let q = whatever _ _ h.0.0.comes more f r g in
           (omega (arith, ap length q.1.code, length-append (map compiled_text before) q.0.code, some_length q.0.code q.2), texts_written status h.2 q.0 r q.1);
+      no_further = stays_near status h.0.0.took h.0.1 (λ r. length (map compiled_text before)) (λ more f r g. refl);
       silent = same;
     }
 
-    done_behind : StoppedBehind since None last → e ≡ d → Compiles (run 0)
-    done_behind s same = record {
+    done_after : StoppedAfter since None last → e ≡ d → Compiles (run 0)
+    done_after s same = record {
       taken = since.taken ++ s.taken;
       took = took_all s.took;
       compiled = λ z more f r g. let q = whatever _ _ s.comes more f r g in record { read = read_all s.failures; clean = q.1; code = written_whole s r q; silent = same };
       faulty = λ z. absurd (omega arith);
+      no_further = λ z. absurd (omega arith);
       failed = λ z. absurd (omega arith);
       refused = λ z. absurd (omega arith);
       no_other = inl refl;
     }
 
-    module _ (fault : Diagnostic) (s : StoppedBehind since (Some fault) last) where
-      faulty_behind : Writes d (line_of fault) e → Compiles (run 1)
-      faulty_behind line = record {
+    module _ (fault : Diagnostic) (s : StoppedAfter since (Some fault) last) where
+      so_far : (status : ℕ) → ReadsNoFurther (run status) (since.taken ++ s.taken) (λ r. length r.code)
+      so_far status = stays_near status s.took s.no_further (λ r. length r.code) (λ more f r g. ap length (whatever _ _ s.comes more f r g).0)
+
+      faulty_after : Writes d (line_of fault) e → Compiles (run 1)
+      faulty_after line = record {
         taken = since.taken ++ s.taken;
         took = took_all s.took;
         compiled = λ z. absurd (omega arith);
         faulty = λ z more f r g. let q = whatever _ _ s.comes more f r g in record { read = read_all s.failures; fault = fault; stop = q.1; code = written_whole s r q; line = line };
+        no_further = λ z. so_far 1;
         failed = λ z. absurd (omega arith);
         refused = λ z. absurd (omega arith);
         no_other = inr (inl refl);
@@ -200,6 +186,7 @@ module _ (first last : Compiler) (d e : Outgoing) where
       line_refused end status w = record {
         read = read_all s.failures;
         written = λ more f r g. let q = whatever _ _ s.comes more f r g in record { diagnostic = fault; stop = q.1; code = written_whole s r q; line = w };
+        no_further = so_far status;
       }
 
   failing : (taken : List ℕ) → Took first.first.source taken last.tokens.source.end
@@ -209,6 +196,7 @@ module _ (first last : Compiler) (d e : Outgoing) where
     took = took;
     compiled = λ z. absurd (omega arith);
     faulty = λ z. absurd (omega arith);
+    no_further = λ z. absurd (omega arith);
     failed = λ z. h;
     refused = λ z. absurd (omega arith);
     no_other = inr (inr (inl refl));
@@ -221,16 +209,17 @@ module _ (first last : Compiler) (d e : Outgoing) where
     took = took;
     compiled = λ z. absurd (omega arith);
     faulty = λ z. absurd (omega arith);
+    no_further = λ z. absurd (omega arith);
     failed = λ z. absurd (omega arith);
     refused = λ z. h;
     no_other = inr (inr (inr refl));
   }
 
   pub done : LastGives first step.Finished last → e ≡ d → Compiles (run 0)
-  done l same = let o = l.gives.0 in done_behind l o.before o.since (l.gives.1 o.before o.since) same
+  done l same = let o = l.gives.0 in done_after l o.before o.since (l.gives.1 o.before o.since) same
 
   pub faulty : (fault : Diagnostic) → LastGives first (step.Fault fault) last → Writes d (line_of fault) e → Compiles (run 1)
-  faulty fault l line = let o = l.gives.0 in faulty_behind l o.before o.since fault (l.gives.1 o.before o.since) line
+  faulty fault l line = let o = l.gives.0 in faulty_after l o.before o.since fault (l.gives.1 o.before o.since) line
 
   pub cut_off : (fault : Diagnostic) (end : EndFault) → LastGives first (step.Fault fault) last → Refuses d (line_of fault) end e → Compiles (run (status_of end))
   cut_off fault end_fault.Device l w =
@@ -248,7 +237,7 @@ module _ (first last : Compiler) (d e : Outgoing) where
   pub device : LastGives first step.Device last → e ≡ d → Compiles (run 133)
   device l same = let o = l.gives.0 in go o.before o.since (l.gives.1 o.before o.since)
     where
-      go : (before : List Definition) (since : HasWrittenSince l.old before) → GivesBehind since step.Device last → Compiles (run 133)
+      go : (before : List Definition) (since : HasWrittenSince l.old before) → GivesAfter since step.Device last → Compiles (run 133)
       go before since (inl h) = failing (since.taken ++ h.0.taken) (took_all l before since h.0.took) (inl (source_failed l before since 133 h same))
       go before since (inr (inl h)) = failing (since.taken ++ h.2.0.taken) (took_all l before since h.2.0.took) (inr (inr (inl (code_refused l before since end_fault.Device 133 h same))))
       go before since (inr (inr h)) = let r = opening_refused l before since end_fault.Device 133 h same in failing [] (unread_took r) (inr (inl r))
@@ -256,7 +245,7 @@ module _ (first last : Compiler) (d e : Outgoing) where
   pub memory : LastGives first step.Memory last → e ≡ d → Compiles (run 134)
   memory l same = let o = l.gives.0 in go o.before o.since (l.gives.1 o.before o.since)
     where
-      go : (before : List Definition) (since : HasWrittenSince l.old before) → GivesBehind since step.Memory last → Compiles (run 134)
+      go : (before : List Definition) (since : HasWrittenSince l.old before) → GivesAfter since step.Memory last → Compiles (run 134)
       go before since (inl h) = refusing (since.taken ++ h.0.0.taken) (took_all l before since h.0.0.took) (inl (names_refused l before since 134 h same))
       go before since (inr (inl h)) = refusing (since.taken ++ h.2.0.taken) (took_all l before since h.2.0.took) (inr (inr (inl (code_refused l before since end_fault.Memory 134 h same))))
       go before since (inr (inr h)) = let r = opening_refused l before since end_fault.Memory 134 h same in refusing [] (unread_took r) (inr (inl r))
@@ -272,7 +261,7 @@ last_not_written l = l.not_written refl
 pub compiles_between : {answer : Step} {status : ℕ} {edition : Edition} {i j : Incoming} {o p : Outgoing} (d e : Outgoing) (h : CodeGives edition i o answer j p)
     → ((first last : Compiler) → LastGives first answer last → Compiles (run first last d e status))
     → Compiles (run_of edition i j o p d e status)
-compiles_between d e h f = rw (sym h.edition_is, sym h.source, sym h.source_behind, sym h.code, sym h.code_behind) (f h.first h.last h.gives)
+compiles_between d e h f = rw (sym h.edition_is, sym h.source, sym h.source_after, sym h.code, sym h.code_after) (f h.first h.last h.gives)
 
 pub answers : {edition : Edition} {i j : Incoming} {o p : Outgoing} {a b : Step} → a ≡ b → CodeGives edition i o a j p → CodeGives edition i o b j p
 answers {edition} {i} {j} {o} {p} e h = subst (λ x. CodeGives edition i o x j p) e h

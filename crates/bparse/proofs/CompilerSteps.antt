@@ -11,7 +11,7 @@ use Rattle.blang.specs.declared.token.Token.TheVariants as token
 use Rattle.blang.specs.declared.token.Placed.{Placed}
 use Rattle.blang.specs.declared.token.Diagnostic.{Diagnostic}
 use Rattle.btree.specs.Compiled.{AreNames}
-use Rattle.blang.specs.Compiles.{Defined, Compilation, CompilesTo, ending, compiled_text, HasCode}
+use Rattle.blang.specs.Compiles.{Defined, Compilation, CompilesTo, ending, next_text, compiled_text}
 use Rattle.blang.specs.Code.{fault_of}
 use Rattle.blang.specs.Trees.{Definition}
 use Rattle.btree.specs.DefinitionReader.{definition}
@@ -21,12 +21,13 @@ use Rattle.blang.specs.Scan.{identifier_of}
 use Rattle.btree.proofs.Membership.{by_membership}
 use Rattle.btree.proofs.Outcomes.{Ended}
 use Rattle.btree.proofs.GoesLaws.{tokens_from-ended, ended_cons, goes_once, goes_some, goes_end}
-use Rattle.btree.proofs.GoesReads.{goes_behind_read, goes_fault_read, goes_stop_read}
-use Rattle.bexpr.specs.Tokens.{Tokens, tokens_of, tokens_with, IsLoaded, IsSingle, Looks, LooksAt, Moves, work, TakesAhead, TokensFail}
+use Rattle.btree.proofs.GoesReads.{goes_after_read, goes_fault_read, goes_stop_read}
+use Rattle.bexpr.specs.Tokens.{Tokens, tokens_of, tokens_with, is_name, IsLoaded, IsSingle, Looks, LooksAt, Moves, work, TakesAhead, TokensFail}
 use Rattle.bword.specs.ByteEnds.{CanFollow}
 use Rattle.bexpr.proofs.TokenSteps.{Reads-append, LooksAt-append, CanFollow-append}
+use Rattle.bexpr.proofs.Moving.{single_here}
 use Rattle.blex.proofs.Passing.{Grew-after}
-use Rattle.bparse.specs.Steps.{Point, point, SourceComesTo, next_text, Writing, Stopping, Breaking, ReadFails, OutRefuses, NamesRefuse, PointGives, StandsAt, refused_step}
+use Rattle.bparse.specs.Steps.{Point, point, SourceComesTo, HasCode, Writing, Stopping, Breaking, ReadFails, OutRefuses, NamesRefuse, PointGives, StandsAt, refused_step}
 use Rattle.bparse.specs.declared.step.Step.{Step}
 use Rattle.bparse.specs.declared.step.Step.TheVariants as step
 
@@ -50,14 +51,14 @@ pub record Begins (t : Tokens) (more : List ℕ) : Type 0 where
   pub token_is : at.token ≡ first t.ahead
   pub line_is : at.line ≡ line_ahead t.ahead
 
-begins_with : (ps : List Placed) (p : Placed) (behind : List Placed) (edition : Edition) (line : ℕ) (bytes : List ℕ) → ps ≡ p ∷ behind
+begins_with : (ps : List Placed) (p : Placed) (following : List Placed) (edition : Edition) (line : ℕ) (bytes : List ℕ) → ps ≡ p ∷ following
     → (rest : List Placed) × (tokens_with ps edition line bytes ≡ p ∷ rest)
-begins_with ps p behind edition line bytes e =
-    ((if is_last p.token then [] else tokens_with behind edition line bytes), ap (λ l. tokens_with l edition line bytes) e)
+begins_with ps p following edition line bytes e =
+    ((if is_last p.token then [] else tokens_with following edition line bytes), ap (λ l. tokens_with l edition line bytes) e)
 
 pub begins : (t : Tokens) → IsLoaded t → (more : List ℕ) → Begins t more
 begins t l more =
-    let b = begins_with t.ahead l.current l.behind t.source.edition t.source.line (t.source.ahead ++ more) l.ahead in
+    let b = begins_with t.ahead l.current l.following t.source.edition t.source.line (t.source.ahead ++ more) l.ahead in
     record { at = l.current; rest = b.0; split = b.1; token_is = sym (ap first l.ahead); line_is = sym (ap line_ahead l.ahead) }
 
 -- the diagnostic of the token that is ahead
@@ -70,8 +71,8 @@ same_fault t more b = ap (λ k. fault_at (placed k b.at.line)) b.token_is ∙ ap
 first_of : (at p : Placed) (rest more : List Placed) → at ∷ rest ≡ p ∷ more → at ≡ p
 first_of at p rest more e = cc
 
-pub breaks_behind : {a b c : Tokens} {P : List Placed → List Placed → Type 0} → Moves a b P → TokensFail b c → TokensFail a c
-breaks_behind h k = record { taken = h.taken ++ k.taken; reads = Reads-append h.reads k.reads; counted = Grew-after _ _ _ h.failures k.counted }
+pub breaks_after : {a b c : Tokens} {P : List Placed → List Placed → Type 0} → Moves a b P → TokensFail b c → TokensFail a c
+breaks_after h k = record { taken = h.taken ++ k.taken; reads = Reads-append h.reads k.reads; counted = Grew-after _ _ _ h.failures k.counted }
 
 -- A failed read, before anything is written.
 pub read_fails : (old new : Tokens) (names names' : Defined) (out : Outgoing) → TokensFail old new → PointGives (point old names out) (Err step.Device) (point new names' out)
@@ -98,21 +99,21 @@ module _ (old mid : Tokens) (names : Defined) (l : Looks old mid) where
     failed_none = m.failures ∙ l.moves.failures
 
   -- a token that can't come
-  pub fault_stops : (new : Tokens) (out : Outgoing) (d : Diagnostic) → Moves mid new (λ u v. definition u ≡ Stop v) → IsLoaded new → (first mid.ahead ≡ token.End → ⊥) → d ≡ fault_ahead new
+  pub fault_stops : (new : Tokens) (out : Outgoing) (d : Diagnostic) → Moves mid new (λ u v. definition u ≡ Stop v) → IsSingle new → (first mid.ahead ≡ token.End → ⊥) → d ≡ fault_ahead new
       → Stopping (point old names out) (Some d) (point new names out)
-  fault_stops new out d m loaded not_end d_is = record {
+  fault_stops new out d m single not_end d_is = record {
     taken = both new m;
     reads = both_read new m;
     looked = both_looked new m;
     failures = failed_none new m;
-    stands = λ more c. inl (ap definition (come new m more c) ∙ m.come more c, loaded);
+    stands = λ more c. (single, inl (ap definition (come new m more c) ∙ m.come more c));
     written = Writes-none out;
     comes = λ more c. stopped more c;
   }
     where
       stopped : (more : List ℕ) → CanFollow new.source.end more → CompilesTo names (tokens_of old (both new m ++ more)) (record { code = []; stop = Some d })
       stopped more c =
-          let at = begins new loaded more in
+          let at = begins new single.0 more in
           let here = begins mid l.loaded (m.taken ++ more) in
           let g = goes_stop_read names (tokens_of mid (m.taken ++ more)) at.rest at.at (m.come more c ∙ ap Stop at.split)
           (λ e u. not_end (sym here.token_is ∙ ap (λ p. p.token) (first_of here.at at.at here.rest at.rest (sym here.split ∙ u)) ∙ e)) in
@@ -127,8 +128,11 @@ module _ (old mid : Tokens) (names : Defined) (l : Looks old mid) where
         subst (λ ts. CompilesTo names ts (record { code = []; stop = None })) (sym (l.moves.come more c ∙ here.split))
         (goes_end names here.at here.rest (here.token_is ∙ at_end))
 
+    ends_there : (more : List ℕ) → CanFollow mid.source.end more → StandsAt mid (tokens_of old (l.moves.taken ++ more)) (tokens_of mid more)
+    ends_there more c = (single_here l.loaded (ap is_name at_end), inr (inr (sym (l.moves.come more c), at_end)))
+
     pub end_stops : Writes out end_text out' → Stopping (point old names out) None (point mid names out')
-    end_stops w = record { taken = l.moves.taken; reads = l.moves.reads; looked = l.moves.looked; failures = l.moves.failures; stands = λ more c. inr (inr (sym (l.moves.come more c), at_end, l.loaded)); written = w; comes = comes_end }
+    end_stops w = record { taken = l.moves.taken; reads = l.moves.reads; looked = l.moves.looked; failures = l.moves.failures; stands = ends_there; written = w; comes = comes_end }
 
     end_refused : (e : EndFault) → Refuses out end_text e out' → OutRefuses (point old names out) e (point mid names out')
     end_refused e w = (
@@ -139,7 +143,7 @@ module _ (old mid : Tokens) (names : Defined) (l : Looks old mid) where
           each = λ more c r g. subst (λ q. HasCode q × Refuses out (next_text q.code q.stop) e out') (goes_once (comes_end more c) g) ((λ none. refl), w);
         },
         l.moves.looked,
-        λ more c. inr (inr (sym (l.moves.come more c), at_end, l.loaded)),
+        ends_there,
       ),
       l.moves.failures,
     )
@@ -148,14 +152,14 @@ module _ (old mid : Tokens) (names : Defined) (l : Looks old mid) where
     end_breaks fault.Device w = inr (end_refused fault.Device w)
     end_breaks fault.Memory w = inl (end_refused fault.Memory w)
 
-  -- behind a definition
+  -- after a definition
   module _ (new : Tokens) (out : Outgoing) (tree : Definition) (name : List ℕ) (name_is : name ≡ (identifier_of tree).text) (m : Moves mid new (λ u v. definition u ≡ Got tree v)) where
     -- a definition without fault comes first
     comes_first : fault_of names tree ≡ None → (more : List ℕ) → CanFollow new.source.end more → (r : Compilation) → CompilesTo (names ++ name ∷ []) (tokens_of new more) r
         → CompilesTo names (tokens_of old (both new m ++ more)) (record { code = compiled_text tree ∷ r.code; stop = r.stop })
     comes_first clean more c r g =
         subst (λ ts. CompilesTo names ts (record { code = compiled_text tree ∷ r.code; stop = r.stop })) (sym (come new m more c))
-        (goes_behind_read names (tokens_of mid (m.taken ++ more)) (tokens_of new more) tree r (m.come more c) clean (subst (λ n. CompilesTo (names ++ n ∷ []) (tokens_of new more) r) name_is g))
+        (goes_after_read names (tokens_of mid (m.taken ++ more)) (tokens_of new more) tree r (m.come more c) clean (subst (λ n. CompilesTo (names ++ n ∷ []) (tokens_of new more) r) name_is g))
 
     -- so it comes whatever comes
     first_text : fault_of names tree ≡ None → (more : List ℕ) → CanFollow new.source.end more → (r : Compilation) → CompilesTo names (tokens_of old (both new m ++ more)) r → (rest : Compilation) × (r ≡ record { code = compiled_text tree ∷ rest.code; stop = rest.stop })
@@ -179,13 +183,13 @@ module _ (old mid : Tokens) (names : Defined) (l : Looks old mid) where
       comes = λ more c r g. comes_first clean more c r (by_membership names' (names ++ name ∷ []) (tokens_of new more) r added.members g);
     }
 
-    pub fault_behind : (names' : Defined) (fault : Diagnostic) → fault_of names tree ≡ Some fault → IsSingle new → Stopping (point old names out) (Some fault) (point new names' out)
-    fault_behind names' fault wrong single = record {
+    pub fault_after : (names' : Defined) (fault : Diagnostic) → fault_of names tree ≡ Some fault → IsSingle new → Stopping (point old names out) (Some fault) (point new names' out)
+    fault_after names' fault wrong single = record {
       taken = both new m;
       reads = both_read new m;
       looked = both_looked new m;
       failures = failed_none new m;
-      stands = λ more c. inr (inl (tree, ap definition (come new m more c) ∙ m.come more c, single));
+      stands = λ more c. (single, inr (inl (tree, ap definition (come new m more c) ∙ m.come more c)));
       written = Writes-none out;
       comes = λ more c. subst (λ ts. CompilesTo names ts (record { code = []; stop = Some fault })) (sym (come new m more c))
           (goes_fault_read names (tokens_of mid (m.taken ++ more)) (tokens_of new more) tree fault (m.come more c) wrong (tokens_of-ended new more));
@@ -195,7 +199,7 @@ module _ (old mid : Tokens) (names : Defined) (l : Looks old mid) where
     some_text clean more c r g e = let f = first_text clean more c r g in let h : [] ≡ compiled_text tree ∷ f.0.code = sym e ∙ ap (λ q. q.code) f.1 in cc
 
     got_whole : IsSingle new → (more : List ℕ) → CanFollow new.source.end more → StandsAt new (tokens_of old (both new m ++ more)) (tokens_of new more)
-    got_whole single more c = inr (inl (tree, ap definition (come new m more c) ∙ m.come more c, single))
+    got_whole single more c = (single, inr (inl (tree, ap definition (come new m more c) ∙ m.come more c)))
 
     pub no_memory : fault_of names tree ≡ None → IsSingle new → (names' : Defined) → PointGives (point old names out) (Err step.Memory) (point new names' out)
     no_memory clean single names' = inr ((record { taken = both new m; reads = both_read new m; each = some_text clean }, both_looked new m, got_whole single), failed_none new m, refl)

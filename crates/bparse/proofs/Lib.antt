@@ -7,4 +7,6 @@ pub mod MadeSteps
 pub mod ReadingLaws
 pub mod Remaining
 pub mod SinceSteps
+pub mod TakenSteps
+pub mod TakenLaws
 pub mod NamesSteps

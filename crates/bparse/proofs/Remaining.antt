@@ -1,4 +1,4 @@
--- What an end that tells its bytes has left behind those that were taken.
+-- What an end that tells its bytes has left after those that were taken.
 use Rattle.std.proofs.Common.{◌≡◌, ℕ, List, [], ◌∷◌, ◌++◌, Option, Some, None, refl, sym, ◌∙◌, subst, append-nil}
 use Rattle.std.specs.Io.KnownBytes.{Appends}
 use Rattle.bword.specs.ByteEnds.{Incoming, Outgoing, Took, Writes}

@@ -10,26 +10,28 @@ use Rattle.bword.proofs.Putting.{Writes-none, Writes-append}
 use Rattle.blang.specs.Text.{joined, opening}
 use Rattle.blex.proofs.Passing.{Took-none, Took-append}
 use Rattle.blang.specs.Cut.{tokens_from}
+use Rattle.blang.specs.Endings.{EndsWith}
 use Rattle.blang.specs.declared.token.Diagnostic.{Diagnostic}
 use Rattle.blang.specs.declared.token.Placed.{Placed}
 use Rattle.btree.specs.Compiled.{AreNames}
 use Rattle.blang.specs.Compiles.{Compilation, CompilesTo, ending, compiled_text}
-use Rattle.blang.specs.Trees.{Definition, spell_definition, kept, spell_all}
+use Rattle.blang.specs.Trees.{Definition, kept}
+use Rattle.blang.specs.Walk.{spell_definition, spell_all}
 use Rattle.blang.specs.WellFormed.{IsFormed, AllFormed}
 use Rattle.btree.specs.DefinitionReader.{definition}
 use Rattle.btree.specs.Reading.{Got}
 use Rattle.btree.specs.Unread.{kept_read}
-use Rattle.btree.proofs.Membership.{are_names_behind, are_names_push}
+use Rattle.btree.proofs.Membership.{are_names_after, are_names_push}
 use Rattle.btree.proofs.GoesLaws.{goes_once, goes_some}
 use Rattle.btree.proofs.GoesReads.{Taken, got_taken}
 use Rattle.btree.proofs.LawProofs.{definition_read}
 use Rattle.btree.proofs.ProgramLaws.{read_there}
 use Rattle.btree.proofs.StatementUnread.{lines_unread}
-use Rattle.bexpr.specs.Tokens.{tokens_of, IsReady, EndsWith, LooksAt, last_ahead}
+use Rattle.bexpr.specs.Tokens.{tokens_of, IsReady, LooksAt, last_ahead}
 use Rattle.bword.specs.ByteEnds.{CanFollow}
 use Rattle.bexpr.proofs.TokenSteps.{EndsWith-append}
 use Rattle.bparse.specs.Steps.{Point, point, name_of, Writing, Stopping, Breaking, BreakingNear, ReadFails, OutRefuses, NamesRefuse, OpensAndGives, GivesNext, PointGives, refused_step, to_begin}
-use Rattle.bparse.specs.Compilers.{CompilerStart, Compiler, compiler_of, Spelled, GoesOnBehind, OpeningWritten, HasWrittenSince, MoreCanBeWritten, Wrote, StoppedBehind, BrokeOff, BrokeOffNear, TakenNear, GivesBehind, CompilerGives}
+use Rattle.bparse.specs.Compilers.{CompilerStart, Compiler, compiler_of, Spelled, GoesOnAfter, OpeningWritten, HasWrittenSince, MoreCanBeWritten, Wrote, StoppedAfter, BrokeOff, BrokeOffNear, TakenNear, GivesAfter, CompilerGives}
 use Rattle.bparse.specs.Compilers as compilers
 use Rattle.bparse.specs.declared.step.Step.{Step}
 use Rattle.bparse.specs.declared.step.Step.TheVariants as step
@@ -38,11 +40,11 @@ use Rattle.bparse.proofs.CompilerSteps.{tokens_of-ended}
 pub joined-append : (xs ys : List (List ℕ)) → joined (xs ++ ys) ≡ joined xs ++ joined ys
 joined-append xs ys = flat_map-append (λ l. l) xs ys
 
-spell_all-append : (ds : List Definition) (d : Definition) → spell_all (ds ++ d ∷ []) ≡ spell_all ds ++ spell_definition d
+pub spell_all-append : (ds : List Definition) (d : Definition) → spell_all (ds ++ d ∷ []) ≡ spell_all ds ++ spell_definition d
 spell_all-append [] d = append-nil (spell_definition d)
 spell_all-append (e ∷ ds) d = ap (λ l. spell_definition e ++ l) (spell_all-append ds d) ∙ sym (append_assoc (spell_definition e) (spell_all ds) (spell_definition d))
 
-AllFormed-append : (ds : List Definition) (d : Definition) → AllFormed ds → IsFormed d → AllFormed (ds ++ d ∷ [])
+pub AllFormed-append : (ds : List Definition) (d : Definition) → AllFormed ds → IsFormed d → AllFormed (ds ++ d ∷ [])
 AllFormed-append [] d h f = (f, tt)
 AllFormed-append (e ∷ ds) d h f = (h.0, AllFormed-append ds d h.1 f)
 
@@ -62,7 +64,7 @@ since_new start = record {
   formed = tt;
   spelled = λ more f. record { passed = []; split = refl; spelled = refl };
   comes = λ more f r g. (r, g, record { code = refl; stop = refl });
-  near = record { passed = []; split = refl; few = omega arith; ends = λ p e. cc };
+  near = record { passed = []; split = refl; few = omega arith; edition_is = refl; ends = λ p e. cc };
   is_open = refl;
 }
 
@@ -72,7 +74,7 @@ is_open_new start = record { before = []; since = since_new start; ready = refl 
 nil_both : (xs ys : List ℕ) → xs ≡ [] → ys ≡ [] → xs ++ ys ≡ []
 nil_both xs ys h k = rw (h, k) refl
 
--- what could follow behind could follow before
+-- what could follow after could follow before
 pub follow : {a b : Incoming} {ys : List ℕ} → Took a ys b → (more : List ℕ) → CanFollow b more → CanFollow a (ys ++ more)
 follow {a} {b} {ys} t more f = λ over. let o = t.over over in nil_both ys more o.0 (f o.1)
 
@@ -95,13 +97,13 @@ written_begun first false before out mid none w o same =
     (subst (λ l. Writes first.out l mid) (sym (append-nil (opening first.edition))) (Writes-append (subst (λ ds. Writes first.out (joined (map compiled_text ds)) out) e w) o))
 
 -- the tokens that were taken spell the tree
-tree_spelled : (u v : List Placed) (d : Definition) (t : Taken u v) → definition u ≡ Got d v → map kept t.tokens ≡ spell_definition d
+pub tree_spelled : (u v : List Placed) (d : Definition) (t : Taken u v) → definition u ≡ Got d v → map kept t.tokens ≡ spell_definition d
 tree_spelled u v d t h =
     (read_there t.tokens v d (ap definition (sym (map-append kept t.tokens v) ∙ ap (map kept) (sym t.split)) ∙ lines_unread u ∙ ap kept_read h)).0
 
 -- an outcome that begins with one text more
-behind_more : (ds : List Definition) (d : Definition) (rest later r : Compilation) → GoesOnBehind ds rest r → rest ≡ record { code = compiled_text d ∷ later.code; stop = later.stop } → GoesOnBehind (ds ++ d ∷ []) later r
-behind_more ds d rest later r h e = record {
+after_more : (ds : List Definition) (d : Definition) (rest later r : Compilation) → GoesOnAfter ds rest r → rest ≡ record { code = compiled_text d ∷ later.code; stop = later.stop } → GoesOnAfter (ds ++ d ∷ []) later r
+after_more ds d rest later r h e = record {
   code = h.code ∙ ap (λ x. map compiled_text ds ++ x.code) e ∙ sym (append_assoc (map compiled_text ds) (compiled_text d ∷ []) later.code) ∙ ap (λ l. l ++ later.code) (sym (map-append compiled_text ds (d ∷ [])));
   stop = h.stop ∙ ap (λ x. x.stop) e;
 }
@@ -117,21 +119,22 @@ module _ (first : CompilerStart) (a b : Point) (lender lender' : List ℕ) (out 
 
   -- the outcome from this point on
   from_here : (ys more : List ℕ) → Took a.tokens.source.end ys b.tokens.source.end → CanFollow b.tokens.source.end more → (r : Compilation) → CompilesTo [] (tokens_from first.edition 1 ((since.taken ++ ys) ++ more)) r
-      → (rest : Compilation) × CompilesTo a.names (tokens_of a.tokens (ys ++ more)) rest × GoesOnBehind before rest r
+      → (rest : Compilation) × CompilesTo a.names (tokens_of a.tokens (ys ++ more)) rest × GoesOnAfter before rest r
   from_here ys more took f r g =
       since.comes (ys ++ more) (follow took more f) r (subst (λ bs. CompilesTo [] (tokens_from first.edition 1 bs) r) (append_assoc since.taken ys more) g)
 
   module _ (taken : List ℕ) (k : LooksAt a.tokens taken b.tokens) where
-    ends_at : (p : Placed) → EndsWith p.token k.bytes ⊎ ((k.bytes ≡ []) × (last_ahead a.tokens.ahead ≡ Some p)) → EndsWith p.token (since.near.passed ++ k.bytes)
-    ends_at p (inl h) = EndsWith-append since.near.passed h
-    ends_at p (inr h) = subst (EndsWith p.token) (sym (append-nil since.near.passed) ∙ ap (λ l. since.near.passed ++ l) (sym h.0)) (since.near.ends p h.1)
+    ends_at : (p : Placed) → EndsWith a.tokens.source.edition p.token k.bytes ⊎ ((k.bytes ≡ []) × (last_ahead a.tokens.ahead ≡ Some p)) → EndsWith first.edition p.token (since.near.passed ++ k.bytes)
+    ends_at p (inl h) = EndsWith-append since.near.passed (subst (λ x. EndsWith x p.token k.bytes) since.near.edition_is h)
+    ends_at p (inr h) = subst (EndsWith first.edition p.token) (sym (append-nil since.near.passed) ∙ ap (λ l. since.near.passed ++ l) (sym h.0)) (since.near.ends p h.1)
 
-    near_now : length b.tokens.source.ahead ≤ 2 → TakenNear (since.taken ++ taken) b.tokens
+    near_now : length b.tokens.source.ahead ≤ 2 → TakenNear first.edition (since.taken ++ taken) b.tokens
     near_now few = record {
       passed = since.near.passed ++ k.bytes;
       split = ap (λ l. l ++ taken) since.near.split ∙ append_assoc since.near.passed a.tokens.source.ahead taken ∙ ap (λ l. since.near.passed ++ l) k.split
           ∙ sym (append_assoc since.near.passed k.bytes b.tokens.source.ahead);
       few = few;
+      edition_is = k.edition ∙ since.near.edition_is;
       ends = λ p e. ends_at p (k.ends p e);
     }
 
@@ -150,11 +153,11 @@ module _ (first : CompilerStart) (a b : Point) (lender lender' : List ℕ) (out 
         }
 
     comes_now : (more : List ℕ) → CanFollow b.tokens.source.end more → (r : Compilation) → CompilesTo [] (tokens_from first.edition 1 ((since.taken ++ w.taken) ++ more)) r
-        → (rest : Compilation) × CompilesTo b.names (tokens_of b.tokens more) rest × GoesOnBehind (before ++ w.tree ∷ []) rest r
+        → (rest : Compilation) × CompilesTo b.names (tokens_of b.tokens more) rest × GoesOnAfter (before ++ w.tree ∷ []) rest r
     comes_now more f r g =
         let q = from_here w.taken more w.reads.took f r g in
         let some = goes_some b.names (tokens_of b.tokens more) (tokens_of-ended b.tokens more) in
-        (some.outcome, some.goes, behind_more before w.tree q.0 some.outcome r q.2 (goes_once q.1 (w.comes more f some.outcome some.goes)))
+        (some.outcome, some.goes, after_more before w.tree q.0 some.outcome r q.2 (goes_once q.1 (w.comes more f some.outcome some.goes)))
 
     since_now : HasWrittenSince (compiler_at first b lender' true false) (before ++ w.tree ∷ [])
     since_now = record {
@@ -166,7 +169,7 @@ module _ (first : CompilerStart) (a b : Point) (lender lender' : List ℕ) (out 
       written = subst (λ t. Writes first.out t b.out)
           (append_assoc (opening first.edition) (joined (map compiled_text before)) (compiled_text w.tree) ∙ ap (λ l. opening first.edition ++ l) (sym (texts-append before w.tree)))
           (Writes-append written_before w.written);
-      names = subst (AreNames b.names) (sym (map-append name_of before (w.tree ∷ []))) (are_names_behind _ _ _ w.names (are_names_push a.names (map name_of before) (name_of w.tree) since.names));
+      names = subst (AreNames b.names) (sym (map-append name_of before (w.tree ∷ []))) (are_names_after _ _ _ w.names (are_names_push a.names (map name_of before) (name_of w.tree) since.names));
       formed = AllFormed-append before w.tree since.formed (definition_read (tokens_of a.tokens (w.taken ++ [])) (tokens_of b.tokens []) w.tree (w.read [] (λ over. refl))).1;
       spelled = spelled_now;
       comes = comes_now;
@@ -182,7 +185,7 @@ module _ (first : CompilerStart) (a b : Point) (lender lender' : List ℕ) (out 
   abbrev closed : Compiler
   closed = compiler_at first b lender' true true
 
-  stopped : (stop : Option Diagnostic) → Stopping a stop b → StoppedBehind since stop closed
+  stopped : (stop : Option Diagnostic) → Stopping a stop b → StoppedAfter since stop closed
   stopped stop h = record {
     taken = h.taken;
     took = h.reads.took;
@@ -219,7 +222,7 @@ module _ (first : CompilerStart) (a b : Point) (lender lender' : List ℕ) (out 
   names_refused : NamesRefuse a b → compilers.GrowthRefused since closed
   names_refused h = (broke_near _ h.0, h.1 ∙ since.failures, same_out h.2)
 
-  pub stops : (answer : Step) → PointGives a (Err answer) b → GivesBehind since answer closed
+  pub stops : (answer : Step) → PointGives a (Err answer) b → GivesAfter since answer closed
   stops step.Written h = absurd h
   stops step.Finished h = stopped None h
   stops (step.Fault fault) h = stopped (Some fault) h
@@ -236,12 +239,12 @@ module _ (first : CompilerStart) (a b : Point) (lender lender' : List ℕ) (begu
   unwritten = compiler_at first a lender begun false
 
   begin_stops : (fault : EndFault) → compilers.BeginRefused unwritten fault (compiler_at first b lender' true true)
-      → GivesBehind since (refused_step fault) (compiler_at first b lender' true true)
+      → GivesAfter since (refused_step fault) (compiler_at first b lender' true true)
   begin_stops end_fault.Device h = inr (inr h)
   begin_stops end_fault.Memory h = inr (inr h)
 
 -- what is so after all definitions that can have been written is what the call does
-all_given : (answer : Step) (old new : Compiler) → MoreCanBeWritten old → ((before : List Definition) (since : HasWrittenSince old before) → GivesBehind since answer new) → CompilerGives old answer new
+all_given : (answer : Step) (old new : Compiler) → MoreCanBeWritten old → ((before : List Definition) (since : HasWrittenSince old before) → GivesAfter since answer new) → CompilerGives old answer new
 all_given step.Written old new o h = (o, h)
 all_given step.Finished old new o h = (o, h)
 all_given (step.Fault fault) old new o h = (o, h)
@@ -261,8 +264,8 @@ module _ (first : CompilerStart) (a b : Point) (lender lender' : List ℕ) (begu
   abbrev opens : {r : Result (Unit {0}) Step} (h : OpensAndGives start a r b) → OpeningWritten (compiler_at first a lender begun false) h.out
   opens h = record { written = h.written; nothing = h.nothing }
 
-  abbrev behind : {r : Result (Unit {0}) Step} → OpensAndGives start a r b → Point
-  behind h = point a.tokens a.names h.out
+  abbrev following : {r : Result (Unit {0}) Step} → OpensAndGives start a r b → Point
+  following h = point a.tokens a.names h.out
 
   abbrev gone_on : (u : Unit {0}) → GivesNext start a (Ok u) b → OpensAndGives start a (Ok u) b
   gone_on u (inl h) = let bad = h.answered in cc
@@ -272,10 +275,10 @@ module _ (first : CompilerStart) (a b : Point) (lender lender' : List ℕ) (begu
   goes_on_open u g ready =
       let h = gone_on u g in
       subst (λ x. MoreCanBeWritten (compiler_at first b lender' true x)) (sym open_now)
-      (is_open_more first (behind h) b lender lender' a.out begun opened_now.before opened_now.since (opens h) h.gives ready)
+      (is_open_more first (following h) b lender lender' a.out begun opened_now.before opened_now.since (opens h) h.gives ready)
 
   wrote_open : (u : Unit {0}) → GivesNext start a (Ok u) b → CompilerGives (compiler_at first a lender begun false) step.Written (compiler_at first b lender' true false)
-  wrote_open u g = let h = gone_on u g in (opened_now, λ before since. wrote_more first (behind h) b lender lender' a.out begun before since (opens h) h.gives)
+  wrote_open u g = let h = gone_on u g in (opened_now, λ before since. wrote_more first (following h) b lender lender' a.out begun before since (opens h) h.gives)
 
   pub written_now : (old : Compiler) → compiler_at first a lender begun closed ≡ old → (u : Unit {0}) → GivesNext start a (Ok u) b
       → CompilerGives old step.Written (compiler_at first b lender' true closed)
@@ -283,17 +286,17 @@ module _ (first : CompilerStart) (a b : Point) (lender lender' : List ℕ) (begu
       subst (λ x. CompilerGives x step.Written (compiler_at first b lender' true closed)) e
       (subst (λ x. CompilerGives (compiler_at first a lender begun x) step.Written (compiler_at first b lender' true x)) (sym open_now) (wrote_open u g))
 
-  stopped_behind : (answer : Step) → GivesNext start a (Err answer) b → (before : List Definition) (since : HasWrittenSince (compiler_at first a lender begun false) before)
-      → GivesBehind since answer (compiler_at first b lender' true true)
-  stopped_behind answer (inl h) before since =
+  stopped_after : (answer : Step) → GivesNext start a (Err answer) b → (before : List Definition) (since : HasWrittenSince (compiler_at first a lender begun false) before)
+      → GivesAfter since answer (compiler_at first b lender' true true)
+  stopped_after answer (inl h) before since =
       let same : answer ≡ refused_step h.fault = let e = h.answered in cc in
-      subst (λ x. GivesBehind since x (compiler_at first b lender' true true)) (sym same)
+      subst (λ x. GivesAfter since x (compiler_at first b lender' true true)) (sym same)
       (begin_stops first a b lender lender' begun before since h.fault (record { some = h.some; refused = h.refused; unread = h.unread; closed = refl }))
-  stopped_behind answer (inr h) before since = stops first (behind h) b lender lender' a.out begun before since (opens h) answer h.gives
+  stopped_after answer (inr h) before since = stops first (following h) b lender lender' a.out begun before since (opens h) answer h.gives
 
   pub stopped_now : (old : Compiler) → compiler_at first a lender begun closed ≡ old → (answer : Step) → GivesNext start a (Err answer) b
       → CompilerGives old answer (compiler_at first b lender' true true)
   stopped_now old e answer g =
       subst (λ x. CompilerGives x answer (compiler_at first b lender' true true)) e
       (subst (λ x. CompilerGives (compiler_at first a lender begun x) answer (compiler_at first b lender' true true)) (sym open_now)
-      (all_given answer (compiler_at first a lender begun false) (compiler_at first b lender' true true) opened_now (stopped_behind answer g)))
+      (all_given answer (compiler_at first a lender begun false) (compiler_at first b lender' true true) opened_now (stopped_after answer g)))

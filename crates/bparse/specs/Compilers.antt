@@ -2,8 +2,8 @@
 use Rattle.std.specs.Prelude.{◌≡◌, ◌≢◌, ℕ, ◌≤◌, ◌<◌, Bool, true, false, List, [], ◌∷◌, ◌++◌, length, map, Option, Some}
 use Rattle.std.specs.Prelude.{None, ◌⊎◌, if◌then◌else◌}
 use Rattle.btree.specs.Compiled.{AreNames}
-use Rattle.bexpr.specs.Tokens.{Tokens, all_tokens, tokens_of, EndsWith, IsReady, IsSingle, last_ahead, work}
-use Rattle.bparse.specs.Steps.{name_of, next_text, to_begin, StandsAt}
+use Rattle.bexpr.specs.Tokens.{Tokens, all_tokens, tokens_of, IsReady, IsSingle, last_ahead, work}
+use Rattle.bparse.specs.Steps.{name_of, HasCode, to_begin, StandsAt}
 use Rattle.bparse.specs.declared.step.Step.{Step}
 use Rattle.bparse.specs.declared.step.Step.TheVariants as step
 use Rattle.bword.specs.declared.edition.Edition.{Edition}
@@ -12,10 +12,12 @@ use Rattle.bword.specs.declared.ends.EndFault.{EndFault}
 use Rattle.bword.specs.declared.ends.EndFault.TheVariants as end_fault
 use Rattle.blang.specs.Text.{joined, opening}
 use Rattle.blang.specs.Cut.{tokens_from}
+use Rattle.blang.specs.Endings.{EndsWith}
 use Rattle.blang.specs.declared.token.Diagnostic.{Diagnostic}
 use Rattle.blang.specs.declared.token.Placed.{Placed}
-use Rattle.blang.specs.Compiles.{Defined, Compilation, CompilesTo, ending, compiled_text, HasCode, Whatever}
-use Rattle.blang.specs.Trees.{Definition, kept, spell_all}
+use Rattle.blang.specs.Compiles.{Defined, Compilation, CompilesTo, ending, next_text, compiled_text, Whatever}
+use Rattle.blang.specs.Trees.{Definition, kept}
+use Rattle.blang.specs.Walk.{spell_all}
 use Rattle.blang.specs.WellFormed.{AllFormed}
 
 -- the edition of a compiler, what its input and its output end told when it was made, and which they are
@@ -76,16 +78,17 @@ pub record Spelled (ds : List Definition) (tokens others : List Placed) : Type 0
   pub spelled : map kept passed ≡ spell_all ds
 
 -- An outcome begins with the texts of these definitions, and goes on so.
-pub record GoesOnBehind (ds : List Definition) (rest outcome : Compilation) : Type 0 where
+pub record GoesOnAfter (ds : List Definition) (rest outcome : Compilation) : Type 0 where
   pub code : outcome.code ≡ map compiled_text ds ++ rest.code
   pub stop : outcome.stop ≡ rest.stop
 
--- Of the bytes taken, all but two at most were passed, and these end with the last token that is held.
-pub record TakenNear (taken : List ℕ) (tokens : Tokens) : Type 0 where
+-- Of the bytes taken, all but two at most were passed, and these end with the last token that is held, in an edition.
+pub record TakenNear (edition : Edition) (taken : List ℕ) (tokens : Tokens) : Type 0 where
   pub passed : List ℕ
   pub split : taken ≡ passed ++ tokens.source.ahead
   pub few : length tokens.source.ahead ≤ 2
-  pub ends : (p : Placed) → last_ahead tokens.ahead ≡ Some p → EndsWith p.token passed
+  pub edition_is : tokens.source.edition ≡ edition
+  pub ends : (p : Placed) → last_ahead tokens.ahead ≡ Some p → EndsWith edition p.token passed
 
 -- Since a compiler was made, it has written what its text begins with and the texts of these definitions, and nothing
 -- else; before its first call nothing, and nothing was taken. The definitions are the first ones of the source, none
@@ -93,7 +96,7 @@ pub record TakenNear (taken : List ℕ) (tokens : Tokens) : Type 0 where
 pub record HasWrittenSince (c : Compiler) (ds : List Definition) : Type 0 where
   pub taken : List ℕ
   pub took : Took c.first.source taken c.tokens.source.end
-  pub near : TakenNear taken c.tokens
+  pub near : TakenNear c.first.edition taken c.tokens
   pub failures : c.tokens.source.end.failures ≡ c.first.source.failures
   pub unbegun : c.is_begun ≡ false → (ds ≡ []) × (c.tokens.source.end ≡ c.first.source)
   pub written : Writes c.first.out (opening_written c ++ joined (map compiled_text ds)) c.out
@@ -103,7 +106,7 @@ pub record HasWrittenSince (c : Compiler) (ds : List Definition) : Type 0 where
       → Spelled ds (tokens_from c.first.edition 1 (taken ++ more)) (tokens_of c.tokens more)
   pub comes : (more : List ℕ) → CanFollow c.tokens.source.end more → (r : Compilation)
       → CompilesTo [] (tokens_from c.first.edition 1 (taken ++ more)) r
-      → (rest : Compilation) × CompilesTo c.names (tokens_of c.tokens more) rest × GoesOnBehind ds rest r
+      → (rest : Compilation) × CompilesTo c.names (tokens_of c.tokens more) rest × GoesOnAfter ds rest r
   pub is_open : c.is_closed ≡ false
 
 -- more definitions can come
@@ -122,12 +125,12 @@ pub record Wrote (before : List Definition) (old new : Compiler) : Type 0 where
 -- A call took these bytes. Of all taken so far all but two at most end with the last token held, and reading stands so.
 pub record ReadNoFurther {old : Compiler} {before : List Definition} (since : HasWrittenSince old before)
     (taken : List ℕ) (new : Compiler) : Type 0 where
-  pub near : TakenNear (since.taken ++ taken) new.tokens
+  pub near : TakenNear old.first.edition (since.taken ++ taken) new.tokens
   pub stands : (more : List ℕ) → CanFollow new.tokens.source.end more
       → StandsAt new.tokens (tokens_of old.tokens (taken ++ more)) (tokens_of new.tokens more)
 
 -- The source comes to the definitions written before and then stops so. Its last line was written, if it has no fault.
-pub record StoppedBehind {old : Compiler} {before : List Definition} (since : HasWrittenSince old before)
+pub record StoppedAfter {old : Compiler} {before : List Definition} (since : HasWrittenSince old before)
     (stop : Option Diagnostic) (new : Compiler) : Type 0 where
   pub taken : List ℕ
   pub took : Took old.tokens.source.end taken new.tokens.source.end
@@ -145,7 +148,7 @@ pub record BrokeOff {old : Compiler} {before : List Definition} (since : HasWrit
   pub taken : List ℕ
   pub took : Took old.tokens.source.end taken new.tokens.source.end
   pub comes : Whatever old.first.edition (since.taken ++ taken) new.tokens.source.end
-      (λ r. (rest : Compilation) × GoesOnBehind before rest r × P rest)
+      (λ r. (rest : Compilation) × GoesOnAfter before rest r × P rest)
   pub closed : new.is_closed ≡ true
 
 -- the same, and it took no more bytes than that
@@ -181,23 +184,23 @@ GrowthRefused {old = old} since new =
     × (new.tokens.source.end.failures ≡ old.first.source.failures) × OpeningWritten old new.out
 
 -- what a call does after these definitions
-abbrev pub GivesBehind : {old : Compiler} {before : List Definition} → HasWrittenSince old before → Step → Compiler
+abbrev pub GivesAfter : {old : Compiler} {before : List Definition} → HasWrittenSince old before → Step → Compiler
     → Type 0
-GivesBehind {old} {before} since step.Written new = Wrote before old new
-GivesBehind {old} {before} since step.Finished new = StoppedBehind since None new
-GivesBehind {old} {before} since (step.Fault fault) new = StoppedBehind since (Some fault) new
-GivesBehind {old} {before} since step.Device new =
+GivesAfter {old} {before} since step.Written new = Wrote before old new
+GivesAfter {old} {before} since step.Finished new = StoppedAfter since None new
+GivesAfter {old} {before} since (step.Fault fault) new = StoppedAfter since (Some fault) new
+GivesAfter {old} {before} since step.Device new =
     ReadFailed since new ⊎ OutRefused since end_fault.Device new ⊎ BeginRefused old end_fault.Device new
-GivesBehind {old} {before} since step.Memory new =
+GivesAfter {old} {before} since step.Memory new =
     GrowthRefused since new ⊎ OutRefused since end_fault.Memory new ⊎ BeginRefused old end_fault.Memory new
-GivesBehind {old} {before} since step.Closed new = ⊥
+GivesAfter {old} {before} since step.Closed new = ⊥
 
 -- what a call does, whichever definitions were written before
 abbrev pub CompilerGives : Compiler → Step → Compiler → Type 0
 CompilerGives old step.Closed new = (old.is_closed ≡ true) × (new ≡ old)
 CompilerGives old answer new =
     MoreCanBeWritten old
-    × ((before : List Definition) (since : HasWrittenSince old before) → GivesBehind since answer new)
+    × ((before : List Definition) (since : HasWrittenSince old before) → GivesAfter since answer new)
 
 -- the compiler is over the same ends
 pub record SameCompiler (old new : Compiler) : Type 0 where

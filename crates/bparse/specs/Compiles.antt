@@ -7,16 +7,16 @@ use Rattle.bword.specs.declared.edition.Edition.{Edition}
 use Rattle.bword.specs.ByteEnds.{Incoming, Outgoing}
 use Rattle.blang.specs.Compiles.{Run}
 
--- a run in this edition between these ends, each before and after it, with this status
-abbrev pub run_of : Edition → (source source_behind : Incoming) (code code_behind line line_behind : Outgoing) → ℕ → Run
-run_of edition source source_behind code code_behind line line_behind status = record {
+-- a run in this edition with these streams, each before and after it, with this status
+abbrev pub run_of : Edition → (source source_after : Incoming) (code code_after line line_after : Outgoing) → ℕ → Run
+run_of edition source source_after code code_after line line_after status = record {
   edition = edition;
   source = source;
-  source_behind = source_behind;
+  source_after = source_after;
   code = code;
-  code_behind = code_behind;
+  code_after = code_after;
   line = line;
-  line_behind = line_behind;
+  line_after = line_after;
   status = status;
 }
 
@@ -38,5 +38,5 @@ pub record CodeGives (edition : Edition) (i : Incoming) (o : Outgoing) (answer :
   pub edition_is : first.first.edition ≡ edition
   pub source : first.first.source ≡ i
   pub code : first.first.out ≡ o
-  pub source_behind : last.tokens.source.end ≡ j
-  pub code_behind : last.out ≡ p
+  pub source_after : last.tokens.source.end ≡ j
+  pub code_after : last.out ≡ p

@@ -5,7 +5,7 @@ use Rattle.btree.specs.Compiled.{AreNames}
 use Rattle.btree.specs.DefinitionReader.{definition}
 use Rattle.btree.specs.Reading.{Got, Stop, first}
 use Rattle.blang.specs.declared.token.Placed.{Placed}
-use Rattle.bexpr.specs.Tokens.{Tokens, tokens_of, IsLoaded, IsSingle, TakesAhead, LooksAt, work}
+use Rattle.bexpr.specs.Tokens.{Tokens, tokens_of, IsSingle, TakesAhead, LooksAt, work}
 use Rattle.bparse.specs.declared.step.Step.{Step}
 use Rattle.bparse.specs.declared.step.Step.TheVariants as step
 use Rattle.bword.specs.declared.edition.Edition.{Edition}
@@ -15,7 +15,7 @@ use Rattle.bword.specs.declared.ends.EndFault.TheVariants as end_fault
 use Rattle.blang.specs.Text.{opening}
 use Rattle.blang.specs.declared.token.Diagnostic.{Diagnostic}
 use Rattle.blang.specs.declared.token.Token.{Token}
-use Rattle.blang.specs.Compiles.{Defined, Compilation, CompilesTo, ending, compiled_text, HasCode}
+use Rattle.blang.specs.Compiles.{Defined, Compilation, CompilesTo, ending, next_text, compiled_text}
 use Rattle.blang.specs.Trees.{Definition}
 use Rattle.blang.specs.Scan.{identifier_of}
 use Rattle.blang.specs.declared.token.Token.TheVariants as token
@@ -41,10 +41,9 @@ abbrev pub EachComing : Point → List ℕ → Point → (Compilation → Type 0
 EachComing old taken new P =
     (more : List ℕ) → CanFollow new.tokens.source.end more → (r : Compilation) → SourceComesTo old taken more r → P r
 
--- what is written next
-abbrev pub next_text : List (List ℕ) → Option Diagnostic → List ℕ
-next_text [] stop = ending stop
-next_text (text ∷ texts) stop = text
+-- there is code: a definition's, or the last line
+abbrev pub HasCode : Compilation → Type 0
+HasCode r = r.code ≡ [] → r.stop ≡ None
 
 -- A definition was read, which these tokens spell, and written.
 pub record Writing (old new : Point) : Type 0 where
@@ -63,12 +62,12 @@ pub record Writing (old new : Point) : Type 0 where
       → CompilesTo new.names (tokens_of new.tokens more) r
       → SourceComesTo old taken more (record { code = compiled_text tree ∷ r.code; stop = r.stop })
 
--- A definition was read up to where none goes on with the current token; or a whole one, and the token after it is the
--- only one ahead; or none was, and the source ends.
+-- One token is ahead. A definition was read up to where none goes on with it, or a whole one; or none was, and the
+-- source ends.
 abbrev pub StandsAt : Tokens → List Placed → List Placed → Type 0
 StandsAt new u v =
-    ((definition u ≡ Stop v) × IsLoaded new) ⊎ ((d : Definition) × (definition u ≡ Got d v) × IsSingle new)
-    ⊎ ((v ≡ u) × (first new.ahead ≡ token.End) × IsLoaded new)
+    IsSingle new
+    × ((definition u ≡ Stop v) ⊎ ((d : Definition) × (definition u ≡ Got d v)) ⊎ ((v ≡ u) × (first new.ahead ≡ token.End)))
 
 -- Nothing more comes, and the text's last line was written, or nothing where there is a fault.
 pub record Stopping (old : Point) (stop : Option Diagnostic) (new : Point) : Type 0 where
@@ -88,7 +87,7 @@ pub record Breaking (old : Point) (P : Compilation → Type 0) (new : Point) : T
   pub reads : TakesAhead old.tokens.source taken new.tokens.source
   pub each : EachComing old taken new P
 
--- The same, and no more was taken than up to the token behind a definition, but for two bytes.
+-- The same, and no more was taken than up to the token after a definition, but for two bytes.
 abbrev pub BreakingNear : Point → (Compilation → Type 0) → Point → Type 0
 BreakingNear old P new = (b : Breaking old P new) × LooksAt old.tokens b.taken new.tokens
     × ((more : List ℕ) → CanFollow new.tokens.source.end more

@@ -23,7 +23,7 @@ use std::snapshot::Snapshot;
 
 /// A compiler of one source.
 ///
-/// It holds one definition, one token behind it and the names that are defined.
+/// It holds one definition, one token after it and the names that are defined.
 #[derive(Drop)]
 pub struct Compiler<I: ByteIn, O: ByteOut> {
     // What the ends were at first, for contracts alone: these take no room.
@@ -109,7 +109,7 @@ impl<I: ByteIn, O: ByteOut> Compiler<I, O> {
 
     /// The source line of each instruction of the definition that was written last. A function alone has some.
     ///
-    /// An instruction is of the line of the token that it was made from or behind which it was made, the jump back of a
+    /// An instruction is of the line of the token that it was made from or after which it was made, the jump back of a
     /// loop and the tests of a switch are of the line of their keyword.
     pub fn lines(&self) -> &[u64]
         ensures { length result.now ≤ most_instructions }
@@ -124,19 +124,19 @@ impl<I: ByteIn, O: ByteOut> Compiler<I, O> {
         self.parser.draft.value_lines()
     }
 
-    /// How many tokens stand before the current one: the one behind the definitions that were written, or the one with
+    /// How many tokens come before the current one: the one after the definitions that were written, or the one with
     /// which no program goes on.
     pub fn tokens_taken(&self) -> u64 {
         self.parser.tokens.taken()
     }
 
-    /// How many tokens stand before the one at which the first fault of the last definition was seen, but for a name
+    /// How many tokens come before the one at which the first fault of the last definition was seen, but for a name
     /// without a label, a size, and a token with which no program goes on.
     pub fn token_at_fault(&self) -> u64 {
         self.parser.draft.token()
     }
 
-    /// Both ends, the input without what was read ahead.
+    /// Both streams, the input without what was read ahead.
     pub fn into_ends(self) -> (I, O)
         ensures source { I.incoming result.0 ≡ self.tokens.source.end }
         ensures lender { I.lender result.0 ≡ self.tokens.source.lender }
@@ -157,7 +157,7 @@ impl<I: ByteIn, O: ByteOut> Compiler<I, O> {
     }
 }
 
-// Reads and writes the next definition, behind what a text of the edition begins with.
+// Reads and writes the next definition, after what a text of the edition begins with.
 fn compile_next<I: ByteIn, O: ByteOut>(
     edition: Edition,
     is_begun: bool,

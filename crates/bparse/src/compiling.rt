@@ -33,8 +33,8 @@ pub fn compile<I: ByteIn, O: ByteOut, D: ByteOut>(
 /// Compiles the source to its code text, or to the code of the definitions before its first fault and a
 /// line that names that fault.
 ///
-/// The status is 0, or 1 where there is a fault. It is 133 where a read or a write failed and 134 where
-/// memory was refused; then a beginning of the code was written, and of the line only where its own end
+/// The status is 0, or 1 if there is a fault. It is 133 if a read or a write failed and 134 if memory ran
+/// out. Then a beginning of the code was written, and of the line only if its own stream
 /// refused it.
 pub fn compile_edition<I: ByteIn, O: ByteOut, D: ByteOut>(
     alloc: Global,

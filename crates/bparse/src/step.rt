@@ -13,11 +13,11 @@ pub enum Step {
     Written,
     /// There is none, and the last line was written.
     Finished,
-    /// It is faulty, or the source is behind it.
+    /// It is faulty, or the source is after it.
     Fault(Diagnostic),
     /// A read or a write failed.
     Device,
-    /// Memory was refused.
+    /// Out of memory.
     Memory,
     /// There was an answer before that wasn't `Written`.
     Closed,

@@ -1,4 +1,4 @@
-//! Ends over a reader and a writer that fail, and refused memory.
+//! Ends over a reader and a writer that fail.
 use bparse::compile;
 use bword::{MemIn, MemOut, Reading, Writing};
 use std::io::{self, Read, Write};
@@ -75,19 +75,4 @@ fn a_line_that_can_not_be_written(rt: HostRuntime) {
     let answer = compile(rt.alloc(), &mut MemIn::new(b"a;a;"), &mut out, &mut diag);
     assert_eq!(rt; answer, 133);
     assert_eq!(rt; out.bytes(), b"X a 0 0\n".as_slice());
-}
-
-// With an allocation that fails there is no other status than that.
-#[test]
-fn memory_alone_is_refused(rt: HostRuntime) {
-    let mut out = MemOut::new(rt.alloc());
-    let mut diag = MemOut::new(rt.alloc());
-    let answer = compile(
-        rt.alloc(),
-        &mut MemIn::new(b"n 2000; m;"),
-        &mut out,
-        &mut diag,
-    );
-    assert!(rt; answer == 0 || answer == 134);
-    assert_eq!(rt; diag.bytes().len(), 0);
 }

@@ -231,7 +231,7 @@ fn limited(
     Ended { status, out, line }
 }
 
-// A beginning of the code was written, nothing is run, and nothing is read behind the failure.
+// A beginning of the code was written, nothing is run, and nothing is read after the failure.
 #[test]
 fn each_read_of_a_source_fails(rt: HostRuntime) {
     for row in SOURCES.split("@\n") {
@@ -250,16 +250,17 @@ fn each_read_of_a_source_fails(rt: HostRuntime) {
     }
 }
 
-// A definition is written when the token behind it was read, and a name ends with the byte behind it.
+// A definition is written when the token after it was read, and a name ends with the byte after it.
 #[test]
 fn no_code_before_the_next_token(rt: HostRuntime) {
-    let row = row_of("compile~a;b;");
-    for k in 0..=4 {
+    let row = row_of("compile~a;b;c;d;~~X a 0 0\nX b 0 0\nX c 0 0\nX d 0 0\n");
+    for k in 0..=row.text.len() {
         let mut reads = reads_of(&row);
-        reads.source = FailIn::new(row.text.as_bytes(), k);
-        let ended = limited(rt.alloc(), &row, &mut reads, 18, 0);
-        let is_right = ended.is(133, b"", b"") || (k == 4 && ended.is(133, b"X a 0 0\n", b""));
-        assert!(rt; is_right, "read {k}");
+        reads.source = FailIn::new(row.text.as_bytes(), k as u64);
+        let ended = limited(rt.alloc(), &row, &mut reads, row.output.len(), 0);
+        let written = (k / 2).saturating_sub(1).saturating_mul(8);
+        let code = row.output.as_bytes().get(..written).unwrap_or(b"?");
+        assert!(rt; ended.is(133, code, b""), "read {k}");
     }
 }
 
@@ -276,7 +277,7 @@ fn each_read_of_a_faulty_text_fails(rt: HostRuntime) {
     }
 }
 
-// The bytes before the failure were written, and nothing is read behind it.
+// The bytes before the failure were written, and nothing is read after it.
 #[test]
 fn each_read_of_the_input_fails(rt: HostRuntime) {
     let row = row_of("go~main(){auto c; while((c=getchar())!='*e') putchar(c);}~hi~hi~~0");
@@ -292,7 +293,7 @@ fn each_read_of_the_input_fails(rt: HostRuntime) {
     }
 }
 
-// There is room for so many bytes of the output and of the line behind it: they were written, and no others.
+// There is room for so many bytes of the output and of the line after it: they were written, and no others.
 #[test]
 fn each_write_fails(rt: HostRuntime) {
     for row in SOURCES.split("@\n").chain(STOPPING.split("@\n")) {
@@ -443,11 +444,11 @@ fn is_cut_off(
     let whole = output.bytes().len();
     let all = whole.saturating_add(line.bytes().len());
     for room in (0..whole).step_by(97).chain(whole..=all) {
-        let behind = room.saturating_sub(whole);
-        let ended = served(rt, words, room.min(whole), behind)?;
+        let following = room.saturating_sub(whole);
+        let ended = served(rt, words, room.min(whole), following)?;
         let status = if room == all { status } else { 133 };
         let begun = output.bytes().get(..room.min(whole)).unwrap_or(b"?");
-        let told = line.bytes().get(..behind).unwrap_or(b"?");
+        let told = line.bytes().get(..following).unwrap_or(b"?");
         assert!(rt; ended.is(status, begun, told), "room {room} for {words}");
     }
     Ok(())
@@ -496,7 +497,7 @@ fn each_command_is_refused_memory(rt: HostRuntime) -> Result<(), Fail> {
     Ok(())
 }
 
-// The line of a trap is refused memory behind the whole trace.
+// The line of a trap is refused memory after the whole trace.
 #[test]
 fn the_line_of_a_trace_is_refused_memory(rt: HostRuntime) -> Result<(), Fail> {
     fs::write(&rt, "x.b", READING.as_bytes())?;

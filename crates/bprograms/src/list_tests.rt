@@ -27,9 +27,9 @@ main() {
 // Commands, each with `~` and the title of its picture, `~`, a piece of it, `~` and how many boxes it has.
 const PICTURES: &str = "\
 b map --svg m.b~memory before the run~>'&lt;1'</text>~21
-b map --steps 48 m.b~memory after 48 steps; filled is what they have changed~<rect class='changed' x='160' y='106'~29
-b map --svg --edition 2 --steps 48 m.b~memory after 48 steps; filled is what they have changed~>w[0]</text>~29
-b map --steps 1000 m.b~memory where the run is over, after 83 steps; filled is what they have changed~>data end 21</text>~26";
+b map --steps 48 m.b~memory after 48 steps; filled words have changed~<rect class='changed' x='160' y='106'~29
+b map --svg --edition 2 --steps 48 m.b~memory after 48 steps; filled words have changed~>w[0]</text>~29
+b map --steps 1000 m.b~memory where the run is over, after 83 steps; filled words have changed~>data end 21</text>~26";
 
 #[test]
 fn pictures(rt: HostRuntime) -> Result<(), Fail> {

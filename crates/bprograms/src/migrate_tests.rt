@@ -89,7 +89,7 @@ fn loaded(alloc: Global, code: &MemOut) -> Result<Result<Image, LoadFault>, Fail
     Ok(load(alloc, read_code(alloc, code.bytes())?))
 }
 
-// The names of the first source with their addresses, behind those of the library.
+// The names of the first source with their addresses, after those of the library.
 const ADDRESSES: [(&str, Option<u16>); 5] = [
     ("char", Some(1)),
     ("main", Some(7)),

@@ -194,7 +194,7 @@ impl ByteIn for Counted<'_> {
     ghost bounded = { λ c. bounded_of c.end };
 }
 
-// Each `getchar` asks for one byte, behind the last one too, and nothing else asks.
+// Each `getchar` asks for one byte, after the last one too, and nothing else asks.
 #[test]
 fn calls_of_the_input(rt: HostRuntime) {
     let rows = "\

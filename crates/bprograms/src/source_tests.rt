@@ -9,8 +9,8 @@ use std::test::Fail;
 /// What has no `break` and no `default` is the same in both editions, but for what its code text begins with.
 pub(crate) const BOTH: [Edition; 2] = [Edition::One, Edition::Two];
 
-/// What stands in a code text behind what those of this edition begin with.
-pub(crate) fn behind_beginning(edition: Edition, text: &[u8]) -> Option<&[u8]> {
+/// What stands in a code text after what those of this edition begin with.
+pub(crate) fn after_beginning(edition: Edition, text: &[u8]) -> Option<&[u8]> {
     match edition {
         Edition::One => Some(text),
         Edition::Two => text.strip_prefix(b"B 2\n"),
@@ -48,7 +48,7 @@ pub(crate) fn compiles_in(
             &mut diag,
             *edition,
         );
-        let is_right = behind_beginning(*edition, out.bytes()) == Some(code.as_bytes())
+        let is_right = after_beginning(*edition, out.bytes()) == Some(code.as_bytes())
             && diag.bytes() == line.as_bytes()
             && answer == status;
         assert!(rt; is_right, "what comes of {source}");
@@ -388,7 +388,7 @@ fn begins_in(
             &mut diag,
             *edition,
         );
-        let text = behind_beginning(*edition, out.bytes()).unwrap_or(b"no code text");
+        let text = after_beginning(*edition, out.bytes()).unwrap_or(b"no code text");
         let is_right = text.starts_with(code.as_bytes())
             && (line.is_empty() || text.len() == code.len())
             && diag.bytes() == line.as_bytes()

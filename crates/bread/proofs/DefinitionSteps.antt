@@ -16,7 +16,7 @@ use Rattle.blang.specs.Code.{vector_constant}
 use Rattle.btree.specs.StatementReader.{is_semicolon, name, size, statement}
 use Rattle.blang.specs.WellFormed.{nesting_limit}
 use Rattle.btree.specs.Fitting.{values_words}
-use Rattle.btree.specs.DefinitionReader.{ival_at, ival, valued, vector, function_body, function, behind_name_at, behind_name, definition}
+use Rattle.btree.specs.DefinitionReader.{ival_at, ival, valued, vector, function_body, function, after_name_at, after_name, definition}
 use Rattle.btree.proofs.Fine.{Fine}
 use Rattle.btree.proofs.ExpressionFine.{Closer}
 use Rattle.bemit.specs.Drafts.{Draft, emitted, stringed, offset_of, worded, started}
@@ -34,7 +34,7 @@ use Rattle.bread.specs.Compiling.{PartTaken, CompilesPart}
 use Rattle.bread.specs.Definitions.{TakesValue, initial_value_list, parameters, TookList, FindsList, TookKind, FindsKind, TookDefinition, FindsDefinition}
 use Rattle.bexpr.proofs.TokenSteps.{Moves-as, Moves-breaks}
 use Rattle.bexpr.proofs.Moving.{run_here, run_past, run_then, run_bind}
-use Rattle.bread.proofs.Steps.{began, went, halts_first, halts_then, halts_behind, device}
+use Rattle.bread.proofs.Steps.{began, went, halts_first, halts_then, halts_after, device}
 use Rattle.bread.proofs.Takings.{less}
 use Rattle.bread.proofs.Lists.{InList, list_first, list_halts, list_ends}
 
@@ -50,7 +50,7 @@ number_ends n old start r new draft (inr k) h = value_ends (λ before. Ival_cons
 pub name_ends : (x : List ℕ) (old : Tokens) (start : Draft) (r : Result (Unit {0}) Halt) (new : Tokens) (draft : Draft) → first old.ahead ≡ token.Name x → TakesValue (ival_code.Name x) old start r new draft → CompilesPart ival (λ v d. ival_done d v) old start r new draft
 name_ends x old start r new draft k h = value_ends (λ before. Ival_name (record { text = x; line = line_ahead old.ahead })) (ival_code.Name x) old start start r new draft (λ before u f l. ap (λ t. ival_at (values_words before) t u) (f ∙ k) ∙ ap (λ n. Got (Ival_name (record { text = x; line = n })) (after u)) l) (λ before. refl) h
 
--- things with commas between them, if any, and the token behind them
+-- things with commas between them, if any, and the token after them
 module _ {A : Type 0} (item : List A → Reader A) (fine : (before : List A) (ts : List Placed) → Fine Closer (item before) ts) (effect : A → Draft → Draft) (is : Token → Bool) (effects : List A → Draft → Draft) (same : (xs : List A) (d : Draft) → effects xs d ≡ fold (λ b x. effect x b) d xs) (most : ℕ) where
   abbrev closed : List A → Reader (List A)
   closed xs r = expect is r >>= λ o. Got xs
@@ -102,22 +102,22 @@ pub list_err : {A : Type 0} (reader : Reader (List A)) (effect : List A → Draf
 list_err reader effect most old start (Ok n) new draft why e h = absurd e
 list_err reader effect most old start (Err s) new draft why e h = subst (λ x. Halts reader old x new) (sym e) h
 
--- what stands behind a name
+-- what stands after a name
 pub kind_err : (reader : Identifier → Reader Definition) (old : Tokens) (start : Draft) (r : Result Kind Halt) (new : Tokens) (draft : Draft) (why : Halt) → IsErrAnd r (λ y. y ≡ why) → ((w : Identifier) → Halts (reader w) old why new) → FindsKind reader old start r new draft
 kind_err reader old start (Ok n) new draft why e h = absurd e
 kind_err reader old start (Err s) new draft why e h = λ w. subst (λ x. Halts (reader w) old x new) (sym e) (h w)
 
-pub kind_behind : (p q : Identifier → Reader Definition) (old mid : Tokens) (start : Draft) (r : Result Kind Halt) (new : Tokens) (draft : Draft) → ((w : Identifier) → Runs old mid (q w) (p w)) → FindsKind p mid start r new draft → FindsKind q old start r new draft
-kind_behind p q old mid start (Ok k) new draft m h = (λ w. let t = h.0 w in record { tree = t.tree; runs = run_then (m w) t.runs; made = t.made; named = t.named; kind_is = t.kind_is }, h.1)
-kind_behind p q old mid start (Err why) new draft m h = λ w. halts_behind old mid new (q w) (p w) why (m w) (h w)
+pub kind_after : (p q : Identifier → Reader Definition) (old mid : Tokens) (start : Draft) (r : Result Kind Halt) (new : Tokens) (draft : Draft) → ((w : Identifier) → Runs old mid (q w) (p w)) → FindsKind p mid start r new draft → FindsKind q old start r new draft
+kind_after p q old mid start (Ok k) new draft m h = (λ w. let t = h.0 w in record { tree = t.tree; runs = run_then (m w) t.runs; made = t.made; named = t.named; kind_is = t.kind_is }, h.1)
+kind_after p q old mid start (Err why) new draft m h = λ w. halts_after old mid new (q w) (p w) why (m w) (h w)
 
-pub bracket_runs : (old mid : Tokens) → Advances old mid → first old.ahead ≡ token.OpenBracket → (w : Identifier) → Runs old mid (behind_name w) (vector w)
-bracket_runs old mid a k w = run_past a (λ u e l. ap (λ t. behind_name_at w t u) (e ∙ k))
+pub bracket_runs : (old mid : Tokens) → Advances old mid → first old.ahead ≡ token.OpenBracket → (w : Identifier) → Runs old mid (after_name w) (vector w)
+bracket_runs old mid a k w = run_past a (λ u e l. ap (λ t. after_name_at w t u) (e ∙ k))
 
-pub paren_runs : (old mid : Tokens) → Advances old mid → first old.ahead ≡ token.OpenParen → (w : Identifier) → Runs old mid (behind_name w) (function w)
-paren_runs old mid a k w = run_past a (λ u e l. ap (λ t. behind_name_at w t u) (e ∙ k))
+pub paren_runs : (old mid : Tokens) → Advances old mid → first old.ahead ≡ token.OpenParen → (w : Identifier) → Runs old mid (after_name w) (function w)
+paren_runs old mid a k w = run_past a (λ u e l. ap (λ t. after_name_at w t u) (e ∙ k))
 
-simple_at : (w : Identifier) (t : Token) (u : List Placed) → (t ≡ token.OpenBracket → ⊥) → (t ≡ token.OpenParen → ⊥) → behind_name_at w t u ≡ valued (Simple w) u
+simple_at : (w : Identifier) (t : Token) (u : List Placed) → (t ≡ token.OpenBracket → ⊥) → (t ≡ token.OpenParen → ⊥) → after_name_at w t u ≡ valued (Simple w) u
 simple_at w token.OpenBracket u a b = absurd (a refl)
 simple_at w token.OpenParen u a b = absurd (b refl)
 simple_at w _ u a b = refl
@@ -139,13 +139,13 @@ valued_is made u = go (is_semicolon (first u)) refl
     go false k = rw k (closed_values made (list_reader ival u))
 
 module _ (old : Tokens) (l : IsLoaded old) (a : first old.ahead ≡ token.OpenBracket → ⊥) (b : first old.ahead ≡ token.OpenParen → ⊥) where
-  simple_runs : (w : Identifier) → Runs old old (behind_name w) (λ u. initial_value_list u >>= λ vs. Got (Simple w vs))
-  simple_runs w = run_here l (λ u e m. ap (λ t. behind_name_at w t u) e ∙ simple_at w (first old.ahead) u a b ∙ valued_is (Simple w) u)
+  simple_runs : (w : Identifier) → Runs old old (after_name w) (λ u. initial_value_list u >>= λ vs. Got (Simple w vs))
+  simple_runs w = run_here l (λ u e m. ap (λ t. after_name_at w t u) e ∙ simple_at w (first old.ahead) u a b ∙ valued_is (Simple w) u)
 
-  pub simple_halts : (w : Identifier) (new : Tokens) (why : Halt) → Halts initial_value_list old why new → Halts (behind_name w) old why new
-  simple_halts w new why h = halts_then old old new (behind_name w) initial_value_list (λ vs. Got (Simple w vs)) why (simple_runs w) h
+  pub simple_halts : (w : Identifier) (new : Tokens) (why : Halt) → Halts initial_value_list old why new → Halts (after_name w) old why new
+  simple_halts w new why h = halts_then old old new (after_name w) initial_value_list (λ vs. Got (Simple w vs)) why (simple_runs w) h
 
-  pub simple_took : (most : ℕ) (start : Draft) (new : Tokens) (draft : Draft) (count : ℕ) → TookList initial_value_list values_done most start old new draft count → (w : Identifier) → TookKind (behind_name w) w start old new draft kind.Simple
+  pub simple_took : (most : ℕ) (start : Draft) (new : Tokens) (draft : Draft) (count : ℕ) → TookList initial_value_list values_done most start old new draft count → (w : Identifier) → TookKind (after_name w) w start old new draft kind.Simple
   simple_took most start new draft count t w = record { tree = Simple w t.items; runs = went (λ vs. Got (Simple w vs)) (simple_runs w) t.runs; made = t.made; named = refl; kind_is = tt }
 
 -- a count that stops at its most
@@ -222,15 +222,15 @@ definition_err names old (Ok n) new draft why e h = absurd e
 definition_err names old (Err s) new draft why e h = subst (λ x. Halts definition old x new) (sym e) h
 
 pub definition_first : (old new : Tokens) (why : Halt) → Halts name old why new → Halts definition old why new
-definition_first old new why h = halts_first old new name behind_name why h
+definition_first old new why h = halts_first old new name after_name why h
 
-pub definition_then : (old mid new : Tokens) (w : Identifier) (why : Halt) → Runs old mid name (λ v. Got w v) → Halts (behind_name w) mid why new → Halts definition old why new
-definition_then old mid new w why r h = halts_behind old mid new definition (behind_name w) why (run_bind behind_name r) h
+pub definition_then : (old mid new : Tokens) (w : Identifier) (why : Halt) → Runs old mid name (λ v. Got w v) → Halts (after_name w) mid why new → Halts definition old why new
+definition_then old mid new w why r h = halts_after old mid new definition (after_name w) why (run_bind after_name r) h
 
-pub definition_took : (names : List (List ℕ)) (old mid new : Tokens) (w : Identifier) (d1 draft : Draft) (k : Kind) → Runs old mid name (λ v. Got w v) → work mid < work old → d1 ≡ started names w → TookKind (behind_name w) w d1 mid new draft k → IsSingle new → TookDefinition names old (record { name = w.text; line = w.line; kind = k }) new draft
+pub definition_took : (names : List (List ℕ)) (old mid new : Tokens) (w : Identifier) (d1 draft : Draft) (k : Kind) → Runs old mid name (λ v. Got w v) → work mid < work old → d1 ≡ started names w → TookKind (after_name w) w d1 mid new draft k → IsSingle new → TookDefinition names old (record { name = w.text; line = w.line; kind = k }) new draft
 definition_took names old mid new w d1 draft k r f e t l = record {
   tree = t.tree;
-  moves = run_then (run_bind behind_name r) t.runs;
+  moves = run_then (run_bind after_name r) t.runs;
   heads = record { name = sym (ap (λ x. x.text) t.named); line = sym (ap (λ x. x.line) t.named); kind = t.kind_is };
   made = t.made ∙ ap (definition_done t.tree) (e ∙ ap (started names) (sym t.named));
   falls = let a = t.runs.falls in omega (arith, f);

@@ -14,7 +14,7 @@ use Rattle.btree.specs.StatementReader.{is_semicolon, name, size, constant, decl
 use Rattle.bemit.specs.Drafts.{Draft, selected, defaulted, imported, labelled}
 use Rattle.bemit.specs.Drafts as drafts
 use Rattle.bemit.specs.Effects.{headed}
-use Rattle.bexpr.specs.Tokens.{Tokens, IsLoaded, work, Moves, Runs, TokensFail, Advances, LooksOn, Same, AreBehind, KeepsAhead, tokens_with}
+use Rattle.bexpr.specs.Tokens.{Tokens, IsLoaded, work, Moves, Runs, TokensFail, Advances, LooksOn, Same, AreAfter, KeepsAhead, tokens_with}
 use Rattle.bexpr.specs.Parsers.{Halts}
 use Rattle.bexpr.specs.declared.halt.Halt.{Halt}
 use Rattle.bexpr.specs.declared.halt.Halt.TheVariants as halt
@@ -51,7 +51,7 @@ default_halts line old new why h = halts_first old new (expect is_colon) (λ o. 
 pub default_took : {old new : Tokens} {start draft : Draft} (line : ℕ) → Runs old new (expect is_colon) (λ v. Got tt v) → draft ≡ defaulted line start → PartTaken (default line) headed start old new draft
 default_took line r e = record { tree = Default line; runs = began (λ o. Got (Default line)) r; made = e }
 
--- a heading behind its keyword
+-- a heading after its keyword
 turned : {A : Type 0} (is : Token → Bool) (made : A → Heading) (x : Read A) → (x >>= λ a r. expect is r >>= λ o. Got (with_heading no_lead (made a))) ≡ ((x >>= λ a r. expect is r >>= λ o. Got (made a)) >>= λ h. Got (with_heading no_lead h))
 turned {A} is made (Got a r) = go (is (first r)) refl
   where
@@ -60,7 +60,7 @@ turned {A} is made (Got a r) = go (is (first r)) refl
     go false e = rw e refl
 turned is made (Stop r) = refl
 
--- the reader of what stands behind the keyword
+-- the reader of what stands after the keyword
 pub record Turns (old : Tokens) (p : Reader Heading) : Type 0 where
   pub step : Step
   pub comes : step_at None (first old.ahead) ≡ Some step
@@ -121,7 +121,7 @@ module _ {old mid : Tokens} (x : List ℕ) (name_is : first old.ahead ≡ token.
 
   pub label_absent : is_colon (first (after mid.ahead)) ≡ false → Moves old mid IsUnheaded
   label_absent k = Moves-append {P = Same} {Q = IsUnheaded} IsUnheaded (λ u v w e n. subst (λ t. IsUnheaded t w) (sym e) n) h.moves
-      (run_seen h.loaded (λ u more e f m. no_label x u (f ∙ name_there) (ap is_colon (ap (λ t. first (after t)) e ∙ second_of mid.ahead mid.source.edition mid.source.line (mid.source.ahead ++ more) h.loaded.current h.second h.loaded.behind x h.loaded.ahead h.second_is name_there) ∙ k)))
+      (run_seen h.loaded (λ u more e f m. no_label x u (f ∙ name_there) (ap is_colon (ap (λ t. first (after t)) e ∙ second_of mid.ahead mid.source.edition mid.source.line (mid.source.ahead ++ more) h.loaded.current h.second h.loaded.following x h.loaded.ahead h.second_is name_there) ∙ k)))
 
   module _ (k : is_colon (first (after mid.ahead)) ≡ true) {next new : Tokens} (a : Advances mid next) (b : Advances next new) where
     colon_there : first next.ahead ≡ token.Colon
@@ -136,5 +136,5 @@ module _ {old mid : Tokens} (x : List ℕ) (name_is : first old.ahead ≡ token.
       falls = let p = a.falls in let q = b.falls in let r = h.moves.falls in omega arith;
     }
       where
-        headed_there : (u v t : List Placed) → AreBehind mid.ahead u v → AreBehind next.ahead v t → IsHeadedBy (Label (record { text = x; line = line_ahead old.ahead })) u t
+        headed_there : (u v t : List Placed) → AreAfter mid.ahead u v → AreAfter next.ahead v t → IsHeadedBy (Label (record { text = x; line = line_ahead old.ahead })) u t
         headed_there u v t p q = subst (λ l. IsHeadedBy (Label (record { text = x; line = l })) u t) (p.line ∙ h.line_is) (subst (λ r. IsHeadedBy (Label (record { text = x; line = line_ahead u })) u r) (sym (q.rest ∙ ap after p.rest)) (label_read x u (p.token ∙ name_there) (ap first (sym p.rest) ∙ q.token ∙ colon_there)))

@@ -11,7 +11,7 @@ use Rattle.btree.proofs.Fine.{Fine, many_some, many_none}
 use Rattle.btree.proofs.ExpressionFine.{Closer, closing}
 use Rattle.btree.proofs.CommaLaws.{comma_loop}
 use Rattle.bemit.specs.Drafts.{Draft}
-use Rattle.bexpr.specs.Tokens.{Tokens, IsLoaded, work, Runs, TokensFail, Advances}
+use Rattle.bexpr.specs.Tokens.{Tokens, IsSingle, work, Runs, TokensFail, Advances}
 use Rattle.bexpr.specs.Marks.{is_comma}
 use Rattle.bexpr.specs.Parsers.{Halts}
 use Rattle.bexpr.specs.declared.halt.Halt.{Halt}
@@ -27,7 +27,7 @@ pub record InList {A : Type 0} (item : List A → Reader A) (effect : A → Draf
   pub items : List A
   pub runs : Runs old now (list_reader item) (λ v. many (always comma) (comma_item item) items v)
   pub made : draft ≡ fold (λ b x. effect x b) start items
-  pub loaded : IsLoaded now
+  pub single : IsSingle now
   pub falls : work now < work old
 
 is_a_comma : (t : Token) → is_comma t ≡ true → comma t ≡ Some tt
@@ -45,26 +45,26 @@ module _ {A : Type 0} (item : List A → Reader A) (fine : (before : List A) (ts
   abbrev rest : List A → Reader (List A)
   rest items ts = many (always comma) (comma_item item) items ts
 
-  abbrev behind_comma : List A → Reader (List A)
-  behind_comma items ts = (item items ts >>= λ x. Got (items ++ x ∷ [])) >>= rest
+  abbrev after_comma : List A → Reader (List A)
+  after_comma items ts = (item items ts >>= λ x. Got (items ++ x ∷ [])) >>= rest
 
-  comma_taken : (items : List A) (u : List Placed) → is_comma (first u) ≡ true → rest items u ≡ behind_comma items (after u)
+  comma_taken : (items : List A) (u : List Placed) → is_comma (first u) ≡ true → rest items u ≡ after_comma items (after u)
   comma_taken items u h = many_some closing (always comma) (comma_item item) (comma_loop item fine) tt items u (is_a_comma (first u) h)
 
-  abbrev pub list_begins : {start draft : Draft} {old now : Tokens} → PartTaken (item []) effect start old now draft → IsLoaded now → work now < work old → InList item effect start old now draft
-  list_begins {start} {draft} {old} {now} t l f = record { items = t.tree ∷ []; runs = began (λ x. rest (x ∷ [])) t.runs; made = t.made; loaded = l; falls = f }
+  abbrev pub list_begins : {start draft : Draft} {old now : Tokens} → PartTaken (item []) effect start old now draft → IsSingle now → work now < work old → InList item effect start old now draft
+  list_begins {start} {draft} {old} {now} t l f = record { items = t.tree ∷ []; runs = began (λ x. rest (x ∷ [])) t.runs; made = t.made; single = l; falls = f }
 
   module _ {start draft : Draft} {old now : Tokens} (s : InList item effect start old now draft) where
     module _ {mid : Tokens} (h : Advances now mid) (c : is_comma (first now.ahead) ≡ true) where
-      pub past_comma : Runs old mid (list_reader item) (behind_comma s.items)
+      pub past_comma : Runs old mid (list_reader item) (after_comma s.items)
       past_comma = run_then s.runs (run_past h (λ u e l. comma_taken s.items u (ap is_comma e ∙ c)))
 
-      abbrev pub list_goes : {draft2 : Draft} {new : Tokens} → PartTaken (item s.items) effect draft mid new draft2 → IsLoaded new → work new < work mid → InList item effect start old new draft2
+      abbrev pub list_goes : {draft2 : Draft} {new : Tokens} → PartTaken (item s.items) effect draft mid new draft2 → IsSingle new → work new < work mid → InList item effect start old new draft2
       list_goes {draft2} {new} t l f = record {
         items = s.items ++ t.tree ∷ [];
         runs = run_then past_comma (run_bind rest (run_bind (λ x. Got (s.items ++ x ∷ [])) t.runs));
         made = t.made ∙ ap (effect t.tree) s.made ∙ sym (fold-append (λ b x. effect x b) start s.items (t.tree ∷ []));
-        loaded = l;
+        single = l;
         falls = let a = s.falls in let b = h.falls in omega (arith, f);
       }
 
@@ -75,9 +75,9 @@ module _ {A : Type 0} (item : List A → Reader A) (fine : (before : List A) (ts
     list_breaks h = Moves-breaks s.runs h
 
     pub list_ends : is_comma (first now.ahead) ≡ false → Runs old now (list_reader item) (λ v. Got s.items v)
-    list_ends h = run_then s.runs (run_here s.loaded (λ u e l. many_none (always comma) (comma_item item) s.items u (is_no_comma (first u) (ap is_comma e ∙ h))))
+    list_ends h = run_then s.runs (run_here s.single.0 (λ u e l. many_none (always comma) (comma_item item) s.items u (is_no_comma (first u) (ap is_comma e ∙ h))))
 
--- things with commas between them, and the token behind them
+-- things with commas between them, and the token after them
 module _ {A B : Type 0} (item : List A → Reader A) (fine : (before : List A) (ts : List Placed) → Fine Closer (item before) ts) (effect : A → Draft → Draft) (is : Token → Bool) (made : List A → B) (effects : B → Draft → Draft) (same : (xs : List A) (d : Draft) → effects (made xs) d ≡ fold (λ b x. effect x b) d xs) where
   abbrev closed : List A → Reader B
   closed xs r = expect is r >>= λ o. Got (made xs)

@@ -27,19 +27,19 @@ use Rattle.bexpr.specs.declared.halt.Halt.TheVariants as halt
 use Rattle.bread.specs.Headings.{unheaded, IsHeadedBy, IsUnheaded, StopsHeading}
 use Rattle.bread.specs.Compiling.{untold, PartTaken, CompilesPart, TookHeading, FindsHeading}
 use Rattle.bexpr.specs.Parsers.{Expects}
-use Rattle.bread.specs.Statements.{behind_current, rvalue_ended, evaluated_to, break_behind, return_value, condition, conditional_behind, repeated, statements, closed_loop, closed_switch, Chooses}
+use Rattle.bread.specs.Statements.{after_current, rvalue_ended, evaluated_to, break_after, return_value, condition, conditional_after, repeated, statements, closed_loop, closed_switch, Chooses}
 use Rattle.bexpr.proofs.TokenSteps.{Moves-append, Moves-as, Moves-breaks}
 use Rattle.bexpr.proofs.Moving.{run_here, run_past, run_then}
-use Rattle.bread.proofs.Steps.{began, went, halts_first, halts_then, halts_behind, run_seen}
+use Rattle.bread.proofs.Steps.{began, went, halts_first, halts_then, halts_after, run_seen}
 use Rattle.bread.proofs.Takings.{falls_after, falls_all}
 
 -- what a call reads, as a part of what its caller reads
 module _ {I A B : Type 0} (q : I → Reader B) (effects : B → Draft → Draft) (p : I → Reader A) (effect : A → Draft → Draft) (made : A → B) (same : (a : A) (d : Draft) → effects (made a) d ≡ effect a d) where
-  pub compiles_behind : (old mid : Tokens) (start : Draft) (r : Result (Unit {0}) Halt) (new : Tokens) (draft : Draft) → work mid ≤ work old → ((i : I) → Runs old mid (q i) (λ v. p i v >>= λ a. Got (made a))) → CompilesPart p effect mid start r new draft → CompilesPart q effects old start r new draft
-  compiles_behind old mid start (Ok u) new draft l m k = (λ i. let t = k.0 i in record { tree = made t.tree; runs = went (λ a. Got (made a)) (m i) t.runs; made = t.made ∙ sym (same t.tree start) }, k.1, falls_after l k.2)
-  compiles_behind old mid start (Err why) new draft l m k = λ i. halts_then old mid new (q i) (p i) (λ a. Got (made a)) why (m i) (k i)
+  pub compiles_after : (old mid : Tokens) (start : Draft) (r : Result (Unit {0}) Halt) (new : Tokens) (draft : Draft) → work mid ≤ work old → ((i : I) → Runs old mid (q i) (λ v. p i v >>= λ a. Got (made a))) → CompilesPart p effect mid start r new draft → CompilesPart q effects old start r new draft
+  compiles_after old mid start (Ok u) new draft l m k = (λ i. let t = k.0 i in record { tree = made t.tree; runs = went (λ a. Got (made a)) (m i) t.runs; made = t.made ∙ sym (same t.tree start) }, k.1, falls_after l k.2)
+  compiles_after old mid start (Err why) new draft l m k = λ i. halts_then old mid new (q i) (p i) (λ a. Got (made a)) why (m i) (k i)
 
--- a reader with a token behind it
+-- a reader with a token after it
 closed_map : {A B : Type 0} (is : Token → Bool) (made : A → B) (x : Read A) → (x >>= λ a r. expect is r >>= λ o. Got (made a)) ≡ ((x >>= λ a r. expect is r >>= λ o. Got a) >>= λ a. Got (made a))
 closed_map {A} {B} is made (Got a r) = go (is (first r)) refl
   where
@@ -120,41 +120,41 @@ enter_halts old new room f why h = halts_first old new (level room).enter (f (le
     same halt.Fault h = (Moves-as (λ u v. (level room).enter u ≡ Stop v) (λ u v e. enter_same room u ∙ e) h.0, h.1)
     same halt.Device h = h
 
--- a condition behind its keyword
-shut_then : (behind : Expr → Reader Stmt) (y : Read Expr) → (y >>= λ e r. expect is_close_paren r >>= λ o. behind e) ≡ ((y >>= λ e r. expect is_close_paren r >>= λ o. Got e) >>= behind)
-shut_then behind (Got e r) = go (is_close_paren (first r)) refl
+-- a condition after its keyword
+shut_then : (following : Expr → Reader Stmt) (y : Read Expr) → (y >>= λ e r. expect is_close_paren r >>= λ o. following e) ≡ ((y >>= λ e r. expect is_close_paren r >>= λ o. Got e) >>= following)
+shut_then following (Got e r) = go (is_close_paren (first r)) refl
   where
-    go : (b : Bool) → is_close_paren (first r) ≡ b → (expect is_close_paren r >>= λ o. behind e) ≡ ((expect is_close_paren r >>= λ o. Got e) >>= behind)
+    go : (b : Bool) → is_close_paren (first r) ≡ b → (expect is_close_paren r >>= λ o. following e) ≡ ((expect is_close_paren r >>= λ o. Got e) >>= following)
     go true k = rw k refl
     go false k = rw k refl
-shut_then behind (Stop r) = refl
+shut_then following (Stop r) = refl
 
-asked : (k off : ℕ) (behind : Expr → Reader Stmt) (x : Read (Unit {0})) → (x >>= λ o r. reader k Rvalue off r >>= λ e r. expect is_close_paren r >>= λ o. behind e) ≡ ((x >>= λ o r. reader k Rvalue off r >>= λ e r. expect is_close_paren r >>= λ o. Got e) >>= behind)
-asked k off behind (Got o r) = shut_then behind (reader k Rvalue off r)
-asked k off behind (Stop r) = refl
+asked : (k off : ℕ) (following : Expr → Reader Stmt) (x : Read (Unit {0})) → (x >>= λ o r. reader k Rvalue off r >>= λ e r. expect is_close_paren r >>= λ o. following e) ≡ ((x >>= λ o r. reader k Rvalue off r >>= λ e r. expect is_close_paren r >>= λ o. Got e) >>= following)
+asked k off following (Got o r) = shut_then following (reader k Rvalue off r)
+asked k off following (Stop r) = refl
 
-module _ (room k off : ℕ) (old mid : Tokens) (h : (room ≡ k + 1) × Advances old mid) (behind : Level → ℕ → Expr → Reader Stmt) where
+module _ (room k off : ℕ) (old mid : Tokens) (h : (room ≡ k + 1) × Advances old mid) (following : Level → ℕ → Expr → Reader Stmt) where
   abbrev testing : Reader Stmt
-  testing ts = tested (level room) off (behind (level room) off) ts
+  testing ts = tested (level room) off (following (level room) off) ts
 
-  pub tested_runs : Runs old mid testing (λ v. condition k off v >>= behind (level (suc k)) off)
-  tested_runs = entered room k (λ l ts. tested l off (behind l off) ts) (λ l ts. condition k off ts >>= behind l off) (λ u. asked k off (behind (level (suc k)) off) (expect is_open_paren (after u))) h
+  pub tested_runs : Runs old mid testing (λ v. condition k off v >>= following (level (suc k)) off)
+  tested_runs = entered room k (λ l ts. tested l off (following l off) ts) (λ l ts. condition k off ts >>= following l off) (λ u. asked k off (following (level (suc k)) off) (expect is_open_paren (after u))) h
 
   pub tested_halts : (new : Tokens) (why : Halt) → Halts (condition k off) mid why new → Halts testing old why new
-  tested_halts new why c = halts_then old mid new testing (condition k off) (behind (level (suc k)) off) why tested_runs c
+  tested_halts new why c = halts_then old mid new testing (condition k off) (following (level (suc k)) off) why tested_runs c
 
-  module _ (next : Tokens) (e : Expr) (c : Runs mid next (condition k off) (λ v. Got e v)) (rest : Stmt → Reader Stmt) (is : (ts : List Placed) → behind (level (suc k)) off e ts ≡ (statement k (off + words e) ts >>= rest)) where
+  module _ (next : Tokens) (e : Expr) (c : Runs mid next (condition k off) (λ v. Got e v)) (rest : Stmt → Reader Stmt) (is : (ts : List Placed) → following (level (suc k)) off e ts ≡ (statement k (off + words e) ts >>= rest)) where
     pub tested_on : Runs old next testing (λ v. statement k (off + words e) v >>= rest)
-    tested_on = Moves-as (λ u v. testing u ≡ (statement k (off + words e) v >>= rest)) (λ u v x. x ∙ is v) (went (behind (level (suc k)) off) tested_runs c)
+    tested_on = Moves-as (λ u v. testing u ≡ (statement k (off + words e) v >>= rest)) (λ u v x. x ∙ is v) (went (following (level (suc k)) off) tested_runs c)
 
     pub tested_body_halts : (new : Tokens) (why : Halt) → Halts (statement k (off + words e)) next why new → Halts testing old why new
     tested_body_halts new why x = halts_then old next new testing (statement k (off + words e)) rest why tested_on x
 
-pub tested_enter : (room off : ℕ) (old new : Tokens) (behind : Level → ℕ → Expr → Reader Stmt) (why : Halt) → Halts (inner room).enter old why new → Halts (λ ts. tested (level room) off (behind (level room) off) ts) old why new
-tested_enter room off old new behind why h = enter_halts old new room (λ l o ts. expect is_open_paren ts >>= λ o r. l.expr off r >>= λ e r. expect is_close_paren r >>= λ o. behind l off e) why h
+pub tested_enter : (room off : ℕ) (old new : Tokens) (following : Level → ℕ → Expr → Reader Stmt) (why : Halt) → Halts (inner room).enter old why new → Halts (λ ts. tested (level room) off (following (level room) off) ts) old why new
+tested_enter room off old new following why h = enter_halts old new room (λ l o ts. expect is_open_paren ts >>= λ o r. l.expr off r >>= λ e r. expect is_close_paren r >>= λ o. following l off e) why h
 
 -- an if
-pub conditional_body : (room k off : ℕ) (old mid next new : Tokens) (h : (room ≡ k + 1) × Advances old mid) (e : Expr) (c : Runs mid next (condition k off) (λ v. Got e v)) (why : Halt) → Halts (statement k (off + words e)) next why new → Halts (conditional_behind room off) old why new
+pub conditional_body : (room k off : ℕ) (old mid next new : Tokens) (h : (room ≡ k + 1) × Advances old mid) (e : Expr) (c : Runs mid next (condition k off) (λ v. Got e v)) (why : Halt) → Halts (statement k (off + words e)) next why new → Halts (conditional_after room off) old why new
 conditional_body room k off old mid next new h e c why x = tested_body_halts room k off old mid h chosen next e c (else_part (level (suc k)) off e) (λ ts. refl) new why x
 
 module _ (room k test : ℕ) (old mid next last : Tokens) (start d0 d1 d2 d3 : Draft) (h : (room ≡ k + 1) × Advances old mid) (same : d0 ≡ start) (c : (off : ℕ) → PartTaken (condition k off) evaluated d0 mid next d1) (test_is : test ≡ place_of d1) (jumped : d2 ≡ emitted (instr.JumpIfZero 0) d1) (b : (off : ℕ) → PartTaken (statement k off) done d2 next last d3) (less_b : work last < work next) where
@@ -164,26 +164,26 @@ module _ (room k test : ℕ) (old mid next last : Tokens) (start d0 d1 d2 d3 : D
   body_of : (off : ℕ) → PartTaken (statement k (off + words (c off).tree)) done d2 next last d3
   body_of off = b (off + words (c off).tree)
 
-  pub conditional_ends : (r : Result (Unit {0}) Halt) (new : Tokens) (draft : Draft) → Chooses k test last d3 r new draft → CompilesPart (conditional_behind room) done old start r new draft
+  pub conditional_ends : (r : Result (Unit {0}) Halt) (new : Tokens) (draft : Draft) → Chooses k test last d3 r new draft → CompilesPart (conditional_after room) done old start r new draft
   conditional_ends (Ok o) new draft x = (took, x.1, falls_to x.2)
     where
-      runs : (off : ℕ) → Runs old last (conditional_behind room off) (else_part (level (suc k)) off (c off).tree (body_of off).tree)
+      runs : (off : ℕ) → Runs old last (conditional_after room off) (else_part (level (suc k)) off (c off).tree (body_of off).tree)
       runs off = went (else_part (level (suc k)) off (c off).tree) (tested_on room k off old mid h chosen next (c off).tree (c off).runs (else_part (level (suc k)) off (c off).tree) (λ ts. refl)) (body_of off).runs
 
-      took : (off : ℕ) → PartTaken (conditional_behind room off) done start old new draft
+      took : (off : ℕ) → PartTaken (conditional_after room off) done start old new draft
       took off =
           let t = x.0 off (c off).tree (body_of off).tree start (test_is ∙ ap place_of (evaluated_is off)) ((body_of off).made ∙ ap (done (body_of off).tree) (jumped ∙ ap (emitted (instr.JumpIfZero 0)) (evaluated_is off))) in
           record { tree = t.tree; runs = run_then (runs off) t.runs; made = t.made }
 
       falls_to : work new ≤ work last → work new < work old
       falls_to l = let a = h.1.falls in let m = (c 0).runs.falls in omega (arith, l, less_b)
-  conditional_ends (Err why) new draft x = λ off. halts_behind old last new (conditional_behind room off) (else_part (level (suc k)) off (c off).tree (body_of off).tree) why (went (else_part (level (suc k)) off (c off).tree) (tested_on room k off old mid h chosen next (c off).tree (c off).runs (else_part (level (suc k)) off (c off).tree) (λ ts. refl)) (body_of off).runs) (x off (c off).tree (body_of off).tree)
+  conditional_ends (Err why) new draft x = λ off. halts_after old last new (conditional_after room off) (else_part (level (suc k)) off (c off).tree (body_of off).tree) why (went (else_part (level (suc k)) off (c off).tree) (tested_on room k off old mid h chosen next (c off).tree (c off).runs (else_part (level (suc k)) off (c off).tree) (λ ts. refl)) (body_of off).runs) (x off (c off).tree (body_of off).tree)
 
 -- the jumps round two statements
 joined : (other s : Stmt) (d : Draft) (test jump : ℕ) (f d1 d2 g : Draft) → test ≡ place_of d → f ≡ done s (emitted (instr.JumpIfZero 0) d) → jump ≡ place_of f → d1 ≡ emitted (instr.Jump 0) f → d2 ≡ filled test (instr.JumpIfZero (place_of d1)) d1 → g ≡ done other d2 → filled jump (instr.Jump (place_of g)) g ≡ effects.ways (λ b. done s b) (λ b. done other b) d
 joined other s d test jump f d1 d2 g at b j e1 e2 o = rw (o, e2, e1, j, b, at) refl
 
--- behind the statement of an if
+-- after the statement of an if
 pub otherwise_absent : (k test : ℕ) (old : Tokens) (start draft : Draft) → IsSingle old → is_else (first old.ahead) ≡ false → draft ≡ filled test (instr.JumpIfZero (place_of start)) start → Chooses k test old start (Ok tt) old draft
 otherwise_absent k test old start draft l n f = (took, l, omega arith)
   where
@@ -221,7 +221,7 @@ chooses_err k test old start (Err w) new draft why e h = λ off x s. subst (λ y
 pub repeated_body : (room k off : ℕ) (old mid next new : Tokens) (h : (room ≡ k + 1) × Advances old mid) (e : Expr) (c : Runs mid next (condition k off) (λ v. Got e v)) (why : Halt) → Halts (statement k (off + words e)) next why new → Halts (repeated room off) old why new
 repeated_body room k off old mid next new h e c why x = tested_body_halts room k off old mid h looped next e c (λ s. Got (While e s)) (λ ts. refl) new why x
 
--- a jump back behind the statement, and one past it
+-- a jump back after the statement, and one past it
 jumped_back : (s : Stmt) (d f start : Draft) (top test mark : ℕ) (d2 d3 g draft : Draft) → top ≡ place_of start → test ≡ place_of d → d2 ≡ emitted (instr.JumpIfZero 0) d → mark ≡ mark_of d2 → d3 ≡ loop_begun d2 → f ≡ done s d3 → g ≡ closed_loop top mark f → draft ≡ filled test (instr.JumpIfZero (place_of g)) g → draft ≡ effects.skipping (λ b. effects.breaking (λ c. effects.turning (place_of start) (λ x. done s x) c) b) d
 jumped_back s d f start top test mark d2 d3 g draft t e b m l o j x = x ∙ rw (j, o, l, m, b, t, e) refl
 
@@ -244,7 +244,7 @@ compound_enter room off old new why h = enter_halts old new room (λ l o. body l
 
 pub compound_ends : (room k : ℕ) (old mid : Tokens) (start d0 : Draft) (r : Result (Unit {0}) Halt) (new : Tokens) (draft : Draft) → (room ≡ k + 1) × Advances old mid → d0 ≡ start → CompilesPart (statements k) all_done mid d0 r new draft → CompilesPart (compound (level room)) done old start r new draft
 compound_ends room k old mid start d0 r new draft h same x =
-    compiles_behind (compound (level room)) done (statements k) all_done Compound (λ a d. refl) old mid start r new draft h.1.moves.falls
+    compiles_after (compound (level room)) done (statements k) all_done Compound (λ a d. refl) old mid start r new draft h.1.moves.falls
     (λ off. entered room k (λ l. compound l off) (λ l u. statements k off u >>= λ ss. Got (Compound ss)) (λ u. body_map k off Compound (after u)) h)
     (subst (λ d. CompilesPart (statements k) all_done mid d r new draft) same x)
 
@@ -348,7 +348,7 @@ body_ends room start old now draft b l g (Err why) new draft2 t e = λ off. body
 -- what another reader does with these tokens
 pub compiles_as : {A : Type 0} (q p : ℕ → Reader A) (effect : A → Draft → Draft) (old : Tokens) (start : Draft) (r : Result (Unit {0}) Halt) (new : Tokens) (draft : Draft) → IsLoaded old → ((off : ℕ) (u : List Placed) → first u ≡ first old.ahead → q off u ≡ p off u) → CompilesPart p effect old start r new draft → CompilesPart q effect old start r new draft
 compiles_as q p effect old start (Ok o) new draft l same k = (λ off. let t = k.0 off in record { tree = t.tree; runs = run_then (run_here l (λ u e m. same off u e)) t.runs; made = t.made }, k.1, k.2)
-compiles_as q p effect old start (Err why) new draft l same k = λ off. halts_behind old old new (q off) (p off) why (run_here l (λ u e m. same off u e)) (k off)
+compiles_as q p effect old start (Err why) new draft l same k = λ off. halts_after old old new (q off) (p off) why (run_here l (λ u e m. same off u e)) (k off)
 
 -- by the token that comes
 pub at_brace : (room : ℕ) (old : Tokens) → first old.ahead ≡ token.OpenBrace → (off : ℕ) (u : List Placed) → first u ≡ first old.ahead → unheaded room off u ≡ compound (level room) off u
@@ -366,7 +366,7 @@ empty_ends room old start r new draft l h t e = go r t
 
 pub ends_with : (room : ℕ) (made : Expr → Stmt) (last : Instr) → ((e : Expr) (d : Draft) → done (made e) d ≡ emitted last (evaluated e d)) → (q : ℕ → Reader Stmt) (old mid : Tokens) (start : Draft) (r : Result (Unit {0}) Halt) (new : Tokens) (draft : Draft) → work mid ≤ work old → ((off : ℕ) → Runs old mid (q off) (λ v. whole.ended room off made v)) → CompilesPart (rvalue_ended room) (evaluated_to last) mid start r new draft → CompilesPart q done old start r new draft
 ends_with room made last same q old mid start r new draft l m k =
-    compiles_behind q done (rvalue_ended room) (evaluated_to last) made same old mid start r new draft l (λ off. Moves-as (λ u v. q off u ≡ (rvalue_ended room off v >>= λ e. Got (made e))) (λ u v x. x ∙ closed_map is_semicolon made (reader room Rvalue off v)) (m off)) k
+    compiles_after q done (rvalue_ended room) (evaluated_to last) made same old mid start r new draft l (λ off. Moves-as (λ u v. q off u ≡ (rvalue_ended room off v >>= λ e. Got (made e))) (λ u v x. x ∙ closed_map is_semicolon made (reader room Rvalue off v)) (m off)) k
 
 plain_at : (room off : ℕ) (t : Token) (u : List Placed) → (t ≡ token.OpenBrace → ⊥) → (t ≡ token.Semicolon → ⊥) → ((k : Keyword) → t ≡ token.Keyword k → ⊥) → stmt_at room (level room) off t u ≡ whole.ended room off Evaluate u
 plain_at room off token.OpenBrace u a b c = absurd (a refl)
@@ -382,7 +382,7 @@ plain_ends room old start r new draft l a b c k =
 at_keyword : (room off : ℕ) (old : Tokens) (k : Keyword) (u : List Placed) → first old.ahead ≡ token.Keyword k → first u ≡ first old.ahead → unheaded room off u ≡ stmt_at room (level room) off (token.Keyword k) u
 at_keyword room off old k u h e = ap (λ t. stmt_at room (level room) off t u) (e ∙ h)
 
-pub at_if : (room : ℕ) (old : Tokens) → first old.ahead ≡ token.Keyword keyword.If → (off : ℕ) (u : List Placed) → first u ≡ first old.ahead → unheaded room off u ≡ conditional_behind room off u
+pub at_if : (room : ℕ) (old : Tokens) → first old.ahead ≡ token.Keyword keyword.If → (off : ℕ) (u : List Placed) → first u ≡ first old.ahead → unheaded room off u ≡ conditional_after room off u
 at_if room old h off u e = at_keyword room off old keyword.If u h e
 
 pub at_while : (room : ℕ) (old : Tokens) → first old.ahead ≡ token.Keyword keyword.While → (off : ℕ) (u : List Placed) → first u ≡ first old.ahead → unheaded room off u ≡ repeated room off u
@@ -391,30 +391,30 @@ at_while room old h off u e = at_keyword room off old keyword.While u h e
 pub at_switch : (room : ℕ) (old : Tokens) → first old.ahead ≡ token.Keyword keyword.Switch → (off : ℕ) (u : List Placed) → first u ≡ first old.ahead → unheaded room off u ≡ switched (level room) off u
 at_switch room old h off u e = at_keyword room off old keyword.Switch u h e
 
-pub at_goto : (room : ℕ) (old : Tokens) → first old.ahead ≡ token.Keyword keyword.Goto → (off : ℕ) (u : List Placed) → first u ≡ first old.ahead → unheaded room off u ≡ behind_current (λ off. whole.ended room off Goto) off u
+pub at_goto : (room : ℕ) (old : Tokens) → first old.ahead ≡ token.Keyword keyword.Goto → (off : ℕ) (u : List Placed) → first u ≡ first old.ahead → unheaded room off u ≡ after_current (λ off. whole.ended room off Goto) off u
 at_goto room old h off u e = at_keyword room off old keyword.Goto u h e
 
-pub goto_ends : (room : ℕ) (old mid : Tokens) (start : Draft) (r : Result (Unit {0}) Halt) (new : Tokens) (draft : Draft) → Advances old mid → CompilesPart (rvalue_ended room) (evaluated_to instr.Goto) mid start r new draft → CompilesPart (behind_current (λ off. whole.ended room off Goto)) done old start r new draft
-goto_ends room old mid start r new draft a k = ends_with room Goto instr.Goto (λ e d. refl) (behind_current (λ off. whole.ended room off Goto)) old mid start r new draft a.moves.falls (λ off. run_past a (λ u e l. refl)) k
+pub goto_ends : (room : ℕ) (old mid : Tokens) (start : Draft) (r : Result (Unit {0}) Halt) (new : Tokens) (draft : Draft) → Advances old mid → CompilesPart (rvalue_ended room) (evaluated_to instr.Goto) mid start r new draft → CompilesPart (after_current (λ off. whole.ended room off Goto)) done old start r new draft
+goto_ends room old mid start r new draft a k = ends_with room Goto instr.Goto (λ e d. refl) (after_current (λ off. whole.ended room off Goto)) old mid start r new draft a.moves.falls (λ off. run_past a (λ u e l. refl)) k
 
 pub return_ends : (room : ℕ) (old mid : Tokens) (start : Draft) (r : Result (Unit {0}) Halt) (new : Tokens) (draft : Draft) → first old.ahead ≡ token.Keyword keyword.Return → Advances old mid → CompilesPart (returned room) done mid start r new draft → CompilesPart (unheaded room) done old start r new draft
 return_ends room old mid start (Ok o) new draft h a k = (λ off. let t = k.0 off in record { tree = t.tree; runs = run_then (run_past a (λ u e l. at_keyword room off old keyword.Return u h e)) t.runs; made = t.made }, k.1, falls_after a.moves.falls k.2)
-return_ends room old mid start (Err why) new draft h a k = λ off. halts_behind old mid new (unheaded room off) (returned room off) why (run_past a (λ u e l. at_keyword room off old keyword.Return u h e)) (k off)
+return_ends room old mid start (Err why) new draft h a k = λ off. halts_after old mid new (unheaded room off) (returned room off) why (run_past a (λ u e l. at_keyword room off old keyword.Return u h e)) (k off)
 
 -- a break
-pub broken_halts : (line : ℕ) (old new : Tokens) (why : Halt) → Halts (expect is_semicolon) old why new → Halts (break_behind line) old why new
+pub broken_halts : (line : ℕ) (old new : Tokens) (why : Halt) → Halts (expect is_semicolon) old why new → Halts (break_after line) old why new
 broken_halts line old new why h = halts_first old new (expect is_semicolon) (λ o. Got (Break line)) why h
 
-pub broken_took : {old new : Tokens} {start draft : Draft} (line : ℕ) → Runs old new (expect is_semicolon) (λ v. Got tt v) → draft ≡ broken_here line start → PartTaken (break_behind line) done start old new draft
+pub broken_took : {old new : Tokens} {start draft : Draft} (line : ℕ) → Runs old new (expect is_semicolon) (λ v. Got tt v) → draft ≡ broken_here line start → PartTaken (break_after line) done start old new draft
 broken_took line r e = record { tree = Break line; runs = began (λ o. Got (Break line)) r; made = e }
 
 module _ (room line : ℕ) (old mid : Tokens) (n : line ≡ line_ahead old.ahead) (h : first old.ahead ≡ token.Keyword keyword.Break) (a : Advances old mid) where
-  broken_behind : (off : ℕ) → Runs old mid (unheaded room off) (break_behind line)
-  broken_behind off = run_past a (λ u e l. at_keyword room off old keyword.Break u h e ∙ ap (λ m. break_behind m (after u)) (l ∙ sym n))
+  broken_after : (off : ℕ) → Runs old mid (unheaded room off) (break_after line)
+  broken_after off = run_past a (λ u e l. at_keyword room off old keyword.Break u h e ∙ ap (λ m. break_after m (after u)) (l ∙ sym n))
 
-  pub break_ends : (start : Draft) (r : Result (Unit {0}) Halt) (new : Tokens) (draft : Draft) → CompilesPart (untold (break_behind line)) done mid start r new draft → CompilesPart (unheaded room) done old start r new draft
-  break_ends start (Ok o) new draft k = (λ off. let t = k.0 tt in record { tree = t.tree; runs = run_then (broken_behind off) t.runs; made = t.made }, k.1, falls_after a.moves.falls k.2)
-  break_ends start (Err why) new draft k = λ off. halts_behind old mid new (unheaded room off) (break_behind line) why (broken_behind off) (k tt)
+  pub break_ends : (start : Draft) (r : Result (Unit {0}) Halt) (new : Tokens) (draft : Draft) → CompilesPart (untold (break_after line)) done mid start r new draft → CompilesPart (unheaded room) done old start r new draft
+  break_ends start (Ok o) new draft k = (λ off. let t = k.0 tt in record { tree = t.tree; runs = run_then (broken_after off) t.runs; made = t.made }, k.1, falls_after a.moves.falls k.2)
+  break_ends start (Err why) new draft k = λ off. halts_after old mid new (unheaded room off) (break_after line) why (broken_after off) (k tt)
 
 other_keyword : (room off : ℕ) (k : Keyword) (u : List Placed) → (k ≡ keyword.If → ⊥) → (k ≡ keyword.While → ⊥) → (k ≡ keyword.Switch → ⊥) → (k ≡ keyword.Goto → ⊥) → (k ≡ keyword.Break → ⊥) → (k ≡ keyword.Return → ⊥) → stmt_at room (level room) off (token.Keyword k) u ≡ whole.ended room off Evaluate u
 other_keyword room off keyword.If u a b c d f e = absurd (a refl)
@@ -432,12 +432,12 @@ other_ends room k old start r new draft l h a b c d g e x =
 -- a return
 module _ (room : ℕ) (old : Tokens) where
   module _ (mid : Tokens) (a : Advances old mid) (p : is_open_paren (first old.ahead) ≡ true) where
-    value_behind : (off : ℕ) → Runs old mid (returned room off) (return_value room off)
-    value_behind off = run_past a (λ u e l. ap (λ b. if b then return_value room off (after u) else expect is_semicolon u >>= (λ o. Got Return)) (ap is_open_paren e ∙ p))
+    value_after : (off : ℕ) → Runs old mid (returned room off) (return_value room off)
+    value_after off = run_past a (λ u e l. ap (λ b. if b then return_value room off (after u) else expect is_semicolon u >>= (λ o. Got Return)) (ap is_open_paren e ∙ p))
 
     pub returned_value : (start : Draft) (r : Result (Unit {0}) Halt) (new : Tokens) (draft : Draft) → CompilesPart (return_value room) done mid start r new draft → CompilesPart (returned room) done old start r new draft
-    returned_value start (Ok o) new draft k = (λ off. let t = k.0 off in record { tree = t.tree; runs = run_then (value_behind off) t.runs; made = t.made }, k.1, falls_after a.moves.falls k.2)
-    returned_value start (Err why) new draft k = λ off. halts_behind old mid new (returned room off) (return_value room off) why (value_behind off) (k off)
+    returned_value start (Ok o) new draft k = (λ off. let t = k.0 off in record { tree = t.tree; runs = run_then (value_after off) t.runs; made = t.made }, k.1, falls_after a.moves.falls k.2)
+    returned_value start (Err why) new draft k = λ off. halts_after old mid new (returned room off) (return_value room off) why (value_after off) (k off)
 
   module _ (l : IsLoaded old) (p : is_open_paren (first old.ahead) ≡ false) where
     bare : (off : ℕ) → Runs old old (returned room off) (λ u. expect is_semicolon u >>= (λ o. Got Return))
@@ -464,8 +464,8 @@ pub headings_begin : (start : Draft) (old : Tokens) → IsLoaded old → InHeadi
 headings_begin start old l = record { headings = No_heading; moves = run_seen l (λ u more e f m room off. unchanged (statement room off u)); made = λ s. refl; loaded = l }
 
 module _ {start draft : Draft} {old now : Tokens} (b : InHeadings start old now draft) where
-  abbrev Behind_headings : List Placed → List Placed → Type 0
-  Behind_headings u v = (room off : ℕ) → statement room off u ≡ (statement room off v >>= λ s. Got (headed b.headings s))
+  abbrev After_headings : List Placed → List Placed → Type 0
+  After_headings u v = (room off : ℕ) → statement room off u ≡ (statement room off v >>= λ s. Got (headed b.headings s))
 
   one_further : (h : Heading) (x : Read Stmt) → ((x >>= λ s. Got (Headed h s)) >>= λ s. Got (headed b.headings s)) ≡ (x >>= λ s. Got (headed b.headings (Headed h s)))
   one_further h (Got s r) = refl
@@ -474,26 +474,26 @@ module _ {start draft : Draft} {old now : Tokens} (b : InHeadings start old now 
   pub headings_go : {new : Tokens} {draft2 : Draft} → TookHeading draft now new draft2 → InHeadings start old new draft2
   headings_go {new} {draft2} t = record {
     headings = Then b.headings t.heading;
-    moves = Moves-append {P = Behind_headings} {Q = IsHeadedBy t.heading} (λ u w. (room off : ℕ) → statement room off u ≡ (statement room off w >>= λ s. Got (headed b.headings (Headed t.heading s)))) (λ u v w p q room off. p room off ∙ ap (λ x. x >>= λ s. Got (headed b.headings s)) (q room off) ∙ one_further t.heading (statement room off w)) b.moves t.moves;
+    moves = Moves-append {P = After_headings} {Q = IsHeadedBy t.heading} (λ u w. (room off : ℕ) → statement room off u ≡ (statement room off w >>= λ s. Got (headed b.headings (Headed t.heading s)))) (λ u v w p q room off. p room off ∙ ap (λ x. x >>= λ s. Got (headed b.headings s)) (q room off) ∙ one_further t.heading (statement room off w)) b.moves t.moves;
     made = λ s. b.made (Headed t.heading s) ∙ ap (done s) (sym t.made);
     loaded = t.loaded;
   }
 
   pub headings_stop : (new : Tokens) (draft2 : Draft) (why : Halt) → FindsHeading now draft (Err why) new draft2 → (room off : ℕ) → Halts (statement room off) old why new
-  headings_stop new draft2 halt.Fault h room off = (Moves-append {P = Behind_headings} {Q = StopsHeading} (λ u w. statement room off u ≡ Stop w) (λ u v w p q. p room off ∙ ap (λ x. x >>= λ s. Got (headed b.headings s)) (q room off)) b.moves h.0, h.1)
+  headings_stop new draft2 halt.Fault h room off = (Moves-append {P = After_headings} {Q = StopsHeading} (λ u w. statement room off u ≡ Stop w) (λ u v w p q. p room off ∙ ap (λ x. x >>= λ s. Got (headed b.headings s)) (q room off)) b.moves h.0, h.1)
   headings_stop new draft2 halt.Device h room off = Moves-breaks b.moves h
 
   pub headings_end : (room : ℕ) (mid : Tokens) (d : Draft) → Moves now mid IsUnheaded × IsLoaded mid × (d ≡ draft) → (r : Result (Unit {0}) Halt) (new : Tokens) (draft2 : Draft) → CompilesPart (unheaded room) done mid d r new draft2 → CompilesPart (statement room) done old start r new draft2
   headings_end room mid d h r new draft2 k = go r k
     where
       on : (off : ℕ) → Runs old mid (statement room off) (λ v. unheaded room off v >>= λ s. Got (headed b.headings s))
-      on off = Moves-append {P = Behind_headings} {Q = IsUnheaded} (λ u w. statement room off u ≡ (unheaded room off w >>= λ s. Got (headed b.headings s))) (λ u v w p q. p room off ∙ ap (λ x. x >>= λ s. Got (headed b.headings s)) (q room off)) b.moves h.0
+      on off = Moves-append {P = After_headings} {Q = IsUnheaded} (λ u w. statement room off u ≡ (unheaded room off w >>= λ s. Got (headed b.headings s))) (λ u v w p q. p room off ∙ ap (λ x. x >>= λ s. Got (headed b.headings s)) (q room off)) b.moves h.0
 
       go : (r : Result (Unit {0}) Halt) → CompilesPart (unheaded room) done mid d r new draft2 → CompilesPart (statement room) done old start r new draft2
       go (Ok o) k = (λ off. let t = k.0 off in record { tree = headed b.headings t.tree; runs = went (λ s. Got (headed b.headings s)) (on off) t.runs; made = t.made ∙ ap (done t.tree) h.2 ∙ sym (b.made t.tree) }, k.1, falls_after (on 0).falls k.2)
       go (Err why) k = λ off. halts_then old mid new (statement room off) (unheaded room off) (λ s. Got (headed b.headings s)) why (on off) (k off)
 
--- a place behind instructions
+-- a place after instructions
 pub place_is : (d : Draft) (code : List Instr) (n : ℕ) → n ≡ place_of d → (n ≡ 0 → ⊥) → IfMade d (λ s m. code ≡ m.code) → length code ≡ place_of d
 place_is (Faulty f) code n e z h = absurd (z e)
 place_is (Going s None) code n e z h = absurd (z e)

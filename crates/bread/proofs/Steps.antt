@@ -19,14 +19,14 @@ line_with : (ahead : List Placed) (edition : Edition) (line : ℕ) (bytes : List
 line_with ahead edition line bytes p ps e = rw e refl
 
 module _ {A B : Type 0} where
-  -- reading goes on behind what was read
+  -- reading goes on after what was read
   pub began : {a b : Tokens} {p : Reader B} {x : B} (f : B → Reader A) → Runs a b p (λ v. Got x v) → Runs a b (λ u. p u >>= f) (f x)
   began f h = run_bind f h
 
   pub went : {a b c : Tokens} {whole : Reader A} {p : Reader B} {x : B} (f : B → Reader A) → Runs a b whole (λ v. p v >>= f) → Runs b c p (λ v. Got x v) → Runs a c whole (f x)
   went f h k = run_then h (run_bind f k)
 
-  -- reading halts behind what was read
+  -- reading halts after what was read
   pub halts_first : (a b : Tokens) (p : Reader B) (f : B → Reader A) (why : Halt) → Halts p a why b → Halts (λ u. p u >>= f) a why b
   halts_first a b p f halt.Fault h = (run_bind f h.0, h.1)
   halts_first a b p f halt.Device h = h
@@ -36,9 +36,9 @@ module _ {A B : Type 0} where
   halts_then a b c whole p f halt.Device m h = Moves-breaks m h
 
 module _ {A : Type 0} where
-  pub halts_behind : (a b c : Tokens) (whole rest : Reader A) (why : Halt) → Runs a b whole rest → Halts rest b why c → Halts whole a why c
-  halts_behind a b c whole rest halt.Fault m h = (run_then m h.0, h.1)
-  halts_behind a b c whole rest halt.Device m h = Moves-breaks m h
+  pub halts_after : (a b c : Tokens) (whole rest : Reader A) (why : Halt) → Runs a b whole rest → Halts rest b why c → Halts whole a why c
+  halts_after a b c whole rest halt.Fault m h = (run_then m h.0, h.1)
+  halts_after a b c whole rest halt.Device m h = Moves-breaks m h
 
   -- a read failed
   pub device : (a b : Tokens) (whole : Reader A) (why : Halt) → why ≡ halt.Device → TokensFail a b → Halts whole a why b
@@ -54,7 +54,7 @@ run_seen {t} {P} l f =
       looked = s.looked;
       failures = s.failures;
       falls = s.falls;
-      come = λ more c. subst (λ u. P u (tokens_of t more)) (sym (s.come more c)) (f (tokens_of t more) more refl (first_with t.ahead t.source.edition t.source.line (t.source.ahead ++ more) l.current l.behind l.ahead) (line_with t.ahead t.source.edition t.source.line (t.source.ahead ++ more) l.current l.behind l.ahead));
+      come = λ more c. subst (λ u. P u (tokens_of t more)) (sym (s.come more c)) (f (tokens_of t more) more refl (first_with t.ahead t.source.edition t.source.line (t.source.ahead ++ more) l.current l.following l.ahead) (line_with t.ahead t.source.edition t.source.line (t.source.ahead ++ more) l.current l.following l.ahead));
     }
 
 -- the exits of a `?`

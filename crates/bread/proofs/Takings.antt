@@ -21,10 +21,10 @@ pub less : {a b : Tokens} → Advances a b → work b < work a
 less h = let k = h.falls in omega (arith, k)
 
 number_found : {a b : Tokens} (n : ℕ) → Advances a b → first a.ahead ≡ token.Number n → FindsConstant a (Ok n) b
-number_found {a} {b} n h k = (record { tree = Number n; runs = run_past {g = λ v. Got (Number n) v} h (λ u e l. ap (λ t. constant_at t u) (e ∙ k)); value = refl }, h.single.0, less h)
+number_found {a} {b} n h k = (record { tree = Number n; runs = run_past {g = λ v. Got (Number n) v} h (λ u e l. ap (λ t. constant_at t u) (e ∙ k)); value = refl }, h.single, less h)
 
 character_found : {a b : Tokens} (n : ℕ) → Advances a b → first a.ahead ≡ token.Character n → FindsConstant a (Ok n) b
-character_found {a} {b} n h k = (record { tree = Character n; runs = run_past {g = λ v. Got (Character n) v} h (λ u e l. ap (λ t. constant_at t u) (e ∙ k)); value = refl }, h.single.0, less h)
+character_found {a} {b} n h k = (record { tree = Character n; runs = run_past {g = λ v. Got (Character n) v} h (λ u e l. ap (λ t. constant_at t u) (e ∙ k)); value = refl }, h.single, less h)
 
 -- a number or a character
 pub constant_here : {l : Lexeme} {t : Token} {n : ℕ} (text : List ℕ) → token_of_lexeme l text ≡ t → (l ≡ lexeme.Number n) ⊎ (l ≡ lexeme.Character n) → (t ≡ token.Number n) ⊎ (t ≡ token.Character n)

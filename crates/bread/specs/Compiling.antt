@@ -1,9 +1,8 @@
 -- What the calls that read statements and definitions do with the tokens and with the draft.
 use Rattle.std.specs.Prelude.{◌≡◌, ℕ, ◌<◌, Bool, true, false, Option, Result, Ok, Err}
-use Rattle.blang.specs.Trees.{Constant, Heading}
+use Rattle.blang.specs.Trees.{Constant, Heading, constant_value}
 use Rattle.btree.specs.Reading.{Reader, Got}
 use Rattle.btree.specs.StatementReader.{name, size, constant}
-use Rattle.blang.specs.Scan.{constant_value}
 use Rattle.bemit.specs.Drafts.{Draft}
 use Rattle.bemit.specs.Effects.{headed}
 use Rattle.bexpr.specs.Tokens.{Tokens, IsLoaded, IsSingle, Moves, Runs, TokensFail, work}
@@ -49,7 +48,7 @@ pub record TookConstant (n : ℕ) (old new : Tokens) : Type 0 where
   pub value : constant_value tree ≡ n
 
 abbrev pub FindsConstant : Tokens → Result ℕ Halt → Tokens → Type 0
-FindsConstant old (Ok n) new = TookConstant n old new × IsLoaded new × (work new < work old)
+FindsConstant old (Ok n) new = TookConstant n old new × IsSingle new × (work new < work old)
 FindsConstant old (Err halt) new = Halts constant old halt new
 
 -- A heading was read, and compiled.
@@ -64,5 +63,5 @@ pub record TookHeading (start : Draft) (old new : Tokens) (draft : Draft) : Type
 abbrev pub FindsHeading : Tokens → Draft → Result Bool Halt → Tokens → Draft → Type 0
 FindsHeading old start (Ok true) new draft = TookHeading start old new draft
 FindsHeading old start (Ok false) new draft = Moves old new IsUnheaded × IsLoaded new × (draft ≡ start)
-FindsHeading old start (Err halt.Fault) new draft = Moves old new StopsHeading × IsLoaded new
+FindsHeading old start (Err halt.Fault) new draft = Moves old new StopsHeading × IsSingle new
 FindsHeading old start (Err halt.Device) new draft = TokensFail old new

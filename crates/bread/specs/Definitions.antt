@@ -55,7 +55,7 @@ abbrev pub FindsList : {A : Type 0} → Reader (List A) → (List A → Draft �
 FindsList reader effect most old start (Ok count) new draft = TookList reader effect most start old new draft count
 FindsList reader effect most old start (Err why) new draft = Halts reader old why new
 
--- What stands behind the name of a definition was read and compiled.
+-- What stands after the name of a definition was read and compiled.
 pub record TookKind (reader : Reader Definition) (w : Identifier) (start : Draft) (old new : Tokens) (draft : Draft)
     (kind : Kind) : Type 0 where
   pub tree : Definition
@@ -70,7 +70,7 @@ FindsKind reader old start (Ok kind) new draft = ((w : Identifier) → TookKind 
     × IsSingle new
 FindsKind reader old start (Err why) new draft = (w : Identifier) → Halts (reader w) old why new
 
--- A definition was read and compiled, behind definitions of these names.
+-- A definition was read and compiled, after definitions of these names.
 pub record TookDefinition (names : List (List ℕ)) (old : Tokens) (header : Header) (new : Tokens) (draft : Draft) : Type
     0 where
   pub tree : Definition

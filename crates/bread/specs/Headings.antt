@@ -7,7 +7,7 @@ use Rattle.btree.specs.Commas.{list_reader}
 use Rattle.blang.specs.Trees.{Heading, Auto, Extrn, Case, Default, Stmt, Headed}
 use Rattle.btree.specs.StatementReader.{is_semicolon, name, constant, declared, stmt_at, level, statement}
 
--- a heading behind its keyword
+-- a heading after its keyword
 abbrev pub auto : Reader Heading
 auto ts = list_reader (λ before. declared) ts >>= λ ds r. expect is_semicolon r >>= λ o. Got (Auto ds)
 

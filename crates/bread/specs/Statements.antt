@@ -15,23 +15,23 @@ use Rattle.bexpr.specs.declared.halt.Halt.{Halt}
 use Rattle.bexpr.specs.Parsers.{Halts}
 use Rattle.bread.specs.Compiling.{PartTaken}
 
--- behind the current token
-abbrev pub behind_current : {I A : Type 0} → (I → Reader A) → I → Reader A
-behind_current reader i ts = reader i (after ts)
+-- after the current token
+abbrev pub after_current : {I A : Type 0} → (I → Reader A) → I → Reader A
+after_current reader i ts = reader i (after ts)
 
 -- a rvalue, and a semicolon
 abbrev pub rvalue_ended : ℕ → ℕ → Reader Expr
 rvalue_ended room off ts = reader room Rvalue off ts >>= λ e r. expect is_semicolon r >>= λ o. Got e
 
--- an instruction behind a rvalue
+-- an instruction after a rvalue
 abbrev pub evaluated_to : Instr → Expr → Draft → Draft
 evaluated_to last e d = emitted last (evaluated e d)
 
--- what stands behind a break on this line
-abbrev pub break_behind : ℕ → Reader Stmt
-break_behind line ts = expect is_semicolon ts >>= λ o. Got (Break line)
+-- what stands after a break on this line
+abbrev pub break_after : ℕ → Reader Stmt
+break_after line ts = expect is_semicolon ts >>= λ o. Got (Break line)
 
--- the value of a return, behind the parenthesis that opens it
+-- the value of a return, after the parenthesis that opens it
 abbrev pub return_value : ℕ → ℕ → Reader Stmt
 return_value room off ts =
     reader room Rvalue off ts >>= λ e r. expect is_close_paren r >>= λ o r. expect is_semicolon r >>= λ o. Got
@@ -42,8 +42,8 @@ abbrev pub condition : ℕ → ℕ → Reader Expr
 condition room off ts =
     expect is_open_paren ts >>= λ o r. reader room Rvalue off r >>= λ e r. expect is_close_paren r >>= λ o. Got e
 
-abbrev pub conditional_behind : ℕ → ℕ → Reader Stmt
-conditional_behind room off ts = tested (level room) off (chosen (level room) off) ts
+abbrev pub conditional_after : ℕ → ℕ → Reader Stmt
+conditional_after room off ts = tested (level room) off (chosen (level room) off) ts
 
 abbrev pub repeated : ℕ → ℕ → Reader Stmt
 repeated room off ts = tested (level room) off (looped (level room) off) ts
@@ -54,7 +54,7 @@ statements room off ts =
     many (always goes_on) (one_more (level (suc room)) off) Nothing ts >>= λ ss r. expect is_close_brace r >>= λ o. Got
     ss
 
--- An `else` and its statement were read behind the first statement, or there is none, and the test jumps round what it
+-- An `else` and its statement were read after the first statement, or there is none, and the test jumps round what it
 -- must.
 abbrev pub Chooses : ℕ → ℕ → Tokens → Draft → Result (Unit {0}) Halt → Tokens → Draft → Type 0
 Chooses room test old start (Ok u) new draft =
@@ -64,11 +64,11 @@ Chooses room test old start (Ok u) new draft =
 Chooses room test old start (Err halt) new draft = (off : ℕ) (e : Expr) (s : Stmt)
     → Halts (else_part (level (suc room)) off e s) old halt new
 
--- the end of a loop behind its statement, which begins at this place, where its breaks are those since this mark
+-- the end of a loop after its statement, which begins at this place, where its breaks are those since this mark
 abbrev pub closed_loop : ℕ → ℕ → Draft → Draft
 closed_loop top mark b = let t = drafts.loop_ended (emitted (instr.Jump top) b) in breaks_filled mark (place_of t) t
 
--- the end of a switch behind its statements, where the jump to its tests is at this place and its breaks are those
+-- the end of a switch after its statements, where the jump to its tests is at this place and its breaks are those
 -- since this mark
 abbrev pub closed_switch : ℕ → ℕ → Draft → Draft
 closed_switch jump mark b =

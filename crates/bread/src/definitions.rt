@@ -4,7 +4,7 @@ ghost use Rattle.std.specs.Map.{keys_of};
 ghost use Rattle.blang.specs.Cut.{is_last};
 ghost use Rattle.btree.specs.Reading.{first};
 ghost use Rattle.blang.specs.Code.{vector_constant};
-ghost use Rattle.btree.specs.DefinitionReader.{ival, behind_name, vector, function};
+ghost use Rattle.btree.specs.DefinitionReader.{ival, after_name, vector, function};
 ghost use Rattle.btree.specs.StatementReader.{name};
 ghost use Rattle.bemit.specs.Drafts as drafts;
 ghost use Rattle.bemit.specs.Effects.{ival_done, values_done, parameters_done};
@@ -25,7 +25,7 @@ use bword::ByteIn;
 // The greatest level of nesting.
 const NESTING: u8 = MAX_NESTING as u8;
 
-/// Reads the definition that comes, behind definitions of these names.
+/// Reads the definition that comes, after definitions of these names.
 pub fn definition<I: ByteIn>(parser: &mut Parser<I>, names: &NameTable) -> Result<Header, Halt>
     requires { IsLoaded parser.old.tokens }
     ensures { FindsDefinition (keys_of names.now) parser.old.tokens result parser.new.tokens parser.new.draft }
@@ -33,7 +33,7 @@ pub fn definition<I: ByteIn>(parser: &mut Parser<I>, names: &NameTable) -> Resul
     let word = name(parser)?;
     let is_defined = names.find(&word.name, &mut Probes::new()).is_some();
     begin(&mut parser.draft, word, is_defined);
-    let kind = behind_name(parser)?;
+    let kind = after_name(parser)?;
     Ok(Header {
         name: word.name,
         line: word.line,
@@ -55,10 +55,10 @@ fn begin(draft: &mut Draft, word: Word, is_defined: bool)
     }
 }
 
-// What stands behind the name.
-fn behind_name<I: ByteIn>(parser: &mut Parser<I>) -> Result<Kind, Halt>
+// What stands after the name.
+fn after_name<I: ByteIn>(parser: &mut Parser<I>) -> Result<Kind, Halt>
     requires { IsLoaded parser.old.tokens }
-    ensures { FindsKind behind_name parser.old.tokens parser.old.draft result parser.new.tokens parser.new.draft }
+    ensures { FindsKind after_name parser.old.tokens parser.old.draft result parser.new.tokens parser.new.draft }
 {
     match parser.tokens.lexeme() {
         Lexeme::OpenBracket => {
@@ -76,7 +76,7 @@ fn behind_name<I: ByteIn>(parser: &mut Parser<I>) -> Result<Kind, Halt>
     }
 }
 
-// What stands behind an opening bracket.
+// What stands after an opening bracket.
 fn vector<I: ByteIn>(parser: &mut Parser<I>) -> Result<Kind, Halt>
     requires { IsSingle parser.old.tokens }
     ensures { FindsKind vector parser.old.tokens parser.old.draft result parser.new.tokens parser.new.draft }
@@ -100,7 +100,7 @@ fn constant_of(size: Option<u16>) -> u32
     }
 }
 
-// What stands behind the parenthesis that opens the parameters.
+// What stands after the parenthesis that opens the parameters.
 fn function<I: ByteIn>(parser: &mut Parser<I>) -> Result<Kind, Halt>
     requires { IsLoaded parser.old.tokens }
     ensures { FindsKind function parser.old.tokens parser.old.draft result parser.new.tokens parser.new.draft }
@@ -122,7 +122,7 @@ fn parameter<I: ByteIn>(parser: &mut Parser<I>) -> Result<(), Halt>
     Ok(())
 }
 
-// The names of the parameters, if any, and the parenthesis behind them.
+// The names of the parameters, if any, and the parenthesis after them.
 fn parameters<I: ByteIn>(parser: &mut Parser<I>) -> Result<u16, Halt>
     requires { IsLoaded parser.old.tokens }
     ensures { FindsList parameters parameters_done MOST_COUNTED parser.old.tokens parser.old.draft result parser.new.tokens parser.new.draft }

@@ -1,4 +1,4 @@
-//! What stands before a statement.
+//! What comes before a statement.
 ghost use Rattle.std.specs.Prelude.{◌≡◌};
 ghost use Rattle.blang.specs.declared.token.Token.TheVariants as token;
 ghost use Rattle.btree.specs.Reading.{first};
@@ -6,7 +6,7 @@ ghost use Rattle.btree.specs.StatementReader.{name, declared};
 ghost use Rattle.bemit.specs.Drafts as drafts;
 ghost use Rattle.bemit.specs.Drafts.{imported};
 ghost use Rattle.bemit.specs.Effects.{headed};
-ghost use Rattle.bexpr.specs.Tokens.{IsLoaded};
+ghost use Rattle.bexpr.specs.Tokens.{IsLoaded, IsSingle};
 ghost use Rattle.bread.specs.Headings.{auto, extrn, case, default};
 ghost use Rattle.bread.specs.Compiling.{untold, CompilesPart, FindsHeading};
 
@@ -37,7 +37,7 @@ fn external<I: ByteIn>(parser: &mut Parser<I>) -> Result<(), Halt>
     Ok(())
 }
 
-// The names behind `auto`.
+// The names after `auto`.
 fn auto<I: ByteIn>(parser: &mut Parser<I>) -> Result<(), Halt>
     requires { IsLoaded parser.old.tokens }
     ensures { CompilesPart (untold auto) headed parser.old.tokens parser.old.draft result parser.new.tokens parser.new.draft }
@@ -50,7 +50,7 @@ fn auto<I: ByteIn>(parser: &mut Parser<I>) -> Result<(), Halt>
     parser.expect(Mark::Semicolon)
 }
 
-// The names behind `extrn`.
+// The names after `extrn`.
 fn extrn<I: ByteIn>(parser: &mut Parser<I>) -> Result<(), Halt>
     requires { IsLoaded parser.old.tokens }
     ensures { CompilesPart (untold extrn) headed parser.old.tokens parser.old.draft result parser.new.tokens parser.new.draft }
@@ -63,9 +63,9 @@ fn extrn<I: ByteIn>(parser: &mut Parser<I>) -> Result<(), Halt>
     parser.expect(Mark::Semicolon)
 }
 
-// The constant behind a `case` on this line.
+// The constant after a `case` on this line.
 fn case<I: ByteIn>(parser: &mut Parser<I>, line: u64) -> Result<(), Halt>
-    requires { IsLoaded parser.old.tokens }
+    requires { IsSingle parser.old.tokens }
     ensures { CompilesPart (untold (case line)) headed parser.old.tokens parser.old.draft result parser.new.tokens parser.new.draft }
 {
     let value = constant(parser)?;
@@ -74,9 +74,9 @@ fn case<I: ByteIn>(parser: &mut Parser<I>, line: u64) -> Result<(), Halt>
     Ok(())
 }
 
-// What stands behind a `default` on this line.
+// What stands after a `default` on this line.
 fn default<I: ByteIn>(parser: &mut Parser<I>, line: u64) -> Result<(), Halt>
-    requires { IsLoaded parser.old.tokens }
+    requires { IsSingle parser.old.tokens }
     ensures { CompilesPart (untold (default line)) headed parser.old.tokens parser.old.draft result parser.new.tokens parser.new.draft }
 {
     parser.expect(Mark::Colon)?;
@@ -84,7 +84,7 @@ fn default<I: ByteIn>(parser: &mut Parser<I>, line: u64) -> Result<(), Halt>
     Ok(())
 }
 
-// A label, if a colon stands behind this name.
+// A label, if a colon stands after this name.
 fn label<I: ByteIn>(parser: &mut Parser<I>, name: Name) -> Result<bool, Halt>
     requires loaded { IsLoaded parser.old.tokens }
     requires name { first parser.old.tokens.ahead ≡ token.Name name }
@@ -92,7 +92,7 @@ fn label<I: ByteIn>(parser: &mut Parser<I>, name: Name) -> Result<bool, Halt>
 {
     let line = parser.tokens.line();
     parser.tokens.look_on()?;
-    if !parser.tokens.is_behind(Mark::Colon) {
+    if !parser.tokens.is_after(Mark::Colon) {
         return Ok(false);
     }
     parser.tokens.advance()?;

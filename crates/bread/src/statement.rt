@@ -11,10 +11,10 @@ ghost use Rattle.btree.specs.StatementReader as reader;
 ghost use Rattle.blang.specs.declared.code.Instr.TheVariants as instr;
 ghost use Rattle.bemit.specs.Drafts.{most_instructions, place_of, filled, breaks_filled};
 ghost use Rattle.bemit.specs.Effects.{evaluated, done, all_done};
-ghost use Rattle.bexpr.specs.Tokens.{IsLoaded, IsSingle};
+ghost use Rattle.bexpr.specs.Tokens.{is_name, IsLoaded, IsSingle};
 ghost use Rattle.bread.specs.Headings.{unheaded};
 ghost use Rattle.bread.specs.Compiling.{untold, CompilesPart};
-ghost use Rattle.bread.specs.Statements.{behind_current, rvalue_ended, evaluated_to, break_behind, return_value, condition, conditional_behind, repeated, statements, closed_loop, closed_switch, Chooses};
+ghost use Rattle.bread.specs.Statements.{after_current, rvalue_ended, evaluated_to, break_after, return_value, condition, conditional_after, repeated, statements, closed_loop, closed_switch, Chooses};
 
 use crate::heading::heading;
 use bemit::Draft;
@@ -37,23 +37,23 @@ fn ended<I: ByteIn>(parser: &mut Parser<I>, room: u8, last: Instr) -> Result<(),
 fn goto<I: ByteIn>(parser: &mut Parser<I>, room: u8) -> Result<(), Halt>
     requires loaded { IsLoaded parser.old.tokens }
     requires goes_on { is_last (first parser.old.tokens.ahead) ≡ false }
-    ensures { CompilesPart (behind_current (λ off. reader.ended room off Goto)) done parser.old.tokens parser.old.draft result parser.new.tokens parser.new.draft }
+    ensures { CompilesPart (after_current (λ off. reader.ended room off Goto)) done parser.old.tokens parser.old.draft result parser.new.tokens parser.new.draft }
 {
     parser.tokens.advance()?;
     ended(parser, room, Instr::Goto)
 }
 
-// What stands behind a `break` on this line.
+// What stands after a `break` on this line.
 fn broken<I: ByteIn>(parser: &mut Parser<I>, line: u64) -> Result<(), Halt>
-    requires { IsLoaded parser.old.tokens }
-    ensures { CompilesPart (untold (break_behind line)) done parser.old.tokens parser.old.draft result parser.new.tokens parser.new.draft }
+    requires { IsSingle parser.old.tokens }
+    ensures { CompilesPart (untold (break_after line)) done parser.old.tokens parser.old.draft result parser.new.tokens parser.new.draft }
 {
     parser.expect(Mark::Semicolon)?;
     parser.draft.add_break(line);
     Ok(())
 }
 
-// The value of a `return`, behind the parenthesis that opens it.
+// The value of a `return`, after the parenthesis that opens it.
 fn return_value<I: ByteIn>(parser: &mut Parser<I>, room: u8) -> Result<(), Halt>
     requires { IsLoaded parser.old.tokens }
     ensures { CompilesPart (return_value room) done parser.old.tokens parser.old.draft result parser.new.tokens parser.new.draft }
@@ -65,9 +65,9 @@ fn return_value<I: ByteIn>(parser: &mut Parser<I>, room: u8) -> Result<(), Halt>
     Ok(())
 }
 
-// What stands behind `return`.
+// What stands after `return`.
 fn returned<I: ByteIn>(parser: &mut Parser<I>, room: u8) -> Result<(), Halt>
-    requires { IsLoaded parser.old.tokens }
+    requires { IsSingle parser.old.tokens }
     ensures { CompilesPart (returned room) done parser.old.tokens parser.old.draft result parser.new.tokens parser.new.draft }
 {
     if parser.tokens.is_at(Mark::OpenParen) {
@@ -82,7 +82,7 @@ fn returned<I: ByteIn>(parser: &mut Parser<I>, room: u8) -> Result<(), Halt>
 
 // A condition in its parentheses.
 fn condition<I: ByteIn>(parser: &mut Parser<I>, room: u8) -> Result<(), Halt>
-    requires { IsLoaded parser.old.tokens }
+    requires { IsSingle parser.old.tokens }
     ensures { CompilesPart (condition room) evaluated parser.old.tokens parser.old.draft result parser.new.tokens parser.new.draft }
 {
     parser.expect(Mark::OpenParen)?;
@@ -106,7 +106,7 @@ fn break_to_here(draft: &mut Draft, mark: bemit::Mark)
     draft.fill_breaks(mark, here);
 }
 
-// Ends a loop behind its statement: it goes back to this place, and its breaks are those since this mark.
+// Ends a loop after its statement: it goes back to this place, and its breaks are those since this mark.
 fn close_loop(draft: &mut Draft, top: u16, mark: bemit::Mark)
     ensures { draft.new ≡ closed_loop top mark.count draft.old }
 {
@@ -126,7 +126,7 @@ fn next_place(draft: &Draft) -> u16
     draft.code().len() as u16
 }
 
-// Ends a switch behind its statements: the jump to its tests is at this place, and its breaks are those since this
+// Ends a switch after its statements: the jump to its tests is at this place, and its breaks are those since this
 // mark.
 fn close_switch(draft: &mut Draft, jump: u16, mark: bemit::Mark)
     ensures { draft.new ≡ closed_switch jump mark.count draft.old }
@@ -200,6 +200,7 @@ fn keyed<I: ByteIn>(parser: &mut Parser<I>, room: u8, keyword: Keyword) -> Resul
 #[cycle(statements)]
 fn compound<I: ByteIn>(parser: &mut Parser<I>, room: u8) -> Result<(), Halt>
     requires loaded { IsLoaded parser.old.tokens }
+    requires no_name { is_name (first parser.old.tokens.ahead) ≡ false }
     requires goes_on { is_last (first parser.old.tokens.ahead) ≡ false }
     ensures { CompilesPart (compound (level room)) done parser.old.tokens parser.old.draft result parser.new.tokens parser.new.draft }
 {
@@ -210,7 +211,7 @@ fn compound<I: ByteIn>(parser: &mut Parser<I>, room: u8) -> Result<(), Halt>
 // Statements up to a closing brace.
 #[cycle(statements)]
 fn body<I: ByteIn>(parser: &mut Parser<I>, room: u8) -> Result<(), Halt>
-    requires { IsLoaded parser.old.tokens }
+    requires { IsSingle parser.old.tokens }
     ensures { CompilesPart (statements room) all_done parser.old.tokens parser.old.draft result parser.new.tokens parser.new.draft }
 {
     'statements: while goes_on(parser.tokens.lexeme()) {
@@ -223,8 +224,9 @@ fn body<I: ByteIn>(parser: &mut Parser<I>, room: u8) -> Result<(), Halt>
 #[cycle(statements)]
 fn conditional<I: ByteIn>(parser: &mut Parser<I>, room: u8) -> Result<(), Halt>
     requires loaded { IsLoaded parser.old.tokens }
+    requires no_name { is_name (first parser.old.tokens.ahead) ≡ false }
     requires goes_on { is_last (first parser.old.tokens.ahead) ≡ false }
-    ensures { CompilesPart (conditional_behind room) done parser.old.tokens parser.old.draft result parser.new.tokens parser.new.draft }
+    ensures { CompilesPart (conditional_after room) done parser.old.tokens parser.old.draft result parser.new.tokens parser.new.draft }
 {
     let room = parser.enter(room)?;
     condition(parser, room)?;
@@ -234,7 +236,7 @@ fn conditional<I: ByteIn>(parser: &mut Parser<I>, room: u8) -> Result<(), Halt>
     otherwise(parser, room, test)
 }
 
-// An `else`, if one comes behind a statement whose test is at this place.
+// An `else`, if one comes after a statement whose test is at this place.
 #[cycle(statements)]
 fn otherwise<I: ByteIn>(parser: &mut Parser<I>, room: u8, test: u16) -> Result<(), Halt>
     requires { IsSingle parser.old.tokens }
@@ -257,6 +259,7 @@ fn otherwise<I: ByteIn>(parser: &mut Parser<I>, room: u8, test: u16) -> Result<(
 #[cycle(statements)]
 fn repeated<I: ByteIn>(parser: &mut Parser<I>, room: u8) -> Result<(), Halt>
     requires loaded { IsLoaded parser.old.tokens }
+    requires no_name { is_name (first parser.old.tokens.ahead) ≡ false }
     requires goes_on { is_last (first parser.old.tokens.ahead) ≡ false }
     ensures { CompilesPart (repeated room) done parser.old.tokens parser.old.draft result parser.new.tokens parser.new.draft }
 {
@@ -278,6 +281,7 @@ fn repeated<I: ByteIn>(parser: &mut Parser<I>, room: u8) -> Result<(), Halt>
 #[cycle(statements)]
 fn switched<I: ByteIn>(parser: &mut Parser<I>, room: u8) -> Result<(), Halt>
     requires loaded { IsLoaded parser.old.tokens }
+    requires no_name { is_name (first parser.old.tokens.ahead) ≡ false }
     requires goes_on { is_last (first parser.old.tokens.ahead) ≡ false }
     ensures { CompilesPart (switched (level room)) done parser.old.tokens parser.old.draft result parser.new.tokens parser.new.draft }
 {

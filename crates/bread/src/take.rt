@@ -46,7 +46,7 @@ pub fn size<I: ByteIn>(parser: &mut Parser<I>) -> Result<Option<u16>, Halt>
 
 /// Takes a constant and answers its value.
 pub fn constant<I: ByteIn>(parser: &mut Parser<I>) -> Result<u16, Halt>
-    requires { IsLoaded parser.old.tokens }
+    requires { IsSingle parser.old.tokens }
     ensures tokens { FindsConstant parser.old.tokens result parser.new.tokens }
     ensures draft { parser.new.draft ≡ parser.old.draft }
 {

@@ -12,22 +12,26 @@ use Rattle.blang.specs.declared.code.Instr.TheVariants as instr
 use Rattle.blang.specs.declared.code.Definition as coded
 use Rattle.blang.specs.declared.code.Definition.TheVariants as code
 use Rattle.blang.specs.declared.token.Diagnostic.{Diagnostic}
-use Rattle.blang.specs.Trees.{Identifier, Stmt, size_spelling, name_spelling, spell_statement, list_spelling, Definition, Simple, Vector, Function as function, ival_spelling, spell_definition}
+use Rattle.blang.specs.Trees.{Identifier, Stmt, Definition, Simple, Vector, Function as function}
 use Rattle.blang.specs.WellFormed.{nesting_limit, IsFormed}
 use Rattle.btree.specs.Fitting.{Sits, statement_words}
-use Rattle.blang.specs.Scan.{NameKind, Automatic, External, Unlabelled, Labelled, kind_of, Event, Declaration, Import, Mention, LabelHere, CaseHere, DefaultHere, BreakHere, Lvalue, LoopBegins, LoopEnds, SwitchBegins, SwitchEnds, Scope, no_scope, scan, statement_events, function_events, function_scope, scope_fault}
+use Rattle.blang.specs.Scan.{NameKind, Automatic, External, Unlabelled, Labelled, kind_of, Scope, no_scope, scan, function_events, function_scope, scope_fault, scanned}
+use Rattle.btree.specs.Spelling.{size_spelling, name_spelling, spell_statement, list_spelling, ival_spelling}
+use Rattle.blang.specs.Walk.{spell_definition, Event, Declaration, Import, Mention, LabelHere, CaseHere, DefaultHere, BreakHere, Lvalue, LoopBegins, LoopEnds, SwitchBegins, SwitchEnds, walk_parameter, walk_value}
+use Rattle.btree.specs.Events.{statement_events}
 use Rattle.bword.specs.Words.{same_name}
-use Rattle.blang.specs.Code.{Referent, In_frame, Outside, At_label, referent_of, environment_of, statement_end, statement_code, label_places, ival_code, vector_words, strings_of, clean, code_of, fits_limits, or_too_large, fault_of}
+use Rattle.blang.specs.Code.{Referent, In_frame, Outside, At_label, referent_of, environment_of, ival_code, vector_words, strings_of, clean, code_of, fits_limits, or_too_large, fault_of, piece}
 use Rattle.btree.proofs.CodeLaws.{counts_words, statement_ends}
 use Rattle.btree.proofs.Fitting.{simple_strings, vector_strings, function_strings, formed_in}
 use Rattle.broundtrip.proofs.Holds.{Holds, Holds-nil, Holds-cons, Holds-first, Holds-rest, Holds-append, Holds-front, Holds-back, Holds-weaker, Holds-All}
 use Rattle.broundtrip.proofs.Tokens.{AreSound}
 use Rattle.broundtrip.proofs.ExpressionCode.{IsMeaningWithin}
-use Rattle.broundtrip.proofs.StatementCode.{IsVectorWithin, IsEventWithin, label_places_within, statement_code_within}
+use Rattle.broundtrip.proofs.StatementCode.{IsVectorWithin, IsEventWithin, piece_within}
 use Rattle.broundtrip.proofs.Scopes.{IsKindWithin, IsTable, few_labels, kind_within}
 use Rattle.broundtrip.proofs.Scans.{IsSettled, scan_advances}
 use Rattle.broundtrip.proofs.Strings.{statement_strings_within, values-sound, values_strings_within, initial_values_within}
 use Rattle.broundtrip.proofs.Labels.{parameter_events, labels_in-statement_events, labels_in-parameters, parameters_declared}
+use Rattle.btree.proofs.WalkLaws.{function_events_are}
 
 -- Tests of sizes.
 two_fit : (a b x y : ℕ) → (nat_le a x && nat_le b y) ≡ true → (a ≤ x) × (b ≤ y)
@@ -79,9 +83,9 @@ function_code w parameters body scope =
       name = w.text;
       parameters = length parameters;
       frame = scope.frame;
-      targets = label_places names body 0;
+      targets = (piece names body 0).targets.labels;
       strings = strings_of (function w parameters body);
-      code = statement_code names body 0 (statement_end names body 0) ++ (instr.Constant 0 ∷ instr.Return ∷ []);
+      code = (piece names body 0).code ((piece names body 0).end) ++ (instr.Constant 0 ∷ instr.Return ∷ []);
     }
 
 no_names : IsTable [] 0 0
@@ -93,7 +97,7 @@ function_within w parameters body s clean fit named sound sits =
     let f = function_code w parameters body s in
     let sizes = sizes_of f in
     let names = environment_of s.names in
-    let a = scan_advances (function_events parameters body) no_scope s clean in
+    let a = scan_advances (parameter_events parameters ++ statement_events body) no_scope s (ap (λ es. scanned es (Ok no_scope)) (sym (function_events_are parameters body)) ∙ clean) in
     let table = a.table no_names in
     let few_names = table.few in
     let counted_labels = a.labels in
@@ -102,12 +106,13 @@ function_within w parameters body s clean fit named sound sits =
     let limits = three_fit (length f.code) (length f.strings) f.frame 4096 1024 32767 fit in
     let declared = parameters_declared parameters (statement_events body) in
     let labels : s.labels ≡ length f.targets = omega (arith, labels_in-parameters parameters (statement_events body), labels_in-statement_events names body 0) in
-    let end = statement_end names body 0 in
+    let end = (piece names body 0).end in
     let words_of_strings : length f.strings ≡ statement_words body = ap length (function_strings w parameters body) ∙ counts_words body in
-    let short : end < length f.code = omega (arith, statement_ends names body 0 end, length-append (statement_code names body 0 end) (instr.Constant 0 ∷ instr.Return ∷ [])) in
+    let short : end < length f.code = omega (arith, statement_ends names body 0 end, length-append ((piece names body 0).code end) (instr.Constant 0 ∷ instr.Return ∷ [])) in
     let meant : (x : List ℕ) → IsMeaningWithin sizes (names x) =
     λ x. meaning_within sizes (kind_of x s.names) (λ k q. subst (λ n. IsKindWithin s.frame n k) labels (kind_within s.frame s.labels x s.names table.within k q)) in
     let vectors : Holds (IsEventWithin sizes names) (statement_events body) = Holds-weaker (event_within sizes s refl) (Holds-back (parameter_events parameters) (statement_events body) a.settles) in
+    let whole = piece_within names sizes meant limits.0 body 0 nesting_limit 0 sound sits vectors short (omega (arith, words_of_strings)) in
     record {
       named = named;
       few_parameters = omega arith;
@@ -116,10 +121,10 @@ function_within w parameters body s clean fit named sound sits =
       few_labels = let l = few_labels table in omega arith;
       few_strings = limits.1;
       few_instrs = limits.0;
-      targets = Holds-All (label_places_within names sizes body 0 short);
+      targets = Holds-All whole.labels;
       strings = Holds-All (subst (Holds IsWord) (sym (function_strings w parameters body)) (statement_strings_within body sound));
       code = Holds-All (Holds-append
-          (statement_code_within names sizes meant limits.0 body 0 end nesting_limit 0 sound sits vectors short short (omega (arith, words_of_strings)))
+          (whole.code end short)
           (Holds-cons (omega arith) (Holds-cons tt Holds-nil)));
     }
 
@@ -140,7 +145,7 @@ pub definition_within : (defined : List (List ℕ)) (d : Definition) → fault_o
 definition_within defined (Simple w values) h formed sound =
     let n = no_fault (scan defined (Simple w values)) w.line (code_of (Simple w values)) h in
     let l = two_fit _ _ 1024 1024 n.1 in
-    let v = values-sound values (Holds-front (list_spelling ival_spelling values) _ (Holds-rest sound)) in
+    let v = values-sound values (Holds-front (list_spelling walk_value values) _ (Holds-rest sound)) in
     record {
       named = Holds-first sound;
       few_values = l.0;
@@ -152,7 +157,7 @@ definition_within defined (Vector w size values) h formed sound =
     let n = no_fault (scan defined (Vector w size values)) w.line (code_of (Vector w size values)) h in
     let l = three_fit _ _ (vector_words size values) 1024 1024 32767 n.1 in
     let inner = Holds-rest (Holds-back (size_spelling size) _ (Holds-rest (Holds-rest sound))) in
-    let v = values-sound values (Holds-front (list_spelling ival_spelling values) _ inner) in
+    let v = values-sound values (Holds-front (list_spelling walk_value values) _ inner) in
     record {
       named = Holds-first sound;
       some_word = omega arith;
@@ -175,6 +180,6 @@ definition_within defined (function w parameters body) h formed sound = go (func
     go (Err d) e = let q : scope_fault (Err d) ≡ None = subst (λ r. scope_fault r ≡ None) e quiet in cc
     go (Ok s) e =
         let fit = subst (λ r. fits_limits (code.Function (function_code w parameters body (clean r))) ≡ true) e n.1 in
-        let body_sound = Holds-rest (Holds-back (list_spelling name_spelling parameters) _ (Holds-rest (Holds-rest sound))) in
+        let body_sound = Holds-rest (Holds-back (list_spelling walk_parameter parameters) _ (Holds-rest (Holds-rest sound))) in
         subst (λ r. IsFunctionWithinRanges (function_code w parameters body (clean r))) (sym e)
         (function_within w parameters body s e fit (Holds-first sound) body_sound (formed_in (function w parameters body) formed))

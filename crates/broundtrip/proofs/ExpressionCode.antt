@@ -1,18 +1,19 @@
 -- The code of an expression whose tokens are sound is within the ranges of its function.
-use Rattle.std.proofs.Common.{◌≡◌, true, ℕ, zero, suc, ◌+◌, ◌-◌, ◌<◌, ◌≤◌, List, [], ◌∷◌, length, length-append, arith}
+use Rattle.std.proofs.Common.{◌≡◌, true, ℕ, zero, suc, ◌+◌, ◌-◌, ◌<◌, ◌≤◌, List, [], ◌∷◌, length, length-append, arith, subst}
 use Rattle.std.specs.Prelude.{Option, Some, None}
 use Rattle.bword.specs.Words.{is_name}
 use Rattle.bword.specs.declared.operators.BinOp.{BinOp}
 use Rattle.blang.specs.CodeParts.{IsInstrWithin, IsWord}
 use Rattle.blang.specs.declared.code.Sizes.{Sizes}
 use Rattle.blang.specs.declared.code.Instr.{Instr}
-use Rattle.blang.specs.Trees.{Constant, Number, Character, Expr, Arguments, PrefixOp, PostfixOp, Negate, Not, Indirection, Address, PreIncrement, PreDecrement, PostIncrement, PostDecrement, Named, Literal, Text, Grouped, Indexed, Called, Postfixed, Prefixed, Binary, Conditional, Assigned, No_arguments, Another, constant_token, spell, spell_arguments, comma_behind}
+use Rattle.blang.specs.Trees.{Constant, Number, Character, Expr, Arguments, PrefixOp, PostfixOp, Negate, Not, Indirection, Address, PreIncrement, PreDecrement, PostIncrement, PostDecrement, Named, Literal, Text, Grouped, Indexed, Called, Postfixed, Prefixed, Binary, Conditional, Assigned, No_arguments, Another, constant_token, constant_value}
 use Rattle.blang.specs.WellFormed.{rank, or_rank, conditional_rank, rvalue_rank}
 use Rattle.btree.specs.Fitting.{words, argument_words, Deeper, Fits, ArgumentsFit}
-use Rattle.blang.specs.Scan.{constant_value}
+use Rattle.btree.specs.Spelling.{spell, spell_arguments, comma_after}
 use Rattle.blang.specs.Code.{Referent, In_frame, Outside, At_label, Environment, name_address_code, name_word_code, assignment, argument_count, word_code, address_code, argument_code}
 use Rattle.broundtrip.proofs.Holds.{Holds, Holds-nil, Holds-cons, Holds-first, Holds-rest, Holds-append, Holds-front, Holds-back}
 use Rattle.broundtrip.proofs.Tokens.{IsSound, AreSound}
+use Rattle.btree.proofs.Spelling.{called_spelling}
 
 abbrev pub IsMeaningWithin : Sizes → Referent → Type 0
 IsMeaningWithin sizes (In_frame k) = k < sizes.frame
@@ -121,7 +122,8 @@ module _ (names : Environment) (sizes : Sizes) (meant : (x : List ℕ) → IsMea
         (Holds-append
         (word_code_within f q rvalue_rank d.0 (off + words e) (Holds-front (spell f) _ (Holds-rest (Holds-back (spell e) _ s))) d.1 (omega (arith, length-append {A = Instr})) (omega arith))
         (Holds-cons tt (Holds-cons tt Holds-nil)))
-    word_code_within (Called e args) p loose room off s h l o =
+    word_code_within (Called e args) p loose room off sound h l o =
+        let s = subst AreSound (called_spelling e args) sound in
         let d = deeper _ room h.2 in
         let q = p + length (word_code names e p) in
         Holds-append (word_code_within e p 0 room off (Holds-front (spell e) _ s) h.1 (omega (arith, length-append {A = Instr})) (omega arith))
@@ -147,12 +149,12 @@ module _ (names : Environment) (sizes : Sizes) (meant : (x : List ℕ) → IsMea
         let q = p + length ce + 1 in
         let cf = word_code names f q in
         let a = q + length cf + 1 in
-        let behind = Holds-rest (Holds-back (spell e) _ s) in
+        let following = Holds-rest (Holds-back (spell e) _ s) in
         Holds-append (word_code_within e p or_rank room off (Holds-front (spell e) _ s) h.1 (omega (arith, length-append {A = Instr})) (omega arith))
         (Holds-cons (omega (arith, length-append {A = Instr}))
-        (Holds-append (word_code_within f q rvalue_rank d.0 (off + words e) (Holds-front (spell f) _ behind) d.1.0 (omega (arith, length-append {A = Instr})) (omega arith))
+        (Holds-append (word_code_within f q rvalue_rank d.0 (off + words e) (Holds-front (spell f) _ following) d.1.0 (omega (arith, length-append {A = Instr})) (omega arith))
         (Holds-cons (omega (arith, length-append {A = Instr}))
-        (word_code_within g a conditional_rank d.0 (off + words e + words f) (Holds-rest (Holds-back (spell f) _ behind)) d.1.1 (omega (arith, length-append {A = Instr})) (omega arith)))))
+        (word_code_within g a conditional_rank d.0 (off + words e + words f) (Holds-rest (Holds-back (spell f) _ following)) d.1.1 (omega (arith, length-append {A = Instr})) (omega arith)))))
     word_code_within (Assigned op line e f) p loose room off s h l o =
         let d = deeper _ room h.2 in
         let q = p + length (address_code names e p) in
@@ -185,5 +187,5 @@ module _ (names : Environment) (sizes : Sizes) (meant : (x : List ℕ) → IsMea
     argument_code_within (Another before e) p room off s h l o =
         let q = p + length (argument_code names before p) in
         Holds-append (argument_code_within before p room off (Holds-front (spell_arguments before) _ s) h.0 (omega (arith, length-append {A = Instr})) (omega arith))
-        (word_code_within e q rvalue_rank room (off + argument_words before) (Holds-back (comma_behind before) _ (Holds-back (spell_arguments before) _ s)) h.1
+        (word_code_within e q rvalue_rank room (off + argument_words before) (Holds-back (comma_after before) _ (Holds-back (spell_arguments before) _ s)) h.1
         (omega (arith, length-append {A = Instr})) (omega arith))

@@ -22,7 +22,7 @@ pub Holds-append : {X : Type 0} {P : X → Type 0} {xs ys : List X} → Holds P 
 Holds-append {xs = []} h k = k
 Holds-append {xs = x ∷ xs} h k = Holds-cons (Holds-first h) (Holds-append (Holds-rest h) k)
 
--- of the things in front, and of those behind
+-- of the things in front, and of those after
 pub Holds-front : {X : Type 0} {P : X → Type 0} (xs ys : List X) → Holds P (xs ++ ys) → Holds P xs
 Holds-front [] ys h = Holds-nil
 Holds-front (x ∷ xs) ys h = Holds-cons (Holds-first h) (Holds-front xs ys (Holds-rest h))

@@ -2,9 +2,10 @@
 use Rattle.std.proofs.Common.{◌≡◌, true, false, ℕ, ◌+◌, ◌≤◌, List, [], ◌∷◌, ◌++◌, map, length, length-append, refl, arith}
 use Rattle.std.specs.Prelude.{None, sum_by}
 use Rattle.std.proofs.lemmas.List.Sums.{sum_by-append, sum_by-cons}
-use Rattle.blang.specs.Trees.{Identifier, Expr, Arguments, PrefixOp, Negate, Not, Indirection, Address, PreIncrement, PreDecrement, Named, Literal, Text, Grouped, Indexed, Called, Postfixed, Prefixed, Binary, Conditional, Assigned, No_arguments, Another, Declared, Heading, Auto, Extrn, Label, Case, Default, Stmt, Headed, Compound, If, IfElse, While, Switch, Goto, Break, Return, ReturnValue, Evaluate, Empty, Stmts, Nothing, More}
-use Rattle.blang.specs.Scan.{Event, Declaration, Import, Mention, LabelHere, CaseHere, DefaultHere, BreakHere, Lvalue, LoopBegins, LoopEnds, SwitchBegins, SwitchEnds, constant_value, prefix_events, events, argument_events, heading_events, statement_events, body_events}
-use Rattle.blang.specs.Code.{Environment, word_code, heading_code, heading_label_places, statement_end, body_end, label_places, body_label_places}
+use Rattle.blang.specs.Trees.{Identifier, Expr, Arguments, PrefixOp, Negate, Not, Indirection, Address, PreIncrement, PreDecrement, Named, Literal, Text, Grouped, Indexed, Called, Postfixed, Prefixed, Binary, Conditional, Assigned, No_arguments, Another, Declared, Heading, Auto, Extrn, Label, Case, Default, Stmt, Headed, Compound, If, IfElse, While, Switch, Goto, Break, Return, ReturnValue, Evaluate, Empty, Stmts, Nothing, More, constant_value}
+use Rattle.blang.specs.Walk.{Event, Declaration, Import, Mention, LabelHere, CaseHere, DefaultHere, BreakHere, Lvalue, LoopBegins, LoopEnds, SwitchBegins, SwitchEnds, prefix_events}
+use Rattle.btree.specs.Events.{events, argument_events, heading_events, statement_events, body_events}
+use Rattle.blang.specs.Code.{Environment, word_code, heading_code, heading_targets, piece, body_piece}
 use Rattle.broundtrip.proofs.Scans.{label_in, declaration_in}
 
 abbrev labels_in : List Event → ℕ
@@ -53,7 +54,7 @@ labels_in-imports [] = refl
 labels_in-imports (w ∷ ws) = omega (arith, labels_in-cons (Import w) (map Import ws), labels_in-imports ws)
 
 module _ (names : Environment) where
-  labels_in-heading_events : (h : Heading) (p : ℕ) → labels_in (heading_events h) ≡ length (heading_label_places names h p)
+  labels_in-heading_events : (h : Heading) (p : ℕ) → labels_in (heading_events h) ≡ length (heading_targets h p).labels
   labels_in-heading_events (Auto declared) p = labels_in-declarations declared
   labels_in-heading_events (Extrn ws) p = labels_in-imports ws
   labels_in-heading_events (Label w) p = labels_in-cons (LabelHere w) []
@@ -61,13 +62,13 @@ module _ (names : Environment) where
   labels_in-heading_events (Default line) p = labels_in-cons (DefaultHere line) []
 
   mutual
-    pub labels_in-statement_events : (s : Stmt) (p : ℕ) → labels_in (statement_events s) ≡ length (label_places names s p)
+    pub labels_in-statement_events : (s : Stmt) (p : ℕ) → labels_in (statement_events s) ≡ length ((piece names s p).targets.labels)
     labels_in-statement_events (Headed h s) p =
         let q = p + length (heading_code names h) in
         omega (
           arith,
           labels_in-append (heading_events h) (statement_events s),
-          length-append (heading_label_places names h p) (label_places names s q),
+          length-append (heading_targets h p).labels ((piece names s q).targets.labels),
           labels_in-heading_events h p,
           labels_in-statement_events s q,
         )
@@ -76,12 +77,12 @@ module _ (names : Environment) where
         omega (arith, labels_in-append (events e) (statement_events s), labels_in-events e, labels_in-statement_events s (p + length (word_code names e p) + 1))
     labels_in-statement_events (IfElse e s other) p =
         let q = p + length (word_code names e p) + 1 in
-        let a = statement_end names s q + 1 in
+        let a = (piece names s q).end + 1 in
         omega (
           arith,
           labels_in-append (events e) (statement_events s ++ statement_events other),
           labels_in-append (statement_events s) (statement_events other),
-          length-append (label_places names s q) (label_places names other a),
+          length-append ((piece names s q).targets.labels) ((piece names other a).targets.labels),
           labels_in-events e,
           labels_in-statement_events s q,
           labels_in-statement_events other a,
@@ -115,14 +116,14 @@ module _ (names : Environment) where
     labels_in-statement_events (Evaluate e) p = labels_in-events e
     labels_in-statement_events Empty p = refl
 
-    labels_in-body_events : (ss : Stmts) (p : ℕ) → labels_in (body_events ss) ≡ length (body_label_places names ss p)
+    labels_in-body_events : (ss : Stmts) (p : ℕ) → labels_in (body_events ss) ≡ length ((body_piece names ss p).targets.labels)
     labels_in-body_events Nothing p = refl
     labels_in-body_events (More before s) p =
-        let q = body_end names before p in
+        let q = (body_piece names before p).end in
         omega (
           arith,
           labels_in-append (body_events before) (statement_events s),
-          length-append (body_label_places names before p) (label_places names s q),
+          length-append ((body_piece names before p).targets.labels) ((piece names s q).targets.labels),
           labels_in-body_events before p,
           labels_in-statement_events s q,
         )

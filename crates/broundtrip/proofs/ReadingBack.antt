@@ -6,7 +6,8 @@ use Rattle.std.proofs.lemmas.Grind.{flat_map-append}
 use Rattle.blang.specs.Text.{lines_of, joined, opening, opening_lines, end_text, ended_lines, IsWithinRanges}
 use Rattle.blang.specs.declared.token.Diagnostic.{Diagnostic}
 use Rattle.blang.specs.declared.token.Placed.{Placed}
-use Rattle.blang.specs.Trees.{kept, Definition, spell_definition, spell_all}
+use Rattle.blang.specs.Trees.{kept, Definition}
+use Rattle.blang.specs.Walk.{spell_definition, spell_all}
 use Rattle.blang.specs.Scan.{identifier_of}
 use Rattle.blang.specs.Code.{code_of, fault_of}
 use Rattle.blang.specs.WellFormed.{AllFormed}

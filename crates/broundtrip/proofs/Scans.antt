@@ -4,7 +4,8 @@ use Rattle.std.specs.Prelude.{sum_by}
 use Rattle.std.proofs.lemmas.List.Sums.{sum_by-cons}
 use Rattle.blang.specs.declared.token.Diagnostic.{Diagnostic}
 use Rattle.blang.specs.Trees.{Identifier}
-use Rattle.blang.specs.Scan.{NameKind, Automatic, Labelled, Entry, kind_of, kind_mentioned, Event, Declaration, Import, Mention, LabelHere, CaseHere, DefaultHere, BreakHere, Lvalue, LoopBegins, LoopEnds, SwitchBegins, SwitchEnds, Scope, automatic_words, scan_event, scanned}
+use Rattle.blang.specs.Scan.{NameKind, Automatic, Labelled, Entry, kind_of, kind_mentioned, Scope, automatic_words, scan_event, scanned}
+use Rattle.blang.specs.Walk.{Event, Declaration, Import, Mention, LabelHere, CaseHere, DefaultHere, BreakHere, Lvalue, LoopBegins, LoopEnds, SwitchBegins, SwitchEnds}
 use Rattle.bword.specs.Words.{same_name}
 use Rattle.btree.proofs.ScopeLaws.{changed, kind_of-with_kind, length-with_kind}
 use Rattle.btree.proofs.ScanSteps.{Entered, Relabelled, length-entered, kind_of-entered, kind_of-kept, declares, imports, mentions, labels_here, selects, defaults, lvalues, breaks, by_steps}
@@ -19,7 +20,7 @@ abbrev pub declaration_in : Event → ℕ
 declaration_in (Declaration w size) = 1
 declaration_in _ = 0
 
--- a name that the table has; if it is automatic, the word behind its own is in the frame too
+-- a name that the table has; if it is automatic, the word after its own is in the frame too
 pub record Settled (x : List ℕ) (es : List Entry) (frame : ℕ) : Type 0 where
   pub kind : NameKind
   pub is : kind_of x es ≡ Some kind

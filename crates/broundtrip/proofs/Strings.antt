@@ -1,17 +1,20 @@
 -- The words of strings, and initial values.
-use Rattle.std.proofs.Common.{◌≡◌, ℕ, ◌+◌, ◌<◌, ◌≤◌, List, [], ◌∷◌, ◌++◌, map, length, length-append, refl, arith}
+use Rattle.std.proofs.Common.{◌≡◌, ℕ, ◌+◌, ◌<◌, ◌≤◌, List, [], ◌∷◌, ◌++◌, map, length, length-append, refl, arith, subst}
 use Rattle.std.specs.List.{flat_map}
 use Rattle.std.proofs.lemmas.List.Sums.{sum_by-append, sum_by-cons}
 use Rattle.blang.specs.CodeParts.{IsWord, IsIvalWithin}
 use Rattle.blang.specs.declared.token.Placed.{Placed}
-use Rattle.blang.specs.Trees.{Expr, Arguments, Named, Literal, Text, Grouped, Indexed, Called, Postfixed, Prefixed, Binary, Conditional, Assigned, No_arguments, Another, comma_behind, spell, spell_arguments, comma_spelling, list_spelling, Stmt, Headed, Compound, If, IfElse, While, Switch, Goto, Break, Return, ReturnValue, Evaluate, Empty, Stmts, Nothing, More, spell_heading, spell_condition, spell_statement, spell_body, Ival, Ival_constant, Ival_text, Ival_name, ival_spelling}
-use Rattle.btree.specs.Fitting.{EachBehind, ival_words, values_words, IvalFits, strings, argument_strings, statement_strings, body_strings, ival_strings}
+use Rattle.blang.specs.Trees.{Expr, Arguments, Named, Literal, Text, Grouped, Indexed, Called, Postfixed, Prefixed, Binary, Conditional, Assigned, No_arguments, Another, Stmt, Headed, Compound, If, IfElse, While, Switch, Goto, Break, Return, ReturnValue, Evaluate, Empty, Stmts, Nothing, More, Ival, Ival_constant, Ival_text, Ival_name}
+use Rattle.btree.specs.Spelling.{comma_after, spell, spell_arguments, comma_spelling, list_spelling, spell_heading, spell_condition, spell_statement, spell_body, ival_spelling}
+use Rattle.btree.specs.Fitting.{EachAfter, ival_words, values_words, IvalFits, strings, argument_strings, statement_strings, body_strings, ival_strings}
 use Rattle.blang.specs.Code.{ival_code}
 use Rattle.blang.specs.WellFormed.{packed}
 use Rattle.btree.proofs.CodeLaws.{counts_words}
 use Rattle.broundtrip.proofs.Holds.{Holds, Holds-nil, Holds-cons, Holds-first, Holds-rest, Holds-append, Holds-front, Holds-back}
 use Rattle.broundtrip.proofs.Tokens.{IsByte, AreSound}
 use Rattle.broundtrip.proofs.ExpressionCode.{word-value_of}
+use Rattle.blang.specs.Walk.{walk_value}
+use Rattle.btree.proofs.Spelling.{called_spelling}
 
 packed_within : (bytes : List ℕ) → Holds IsByte bytes → Holds IsWord (packed bytes)
 packed_within [] h = Holds-cons (omega arith) Holds-nil
@@ -29,23 +32,24 @@ mutual
   strings_within (Grouped e) s = strings_within e (Holds-front (spell e) _ (Holds-rest s))
   strings_within (Indexed e f) s =
       Holds-append (strings_within e (Holds-front (spell e) _ s)) (strings_within f (Holds-front (spell f) _ (Holds-rest (Holds-back (spell e) _ s))))
-  strings_within (Called e args) s =
+  strings_within (Called e args) sound =
+      let s = subst AreSound (called_spelling e args) sound in
       Holds-append (strings_within e (Holds-front (spell e) _ s))
       (argument_strings_within args (Holds-front (spell_arguments args) _ (Holds-rest (Holds-back (spell e) _ s))))
   strings_within (Postfixed op line e) s = strings_within e (Holds-front (spell e) _ s)
   strings_within (Prefixed op line e) s = strings_within e (Holds-rest s)
   strings_within (Binary op line e f) s = Holds-append (strings_within e (Holds-front (spell e) _ s)) (strings_within f (Holds-rest (Holds-back (spell e) _ s)))
   strings_within (Conditional e f g) s =
-      let behind = Holds-rest (Holds-back (spell e) _ s) in
+      let following = Holds-rest (Holds-back (spell e) _ s) in
       Holds-append (strings_within e (Holds-front (spell e) _ s))
-      (Holds-append (strings_within f (Holds-front (spell f) _ behind)) (strings_within g (Holds-rest (Holds-back (spell f) _ behind))))
+      (Holds-append (strings_within f (Holds-front (spell f) _ following)) (strings_within g (Holds-rest (Holds-back (spell f) _ following))))
   strings_within (Assigned op line e f) s = Holds-append (strings_within e (Holds-front (spell e) _ s)) (strings_within f (Holds-rest (Holds-back (spell e) _ s)))
 
   argument_strings_within : (args : Arguments) → AreSound (spell_arguments args) → Holds IsWord (argument_strings args)
   argument_strings_within No_arguments s = Holds-nil
   argument_strings_within (Another before e) s =
       Holds-append (argument_strings_within before (Holds-front (spell_arguments before) _ s))
-      (strings_within e (Holds-back (comma_behind before) _ (Holds-back (spell_arguments before) _ s)))
+      (strings_within e (Holds-back (comma_after before) _ (Holds-back (spell_arguments before) _ s)))
 
 condition_strings_within : (e : Expr) (ts : List Placed) → AreSound (spell_condition e ++ ts) → Holds IsWord (strings e)
 condition_strings_within e ts t = strings_within e (Holds-front (spell e) _ (Holds-rest (Holds-front (spell_condition e) ts t)))
@@ -57,9 +61,9 @@ mutual
   statement_strings_within (If e s) t =
       Holds-append (condition_strings_within e _ (Holds-rest t)) (statement_strings_within s (Holds-back (spell_condition e) _ (Holds-rest t)))
   statement_strings_within (IfElse e s other) t =
-      let behind = Holds-back (spell_condition e) _ (Holds-rest t) in
+      let following = Holds-back (spell_condition e) _ (Holds-rest t) in
       Holds-append (condition_strings_within e _ (Holds-rest t))
-      (Holds-append (statement_strings_within s (Holds-front (spell_statement s) _ behind)) (statement_strings_within other (Holds-rest (Holds-back (spell_statement s) _ behind))))
+      (Holds-append (statement_strings_within s (Holds-front (spell_statement s) _ following)) (statement_strings_within other (Holds-rest (Holds-back (spell_statement s) _ following))))
   statement_strings_within (While e s) t =
       Holds-append (condition_strings_within e _ (Holds-rest t)) (statement_strings_within s (Holds-back (spell_condition e) _ (Holds-rest t)))
   statement_strings_within (Switch e body) t =
@@ -81,11 +85,11 @@ mutual
 abbrev IsSoundValue : Ival → Type 0
 IsSoundValue v = AreSound (ival_spelling v)
 
-comma-sound : (values : List Ival) → AreSound (comma_spelling ival_spelling values) → Holds IsSoundValue values
+comma-sound : (values : List Ival) → AreSound (comma_spelling walk_value values) → Holds IsSoundValue values
 comma-sound [] s = Holds-nil
 comma-sound (v ∷ values) s = Holds-cons (Holds-front (ival_spelling v) _ (Holds-rest s)) (comma-sound values (Holds-back (ival_spelling v) _ (Holds-rest s)))
 
-pub values-sound : (values : List Ival) → AreSound (list_spelling ival_spelling values) → Holds IsSoundValue values
+pub values-sound : (values : List Ival) → AreSound (list_spelling walk_value values) → Holds IsSoundValue values
 values-sound [] s = Holds-nil
 values-sound (v ∷ values) s = Holds-cons (Holds-front (ival_spelling v) _ s) (comma-sound values (Holds-back (ival_spelling v) _ s))
 
@@ -113,7 +117,7 @@ ival_within total before (Ival_constant c) s f l = word-value_of c (Holds-first 
 ival_within total before (Ival_text bytes offset) s f l = let e : offset ≡ values_words before = f in omega arith
 ival_within total before (Ival_name w) s f l = Holds-first s
 
-values_within : (total : ℕ) (before values : List Ival) → Holds IsSoundValue values → EachBehind IvalFits before values → values_words before + values_words values ≤ total
+values_within : (total : ℕ) (before values : List Ival) → Holds IsSoundValue values → EachAfter IvalFits before values → values_words before + values_words values ≤ total
     → Holds (IsIvalWithin total) (map ival_code values)
 values_within total before [] s f l = Holds-nil
 values_within total before (v ∷ values) s f l =
@@ -121,6 +125,6 @@ values_within total before (v ∷ values) s f l =
     (values_within total (before ++ v ∷ []) values (Holds-rest s) f.1
     (omega (arith, sum_by-cons ival_words v values, sum_by-append ival_words before (v ∷ []), sum_by-cons ival_words v [])))
 
-pub initial_values_within : (values : List Ival) → Holds IsSoundValue values → EachBehind IvalFits [] values
+pub initial_values_within : (values : List Ival) → Holds IsSoundValue values → EachAfter IvalFits [] values
     → Holds (IsIvalWithin (length (flat_map ival_strings values))) (map ival_code values)
 initial_values_within values s f = values_within _ [] values s f (omega (arith, length-values_strings values))

@@ -15,7 +15,7 @@ use Rattle.blang.specs.declared.token.Keyword.{Keyword}
 use Rattle.blang.specs.declared.token.Token.{Token}
 use Rattle.blang.specs.declared.token.Token.TheVariants as token
 use Rattle.blang.specs.declared.token.Placed.{Placed}
-use Rattle.blang.specs.Cut.{Piece, Space, Word, Quoted, Open, Starred, Closed, Wrong, Past, is_blank, is_digit, is_digit_of, digits_value, is_text, alone, piece_when, keyword_of, keyword_or_name, word_token, number_when, number_in, number_token, after_close, comment_of, plain_of, escapes, escape_of, with_character, with_quoted_byte, quoted, quoted_constant, character_token, string_token, operator_of, assignment_of, others, other_of, fixed_of, fixed_or_stray, whole, longest, line_after, is_last, piece_first, cut, tokens_from}
+use Rattle.blang.specs.Cut.{Piece, Space, Word, Quoted, Open, Starred, Closed, Wrong, Past, is_blank, is_digit, is_digit_of, digits_value, is_text, alone, piece_when, keyword_of, keyword_or_name, word_token, number_when, number_in, number_token, after_close, comment_of, plain_of, escapes, escape_of, with_character, with_quoted_byte, quoted, quoted_constant, character_token, string_token, operator_of, assignment_of, others, other_of, fixed_of, fixed_or_stray, whole, longest, line_number_after, is_last, piece_first, cut, tokens_from}
 use Rattle.broundtrip.proofs.Holds.{Holds, Holds-nil, Holds-cons, Holds-append}
 
 abbrev pub IsByte : ℕ → Type 0
@@ -185,7 +185,7 @@ sound-cut edition (suc fuel) line [] = Holds-cons tt Holds-nil
 sound-cut edition (suc fuel) line (b ∷ bs) =
     let n = longest edition (b ∷ bs) in
     let text = take n (b ∷ bs) in
-    sound-piece_first (whole edition text) line _ (sound-whole edition text) (sound-cut edition fuel (line_after line text) (drop n (b ∷ bs)))
+    sound-piece_first (whole edition text) line _ (sound-whole edition text) (sound-cut edition fuel (line_number_after line text) (drop n (b ∷ bs)))
 
 pub sound-tokens_from : (edition : Edition) (line : ℕ) (bytes : List ℕ) → AreSound (tokens_from edition line bytes)
 unfolding tokens_from

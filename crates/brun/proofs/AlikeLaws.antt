@@ -22,32 +22,32 @@ use Rattle.brun.specs.Runs.{RunsDefinitions, unread, read, no_room}
 record BeginsSo (text : List ℕ) : Type 0 where
   first : Definition
   inside : IsWithinRanges first
-  behind : List ℕ
-  same : text ≡ header_text (header_of first) ++ behind
+  following : List ℕ
+  same : text ≡ header_text (header_of first) ++ following
 
 begins_so : (known : List Definition) (next : Definition) (rest : List ℕ) → All IsWithinRanges known → IsWithinRanges next → BeginsSo (flat_map definition_text known ++ (header_line next ++ rest))
-begins_so [] next rest known_in inside = record { first = next; inside = inside; behind = rest; same = ap (λ l. l ++ rest) (sym (header_of-text next)) }
+begins_so [] next rest known_in inside = record { first = next; inside = inside; following = rest; same = ap (λ l. l ++ rest) (sym (header_of-text next)) }
 begins_so (k ∷ ks) next rest known_in inside =
     let others = flat_map definition_text ks ++ (header_line next ++ rest) in
     record {
       first = k;
       inside = All-head IsWithinRanges k ks known_in;
-      behind = joined (body_lines k) ++ others;
+      following = joined (body_lines k) ++ others;
       same = append_assoc (definition_text k) (flat_map definition_text ks) (header_line next ++ rest) ∙ text_header k others;
     }
 
 -- the last line begins no definition
 end_alone : BeginsSo end_text → ⊥
-end_alone b = not_end b.first (sym (same_spelling header_at-exact header.End (header_of b.first) [] b.behind end_within (header_of-within b.first b.inside) b.same).0)
+end_alone b = not_end b.first (sym (same_spelling header_at-exact header.End (header_of b.first) [] b.following end_within (header_of-within b.first b.inside) b.same).0)
 
 other_begins : {text other : List ℕ} → text ≡ other → BeginsSo other → BeginsSo text
-other_begins e b = record { first = b.first; inside = b.inside; behind = b.behind; same = e ∙ b.same }
+other_begins e b = record { first = b.first; inside = b.inside; following = b.following; same = e ∙ b.same }
 
 -- a text without definitions has no first line of one
 no_header_alone : (e f : Edition) (text : List ℕ) → opening e ++ end_text ≡ opening f ++ text → BeginsSo text → ⊥
 no_header_alone editions.One editions.One text same b = end_alone (other_begins same b)
 no_header_alone editions.One editions.Two text same b = cc
-no_header_alone editions.Two editions.One text same b = no_header (header_of b.first) end_text b.behind (same ∙ b.same)
+no_header_alone editions.Two editions.One text same b = no_header (header_of b.first) end_text b.following (same ∙ b.same)
 no_header_alone editions.Two editions.Two text same b = end_alone (other_begins (same_after end_text text same) b)
 
 header_alone : (e : Edition) (text : List ℕ) → IsTextOf e text [] → HasHeader text → ⊥

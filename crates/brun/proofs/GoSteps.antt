@@ -29,10 +29,10 @@ text_runs steps text ds ends status is (runs.no_room header quiet silent s) = go
 kept_text : (m : Kept) (text : List ℕ) → Writes no_code text (outgoing_of m) → text ≡ m.bytes
 kept_text m text w = sym w.appended
 
-pub source_runs : (edition : Edition) (steps : ℕ) (source source_behind : Incoming) (ends : RunEnds) (status : ℕ) (m : Kept) (line : Outgoing)
-    → Compiles (record { edition = edition; source = source; source_behind = source_behind; code = no_code; code_behind = outgoing_of m; line = ends.line; line_behind = line; status = 0 })
-    → RunsText steps m.bytes (record ends { line = line }) status → RunsSource edition steps source source_behind ends status
-source_runs edition steps source source_behind ends status m line h done = record {
+pub source_runs : (edition : Edition) (steps : ℕ) (source source_after : Incoming) (ends : RunEnds) (status : ℕ) (m : Kept) (line : Outgoing)
+    → Compiles (record { edition = edition; source = source; source_after = source_after; code = no_code; code_after = outgoing_of m; line = ends.line; line_after = line; status = 0 })
+    → RunsText steps m.bytes (record ends { line = line }) status → RunsSource edition steps source source_after ends status
+source_runs edition steps source source_after ends status m line h done = record {
   taken = h.taken;
   took = h.took;
   runs = λ more c r g.
@@ -44,21 +44,21 @@ source_runs edition steps source source_behind ends status m line h done = recor
 }
 
 -- what compiling does to the source, the code that is kept and the line
-abbrev Compiling : (edition : Edition) (source source_behind : Incoming) (first last : Kept) (line line_behind : Outgoing) → ℕ → Type 0
-Compiling edition source source_behind first last line line_behind status =
-    Compiles (record { edition = edition; source = source; source_behind = source_behind; code = outgoing_of first; code_behind = outgoing_of last; line = line; line_behind = line_behind; status = status })
+abbrev Compiling : (edition : Edition) (source source_after : Incoming) (first last : Kept) (line line_after : Outgoing) → ℕ → Type 0
+Compiling edition source source_after first last line line_after status =
+    Compiles (record { edition = edition; source = source; source_after = source_after; code = outgoing_of first; code_after = outgoing_of last; line = line; line_after = line_after; status = status })
 
 abbrev nothing_kept : Kept
 nothing_kept = record { bytes = []; refusals = 0 }
 
-pub goes_stopped : (edition : Edition) (steps : ℕ) (source source_behind : Incoming) (ends : RunEnds) (first last : Kept) (status : ℕ) → first ≡ nothing_kept → (status ≡ 0 → ⊥) → HasNotRun ends
-    → Compiling edition source source_behind first last ends.line ends.line_behind status → GoesOff edition steps source source_behind ends status
-goes_stopped edition steps source source_behind ends first last status e not_zero quiet h =
-    going.stopped last not_zero quiet (subst (λ m. Compiling edition source source_behind m last ends.line ends.line_behind status) e h)
+pub goes_stopped : (edition : Edition) (steps : ℕ) (source source_after : Incoming) (ends : RunEnds) (first last : Kept) (status : ℕ) → first ≡ nothing_kept → (status ≡ 0 → ⊥) → HasNotRun ends
+    → Compiling edition source source_after first last ends.line ends.line_after status → GoesOff edition steps source source_after ends status
+goes_stopped edition steps source source_after ends first last status e not_zero quiet h =
+    going.stopped last not_zero quiet (subst (λ m. Compiling edition source source_after m last ends.line ends.line_after status) e h)
 
-pub goes_ran : (edition : Edition) (steps : ℕ) (source source_behind : Incoming) (ends : RunEnds) (first last : Kept) (line : Outgoing) (compiled status : ℕ) (text : List ℕ) → first ≡ nothing_kept → compiled ≡ 0 → text ≡ last.bytes
-    → Compiling edition source source_behind first last ends.line line compiled → RunsText steps text (record ends { line = line }) status → GoesOff edition steps source source_behind ends status
-goes_ran edition steps source source_behind ends first last line compiled status text e zero same h done =
-    going.ran (source_runs edition steps source source_behind ends status last line
-    (subst (λ n. Compiling edition source source_behind nothing_kept last ends.line line n) zero (subst (λ m. Compiling edition source source_behind m last ends.line line compiled) e h))
+pub goes_ran : (edition : Edition) (steps : ℕ) (source source_after : Incoming) (ends : RunEnds) (first last : Kept) (line : Outgoing) (compiled status : ℕ) (text : List ℕ) → first ≡ nothing_kept → compiled ≡ 0 → text ≡ last.bytes
+    → Compiling edition source source_after first last ends.line line compiled → RunsText steps text (record ends { line = line }) status → GoesOff edition steps source source_after ends status
+goes_ran edition steps source source_after ends first last line compiled status text e zero same h done =
+    going.ran (source_runs edition steps source source_after ends status last line
+    (subst (λ n. Compiling edition source source_after nothing_kept last ends.line line n) zero (subst (λ m. Compiling edition source source_after m last ends.line line compiled) e h))
     (subst (λ t. RunsText steps t (record ends { line = line }) status) same done))

@@ -22,6 +22,7 @@ use Rattle.blang.specs.Headline.{RunsProgram, RunsSource, GoesOff, NothingFailed
 use Rattle.blang.specs.Headline as going
 use Rattle.blang.specs.declared.run.Report.TheVariants as report
 use Rattle.btree.proofs.GoesLaws.{each_source_comes}
+use Rattle.bmach.proofs.Running.{device_failed}
 use Rattle.bparse.proofs.Remaining.{rest_of, writes_nothing}
 use Rattle.brun.proofs.MeantSteps.{halted_later}
 
@@ -68,10 +69,10 @@ module _ (ds : List Definition) (loads : Loads ds) (steps : ℕ) (ends : RunEnds
     pub shows : Shows result left output (state steps)
     pub says : Says ends status left output (line_in result) (status_in result)
 
-  came : (result : Outcome) → ComesTo (machine (map code_of ds)) steps ends.input ends.input_behind ends.out ends.out_behind result
-      → Writes ends.line (line_in result) ends.line_behind → status ≡ status_in result → Came result
+  came : (result : Outcome) → ComesTo (machine (map code_of ds)) steps ends.input ends.input_after ends.out ends.out_after result
+      → Writes ends.line (line_in result) ends.line_after → status ≡ status_in result → Came result
   came result h line is =
-      let rest = rest_of ends.input ends.input_behind h.taken input h.took told in
+      let rest = rest_of ends.input ends.input_after h.taken input h.took told in
       record {
         left = rest.more;
         output = h.output;
@@ -121,42 +122,42 @@ module _ (ds : List Definition) (loads : Loads ds) (steps : ℕ) (ends : RunEnds
   }
 
   abbrev Gives : Outcome → Type 0
-  Gives result = RunGives (machine (map code_of ds)) steps ends.input ends.input_behind ends.out ends.out_behind result
+  Gives result = RunGives (machine (map code_of ds)) steps ends.input ends.input_after ends.out ends.out_after result
 
-  module _ (source source_behind : Incoming) (healthy : NothingFailed source source_behind ends status) where
-    pub runs_so : (result : Outcome) → Gives result → Finishes result ends.line ends.line_behind status → RunAnswers ds input steps ends status
-    runs_so (outcome.Exit n) h f = as_meant (outcome.Exit n) (came (outcome.Exit n) h (writes_nothing ends.line ends.line_behind f.0) f.1)
+  module _ (source source_after : Incoming) (healthy : NothingFailed source source_after ends status) where
+    pub runs_so : (result : Outcome) → Gives result → Finishes result ends.line ends.line_after status → RunAnswers ds input steps ends status
+    runs_so (outcome.Exit n) h f = as_meant (outcome.Exit n) (came (outcome.Exit n) h (writes_nothing ends.line ends.line_after f.0) f.1)
     runs_so (outcome.Trap kind) h f =
-        let line = is_told (report_text (report.Trap kind)) 130 ends.line ends.line_behind status healthy.line_written healthy.not_refused f in
+        let line = is_told (report_text (report.Trap kind)) 130 ends.line ends.line_after status healthy.line_written healthy.not_refused f in
         as_meant (outcome.Trap kind) (came (outcome.Trap kind) h line.0 line.1)
     runs_so outcome.Limit h f =
-        let line = is_told (report_text report.Limit) 131 ends.line ends.line_behind status healthy.line_written healthy.not_refused f in
+        let line = is_told (report_text report.Limit) 131 ends.line ends.line_after status healthy.line_written healthy.not_refused f in
         as_meant outcome.Limit (came outcome.Limit h line.0 line.1)
-    runs_so outcome.Device h f = absurd (⊎_elim healthy.input_read healthy.output_written h.reason)
+    runs_so outcome.Device h f = absurd (⊎_elim healthy.input_read healthy.output_written (device_failed (machine (map code_of ds)) steps ends.input ends.input_after ends.out ends.out_after h))
     runs_so outcome.Memory h f = absurd (healthy.not_refused f.1)
 
 no_zero : Grew 0 0 → ⊥
 no_zero grew = omega (arith, grew)
 
 -- what compiling does to the source, the kept code and the line
-abbrev compiling : (edition : Edition) (source source_behind : Incoming) (ends : RunEnds) (status : ℕ) (kept : Kept) → Run
-compiling edition source source_behind ends status kept =
-    record { edition = edition; source = source; source_behind = source_behind; code = going.no_code; code_behind = outgoing_of kept; line = ends.line; line_behind = ends.line_behind; status = status }
+abbrev compiling : (edition : Edition) (source source_after : Incoming) (ends : RunEnds) (status : ℕ) (kept : Kept) → Run
+compiling edition source source_after ends status kept =
+    record { edition = edition; source = source; source_after = source_after; code = going.no_code; code_after = outgoing_of kept; line = ends.line; line_after = ends.line_after; status = status }
 
 -- A source that isn't compiled where nothing fails has a fault.
-module _ (edition : Edition) (source source_behind : Incoming) (ends : RunEnds) (status : ℕ) (healthy : NothingFailed source source_behind ends status) (kept : Kept) where
+module _ (edition : Edition) (source source_after : Incoming) (ends : RunEnds) (status : ℕ) (healthy : NothingFailed source source_after ends status) (kept : Kept) where
   -- what follows the bytes taken, and the outcome with it
-  module _ (h : Compiles (compiling edition source source_behind ends status kept)) (more : List ℕ) (follows : CanFollow source_behind more) (r : compiled.Compilation) (g : CompilesTo [] (tokens_from edition 1 (h.taken ++ more)) r) where
+  module _ (h : Compiles (compiling edition source source_after ends status kept)) (more : List ℕ) (follows : CanFollow source_after more) (r : compiled.Compilation) (g : CompilesTo [] (tokens_from edition 1 (h.taken ++ more)) r) where
     not_device : status ≡ 133 → ⊥
     not_device device = by_end (h.failed device)
       where
         run : Run
-        run = compiling edition source source_behind ends status kept
+        run = compiling edition source source_after ends status kept
 
         by_end : (SourceFailed run h.taken ⊎ EndRefused run h.taken end_fault.Device) → ⊥
         by_end (inl f) = healthy.source_read f.counted
         by_end (inr (inl o)) = no_zero o.code.counted.0
-        by_end (inr (inr (inl c))) = no_zero (subst (λ n. Grew n 0) c.begun.failures (c.code more follows r g).1.counted.0)
+        by_end (inr (inr (inl c))) = let cut = c.code more follows r g in no_zero (subst (λ n. Grew n 0) cut.written.failures cut.refused.counted.0)
         by_end (inr (inr (inr l))) = healthy.line_written (l.written more follows r g).line.counted.0
 
     fault_status : (status ≡ 0 → ⊥) → status ≡ 1
@@ -174,49 +175,49 @@ other_stop stop fault e f = absurd (no (sym e ∙ f))
     no : None ≢ Some fault
     no e = cc
 
-unread_says : (ends : RunEnds) (status : ℕ) (input line : List ℕ) (answer : ℕ) → Tells ends.input input → HasNotRun ends → Writes ends.line line ends.line_behind → status ≡ answer → Says ends status input [] line answer
+unread_says : (ends : RunEnds) (status : ℕ) (input line : List ℕ) (answer : ℕ) → Tells ends.input input → HasNotRun ends → Writes ends.line line ends.line_after → status ≡ answer → Says ends status input [] line answer
 unread_says ends status input line answer told quiet written is = record {
   unread = ap (λ (i : Incoming). i.left) quiet.unread ∙ told.left;
-  written = writes_nothing ends.out ends.out_behind quiet.silent;
+  written = writes_nothing ends.out ends.out_after quiet.silent;
   told = written;
   answered = is;
 }
 
 -- a program that was or wasn't run, where its source has no fault
-program_answers : (r : compiled.Compilation) (ds : List Definition) (input : List ℕ) (steps : ℕ) (source source_behind : Incoming) (ends : RunEnds) (status : ℕ)
-    → Tells ends.input input → NothingFailed source source_behind ends status → r.stop ≡ None → RunsProgram steps ds ends status → GoAnswers r ds input steps ends status
-program_answers r ds input steps source source_behind ends status told healthy clean (going.refused f n load number quiet line) = record {
+program_answers : (r : compiled.Compilation) (ds : List Definition) (input : List ℕ) (steps : ℕ) (source source_after : Incoming) (ends : RunEnds) (status : ℕ)
+    → Tells ends.input input → NothingFailed source source_after ends status → r.stop ≡ None → RunsProgram steps ds ends status → GoAnswers r ds input steps ends status
+program_answers r ds input steps source source_after ends status told healthy clean (going.refused f n load number quiet line) = record {
   faulty = λ fault e. other_stop r.stop fault clean e;
   refused = λ c g m load' number'.
       let fault_same : Some f ≡ Some g = sym load ∙ load' in
       let same : f ≡ g = cc in
       let numbers : Some n ≡ Some m = sym number ∙ ap load_number same ∙ number' in
       let number_same : n ≡ m = cc in
-      let written = is_told (report_text (report.Load n)) 132 ends.line ends.line_behind status healthy.line_written healthy.not_refused line in
+      let written = is_told (report_text (report.Load n)) 132 ends.line ends.line_after status healthy.line_written healthy.not_refused line in
       subst (λ k. Says ends status input [] (report_text (report.Load k)) 132) number_same (unread_says ends status input (report_text (report.Load n)) 132 told quiet written.0 written.1);
   runs = λ c loads. absurd (no_load (sym loads ∙ load));
 }
   where
     no_load : None ≢ Some f
     no_load e = cc
-program_answers r ds input steps source source_behind ends status told healthy clean (going.ran result loads does finish) = record {
+program_answers r ds input steps source source_after ends status told healthy clean (going.ran result loads does finish) = record {
   faulty = λ fault e. other_stop r.stop fault clean e;
   refused = λ c f n load number. absurd (no_load f (sym loads ∙ load));
-  runs = λ c l. runs_so ds loads steps ends status input told source source_behind healthy result does.made finish;
+  runs = λ c l. runs_so ds loads steps ends status input told source source_after healthy result does.made finish;
 }
   where
     no_load : (f : LoadFault) → None ≢ Some f
     no_load f e = cc
-program_answers r ds input steps source source_behind ends status told healthy clean (going.no_memory quiet silent is) = absurd (healthy.not_refused is)
+program_answers r ds input steps source source_after ends status told healthy clean (going.no_memory quiet silent is) = absurd (healthy.not_refused is)
 
-answers_of : (edition : Edition) (steps : ℕ) (source source_behind : Incoming) (ends : RunEnds) (status : ℕ) → GoesOff edition steps source source_behind ends status
-    → (text input : List ℕ) → Tells source text → Tells ends.input input → NothingFailed source source_behind ends status
+answers_of : (edition : Edition) (steps : ℕ) (source source_after : Incoming) (ends : RunEnds) (status : ℕ) → GoesOff edition steps source source_after ends status
+    → (text input : List ℕ) → Tells source text → Tells ends.input input → NothingFailed source source_after ends status
     → (r : compiled.Compilation) (g : CompilesTo [] (tokens_from edition 1 text) r) → GoAnswers r g.definitions input steps ends status
-answers_of edition steps source source_behind ends status (going.stopped kept not_zero quiet h) text input tells told healthy r g =
-    let rest = rest_of source source_behind h.taken text h.took tells in
-    let behind = subst (λ t. CompilesTo [] (tokens_from edition 1 t) r) (sym rest.whole) g in
-    let one = fault_status edition source source_behind ends status healthy kept h rest.more rest.follows r behind not_zero in
-    let f = h.faulty one rest.more rest.follows r behind in
+answers_of edition steps source source_after ends status (going.stopped kept not_zero quiet h) text input tells told healthy r g =
+    let rest = rest_of source source_after h.taken text h.took tells in
+    let following = subst (λ t. CompilesTo [] (tokens_from edition 1 t) r) (sym rest.whole) g in
+    let one = fault_status edition source source_after ends status healthy kept h rest.more rest.follows r following not_zero in
+    let f = h.faulty one rest.more rest.follows r following in
     record {
       faulty = λ fault e.
           let both : Some f.fault ≡ Some fault = sym f.stop ∙ e in
@@ -225,12 +226,12 @@ answers_of edition steps source source_behind ends status (going.stopped kept no
       refused = λ clean x n load number. other_stop r.stop f.fault clean f.stop;
       runs = λ clean loads. other_stop r.stop f.fault clean f.stop;
     }
-answers_of edition steps source source_behind ends status (going.ran s) text input tells told healthy r g =
-    let rest = rest_of source source_behind s.taken text s.took tells in
-    let runs = subst (λ t. (r : compiled.Compilation) (g : CompilesTo [] (tokens_from edition 1 t) r) → (source_behind.failures ≡ source.failures) × (r.stop ≡ None) × RunsProgram steps g.definitions ends status) rest.whole (s.runs rest.more rest.follows) in
+answers_of edition steps source source_after ends status (going.ran s) text input tells told healthy r g =
+    let rest = rest_of source source_after s.taken text s.took tells in
+    let runs = subst (λ t. (r : compiled.Compilation) (g : CompilesTo [] (tokens_from edition 1 t) r) → (source_after.failures ≡ source.failures) × (r.stop ≡ None) × RunsProgram steps g.definitions ends status) rest.whole (s.runs rest.more rest.follows) in
     let program = runs r g in
-    program_answers r g.definitions input steps source source_behind ends status told healthy program.1 program.2
+    program_answers r g.definitions input steps source source_after ends status told healthy program.1 program.2
 
-pub headline : (edition : Edition) (steps : ℕ) (source source_behind : Incoming) (ends : RunEnds) (status : ℕ) → GoesOff edition steps source source_behind ends status → Headline edition steps source source_behind ends status
-headline edition steps source source_behind ends status h text input tells told healthy =
-    (each_source_comes [] edition 1 text, answers_of edition steps source source_behind ends status h text input tells told healthy)
+pub headline : (edition : Edition) (steps : ℕ) (source source_after : Incoming) (ends : RunEnds) (status : ℕ) → GoesOff edition steps source source_after ends status → Headline edition steps source source_after ends status
+headline edition steps source source_after ends status h text input tells told healthy =
+    (each_source_comes [] edition 1 text, answers_of edition steps source source_after ends status h text input tells told healthy)

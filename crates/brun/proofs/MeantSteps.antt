@@ -3,9 +3,7 @@ use Rattle.std.proofs.Common.{◌≡◌, ◌≢◌, ℕ, zero, suc, ◌+◌, ◌
 use Rattle.bword.specs.ByteEnds.{Incoming, Outgoing}
 use Rattle.blang.specs.Code.{code_of}
 use Rattle.blang.specs.Trees.{Definition}
-use Rattle.blang.specs.Machine.{Image, Call, State, Running, Halted, Stuck, step, steps, machine_started, image_of, run, Shows, state_outcome, ComesTo, StopsShort, RunGives, IsOwnStatus, machine}
-use Rattle.bword.specs.ByteEnds.{CanFollow, Began}
-use Rattle.blang.specs.Machine as runs
+use Rattle.blang.specs.Machine.{Image, Call, State, Running, Halted, Stuck, step, steps, machine_started, image_of, run, Shows, state_outcome, state_world, ComesTo, RunGives, IsOwnStatus, machine}
 use Rattle.blang.specs.Layout.{World, Ending, Exited, Trapped, first_world}
 use Rattle.blang.specs.declared.run.Outcome.{Outcome}
 use Rattle.blang.specs.declared.run.Outcome.TheVariants as outcome
@@ -13,7 +11,7 @@ use Rattle.blang.specs.declared.run.Trap.{Trap}
 use Rattle.blang.specs.declared.run.Trap.TheVariants as trap
 use Rattle.blang.specs.Meaning.{Loads, meant, answer_world, IsBeginningOf}
 use Rattle.bmean.proofs.LawProofs.{code_agrees}
-use Rattle.blang.specs.Headline.{EndsSo, ReachesLimit, BreaksOff, RunsAsMeant, DoesAsMeant}
+use Rattle.blang.specs.Headline.{EndsSo, ReachesLimit, WritesAsMeant, RunsAsMeant, DoesAsMeant}
 use Rattle.brun.proofs.Endings.{HaltsProperly, run_proper, no_stuck_outcome}
 
 -- what halted stays so
@@ -21,15 +19,15 @@ steps-Halted : (image : Image) (n : ℕ) (e : Ending) (w : World) → steps imag
 steps-Halted image zero e w = refl
 steps-Halted image (suc n) e w = steps-Halted image n e w
 
-steps-behind : (image : Image) (n m k : ℕ) (s : State) → m ≡ n + k → steps image m s ≡ steps image k (steps image n s)
-steps-behind image zero m k s e = let h : m ≡ k = omega (arith, e) in ap (λ x. steps image x s) h
-steps-behind image (suc n) zero k s e = absurd (omega (arith, e))
-steps-behind image (suc n) (suc m) k s e = steps-behind image n m k (step image s) (omega (arith, e))
+steps-following : (image : Image) (n m k : ℕ) (s : State) → m ≡ n + k → steps image m s ≡ steps image k (steps image n s)
+steps-following image zero m k s e = let h : m ≡ k = omega (arith, e) in ap (λ x. steps image x s) h
+steps-following image (suc n) zero k s e = absurd (omega (arith, e))
+steps-following image (suc n) (suc m) k s e = steps-following image n m k (step image s) (omega (arith, e))
 
 pub halted_later : (image : Image) (input : List ℕ) (m n : ℕ) (e : Ending) (w : World) → m ≤ n → run image input m ≡ Halted e w → run image input n ≡ Halted e w
 halted_later image input m n e w le h =
     let k : n ≡ m + (n - m) = omega (arith, le) in
-    steps-behind image m n (n - m) (machine_started image image.main (first_world image input)) k
+    steps-following image m n (n - m) (machine_started image image.main (first_world image input)) k
     ∙ ap (steps image (n - m)) h
     ∙ steps-Halted image (n - m) e w
 
@@ -96,7 +94,7 @@ module _ (ds : List Definition) (loads : Loads ds) (n : ℕ) (i j : Incoming) (o
         let s = h.shows more c in
         let laws = code_agrees ds loads (h.taken ++ more) in
         let r = running_of (states (h.taken ++ more) n) s.outcome in
-        subst (λ t. IsBeginningOf t (answer_world (meant ds (h.taken ++ more) (n + 1))).output) (sym (ap (λ x. (runs.state_world x).output) r.state) ∙ s.written)
+        subst (λ t. IsBeginningOf t (answer_world (meant ds (h.taken ++ more) (n + 1))).output) (sym (ap (λ x. (state_world x).output) r.state) ∙ s.written)
         (laws.writes_as_meant n r.call r.below r.world r.state);
     later = λ more c fuel e w m.
         let s = h.shows more c in
@@ -110,31 +108,24 @@ module _ (ds : List Definition) (loads : Loads ds) (n : ℕ) (i j : Incoming) (o
         };
   }
 
-  breaks_off : (why : Type 0) → StopsShort states n i j o p why → BreaksOff ds n i j o p why
-  breaks_off why h = record {
-    taken = h.taken;
-    took = h.took;
-    made = h.made;
-    within = h.within;
-    began = λ more c. began (h.taken ++ more) h.made (states (h.taken ++ more) h.made) refl (h.began more c);
-    reason = h.reason;
-  }
+  -- what any number of steps write
+  writes_as_meant : WritesAsMeant ds
+  writes_as_meant input k = at_state (states input k) refl
     where
-      began : (input : List ℕ) (made : ℕ) (s : State) → states input made ≡ s → Began o (runs.state_world (states input made)).output p
-          → (text : List ℕ) × IsBeginningOf text (answer_world (meant ds input (made + 1))).output × Began o text p
-      began input made (Running call below w) e b =
-          (w.output, (code_agrees ds loads input).writes_as_meant made call below w e, subst (λ x. Began o (runs.state_world x).output p) e b)
-      began input made (Halted ending w) e b =
-          let ends = (code_agrees ds loads input).halts_as_meant made ending w e in
-          (w.output, subst (λ x. IsBeginningOf w.output (answer_world x).output) (sym ends) (itself w.output), subst (λ x. Began o (runs.state_world x).output p) e b)
-      began input made (Stuck w) e b = absurd ((code_agrees ds loads input).never_stuck made w e)
+      at_state : (s : State) → states input k ≡ s → IsBeginningOf (state_world (states input k)).output (answer_world (meant ds input (k + 1))).output
+      at_state (Running call below w) e = subst (λ x. IsBeginningOf (state_world x).output (answer_world (meant ds input (k + 1))).output) (sym e) ((code_agrees ds loads input).writes_as_meant k call below w e)
+      at_state (Halted ending w) e =
+          let ends = (code_agrees ds loads input).halts_as_meant k ending w e in
+          subst (λ x. IsBeginningOf (state_world x).output (answer_world (meant ds input (k + 1))).output) (sym e)
+          (subst (λ x. IsBeginningOf w.output (answer_world x).output) (sym ends) (itself w.output))
+      at_state (Stuck w) e = absurd ((code_agrees ds loads input).never_stuck k w e)
 
   runs_as_meant : (result : Outcome) → RunGives states n i j o p result → RunsAsMeant ds n i j o p result
   runs_as_meant (outcome.Exit status) h = ends_so (outcome.Exit status) (λ e. cc) h
   runs_as_meant (outcome.Trap kind) h = ends_so (outcome.Trap kind) (λ e. cc) h
   runs_as_meant outcome.Limit h = goes_on h
-  runs_as_meant outcome.Device h = breaks_off _ h
-  runs_as_meant outcome.Memory h = breaks_off _ h
+  runs_as_meant outcome.Device h = writes_as_meant
+  runs_as_meant outcome.Memory h = writes_as_meant
 
   -- the state of a run over its ends, on some input
   state_of : (result : Outcome) → ComesTo states n i j o p result → (input : List ℕ) × (state_outcome (states input n) ≡ result)

@@ -1,27 +1,28 @@
--- What the calls of the reader of a code text come to, with what was written behind each.
+-- What the calls of the reader of a code text come to, with what was written after each.
 use Rattle.std.proofs.Common.{subst, ◌≡◌, ℕ, Bool, true, false, List, [], ◌∷◌, ◌++◌, length, Result, Ok, Err, IsErrAnd, refl, sym, ap, ◌∙◌, arith, append_assoc, append-nil, length-append, inl, inr, if◌then◌else◌}
 use Rattle.std.specs.List.{flat_map}
 use Rattle.std.proofs.Math.Seq.{take-append_seam}
 use Rattle.std.proofs.lemmas.List.Elements.{All-nil}
-use Rattle.bword.specs.ByteEnds.{Incoming, Outgoing, Took, Grew, Writes, Refuses, Began, CanFollow}
+use Rattle.bword.specs.ByteEnds.{Incoming, Outgoing, Took, Writes, Refuses, Began, CanFollow}
 use Rattle.bword.specs.declared.ends.EndFault.{EndFault}
 use Rattle.bword.specs.declared.ends.EndFault.TheVariants as end_fault
 use Rattle.bword.specs.declared.edition.Edition.{Edition}
 use Rattle.bword.specs.declared.edition.Edition.TheVariants as editions
-use Rattle.bword.proofs.Putting.{Writes-none, Writes-append, Refuses-behind, Refuses-short}
-use Rattle.bword.proofs.Taking.{Took-none, Took-append}
+use Rattle.bword.proofs.Putting.{Writes-none, Writes-append, Refuses-following, Refuses-short}
+use Rattle.bword.proofs.Taking.{Took-none}
 use Rattle.bcode.specs.Ahead.{TakesBytes}
 use Rattle.bcode.specs.Readers.{CodeReader, all_ahead, opening_read, HasTaken, Gave, TextEnded, StoppedAtLine, MemoryRefused, ReadBroke, SameReader}
 use Rattle.blang.specs.Text.{opening, header_line, definition_text, end_text, IsTextOf, IsWithinRanges}
 use Rattle.bcode.specs.Faults.{IsFaultLineIn}
 use Rattle.blang.specs.declared.code.Definition.{Definition}
-use Rattle.bcode.proofs.AheadLaws.{Grew-after}
+use Rattle.bcode.specs.Streams.{FailsAfter}
+use Rattle.bcode.proofs.StreamLaws.{FailsAfter-took, FailsAfter-append}
 use Rattle.bcode.proofs.FaultLaws.{code_spelled, unique_code}
 use Rattle.brun.specs.Migrates.{rewritten, Becomes, Rewriting, RewritingGives, halt_of, first_line, definition, last_line, OutFailed}
 use Rattle.brun.specs.declared.migrating.Halt.{Halt}
 use Rattle.brun.specs.declared.migrating.Halt.TheVariants as halt
 use Rattle.brun.proofs.AlikeLaws.{runs_as}
-use Rattle.brun.proofs.TextLaws.{NoFirst, are_whole, texts_push, rewritten-push, becomes_behind, becomes_whole}
+use Rattle.brun.proofs.TextLaws.{NoFirst, are_whole, texts_push, rewritten-push, becomes_after, becomes_whole}
 
 began_written : {a b : Outgoing} {xs : List ℕ} (ys : List ℕ) → Writes a xs b → Began a (xs ++ ys) b
 began_written {a} {b} {xs} ys h = record {
@@ -67,7 +68,7 @@ module _ (old r new : CodeReader) (opened now : Outgoing) (one : old.first.editi
 
   module _ (out : Outgoing) (begun : Writes out (opening editions.Two) opened) where
     abbrev at : Outgoing → Rewriting
-    at behind = record { input = old.first.source; input_behind = new.ahead.end; out = out; out_behind = behind }
+    at following = record { input = old.first.source; input_after = new.ahead.end; out = out; out_after = following }
 
     written : Writes out (rewritten ds) now
     written = Writes-append begun p.written
@@ -76,7 +77,7 @@ module _ (old r new : CodeReader) (opened now : Outgoing) (one : old.first.editi
     begins : (taken rest : List ℕ) → taken ≡ flat_map definition_text ds ++ rest
         → (more bytes : List ℕ) → Becomes (taken ++ more) bytes → Began out bytes now
     begins taken rest comes more bytes becomes =
-        let b = becomes_behind (taken ++ more) bytes ds (rest ++ more) p.since.within (ap (λ l. l ++ more) comes ∙ append_assoc (flat_map definition_text ds) rest more) becomes in
+        let b = becomes_after (taken ++ more) bytes ds (rest ++ more) p.since.within (ap (λ l. l ++ more) comes ∙ append_assoc (flat_map definition_text ds) rest more) becomes in
         subst (λ t. Began out t now) (sym b.1) (began_written b.0 written)
 
     pub stopped : (n : ℕ) → StoppedAtLine ds r n new → RewritingGives (at now) (Err (halt.Line n))
@@ -91,19 +92,20 @@ module _ (old r new : CodeReader) (opened now : Outgoing) (one : old.first.editi
             record {
               no_text = λ es is. h.no_text more can es (subst (λ e. IsTextOf e (h.taken ++ more) es) (sym first_one) is);
               fault = fault;
-              whole = are_whole (h.taken ++ more) n ds (h.behind ++ more) fault p.since.within (spelled more) (none more can);
+              whole = are_whole (h.taken ++ more) n ds (h.following ++ more) fault p.since.within (spelled more) (none more can);
             };
+        near = h.near;
         written = written;
       },
     )
       where
-        comes : h.taken ≡ flat_map definition_text ds ++ h.behind
-        comes = h.split ∙ ap (λ t. t ++ flat_map definition_text ds ++ h.behind) (opened_one r first_one)
+        comes : h.taken ≡ flat_map definition_text ds ++ h.following
+        comes = h.split ∙ ap (λ t. t ++ flat_map definition_text ds ++ h.following) (opened_one r first_one)
 
-        spelled : (more : List ℕ) → h.taken ++ more ≡ flat_map definition_text ds ++ (h.behind ++ more)
-        spelled more = ap (λ l. l ++ more) comes ∙ append_assoc (flat_map definition_text ds) h.behind more
+        spelled : (more : List ℕ) → h.taken ++ more ≡ flat_map definition_text ds ++ (h.following ++ more)
+        spelled more = ap (λ l. l ++ more) comes ∙ append_assoc (flat_map definition_text ds) h.following more
 
-        none : (more : List ℕ) → CanFollow new.ahead.end more → NoFirst (h.behind ++ more)
+        none : (more : List ℕ) → CanFollow new.ahead.end more → NoFirst (h.following ++ more)
         none more can d rest inside same =
             h.none more can d rest inside
             (spelled more ∙ ap (λ l. flat_map definition_text ds ++ l) same ∙ ap (λ t. t ++ flat_map definition_text ds ++ (definition_text d ++ rest)) (sym (ap opening first_one)))
@@ -111,11 +113,12 @@ module _ (old r new : CodeReader) (opened now : Outgoing) (one : old.first.editi
     pub broke : ReadBroke ds r new → RewritingGives (at now) (Err halt.Device)
     broke h =
         let before = reads_texts r ds first_one p.since in
-        let same = p.keeps.first in (
+        let same = p.keeps.first in
+        let fails = FailsAfter-append before.took before.failures h.breaks.fails in (
           flat_map definition_text ds ++ h.breaks.taken,
-          subst (λ s. Took (all_ahead s).end (flat_map definition_text ds ++ h.breaks.taken) new.ahead.end) same (Took-append before.took h.breaks.took),
+          subst (λ s. Took (all_ahead s).end (flat_map definition_text ds ++ h.breaks.taken) new.ahead.end) same (FailsAfter-took fails),
           inl record {
-            counted = subst (λ s. Grew (all_ahead s).end.failures new.ahead.end.failures) same (Grew-after _ _ _ before.failures h.breaks.counted);
+            fails = subst (λ s. FailsAfter (all_ahead s).end (flat_map definition_text ds ++ h.breaks.taken) new.ahead.end) same fails;
             definitions = ds;
             within = p.since.within;
             rest = h.breaks.taken;
@@ -127,10 +130,10 @@ module _ (old r new : CodeReader) (opened now : Outgoing) (one : old.first.editi
         )
       where
         none : NoFirst h.breaks.taken
-        none d behind inside same =
-            h.none d behind inside
+        none d following inside same =
+            h.none d following inside
             (ap (λ t. t ++ flat_map definition_text ds ++ h.breaks.taken) (opened_one r first_one) ∙ ap (λ l. flat_map definition_text ds ++ l) same
-            ∙ ap (λ t. t ++ flat_map definition_text ds ++ (definition_text d ++ behind)) (sym (ap opening first_one)))
+            ∙ ap (λ t. t ++ flat_map definition_text ds ++ (definition_text d ++ following)) (sym (ap opening first_one)))
 
     pub no_room : MemoryRefused ds r new → RewritingGives (at now) (Err halt.Memory)
     no_room h = (
@@ -188,7 +191,7 @@ module _ (old r new : CodeReader) (opened now : Outgoing) (one : old.first.editi
       refused = last_line ds whole h.over record { mid = now; written = written; refused = refused };
       begun = λ more can bytes becomes.
           let same : h.taken ++ more ≡ h.taken = ap (λ l. h.taken ++ l) (can h.over) ∙ append-nil h.taken in
-          subst (λ t. Began out t last) (sym (becomes_whole h.taken bytes ds whole (subst (λ t. Becomes t bytes) same becomes))) (began_refused (Refuses-behind written refused));
+          subst (λ t. Began out t last) (sym (becomes_whole h.taken bytes ds whole (subst (λ t. Becomes t bytes) same becomes))) (began_refused (Refuses-following written refused));
     }
       where
         whole : IsTextOf editions.One h.taken ds
@@ -211,8 +214,8 @@ module _ (old r new : CodeReader) (opened now : Outgoing) (one : old.first.editi
         read = taken_all.failures;
         refused = definition ds d g.now.within refl record { mid = now; written = written; refused = refused };
         begun = λ more can bytes becomes.
-            let b = becomes_behind (taken ++ more) bytes (ds ++ d ∷ []) more g.now.within refl becomes in
-            subst (λ t. Began out t last) (ap (λ l. l ++ b.0) (sym (rewritten-push ds d)) ∙ sym b.1) (began_refused (Refuses-short b.0 (Refuses-behind written refused)));
+            let b = becomes_after (taken ++ more) bytes (ds ++ d ∷ []) more g.now.within refl becomes in
+            subst (λ t. Began out t last) (ap (λ l. l ++ b.0) (sym (rewritten-push ds d)) ∙ sym b.1) (began_refused (Refuses-short b.0 (Refuses-following written refused)));
       }
 
       pub definition_refused : (last : Outgoing) (fault : EndFault) → Refuses now (definition_text d) fault last → RewritingGives (at last) (Err (halt_of fault))
@@ -231,23 +234,23 @@ module _ (old r new : CodeReader) (opened now : Outgoing) (one : old.first.editi
 pub passing_none : (r : CodeReader) (out : Outgoing) → HasTaken r [] → Passing r out r out
 passing_none r out s = record { definitions = []; since = s; written = Writes-none out; keeps = record { first = refl; lender = refl } }
 
--- the exit of a `?` behind a write
+-- the exit of a `?` after a write
 pub refused_exit : (w : Rewriting) (r : Result (Unit {0}) Halt) (fault : EndFault) → IsErrAnd r (λ h. h ≡ halt_of fault) → RewritingGives w (Err (halt_of fault)) → RewritingGives w r
 refused_exit w (Ok u) fault same gives = absurd same
 refused_exit w (Err h) fault same gives = subst (λ (e : Halt). RewritingGives w (Err e)) (sym same) gives
 
 -- the first line was refused, before anything was read
-begin_failed : (input : Incoming) (out behind : Outgoing) (fault : EndFault) → Refuses out (opening editions.Two) fault behind
-    → OutFailed (record { input = input; input_behind = input; out = out; out_behind = behind }) [] fault
-begin_failed input out behind fault refused = record {
+begin_failed : (input : Incoming) (out following : Outgoing) (fault : EndFault) → Refuses out (opening editions.Two) fault following
+    → OutFailed (record { input = input; input_after = input; out = out; out_after = following }) [] fault
+begin_failed input out following fault refused = record {
   read = refl;
   refused = first_line refl refl refused;
   begun = λ more can bytes becomes.
-      let b = becomes_behind more bytes [] more (All-nil IsWithinRanges) refl becomes in
-      subst (λ t. Began out t behind) (sym b.1) (began_refused (Refuses-short b.0 refused));
+      let b = becomes_after more bytes [] more (All-nil IsWithinRanges) refl becomes in
+      subst (λ t. Began out t following) (sym b.1) (began_refused (Refuses-short b.0 refused));
 }
 
-pub begin_refused : (input : Incoming) (out behind : Outgoing) (fault : EndFault) → Refuses out (opening editions.Two) fault behind
-    → RewritingGives (record { input = input; input_behind = input; out = out; out_behind = behind }) (Err (halt_of fault))
-begin_refused input out behind end_fault.Device refused = ([], Took-none input, inr (begin_failed input out behind end_fault.Device refused))
-begin_refused input out behind end_fault.Memory refused = ([], Took-none input, inr (begin_failed input out behind end_fault.Memory refused))
+pub begin_refused : (input : Incoming) (out following : Outgoing) (fault : EndFault) → Refuses out (opening editions.Two) fault following
+    → RewritingGives (record { input = input; input_after = input; out = out; out_after = following }) (Err (halt_of fault))
+begin_refused input out following end_fault.Device refused = ([], Took-none input, inr (begin_failed input out following end_fault.Device refused))
+begin_refused input out following end_fault.Memory refused = ([], Took-none input, inr (begin_failed input out following end_fault.Memory refused))

@@ -20,7 +20,7 @@ use Rattle.blang.specs.Meaning.{Loads}
 use Rattle.blang.specs.Cut.{placed}
 use Rattle.blang.specs.Headline.{NothingFailed, GoAnswers, RunAnswers}
 use Rattle.btree.proofs.Parting.{parted_end}
-use Rattle.btree.proofs.Outcomes.{parted_behind, parted_once}
+use Rattle.btree.proofs.Outcomes.{parted_after, parted_once}
 use Rattle.btree.proofs.SourceRows.{worked_rows}
 use Rattle.brun.specs.OneRun.{OneRunIsKnown, OneCompilationIsKnown, one_run_ends, one_compilation_run, unread}
 use Rattle.brun.proofs.Excluded.{writes_a, main_a, state}
@@ -63,7 +63,7 @@ one_compilation source code line status h = by_memory status answered
 -- its tokens are those of one definition
 parts : Parted (tokens_from editions.One 1 (codes "main(){putchar('a');}")) writes_a None
 unfolding tokens_from cut longest greatest whole word_token keyword_of number_in with_quoted_byte escape_of operator_of other_of fixed_of digits
-parts = parted_behind (take 10 (tokens_from editions.One 1 (codes "main(){putchar('a');}"))) main_a (placed token.End 1 ∷ []) [] None (parted_end (placed token.End 1) [] refl) refl
+parts = parted_after (take 10 (tokens_from editions.One 1 (codes "main(){putchar('a');}"))) main_a (placed token.End 1 ∷ []) [] None (parted_end (placed token.End 1) [] refl) refl
 
 pub one_run : OneRunIsKnown
 one_run source input out line status h = by_memory status answered

@@ -77,14 +77,14 @@ are_whole text n ds rest fault within same none = record {
   rest = rest;
   begins = same;
   among = before_fault text n ds rest fault within same;
-  all = λ es behind in_e begins few.
-      let more = longest es ds behind rest in_e within (sym begins ∙ same) none in
+  all = λ es following in_e begins few.
+      let more = longest es ds following rest in_e within (sym begins ∙ same) none in
       omega (arith, ap length more.1, length-append es more.0);
 }
 
--- behind all whole definitions none comes
-none_behind : (text : List ℕ) (n : ℕ) (ds : List Definition) → IsFaultLineIn editions.One text n → (h : AreWhole text n ds) → NoFirst h.rest
-none_behind text n ds fault h d rest inside same =
+-- after all whole definitions none comes
+none_after : (text : List ℕ) (n : ℕ) (ds : List Definition) → IsFaultLineIn editions.One text n → (h : AreWhole text n ds) → NoFirst h.rest
+none_after text n ds fault h d rest inside same =
     let spelled : text ≡ flat_map definition_text (ds ++ d ∷ []) ++ rest =
     h.begins ∙ ap (λ l. flat_map definition_text ds ++ l) same ∙ sym (append_assoc (flat_map definition_text ds) (definition_text d) rest) ∙ ap (λ l. l ++ rest) (sym (texts_push ds d)) in
     let within = All-push IsWithinRanges ds d h.within inside in
@@ -99,16 +99,16 @@ pub rewritten-push : (ds : List Definition) (d : Definition) → rewritten (ds +
 rewritten-push ds d = rewritten-append ds (d ∷ []) ∙ ap (λ l. rewritten ds ++ l) (append-nil (definition_text d))
 
 -- what a text becomes begins with the definitions that the text begins with
-pub becomes_behind : (text bytes : List ℕ) (ds : List Definition) (rest : List ℕ) → All IsWithinRanges ds → text ≡ flat_map definition_text ds ++ rest → Becomes text bytes
+pub becomes_after : (text bytes : List ℕ) (ds : List Definition) (rest : List ℕ) → All IsWithinRanges ds → text ≡ flat_map definition_text ds ++ rest → Becomes text bytes
     → (more : List ℕ) × (bytes ≡ rewritten ds ++ more)
-becomes_behind text bytes ds rest within same (whole es one two) =
+becomes_after text bytes ds rest within same (whole es one two) =
     let tail = longest ds es rest end_text within one.within (sym same ∙ one.spelled ∙ code_spelled editions.One es) no_first_at_end in (
       flat_map definition_text tail.0 ++ end_text,
       two.spelled ∙ code_spelled editions.Two es ∙ ap (λ l. rewritten l ++ end_text) tail.1 ∙ ap (λ l. l ++ end_text) (rewritten-append ds tail.0)
           ∙ append_assoc (rewritten ds) (flat_map definition_text tail.0) end_text,
     )
-becomes_behind text bytes ds rest within same (cut n es h is) =
-    let tail = longest ds es rest h.whole.rest within h.whole.within (sym same ∙ h.whole.begins) (none_behind text n es h.fault h.whole) in
+becomes_after text bytes ds rest within same (cut n es h is) =
+    let tail = longest ds es rest h.whole.rest within h.whole.within (sym same ∙ h.whole.begins) (none_after text n es h.fault h.whole) in
     (flat_map definition_text tail.0, is ∙ ap rewritten tail.1 ∙ rewritten-append ds tail.0)
 
 -- what a whole text becomes

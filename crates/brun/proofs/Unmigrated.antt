@@ -7,6 +7,7 @@ use Rattle.bword.specs.declared.edition.Edition.TheVariants as editions
 use Rattle.blang.specs.Text.{opening, code_lines, definition_text, end_text, joined, IsWithinRanges}
 use Rattle.blang.specs.declared.code.Definition.{Definition}
 use Rattle.blang.specs.declared.code.Definition.TheVariants as definition
+use Rattle.bcode.proofs.Excluded.{none_after}
 use Rattle.bparse.proofs.Remaining.{all_written}
 use Rattle.brun.specs.Migrates.{Rewriting, IsMigrated, InputFailed, rewritten}
 use Rattle.brun.specs.Unmigrated.{Unmigrated, HasWritten}
@@ -18,7 +19,7 @@ some_text (definition.Vector v) rest e = cc
 
 left_out : (w : Rewriting) (taken : List ℕ) → HasWritten w (opening editions.Two ++ end_text) → IsMigrated w taken → taken ≡ end_text
 left_out w taken h m =
-    let text_is : opening editions.Two ++ end_text ≡ m.text = all_written w.out w.out_behind m.text _ h.nothing h.all m.written.appended in
+    let text_is : opening editions.Two ++ end_text ≡ m.text = all_written w.out w.out_after m.text _ h.nothing h.all m.written.appended in
     let none : [] ≡ m.definitions = m.only [] (editions.Two, record { within = All-nil IsWithinRanges; spelled = sym text_is }) in
     subst (λ ds. taken ≡ joined (code_lines editions.One ds)) (sym none) m.whole.spelled
 
@@ -26,7 +27,7 @@ kept_back : (w : Rewriting) (taken : List ℕ) (d : Definition) → IsWithinRang
 kept_back w taken d inside is h f = by_definitions f.definitions refl
   where
     wrote : opening editions.Two ≡ rewritten f.definitions
-    wrote = all_written w.out w.out_behind (rewritten f.definitions) _ h.nothing h.all f.written.appended
+    wrote = all_written w.out w.out_after (rewritten f.definitions) _ h.nothing h.all f.written.appended
 
     by_definitions : (ds : List Definition) → f.definitions ≡ ds → ⊥
     by_definitions [] none =
@@ -37,4 +38,4 @@ kept_back w taken d inside is h f = by_definitions f.definitions refl
         (append-nil (opening editions.Two) ∙ wrote ∙ ap rewritten some)))
 
 pub unmigrated : Unmigrated
-unmigrated = record { left_out = left_out; kept_back = kept_back }
+unmigrated = record { left_out = left_out; kept_back = kept_back; read_on = λ w taken n h. none_after h.near }

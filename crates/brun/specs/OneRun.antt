@@ -17,11 +17,11 @@ nothing_written = record { bytes = []; refusals = 0 }
 abbrev pub one_run_ends : (input : Unread) (out line : Kept) → RunEnds
 one_run_ends input out line = record {
   input = unread [];
-  input_behind = incoming_of input;
+  input_after = incoming_of input;
   out = outgoing_of nothing_written;
-  out_behind = outgoing_of out;
+  out_after = outgoing_of out;
   line = outgoing_of nothing_written;
-  line_behind = outgoing_of line;
+  line_after = outgoing_of line;
 }
 
 -- A run of `main(){putchar('a');}` is out of memory, or it answers 0 and has written `a` and no line.
@@ -37,11 +37,11 @@ abbrev pub one_compilation_run : (source : Unread) (code line : Kept) (status : 
 one_compilation_run source code line status = record {
   edition = editions.One;
   source = unread (codes "n 2000;");
-  source_behind = incoming_of source;
+  source_after = incoming_of source;
   code = outgoing_of nothing_written;
-  code_behind = outgoing_of code;
+  code_after = outgoing_of code;
   line = outgoing_of nothing_written;
-  line_behind = outgoing_of line;
+  line_after = outgoing_of line;
   status = status;
 }
 

@@ -66,31 +66,31 @@ load_numbers : map load_number
 load_numbers = refl
 
 -- The line and the status of each outcome, and of what isn't run.
-module _ (line behind : Outgoing) (status : ℕ) where
-  exits : (n : ℕ) → Finishes (outcome.Exit n) line behind status ≡ ((behind ≡ line) × (status ≡ n))
+module _ (line following : Outgoing) (status : ℕ) where
+  exits : (n : ℕ) → Finishes (outcome.Exit n) line following status ≡ ((following ≡ line) × (status ≡ n))
   exits n = refl
 
-  traps : (kind : Trap) → Finishes (outcome.Trap kind) line behind status
-      ≡ Reported (report_text (report.Trap kind)) 130 line behind status
+  traps : (kind : Trap) → Finishes (outcome.Trap kind) line following status
+      ≡ Reported (report_text (report.Trap kind)) 130 line following status
   traps kind = refl
 
-  limits : Finishes outcome.Limit line behind status ≡ Reported (codes "limit\n") 131 line behind status
+  limits : Finishes outcome.Limit line following status ≡ Reported (codes "limit\n") 131 line following status
   limits = refl
 
-  fails : Finishes outcome.Device line behind status ≡ ((behind ≡ line) × (status ≡ 133))
+  fails : Finishes outcome.Device line following status ≡ ((following ≡ line) × (status ≡ 133))
   fails = refl
 
-  is_refused_memory : Finishes outcome.Memory line behind status ≡ ((behind ≡ line) × (status ≡ 134))
+  is_refused_memory : Finishes outcome.Memory line following status ≡ ((following ≡ line) × (status ≡ 134))
   is_refused_memory = refl
 
-  no_code_text : NotRead (code_fault.Line 7) line behind status ≡ Reported (codes "code 7\n") 132 line behind status
+  no_code_text : NotRead (code_fault.Line 7) line following status ≡ Reported (codes "code 7\n") 132 line following status
   unfolding digits
   no_code_text = refl
 
-  no_memory_to_read : NotRead code_fault.Memory line behind status ≡ ((behind ≡ line) × (status ≡ 134))
+  no_memory_to_read : NotRead code_fault.Memory line following status ≡ ((following ≡ line) × (status ≡ 134))
   no_memory_to_read = refl
 
-  does_not_load : NotLoaded 3 line behind status ≡ Reported (codes "load 3\n") 132 line behind status
+  does_not_load : NotLoaded 3 line following status ≡ Reported (codes "load 3\n") 132 line following status
   unfolding digits
   does_not_load = refl
 

@@ -19,7 +19,7 @@ pub(crate) enum Halt {
     Line(u64),
     /// A read or a write failed.
     Device,
-    /// Memory was refused.
+    /// Out of memory.
     Memory,
 }
 
@@ -36,8 +36,8 @@ impl From<EndFault> for Halt {
 
 /// Writes a code text of the first edition as one of the second, each definition when it has been read.
 ///
-/// The status is 0; or 132 where it is no such text, with the line that tells where. It is 133 where a read or a write
-/// failed and 134 where memory was refused.
+/// The status is 0. If the input is no such text, a line tells where, and the status is 132. It is 133 if a read or a
+/// write failed, and 134 if memory ran out.
 pub fn migrate<I: ByteIn, O: ByteOut, D: ByteOut>(
     alloc: Global,
     input: &mut I,
@@ -46,9 +46,9 @@ pub fn migrate<I: ByteIn, O: ByteOut, D: ByteOut>(
 ) -> Status
     ensures migrates { Migrates (record {
       input = I.incoming input.old;
-      input_behind = I.incoming input.new;
+      input_after = I.incoming input.new;
       out = O.outgoing out.old;
-      out_behind = O.outgoing out.new;
+      out_after = O.outgoing out.new;
     }) (D.outgoing diag.old) (D.outgoing diag.new) result }
     ensures input_lender { I.lender input.new ≡ I.lender input.old }
     ensures out_lender { O.lender out.new ≡ O.lender out.old }
@@ -70,9 +70,9 @@ fn migrate_code<I: ByteIn, O: ByteOut>(
 ) -> Result<(), Halt>
     ensures gives { RewritingGives (record {
       input = I.incoming input.old;
-      input_behind = I.incoming input.new;
+      input_after = I.incoming input.new;
       out = O.outgoing out.old;
-      out_behind = O.outgoing out.new;
+      out_after = O.outgoing out.new;
     }) result }
     ensures input_lender { I.lender input.new ≡ I.lender input.old }
     ensures out_lender { O.lender out.new ≡ O.lender out.old }
@@ -108,7 +108,8 @@ fn write_definitions<I: ByteIn, O: ByteOut>(
     }
 }
 
-/// No text goes well of which a definition isn't written, and none waits for the next.
+/// No migration succeeds without each definition, none waits for the next one before it writes, and none takes a byte
+/// after a wrong line.
 pub fn wrong_migrations_are_excluded()
     ensures { Unmigrated }
 {}

@@ -11,7 +11,7 @@ use itoa::Buffer;
 /// Room for the longest line.
 const REPORT_LEN: usize = 64;
 
-/// Writes the line, and answers this status or that of a refused write.
+/// Writes the line, and gives this status, or that of a refused write.
 pub(crate) fn write_report<D: ByteOut>(report: Report, status: Status, diag: &mut D) -> Status
     ensures gives { Reported (report_text report) status (D.outgoing diag.old) (D.outgoing diag.new) result }
     ensures same { D.lender diag.new ≡ D.lender diag.old }
@@ -60,7 +60,7 @@ fn letters(trap: Trap) -> &'static str
     }
 }
 
-/// The number of a reason, or none where memory was refused.
+/// The number of a reason; none if memory ran out.
 pub(crate) fn number_of(fault: &LoadFault) -> Option<u8>
     ensures { result ≡ load_number fault.now }
 {

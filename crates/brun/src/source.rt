@@ -21,19 +21,19 @@ pub fn go<S: ByteIn, I: ByteIn, O: ByteOut, D: ByteOut>(
 ) -> Status
     ensures goes { GoesOff editions.One steps (S.incoming source.old) (S.incoming source.new) (record {
       input = I.incoming input.old;
-      input_behind = I.incoming input.new;
+      input_after = I.incoming input.new;
       out = O.outgoing out.old;
-      out_behind = O.outgoing out.new;
+      out_after = O.outgoing out.new;
       line = D.outgoing diag.old;
-      line_behind = D.outgoing diag.new;
+      line_after = D.outgoing diag.new;
     }) result }
     ensures headline { Headline editions.One steps (S.incoming source.old) (S.incoming source.new) (record {
       input = I.incoming input.old;
-      input_behind = I.incoming input.new;
+      input_after = I.incoming input.new;
       out = O.outgoing out.old;
-      out_behind = O.outgoing out.new;
+      out_after = O.outgoing out.new;
       line = D.outgoing diag.old;
-      line_behind = D.outgoing diag.new;
+      line_after = D.outgoing diag.new;
     }) result }
     ensures source_lender { S.lender source.new ≡ S.lender source.old }
     ensures input_lender { I.lender input.new ≡ I.lender input.old }
@@ -43,10 +43,10 @@ pub fn go<S: ByteIn, I: ByteIn, O: ByteOut, D: ByteOut>(
     go_edition(alloc, source, input, out, diag, steps, Edition::One)
 }
 
-/// Compiles a source, whose code stands in memory, and runs its program for so many steps at most.
+/// Compiles a source, keeps its code in memory, and runs its program for at most so many steps.
 ///
-/// The output gets what the program writes, alone: it does what the source means. The status is that of the program,
-/// or 131 where it hasn't ended within the limit; the others are those of `compile_edition` and `run_text`.
+/// Only the program writes to the output, and it does what the source means. The status is that of the program, or 131
+/// if it didn't end within the limit. The others are those of `compile_edition` and `run_text`.
 pub fn go_edition<S: ByteIn, I: ByteIn, O: ByteOut, D: ByteOut>(
     alloc: Global,
     source: &mut S,
@@ -58,19 +58,19 @@ pub fn go_edition<S: ByteIn, I: ByteIn, O: ByteOut, D: ByteOut>(
 ) -> Status
     ensures goes { GoesOff edition steps (S.incoming source.old) (S.incoming source.new) (record {
       input = I.incoming input.old;
-      input_behind = I.incoming input.new;
+      input_after = I.incoming input.new;
       out = O.outgoing out.old;
-      out_behind = O.outgoing out.new;
+      out_after = O.outgoing out.new;
       line = D.outgoing diag.old;
-      line_behind = D.outgoing diag.new;
+      line_after = D.outgoing diag.new;
     }) result }
     ensures headline { Headline edition steps (S.incoming source.old) (S.incoming source.new) (record {
       input = I.incoming input.old;
-      input_behind = I.incoming input.new;
+      input_after = I.incoming input.new;
       out = O.outgoing out.old;
-      out_behind = O.outgoing out.new;
+      out_after = O.outgoing out.new;
       line = D.outgoing diag.old;
-      line_behind = D.outgoing diag.new;
+      line_after = D.outgoing diag.new;
     }) result }
     ensures source_lender { S.lender source.new ≡ S.lender source.old }
     ensures input_lender { I.lender input.new ≡ I.lender input.old }

@@ -12,10 +12,10 @@ use bpages::PagedStore;
 use bword::{ByteIn, ByteOut};
 use std::alloc::Global;
 
-/// Runs a code text for so many steps at most.
+/// Runs a code text for at most so many steps.
 ///
-/// The status is that of the run, or 130 for a trap and 131 where the limit was reached; 132 where it is no code text
-/// or doesn't load; each of these has its line. It is 133 where a read or a write failed, 134 where memory was refused.
+/// The status is that of the program, or 130 after a trap, 131 at the limit, and 132 for a text that is no code text or
+/// doesn't load. These three have a line. It is 133 if a read or a write failed, and 134 if memory ran out.
 pub fn run_text<I: ByteIn, O: ByteOut, D: ByteOut>(
     alloc: Global,
     code: &[u8],
@@ -26,11 +26,11 @@ pub fn run_text<I: ByteIn, O: ByteOut, D: ByteOut>(
 ) -> Status
     ensures runs { RunsText steps code.now (record {
       input = I.incoming input.old;
-      input_behind = I.incoming input.new;
+      input_after = I.incoming input.new;
       out = O.outgoing out.old;
-      out_behind = O.outgoing out.new;
+      out_after = O.outgoing out.new;
       line = D.outgoing diag.old;
-      line_behind = D.outgoing diag.new;
+      line_after = D.outgoing diag.new;
     }) result }
     ensures input_lender { I.lender input.new ≡ I.lender input.old }
     ensures out_lender { O.lender out.new ≡ O.lender out.old }
@@ -64,11 +64,11 @@ fn run_definitions<I: ByteIn, O: ByteOut, D: ByteOut>(
 ) -> Status
     ensures runs { RunsDefinitions steps definitions.items (record {
       input = I.incoming input.old;
-      input_behind = I.incoming input.new;
+      input_after = I.incoming input.new;
       out = O.outgoing out.old;
-      out_behind = O.outgoing out.new;
+      out_after = O.outgoing out.new;
       line = D.outgoing diag.old;
-      line_behind = D.outgoing diag.new;
+      line_after = D.outgoing diag.new;
     }) result }
     ensures input_lender { I.lender input.new ≡ I.lender input.old }
     ensures out_lender { O.lender out.new ≡ O.lender out.old }
@@ -90,7 +90,7 @@ fn run_definitions<I: ByteIn, O: ByteOut, D: ByteOut>(
     finish(outcome, diag)
 }
 
-/// The status of an outcome, whose line is written if it has one.
+/// Writes the line of an outcome, if it has one, and gives its status.
 pub fn finish<D: ByteOut>(outcome: Outcome, diag: &mut D) -> Status
     ensures gives { Finishes outcome (D.outgoing diag.old) (D.outgoing diag.new) result }
     ensures diag_lender { D.lender diag.new ≡ D.lender diag.old }

@@ -32,7 +32,7 @@ answered shelf job same ends status is does = subst (λ (j : Job). Does shelf (a
 pub held : (shelf : Holdings) (file : Text) (given read : List ℕ) → given ≡ read → shelf.holds file read → shelf.holds file given
 held shelf file given read same holds = subst (λ t. shelf.holds file t) (sym same) holds
 
-pub not_read : (reason : Type 0) (fault : FileFault) (ends : RunEnds) (status : ℕ) → HasNotRun ends → ends.line_behind ≡ ends.line → (fault ≡ file_fault.Device → reason)
+pub not_read : (reason : Type 0) (fault : FileFault) (ends : RunEnds) (status : ℕ) → HasNotRun ends → ends.line_after ≡ ends.line → (fault ≡ file_fault.Device → reason)
     → (fault ≡ file_fault.Device) × (status ≡ DEVICE) ⊎ (status ≡ MEMORY) → HasNoFile reason ends status
 not_read reason fault ends status still silent why (inl device) = inl (why device.0, record { unread = still; no_line = silent; status_is = device.1 })
 not_read reason fault ends status still silent why (inr memory) = inr (record { unread = still; no_line = silent; status_is = memory })
@@ -42,14 +42,14 @@ named_for reason other file ends status why (inl named) = inl (why named.0, name
 named_for reason other file ends status why (inr silent) = inr silent
 
 -- the source in a file, over an end in memory
-pub gone : (shelf : Holdings) (file : Text) (edition : Edition) (steps : ℕ) (given read : List ℕ) (first behind : Unread) (ends : RunEnds) (status : ℕ)
-    → given ≡ read → shelf.holds file read → first ≡ record { left = given; is_over = false } → GoesOff edition steps (incoming_of first) (incoming_of behind) ends status
-    → Headline edition steps (incoming_of first) (incoming_of behind) ends status → Does shelf (go file steps edition) ends status
-gone shelf file edition steps given read first behind ends status same holds is goes headline =
+pub gone : (shelf : Holdings) (file : Text) (edition : Edition) (steps : ℕ) (given read : List ℕ) (first following : Unread) (ends : RunEnds) (status : ℕ)
+    → given ≡ read → shelf.holds file read → first ≡ record { left = given; is_over = false } → GoesOff edition steps (incoming_of first) (incoming_of following) ends status
+    → Headline edition steps (incoming_of first) (incoming_of following) ends status → Does shelf (go file steps edition) ends status
+gone shelf file edition steps given read first following ends status same holds is goes headline =
     inr (
       given,
-      behind,
+      following,
       held shelf file given read same holds,
-      subst (λ (u : Unread). GoesOff edition steps (incoming_of u) (incoming_of behind) ends status) is goes,
-      subst (λ (u : Unread). Headline edition steps (incoming_of u) (incoming_of behind) ends status) is headline,
+      subst (λ (u : Unread). GoesOff edition steps (incoming_of u) (incoming_of following) ends status) is goes,
+      subst (λ (u : Unread). Headline edition steps (incoming_of u) (incoming_of following) ends status) is headline,
     )

@@ -46,7 +46,7 @@ silent_complaint ends silent = omega (arith, silent.status_is)
 
 refused_done : (k : ErrorKind) (ends : RunEnds) → (IsHelp k → ⊥) → RefusesWords k ends 0 → ⊥
 refused_done k ends other (inl helps) = other helps.help
-refused_done k ends other (inr (inl complains)) = not_done complains.text 135 ends.line ends.line_behind (λ e. omega (arith, e)) complains.told
+refused_done k ends other (inr (inl complains)) = not_done complains.text 135 ends.line ends.line_after (λ e. omega (arith, e)) complains.told
 refused_done k ends other (inr (inr silent)) = silent_done ends silent
 
 refused_still : (k : ErrorKind) (ends : RunEnds) (status : ℕ) → (IsHelp k → ⊥) → RefusesWords k ends status → HasNotRun ends
@@ -55,12 +55,12 @@ refused_still k ends status other (inr (inl complains)) = complains.unread
 refused_still k ends status other (inr (inr silent)) = silent.unread
 
 helped : (k : ErrorKind) (ends : RunEnds) → IsHelp k → RefusesWords k ends 135 → ⊥
-helped k ends help (inl helps) = no_complaint helps.text ends.out ends.out_behind helps.told
+helped k ends help (inl helps) = no_complaint helps.text ends.out ends.out_after helps.told
 helped k ends help (inr (inl complains)) = complains.no_help help
 helped k ends help (inr (inr silent)) = silent_complaint ends silent
 
 helped_aside : (k : ErrorKind) (ends : RunEnds) (status : ℕ) → IsHelp k → RefusesWords k ends status
-    → (ends.input_behind ≡ ends.input) × (ends.line_behind ≡ ends.line)
+    → (ends.input_after ≡ ends.input) × (ends.line_after ≡ ends.line)
 helped_aside k ends status help (inl helps) = (helps.unread, helps.no_line)
 helped_aside k ends status help (inr (inl complains)) = absurd (complains.no_help help)
 helped_aside k ends status help (inr (inr silent)) = (silent.unread.unread, silent.no_line)
@@ -85,26 +85,26 @@ nothing_of o p text first same w =
     let known : o.written ≡ Some [] = ap (λ (q : Outgoing). q.written) first in
     sym (subst (λ x. Appends x x text) known (subst (λ (q : Outgoing). Appends o.written q.written text) same w.appended))
 
-no_silent_help : (k : ErrorKind) (ends : RunEnds) → IsHelp k → ends.out ≡ outgoing_of nothing_written → ends.out_behind ≡ ends.out → RefusesWords k ends 0 → ⊥
+no_silent_help : (k : ErrorKind) (ends : RunEnds) → IsHelp k → ends.out ≡ outgoing_of nothing_written → ends.out_after ≡ ends.out → RefusesWords k ends 0 → ⊥
 no_silent_help k ends help first same (inl helps) = by_report helps.told
   where
-    by_report : Reported helps.text 0 ends.out ends.out_behind 0 → ⊥
-    by_report (inl written) = helps.some_text (nothing_of ends.out ends.out_behind helps.text first same written.0)
+    by_report : Reported helps.text 0 ends.out ends.out_after 0 → ⊥
+    by_report (inl written) = helps.some_text (nothing_of ends.out ends.out_after helps.text first same written.0)
     by_report (inr stopped) = fault_is_told stopped.fault stopped.status
 no_silent_help k ends help first same (inr (inl complains)) = complains.no_help help
 no_silent_help k ends help first same (inr (inr silent)) = silent_done ends silent
 
-no_silent_complaint : (k : ErrorKind) (ends : RunEnds) → (IsHelp k → ⊥) → ends.line ≡ outgoing_of nothing_written → ends.line_behind ≡ ends.line → RefusesWords k ends 135 → ⊥
+no_silent_complaint : (k : ErrorKind) (ends : RunEnds) → (IsHelp k → ⊥) → ends.line ≡ outgoing_of nothing_written → ends.line_after ≡ ends.line → RefusesWords k ends 135 → ⊥
 no_silent_complaint k ends other first same (inl helps) = other helps.help
 no_silent_complaint k ends other first same (inr (inl complains)) = by_report complains.told
   where
-    by_report : Reported complains.text 135 ends.line ends.line_behind 135 → ⊥
-    by_report (inl written) = complains.some_text (nothing_of ends.line ends.line_behind complains.text first same written.0)
+    by_report : Reported complains.text 135 ends.line ends.line_after 135 → ⊥
+    by_report (inl written) = complains.some_text (nothing_of ends.line ends.line_after complains.text first same written.0)
     by_report (inr stopped) = fault_is_no_complaint stopped.fault stopped.status
 no_silent_complaint k ends other first same (inr (inr silent)) = silent_complaint ends silent
 
 unread_done : (file : List ℕ) (ends : RunEnds) → NamesFile (Unit {0}) file ends 0 → ⊥
-unread_done file ends (inl named) = not_done _ 133 ends.line ends.line_behind (λ e. omega (arith, e)) named.2
+unread_done file ends (inl named) = not_done _ 133 ends.line ends.line_after (λ e. omega (arith, e)) named.2
 unread_done file ends (inr silent) = silent_done ends silent
 
 unread_run : (file : List ℕ) (ends : RunEnds) (status : ℕ) → NamesFile (Unit {0}) file ends status → HasNotRun ends
@@ -138,17 +138,17 @@ module _ (shelf : Holdings) where
   help_refused words ends is (no_memory silent) = silent_complaint ends silent
 
   help_beside : (words : List Text) (ends : RunEnds) (status : ℕ) → fault_of command_line words ≡ kind.DisplayHelp ∷ [] → Serves shelf words ends status
-      → (ends.input_behind ≡ ends.input) × (ends.line_behind ≡ ends.line)
+      → (ends.input_after ≡ ends.input) × (ends.line_after ≡ ends.line)
   help_beside words ends status is (did clean does) = absurd (no_fault words is clean)
   help_beside words ends status is (refused k among answers) = helped_aside k ends status (asks_help k words is among) answers
   help_beside words ends status is (no_memory silent) = (silent.unread.unread, silent.no_line)
 
-  help_silent : (words : List Text) (ends : RunEnds) → fault_of command_line words ≡ kind.DisplayHelp ∷ [] → ends.out ≡ outgoing_of nothing_written → ends.out_behind ≡ ends.out → Serves shelf words ends 0 → ⊥
+  help_silent : (words : List Text) (ends : RunEnds) → fault_of command_line words ≡ kind.DisplayHelp ∷ [] → ends.out ≡ outgoing_of nothing_written → ends.out_after ≡ ends.out → Serves shelf words ends 0 → ⊥
   help_silent words ends is first same (did clean does) = no_fault words is clean
   help_silent words ends is first same (refused k among answers) = no_silent_help k ends (asks_help k words is among) first same answers
   help_silent words ends is first same (no_memory silent) = silent_done ends silent
 
-  complaint_silent : (words : List Text) (ends : RunEnds) → AreWrong words → ends.line ≡ outgoing_of nothing_written → ends.line_behind ≡ ends.line → Serves shelf words ends 135 → ⊥
+  complaint_silent : (words : List Text) (ends : RunEnds) → AreWrong words → ends.line ≡ outgoing_of nothing_written → ends.line_after ≡ ends.line → Serves shelf words ends 135 → ⊥
   complaint_silent words ends wrong first same (did clean does) = wrong.fault clean
   complaint_silent words ends wrong first same (refused k among answers) = no_silent_complaint k ends (wrong.no_help k among) first same answers
   complaint_silent words ends wrong first same (no_memory silent) = silent_complaint ends silent
@@ -165,7 +165,7 @@ module _ (shelf : Holdings) where
     unread_done = unread_done;
     unread_run = unread_run;
     no_file_done = no_file_done;
-    both_done = λ ends does. not_done _ 135 ends.line ends.line_behind (λ e. omega (arith, e)) does.1;
+    both_done = λ ends does. not_done _ 135 ends.line ends.line_after (λ e. omega (arith, e)) does.1;
     both_run = λ ends status does. does.0;
     unread_words_done = λ old new told. not_done _ 135 old new (λ e. omega (arith, e)) told;
   }
@@ -186,7 +186,7 @@ module _ (file : MemFile) where
   run_alone steps ends status (inl none) = inr (no_file ends status none)
   run_alone steps ends status (inr runs) = inl (subst (λ t. RunsText steps t ends status) runs.1.1 runs.2)
 
-  go_alone : (edition : Edition) (steps : ℕ) (ends : RunEnds) (status : ℕ) → Does (holding file) (go file.name.now steps edition) ends status → ((behind : Unread) × GoesOff edition steps (unread file.text.now) (incoming_of behind) ends status) ⊎ SaysNothing ends status 134
+  go_alone : (edition : Edition) (steps : ℕ) (ends : RunEnds) (status : ℕ) → Does (holding file) (go file.name.now steps edition) ends status → ((following : Unread) × GoesOff edition steps (unread file.text.now) (incoming_of following) ends status) ⊎ SaysNothing ends status 134
   go_alone edition steps ends status (inl none) = inr (no_file ends status none)
   go_alone edition steps ends status (inr goes) =
       inl (goes.1, subst (λ t. GoesOff edition steps (unread t) (incoming_of goes.1) ends status) goes.2.1 goes.3)

@@ -36,12 +36,12 @@ pub record Excluded (shelf : Holdings) : Type 0 where
       → Serves shelf words ends WRONG_COMMAND → ⊥
   pub help_beside : (words : List Text) (ends : RunEnds) (status : ℕ)
       → fault_of command_line words ≡ kind.DisplayHelp ∷ [] → Serves shelf words ends status
-      → (ends.input_behind ≡ ends.input) × (ends.line_behind ≡ ends.line)
+      → (ends.input_after ≡ ends.input) × (ends.line_after ≡ ends.line)
   -- help without a text, and a complaint without one
   pub help_silent : (words : List Text) (ends : RunEnds) → fault_of command_line words ≡ kind.DisplayHelp ∷ []
-      → ends.out ≡ outgoing_of nothing_written → ends.out_behind ≡ ends.out → Serves shelf words ends DONE → ⊥
+      → ends.out ≡ outgoing_of nothing_written → ends.out_after ≡ ends.out → Serves shelf words ends DONE → ⊥
   pub complaint_silent : (words : List Text) (ends : RunEnds) → AreWrong words
-      → ends.line ≡ outgoing_of nothing_written → ends.line_behind ≡ ends.line
+      → ends.line ≡ outgoing_of nothing_written → ends.line_after ≡ ends.line
       → Serves shelf words ends WRONG_COMMAND → ⊥
   -- a file that can't be read, after which all went well, or the program read or wrote
   pub unread_done : (file : List ℕ) (ends : RunEnds) → NamesFile (Unit {0}) file ends DONE → ⊥
@@ -65,7 +65,7 @@ pub record FileIsRead (file : MemFile) : Type 0 where
   -- another source is compiled and run, or this one as of another edition
   pub go_alone : (edition : Edition) (steps : ℕ) (ends : RunEnds) (status : ℕ)
       → Does (holding file) (go file.name.now steps edition) ends status
-      → ((behind : Unread) × GoesOff edition steps (unread file.text.now) (incoming_of behind) ends status)
+      → ((following : Unread) × GoesOff edition steps (unread file.text.now) (incoming_of following) ends status)
       ⊎ SaysNothing ends status MEMORY
   -- another output than `a`, or another status than 0
   pub one_go : (input : Unread) (out line : Kept) (status : ℕ) → file.text.now ≡ codes "main(){putchar('a');}"

@@ -1,4 +1,4 @@
--- What comes of a command line.
+-- The answer to a command line.
 use Rattle.std.specs.Prelude.{◌≡◌, ◌≢◌, ℕ, Bool, List, [], ◌++◌, codes, if◌then◌else◌, ◌⊎◌}
 use Rattle.clap.specs.Words.{IsAmong, Text, fault_of, subcommand_of}
 use Rattle.clap.specs.declared.error.kind.ErrorKind.{ErrorKind}
@@ -25,11 +25,11 @@ use Rattle.bcommand.specs.CommandLine.{Asked, asked, command_line}
 use Rattle.bcommand.specs.CommandLine.{compile, run, go, locate, migrate, list, map, draw, check, trace, contradiction}
 use Rattle.bserve.specs.Shelves.{Holdings}
 
--- what is said of words that aren't UTF-8
+-- the message for words that aren't UTF-8
 abbrev pub unread_line : List ℕ
 unread_line = codes "error: a word of the command line is not UTF-8\n\nFor more information, try '--help'.\n"
 
--- what is said of a limit of steps and none
+-- the message for a limit of steps and none
 abbrev pub contradiction_line : List ℕ
 contradiction_line =
     codes "error: the argument '--steps <N>' cannot be used with '--no-limit'\n\nFor more information, try '--help'.\n"
@@ -37,42 +37,42 @@ contradiction_line =
 -- Nothing was read or written, and this is the status.
 pub record SaysNothing (ends : RunEnds) (status answer : ℕ) : Type 0 where
   pub unread : HasNotRun ends
-  pub no_line : ends.line_behind ≡ ends.line
+  pub no_line : ends.line_after ≡ ends.line
   pub status_is : status ≡ answer
 
--- The file could not be opened or read, for which there is this reason, or memory was refused.
+-- The file could not be opened or read, for which there is this reason, or memory ran out.
 abbrev pub HasNoFile : Type 0 → RunEnds → ℕ → Type 0
 HasNoFile reason ends status = reason × SaysNothing ends status DEVICE ⊎ SaysNothing ends status MEMORY
 
--- what is said of a file that can't be opened or read
+-- the message for a file that can't be opened or read
 abbrev pub no_file_line : List ℕ → List ℕ
 no_file_line file = codes "error: the file '" ++ file ++ codes "' can't be read\n"
 
 -- The file could not be opened or read, for which there is this reason, and its name was told; or memory was refused.
 abbrev pub NamesFile : Type 0 → Text → RunEnds → ℕ → Type 0
 NamesFile reason file ends status =
-    reason × HasNotRun ends × Reported (no_file_line file) DEVICE ends.line ends.line_behind status
+    reason × HasNotRun ends × Reported (no_file_line file) DEVICE ends.line ends.line_after status
     ⊎ SaysNothing ends status MEMORY
 
--- the ends of a command that tells of a source
+-- the streams of a command that tells of a source
 abbrev pub telling_ends : RunEnds → ToldEnds
 telling_ends ends =
-    record { out = ends.out; out_behind = ends.out_behind; line = ends.line; line_behind = ends.line_behind }
+    record { out = ends.out; out_after = ends.out_after; line = ends.line; line_after = ends.line_after }
 
 -- how findings are told
 abbrev pub form_of : (for_editor : Bool) → Form
 form_of for_editor = if for_editor then forms.Json else forms.Text
 
--- the compiler over the ends of the program
+-- the compiler over the streams of the program
 abbrev pub compiling : Edition → RunEnds → ℕ → Run
 compiling edition ends status = record {
   edition = edition;
   source = ends.input;
-  source_behind = ends.input_behind;
+  source_after = ends.input_after;
   code = ends.out;
-  code_behind = ends.out_behind;
+  code_after = ends.out_after;
   line = ends.line;
-  line_behind = ends.line_behind;
+  line_after = ends.line_after;
   status = status;
 }
 
@@ -83,40 +83,40 @@ Does shelf (compile edition) ends status =
 Does shelf (run file steps) ends status = HasNoFile (shelf.lacks file) ends status
     ⊎ ((text : List ℕ) × shelf.holds file text × RunsText steps text ends status)
 Does shelf (go file steps edition) ends status = HasNoFile (shelf.lacks file) ends status
-    ⊎ ((source : List ℕ) × (behind : Unread) × shelf.holds file source
-    × GoesOff edition steps (unread source) (incoming_of behind) ends status
-    × Headline edition steps (unread source) (incoming_of behind) ends status)
+    ⊎ ((source : List ℕ) × (following : Unread) × shelf.holds file source
+    × GoesOff edition steps (unread source) (incoming_of following) ends status
+    × Headline edition steps (unread source) (incoming_of following) ends status)
 Does shelf (locate file steps edition) ends status = NamesFile (shelf.lacks file) file ends status
     ⊎ ((source : List ℕ) × shelf.holds file source × Locates edition source steps ends status)
 Does shelf migrate ends status = Migrates (record {
   input = ends.input;
-  input_behind = ends.input_behind;
+  input_after = ends.input_after;
   out = ends.out;
-  out_behind = ends.out_behind;
-}) ends.line ends.line_behind status
+  out_after = ends.out_after;
+}) ends.line ends.line_after status
 Does shelf (list file name edition) ends status = NamesFile (shelf.lacks file) file ends status
-    ⊎ ((source : List ℕ) × shelf.holds file source × (ends.input_behind ≡ ends.input)
+    ⊎ ((source : List ℕ) × shelf.holds file source × (ends.input_after ≡ ends.input)
     × Lists edition source name (telling_ends ends) status)
 Does shelf (map file edition) ends status = NamesFile (shelf.lacks file) file ends status
-    ⊎ ((source : List ℕ) × shelf.holds file source × (ends.input_behind ≡ ends.input)
+    ⊎ ((source : List ℕ) × shelf.holds file source × (ends.input_after ≡ ends.input)
     × Maps edition source (telling_ends ends) status)
 Does shelf (draw file edition steps) ends status = NamesFile (shelf.lacks file) file ends status
     ⊎ ((source : List ℕ) × shelf.holds file source × Draws edition source steps ends status)
 Does shelf (check file edition for_editor) ends status = NamesFile (shelf.lacks file) file ends status
-    ⊎ ((source : List ℕ) × shelf.holds file source × (ends.input_behind ≡ ends.input)
-    × (ends.line_behind ≡ ends.line) × Checks (record {
+    ⊎ ((source : List ℕ) × shelf.holds file source × (ends.input_after ≡ ends.input)
+    × (ends.line_after ≡ ends.line) × Checks (record {
       edition = edition;
       form = form_of for_editor;
       file = file;
       source = source;
       out = ends.out;
-      out_behind = ends.out_behind;
+      out_after = ends.out_after;
       status = status;
     }))
 Does shelf (trace file steps from function edition) ends status = NamesFile (shelf.lacks file) file ends status
     ⊎ ((source : List ℕ) × shelf.holds file source × Traces edition source steps from function ends status)
 Does shelf contradiction ends status =
-    HasNotRun ends × Reported contradiction_line WRONG_COMMAND ends.line ends.line_behind status
+    HasNotRun ends × Reported contradiction_line WRONG_COMMAND ends.line ends.line_after status
 
 abbrev pub IsHelp : ErrorKind → Type 0
 IsHelp k = (k ≡ kind.DisplayHelp) ⊎ (k ≡ kind.DisplayVersion)
@@ -124,11 +124,11 @@ IsHelp k = (k ≡ kind.DisplayHelp) ⊎ (k ≡ kind.DisplayVersion)
 -- A text was written to the output, for a reason of this kind: help or the version was asked for.
 pub record AnswersHelp (k : ErrorKind) (ends : RunEnds) (status : ℕ) : Type 0 where
   pub help : IsHelp k
-  pub unread : ends.input_behind ≡ ends.input
-  pub no_line : ends.line_behind ≡ ends.line
+  pub unread : ends.input_after ≡ ends.input
+  pub no_line : ends.line_after ≡ ends.line
   pub text : List ℕ
   pub some_text : text ≢ []
-  pub told : Reported text DONE ends.out ends.out_behind status
+  pub told : Reported text DONE ends.out ends.out_after status
 
 -- A text was written beside the output, for a reason of another kind.
 pub record Complains (k : ErrorKind) (ends : RunEnds) (status : ℕ) : Type 0 where
@@ -137,7 +137,7 @@ pub record Complains (k : ErrorKind) (ends : RunEnds) (status : ℕ) : Type 0 wh
   pub unread : HasNotRun ends
   pub text : List ℕ
   pub some_text : text ≢ []
-  pub told : Reported text WRONG_COMMAND ends.line ends.line_behind status
+  pub told : Reported text WRONG_COMMAND ends.line ends.line_after status
 
 -- what is answered for a reason of this kind
 abbrev pub RefusesWords : ErrorKind → RunEnds → ℕ → Type 0

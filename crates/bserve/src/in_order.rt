@@ -13,14 +13,14 @@ use std::rt::Files;
 pub struct Streams<I: Read + Drop, O: Write + Drop, D: Write + Drop> {
     pub input: I,
     pub output: O,
-    /// Where a fault, a trap or a wrong command line is told.
+    /// Gets the lines of faults, traps and wrong command lines.
     pub diag: D,
-    /// Whether each piece of output is to be shown at once.
+    /// Whether each piece of output is shown at once.
     pub at_once: bool,
 }
 
-/// Does what the words of a command line ask for, or refuses them if there are none. All of its output has been shown
-/// when the status is given, or the status is that of a failed write.
+/// Does what the words of a command line ask for. Without words it refuses the command line. When it returns, all of the
+/// output was shown, or the status is that of a failed write.
 pub fn serve_in_order<R, I, O, D>(
     rt: &R,
     words: Option<Vec<String>>,

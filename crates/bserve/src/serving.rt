@@ -25,12 +25,12 @@ use clap::error::ErrorKind;
 use std::alloc::{AllocError, Global};
 use std::rt::Files;
 
-// What is said where `clap` says nothing.
-const UNTOLD: &str = "b: there is nothing to say of these words\n";
+// The message where that of `clap` is empty.
+const UNTOLD: &str = "b: there is no message for these words\n";
 
-/// Does what the words of a command line ask for, of the files of the system; the first word is the program's own name.
+/// Does what the words of a command line ask for, with the files of the system. The first word is the program's name.
 ///
-/// As `serve_with`.
+/// The same as `serve_with`.
 pub fn serve<R: AllocGlobal + Files, I: ByteIn, O: ByteOut, D: ByteOut>(
     rt: &R,
     words: &[String],
@@ -40,11 +40,11 @@ pub fn serve<R: AllocGlobal + Files, I: ByteIn, O: ByteOut, D: ByteOut>(
 ) -> Status
     ensures serves { Serves anything (map_each string_bytes words.now) (record {
       input = I.incoming input.old;
-      input_behind = I.incoming input.new;
+      input_after = I.incoming input.new;
       out = O.outgoing out.old;
-      out_behind = O.outgoing out.new;
+      out_after = O.outgoing out.new;
       line = D.outgoing diag.old;
-      line_behind = D.outgoing diag.new;
+      line_after = D.outgoing diag.new;
     }) result }
     ensures input_lender { I.lender input.new ≡ I.lender input.old }
     ensures out_lender { O.lender out.new ≡ O.lender out.old }
@@ -53,10 +53,10 @@ pub fn serve<R: AllocGlobal + Files, I: ByteIn, O: ByteOut, D: ByteOut>(
     serve_with(rt.alloc(), &SystemFiles { rt }, words, input, out, diag)
 }
 
-/// Does what the words of a command line ask for, of the files on a shelf; the first word is the program's own name.
+/// Does what the words of a command line ask for, with the files on a shelf. The first word is the program's own name.
 ///
-/// Help goes to `out` with status 0, and what is wrong with the words to `diag` with status 135. The words are read
-/// first, then FILE where it is needed, with 133 where it can't be, and then the input.
+/// Help goes to `out` with status 0. What is wrong with the words goes to `diag` with status 135. The words are read
+/// first, then FILE if a command needs it, and then the input. The status is 133 if FILE can't be read.
 pub fn serve_with<S: Shelf, I: ByteIn, O: ByteOut, D: ByteOut>(
     alloc: Global,
     shelf: &S,
@@ -67,11 +67,11 @@ pub fn serve_with<S: Shelf, I: ByteIn, O: ByteOut, D: ByteOut>(
 ) -> Status
     ensures serves { Serves (S.holdings shelf.now) (map_each string_bytes words.now) (record {
       input = I.incoming input.old;
-      input_behind = I.incoming input.new;
+      input_after = I.incoming input.new;
       out = O.outgoing out.old;
-      out_behind = O.outgoing out.new;
+      out_after = O.outgoing out.new;
       line = D.outgoing diag.old;
-      line_behind = D.outgoing diag.new;
+      line_after = D.outgoing diag.new;
     }) result }
     ensures input_lender { I.lender input.new ≡ I.lender input.old }
     ensures out_lender { O.lender out.new ≡ O.lender out.old }
@@ -94,11 +94,11 @@ fn perform<S: Shelf, I: ByteIn, O: ByteOut, D: ByteOut>(
 ) -> Status
     ensures does { Does (S.holdings shelf.now) (asked_of job.entry) (record {
       input = I.incoming input.old;
-      input_behind = I.incoming input.new;
+      input_after = I.incoming input.new;
       out = O.outgoing out.old;
-      out_behind = O.outgoing out.new;
+      out_after = O.outgoing out.new;
       line = D.outgoing diag.old;
-      line_behind = D.outgoing diag.new;
+      line_after = D.outgoing diag.new;
     }) result }
     ensures input_lender { I.lender input.new ≡ I.lender input.old }
     ensures out_lender { O.lender out.new ≡ O.lender out.old }
@@ -132,11 +132,11 @@ fn run_file<S: Shelf, I: ByteIn, O: ByteOut, D: ByteOut>(
 ) -> Status
     ensures does { Does (S.holdings shelf.now) (run target.entry.file.now target.entry.steps) (record {
       input = I.incoming input.old;
-      input_behind = I.incoming input.new;
+      input_after = I.incoming input.new;
       out = O.outgoing out.old;
-      out_behind = O.outgoing out.new;
+      out_after = O.outgoing out.new;
       line = D.outgoing diag.old;
-      line_behind = D.outgoing diag.new;
+      line_after = D.outgoing diag.new;
     }) result }
     ensures input_lender { I.lender input.new ≡ I.lender input.old }
     ensures out_lender { O.lender out.new ≡ O.lender out.old }
@@ -160,11 +160,11 @@ fn go_file<S: Shelf, I: ByteIn, O: ByteOut, D: ByteOut>(
 ) -> Status
     ensures does { Does (S.holdings shelf.now) (go target.entry.file.now target.entry.steps edition) (record {
       input = I.incoming input.old;
-      input_behind = I.incoming input.new;
+      input_after = I.incoming input.new;
       out = O.outgoing out.old;
-      out_behind = O.outgoing out.new;
+      out_after = O.outgoing out.new;
       line = D.outgoing diag.old;
-      line_behind = D.outgoing diag.new;
+      line_after = D.outgoing diag.new;
     }) result }
     ensures input_lender { I.lender input.new ≡ I.lender input.old }
     ensures out_lender { O.lender out.new ≡ O.lender out.old }
@@ -194,11 +194,11 @@ fn list_file<S: Shelf, O: ByteOut, D: ByteOut>(
 ) -> Status
     ensures does { (unread : Incoming) → Does (S.holdings shelf.now) (list subject.entry.file.now (option_map (λ n. n.now) subject.entry.name) subject.entry.edition) (record {
       input = unread;
-      input_behind = unread;
+      input_after = unread;
       out = O.outgoing out.old;
-      out_behind = O.outgoing out.new;
+      out_after = O.outgoing out.new;
       line = D.outgoing diag.old;
-      line_behind = D.outgoing diag.new;
+      line_after = D.outgoing diag.new;
     }) result }
     ensures out_lender { O.lender out.new ≡ O.lender out.old }
     ensures diag_lender { D.lender diag.new ≡ D.lender diag.old }
@@ -226,11 +226,11 @@ fn map_file<S: Shelf, O: ByteOut, D: ByteOut>(
 ) -> Status
     ensures does { (unread : Incoming) → Does (S.holdings shelf.now) (map subject.entry.file.now subject.entry.edition) (record {
       input = unread;
-      input_behind = unread;
+      input_after = unread;
       out = O.outgoing out.old;
-      out_behind = O.outgoing out.new;
+      out_after = O.outgoing out.new;
       line = D.outgoing diag.old;
-      line_behind = D.outgoing diag.new;
+      line_after = D.outgoing diag.new;
     }) result }
     ensures out_lender { O.lender out.new ≡ O.lender out.old }
     ensures diag_lender { D.lender diag.new ≡ D.lender diag.old }
@@ -253,11 +253,11 @@ fn draw_file<S: Shelf, I: ByteIn, O: ByteOut, D: ByteOut>(
 ) -> Status
     ensures does { Does (S.holdings shelf.now) (draw subject.entry.file.now subject.entry.edition steps) (record {
       input = I.incoming input.old;
-      input_behind = I.incoming input.new;
+      input_after = I.incoming input.new;
       out = O.outgoing out.old;
-      out_behind = O.outgoing out.new;
+      out_after = O.outgoing out.new;
       line = D.outgoing diag.old;
-      line_behind = D.outgoing diag.new;
+      line_after = D.outgoing diag.new;
     }) result }
     ensures input_lender { I.lender input.new ≡ I.lender input.old }
     ensures out_lender { O.lender out.new ≡ O.lender out.old }
@@ -288,11 +288,11 @@ fn check_file<S: Shelf, O: ByteOut, D: ByteOut>(
 ) -> Status
     ensures does { (unread : Incoming) → Does (S.holdings shelf.now) (check subject.entry.file.now subject.entry.edition for_editor) (record {
       input = unread;
-      input_behind = unread;
+      input_after = unread;
       out = O.outgoing out.old;
-      out_behind = O.outgoing out.new;
+      out_after = O.outgoing out.new;
       line = D.outgoing diag.old;
-      line_behind = D.outgoing diag.new;
+      line_after = D.outgoing diag.new;
     }) result }
     ensures out_lender { O.lender out.new ≡ O.lender out.old }
     ensures diag_lender { D.lender diag.new ≡ D.lender diag.old }
@@ -325,11 +325,11 @@ fn trace_file<S: Shelf, I: ByteIn, O: ByteOut, D: ByteOut>(
 ) -> Status
     ensures does { Does (S.holdings shelf.now) (trace walk.entry.file.now walk.entry.steps walk.entry.from (option_map (λ n. n.now) walk.entry.function) walk.entry.edition) (record {
       input = I.incoming input.old;
-      input_behind = I.incoming input.new;
+      input_after = I.incoming input.new;
       out = O.outgoing out.old;
-      out_behind = O.outgoing out.new;
+      out_after = O.outgoing out.new;
       line = D.outgoing diag.old;
-      line_behind = D.outgoing diag.new;
+      line_after = D.outgoing diag.new;
     }) result }
     ensures input_lender { I.lender input.new ≡ I.lender input.old }
     ensures out_lender { O.lender out.new ≡ O.lender out.old }
@@ -366,11 +366,11 @@ fn locate_file<S: Shelf, I: ByteIn, O: ByteOut, D: ByteOut>(
 ) -> Status
     ensures does { Does (S.holdings shelf.now) (locate target.entry.file.now target.entry.steps edition) (record {
       input = I.incoming input.old;
-      input_behind = I.incoming input.new;
+      input_after = I.incoming input.new;
       out = O.outgoing out.old;
-      out_behind = O.outgoing out.new;
+      out_after = O.outgoing out.new;
       line = D.outgoing diag.old;
-      line_behind = D.outgoing diag.new;
+      line_after = D.outgoing diag.new;
     }) result }
     ensures input_lender { I.lender input.new ≡ I.lender input.old }
     ensures out_lender { O.lender out.new ≡ O.lender out.old }
@@ -390,15 +390,15 @@ fn locate_file<S: Shelf, I: ByteIn, O: ByteOut, D: ByteOut>(
     }
 }
 
-// Tells that a file can't be opened or read, unless there was no memory for it.
+// Names a file that can't be opened or read, unless there was no memory for it.
 fn name_file<D: ByteOut>(alloc: Global, file: &str, fault: FileFault, diag: &mut D) -> Status
     ensures names { (unread : Incoming) (out : Outgoing) → NamesFile (fault ≡ FileFault.Device) file.now (record {
       input = unread;
-      input_behind = unread;
+      input_after = unread;
       out = out;
-      out_behind = out;
+      out_after = out;
       line = D.outgoing diag.old;
-      line_behind = D.outgoing diag.new;
+      line_after = D.outgoing diag.new;
     }) result }
     ensures diag_lender { D.lender diag.new ≡ D.lender diag.old }
 {
@@ -420,7 +420,7 @@ fn no_file_line(alloc: Global, file: &str) -> Result<String, AllocError>
     Ok(text)
 }
 
-// The status where a file was not read.
+// The status for a file that was not read.
 fn status_of(fault: FileFault) -> Status
     ensures { (fault ≡ FileFault.Device) × (result ≡ DEVICE) ⊎ (result ≡ MEMORY) }
 {
@@ -430,7 +430,7 @@ fn status_of(fault: FileFault) -> Status
     }
 }
 
-/// Refuses a command line with a word that can't be read, and says so.
+/// Refuses a command line with a word that isn't UTF-8, and says so.
 pub fn refuse_words<D: ByteOut>(diag: &mut D) -> Status
     ensures gives { Reported unread_line WRONG_COMMAND (D.outgoing diag.old) (D.outgoing diag.new) result }
     ensures diag_lender { D.lender diag.new ≡ D.lender diag.old }
@@ -450,11 +450,11 @@ fn refuse_with<D: ByteOut>(text: &str, diag: &mut D) -> Status
 fn refuse<O: ByteOut, D: ByteOut>(alloc: Global, error: Error, out: &mut O, diag: &mut D) -> Status
     ensures refuses { (unread : Incoming) → RefusesWords (kind_of error) (record {
       input = unread;
-      input_behind = unread;
+      input_after = unread;
       out = O.outgoing out.old;
-      out_behind = O.outgoing out.new;
+      out_after = O.outgoing out.new;
       line = D.outgoing diag.old;
-      line_behind = D.outgoing diag.new;
+      line_after = D.outgoing diag.new;
     }) result }
     ensures out_lender { O.lender out.new ≡ O.lender out.old }
     ensures diag_lender { D.lender diag.new ≡ D.lender diag.old }
@@ -480,13 +480,13 @@ fn or_untold(text: &str) -> &str
     if text.is_empty() { UNTOLD } else { text }
 }
 
-/// What no command line comes to, whatever the shelf holds: wrong words that end well or act, help that is a complaint, a
-/// file that can't be read and after which all is well, a limit of steps and none that run.
+/// No command line gives these answers, whatever the shelf holds: success or an action for wrong words, a complaint for
+/// help, success for a file that can't be read, a run where a limit of steps and none are asked for.
 pub fn wrong_answers_are_excluded<S: Shelf>(_shelf: &S)
     ensures { Excluded (S.holdings _shelf.now) }
 {}
 
-/// What is said of a file in memory: its own text is compiled or run, and no other, and it isn't missing.
+/// A file in memory isn't missing, and its own text is compiled or run, and no other.
 pub fn files_are_read(_file: MemFile<'_>)
     ensures { FileIsRead _file.entry }
 {}

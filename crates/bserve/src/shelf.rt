@@ -9,9 +9,9 @@ use std::{fs, io};
 /// Why a file was not read.
 #[derive(Clone, Copy)]
 pub enum FileFault {
-    /// It can't be opened, or not be read to its end.
+    /// It can't be opened or read.
     Device,
-    /// Memory was refused for its bytes.
+    /// There was no memory for its bytes.
     Memory,
 }
 
@@ -24,7 +24,7 @@ pub trait Shelf {
     ///
     /// # Errors
     ///
-    /// `Device` where it can't be opened or read, and `Memory` where there is no memory for its bytes.
+    /// `Device` if it can't be opened or read, and `Memory` if there is no memory for its bytes.
     fn read(&self, alloc: Global, name: &str) -> Result<Vec<u8>, FileFault>
         ensures text { IfOk result (λ text. Holdings.holds (holdings self.now) name.now text.items) }
         ensures fault { IfErr result (λ fault. fault ≡ FileFault.Device
@@ -49,7 +49,7 @@ impl<R: AllocGlobal + Files> Shelf for SystemFiles<'_, R> {
     }
 }
 
-/// A file in memory, and no other.
+/// One file in memory.
 #[derive(Clone, Copy)]
 pub struct MemFile<'a> {
     pub name: &'a str,

@@ -28,7 +28,7 @@ const WORKED: &str =
     "F f 1 5 1 0 26\nt 4\na 1\na 2\nw\np\na 1\nv\na 4\nv\nb +\na 0\nv\nm +\np\na 0\nv\nj 19\n\
     l 0\ng\nj 21\ne 2 16\np\na 4\nv\nr\nc 0\nr\nE\n";
 
-// A beginning that isn't the whole text is at fault in the line behind its last newline.
+// A beginning that isn't the whole text is at fault in the line after its last newline.
 #[test]
 fn beginnings_of_a_text(rt: HostRuntime) {
     let text = WORKED.as_bytes();
@@ -41,9 +41,9 @@ fn beginnings_of_a_text(rt: HostRuntime) {
     assert_eq!(rt; line, 30);
 }
 
-// Whatever byte stands behind the last line.
+// Whatever byte stands after the last line.
 #[test]
-fn a_byte_behind_a_text(rt: HostRuntime) -> Result<(), Fail> {
+fn a_byte_after_a_text(rt: HostRuntime) -> Result<(), Fail> {
     for byte in 0..=u8::MAX {
         let mut text = Vec::from_slice(rt.alloc(), WORKED.as_bytes())?;
         text.push(byte)?;

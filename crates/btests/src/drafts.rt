@@ -125,10 +125,33 @@ fn code_has_a_room(rt: HostRuntime) {
         (1, [None; 3]),
     ] {
         emit_pops(&mut buffer, count);
-        assert_eq!(rt; answers(&mut buffer), want, "behind {count}");
+        assert_eq!(rt; answers(&mut buffer), want, "after {count}");
     }
     buffer.clear();
     assert_eq!(rt; answers(&mut buffer), [Some(0), Some(1), Some(2)]);
+}
+
+// A buffer doesn't know which label instructions have their numbers.
+#[test]
+fn each_label_instruction_is_resolved(rt: HostRuntime) -> Result<(), Fail> {
+    let calls = [
+        Call::Mention("L", false, Ok(Binding::Internal(0))),
+        Call::Label("M", 7, Ok(0)),
+        Call::Label("L", 9, Ok(1)),
+    ];
+    let mut scope = Scope::new();
+    assert_eq!(rt; wrong_row(&mut scope, &calls)?, None);
+    let mut buffer = CodeBuffer::new();
+    assert!(rt; buffer.emit_label(0).is_ok());
+    assert!(rt; buffer.emit(Instr::Label(1)).is_ok());
+    for labels in [
+        [Instr::Label(1), Instr::Label(0)],
+        [Instr::Label(0), Instr::Label(1)],
+    ] {
+        buffer.resolve(&scope);
+        assert!(rt; buffer.code() == labels.as_slice());
+    }
+    Ok(())
 }
 
 #[test]

@@ -23,7 +23,7 @@ fn holds(rt: &impl Abort, image: &Image, words: &str) {
     assert_eq!(rt;
         [image.word(end), image.word(65535)],
         [0, 0],
-        "behind {words}"
+        "after {words}"
     );
 }
 

@@ -45,7 +45,7 @@ fn spelled(alloc: Global, token: &Token) -> Result<String, AllocError> {
     }
 }
 
-// Compares the tokens of a source with those to come, one a word; behind the last one it comes again.
+// Compares the tokens of a source with those to come, one a word; after the last one it comes again.
 fn gives(rt: &(impl AllocGlobal + Abort), source: &[u8], tokens: &str) -> Result<(), Fail> {
     let mut lexer = Lexer::new(MemIn::new(source));
     for token in tokens.split(' ') {

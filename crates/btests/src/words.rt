@@ -49,7 +49,7 @@ fn operators_on_one_word(rt: HostRuntime) {
 }
 
 // Stores `c` as a byte of a string and gives back the byte that stands there then.
-fn char_behind<S: Store + Drop>(mut store: S, s: u16, i: u16, c: u16) -> Option<u16> {
+fn char_after<S: Store + Drop>(mut store: S, s: u16, i: u16, c: u16) -> Option<u16> {
     set_char(&mut store, s, i, c).ok()?;
     Some(char_at(&store, s, i))
 }
@@ -66,7 +66,7 @@ fn strings_in_a_store(rt: HostRuntime) -> Result<(), Fail> {
         (65535, 2, 121, 121, 0, 30841),
         (65535, 0, 0, 0, 65535, 0),
     ] {
-        let stored = char_behind(&mut store, s, i, c);
+        let stored = char_after(&mut store, s, i, c);
         assert_eq!(rt;
             (stored, store.get(address)),
             (Some(byte), word),

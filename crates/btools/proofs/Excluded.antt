@@ -22,8 +22,8 @@ no_more [] rest h = h
 no_more (x ∷ xs) rest h = no_more xs rest cc
 
 -- what is left of a source can follow what was taken
-follows : (source : List ℕ) (behind : Unread) (taken : List ℕ) → Took (incoming_of (record { left = source; is_over = false })) taken (incoming_of behind) → CanFollow (incoming_of behind) behind.left
-follows source behind taken t over = no_more taken behind.left (sym t.bytes ∙ (t.all refl over ∙ append-nil taken))
+follows : (source : List ℕ) (following : Unread) (taken : List ℕ) → Took (incoming_of (record { left = source; is_over = false })) taken (incoming_of following) → CanFollow (incoming_of following) following.left
+follows source following taken t over = no_more taken following.left (sym t.bytes ∙ (t.all refl over ∙ append-nil taken))
 
 pub not_grown : (a b : ℕ) → a ≡ 0 → b ≡ 0 → Grew a b → ⊥
 not_grown a b e f h = omega (arith, e, f, h)
@@ -63,20 +63,20 @@ no_done s is (inr (inr (inl c))) = omega (arith, is, c)
 no_done s is (inr (inr (inr d))) = omega (arith, is, d)
 
 module _ (edition : Edition) (source : List ℕ) (r : Compilation) (g : CompilesTo [] (tokens_from edition 1 source) r) where
-  module _ (line line_behind : Outgoing) where
+  module _ (line line_after : Outgoing) where
     -- what holds of each source that begins so holds of this one
-    whole : (code : List ℕ) (status : ℕ) (w : WasCompiled edition source line line_behind code status) (P : Compilation → Type 0) → Whatever edition w.compiles.taken (incoming_of w.behind) P → P r
+    whole : (code : List ℕ) (status : ℕ) (w : WasCompiled edition source line line_after code status) (P : Compilation → Type 0) → Whatever edition w.compiles.taken (incoming_of w.following) P → P r
     whole code status w P all =
-        all w.behind.left (follows source w.behind w.compiles.taken w.compiles.took) r
+        all w.following.left (follows source w.following w.compiles.taken w.compiles.took) r
         (subst (λ t. CompilesTo [] (tokens_from edition 1 t) r) w.compiles.took.bytes g)
 
     -- a source that was compiled
     pub record Clean (code : List ℕ) : Type 0 where
       pub clean : r.stop ≡ None
       pub text : IsCodeText code (code_in edition source r g)
-      pub silent : line_behind ≡ line
+      pub silent : line_after ≡ line
 
-    pub clean : (code : List ℕ) → WasCompiled edition source line line_behind code 0 → Clean code
+    pub clean : (code : List ℕ) → WasCompiled edition source line line_after code 0 → Clean code
     clean code w =
         let is = whole code 0 w _ (w.compiles.compiled refl) in
         let text : code ≡ code_text edition r = sym w.code_is ∙ is.code.appended in
@@ -87,18 +87,18 @@ module _ (edition : Edition) (source : List ℕ) (r : Compilation) (g : Compiles
         }
 
     -- a failed device is that of the line, and the source has a fault
-    device : (code : List ℕ) → WasCompiled edition source line line_behind code 133 → Grew line.failures line_behind.failures × (r.stop ≡ None → ⊥)
+    device : (code : List ℕ) → WasCompiled edition source line line_after code 133 → Grew line.failures line_after.failures × (r.stop ≡ None → ⊥)
     device code w =
         let none_of_code : (a : ℕ) → a ≡ 0 → Grew a 0 → ⊥ = λ a e h. not_grown a 0 e refl h in
-        elim (w.compiles.failed refl) [ inl s ↦ absurd (not_grown 0 0 refl refl s.counted) | inr (inl o) ↦ absurd (none_of_code 0 refl o.code.counted.0) | inr (inr (inl c)) ↦ absurd (none_of_code c.opened.failures c.begun.failures (whole code 133 w _ c.code).1.counted.0) | inr (inr (inr l)) ↦ (let h = whole code 133 w _ l.written in (h.line.counted.0, λ none. let no : None ≡ Some h.diagnostic = sym none ∙ h.stop in cc)) ]
+        elim (w.compiles.failed refl) [ inl s ↦ absurd (not_grown 0 0 refl refl s.counted) | inr (inl o) ↦ absurd (none_of_code 0 refl o.code.counted.0) | inr (inr (inl c)) ↦ absurd (let h = whole code 133 w _ c.code in none_of_code h.before.failures h.written.failures h.refused.counted.0) | inr (inr (inr l)) ↦ (let h = whole code 133 w _ l.written in (h.line.counted.0, λ none. let no : None ≡ Some h.diagnostic = sym none ∙ h.stop in cc)) ]
 
-    program : (ds : List Definition) (image : Image) → HasProgram edition source line line_behind ds image → (r.stop ≡ None) × (ds ≡ code_in edition source r g) × (load_fault (code_in edition source r g) ≡ None)
+    program : (ds : List Definition) (image : Image) → HasProgram edition source line line_after ds image → (r.stop ≡ None) × (ds ≡ code_in edition source r g) × (load_fault (code_in edition source r g) ≡ None)
     program ds image p =
         let c = clean p.code p.compiled in
         let same = unique_code p.code ds (code_in edition source r g) p.is_text c.text in
         (c.clean, same, subst (λ (x : List Definition). load_fault x ≡ None) same p.loads)
 
-  module _ (line line_behind : Outgoing) where
+  module _ (line line_after : Outgoing) where
     refused_status : (text : List ℕ) (old new : Outgoing) (status : ℕ) → Reported text 132 old new status → (status ≡ 1) ⊎ (status ≡ 132) ⊎ (status ≡ 133) ⊎ (status ≡ 134)
     refused_status text old new status (inl told) = inr (inl told.1)
     refused_status text old new status (inr x) = by_kind x.fault x.status
@@ -113,24 +113,24 @@ module _ (edition : Edition) (source : List ℕ) (r : Compilation) (g : Compiles
     faulty_status status other (inr (inr (inl c))) = inr (inr (inl c))
     faulty_status status other (inr (inr (inr d))) = inr (inr (inr d))
 
-    some_status : (status : ℕ) → NoProgram edition source line line_behind status → (status ≡ 1) ⊎ (status ≡ 132) ⊎ (status ≡ 133) ⊎ (status ≡ 134)
+    some_status : (status : ℕ) → NoProgram edition source line line_after status → (status ≡ 1) ⊎ (status ≡ 132) ⊎ (status ≡ 133) ⊎ (status ≡ 134)
     some_status status (faulty code w other) = faulty_status status other w.compiles.no_other
     some_status status (unread code n w is none s) = inr (inl s)
-    some_status status (refused mid code ds f text w is lf ll told) = refused_status text mid line_behind status told
+    some_status status (refused mid code ds f text w is lf ll told) = refused_status text mid line_after status told
     some_status status (no_memory code w s) = inr (inr (inr s))
 
-    fault : NoProgram edition source line line_behind 1 → (d : Diagnostic) × (r.stop ≡ Some d) × Writes line (line_of d) line_behind
-    fault (faulty code w other) = let h = whole line line_behind code 1 w _ (w.compiles.faulty refl) in (h.fault, h.stop, h.line)
+    fault : NoProgram edition source line line_after 1 → (d : Diagnostic) × (r.stop ≡ Some d) × Writes line (line_of d) line_after
+    fault (faulty code w other) = let h = whole line line_after code 1 w _ (w.compiles.faulty refl) in (h.fault, h.stop, h.line)
     fault (unread code n w is none s) = absurd (omega (arith, s))
-    fault (refused mid code ds f text w is lf ll told) = absurd (other_answer text 132 mid line_behind 1 (λ e. omega (arith, e)) (λ e. omega (arith, e)) (λ e. omega (arith, e)) told)
+    fault (refused mid code ds f text w is lf ll told) = absurd (other_answer text 132 mid line_after 1 (λ e. omega (arith, e)) (λ e. omega (arith, e)) (λ e. omega (arith, e)) told)
     fault (no_memory code w s) = absurd (omega (arith, s))
 
-    no_status : (code : List ℕ) → WasCompiled edition source line line_behind code 132 → ⊥
+    no_status : (code : List ℕ) → WasCompiled edition source line line_after code 132 → ⊥
     no_status code w = elim (w.compiles.no_other) [ inl a ↦ omega (arith, a) | inr (inl b) ↦ omega (arith, b) | inr (inr (inl c)) ↦ omega (arith, c) | inr (inr (inr d)) ↦ omega (arith, d) ]
 
-    unloaded : NoProgram edition source line line_behind 132 → (f : LoadFault) × (text : List ℕ) × (load_fault (code_in edition source r g) ≡ Some f) × (load_line f ≡ Some text) × Writes line text line_behind
+    unloaded : NoProgram edition source line line_after 132 → (f : LoadFault) × (text : List ℕ) × (load_fault (code_in edition source r g) ≡ Some f) × (load_line f ≡ Some text) × Writes line text line_after
     unloaded (faulty code w other) = absurd (no_status code w)
-    unloaded (unread code n w is none s) = absurd (none (code_in edition source r g) (clean line line_behind code w).text)
+    unloaded (unread code n w is none s) = absurd (none (code_in edition source r g) (clean line line_after code w).text)
     unloaded (refused mid code ds f text w is lf ll told) =
         let c = clean line mid code w in
         let same = unique_code code ds (code_in edition source r g) is c.text in (
@@ -138,26 +138,26 @@ module _ (edition : Edition) (source : List ℕ) (r : Compilation) (g : Compiles
           text,
           subst (λ (x : List Definition). load_fault x ≡ Some f) same lf,
           ll,
-          subst (λ (l : Outgoing). Writes l text line_behind) c.silent (was_told text 132 mid line_behind (λ e. omega (arith, e)) (λ e. omega (arith, e)) told),
+          subst (λ (l : Outgoing). Writes l text line_after) c.silent (was_told text 132 mid line_after (λ e. omega (arith, e)) (λ e. omega (arith, e)) told),
         )
     unloaded (no_memory code w s) = absurd (omega (arith, s))
 
-    failed : NoProgram edition source line line_behind 133 → Grew line.failures line_behind.failures
-    failed (faulty code w other) = (device line line_behind code w).0
+    failed : NoProgram edition source line line_after 133 → Grew line.failures line_after.failures
+    failed (faulty code w other) = (device line line_after code w).0
     failed (unread code n w is none s) = absurd (omega (arith, s))
     failed (refused mid code ds f text w is lf ll told) =
-        subst (λ (l : Outgoing). Grew l.failures line_behind.failures) (clean line mid code w).silent (device_grew text 132 mid line_behind (λ e. omega (arith, e)) told)
+        subst (λ (l : Outgoing). Grew l.failures line_after.failures) (clean line mid code w).silent (device_grew text 132 mid line_after (λ e. omega (arith, e)) told)
     failed (no_memory code w s) = absurd (omega (arith, s))
 
-    by_status : (code : List ℕ) (status : ℕ) → WasCompiled edition source line line_behind code status → (status ≡ 0 → ⊥) → r.stop ≡ None → (status ≡ 0) ⊎ (status ≡ 1) ⊎ (status ≡ 133) ⊎ (status ≡ 134) → status ≡ 134
+    by_status : (code : List ℕ) (status : ℕ) → WasCompiled edition source line line_after code status → (status ≡ 0 → ⊥) → r.stop ≡ None → (status ≡ 0) ⊎ (status ≡ 1) ⊎ (status ≡ 133) ⊎ (status ≡ 134) → status ≡ 134
     by_status code status w other stop (inl a) = absurd (other a)
-    by_status code status w other stop (inr (inl b)) = let h = whole line line_behind code status w _ (w.compiles.faulty b) in let no : None ≡ Some h.fault = sym stop ∙ h.stop in cc
-    by_status code status w other stop (inr (inr (inl c))) = absurd ((device line line_behind code (subst (λ s. WasCompiled edition source line line_behind code s) c w)).1 stop)
+    by_status code status w other stop (inr (inl b)) = let h = whole line line_after code status w _ (w.compiles.faulty b) in let no : None ≡ Some h.fault = sym stop ∙ h.stop in cc
+    by_status code status w other stop (inr (inr (inl c))) = absurd ((device line line_after code (subst (λ s. WasCompiled edition source line line_after code s) c w)).1 stop)
     by_status code status w other stop (inr (inr (inr d))) = d
 
-    loads : (status : ℕ) → NoProgram edition source line line_behind status → r.stop ≡ None → load_fault (code_in edition source r g) ≡ None → status ≡ 134
+    loads : (status : ℕ) → NoProgram edition source line line_after status → r.stop ≡ None → load_fault (code_in edition source r g) ≡ None → status ≡ 134
     loads status (faulty code w other) stop none = by_status code status w other stop w.compiles.no_other
-    loads status (unread code n w is other s) stop none = absurd (other (code_in edition source r g) (clean line line_behind code w).text)
+    loads status (unread code n w is other s) stop none = absurd (other (code_in edition source r g) (clean line line_after code w).text)
     loads status (refused mid code ds f text w is lf ll told) stop none =
         let same = unique_code code ds (code_in edition source r g) is (clean line mid code w).text in
         let no : None ≡ Some f = sym none ∙ subst (λ (x : List Definition). load_fault x ≡ Some f) same lf in
@@ -165,11 +165,11 @@ module _ (edition : Edition) (source : List ℕ) (r : Compilation) (g : Compiles
     loads status (no_memory code w s) stop none = s
 
 pub excluded : WrongPrograms
-excluded edition source r g line line_behind = record {
-  program = program edition source r g line line_behind;
-  status = some_status edition source r g line line_behind;
-  fault = fault edition source r g line line_behind;
-  unloaded = unloaded edition source r g line line_behind;
-  device = failed edition source r g line line_behind;
-  loads = loads edition source r g line line_behind;
+excluded edition source r g line line_after = record {
+  program = program edition source r g line line_after;
+  status = some_status edition source r g line line_after;
+  fault = fault edition source r g line line_after;
+  unloaded = unloaded edition source r g line line_after;
+  device = failed edition source r g line line_after;
+  loads = loads edition source r g line line_after;
 }

@@ -28,49 +28,49 @@ abbrev nothing_kept : Kept
 nothing_kept = record { bytes = []; refusals = 0 }
 
 -- what compiling between these ends does
-abbrev Compiling : (edition : Edition) (source behind : Unread) (first last : Kept) (line line_behind : Outgoing) → ℕ → Type 0
-Compiling edition source behind first last line line_behind status =
-    Compiles (record { edition = edition; source = incoming_of source; source_behind = incoming_of behind; code = outgoing_of first; code_behind = outgoing_of last; line = line; line_behind = line_behind; status = status })
+abbrev Compiling : (edition : Edition) (source following : Unread) (first last : Kept) (line line_after : Outgoing) → ℕ → Type 0
+Compiling edition source following first last line line_after status =
+    Compiles (record { edition = edition; source = incoming_of source; source_after = incoming_of following; code = outgoing_of first; code_after = outgoing_of last; line = line; line_after = line_after; status = status })
 
 module _ (edition : Edition) (source : List ℕ) (line : Outgoing) where
-  pub compiled : (input behind : Unread) (first last : Kept) (line_behind : Outgoing) (status : ℕ) → input ≡ record { left = source; is_over = false } → first ≡ nothing_kept
-      → Compiling edition input behind first last line line_behind status → WasCompiled edition source line line_behind last.bytes status
-  compiled input behind first last line_behind status is none h = record {
-    behind = behind;
+  pub compiled : (input following : Unread) (first last : Kept) (line_after : Outgoing) (status : ℕ) → input ≡ record { left = source; is_over = false } → first ≡ nothing_kept
+      → Compiling edition input following first last line line_after status → WasCompiled edition source line line_after last.bytes status
+  compiled input following first last line_after status is none h = record {
+    following = following;
     kept = last;
     code_is = refl;
-    compiles = subst (λ (m : Kept). Compiling edition (record { left = source; is_over = false }) behind m last line line_behind status) none
-        (subst (λ (i : Unread). Compiling edition i behind first last line line_behind status) is h);
+    compiles = subst (λ (m : Kept). Compiling edition (record { left = source; is_over = false }) following m last line line_after status) none
+        (subst (λ (i : Unread). Compiling edition i following first last line line_after status) is h);
   }
 
-  not_told : (mid line_behind : Outgoing) (code : List ℕ) (ds : List Definition) (status : ℕ) (f : LoadFault) → WasCompiled edition source line mid code 0 → IsCodeText code ds → IsFault f (load_fault ds)
-      → TellsFault f mid line_behind status → NoProgram edition source line line_behind status
-  not_told mid line_behind code ds status (fault.Duplicate name) h is f told = refused mid code ds (fault.Duplicate name) _ h is f refl told
-  not_told mid line_behind code ds status fault.TooLarge h is f told = refused mid code ds fault.TooLarge _ h is f refl told
-  not_told mid line_behind code ds status (fault.Undefined name) h is f told = refused mid code ds (fault.Undefined name) _ h is f refl told
-  not_told mid line_behind code ds status fault.NoMain h is f told = refused mid code ds fault.NoMain _ h is f refl told
-  not_told mid line_behind code ds status fault.Memory h is f told =
+  not_told : (mid line_after : Outgoing) (code : List ℕ) (ds : List Definition) (status : ℕ) (f : LoadFault) → WasCompiled edition source line mid code 0 → IsCodeText code ds → IsFault f (load_fault ds)
+      → TellsFault f mid line_after status → NoProgram edition source line line_after status
+  not_told mid line_after code ds status (fault.Duplicate name) h is f told = refused mid code ds (fault.Duplicate name) _ h is f refl told
+  not_told mid line_after code ds status fault.TooLarge h is f told = refused mid code ds fault.TooLarge _ h is f refl told
+  not_told mid line_after code ds status (fault.Undefined name) h is f told = refused mid code ds (fault.Undefined name) _ h is f refl told
+  not_told mid line_after code ds status fault.NoMain h is f told = refused mid code ds fault.NoMain _ h is f refl told
+  not_told mid line_after code ds status fault.Memory h is f told =
       no_memory code (subst (λ (l : Outgoing). WasCompiled edition source line l code 0) (sym told.0) h) told.1
 
   text_unread : (mid : Outgoing) (code : List ℕ) (status : ℕ) → WasCompiled edition source line mid code 0 → IsUnread code status → NoProgram edition source line mid status
   text_unread mid code status h (inl memory) = no_memory code h memory
   text_unread mid code status h (inr none) = unread code none.0 h none.1 none.2 none.3
 
-  no_program : (mid line_behind : Outgoing) (code : List ℕ) (status : ℕ) → WasCompiled edition source line mid code 0 → IsNotLoaded code mid line_behind status → NoProgram edition source line line_behind status
-  no_program mid line_behind code status h (not_read why same) =
-      text_unread line_behind code status (subst (λ (l : Outgoing). WasCompiled edition source line l code 0) (sym same) h) why
-  no_program mid line_behind code status h (not_loaded ds f is why told) = not_told mid line_behind code ds status f h is why told
+  no_program : (mid line_after : Outgoing) (code : List ℕ) (status : ℕ) → WasCompiled edition source line mid code 0 → IsNotLoaded code mid line_after status → NoProgram edition source line line_after status
+  no_program mid line_after code status h (not_read why same) =
+      text_unread line_after code status (subst (λ (l : Outgoing). WasCompiled edition source line l code 0) (sym same) h) why
+  no_program mid line_after code status h (not_loaded ds f is why told) = not_told mid line_after code ds status f h is why told
 
-  pub loaded : (mid line_behind : Outgoing) (code : List ℕ) (r : Result Program ℕ) → WasCompiled edition source line mid code 0 → LoadGives code mid r line_behind
-      → MatchResult r (IsThisProgram edition source line line_behind) (NoProgram edition source line line_behind)
-  loaded mid line_behind code (Ok p) h gives = record {
+  pub loaded : (mid line_after : Outgoing) (code : List ℕ) (r : Result Program ℕ) → WasCompiled edition source line mid code 0 → LoadGives code mid r line_after
+      → MatchResult r (IsThisProgram edition source line line_after) (NoProgram edition source line line_after)
+  loaded mid line_after code (Ok p) h gives = record {
     code = code;
     compiled = subst (λ (l : Outgoing). WasCompiled edition source line l code 0) (sym gives.3) h;
     is_text = gives.0;
     loads = gives.1;
     loaded = gives.2;
   }
-  loaded mid line_behind code (Err status) h gives = no_program mid line_behind code status h gives
+  loaded mid line_after code (Err status) h gives = no_program mid line_after code status h gives
 
 -- a program that is loaded, whose definitions were read once more
 pub with_image : (code : List ℕ) (ds : List Definition) (image : Image) (line : Outgoing) (r : Result Program ℕ) → IsCodeText code ds → load_fault ds ≡ None → IsLoadedFrom ds image

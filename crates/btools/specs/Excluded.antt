@@ -1,4 +1,4 @@
--- What a source comes to decides what is told of its program, whatever its ends do: no other program, line or status.
+-- The outcome of a source decides what is told of its program, whatever its streams do: program, line and status.
 use Rattle.std.specs.Prelude.{◌≡◌, ℕ, List, [], map, Some, None, ◌⊎◌}
 use Rattle.bword.specs.declared.edition.Edition.{Edition}
 use Rattle.bword.specs.ByteEnds.{Grew, Outgoing, Writes}
@@ -20,27 +20,27 @@ module _ (edition : Edition) (source : List ℕ) (r : Compilation) (g : Compiles
     code_in = map code_of g.definitions
 
     -- What is excluded of a source that comes to r, between any two states of the end of lines.
-    pub record Excluded (line line_behind : Outgoing) : Type 0 where
+    pub record Excluded (line line_after : Outgoing) : Type 0 where
       -- a program of a source with a fault, or of other definitions, or of definitions that don't load
-      pub program : (ds : List Definition) (image : Image) → HasProgram edition source line line_behind ds image
+      pub program : (ds : List Definition) (image : Image) → HasProgram edition source line line_after ds image
           → (r.stop ≡ None) × (ds ≡ code_in) × (load_fault code_in ≡ None)
       -- 0 without a program, and each other status but these
-      pub status : (status : ℕ) → NoProgram edition source line line_behind status
+      pub status : (status : ℕ) → NoProgram edition source line line_after status
           → (status ≡ FAULT) ⊎ (status ≡ REFUSED) ⊎ (status ≡ DEVICE) ⊎ (status ≡ MEMORY)
       -- 1 for a source without a fault, or with another line
-      pub fault : NoProgram edition source line line_behind FAULT
-          → (d : Diagnostic) × (r.stop ≡ Some d) × Writes line (line_of d) line_behind
+      pub fault : NoProgram edition source line line_after FAULT
+          → (d : Diagnostic) × (r.stop ≡ Some d) × Writes line (line_of d) line_after
       -- 132 for definitions that load, or with another line, or with none
-      pub unloaded : NoProgram edition source line line_behind REFUSED
+      pub unloaded : NoProgram edition source line line_after REFUSED
           → (f : LoadFault) × (text : List ℕ) × (load_fault code_in ≡ Some f) × (load_line f ≡ Some text)
-          × Writes line text line_behind
+          × Writes line text line_after
       -- 133 where no write of a line failed
-      pub device : NoProgram edition source line line_behind DEVICE → Grew line.failures line_behind.failures
+      pub device : NoProgram edition source line line_after DEVICE → Grew line.failures line_after.failures
       -- another status than that of refused memory where the source has a program
-      pub loads : (status : ℕ) → NoProgram edition source line line_behind status → r.stop ≡ None
+      pub loads : (status : ℕ) → NoProgram edition source line line_after status → r.stop ≡ None
           → load_fault code_in ≡ None → status ≡ MEMORY
 
 abbrev pub WrongPrograms : Type 0
 WrongPrograms =
     (edition : Edition) (source : List ℕ) (r : Compilation) (g : CompilesTo [] (tokens_from edition 1 source) r)
-    (line line_behind : Outgoing) → Excluded edition source r g line line_behind
+    (line line_after : Outgoing) → Excluded edition source r g line line_after

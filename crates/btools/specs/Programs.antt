@@ -22,42 +22,42 @@ use Rattle.btools.specs.declared.program.Program.{Program}
 abbrev pub nothing_written : Outgoing
 nothing_written = outgoing_of (record { bytes = []; refusals = 0 })
 
--- the two ends of a command that tells of a source, before and after
+-- the two streams of a command that tells of a source, before and after
 pub record ToldEnds : Type 0 where
   pub out : Outgoing
-  pub out_behind : Outgoing
+  pub out_after : Outgoing
   pub line : Outgoing
-  pub line_behind : Outgoing
+  pub line_after : Outgoing
 
 -- The source was compiled between these ends of lines, to this code and with this status.
-pub record WasCompiled (edition : Edition) (source : List ℕ) (line line_behind : Outgoing) (code : List ℕ) (status : ℕ)
+pub record WasCompiled (edition : Edition) (source : List ℕ) (line line_after : Outgoing) (code : List ℕ) (status : ℕ)
     : Type 0 where
-  pub behind : Unread
+  pub following : Unread
   pub kept : Kept
   pub code_is : kept.bytes ≡ code
   pub compiles : Compiles (record {
     edition = edition;
     source = incoming_of (record { left = source; is_over = false });
-    source_behind = incoming_of behind;
+    source_after = incoming_of following;
     code = nothing_written;
-    code_behind = outgoing_of kept;
+    code_after = outgoing_of kept;
     line = line;
-    line_behind = line_behind;
+    line_after = line_after;
     status = status;
   })
 
 -- The source was compiled to the code text of these definitions, which load.
-pub record HasProgram (edition : Edition) (source : List ℕ) (line line_behind : Outgoing) (ds : List Definition)
+pub record HasProgram (edition : Edition) (source : List ℕ) (line line_after : Outgoing) (ds : List Definition)
     (image : Image) : Type 0 where
   pub code : List ℕ
-  pub compiled : WasCompiled edition source line line_behind code 0
+  pub compiled : WasCompiled edition source line line_after code 0
   pub is_text : IsCodeText code ds
   pub loads : load_fault ds ≡ None
   pub loaded : IsLoadedFrom ds image
 
-abbrev pub IsThisProgram : (edition : Edition) (source : List ℕ) (line line_behind : Outgoing) → Program → Type 0
-IsThisProgram edition source line line_behind p =
-    HasProgram edition source line line_behind p.definitions.items p.image
+abbrev pub IsThisProgram : (edition : Edition) (source : List ℕ) (line line_after : Outgoing) → Program → Type 0
+IsThisProgram edition source line line_after p =
+    HasProgram edition source line line_after p.definitions.items p.image
 
 -- where a name lies
 abbrev pub image_address : Image → List ℕ → ℕ
@@ -73,24 +73,24 @@ load_line fault.Memory = None
 
 -- what is told of a reason, or nothing where memory was refused
 abbrev pub TellsFault : LoadFault → Outgoing → Outgoing → ℕ → Type 0
-TellsFault f line line_behind status =
-    MatchOption (load_line f) ((line_behind ≡ line) × (status ≡ MEMORY))
-    (λ text. Reported text REFUSED line line_behind status)
+TellsFault f line line_after status =
+    MatchOption (load_line f) ((line_after ≡ line) × (status ≡ MEMORY))
+    (λ text. Reported text REFUSED line line_after status)
 
 -- Why there is no program: the source is faulty or was not compiled, and the line and the status are those of the
 -- compiler; its code is no code text, which never comes; it doesn't load, and that is told; or memory was refused.
-pub data NoProgram (edition : Edition) (source : List ℕ) (line line_behind : Outgoing) (status : ℕ) : Type 0 where
-  faulty : (code : List ℕ) → WasCompiled edition source line line_behind code status → (status ≡ 0 → ⊥)
-      → NoProgram edition source line line_behind status
-  unread : (code : List ℕ) (n : ℕ) → WasCompiled edition source line line_behind code 0 → IsFaultLine code n
+pub data NoProgram (edition : Edition) (source : List ℕ) (line line_after : Outgoing) (status : ℕ) : Type 0 where
+  faulty : (code : List ℕ) → WasCompiled edition source line line_after code status → (status ≡ 0 → ⊥)
+      → NoProgram edition source line line_after status
+  unread : (code : List ℕ) (n : ℕ) → WasCompiled edition source line line_after code 0 → IsFaultLine code n
       → ((ds : List Definition) → IsCodeText code ds → ⊥) → status ≡ REFUSED
-      → NoProgram edition source line line_behind status
+      → NoProgram edition source line line_after status
   refused : (mid : Outgoing) (code : List ℕ) (ds : List Definition) (f : LoadFault) (text : List ℕ)
       → WasCompiled edition source line mid code 0 → IsCodeText code ds → load_fault ds ≡ Some f
-      → load_line f ≡ Some text → Reported text REFUSED mid line_behind status
-      → NoProgram edition source line line_behind status
-  no_memory : (code : List ℕ) → WasCompiled edition source line line_behind code 0 → status ≡ MEMORY
-      → NoProgram edition source line line_behind status
+      → load_line f ≡ Some text → Reported text REFUSED mid line_after status
+      → NoProgram edition source line line_after status
+  no_memory : (code : List ℕ) → WasCompiled edition source line line_after code 0 → status ≡ MEMORY
+      → NoProgram edition source line line_after status
 
 -- the status of a text that was not read
 abbrev pub unread_status : CodeFault → ℕ
@@ -103,15 +103,15 @@ IsUnread code status = (status ≡ MEMORY)
     ⊎ ((n : ℕ) × IsFaultLine code n × ((ds : List Definition) → IsCodeText code ds → ⊥) × (status ≡ REFUSED))
 
 -- Why a code text is no program.
-pub data IsNotLoaded (code : List ℕ) (line line_behind : Outgoing) (status : ℕ) : Type 0 where
-  not_read : IsUnread code status → line_behind ≡ line → IsNotLoaded code line line_behind status
+pub data IsNotLoaded (code : List ℕ) (line line_after : Outgoing) (status : ℕ) : Type 0 where
+  not_read : IsUnread code status → line_after ≡ line → IsNotLoaded code line line_after status
   not_loaded : (ds : List Definition) (f : LoadFault) → IsCodeText code ds → IsFault f (load_fault ds)
-      → TellsFault f line line_behind status → IsNotLoaded code line line_behind status
+      → TellsFault f line line_after status → IsNotLoaded code line line_after status
 
 -- what comes of a code text that is loaded
 abbrev pub LoadGives : List ℕ → Outgoing → Result Program ℕ → Outgoing → Type 0
-LoadGives code line (Ok p) line_behind =
+LoadGives code line (Ok p) line_after =
     IsCodeText code p.definitions.items × (load_fault p.definitions.items ≡ None)
     × IsLoadedFrom p.definitions.items p.image
-    × (line_behind ≡ line)
-LoadGives code line (Err status) line_behind = IsNotLoaded code line line_behind status
+    × (line_after ≡ line)
+LoadGives code line (Err status) line_after = IsNotLoaded code line line_after status

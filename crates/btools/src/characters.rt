@@ -17,7 +17,7 @@ pub fn push_characters(text: &mut Text, word: u16) -> Result<(), AllocError>
     text.push(b"'")
 }
 
-/// A character, or the escape that stands for it; a byte that has none is shown as `.`.
+/// A character, or its escape; a byte that has neither is shown as `.`.
 pub fn push_byte(text: &mut Text, byte: u8) -> Result<(), AllocError>
     ensures { OnOk result (text.new ≡ text.old ++ shown_byte byte) }
 {

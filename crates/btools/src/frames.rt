@@ -62,7 +62,7 @@ enum At {
     Body,
     Auto,
     Extrn,
-    // Behind what may be the end of a body: `else` goes on with it.
+    // After what may be the end of a body: `else` goes on with it.
     End,
 }
 
@@ -102,19 +102,19 @@ impl Scan {
     fn go_on(&mut self, alloc: Global, lexeme: Lexeme) -> Result<(), AllocError> {
         let at = self.at;
         match at {
-            At::Begin => self.see_behind(lexeme),
+            At::Begin => self.see_after(lexeme),
             At::Name => self.see_kind(alloc, lexeme),
             At::Data => self.end_at_semicolon(lexeme, At::Begin),
             At::Parameters => self.see_parameter(lexeme),
             At::Body => self.see_body(lexeme),
             At::Auto => self.see_auto(lexeme),
             At::Extrn => self.end_at_semicolon(lexeme, At::Body),
-            At::End => self.see_behind(lexeme),
+            At::End => self.see_after(lexeme),
         }
     }
 
     // A definition begins with its name, or a body goes on with `else`.
-    fn see_behind(&mut self, lexeme: Lexeme) -> Result<(), AllocError> {
+    fn see_after(&mut self, lexeme: Lexeme) -> Result<(), AllocError> {
         self.at = match lexeme {
             Lexeme::Keyword(Keyword::Else) => At::Body,
             _ => At::Name,
@@ -129,7 +129,7 @@ impl Scan {
         Ok(())
     }
 
-    // What stands behind the name of a definition.
+    // What stands after the name of a definition.
     fn see_kind(&mut self, alloc: Global, lexeme: Lexeme) -> Result<(), AllocError> {
         match lexeme {
             Lexeme::OpenParen => {
@@ -207,7 +207,7 @@ impl Scan {
         Ok(())
     }
 
-    // The word that was added last is a vector's own, with words 0 to this one behind it.
+    // The word that was added last is a vector's own, with words 0 to this one after it.
     fn add_vector(&mut self, last: u16) {
         self.next = self.next.saturating_add(u32::from(last) + 1);
         let Some(frame) = self.frames.last_mut() else {

@@ -22,7 +22,7 @@ pub struct Program {
     pub names: Names,
 }
 
-/// What is told beside the code of a program.
+/// The names and lines beside the code of a program.
 #[derive(Drop)]
 pub struct Names {
     /// The names of each function, in order.
@@ -40,7 +40,7 @@ pub fn lines_in(definition: &Definition) -> usize {
     }
 }
 
-/// Compiles and loads a source, or tells why that can't be, with the status that `go` has.
+/// Compiles and loads a source, or tells why that can't be done, with the status of `go`.
 pub fn read_program<D: ByteOut>(
     alloc: Global,
     source: &[u8],
@@ -151,7 +151,7 @@ fn refuse<D: ByteOut>(fault: &LoadFault, diag: &mut D) -> Status
     }
 }
 
-/// The line of a reason why a program doesn't load; none where memory was refused.
+/// The line of a reason why a program doesn't load; none if memory ran out.
 pub fn load_line(fault: &LoadFault) -> Option<&'static [u8]>
     ensures { option_map (λ l. l.now) result ≡ load_line fault.now }
 {
@@ -194,7 +194,7 @@ fn lines_of(alloc: Global, source: &[u8], edition: Edition) -> Result<Vec<u64>, 
     Ok(lines)
 }
 
-/// What is told of no source: another program than that of its definitions, or another status or line where it has none.
+/// No source gives another program than that of its definitions, or another status or line if it has none.
 pub fn wrong_programs_are_excluded()
     ensures { WrongPrograms }
 {}

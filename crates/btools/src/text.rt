@@ -37,21 +37,21 @@ impl Text {
         self.bytes.as_slice()
     }
 
-    /// Bytes behind those that it has.
+    /// Adds these bytes.
     pub fn push(&mut self, bytes: &[u8]) -> Result<(), AllocError>
         ensures { OnOk result (self.new ≡ self.old ++ bytes.now) }
     {
         self.bytes.extend_from_slice(bytes)
     }
 
-    /// The digits of a number.
+    /// Adds the digits of a number.
     pub fn push_number(&mut self, number: u64) -> Result<(), AllocError>
         ensures { OnOk result (self.new ≡ self.old ++ decimal number) }
     {
         self.push(Buffer::new().format(number).as_bytes())
     }
 
-    /// So many blanks.
+    /// Adds so many blanks.
     pub fn push_blanks(&mut self, count: usize) -> Result<(), AllocError>
         ensures { OnOk result (self.new ≡ self.old ++ replicate count 32) }
     {
@@ -62,7 +62,7 @@ impl Text {
         Ok(())
     }
 
-    /// A text at the right of a column, which is wider where the text is.
+    /// Adds a text at the right of a column, which grows with the text.
     pub fn push_right(&mut self, width: usize, text: &[u8]) -> Result<(), AllocError>
         ensures { OnOk result (self.new ≡ self.old ++ right width text.now) }
     {
@@ -70,7 +70,7 @@ impl Text {
         self.push(text)
     }
 
-    /// A text at the left of a column, which is wider where the text is.
+    /// Adds a text at the left of a column, which grows with the text.
     pub fn push_left(&mut self, width: usize, text: &[u8]) -> Result<(), AllocError>
         ensures { OnOk result (self.new ≡ self.old ++ left width text.now) }
     {
@@ -78,7 +78,7 @@ impl Text {
         self.push_blanks(width.saturating_sub(text.len()))
     }
 
-    /// A number at the right of a column.
+    /// Adds a number at the right of a column.
     pub fn push_right_number(&mut self, width: usize, number: u64) -> Result<(), AllocError>
         ensures { OnOk result (self.new ≡ self.old ++ right width (decimal number)) }
     {

@@ -31,22 +31,27 @@ use Rattle.bmach.specs.Stepping.{BeginsNot, HasEnd}
 use Rattle.bmach.specs.Stops.{EndsAt, active_of}
 use Rattle.bmach.specs.declared.machine.Active.{Active}
 use Rattle.bmach.proofs.Resolving.{run-resolved}
+use Rattle.bmach.proofs.Running.{device_failed, memory_unfailed}
 use Rattle.bword.proofs.Remaining.{Rest, rest_after}
 use Rattle.brun.proofs.RunSteps.{outcome-resolved, run_loaded}
 use Rattle.btools.specs.Columns.{left, right}
 use Rattle.btools.specs.Programs as programs
 use Rattle.btools.specs.Programs.{HasProgram, NoProgram, WasCompiled, nothing_written}
 use Rattle.btools.proofs.Excluded.{not_grown}
-use Rattle.btrace.specs.Excluded.{ComesAlways, IsSourceOf, LocatesExcluded, TracesExcluded, calling, calling_f, closing, nothing, passing, status_of, trapping, writing}
+use Rattle.btrace.specs.Excluded.{ComesAlways, IsSourceOf, LocatesExcluded, TracesExcluded, calling, calling_f, closing, nothing, passing, status_of, storing, trapping, writing}
 use Rattle.btrace.specs.Locates as locates
 use Rattle.btrace.specs.Locates.{Locates, TellsSite, located_status, site_line}
 use Rattle.btrace.specs.Programs.{Placed, function_with, functions_of}
-use Rattle.btrace.specs.RowTexts.{Place, changed_text, code_of, first_words, has_more, margin, name_in, name_of, operands_text, place_text, step_row, words_text, written_row}
+use Rattle.btrace.specs.RowTexts.{Place, code_of, first_words, has_more, margin, name_in, name_of, operands_text, place_text, step_row, stored_text, words_text, written_row}
 use Rattle.btrace.specs.Traces as traces
-use Rattle.btrace.specs.Traces.{AreShown, EndsAs, IsWhere, ShowsRows, ShowsStep, TellsEnd, TellsPlace, TraceRow, Traces, Tries, rows_text, shown_of, store_after, waits_at, which_of}
+use Rattle.btrace.specs.Traces.{AreShown, EndsAs, IsWhere, ShowsRows, ShowsStep, TellsEnd, TellsPlace, TraceRow, Traces, Tries, rows_text, shown_of, store_after, stored_after, waits_at, which_of}
 use Rattle.btrace.specs.declared.tracing.TheConstants.{HEADING}
 use Rattle.btrace.specs.declared.tracing.Which.{Which}
-use Rattle.btrace.proofs.ReadTexts.{all_above, above_append, at, behind_line, behind_number, line_skipped, number_above, number_skipped, skip_digits, words_above}
+use Rattle.btrace.proofs.ReadTexts.{all_above, above_append, at, after_line, after_number, line_skipped, number_above, number_skipped, skip_digits, words_above}
+
+-- the functions of the machine of definitions
+abbrev machine_functions : List Definition → List Loaded
+machine_functions ds = (image_of ds).functions
 
 some_same : {A : Type 0} (a b : A) → Some a ≡ Some b → a ≡ b
 some_same a b e = cc
@@ -72,21 +77,21 @@ module _ (edition : Edition) (source : List ℕ) (ds : List Definition) (is : Is
   abbrev first : Unread
   first = record { left = source; is_over = false }
 
-  rest : (behind : Unread) (taken : List ℕ) → Took (incoming_of first) taken (incoming_of behind) → Rest (incoming_of behind) taken source
-  rest behind taken t = rest_after (incoming_of first) (incoming_of behind) taken source t refl (λ e. cc)
+  rest : (following : Unread) (taken : List ℕ) → Took (incoming_of first) taken (incoming_of following) → Rest (incoming_of following) taken source
+  rest following taken t = rest_after (incoming_of first) (incoming_of following) taken source t refl (λ e. cc)
 
   goes : (j : Incoming) (taken : List ℕ) (r : Rest j taken source) → CompilesTo [] (tokens_from edition 1 (taken ++ r.more)) is.compilation
   goes j taken r = subst (λ t. CompilesTo [] (tokens_from edition 1 t) is.compilation) (sym r.whole) is.goes
 
-  compiles : (line line_behind : Outgoing) (code : List ℕ) → WasCompiled edition source line line_behind code 0 → (code ≡ code_text edition is.compilation) × (line_behind ≡ line)
-  compiles line line_behind code w =
-      let r = rest w.behind w.compiles.taken w.compiles.took in
+  compiles : (line line_after : Outgoing) (code : List ℕ) → WasCompiled edition source line line_after code 0 → (code ≡ code_text edition is.compilation) × (line_after ≡ line)
+  compiles line line_after code w =
+      let r = rest w.following w.compiles.taken w.compiles.took in
       let c = w.compiles.compiled refl r.more r.follows is.compilation (goes _ w.compiles.taken r) in
       (sym w.code_is ∙ c.code.appended, c.silent)
 
-  not_faulty : (line line_behind : Outgoing) (code : List ℕ) (status : ℕ) → WasCompiled edition source line line_behind code status → status ≡ 1 → ⊥
-  not_faulty line line_behind code status w one =
-      let r = rest w.behind w.compiles.taken w.compiles.took in
+  not_faulty : (line line_after : Outgoing) (code : List ℕ) (status : ℕ) → WasCompiled edition source line line_after code status → status ≡ 1 → ⊥
+  not_faulty line line_after code status w one =
+      let r = rest w.following w.compiles.taken w.compiles.took in
       let c = w.compiles.faulty one r.more r.follows is.compilation (goes _ w.compiles.taken r) in
       let none : Some c.fault ≡ None = sym c.stop ∙ is.clean in
       cc
@@ -99,13 +104,13 @@ module _ (edition : Edition) (source : List ℕ) (ds : List Definition) (is : Is
   silent line mid other image p = (compiles line mid p.code p.compiled).1
 
   -- a status of a run is not told where there is no program
-  has_program : (line line_behind : Outgoing) (status : ℕ) → status < 132 → NoProgram edition source line line_behind status → ⊥
-  has_program line line_behind status less (programs.faulty code w some) =
-      elim w.compiles.no_other [ inl h ↦ some h | inr (inl h) ↦ not_faulty line line_behind code status w h | inr (inr (inl h)) ↦ omega arith | inr (inr (inr h)) ↦ omega arith ]
-  has_program line line_behind status less (programs.unread code n w f none e) = let bad : status ≡ 132 = e in omega arith
-  has_program line line_behind status less (programs.refused mid code ds' f text w t l m r) =
-      let bad : status ≡ 132 = (told text 132 mid line_behind status (omega arith) r).1 in omega arith
-  has_program line line_behind status less (programs.no_memory code w e) = let bad : status ≡ 134 = e in omega arith
+  has_program : (line line_after : Outgoing) (status : ℕ) → status < 132 → NoProgram edition source line line_after status → ⊥
+  has_program line line_after status less (programs.faulty code w some) =
+      elim w.compiles.no_other [ inl h ↦ some h | inr (inl h) ↦ not_faulty line line_after code status w h | inr (inr (inl h)) ↦ omega arith | inr (inr (inr h)) ↦ omega arith ]
+  has_program line line_after status less (programs.unread code n w f none e) = let bad : status ≡ 132 = e in omega arith
+  has_program line line_after status less (programs.refused mid code ds' f text w t l m r) =
+      let bad : status ≡ 132 = (told text 132 mid line_after status (omega arith) r).1 in omega arith
+  has_program line line_after status less (programs.no_memory code w e) = let bad : status ≡ 134 = e in omega arith
 
 -- what was loaded has the outcomes of its definitions
 outcome_loaded : (ds : List Definition) (image : Image) → IsLoadedFrom ds image → (input : List ℕ) (n : ℕ) → state_outcome (run image input n) ≡ state_outcome (machine ds input n)
@@ -119,23 +124,23 @@ no_end outcome.Device h e = h
 no_end outcome.Memory h e = h
 
 -- a run that begins isn't over before its first step
-begins : (ds : List Definition) (image : Image) (result : Outcome) (line line_behind : Outgoing) (status : ℕ) → status < 132 → ComesAlways ds 0 outcome.Limit → IsLoadedFrom ds image → BeginsNot image result
-    → Finishes result line line_behind status → ⊥
-begins ds image result line line_behind status less first l (inl e) f =
-    let g : (line_behind ≡ line) × (status ≡ MEMORY) = subst (λ r. Finishes r line line_behind status) e f in
+begins : (ds : List Definition) (image : Image) (result : Outcome) (line line_after : Outgoing) (status : ℕ) → status < 132 → ComesAlways ds 0 outcome.Limit → IsLoadedFrom ds image → BeginsNot image result
+    → Finishes result line line_after status → ⊥
+begins ds image result line line_after status less first l (inl e) f =
+    let g : (line_after ≡ line) × (status ≡ MEMORY) = subst (λ r. Finishes r line line_after status) e.0 f in
     let bad : status ≡ 134 = g.1 in
     omega arith
-begins ds image result line line_behind status less first l (inr h) f =
+begins ds image result line line_after status less first l (inr h) f =
     no_end result h.0 (sym (h.1 []).outcome ∙ outcome_loaded ds image l [] 0 ∙ first [])
 
 -- a run that is told with its own status came to its outcome
-came : (ds : List Definition) (steps : ℕ) (i j : Incoming) (o p line line_behind : Outgoing) (status : ℕ) → status < 132 → (result : Outcome) → RunGives (machine ds) steps i j o p result → Finishes result line line_behind status
+came : (ds : List Definition) (steps : ℕ) (i j : Incoming) (o p line line_after : Outgoing) (status : ℕ) → status < 132 → (result : Outcome) → RunGives (machine ds) steps i j o p result → Finishes result line line_after status
     → (status ≡ status_of result) × ((input : List ℕ) × (state_outcome (machine ds input steps) ≡ result))
-came ds steps i j o p line line_behind status less (outcome.Exit n) h f = (f.1, (h.taken ++ [], (h.shows [] (λ e. refl)).outcome))
-came ds steps i j o p line line_behind status less (outcome.Trap kind) h f = ((told _ TRAP line line_behind status (omega arith) f).1, (h.taken ++ [], (h.shows [] (λ e. refl)).outcome))
-came ds steps i j o p line line_behind status less outcome.Limit h f = ((told _ LIMIT line line_behind status (omega arith) f).1, (h.taken ++ [], (h.shows [] (λ e. refl)).outcome))
-came ds steps i j o p line line_behind status less outcome.Device h f = let bad : status ≡ 133 = f.1 in absurd (omega arith)
-came ds steps i j o p line line_behind status less outcome.Memory h f = let bad : status ≡ 134 = f.1 in absurd (omega arith)
+came ds steps i j o p line line_after status less (outcome.Exit n) h f = (f.1, (h.taken ++ [], (h.shows [] (λ e. refl)).outcome))
+came ds steps i j o p line line_after status less (outcome.Trap kind) h f = ((told _ TRAP line line_after status (omega arith) f).1, (h.taken ++ [], (h.shows [] (λ e. refl)).outcome))
+came ds steps i j o p line line_after status less outcome.Limit h f = ((told _ LIMIT line line_after status (omega arith) f).1, (h.taken ++ [], (h.shows [] (λ e. refl)).outcome))
+came ds steps i j o p line line_after status less outcome.Device h f = let bad : status ≡ 133 = f.1 in absurd (omega arith)
+came ds steps i j o p line line_after status less outcome.Memory h f = let bad : status ≡ 134 = f.1 in absurd (omega arith)
 
 -- what was written of a run, and its status
 record Told (ds : List Definition) (steps from : ℕ) (name : Option (List ℕ)) (i j : Incoming) (text : List ℕ) (status : ℕ) : Type 0 where
@@ -145,50 +150,50 @@ record Told (ds : List Definition) (steps from : ℕ) (name : Option (List ℕ))
   answer : status ≡ status_of result
   input : List ℕ
   comes : state_outcome (machine ds input steps) ≡ result
-  shows : ShowsRows (functions_of ds) which (machine ds) steps i j result HEADING.now text
+  shows : ShowsRows (functions_of ds) (machine_functions ds) which (machine ds) steps i j result HEADING.now text
 
 module _ (edition : Edition) (source : List ℕ) (ds : List Definition) (is : IsSourceOf edition source ds) (steps from : ℕ) (name : Option (List ℕ)) (ends : RunEnds) (status : ℕ) (less : status < 132) where
   -- a text was written, and it is the trace of a run
   traced_so : (mid : Outgoing) (other : List Definition) (image : Image) (which : Which) (result : Outcome) (text : List ℕ) (o p : Outgoing) (answer : ℕ) → HasProgram edition source ends.line mid other image
-      → which_of (functions_of other) from name ≡ Some which → RunGives (machine other) steps ends.input ends.input_behind o p result
-      → ShowsRows (functions_of other) which (machine other) steps ends.input ends.input_behind result HEADING.now text → Reported text DONE ends.out ends.out_behind answer → TellsEnd answer result mid ends.line_behind status
-      → Writes ends.out text ends.out_behind × Told ds steps from name ends.input ends.input_behind text status
+      → which_of (functions_of other) from name ≡ Some which → RunGives (machine other) steps ends.input ends.input_after o p result
+      → ShowsRows (functions_of other) (machine_functions other) which (machine other) steps ends.input ends.input_after result HEADING.now text → Reported text DONE ends.out ends.out_after answer → TellsEnd answer result mid ends.line_after status
+      → Writes ends.out text ends.out_after × Told ds steps from name ends.input ends.input_after text status
   traced_so mid other image which result text o p answer program named gives shows reported (inl t) =
       let zero : answer ≡ 0 = t.0 in
-      let c = came other steps ends.input ends.input_behind o p mid ends.line_behind status less result gives t.1 in
-      let here : Told other steps from name ends.input ends.input_behind text status = record { which = which; named = named; result = result; answer = c.0; input = c.1.0; comes = c.1.1; shows = shows } in (
-        (told text DONE ends.out ends.out_behind answer (omega arith) reported).0,
-        subst (λ x. Told x steps from name ends.input ends.input_behind text status) (only edition source ds is ends.line mid other image program) here,
+      let c = came other steps ends.input ends.input_after o p mid ends.line_after status less result gives t.1 in
+      let here : Told other steps from name ends.input ends.input_after text status = record { which = which; named = named; result = result; answer = c.0; input = c.1.0; comes = c.1.1; shows = shows } in (
+        (told text DONE ends.out ends.out_after answer (omega arith) reported).0,
+        subst (λ x. Told x steps from name ends.input ends.input_after text status) (only edition source ds is ends.line mid other image program) here,
       )
   traced_so mid other image which result text o p answer program named gives shows reported (inr t) =
       let same : status ≡ answer = t.2 in
-      absurd (t.0 ((told text DONE ends.out ends.out_behind answer (omega arith) reported).1))
+      absurd (t.0 ((told text DONE ends.out ends.out_after answer (omega arith) reported).1))
 
   -- where something was written it is the trace
-  told_so : (text : List ℕ) → ends.out.written ≡ Some [] → ends.out_behind.written ≡ Some text → (text ≡ [] → ⊥) → Traces edition source steps from name ends status
-      → Told ds steps from name ends.input ends.input_behind text status
-  told_so text before behind some (traces.traced mid other image which result t output answer program named gives shows reported tells) =
+  told_so : (text : List ℕ) → ends.out.written ≡ Some [] → ends.out_after.written ≡ Some text → (text ≡ [] → ⊥) → Traces edition source steps from name ends status
+      → Told ds steps from name ends.input ends.input_after text status
+  told_so text before following some (traces.traced mid other image which result t output answer program named gives shows reported tells) =
       let h = traced_so mid other image which result t _ _ answer program named gives shows reported tells in
-      subst (λ x. Told ds steps from name ends.input ends.input_behind x status) (sym (wrote ends.out ends.out_behind [] t text before behind h.0)) h.1
-  told_so text before behind some (traces.not_begun mid other image which result program named never f quiet) =
-      absurd (no_nothing ends.out_behind.written text (ap (λ (o : Outgoing). o.written) quiet.silent ∙ before) behind some)
-  told_so text before behind some (traces.unnamed mid other image program unknown r quiet) =
-      absurd (no_nothing ends.out_behind.written text (ap (λ (o : Outgoing). o.written) quiet.silent ∙ before) behind some)
-  told_so text before behind some (traces.stopped none quiet) =
-      absurd (no_nothing ends.out_behind.written text (ap (λ (o : Outgoing). o.written) quiet.silent ∙ before) behind some)
-  told_so text before behind some (traces.no_memory other image program same unfailed e) =
-      absurd (no_nothing ends.out_behind.written text (ap (λ (o : Outgoing). o.written) same ∙ before) behind some)
+      subst (λ x. Told ds steps from name ends.input ends.input_after x status) (sym (wrote ends.out ends.out_after [] t text before following h.0)) h.1
+  told_so text before following some (traces.not_begun mid other image which result program named never f quiet) =
+      absurd (no_nothing ends.out_after.written text (ap (λ (o : Outgoing). o.written) quiet.silent ∙ before) following some)
+  told_so text before following some (traces.unnamed mid other image program unknown r quiet) =
+      absurd (no_nothing ends.out_after.written text (ap (λ (o : Outgoing). o.written) quiet.silent ∙ before) following some)
+  told_so text before following some (traces.stopped none quiet) =
+      absurd (no_nothing ends.out_after.written text (ap (λ (o : Outgoing). o.written) quiet.silent ∙ before) following some)
+  told_so text before following some (traces.no_memory other image program same unfailed e) =
+      absurd (no_nothing ends.out_after.written text (ap (λ (o : Outgoing). o.written) same ∙ before) following some)
 
   -- a run that begins has its trace written
-  written_so : ComesAlways ds 0 outcome.Limit → Traces edition source steps from name ends status → (text : List ℕ) × (Writes ends.out text ends.out_behind × Told ds steps from name ends.input ends.input_behind text status)
+  written_so : ComesAlways ds 0 outcome.Limit → Traces edition source steps from name ends status → (text : List ℕ) × (Writes ends.out text ends.out_after × Told ds steps from name ends.input ends.input_after text status)
   written_so starts (traces.traced mid other image which result t output answer program named gives shows reported tells) =
       (t, traced_so mid other image which result t _ _ answer program named gives shows reported tells)
   written_so starts (traces.not_begun mid other image which result program named never f quiet) =
       let loaded = subst (λ x. IsLoadedFrom x image) (only edition source ds is ends.line mid other image program) program.loaded in
-      absurd (begins ds image result mid ends.line_behind status less starts loaded never f)
+      absurd (begins ds image result mid ends.line_after status less starts loaded never f)
   written_so starts (traces.unnamed mid other image program unknown r quiet) =
-      let bad : status ≡ 135 = (told _ WRONG_COMMAND mid ends.line_behind status (omega arith) r).1 in absurd (omega arith)
-  written_so starts (traces.stopped none quiet) = absurd (has_program edition source ds is ends.line ends.line_behind status less none)
+      let bad : status ≡ 135 = (told _ WRONG_COMMAND mid ends.line_after status (omega arith) r).1 in absurd (omega arith)
+  written_so starts (traces.stopped none quiet) = absurd (has_program edition source ds is ends.line ends.line_after status less none)
   written_so starts (traces.no_memory other image program same unfailed e) = let bad : status ≡ 134 = e in absurd (omega arith)
 
 -- what stands under the heading of a trace at the limit: rows, and where the run was over
@@ -198,7 +203,7 @@ record AtLimit (ds : List Definition) (steps : ℕ) (which : Which) (text : List
   ending : List ℕ
   text_is : text ≡ rows_text rows ++ ending
   all : map (λ r. r.made) rows ≡ shown_of which (machine ds input) steps
-  each : All (λ r. ShowsStep (functions_of ds) (machine ds input) r.made r.text) rows
+  each : All (λ r. ShowsStep (functions_of ds) (machine_functions ds) (machine ds input) r.made r.text) rows
   place : IsWhere (functions_of ds) (machine ds input) steps (store_after (machine ds input) steps) ending
 
 at_limit : (ds : List Definition) (steps from : ℕ) (name : Option (List ℕ)) (which : Which) (i j : Incoming) (text : List ℕ) (status : ℕ) → which_of (functions_of ds) from name ≡ Some which → ComesAlways ds steps outcome.Limit
@@ -207,11 +212,11 @@ at_limit ds steps from name which i j text status named comes t =
     let fs = functions_of ds in
     let limit : t.result ≡ outcome.Limit = sym t.comes ∙ comes t.input in
     let same : t.which ≡ which = some_same t.which which (sym t.named ∙ named) in
-    let s = subst (λ x. ShowsRows fs x (machine ds) steps i j outcome.Limit HEADING.now (HEADING.now ++ text)) same
-    (subst (λ r. ShowsRows fs t.which (machine ds) steps i j r HEADING.now (HEADING.now ++ text)) limit t.shows) in
+    let s = subst (λ x. ShowsRows fs (machine_functions ds) x (machine ds) steps i j outcome.Limit HEADING.now (HEADING.now ++ text)) same
+    (subst (λ r. ShowsRows fs (machine_functions ds) t.which (machine ds) steps i j r HEADING.now (HEADING.now ++ text)) limit t.shows) in
     let ends = s.ends [] (λ e. refl) in
     let states = machine ds (s.taken ++ []) in
-    let shown = subst (λ m. AreShown fs which states m s.rows) ends.0 (s.shown [] (λ e. refl)) in
+    let shown = subst (λ m. AreShown fs (machine_functions ds) which states m s.rows) ends.0 (s.shown [] (λ e. refl)) in
     record {
       input = s.taken ++ [];
       rows = s.rows;
@@ -232,29 +237,29 @@ begun_text line answer o p status all e f (inr r) =
 
 -- a run that has a trace and didn't fail to read came to its outcome
 came_unfailed : (ds : List Definition) (steps : ℕ) (i j : Incoming) (output : Kept) (fs : List Placed) (which : Which) (old new : List ℕ) → (Grew i.failures j.failures → ⊥) → (result : Outcome)
-    → RunGives (machine ds) steps i j nothing_written (outgoing_of output) result → ShowsRows fs which (machine ds) steps i j result old new → (input : List ℕ) × (state_outcome (machine ds input steps) ≡ result)
+    → RunGives (machine ds) steps i j nothing_written (outgoing_of output) result → ShowsRows fs (machine_functions ds) which (machine ds) steps i j result old new → (input : List ℕ) × (state_outcome (machine ds input steps) ≡ result)
 came_unfailed ds steps i j output fs which old new unread (outcome.Exit n) h s = (h.taken ++ [], (h.shows [] (λ e. refl)).outcome)
 came_unfailed ds steps i j output fs which old new unread (outcome.Trap kind) h s = (h.taken ++ [], (h.shows [] (λ e. refl)).outcome)
 came_unfailed ds steps i j output fs which old new unread outcome.Limit h s = (h.taken ++ [], (h.shows [] (λ e. refl)).outcome)
-came_unfailed ds steps i j output fs which old new unread outcome.Device h s = absurd (elim (h.reason) [ inl read ↦ unread read | inr written ↦ not_grown 0 0 refl refl written ])
+came_unfailed ds steps i j output fs which old new unread outcome.Device h s = absurd (elim (device_failed (machine ds) steps i j nothing_written (outgoing_of output) h) [ inl read ↦ unread read | inr written ↦ not_grown 0 0 refl refl written ])
 came_unfailed ds steps i j output fs which old new unread outcome.Memory h s = absurd (s.ends [] (λ e. refl))
 
 -- What was written under the heading is a beginning of the trace of a run to its limit.
 module _ (edition : Edition) (source : List ℕ) (ds : List Definition) (is : IsSourceOf edition source ds) (steps from : ℕ) (which : Which) (named : which_of (functions_of ds) from None ≡ Some which) (comes : ComesAlways ds steps outcome.Limit)
-    (ends : RunEnds) (status : ℕ) (unread : Grew ends.input.failures ends.input_behind.failures → ⊥) (text : List ℕ) (before : ends.out.written ≡ Some []) (behind : ends.out_behind.written ≡ Some (HEADING.now ++ text)) where
-  silent_out : ends.out_behind ≡ ends.out → ⊥
-  silent_out same = no_nothing ends.out_behind.written (HEADING.now ++ text) (ap (λ (o : Outgoing). o.written) same ∙ before) behind (λ e. cc)
+    (ends : RunEnds) (status : ℕ) (unread : Grew ends.input.failures ends.input_after.failures → ⊥) (text : List ℕ) (before : ends.out.written ≡ Some []) (following : ends.out_after.written ≡ Some (HEADING.now ++ text)) where
+  silent_out : ends.out_after ≡ ends.out → ⊥
+  silent_out same = no_nothing ends.out_after.written (HEADING.now ++ text) (ap (λ (o : Outgoing). o.written) same ∙ before) following (λ e. cc)
 
   begins_so : Traces edition source steps from None ends status → (more : List ℕ) × AtLimit ds steps which (text ++ more)
   begins_so (traces.traced mid other image w result t output answer program chosen gives shows reported tells) =
-      let b = begun_text t DONE ends.out ends.out_behind answer (HEADING.now ++ text) before behind reported in
-      let c = came_unfailed other steps ends.input ends.input_behind output (functions_of other) w HEADING.now t unread result gives shows in
-      let here : Told other steps from None ends.input ends.input_behind t (status_of result) = record { which = w; named = chosen; result = result; answer = refl; input = c.0; comes = c.1; shows = shows } in
+      let b = begun_text t DONE ends.out ends.out_after answer (HEADING.now ++ text) before following reported in
+      let c = came_unfailed other steps ends.input ends.input_after output (functions_of other) w HEADING.now t unread result gives shows in
+      let here : Told other steps from None ends.input ends.input_after t (status_of result) = record { which = w; named = chosen; result = result; answer = refl; input = c.0; comes = c.1; shows = shows } in
       let whole : t ≡ HEADING.now ++ (text ++ b.0) = b.1 ∙ append_assoc HEADING.now text b.0 in
-      let mine = subst (λ x. Told x steps from None ends.input ends.input_behind t (status_of result)) (only edition source ds is ends.line mid other image program) here in (
+      let mine = subst (λ x. Told x steps from None ends.input ends.input_after t (status_of result)) (only edition source ds is ends.line mid other image program) here in (
         b.0,
-        at_limit ds steps from None which ends.input ends.input_behind (text ++ b.0) (status_of result) named comes
-            (subst (λ x. Told ds steps from None ends.input ends.input_behind x (status_of result)) whole mine),
+        at_limit ds steps from None which ends.input ends.input_after (text ++ b.0) (status_of result) named comes
+            (subst (λ x. Told ds steps from None ends.input ends.input_after x (status_of result)) whole mine),
       )
   begins_so (traces.not_begun mid other image w result program chosen never f quiet) = absurd (silent_out quiet.silent)
   begins_so (traces.unnamed mid other image program unknown r quiet) = absurd (silent_out quiet.silent)
@@ -320,54 +325,51 @@ row_head fs number call = ((right 8 (decimal number) ++ codes "  ") ++ left 8 (n
 abbrev row_tail : List Placed → Call → List ℕ
 row_tail fs call = ((codes "  " ++ left 12 (code_of fs call)) ++ operands_text (reverse call.operands)) ++ codes "\n"
 
-record FirstRow (fs : List Placed) (states : ℕ → State) (made : ℕ) (call : Call) (others : List ℕ) (ending text : List ℕ) : Type 0 where
+record FirstRow (fs : List Placed) (functions : List Loaded) (states : ℕ → State) (made : ℕ) (call : Call) (others : List ℕ) (ending text : List ℕ) : Type 0 where
   line : ℕ
-  changed : List ℕ
   bytes : List ℕ
   rows : List TraceRow
-  text_is : text ≡ row_head fs (made + 1) call ++ (right 6 (decimal line) ++ (row_tail fs call ++ (changed_text (state_world (states (made + 1))).store changed ++ (written_row bytes ++ (rows_text rows ++ ending)))))
+  text_is : text ≡ row_head fs (made + 1) call ++ (right 6 (decimal line) ++ (row_tail fs call ++ (stored_text (store_after states (made + 1)) (stored_after functions states made) ++ (written_row bytes ++ (rows_text rows ++ ending)))))
   wrote : output_of (states (made + 1)) ≡ output_of (states made) ++ bytes
   all : map (λ r. r.made) rows ≡ others
-  each : All (λ r. ShowsStep fs states r.made r.text) rows
+  each : All (λ r. ShowsStep fs functions states r.made r.text) rows
 
 row_parts : (a b c d e f g h i j : List ℕ) → (((((((((a ++ b) ++ c) ++ d) ++ e) ++ f) ++ g) ++ h) ++ i) ++ j) ≡ (((a ++ b) ++ c) ++ d) ++ (e ++ ((((f ++ g) ++ h) ++ i) ++ j))
 row_parts a b c d e f g h i j = simp append_assoc
 
-behind_row : (row changed bytes rows ending : List ℕ) → (((row ++ changed) ++ bytes) ++ rows) ++ ending ≡ row ++ (changed ++ (bytes ++ (rows ++ ending)))
-behind_row row changed bytes rows ending = simp append_assoc
+after_row : (row words bytes rows ending : List ℕ) → (((row ++ words) ++ bytes) ++ rows) ++ ending ≡ row ++ (words ++ (bytes ++ (rows ++ ending)))
+after_row row words bytes rows ending = simp append_assoc
 
-row_shown : (fs : List Placed) (states : ℕ → State) (made n : ℕ) (call : Call) (text : List ℕ) → made ≡ n → call_of (states n) ≡ Some call → ShowsStep fs states made text
-    → (line : ℕ) × (changed : List ℕ) × (bytes : List ℕ)
-    × (text ≡ (step_row fs (n + 1) call line ++ changed_text (state_world (states (n + 1))).store changed) ++ written_row bytes)
+row_shown : (fs : List Placed) (functions : List Loaded) (states : ℕ → State) (made n : ℕ) (call : Call) (text : List ℕ) → made ≡ n → call_of (states n) ≡ Some call → ShowsStep fs functions states made text
+    → (line : ℕ) × (bytes : List ℕ)
+    × (text ≡ (step_row fs (n + 1) call line ++ stored_text (store_after states (n + 1)) (stored_after functions states n)) ++ written_row bytes)
     × (output_of (states (n + 1)) ≡ output_of (states n) ++ bytes)
-row_shown fs states made n call text same at_call h =
-    let s = subst (λ m. ShowsStep fs states m text) same h in
+row_shown fs functions states made n call text same at_call h =
+    let s = subst (λ m. ShowsStep fs functions states m text) same h in
     let is : s.tries.call ≡ call = some_same s.tries.call call (sym (ap call_of s.tries.state_is) ∙ at_call) in (
       s.line,
-      s.changed,
       s.bytes,
-      s.text_is ∙ ap (λ c. (step_row fs (n + 1) c s.line ++ changed_text (state_world (states (n + 1))).store s.changed) ++ written_row s.bytes) is,
+      s.text_is ∙ ap (λ c. (step_row fs (n + 1) c s.line ++ stored_text (store_after states (n + 1)) (stored_after functions states n)) ++ written_row s.bytes) is,
       s.wrote ∙ ap (λ o. o ++ s.bytes) (sym (ap output_of s.tries.state_is)),
     )
 
-module _ (fs : List Placed) (states : ℕ → State) (n : ℕ) (call : Call) (at_call : call_of (states n) ≡ Some call) (others ending : List ℕ) where
-  first_row : (rows : List TraceRow) → map (λ r. r.made) rows ≡ n ∷ others → All (λ r. ShowsStep fs states r.made r.text) rows → FirstRow fs states n call others ending (rows_text rows ++ ending)
+module _ (fs : List Placed) (functions : List Loaded) (states : ℕ → State) (n : ℕ) (call : Call) (at_call : call_of (states n) ≡ Some call) (others ending : List ℕ) where
+  first_row : (rows : List TraceRow) → map (λ r. r.made) rows ≡ n ∷ others → All (λ r. ShowsStep fs functions states r.made r.text) rows → FirstRow fs functions states n call others ending (rows_text rows ++ ending)
   first_row [] e each = cc
   first_row (r ∷ rows) e each =
-      let P : TraceRow → Type 0 = λ x. ShowsStep fs states x.made x.text in
+      let P : TraceRow → Type 0 = λ x. ShowsStep fs functions states x.made x.text in
       let same : r.made ≡ n = cc in
       let tails : map (λ x. x.made) rows ≡ others = cc in
-      let s = row_shown fs states r.made n call r.text same at_call (All-head P r rows each) in
+      let s = row_shown fs functions states r.made n call r.text same at_call (All-head P r rows each) in
       let row = step_row fs (n + 1) call s.0 in
-      let changed = changed_text (state_world (states (n + 1))).store s.1 in
+      let words = stored_text (store_after states (n + 1)) (stored_after functions states n) in
       record {
         line = s.0;
-        changed = s.1;
-        bytes = s.2;
+        bytes = s.1;
         rows = rows;
-        text_is = ap (λ t. (t ++ rows_text rows) ++ ending) s.3 ∙ behind_row row changed (written_row s.2) (rows_text rows) ending
-            ∙ row_parts (right 8 (decimal (n + 1))) (codes "  ") (left 8 (name_of fs call)) (right 6 (decimal call.place)) (right 6 (decimal s.0)) (codes "  ") (left 12 (code_of fs call)) (operands_text (reverse call.operands)) (codes "\n") (changed ++ (written_row s.2 ++ (rows_text rows ++ ending)));
-        wrote = s.4;
+        text_is = ap (λ t. (t ++ rows_text rows) ++ ending) s.2 ∙ after_row row words (written_row s.1) (rows_text rows) ending
+            ∙ row_parts (right 8 (decimal (n + 1))) (codes "  ") (left 8 (name_of fs call)) (right 6 (decimal call.place)) (right 6 (decimal s.0)) (codes "  ") (left 12 (code_of fs call)) (operands_text (reverse call.operands)) (codes "\n") (words ++ (written_row s.1 ++ (rows_text rows ++ ending)));
+        wrote = s.3;
         all = tails;
         each = All-tail P r rows each;
       }
@@ -376,31 +378,31 @@ no_row : (rows : List TraceRow) → map (λ r. r.made) rows ≡ [] → rows_text
 no_row [] e = refl
 no_row (r ∷ rows) e = cc
 
--- what stands behind a row begins with blanks, where the step has changed or written something
-behind_step : (store changed bytes text : List ℕ) → (at 7 (changed_text store changed ++ (written_row bytes ++ text)) ≡ 32) ⊎ (at 7 (changed_text store changed ++ (written_row bytes ++ text)) ≡ at 7 text)
+-- what stands after a row begins with blanks, where the step has stored or written something
+after_step : (store stored bytes text : List ℕ) → (at 7 (stored_text store stored ++ (written_row bytes ++ text)) ≡ 32) ⊎ (at 7 (stored_text store stored ++ (written_row bytes ++ text)) ≡ at 7 text)
 unfolding margin
-behind_step store [] [] text = inr refl
-behind_step store [] (b ∷ bytes) text = inl refl
-behind_step store (a ∷ changed) bytes text = inl refl
+after_step store [] [] text = inr refl
+after_step store [] (b ∷ bytes) text = inl refl
+after_step store (a ∷ stored) bytes text = inl refl
 
-behind_writing : (store changed bytes text : List ℕ) (b : ℕ) → bytes ≡ b ∷ [] → at 7 (changed_text store changed ++ (written_row bytes ++ text)) ≡ 32
+after_writing : (store stored bytes text : List ℕ) (b : ℕ) → bytes ≡ b ∷ [] → at 7 (stored_text store stored ++ (written_row bytes ++ text)) ≡ 32
 unfolding margin
-behind_writing store changed [] text b e = cc
-behind_writing store [] (c ∷ bytes) text b e = refl
-behind_writing store (a ∷ changed) (c ∷ bytes) text b e = refl
+after_writing store stored [] text b e = cc
+after_writing store [] (c ∷ bytes) text b e = refl
+after_writing store (a ∷ stored) (c ∷ bytes) text b e = refl
 
--- A text that begins with this row. Behind it stand blanks, or a text with this character in its eighth column.
+-- A text that begins with this row. After it stand blanks, or a text with this character in its eighth column.
 record Begins (head tail : List ℕ) (seventh : ℕ) (text : List ℕ) : Type 0 where
   line : ℕ
   more : List ℕ
   text_is : text ≡ head ++ (right 6 (decimal line) ++ (tail ++ more))
   next : (at 7 more ≡ 32) ⊎ (at 7 more ≡ seventh)
 
--- what stands behind the number of the line
-behind_line_number : (head tail start text : List ℕ) (seventh : ℕ) (b : Begins head tail seventh text) → text ≡ head ++ start → behind_number start ≡ skip_digits (tail ++ b.more)
-behind_line_number head tail start text seventh b e =
+-- what stands after the number of the line
+after_line_number : (head tail start text : List ℕ) (seventh : ℕ) (b : Begins head tail seventh text) → text ≡ head ++ start → after_number start ≡ skip_digits (tail ++ b.more)
+after_line_number head tail start text seventh b e =
     let rest = append_cancel_left head start (right 6 (decimal b.line) ++ (tail ++ b.more)) (sym e ∙ b.text_is) in
-    ap behind_number rest ∙ number_skipped 6 b.line (tail ++ b.more)
+    ap after_number rest ∙ number_skipped 6 b.line (tail ++ b.more)
 
 abbrev loaded : List Instr → (strings : ℕ) → Loaded
 loaded code strings = record { parameters = 0; frame = 0; targets = []; code = code; strings = strings; first_label = 1 }
@@ -507,54 +509,54 @@ passing_words input = refl
 where_begins : (fs : List Placed) (store : List ℕ) (c : Call) (below : List Call) (text : List ℕ) → Where fs store c below text → at 7 text ≡ 105
 where_begins fs store c below text w = ap (at 7) w.text_is
 
-row_begins : (fs : List Placed) (states : ℕ → State) (n : ℕ) (c : Call) (others ending text head tail : List ℕ) (seventh : ℕ) → row_head fs (n + 1) c ≡ head → row_tail fs c ≡ tail → (r : FirstRow fs states n c others ending text)
-    → (at 7 (changed_text (state_world (states (n + 1))).store r.changed ++ (written_row r.bytes ++ (rows_text r.rows ++ ending))) ≡ 32) ⊎ (at 7 (changed_text (state_world (states (n + 1))).store r.changed ++ (written_row r.bytes ++ (rows_text r.rows ++ ending))) ≡ seventh)
+row_begins : (fs : List Placed) (functions : List Loaded) (states : ℕ → State) (n : ℕ) (c : Call) (others ending text head tail : List ℕ) (seventh : ℕ) → row_head fs (n + 1) c ≡ head → row_tail fs c ≡ tail → (r : FirstRow fs functions states n c others ending text)
+    → (at 7 (stored_text (store_after states (n + 1)) (stored_after functions states n) ++ (written_row r.bytes ++ (rows_text r.rows ++ ending))) ≡ 32) ⊎ (at 7 (stored_text (store_after states (n + 1)) (stored_after functions states n) ++ (written_row r.bytes ++ (rows_text r.rows ++ ending))) ≡ seventh)
     → Begins head tail seventh text
-row_begins fs states n c others ending text head tail seventh h t r next =
-    let behind = changed_text (state_world (states (n + 1))).store r.changed ++ (written_row r.bytes ++ (rows_text r.rows ++ ending)) in
+row_begins fs functions states n c others ending text head tail seventh h t r next =
+    let following = stored_text (store_after states (n + 1)) (stored_after functions states n) ++ (written_row r.bytes ++ (rows_text r.rows ++ ending)) in
     record {
       line = r.line;
-      more = behind;
-      text_is = r.text_is ∙ ap (λ x. x ++ (right 6 (decimal r.line) ++ (row_tail fs c ++ behind))) h ∙ ap (λ x. head ++ (right 6 (decimal r.line) ++ (x ++ behind))) t;
+      more = following;
+      text_is = r.text_is ∙ ap (λ x. x ++ (right 6 (decimal r.line) ++ (row_tail fs c ++ following))) h ∙ ap (λ x. head ++ (right 6 (decimal r.line) ++ (x ++ following))) t;
       next = next;
     }
 
-or_seventh : (store changed bytes text : List ℕ) (seventh : ℕ) → at 7 text ≡ seventh → (at 7 (changed_text store changed ++ (written_row bytes ++ text)) ≡ 32) ⊎ (at 7 (changed_text store changed ++ (written_row bytes ++ text)) ≡ seventh)
-or_seventh store changed bytes text seventh h = elim (behind_step store changed bytes text) [ inl x ↦ inl x | inr x ↦ inr (x ∙ h) ]
+or_seventh : (store stored bytes text : List ℕ) (seventh : ℕ) → at 7 text ≡ seventh → (at 7 (stored_text store stored ++ (written_row bytes ++ text)) ≡ 32) ⊎ (at 7 (stored_text store stored ++ (written_row bytes ++ text)) ≡ seventh)
+or_seventh store stored bytes text seventh h = elim (after_step store stored bytes text) [ inl x ↦ inl x | inr x ↦ inr (x ∙ h) ]
 
 module _ (input text ending : List ℕ) (rows : List TraceRow) (e : text ≡ rows_text rows ++ ending) where
   -- the row of the first step of `nothing`
-  nothing_row : map (λ r. r.made) rows ≡ 0 ∷ [] → All (λ r. ShowsStep (functions_of nothing) (machine nothing input) r.made r.text) rows → IsWhere (functions_of nothing) (machine nothing input) 1 (store_after (machine nothing input) 1) ending
+  nothing_row : map (λ r. r.made) rows ≡ 0 ∷ [] → All (λ r. ShowsStep (functions_of nothing) (machine_functions nothing) (machine nothing input) r.made r.text) rows → IsWhere (functions_of nothing) (machine nothing input) 1 (store_after (machine nothing input) 1) ending
       → Begins (codes "       1  main         0") (codes "  c 0         \n") 105 text
   nothing_row all each place =
       let fs = functions_of nothing in
       let states = machine nothing input in
-      let r = first_row fs states 0 nothing_main (nothing_runs input) [] ending rows all each in
+      let r = first_row fs (machine_functions nothing) states 0 nothing_main (nothing_runs input) [] ending rows all each in
       let w = where_of fs states 1 (store_after states 1) ending (call (loaded closing 8) 8 1 (0 ∷ [])) [] refl refl place in
-      let next = or_seventh (state_world (states 1)).store r.changed r.bytes (rows_text r.rows ++ ending) 105 (ap (λ t. at 7 (t ++ ending)) (no_row r.rows r.all) ∙ where_begins fs _ _ [] ending w) in
-      subst (λ t. Begins (codes "       1  main         0") (codes "  c 0         \n") 105 t) (sym e) (row_begins fs states 0 nothing_main [] ending _ _ _ 105 nothing_head nothing_tail r next)
+      let next = or_seventh (store_after states 1) (stored_after (machine_functions nothing) states 0) r.bytes (rows_text r.rows ++ ending) 105 (ap (λ t. at 7 (t ++ ending)) (no_row r.rows r.all) ∙ where_begins fs _ _ [] ending w) in
+      subst (λ t. Begins (codes "       1  main         0") (codes "  c 0         \n") 105 t) (sym e) (row_begins fs (machine_functions nothing) states 0 nothing_main [] ending _ _ _ 105 nothing_head nothing_tail r next)
 
   -- the first of two rows
-  calling_row : map (λ r. r.made) rows ≡ 0 ∷ 1 ∷ [] → All (λ r. ShowsStep (functions_of calling) (machine calling input) r.made r.text) rows
+  calling_row : map (λ r. r.made) rows ≡ 0 ∷ 1 ∷ [] → All (λ r. ShowsStep (functions_of calling) (machine_functions calling) (machine calling input) r.made r.text) rows
       → Begins (codes "       1  main         0") (codes "  x f         \n") 50 text
   calling_row all each =
       let fs = functions_of calling in
       let states = machine calling input in
-      let r = first_row fs states 0 (calling_main 0 []) (calling_runs input) (1 ∷ []) ending rows all each in
-      let s = first_row fs states 1 (calling_main 1 (8 ∷ [])) (calling_second input) [] ending r.rows r.all r.each in
-      let seventh : at 7 (rows_text r.rows ++ ending) ≡ 50 = ap (at 7) s.text_is ∙ ap (λ h. at 7 (h ++ (right 6 (decimal s.line) ++ (row_tail fs (calling_main 1 (8 ∷ [])) ++ (changed_text (state_world (states 2)).store s.changed ++ (written_row s.bytes ++ (rows_text s.rows ++ ending))))))) second_head in
-      let next = or_seventh (state_world (states 1)).store r.changed r.bytes (rows_text r.rows ++ ending) 50 seventh in
-      subst (λ t. Begins (codes "       1  main         0") (codes "  x f         \n") 50 t) (sym e) (row_begins fs states 0 (calling_main 0 []) (1 ∷ []) ending _ _ _ 50 calling_head calling_tail r next)
+      let r = first_row fs (machine_functions calling) states 0 (calling_main 0 []) (calling_runs input) (1 ∷ []) ending rows all each in
+      let s = first_row fs (machine_functions calling) states 1 (calling_main 1 (8 ∷ [])) (calling_second input) [] ending r.rows r.all r.each in
+      let seventh : at 7 (rows_text r.rows ++ ending) ≡ 50 = ap (at 7) s.text_is ∙ ap (λ h. at 7 (h ++ (right 6 (decimal s.line) ++ (row_tail fs (calling_main 1 (8 ∷ [])) ++ (stored_text (store_after states 2) (stored_after (machine_functions calling) states 1) ++ (written_row s.bytes ++ (rows_text s.rows ++ ending))))))) second_head in
+      let next = or_seventh (store_after states 1) (stored_after (machine_functions calling) states 0) r.bytes (rows_text r.rows ++ ending) 50 seventh in
+      subst (λ t. Begins (codes "       1  main         0") (codes "  x f         \n") 50 t) (sym e) (row_begins fs (machine_functions calling) states 0 (calling_main 0 []) (1 ∷ []) ending _ _ _ 50 calling_head calling_tail r next)
 
   -- the row of the step that writes
-  writing_row : map (λ r. r.made) rows ≡ 3 ∷ [] → All (λ r. ShowsStep (functions_of writing) (machine writing input) r.made r.text) rows
+  writing_row : map (λ r. r.made) rows ≡ 3 ∷ [] → All (λ r. ShowsStep (functions_of writing) (machine_functions writing) (machine writing input) r.made r.text) rows
       → Begins (codes "       4  main         3") (codes "  k 1          4 97\n") 32 text
   writing_row all each =
       let fs = functions_of writing in
       let states = machine writing input in
-      let r = first_row fs states 3 writing_main (writing_runs input) [] ending rows all each in
-      let next = behind_writing (state_world (states 4)).store r.changed r.bytes (rows_text r.rows ++ ending) 97 (sym r.wrote) in
-      subst (λ t. Begins (codes "       4  main         3") (codes "  k 1          4 97\n") 32 t) (sym e) (row_begins fs states 3 writing_main [] ending _ _ _ 32 writing_head writing_tail r (inl next))
+      let r = first_row fs (machine_functions writing) states 3 writing_main (writing_runs input) [] ending rows all each in
+      let next = after_writing (store_after states 4) (stored_after (machine_functions writing) states 3) r.bytes (rows_text r.rows ++ ending) 97 (sym r.wrote) in
+      subst (λ t. Begins (codes "       4  main         3") (codes "  k 1          4 97\n") 32 t) (sym e) (row_begins fs (machine_functions writing) states 3 writing_main [] ending _ _ _ 32 writing_head writing_tail r (inl next))
 
 -- two texts with different characters in a column
 differ : (column a b : ℕ) (s t : List ℕ) → s ≡ t → at column s ≡ a → at column t ≡ b → (a ≡ b → ⊥) → ⊥
@@ -564,13 +566,71 @@ seventh_is : (n a : ℕ) → (n ≡ 32) ⊎ (n ≡ a) → (m : ℕ) → n ≡ m 
 seventh_is n a (inl h) m e p q = p (sym e ∙ h)
 seventh_is n a (inr h) m e p q = q (sym e ∙ h)
 
+no_more : (before text : List ℕ) → before ≡ before ++ text → text ≡ []
+no_more before text e = sym (append_cancel_left before [] text (append-nil before ∙ e))
+
+-- A text that begins with a row that shows just this, where the run was over after it.
+record Follows (head tail shown text : List ℕ) : Type 0 where
+  line : ℕ
+  ending : List ℕ
+  text_is : text ≡ head ++ (right 6 (decimal line) ++ (tail ++ (shown ++ ending)))
+  place : at 7 ending ≡ 105
+
+follows_row : (fs : List Placed) (functions : List Loaded) (states : ℕ → State) (n : ℕ) (c : Call) (ending text head tail shown : List ℕ) → row_head fs (n + 1) c ≡ head → row_tail fs c ≡ tail
+    → stored_text (store_after states (n + 1)) (stored_after functions states n) ≡ shown → output_of (states n) ≡ output_of (states (n + 1)) → at 7 ending ≡ 105 → FirstRow fs functions states n c [] ending text → Follows head tail shown text
+follows_row fs functions states n c ending text head tail shown h t w silent place r =
+    let none : r.bytes ≡ [] = no_more (output_of (states n)) r.bytes (silent ∙ r.wrote) in
+    let number = right 6 (decimal r.line) in
+    record {
+      line = r.line;
+      ending = ending;
+      text_is = r.text_is ∙ ap (λ x. x ++ (number ++ (row_tail fs c ++ (stored_text (store_after states (n + 1)) (stored_after functions states n) ++ (written_row r.bytes ++ (rows_text r.rows ++ ending)))))) h
+          ∙ ap (λ x. head ++ (number ++ (x ++ (stored_text (store_after states (n + 1)) (stored_after functions states n) ++ (written_row r.bytes ++ (rows_text r.rows ++ ending)))))) t
+          ∙ ap (λ x. head ++ (number ++ (tail ++ (x ++ (written_row r.bytes ++ (rows_text r.rows ++ ending)))))) w
+          ∙ ap (λ x. head ++ (number ++ (tail ++ (shown ++ (written_row x ++ (rows_text r.rows ++ ending)))))) none
+          ∙ ap (λ x. head ++ (number ++ (tail ++ (shown ++ (x ++ ending))))) (no_row r.rows r.all);
+      place = place;
+    }
+
+after_row_line : (head tail shown start text : List ℕ) (f : Follows head tail shown text) → text ≡ head ++ start → after_number start ≡ skip_digits (tail ++ (shown ++ f.ending))
+after_row_line head tail shown start text f e =
+    let rest = append_cancel_left head start (right 6 (decimal f.line) ++ (tail ++ (shown ++ f.ending))) (sym e ∙ f.text_is) in
+    ap after_number rest ∙ number_skipped 6 f.line (tail ++ (shown ++ f.ending))
+
+abbrev storing_code : List Instr
+storing_code = instr.Constant 3 ∷ instr.Constant 5 ∷ instr.Store ∷ instr.Pop ∷ closing
+
+abbrev storing_main : Call
+storing_main = call (loaded storing_code 8) 8 2 (5 ∷ 3 ∷ [])
+
+storing_runs : (input : List ℕ) → call_of (machine storing input 2) ≡ Some storing_main
+storing_runs input = refl
+
+storing_shown : (input : List ℕ) → shown_of (record { from = 3; function = None }) (machine storing input) 3 ≡ 2 ∷ []
+storing_shown input = refl
+
+storing_head : row_head (functions_of storing) 3 storing_main ≡ codes "       3  main         2"
+unfolding digits
+storing_head = refl
+
+storing_tail : row_tail (functions_of storing) storing_main ≡ codes "  w            3 5\n"
+unfolding digits
+storing_tail = refl
+
+abbrev word_shown : List ℕ
+word_shown = codes "                                           @3 = 5\n"
+
+storing_words : (input : List ℕ) → stored_text (store_after (machine storing input) 3) (stored_after (machine_functions storing) (machine storing input) 2) ≡ word_shown
+unfolding digits margin
+storing_words input = refl
+
 -- Small programs that are traced, each at its limit.
-module _ (edition : Edition) (source : List ℕ) (ends : RunEnds) (text : List ℕ) (before : ends.out.written ≡ Some []) (behind : ends.out_behind.written ≡ Some (HEADING.now ++ text)) where
+module _ (edition : Edition) (source : List ℕ) (ends : RunEnds) (text : List ℕ) (before : ends.out.written ≡ Some []) (following : ends.out_after.written ≡ Some (HEADING.now ++ text)) where
   limit_of : (ds : List Definition) (steps from : ℕ) (name : Option (List ℕ)) (which : Which) → IsSourceOf edition source ds → which_of (functions_of ds) from name ≡ Some which → ComesAlways ds steps outcome.Limit
       → Traces edition source steps from name ends LIMIT → AtLimit ds steps which text
   limit_of ds steps from name which is named comes h =
-      at_limit ds steps from name which ends.input ends.input_behind text LIMIT named comes
-      (told_so edition source ds is steps from name ends LIMIT (omega arith) (HEADING.now ++ text) before behind (λ e. cc) h)
+      at_limit ds steps from name which ends.input ends.input_after text LIMIT named comes
+      (told_so edition source ds is steps from name ends LIMIT (omega arith) (HEADING.now ++ text) before following (λ e. cc) h)
 
   nothing_traced : IsSourceOf edition source nothing → Traces edition source 1 1 None ends LIMIT → Begins (codes "       1  main         0") (codes "  c 0         \n") 105 text
   nothing_traced is h =
@@ -586,6 +646,29 @@ module _ (edition : Edition) (source : List ℕ) (ends : RunEnds) (text : List �
   writing_traced is h =
       let a = limit_of writing 4 4 None (record { from = 4; function = None }) is refl (λ input. refl) h in
       writing_row a.input text a.ending a.rows a.text_is (a.all ∙ writing_shown a.input) a.each
+
+  -- the step that stores a word, and one that stores none
+  storing_traced : IsSourceOf edition source storing → Traces edition source 3 3 None ends LIMIT → Follows (codes "       3  main         2") (codes "  w            3 5\n") word_shown text
+  storing_traced is h =
+      let a = limit_of storing 3 3 None (record { from = 3; function = None }) is refl (λ input. refl) h in
+      let fs = functions_of storing in
+      let fns = machine_functions storing in
+      let states = machine storing a.input in
+      let r = first_row fs fns states 2 storing_main (storing_runs a.input) [] a.ending a.rows (a.all ∙ storing_shown a.input) a.each in
+      let w = where_of fs states 3 (store_after states 3) a.ending (call (loaded storing_code 8) 8 3 (5 ∷ [])) [] refl refl a.place in
+      subst (Follows (codes "       3  main         2") (codes "  w            3 5\n") word_shown) (sym a.text_is)
+      (follows_row fs fns states 2 storing_main a.ending _ _ _ _ storing_head storing_tail (storing_words a.input) refl (where_begins fs _ _ [] a.ending w) r)
+
+  nothing_stored : IsSourceOf edition source nothing → Traces edition source 1 1 None ends LIMIT → Follows (codes "       1  main         0") (codes "  c 0         \n") [] text
+  nothing_stored is h =
+      let a = limit_of nothing 1 1 None (record { from = 1; function = None }) is refl nothing_limit h in
+      let fs = functions_of nothing in
+      let fns = machine_functions nothing in
+      let states = machine nothing a.input in
+      let r = first_row fs fns states 0 nothing_main (nothing_runs a.input) [] a.ending a.rows (a.all ∙ nothing_shown a.input) a.each in
+      let w = where_of fs states 1 (store_after states 1) a.ending (call (loaded closing 8) 8 1 (0 ∷ [])) [] refl refl a.place in
+      subst (Follows (codes "       1  main         0") (codes "  c 0         \n") []) (sym a.text_is)
+      (follows_row fs fns states 0 nothing_main a.ending _ _ _ _ nothing_head nothing_tail refl refl (where_begins fs _ _ [] a.ending w) r)
 
   -- a trace of which no row is asked for
   nothing_placed : IsSourceOf edition source nothing → Traces edition source 1 2 None ends LIMIT → (store : List ℕ) × Where (functions_of nothing) store (call (loaded closing 8) 8 1 (0 ∷ [])) [] text
@@ -648,8 +731,8 @@ trapping_placed i j text t =
     let none : Which = record { from = 3; function = None } in
     let result : t.result ≡ outcome.Trap trap.NotAFunction = sym t.comes in
     let same : t.which ≡ none = sym (some_same none t.which t.named) in
-    let s = subst (λ x. ShowsRows fs x (machine trapping) 2 i j (outcome.Trap trap.NotAFunction) HEADING.now (HEADING.now ++ text)) same
-    (subst (λ r. ShowsRows fs t.which (machine trapping) 2 i j r HEADING.now (HEADING.now ++ text)) result t.shows) in
+    let s = subst (λ x. ShowsRows fs (machine_functions trapping) x (machine trapping) 2 i j (outcome.Trap trap.NotAFunction) HEADING.now (HEADING.now ++ text)) same
+    (subst (λ r. ShowsRows fs (machine_functions trapping) t.which (machine trapping) 2 i j r HEADING.now (HEADING.now ++ text)) result t.shows) in
     let input = s.taken ++ [] in
     let ends = s.ends [] (λ e. refl) in
     let shown = s.shown [] (λ e. refl) in
@@ -661,19 +744,16 @@ trapping_placed i j text t =
     let is : text ≡ s.ending = append_cancel_left HEADING.now text s.ending (s.text_is ∙ append_assoc HEADING.now (rows_text s.rows) s.ending ∙ ap (λ r. HEADING.now ++ (r ++ s.ending)) no_rows) in
     ap (at 28) (is ∙ w.text_is ∙ ap (λ p. placed_text fs store trapping_main p w.line w.callers) trapping_place)
 
-no_more : (before text : List ℕ) → before ≡ before ++ text → text ≡ []
-no_more before text e = sym (append_cancel_left before [] text (append-nil before ∙ e))
-
 unwritten_text : (before text : List ℕ) (rows : List TraceRow) (ending : List ℕ) → before ≡ before ++ text → text ≡ (HEADING.now ++ rows_text rows) ++ ending → ⊥
 unwritten_text before text rows ending e is = let bad : [] ≡ (HEADING.now ++ rows_text rows) ++ ending = sym (no_more before text e) ∙ is in cc
 
 -- a run that came to its outcome read without a failure
-read_whole : (ds : List Definition) (steps : ℕ) (i j : Incoming) (o p line line_behind : Outgoing) (result : Outcome) → (j.failures ≡ i.failures → ⊥) → RunGives (machine ds) steps i j o p result → Finishes result line line_behind MEMORY → ⊥
-read_whole ds steps i j o p line line_behind (outcome.Exit n) failed h f = failed h.no_failure
-read_whole ds steps i j o p line line_behind (outcome.Trap kind) failed h f = failed h.no_failure
-read_whole ds steps i j o p line line_behind outcome.Limit failed h f = failed h.no_failure
-read_whole ds steps i j o p line line_behind outcome.Device failed h f = let bad : 134 ≡ 133 = f.1 in omega (arith, bad)
-read_whole ds steps i j o p line line_behind outcome.Memory failed h f = failed h.reason.0
+read_whole : (ds : List Definition) (steps : ℕ) (i j : Incoming) (o p line line_after : Outgoing) (result : Outcome) → (j.failures ≡ i.failures → ⊥) → RunGives (machine ds) steps i j o p result → Finishes result line line_after MEMORY → ⊥
+read_whole ds steps i j o p line line_after (outcome.Exit n) failed h f = failed h.no_failure
+read_whole ds steps i j o p line line_after (outcome.Trap kind) failed h f = failed h.no_failure
+read_whole ds steps i j o p line line_after outcome.Limit failed h f = failed h.no_failure
+read_whole ds steps i j o p line line_after outcome.Device failed h f = let bad : 134 ≡ 133 = f.1 in omega (arith, bad)
+read_whole ds steps i j o p line line_after outcome.Memory failed h f = failed (memory_unfailed (machine ds) steps i j o p h).0
 
 cut_off : (text : List ℕ) (o p : Outgoing) → (Grew o.refusals p.refusals → ⊥) → Reported text DONE o p MEMORY → ⊥
 cut_off text o p refused (inl t) = let bad : 134 ≡ 0 = t.1 in omega (arith, bad)
@@ -683,18 +763,18 @@ cut_off text o p refused (inr r) = by_kind r.fault r.refuses r.status
     by_kind end_fault.Device h e = let bad : 134 ≡ 133 = e in omega (arith, bad)
     by_kind end_fault.Memory h e = refused h.counted.0
 
-read_told : (edition : Edition) (source : List ℕ) (steps from : ℕ) (name : Option (List ℕ)) (ends : RunEnds) → (ends.input_behind.failures ≡ ends.input.failures → ⊥) → (Grew ends.out.refusals ends.out_behind.refusals → ⊥) → Traces edition source steps from name ends MEMORY → ⊥
+read_told : (edition : Edition) (source : List ℕ) (steps from : ℕ) (name : Option (List ℕ)) (ends : RunEnds) → (ends.input_after.failures ≡ ends.input.failures → ⊥) → (Grew ends.out.refusals ends.out_after.refusals → ⊥) → Traces edition source steps from name ends MEMORY → ⊥
 read_told edition source steps from name ends failed refused (traces.traced mid ds image which result t output answer program named gives shows reported tells) =
     elim tells [
-      | inl d ↦ read_whole ds steps ends.input ends.input_behind _ _ mid ends.line_behind result failed gives d.1
-      | inr d ↦ cut_off t ends.out ends.out_behind refused (subst (λ n. Reported t DONE ends.out ends.out_behind n) (sym d.2) reported)
+      | inl d ↦ read_whole ds steps ends.input ends.input_after _ _ mid ends.line_after result failed gives d.1
+      | inr d ↦ cut_off t ends.out ends.out_after refused (subst (λ n. Reported t DONE ends.out ends.out_after n) (sym d.2) reported)
     ]
 read_told edition source steps from name ends failed refused (traces.not_begun mid ds image which result program named never f quiet) = failed (ap (λ (i : Incoming). i.failures) quiet.unread)
 read_told edition source steps from name ends failed refused (traces.unnamed mid ds image program unknown r quiet) = failed (ap (λ (i : Incoming). i.failures) quiet.unread)
 read_told edition source steps from name ends failed refused (traces.stopped none quiet) = failed (ap (λ (i : Incoming). i.failures) quiet.unread)
 read_told edition source steps from name ends failed refused (traces.no_memory ds image program same unfailed e) = failed unfailed
 
--- behind the first line of the place of `f`
+-- after the first line of the place of `f`
 caller_parts : (a b c d e : List ℕ) → a ++ (b ++ (c ++ (d ++ (codes "\n" ++ e)))) ≡ (a ++ (b ++ (c ++ d))) ++ 10 ∷ e
 caller_parts a b c d e = simp append_assoc
 
@@ -716,101 +796,126 @@ callers_named store (p ∷ ps) e = caller_named store p (callers_text (functions
 
 pub excluded : TracesExcluded
 excluded = record {
-  number_before = λ rest edition source ends is before behind h.
-      let b = nothing_traced edition source ends (codes "       0" ++ rest) before behind is h in
+  number_before = λ rest edition source ends is before following h.
+      let b = nothing_traced edition source ends (codes "       0" ++ rest) before following is h in
       differ 7 48 49 _ _ b.text_is refl refl (λ e. omega (arith, e));
-  place_behind = λ rest edition source ends is before behind h.
-      let b = nothing_traced edition source ends (codes "       1  main         1" ++ rest) before behind is h in
+  place_after = λ rest edition source ends is before following h.
+      let b = nothing_traced edition source ends (codes "       1  main         1" ++ rest) before following is h in
       differ 23 49 48 _ _ b.text_is refl refl (λ e. omega (arith, e));
-  no_name = λ rest edition source ends is before behind h.
-      let b = nothing_traced edition source ends (codes "       1                 0" ++ rest) before behind is h in
+  no_name = λ rest edition source ends is before following h.
+      let b = nothing_traced edition source ends (codes "       1                 0" ++ rest) before following is h in
       differ 10 32 109 _ _ b.text_is refl refl (λ e. omega (arith, e));
-  other_instruction = λ rest edition source ends is before behind h.
-      let b = nothing_traced edition source ends (codes "       1  main         0     1  r  " ++ rest) before behind is h in
+  other_instruction = λ rest edition source ends is before following h.
+      let b = nothing_traced edition source ends (codes "       1  main         0     1  r  " ++ rest) before following is h in
       let start = codes "     1  r  " ++ rest in
-      differ 2 114 99 _ _ (behind_line_number (codes "       1  main         0") _ start _ 105 b refl) refl refl (λ e. omega (arith, e));
-  no_row = λ rest edition source ends is before behind h.
-      let b = nothing_traced edition source ends (codes "at     " ++ rest) before behind is h in
+      differ 2 114 99 _ _ (after_line_number (codes "       1  main         0") _ start _ 105 b refl) refl refl (λ e. omega (arith, e));
+  no_row = λ rest edition source ends is before following h.
+      let b = nothing_traced edition source ends (codes "at     " ++ rest) before following is h in
       differ 0 97 32 _ _ b.text_is refl refl (λ e. omega (arith, e));
-  row_left_out = λ rest edition source ends is before behind h.
-      let b = calling_traced edition source ends (codes "       1  main         0     1  x f         \nat     i" ++ rest) before behind is h in
+  row_left_out = λ rest edition source ends is before following h.
+      let b = calling_traced edition source ends (codes "       1  main         0     1  x f         \nat     i" ++ rest) before following is h in
       let start = codes "     1  x f         \nat     i" ++ rest in
-      let more = ap (drop 15) (behind_line_number (codes "       1  main         0") _ start _ 50 b refl) in
+      let more = ap (drop 15) (after_line_number (codes "       1  main         0") _ start _ 50 b refl) in
       seventh_is (at 7 b.more) 50 b.next 105 (sym (ap (at 7) more)) (λ e. omega (arith, e)) (λ e. omega (arith, e));
-  row_twice = λ rest edition source ends is before behind h.
-      let b = nothing_traced edition source ends (codes "       1  main         0     1  c 0         \n       1" ++ rest) before behind is h in
+  row_twice = λ rest edition source ends is before following h.
+      let b = nothing_traced edition source ends (codes "       1  main         0     1  c 0         \n       1" ++ rest) before following is h in
       let start = codes "     1  c 0         \n       1" ++ rest in
-      let more = ap (drop 15) (behind_line_number (codes "       1  main         0") _ start _ 105 b refl) in
+      let more = ap (drop 15) (after_line_number (codes "       1  main         0") _ start _ 105 b refl) in
       seventh_is (at 7 b.more) 105 b.next 49 (sym (ap (at 7) more)) (λ e. omega (arith, e)) (λ e. omega (arith, e));
-  row_before = λ rest edition source ends is before behind h.
-      let w = nothing_placed edition source ends (codes "       1" ++ rest) before behind is h in
+  row_before = λ rest edition source ends is before following h.
+      let w = nothing_placed edition source ends (codes "       1" ++ rest) before following is h in
       differ 0 32 97 _ _ w.1.text_is refl refl (λ e. omega (arith, e));
-  other_function = λ rest edition source ends is before behind h.
-      let bad : 32 ≡ 97 = f_placed edition source ends (codes "       1" ++ rest) before behind is h in
+  other_function = λ rest edition source ends is before following h.
+      let bad : 32 ≡ 97 = f_placed edition source ends (codes "       1" ++ rest) before following is h in
       omega (arith, bad);
-  unknown_name = λ status less text edition source ends is before behind h.
-      let t = told_so edition source nothing is 1 1 (Some (codes "f")) ends status less (HEADING.now ++ text) before behind (λ e. cc) h in
+  unknown_name = λ status less text edition source ends is before following h.
+      let t = told_so edition source nothing is 1 1 (Some (codes "f")) ends status less (HEADING.now ++ text) before following (λ e. cc) h in
       let bad : None ≡ Some t.which = t.named in
       cc;
-  written_left_out = λ rest edition source ends is before behind h.
-      let b = writing_traced edition source ends (codes "       4  main         3     1  k 1          4 97\nat     i" ++ rest) before behind is h in
+  written_left_out = λ rest edition source ends is before following h.
+      let b = writing_traced edition source ends (codes "       4  main         3     1  k 1          4 97\nat     i" ++ rest) before following is h in
       let start = codes "     1  k 1          4 97\nat     i" ++ rest in
-      let more = ap (drop 20) (behind_line_number (codes "       4  main         3") _ start _ 32 b refl) in
+      let more = ap (drop 20) (after_line_number (codes "       4  main         3") _ start _ 32 b refl) in
       seventh_is (at 7 b.more) 32 b.next 105 (sym (ap (at 7) more)) (λ e. omega (arith, e)) (λ e. omega (arith, e));
-  step_left_out = λ rest edition source ends is before behind h.
-      let w = nothing_placed edition source ends (codes "at     in main     place    0" ++ rest) before behind is h in
+  word_left_out = λ rest edition source ends is before following h.
+      let text = codes "       3  main         2     1  w            3 5\nat     i" ++ rest in
+      let f = storing_traced edition source ends text before following is h in
+      let more = ap (drop 19) (after_row_line (codes "       3  main         2") _ _ (codes "     1  w            3 5\nat     i" ++ rest) text f refl) in
+      differ 7 105 32 _ _ more refl refl (λ e. omega (arith, e));
+  other_word = λ rest edition source ends is before following h.
+      let start = codes "     1  w            3 5\n                                           @0" ++ rest in
+      let f = storing_traced edition source ends (codes "       3  main         2" ++ start) before following is h in
+      let more = ap (drop 19) (after_row_line (codes "       3  main         2") _ _ start _ f refl) in
+      differ 44 48 51 _ _ more refl refl (λ e. omega (arith, e));
+  word_before = λ rest edition source ends is before following h.
+      let start = codes "     1  w            3 5\n                                           @3 = 0" ++ rest in
+      let f = storing_traced edition source ends (codes "       3  main         2" ++ start) before following is h in
+      let more = ap (drop 19) (after_row_line (codes "       3  main         2") _ _ start _ f refl) in
+      differ 48 48 53 _ _ more refl refl (λ e. omega (arith, e));
+  word_more = λ rest edition source ends is before following h.
+      let start = codes "     1  w            3 5\n                                           @3 = 5\n        " ++ rest in
+      let f = storing_traced edition source ends (codes "       3  main         2" ++ start) before following is h in
+      let more = ap (drop 69) (after_row_line (codes "       3  main         2") _ _ start _ f refl) in
+      differ 7 32 105 _ _ more refl f.place (λ e. omega (arith, e));
+  word_of_none = λ rest edition source ends is before following h.
+      let start = codes "     1  c 0         \n        " ++ rest in
+      let f = nothing_stored edition source ends (codes "       1  main         0" ++ start) before following is h in
+      let more = ap (drop 15) (after_row_line (codes "       1  main         0") _ _ start _ f refl) in
+      differ 7 32 105 _ _ more refl f.place (λ e. omega (arith, e));
+  step_left_out = λ rest edition source ends is before following h.
+      let w = nothing_placed edition source ends (codes "at     in main     place    0" ++ rest) before following is h in
       let stop = call (loaded closing 8) 8 1 (0 ∷ []) in
       let placed = w.1.text_is ∙ ap (λ p. placed_text (functions_of nothing) w.0 stop p w.1.line w.1.callers) nothing_place in
       differ 28 48 49 _ _ placed refl refl (λ e. omega (arith, e));
-  trap_elsewhere = λ rest edition source ends is before behind h.
+  trap_elsewhere = λ rest edition source ends is before following h.
       let text = codes "at     in main     place    2" ++ rest in
-      let t = told_so edition source trapping is 2 3 None ends TRAP (omega arith) (HEADING.now ++ text) before behind (λ e. cc) h in
-      let bad : 50 ≡ 49 = trapping_placed ends.input ends.input_behind text t in
+      let t = told_so edition source trapping is 2 3 None ends TRAP (omega arith) (HEADING.now ++ text) before following (λ e. cc) h in
+      let bad : 50 ≡ 49 = trapping_placed ends.input ends.input_after text t in
       omega (arith, bad);
-  caller_left_out = λ rest edition source ends is before behind h.
-      let w = callers_placed edition source ends (codes "at     in f        place    0  line    1\ncalled in main" ++ rest) before behind is h in
+  caller_left_out = λ rest edition source ends is before following h.
+      let w = callers_placed edition source ends (codes "at     in f        place    0  line    1\ncalled in main" ++ rest) before following is h in
       let callers = callers_text (functions_of calling) w.0 w.1.callers in
       let line = right 4 (decimal w.1.line) in
       let words = words_of w.0 (inner 9 0) in
       let parts = w.1.text_is ∙ ap (λ p. placed_text (functions_of calling) w.0 (inner 9 0) p w.1.line w.1.callers) calling_place
       ∙ caller_parts (codes "at     ") (codes "in f        place    0  line ") line words callers in
-      let behind = ap behind_line parts ∙ line_skipped (codes "at     " ++ (codes "in f        place    0  line " ++ (line ++ words))) callers (f_line_above w.1.line (first_words w.0 (active_of (inner 9 0))) false) in
-      differ 10 109 102 _ _ behind refl (callers_named w.0 w.1.callers w.1.callers_are) (λ e. omega (arith, e));
-  other_words = λ text other edition source ends is before behind h.
-      let p = passing_placed edition source ends (codes "at     in f        place    0  line    1  " ++ text) before behind is h in
+      let following = ap after_line parts ∙ line_skipped (codes "at     " ++ (codes "in f        place    0  line " ++ (line ++ words))) callers (f_line_above w.1.line (first_words w.0 (active_of (inner 9 0))) false) in
+      differ 10 109 102 _ _ following refl (callers_named w.0 w.1.callers w.1.callers_are) (λ e. omega (arith, e));
+  other_words = λ text other edition source ends is before following h.
+      let p = passing_placed edition source ends (codes "at     in f        place    0  line    1  " ++ text) before following is h in
       let shown = append_cancel_left (codes "at     in f        place    0  line ") (codes "   1  " ++ text) _ p.2 in
-      other (ap (λ t. take 20 (drop 2 t)) (ap behind_number shown ∙ number_skipped 4 p.0 (codes "  with 1 2 3 4 5 6 ..\n" ++ p.1)));
-  words_left_out = λ rest edition source ends is before behind h.
-      let p = passing_placed edition source ends (codes "at     in f        place    0  line    1\n" ++ rest) before behind is h in
+      other (ap (λ t. take 20 (drop 2 t)) (ap after_number shown ∙ number_skipped 4 p.0 (codes "  with 1 2 3 4 5 6 ..\n" ++ p.1)));
+  words_left_out = λ rest edition source ends is before following h.
+      let p = passing_placed edition source ends (codes "at     in f        place    0  line    1\n" ++ rest) before following is h in
       let shown = append_cancel_left (codes "at     in f        place    0  line ") (codes "   1\n" ++ rest) _ p.2 in
-      differ 0 10 32 _ _ (ap behind_number shown ∙ number_skipped 4 p.0 (codes "  with 1 2 3 4 5 6 ..\n" ++ p.1)) refl refl (λ e. omega (arith, e));
-  words_of_none = λ rest edition source ends is before behind h.
+      differ 0 10 32 _ _ (ap after_number shown ∙ number_skipped 4 p.0 (codes "  with 1 2 3 4 5 6 ..\n" ++ p.1)) refl refl (λ e. omega (arith, e));
+  words_of_none = λ rest edition source ends is before following h.
       let text = codes "at     in f        place    0  line    1  " ++ rest in
-      let w = callers_placed edition source ends text before behind is h in
+      let w = callers_placed edition source ends text before following is h in
       let more = codes "\n" ++ callers_text (functions_of calling) w.0 w.1.callers in
       let placed = w.1.text_is ∙ ap (λ p. placed_text (functions_of calling) w.0 (inner 9 0) p w.1.line w.1.callers) calling_place in
       let shown = append_cancel_left (codes "at     in f        place    0  line ") (codes "   1  " ++ rest) (right 4 (decimal w.1.line) ++ more) placed in
-      differ 0 32 10 _ _ (ap behind_number shown ∙ number_skipped 4 w.1.line more) refl refl (λ e. omega (arith, e));
-  other_status = λ ds steps from name result status comes wrong less text edition source ends is before behind h.
-      let t = told_so edition source ds is steps from name ends status less (HEADING.now ++ text) before behind (λ e. cc) h in
+      differ 0 32 10 _ _ (ap after_number shown ∙ number_skipped 4 w.1.line more) refl refl (λ e. omega (arith, e));
+  other_status = λ ds steps from name result status comes wrong less text edition source ends is before following h.
+      let t = told_so edition source ds is steps from name ends status less (HEADING.now ++ text) before following (λ e. cc) h in
       wrong (t.answer ∙ ap status_of (sym t.comes ∙ comes t.input));
   unwritten = λ ds steps from name status less starts edition source before ends is first last h.
       let w = written_so edition source ds is steps from name ends status less starts h in
-      unwritten_text before w.0 w.1.1.shows.rows w.1.1.shows.ending (wrote ends.out ends.out_behind before w.0 before first last w.1.0) w.1.1.shows.text_is;
-  cut_off_elsewhere = λ rest edition source ends status is unread before behind h.
-      let a = begins_so edition source nothing is 1 1 (record { from = 1; function = None }) refl nothing_limit ends status unread (codes "       0" ++ rest) before behind h in
+      unwritten_text before w.0 w.1.1.shows.rows w.1.1.shows.ending (wrote ends.out ends.out_after before w.0 before first last w.1.0) w.1.1.shows.text_is;
+  cut_off_elsewhere = λ rest edition source ends status is unread before following h.
+      let a = begins_so edition source nothing is 1 1 (record { from = 1; function = None }) refl nothing_limit ends status unread (codes "       0" ++ rest) before following h in
       let b = nothing_row a.1.input ((codes "       0" ++ rest) ++ a.0) a.1.ending a.1.rows a.1.text_is (a.1.all ∙ nothing_shown a.1.input) a.1.each a.1.place in
       differ 7 48 49 _ _ b.text_is refl refl (λ e. omega (arith, e));
-  cut_off_without_row = λ rest edition source ends status is unread before behind h.
-      let a = begins_so edition source nothing is 1 1 (record { from = 1; function = None }) refl nothing_limit ends status unread (codes "at     " ++ rest) before behind h in
+  cut_off_without_row = λ rest edition source ends status is unread before following h.
+      let a = begins_so edition source nothing is 1 1 (record { from = 1; function = None }) refl nothing_limit ends status unread (codes "at     " ++ rest) before following h in
       let b = nothing_row a.1.input ((codes "at     " ++ rest) ++ a.0) a.1.ending a.1.rows a.1.text_is (a.1.all ∙ nothing_shown a.1.input) a.1.each a.1.place in
       differ 0 97 32 _ _ b.text_is refl refl (λ e. omega (arith, e));
-  cut_out = λ rest edition source ends status is unread before behind h.
+  cut_out = λ rest edition source ends status is unread before following h.
       let text = codes "       1  main         0     1  x f         \nat     i" ++ rest in
-      let a = begins_so edition source calling is 2 1 (record { from = 1; function = None }) refl (λ input. refl) ends status unread text before behind h in
+      let a = begins_so edition source calling is 2 1 (record { from = 1; function = None }) refl (λ input. refl) ends status unread text before following h in
       let b = calling_row a.1.input (text ++ a.0) a.1.ending a.1.rows a.1.text_is (a.1.all ∙ calling_shown a.1.input) a.1.each in
       let start = codes "     1  x f         \nat     i" ++ (rest ++ a.0) in
-      let more = ap (drop 15) (behind_line_number (codes "       1  main         0") _ start _ 50 b refl) in
+      let more = ap (drop 15) (after_line_number (codes "       1  main         0") _ start _ 50 b refl) in
       seventh_is (at 7 b.more) 50 b.next 105 (sym (ap (at 7) more)) (λ e. omega (arith, e)) (λ e. omega (arith, e));
   read_failed = λ edition source steps from name ends failed refused h. read_told edition source steps from name ends failed refused h;
 }
@@ -830,36 +935,36 @@ record Stops (ds : List Definition) (steps : ℕ) (text : List ℕ) (status : �
   line : ℕ
   text_is : text ≡ line_in result ++ site_line (functions_of ds) active.strings active.place line
 
-line_told : (result : Outcome) (answer : ℕ) (mid behind : Outgoing) → located_status result ≡ Some answer → Finishes result mid behind answer → Writes mid (line_in result) behind
-line_told (outcome.Exit n) answer mid behind e f = cc
-line_told (outcome.Trap kind) answer mid behind e f = let is : 130 ≡ answer = some_same 130 answer e in (told _ TRAP mid behind answer (omega (arith, is)) f).0
-line_told outcome.Limit answer mid behind e f = let is : 131 ≡ answer = some_same 131 answer e in (told _ LIMIT mid behind answer (omega (arith, is)) f).0
-line_told outcome.Device answer mid behind e f = cc
-line_told outcome.Memory answer mid behind e f = cc
+line_told : (result : Outcome) (answer : ℕ) (mid following : Outgoing) → located_status result ≡ Some answer → Finishes result mid following answer → Writes mid (line_in result) following
+line_told (outcome.Exit n) answer mid following e f = cc
+line_told (outcome.Trap kind) answer mid following e f = let is : 130 ≡ answer = some_same 130 answer e in (told _ TRAP mid following answer (omega (arith, is)) f).0
+line_told outcome.Limit answer mid following e f = let is : 131 ≡ answer = some_same 131 answer e in (told _ LIMIT mid following answer (omega (arith, is)) f).0
+line_told outcome.Device answer mid following e f = cc
+line_told outcome.Memory answer mid following e f = cc
 
 site_told : (fs : List Placed) (strings place answer : ℕ) (old new : Outgoing) (status : ℕ) → status < 132 → TellsSite fs strings place answer old new status → (line : ℕ) × Writes old (site_line fs strings place line) new × (status ≡ answer)
 site_told fs strings place answer old new status less (inl t) = let r = told _ answer old new status (omega arith) t.1 in (t.0, r.0, r.1)
 site_told fs strings place answer old new status less (inr t) = let bad : status ≡ 134 = t.1 in absurd (omega arith)
 
 -- a run without a place that wrote something
-not_alone : (result : Outcome) (mid behind : Outgoing) (status : ℕ) (text : List ℕ) → status < 132 → Finishes result mid behind status → (located_status result ≡ Some status → ⊥) → mid.written ≡ Some [] → behind.written ≡ Some text → (text ≡ [] → ⊥) → ⊥
-not_alone (outcome.Exit n) mid behind status text less f unplaced e g some = no_nothing behind.written text (ap (λ (o : Outgoing). o.written) f.0 ∙ e) g some
-not_alone (outcome.Trap kind) mid behind status text less f unplaced e g some = unplaced (ap Some (sym (told _ TRAP mid behind status (omega arith) f).1))
-not_alone outcome.Limit mid behind status text less f unplaced e g some = unplaced (ap Some (sym (told _ LIMIT mid behind status (omega arith) f).1))
-not_alone outcome.Device mid behind status text less f unplaced e g some = let bad : status ≡ 133 = f.1 in omega arith
-not_alone outcome.Memory mid behind status text less f unplaced e g some = let bad : status ≡ 134 = f.1 in omega arith
+not_alone : (result : Outcome) (mid following : Outgoing) (status : ℕ) (text : List ℕ) → status < 132 → Finishes result mid following status → (located_status result ≡ Some status → ⊥) → mid.written ≡ Some [] → following.written ≡ Some text → (text ≡ [] → ⊥) → ⊥
+not_alone (outcome.Exit n) mid following status text less f unplaced e g some = no_nothing following.written text (ap (λ (o : Outgoing). o.written) f.0 ∙ e) g some
+not_alone (outcome.Trap kind) mid following status text less f unplaced e g some = unplaced (ap Some (sym (told _ TRAP mid following status (omega arith) f).1))
+not_alone outcome.Limit mid following status text less f unplaced e g some = unplaced (ap Some (sym (told _ LIMIT mid following status (omega arith) f).1))
+not_alone outcome.Device mid following status text less f unplaced e g some = let bad : status ≡ 133 = f.1 in omega arith
+not_alone outcome.Memory mid following status text less f unplaced e g some = let bad : status ≡ 134 = f.1 in omega arith
 
 module _ (edition : Edition) (source : List ℕ) (ds : List Definition) (is : IsSourceOf edition source ds) (steps : ℕ) (ends : RunEnds) (status : ℕ) (less : status < 132) (starts : ComesAlways ds 0 outcome.Limit) where
-  never_begun : (mid : Outgoing) (other : List Definition) (image : Image) (result : Outcome) → HasProgram edition source ends.line mid other image → BeginsNot image result → Finishes result mid ends.line_behind status → ⊥
+  never_begun : (mid : Outgoing) (other : List Definition) (image : Image) (result : Outcome) → HasProgram edition source ends.line mid other image → BeginsNot image result → Finishes result mid ends.line_after status → ⊥
   never_begun mid other image result program never f =
-      begins ds image result mid ends.line_behind status less starts (subst (λ x. IsLoadedFrom x image) (only edition source ds is ends.line mid other image program) program.loaded) never f
+      begins ds image result mid ends.line_after status less starts (subst (λ x. IsLoadedFrom x image) (only edition source ds is ends.line mid other image program) program.loaded) never f
 
   -- the place is told
-  stops_so : (text : List ℕ) → ends.line.written ≡ Some [] → ends.line_behind.written ≡ Some text → (text ≡ [] → ⊥) → Locates edition source steps ends status → Stops ds steps text status
-  stops_so text before behind some (locates.located mid out other image result answer active program gives f located stops tells) =
+  stops_so : (text : List ℕ) → ends.line.written ≡ Some [] → ends.line_after.written ≡ Some text → (text ≡ [] → ⊥) → Locates edition source steps ends status → Stops ds steps text status
+  stops_so text before following some (locates.located mid out other image result answer active program gives f located stops tells) =
       let same = only edition source ds is ends.line mid other image program in
       let quiet = silent edition source ds is ends.line mid other image program in
-      let site = site_told (functions_of other) active.strings active.place answer out ends.line_behind status less tells in
+      let site = site_told (functions_of other) active.strings active.place answer out ends.line_after status less tells in
       let whole = Writes-append (line_told result answer mid out located f) site.1 in
       let here : Stops other steps text status = record {
         result = result;
@@ -868,31 +973,31 @@ module _ (edition : Edition) (source : List ℕ) (ds : List Definition) (is : Is
         input = stops.taken ++ [];
         stops = stops.ends [] (λ e. refl);
         line = site.0;
-        text_is = wrote mid ends.line_behind [] _ text (ap (λ (o : Outgoing). o.written) quiet ∙ before) behind whole;
+        text_is = wrote mid ends.line_after [] _ text (ap (λ (o : Outgoing). o.written) quiet ∙ before) following whole;
       } in
       subst (λ x. Stops x steps text status) same here
-  stops_so text before behind some (locates.unlocated mid other image result program gives f unplaced) =
+  stops_so text before following some (locates.unlocated mid other image result program gives f unplaced) =
       let quiet = silent edition source ds is ends.line mid other image program in
-      absurd (not_alone result mid ends.line_behind status text less f unplaced (ap (λ (o : Outgoing). o.written) quiet ∙ before) behind some)
-  stops_so text before behind some (locates.not_begun mid other image result program never f quiet) = absurd (never_begun mid other image result program never f)
-  stops_so text before behind some (locates.stopped none quiet) = absurd (has_program edition source ds is ends.line ends.line_behind status less none)
-  stops_so text before behind some (locates.no_memory other image program quiet e) = let bad : status ≡ 134 = e in absurd (omega arith)
+      absurd (not_alone result mid ends.line_after status text less f unplaced (ap (λ (o : Outgoing). o.written) quiet ∙ before) following some)
+  stops_so text before following some (locates.not_begun mid other image result program never f quiet) = absurd (never_begun mid other image result program never f)
+  stops_so text before following some (locates.stopped none quiet) = absurd (has_program edition source ds is ends.line ends.line_after status less none)
+  stops_so text before following some (locates.no_memory other image program quiet e) = let bad : status ≡ 134 = e in absurd (omega arith)
 
   -- the status is that of the machine's outcome
   came_to : (result : Outcome) → ComesAlways ds steps result → Locates edition source steps ends status → status ≡ status_of result
   came_to result comes (locates.located mid out other image r answer active program gives f located stops tells) =
       let same = only edition source ds is ends.line mid other image program in
-      let site = site_told (functions_of other) active.strings active.place answer out ends.line_behind status less tells in
-      let c = came other steps ends.input ends.input_behind ends.out ends.out_behind mid out answer (omega (arith, site.2)) r gives f in
+      let site = site_told (functions_of other) active.strings active.place answer out ends.line_after status less tells in
+      let c = came other steps ends.input ends.input_after ends.out ends.out_after mid out answer (omega (arith, site.2)) r gives f in
       let at_end = subst (λ x. state_outcome (machine x c.1.0 steps) ≡ r) same c.1.1 in
       site.2 ∙ c.0 ∙ ap status_of (sym at_end ∙ comes c.1.0)
   came_to result comes (locates.unlocated mid other image r program gives f unplaced) =
       let same = only edition source ds is ends.line mid other image program in
-      let c = came other steps ends.input ends.input_behind ends.out ends.out_behind mid ends.line_behind status less r gives f in
+      let c = came other steps ends.input ends.input_after ends.out ends.out_after mid ends.line_after status less r gives f in
       let at_end = subst (λ x. state_outcome (machine x c.1.0 steps) ≡ r) same c.1.1 in
       c.0 ∙ ap status_of (sym at_end ∙ comes c.1.0)
   came_to result comes (locates.not_begun mid other image r program never f quiet) = absurd (never_begun mid other image r program never f)
-  came_to result comes (locates.stopped none quiet) = absurd (has_program edition source ds is ends.line ends.line_behind status less none)
+  came_to result comes (locates.stopped none quiet) = absurd (has_program edition source ds is ends.line ends.line_after status less none)
   came_to result comes (locates.no_memory other image program quiet e) = let bad : status ≡ 134 = e in absurd (omega arith)
 
 limit_is : (result : Outcome) → located_status result ≡ Some 131 → result ≡ outcome.Limit
@@ -902,7 +1007,7 @@ limit_is outcome.Limit e = refl
 limit_is outcome.Device e = cc
 limit_is outcome.Memory e = cc
 
--- the line of a trap has eight characters, and a place stands behind it
+-- the line of a trap has eight characters, and a place stands after it
 trap_ends : (kind : Trap) (text : List ℕ) → at 8 (report_text (report.Trap kind) ++ text) ≡ at 0 text
 trap_ends trap.ZeroDivisor text = refl
 trap_ends trap.NotAFunction text = refl
@@ -951,46 +1056,46 @@ located_read ds steps i j o p outcome.Limit answer e h = h.no_failure
 located_read ds steps i j o p outcome.Device answer e h = cc
 located_read ds steps i j o p outcome.Memory answer e h = cc
 
-place_read : (edition : Edition) (source : List ℕ) (steps : ℕ) (ends : RunEnds) → (ends.input_behind.failures ≡ ends.input.failures → ⊥) → Locates edition source steps ends MEMORY → ⊥
+place_read : (edition : Edition) (source : List ℕ) (steps : ℕ) (ends : RunEnds) → (ends.input_after.failures ≡ ends.input.failures → ⊥) → Locates edition source steps ends MEMORY → ⊥
 place_read edition source steps ends failed (locates.located mid out ds image result answer active program gives f located stops tells) =
-    failed (located_read ds steps ends.input ends.input_behind ends.out ends.out_behind result answer located gives)
+    failed (located_read ds steps ends.input ends.input_after ends.out ends.out_after result answer located gives)
 place_read edition source steps ends failed (locates.unlocated mid ds image result program gives f unplaced) =
-    read_whole ds steps ends.input ends.input_behind ends.out ends.out_behind mid ends.line_behind result failed gives f
+    read_whole ds steps ends.input ends.input_after ends.out ends.out_after mid ends.line_after result failed gives f
 place_read edition source steps ends failed (locates.not_begun mid ds image result program never f quiet) = failed (ap (λ (i : Incoming). i.failures) quiet.unread)
 place_read edition source steps ends failed (locates.stopped none quiet) = failed (ap (λ (i : Incoming). i.failures) quiet.unread)
 place_read edition source steps ends failed (locates.no_memory ds image program quiet e) = failed (ap (λ (i : Incoming). i.failures) quiet.unread)
 
-nothing_stops : (edition : Edition) (source : List ℕ) (ends : RunEnds) (text : List ℕ) → IsSourceOf edition source nothing → ends.line.written ≡ Some [] → ends.line_behind.written ≡ Some text → (text ≡ [] → ⊥)
+nothing_stops : (edition : Edition) (source : List ℕ) (ends : RunEnds) (text : List ℕ) → IsSourceOf edition source nothing → ends.line.written ≡ Some [] → ends.line_after.written ≡ Some text → (text ≡ [] → ⊥)
     → Locates edition source 1 ends LIMIT → at 34 text ≡ 49
-nothing_stops edition source ends text is before behind some h =
-    let s = stops_so edition source nothing is 1 ends LIMIT (omega arith) (λ input. refl) text before behind some h in
+nothing_stops edition source ends text is before following some h =
+    let s = stops_so edition source nothing is 1 ends LIMIT (omega arith) (λ input. refl) text before following some h in
     let l = limit_site nothing 1 text (call (loaded closing 8) 8 1 (0 ∷ [])) (λ input. refl) s in
     ap (at 34) (l.1 ∙ ap (λ p. codes "limit\n" ++ (codes "at     " ++ (p ++ (right 4 (decimal l.0) ++ codes "\n")))) nothing_place)
 
-calling_stops : (edition : Edition) (source : List ℕ) (ends : RunEnds) (text : List ℕ) → IsSourceOf edition source calling → ends.line.written ≡ Some [] → ends.line_behind.written ≡ Some text → (text ≡ [] → ⊥)
+calling_stops : (edition : Edition) (source : List ℕ) (ends : RunEnds) (text : List ℕ) → IsSourceOf edition source calling → ends.line.written ≡ Some [] → ends.line_after.written ≡ Some text → (text ≡ [] → ⊥)
     → Locates edition source 3 ends LIMIT → at 16 text ≡ 102
-calling_stops edition source ends text is before behind some h =
-    let s = stops_so edition source calling is 3 ends LIMIT (omega arith) (λ input. refl) text before behind some h in
+calling_stops edition source ends text is before following some h =
+    let s = stops_so edition source calling is 3 ends LIMIT (omega arith) (λ input. refl) text before following some h in
     let l = limit_site calling 3 text (call (record { parameters = 0; frame = 0; targets = []; code = calling_f; strings = 9; first_label = 1 }) 9 0 []) (λ input. refl) s in
     ap (at 16) (l.1 ∙ ap (λ p. codes "limit\n" ++ (codes "at     " ++ (p ++ (right 4 (decimal l.0) ++ codes "\n")))) calling_place)
 
 pub places_excluded : LocatesExcluded
 places_excluded = record {
-  limit_alone = λ ds steps starts edition source ends is before behind h.
-      let s = stops_so edition source ds is steps ends LIMIT (omega arith) starts (codes "limit\n") before behind (λ e. cc) h in
+  limit_alone = λ ds steps starts edition source ends is before following h.
+      let s = stops_so edition source ds is steps ends LIMIT (omega arith) starts (codes "limit\n") before following (λ e. cc) h in
       let limit = s.text_is ∙ ap (λ x. line_in x ++ site_line (functions_of ds) s.active.strings s.active.place s.line) (limit_is s.result s.located) in
       differ 6 0 97 _ _ limit refl refl (λ e. omega (arith, e));
-  trap_alone = λ ds steps kind starts edition source ends is before behind h.
-      let s = stops_so edition source ds is steps ends TRAP (omega arith) starts (report_text (report.Trap kind)) before behind (λ e. cc) h in
+  trap_alone = λ ds steps kind starts edition source ends is before following h.
+      let s = stops_so edition source ds is steps ends TRAP (omega arith) starts (report_text (report.Trap kind)) before following (λ e. cc) h in
       trap_alone s.result kind (functions_of ds) s.active.strings s.active.place s.line s.located s.text_is;
-  place_before = λ rest edition source ends is before behind h.
-      let bad : 48 ≡ 49 = nothing_stops edition source ends (codes "limit\nat     in main     place    0" ++ rest) is before behind (λ e. cc) h in
+  place_before = λ rest edition source ends is before following h.
+      let bad : 48 ≡ 49 = nothing_stops edition source ends (codes "limit\nat     in main     place    0" ++ rest) is before following (λ e. cc) h in
       omega (arith, bad);
-  place_of_frame = λ rest edition source ends is before behind h.
-      let bad : 56 ≡ 49 = nothing_stops edition source ends (codes "limit\nat     in main     place    8" ++ rest) is before behind (λ e. cc) h in
+  place_of_frame = λ rest edition source ends is before following h.
+      let bad : 56 ≡ 49 = nothing_stops edition source ends (codes "limit\nat     in main     place    8" ++ rest) is before following (λ e. cc) h in
       omega (arith, bad);
-  caller_in_place = λ rest edition source ends is before behind h.
-      let bad : 109 ≡ 102 = calling_stops edition source ends (codes "limit\nat     in main" ++ rest) is before behind (λ e. cc) h in
+  caller_in_place = λ rest edition source ends is before following h.
+      let bad : 109 ≡ 102 = calling_stops edition source ends (codes "limit\nat     in main" ++ rest) is before following (λ e. cc) h in
       omega (arith, bad);
   other_status = λ ds steps result status starts comes wrong less edition source ends is h.
       wrong (came_to edition source ds is steps ends status less starts result comes h);

@@ -1,4 +1,4 @@
--- The functions of a program, one behind another.
+-- The functions of a program, one after another.
 use Rattle.std.proofs.Common.{◌≡◌, ◌∙◌, ℕ, ◌+◌, ◌<◌, ◌≤◌, Bool, true, false, ◌||◌, List, [], ◌∷◌, ◌++◌, Option, Some, None, ap, append-nil, arith, get_or, length, map, refl, sym, take, nat_lt}
 use Rattle.std.specs.Prelude.{filter_map, zip}
 use Rattle.std.proofs.lemmas.List.{length-map, map-append, take-map, take_more}
@@ -8,21 +8,21 @@ use Rattle.std.proofs.lemmas.List.Sums.{sum_by-take-le}
 use Rattle.blang.specs.declared.code.Definition.{Definition}
 use Rattle.blang.specs.CodeParts.{Function}
 use Rattle.blang.specs.declared.code.Definition.TheVariants as definition
-use Rattle.blang.specs.Layout.{Spot, data_end, label_count, load_fault, first_some, shape_of, size_of, some_if, spot_behind, spots}
-use Rattle.bmach.proofs.Spots.{data_end-push, length-spots_behind, spots_behind-push, zip-push}
+use Rattle.blang.specs.Layout.{Spot, data_end, label_count, load_fault, first_some, shape_of, size_of, some_if, spot_after, spots}
+use Rattle.bmach.proofs.Spots.{data_end-push, length-spots_after, spots_after-push, zip-push}
 use Rattle.btrace.specs.Programs.{Placed, functions_of, placed_function}
 
-pub one_more : (ds : List Definition) (d : Definition) → functions_of (ds ++ d ∷ []) ≡ functions_of ds ++ filter_map placed_function ((spot_behind (map shape_of ds) (shape_of d), d) ∷ [])
+pub one_more : (ds : List Definition) (d : Definition) → functions_of (ds ++ d ∷ []) ≡ functions_of ds ++ filter_map placed_function ((spot_after (map shape_of ds) (shape_of d), d) ∷ [])
 one_more ds d =
     let shapes = map shape_of ds in
-    let s = spot_behind shapes (shape_of d) in
+    let s = spot_after shapes (shape_of d) in
     ap (λ es. filter_map placed_function (zip (spots es) (ds ++ d ∷ []))) (map-append shape_of ds (d ∷ []))
-    ∙ ap (λ ss. filter_map placed_function (zip ss (ds ++ d ∷ []))) (spots_behind-push [] shapes (shape_of d))
-    ∙ ap (filter_map placed_function) (zip-push (spots shapes) ds s d (length-spots_behind [] shapes ∙ length-map ds shape_of))
+    ∙ ap (λ ss. filter_map placed_function (zip ss (ds ++ d ∷ []))) (spots_after-push [] shapes (shape_of d))
+    ∙ ap (filter_map placed_function) (zip-push (spots shapes) ds s d (length-spots_after [] shapes ∙ length-map ds shape_of))
     ∙ filter_map-append placed_function (zip (spots shapes) ds) ((s, d) ∷ [])
 
-pub ends_behind : (ds : List Definition) (d : Definition) → data_end (map shape_of (ds ++ d ∷ [])) ≡ data_end (map shape_of ds) + size_of (shape_of d)
-ends_behind ds d = ap data_end (map-append shape_of ds (d ∷ [])) ∙ data_end-push (map shape_of ds) (shape_of d)
+pub ends_after : (ds : List Definition) (d : Definition) → data_end (map shape_of (ds ++ d ∷ [])) ≡ data_end (map shape_of ds) + size_of (shape_of d)
+ends_after ds d = ap data_end (map-append shape_of ds (d ∷ [])) ∙ data_end-push (map shape_of ds) (shape_of d)
 
 -- the words of the first definitions
 pub ends_within : (ds : List Definition) (i : ℕ) → data_end (map shape_of (take i ds)) ≤ data_end (map shape_of ds)
@@ -47,7 +47,7 @@ module _ (ds : List Definition) (i : ℕ) (d : Definition) (lt : i < length ds) 
   -- where the next definition lies
   pub next_end : (address size : ℕ) → address ≡ data_end (map shape_of (take i ds)) → size ≡ size_of (shape_of d) → address + size ≡ data_end (map shape_of (take (i + 1) ds))
   next_end address size here long =
-      let e : data_end (map shape_of (take (i + 1) ds)) ≡ data_end (map shape_of (take i ds)) + size_of (shape_of d) = ap (λ xs. data_end (map shape_of xs)) taken ∙ ends_behind (take i ds) d in
+      let e : data_end (map shape_of (take (i + 1) ds)) ≡ data_end (map shape_of (take i ds)) + size_of (shape_of d) = ap (λ xs. data_end (map shape_of xs)) taken ∙ ends_after (take i ds) d in
       omega (arith, e)
 
   -- with a function more, or with another definition
@@ -55,7 +55,7 @@ module _ (ds : List Definition) (i : ℕ) (d : Definition) (lt : i < length ds) 
       → new ≡ old ++ record { strings = address + 1; function = f } ∷ [] → new ≡ functions_of (take (i + 1) ds)
   with_function f old new address it here before more =
       more ∙ (λ j. before j ++ record { strings = here j + 1; function = f } ∷ [])
-      ∙ ap (λ x. functions_of (take i ds) ++ filter_map placed_function ((spot_behind (map shape_of (take i ds)) (shape_of x), x) ∷ [])) (sym it)
+      ∙ ap (λ x. functions_of (take i ds) ++ filter_map placed_function ((spot_after (map shape_of (take i ds)) (shape_of x), x) ∷ [])) (sym it)
       ∙ sym (ap functions_of taken ∙ one_more (take i ds) d)
 
   others : (x : Definition) (s : Spot) → ((f : Function) → x ≡ definition.Function f → ⊥) → filter_map placed_function ((s, x) ∷ []) ≡ []
@@ -65,5 +65,5 @@ module _ (ds : List Definition) (i : ℕ) (d : Definition) (lt : i < length ds) 
 
   pub with_other : (old : List Placed) → ((f : Function) → d ≡ definition.Function f → ⊥) → old ≡ functions_of (take i ds) → old ≡ functions_of (take (i + 1) ds)
   with_other old other before =
-      before ∙ sym (append-nil (functions_of (take i ds))) ∙ ap (λ x. functions_of (take i ds) ++ x) (sym (others d (spot_behind (map shape_of (take i ds)) (shape_of d)) other))
+      before ∙ sym (append-nil (functions_of (take i ds))) ∙ ap (λ x. functions_of (take i ds) ++ x) (sym (others d (spot_after (map shape_of (take i ds)) (shape_of d)) other))
       ∙ sym (ap functions_of taken ∙ one_more (take i ds) d)

@@ -63,22 +63,22 @@ stops_run ds image p loaded begins n i j r active s =
     }
 
 module _ (edition : Edition) (source : List ℕ) (n : ℕ) (ends : RunEnds) (status : ℕ) (mid : Outgoing) (ds : List Definition) (image : Image) (p : Paused) (result : Outcome) where
-  runs_whole : HasProgram edition source ends.line mid ds image → IsUnstarted image p → RunGives (steps_from p) n ends.input ends.input_behind ends.out ends.out_behind result
-      → RunGives (machine ds) n ends.input ends.input_behind ends.out ends.out_behind result
+  runs_whole : HasProgram edition source ends.line mid ds image → IsUnstarted image p → RunGives (steps_from p) n ends.input ends.input_after ends.out ends.out_after result
+      → RunGives (machine ds) n ends.input ends.input_after ends.out ends.out_after result
   runs_whole is begins gives =
-      run_of_loaded ds image is.loaded n ends.input ends.input_behind ends.out ends.out_behind result
-      (same_run (run image) (steps_from p) n ends.input ends.input_behind ends.out ends.out_behind result (run_from image p begins) gives)
+      run_of_loaded ds image is.loaded n ends.input ends.input_after ends.out ends.out_after result
+      (same_run (run image) (steps_from p) n ends.input ends.input_after ends.out ends.out_after result (run_from image p begins) gives)
 
   -- a run whose place was told
   pub located_whole : (told : Outgoing) (fs : List Placed) (answer : ℕ) (active : Active) → HasProgram edition source ends.line mid ds image → fs ≡ functions_of ds → IsUnstarted image p
-      → RunGives (steps_from p) n ends.input ends.input_behind ends.out ends.out_behind result → Finishes result mid told answer → located_status result ≡ Some answer
-      → IsOverAt (steps_from p) n ends.input ends.input_behind result active → TellsSite fs active.strings active.place answer told ends.line_behind status → Locates edition source n ends status
+      → RunGives (steps_from p) n ends.input ends.input_after ends.out ends.out_after result → Finishes result mid told answer → located_status result ≡ Some answer
+      → IsOverAt (steps_from p) n ends.input ends.input_after result active → TellsSite fs active.strings active.place answer told ends.line_after status → Locates edition source n ends status
   located_whole told fs answer active is functions begins gives finishes at stops tells =
       located mid told ds image result answer active is (runs_whole is begins gives) finishes at
-      (stops_run ds image p is.loaded begins n ends.input ends.input_behind result active stops)
-      (subst (λ (x : List Placed). TellsSite x active.strings active.place answer told ends.line_behind status) functions tells)
+      (stops_run ds image p is.loaded begins n ends.input ends.input_after result active stops)
+      (subst (λ (x : List Placed). TellsSite x active.strings active.place answer told ends.line_after status) functions tells)
 
   -- a run that has no place
-  pub unlocated_whole : HasProgram edition source ends.line mid ds image → IsUnstarted image p → RunGives (steps_from p) n ends.input ends.input_behind ends.out ends.out_behind result
-      → Finishes result mid ends.line_behind status → (located_status result ≡ Some status → ⊥) → Locates edition source n ends status
+  pub unlocated_whole : HasProgram edition source ends.line mid ds image → IsUnstarted image p → RunGives (steps_from p) n ends.input ends.input_after ends.out ends.out_after result
+      → Finishes result mid ends.line_after status → (located_status result ≡ Some status → ⊥) → Locates edition source n ends status
   unlocated_whole is begins gives finishes unplaced = unlocated mid ds image result is (runs_whole is begins gives) finishes unplaced

@@ -1,4 +1,4 @@
--- The places of a run, one behind another.
+-- The places of a run, one after another.
 use Rattle.std.proofs.Common.{◌≡◌, ◌∙◌, ℕ, zero, suc, ◌+◌, ◌-◌, ◌<◌, None, Some, add-one, arith, List, [], ◌∷◌, ◌++◌, ap, append-nil, append_assoc, codes, decimal, length, map, min, nat_lt, refl, subst, sym, take, if◌then◌else◌}
 use Rattle.std.specs.List.{flat_map, range_with_len}
 use Rattle.std.proofs.lemmas.List.Concat.{flat_map-append}
@@ -88,7 +88,7 @@ some_caller [] number within is = omega arith
 some_caller (c ∷ below) zero within is = cc
 some_caller (c ∷ below) (suc number) within is = some_caller below number (omega arith) is
 
--- the parts of a site, one behind another
+-- the parts of a site, one after another
 pub site_parts : (in_text at_text line_text old t1 t2 t3 t4 t5 t6 shown name place line : List ℕ) → t1 ≡ old ++ in_text → t2 ≡ t1 ++ left 8 shown → shown ≡ name → t3 ≡ t2 ++ at_text → t4 ≡ t3 ++ place → t5 ≡ t4 ++ line_text
     → t6 ≡ t5 ++ line → t6 ≡ old ++ (in_text ++ left 8 name ++ at_text ++ place ++ line_text ++ line)
 site_parts in_text at_text line_text old t1 t2 t3 t4 t5 t6 shown name place line e1 e2 same e3 e4 e5 e6 =

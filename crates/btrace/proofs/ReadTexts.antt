@@ -11,7 +11,7 @@ use Rattle.btrace.specs.RowTexts.{words_text}
 abbrev pub at : ℕ → List ℕ → ℕ
 at column text = get_or text column 0
 
--- a text behind blanks, and behind digits
+-- a text after blanks, and after digits
 abbrev pub skip_blanks : List ℕ → List ℕ
 skip_blanks [] = []
 skip_blanks (b ∷ bs) = if b == 32 then skip_blanks bs else b ∷ bs
@@ -20,14 +20,14 @@ abbrev pub skip_digits : List ℕ → List ℕ
 skip_digits [] = []
 skip_digits (b ∷ bs) = if nat_lt 47 b then skip_digits bs else b ∷ bs
 
--- a text behind its first number
-abbrev pub behind_number : List ℕ → List ℕ
-behind_number text = skip_digits (skip_blanks text)
+-- a text after its first number
+abbrev pub after_number : List ℕ → List ℕ
+after_number text = skip_digits (skip_blanks text)
 
--- a text behind its first line
-abbrev pub behind_line : List ℕ → List ℕ
-behind_line [] = []
-behind_line (b ∷ bs) = if nat_lt 10 b then behind_line bs else bs
+-- a text after its first line
+abbrev pub after_line : List ℕ → List ℕ
+after_line [] = []
+after_line (b ∷ bs) = if nat_lt 10 b then after_line bs else bs
 
 -- all characters are beyond this one
 abbrev pub all_above : ℕ → List ℕ → Bool
@@ -108,10 +108,10 @@ digits_skipped (d ∷ ds) text h =
     let t = above_tail d ds h in
     ap (λ (b : Bool). if b then skip_digits (ds ++ text) else d ∷ (ds ++ text)) t.0 ∙ digits_skipped ds text t.1
 
--- behind a number that stands in a column
-pub number_skipped : (width n : ℕ) (text : List ℕ) → behind_number (right width (decimal n) ++ text) ≡ skip_digits text
+-- after a number that stands in a column
+pub number_skipped : (width n : ℕ) (text : List ℕ) → after_number (right width (decimal n) ++ text) ≡ skip_digits text
 number_skipped width n text =
-    ap behind_number (append_assoc (replicate (width - length (decimal n)) 32) (decimal n) text)
+    ap after_number (append_assoc (replicate (width - length (decimal n)) 32) (decimal n) text)
     ∙ ap skip_digits (blanks_skipped (width - length (decimal n)) (decimal n ++ text) ∙ digits_stay (decimal n) text (digits_some n) (digits_above n))
     ∙ digits_skipped (decimal n) text (digits_above n)
 
@@ -154,8 +154,8 @@ words_above words has_more =
     last true = refl
     last false = refl
 
-pub line_skipped : (xs text : List ℕ) → all_above 10 xs ≡ true → behind_line (xs ++ 10 ∷ text) ≡ text
+pub line_skipped : (xs text : List ℕ) → all_above 10 xs ≡ true → after_line (xs ++ 10 ∷ text) ≡ text
 line_skipped [] text h = refl
 line_skipped (x ∷ xs) text h =
     let t = both (nat_lt 10 x) (all_above 10 xs) h in
-    ap (λ (b : Bool). if b then behind_line (xs ++ 10 ∷ text) else (xs ++ 10 ∷ text)) t.0 ∙ line_skipped xs text t.1
+    ap (λ (b : Bool). if b then after_line (xs ++ 10 ∷ text) else (xs ++ 10 ∷ text)) t.0 ∙ line_skipped xs text t.1

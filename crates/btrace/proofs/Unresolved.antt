@@ -9,18 +9,19 @@ use Rattle.blang.specs.declared.status.TheConstants.{DONE}
 use Rattle.blang.specs.declared.run.Outcome.{Outcome}
 use Rattle.blang.specs.declared.run.Outcome.TheVariants as outcome
 use Rattle.blang.specs.Layout.{World}
-use Rattle.blang.specs.Machine.{Call, Halted, Image, RunEnds, Running, State, Stuck, image_of, machine, state_outcome, run, state_world, Reported}
-use Rattle.bmach.specs.Resolved.{IsLoadedFrom, call_resolved, state_resolved}
+use Rattle.blang.specs.Machine.{Call, Halted, Image, Loaded, RunEnds, Running, State, Stuck, image_of, machine, state_outcome, run, state_world, Reported}
+use Rattle.bmach.specs.Resolved.{IsLoadedFrom, call_resolved, resolved, state_resolved}
 use Rattle.bmach.specs.Stepping.{IsUnstarted, Paused}
 use Rattle.bmach.specs.Stops.{active_of}
+use Rattle.bmach.specs.Stored.{stored}
 use Rattle.bmach.proofs.Beginning.{run_from}
-use Rattle.bmach.proofs.Resolving.{run-resolved}
+use Rattle.bmach.proofs.Resolving.{run-resolved, stored-resolved}
 use Rattle.bmach.proofs.Running.{same_run}
 use Rattle.brun.proofs.RunSteps.{outcome-resolved, run_loaded, run_of_loaded, world-resolved}
 use Rattle.btools.specs.Programs.{HasProgram, nothing_written}
 use Rattle.btrace.specs.Programs.{Placed, functions_of}
-use Rattle.btrace.specs.RowTexts.{changed_text, places_text, step_row, written_row}
-use Rattle.btrace.specs.Traces.{AreShown, EndsAs, IsTried, IsWhere, TraceRow, ShowsRows, ShowsStep, StepsGive, TellsEnd, TellsPlace, Traces, Tries, is_shown, is_step, shown_of, steps_from, store_after, traced, waits_at, which_of}
+use Rattle.btrace.specs.RowTexts.{places_text, step_row, stored_text, written_row}
+use Rattle.btrace.specs.Traces.{AreShown, EndsAs, IsTried, IsWhere, TraceRow, ShowsRows, ShowsStep, StepsGive, TellsEnd, TellsPlace, Traces, Tries, is_shown, is_step, shown_of, steps_from, store_after, stored_after, traced, waits_at, which_of}
 use Rattle.btrace.specs.declared.tracing.TheConstants.{HEADING}
 use Rattle.btrace.specs.declared.tracing.Which.{Which}
 
@@ -59,23 +60,29 @@ module _ (fs : List Placed) (which : Which) (I : Image) (f g : ℕ → State) (e
       let r = running_from I (f made) t.call t.below t.world (sym (e made) ∙ t.state_is) in
       (record { call = r.0; below = r.1; world = t.world; state_is = r.2 }, r.3, refl, r.4)
 
-  step_shown : (made : ℕ) (text : List ℕ) → ShowsStep fs g made text → ShowsStep fs f made text
+  stored_same : (made : ℕ) → stored_after (resolved I).functions g made ≡ stored_after I.functions f made
+  stored_same made =
+      ap (λ s. stored (resolved I).functions s (g (made + 1))) (e made)
+      ∙ ap (stored (resolved I).functions (state_resolved I (f made))) (e (made + 1))
+      ∙ stored-resolved I (f made) (f (made + 1))
+
+  step_shown : (made : ℕ) (text : List ℕ) → ShowsStep fs (resolved I).functions g made text → ShowsStep fs I.functions f made text
   step_shown made text s =
       let t = tries_same made s.tries in
       record {
         tries = t.0;
         line = s.line;
-        changed = s.changed;
         bytes = s.bytes;
         wrote = ap (λ (w : World). w.output) (sym (world_same (made + 1))) ∙ s.wrote ∙ ap (λ (w : World). w.output ++ s.bytes) (sym t.2);
-        text_is = s.text_is ∙ ap (λ c. step_row fs (made + 1) c s.line ++ changed_text (state_world (g (made + 1))).store s.changed ++ written_row s.bytes) (sym t.1)
-            ∙ ap (λ (w : World). step_row fs (made + 1) t.0.call s.line ++ changed_text w.store s.changed ++ written_row s.bytes) (world_same (made + 1));
+        text_is = s.text_is ∙ ap (λ c. step_row fs (made + 1) c s.line ++ stored_text (store_after g (made + 1)) (stored_after (resolved I).functions g made) ++ written_row s.bytes) (sym t.1)
+            ∙ ap (λ (w : World). step_row fs (made + 1) t.0.call s.line ++ stored_text w.store (stored_after (resolved I).functions g made) ++ written_row s.bytes) (world_same (made + 1))
+            ∙ ap (λ xs. step_row fs (made + 1) t.0.call s.line ++ stored_text (store_after f (made + 1)) xs ++ written_row s.bytes) (stored_same made);
       }
 
-  pub are_shown : (made : ℕ) (rows : List TraceRow) → AreShown fs which g made rows → AreShown fs which f made rows
+  pub are_shown : (made : ℕ) (rows : List TraceRow) → AreShown fs (resolved I).functions which g made rows → AreShown fs I.functions which f made rows
   are_shown made rows h = record {
     all = h.all ∙ shown_same made;
-    each = All-weaker (λ (r : TraceRow). ShowsStep fs g r.made r.text) (λ (r : TraceRow). ShowsStep fs f r.made r.text) (λ r s. step_shown r.made r.text s) rows h.each;
+    each = All-weaker (λ (r : TraceRow). ShowsStep fs (resolved I).functions g r.made r.text) (λ (r : TraceRow). ShowsStep fs I.functions f r.made r.text) (λ r s. step_shown r.made r.text s) rows h.each;
   }
 
   where_same : (made n : ℕ) (text : List ℕ) → IsWhere fs g made (store_after g n) text → IsWhere fs f made (store_after f n) text
@@ -107,10 +114,11 @@ module _ (fs : List Placed) (which : Which) (I : Image) (f g : ℕ → State) (e
   ends_same made n outcome.Device text h = tried_same made text h
   ends_same made n outcome.Memory text h = h
 
-shows_run : (fs : List Placed) (which : Which) (ds : List Definition) (image : Image) (p : Paused) → IsLoadedFrom ds image → IsUnstarted image p → (n : ℕ) (i j : Incoming) (r : Outcome) (old new : List ℕ) → ShowsRows fs which (steps_from p) n i j r old new → ShowsRows fs which (machine ds) n i j r old new
+shows_run : (fs : List Placed) (which : Which) (ds : List Definition) (image : Image) (p : Paused) → IsLoadedFrom ds image → IsUnstarted image p → (n : ℕ) (i j : Incoming) (r : Outcome) (old new : List ℕ) → ShowsRows fs p.image.functions which (steps_from p) n i j r old new → ShowsRows fs (image_of ds).functions which (machine ds) n i j r old new
 shows_run fs which ds image p loaded begins n i j r old new s =
     let e : (input : List ℕ) (k : ℕ) → steps_from p input k ≡ state_resolved (image_of ds) (machine ds input k) =
     λ input k. sym (run_from image p begins input k) ∙ run_loaded ds image loaded input k ∙ run-resolved (image_of ds) input k in
+    let same : p.image.functions ≡ (resolved (image_of ds)).functions = ap (λ (x : Image). x.functions) begins.image_is ∙ loaded.functions in
     record {
       made = s.made;
       within = s.within;
@@ -119,22 +127,22 @@ shows_run fs which ds image p loaded begins n i j r old new s =
       text_is = s.text_is;
       taken = s.taken;
       took = s.took;
-      shown = λ more can. are_shown fs which (image_of ds) (machine ds (s.taken ++ more)) (steps_from p (s.taken ++ more)) (e (s.taken ++ more)) s.made s.rows (s.shown more can);
+      shown = λ more can. are_shown fs which (image_of ds) (machine ds (s.taken ++ more)) (steps_from p (s.taken ++ more)) (e (s.taken ++ more)) s.made s.rows (subst (λ (fns : List Loaded). AreShown fs fns which (steps_from p (s.taken ++ more)) s.made s.rows) same (s.shown more can));
       ends = λ more can. ends_same fs which (image_of ds) (machine ds (s.taken ++ more)) (steps_from p (s.taken ++ more)) (e (s.taken ++ more)) s.made n r s.ending (s.ends more can);
     }
 
 -- the trace of a program that has begun
 pub traced_whole : (edition : Edition) (source : List ℕ) (n from : ℕ) (name : Option (List ℕ)) (ends : RunEnds) (status : ℕ) (mid : Outgoing) (ds : List Definition) (image : Image) (fs : List Placed) (which : Which) (p : Paused) (result : Outcome) (begun text told_text : List ℕ) (first last : Kept) (told : ℕ)
-    → HasProgram edition source ends.line mid ds image → fs ≡ functions_of ds → which_of fs from name ≡ Some which → IsUnstarted image p → outgoing_of first ≡ nothing_written → StepsGive p n ends.input ends.input_behind (outgoing_of first) (outgoing_of last) result
-    → begun ≡ [] → ShowsRows fs which (steps_from p) n ends.input ends.input_behind result (begun ++ HEADING.now) text → told_text ≡ text → Reported told_text DONE ends.out ends.out_behind told
-    → TellsEnd told result mid ends.line_behind status → Traces edition source n from name ends status
+    → HasProgram edition source ends.line mid ds image → fs ≡ functions_of ds → which_of fs from name ≡ Some which → IsUnstarted image p → outgoing_of first ≡ nothing_written → StepsGive p n ends.input ends.input_after (outgoing_of first) (outgoing_of last) result
+    → begun ≡ [] → ShowsRows fs p.image.functions which (steps_from p) n ends.input ends.input_after result (begun ++ HEADING.now) text → told_text ≡ text → Reported told_text DONE ends.out ends.out_after told
+    → TellsEnd told result mid ends.line_after status → Traces edition source n from name ends status
 traced_whole edition source n from name ends status mid ds image fs which p result begun text told_text first last told is functions named begins empty gives none shows same tells end =
-    let run_gives = same_run (run image) (steps_from p) n ends.input ends.input_behind (outgoing_of first) (outgoing_of last) result (run_from image p begins) gives in
-    let ds_gives = run_of_loaded ds image is.loaded n ends.input ends.input_behind (outgoing_of first) (outgoing_of last) result run_gives in
-    let ds_shows = shows_run fs which ds image p is.loaded begins n ends.input ends.input_behind result (begun ++ HEADING.now) text shows in
+    let run_gives = same_run (run image) (steps_from p) n ends.input ends.input_after (outgoing_of first) (outgoing_of last) result (run_from image p begins) gives in
+    let ds_gives = run_of_loaded ds image is.loaded n ends.input ends.input_after (outgoing_of first) (outgoing_of last) result run_gives in
+    let ds_shows = shows_run fs which ds image p is.loaded begins n ends.input ends.input_after result (begun ++ HEADING.now) text shows in
     traced mid ds image which result text last told is
     (subst (λ (x : List Placed). which_of x from name ≡ Some which) functions named)
     (rw empty at ds_gives)
-    (subst (λ (x : List Placed). ShowsRows x which (machine ds) n ends.input ends.input_behind result HEADING.now text) functions
-    (subst (λ (t : List ℕ). ShowsRows fs which (machine ds) n ends.input ends.input_behind result (t ++ HEADING.now) text) none ds_shows))
-    (subst (λ (t : List ℕ). Reported t DONE ends.out ends.out_behind told) same tells) end
+    (subst (λ (x : List Placed). ShowsRows x (image_of ds).functions which (machine ds) n ends.input ends.input_after result HEADING.now text) functions
+    (subst (λ (t : List ℕ). ShowsRows fs (image_of ds).functions which (machine ds) n ends.input ends.input_after result (t ++ HEADING.now) text) none ds_shows))
+    (subst (λ (t : List ℕ). Reported t DONE ends.out ends.out_after told) same tells) end

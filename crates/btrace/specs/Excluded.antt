@@ -71,6 +71,10 @@ writing = function (codes "main")
     (instr.External (codes "putchar") ∷ instr.Load ∷ instr.Constant 97 ∷ instr.Call 1 ∷ instr.Pop ∷ closing)
     ∷ []
 
+-- of `main(){*3=5;}`, which stores a word in its third step
+abbrev pub storing : List Definition
+storing = function (codes "main") (instr.Constant 3 ∷ instr.Constant 5 ∷ instr.Store ∷ instr.Pop ∷ closing) ∷ []
+
 -- of `main(){0();}`, whose second step is a trap
 abbrev pub trapping : List Definition
 trapping = function (codes "main") (instr.Constant 0 ∷ instr.Call 0 ∷ instr.Pop ∷ closing) ∷ []
@@ -91,20 +95,20 @@ status_of outcome.Memory = MEMORY
 abbrev pub NoTrace : List Definition → (steps from : ℕ) → (name : Option (List ℕ)) → (status : ℕ) → List ℕ → Type 0
 NoTrace ds steps from name status text =
     (edition : Edition) (source : List ℕ) (ends : RunEnds) → IsSourceOf edition source ds
-    → ends.out.written ≡ Some [] → ends.out_behind.written ≡ Some (HEADING.now ++ text)
+    → ends.out.written ≡ Some [] → ends.out_after.written ≡ Some (HEADING.now ++ text)
     → Traces edition source steps from name ends status → ⊥
 
 -- Where no read failed, what was written of a trace doesn't begin with this text, whatever the status.
 abbrev pub NoBeginning : List Definition → (steps from : ℕ) → List ℕ → Type 0
 NoBeginning ds steps from text =
     (edition : Edition) (source : List ℕ) (ends : RunEnds) (status : ℕ) → IsSourceOf edition source ds
-    → (Grew ends.input.failures ends.input_behind.failures → ⊥) → ends.out.written ≡ Some []
-    → ends.out_behind.written ≡ Some (HEADING.now ++ text) → Traces edition source steps from None ends status → ⊥
+    → (Grew ends.input.failures ends.input_after.failures → ⊥) → ends.out.written ≡ Some []
+    → ends.out_after.written ≡ Some (HEADING.now ++ text) → Traces edition source steps from None ends status → ⊥
 
 pub record TracesExcluded : Type 0 where
-  -- a row with the number before, with the place behind the step, without a name, with another instruction
+  -- a row with the number before, with the place after the step, without a name, with another instruction
   pub number_before : (rest : List ℕ) → NoTrace nothing 1 1 None LIMIT (codes "       0" ++ rest)
-  pub place_behind : (rest : List ℕ) → NoTrace nothing 1 1 None LIMIT (codes "       1  main         1" ++ rest)
+  pub place_after : (rest : List ℕ) → NoTrace nothing 1 1 None LIMIT (codes "       1  main         1" ++ rest)
   pub no_name : (rest : List ℕ) → NoTrace nothing 1 1 None LIMIT (codes "       1                 0" ++ rest)
   pub other_instruction : (rest : List ℕ)
       → NoTrace nothing 1 1 None LIMIT (codes "       1  main         0     1  r  " ++ rest)
@@ -121,6 +125,21 @@ pub record TracesExcluded : Type 0 where
   -- what a step has written left out
   pub written_left_out : (rest : List ℕ)
       → NoTrace writing 4 4 None LIMIT (codes "       4  main         3     1  k 1          4 97\nat     i" ++ rest)
+  -- the word that a step has stored left out, another one in its place, the word before the step, one more, and one of
+  -- a step that stores none
+  pub word_left_out : (rest : List ℕ)
+      → NoTrace storing 3 3 None LIMIT (codes "       3  main         2     1  w            3 5\nat     i" ++ rest)
+  pub other_word : (rest : List ℕ)
+      → NoTrace storing 3 3 None LIMIT
+      (codes "       3  main         2     1  w            3 5\n                                           @0" ++ rest)
+  pub word_before : (rest : List ℕ)
+      → NoTrace storing 3 3 None LIMIT
+      (codes "       3  main         2     1  w            3 5\n                                           @3 = 0" ++ rest)
+  pub word_more : (rest : List ℕ)
+      → NoTrace storing 3 3 None LIMIT
+      (codes "       3  main         2     1  w            3 5\n                                           @3 = 5\n        " ++ rest)
+  pub word_of_none : (rest : List ℕ)
+      → NoTrace nothing 1 1 None LIMIT (codes "       1  main         0     1  c 0         \n        " ++ rest)
   -- the limit and a trap told at other places, and the nearest caller left out
   pub step_left_out : (rest : List ℕ) → NoTrace nothing 1 2 None LIMIT (codes "at     in main     place    0" ++ rest)
   pub trap_elsewhere : (rest : List ℕ) → NoTrace trapping 2 3 None TRAP (codes "at     in main     place    2" ++ rest)
@@ -141,7 +160,7 @@ pub record TracesExcluded : Type 0 where
   -- the status of a run whose trace was not written
   pub unwritten : (ds : List Definition) (steps from : ℕ) (name : Option (List ℕ)) (status : ℕ) → status < REFUSED
       → ComesAlways ds 0 outcome.Limit → (edition : Edition) (source before : List ℕ) (ends : RunEnds)
-      → IsSourceOf edition source ds → ends.out.written ≡ Some before → ends.out_behind.written ≡ Some before
+      → IsSourceOf edition source ds → ends.out.written ≡ Some before → ends.out_after.written ≡ Some before
       → Traces edition source steps from name ends status → ⊥
   -- of a trace that was cut off: a row with another number, none, or the second one left out
   pub cut_off_elsewhere : (rest : List ℕ) → NoBeginning nothing 1 1 (codes "       0" ++ rest)
@@ -150,14 +169,14 @@ pub record TracesExcluded : Type 0 where
       → NoBeginning calling 2 1 (codes "       1  main         0     1  x f         \nat     i" ++ rest)
   -- want of memory told where a read failed and no write was refused memory
   pub read_failed : (edition : Edition) (source : List ℕ) (steps from : ℕ) (name : Option (List ℕ)) (ends : RunEnds)
-      → (ends.input_behind.failures ≡ ends.input.failures → ⊥)
-      → (Grew ends.out.refusals ends.out_behind.refusals → ⊥) → Traces edition source steps from name ends MEMORY → ⊥
+      → (ends.input_after.failures ≡ ends.input.failures → ⊥)
+      → (Grew ends.out.refusals ends.out_after.refusals → ⊥) → Traces edition source steps from name ends MEMORY → ⊥
 
 -- no run of a program has this text of lines and this status
 abbrev pub NoPlace : List Definition → (steps status : ℕ) → List ℕ → Type 0
 NoPlace ds steps status text =
     (edition : Edition) (source : List ℕ) (ends : RunEnds) → IsSourceOf edition source ds
-    → ends.line.written ≡ Some [] → ends.line_behind.written ≡ Some text
+    → ends.line.written ≡ Some [] → ends.line_after.written ≡ Some text
     → Locates edition source steps ends status → ⊥
 
 pub record LocatesExcluded : Type 0 where
@@ -176,4 +195,4 @@ pub record LocatesExcluded : Type 0 where
       → (source : List ℕ) (ends : RunEnds) → IsSourceOf edition source ds → Locates edition source steps ends status → ⊥
   -- want of memory told where a read failed
   pub read_failed : (edition : Edition) (source : List ℕ) (steps : ℕ) (ends : RunEnds)
-      → (ends.input_behind.failures ≡ ends.input.failures → ⊥) → Locates edition source steps ends MEMORY → ⊥
+      → (ends.input_after.failures ≡ ends.input.failures → ⊥) → Locates edition source steps ends MEMORY → ⊥

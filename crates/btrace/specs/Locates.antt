@@ -29,26 +29,26 @@ TellsSite fs strings place answer old new status =
     ((line : ℕ) × Reported (site_line fs strings place line) answer old new status) ⊎ ((new ≡ old) × (status ≡ MEMORY))
 
 -- The program of the source was run for so many steps at most, as the machine runs it, and has its line and status; and
--- if that is the line of a trap or of the limit, where it was over was told behind it. Or the program did not begin, or
+-- if that is the line of a trap or of the limit, where it was over was told after it. Or the program did not begin, or
 -- there is none, and why was told; or memory was refused.
 pub data Locates (edition : Edition) (source : List ℕ) (steps : ℕ) (ends : RunEnds) (status : ℕ) : Type 0 where
   located : (mid told : Outgoing) (ds : List Definition) (image : Image) (result : Outcome) (answer : ℕ)
       (active : Active)
       → HasProgram edition source ends.line mid ds image
-      → RunGives (machine ds) steps ends.input ends.input_behind ends.out ends.out_behind result
+      → RunGives (machine ds) steps ends.input ends.input_after ends.out ends.out_after result
       → Finishes result mid told answer → located_status result ≡ Some answer
-      → IsOverAt (machine ds) steps ends.input ends.input_behind result active
-      → TellsSite (functions_of ds) active.strings active.place answer told ends.line_behind status
+      → IsOverAt (machine ds) steps ends.input ends.input_after result active
+      → TellsSite (functions_of ds) active.strings active.place answer told ends.line_after status
       → Locates edition source steps ends status
   unlocated : (mid : Outgoing) (ds : List Definition) (image : Image) (result : Outcome)
       → HasProgram edition source ends.line mid ds image
-      → RunGives (machine ds) steps ends.input ends.input_behind ends.out ends.out_behind result
-      → Finishes result mid ends.line_behind status → (located_status result ≡ Some status → ⊥)
+      → RunGives (machine ds) steps ends.input ends.input_after ends.out ends.out_after result
+      → Finishes result mid ends.line_after status → (located_status result ≡ Some status → ⊥)
       → Locates edition source steps ends status
   not_begun : (mid : Outgoing) (ds : List Definition) (image : Image) (result : Outcome)
       → HasProgram edition source ends.line mid ds image → BeginsNot image result
-      → Finishes result mid ends.line_behind status → HasNotRun ends → Locates edition source steps ends status
-  stopped : NoProgram edition source ends.line ends.line_behind status → HasNotRun ends
+      → Finishes result mid ends.line_after status → HasNotRun ends → Locates edition source steps ends status
+  stopped : NoProgram edition source ends.line ends.line_after status → HasNotRun ends
       → Locates edition source steps ends status
-  no_memory : (ds : List Definition) (image : Image) → HasProgram edition source ends.line ends.line_behind ds image
+  no_memory : (ds : List Definition) (image : Image) → HasProgram edition source ends.line ends.line_after ds image
       → HasNotRun ends → status ≡ MEMORY → Locates edition source steps ends status

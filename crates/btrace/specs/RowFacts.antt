@@ -5,7 +5,7 @@ use Rattle.blang.specs.declared.run.Outcome.TheVariants as outcome
 use Rattle.blang.specs.declared.run.Trap.TheVariants as trap
 use Rattle.btrace.specs.Locates.{located_status}
 use Rattle.bmach.specs.declared.machine.Active.{Active}
-use Rattle.btrace.specs.RowTexts.{changed_text, first_words, has_more, instr_text, margin, operands_text, word_row}
+use Rattle.btrace.specs.RowTexts.{stored_text, first_words, has_more, instr_text, margin, operands_text, word_row}
 use Rattle.btrace.specs.RowTexts.{words_text, written_row}
 use Rattle.btrace.specs.Traces.{is_wanted, which_of}
 
@@ -26,7 +26,7 @@ word_shown : word_row (7 ∷ 8 ∷ []) 1 ≡ replicate 43 32 ++ codes "@1 = 8\n"
 unfolding digits margin
 word_shown = refl
 
-no_word : changed_text (7 ∷ []) [] ≡ []
+no_word : stored_text (7 ∷ []) [] ≡ []
 no_word = refl
 
 -- what a step has written

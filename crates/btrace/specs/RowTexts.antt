@@ -55,7 +55,7 @@ step_row fs number call line =
     ++ right 6 (decimal line) ++ codes "  " ++ left 12 (code_of fs call) ++ operands_text (reverse call.operands)
     ++ codes "\n"
 
--- the columns before what a step has changed
+-- the columns before what a step has stored or written
 unfoldable pub margin : List ℕ
 margin = replicate MARGIN 32
 
@@ -64,8 +64,8 @@ abbrev pub word_row : (store : List ℕ) → (address : ℕ) → List ℕ
 word_row store address =
     margin ++ codes "@" ++ decimal address ++ codes " = " ++ decimal (slice_index store address) ++ codes "\n"
 
-abbrev pub changed_text : (store addresses : List ℕ) → List ℕ
-changed_text store addresses = flat_map (word_row store) addresses
+abbrev pub stored_text : (store addresses : List ℕ) → List ℕ
+stored_text store addresses = flat_map (word_row store) addresses
 
 -- what was written, if something was
 abbrev pub written_row : List ℕ → List ℕ

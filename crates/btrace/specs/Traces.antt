@@ -8,18 +8,19 @@ use Rattle.bword.specs.declared.edition.Edition.{Edition}
 use Rattle.bword.specs.ByteEnds.{CanFollow, Incoming, Outgoing, Kept, Took, outgoing_of}
 use Rattle.blang.specs.declared.code.Definition.{Definition}
 use Rattle.blang.specs.declared.status.TheConstants.{DONE, MEMORY, WRONG_COMMAND}
-use Rattle.blang.specs.Machine.{Call, Image, State, Running, Halted, Stuck, States, Reported, RunEnds, Finishes}
-use Rattle.blang.specs.Machine.{HasNotRun, RunGives, machine, state_outcome, state_world}
+use Rattle.blang.specs.Machine.{Call, Image, Loaded, State, Running, Halted, Stuck, States, Reported, RunEnds, Finishes}
+use Rattle.blang.specs.Machine.{HasNotRun, RunGives, image_of, machine, state_outcome, state_world}
 use Rattle.blang.specs.Machine as runs
 use Rattle.bmach.specs.Stepping.{BeginsNot, Paused, machine_at}
 use Rattle.bmach.specs.Stops.{active_of}
+use Rattle.bmach.specs.Stored.{stored}
 use Rattle.bmach.specs.declared.machine.Active.{Active}
 use Rattle.blang.specs.declared.run.Outcome.{Outcome}
 use Rattle.blang.specs.declared.run.Outcome.TheVariants as outcome
 use Rattle.blang.specs.Layout.{World}
 use Rattle.btools.specs.Programs.{HasProgram, NoProgram, nothing_written}
 use Rattle.btrace.specs.Programs.{Placed, function_named, functions_of}
-use Rattle.btrace.specs.RowTexts.{Place, changed_text, places_text, step_row, written_row}
+use Rattle.btrace.specs.RowTexts.{Place, places_text, step_row, stored_text, written_row}
 use Rattle.btrace.specs.declared.tracing.TheConstants.{HEADING, UNNAMED}
 use Rattle.btrace.specs.declared.tracing.Which.{Which}
 
@@ -46,7 +47,7 @@ is_step which number (Running call below w) = is_wanted which number call.functi
 is_step which number (Halted e w) = false
 is_step which number (Stuck w) = false
 
--- The first step has the number 1 and comes behind none. A run that is over makes no step.
+-- The first step has the number 1 and comes after none. A run that is over makes no step.
 abbrev pub is_shown : Which → (ℕ → State) → (made : ℕ) → Bool
 is_shown which states made = is_step which (made + 1) (states made)
 
@@ -61,15 +62,23 @@ pub record Tries (states : ℕ → State) (made : ℕ) : Type 0 where
   pub world : World
   pub state_is : states made ≡ Running call below world
 
--- A text shows a step: the call before it, words as they are behind it, and what it wrote.
-pub record ShowsStep (fs : List Placed) (states : ℕ → State) (made : ℕ) (text : List ℕ) : Type 0 where
+-- the words of the store after so many steps
+abbrev pub store_after : (ℕ → State) → (made : ℕ) → List ℕ
+store_after states made = (state_world (states made)).store
+
+-- the addresses at which the step after so many stores words
+abbrev pub stored_after : List Loaded → (ℕ → State) → (made : ℕ) → List ℕ
+stored_after functions states made = stored functions (states made) (states (made + 1))
+
+-- A text shows a step: the call before it, each word that it stored, as it is after it, and what it wrote.
+pub record ShowsStep (fs : List Placed) (functions : List Loaded) (states : ℕ → State) (made : ℕ) (text : List ℕ)
+    : Type 0 where
   pub tries : Tries states made
   pub line : ℕ
-  pub changed : List ℕ
   pub bytes : List ℕ
   pub wrote : (state_world (states (made + 1))).output ≡ tries.world.output ++ bytes
   pub text_is : text ≡ step_row fs (made + 1) tries.call line
-      ++ changed_text (state_world (states (made + 1))).store changed ++ written_row bytes
+      ++ stored_text (store_after states (made + 1)) (stored_after functions states made) ++ written_row bytes
 
 -- the text of a step, and how many steps were made before it
 pub record TraceRow : Type 0 where
@@ -80,10 +89,10 @@ abbrev pub rows_text : List TraceRow → List ℕ
 rows_text rows = flat_map (λ r. r.text) rows
 
 -- Each step that is to be shown has a row, in order, and nothing else has one.
-pub record AreShown (fs : List Placed) (which : Which) (states : ℕ → State) (made : ℕ) (rows : List TraceRow) : Type 0
-  where
-    pub all : map (λ r. r.made) rows ≡ shown_of which states made
-    pub each : All (λ r. ShowsStep fs states r.made r.text) rows
+pub record AreShown (fs : List Placed) (functions : List Loaded) (which : Which) (states : ℕ → State) (made : ℕ)
+    (rows : List TraceRow) : Type 0 where
+  pub all : map (λ r. r.made) rows ≡ shown_of which states made
+  pub each : All (λ r. ShowsStep fs functions states r.made r.text) rows
 
 -- a call that waits, at its instruction that called: its next one comes after that
 abbrev pub waits_at : Call → Active
@@ -112,9 +121,6 @@ IsTried fs which states made text =
     (t : Tries states made) × (line : ℕ)
     × (text ≡ (if is_shown which states made then step_row fs (made + 1) t.call line else []))
 
-abbrev pub store_after : (ℕ → State) → (made : ℕ) → List ℕ
-store_after states made = (state_world (states made)).store
-
 -- After so many steps the run is over, or all were made, or a read failed in the next one; and this comes after their
 -- rows. A run that was refused memory has no trace.
 abbrev pub EndsAs : List Placed → Which → (ℕ → State) → (made steps : ℕ) → Outcome → List ℕ → Type 0
@@ -130,9 +136,8 @@ EndsAs fs which states made steps outcome.Memory ending = ⊥
 
 -- The rows of the steps of this machine were added to a text, and an ending. Its input is what was taken and what may
 -- follow.
-pub record ShowsRows (fs : List Placed) (which : Which) (states : States) (steps : ℕ) (i j : Incoming)
-    (result : Outcome)
-    (old new : List ℕ) : Type 0 where
+pub record ShowsRows (fs : List Placed) (functions : List Loaded) (which : Which) (states : States) (steps : ℕ)
+    (i j : Incoming) (result : Outcome) (old new : List ℕ) : Type 0 where
   pub made : ℕ
   pub within : made ≤ steps
   pub rows : List TraceRow
@@ -140,27 +145,26 @@ pub record ShowsRows (fs : List Placed) (which : Which) (states : States) (steps
   pub text_is : new ≡ old ++ rows_text rows ++ ending
   pub taken : List ℕ
   pub took : Took i taken j
-  pub shown : (more : List ℕ) → CanFollow j more → AreShown fs which (states (taken ++ more)) made rows
+  pub shown : (more : List ℕ) → CanFollow j more → AreShown fs functions which (states (taken ++ more)) made rows
   pub ends : (more : List ℕ) → CanFollow j more → EndsAs fs which (states (taken ++ more)) made steps result ending
 
--- A step was shown before it was made, with these words as they are behind it and these bytes written.
-pub record AddsStep (fs : List Placed) (number : ℕ) (call : Call) (store bytes : List ℕ) (old new : List ℕ) : Type 0
+-- A step was shown before it was made, with the words at these addresses as they are after it and these bytes written.
+pub record AddsStep (fs : List Placed) (number : ℕ) (call : Call) (addresses store bytes old new : List ℕ) : Type 0
   where
     pub line : ℕ
-    pub changed : List ℕ
-    pub text_is : new ≡ old ++ (step_row fs number call line ++ changed_text store changed ++ written_row bytes)
+    pub text_is : new ≡ old ++ (step_row fs number call line ++ stored_text store addresses ++ written_row bytes)
 
--- a step that was the last; it changed no word and wrote nothing
+-- a step that was the last; it stored no word and wrote nothing
 abbrev pub AddsLast : List Placed → (number : ℕ) → Call → List ℕ → List ℕ → Type 0
 AddsLast fs number call old new = (line : ℕ) × (new ≡ old ++ step_row fs number call line)
 
 -- what was added for a step, if it is shown
-abbrev pub AddsIf : Bool → List Placed → (number : ℕ) → Call → (store before behind : List ℕ)
+abbrev pub AddsIf : Bool → List Placed → (number : ℕ) → Call → (addresses store before following : List ℕ)
     → Result (Unit {0}) Outcome → List ℕ → List ℕ → Type 0
-AddsIf false fs number call store before behind result old new = new ≡ old
-AddsIf true fs number call store before behind (Ok u) old new =
-    AddsStep fs number call store (drop (length before) behind) old new
-AddsIf true fs number call store before behind (Err r) old new = AddsLast fs number call old new
+AddsIf false fs number call addresses store before following result old new = new ≡ old
+AddsIf true fs number call addresses store before following (Ok u) old new =
+    AddsStep fs number call addresses store (drop (length before) following) old new
+AddsIf true fs number call addresses store before following (Err r) old new = AddsLast fs number call old new
 
 -- what was added for an outcome
 abbrev pub AddsEnd : List Placed → (store : List ℕ) → Active → List Call → Outcome → List ℕ → List ℕ → Type 0
@@ -175,9 +179,9 @@ steps_from p input n = runs.steps p.image n (machine_at p input [])
 
 -- The trace was written and the run has this line and status, or the trace was cut off.
 abbrev pub TellsEnd : (told : ℕ) → Outcome → Outgoing → Outgoing → ℕ → Type 0
-TellsEnd told result line line_behind status =
-    ((told ≡ DONE) × Finishes result line line_behind status)
-    ⊎ ((told ≡ DONE → ⊥) × (line_behind ≡ line) × (status ≡ told))
+TellsEnd told result line line_after status =
+    ((told ≡ DONE) × Finishes result line line_after status)
+    ⊎ ((told ≡ DONE → ⊥) × (line_after ≡ line) × (status ≡ told))
 
 -- what comes of so many steps from a state on
 abbrev pub StepsGive : Paused → ℕ → (i j : Incoming) (o p : Outgoing) → Outcome → Type 0
@@ -191,21 +195,22 @@ pub data Traces (edition : Edition) (source : List ℕ) (steps from : ℕ) (name
   traced : (mid : Outgoing) (ds : List Definition) (image : Image) (which : Which) (result : Outcome) (text : List ℕ)
       (output : Kept) (told : ℕ) → HasProgram edition source ends.line mid ds image
       → which_of (functions_of ds) from name ≡ Some which
-      → RunGives (machine ds) steps ends.input ends.input_behind nothing_written (outgoing_of output) result
-      → ShowsRows (functions_of ds) which (machine ds) steps ends.input ends.input_behind result HEADING.now text
-      → Reported text DONE ends.out ends.out_behind told → TellsEnd told result mid ends.line_behind status
+      → RunGives (machine ds) steps ends.input ends.input_after nothing_written (outgoing_of output) result
+      → ShowsRows (functions_of ds) (image_of ds).functions which (machine ds) steps ends.input ends.input_after result
+      HEADING.now text
+      → Reported text DONE ends.out ends.out_after told → TellsEnd told result mid ends.line_after status
       → Traces edition source steps from name ends status
   not_begun : (mid : Outgoing) (ds : List Definition) (image : Image) (which : Which) (result : Outcome)
       → HasProgram edition source ends.line mid ds image
       → which_of (functions_of ds) from name ≡ Some which → BeginsNot image result
-      → Finishes result mid ends.line_behind status → HasNotRun ends
+      → Finishes result mid ends.line_after status → HasNotRun ends
       → Traces edition source steps from name ends status
   unnamed : (mid : Outgoing) (ds : List Definition) (image : Image) → HasProgram edition source ends.line mid ds image
       → which_of (functions_of ds) from name ≡ None
-      → Reported UNNAMED.now WRONG_COMMAND mid ends.line_behind status → HasNotRun ends
+      → Reported UNNAMED.now WRONG_COMMAND mid ends.line_after status → HasNotRun ends
       → Traces edition source steps from name ends status
-  stopped : NoProgram edition source ends.line ends.line_behind status → HasNotRun ends
+  stopped : NoProgram edition source ends.line ends.line_after status → HasNotRun ends
       → Traces edition source steps from name ends status
-  no_memory : (ds : List Definition) (image : Image) → HasProgram edition source ends.line ends.line_behind ds image
-      → ends.out_behind ≡ ends.out → ends.input_behind.failures ≡ ends.input.failures → status ≡ MEMORY
+  no_memory : (ds : List Definition) (image : Image) → HasProgram edition source ends.line ends.line_after ds image
+      → ends.out_after ≡ ends.out → ends.input_after.failures ≡ ends.input.failures → status ≡ MEMORY
       → Traces edition source steps from name ends status

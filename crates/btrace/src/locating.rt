@@ -15,11 +15,11 @@ use btools::{Text, read_program, tell};
 use bword::{ByteIn, ByteOut, Edition};
 use std::alloc::{AllocError, Global};
 
-/// Compiles a source and runs its program for so many steps at most, and tells where the run was over.
+/// Compiles a source, runs its program for at most so many steps, and tells where the run ended.
 ///
-/// The output, the line and the status are those of `go_edition`. Behind the line of a trap or of the limit a second
-/// one tells the function, the place in it, and the line of the source, unless `main` had no room for its frame, so
-/// that the run never began.
+/// The output, the line and the status are those of `go_edition`. After the line of a trap or of the limit, a second
+/// line tells the function, the place in it, and the line of the source. If `main` had no room for its frame, the run
+/// never began, and there is no second line.
 pub fn locate<I: ByteIn, O: ByteOut, D: ByteOut>(
     alloc: Global,
     source: &[u8],
@@ -31,11 +31,11 @@ pub fn locate<I: ByteIn, O: ByteOut, D: ByteOut>(
 ) -> Status
     ensures locates { Locates edition source.now steps (record {
       input = I.incoming input.old;
-      input_behind = I.incoming input.new;
+      input_after = I.incoming input.new;
       out = O.outgoing out.old;
-      out_behind = O.outgoing out.new;
+      out_after = O.outgoing out.new;
       line = D.outgoing diag.old;
-      line_behind = D.outgoing diag.new;
+      line_after = D.outgoing diag.new;
     }) result }
     ensures input_lender { I.lender input.new ≡ I.lender input.old }
     ensures out_lender { O.lender out.new ≡ O.lender out.old }
@@ -100,8 +100,7 @@ fn site_line(alloc: Global, tables: &Tables<'_>, call: Active) -> Result<Text, A
     Ok(text)
 }
 
-/// What is told of no run: its trap or its limit without the place, another place, another status than that of just so
-/// many steps.
+/// No run is answered by its trap or its limit without the place, by another place, or by the status of other steps.
 pub fn wrong_places_are_excluded()
     ensures { LocatesExcluded }
 {}

@@ -14,7 +14,7 @@ use std::alloc::AllocError;
 /// How many parameters are shown.
 const SHOWN_PARAMETERS: u16 = 6;
 
-/// Adds where a run was over: the call that ran, and those that led there.
+/// Adds the place where a run ended: the call that ran, and the calls that led there.
 pub fn push_places<S: Store + Drop>(
     text: &mut Text,
     tables: &Tables<'_>,
@@ -34,7 +34,7 @@ pub fn push_places<S: Store + Drop>(
     Ok(())
 }
 
-// The place of a call that waits is behind the instruction that called; this is that instruction.
+// The place of a call that waits is after the instruction that called; this is that instruction.
 fn at_its_call(call: Active) -> Active
     ensures { result ≡ record call { place = call.place - 1 } }
 {

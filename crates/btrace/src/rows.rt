@@ -1,37 +1,25 @@
 //! The rows of a trace.
-ghost use Rattle.std.specs.Prelude.{◌≡◌, ℕ, List, [], ◌+◌, ◌%◌, ◌^◌, ◌<◌, ◌++◌, OnOk, option_map};
-ghost use Rattle.std.specs.List.{flat_map};
+ghost use Rattle.std.specs.Prelude.{◌≡◌, ◌≤◌, ℕ, List, [], ◌+◌, ◌-◌, ◌%◌, ◌^◌, ◌<◌, ◌++◌, OnOk, option_map};
+ghost use Rattle.std.specs.List.{flat_map, range_with_len};
 ghost use Rattle.btools.specs.Characters.{shown_byte};
 ghost use Rattle.btools.specs.Columns.{left};
 ghost use Rattle.btrace.specs.Programs.{entries_of, placed_entry};
-ghost use Rattle.btrace.specs.RowTexts.{changed_text, instr_in, instr_text, margin, name_in, operands_text, step_row, word_row, written_row};
+ghost use Rattle.btrace.specs.RowTexts.{instr_in, instr_text, margin, name_in, operands_text, step_row, stored_text, word_row, written_row};
 
 use crate::tables::{Entry, Tables};
 use bcode::{Page, push_instr_line};
 use blang::Instr;
-use bmach::{Active, FIRST_ADDRESS, Stepper};
+use bmach::{Active, Stepper};
 use btools::{Text, push_byte};
 use bword::Store;
 use std::alloc::AllocError;
+use std::ops::Range;
 
-/// Where what a step has changed begins.
+/// The column where what a step has stored or written begins.
 const MARGIN: usize = 43;
 
 /// How many operands are shown.
 const SHOWN_OPERANDS: usize = 5;
-
-// The value of `lchar`.
-const LCHAR: u16 = 2;
-
-/// What an instruction is about to change.
-#[derive(Clone, Copy)]
-pub enum Change {
-    Nothing,
-    /// The word at this address.
-    Word(u16),
-    /// The parameters of a call.
-    Parameters,
-}
 
 /// Adds the row of a step, before it is made.
 pub fn push_step<S: Store + Drop>(
@@ -100,78 +88,18 @@ fn push_operands(text: &mut Text, operands: &[u16]) -> Result<(), AllocError>
     Ok(())
 }
 
-/// What the next step of a run is about to change.
-pub fn change_of<S: Store + Drop>(tables: &Tables<'_>, stepper: &Stepper<'_, S>) -> Change {
-    let call = stepper.top();
-    let operands = stepper.operands();
-    match instr_at(tables.entry(call.strings), call.place) {
-        Some(Instr::Store | Instr::Modify(_)) => word_below(operands, 1),
-        Some(Instr::Increment(_)) => word_below(operands, 0),
-        Some(Instr::Call(count)) => change_of_call(operands, usize::from(count)),
-        _ => Change::Nothing,
-    }
-}
-
-// The word whose address stands so far below the topmost operand.
-fn word_below(operands: &[u16], count: usize) -> Change {
-    match operand_below(operands, count) {
-        Some(address) => Change::Word(address),
-        None => Change::Nothing,
-    }
-}
-
-fn operand_below(operands: &[u16], count: usize) -> Option<u16> {
-    if operands.len() <= count {
-        return None;
-    }
-    Some(operands[operands.len() - 1 - count])
-}
-
-// `lchar` changes a word, and a call of a function of the program its parameters.
-fn change_of_call(operands: &[u16], count: usize) -> Change {
-    match operand_below(operands, count) {
-        Some(LCHAR) => {
-            let string = argument(operands, count, 0);
-            let character = argument(operands, count, 1);
-            Change::Word(string.wrapping_add(character / 2))
-        }
-        Some(callee) if callee >= FIRST_ADDRESS => Change::Parameters,
-        _ => Change::Nothing,
-    }
-}
-
-// An argument of so many on top of the operands, or 0 where it is missing.
-fn argument(operands: &[u16], count: usize, index: usize) -> u16 {
-    if index >= count {
-        return 0;
-    }
-    operand_below(operands, count - 1 - index).unwrap_or(0)
-}
-
-/// Adds the words that a step has changed.
-pub fn push_change<S: Store + Drop>(
+/// Adds a row for each word that a step has stored.
+pub fn push_stored<S: Store + Drop>(
     text: &mut Text,
     stepper: &Stepper<'_, S>,
-    change: Change,
+    stored: Range<u32>,
 ) -> Result<(), AllocError>
-    ensures { OnOk result ((changed : List ℕ) × (text.new ≡ text.old ++ changed_text stepper.now.store changed)) }
+    requires { stored.end ≤ 65536 }
+    ensures { OnOk result (text.new ≡ text.old
+        ++ stored_text stepper.now.store (range_with_len stored.start (stored.end - stored.start))) }
 {
-    match change {
-        Change::Nothing => Ok(()),
-        Change::Word(address) => push_word(text, stepper, address),
-        Change::Parameters => push_parameters(text, stepper),
-    }
-}
-
-fn push_parameters<S: Store + Drop>(
-    text: &mut Text,
-    stepper: &Stepper<'_, S>,
-) -> Result<(), AllocError>
-    ensures { OnOk result ((changed : List ℕ) × (text.new ≡ text.old ++ changed_text stepper.now.store changed)) }
-{
-    let call = stepper.top();
-    for index in 0..call.parameters {
-        push_word(text, stepper, frame_address(call, index))?;
+    for address in stored.start..stored.end {
+        push_word(text, stepper, address as u16)?;
     }
     Ok(())
 }

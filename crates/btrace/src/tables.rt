@@ -50,7 +50,7 @@ impl<'a> Tables<'a> {
         Ok(Tables { entries, lines })
     }
 
-    /// The function that has its string words there.
+    /// The function whose string words begin there.
     pub fn entry(&self, strings: u32) -> Option<Entry<'a>>
         ensures { option_map placed_entry result ≡ function_with (entries_of self.now) strings }
     {

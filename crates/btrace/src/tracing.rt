@@ -3,6 +3,7 @@ ghost use Rattle.std.specs.Prelude.{◌≡◌, ◌+◌, ◌^◌, ◌<◌, ◌≤
 ghost use Rattle.blang.specs.Layout.{data_end, shape_of};
 ghost use Rattle.blang.specs.Machine.{step};
 ghost use Rattle.bmach.specs.Stepping.{machine_at};
+ghost use Rattle.bmach.specs.Stored.{stored_next};
 ghost use Rattle.bmach.specs.Turns.{KeepsBelow, LeavesWords, TurnGives};
 ghost use Rattle.bword.specs.ByteEnds.{Kept, outgoing_of};
 ghost use Rattle.btrace.specs.Excluded.{TracesExcluded};
@@ -10,7 +11,7 @@ ghost use Rattle.btrace.specs.Programs.{entries_of, functions_of};
 ghost use Rattle.btrace.specs.Traces.{AddsEnd, AddsIf, ShowsRows, StepsGive, Traces, is_wanted, steps_from, which_of};
 
 use crate::places::push_places;
-use crate::rows::{change_of, push_change, push_step, push_written};
+use crate::rows::{push_step, push_stored, push_written};
 use crate::tables::Tables;
 use blang::Outcome;
 use blang::status::{self, Status};
@@ -24,13 +25,13 @@ use std::alloc::{AllocError, Global};
 /// The columns of a trace.
 const HEADING: &[u8] = b"    step  function place  line  code         operands\n";
 
-/// What is said of a name that no function has.
+/// The message for a name that no function has.
 const UNNAMED: &[u8] = b"error: the source has no function of this NAME\n";
 
 /// Which steps are made, and which of them are shown.
 #[derive(Clone, Copy)]
 pub struct Wanted<'a> {
-    /// How many are made at most.
+    /// The most steps that are made.
     pub steps: u64,
     /// The number of the first one that is shown, from 1.
     pub from: u64,
@@ -47,7 +48,7 @@ struct Which {
 }
 
 impl Which {
-    // Whether a step is shown that comes behind so many.
+    // Whether a step is shown that comes after so many.
     fn shows(self, made: u64, call: Active) -> bool
         requires { made + 1 < 2 ^ 64 }
         ensures { result ≡ is_wanted self (made + 1) call.strings }
@@ -60,10 +61,10 @@ impl Which {
     }
 }
 
-/// Compiles a source and runs its program for so many steps at most, and writes each step when the run is over.
+/// Compiles a source, runs its program for at most so many steps, and writes each step when the run is over.
 ///
-/// The status and the line are those of `go_edition`, but that all of the output goes into the trace. The status is
-/// 135 where no function has the name, and a line says so. Where the run is refused memory, nothing is written.
+/// The status and the line are those of `go_edition`, but all output goes into the trace. If no function has the name, a
+/// line says so, and the status is 135. If the run is out of memory, nothing is written.
 pub fn trace<I: ByteIn, O: ByteOut, D: ByteOut>(
     alloc: Global,
     source: &[u8],
@@ -75,11 +76,11 @@ pub fn trace<I: ByteIn, O: ByteOut, D: ByteOut>(
 ) -> Status
     ensures traces { Traces edition source.now wanted.entry.steps wanted.entry.from (option_map (λ n. n.now) wanted.entry.function) (record {
       input = I.incoming input.old;
-      input_behind = I.incoming input.new;
+      input_after = I.incoming input.new;
       out = O.outgoing out.old;
-      out_behind = O.outgoing out.new;
+      out_after = O.outgoing out.new;
       line = D.outgoing diag.old;
-      line_behind = D.outgoing diag.new;
+      line_after = D.outgoing diag.new;
     }) result }
     ensures input_lender { I.lender input.new ≡ I.lender input.old }
     ensures out_lender { O.lender out.new ≡ O.lender out.old }
@@ -165,7 +166,7 @@ fn trace_steps<S: Store + Drop, I: ByteIn>(
 ) -> Result<Outcome, AllocError>
     ensures gives { IfOk result (StepsGive stepper.entry steps
         (I.incoming input.old) (I.incoming input.new) (outgoing_of written.old) (outgoing_of written.new)) }
-    ensures shows { IfOk result (λ outcome. ShowsRows (entries_of tables.now) which (steps_from stepper.entry) steps
+    ensures shows { IfOk result (λ outcome. ShowsRows (entries_of tables.now) stepper.entry.image.functions which (steps_from stepper.entry) steps
         (I.incoming input.old) (I.incoming input.new) outcome text.old text.new) }
     ensures unfailed { OnErr result ((I.incoming input.new).failures ≡ (I.incoming input.old).failures) }
     ensures same { I.lender input.new ≡ I.lender input.old }
@@ -199,7 +200,8 @@ fn trace_step<S: Store + Drop, I: ByteIn>(
     requires { made + 1 < 2 ^ 64 }
     ensures gives { IfOk result (TurnGives stepper.old.image (machine_at stepper.old) (machine_at stepper.new)
         (I.incoming input.old) (I.incoming input.new) (outgoing_of written.old) (outgoing_of written.new)) }
-    ensures shows { IfOk result (λ r. AddsIf is_shown (entries_of tables.now) (made + 1) stepper.old.call stepper.new.store
+    ensures shows { IfOk result (λ r. AddsIf is_shown (entries_of tables.now) (made + 1) stepper.old.call
+        (stored_next stepper.old.image.functions stepper.old.call stepper.old.below) stepper.new.store
         written.old.bytes written.new.bytes r text.old text.new) }
     ensures unfailed { OnErr result ((I.incoming input.new).failures ≡ (I.incoming input.old).failures) }
     ensures words { IfOk result (λ r. LeavesWords (λ left before. step stepper.old.image (machine_at stepper.old left before)) r
@@ -212,11 +214,11 @@ fn trace_step<S: Store + Drop, I: ByteIn>(
         return Ok(stepper.step(input, written));
     }
     push_step(text, tables, stepper, made)?;
-    let change = change_of(tables, stepper);
+    let stored = stepper.stored();
     let before = written.bytes().len();
     match stepper.step(input, written) {
         Ok(()) => {
-            push_change(text, stepper, change)?;
+            push_stored(text, stepper, stored)?;
             push_written(text, since(written, before))?;
             Ok(Ok(()))
         }
@@ -224,7 +226,7 @@ fn trace_step<S: Store + Drop, I: ByteIn>(
     }
 }
 
-// What was written behind so many bytes.
+// What was written after so many bytes.
 fn since(written: &MemOut, before: usize) -> &[u8]
     ensures { result.now ≡ drop before written.now.bytes }
 {
@@ -249,8 +251,8 @@ fn push_end<S: Store + Drop>(
     }
 }
 
-/// What no trace is: a row too few, too many or at another step, a row or a place that shows another state, another
-/// status than that of just so many steps.
+/// No trace has a row too few, too many or at another step, or a row or a place that shows another state, or the status
+/// of other steps.
 pub fn wrong_traces_are_excluded()
     ensures { TracesExcluded }
 {}

@@ -10,7 +10,7 @@ use Rattle.btree.specs.Commas.{list_reader}
 use Rattle.btree.specs.StatementReader.{is_semicolon, name, size, statement}
 use Rattle.blang.specs.WellFormed.{nesting_limit}
 use Rattle.btree.specs.Fitting.{values_words}
-use Rattle.btree.specs.DefinitionReader.{ival, valued, vector, function_body, function, behind_name_at, behind_name, definition}
+use Rattle.btree.specs.DefinitionReader.{ival, valued, vector, function_body, function, after_name_at, after_name, definition}
 use Rattle.btree.proofs.Fine.{Near, Any, Fine, Start, bind_fine, shift, stuck, same, got_fine, map_fine, expect_then, expect_start, closed_fine}
 use Rattle.btree.proofs.ExpressionFine.{one}
 use Rattle.btree.proofs.ExpressionFine as E
@@ -78,27 +78,27 @@ function_fine_at w ts false h = same closing (function w) (λ x. list_reader (λ
     near new (inl n) = rw (ap is_close_paren n ∙ h) refl
     near new (inr n) = rw (no_paren (first new) n) refl
 
-behind_start : (Safe : Token → Type 0) → Safe token.Semicolon → (w : Identifier) → Start closing Safe (behind_name w)
-behind_start Safe safe w = record { with_ = mark token.Semicolon ∷ []; value = Simple w []; done = λ k h. refl; front = λ k h. safe }
+after_start : (Safe : Token → Type 0) → Safe token.Semicolon → (w : Identifier) → Start closing Safe (after_name w)
+after_start Safe safe w = record { with_ = mark token.Semicolon ∷ []; value = Simple w []; done = λ k h. refl; front = λ k h. safe }
 
-closer_is_valued : (w : Identifier) (t : Token) (ts : List Placed) → Closer t → behind_name_at w t ts ≡ valued (Simple w) ts
+closer_is_valued : (w : Identifier) (t : Token) (ts : List Placed) → Closer t → after_name_at w t ts ≡ valued (Simple w) ts
 closer_is_valued w token.CloseBrace ts h = refl
 closer_is_valued w token.End ts h = refl
 closer_is_valued w _ ts h = cc
 
-other : (w : Identifier) (t : Token) → ((ts : List Placed) → behind_name_at w t ts ≡ valued (Simple w) ts) → (ts : List Placed) → first ts ≡ t → Fine Closer (behind_name w) ts
-other w t is ts e = same closing (behind_name w) (valued (Simple w)) ts near (behind_start Any tt w) (valued_fine (Simple w) ts)
+other : (w : Identifier) (t : Token) → ((ts : List Placed) → after_name_at w t ts ≡ valued (Simple w) ts) → (ts : List Placed) → first ts ≡ t → Fine Closer (after_name w) ts
+other w t is ts e = same closing (after_name w) (valued (Simple w)) ts near (after_start Any tt w) (valued_fine (Simple w) ts)
   where
-    near : (new : List Placed) → Near Closer ts new → behind_name w new ≡ valued (Simple w) new
-    near new (inl n) = ap (λ x. behind_name_at w x new) (n ∙ e) ∙ is new
+    near : (new : List Placed) → Near Closer ts new → after_name w new ≡ valued (Simple w) new
+    near new (inl n) = ap (λ x. after_name_at w x new) (n ∙ e) ∙ is new
     near new (inr n) = closer_is_valued w (first new) new n
 
-behind_fine_at : (w : Identifier) (t : Token) (ts : List Placed) → first ts ≡ t → Fine Closer (behind_name w) ts
-behind_fine_at w token.OpenBracket [] e = cc
-behind_fine_at w token.OpenBracket (t ∷ ts) e = shift closing (behind_name w) (vector w) t (λ x. ap (λ y. behind_name_at w y (t ∷ x)) e) ts (vector_fine w ts)
-behind_fine_at w token.OpenParen [] e = cc
-behind_fine_at w token.OpenParen (t ∷ ts) e = shift closing (behind_name w) (function w) t (λ x. ap (λ y. behind_name_at w y (t ∷ x)) e) ts (function_fine_at w ts (is_close_paren (first ts)) refl)
-behind_fine_at w t ts e = other w t (λ us. refl) ts e
+after_fine_at : (w : Identifier) (t : Token) (ts : List Placed) → first ts ≡ t → Fine Closer (after_name w) ts
+after_fine_at w token.OpenBracket [] e = cc
+after_fine_at w token.OpenBracket (t ∷ ts) e = shift closing (after_name w) (vector w) t (λ x. ap (λ y. after_name_at w y (t ∷ x)) e) ts (vector_fine w ts)
+after_fine_at w token.OpenParen [] e = cc
+after_fine_at w token.OpenParen (t ∷ ts) e = shift closing (after_name w) (function w) t (λ x. ap (λ y. after_name_at w y (t ∷ x)) e) ts (function_fine_at w ts (is_close_paren (first ts)) refl)
+after_fine_at w t ts e = other w t (λ us. refl) ts e
 
 pub definition_fine : (ts : List Placed) → Fine Closer definition ts
-definition_fine ts = bind_fine closing E.Closer name behind_name safer (λ w. behind_start E.Closer refl w) ts (name_fine ts) (λ w u r h g. behind_fine_at w (first r) r refl)
+definition_fine ts = bind_fine closing E.Closer name after_name safer (λ w. after_start E.Closer refl w) ts (name_fine ts) (λ w u r h g. after_fine_at w (first r) r refl)

@@ -13,7 +13,7 @@ use Rattle.blang.specs.declared.token.Keyword.{Keyword}
 use Rattle.blang.specs.declared.token.Token.{Token}
 use Rattle.blang.specs.declared.token.Token.TheVariants as token
 use Rattle.blang.specs.declared.token.Placed.{Placed}
-use Rattle.blang.specs.Cut.{Piece, Space, Word, Quoted, Open, Starred, Closed, Wrong, Past, is_blank, is_digit, is_digit_of, digits_value, base_of, is_text, alone, piece_when, first_keywords, keyword_of, keyword_or_name, word_token, number_when, number_in, number_token, after_close, comment_of, quoted, quoted_constant, character_token, string_token, operator_of, assignment_of, others, other_of, fixed_of, fixed_or_stray, whole, longest, line_after, is_last, piece_first, cut, tokens_from}
+use Rattle.blang.specs.Cut.{Piece, Space, Word, Quoted, Open, Starred, Closed, Wrong, Past, is_blank, is_digit, is_digit_of, digits_value, base_of, is_text, alone, piece_when, first_keywords, keyword_of, keyword_or_name, word_token, number_when, number_in, number_token, after_close, comment_of, quoted, quoted_constant, character_token, string_token, operator_of, assignment_of, others, other_of, fixed_of, fixed_or_stray, whole, longest, line_number_after, is_last, piece_first, cut, tokens_from}
 use Rattle.blang.specs.Trees.{bare}
 use Rattle.btree.specs.Editions.{is_new, AllOld, TokensOfOne}
 
@@ -140,7 +140,7 @@ old_cut (suc fuel) line [] = (refl, tt)
 old_cut (suc fuel) line (b ∷ bs) =
     let n = longest editions.One (b ∷ bs) in
     let text = take n (b ∷ bs) in
-    old_piece_first (whole editions.One text) line _ (old_whole text) (old_cut fuel (line_after line text) (drop n (b ∷ bs)))
+    old_piece_first (whole editions.One text) line _ (old_whole text) (old_cut fuel (line_number_after line text) (drop n (b ∷ bs)))
 
 pub tokens_of_one : TokensOfOne
 unfolding tokens_from

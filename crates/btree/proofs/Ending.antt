@@ -1,9 +1,11 @@
--- A spelling that is cut anywhere can be ended, by the tree up to there and the shortest parts behind it.
+-- A spelling that is cut anywhere can be ended, by the tree up to there and the shortest parts after it.
 use Rattle.std.proofs.Common.{◌≡◌, ℕ, suc, ◌+◌, ◌-◌, ◌≤◌, false, List, [], ◌∷◌, ◌++◌, map, sym, ap, ◌∙◌, refl, subst, append_assoc, arith, Option, Some, None}
 use Rattle.blang.specs.declared.token.Keyword.TheVariants as keyword
 use Rattle.blang.specs.declared.token.Token.TheVariants as token
 use Rattle.blang.specs.declared.token.Placed.{Placed}
-use Rattle.blang.specs.Trees.{mark, Expr, Arguments, Number, Named, Literal, Text, Grouped, Indexed, Called, Postfixed, Prefixed, Binary, Conditional, Assigned, No_arguments, Another, name_token, prefix_token, postfix_token, spell, spell_arguments, list_spelling, Stmt, Headed, Compound, If, IfElse, While, Switch, Goto, Break, Return, ReturnValue, Evaluate, Empty, Stmts, Nothing, More, keyword_mark, name_spelling, spell_heading, spell_condition, spell_statement, spell_body, Definition, Simple, Vector, Function, spell_definition, spell_all}
+use Rattle.blang.specs.Trees.{mark, Expr, Arguments, Number, Named, Literal, Text, Grouped, Indexed, Called, Postfixed, Prefixed, Binary, Conditional, Assigned, No_arguments, Another, name_token, prefix_token, postfix_token, Stmt, Headed, Compound, If, IfElse, While, Switch, Goto, Break, Return, ReturnValue, Evaluate, Empty, Stmts, Nothing, More, keyword_mark, Definition, Simple, Vector, Function}
+use Rattle.btree.specs.Spelling.{spell, spell_arguments, list_spelling, name_spelling, spell_heading, spell_condition, spell_statement, spell_body}
+use Rattle.blang.specs.Walk.{spell_definition, spell_all, walk_parameter}
 use Rattle.blang.specs.Cut.{placed}
 use Rattle.blang.specs.WellFormed.{rank, or_rank, conditional_rank, rvalue_rank, is_open}
 use Rattle.btree.specs.Fitting.{words, argument_words, Fits, ArgumentsFit, statement_words, body_words, Sits, AllSit}
@@ -11,8 +13,9 @@ use Rattle.btree.specs.Levels.{Leveled, on, tokens, levels, argument_levels, con
 use Rattle.btree.proofs.CommaLaws.{append-nil}
 use Rattle.btree.proofs.ExpressionSound.{looser}
 use Rattle.btree.proofs.Levels.{tokens-append, tokens-on, said, tokens-levels, tokens-arguments, tokens-statement, tokens-body, tokens-definition, none_split, opened, deeper, within, arguments_within, statement_within, body_within, definition_within}
+use Rattle.btree.proofs.Spelling.{called_spelling}
 
--- a list of two parts that is cut: inside the first, or behind it
+-- a list of two parts that is cut: inside the first, or after it
 data Cut (a b u v : List Leveled) : Type 0 where
   inside : (x : List Leveled) → a ≡ u ++ x → Cut a b u v
   beyond : (t : Leveled) (y : List Leveled) → u ≡ a ++ t ∷ y → b ≡ t ∷ (y ++ v) → Cut a b u v
@@ -33,16 +36,16 @@ record End {T : Type 0} (say : T → List Placed) (Good : T → Type 0) (u : Lis
   more : List Placed
   spelled : say tree ≡ tokens u ++ more
 
--- with something behind it
+-- with something after it
 with_rest : {T S : Type 0} (say : T → List Placed) (tell : S → List Placed) (Good : T → Type 0) (Fine : S → Type 0) (make : T → S) (rest : List Placed) → ((x : T) → tell (make x) ≡ say x ++ rest) → ((x : T) → Good x → Fine (make x)) → (u : List Leveled) → End say Good u → End tell Fine u
 with_rest say tell Good Fine make rest s g u e = record { tree = make e.tree; good = g e.tree e.good; more = e.more ++ rest; spelled = s e.tree ∙ ap (λ l. l ++ rest) e.spelled ∙ append_assoc (tokens u) e.more rest }
 
--- behind a part, and behind a part and a token
-behind_part : {T S : Type 0} (say : T → List Placed) (tell : S → List Placed) (Good : T → Type 0) (Fine : S → Type 0) (make : T → S) (a y : List Leveled) (front : List Placed) → tokens a ≡ front → ((x : T) → tell (make x) ≡ front ++ say x) → ((x : T) → Good x → Fine (make x)) → End say Good y → End tell Fine (a ++ y)
-behind_part say tell Good Fine make a y front h s g e = record { tree = make e.tree; good = g e.tree e.good; more = e.more; spelled = s e.tree ∙ ap (λ l. front ++ l) e.spelled ∙ sym (append_assoc front (tokens y) e.more) ∙ ap (λ l. l ++ e.more) (ap (λ l. l ++ tokens y) (sym h) ∙ sym (tokens-append a y)) }
+-- after a part, and after a part and a token
+after_part : {T S : Type 0} (say : T → List Placed) (tell : S → List Placed) (Good : T → Type 0) (Fine : S → Type 0) (make : T → S) (a y : List Leveled) (front : List Placed) → tokens a ≡ front → ((x : T) → tell (make x) ≡ front ++ say x) → ((x : T) → Good x → Fine (make x)) → End say Good y → End tell Fine (a ++ y)
+after_part say tell Good Fine make a y front h s g e = record { tree = make e.tree; good = g e.tree e.good; more = e.more; spelled = s e.tree ∙ ap (λ l. front ++ l) e.spelled ∙ sym (append_assoc front (tokens y) e.more) ∙ ap (λ l. l ++ e.more) (ap (λ l. l ++ tokens y) (sym h) ∙ sym (tokens-append a y)) }
 
-behind_token : {T S : Type 0} (say : T → List Placed) (tell : S → List Placed) (Good : T → Type 0) (Fine : S → Type 0) (make : T → S) (a : List Leveled) (t : Leveled) (y : List Leveled) (front : List Placed) → tokens a ≡ front → ((x : T) → tell (make x) ≡ front ++ t.token ∷ say x) → ((x : T) → Good x → Fine (make x)) → End say Good y → End tell Fine (a ++ t ∷ y)
-behind_token say tell Good Fine make a t y front h s g e = record { tree = make e.tree; good = g e.tree e.good; more = e.more; spelled = s e.tree ∙ ap (λ l. front ++ t.token ∷ l) e.spelled ∙ sym (append_assoc front (t.token ∷ tokens y) e.more) ∙ ap (λ l. l ++ e.more) (sym (said a t y front (tokens y) h refl)) }
+after_token : {T S : Type 0} (say : T → List Placed) (tell : S → List Placed) (Good : T → Type 0) (Fine : S → Type 0) (make : T → S) (a : List Leveled) (t : Leveled) (y : List Leveled) (front : List Placed) → tokens a ≡ front → ((x : T) → tell (make x) ≡ front ++ t.token ∷ say x) → ((x : T) → Good x → Fine (make x)) → End say Good y → End tell Fine (a ++ t ∷ y)
+after_token say tell Good Fine make a t y front h s g e = record { tree = make e.tree; good = g e.tree e.good; more = e.more; spelled = s e.tree ∙ ap (λ l. front ++ t.token ∷ l) e.spelled ∙ sym (append_assoc front (t.token ∷ tokens y) e.more) ∙ ap (λ l. l ++ e.more) (sym (said a t y front (tokens y) h refl)) }
 
 -- the shortest expression
 one : Placed
@@ -64,14 +67,14 @@ module _ (most : ℕ) where
   nothing_yet say Good x g (t ∷ u) v eq none = cc
 
   sequenced : {T : Type 0} (say : T → List Placed) (Good : T → Type 0) (a b : List Leveled) → Ends say Good a → ((y v : List Leveled) → NoneAbove most a → b ≡ y ++ v → NoneAbove most y → End say Good (a ++ y)) → Ends say Good (a ++ b)
-  sequenced say Good a b before behind u v eq none = go (cut a b u v eq)
+  sequenced say Good a b before following u v eq none = go (cut a b u v eq)
     where
       go : Cut a b u v → End say Good u
       go (inside x p) = before u x p none
-      go (beyond t y p q) = let n = none_split most a (t ∷ y) (subst (λ l. NoneAbove most l) p none) in subst (λ l. End say Good l) (sym p) (behind (t ∷ y) v n.0 q n.1)
+      go (beyond t y p q) = let n = none_split most a (t ∷ y) (subst (λ l. NoneAbove most l) p none) in subst (λ l. End say Good l) (sym p) (following (t ∷ y) v n.0 q n.1)
 
   then_part : {T S : Type 0} (say : T → List Placed) (tell : S → List Placed) (Good : T → Type 0) (Fine : S → Type 0) (make : T → S) (a : List Leveled) (t : Leveled) (b : List Leveled) (front : List Placed) → tokens a ≡ front → ((x : T) → tell (make x) ≡ front ++ t.token ∷ say x) → (NoneAbove most a → t.level ≤ most → (x : T) → Good x → Fine (make x)) → Ends tell Fine a → Ends say Good b → Ends tell Fine (a ++ t ∷ b)
-  then_part say tell Good Fine make a t b front h s g before behind u v eq none = go (cut a (t ∷ b) u v eq)
+  then_part say tell Good Fine make a t b front h s g before following u v eq none = go (cut a (t ∷ b) u v eq)
     where
       go : Cut a (t ∷ b) u v → End tell Fine u
       go (inside x p) = before u x p none
@@ -80,7 +83,7 @@ module _ (most : ℕ) where
           let rest : b ≡ y ++ v = cc in
           let there : u ≡ a ++ t ∷ y = p ∙ ap (λ k. a ++ k ∷ y) same in
           let n = none_split most a (t ∷ y) (subst (λ l. NoneAbove most l) there none) in
-          subst (λ l. End tell Fine l) (sym there) (behind_token say tell Good Fine make a t y front h s (g n.0 n.1.0) (behind y v rest n.1.1))
+          subst (λ l. End tell Fine l) (sym there) (after_token say tell Good Fine make a t y front h s (g n.0 n.1.0) (following y v rest n.1.1))
 
   -- a part and what closes it
   closed : {T : Type 0} (say : T → List Placed) (Good : T → Type 0) (xs d : List Leveled) (x : T) → tokens xs ≡ say x → (NoneAbove most xs → Good x) → Ends say Good xs → Ends (λ x. say x ++ tokens d) Good (xs ++ d)
@@ -117,7 +120,7 @@ module _ (most : ℕ) where
     ended (Called e args) loose room n off h =
         let o = opened (λ k. ArgumentsFit args k (off + words e)) room h.2 in
         then_part (λ x. spell_arguments x ++ mark token.CloseParen ∷ []) spell (λ x. ArgumentsFit x (most - suc n) (off + words e)) (λ x. Fits x loose (most - n) off) (λ x. Called e x)
-        (levels e n) (on (suc n) (mark token.OpenParen)) (argument_levels args (suc n) ++ on n (mark token.CloseParen) ∷ []) (spell e) (tokens-levels e n) (λ x. refl)
+        (levels e n) (on (suc n) (mark token.OpenParen)) (argument_levels args (suc n) ++ on n (mark token.CloseParen) ∷ []) (spell e) (tokens-levels e n) (λ x. called_spelling e x)
         (λ na le x g. (h.0, within most e 0 room n off h.1 na, deeper (λ k. ArgumentsFit x k (off + words e)) most n le g))
         (looser_ends 0 loose n off (omega arith) (levels e n) (ended e 0 room n off h.1))
         (closed spell_arguments (λ x. ArgumentsFit x (most - suc n) (off + words e)) (argument_levels args (suc n)) (on n (mark token.CloseParen) ∷ []) args (tokens-arguments args (suc n)) (arguments_within most args o.0 (suc n) (off + words e) o.1) (arguments_ended args o.0 (suc n) (off + words e) o.1))
@@ -196,29 +199,29 @@ module _ (most : ℕ) where
       → ((e : Expr) (b : B) → spell_statement (make e b) ≡ k ∷ (spell_condition e ++ tell b))
       → ((e : Expr) (b : B) → suc n ≤ most → Fits e rvalue_rank (most - suc n) off → Good (off + words e) b → Sits (make e b) (most - n) off)
       → (least : B) → ((o : ℕ) → Good o least) → (e : Expr) (room : ℕ) → Fits e rvalue_rank room off → Ends most spell (λ x. Fits x rvalue_rank (most - suc n) off) (levels e (suc n))
-      → (behind : List Leveled) → Ends most tell (Good (off + words e)) behind
-      → Ends most spell_statement (λ x. Sits x (most - n) off) (on (suc n) k ∷ condition_levels e (suc n) n behind)
-  conditioned {B} k tell Good make n off spelled sits least least_good e room fits ends behind behind_ends =
+      → (following : List Leveled) → Ends most tell (Good (off + words e)) following
+      → Ends most spell_statement (λ x. Sits x (most - n) off) (on (suc n) k ∷ condition_levels e (suc n) n following)
+  conditioned {B} k tell Good make n off spelled sits least least_good e room fits ends following after_ends =
       then_part most (λ (p : Expr × B). spell_condition p.0 ++ tell p.1) spell_statement (λ (p : Expr × B). Fits p.0 rvalue_rank (most - suc n) off × Good (off + words p.0) p.1) (λ x. Sits x (most - n) off) (λ (p : Expr × B). make p.0 p.1)
-      [] (on (suc n) k) (condition_levels e (suc n) n behind) [] refl (λ p. spelled p.0 p.1)
+      [] (on (suc n) k) (condition_levels e (suc n) n following) [] refl (λ p. spelled p.0 p.1)
       (λ na le p g. sits p.0 p.1 le g.0 g.1)
       (nothing_yet most spell_statement (λ x. Sits x (most - n) off) Empty tt)
       (then_part most (λ (p : Expr × B). spell p.0 ++ mark token.CloseParen ∷ tell p.1) (λ (p : Expr × B). spell_condition p.0 ++ tell p.1) (λ (p : Expr × B). Fits p.0 rvalue_rank (most - suc n) off × Good (off + words p.0) p.1) (λ (p : Expr × B). Fits p.0 rvalue_rank (most - suc n) off × Good (off + words p.0) p.1) (λ (p : Expr × B). p)
-      [] (on n (mark token.OpenParen)) (levels e (suc n) ++ on n (mark token.CloseParen) ∷ behind) [] refl (λ p. ap (λ l. mark token.OpenParen ∷ l) (append_assoc (spell p.0) (mark token.CloseParen ∷ []) (tell p.1)))
+      [] (on n (mark token.OpenParen)) (levels e (suc n) ++ on n (mark token.CloseParen) ∷ following) [] refl (λ p. ap (λ l. mark token.OpenParen ∷ l) (append_assoc (spell p.0) (mark token.CloseParen ∷ []) (tell p.1)))
       (λ na le p g. g)
       (nothing_yet most (λ (p : Expr × B). spell_condition p.0 ++ tell p.1) (λ (p : Expr × B). Fits p.0 rvalue_rank (most - suc n) off × Good (off + words p.0) p.1) (one_tree, least) (tt, least_good (off + words one_tree)))
       (then_part most tell (λ (p : Expr × B). spell p.0 ++ mark token.CloseParen ∷ tell p.1) (Good (off + words e)) (λ (p : Expr × B). Fits p.0 rvalue_rank (most - suc n) off × Good (off + words p.0) p.1) (λ b. (e, b))
-      (levels e (suc n)) (on n (mark token.CloseParen)) behind (spell e) (tokens-levels e (suc n)) (λ b. refl)
+      (levels e (suc n)) (on n (mark token.CloseParen)) following (spell e) (tokens-levels e (suc n)) (λ b. refl)
       (λ na le b g. (within most e rvalue_rank room (suc n) off fits na, g))
       (λ u v eq none. with_rest spell (λ (p : Expr × B). spell p.0 ++ mark token.CloseParen ∷ tell p.1) (λ x. Fits x rvalue_rank (most - suc n) off) (λ (p : Expr × B). Fits p.0 rvalue_rank (most - suc n) off × Good (off + words p.0) p.1) (λ x. (x, least)) (mark token.CloseParen ∷ tell least) (λ x. refl) (λ x g. (g, least_good (off + words x))) u (ends u v eq none))
-      behind_ends))
+      after_ends))
 
   mutual
     statement_ended : (s : Stmt) (room n off : ℕ) → Sits s room off → Ends most spell_statement (λ x. Sits x (most - n) off) (statement_levels s n)
     statement_ended (Headed h s) room n off f =
         sequenced most spell_statement (λ x. Sits x (most - n) off) (map (on n) (spell_heading h)) (statement_levels s n)
         (λ u v eq none. with_rest (λ (o : Unit {0}). spell_heading h) spell_statement (λ (o : Unit {0}). Unit {0}) (λ x. Sits x (most - n) off) (λ (o : Unit {0}). Headed h Empty) (mark token.Semicolon ∷ []) (λ o. refl) (λ o g. (f.0, tt)) u (leaf most (λ (o : Unit {0}). spell_heading h) (λ (o : Unit {0}). Unit {0}) (map (on n) (spell_heading h)) tt (tokens-on n (spell_heading h)) tt u v eq none))
-        (λ y v na q ny. behind_part spell_statement spell_statement (λ x. Sits x (most - n) off) (λ x. Sits x (most - n) off) (λ x. Headed h x) (map (on n) (spell_heading h)) y (spell_heading h) (tokens-on n (spell_heading h)) (λ x. refl) (λ x g. (f.0, g)) (statement_ended s room n off f.1 y v q ny))
+        (λ y v na q ny. after_part spell_statement spell_statement (λ x. Sits x (most - n) off) (λ x. Sits x (most - n) off) (λ x. Headed h x) (map (on n) (spell_heading h)) y (spell_heading h) (tokens-on n (spell_heading h)) (λ x. refl) (λ x g. (f.0, g)) (statement_ended s room n off f.1 y v q ny))
     statement_ended (Compound body) room n off f =
         let o = opened (λ k. AllSit body k off) room f in
         then_part most (λ x. spell_body x ++ mark token.CloseBrace ∷ []) spell_statement (λ x. AllSit x (most - suc n) off) (λ x. Sits x (most - n) off) (λ x. Compound x)
@@ -277,26 +280,26 @@ module _ (most : ℕ) where
     body_ended Nothing room n off f = leaf most spell_body (λ x. AllSit x (most - n) off) [] Nothing refl tt
     body_ended (More before s) room n off f =
         sequenced most spell_body (λ x. AllSit x (most - n) off) (body_levels before n) (statement_levels s n) (body_ended before room n off f.0)
-        (λ y v na q ny. behind_part spell_statement spell_body (λ x. Sits x (most - n) (off + body_words before)) (λ x. AllSit x (most - n) off) (λ x. More before x) (body_levels before n) y (spell_body before) (tokens-body before n) (λ x. refl) (λ x g. (body_within most before room n off f.0 na, g)) (statement_ended s room n (off + body_words before) f.1 y v q ny))
+        (λ y v na q ny. after_part spell_statement spell_body (λ x. Sits x (most - n) (off + body_words before)) (λ x. AllSit x (most - n) off) (λ x. More before x) (body_levels before n) y (spell_body before) (tokens-body before n) (λ x. refl) (λ x g. (body_within most before room n off f.0 na, g)) (statement_ended s room n (off + body_words before) f.1 y v q ny))
 
   definition_ended : (d : Definition) (room : ℕ) → IsFormedIn room d → Ends most spell_definition (IsFormedIn most) (definition_levels d)
   definition_ended (Simple w values) room f = leaf most spell_definition (IsFormedIn most) (definition_levels (Simple w values)) (Simple w values) (tokens-on 0 (spell_definition (Simple w values))) f
   definition_ended (Vector w size values) room f = leaf most spell_definition (IsFormedIn most) (definition_levels (Vector w size values)) (Vector w size values) (tokens-on 0 (spell_definition (Vector w size values))) f
   definition_ended (Function w parameters body) room f =
-      let names = list_spelling name_spelling parameters in
+      let names = list_spelling walk_parameter parameters in
       let head : List Placed = name_token w ∷ mark token.OpenParen ∷ (names ++ mark token.CloseParen ∷ []) in
-      let behind : (x : Stmt) → spell_definition (Function w parameters x) ≡ head ++ spell_statement x = λ x. ap (λ l. name_token w ∷ mark token.OpenParen ∷ l) (sym (append_assoc names (mark token.CloseParen ∷ []) (spell_statement x))) in
+      let following : (x : Stmt) → spell_definition (Function w parameters x) ≡ head ++ spell_statement x = λ x. ap (λ l. name_token w ∷ mark token.OpenParen ∷ l) (sym (append_assoc names (mark token.CloseParen ∷ []) (spell_statement x))) in
       let same : most - 0 ≡ most = omega arith in
       sequenced most spell_definition (IsFormedIn most) (map (on 0) head) (statement_levels body 0)
-      (λ u v eq none. with_rest (λ (o : Unit {0}). head) spell_definition (λ (o : Unit {0}). Unit {0}) (IsFormedIn most) (λ (o : Unit {0}). Function w parameters Empty) (mark token.Semicolon ∷ []) (λ o. behind Empty) (λ o g. tt) u (leaf most (λ (o : Unit {0}). head) (λ (o : Unit {0}). Unit {0}) (map (on 0) head) tt (tokens-on 0 head) tt u v eq none))
-      (λ y v na q ny. behind_part spell_statement spell_definition (λ x. Sits x (most - 0) 0) (IsFormedIn most) (λ x. Function w parameters x) (map (on 0) head) y head (tokens-on 0 head) behind (λ x g. subst (λ k. Sits x k 0) same g) (statement_ended body room 0 0 f y v q ny))
+      (λ u v eq none. with_rest (λ (o : Unit {0}). head) spell_definition (λ (o : Unit {0}). Unit {0}) (IsFormedIn most) (λ (o : Unit {0}). Function w parameters Empty) (mark token.Semicolon ∷ []) (λ o. following Empty) (λ o g. tt) u (leaf most (λ (o : Unit {0}). head) (λ (o : Unit {0}). Unit {0}) (map (on 0) head) tt (tokens-on 0 head) tt u v eq none))
+      (λ y v na q ny. after_part spell_statement spell_definition (λ x. Sits x (most - 0) 0) (IsFormedIn most) (λ x. Function w parameters x) (map (on 0) head) y head (tokens-on 0 head) following (λ x g. subst (λ k. Sits x k 0) same g) (statement_ended body room 0 0 f y v q ny))
 
   program_ended : (ds : List Definition) (room : ℕ) → AllFormedIn room ds → Ends most spell_all (AllFormedIn most) (program_levels ds)
   program_ended [] room f = leaf most spell_all (AllFormedIn most) [] [] refl tt
   program_ended (d ∷ ds) room f =
       sequenced most spell_all (AllFormedIn most) (definition_levels d) (program_levels ds)
       (λ u v eq none. with_rest spell_definition spell_all (IsFormedIn most) (AllFormedIn most) (λ x. x ∷ []) [] (λ x. refl) (λ x g. (g, tt)) u (definition_ended d room f.0 u v eq none))
-      (λ y v na q ny. behind_part spell_all spell_all (AllFormedIn most) (AllFormedIn most) (λ es. d ∷ es) (definition_levels d) y (spell_definition d) (tokens-definition d) (λ x. refl) (λ x g. (definition_within most d room f.0 na, g)) (program_ended ds room f.1 y v q ny))
+      (λ y v na q ny. after_part spell_all spell_all (AllFormedIn most) (AllFormedIn most) (λ es. d ∷ es) (definition_levels d) y (spell_definition d) (tokens-definition d) (λ x. refl) (λ x g. (definition_within most d room f.0 na, g)) (program_ended ds room f.1 y v q ny))
 
 pub can_be_ended : CanBeEnded
 can_be_ended ds deepest most u v f eq none = let e = program_ended most ds deepest f u v eq none in (e.tree, e.more, e.good, e.spelled)

@@ -7,7 +7,8 @@ use Rattle.bword.specs.declared.operators.BinOp.TheVariants as op
 use Rattle.blang.specs.declared.token.Token.{Token}
 use Rattle.blang.specs.declared.token.Token.TheVariants as token
 use Rattle.blang.specs.declared.token.Placed.{Placed}
-use Rattle.blang.specs.Trees.{mark, Identifier, Constant, Number, Character, Expr, Arguments, PrefixOp, Negate, Not, Indirection, Address, PreIncrement, PreDecrement, PostfixOp, PostIncrement, PostDecrement, Named, Literal, Text, Grouped, Indexed, Called, Postfixed, Prefixed, Binary, Conditional, Assigned, No_arguments, Another, prefix_token, postfix_token, spell, spell_arguments}
+use Rattle.blang.specs.Trees.{mark, Identifier, Constant, Number, Character, Expr, Arguments, PrefixOp, Negate, Not, Indirection, Address, PreIncrement, PreDecrement, PostfixOp, PostIncrement, PostDecrement, Named, Literal, Text, Grouped, Indexed, Called, Postfixed, Prefixed, Binary, Conditional, Assigned, No_arguments, Another, prefix_token, postfix_token}
+use Rattle.btree.specs.Spelling.{spell, spell_arguments}
 use Rattle.blang.specs.Cut.{placed}
 use Rattle.blang.specs.WellFormed.{rank, or_rank, conditional_rank, rvalue_rank, IsPostfix}
 use Rattle.btree.specs.Fitting.{words, argument_words, Deeper, Fits, ArgumentsFit}
@@ -15,8 +16,9 @@ use Rattle.btree.specs.Reading.{Got, Reader, ◌>>=◌, first, expect, many}
 use Rattle.btree.specs.ExpressionReader.{is_close_paren, is_close_bracket, is_question, is_colon, prefix_op, having_rank, op_at, Suffix, Index, Call, Step, suffix, comma, always, Choice, Rvalue, another, arguments, postfix_with, postfix, operand, operation, chain, conditional, assigns, rvalue_from, inner, reader, is_operand}
 use Rattle.btree.proofs.Fine.{Loop, many_none, many_some}
 use Rattle.btree.proofs.ExpressionFine.{closing, Good, has_room, suffix_loop, comma_loop, op_loop, reader_fine, reader_one}
+use Rattle.btree.proofs.Spelling.{called_spelling}
 
--- nothing that goes on behind an operand, and no operator of these ranks, begins with this token
+-- nothing that goes on after an operand, and no operator of these ranks, begins with this token
 pub record Below (r : ℕ) (t : Token) : Type 0 where
   pub no_suffix : suffix t ≡ None
   pub no_operator : (i : ℕ) → i ≤ r → op_at i t ≡ None
@@ -52,7 +54,7 @@ expr_opens (Literal (Character n)) rest = refl
 expr_opens (Text bytes offset) rest = refl
 expr_opens (Grouped e) rest = refl
 expr_opens (Indexed e f) rest = ap opens (first_of_first (spell e) (mark token.OpenBracket ∷ (spell f ++ (mark token.CloseBracket ∷ []))) rest) ∙ expr_opens e _
-expr_opens (Called e args) rest = ap opens (first_of_first (spell e) (mark token.OpenParen ∷ (spell_arguments args ++ (mark token.CloseParen ∷ []))) rest) ∙ expr_opens e _
+expr_opens (Called e args) rest = ap (λ l. opens (first (l ++ rest))) (called_spelling e args) ∙ ap opens (first_of_first (spell e) (mark token.OpenParen ∷ (spell_arguments args ++ (mark token.CloseParen ∷ []))) rest) ∙ expr_opens e _
 expr_opens (Postfixed op line e) rest = ap opens (first_of_first (spell e) (placed (postfix_token op) line ∷ []) rest) ∙ expr_opens e _
 expr_opens (Prefixed Negate line e) rest = refl
 expr_opens (Prefixed Not line e) rest = refl
@@ -126,7 +128,7 @@ no_prefix_first (Literal (Character n)) room off p f rest = refl
 no_prefix_first (Text bytes offset) room off p f rest = refl
 no_prefix_first (Grouped e) room off p f rest = refl
 no_prefix_first (Indexed e g) room off p f rest = ap prefix_op (first_of_first (spell e) (mark token.OpenBracket ∷ (spell g ++ (mark token.CloseBracket ∷ []))) rest) ∙ no_prefix_first e room off f.0 f.1 _
-no_prefix_first (Called e args) room off p f rest = ap prefix_op (first_of_first (spell e) (mark token.OpenParen ∷ (spell_arguments args ++ (mark token.CloseParen ∷ []))) rest) ∙ no_prefix_first e room off f.0 f.1 _
+no_prefix_first (Called e args) room off p f rest = ap (λ l. prefix_op (first (l ++ rest))) (called_spelling e args) ∙ ap prefix_op (first_of_first (spell e) (mark token.OpenParen ∷ (spell_arguments args ++ (mark token.CloseParen ∷ []))) rest) ∙ no_prefix_first e room off f.0 f.1 _
 no_prefix_first (Postfixed op line e) room off p f rest = ap prefix_op (first_of_first (spell e) (placed (postfix_token op) line ∷ []) rest) ∙ no_prefix_first e room off f.0 f.1 _
 no_prefix_first (Prefixed op line e) room off p f rest = absurd p
 no_prefix_first (Binary op line e g) room off p f rest = absurd p
@@ -236,8 +238,8 @@ reads_group e re = reads_post (Grouped e) tt (λ r room off f. f) post
     post (suc k) off f rest = ap (λ x. (x >>= λ e r. expect is_close_paren r >>= λ o. Got (Grouped e)) >>= many (always suffix) (postfix_with (inner (suc k)) off)) (ap (reader k Rvalue off) (append_assoc (spell e) (mark token.CloseParen ∷ []) rest) ∙ re.rvalue k off f (mark token.CloseParen ∷ rest) ends_close_paren)
 
 -- after a postfix expression, one suffix more
-suffix_again : (e : Expr) → Reads e → (room off : ℕ) → IsPostfix e → Fits e 0 room off → (b : Suffix) (behind rest : List Placed) → suffix (first behind) ≡ Some b → (g : Expr) → postfix_with (inner room) off b e behind ≡ Got g rest → postfix (inner room) off (spell e ++ behind) ≡ many (always suffix) (postfix_with (inner room) off) g rest
-suffix_again e re room off is f b behind rest h g made = re.post is room off f behind ∙ many_some closing (always suffix) (postfix_with (inner room) off) (suffix_loop (inner room) (has_room room) off) b e behind h ∙ ap (λ x. x >>= many (always suffix) (postfix_with (inner room) off)) made
+suffix_again : (e : Expr) → Reads e → (room off : ℕ) → IsPostfix e → Fits e 0 room off → (b : Suffix) (following rest : List Placed) → suffix (first following) ≡ Some b → (g : Expr) → postfix_with (inner room) off b e following ≡ Got g rest → postfix (inner room) off (spell e ++ following) ≡ many (always suffix) (postfix_with (inner room) off) g rest
+suffix_again e re room off is f b following rest h g made = re.post is room off f following ∙ many_some closing (always suffix) (postfix_with (inner room) off) (suffix_loop (inner room) (has_room room) off) b e following h ∙ ap (λ x. x >>= many (always suffix) (postfix_with (inner room) off)) made
 
 reads_indexed : (e f : Expr) → Reads e → Reads f → Reads (Indexed e f)
 reads_indexed e f re rf = reads_post (Indexed e f) tt (λ r room off h. h) post
@@ -279,16 +281,16 @@ reads_another (Another args d) e rb re = record {
 reads_called : (e : Expr) (args : Arguments) → Reads e → ReadsArguments args → Reads (Called e args)
 reads_called e args re ra = reads_post (Called e args) tt (λ r room off h. h) (λ room off h rest. post args ra room off h rest)
   where
-    behind : (args : Arguments) (rest : List Placed) → spell (Called e args) ++ rest ≡ spell e ++ (mark token.OpenParen ∷ (spell_arguments args ++ (mark token.CloseParen ∷ rest)))
-    behind args rest = append_assoc (spell e) (mark token.OpenParen ∷ (spell_arguments args ++ (mark token.CloseParen ∷ []))) rest ∙ ap (λ x. spell e ++ (mark token.OpenParen ∷ x)) (append_assoc (spell_arguments args) (mark token.CloseParen ∷ []) rest)
+    following : (args : Arguments) (rest : List Placed) → spell (Called e args) ++ rest ≡ spell e ++ (mark token.OpenParen ∷ (spell_arguments args ++ (mark token.CloseParen ∷ rest)))
+    following args rest = ap (λ l. l ++ rest) (called_spelling e args) ∙ append_assoc (spell e) (mark token.OpenParen ∷ (spell_arguments args ++ (mark token.CloseParen ∷ []))) rest ∙ ap (λ x. spell e ++ (mark token.OpenParen ∷ x)) (append_assoc (spell_arguments args) (mark token.CloseParen ∷ []) rest)
 
     post : (args : Arguments) → ReadsArguments args → (room off : ℕ) → Fits (Called e args) 0 room off → (rest : List Placed) → postfix (inner room) off (spell (Called e args) ++ rest) ≡ many (always suffix) (postfix_with (inner room) off) (Called e args) rest
     post args ra zero off h rest = absurd h.2
     post No_arguments ra (suc k) off h rest =
-        ap (postfix (inner (suc k)) off) (behind No_arguments rest)
+        ap (postfix (inner (suc k)) off) (following No_arguments rest)
         ∙ suffix_again e re (suc k) off h.0 h.1 Call (mark token.OpenParen ∷ mark token.CloseParen ∷ rest) rest refl (Called e No_arguments) refl
     post (Another before f) ra (suc k) off h rest =
-        ap (postfix (inner (suc k)) off) (behind (Another before f) rest)
+        ap (postfix (inner (suc k)) off) (following (Another before f) rest)
         ∙ suffix_again e re (suc k) off h.0 h.1 Call (mark token.OpenParen ∷ (spell_arguments (Another before f) ++ (mark token.CloseParen ∷ rest))) rest refl (Called e (Another before f))
         (rw (not_closing _ (arguments_open (Another before f) tt (mark token.CloseParen ∷ rest))) (ap (λ x. x >>= λ args r. expect is_close_paren r >>= λ o. Got (Called e args)) (ra.again tt k (off + words e) h.2 (mark token.CloseParen ∷ rest) ends_close_paren ∙ many_none (always comma) (another (inner (suc k)) (off + words e)) (Another before f) (mark token.CloseParen ∷ rest) refl)))
 
@@ -319,11 +321,11 @@ reads_binary op line e f re rf = record {
     -- where the operator has this rank
     main : (j room off : ℕ) → suc j ≤ or_rank → rank op ≡ suc j → Fits e (rank op) room off → Fits f (rank op - 1) room (off + words e) → (rest : List Placed) → Below j (first rest) → chain (inner room) (suc j) off (spell (Binary op line e f) ++ rest) ≡ rest_of room j off (Binary op line e f) rest
     main j room off le ranked he hf rest b =
-        let behind : List Placed = placed (token.Operator op) line ∷ (spell f ++ rest) in
+        let following : List Placed = placed (token.Operator op) line ∷ (spell f ++ rest) in
         let less : rank op - 1 ≡ j = omega arith in
         ap (chain (inner room) (suc j) off) (append_assoc (spell e) (placed (token.Operator op) line ∷ spell f) rest)
-        ∙ re.spine j room off le (subst (λ n. Fits e n room off) ranked he) behind (op_below op j ranked)
-        ∙ many_some closing (always (op_at (suc j))) (operation (chain (inner room) j) off) (loop_at room j off) op e behind (op_found op (suc j) ranked)
+        ∙ re.spine j room off le (subst (λ n. Fits e n room off) ranked he) following (op_below op j ranked)
+        ∙ many_some closing (always (op_at (suc j))) (operation (chain (inner room) j) off) (loop_at room j off) op e following (op_found op (suc j) ranked)
         ∙ ap (λ x. (x >>= λ f. Got (Binary op line e f)) >>= rest_of room j off) (rf.chained j room (off + words e) (omega arith) (subst (λ n. Fits f n room (off + words e)) less hf) rest b)
 
     spine : (j room off : ℕ) → suc j ≤ or_rank → rank op ≤ suc j → Fits e (rank op) room off → Fits f (rank op - 1) room (off + words e) → (rest : List Placed) → Below j (first rest) → (rank op ≤ j → Below j (first rest) → chain (inner room) j off (spell (Binary op line e f) ++ rest) ≡ Got (Binary op line e f) rest) → chain (inner room) (suc j) off (spell (Binary op line e f) ++ rest) ≡ rest_of room j off (Binary op line e f) rest

@@ -124,8 +124,8 @@ module _ (inner : Inner) (room : Room inner) where
   operand_start : (off : ℕ) → Start closing Any (operand inner off)
   operand_start off = record { with_ = one ∷ []; value = one_tree; done = operand_one off; front = λ k h. tt }
 
-  behind_prefix : ℕ → PrefixOp → Placed → Reader Expr
-  behind_prefix off op t r = inner.read Operand off r >>= λ e. Got (Prefixed op t.line e)
+  after_prefix : ℕ → PrefixOp → Placed → Reader Expr
+  after_prefix off op t r = inner.read Operand off r >>= λ e. Got (Prefixed op t.line e)
 
   prefix_opened : (off : ℕ) (op : PrefixOp) (t : Placed) → Opened closing (prefixed inner off op) t
   prefix_opened off op t = go room
@@ -169,7 +169,7 @@ module _ (inner : Inner) (room : Room inner) where
   abbrev conditional_start : (off : ℕ) (e : Expr) → Start closing Closer (conditional inner off e)
   conditional_start off e = record { with_ = []; value = e; done = λ k h. rw (no_question (first k) h) refl; front = λ k h. h }
 
-  -- behind the colon
+  -- after the colon
   last : ℕ → Expr → Expr → Reader Expr
   last off e f r = inner.read Choice (off + words e + words f) r >>= λ g. Got (Conditional e f g)
 

@@ -1,15 +1,17 @@
 -- An expression has a twin with the lines of any tokens that are bare alike.
-use Rattle.std.proofs.Common.{◌≡◌, ℕ, zero, suc, ◌+◌, ◌-◌, List, [], ◌∷◌, ◌++◌, sym, ap, refl, subst, Option}
+use Rattle.std.proofs.Common.{◌≡◌, ℕ, zero, suc, ◌+◌, ◌-◌, List, [], ◌∷◌, ◌++◌, sym, ap, ◌∙◌, refl, subst, Option}
 use Rattle.std.specs.Prelude.{map}
 use Rattle.bword.specs.declared.operators.BinOp.{BinOp}
 use Rattle.blang.specs.declared.token.Token.TheVariants as token
 use Rattle.blang.specs.declared.token.Placed.{Placed}
-use Rattle.blang.specs.Trees.{mark, kept, kept_tokens, bare, Identifier, Constant, Number, Character, Expr, Arguments, PrefixOp, PostfixOp, PostIncrement, PostDecrement, Named, Literal, Text, Grouped, Indexed, Called, Postfixed, Prefixed, Binary, Conditional, Assigned, No_arguments, Another, prefix_token, postfix_token, comma_behind, spell, spell_arguments}
+use Rattle.blang.specs.Trees.{mark, kept, kept_tokens, bare, Identifier, Constant, Number, Character, Expr, Arguments, PrefixOp, PostfixOp, PostIncrement, PostDecrement, Named, Literal, Text, Grouped, Indexed, Called, Postfixed, Prefixed, Binary, Conditional, Assigned, No_arguments, Another, prefix_token, postfix_token}
+use Rattle.btree.specs.Spelling.{comma_after, spell, spell_arguments}
 use Rattle.blang.specs.Cut.{placed, string_token}
 use Rattle.blang.specs.WellFormed.{rank, or_rank, conditional_rank, rvalue_rank, IsPostfix}
 use Rattle.btree.specs.Fitting.{words, argument_words, Deeper, Fits, ArgumentsFit}
 use Rattle.btree.proofs.ExpressionSound.{prefix_kept}
 use Rattle.btree.proofs.Relined.{cut_token, cut_append, nothing_kept}
+use Rattle.btree.proofs.Spelling.{called_spelling}
 
 -- the twin fits wherever the expression does
 pub record Alike (e e2 : Expr) : Type 0 where
@@ -27,7 +29,7 @@ pub record ArgumentsTwin (args : Arguments) (ps : List Placed) : Type 0 where
   pub spelled : spell_arguments tree ≡ kept_tokens ps
   pub fits : (room off : ℕ) → ArgumentsFit args room off → ArgumentsFit tree room off
   pub same_words : argument_words tree ≡ argument_words args
-  pub commas : comma_behind tree ≡ comma_behind args
+  pub commas : comma_after tree ≡ comma_after args
 
 abbrev pub HasTwin : Expr → Type 0
 HasTwin e = (ps : List Placed) → map bare (spell e) ≡ map bare ps → Twin e ps
@@ -86,7 +88,7 @@ arguments_deeper args ps t zero off off2 h f = f
 arguments_deeper args ps t (suc k) off off2 h f = subst (λ o. ArgumentsFit t.tree k o) h (t.fits k off f)
 
 called_twin : (e : Expr) (args : Arguments) → HasTwin e → HaveTwin args → HasTwin (Called e args)
-called_twin e args te ta ps h = cut_append (spell e) (mark token.OpenParen ∷ (spell_arguments args ++ (mark token.CloseParen ∷ []))) ps h (λ l r hl hr k. cut_token token.OpenParen 0 (spell_arguments args ++ (mark token.CloseParen ∷ [])) r hr (λ line r2 h2 k2. cut_append (spell_arguments args) (mark token.CloseParen ∷ []) r2 h2 (λ l3 r3 hl3 h3 k3. cut_token token.CloseParen 0 [] r3 h3 (λ line r4 h4 k4.
+called_twin e args te ta ps h = cut_append (spell e) (mark token.OpenParen ∷ (spell_arguments args ++ (mark token.CloseParen ∷ []))) ps (ap (map bare) (sym (called_spelling e args)) ∙ h) (λ l r hl hr k. cut_token token.OpenParen 0 (spell_arguments args ++ (mark token.CloseParen ∷ [])) r hr (λ line r2 h2 k2. cut_append (spell_arguments args) (mark token.CloseParen ∷ []) r2 h2 (λ l3 r3 hl3 h3 k3. cut_token token.CloseParen 0 [] r3 h3 (λ line r4 h4 k4.
     let n : kept_tokens r4 ≡ [] = nothing_kept r4 h4 in
     let t : Twin e l = te l hl in
     let u : ArgumentsTwin args l3 = ta l3 hl3 in
@@ -94,7 +96,7 @@ called_twin e args te ta ps h = cut_append (spell e) (mark token.OpenParen ∷ (
     let s2 : spell_arguments u.tree ≡ kept_tokens l3 = u.spelled in
     let w1 : words t.tree ≡ words e = t.alike.same_words in
     let w2 : argument_words u.tree ≡ argument_words args = u.same_words in
-    record { tree = Called t.tree u.tree; spelled = let e : spell t.tree ++ (mark token.OpenParen ∷ (spell_arguments u.tree ++ (mark token.CloseParen ∷ []))) ≡ kept_tokens ps = cc in e; alike = record { fits = λ r room off f. (t.alike.postfix f.0, t.alike.fits 0 room off f.1, arguments_deeper args l3 u room _ _ (same_off t.alike off) f.2); same_words = let e : words t.tree + argument_words u.tree ≡ words e + argument_words args = cc in e; postfix = λ p. p } }))))
+    record { tree = Called t.tree u.tree; spelled = let e : spell t.tree ++ (mark token.OpenParen ∷ (spell_arguments u.tree ++ (mark token.CloseParen ∷ []))) ≡ kept_tokens ps = cc in called_spelling t.tree u.tree ∙ e; alike = record { fits = λ r room off f. (t.alike.postfix f.0, t.alike.fits 0 room off f.1, arguments_deeper args l3 u room _ _ (same_off t.alike off) f.2); same_words = let e : words t.tree + argument_words u.tree ≡ words e + argument_words args = cc in e; postfix = λ p. p } }))))
 
 postfix_kept : (op : PostfixOp) (line : ℕ) → kept (placed (postfix_token op) line) ≡ placed (postfix_token op) line
 postfix_kept PostIncrement line = refl
@@ -156,18 +158,18 @@ assigned_twin op line e f te tf ps h = cut_append (spell e) (placed (token.Assig
     record { tree = Assigned op line2 t.tree u.tree; spelled = let e : spell t.tree ++ (placed (token.Assign op) line2 ∷ spell u.tree) ≡ kept_tokens ps = cc in e; alike = record { fits = λ r room off f. (f.0, t.alike.fits 0 room off f.1, deeper_at u.alike rvalue_rank room _ _ (same_off t.alike off) f.2); same_words = let e : words t.tree + words u.tree ≡ words e + words f = cc in e; postfix = λ p. p } }))
 
 another_twin : (before : Arguments) (e : Expr) → HaveTwin before → HasTwin e → HaveTwin (Another before e)
-another_twin before e tb te ps h = cut_append (spell_arguments before) (comma_behind before ++ spell e) ps h (λ l r hl hr k. cut_append (comma_behind before) (spell e) r hr (λ l2 r2 hl2 h2 k2.
+another_twin before e tb te ps h = cut_append (spell_arguments before) (comma_after before ++ spell e) ps h (λ l r hl hr k. cut_append (comma_after before) (spell e) r hr (λ l2 r2 hl2 h2 k2.
     let t : ArgumentsTwin before l = tb l hl in
     let u : Twin e r2 = te r2 h2 in
     let s : spell_arguments t.tree ≡ kept_tokens l = t.spelled in
     let s2 : spell u.tree ≡ kept_tokens r2 = u.spelled in
-    let c : comma_behind t.tree ≡ comma_behind before = t.commas in
-    let c2 : comma_behind before ≡ kept_tokens l2 = comma_kept before l2 hl2 in
+    let c : comma_after t.tree ≡ comma_after before = t.commas in
+    let c2 : comma_after before ≡ kept_tokens l2 = comma_kept before l2 hl2 in
     let w1 : argument_words t.tree ≡ argument_words before = t.same_words in
     let w2 : words u.tree ≡ words e = u.alike.same_words in
-    record { tree = Another t.tree u.tree; spelled = let e : spell_arguments t.tree ++ (comma_behind t.tree ++ spell u.tree) ≡ kept_tokens ps = cc in e; fits = λ room off f. (t.fits room off f.0, fits_at u.alike rvalue_rank room _ _ (ap (λ n. off + n) (sym w1)) f.1); same_words = let e : argument_words t.tree + words u.tree ≡ argument_words before + words e = cc in e; commas = refl }))
+    record { tree = Another t.tree u.tree; spelled = let e : spell_arguments t.tree ++ (comma_after t.tree ++ spell u.tree) ≡ kept_tokens ps = cc in e; fits = λ room off f. (t.fits room off f.0, fits_at u.alike rvalue_rank room _ _ (ap (λ n. off + n) (sym w1)) f.1); same_words = let e : argument_words t.tree + words u.tree ≡ argument_words before + words e = cc in e; commas = refl }))
   where
-    comma_kept : (before : Arguments) (ps : List Placed) → map bare (comma_behind before) ≡ map bare ps → comma_behind before ≡ kept_tokens ps
+    comma_kept : (before : Arguments) (ps : List Placed) → map bare (comma_after before) ≡ map bare ps → comma_after before ≡ kept_tokens ps
     comma_kept No_arguments ps h = sym (nothing_kept ps h)
     comma_kept (Another b e) ps h = cut_token token.Comma 0 [] ps h (λ line r hr k. let n : kept_tokens r ≡ [] = nothing_kept r hr in let q : mark token.Comma ∷ [] ≡ kept_tokens ps = cc in q)
 

@@ -7,12 +7,14 @@ use Rattle.bword.specs.declared.operators.BinOp.TheVariants as op
 use Rattle.blang.specs.declared.token.Token.{Token}
 use Rattle.blang.specs.declared.token.Token.TheVariants as token
 use Rattle.blang.specs.declared.token.Placed.{Placed}
-use Rattle.blang.specs.Trees.{mark, kept, kept_tokens, Expr, Arguments, PrefixOp, Negate, Not, Indirection, Address, PreIncrement, PreDecrement, PostIncrement, PostDecrement, Named, Literal, Text, Grouped, Indexed, Called, Postfixed, Prefixed, Binary, Conditional, Assigned, No_arguments, Another, prefix_token, comma_behind, spell, spell_arguments}
+use Rattle.blang.specs.Trees.{mark, kept, kept_tokens, Expr, Arguments, PrefixOp, Negate, Not, Indirection, Address, PreIncrement, PreDecrement, PostIncrement, PostDecrement, Named, Literal, Text, Grouped, Indexed, Called, Postfixed, Prefixed, Binary, Conditional, Assigned, No_arguments, Another, prefix_token}
+use Rattle.btree.specs.Spelling.{comma_after, spell, spell_arguments}
 use Rattle.blang.specs.Cut.{placed}
 use Rattle.blang.specs.WellFormed.{rank, or_rank, conditional_rank, rvalue_rank, IsPostfix}
 use Rattle.btree.specs.Fitting.{words, argument_words, Deeper, Fits, ArgumentsFit}
 use Rattle.btree.specs.Reading.{Read, Got, Stop, Reader, ◌>>=◌, first, expect, turns, many}
 use Rattle.btree.specs.ExpressionReader.{is_close_paren, is_close_bracket, is_colon, prefix_op, having_rank, op_at, Suffix, Index, Call, Step, suffix, comma, always, ExpressionKind, Operand, Choice, Rvalue, Inner, primary, another, arguments, call, postfix_with, postfix, prefixed, operand, operation, chain, choices, conditional, assigns, assigned, rvalue_from, read_at, inner, reader, is_operand}
+use Rattle.btree.proofs.Spelling.{called_spelling}
 
 -- the tokens are the spelling of what was read, and what is left
 abbrev pub Sound : {A : Type 0} → (A → List Placed) → (A → Type 0) → List Placed → Read A → Type 0
@@ -164,13 +166,13 @@ module _ (room : ℕ) (inner : Inner) (sound : SoundInner room inner) where
 
   -- there are arguments already
   abbrev Some_fit : ℕ → Arguments → Type 0
-  Some_fit off args = AllFit off args × (comma_behind args ≡ mark token.Comma ∷ [])
+  Some_fit off args = AllFit off args × (comma_after args ≡ mark token.Comma ∷ [])
 
   another_sound_at : (off : ℕ) (b : Unit {0}) (args : Arguments) (t : Token) (line : ℕ) (ts : List Placed) → comma t ≡ Some b → Some_fit off args → Sound spell_arguments (Some_fit off) (spell_arguments args ++ kept_tokens (placed t line ∷ ts)) (another inner off b args (placed t line ∷ ts))
   unfolding AllFit
   another_sound_at off b args token.Comma line ts h fit = go (inner.read Rvalue (off + argument_words args) ts) (sound.reads Rvalue (off + argument_words args) ts)
     where
-      go : (x : Read Expr) → Sound spell (Below room Rvalue (off + argument_words args)) (kept_tokens ts) x → Sound spell_arguments (λ args. Deeper (λ k. ArgumentsFit args k off) room × (comma_behind args ≡ mark token.Comma ∷ [])) (spell_arguments args ++ (mark token.Comma ∷ kept_tokens ts)) (x >>= λ e. Got (Another args e))
+      go : (x : Read Expr) → Sound spell (Below room Rvalue (off + argument_words args)) (kept_tokens ts) x → Sound spell_arguments (λ args. Deeper (λ k. ArgumentsFit args k off) room × (comma_after args ≡ mark token.Comma ∷ [])) (spell_arguments args ++ (mark token.Comma ∷ kept_tokens ts)) (x >>= λ e. Got (Another args e))
       go (Got e r) s = (ap (λ x. spell_arguments args ++ (mark token.Comma ∷ x)) s.0 ∙ sym (append_assoc (spell_arguments args) (mark token.Comma ∷ spell e) (kept_tokens r)) ∙ ap (λ x. (spell_arguments args ++ (x ++ spell e)) ++ kept_tokens r) (sym fit.1), (joined args e room off fit.0 s.1, refl))
       go (Stop r) s = tt
   another_sound_at off b args _ line ts h fit = cc
@@ -181,8 +183,8 @@ module _ (room : ℕ) (inner : Inner) (sound : SoundInner room inner) where
 
   arguments_sound : (off : ℕ) (ts : List Placed) → Sound spell_arguments (AllFit off) (kept_tokens ts) (arguments inner off ts)
   unfolding AllFit
-  arguments_sound off ts = sound_weaken spell_arguments (λ args. Deeper (λ k. ArgumentsFit args k off) room × (comma_behind args ≡ mark token.Comma ∷ [])) (λ args. Deeper (λ k. ArgumentsFit args k off) room) (kept_tokens ts) (arguments inner off ts) (λ args p. p.0)
-      (sound_bind spell spell_arguments (Below room Rvalue off) (λ args. Deeper (λ k. ArgumentsFit args k off) room × (comma_behind args ≡ mark token.Comma ∷ [])) (kept_tokens ts) (inner.read Rvalue off ts) (λ e. many (always comma) (another inner off) (Another No_arguments e)) (sound.reads Rvalue off ts) (λ e rest fits. sound_turns spell_arguments (λ args. Deeper (λ k. ArgumentsFit args k off) room × (comma_behind args ≡ mark token.Comma ∷ [])) (always comma) (another inner off) (another_sound off) _ (Another No_arguments e) rest (single e room off fits, refl)))
+  arguments_sound off ts = sound_weaken spell_arguments (λ args. Deeper (λ k. ArgumentsFit args k off) room × (comma_after args ≡ mark token.Comma ∷ [])) (λ args. Deeper (λ k. ArgumentsFit args k off) room) (kept_tokens ts) (arguments inner off ts) (λ args p. p.0)
+      (sound_bind spell spell_arguments (Below room Rvalue off) (λ args. Deeper (λ k. ArgumentsFit args k off) room × (comma_after args ≡ mark token.Comma ∷ [])) (kept_tokens ts) (inner.read Rvalue off ts) (λ e. many (always comma) (another inner off) (Another No_arguments e)) (sound.reads Rvalue off ts) (λ e rest fits. sound_turns spell_arguments (λ args. Deeper (λ k. ArgumentsFit args k off) room × (comma_after args ≡ mark token.Comma ∷ [])) (always comma) (another inner off) (another_sound off) _ (Another No_arguments e) rest (single e room off fits, refl)))
 
   no_arguments : (off room : ℕ) → Deeper (λ k. Unit {0}) room → Deeper (λ k. ArgumentsFit No_arguments k off) room
   no_arguments off zero o = o
@@ -191,10 +193,10 @@ module _ (room : ℕ) (inner : Inner) (sound : SoundInner room inner) where
   call_filled : (off : ℕ) (e : Expr) (ts : List Placed) → Post off e → Sound spell (Post off) (spell e ++ (mark token.OpenParen ∷ kept_tokens ts)) (arguments inner (off + words e) ts >>= λ args r. expect is_close_paren r >>= λ o. Got (Called e args))
   unfolding AllFit
   call_filled off e ts p = shut spell_arguments spell (λ args. Deeper (λ k. ArgumentsFit args k (off + words e)) room) (Post off) is_close_paren token.CloseParen only_paren refl (λ line. refl) (λ args. Called e args) (spell e ++ (mark token.OpenParen ∷ kept_tokens ts)) (kept_tokens ts) (arguments inner (off + words e) ts) (arguments_sound (off + words e) ts)
-      (λ args r fits eq. (ap (λ x. spell e ++ (mark token.OpenParen ∷ x)) (eq ∙ sym (append_assoc (spell_arguments args) (mark token.CloseParen ∷ []) (kept_tokens r))) ∙ sym (append_assoc (spell e) (mark token.OpenParen ∷ (spell_arguments args ++ (mark token.CloseParen ∷ []))) (kept_tokens r)), (tt, (p.0, p.1, fits))))
+      (λ args r fits eq. (ap (λ x. spell e ++ (mark token.OpenParen ∷ x)) (eq ∙ sym (append_assoc (spell_arguments args) (mark token.CloseParen ∷ []) (kept_tokens r))) ∙ sym (append_assoc (spell e) (mark token.OpenParen ∷ (spell_arguments args ++ (mark token.CloseParen ∷ []))) (kept_tokens r)) ∙ ap (λ l. l ++ kept_tokens r) (sym (called_spelling e args)), (tt, (p.0, p.1, fits))))
 
   call_sound_at : (off : ℕ) (e : Expr) (t : Token) (line : ℕ) (ts : List Placed) → Post off e → Deeper (λ k. Unit {0}) room → Sound spell (Post off) (spell e ++ (mark token.OpenParen ∷ kept_tokens (placed t line ∷ ts))) (call inner off e (placed t line ∷ ts))
-  call_sound_at off e token.CloseParen line ts p o = (sym (append_assoc (spell e) (mark token.OpenParen ∷ mark token.CloseParen ∷ []) (kept_tokens ts)), (tt, (p.0, p.1, no_arguments (off + words e) room o)))
+  call_sound_at off e token.CloseParen line ts p o = (sym (append_assoc (spell e) (mark token.OpenParen ∷ mark token.CloseParen ∷ []) (kept_tokens ts)) ∙ ap (λ l. l ++ kept_tokens ts) (sym (called_spelling e No_arguments)), (tt, (p.0, p.1, no_arguments (off + words e) room o)))
   call_sound_at off e t line ts p o = call_filled off e (placed t line ∷ ts) p
 
   call_sound : (off : ℕ) (e : Expr) (ts : List Placed) → Post off e → Deeper (λ k. Unit {0}) room → Sound spell (Post off) (spell e ++ (mark token.OpenParen ∷ kept_tokens ts)) (call inner off e ts)
@@ -228,7 +230,7 @@ module _ (room : ℕ) (inner : Inner) (sound : SoundInner room inner) where
   made_prefixed off op line tail (Got e r) s = (ap (λ x. placed (prefix_token op) line ∷ x) s.0, s.1)
   made_prefixed off op line tail (Stop r) s = tt
 
-  -- behind a token that opens a level, where what is made of it has its line
+  -- after a token that opens a level, where what is made of it has its line
   prefixed_sound : (off : ℕ) (op : PrefixOp) (ts : List Placed) → prefix_op (first ts) ≡ Some op → Sound spell (Loose 0 off) (kept_tokens ts) (prefixed inner off op ts)
   prefixed_sound off op [] h = cc
   prefixed_sound off op (t ∷ us) h = sound.enters t us Expr spell (Loose 0 off) (kept_tokens (t ∷ us)) (λ r. inner.read Operand off r >>= λ e. Got (Prefixed op t.line e)) (λ o. subst (λ x. Sound spell (Loose 0 off) (x ∷ kept_tokens us) (inner.read Operand off us >>= λ e. Got (Prefixed op t.line e))) (sym (ap (λ x. kept (placed x t.line)) (prefix_is t.token op h) ∙ prefix_kept op t.line)) (made_prefixed off op t.line (kept_tokens us) (inner.read Operand off us) (sound.reads Operand off us)))

@@ -104,7 +104,7 @@ module _ (C : Closing) where
   pub map_start : {A B : Type 0} (Safe : Token → Type 0) (p : Reader A) (f : A → B) → Start Safe p → Start Safe (λ x. p x >>= λ a. Got (f a))
   map_start Safe p f s = record { with_ = s.with_; value = f s.value; done = λ k h. ap (λ x. x >>= λ a. Got (f a)) (s.done k h); front = s.front }
 
-  -- a token that must come, and what stands behind it
+  -- a token that must come, and what stands after it
   pub expect_then : {B : Type 0} (is : Token → Bool) (t : Token) → is t ≡ true → is token.End ≡ false → (f : Reader B) → Start Any f → ((ts : List Placed) → Fine C.Is f ts) → (ts : List Placed) → Fine C.Is (λ x. expect is x >>= λ o. f) ts
   expect_then is t yes_ end f s fine [] = halts [] [] refl (λ new e. rw (ap is e ∙ end) refl) (mark t ∷ s.with_) s.value (λ k h. rw yes_ (s.done k h))
   expect_then {B} is t yes_ end f s fine (p ∷ ts) = go (is p.token) refl
@@ -133,7 +133,7 @@ module _ (C : Closing) where
       go (Stop r) h e = cc
       go (Got a r) h e = shut a r (shrinks p ts r a fine h) (is (first r)) refl e
 
-  -- A reader of what a token opens: it stops there, or reads on behind it.
+  -- A reader of what a token opens: it stops there, or reads on after it.
   pub data Opened {A : Type 0} (p : Reader A) (t : Placed) : Type 0 where
     stops : ((ts : List Placed) → p ts ≡ Stop ts) → Opened p t
     enters : (g : Reader A) → ((ts : List Placed) → p (t ∷ ts) ≡ g ts) → ((ts : List Placed) → Fine C.Is g ts) → Opened p t

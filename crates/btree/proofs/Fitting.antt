@@ -4,10 +4,12 @@ use Rattle.std.specs.List.{flat_map}
 use Rattle.std.proofs.lemmas.List.Concat.{flat_map-append}
 use Rattle.std.proofs.lemmas.List.Sums.{sum_by-append, sum_by-cons}
 use Rattle.blang.specs.Trees.{Identifier, Expr, Arguments, Named, Literal, Text, Grouped, Indexed, Called, Postfixed, Prefixed, Binary, Conditional, Assigned, No_arguments, Another, Stmt, Headed, Compound, If, IfElse, While, Switch, Goto, Break, Return, ReturnValue, Evaluate, Empty, Stmts, Nothing, More, Ival, Ival_constant, Ival_text, Ival_name, Definition, Simple, Vector, Function}
-use Rattle.blang.specs.WellFormed.{rank, or_rank, conditional_rank, rvalue_rank, Binds, ArgumentsBind, StatementBinds, BodyBinds, nesting, argument_nesting, statement_nesting, body_nesting, nesting_limit, TextAt, texts, argument_texts, statement_texts, body_texts, value_texts, packed, OffsetsFrom, IsFormed}
+use Rattle.blang.specs.WellFormed.{rank, or_rank, conditional_rank, rvalue_rank, Binds, ArgumentsBind, StatementBinds, BodyBinds, nesting_limit, packed, OffsetsFrom, IsFormed}
+use Rattle.blang.specs.Walk.{TextAt}
 use Rattle.blang.specs.Code.{strings_of}
-use Rattle.btree.specs.Fitting.{EachBehind, words, argument_words, Deeper, Fits, ArgumentsFit, statement_words, body_words, Sits, AllSit, ival_words, values_words, IvalFits, strings, argument_strings, statement_strings, body_strings, ival_strings}
+use Rattle.btree.specs.Fitting.{EachAfter, words, argument_words, Deeper, Fits, ArgumentsFit, statement_words, body_words, Sits, AllSit, ival_words, values_words, IvalFits, strings, argument_strings, statement_strings, body_strings, ival_strings}
 use Rattle.btree.specs.Levels.{IsFormedIn}
+use Rattle.btree.proofs.WalkLaws.{nesting, argument_nesting, statement_nesting, body_nesting, texts, argument_texts, statement_texts, body_texts, value_texts, statement_levels_are, statement_texts_are, function_texts, simple_texts, vector_texts}
 use Rattle.btree.proofs.CodeLaws.{length-packed, length-strings, length-argument_strings, counts_words, body_counts_words}
 
 -- The words of the strings of a tree.
@@ -66,13 +68,13 @@ values_strings_are [] = refl
 values_strings_are (v ∷ values) = both (value_texts v) (flat_map value_texts values) _ _ (value_strings_are v) (values_strings_are values)
 
 pub simple_strings : (w : Identifier) (values : List Ival) → strings_of (Simple w values) ≡ flat_map ival_strings values
-simple_strings w values = values_strings_are values
+simple_strings w values = rw (simple_texts w values) (values_strings_are values)
 
 pub vector_strings : (w : Identifier) (size : Option ℕ) (values : List Ival) → strings_of (Vector w size values) ≡ flat_map ival_strings values
-vector_strings w size values = values_strings_are values
+vector_strings w size values = rw (vector_texts w size values) (values_strings_are values)
 
 pub function_strings : (w : Identifier) (parameters : List Identifier) (body : Stmt) → strings_of (Function w parameters body) ≡ statement_strings body
-function_strings w parameters body = statement_strings_are body
+function_strings w parameters body = rw (function_texts w parameters body) (statement_strings_are body)
 
 -- they are as many as the offsets count
 counted : (e : Expr) → length (packed_all (texts e)) ≡ words e
@@ -87,7 +89,7 @@ statement_counted s = ap length (statement_strings_are s) ∙ counts_words s
 body_counted : (body : Stmts) → length (packed_all (body_texts body)) ≡ body_words body
 body_counted body = ap length (body_strings_are body) ∙ body_counts_words body
 
--- Offsets of strings, one part behind another.
+-- Offsets of strings, one part after another.
 apart : (ts us : List TextAt) (off n : ℕ) → length (packed_all ts) ≡ n → OffsetsFrom off (ts ++ us) → OffsetsFrom off ts × OffsetsFrom (off + n) us
 apart [] us off n e h = let same : off ≡ off + n = omega (arith, e) in (tt, subst (λ k. OffsetsFrom k us) same h)
 apart (t ∷ ts) us off n e h =
@@ -312,34 +314,36 @@ one_value before v = omega (arith, sum_by-append ival_words before (v ∷ []), s
 no_words : (before : List Ival) (v : Ival) → ival_words v ≡ 0 → values_words before ≡ values_words (before ++ v ∷ [])
 no_words before v e = omega (arith, one_value before v)
 
-text_behind : (before : List Ival) (bytes : List ℕ) (offset : ℕ) → values_words before + length (packed bytes) ≡ values_words (before ++ Ival_text bytes offset ∷ [])
-text_behind before bytes offset = ap (λ n. values_words before + n) (length-packed bytes) ∙ sym (one_value before (Ival_text bytes offset))
+text_after : (before : List Ival) (bytes : List ℕ) (offset : ℕ) → values_words before + length (packed bytes) ≡ values_words (before ++ Ival_text bytes offset ∷ [])
+text_after before bytes offset = ap (λ n. values_words before + n) (length-packed bytes) ∙ sym (one_value before (Ival_text bytes offset))
 
-values_fit : (values before : List Ival) → OffsetsFrom (values_words before) (flat_map value_texts values) → EachBehind IvalFits before values
+values_fit : (values before : List Ival) → OffsetsFrom (values_words before) (flat_map value_texts values) → EachAfter IvalFits before values
 values_fit [] before o = tt
 values_fit (Ival_constant c ∷ values) before o =
     (tt, values_fit values _ (subst (λ n. OffsetsFrom n (flat_map value_texts values)) (no_words before (Ival_constant c) refl) o))
 values_fit (Ival_text bytes offset ∷ values) before o =
-    (o.0, values_fit values _ (subst (λ n. OffsetsFrom n (flat_map value_texts values)) (text_behind before bytes offset) o.1))
+    (o.0, values_fit values _ (subst (λ n. OffsetsFrom n (flat_map value_texts values)) (text_after before bytes offset) o.1))
 values_fit (Ival_name w ∷ values) before o =
     (tt, values_fit values _ (subst (λ n. OffsetsFrom n (flat_map value_texts values)) (no_words before (Ival_name w) refl) o))
 
-values_count : (values before : List Ival) → EachBehind IvalFits before values → OffsetsFrom (values_words before) (flat_map value_texts values)
+values_count : (values before : List Ival) → EachAfter IvalFits before values → OffsetsFrom (values_words before) (flat_map value_texts values)
 values_count [] before f = tt
 values_count (Ival_constant c ∷ values) before f =
     subst (λ n. OffsetsFrom n (flat_map value_texts values)) (sym (no_words before (Ival_constant c) refl)) (values_count values (before ++ Ival_constant c ∷ []) f.1)
 values_count (Ival_text bytes offset ∷ values) before f =
-    (f.0, subst (λ n. OffsetsFrom n (flat_map value_texts values)) (sym (text_behind before bytes offset)) (values_count values (before ++ Ival_text bytes offset ∷ []) f.1))
+    (f.0, subst (λ n. OffsetsFrom n (flat_map value_texts values)) (sym (text_after before bytes offset)) (values_count values (before ++ Ival_text bytes offset ∷ []) f.1))
 values_count (Ival_name w ∷ values) before f =
     subst (λ n. OffsetsFrom n (flat_map value_texts values)) (sym (no_words before (Ival_name w) refl)) (values_count values (before ++ Ival_name w ∷ []) f.1)
 
 -- Definitions.
 pub formed_in : (d : Definition) → IsFormed d → IsFormedIn nesting_limit d
-formed_in (Simple w values) f = values_fit values [] f
-formed_in (Vector w size values) f = values_fit values [] f
-formed_in (Function w parameters body) f = sits body nesting_limit 0 f.0 f.1 f.2
+formed_in (Simple w values) f = values_fit values [] (subst (OffsetsFrom 0) (simple_texts w values) f)
+formed_in (Vector w size values) f = values_fit values [] (subst (OffsetsFrom 0) (vector_texts w size values) f)
+formed_in (Function w parameters body) f = sits body nesting_limit 0 f.0 (subst (λ n. n ≤ nesting_limit) (statement_levels_are body) f.1) (subst (OffsetsFrom 0) (statement_texts_are body) f.2)
 
 pub in_formed : (d : Definition) → IsFormedIn nesting_limit d → IsFormed d
-in_formed (Simple w values) f = values_count values [] f
-in_formed (Vector w size values) f = values_count values [] f
-in_formed (Function w parameters body) f = statement_three body nesting_limit 0 f
+in_formed (Simple w values) f = subst (OffsetsFrom 0) (sym (simple_texts w values)) (values_count values [] f)
+in_formed (Vector w size values) f = subst (OffsetsFrom 0) (sym (vector_texts w size values)) (values_count values [] f)
+in_formed (Function w parameters body) f =
+    let t = statement_three body nesting_limit 0 f in
+    (t.0, subst (λ n. n ≤ nesting_limit) (sym (statement_levels_are body)) t.1, subst (OffsetsFrom 0) (sym (statement_texts_are body)) t.2)

@@ -6,9 +6,10 @@ use Rattle.blang.specs.declared.token.Token.{Token}
 use Rattle.blang.specs.declared.token.Token.TheVariants as token
 use Rattle.blang.specs.declared.token.Placed.{Placed}
 use Rattle.blang.specs.declared.token.Diagnostic.{Diagnostic}
-use Rattle.blang.specs.Cut.{Piece, Space, Word, whole, placed, is_last, piece_first, cut, tokens_from, line_after, longest}
+use Rattle.blang.specs.Cut.{Piece, Space, Word, whole, placed, is_last, piece_first, cut, tokens_from, line_number_after, longest}
 use Rattle.bword.specs.declared.edition.Edition.{Edition}
-use Rattle.blang.specs.Trees.{kept, bare, Definition, spell_definition}
+use Rattle.blang.specs.Trees.{kept, bare, Definition}
+use Rattle.blang.specs.Walk.{spell_definition}
 use Rattle.btree.specs.Reading.{Got, Stop}
 use Rattle.btree.specs.ReadingOn.{Fine, goes, halts, Closer}
 use Rattle.btree.specs.DefinitionReader.{definition}
@@ -23,7 +24,7 @@ use Rattle.btree.proofs.KeptLemmas.{Split, split_map}
 use Rattle.btree.proofs.LawProofs.{reads_on}
 use Rattle.btree.proofs.ProgramLaws.{read_there}
 use Rattle.btree.proofs.Parting.{Halts, halting_there, halts_begins, takes_some, parted_end, parted_stop}
-use Rattle.btree.proofs.Outcomes.{parted_behind, parted_once, Ended, ended_behind, go_on_kept, begun_goes_on}
+use Rattle.btree.proofs.Outcomes.{parted_after, parted_once, Ended, ended_after, go_on_kept, begun_goes_on}
 
 -- The tokens of a source end.
 pub ended_cons : (t : Placed) (ts : List Placed) → Ended ts → Ended (t ∷ ts)
@@ -46,7 +47,7 @@ cut_ended edition (suc fuel) line [] = refl
 cut_ended edition (suc fuel) line (b ∷ bs) =
     let n = longest edition (b ∷ bs) in
     let text = take n (b ∷ bs) in
-    let next = line_after line text in
+    let next = line_number_after line text in
     let rest = drop n (b ∷ bs) in
     piece_ended (whole edition text) line (cut edition fuel next rest) (cut_ended edition fuel next rest)
 
@@ -74,7 +75,7 @@ some_stop t ts not_end e us r halting h s = go s.back refl
     go : (back : List Placed) → s.back ≡ back → SomeParting (t ∷ ts)
     go [] b =
         let whole : t ∷ ts ≡ s.front = s.whole ∙ ap (λ l. s.front ++ l) b ∙ append-nil s.front in
-        absurd (ended_behind (t ∷ ts) [] (subst GoOn (sym whole) (begun_goes_on s.front (halts_begins s.front r here))) (subst Ended (sym (append-nil (t ∷ ts))) e))
+        absurd (ended_after (t ∷ ts) [] (subst GoOn (sym whole) (begun_goes_on s.front (halts_begins s.front r here))) (subst Ended (sym (append-nil (t ∷ ts))) e))
     go (at ∷ rest) b =
         let whole : t ∷ ts ≡ s.front ++ at ∷ rest = s.whole ∙ ap (λ l. s.front ++ l) b in
         let r_is : r ≡ map kept (at ∷ rest) = sym s.back_is ∙ ap (map kept) b in
@@ -83,14 +84,14 @@ some_stop t ts not_end e us r halting h s = go s.back refl
         record { definitions = []; stop = Some (fault_at at); parted = subst (λ l. Parted l [] (Some (fault_at at))) (sym whole) (parted_stop s.front at rest stopped no_end) }
 
 -- where a definition was read
-some_behind : (ts us r : List Placed) (d : Definition) → Ended ts → definition (us ++ r) ≡ Got d r → (s : Split kept ts us r) → ((back : List Placed) → length back < length ts → Ended back → SomeParting back) → SomeParting ts
-some_behind ts us r d e h s others =
+some_after : (ts us r : List Placed) (d : Definition) → Ended ts → definition (us ++ r) ≡ Got d r → (s : Split kept ts us r) → ((back : List Placed) → length back < length ts → Ended back → SomeParting back) → SomeParting ts
+some_after ts us r d e h s others =
     let front_is : map kept s.front ≡ spell_definition d = (read_there s.front s.back d read).0 in
     let on : GoOn s.front = go_on_kept s.front (subst GoOn (sym front_is) (definition_goes_on d)) in
     let some : 1 ≤ length (map kept s.front) = subst (λ l. 1 ≤ length l) (sym front_is) (takes_some d) in
     let shorter : length s.back < length ts = omega (arith, ap length s.whole, length-append s.front s.back, length-map s.front kept) in
-    let rest = others s.back shorter (ended_behind s.front s.back on (subst Ended s.whole e)) in
-    record { definitions = d ∷ rest.definitions; stop = rest.stop; parted = subst (λ l. Parted l (d ∷ rest.definitions) rest.stop) (sym s.whole) (parted_behind s.front d s.back rest.definitions rest.stop rest.parted read) }
+    let rest = others s.back shorter (ended_after s.front s.back on (subst Ended s.whole e)) in
+    record { definitions = d ∷ rest.definitions; stop = rest.stop; parted = subst (λ l. Parted l (d ∷ rest.definitions) rest.stop) (sym s.whole) (parted_after s.front d s.back rest.definitions rest.stop rest.parted read) }
   where
     read : definition (map kept s.front ++ map kept s.back) ≡ Got d (map kept s.back)
     read = ap (λ l. definition (l ++ map kept s.back)) s.front_is ∙ subst (λ l. definition (us ++ l) ≡ Got d l) (sym s.back_is) h
@@ -101,7 +102,7 @@ parted_some zero (t ∷ ts) le e = absurd (omega arith)
 parted_some (suc n) (t ∷ ts) le e = go (end_or_not t.token) (λ back less ended. parted_some n back (omega arith) ended)
   where
     read : Fine Closer definition (map kept (t ∷ ts)) → (t.token ≡ token.End → ⊥) → ((back : List Placed) → length back < length (t ∷ ts) → Ended back → SomeParting back) → SomeParting (t ∷ ts)
-    read (goes u r d h on) not_end others = some_behind (t ∷ ts) u r d e (on r (inl refl)) (split_map kept u r (t ∷ ts) h) others
+    read (goes u r d h on) not_end others = some_after (t ∷ ts) u r d e (on r (inl refl)) (split_map kept u r (t ∷ ts) h) others
     read (halts u r h stop c a fin) not_end others = some_stop t ts not_end e u r (halting_there u r c a stop fin) (stop r refl) (split_map kept u r (t ∷ ts) h)
 
     go : (t.token ≡ token.End) ⊎ (t.token ≡ token.End → ⊥) → ((back : List Placed) → length back < length (t ∷ ts) → Ended back → SomeParting back) → SomeParting (t ∷ ts)
@@ -132,13 +133,13 @@ pub goes_stop : (names : Defined) (tokens : List Placed) (at : Placed) (rest : L
     → CompilesTo names (tokens ++ at ∷ rest) (record { code = []; stop = Some (fault_at at) })
 goes_stop names tokens at rest h not_end = record { definitions = []; stop = Some (fault_at at); parted = parted_stop tokens at rest h not_end; outcome_is = refl }
 
--- behind a definition without fault
-pub goes_behind : (names : Defined) (taken : List Placed) (d : Definition) (tokens : List Placed) (r : Compilation) → definition (map kept taken ++ map kept tokens) ≡ Got d (map kept tokens) → fault_of names d ≡ None
+-- after a definition without fault
+pub goes_after : (names : Defined) (taken : List Placed) (d : Definition) (tokens : List Placed) (r : Compilation) → definition (map kept taken ++ map kept tokens) ≡ Got d (map kept tokens) → fault_of names d ≡ None
     → CompilesTo (names ++ (identifier_of d).text ∷ []) tokens r → CompilesTo names (taken ++ tokens) (record { code = compiled_text d ∷ r.code; stop = r.stop })
-goes_behind names taken d tokens r h clean g = record {
+goes_after names taken d tokens r h clean g = record {
   definitions = d ∷ g.definitions;
   stop = g.stop;
-  parted = parted_behind taken d tokens g.definitions g.stop g.parted h;
+  parted = parted_after taken d tokens g.definitions g.stop g.parted h;
   outcome_is = ap (λ o. compilation_with None (compiled_text d) o) g.outcome_is ∙ ap (λ f. compilation_with f (compiled_text d) (compilation_of (names ++ (identifier_of d).text ∷ []) g.definitions g.stop)) (sym clean);
 }
 
@@ -150,7 +151,7 @@ goes_fault names taken d tokens fault h wrong e =
     record {
       definitions = d ∷ p.definitions;
       stop = p.stop;
-      parted = parted_behind taken d tokens p.definitions p.stop p.parted h;
+      parted = parted_after taken d tokens p.definitions p.stop p.parted h;
       outcome_is = ap (λ f. compilation_with f (compiled_text d) (compilation_of (names ++ (identifier_of d).text ∷ []) p.definitions p.stop)) (sym wrong);
     }
 

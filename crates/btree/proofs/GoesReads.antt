@@ -5,7 +5,8 @@ use Rattle.std.specs.Prelude.{Some, None}
 use Rattle.blang.specs.declared.token.Token.TheVariants as token
 use Rattle.blang.specs.declared.token.Placed.{Placed}
 use Rattle.blang.specs.declared.token.Diagnostic.{Diagnostic}
-use Rattle.blang.specs.Trees.{kept, Definition, spell_definition}
+use Rattle.blang.specs.Trees.{kept, Definition}
+use Rattle.blang.specs.Walk.{spell_definition}
 use Rattle.btree.specs.Reading.{Got, Stop}
 use Rattle.btree.specs.ReadingOn.{Fine, goes, halts, Closer}
 use Rattle.btree.specs.DefinitionReader.{definition}
@@ -17,9 +18,9 @@ use Rattle.blang.specs.Compiles.{Defined, Compilation, compiled_text, CompilesTo
 use Rattle.btree.proofs.LawProofs.{reads_on}
 use Rattle.btree.proofs.GoingOn.{GoOn, definition_goes_on}
 use Rattle.btree.proofs.ProgramLaws.{read_there}
-use Rattle.btree.proofs.Outcomes.{Ended, ended_behind, go_on_kept}
+use Rattle.btree.proofs.Outcomes.{Ended, ended_after, go_on_kept}
 use Rattle.btree.proofs.StatementUnread.{lines_unread}
-use Rattle.btree.proofs.GoesLaws.{goes_stop, goes_behind, goes_fault}
+use Rattle.btree.proofs.GoesLaws.{goes_stop, goes_after, goes_fault}
 
 -- the tokens that were taken before these
 pub record Taken (u v : List Placed) : Type 0 where
@@ -50,20 +51,20 @@ module _ (u v : List Placed) (t : Taken u v) where
   read_kept : definition (map kept t.tokens ++ map kept v) ≡ kept_read (definition u)
   read_kept = ap definition (sym (map-append kept t.tokens v) ∙ ap (map kept) (sym t.split)) ∙ lines_unread u
 
--- the tokens behind a definition end where these do
+-- the tokens after a definition end where these do
 pub ended_read : (u v : List Placed) (d : Definition) → definition u ≡ Got d v → Ended u → Ended v
 ended_read u v d h e =
     let t = got_taken u v d h in
     let there : map kept t.tokens ≡ spell_definition d = (read_there t.tokens v d (read_kept u v t ∙ ap kept_read h)).0 in
-    ended_behind t.tokens v (go_on_kept t.tokens (subst GoOn (sym there) (definition_goes_on d))) (subst Ended t.split e)
+    ended_after t.tokens v (go_on_kept t.tokens (subst GoOn (sym there) (definition_goes_on d))) (subst Ended t.split e)
 
--- behind a definition without fault
-pub goes_behind_read : (names : Defined) (u v : List Placed) (d : Definition) (r : Compilation) → definition u ≡ Got d v → fault_of names d ≡ None
+-- after a definition without fault
+pub goes_after_read : (names : Defined) (u v : List Placed) (d : Definition) (r : Compilation) → definition u ≡ Got d v → fault_of names d ≡ None
     → CompilesTo (names ++ (identifier_of d).text ∷ []) v r → CompilesTo names u (record { code = compiled_text d ∷ r.code; stop = r.stop })
-goes_behind_read names u v d r h clean g =
+goes_after_read names u v d r h clean g =
     let t = got_taken u v d h in
     subst (λ l. CompilesTo names l (record { code = compiled_text d ∷ r.code; stop = r.stop })) (sym t.split)
-    (goes_behind names t.tokens d v r (read_kept u v t ∙ ap kept_read h) clean g)
+    (goes_after names t.tokens d v r (read_kept u v t ∙ ap kept_read h) clean g)
 
 -- at a definition with a fault
 pub goes_fault_read : (names : Defined) (u v : List Placed) (d : Definition) (fault : Diagnostic) → definition u ≡ Got d v → fault_of names d ≡ Some fault

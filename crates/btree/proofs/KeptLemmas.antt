@@ -47,7 +47,7 @@ split_map f (x ∷ xs) ys (p ∷ ps) e =
     let s = split_map f xs ys ps tail in
     record { front = p ∷ s.front; back = s.back; whole = ap (λ l. p ∷ l) s.whole; front_is = ap (λ l. f p ∷ l) s.front_is ∙ ap (λ h. h ∷ xs) head; back_is = s.back_is }
 
--- two ways to split a list at an element: the same, or one behind the other
+-- two ways to split a list at an element: the same, or one after the other
 pub data Order {A : Type 0} (us : List A) (a : A) (xs : List A) (vs : List A) (b : A) (ys : List A) : Type 0 where
   together : us ≡ vs → a ≡ b → xs ≡ ys → Order us a xs vs b ys
   sooner : (c : List A) → vs ≡ us ++ a ∷ c → Order us a xs vs b ys

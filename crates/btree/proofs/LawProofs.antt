@@ -2,7 +2,9 @@
 use Rattle.std.proofs.Common.{◌≡◌, List, [], ◌∷◌, ◌++◌, sym, ap, ◌∙◌, refl, subst, inl}
 use Rattle.blang.specs.declared.token.Token.TheVariants as token
 use Rattle.blang.specs.declared.token.Placed.{Placed}
-use Rattle.blang.specs.Trees.{kept_tokens, spell, spell_statement, Definition, Simple, Vector, Function, spell_definition}
+use Rattle.blang.specs.Trees.{kept_tokens, Definition, Simple, Vector, Function}
+use Rattle.btree.specs.Spelling.{spell, spell_statement}
+use Rattle.blang.specs.Walk.{spell_definition}
 use Rattle.blang.specs.WellFormed.{rvalue_rank}
 use Rattle.btree.specs.Fitting.{Fits, Sits}
 use Rattle.btree.specs.Reading.{Got, Stop}
@@ -22,15 +24,15 @@ use Rattle.btree.proofs.DefinitionAgain.{definition_again, definition_longer}
 use Rattle.btree.proofs.DefinitionRelined.{definition_twin}
 
 -- what is left of kept tokens is kept
-kept-behind : (u r : List Placed) → kept_tokens (u ++ r) ≡ u ++ r → kept_tokens r ≡ r
-kept-behind [] r h = h
-kept-behind (p ∷ u) r h = kept-behind u r (let e : kept_tokens (u ++ r) ≡ u ++ r = cc in e)
+kept-following : (u r : List Placed) → kept_tokens (u ++ r) ≡ u ++ r → kept_tokens r ≡ r
+kept-following [] r h = h
+kept-following (p ∷ u) r h = kept-following u r (let e : kept_tokens (u ++ r) ≡ u ++ r = cc in e)
 
 rest_kept : (ts rest : List Placed) (d : Definition) → kept_tokens ts ≡ ts → definition ts ≡ Got d rest → kept_tokens rest ≡ rest
 rest_kept ts rest d k h = go (definition_fine ts)
   where
     go : Fine Closer definition ts → kept_tokens rest ≡ rest
-    go (goes u r a e g) = let b : Got a r ≡ Got d rest = sym (g r (inl refl)) ∙ ap definition (sym e) ∙ h in let q : r ≡ rest = cc in subst (λ x. kept_tokens x ≡ x) q (kept-behind u r (subst (λ x. kept_tokens x ≡ x) e k))
+    go (goes u r a e g) = let b : Got a r ≡ Got d rest = sym (g r (inl refl)) ∙ ap definition (sym e) ∙ h in let q : r ≡ rest = cc in subst (λ x. kept_tokens x ≡ x) q (kept-following u r (subst (λ x. kept_tokens x ≡ x) e k))
     go (halts u r e stop c a fin) = let b : Stop r ≡ Got d rest = sym (stop r refl) ∙ ap definition (sym e) ∙ h in cc
 
 pub reads_spelling : ReadsSpelling

@@ -4,11 +4,14 @@ use Rattle.std.proofs.lemmas.List.{map-append}
 use Rattle.blang.specs.declared.token.Keyword.TheVariants as keyword
 use Rattle.blang.specs.declared.token.Token.TheVariants as token
 use Rattle.blang.specs.declared.token.Placed.{Placed}
-use Rattle.blang.specs.Trees.{mark, Expr, Arguments, Named, Literal, Text, Grouped, Indexed, Called, Postfixed, Prefixed, Binary, Conditional, Assigned, No_arguments, Another, name_token, prefix_token, postfix_token, comma_behind, spell, spell_arguments, list_spelling, Stmt, Headed, Compound, If, IfElse, While, Switch, Goto, Break, Return, ReturnValue, Evaluate, Empty, Stmts, Nothing, More, keyword_mark, name_spelling, spell_heading, spell_condition, spell_statement, spell_body, Definition, Simple, Vector, Function, spell_definition}
+use Rattle.blang.specs.Trees.{mark, Expr, Arguments, Named, Literal, Text, Grouped, Indexed, Called, Postfixed, Prefixed, Binary, Conditional, Assigned, No_arguments, Another, name_token, prefix_token, postfix_token, Stmt, Headed, Compound, If, IfElse, While, Switch, Goto, Break, Return, ReturnValue, Evaluate, Empty, Stmts, Nothing, More, keyword_mark, Definition, Simple, Vector, Function}
+use Rattle.btree.specs.Spelling.{comma_after, spell, spell_arguments, list_spelling, name_spelling, spell_heading, spell_condition, spell_statement, spell_body}
+use Rattle.blang.specs.Walk.{spell_definition, walk_parameter}
 use Rattle.blang.specs.Cut.{placed}
 use Rattle.blang.specs.WellFormed.{rank, or_rank, conditional_rank, rvalue_rank}
 use Rattle.btree.specs.Fitting.{words, argument_words, Deeper, Fits, ArgumentsFit, statement_words, body_words, Sits, AllSit}
 use Rattle.btree.specs.Levels.{Leveled, on, tokens, levels, argument_levels, condition_levels, statement_levels, body_levels, definition_levels, program_levels, IsFormedIn, NoneAbove, LevelsOfTokens, NeedsLevels, HasLevels}
+use Rattle.btree.proofs.Spelling.{called_spelling}
 
 pub tokens-append : (us vs : List Leveled) → tokens (us ++ vs) ≡ tokens us ++ tokens vs
 tokens-append us vs = map-append (λ (t : Leveled). t.token) us vs
@@ -17,7 +20,7 @@ pub tokens-on : (n : ℕ) (ts : List Placed) → tokens (map (on n) ts) ≡ ts
 tokens-on n [] = refl
 tokens-on n (t ∷ ts) = ap (λ l. t ∷ l) (tokens-on n ts)
 
--- a part, a token and what is behind it
+-- a part, a token and what is after it
 pub said : (us : List Leveled) (t : Leveled) (vs : List Leveled) (a : List Placed) (b : List Placed) → tokens us ≡ a → tokens vs ≡ b → tokens (us ++ t ∷ vs) ≡ a ++ t.token ∷ b
 said us t vs a b e f = tokens-append us (t ∷ vs) ∙ ap (λ l. l ++ t.token ∷ tokens vs) e ∙ ap (λ l. a ++ t.token ∷ l) f
 
@@ -28,7 +31,7 @@ mutual
   tokens-levels (Text bytes offset) n = refl
   tokens-levels (Grouped e) n = ap (λ l. mark token.OpenParen ∷ l) (said (levels e (suc n)) (on n (mark token.CloseParen)) [] (spell e) [] (tokens-levels e (suc n)) refl)
   tokens-levels (Indexed e f) n = said (levels e n) (on (suc n) (mark token.OpenBracket)) _ (spell e) _ (tokens-levels e n) (said (levels f (suc n)) (on n (mark token.CloseBracket)) [] (spell f) [] (tokens-levels f (suc n)) refl)
-  tokens-levels (Called e args) n = said (levels e n) (on (suc n) (mark token.OpenParen)) _ (spell e) _ (tokens-levels e n) (said (argument_levels args (suc n)) (on n (mark token.CloseParen)) [] (spell_arguments args) [] (tokens-arguments args (suc n)) refl)
+  tokens-levels (Called e args) n = said (levels e n) (on (suc n) (mark token.OpenParen)) _ (spell e) _ (tokens-levels e n) (said (argument_levels args (suc n)) (on n (mark token.CloseParen)) [] (spell_arguments args) [] (tokens-arguments args (suc n)) refl) ∙ sym (called_spelling e args)
   tokens-levels (Postfixed op line e) n = said (levels e n) (on n (placed (postfix_token op) line)) [] (spell e) [] (tokens-levels e n) refl
   tokens-levels (Prefixed op line e) n = ap (λ l. placed (prefix_token op) line ∷ l) (tokens-levels e (suc n))
   tokens-levels (Binary op line e f) n = said (levels e n) (on n (placed (token.Operator op) line)) _ (spell e) _ (tokens-levels e n) (tokens-levels f n)
@@ -38,12 +41,12 @@ mutual
   pub tokens-arguments : (args : Arguments) (n : ℕ) → tokens (argument_levels args n) ≡ spell_arguments args
   tokens-arguments No_arguments n = refl
   tokens-arguments (Another before e) n =
-      tokens-append (argument_levels before n) (map (on n) (comma_behind before) ++ levels e n)
-      ∙ ap (λ l. l ++ tokens (map (on n) (comma_behind before) ++ levels e n)) (tokens-arguments before n)
-      ∙ ap (λ l. spell_arguments before ++ l) (tokens-append (map (on n) (comma_behind before)) (levels e n) ∙ ap (λ l. l ++ tokens (levels e n)) (tokens-on n (comma_behind before)) ∙ ap (λ l. comma_behind before ++ l) (tokens-levels e n))
+      tokens-append (argument_levels before n) (map (on n) (comma_after before) ++ levels e n)
+      ∙ ap (λ l. l ++ tokens (map (on n) (comma_after before) ++ levels e n)) (tokens-arguments before n)
+      ∙ ap (λ l. spell_arguments before ++ l) (tokens-append (map (on n) (comma_after before)) (levels e n) ∙ ap (λ l. l ++ tokens (levels e n)) (tokens-on n (comma_after before)) ∙ ap (λ l. comma_after before ++ l) (tokens-levels e n))
 
-tokens-condition : (e : Expr) (inside n : ℕ) (behind : List Leveled) (b : List Placed) → tokens behind ≡ b → tokens (condition_levels e inside n behind) ≡ spell_condition e ++ b
-tokens-condition e inside n behind b h = ap (λ l. mark token.OpenParen ∷ l) (said (levels e inside) (on n (mark token.CloseParen)) behind (spell e) b (tokens-levels e inside) h ∙ sym (append_assoc (spell e) (mark token.CloseParen ∷ []) b))
+tokens-condition : (e : Expr) (inside n : ℕ) (following : List Leveled) (b : List Placed) → tokens following ≡ b → tokens (condition_levels e inside n following) ≡ spell_condition e ++ b
+tokens-condition e inside n following b h = ap (λ l. mark token.OpenParen ∷ l) (said (levels e inside) (on n (mark token.CloseParen)) following (spell e) b (tokens-levels e inside) h ∙ sym (append_assoc (spell e) (mark token.CloseParen ∷ []) b))
 
 mutual
   pub tokens-statement : (s : Stmt) (n : ℕ) → tokens (statement_levels s n) ≡ spell_statement s
@@ -68,8 +71,8 @@ pub tokens-definition : (d : Definition) → tokens (definition_levels d) ≡ sp
 tokens-definition (Simple w values) = tokens-on 0 (spell_definition (Simple w values))
 tokens-definition (Vector w size values) = tokens-on 0 (spell_definition (Vector w size values))
 tokens-definition (Function w parameters body) =
-    let head = list_spelling name_spelling parameters ++ mark token.CloseParen ∷ [] in
-    ap (λ l. name_token w ∷ mark token.OpenParen ∷ l) (tokens-append (map (on 0) head) (statement_levels body 0) ∙ ap (λ l. l ++ tokens (statement_levels body 0)) (tokens-on 0 head) ∙ ap (λ l. head ++ l) (tokens-statement body 0) ∙ append_assoc (list_spelling name_spelling parameters) (mark token.CloseParen ∷ []) (spell_statement body))
+    let head = list_spelling walk_parameter parameters ++ mark token.CloseParen ∷ [] in
+    ap (λ l. name_token w ∷ mark token.OpenParen ∷ l) (tokens-append (map (on 0) head) (statement_levels body 0) ∙ ap (λ l. l ++ tokens (statement_levels body 0)) (tokens-on 0 head) ∙ ap (λ l. head ++ l) (tokens-statement body 0) ∙ append_assoc (list_spelling walk_parameter parameters) (mark token.CloseParen ∷ []) (spell_statement body))
 
 pub levels_of_tokens : LevelsOfTokens
 levels_of_tokens [] = refl
@@ -128,11 +131,11 @@ module _ (most : ℕ) where
     arguments_within No_arguments room n off h none = tt
     arguments_within (Another before e) room n off h none =
         let s = none_split most (argument_levels before n) _ none in
-        let t = none_split most (map (on n) (comma_behind before)) (levels e n) s.1 in
+        let t = none_split most (map (on n) (comma_after before)) (levels e n) s.1 in
         (arguments_within before room n off h.0 s.0, within e rvalue_rank room n (off + argument_words before) h.1 t.1)
 
-  condition_none : (e : Expr) (inside n : ℕ) (behind : List Leveled) → NoneAbove most (condition_levels e inside n behind) → NoneAbove most (levels e inside) × NoneAbove most behind
-  condition_none e inside n behind h = let s = none_split most (levels e inside) _ h.1 in (s.0, s.1.1)
+  condition_none : (e : Expr) (inside n : ℕ) (following : List Leveled) → NoneAbove most (condition_levels e inside n following) → NoneAbove most (levels e inside) × NoneAbove most following
+  condition_none e inside n following h = let s = none_split most (levels e inside) _ h.1 in (s.0, s.1.1)
 
   mutual
     pub statement_within : (s : Stmt) (room n off : ℕ) → Sits s room off → NoneAbove most (statement_levels s n) → Sits s (most - n) off
@@ -173,7 +176,7 @@ module _ (most : ℕ) where
   pub definition_within : (d : Definition) (room : ℕ) → IsFormedIn room d → NoneAbove most (definition_levels d) → IsFormedIn most d
   definition_within (Simple w values) room f none = f
   definition_within (Vector w size values) room f none = f
-  definition_within (Function w parameters body) room f none = let t = none_split most (map (on 0) (list_spelling name_spelling parameters ++ mark token.CloseParen ∷ [])) (statement_levels body 0) none.1.1 in let same : most - 0 ≡ most = omega arith in subst (λ k. Sits body k 0) same (statement_within body room 0 0 f t.1)
+  definition_within (Function w parameters body) room f none = let t = none_split most (map (on 0) (list_spelling walk_parameter parameters ++ mark token.CloseParen ∷ [])) (statement_levels body 0) none.1.1 in let same : most - 0 ≡ most = omega arith in subst (λ k. Sits body k 0) same (statement_within body room 0 0 f t.1)
 
 pub needs_levels : NeedsLevels
 needs_levels [] deepest most f none = tt
@@ -235,10 +238,10 @@ module _ (most : ℕ) where
     arguments_have No_arguments room n off le h = tt
     arguments_have (Another before e) room n off le h =
         let low : n ≤ most = omega arith in
-        none_join most (argument_levels before n) _ (arguments_have before room n off le h.0) (none_join most (map (on n) (comma_behind before)) _ (none_on most n (comma_behind before) low) (has e rvalue_rank room n (off + argument_words before) le h.1))
+        none_join most (argument_levels before n) _ (arguments_have before room n off le h.0) (none_join most (map (on n) (comma_after before)) _ (none_on most n (comma_after before) low) (has e rvalue_rank room n (off + argument_words before) le h.1))
 
-  has_condition : (e : Expr) (inside n : ℕ) (behind : List Leveled) → n ≤ most → NoneAbove most (levels e inside) → NoneAbove most behind → NoneAbove most (condition_levels e inside n behind)
-  has_condition e inside n behind le h k = (le, none_join most (levels e inside) _ h (le, k))
+  has_condition : (e : Expr) (inside n : ℕ) (following : List Leveled) → n ≤ most → NoneAbove most (levels e inside) → NoneAbove most following → NoneAbove most (condition_levels e inside n following)
+  has_condition e inside n following le h k = (le, none_join most (levels e inside) _ h (le, k))
 
   mutual
     pub statement_has : (s : Stmt) (room n off : ℕ) → n + room ≤ most → Sits s room off → NoneAbove most (statement_levels s n)
@@ -282,7 +285,7 @@ module _ (most : ℕ) where
   definition_has : (d : Definition) → IsFormedIn most d → NoneAbove most (definition_levels d)
   definition_has (Simple w values) f = none_on most 0 (spell_definition (Simple w values)) (omega arith)
   definition_has (Vector w size values) f = none_on most 0 (spell_definition (Vector w size values)) (omega arith)
-  definition_has (Function w parameters body) f = none_join most (map (on 0) (name_token w ∷ mark token.OpenParen ∷ (list_spelling name_spelling parameters ++ mark token.CloseParen ∷ []))) _ (none_on most 0 (name_token w ∷ mark token.OpenParen ∷ (list_spelling name_spelling parameters ++ mark token.CloseParen ∷ [])) (omega arith)) (statement_has body most 0 0 (omega arith) f)
+  definition_has (Function w parameters body) f = none_join most (map (on 0) (name_token w ∷ mark token.OpenParen ∷ (list_spelling walk_parameter parameters ++ mark token.CloseParen ∷ []))) _ (none_on most 0 (name_token w ∷ mark token.OpenParen ∷ (list_spelling walk_parameter parameters ++ mark token.CloseParen ∷ [])) (omega arith)) (statement_has body most 0 0 (omega arith) f)
 
 pub has_levels : HasLevels
 has_levels [] most f = tt

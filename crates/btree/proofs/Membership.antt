@@ -18,8 +18,8 @@ use Rattle.bword.specs.Words.{same_name}
 pub has-push : (x y : List ℕ) (names : Defined) → has x (names ++ y ∷ []) ≡ (has x names || has x (y ∷ []))
 has-push x y names = list_any-append (same_name x) names (y ∷ [])
 
-pub same_behind : (names these : Defined) (y : List ℕ) → ((x : List ℕ) → has x names ≡ has x these) → (x : List ℕ) → has x (names ++ y ∷ []) ≡ has x (these ++ y ∷ [])
-same_behind names these y same x = has-push x y names ∙ ap (λ b. b || has x (y ∷ [])) (same x) ∙ sym (has-push x y these)
+pub same_following : (names these : Defined) (y : List ℕ) → ((x : List ℕ) → has x names ≡ has x these) → (x : List ℕ) → has x (names ++ y ∷ []) ≡ has x (these ++ y ∷ [])
+same_following names these y same x = has-push x y names ∙ ap (λ b. b || has x (y ∷ [])) (same x) ∙ sym (has-push x y these)
 
 pub fault_same : (names these : Defined) (d : Definition) → ((x : List ℕ) → has x names ≡ has x these) → fault_of names d ≡ fault_of these d
 fault_same names these d same =
@@ -30,7 +30,7 @@ outcome_same names these [] stop same = refl
 outcome_same names these (d ∷ ds) stop same =
     let y = (identifier_of d).text in
     ap (λ f. compilation_with f (compiled_text d) (compilation_of (names ++ y ∷ []) ds stop)) (fault_same names these d same)
-    ∙ ap (compilation_with (fault_of these d) (compiled_text d)) (outcome_same (names ++ y ∷ []) (these ++ y ∷ []) ds stop (same_behind names these y same))
+    ∙ ap (compilation_with (fault_of these d) (compiled_text d)) (outcome_same (names ++ y ∷ []) (these ++ y ∷ []) ds stop (same_following names these y same))
 
 pub by_membership : ByMembership
 by_membership names these tokens r same g = record {
@@ -43,12 +43,12 @@ by_membership names these tokens r same g = record {
 -- a name more stays one more
 pub are_names_push : (names these : Defined) (y : List ℕ) → AreNames names these → AreNames (names ++ y ∷ []) (these ++ y ∷ [])
 are_names_push names these y a = record {
-  members = same_behind names these y a.members;
+  members = same_following names these y a.members;
   size = length-append names (y ∷ []) ∙ ap (λ n. n + 1) a.size ∙ sym (length-append these (y ∷ []));
 }
 
-pub are_names_behind : (a b c : Defined) → AreNames a b → AreNames b c → AreNames a c
-are_names_behind a b c h k = record {
+pub are_names_after : (a b c : Defined) → AreNames a b → AreNames b c → AreNames a c
+are_names_after a b c h k = record {
   members = λ x. h.members x ∙ k.members x;
   size = h.size ∙ k.size;
 }

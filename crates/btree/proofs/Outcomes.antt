@@ -1,4 +1,4 @@
--- Definitions one behind another: each list of tokens is parted in one way.
+-- Definitions one after another: each list of tokens is parted in one way.
 use Rattle.std.proofs.Common.{◌≡◌, ◌≤◌, true, List, [], ◌∷◌, ◌++◌, map, length, sym, ap, ◌∙◌, refl, subst, append_assoc, ◌⊎◌, inl, inr, arith}
 use Rattle.std.proofs.lemmas.List.{append_cancel_right}
 use Rattle.std.specs.Prelude.{Option, Some, None}
@@ -7,7 +7,8 @@ use Rattle.blang.specs.declared.token.Token.TheVariants as token
 use Rattle.blang.specs.declared.token.Placed.{Placed}
 use Rattle.blang.specs.declared.token.Diagnostic.{Diagnostic}
 use Rattle.blang.specs.Cut.{is_last}
-use Rattle.blang.specs.Trees.{mark, kept, bare, Definition, spell_definition, spell_all}
+use Rattle.blang.specs.Trees.{mark, kept, bare, Definition}
+use Rattle.blang.specs.Walk.{spell_definition, spell_all}
 use Rattle.btree.specs.Reading.{Got, first}
 use Rattle.blang.specs.WellFormed.{IsFormed, AllFormed, IsProgram, BeginsProgram, IsViable, StopsAt, Parts, Parted}
 use Rattle.btree.specs.DefinitionReader.{definition}
@@ -46,13 +47,13 @@ module _ (taken : List Placed) (d : Definition) (tokens : List Placed) (ds : Lis
   end_same (b ∷ before) at xs e = refl
 
   at_first : (more : List Token) → first (map kept (p.before ++ p.at ∷ map mark more)) ≡ first (map kept tokens)
-  at_first more = first_same p.before p.at (map mark more) p.behind ∙ ap (λ l. first (map kept l)) (sym p.split)
+  at_first more = first_same p.before p.at (map mark more) p.following ∙ ap (λ l. first (map kept l)) (sym p.split)
 
   still_wrong : (IsViable (map bare p.before) p.at.token → ⊥) → IsViable (map bare (taken ++ p.before)) p.at.token → ⊥
   still_wrong wrong v = go (viable_cases (map bare (taken ++ p.before)) p.at.token v)
     where
       go : ((p.at.token ≡ token.End) × IsProgram (map bare (taken ++ p.before))) ⊎ BeginsProgram (map bare (taken ++ p.before) ++ p.at.token ∷ []) → ⊥
-      go (inl h) = wrong (viable_end (map bare p.before) p.at.token h.0 (peeled p.before (end_same p.before p.at p.behind h.0 ∙ ap (λ l. first (map kept l)) (sym p.split)) h.1))
+      go (inl h) = wrong (viable_end (map bare p.before) p.at.token h.0 (peeled p.before (end_same p.before p.at p.following h.0 ∙ ap (λ l. first (map kept l)) (sym p.split)) h.1))
       go (inr b) =
           let ps = p.before ++ p.at ∷ map mark b.more in
           let spelled : map bare (taken ++ ps) ≡ (map bare (taken ++ p.before) ++ p.at.token ∷ []) ++ b.more =
@@ -65,31 +66,31 @@ module _ (taken : List Placed) (d : Definition) (tokens : List Placed) (ds : Lis
           bare-append p.before (p.at ∷ map mark b.more) ∙ ap (λ l. map bare p.before ++ p.at.token ∷ l) (map_bare-mark b.more) ∙ sym (append_assoc (map bare p.before) (p.at.token ∷ []) b.more) in
           wrong (viable_next (map bare p.before) p.at.token (record { more = b.more; program = subst IsProgram same_ rest }))
 
-  stops_behind : (s : Option Diagnostic) → StopsAt (map bare p.before) p.at s → StopsAt (map bare (taken ++ p.before)) p.at s
-  stops_behind None h = (h.0, subst IsProgram (sym (bare-append taken p.before)) (one_before d taken_spelled.1 (map bare taken) taken_bare (map bare p.before) h.1))
-  stops_behind (Some f) h = (subst BeginsProgram (sym (bare-append taken p.before)) (begins_before d taken_spelled.1 (map bare taken) taken_bare (map bare p.before) h.0), still_wrong h.1, h.2)
+  stops_after : (s : Option Diagnostic) → StopsAt (map bare p.before) p.at s → StopsAt (map bare (taken ++ p.before)) p.at s
+  stops_after None h = (h.0, subst IsProgram (sym (bare-append taken p.before)) (one_before d taken_spelled.1 (map bare taken) taken_bare (map bare p.before) h.1))
+  stops_after (Some f) h = (subst BeginsProgram (sym (bare-append taken p.before)) (begins_before d taken_spelled.1 (map bare taken) taken_bare (map bare p.before) h.0), still_wrong h.1, h.2)
 
-  all_split : taken ++ tokens ≡ (taken ++ p.before) ++ p.at ∷ p.behind
-  all_split = ap (λ l. taken ++ l) p.split ∙ sym (append_assoc taken p.before (p.at ∷ p.behind))
+  all_split : taken ++ tokens ≡ (taken ++ p.before) ++ p.at ∷ p.following
+  all_split = ap (λ l. taken ++ l) p.split ∙ sym (append_assoc taken p.before (p.at ∷ p.following))
 
   no_longer : (others : List Definition) → Parts (taken ++ p.before) others → length others ≤ length (d ∷ ds)
   no_longer [] q = omega arith
   no_longer (e ∷ es) q =
-      let R = map kept (p.at ∷ p.behind) in
-      let there = first_there (taken ++ p.before) p.at p.behind (stops_there (map bare (taken ++ p.before)) p.at stop (stops_behind stop p.stops)) e es q in
+      let R = map kept (p.at ∷ p.following) in
+      let there = first_there (taken ++ p.before) p.at p.following (stops_there (map bare (taken ++ p.before)) p.at stop (stops_after stop p.stops)) e es q in
       let same_ : Got e ((spell_all es ++ q.part) ++ R) ≡ Got d (map kept tokens) = sym there ∙ ap (λ l. definition (map kept l)) (sym all_split) ∙ ap definition (kept-append taken tokens) ∙ read in
       let rest : (spell_all es ++ q.part) ++ R ≡ map kept tokens = cc in
-      let split : spell_all es ++ q.part ≡ map kept p.before = append_cancel_right (spell_all es ++ q.part) (map kept p.before) R (rest ∙ ap (map kept) p.split ∙ kept-append p.before (p.at ∷ p.behind)) in
+      let split : spell_all es ++ q.part ≡ map kept p.before = append_cancel_right (spell_all es ++ q.part) (map kept p.before) R (rest ∙ ap (map kept) p.split ∙ kept-append p.before (p.at ∷ p.following)) in
       let shorter : length es ≤ length ds = p.longest es (record { part = q.part; split = sym split; formed = q.formed.1; is_part = q.is_part }) in
       omega arith
 
-  pub parted_behind : Parted (taken ++ tokens) (d ∷ ds) stop
-  parted_behind = record {
+  pub parted_after : Parted (taken ++ tokens) (d ∷ ds) stop
+  parted_after = record {
     before = taken ++ p.before;
     at = p.at;
-    behind = p.behind;
+    following = p.following;
     split = all_split;
-    stops = stops_behind stop p.stops;
+    stops = stops_after stop p.stops;
     parts = record {
       part = p.parts.part;
       split = kept-append taken p.before ∙ ap (λ l. l ++ map kept p.before) taken_spelled.0 ∙ ap (λ l. spell_definition d ++ l) p.parts.split ∙ sym (append_assoc (spell_definition d) (spell_all ds) p.parts.part);
@@ -134,9 +135,9 @@ same_stop before at (Some d) (Some e) h k = ap Some (h.2 ∙ sym k.2)
 
 -- There is one parting.
 pub parted_once : (tokens : List Placed) (ds es : List Definition) (s t : Option Diagnostic) → Parted tokens ds s → Parted tokens es t → (ds ≡ es) × (s ≡ t)
-parted_once tokens ds es s t p q = go (order p.before p.at p.behind q.before q.at q.behind (sym p.split ∙ q.split))
+parted_once tokens ds es s t p q = go (order p.before p.at p.following q.before q.at q.following (sym p.split ∙ q.split))
   where
-    go : Order p.before p.at p.behind q.before q.at q.behind → (ds ≡ es) × (s ≡ t)
+    go : Order p.before p.at p.following q.before q.at q.following → (ds ≡ es) × (s ≡ t)
     go (sooner c e) = absurd (no_further p.before p.at s p.stops c q.before e (stops_begins (map bare q.before) q.at t q.stops))
     go (later c e) = absurd (no_further q.before q.at t q.stops c p.before e (stops_begins (map bare p.before) p.at s p.stops))
     go (together e f g) =
@@ -146,7 +147,7 @@ parted_once tokens ds es s t p q = go (order p.before p.at p.behind q.before q.a
         let more : length ds ≤ length es = q.longest ds p_parts in
         let lengths : length ds ≡ length es = omega arith in
         let q_stops : StopsAt (map bare p.before) p.at t = subst (λ b. StopsAt (map bare p.before) b t) (sym f) (subst (λ l. StopsAt (map bare l) q.at t) (sym e) q.stops) in (
-          same_parts p.before p.at p.behind (stops_there (map bare p.before) p.at s p.stops) ds es p.parts q_parts lengths,
+          same_parts p.before p.at p.following (stops_there (map bare p.before) p.at s p.stops) ds es p.parts q_parts lengths,
           same_stop (map bare p.before) p.at s t p.stops q_stops,
         )
 
@@ -156,11 +157,11 @@ Ended [] = ⊥
 Ended (t ∷ []) = is_last t.token ≡ true
 Ended (t ∷ u ∷ ts) = Ended (u ∷ ts)
 
-pub ended_behind : (us ts : List Placed) → GoOn us → Ended (us ++ ts) → Ended ts
-ended_behind [] ts g e = e
-ended_behind (u ∷ []) [] g e = let no = g.0 in cc
-ended_behind (u ∷ []) (t ∷ ts) g e = e
-ended_behind (u ∷ v ∷ us) ts g e = ended_behind (v ∷ us) ts g.1 e
+pub ended_after : (us ts : List Placed) → GoOn us → Ended (us ++ ts) → Ended ts
+ended_after [] ts g e = e
+ended_after (u ∷ []) [] g e = let no = g.0 in cc
+ended_after (u ∷ []) (t ∷ ts) g e = e
+ended_after (u ∷ v ∷ us) ts g e = ended_after (v ∷ us) ts g.1 e
 
 pub go_on_kept : (us : List Placed) → GoOn (map kept us) → GoOn us
 go_on_kept [] g = tt

@@ -4,7 +4,8 @@ use Rattle.std.proofs.lemmas.List.{append_cancel_right}
 use Rattle.std.specs.Prelude.{Some, None}
 use Rattle.blang.specs.declared.token.Token.TheVariants as token
 use Rattle.blang.specs.declared.token.Placed.{Placed}
-use Rattle.blang.specs.Trees.{mark, kept, kept_tokens, bare, name_token, Definition, spell_definition, spell_all}
+use Rattle.blang.specs.Trees.{mark, kept, kept_tokens, bare, name_token, Definition}
+use Rattle.blang.specs.Walk.{spell_definition, spell_all}
 use Rattle.btree.specs.Reading.{Got, Stop, first}
 use Rattle.btree.specs.ReadingOn.{Fine, goes, halts, Closer}
 use Rattle.blang.specs.WellFormed.{IsFormed, AllFormed, IsProgram, BeginsProgram, IsViable, StopsAt, IsPart, Parts, Parted, fault_at}
@@ -75,7 +76,7 @@ pub parted_end : (at : Placed) (rest : List Placed) → at.token ≡ token.End �
 parted_end at rest e = record {
   before = [];
   at = at;
-  behind = rest;
+  following = rest;
   split = refl;
   stops = (e, record { definitions = []; formed = tt; spelled = refl });
   parts = record { part = []; split = refl; formed = tt; is_part = inl refl };
@@ -166,7 +167,7 @@ parted_stop tokens at rest h no_end =
     record {
       before = tokens;
       at = at;
-      behind = rest;
+      following = rest;
       split = refl;
       stops = stops_so tokens at rest halting no_end;
       parts = record { part = map kept tokens; split = refl; formed = tt; is_part = is_a_part tokens at rest halting no_end halting.completion refl };

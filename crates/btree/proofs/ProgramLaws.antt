@@ -8,7 +8,8 @@ use Rattle.blang.specs.declared.token.Token.TheVariants as token
 use Rattle.blang.specs.declared.token.Placed.{Placed}
 use Rattle.blang.specs.declared.token.Diagnostic.{Diagnostic}
 use Rattle.blang.specs.Cut.{is_last}
-use Rattle.blang.specs.Trees.{mark, kept, bare, name_token, keyword_mark, Definition, spell_definition, spell_all}
+use Rattle.blang.specs.Trees.{mark, kept, bare, name_token, keyword_mark, Definition}
+use Rattle.blang.specs.Walk.{spell_definition, spell_all}
 use Rattle.btree.specs.Reading.{Got, first}
 use Rattle.btree.specs.StatementReader.{is_else}
 use Rattle.blang.specs.WellFormed.{IsFormed, AllFormed, IsProgram, BeginsProgram, IsViable, StopsAt, IsPart}
@@ -38,7 +39,7 @@ read_there taken tokens d h =
     let s = reads_spelling (taken ++ tokens) (map kept tokens) d (ap definition (kept-append taken tokens) ∙ h) in
     (append_cancel_right (map kept taken) (spell_definition d) (map kept tokens) (sym (kept-append taken tokens) ∙ s.0), s.1)
 
--- behind a definition comes a name or the end, and no `else`
+-- after a definition comes a name or the end, and no `else`
 pub name_first : (d : Definition) (rest : List Placed) → is_else (first (spell_definition d ++ rest)) ≡ false
 name_first d rest = let name = begins_with_name d in ap (λ l. is_else (first (l ++ rest))) name.2
 
@@ -97,7 +98,7 @@ pub stops_begins : (before : List Token) (at : Placed) (stop : Option Diagnostic
 stops_begins before at None h = record { more = []; program = subst IsProgram (sym (append-nil before)) h.1 }
 stops_begins before at (Some d) h = h.0
 
--- no program goes on behind the place where one stops
+-- no program goes on after the place where one stops
 pub stops_there : (before : List Token) (at : Placed) (stop : Option Diagnostic) → StopsAt before at stop → BeginsProgram (before ++ at.token ∷ []) → ⊥
 stops_there before at None h b = let no = begins_goes_on before at.token b in let last : is_last at.token ≡ true = ap is_last h.0 in cc
 stops_there before at (Some d) h b = h.1 (viable_next before at.token b)
@@ -116,8 +117,8 @@ part_first (p ∷ part) rest (inr h) n =
     let same : token.Name name.0.text ≡ bare p = cc in
     ap is_else (sym same)
 
--- what stands behind a first definition, and then where a program stops: no `else` that it would go on with
-module _ (d : Definition) (f : IsFormed d) (ds : List Definition) (part : List Placed) (is_part : IsPart (map bare part)) (at : Placed) (behind : List Placed)
+-- what stands after a first definition, and then where a program stops: no `else` that it would go on with
+module _ (d : Definition) (f : IsFormed d) (ds : List Definition) (part : List Placed) (is_part : IsPart (map bare part)) (at : Placed) (following : List Placed)
     (wrong : BeginsProgram (map bare (spell_definition d ++ (spell_all ds ++ part)) ++ at.token ∷ []) → ⊥) where
   open_goes_on : is_open_definition d ≡ true → (ds ≡ []) → (part ≡ []) → is_else at.token ≡ true → ⊥
   open_goes_on o e e2 h =
@@ -130,21 +131,21 @@ module _ (d : Definition) (f : IsFormed d) (ds : List Definition) (part : List P
       ∙ ap (λ l. (map bare l ++ at.token ∷ []) ++ map bare more) (sym (append-nil (spell_definition d)) ∙ ap (λ l. spell_definition d ++ l) (sym (rw (e, e2) refl))) in
       wrong (record { more = map bare more; program = record { definitions = longer.0 ∷ []; formed = (longer.1, tt); spelled = spelled } })
 
-  no_else_behind : (ds' : List Definition) → ds ≡ ds' → (part' : List Placed) → part ≡ part' → is_open_definition d ≡ true → is_else (first ((spell_all ds ++ part) ++ (kept at ∷ behind))) ≡ false
-  no_else_behind (e ∷ es) h part' k o =
-      ap (λ l. is_else (first ((spell_all l ++ part) ++ (kept at ∷ behind)))) h
-      ∙ ap (λ l. is_else (first (l ++ (kept at ∷ behind)))) (append_assoc (spell_definition e) (spell_all es) part)
-      ∙ ap (λ l. is_else (first l)) (append_assoc (spell_definition e) (spell_all es ++ part) (kept at ∷ behind))
-      ∙ name_first e ((spell_all es ++ part) ++ (kept at ∷ behind))
-  no_else_behind [] h (p ∷ part') k o =
-      ap (λ l. is_else (first ((spell_all l ++ part) ++ (kept at ∷ behind)))) h
-      ∙ part_first part (kept at ∷ behind) is_part (λ n. let m : [] ≡ p ∷ part' = sym n ∙ k in cc)
-  no_else_behind [] h [] k o = go (is_else at.token) refl
+  no_else_after : (ds' : List Definition) → ds ≡ ds' → (part' : List Placed) → part ≡ part' → is_open_definition d ≡ true → is_else (first ((spell_all ds ++ part) ++ (kept at ∷ following))) ≡ false
+  no_else_after (e ∷ es) h part' k o =
+      ap (λ l. is_else (first ((spell_all l ++ part) ++ (kept at ∷ following)))) h
+      ∙ ap (λ l. is_else (first (l ++ (kept at ∷ following)))) (append_assoc (spell_definition e) (spell_all es) part)
+      ∙ ap (λ l. is_else (first l)) (append_assoc (spell_definition e) (spell_all es ++ part) (kept at ∷ following))
+      ∙ name_first e ((spell_all es ++ part) ++ (kept at ∷ following))
+  no_else_after [] h (p ∷ part') k o =
+      ap (λ l. is_else (first ((spell_all l ++ part) ++ (kept at ∷ following)))) h
+      ∙ part_first part (kept at ∷ following) is_part (λ n. let m : [] ≡ p ∷ part' = sym n ∙ k in cc)
+  no_else_after [] h [] k o = go (is_else at.token) refl
     where
-      go : (b : Bool) → is_else at.token ≡ b → is_else (first ((spell_all ds ++ part) ++ (kept at ∷ behind))) ≡ false
+      go : (b : Bool) → is_else at.token ≡ b → is_else (first ((spell_all ds ++ part) ++ (kept at ∷ following))) ≡ false
       go true e = absurd (open_goes_on o h k e)
-      go false e = ap (λ l. is_else (first ((spell_all l ++ part) ++ (kept at ∷ behind)))) h ∙ ap (λ l. is_else (first (l ++ (kept at ∷ behind)))) k ∙ ap is_else (bare-kept at) ∙ e
+      go false e = ap (λ l. is_else (first ((spell_all l ++ part) ++ (kept at ∷ following)))) h ∙ ap (λ l. is_else (first (l ++ (kept at ∷ following)))) k ∙ ap is_else (bare-kept at) ∙ e
 
   -- so reading gives this definition first
-  pub reads_first : definition (spell_definition d ++ ((spell_all ds ++ part) ++ (kept at ∷ behind))) ≡ Got d ((spell_all ds ++ part) ++ (kept at ∷ behind))
-  reads_first = reads_again d ((spell_all ds ++ part) ++ (kept at ∷ behind)) f (no_else_behind ds refl part refl)
+  pub reads_first : definition (spell_definition d ++ ((spell_all ds ++ part) ++ (kept at ∷ following))) ≡ Got d ((spell_all ds ++ part) ++ (kept at ∷ following))
+  reads_first = reads_again d ((spell_all ds ++ part) ++ (kept at ∷ following)) f (no_else_after ds refl part refl)

@@ -1,7 +1,8 @@
 -- Programs stand for tokens in one way, and have one way of parts.
 use Rattle.std.proofs.Common.{◌≡◌, List, [], ◌∷◌, ◌++◌, map, length, sym, ap, ◌∙◌, refl, arith}
 use Rattle.blang.specs.Cut.{tokens_from}
-use Rattle.blang.specs.Trees.{bare, Definition, spell_definition, spell_all}
+use Rattle.blang.specs.Trees.{bare, Definition}
+use Rattle.blang.specs.Walk.{spell_definition, spell_all}
 use Rattle.btree.specs.Reading.{Got}
 use Rattle.blang.specs.WellFormed.{nesting_limit, AllFormed}
 use Rattle.btree.specs.DefinitionReader.{definition}
@@ -49,9 +50,9 @@ has_parts edition line bytes =
     (p.definitions, p.stop, p.parted)
 
 pub one_way : OneWay
-one_way tokens ds es s t p q = go (order p.before p.at p.behind q.before q.at q.behind (sym p.split ∙ q.split))
+one_way tokens ds es s t p q = go (order p.before p.at p.following q.before q.at q.following (sym p.split ∙ q.split))
   where
-    go : Order p.before p.at p.behind q.before q.at q.behind → (p.before ≡ q.before) × (p.at ≡ q.at) × (ds ≡ es) × (s ≡ t)
+    go : Order p.before p.at p.following q.before q.at q.following → (p.before ≡ q.before) × (p.at ≡ q.at) × (ds ≡ es) × (s ≡ t)
     go (sooner c e) = absurd (no_further p.before p.at s p.stops c q.before e (stops_begins (map bare q.before) q.at t q.stops))
     go (later c e) = absurd (no_further q.before q.at t q.stops c p.before e (stops_begins (map bare p.before) p.at s p.stops))
     go (together e f g) = let one = parted_once tokens ds es s t p q in (e, f, one.0, one.1)

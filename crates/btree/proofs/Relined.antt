@@ -4,9 +4,11 @@ use Rattle.std.specs.Prelude.{map}
 use Rattle.blang.specs.declared.token.Token.{Token}
 use Rattle.blang.specs.declared.token.Placed.{Placed}
 use Rattle.blang.specs.declared.token.Token.TheVariants as token
-use Rattle.blang.specs.Trees.{mark, kept, kept_tokens, bare, comma_spelling, list_spelling}
+use Rattle.blang.specs.Trees.{mark, kept, kept_tokens, bare}
+use Rattle.btree.specs.Spelling.{comma_spelling, list_spelling, spelling}
 use Rattle.blang.specs.Cut.{placed}
 use Rattle.blang.specs.WellFormed.{IsNonempty}
+use Rattle.blang.specs.Walk.{Walk}
 
 pub kept-append : (a b : List Placed) → kept_tokens (a ++ b) ≡ kept_tokens a ++ kept_tokens b
 kept-append [] b = refl
@@ -31,38 +33,38 @@ nothing_kept [] h = refl
 nothing_kept (p ∷ ps) h = cc
 
 -- things with commas between them
-module _ {A : Type 0} (say : A → List Placed) where
+module _ {A : Type 0} (say : A → Walk) where
   pub record Item (a : A) (ps : List Placed) : Type 0 where
     pub tree : A
-    pub spelled : say tree ≡ kept_tokens ps
+    pub spelled : spelling say tree ≡ kept_tokens ps
 
   pub record Items (xs : List A) (ps : List Placed) : Type 0 where
     pub trees : List A
     pub spelled : list_spelling say trees ≡ kept_tokens ps
     pub nonempty : IsNonempty xs → IsNonempty trees
 
-  record Behind (xs : List A) (ps : List Placed) : Type 0 where
+  record After (xs : List A) (ps : List Placed) : Type 0 where
     trees : List A
     spelled : comma_spelling say trees ≡ kept_tokens ps
 
-  module _ (twin : (a : A) (ps : List Placed) → map bare (say a) ≡ map bare ps → Item a ps) where
-    behind_twin : (xs : List A) (ps : List Placed) → map bare (comma_spelling say xs) ≡ map bare ps → Behind xs ps
-    behind_twin [] ps h = record { trees = []; spelled = sym (nothing_kept ps h) }
-    behind_twin (x ∷ xs) ps h = more (behind_twin xs)
+  module _ (twin : (a : A) (ps : List Placed) → map bare (spelling say a) ≡ map bare ps → Item a ps) where
+    after_twin : (xs : List A) (ps : List Placed) → map bare (comma_spelling say xs) ≡ map bare ps → After xs ps
+    after_twin [] ps h = record { trees = []; spelled = sym (nothing_kept ps h) }
+    after_twin (x ∷ xs) ps h = more (after_twin xs)
       where
-        more : ((ps : List Placed) → map bare (comma_spelling say xs) ≡ map bare ps → Behind xs ps) → Behind (x ∷ xs) ps
-        more ih = cut_token token.Comma 0 (say x ++ comma_spelling say xs) ps h (λ line r hr k. cut_append (say x) (comma_spelling say xs) r hr (λ l r2 hl h2 k2.
+        more : ((ps : List Placed) → map bare (comma_spelling say xs) ≡ map bare ps → After xs ps) → After (x ∷ xs) ps
+        more ih = cut_token token.Comma 0 (spelling say x ++ comma_spelling say xs) ps h (λ line r hr k. cut_append (spelling say x) (comma_spelling say xs) r hr (λ l r2 hl h2 k2.
             let i : Item x l = twin x l hl in
-            let is : Behind xs r2 = ih r2 h2 in
-            let a : say i.tree ≡ kept_tokens l = i.spelled in
+            let is : After xs r2 = ih r2 h2 in
+            let a : spelling say i.tree ≡ kept_tokens l = i.spelled in
             let b : comma_spelling say is.trees ≡ kept_tokens r2 = is.spelled in
-            record { trees = i.tree ∷ is.trees; spelled = let e : mark token.Comma ∷ (say i.tree ++ comma_spelling say is.trees) ≡ kept_tokens ps = cc in e }))
+            record { trees = i.tree ∷ is.trees; spelled = let e : mark token.Comma ∷ (spelling say i.tree ++ comma_spelling say is.trees) ≡ kept_tokens ps = cc in e }))
 
     pub list_twin : (xs : List A) (ps : List Placed) → map bare (list_spelling say xs) ≡ map bare ps → Items xs ps
     list_twin [] ps h = record { trees = []; spelled = sym (nothing_kept ps h); nonempty = λ n. n }
-    list_twin (x ∷ xs) ps h = cut_append (say x) (comma_spelling say xs) ps h (λ l r2 hl h2 k2.
+    list_twin (x ∷ xs) ps h = cut_append (spelling say x) (comma_spelling say xs) ps h (λ l r2 hl h2 k2.
         let i : Item x l = twin x l hl in
-        let is : Behind xs r2 = behind_twin xs r2 h2 in
-        let a : say i.tree ≡ kept_tokens l = i.spelled in
+        let is : After xs r2 = after_twin xs r2 h2 in
+        let a : spelling say i.tree ≡ kept_tokens l = i.spelled in
         let b : comma_spelling say is.trees ≡ kept_tokens r2 = is.spelled in
-        record { trees = i.tree ∷ is.trees; spelled = let e : say i.tree ++ comma_spelling say is.trees ≡ kept_tokens ps = cc in e; nonempty = λ n. tt })
+        record { trees = i.tree ∷ is.trees; spelled = let e : spelling say i.tree ++ comma_spelling say is.trees ≡ kept_tokens ps = cc in e; nonempty = λ n. tt })

@@ -1,4 +1,4 @@
--- Steps of a scan without a fault: what each tells of the scope before it and of the one behind it.
+-- Steps of a scan without a fault: what each tells of the scope before it and of the one after it.
 use Rattle.std.proofs.Common.{◌≡◌, ℕ, ◌+◌, ◌<◌, Bool, true, false, List, [], ◌∷◌, ◌++◌, length, length-append, refl, sym, ap, ◌∙◌, arith, if◌then◌else◌, Option, Some, None, Result, Ok, Err, ◌⊎◌, inl, inr}
 use Rattle.std.specs.Prelude.{nat_lt, nat_eq}
 use Rattle.std.specs.List.{list_any}
@@ -7,7 +7,8 @@ use Rattle.std.specs.Cmp.Lexicographic.{nat_list_eq_equiv}
 use Rattle.std.proofs.lemmas.Bool.Decides.{nat_tests}
 use Rattle.blang.specs.declared.token.Diagnostic.{Diagnostic}
 use Rattle.blang.specs.Trees.{Identifier, Expr}
-use Rattle.blang.specs.Scan.{NameKind, Automatic, External, Unlabelled, Labelled, Entry, most_names, kind_of, with_entry, with_declaration, kind_mentioned, with_mention, with_kind, with_label, Event, Declaration, Import, Mention, LabelHere, CaseHere, DefaultHere, BreakHere, Lvalue, Scope, automatic_words, Around, most_cases, is_lvalue, with_names, scan_case, scan_default, can_break, scan_event, scanned}
+use Rattle.blang.specs.Scan.{NameKind, Automatic, External, Unlabelled, Labelled, Entry, most_names, kind_of, with_entry, with_declaration, kind_mentioned, with_mention, with_kind, with_label, Scope, automatic_words, Around, most_cases, is_lvalue, with_names, scan_case, scan_default, can_break, scan_event, scanned}
+use Rattle.blang.specs.Walk.{Event, Declaration, Import, Mention, LabelHere, CaseHere, DefaultHere, BreakHere, Lvalue}
 use Rattle.bword.specs.Words.{same_name}
 use Rattle.btree.proofs.ScopeLaws.{kind_of-push}
 

@@ -18,7 +18,7 @@ use Rattle.blang.specs.Compiles.{Defined, Compilation, compiled_text, CompilesTo
 use Rattle.btree.specs.SourceRows.{ComesIn, Comes, ComesInTwo, WorkedRows, FunctionRows, FaultRows, PlaceRows, EditionRows}
 use Rattle.btree.proofs.Outcomes.{Ended}
 use Rattle.btree.proofs.GoesLaws.{goes_end, tokens_from-ended}
-use Rattle.btree.proofs.GoesReads.{goes_behind_read, goes_fault_read, goes_stop_read, ended_read}
+use Rattle.btree.proofs.GoesReads.{goes_after_read, goes_fault_read, goes_stop_read, ended_read}
 
 abbrev pub Later : Type 0
 Later = Defined → List Placed → Option Compilation
@@ -53,7 +53,7 @@ module _ (later : Later) (sound : (names : Defined) (ts : List Placed) (r : Comp
   with_text_sound u v d None r e h clean is from = cc
   with_text_sound u v d (Some q) r e h clean is from =
       let same : record { code = compiled_text d ∷ q.code; stop = q.stop } ≡ r = cc in
-      subst (λ x. CompilesTo names u x) same (goes_behind_read names u v d q h clean (sound (names ++ (identifier_of d).text ∷ []) v q e is))
+      subst (λ x. CompilesTo names u x) same (goes_after_read names u v d q h clean (sound (names ++ (identifier_of d).text ∷ []) v q e is))
 
   definition_sound : (u v : List Placed) (d : Definition) (f : Option Diagnostic) (r : Compilation) → Ended v → definition u ≡ Got d v → fault_of names d ≡ f → at_definition later names f d v ≡ Some r → CompilesTo names u r
   definition_sound u v d (Some fault) r e h is from =
@@ -221,13 +221,13 @@ function_open_else : Comes (codes "f() if(1) ; else )") [] (codes "sx 1\n")
 unfolding tokens_from cut longest greatest whole word_token keyword_of number_in with_quoted_byte escape_of operator_of other_of fixed_of digits
 function_open_else = comes refl
 
-function_lvalue_behind_syntax : Comes (codes "f() { 1 = 2; ) }") [] (codes "sx 1\n")
+function_lvalue_after_syntax : Comes (codes "f() { 1 = 2; ) }") [] (codes "sx 1\n")
 unfolding tokens_from cut longest greatest whole word_token keyword_of number_in with_quoted_byte escape_of operator_of other_of fixed_of digits
-function_lvalue_behind_syntax = comes refl
+function_lvalue_after_syntax = comes refl
 
-function_names_behind_syntax : Comes (codes "f() { auto a, a; ) }") [] (codes "sx 1\n")
+function_names_after_syntax : Comes (codes "f() { auto a, a; ) }") [] (codes "sx 1\n")
 unfolding tokens_from cut longest greatest whole word_token keyword_of number_in with_quoted_byte escape_of operator_of other_of fixed_of digits
-function_names_behind_syntax = comes refl
+function_names_after_syntax = comes refl
 
 function_negated : Comes (codes "f(a) a=!a;") (codes "F f 1 1 0 0 8\na 0\na 0\nv\nh\nw\np\nc 0\nr\nE\n") []
 unfolding tokens_from cut longest greatest whole word_token keyword_of number_in with_quoted_byte escape_of operator_of other_of fixed_of digits
@@ -280,8 +280,8 @@ function_rows = record {
   declaration_alone = function_declaration_alone;
   open_if = function_open_if;
   open_else = function_open_else;
-  lvalue_behind_syntax = function_lvalue_behind_syntax;
-  names_behind_syntax = function_names_behind_syntax;
+  lvalue_after_syntax = function_lvalue_after_syntax;
+  names_after_syntax = function_names_after_syntax;
   negated = function_negated;
   chosen = function_chosen;
   loop = function_loop;
@@ -351,9 +351,9 @@ fault_mentioned_before : Comes (codes "f(p) {\nh = --p; extrn h; ; }") [] (codes
 unfolding tokens_from cut longest greatest whole word_token keyword_of number_in with_quoted_byte escape_of operator_of other_of fixed_of digits
 fault_mentioned_before = comes refl
 
-fault_declared_behind : Comes (codes "f() { h;\nextrn h; ; }") [] (codes "rd h 2\n")
+fault_declared_after : Comes (codes "f() { h;\nextrn h; ; }") [] (codes "rd h 2\n")
 unfolding tokens_from cut longest greatest whole word_token keyword_of number_in with_quoted_byte escape_of operator_of other_of fixed_of digits
-fault_declared_behind = comes refl
+fault_declared_after = comes refl
 
 fault_label_twice : Comes (codes "f() { L:\nL: ; }") [] (codes "rd L 2\n")
 unfolding tokens_from cut longest greatest whole word_token keyword_of number_in with_quoted_byte escape_of operator_of other_of fixed_of digits
@@ -415,7 +415,7 @@ fault_rows = record {
   parameter_twice = fault_parameter_twice;
   external_again = fault_external_again;
   mentioned_before = fault_mentioned_before;
-  declared_behind = fault_declared_behind;
+  declared_after = fault_declared_after;
   label_twice = fault_label_twice;
   undefined_last = fault_undefined_last;
   undefined_before = fault_undefined_before;

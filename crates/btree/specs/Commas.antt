@@ -3,7 +3,7 @@ use Rattle.std.specs.Prelude.{List, [], ◌∷◌, ◌++◌}
 use Rattle.btree.specs.Reading.{Got, Reader, ◌>>=◌, after, many}
 use Rattle.btree.specs.ExpressionReader.{comma, always}
 
--- the thing behind a comma, which may depend on those before it
+-- the thing after a comma, which may depend on those before it
 abbrev pub comma_item : {A : Type 0} → (List A → Reader A) → Unit {0} → List A → Reader (List A)
 comma_item item o before ts = item before (after ts) >>= λ x. Got (before ++ x ∷ [])
 

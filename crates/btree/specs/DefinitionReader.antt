@@ -28,14 +28,14 @@ valued made ts =
     then Got (made []) (after ts)
     else list_reader ival ts >>= (λ values r. expect is_semicolon r >>= λ o. Got (made values))
 
--- behind an opening bracket
+-- after an opening bracket
 abbrev pub vector : Identifier → Reader Definition
 vector w ts = size ts >>= λ n r. expect is_close_bracket r >>= λ o. valued (Vector w n)
 
 abbrev pub function_body : Identifier → List Identifier → Reader Definition
 function_body w parameters ts = statement nesting_limit 0 ts >>= λ s. Got (Function w parameters s)
 
--- behind the parenthesis that opens the parameters
+-- after the parenthesis that opens the parameters
 abbrev pub function : Identifier → Reader Definition
 function w ts =
     if is_close_paren (first ts)
@@ -43,18 +43,18 @@ function w ts =
     else list_reader (λ before. name) ts
     >>= (λ parameters r. expect is_close_paren r >>= λ o. function_body w parameters)
 
-abbrev pub behind_name_at : Identifier → Token → Reader Definition
-behind_name_at w token.OpenBracket ts = vector w (after ts)
-behind_name_at w token.OpenParen ts = function w (after ts)
-behind_name_at w _ ts = valued (Simple w) ts
+abbrev pub after_name_at : Identifier → Token → Reader Definition
+after_name_at w token.OpenBracket ts = vector w (after ts)
+after_name_at w token.OpenParen ts = function w (after ts)
+after_name_at w _ ts = valued (Simple w) ts
 
-abbrev pub behind_name : Identifier → Reader Definition
-behind_name w ts = behind_name_at w (first ts) ts
+abbrev pub after_name : Identifier → Reader Definition
+after_name w ts = after_name_at w (first ts) ts
 
 abbrev pub definition : Reader Definition
-definition ts = name ts >>= behind_name
+definition ts = name ts >>= after_name
 
--- whether an else behind it would be its own
+-- whether an else after it would be its own
 abbrev pub is_open_definition : Definition → Bool
 is_open_definition (Function w parameters body) = is_open body
 is_open_definition _ = false

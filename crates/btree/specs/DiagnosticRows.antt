@@ -96,7 +96,7 @@ one_case line n = case_token line ∷ number n ∷ mark token.Colon ∷ []
 abbrev switched : List Placed → List Placed
 switched ts = function_f [] (keyword_mark keyword.Switch ∷ number 1 ∷ braced (ts ++ semicolon ∷ []))
 
--- Behind 256 cases, which are those of 0 to 255, a further one is too many; one that was there is refused for that.
+-- After 256 cases, which are those of 0 to 255, a further one is too many; one that was there is refused for that.
 case_again : fault_in [] (switched (cases_below 256 ++ one_case 3 7)) ≡ case_fault letters.Redeclared 3
 case_again = refl
 
@@ -114,12 +114,12 @@ case_elsewhere : fault_in [] (function_f [] (braced (keyword_mark keyword.Switch
     ≡ lone_fault letters.TooManyCases 3
 case_elsewhere = refl
 
--- Behind 128 names one that is there isn't too many, but it is declared again.
+-- After 128 names one that is there isn't too many, but it is declared again.
 name_again : fault_in [] (function_f (names_below 128) (keyword_mark keyword.Auto ∷ placed (token.Name (7 ∷ [])) 3
     ∷ semicolon ∷ semicolon ∷ [])) ≡ name_fault letters.Redeclared 7 3
 name_again = refl
 
--- The name of the definition itself comes first: `f() 1=2;` behind a definition of `f`.
+-- The name of the definition itself comes first: `f() 1=2;` after a definition of `f`.
 defined_first : fault_in (codes "f" ∷ []) (function_f [] (number 1 ∷ placed (token.Assign None) 3 ∷ number 2
     ∷ semicolon ∷ [])) ≡ name_fault letters.Redeclared 102 1
 defined_first = refl

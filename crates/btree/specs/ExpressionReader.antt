@@ -57,7 +57,7 @@ abbrev pub op_at : ℕ → Token → Option BinOp
 op_at r (token.Operator op) = having_rank r op
 op_at r _ = None
 
--- what goes on behind a postfix expression
+-- what goes on after a postfix expression
 pub data Suffix : Type 0 where
   Index : Suffix
   Call : Suffix
@@ -105,7 +105,7 @@ primary_at inner off _ ts = Stop ts
 abbrev pub primary : Inner → ℕ → Reader Expr
 primary inner off ts = primary_at inner off (first ts) ts
 
--- the argument behind a comma
+-- the argument after a comma
 abbrev pub another : Inner → ℕ → Unit {0} → Arguments → Reader Arguments
 another inner off o args ts = inner.read Rvalue (off + argument_words args) (after ts) >>= λ e. Got (Another args e)
 
@@ -113,7 +113,7 @@ abbrev pub arguments : Inner → ℕ → Reader Arguments
 arguments inner off ts =
     inner.read Rvalue off ts >>= λ e. many (always comma) (another inner off) (Another No_arguments e)
 
--- behind the parenthesis that opens the arguments
+-- after the parenthesis that opens the arguments
 abbrev pub call : Inner → ℕ → Expr → Reader Expr
 call inner off e ts =
     if is_close_paren (first ts)
@@ -137,7 +137,7 @@ prefixed inner off op ts =
 abbrev pub operand : Inner → ℕ → Reader Expr
 operand inner off ts = at_some (prefix_op (first ts)) (λ op. prefixed inner off op ts) (postfix inner off ts)
 
--- one more operator of a rank, and what stands behind it
+-- one more operator of a rank, and what stands after it
 abbrev pub operation : (ℕ → Reader Expr) → ℕ → BinOp → Expr → Reader Expr
 operation tighter off op e ts = tighter (off + words e) (after ts) >>= λ f. Got (Binary op (line_ahead ts) e f)
 
@@ -146,7 +146,7 @@ abbrev pub chain : Inner → ℕ → ℕ → Reader Expr
 chain inner zero off ts = operand inner off ts
 chain inner (suc r) off ts = chain inner r off ts >>= many (always (op_at (suc r))) (operation (chain inner r) off)
 
--- behind the question mark
+-- after the question mark
 abbrev pub choices : Inner → ℕ → Expr → Reader Expr
 choices inner off e ts =
     inner.read Rvalue (off + words e) ts >>= λ f r. expect is_colon r

@@ -8,9 +8,9 @@ use Rattle.blang.specs.Trees.{Ival, Ival_constant, Ival_name, Ival_text}
 use Rattle.blang.specs.WellFormed.{rank, or_rank, conditional_rank, rvalue_rank, IsPostfix, is_open, IsHeading, packed}
 
 -- what holds of each thing and those before it
-abbrev pub EachBehind : {A : Type 0} → (List A → A → Type 0) → List A → List A → Type 0
-EachBehind P before [] = Unit {0}
-EachBehind P before (x ∷ xs) = P before x × EachBehind P (before ++ x ∷ []) xs
+abbrev pub EachAfter : {A : Type 0} → (List A → A → Type 0) → List A → List A → Type 0
+EachAfter P before [] = Unit {0}
+EachAfter P before (x ∷ xs) = P before x × EachAfter P (before ++ x ∷ []) xs
 
 -- the words of a string: two characters a word, and a last byte
 abbrev pub text_words : List ℕ → ℕ

@@ -5,8 +5,10 @@ use Rattle.blang.specs.declared.token.Keyword.TheVariants as keyword
 use Rattle.blang.specs.declared.token.Placed.{Placed}
 use Rattle.bword.specs.declared.edition.Edition.{Edition}
 use Rattle.blang.specs.Cut.{tokens_from}
-use Rattle.blang.specs.Trees.{mark, kept_tokens, bare, Identifier, Expr, name_token, spell, Stmt, spell_statement}
-use Rattle.blang.specs.Trees.{keyword_mark, Definition, spell_definition}
+use Rattle.blang.specs.Trees.{mark, kept_tokens, bare, Identifier, Expr, name_token, Stmt}
+use Rattle.blang.specs.Trees.{keyword_mark, Definition}
+use Rattle.btree.specs.Spelling.{spell, spell_statement}
+use Rattle.blang.specs.Walk.{spell_definition}
 use Rattle.blang.specs.WellFormed.{rvalue_rank, IsFormed}
 use Rattle.btree.specs.Fitting.{Fits, Sits}
 use Rattle.btree.specs.Reading.{Got, first}
@@ -42,13 +44,13 @@ ExpressionRead =
     (tokens rest : List Placed) (room off : ℕ) (e : Expr) → reader room Rvalue off tokens ≡ Got e rest
     → (kept_tokens tokens ≡ spell e ++ kept_tokens rest) × Fits e rvalue_rank room off
 
--- The spelling of a well-formed definition is read as that definition, whatever stands behind it but its own else.
+-- The spelling of a well-formed definition is read as that definition, whatever stands after it but its own else.
 abbrev pub ReadsAgain : Type 0
 ReadsAgain =
     (d : Definition) (rest : List Placed) → IsFormed d → (is_open_definition d ≡ true → is_else (first rest) ≡ false)
     → definition (spell_definition d ++ rest) ≡ Got d rest
 
--- An else behind an open definition goes on with it.
+-- An else after an open definition goes on with it.
 abbrev pub GoesOnWithElse : Type 0
 GoesOnWithElse =
     (d : Definition) → IsFormed d → is_open_definition d ≡ true
@@ -81,7 +83,7 @@ OneStatement =
 abbrev pub OneDefinition : Type 0
 OneDefinition = (d e : Definition) → IsFormed d → IsFormed e → spell_definition d ≡ spell_definition e → d ≡ e
 
--- each source comes to something
+-- each source has an outcome
 abbrev pub EachSourceComes : Type 0
 EachSourceComes =
     (names : Defined) (edition : Edition) (line : ℕ) (bytes : List ℕ)

@@ -5,12 +5,14 @@ use Rattle.blang.specs.declared.token.Keyword.TheVariants as keyword
 use Rattle.blang.specs.declared.token.Placed.{Placed}
 use Rattle.blang.specs.Trees.{mark, Expr, Arguments, Named, Literal, Text, Grouped, Indexed, Called, Postfixed}
 use Rattle.blang.specs.Trees.{Prefixed, Binary, Conditional, Assigned, No_arguments, Another, name_token}
-use Rattle.blang.specs.Trees.{constant_token, prefix_token, postfix_token, comma_behind, list_spelling, Stmt, Headed}
+use Rattle.blang.specs.Trees.{constant_token, prefix_token, postfix_token, Stmt, Headed}
 use Rattle.blang.specs.Trees.{Compound, If, IfElse, While, Switch, Goto, Break, Return, ReturnValue, Evaluate, Empty}
-use Rattle.blang.specs.Trees.{Stmts, Nothing, More, keyword_mark, name_spelling, spell_heading, Definition, Simple}
-use Rattle.blang.specs.Trees.{Vector, Function, spell_definition, spell_all}
+use Rattle.blang.specs.Trees.{Stmts, Nothing, More, keyword_mark, Definition, Simple}
+use Rattle.blang.specs.Trees.{Vector, Function}
+use Rattle.btree.specs.Spelling.{comma_after, list_spelling, name_spelling, spell_heading}
+use Rattle.blang.specs.Walk.{spell_definition, spell_all, walk_parameter}
 use Rattle.blang.specs.Cut.{placed, string_token}
-use Rattle.btree.specs.Fitting.{EachBehind, Sits, IvalFits}
+use Rattle.btree.specs.Fitting.{EachAfter, Sits, IvalFits}
 
 pub record Leveled : Type 0 where
   pub token : Placed
@@ -44,12 +46,12 @@ abbrev mutual
 
   pub argument_levels : Arguments → ℕ → List Leveled
   argument_levels No_arguments n = []
-  argument_levels (Another before e) n = argument_levels before n ++ (map (on n) (comma_behind before) ++ levels e n)
+  argument_levels (Another before e) n = argument_levels before n ++ (map (on n) (comma_after before) ++ levels e n)
 
--- a rvalue in the parentheses of a statement at level n, and what stands behind them
+-- a rvalue in the parentheses of a statement at level n, and what stands after them
 abbrev pub condition_levels : Expr → (inside n : ℕ) → List Leveled → List Leveled
-condition_levels e inside n behind =
-    on n (mark token.OpenParen) ∷ (levels e inside ++ (on n (mark token.CloseParen) ∷ behind))
+condition_levels e inside n following =
+    on n (mark token.OpenParen) ∷ (levels e inside ++ (on n (mark token.CloseParen) ∷ following))
 
 -- a statement that stands at level n
 abbrev mutual
@@ -84,7 +86,7 @@ abbrev pub definition_levels : Definition → List Leveled
 definition_levels (Simple w values) = map (on 0) (spell_definition (Simple w values))
 definition_levels (Vector w size values) = map (on 0) (spell_definition (Vector w size values))
 definition_levels (Function w parameters body) =
-    map (on 0) (name_token w ∷ mark token.OpenParen ∷ (list_spelling name_spelling parameters ++ mark token.CloseParen
+    map (on 0) (name_token w ∷ mark token.OpenParen ∷ (list_spelling walk_parameter parameters ++ mark token.CloseParen
     ∷ []))
     ++ statement_levels body 0
 
@@ -94,8 +96,8 @@ program_levels (d ∷ ds) = definition_levels d ++ program_levels ds
 
 -- well formed, with another greatest level
 abbrev pub IsFormedIn : ℕ → Definition → Type 0
-IsFormedIn most (Simple w values) = EachBehind IvalFits [] values
-IsFormedIn most (Vector w size values) = EachBehind IvalFits [] values
+IsFormedIn most (Simple w values) = EachAfter IvalFits [] values
+IsFormedIn most (Vector w size values) = EachAfter IvalFits [] values
 IsFormedIn most (Function w parameters body) = Sits body most 0
 
 abbrev pub AllFormedIn : ℕ → List Definition → Type 0

@@ -22,7 +22,7 @@ open_function = function (keyword_mark keyword.If ∷ (parenthesized (number 1 �
 abbrev pub else_empty : List Placed
 else_empty = keyword_mark keyword.Else ∷ semicolon ∷ []
 
--- a token on line 2, and the end of the source behind it
+-- a token on line 2, and the end of the source after it
 abbrev pub last : Token → List Placed
 last t = placed t 2 ∷ mark token.End ∷ []
 
@@ -42,14 +42,14 @@ pub record OutcomeRows : Type 0 where
         stop = name_fault letters.Redeclared 97 2;
       })
   -- `f() if(1) ;` and on line 2 `5`
-  pub behind_a_function : CompilesTo [] (open_function ++ last (token.Number 5))
+  pub after_a_function : CompilesTo [] (open_function ++ last (token.Number 5))
       (record {
         code = text_of_f (instr.Constant 1 ∷ instr.JumpIfZero 2 ∷ instr.Constant 0 ∷ instr.Return ∷ [])
             ∷ [];
         stop = lone_fault letters.Syntax 2;
       })
   -- `f() if(1) ; else ;` and on line 2 `5`: the `else` is the function's
-  pub behind_an_else : CompilesTo [] ((open_function ++ else_empty) ++ last (token.Number 5))
+  pub after_an_else : CompilesTo [] ((open_function ++ else_empty) ++ last (token.Number 5))
       (record {
         code = text_of_f
             (instr.Constant 1 ∷ instr.JumpIfZero 3 ∷ instr.Jump 3 ∷ instr.Constant 0 ∷ instr.Return ∷ [])

@@ -4,7 +4,8 @@ use Rattle.std.specs.Prelude.{◌≡◌, ℕ, List, Option}
 use Rattle.blang.specs.declared.token.Placed.{Placed}
 use Rattle.blang.specs.declared.token.Diagnostic.{Diagnostic}
 use Rattle.blang.specs.Cut.{tokens_from}
-use Rattle.blang.specs.Trees.{kept_tokens, Definition, spell_all}
+use Rattle.blang.specs.Trees.{kept_tokens, Definition}
+use Rattle.blang.specs.Walk.{spell_all}
 use Rattle.blang.specs.WellFormed.{nesting_limit, AllFormed, Parted}
 use Rattle.btree.specs.Levels.{AllFormedIn}
 

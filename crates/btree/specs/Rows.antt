@@ -42,7 +42,7 @@ five = mark (token.Number 5)
 abbrev pub expression : Reader Expr
 expression = reader nesting_limit Rvalue 0
 
--- `f()`, and what stands behind it
+-- `f()`, and what stands after it
 abbrev pub function : List Placed → List Placed
 function ts = name 102 ∷ mark token.OpenParen ∷ mark token.CloseParen ∷ ts
 

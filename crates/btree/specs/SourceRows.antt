@@ -47,8 +47,8 @@ pub record FunctionRows : Type 0 where
   pub declaration_alone : Comes (codes "main() { auto x; }") [] (codes "sx 1\n")
   pub open_if : Comes (codes "f() if(1) ; 5") (codes "F f 0 0 0 0 4\nc 1\nz 2\nc 0\nr\n") (codes "sx 1\n")
   pub open_else : Comes (codes "f() if(1) ; else )") [] (codes "sx 1\n")
-  pub lvalue_behind_syntax : Comes (codes "f() { 1 = 2; ) }") [] (codes "sx 1\n")
-  pub names_behind_syntax : Comes (codes "f() { auto a, a; ) }") [] (codes "sx 1\n")
+  pub lvalue_after_syntax : Comes (codes "f() { 1 = 2; ) }") [] (codes "sx 1\n")
+  pub names_after_syntax : Comes (codes "f() { auto a, a; ) }") [] (codes "sx 1\n")
   pub negated : Comes (codes "f(a) a=!a;") (codes "F f 1 1 0 0 8\na 0\na 0\nv\nh\nw\np\nc 0\nr\nE\n") []
   pub chosen : Comes (codes "f(x) return(x ? 1 : 2);")
       (codes "F f 1 1 0 0 9\na 0\nv\nz 5\nc 1\nj 6\nc 2\nr\nc 0\nr\nE\n") []
@@ -82,7 +82,7 @@ pub record FaultRows : Type 0 where
   pub parameter_twice : Comes (codes "f(a,a) ;") [] (codes "rd a 1\n")
   pub external_again : Comes (codes "f() {\nextrn a;\nauto a; ; }") [] (codes "rd a 3\n")
   pub mentioned_before : Comes (codes "f(p) {\nh = --p; extrn h; ; }") [] (codes "lv 2\n")
-  pub declared_behind : Comes (codes "f() { h;\nextrn h; ; }") [] (codes "rd h 2\n")
+  pub declared_after : Comes (codes "f() { h;\nextrn h; ; }") [] (codes "rd h 2\n")
   pub label_twice : Comes (codes "f() { L:\nL: ; }") [] (codes "rd L 2\n")
   pub undefined_last : Comes (codes "f() { L: ; L: ; goto M; }") [] (codes "rd L 1\n")
   pub undefined_before : Comes (codes "f() { goto M; L: ; L: ; }") [] (codes "rd L 1\n")

@@ -120,7 +120,7 @@ eight (a ∷ b ∷ []) size = absurd (omega (arith, size))
 eight (a ∷ []) size = absurd (omega (arith, size))
 eight [] size = absurd (omega (arith, size))
 
--- of an array, of which the bytes behind the name are zeros
+-- of an array, of which the bytes after the name are zeros
 pub array_number : (bs : List ℕ) (n : ℕ) → length bs ≡ 8 → drop n bs ≡ replicate (8 - n) 0 → from_be_bytes w64 bs ≡ number_of_bytes 8 (take n bs)
 array_number bs n size zeros =
     eight bs size

@@ -17,17 +17,17 @@ Writes-append {a} {b} {c} {xs} {ys} h k = record {
   refusals = k.refusals ∙ h.refusals;
 }
 
-counts_behind : (a b c : Outgoing) (xs : List ℕ) (e : EndFault) → Writes a xs b → CountsFault b e c → CountsFault a e c
-counts_behind a b c xs fault.Device h k = (rw h.failures at k.0, k.1 ∙ h.refusals)
-counts_behind a b c xs fault.Memory h k = (rw h.refusals at k.0, k.1 ∙ h.failures)
+counts_after : (a b c : Outgoing) (xs : List ℕ) (e : EndFault) → Writes a xs b → CountsFault b e c → CountsFault a e c
+counts_after a b c xs fault.Device h k = (rw h.failures at k.0, k.1 ∙ h.refusals)
+counts_after a b c xs fault.Memory h k = (rw h.refusals at k.0, k.1 ∙ h.failures)
 
--- what is refused behind something that was written
-pub Refuses-behind : {a b c : Outgoing} {xs ys : List ℕ} {e : EndFault} → Writes a xs b → Refuses b ys e c → Refuses a (xs ++ ys) e c
-Refuses-behind {a} {b} {c} {xs} {ys} {e} h k = record {
+-- what is refused after something that was written
+pub Refuses-following : {a b c : Outgoing} {xs ys : List ℕ} {e : EndFault} → Writes a xs b → Refuses b ys e c → Refuses a (xs ++ ys) e c
+Refuses-following {a} {b} {c} {xs} {ys} {e} h k = record {
   count = length xs + k.count;
   within = let l = k.within in omega (arith, length-append xs ys);
   appended = rw (take-append-add xs ys k.count) (Appends-trans a.written b.written c.written xs (take k.count ys) h.appended k.appended);
-  counted = counts_behind a b c xs e h k.counted;
+  counted = counts_after a b c xs e h k.counted;
 }
 
 -- what is refused of a text is refused of a longer one
@@ -47,7 +47,7 @@ gives_err {a} {b} {xs} (Err f) e h k = rw h k
 -- a last call whose answer is returned as it is
 pub gives_last : {a b : Outgoing} {xs : List ℕ} (c : Outgoing) (ys : List ℕ) (r : Result (Unit {0}) EndFault) → Writes a xs b → PutGives b ys r c → PutGives a (xs ++ ys) r c
 gives_last c ys (Ok u) h k = Writes-append h k
-gives_last c ys (Err e) h k = Refuses-behind h k
+gives_last c ys (Err e) h k = Refuses-following h k
 
 pub gives_same : (a b : Outgoing) (r : Result (Unit {0}) EndFault) (xs ys : List ℕ) → xs ≡ ys → PutGives a xs r b → PutGives a ys r b
 gives_same a b r xs ys e h = rw e at h

@@ -46,7 +46,7 @@ pub record FailingOut : Type 0 where
 abbrev pub failing_out : FailingOut → Outgoing
 failing_out m = record { written = Some m.bytes; failures = m.failures; refusals = m.refusals }
 
--- these bytes are there behind those of before, and take their room
+-- these bytes are there after those of before, and take their room
 abbrev pub Fills : FailingOut → List ℕ → FailingOut → Type 0
 Fills old text new = (new.bytes ≡ old.bytes ++ text) × (new.room + length text ≡ old.room)
 

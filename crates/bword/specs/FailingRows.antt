@@ -15,13 +15,13 @@ calls = refl
 abbrev answer : Option ℕ × List ℕ → Result (Option ℕ) Device
 answer p = next_answer p.0 p.1
 
--- with bytes left, and behind the end
+-- with bytes left, and after the end
 answers : map answer ((Some 0, codes "ab") ∷ (Some 1, codes "ab") ∷ (None, codes "ab") ∷ []) ≡
     Err record {} ∷ Ok (Some 97) ∷ Ok (Some 97) ∷ []
 answers = refl
 
-behind_the_end : map answer ((Some 0, []) ∷ (Some 1, []) ∷ (None, []) ∷ []) ≡ Err record {} ∷ Ok None ∷ Ok None ∷ []
-behind_the_end = refl
+after_the_end : map answer ((Some 0, []) ∷ (Some 1, []) ∷ (None, []) ∷ []) ≡ Err record {} ∷ Ok None ∷ Ok None ∷ []
+after_the_end = refl
 
 abbrev failures : Option ℕ → ℕ
 failures until = (failing_in (record { left = []; is_over = true; until = until })).failures

@@ -9,7 +9,7 @@ words = 7 ∷ 8 ∷ 25185 ∷ 515 ∷ []
 abbrev character : ℕ × ℕ → ℕ
 character p = char_of words p.0 p.1
 
--- the low byte first, then the high one, then the next word; behind the last address comes word 0
+-- the low byte first, then the high one, then the next word; after the last address comes word 0
 characters : map character ((2, 0) ∷ (2, 1) ∷ (2, 2) ∷ (2, 3) ∷ (0, 4) ∷ (65535, 2) ∷ []) ≡
     97 ∷ 98 ∷ 3 ∷ 2 ∷ 97 ∷ 7 ∷ []
 characters = refl
@@ -21,8 +21,8 @@ low_byte = refl
 high_byte : with_char words 2 1 321 ≡ 7 ∷ 8 ∷ 16737 ∷ 515 ∷ []
 high_byte = refl
 
-behind_the_last_word : with_char words 65535 3 321 ≡ 16647 ∷ 8 ∷ 25185 ∷ 515 ∷ []
-behind_the_last_word = refl
+after_the_last_word : with_char words 65535 3 321 ≡ 16647 ∷ 8 ∷ 25185 ∷ 515 ∷ []
+after_the_last_word = refl
 
 -- an index is unsigned
 abbrev address : ℕ × ℕ → ℕ

@@ -125,7 +125,7 @@ abbrev pub is_name : List ℕ → Bool
 is_name [] = false
 is_name (b ∷ bs) = is_name_start b && (nat_le (length bs) 7 && list_all is_name_byte bs)
 
--- the number of n bytes, the first of which counts most; those behind the last are zeros
+-- the number of n bytes, the first of which counts most; those after the last are zeros
 abbrev pub number_of_bytes : ℕ → List ℕ → ℕ
 number_of_bytes zero bs = 0
 number_of_bytes (suc n) [] = 0

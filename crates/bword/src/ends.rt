@@ -7,9 +7,9 @@ ghost use Rattle.bword.specs.ByteEnds.{most, Incoming, NextGives, GivesReady, Ta
 #[derive(Clone, Copy, PartialEq, Eq)]
 pub struct Device;
 
-/// An end that gives bytes, one a call.
+/// A stream that gives bytes, one a call.
 ///
-/// Its bytes are a finite list: each `Some` lowers a bound on those that can still come, so every loop to
+/// Its bytes are a finite list. Each `Some` lowers a bound on those that can still come, so every loop to
 /// the end returns.
 pub trait ByteIn {
     // What can be seen of the end.
@@ -21,11 +21,11 @@ pub trait ByteIn {
     // The bytes that the next calls give without failing, one a call.
     ghost ready: { Self → List ℕ } = { λ _. [] };
 
-    /// The next byte, or `None` where none is left; behind a `None` no byte comes.
+    /// The next byte, or `None` where none is left; after a `None` no byte comes.
     ///
     /// # Errors
     ///
-    /// `Device` where the end failed. No byte was taken then, and a later call may give one.
+    /// `Device` if the stream failed. No byte was taken then, and a later call may give one.
     fn next(&mut self) -> Result<Option<u8>, Device>
         ensures gives { NextGives (incoming self.old) result (incoming self.new) }
         ensures same { lender self.new ≡ lender self.old }
@@ -79,12 +79,12 @@ impl<I: ByteIn> ByteIn for &mut I {
     ghost bounded = { λ r. I.bounded r.now };
 }
 
-/// Why an end did not take all of its bytes.
+/// Why a stream did not take all bytes.
 #[derive(Clone, Copy, Debug, PartialEq, Eq)]
 pub enum EndFault {
     /// A write failed.
     Device = 1,
-    /// The end was refused memory.
+    /// The stream is out of memory.
     Memory = 2,
 }
 
@@ -92,7 +92,7 @@ const _: () = prove!(EndFault::Device as u8 == 1);
 
 const _: () = prove!(EndFault::Memory as u8 == 2);
 
-/// An end that takes bytes.
+/// A stream that takes bytes.
 pub trait ByteOut {
     // What can be seen of the end.
     ghost outgoing: { Self → Outgoing };
@@ -107,7 +107,7 @@ pub trait ByteOut {
     ///
     /// # Errors
     ///
-    /// Where the end failed or was refused memory. A beginning of the bytes, perhaps none, was written
+    /// If the stream failed or is out of memory. A beginning of the bytes, perhaps none, was written
     /// then, and a later call may succeed.
     fn put(&mut self, bytes: &[u8]) -> Result<(), EndFault>
         ensures gives { PutGives (outgoing self.old) bytes.now result (outgoing self.new) }

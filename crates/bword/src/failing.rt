@@ -7,7 +7,7 @@ use crate::{ByteIn, ByteOut, Device, EndFault, MemIn, MemOut};
 use std::alloc::Global;
 use std::marker::Model;
 
-/// An end over a slice, one of whose calls fails. All others give its bytes in turn.
+/// A stream over a slice, one of whose calls fails. All others give its bytes in turn.
 #[derive(Drop)]
 pub struct FailIn<'a> {
     bytes: MemIn<'a>,
@@ -23,7 +23,7 @@ impl<'a> Model for FailIn<'a> {
 }
 
 impl<'a> FailIn<'a> {
-    /// An end that gives all of these bytes, and of which the `k`-th call of `next` fails, counted from 0.
+    /// A stream that gives all of these bytes. Its `k`-th call of `next` fails, counted from 0.
     pub fn new(bytes: &'a [u8], k: u64) -> Self
         ensures { result ≡ record { left = bytes.now; is_over = false; until = Some k } }
     {
@@ -39,7 +39,7 @@ impl ByteIn for FailIn<'_> {
 
     ghost lender = { λ _. [] };
 
-    /// The next byte, or `None` where none is left. The call that fails may be one behind the end.
+    /// The next byte, or `None` where none is left. The call that fails may be one after the end.
     #[tactic(auto, using(crate::proofs::FailingLemmas::unfailing_answer))]
     fn next(&mut self) -> Result<Option<u8>, Device>
         ensures gives { NextGives (failing_in self.old) result (failing_in self.new) }
@@ -60,10 +60,10 @@ impl ByteIn for FailIn<'_> {
     ghost bounded = { failing_in_bounded };
 }
 
-/// An end that keeps its bytes in a list, and has room for so many.
+/// A stream that keeps its bytes in a list, and has room for so many.
 ///
 /// The first call that is given more writes those for which there is room, and fails; each later one fails, too.
-/// A call without bytes succeeds always. Where its list is refused memory, nothing of that call is kept.
+/// A call without bytes always succeeds. If there is no memory for its list, nothing of that call is kept.
 #[derive(Drop)]
 pub struct FailOut {
     bytes: MemOut,
@@ -85,7 +85,7 @@ impl Model for FailOut {
 }
 
 impl FailOut {
-    /// An end with room for `m` bytes; it takes no memory yet.
+    /// A stream with room for `m` bytes; it takes no memory yet.
     pub fn new(alloc: Global, m: u64) -> Self
         ensures { result ≡ record { bytes = []; room = m; failures = 0; refusals = 0 } }
     {

@@ -22,7 +22,7 @@ impl FlatStore {
     ///
     /// # Errors
     ///
-    /// `NoMemory` where the words were refused memory.
+    /// `NoMemory` if there is no memory for the words.
     pub fn new(alloc: Global) -> Result<FlatStore, NoMemory>
         ensures { IfOk result (λ store. flat_words store ≡ zeros) }
     {

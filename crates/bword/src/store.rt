@@ -5,7 +5,7 @@ ghost use Rattle.bword.specs.Words.{IsStore, byte_address, byte_of, char_of, wit
 /// How many words a store has.
 pub const STORE_LEN: usize = 65536;
 
-/// A store was refused memory.
+/// There is no memory for a store.
 #[derive(Clone, Copy, Debug)]
 pub struct NoMemory;
 
@@ -25,7 +25,7 @@ pub trait Store {
     ///
     /// # Errors
     ///
-    /// `NoMemory` where the store was refused memory for it. No word has changed then.
+    /// `NoMemory` if the store has no memory for it. No word has changed then.
     fn set(&mut self, a: u16, w: u16) -> Result<(), NoMemory>
         ensures stored { OnOk result (words self.new ≡ slice_set (words self.old) a w) }
         ensures unchanged { OnErr result (words self.new ≡ words self.old) }
@@ -55,7 +55,7 @@ impl<S: Store> Store for &mut S {
 
 /// The byte with index `i` of the string at `s`, as the library's `char` gives it.
 ///
-/// A string has two bytes to a word, that with the even index in the low half, and goes on at address 0 behind
+/// A string has two bytes to a word, that with the even index in the low half, and goes on at address 0 after
 /// the last word.
 #[inline]
 pub fn char_at<S: Store>(store: &S, s: u16, i: u16) -> u16
@@ -69,7 +69,7 @@ pub fn char_at<S: Store>(store: &S, s: u16, i: u16) -> u16
 ///
 /// # Errors
 ///
-/// `NoMemory` where the store was refused memory. No word has changed then.
+/// `NoMemory` if the store has no memory for it. No word has changed then.
 #[inline]
 pub fn set_char<S: Store>(store: &mut S, s: u16, i: u16, c: u16) -> Result<(), NoMemory>
     ensures stored { OnOk result (S.words store.new ≡ with_char (S.words store.old) s i c) }

@@ -1,4 +1,4 @@
-/* The digits of e behind 2., n of them, from the users' reference. */
+/* The digits of e after 2., n of them, from the users' reference. */
 main() {
     extrn putchar, n, v;
     auto i, c, col, a;

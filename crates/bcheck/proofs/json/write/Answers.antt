@@ -6,6 +6,6 @@ returns c = λ source start x.
     let told = c.args.told.now in
     let words = told.words.now in
     on_ok c.push_all.result _ _ (λ e.
-    adds_json source start told.excerpt x words.code.now words.sentence words.mend c.requires told.severity told.file.now c.as_bytes.result.now c.word.result.now c.as_bytes-2.result.now c.as_slice.result.now c.as_slice-2.result.now c.args.text.now _
+    adds_json source start told.excerpt x words.code.now words.sentence words.fix c.requires told.severity told.file.now c.as_bytes.result.now c.word.result.now c.as_bytes-2.result.now c.as_slice.result.now c.as_slice-2.result.now c.args.text.now _
     c.as_bytes.ensures.value c.word.ensures c.as_bytes-2.ensures.value c.as_slice.ensures c.as_slice-2.ensures e)
     c.push_all.ensures

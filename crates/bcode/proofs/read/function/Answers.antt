@@ -8,7 +8,7 @@ use Rattle.bcode.specs.Stopping.{target, string, instruction}
 use Rattle.blang.specs.Text.{target_line, string_line, instr_line}
 use Rattle.blang.specs.declared.code.Instr.{Instr}
 use Rattle.bcode.specs.declared.header.Header.TheVariants as header
-use Rattle.bcode.proofs.BodyLaws.{ends_among, ends_among_last, ends_behind, body_exit, three_passed}
+use Rattle.bcode.proofs.BodyLaws.{ends_among, ends_among_last, ends_after, body_exit, three_passed}
 use Rattle.bcode.proofs.CodeLaws.{of_target, of_string, of_instr, same_sizes, function_within}
 use Rattle.bcode.proofs.read.function.Goals as goal
 
@@ -25,7 +25,7 @@ returns-in_err-strings g c =
     let s = c.args.sizes in
     let t = subst (λ (b : ℕ). ReadsLines target_line (λ n. n < b) s.labels (g.L.LineSource.ahead c.args.lines.now) c.in_ok-targets.targets.items (g.L.LineSource.ahead c.numbers.new.lines)) c.from.ensures c.in_ok-targets.ensures in
     body_exit _ _ _ _ _ c.from_residual-in_err-strings.ensures.1
-    (ends_behind target_line (λ n. n < s.code) (target s.code) (of_target s.code) _ s.labels (replicate s.strings string ++ replicate s.code (instruction s)) _ t
+    (ends_after target_line (λ n. n < s.code) (target s.code) (of_target s.code) _ s.labels (replicate s.strings string ++ replicate s.code (instruction s)) _ t
     (ends_among string_line IsWord string of_string (λ l x. x) (λ (v : Vec ℕ Global). v.items) _ _ s.strings (replicate s.code (instruction s)) _ c.in_err-strings.ensures))
 
 pub returns-in_err-code : goal.returns-in_err-code
@@ -33,8 +33,8 @@ returns-in_err-code g c =
     let s = c.args.sizes in
     let t = subst (λ (b : ℕ). ReadsLines target_line (λ n. n < b) s.labels (g.L.LineSource.ahead c.args.lines.now) c.in_ok-targets.targets.items (g.L.LineSource.ahead c.numbers.new.lines)) c.from.ensures c.in_ok-targets.ensures in
     body_exit _ _ _ _ _ c.from_residual-in_err-code.ensures.1
-    (ends_behind target_line (λ n. n < s.code) (target s.code) (of_target s.code) _ s.labels (replicate s.strings string ++ replicate s.code (instruction s)) _ t
-    (ends_behind string_line IsWord string of_string _ s.strings (replicate s.code (instruction s)) _ c.in_ok-strings.ensures
+    (ends_after target_line (λ n. n < s.code) (target s.code) (of_target s.code) _ s.labels (replicate s.strings string ++ replicate s.code (instruction s)) _ t
+    (ends_after string_line IsWord string of_string _ s.strings (replicate s.code (instruction s)) _ c.in_ok-strings.ensures
     (ends_among_last instr_line (IsInstrWithin s) (instruction s) (of_instr s) (λ l x. x) (λ (v : Vec Instr Global). v.items) _ _ s.code _ c.in_err-code.ensures)))
 
 pub from_parts-requires : goal.from_parts-requires

@@ -4,7 +4,7 @@ use Rattle.blang.specs.CodeParts.{IsWord, IsIvalWithin}
 use Rattle.bcode.specs.Stopping.{value, string}
 use Rattle.blang.specs.Text.{string_line, ival_line}
 use Rattle.blang.specs.declared.code.Ival.{Ival}
-use Rattle.bcode.proofs.BodyLaws.{ends_among, ends_among_last, ends_behind, body_exit, two_passed}
+use Rattle.bcode.proofs.BodyLaws.{ends_among, ends_among_last, ends_after, body_exit, two_passed}
 use Rattle.bcode.proofs.CodeLaws.{of_value, of_string, vector_within}
 use Rattle.bcode.proofs.read.vector.Goals as goal
 
@@ -18,7 +18,7 @@ pub returns-in_err-strings : goal.returns-in_err-strings
 returns-in_err-strings g c =
     let k = c.args.strings in
     body_exit _ _ _ _ _ c.from_residual-in_err-strings.ensures.1
-    (ends_behind ival_line (IsIvalWithin k) (value k) (of_value k) _ c.args.count (replicate k string) _ c.in_ok-values.ensures
+    (ends_after ival_line (IsIvalWithin k) (value k) (of_value k) _ c.args.count (replicate k string) _ c.in_ok-values.ensures
     (ends_among_last string_line IsWord string of_string (λ l x. x) (λ (v : Vec ℕ Global). v.items) _ _ k _ c.in_err-strings.ensures))
 
 pub from_parts-requires : goal.from_parts-requires

@@ -1,15 +1,15 @@
 use Rattle.std.proofs.Common.{[]}
 use Rattle.blex.proofs.ByteSteps.{on_err}
 use Rattle.blex.proofs.Passing.{Breaks-after}
-use Rattle.blex.proofs.CommentSteps.{piece_behind}
-use Rattle.blex.proofs.FixedSteps.{begins_behind, two_seen, one_seen}
+use Rattle.blex.proofs.CommentSteps.{piece_after}
+use Rattle.blex.proofs.FixedSteps.{begins_after, two_seen, one_seen}
 use Rattle.blex.proofs.operators.longest.Goals as goal
 
 pub longest_of_three-requires : goal.longest_of_three-requires
-longest_of_three-requires g c = begins_behind c.in_ok-second.ensures.ok.0 c.requires
+longest_of_three-requires g c = begins_after c.in_ok-second.ensures.ok.0 c.requires
 
 pub returns-then-can_be_three-clause-ok : goal.returns-then-can_be_three-clause-ok
-returns-then-can_be_three-clause-ok g c = λ characters. piece_behind c.in_ok-second.ensures.ok.0 (c.in_ok-longest_of_three.ensures.ok characters)
+returns-then-can_be_three-clause-ok g c = λ characters. piece_after c.in_ok-second.ensures.ok.0 (c.in_ok-longest_of_three.ensures.ok characters)
 
 pub returns-in_err-longest_of_three-clause-err : goal.returns-in_err-longest_of_three-clause-err
 returns-in_err-longest_of_three-clause-err g c = on_err _ (Breaks-after c.in_ok-second.ensures.ok.0 c.in_err-longest_of_three.ensures.err)

@@ -5,7 +5,7 @@ use Rattle.std.specs.Prelude.{is_none, is_some, option_map}
 use Rattle.std.specs.Bool.{OnTrue}
 use Rattle.blang.specs.declared.run.LoadFault.TheVariants as fault
 use Rattle.bword.specs.Words.{same_name}
-use Rattle.blang.specs.Layout.{shape_of, address_in, data_end, duplicate_behind, defined_names}
+use Rattle.blang.specs.Layout.{shape_of, address_in, data_end, duplicate_after, defined_names}
 use Rattle.bmach.proofs.Lookups.{address_in-push}
 use Rattle.bmach.proofs.Spots.{wrapped, wrapped-push, data_end-push}
 use Rattle.bmach.proofs.Naming.{shapes_more, shapes_split, new_name, old_name, all_known}
@@ -39,7 +39,7 @@ loop-definition-preserved c =
     let fresh : address_in (wrapped before) c.name_of-name.result ≡ None =
     sym (known c.name_of-name.result) ∙ none_at _ (sym c.in_ok-is_new.ensures.new ∙ c.if-not-is_new.false) in
     record {
-      no_duplicate = ap (λ shapes. duplicate_behind [] (defined_names shapes)) more
+      no_duplicate = ap (λ shapes. duplicate_after [] (defined_names shapes)) more
           ∙ new_name before (shape_of d) c.loop-definition.invariant.no_duplicate (ap (address_in (wrapped before)) (sym named) ∙ fresh);
       known = λ x.
           at_true c.in_ok-is_new.is_new c.if-not-is_new.false c.in_ok-is_new.ensures.known x
@@ -66,9 +66,9 @@ returns-then-not-is_new c =
     ap (λ x. is_some (address_in (wrapped before) x)) (sym c.name_of-name.ensures)
     ∙ ap is_some (sym (c.loop-definition.invariant.known c.name_of-name.result))
     ∙ some_at _ (sym c.in_ok-is_new.ensures.new ∙ c.if-not-is_new.true) in
-    ap (λ o. option_map fault.Duplicate o) (ap (λ shapes. duplicate_behind [] (defined_names shapes)) (shapes_split ds i d (omega arith) c.definition-item.is) ∙ old_name before (shape_of d) (map shape_of (drop (suc i) ds)) c.loop-definition.invariant.no_duplicate found ∙ ap Some (sym c.name_of-name.ensures))
+    ap (λ o. option_map fault.Duplicate o) (ap (λ shapes. duplicate_after [] (defined_names shapes)) (shapes_split ds i d (omega arith) c.definition-item.is) ∙ old_name before (shape_of d) (map shape_of (drop (suc i) ds)) c.loop-definition.invariant.no_duplicate found ∙ ap Some (sym c.name_of-name.ensures))
 
 pub returns : goal.returns
 returns c =
     let all : take c.loop-definition.definition-index c.args.definitions.now ≡ c.args.definitions.now = take_all _ _ c.loop-definition-test.false in
-    (ap (λ ds. duplicate_behind [] (defined_names (map shape_of ds))) (sym all) ∙ c.loop-definition.invariant.no_duplicate, λ fits x. all_known _ c.loop-definition.addresses x fits (c.loop-definition.invariant.known x ∙ ap (λ ds. address_in (wrapped (map shape_of ds)) x) all))
+    (ap (λ ds. duplicate_after [] (defined_names (map shape_of ds))) (sym all) ∙ c.loop-definition.invariant.no_duplicate, λ fits x. all_known _ c.loop-definition.addresses x fits (c.loop-definition.invariant.known x ∙ ap (λ ds. address_in (wrapped (map shape_of ds)) x) all))

@@ -1,5 +1,5 @@
-use Rattle.std.proofs.Common.{refl}
-use Rattle.blang.specs.Machine.{with_operand, NoneFailed}
+use Rattle.std.proofs.Common.{inl, refl}
+use Rattle.blang.specs.Machine.{with_operand}
 use Rattle.bmach.specs.Steps.{machine_call}
 use Rattle.bmach.specs.Turns.{running}
 use Rattle.bmach.proofs.Turning.{goes_fails, goes_on}
@@ -9,4 +9,4 @@ pub returns-in-Err-clause-gives : goal.returns-in-Err-clause-gives
 returns-in-Err-clause-gives c below store i o =
     let call = with_operand (machine_call c.args.call.now) c.args.word in
     let now = running call below store in
-    goes_fails call below store now (NoneFailed i i o o) (goes_on now now i o (λ left before. refl)) (refl, refl)
+    inl (goes_fails call below store now (goes_on now now i o (λ left before. refl)))

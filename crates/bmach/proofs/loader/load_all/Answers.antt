@@ -8,7 +8,7 @@ use Rattle.blang.specs.Layout.{data_end, label_count, labels_in, names_in, shape
 use Rattle.bmach.specs.Loading.{Part, IsFault, first_part, fits_store, known_in, undefined_fault, with_definition}
 use Rattle.bmach.specs.Images.{loaded_of}
 use Rattle.bmach.proofs.Fitting.{one_more_fits}
-use Rattle.bmach.proofs.Undefined.{defined_behind, undefined_behind}
+use Rattle.bmach.proofs.Undefined.{defined_after, undefined_after}
 use Rattle.bmach.proofs.Whole.{loaded_all, length-words, length-functions, functions_within}
 use Rattle.bmach.proofs.loader.load_all.Goals as goal
 
@@ -30,7 +30,7 @@ loop-definition-preserved c =
       part = c.in_ok-add.ensures.0
           ∙ ap (λ p. with_definition known p d) c.loop-definition.invariant.part
           ∙ sym (fold-append (with_definition known) first_part before (d ∷ []));
-      defined = defined_behind known names_in before d c.loop-definition.invariant.defined c.in_ok-add.ensures.1;
+      defined = defined_after known names_in before d c.loop-definition.invariant.defined c.in_ok-add.ensures.1;
       all = append_assoc before (d ∷ []) c.next.new.self.rest.items
           ∙ ap (λ es. before ++ es) (sym c.in-Some.ensures.steps.0) ∙ c.loop-definition.invariant.all;
     }
@@ -65,7 +65,7 @@ returns-in_err-add c =
     let p = err_from_is_err_and c.from_residual-in_err-add.result c.from_residual-in_err-add.ensures.1 in
     let all = ap (λ es. before ++ es) (sym c.in-Some.ensures.steps.0) ∙ c.loop-definition.invariant.all in
     rw (p.1, p.2) (subst (λ (es : List Definition). IsFault c.in_err-add.field-0.0 (undefined_fault known (flat_map names_in es))) all
-    (undefined_behind known names_in before c.in-Some.definition c.next.new.self.rest.items c.in_err-add.field-0.0 c.loop-definition.invariant.defined c.in_err-add.ensures))
+    (undefined_after known names_in before c.in-Some.definition c.next.new.self.rest.items c.in_err-add.field-0.0 c.loop-definition.invariant.defined c.in_err-add.ensures))
 
 pub returns : goal.returns
 returns c =

@@ -3,7 +3,7 @@ use Rattle.bparse.proofs.NamesSteps.{added}
 use Rattle.std.proofs.Common.{◌≡◌, ◌∙◌, sym, subst, ap, refl, Some, None}
 use Rattle.bparse.specs.Steps.{point, refused_step}
 use Rattle.bparse.specs.declared.step.Step.TheVariants as step
-use Rattle.bparse.proofs.CompilerSteps.{gives_stop, read_fails, breaks_behind, fault_stops, end_stops, end_breaks, wrote, fault_behind, no_memory, write_breaks}
+use Rattle.bparse.proofs.CompilerSteps.{gives_stop, read_fails, breaks_after, fault_stops, end_stops, end_breaks, wrote, fault_after, no_memory, write_breaks}
 use Rattle.bword.specs.ByteEnds.{Writes, Refuses}
 use Rattle.btree.specs.DefinitionReader.{definition}
 use Rattle.bexpr.specs.Parsers.{Halts}
@@ -33,13 +33,13 @@ returns-in-Err-Fault-clause-gives g c =
 pub returns-in-Err-Device-clause-gives : goal.returns-in-Err-Device-clause-gives
 returns-in-Err-Device-clause-gives g c =
     let broken = subst (λ h. Halts definition c.look.new.self h c.definition.new.parser.tokens) c.in-Err-Device.field-0-is c.in-Err-Device.ensures in
-    read_fails c.args.parser.now.tokens c.definition.new.parser.tokens (keys_of c.args.names.now) (keys_of c.args.names.now) _ (breaks_behind c.in_ok-look.ensures.ok.moves broken)
+    read_fails c.args.parser.now.tokens c.definition.new.parser.tokens (keys_of c.args.names.now) (keys_of c.args.names.now) _ (breaks_after c.in_ok-look.ensures.ok.moves broken)
 
 pub returns-in-Some-clause-gives : goal.returns-in-Some-clause-gives
 returns-in-Some-clause-gives g c =
     let t = c.in-Ok.ensures in
     let d = drafted (keys_of c.args.names.now) c.look.new.self c.definition.new.parser.tokens c.in-Ok.header c.definition.new.parser.draft t in
-    fault_behind c.args.parser.now.tokens c.look.new.self (keys_of c.args.names.now) c.in_ok-look.ensures.ok c.definition.new.parser.tokens _ t.tree c.in-Ok.header.name t.heads.name t.moves (keys_of c.args.names.now) c.in-Some.fault
+    fault_after c.args.parser.now.tokens c.look.new.self (keys_of c.args.names.now) c.in_ok-look.ensures.ok c.definition.new.parser.tokens _ t.tree c.in-Ok.header.name t.heads.name t.moves (keys_of c.args.names.now) c.in-Some.fault
     (fault_some (keys_of c.args.names.now) t.tree c.in-Ok.header c.definition.new.parser.draft d c.in-Some.fault c.fault-2.result c.fault-2.ensures c.in-Some.is) t.single
 
 pub returns-in_err-insert-clause-gives : goal.returns-in_err-insert-clause-gives

@@ -9,6 +9,6 @@ returns-clause-gives g c = record {
   edition_is = ap (λ x. x.first.edition) c.with_edition-compiler.ensures;
   source = ap (λ x. x.first.source) c.with_edition-compiler.ensures;
   code = ap (λ x. x.first.out) c.with_edition-compiler.ensures;
-  source_behind = search rules;
-  code_behind = search rules;
+  source_after = search rules;
+  code_after = search rules;
 }

@@ -18,10 +18,10 @@ pub returns-in_err-parameter : goal.returns-in_err-parameter
 returns-in_err-parameter g c = list_err _ _ _ _ _ c.from_residual-in_err-parameter.result _ _ c.in_err-parameter.field-0.0 c.from_residual-in_err-parameter.ensures.1 (some_first (λ before. name) (λ before. name_fine) (λ w d. drafts.declared w None d) is_close_paren parameters_done (λ xs d. refl) 65535 _ c.requires (sym c.is_at.ensures ∙ c.if-is_at.false) _ c.in_err-parameter.field-0.0 (c.in_err-parameter.ensures tt))
 
 pub names-init : goal.names-init
-names-init g c = let e = c.in_ok-parameter.ensures in record { list = list_begins (λ before. name) (λ before. name_fine) (λ w d. drafts.declared w None d) (e.0 tt) e.1.0 e.2; count_is = counted_one (e.0 tt).tree 65535 (λ h. cc) }
+names-init g c = let e = c.in_ok-parameter.ensures in record { list = list_begins (λ before. name) (λ before. name_fine) (λ w d. drafts.declared w None d) (e.0 tt) e.1 e.2; count_is = counted_one (e.0 tt).tree 65535 (λ h. cc) }
 
 pub names-preserved : goal.names-preserved
-names-preserved g c = let e = c.in_ok-parameter-2.ensures in record { list = list_goes (λ before. name) (λ before. name_fine) (λ w d. drafts.declared w None d) c.names.invariant.list c.in_ok-advance-2.ensures.ok (sym c.is_at-in-names.ensures ∙ c.names-test.true) (e.0 tt) e.1.0 e.2; count_is = counted_more c.names.invariant.list.items (e.0 tt).tree c.names.count c.saturating_add-count.result 65535 c.names.invariant.count_is c.saturating_add-count.ensures }
+names-preserved g c = let e = c.in_ok-parameter-2.ensures in record { list = list_goes (λ before. name) (λ before. name_fine) (λ w d. drafts.declared w None d) c.names.invariant.list c.in_ok-advance-2.ensures.ok (sym c.is_at-in-names.ensures ∙ c.names-test.true) (e.0 tt) e.1 e.2; count_is = counted_more c.names.invariant.list.items (e.0 tt).tree c.names.count c.saturating_add-count.result 65535 c.names.invariant.count_is c.saturating_add-count.ensures }
 
 pub names-smaller : goal.names-smaller
 names-smaller g c = both_fall (less c.in_ok-advance-2.ensures.ok) c.in_ok-parameter-2.ensures.2

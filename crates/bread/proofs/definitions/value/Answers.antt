@@ -6,7 +6,7 @@ use Rattle.btree.specs.Fitting.{values_words}
 use Rattle.btree.specs.DefinitionReader.{ival, ival_at}
 use Rattle.bemit.specs.Drafts.{valued, stringed, offset_of}
 use Rattle.bread.proofs.DefinitionSteps.{number_ends, name_ends, value_ends}
-use Rattle.bexpr.proofs.Moving.{halt_here}
+use Rattle.bexpr.proofs.Moving.{single_here, not_named, halt_here}
 use Rattle.bread.proofs.Takings.{constant_here, ival_none}
 use Rattle.bread.proofs.definitions.value.Goals as goal
 
@@ -21,6 +21,6 @@ returns-in-String g c = let d = c.args.parser.now.draft in let text = c.args.par
 
 pub returns-in_default : goal.returns-in_default
 returns-in_default g c = λ before.
-    halt_here {f = ival before} c.requires
+    halt_here {f = ival before} (single_here c.requires (not_named c.lexeme.result c.args.parser.now.tokens.text c.lexeme.ensures (λ x. c.in_default.not-Name x)))
     (λ u e n. ap (λ t. ival_at (values_words before) t u) (e ∙ sym c.lexeme.ensures)
     ∙ ival_none c.lexeme.result c.args.parser.now.tokens.text (λ x. c.in_default.not-Name x) (λ x. c.in_default.not-Number x) (λ x. c.in_default.not-Character x) c.in_default.not-String (values_words before) u)

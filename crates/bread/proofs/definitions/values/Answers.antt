@@ -16,10 +16,10 @@ pub returns-in_err-value : goal.returns-in_err-value
 returns-in_err-value g c = list_err _ _ _ _ _ c.from_residual-in_err-value.result _ _ c.in_err-value.field-0.0 c.from_residual-in_err-value.ensures.1 (some_first ival ival_fine (λ v d. ival_done d v) is_semicolon values_done (λ xs d. refl) 4294967295 _ c.requires (sym c.is_at.ensures ∙ c.if-is_at.false) _ c.in_err-value.field-0.0 (c.in_err-value.ensures []))
 
 pub values-init : goal.values-init
-values-init g c = let e = c.in_ok-value.ensures in record { list = list_begins ival ival_fine (λ v d. ival_done d v) (e.0 []) e.1.0 e.2; count_is = counted_one (e.0 []).tree 4294967295 (λ h. cc) }
+values-init g c = let e = c.in_ok-value.ensures in record { list = list_begins ival ival_fine (λ v d. ival_done d v) (e.0 []) e.1 e.2; count_is = counted_one (e.0 []).tree 4294967295 (λ h. cc) }
 
 pub values-preserved : goal.values-preserved
-values-preserved g c = let e = c.in_ok-value-2.ensures in record { list = list_goes ival ival_fine (λ v d. ival_done d v) c.values.invariant.list c.in_ok-advance-2.ensures.ok (sym c.is_at-in-values.ensures ∙ c.values-test.true) (e.0 c.values.invariant.list.items) e.1.0 e.2; count_is = counted_more c.values.invariant.list.items (e.0 c.values.invariant.list.items).tree c.values.count c.saturating_add-count.result 4294967295 c.values.invariant.count_is c.saturating_add-count.ensures }
+values-preserved g c = let e = c.in_ok-value-2.ensures in record { list = list_goes ival ival_fine (λ v d. ival_done d v) c.values.invariant.list c.in_ok-advance-2.ensures.ok (sym c.is_at-in-values.ensures ∙ c.values-test.true) (e.0 c.values.invariant.list.items) e.1 e.2; count_is = counted_more c.values.invariant.list.items (e.0 c.values.invariant.list.items).tree c.values.count c.saturating_add-count.result 4294967295 c.values.invariant.count_is c.saturating_add-count.ensures }
 
 pub values-smaller : goal.values-smaller
 values-smaller g c = both_fall (less c.in_ok-advance-2.ensures.ok) c.in_ok-value-2.ensures.2

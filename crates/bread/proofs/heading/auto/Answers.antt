@@ -12,10 +12,10 @@ use Rattle.bread.proofs.Lists.{list_begins, list_goes, closed_first, closed_comm
 use Rattle.bread.proofs.heading.auto.Goals as goal
 
 pub names-init : goal.names-init
-names-init g c = let e = c.in_ok-automatic.ensures in list_begins (λ before. declared) (λ before. declared_fine) (λ d b. drafts.declared d.word d.size b) (e.0 tt) e.1.0 e.2
+names-init g c = let e = c.in_ok-automatic.ensures in list_begins (λ before. declared) (λ before. declared_fine) (λ d b. drafts.declared d.word d.size b) (e.0 tt) e.1 e.2
 
 pub names-preserved : goal.names-preserved
-names-preserved g c = let e = c.in_ok-automatic-2.ensures in list_goes (λ before. declared) (λ before. declared_fine) (λ d b. drafts.declared d.word d.size b) c.names.invariant c.in_ok-advance.ensures.ok (sym c.is_at.ensures ∙ c.names-test.true) (e.0 tt) e.1.0 e.2
+names-preserved g c = let e = c.in_ok-automatic-2.ensures in list_goes (λ before. declared) (λ before. declared_fine) (λ d b. drafts.declared d.word d.size b) c.names.invariant c.in_ok-advance.ensures.ok (sym c.is_at.ensures ∙ c.names-test.true) (e.0 tt) e.1 e.2
 
 pub names-smaller : goal.names-smaller
 names-smaller g c = both_fall (less c.in_ok-advance.ensures.ok) c.in_ok-automatic-2.ensures.2

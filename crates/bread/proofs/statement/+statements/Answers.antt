@@ -10,7 +10,7 @@ use Rattle.blang.specs.declared.code.Instr.TheVariants as instr
 use Rattle.bemit.specs.Drafts.{filled}
 use Rattle.bemit.specs.Effects.{evaluated, done}
 use Rattle.bread.specs.Headings.{unheaded}
-use Rattle.bread.specs.Statements.{behind_current, conditional_behind, repeated}
+use Rattle.bread.specs.Statements.{after_current, conditional_after, repeated}
 use Rattle.bread.proofs.Steps.{compiles_err}
 use Rattle.bread.proofs.Takings.{less, both_fall, falls_before}
 use Rattle.bread.proofs.StatementSteps.{compiles_as, at_brace, empty_ends, plain_ends, at_if, at_while, at_switch, at_goto, break_ends, return_ends, other_ends, headings_begin, headings_go, headings_stop, headings_end, compound_enter, compound_ends, body_begins, body_goes, body_halts, body_ends, tested_enter, tested_halts, conditional_body, conditional_ends, repeated_body, repeated_took, otherwise_absent, otherwise_halts, otherwise_took, chooses_err, switched_enter, switched_value, switched_brace, switched_body_halts, switched_took}
@@ -38,7 +38,7 @@ pub unheaded-returns-in_default : goal.unheaded-returns-in_default
 unheaded-returns-in_default g t c = plain_ends c.args.room _ _ c.ended.result _ _ c.requires (λ e. c.in_default.not-OpenBrace (lexeme_here c.lexeme.result c.args.parser.now.tokens.text (c.lexeme.ensures ∙ e))) (λ e. c.in_default.not-Semicolon (lexeme_here c.lexeme.result c.args.parser.now.tokens.text (c.lexeme.ensures ∙ e))) (λ k e. c.in_default.not-Keyword k (lexeme_here c.lexeme.result c.args.parser.now.tokens.text (c.lexeme.ensures ∙ e))) c.ended.ensures
 
 pub keyed-returns-in-If : goal.keyed-returns-in-If
-keyed-returns-in-If g t c = compiles_as (unheaded c.args.room) (conditional_behind c.args.room) done _ _ c.conditional.result _ _ c.requires.loaded (at_if c.args.room c.args.parser.now.tokens (c.requires.keyword ∙ ap (λ k. token.Keyword k) c.in-If.is)) c.conditional.ensures
+keyed-returns-in-If g t c = compiles_as (unheaded c.args.room) (conditional_after c.args.room) done _ _ c.conditional.result _ _ c.requires.loaded (at_if c.args.room c.args.parser.now.tokens (c.requires.keyword ∙ ap (λ k. token.Keyword k) c.in-If.is)) c.conditional.ensures
 
 pub keyed-returns-in-While : goal.keyed-returns-in-While
 keyed-returns-in-While g t c = compiles_as (unheaded c.args.room) (repeated c.args.room) done _ _ c.repeated.result _ _ c.requires.loaded (at_while c.args.room c.args.parser.now.tokens (c.requires.keyword ∙ ap (λ k. token.Keyword k) c.in-While.is)) c.repeated.ensures
@@ -47,7 +47,7 @@ pub keyed-returns-in-Switch : goal.keyed-returns-in-Switch
 keyed-returns-in-Switch g t c = compiles_as (unheaded c.args.room) (switched (level c.args.room)) done _ _ c.switched.result _ _ c.requires.loaded (at_switch c.args.room c.args.parser.now.tokens (c.requires.keyword ∙ ap (λ k. token.Keyword k) c.in-Switch.is)) c.switched.ensures
 
 pub keyed-returns-in-Goto : goal.keyed-returns-in-Goto
-keyed-returns-in-Goto g t c = compiles_as (unheaded c.args.room) (behind_current (λ off. reader.ended c.args.room off Goto)) done _ _ c.goto.result _ _ c.requires.loaded (at_goto c.args.room c.args.parser.now.tokens (c.requires.keyword ∙ ap (λ k. token.Keyword k) c.in-Goto.is)) c.goto.ensures
+keyed-returns-in-Goto g t c = compiles_as (unheaded c.args.room) (after_current (λ off. reader.ended c.args.room off Goto)) done _ _ c.goto.result _ _ c.requires.loaded (at_goto c.args.room c.args.parser.now.tokens (c.requires.keyword ∙ ap (λ k. token.Keyword k) c.in-Goto.is)) c.goto.ensures
 
 pub keyed-returns-in_ok-advance-in-Return : goal.keyed-returns-in_ok-advance-in-Return
 keyed-returns-in_ok-advance-in-Return g t c = return_ends c.args.room _ _ _ c.returned.result _ _ (c.requires.keyword ∙ ap (λ k. token.Keyword k) c.in-Return.is) c.in_ok-advance-in-Return.ensures.ok c.returned.ensures
@@ -65,16 +65,16 @@ pub compound-returns : goal.compound-returns
 compound-returns g t c = compound_ends c.args.room c.in_ok-room.room _ _ _ _ c.body.result _ _ c.in_ok-room.ensures.tokens c.in_ok-room.ensures.draft c.body.ensures
 
 pub body-statements-init : goal.body-statements-init
-body-statements-init g t c = ((λ i. body_begins c.args.room i _ _ c.requires), c.requires)
+body-statements-init g t c = ((λ i. body_begins c.args.room i _ _ c.requires.0), c.requires)
 
 pub body-statements-preserved : goal.body-statements-preserved
-body-statements-preserved g t c = let b = c.statements.invariant in let e = c.in_ok-statement.ensures in ((λ i. body_goes c.args.room i _ _ _ _ (b.0 i) b.1 (sym (c.goes_on.ensures c.statements.parser.tokens.text ∙ ap (λ t. is_some (goes_on t)) c.lexeme.ensures) ∙ c.statements-test.true) _ _ (e.0 (i + body_words (b.0 i).body))), e.1.0)
+body-statements-preserved g t c = let b = c.statements.invariant in let e = c.in_ok-statement.ensures in ((λ i. body_goes c.args.room i _ _ _ _ (b.0 i) b.1.0 (sym (c.goes_on.ensures c.statements.parser.tokens.text ∙ ap (λ t. is_some (goes_on t)) c.lexeme.ensures) ∙ c.statements-test.true) _ _ (e.0 (i + body_words (b.0 i).body))), e.1)
 
 pub body-returns-in_err-statement : goal.body-returns-in_err-statement
-body-returns-in_err-statement g t c = let b = c.statements.invariant in compiles_err _ _ _ _ c.from_residual.result _ _ c.in_err-statement.field-0.0 c.from_residual.ensures.1 (λ i. body_halts c.args.room i _ _ _ _ (b.0 i) b.1 (sym (c.goes_on.ensures c.statements.parser.tokens.text ∙ ap (λ t. is_some (goes_on t)) c.lexeme.ensures) ∙ c.statements-test.true) _ c.in_err-statement.field-0.0 (c.in_err-statement.ensures (i + body_words (b.0 i).body)))
+body-returns-in_err-statement g t c = let b = c.statements.invariant in compiles_err _ _ _ _ c.from_residual.result _ _ c.in_err-statement.field-0.0 c.from_residual.ensures.1 (λ i. body_halts c.args.room i _ _ _ _ (b.0 i) b.1.0 (sym (c.goes_on.ensures c.statements.parser.tokens.text ∙ ap (λ t. is_some (goes_on t)) c.lexeme.ensures) ∙ c.statements-test.true) _ c.in_err-statement.field-0.0 (c.in_err-statement.ensures (i + body_words (b.0 i).body)))
 
 pub body-returns : goal.body-returns
-body-returns g t c = let b = c.statements.invariant in body_ends c.args.room _ _ _ _ b.0 b.1 (sym (c.goes_on.ensures c.statements.parser.tokens.text ∙ ap (λ t. is_some (goes_on t)) c.lexeme.ensures) ∙ c.statements-test.false) c.expect.result _ _ c.expect.ensures.tokens c.expect.ensures.draft
+body-returns g t c = let b = c.statements.invariant in body_ends c.args.room _ _ _ _ b.0 b.1.0 (sym (c.goes_on.ensures c.statements.parser.tokens.text ∙ ap (λ t. is_some (goes_on t)) c.lexeme.ensures) ∙ c.statements-test.false) c.expect.result _ _ c.expect.ensures.tokens c.expect.ensures.draft
 
 pub conditional-returns-in_err-room : goal.conditional-returns-in_err-room
 conditional-returns-in_err-room g t c = compiles_err _ _ _ _ c.from_residual.result _ _ c.in_err-room.field-0.0 c.from_residual.ensures.1 (λ i. tested_enter c.args.room i _ _ chosen c.in_err-room.field-0.0 c.in_err-room.ensures.tokens)

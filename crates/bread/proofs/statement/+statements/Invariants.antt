@@ -1,5 +1,5 @@
 use Rattle.std.specs.Prelude.{ℕ, ◌+◌, ◌*◌}
-use Rattle.bexpr.specs.Tokens.{work, IsLoaded}
+use Rattle.bexpr.specs.Tokens.{work, IsSingle}
 use Rattle.bread.proofs.StatementSteps.{InHeadings, InBody}
 use Rattle.bread.proofs.statement.+statements.Given as goal
 
@@ -37,7 +37,7 @@ abbrev pub decreases-statement-headings : goal.decreases-statement-headings
 decreases-statement-headings g l = work l.parser.tokens
 
 abbrev pub invariant-body-statements : goal.invariant-body-statements
-invariant-body-statements g l = ((off : ℕ) → InBody l.fn.room off l.fn.parser.draft l.fn.parser.tokens l.parser.tokens l.parser.draft) × IsLoaded l.parser.tokens
+invariant-body-statements g l = ((off : ℕ) → InBody l.fn.room off l.fn.parser.draft l.fn.parser.tokens l.parser.tokens l.parser.draft) × IsSingle l.parser.tokens
 
 abbrev pub decreases-body-statements : goal.decreases-body-statements
 decreases-body-statements g l = work l.parser.tokens

@@ -1,10 +1,10 @@
 use Rattle.std.proofs.Common.{◌∙◌, ap, sym}
 use Rattle.btree.specs.StatementReader.{name, name_at}
-use Rattle.bexpr.proofs.Moving.{halt_here}
+use Rattle.bexpr.proofs.Moving.{single_here, not_named, halt_here}
 use Rattle.bread.proofs.Takings.{name_none}
 use Rattle.bread.proofs.take.name.Goals as goal
 
 pub returns-in_default-clause-tokens : goal.returns-in_default-clause-tokens
 returns-in_default-clause-tokens g c =
-    halt_here {f = name} c.requires
+    halt_here {f = name} (single_here c.requires (not_named c.lexeme.result c.args.parser.now.tokens.text c.lexeme.ensures (λ x. c.in_default.not-Name x)))
     (λ u e n. ap (λ t. name_at t u) (e ∙ sym c.lexeme.ensures) ∙ name_none c.lexeme.result c.args.parser.now.tokens.text (λ x. c.in_default.not-Name x) u)

@@ -17,7 +17,7 @@ returns-in-Ok-clause-does g c unread =
         file = c.args.subject.file.now;
         source = c.as_slice.result.now;
         out = g.O.ByteOut.outgoing c.args.out.now;
-        out_behind = g.O.ByteOut.outgoing c.check.new.out;
+        out_after = g.O.ByteOut.outgoing c.check.new.out;
         status = c.check.result;
       })) c.form_of.ensures c.check.ensures.checks,
     )

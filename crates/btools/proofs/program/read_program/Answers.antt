@@ -15,7 +15,7 @@ returns-clause-gives g c =
     let done = compiled c.args.edition c.args.source.now _ c.new.result _ c.new-code.result c.compile_edition-status.new.code _ c.compile_edition-status.result c.new.ensures c.new-code.ensures c.compile_edition-status.ensures.compiles in
     let line = g.D.ByteOut.outgoing c.args.diag.now in
     let mid = g.D.ByteOut.outgoing c.compile_edition-status.new.diag in
-    let behind = g.D.ByteOut.outgoing c.load_program.new.diag in
-    loaded c.args.edition c.args.source.now line mid behind bytes c.load_program.result
+    let following = g.D.ByteOut.outgoing c.load_program.new.diag in
+    loaded c.args.edition c.args.source.now line mid following bytes c.load_program.result
     (subst (λ (n : ℕ). WasCompiled c.args.edition c.args.source.now line mid bytes n) c.if-status-ne-DONE.false done)
-    (subst (λ (t : List ℕ). LoadGives t mid c.load_program.result behind) c.bytes.ensures c.load_program.ensures.gives)
+    (subst (λ (t : List ℕ). LoadGives t mid c.load_program.result following) c.bytes.ensures c.load_program.ensures.gives)

@@ -43,7 +43,7 @@ returns-then-told-ne-DONE-clause-traces g c =
     let named = (sym c.which_of.ensures) ∙ c.in-Some.is in
     traced_whole c.args.edition c.args.source.now c.args.wanted.steps c.args.wanted.from _ _ c.tell-told.result (g.D.ByteOut.outgoing c.read_program.new.diag) c.in-Ok.program.definitions.items c.in-Ok.program.image (entries_of c.in-Ok-new.tables) c.in-Some.which
     c.in-Ok-begin.stepper c.in-Ok-trace_steps.outcome [] c.trace_steps.new.text c.as_slice.result.now c.new-written.result c.trace_steps.new.written c.tell-told.result c.in-Ok.ensures.gives c.in-Ok-new.ensures named c.in-Ok-begin.ensures
-    (ap outgoing_of c.new-written.ensures) gives refl (subst (λ (t : List ℕ). ShowsRows (entries_of c.in-Ok-new.tables) c.in-Some.which (steps_from c.in-Ok-begin.stepper) c.args.wanted.steps (g.I.ByteIn.incoming c.args.input.now) (g.I.ByteIn.incoming c.trace_steps.new.input) c.in-Ok-trace_steps.outcome t c.trace_steps.new.text) c.in-Ok-heading.ensures c.in-Ok-trace_steps.ensures.shows)
+    (ap outgoing_of c.new-written.ensures) gives refl (subst (λ (t : List ℕ). ShowsRows (entries_of c.in-Ok-new.tables) c.in-Ok-begin.stepper.image.functions c.in-Some.which (steps_from c.in-Ok-begin.stepper) c.args.wanted.steps (g.I.ByteIn.incoming c.args.input.now) (g.I.ByteIn.incoming c.trace_steps.new.input) c.in-Ok-trace_steps.outcome t c.trace_steps.new.text) c.in-Ok-heading.ensures c.in-Ok-trace_steps.ensures.shows)
     c.as_slice.ensures c.tell-told.ensures.told (inr (c.if-told-ne-DONE.true, refl, refl))
 
 pub returns-clause-traces : goal.returns-clause-traces
@@ -52,5 +52,5 @@ returns-clause-traces g c =
     let named = (sym c.which_of.ensures) ∙ c.in-Some.is in
     traced_whole c.args.edition c.args.source.now c.args.wanted.steps c.args.wanted.from _ _ c.finish-2.result (g.D.ByteOut.outgoing c.read_program.new.diag) c.in-Ok.program.definitions.items c.in-Ok.program.image (entries_of c.in-Ok-new.tables) c.in-Some.which
     c.in-Ok-begin.stepper c.in-Ok-trace_steps.outcome [] c.trace_steps.new.text c.as_slice.result.now c.new-written.result c.trace_steps.new.written c.tell-told.result c.in-Ok.ensures.gives c.in-Ok-new.ensures named c.in-Ok-begin.ensures
-    (ap outgoing_of c.new-written.ensures) gives refl (subst (λ (t : List ℕ). ShowsRows (entries_of c.in-Ok-new.tables) c.in-Some.which (steps_from c.in-Ok-begin.stepper) c.args.wanted.steps (g.I.ByteIn.incoming c.args.input.now) (g.I.ByteIn.incoming c.trace_steps.new.input) c.in-Ok-trace_steps.outcome t c.trace_steps.new.text) c.in-Ok-heading.ensures c.in-Ok-trace_steps.ensures.shows)
+    (ap outgoing_of c.new-written.ensures) gives refl (subst (λ (t : List ℕ). ShowsRows (entries_of c.in-Ok-new.tables) c.in-Ok-begin.stepper.image.functions c.in-Some.which (steps_from c.in-Ok-begin.stepper) c.args.wanted.steps (g.I.ByteIn.incoming c.args.input.now) (g.I.ByteIn.incoming c.trace_steps.new.input) c.in-Ok-trace_steps.outcome t c.trace_steps.new.text) c.in-Ok-heading.ensures c.in-Ok-trace_steps.ensures.shows)
     c.as_slice.ensures c.tell-told.ensures.told (inl (c.if-told-ne-DONE.false, c.finish-2.ensures.gives))

@@ -69,6 +69,6 @@ pub returns-clause-shows : goal.returns-clause-shows
 returns-clause-shows g c =
     let all : c.loop-made.made ≡ c.args.steps = omega (arith, c.loop-made-test.false, c.loop-made.auto.made-end) in
     let end = rw c.top.ensures at c.in_ok-push_end.ensures in
-    subst (λ (n : ℕ). ShowsRows (entries_of c.args.tables.now) c.args.which (steps_from c.args.stepper) n (g.I.ByteIn.incoming c.args.input.now) (g.I.ByteIn.incoming c.loop-made.input) outcome.Limit c.args.text.now c.push_end-2.new.text) all
+    subst (λ (n : ℕ). ShowsRows (entries_of c.args.tables.now) c.args.stepper.image.functions c.args.which (steps_from c.args.stepper) n (g.I.ByteIn.incoming c.args.input.now) (g.I.ByteIn.incoming c.loop-made.input) outcome.Limit c.args.text.now c.push_end-2.new.text) all
     (all_show (entries_of c.args.tables.now) c.args.which c.args.stepper c.loop-made.stepper c.loop-made.made (g.I.ByteIn.incoming c.args.input.now) (g.I.ByteIn.incoming c.loop-made.input) c.args.written.now c.loop-made.written c.args.text.now c.loop-made.text c.push_end-2.new.text
     c.loop-made.invariant.0 end)

@@ -3,6 +3,8 @@ use Rattle.std.proofs.lemmas.Bool.Decides.{Decides-eqb}
 use Rattle.std.proofs.lemmas.Slice.Eq.{strip_prefix_is}
 use Rattle.blang.specs.Text.{edition_line}
 use Rattle.bcode.proofs.AheadLaws.{passes_text, no_opening}
+use Rattle.bcode.proofs.ShapeLaws.{edition_line-shape}
+use Rattle.bcode.proofs.StreamLaws.{shape_whole}
 use Rattle.bcode.proofs.ahead.Ahead.edition.Goals as goal
 
 pub returns-in_default : goal.returns-in_default
@@ -20,4 +22,4 @@ pub returns : goal.returns
 returns c =
     let stripped = strip_prefix_is Decides-eqb c.self.inside.text.now edition_line c.strip_prefix.result c.strip_prefix.ensures.cases in
     let spelled : c.self.inside.text.now ≡ edition_line ++ c.in-Some.rest.now = rw c.in-Some.is at stripped in
-    rw (c.advance.ensures, ← c.self.view_is) (passes_text _ _ _ _ spelled)
+    rw (c.advance.ensures, ← c.self.view_is) (passes_text _ _ _ _ (shape_whole edition_line-shape) spelled)

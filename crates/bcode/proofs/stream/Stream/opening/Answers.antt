@@ -9,7 +9,7 @@ returns-in_err-read_line g c =
 pub returns-then-not-starts_with : goal.returns-then-not-starts_with
 returns-then-not-starts_with g c =
     let none = opening-none c.read_line.new.line.items _ (rw c.as_slice.ensures.value at c.starts_with.ensures.value) c.if-not-starts_with.true in
-    rw (← c.self.view_is) (stream_refuses opening-exact opening-shape _ c.in_ok-read_line.ensures.gives c.in_ok-read_line.ensures.same none)
+    rw (← c.self.view_is) (stream_refuses opening-exact opening-shape _ c.in_ok-read_line.ensures.gives c.in_ok-read_line.ensures.same c.in_ok-read_line.ensures.few none)
 
 pub invariant_of-self-2 : goal.invariant_of-self-2
 invariant_of-self-2 g c =

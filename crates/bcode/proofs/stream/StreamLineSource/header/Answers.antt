@@ -9,7 +9,7 @@ returns-in_err-read_line g c =
     rw (← c.self.view_is) (stream_breaks header_text-shape _ c.in_err-read_line.ensures.gives c.in_err-read_line.ensures.same _ c.from_residual.ensures.1)
 
 pub returns-in_default : goal.returns-in_default
-returns-in_default g c = rw (← c.self.view_is) (stream_refuses header_at-exact header_text-shape _ c.in_ok-read_line.ensures.gives c.in_ok-read_line.ensures.same (rw c.as_slice.ensures.value at c.in_default.ensures))
+returns-in_default g c = rw (← c.self.view_is) (stream_refuses header_at-exact header_text-shape _ c.in_ok-read_line.ensures.gives c.in_ok-read_line.ensures.same c.in_ok-read_line.ensures.few (rw c.as_slice.ensures.value at c.in_default.ensures))
 
 pub invariant_of-self-2 : goal.invariant_of-self-2
 invariant_of-self-2 g c =

@@ -81,7 +81,7 @@ pub conditional-returns-in_err-form-2 : goal.conditional-returns-in_err-form-2
 conditional-returns-in_err-form-2 g t c = continues_err (conditional (inner c.args.room)) false false c.args.form c.args.self.now.tokens c.conditional.new.self.tokens c.args.self.now.draft c.conditional.new.self.draft c.from_residual-in_err-form-2.result c.in_err-form-2.field-0.0 c.from_residual-in_err-form-2.ensures.1 (rest_stops c.args.room c.in_ok-room.room c.args.self.now.tokens c.enter.new.self.tokens c.in_ok-room.ensures.tokens (sym c.if-not-is_at.ensures) c.evaluate.new.self.tokens c.emit.new.self c.evaluate.new.self.draft c.in_ok-evaluate.ensures.0 c.expect.new.self.tokens c.in_ok-expect.ensures.tokens.0 c.chain.new.self.tokens c.fill.new.self c.chain.new.self.draft c.in_ok-form.form c.in_ok-form.ensures.0 c.conditional.new.self.tokens c.in_err-form-2.field-0.0 c.in_err-form-2.ensures)
 
 pub conditional-returns : goal.conditional-returns
-conditional-returns g t c = conditional_took c.args.room c.in_ok-room.room c.args.self.now.tokens c.enter.new.self.tokens c.in_ok-room.ensures.tokens (sym c.if-not-is_at.ensures) c.evaluate.new.self.tokens c.emit.new.self c.evaluate.new.self.draft c.in_ok-evaluate.ensures.0 c.expect.new.self.tokens c.in_ok-expect.ensures.tokens.0 c.chain.new.self.tokens c.fill.new.self c.chain.new.self.draft c.in_ok-form.form c.in_ok-form.ensures.0 c.conditional.new.self.tokens c.args.self.now.draft c.load.new.draft c.enter.new.self.draft c.expect.new.self.draft c.emit-2.new.self c.conditional.new.self.draft c.load-2.new.draft c.fill-2.new.self c.args.form c.in_ok-form-2.form c.place-test.result c.place-end.result c.place-second.result c.place-behind.result c.in_ok-form-2.ensures c.load.ensures c.in_ok-room.ensures.draft c.place-test.ensures c.emit.ensures c.in_ok-expect.ensures.draft c.place-end.ensures c.emit-2.ensures c.place-second.ensures c.fill.ensures c.load-2.ensures c.place-behind.ensures c.fill-2.ensures
+conditional-returns g t c = conditional_took c.args.room c.in_ok-room.room c.args.self.now.tokens c.enter.new.self.tokens c.in_ok-room.ensures.tokens (sym c.if-not-is_at.ensures) c.evaluate.new.self.tokens c.emit.new.self c.evaluate.new.self.draft c.in_ok-evaluate.ensures.0 c.expect.new.self.tokens c.in_ok-expect.ensures.tokens.0 c.chain.new.self.tokens c.fill.new.self c.chain.new.self.draft c.in_ok-form.form c.in_ok-form.ensures.0 c.conditional.new.self.tokens c.args.self.now.draft c.load.new.draft c.enter.new.self.draft c.expect.new.self.draft c.emit-2.new.self c.conditional.new.self.draft c.load-2.new.draft c.fill-2.new.self c.args.form c.in_ok-form-2.form c.place-test.result c.place-end.result c.place-second.result c.place-following.result c.in_ok-form-2.ensures c.load.ensures c.in_ok-room.ensures.draft c.place-test.ensures c.emit.ensures c.in_ok-expect.ensures.draft c.place-end.ensures c.emit-2.ensures c.place-second.ensures c.fill.ensures c.load-2.ensures c.place-following.ensures c.fill-2.ensures
 
 pub evaluate-returns : goal.evaluate-returns
 evaluate-returns g t c = evaluate_took c.args.room c.args.self.now.tokens c.rvalue.new.self.tokens c.args.self.now.draft c.rvalue.new.self.draft c.load.new.draft c.in_ok-form.form c.in_ok-form.ensures c.load.ensures

@@ -1,7 +1,7 @@
 use Rattle.std.proofs.Common.{◌∙◌, ap, sym}
 use Rattle.btree.specs.ExpressionReader.{inner, primary, primary_at}
 use Rattle.btree.specs.StatementReader.{is_open_paren}
-use Rattle.bexpr.proofs.Moving.{halt_here}
+use Rattle.bexpr.proofs.Moving.{single_here, not_named, halt_here}
 use Rattle.blex.proofs.LexemeSteps.{token_here}
 use Rattle.bexpr.proofs.Steps.{primary_none, number_took, character_took, text_took}
 use Rattle.bexpr.proofs.parser.Parser.atom.Goals as goal
@@ -17,6 +17,6 @@ returns-in-String g c = text_took c.args.self.now.tokens c.take-in-String.new.se
 
 pub returns-in_default : goal.returns-in_default
 returns-in_default g c = λ room offset.
-    halt_here {f = primary (inner room) offset} c.requires.loaded
+    halt_here {f = primary (inner room) offset} (single_here c.requires.loaded (not_named c.lexeme.result c.args.self.now.tokens.text c.lexeme.ensures (λ x. c.in_default.not-Name x)))
     (λ u e n. ap (λ t. primary_at (inner room) offset t u) (e ∙ sym c.lexeme.ensures)
     ∙ primary_none c.lexeme.result c.args.self.now.tokens.text (λ x. c.in_default.not-Name x) (λ x. c.in_default.not-Number x) (λ x. c.in_default.not-Character x) c.in_default.not-String (ap is_open_paren c.lexeme.ensures ∙ c.requires.no_group) (inner room) offset u)

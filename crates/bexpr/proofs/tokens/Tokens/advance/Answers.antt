@@ -9,17 +9,17 @@ returns-then-is_some-clause-ok g c =
     let lexer = c.self.inside.lexer in
     let text = lexer.characters in
     let current = token_seen text c.self.inside.current in
-    let behind = token_seen text c.self.inside.behind in
+    let following = token_seen text c.self.inside.following in
     let taken = ap (token_seen text) c.take-self-inside.ensures.value in
     let none = seen_none text _ c.take-self-inside.ensures.after in
-    let ready = advance_ready c.args.self.now lexer current behind c.self.view_is c.self.invariant.near c.requires.loaded c.requires.goes_on _ _ taken none in
+    let ready = advance_ready c.args.self.now lexer current following c.self.view_is c.self.invariant.near c.requires.loaded c.requires.goes_on _ _ taken none in
     let some : is_some c.take-self-inside.result ≡ true = ap is_some c.take-self-inside.ensures.value ∙ sym c.if-is_some.ensures in
-    advanced c.args.self.now lexer current behind c.self.view_is c.self.invariant.near c.requires.loaded c.requires.goes_on _ _ _ taken none
-    (looked_already _ lexer (token_seen text c.take-self-inside.result) (token_seen text c.take-self-inside.new.self) refl c.self.invariant.near ready (seen_is text c.take-self-inside.result true some))
+    advanced c.args.self.now lexer current following c.self.view_is c.self.invariant.near c.requires.loaded c.requires.goes_on _ _ _ taken none
+    (looked_already _ lexer (token_seen text c.take-self-inside.result) (token_seen text c.take-self-inside.new.self) refl c.self.invariant.near ready (seen_is text c.take-self-inside.result true some) (λ e. none))
 
 pub returns-clause-ok : goal.returns-clause-ok
 returns-clause-ok g c =
     let lexer = c.self.inside.lexer in
     let text = lexer.characters in
-    let none = seen_none text c.self.inside.behind (none_is c.self.inside.behind (sym c.if-is_some.ensures)) in
-    advanced_ok c.args.self.now lexer (token_seen text c.self.inside.current) (token_seen text c.self.inside.behind) c.self.view_is c.self.invariant.near c.requires.loaded c.requires.goes_on _ _ c.look.new.self (sym none) none c.look.result c.look.ensures.ok
+    let none = seen_none text c.self.inside.following (none_is c.self.inside.following (sym c.if-is_some.ensures)) in
+    advanced_ok c.args.self.now lexer (token_seen text c.self.inside.current) (token_seen text c.self.inside.following) c.self.view_is c.self.invariant.near c.requires.loaded c.requires.goes_on _ _ c.look.new.self (sym none) none c.look.result c.look.ensures.ok

@@ -12,4 +12,4 @@ returns g c =
     let none : c.self.inside.first ≡ None = none_of _ (sym c.if-is_some.ensures) in
     let n = c.before_star-count.ensures in
     rw (← c.self.view_is)
-    (block_passes is_no_star _ _ _ _ _ _ _ _ _ _ _ none (c.self.invariant none) c.ahead-block.ensures n.within c.take.ensures.takes c.take.ensures.same c.line_after-self-inside.ensures n.none)
+    (block_passes is_no_star _ _ _ _ _ _ _ _ _ _ _ none (c.self.invariant none) c.ahead-block.ensures n.within c.take.ensures.takes c.take.ensures.same c.line_number_after-self-inside.ensures n.none)

@@ -7,7 +7,7 @@ use Rattle.bmach.specs.Parts.{AddsDefinition}
 use Rattle.blang.specs.Layout.{first_undefined, name_in_value, value_word, padded}
 use Rattle.bmach.specs.Loading.{known_in}
 use Rattle.bmach.specs.Images.{loaded_of}
-use Rattle.bmach.proofs.Padding.{padded_behind}
+use Rattle.bmach.proofs.Padding.{padded_after}
 use Rattle.bmach.proofs.part.Part.add_simple.Goals as goal
 
 pub returns : goal.returns
@@ -26,7 +26,7 @@ returns c =
     let filled : c.resize.new.self.items ≡ old ++ padded 1 values =
     c.in_ok-resize.ensures.items
     ∙ ap (λ ws. take (c.len.result + c.max.result) ws ++ replicate ((c.len.result + c.max.result) - vec_len c.push_values.new.words) 0) pushed
-    ∙ padded_behind old values 1 (c.len.result + c.max.result) (vec_len c.push_values.new.words) (end ∙ ap (λ n. length old + max 1 n) (sym (length-map p.values.items _))) count in
+    ∙ padded_after old values 1 (c.len.result + c.max.result) (vec_len c.push_values.new.words) (end ∙ ap (λ n. length old + max 1 n) (sym (length-map p.values.items _))) count in
     let words : c.extend_from_slice.new.self.items ≡ old ++ (padded 1 values ++ p.strings.items) =
     c.in_ok-extend_from_slice.ensures.items
     ∙ ap (λ ws. ws ++ c.deref-2.result.now) filled

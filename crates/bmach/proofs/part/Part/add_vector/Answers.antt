@@ -7,7 +7,7 @@ use Rattle.bmach.specs.Parts.{AddsDefinition}
 use Rattle.blang.specs.Layout.{first_undefined, name_in_value, value_word, padded}
 use Rattle.bmach.specs.Loading.{known_in}
 use Rattle.bmach.specs.Images.{loaded_of}
-use Rattle.bmach.proofs.Padding.{padded_behind}
+use Rattle.bmach.proofs.Padding.{padded_after}
 use Rattle.bmach.proofs.part.Part.add_vector.Goals as goal
 
 pub returns : goal.returns
@@ -31,7 +31,7 @@ returns c =
     let filled : c.resize.new.self.items ≡ own ++ padded p.words values =
     c.in_ok-resize.ensures.items
     ∙ ap (λ ws. take end ws ++ replicate (end - vec_len c.push_values.new.words) 0) pushed
-    ∙ padded_behind own values p.words end (vec_len c.push_values.new.words) (omega (arith, is_end, long, length-append old ((length old + 1) ∷ []))) count in
+    ∙ padded_after own values p.words end (vec_len c.push_values.new.words) (omega (arith, is_end, long, length-append old ((length old + 1) ∷ []))) count in
     let words : c.extend_from_slice.new.self.items ≡ old ++ ((length old + 1) ∷ (padded p.words values ++ p.strings.items)) =
     c.in_ok-extend_from_slice.ensures.items
     ∙ ap (λ ws. ws ++ c.deref-2.result.now) filled

@@ -10,7 +10,7 @@ use Rattle.blang.specs.declared.token.Token.{Token}
 use Rattle.blang.specs.declared.token.Token.TheVariants as token
 use Rattle.blang.specs.declared.token.Keyword.TheVariants as keyword
 use Rattle.blang.specs.declared.token.Letters.TheVariants as letters
-use Rattle.bexpr.specs.Tokens.{EndsWith}
+use Rattle.blang.specs.Endings.{EndsWith}
 
 -- the bytes, and all that they end with
 abbrev tails : List ℕ → List (List ℕ)
@@ -28,14 +28,14 @@ endings bytes = flat_map (λ text. token_in (whole editions.One text)) (tails by
 abbrev name : List ℕ → Token
 name text = token.Name text
 
--- The end of a source is behind all bytes. A name is no longer behind blanks or a comment: that ends with a slash.
+-- The end of a source is after all bytes. A name is no longer after blanks or a comment: that ends with a slash.
 of_a_name : map endings (codes "a;bc" ∷ codes "a;bc " ∷ codes "a;bc\n" ∷ codes "bc/* d */" ∷ [])
     ≡ (name (codes "bc") ∷ name (codes "c") ∷ token.End ∷ []) ∷ (token.End ∷ []) ∷ (token.End ∷ [])
     ∷ (token.Operator op.Div ∷ token.End ∷ []) ∷ []
 unfolding whole word_token keyword_of operator_of other_of fixed_of
 of_a_name = refl
 
--- Nor is it with the token behind, if that doesn't end so.
+-- Nor is it with the token after, if that doesn't end so.
 of_the_next : map endings (codes "bc(" ∷ codes "bc 7" ∷ codes "bc\"d\"" ∷ [])
     ≡ (token.OpenParen ∷ token.End ∷ []) ∷ (token.Number 7 ∷ token.End ∷ [])
     ∷ (string_token (codes "d") ∷ token.Bad letters.Constant ∷ token.End ∷ []) ∷ []
@@ -59,6 +59,6 @@ of_editions : map in_both (codes "break" ∷ codes "case" ∷ codes "brea" ∷ [
 unfolding whole word_token keyword_of
 of_editions = refl
 
-a_name_ends : EndsWith (name (codes "bc")) (codes "a; bc")
+a_name_ends : EndsWith editions.One (name (codes "bc")) (codes "a; bc")
 unfolding whole word_token keyword_of
-a_name_ends = record { edition = editions.One; before = codes "a; "; text = codes "bc"; split = refl; is = refl }
+a_name_ends = record { before = codes "a; "; text = codes "bc"; split = refl; is = refl }

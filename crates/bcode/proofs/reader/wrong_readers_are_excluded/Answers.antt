@@ -1,0 +1,5 @@
+use Rattle.bcode.proofs.Excluded.{excluded}
+use Rattle.bcode.proofs.reader.wrong_readers_are_excluded.Goals as goal
+
+pub returns : goal.returns
+returns c = excluded
