@@ -2,7 +2,7 @@ use Rattle.std.proofs.Common.{arith}
 use Rattle.bcode.proofs.LineLaws.{instr_at-exact}
 use Rattle.bcode.proofs.ShapeLaws.{instr_line-shape}
 use Rattle.bcode.proofs.StreamLaws.{stream_reads, stream_falls, stream_refuses, stream_breaks}
-use Rattle.bcode.proofs.stream.StreamLineSource.instr.Goals as goal
+use Rattle.bcode.proofs.stream.Stream.fetch_instr.Goals as goal
 
 pub returns-in_err-read_line : goal.returns-in_err-read_line
 returns-in_err-read_line g c =

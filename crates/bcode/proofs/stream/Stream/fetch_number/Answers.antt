@@ -3,7 +3,7 @@ use Rattle.blang.specs.Text.{line}
 use Rattle.bcode.proofs.LineLaws.{number_line_at-exact}
 use Rattle.bcode.proofs.ShapeLaws.{IsLine, number_line-shape}
 use Rattle.bcode.proofs.StreamLaws.{stream_reads, stream_falls, stream_refuses, stream_breaks}
-use Rattle.bcode.proofs.stream.StreamLineSource.number.Goals as goal
+use Rattle.bcode.proofs.stream.Stream.fetch_number.Goals as goal
 
 shape : (letter below : ℕ) → letter ≢ 10 → below ≤ 2 ^ 16 → (n : ℕ) → n < below → IsLine 128 (line ((letter ∷ []) ∷ decimal n ∷ []))
 shape letter below other fits n less = number_line-shape letter n other (omega arith)
