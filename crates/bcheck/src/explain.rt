@@ -1,10 +1,9 @@
 //! What is said of a source after the line of the compiler.
 ghost use Rattle.std.specs.List.{All};
-ghost use Rattle.std.specs.Prelude.{◌≡◌, ◌≢◌, IfOk, length, vec_items};
+ghost use Rattle.std.specs.Prelude.{◌≡◌, ◌≢◌, IfOk, codes, length, vec_items};
 ghost use Rattle.blang.specs.declared.status.TheConstants.{DONE};
 ghost use Rattle.bcheck.specs.Checks.{AreFindings, EachOutcome, Judged, status_told};
-ghost use Rattle.bcheck.specs.Findings.{IsReasoned, TellsEach, TellsFault};
-ghost use Rattle.bcheck.specs.declared.advice.Matter.TheVariants as matter;
+ghost use Rattle.bcheck.specs.Findings.{IsReasoned, TellsEach, TellsFault, matter_code};
 ghost use Rattle.bcheck.specs.declared.verdict.Verdict.TheVariants as verdict;
 
 use crate::advice::Matter;
@@ -19,7 +18,7 @@ use crate::places::place_on;
 use crate::spans::{Span, place_of, spans};
 use crate::verdict::Verdict;
 use crate::words::Words;
-use crate::{json, text};
+use crate::{json, text, unknown};
 use blang::LoadFault;
 use bparse::Step;
 use btools::Text;
@@ -91,7 +90,7 @@ fn fault_of(
         match pass.next() {
             Step::Written => {}
             Step::Fault(diagnostic) => {
-                return fault_at(source, asked.edition, spans, &pass.fault(diagnostic));
+                return fault_at(alloc, source, asked.edition, spans, &pass.fault(diagnostic));
             }
             // Memory was refused: the source has a fault, and no read of memory fails.
             _ => return Err(AllocError),
@@ -101,6 +100,7 @@ fn fault_of(
 
 // What is said of this fault, on its line.
 fn fault_at(
+    alloc: Global,
     source: &[u8],
     edition: Edition,
     spans: &[Span],
@@ -108,7 +108,7 @@ fn fault_at(
 ) -> Result<Finding, AllocError>
     ensures { IfOk result (TellsFault edition source.now fault.now.diagnostic) }
 {
-    let found = faults::finding(source, spans, fault);
+    let found = faults::finding(alloc, source, spans, fault);
     // Each diagnostic has a line of the source.
     let Some(place) = place_on(source, edition, &found.place, fault.diagnostic.line) else {
         return Err(AllocError);
@@ -116,7 +116,9 @@ fn fault_at(
     Ok(Finding {
         matter: found.matter,
         name: found.name,
+        other: found.other,
         place,
+        related: found.related,
     })
 }
 
@@ -134,11 +136,7 @@ fn unloaded(
     if let LoadFault::Undefined(name) = fault {
         return undefined(alloc, source, asked, spans, *name);
     }
-    Ok(Finding {
-        matter: Matter::DataTooLarge,
-        name: None,
-        place: place_of(spans, 0),
-    })
+    Ok(Finding::new(Matter::DataTooLarge, place_of(spans, 0)))
 }
 
 // What is said of a name that nothing defines.
@@ -149,21 +147,20 @@ fn undefined(
     spans: &[Span],
     name: Name,
 ) -> Result<Finding, AllocError>
-    ensures { IfOk result (λ finding. finding.matter ≡ matter.NotDefined) }
+    ensures { IfOk result (λ finding. matter_code finding.matter ≡ codes "load 3") }
 {
     let mention = first_mention(alloc, source, asked.edition, name)?;
-    let token = match mention {
-        Some(mention) => token_named(spans, mention.extent, name, mention.line),
-        None => 0,
+    let (first, token) = match mention {
+        Some(mention) => (
+            mention.extent.first,
+            token_named(spans, mention.extent, name, mention.line),
+        ),
+        None => (0, 0),
     };
-    Ok(Finding {
-        matter: Matter::NotDefined,
-        name: Some(name),
-        place: place_of(spans, token),
-    })
+    Ok(unknown::undefined_name(spans, first, token, name))
 }
 
-// What compiles and is hardly meant.
+// What compiles and is probably a mistake.
 fn warnings(
     alloc: Global,
     source: &[u8],

@@ -2,6 +2,8 @@
 #![tactic(auto)]
 
 mod advice;
+mod around;
+mod bytes;
 mod checking;
 mod excerpt;
 mod explain;
@@ -9,14 +11,20 @@ mod faults;
 mod finding;
 mod form;
 mod json;
+mod kinds;
+mod limits;
 mod mention;
+mod near;
 mod passes;
 mod patterns;
 mod pieces;
 mod places;
 mod spans;
+mod syntax;
 mod text;
+mod unknown;
 mod verdict;
+mod warnings;
 mod words;
 
 pub use checking::{check, wrong_checks_are_excluded};

@@ -1,8 +1,9 @@
-//! What compiles and is hardly meant, by the tokens of a function.
+//! What compiles and is probably a mistake, by the tokens of a function.
 use crate::advice::Matter;
 use crate::finding::Finding;
 use crate::passes::Extent;
-use crate::spans::{Span, lexeme_at, place_of};
+use crate::spans::{Span, is_joined, lexeme_at, place_of};
+use crate::warnings::Warning;
 use blang::Keyword;
 use blex::Lexeme;
 use bword::{BinOp, Name};
@@ -12,7 +13,7 @@ use std::alloc::AllocError;
 #[derive(Clone, Copy)]
 struct Found {
     token: usize,
-    matter: Matter,
+    matter: Warning,
     name: Option<Name>,
 }
 
@@ -37,9 +38,11 @@ pub(crate) fn find(
         };
         if let Some(found) = found {
             findings.push(Finding {
-                matter: found.matter,
+                matter: Matter::Warning(found.matter),
                 name: found.name,
+                other: None,
                 place: place_of(spans, found.token),
+                related: None,
             })?;
         }
     }
@@ -70,7 +73,7 @@ fn named(spans: &[Span], functions: &[Extent], function: Extent, token: usize) -
     }
 }
 
-fn said(token: usize, matter: Matter) -> Option<Found> {
+fn said(token: usize, matter: Warning) -> Option<Found> {
     Some(Found {
         token,
         matter,
@@ -78,19 +81,11 @@ fn said(token: usize, matter: Matter) -> Option<Found> {
     })
 }
 
-// Whether the next token stands directly after this one.
-fn is_joined(spans: &[Span], token: usize) -> bool {
-    match (spans.get(token), spans.get(token.wrapping_add(1))) {
-        (Some(span), Some(next)) => span.end() == next.place.start,
-        _ => false,
-    }
-}
-
 // `&&`.
 fn doubled(spans: &[Span], token: usize) -> Option<Found> {
     let next = lexeme_at(spans, token.wrapping_add(1));
     if next == Lexeme::Operator(BinOp::And) && is_joined(spans, token) {
-        return said(token, Matter::AndAnd);
+        return said(token, Warning::AndAnd);
     }
     None
 }
@@ -98,7 +93,7 @@ fn doubled(spans: &[Span], token: usize) -> Option<Found> {
 // `=-`, `=*` and `=&` directly before an operand.
 fn changes(spans: &[Span], token: usize, op: BinOp) -> Option<Found> {
     if matches!(op, BinOp::Sub | BinOp::Mul | BinOp::And) && is_joined(spans, token) {
-        return said(token, Matter::OperatorAssigns);
+        return said(token, Warning::OperatorAssigns);
     }
     None
 }
@@ -116,7 +111,7 @@ fn condition(spans: &[Span], function: Extent, token: usize) -> Option<Found> {
             _ => {}
         }
         if is_assigned && depth == 1 {
-            return said(inner, Matter::ConditionAssigns);
+            return said(inner, Warning::ConditionAssigns);
         }
         if depth == 0 {
             return None;
@@ -140,7 +135,7 @@ fn for_character(spans: &[Span], token: usize) -> Option<Found> {
         && following == Lexeme::CloseParen
         && is_putchar(callee);
     if is_put || compares(before) || compares(following) {
-        return said(token, Matter::StringForCharacter);
+        return said(token, Warning::StringForCharacter);
     }
     None
 }
@@ -169,7 +164,7 @@ fn past_vector(spans: &[Span], function: Extent, token: usize, name: Name) -> Op
     }
     Some(Found {
         token: token.wrapping_add(2),
-        matter: Matter::PastVector,
+        matter: Warning::PastVector,
         name: Some(name),
     })
 }
@@ -207,9 +202,9 @@ fn called(
     }
     let callee = function_named(spans, functions, name)?;
     let matter = if count_in(spans, token) > count_in(spans, callee.first) {
-        Matter::ManyArguments
+        Warning::ManyArguments
     } else if is_value(spans, token) && !returns(spans, callee) {
-        Matter::NoReturn
+        Warning::NoReturn
     } else {
         return None;
     };
@@ -295,7 +290,7 @@ fn alone(spans: &[Span], function: Extent, token: usize) -> Option<Found> {
     }
     match lexeme_at(spans, token.wrapping_sub(1)) {
         Lexeme::Semicolon | Lexeme::OpenBrace | Lexeme::CloseBrace | Lexeme::CloseParen => {
-            said(token, Matter::NameAlone)
+            said(token, Warning::NameAlone)
         }
         _ => None,
     }
@@ -316,7 +311,7 @@ fn unused(spans: &[Span], function: Extent, token: usize) -> Option<Found> {
     }
     Some(Found {
         token,
-        matter: Matter::NeverUsed,
+        matter: Warning::NeverUsed,
         name: Some(name),
     })
 }

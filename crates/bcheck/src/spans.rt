@@ -59,6 +59,22 @@ pub(crate) fn lexeme_at(spans: &[Span], token: usize) -> Lexeme {
     }
 }
 
+/// Whether the next token stands directly after this one.
+pub(crate) fn is_joined(spans: &[Span], token: usize) -> bool {
+    match (spans.get(token), spans.get(token.wrapping_add(1))) {
+        (Some(span), Some(next)) => span.end() == next.place.start,
+        _ => false,
+    }
+}
+
+/// Whether the next token stands on another line.
+pub(crate) fn is_next_line(spans: &[Span], token: usize) -> bool {
+    match (spans.get(token), spans.get(token.wrapping_add(1))) {
+        (Some(span), Some(next)) => span.place.line != next.place.line,
+        _ => false,
+    }
+}
+
 /// Where a token stands. The end of the source stands after the token before it.
 pub(crate) fn place_of(spans: &[Span], token: usize) -> Place {
     match (spans.get(token), spans.get(token.wrapping_sub(1))) {
@@ -138,8 +154,19 @@ fn bad_length(letters: Letters, text: &[u8]) -> usize {
         (Letters::OpenComment, _) => 2,
         (Letters::LongName, _) => name_length(text),
         (Letters::Constant, Some(byte)) if byte.is_ascii_digit() => number_length(text),
+        (Letters::Character, Some(0x80..)) => letter_length(text),
         _ => 1,
     }
+}
+
+// The bytes of a letter beyond ASCII, if the text is UTF-8.
+pub(crate) fn letter_length(text: &[u8]) -> usize {
+    for index in 1..text.len().min(4) {
+        if !matches!(text[index], 0x80..=0xBF) {
+            return index;
+        }
+    }
+    text.len().min(4).max(1)
 }
 
 fn number_length(text: &[u8]) -> usize {

@@ -26,8 +26,8 @@ impl Words {
             IsTrue (list_all is_on_line (words.code.now ∷ words.sentence ∷ words.fix ∷ []))) }
     {
         let (code, sentence, fix) = finding.matter.advice();
-        let sentence = named(alloc, sentence, finding.name)?;
-        let fix = named(alloc, fix, finding.name)?;
+        let sentence = filled(alloc, sentence, finding)?;
+        let fix = filled(alloc, fix, finding)?;
         Ok(Words {
             code,
             sentence,
@@ -36,25 +36,26 @@ impl Words {
     }
 }
 
-// A sentence with a name in the places of `@`.
-fn named(alloc: Global, sentence: &str, name: Option<Name>) -> Result<Text, AllocError>
+// A sentence with the names and the line in the places of `@`, `#` and `%`.
+fn filled(alloc: Global, sentence: &str, finding: &Finding) -> Result<Text, AllocError>
     requires { IsTrue (is_on_line sentence.now) }
     ensures { IfOk result (λ text. IsTrue (is_on_line text)) }
 {
     let mut text = Text::new(alloc);
     let bytes = sentence.as_bytes();
     for byte in bytes {
-        push_named(&mut text, *byte, &name)?;
+        push_filled(&mut text, *byte, finding)?;
     }
     Ok(text)
 }
 
-fn push_named(text: &mut Text, byte: u8, name: &Option<Name>) -> Result<(), AllocError>
+fn push_filled(text: &mut Text, byte: u8, finding: &Finding) -> Result<(), AllocError>
     requires { IsTrue (is_in_range 32 126 byte) }
     ensures { IsTrue (is_on_line text.old) → OnOk result (IsTrue (is_on_line text.new)) }
 {
-    match (byte, name) {
-        (b'@', Some(name)) => text.push(name.as_bytes()),
+    match (byte, &finding.name, &finding.other, &finding.related) {
+        (b'@', Some(name), _, _) | (b'#', _, Some(name), _) => text.push(name.as_bytes()),
+        (b'%', _, _, Some(place)) => text.push_number(place.line),
         _ => text.push(&[byte]),
     }
 }
