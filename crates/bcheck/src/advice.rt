@@ -72,8 +72,8 @@ fn with_code(
     words: (&'static str, &'static str),
 ) -> (&'static str, &'static str, &'static str)
     ensures code { result.0.now ≡ code.now }
-    ensures sentence { result.1.now ≡ words.0.now }
-    ensures fix { result.2.now ≡ words.1.now }
+    ensures sentence { result.1.now ≡ words.entry.0.now }
+    ensures fix { result.2.now ≡ words.entry.1.now }
 {
     (code, words.0, words.1)
 }

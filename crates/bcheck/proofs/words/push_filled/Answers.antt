@@ -1,7 +1,7 @@
 use Rattle.std.proofs.Common.{[], ◌∷◌}
 use Rattle.bcheck.proofs.AddedFindings.{on_ok}
 use Rattle.bcheck.proofs.OnLine.{name_on_line, one_on_line, words_on_line}
-use Rattle.bcheck.proofs.words.push_named.Goals as goal
+use Rattle.bcheck.proofs.words.push_filled.Goals as goal
 
 pub returns-in-64-Some : goal.returns-in-64-Some
 returns-in-64-Some c = λ h.
