@@ -59,9 +59,9 @@ pub(crate) fn look_around(spans: &[Span], extent: Extent, token: usize) -> Aroun
                 _ => {}
             }
         }
-        if closes_bracket(lexeme) {
+        if closes_bracket(&lexeme) {
             depth = depth.saturating_add(1);
-        } else if opens_bracket(lexeme) {
+        } else if opens_bracket(&lexeme) {
             if depth == 0 && found.opener.is_none() {
                 found.opener = Some(at);
             }
@@ -74,8 +74,8 @@ pub(crate) fn look_around(spans: &[Span], extent: Extent, token: usize) -> Aroun
     found
 }
 
-// Whether a statement begins after this token, if it isn't in brackets.
-fn ends_statement(spans: &[Span], token: usize) -> bool {
+/// Whether a statement begins after this token, if it isn't in brackets.
+pub(crate) fn ends_statement(spans: &[Span], token: usize) -> bool {
     match lexeme_at(spans, token) {
         Lexeme::Semicolon | Lexeme::OpenBrace | Lexeme::CloseBrace => true,
         Lexeme::Colon => is_heading(spans, token),
@@ -83,8 +83,8 @@ fn ends_statement(spans: &[Span], token: usize) -> bool {
     }
 }
 
-// Whether a label, a case or a default ends with this colon.
-fn is_heading(spans: &[Span], colon: usize) -> bool {
+/// Whether a label, a case or a default ends with this colon.
+pub(crate) fn is_heading(spans: &[Span], colon: usize) -> bool {
     let before = lexeme_at(spans, colon.wrapping_sub(2));
     matches!(
         before,
@@ -130,7 +130,7 @@ impl Around {
 
     /// Whether the bracket that is open is the parenthesis after this name.
     pub(crate) fn is_call_of(&self, spans: &[Span], word: &str) -> bool {
-        self.is_in(spans, Lexeme::OpenParen) && is_word(lexeme_at(spans, self.head()), word)
+        self.is_in(spans, Lexeme::OpenParen) && is_word(&lexeme_at(spans, self.head()), word)
     }
 }
 
@@ -140,9 +140,9 @@ pub(crate) fn opener_of(spans: &[Span], closer: usize) -> Option<usize> {
     for back in 0..closer {
         let at = closer.saturating_sub(back).saturating_sub(1);
         let lexeme = lexeme_at(spans, at);
-        if closes_bracket(lexeme) {
+        if closes_bracket(&lexeme) {
             depth = depth.saturating_add(1);
-        } else if opens_bracket(lexeme) {
+        } else if opens_bracket(&lexeme) {
             if depth == 0 {
                 return Some(at);
             }
@@ -150,4 +150,13 @@ pub(crate) fn opener_of(spans: &[Span], closer: usize) -> Option<usize> {
         }
     }
     None
+}
+
+/// Whether a statement may begin with this token, by the one before it.
+pub(crate) fn may_begin(spans: &[Span], token: usize) -> bool {
+    let before = token.wrapping_sub(1);
+    matches!(
+        lexeme_at(spans, before),
+        Lexeme::CloseParen | Lexeme::Keyword(Keyword::Else)
+    ) || ends_statement(spans, before)
 }

@@ -7,13 +7,16 @@ ghost use Rattle.bcheck.specs.Findings.{IsReasoned, TellsEach, TellsFault, matte
 ghost use Rattle.bcheck.specs.declared.verdict.Verdict.TheVariants as verdict;
 
 use crate::advice::Matter;
+use crate::brackets::Brackets;
+use crate::defined::{Defined, Definition, What};
 use crate::excerpt::excerpt_at;
 use crate::faults::{self, token_named};
 use crate::finding::{Finding, Told};
 use crate::form::{Form, Request};
 use crate::mention::first_mention;
-use crate::passes::{Extent, Fault, Pass};
-use crate::patterns::find;
+use crate::outside::outside;
+use crate::passes::{Fault, Pass};
+use crate::patterns::{Compiled, Found, find};
 use crate::places::place_on;
 use crate::spans::{Span, place_of, spans};
 use crate::verdict::Verdict;
@@ -136,7 +139,13 @@ fn unloaded(
     if let LoadFault::Undefined(name) = fault {
         return undefined(alloc, source, asked, spans, *name);
     }
-    Ok(Finding::new(Matter::DataTooLarge, place_of(spans, 0)))
+    Ok(Finding {
+        matter: Matter::DataTooLarge,
+        name: None,
+        other: None,
+        place: place_of(spans, 0),
+        related: None,
+    })
 }
 
 // What is said of a name that nothing defines.
@@ -167,17 +176,34 @@ fn warnings(
     asked: Request<'_>,
     spans: &[Span],
 ) -> Result<Vec<Finding>, AllocError> {
-    let functions = functions(alloc, source, asked)?;
+    let brackets = Brackets::new(alloc, spans)?;
+    let defined = definitions_of(alloc, source, asked, spans, &brackets)?;
+    let compiled = Compiled {
+        source,
+        spans,
+        edition: asked.edition,
+        brackets: &brackets,
+        defined: &defined,
+    };
     let mut findings = Vec::new(alloc);
-    for function in functions.as_slice() {
-        find(spans, functions.as_slice(), *function, &mut findings)?;
+    for definition in defined.all.as_slice() {
+        Found::add(outside(&compiled, definition), spans, &mut findings)?;
+        if let What::Function { .. } = definition.what {
+            find(alloc, &compiled, definition.extent, &mut findings)?;
+        }
     }
     Ok(findings)
 }
 
-// The functions of a source that compiles.
-fn functions(alloc: Global, source: &[u8], asked: Request<'_>) -> Result<Vec<Extent>, AllocError> {
-    let mut functions = Vec::new(alloc);
+// The definitions of a source that compiles.
+fn definitions_of(
+    alloc: Global,
+    source: &[u8],
+    asked: Request<'_>,
+    spans: &[Span],
+    brackets: &Brackets,
+) -> Result<Defined, AllocError> {
+    let mut defined = Defined::new(alloc);
     let mut pass = Pass::new(alloc, source, asked.edition);
     for _ in 0..source.len() {
         match pass.next() {
@@ -185,9 +211,10 @@ fn functions(alloc: Global, source: &[u8], asked: Request<'_>) -> Result<Vec<Ext
             Step::Memory => return Err(AllocError),
             _ => break,
         }
-        if pass.is_function() {
-            functions.push(pass.extent)?;
-        }
+        defined.push(
+            spans,
+            Definition::new(spans, brackets, pass.extent, pass.is_function()),
+        )?;
     }
-    Ok(functions)
+    Ok(defined)
 }

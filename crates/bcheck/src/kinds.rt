@@ -44,10 +44,10 @@ const TYPES: [&str; 13] = [
 
 impl Kind {
     /// Whether a token fits.
-    pub(crate) fn fits(self, lexeme: Lexeme) -> bool {
+    pub(crate) fn fits(&self, lexeme: &Lexeme) -> bool {
         match self {
             Kind::Any => true,
-            Kind::Is(one) => lexeme == one,
+            Kind::Is(one) => *lexeme == *one,
             Kind::Word(word) => is_word(lexeme, word),
             Kind::Type => is_type(lexeme),
             Kind::Name => matches!(lexeme, Lexeme::Name(_)),
@@ -67,10 +67,20 @@ impl Kind {
             Kind::Closes => closes(lexeme),
         }
     }
+
+    /// Whether each token is of its kind.
+    pub(crate) fn fit(kinds: &[Kind; 5], tokens: &[Lexeme; 5]) -> bool {
+        for index in 0..5 {
+            if !kinds[index].fits(&tokens[index]) {
+                return false;
+            }
+        }
+        true
+    }
 }
 
 /// Whether a token is the name of these letters.
-pub(crate) fn is_word(lexeme: Lexeme, word: &str) -> bool {
+pub(crate) fn is_word(lexeme: &Lexeme, word: &str) -> bool {
     match lexeme {
         Lexeme::Name(name) => name.as_str() == word,
         _ => false,
@@ -87,14 +97,14 @@ pub(crate) fn is_type_name(name: &Name) -> bool {
     false
 }
 
-fn is_type(lexeme: Lexeme) -> bool {
+fn is_type(lexeme: &Lexeme) -> bool {
     match lexeme {
-        Lexeme::Name(name) => is_type_name(&name),
+        Lexeme::Name(name) => is_type_name(name),
         _ => false,
     }
 }
 
-fn is_operand(lexeme: Lexeme) -> bool {
+fn is_operand(lexeme: &Lexeme) -> bool {
     matches!(
         lexeme,
         Lexeme::Name(_) | Lexeme::Number(_) | Lexeme::Character(_) | Lexeme::String
@@ -102,15 +112,21 @@ fn is_operand(lexeme: Lexeme) -> bool {
 }
 
 /// Whether an operand may end with this token.
-pub(crate) fn is_ended(lexeme: Lexeme) -> bool {
-    is_operand(lexeme)
-        || matches!(
-            lexeme,
-            Lexeme::CloseParen | Lexeme::CloseBracket | Lexeme::Increment | Lexeme::Decrement
-        )
+pub(crate) fn is_ended(lexeme: &Lexeme) -> bool {
+    matches!(
+        lexeme,
+        Lexeme::Name(_)
+            | Lexeme::Number(_)
+            | Lexeme::Character(_)
+            | Lexeme::String
+            | Lexeme::CloseParen
+            | Lexeme::CloseBracket
+            | Lexeme::Increment
+            | Lexeme::Decrement
+    )
 }
 
-fn waits(lexeme: Lexeme) -> bool {
+fn waits(lexeme: &Lexeme) -> bool {
     matches!(
         lexeme,
         Lexeme::Operator(_)
@@ -124,7 +140,7 @@ fn waits(lexeme: Lexeme) -> bool {
     )
 }
 
-fn closes(lexeme: Lexeme) -> bool {
+fn closes(lexeme: &Lexeme) -> bool {
     matches!(
         lexeme,
         Lexeme::CloseParen
@@ -137,7 +153,7 @@ fn closes(lexeme: Lexeme) -> bool {
 }
 
 /// Whether a bracket opens.
-pub(crate) fn opens_bracket(lexeme: Lexeme) -> bool {
+pub(crate) fn opens_bracket(lexeme: &Lexeme) -> bool {
     matches!(
         lexeme,
         Lexeme::OpenParen | Lexeme::OpenBracket | Lexeme::OpenBrace
@@ -145,7 +161,7 @@ pub(crate) fn opens_bracket(lexeme: Lexeme) -> bool {
 }
 
 /// Whether a bracket closes.
-pub(crate) fn closes_bracket(lexeme: Lexeme) -> bool {
+pub(crate) fn closes_bracket(lexeme: &Lexeme) -> bool {
     matches!(
         lexeme,
         Lexeme::CloseParen | Lexeme::CloseBracket | Lexeme::CloseBrace

@@ -3,18 +3,25 @@
 
 mod advice;
 mod around;
+mod brackets;
 mod bytes;
 mod checking;
+mod conditions;
+mod defined;
+mod effects;
 mod excerpt;
 mod explain;
 mod faults;
 mod finding;
+mod flow;
 mod form;
 mod json;
 mod kinds;
 mod limits;
+mod locals;
 mod mention;
 mod near;
+mod outside;
 mod passes;
 mod patterns;
 mod pieces;

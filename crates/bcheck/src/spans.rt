@@ -2,7 +2,7 @@
 use crate::finding::Place;
 use blang::{Keyword, Letters};
 use blex::{Lexeme, Lexer};
-use bword::{BinOp, Edition, MemIn, is_name_byte};
+use bword::{BinOp, Edition, MemIn, Name, is_name_byte};
 use std::alloc::{AllocError, Global};
 
 /// A token and where it stands.
@@ -56,6 +56,14 @@ pub(crate) fn lexeme_at(spans: &[Span], token: usize) -> Lexeme {
     match spans.get(token) {
         Some(span) => span.lexeme,
         None => Lexeme::End,
+    }
+}
+
+/// The name at a place among the tokens, if one is there.
+pub(crate) fn name_at(spans: &[Span], token: usize) -> Option<Name> {
+    match lexeme_at(spans, token) {
+        Lexeme::Name(name) => Some(name),
+        _ => None,
     }
 }
 

@@ -226,9 +226,9 @@ const HEADER: Option<Part> = Some(Part::Header);
 
 const BODY: Option<Part> = Some(Part::Body);
 
-/// The first row that fits is the one.
+/// The end of the source, comments, and the first token of a definition.
 #[rattlefmt::skip]
-const ROWS: [Row; 74] = [
+const BEGINNINGS: [Row; 9] = [
     Row(None, If::ParenOpen, [ANY, ANY, ANY, END, ANY], Syntax::ParenOpen, Mark::Here),
     Row(None, If::BraceOpen, [ANY, ANY, ANY, END, ANY], Syntax::BraceOpen, Mark::Here),
     Row(None, If::Always, [ANY, ANY, ANY, END, ANY], Syntax::SourceEnds, Mark::Here),
@@ -238,6 +238,11 @@ const ROWS: [Row; 74] = [
     Row(START, If::Always, [ANY, ANY, ANY, CLOSE_BRACE, ANY], Syntax::BraceCloses, Mark::Here),
     Row(START, If::Always, [ANY, ANY, ANY, Kind::Keyword, ANY], Syntax::StatementOutside, Mark::Here),
     Row(START, If::Always, [ANY, ANY, ANY, ANY, ANY], Syntax::NameMissing, Mark::Here),
+];
+
+/// Externals and the parameters of a function.
+#[rattlefmt::skip]
+const OUTSIDE: [Row; 12] = [
     Row(EXTERNAL, If::Always, [Kind::Type, ANY, ANY, ANY, ANY], Syntax::TypeFirst, Mark::First),
     Row(EXTERNAL, If::NextLine, [ANY, ANY, Kind::Ended, Kind::Name, ANY], Syntax::SemicolonMissing, Mark::Here),
     Row(EXTERNAL, If::NextLine, [ANY, ANY, Kind::Name, OPEN_PAREN, ANY], Syntax::TypeFirst, Mark::First),
@@ -250,12 +255,22 @@ const ROWS: [Row; 74] = [
     Row(HEADER, If::Always, [ANY, ANY, ANY, Kind::Constant, ANY], Syntax::CallOutside, Mark::Here),
     Row(HEADER, If::Always, [ANY, ANY, ANY, STRING, ANY], Syntax::CallOutside, Mark::Here),
     Row(HEADER, If::Always, [ANY, ANY, Kind::Name, OPEN_PAREN, ANY], Syntax::CallOutside, Mark::Here),
+];
+
+/// Declarations in a function.
+#[rattlefmt::skip]
+const DECLARATIONS: [Row; 6] = [
     Row(BODY, If::Always, [AUTO, ANY, Kind::Name, EQUALS, ANY], Syntax::AutoValue, Mark::Here),
     Row(BODY, If::Always, [AUTO, ANY, Kind::Name, OPEN_BRACKET, ANY], Syntax::AutoBrackets, Mark::Here),
     Row(BODY, If::NextLine, [AUTO, ANY, Kind::Operand, ANY, ANY], Syntax::SemicolonMissing, Mark::Here),
     Row(BODY, If::Always, [AUTO, ANY, ANY, ANY, ANY], Syntax::AutoList, Mark::Here),
     Row(BODY, If::NextLine, [EXTRN, ANY, Kind::Name, ANY, ANY], Syntax::SemicolonMissing, Mark::Here),
     Row(BODY, If::Always, [EXTRN, ANY, ANY, ANY, ANY], Syntax::ExtrnList, Mark::Here),
+];
+
+/// Words, with what has to come after them.
+#[rattlefmt::skip]
+const WORDS: [Row; 14] = [
     Row(BODY, If::For, [ANY, ANY, ANY, ANY, ANY], Syntax::For, Mark::Head),
     Row(BODY, If::Always, [ANY, ANY, Kind::Word("do"), ANY, ANY], Syntax::Do, Mark::Before),
     Row(BODY, If::Always, [ANY, ANY, Kind::Word("then"), ANY, ANY], Syntax::Then, Mark::Before),
@@ -270,6 +285,11 @@ const ROWS: [Row; 74] = [
     Row(BODY, If::Always, [ANY, ANY, IF, ANY, ANY], Syntax::Condition, Mark::Here),
     Row(BODY, If::Always, [ANY, ANY, WHILE, ANY, ANY], Syntax::Condition, Mark::Here),
     Row(BODY, If::Always, [ANY, ANY, RETURN, ANY, ANY], Syntax::ReturnValue, Mark::Here),
+];
+
+/// Operators and operands, and brackets around them.
+#[rattlefmt::skip]
+const OPERANDS: [Row; 12] = [
     Row(BODY, If::Always, [ANY, ANY, OR, OR, ANY], Syntax::OrOr, Mark::Here),
     Row(BODY, If::Always, [ANY, ANY, Kind::Operator, Kind::Assigns, ANY], Syntax::EqualsAfter, Mark::Here),
     Row(BODY, If::Joined, [ANY, ANY, SUB, GT, ANY], Syntax::Arrow, Mark::Before),
@@ -282,6 +302,11 @@ const ROWS: [Row; 74] = [
     Row(BODY, If::ParenOpen, [ANY, ANY, Kind::Ended, OPEN_BRACE, ANY], Syntax::ParenOpen, Mark::Here),
     Row(BODY, If::Asked, [ANY, ANY, Kind::Ended, Kind::Closes, ANY], Syntax::ColonMissing, Mark::Here),
     Row(BODY, If::ParenOpen, [ANY, ANY, Kind::Ended, Kind::Closes, ANY], Syntax::ParenOpen, Mark::Here),
+];
+
+/// Statements that begin or end at the wrong place.
+#[rattlefmt::skip]
+const STATEMENTS: [Row; 9] = [
     Row(BODY, If::ParenOpen, [ANY, ANY, Kind::Ended, Kind::Keyword, ANY], Syntax::ParenOpen, Mark::Here),
     Row(BODY, If::Always, [SWITCH, ANY, Kind::Ended, ANY, ANY], Syntax::SwitchBraces, Mark::Here),
     Row(BODY, If::IfBrace, [ANY, ANY, SEMICOLON, ELSE, ANY], Syntax::ElseInBraces, Mark::Here),
@@ -291,6 +316,11 @@ const ROWS: [Row; 74] = [
     Row(BODY, If::Always, [ANY, ANY, CLOSE_BRACE, ELSE, ANY], Syntax::ElseAlone, Mark::Here),
     Row(BODY, If::LineStart, [Kind::Name, ANY, CLOSE_PAREN, OPEN_BRACE, ANY], Syntax::FunctionInside, Mark::First),
     Row(BODY, If::Always, [Kind::Name, ANY, CLOSE_PAREN, OPEN_BRACE, ANY], Syntax::CallBody, Mark::First),
+];
+
+/// The rest, where what comes after an operand is no part of its expression.
+#[rattlefmt::skip]
+const REST: [Row; 12] = [
     Row(BODY, If::Always, [ANY, ANY, ANY, Kind::Assigns, ANY], Syntax::AssignLeft, Mark::Here),
     Row(BODY, If::Always, [ANY, ANY, ANY, COMMA, ANY], Syntax::CommaAlone, Mark::Here),
     Row(BODY, If::Always, [ANY, ANY, ANY, CLOSE_PAREN, ANY], Syntax::Unopened, Mark::Here),
@@ -305,32 +335,88 @@ const ROWS: [Row; 74] = [
     Row(BODY, If::Always, [ANY, ANY, Kind::Ended, OPEN_BRACE, ANY], Syntax::TwoOperands, Mark::Here),
 ];
 
-/// What is said of a token with which no program goes on, and which token is marked.
+/// What is said of a token with which no program goes on, and which token is marked: the first row that fits tells it.
 pub(crate) fn found(source: &[u8], spans: &[Span], around: &Around) -> (Syntax, Mark) {
-    let tokens = [
+    let place = Tried {
+        source,
+        spans,
+        around,
+        tokens: window(spans, around),
+    };
+    let found = match around.part {
+        Part::Body => in_body(&place),
+        _ => outside(&place),
+    };
+    found.unwrap_or((Syntax::Other, Mark::Here))
+}
+
+/// A token on which rows are tried.
+#[derive(Clone, Copy)]
+struct Tried<'a> {
+    source: &'a [u8],
+    spans: &'a [Span],
+    around: &'a Around,
+    tokens: [Lexeme; 5],
+}
+
+fn outside(tried: &Tried<'_>) -> Option<(Syntax, Mark)> {
+    beginnings(tried).or(first_of(tried, &OUTSIDE))
+}
+
+fn beginnings(tried: &Tried<'_>) -> Option<(Syntax, Mark)> {
+    first_of(tried, &BEGINNINGS)
+}
+
+fn in_body(tried: &Tried<'_>) -> Option<(Syntax, Mark)> {
+    beginnings(tried)
+        .or(words(tried))
+        .or(operands(tried))
+        .or(rest(tried))
+}
+
+fn words(tried: &Tried<'_>) -> Option<(Syntax, Mark)> {
+    first_of(tried, &DECLARATIONS).or(first_of(tried, &WORDS))
+}
+
+fn operands(tried: &Tried<'_>) -> Option<(Syntax, Mark)> {
+    first_of(tried, &OPERANDS)
+}
+
+fn rest(tried: &Tried<'_>) -> Option<(Syntax, Mark)> {
+    first_of(tried, &STATEMENTS).or(first_of(tried, &REST))
+}
+
+// What the first row says that fits.
+fn first_of(tried: &Tried<'_>, rows: &[Row]) -> Option<(Syntax, Mark)> {
+    for row in rows {
+        if fits(row, tried) {
+            return Some((row.3, row.4));
+        }
+    }
+    None
+}
+
+fn window(spans: &[Span], around: &Around) -> [Lexeme; 5] {
+    [
         lexeme_at(spans, around.first),
         lexeme_at(spans, around.token.wrapping_sub(2)),
         lexeme_at(spans, around.token.wrapping_sub(1)),
         lexeme_at(spans, around.token),
         lexeme_at(spans, around.token.wrapping_add(1)),
-    ];
-    for row in &ROWS {
-        let is_part = row.0.is_none() || row.0 == Some(around.part);
-        if is_part && fit(&row.2, &tokens) && holds(row.1, source, spans, around) {
-            return (row.3, row.4);
-        }
-    }
-    (Syntax::Other, Mark::Here)
+    ]
 }
 
-// Whether each token is of its kind.
-fn fit(kinds: &[Kind; 5], tokens: &[Lexeme; 5]) -> bool {
-    for index in 0..5 {
-        if !kinds[index].fits(tokens[index]) {
-            return false;
-        }
+fn fits(row: &Row, tried: &Tried<'_>) -> bool {
+    is_part(row.0, tried.around.part)
+        && Kind::fit(&row.2, &tried.tokens)
+        && holds(row.1, tried.source, tried.spans, tried.around)
+}
+
+fn is_part(asked: Option<Part>, part: Part) -> bool {
+    match asked {
+        Some(asked) => asked == part,
+        None => true,
     }
-    true
 }
 
 // Whether this is so of a token.
@@ -355,7 +441,7 @@ fn holds(condition: If, source: &[u8], spans: &[Span], around: &Around) -> bool 
 // Whether the condition of an `if` ends with this token.
 fn is_after_if(spans: &[Span], closer: usize) -> bool {
     match opener_of(spans, closer) {
-        Some(opener) => IF.fits(lexeme_at(spans, opener.wrapping_sub(1))),
+        Some(opener) => IF.fits(&lexeme_at(spans, opener.wrapping_sub(1))),
         None => false,
     }
 }

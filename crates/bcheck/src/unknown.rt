@@ -7,7 +7,7 @@ ghost use Rattle.bcheck.specs.Findings.{matter_code};
 use crate::advice::Matter;
 use crate::around::opener_of;
 use crate::finding::{Finding, Place};
-use crate::kinds::{Kind, is_ended};
+use crate::kinds::{Kind, is_ended, is_word};
 use crate::near::{Definitions, find_definitions, library_arguments, near};
 use crate::passes::Extent;
 use crate::spans::{Span, lexeme_at, place_of};
@@ -156,7 +156,7 @@ pub(crate) fn undefined_name(spans: &[Span], first: usize, token: usize, name: N
     let defined = find_definitions(spans, &name);
     let other = like(spans, Extent { first: 0, end: 0 }, &name, &defined);
     let is_external = lexeme_at(spans, first.wrapping_add(1)) != Lexeme::OpenParen;
-    let what = if is_external && Kind::Type.fits(lexeme_at(spans, first)) {
+    let what = if is_external && Kind::Type.fits(&lexeme_at(spans, first)) {
         Undefined::Type
     } else if name.as_str() == "printf" {
         Undefined::Printf
@@ -209,7 +209,7 @@ fn operand_of(spans: &[Span], operator: usize) -> usize {
     let op = lexeme_at(spans, operator);
     let is_counted = matches!(op, Lexeme::Increment | Lexeme::Decrement);
     let is_prefix = op == Lexeme::Operator(BinOp::And)
-        || (is_counted && !is_ended(lexeme_at(spans, before)));
+        || (is_counted && !is_ended(&lexeme_at(spans, before)));
     if is_prefix {
         operator.wrapping_add(1)
     } else {
@@ -225,9 +225,12 @@ fn ended_by(spans: &[Span], last: usize) -> Lvalue {
     let Some(opener) = opener_of(spans, last) else {
         return Lvalue::Other;
     };
-    match lexeme_at(spans, opener.wrapping_sub(1)) {
-        Lexeme::Name(name) if name.as_str() == "char" => Lvalue::Character,
-        Lexeme::Name(_) => Lvalue::Call,
-        _ => Lvalue::Other,
+    let callee = lexeme_at(spans, opener.wrapping_sub(1));
+    if is_word(&callee, "char") {
+        Lvalue::Character
+    } else if Kind::Name.fits(&callee) {
+        Lvalue::Call
+    } else {
+        Lvalue::Other
     }
 }

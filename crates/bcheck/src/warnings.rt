@@ -50,7 +50,7 @@ impl Warning {
             Warning::ConditionAssigns => ("if", "this condition assigns", "== compares; parentheses around it show that it is meant"),
             Warning::AssignsComparison => ("if", "this assigns what the comparison gives, 1 or 0", "parentheses around the assignment: (c = f()) != 'a'"),
             Warning::EmptyIf => ("em", "this ; is all that the if does", "take it out"),
-            Warning::EmptyLoop => ("em", "this ; is all that the loop does, and it goes on for ever", "take it out"),
+            Warning::EmptyLoop => ("em", "this ; is all that the loop repeats", "take it out"),
             Warning::PastVector => ("ix", "the vector @ has no word of this index", "auto v 5; has v[0] to v[5], and so has v[5]; outside"),
             Warning::StringForCharacter => ("st", "a string is an address, and no character", "write single quotes: 'a'"),
             Warning::StringPut => ("st", "putchar writes a character, and a string is an address", "a loop writes it: while((c = char(s, i++)) != '*e') putchar(c);"),

@@ -5,7 +5,7 @@ ghost use Rattle.std.specs.List.{list_all};
 ghost use Rattle.bcheck.specs.Checks.{is_on_line};
 ghost use Rattle.bcheck.specs.Findings.{matter_code};
 
-use crate::finding::Finding;
+use crate::finding::{Finding, Place};
 use btools::Text;
 use bword::Name;
 use std::alloc::{AllocError, Global};
@@ -53,9 +53,39 @@ fn push_filled(text: &mut Text, byte: u8, finding: &Finding) -> Result<(), Alloc
     requires { IsTrue (is_in_range 32 126 byte) }
     ensures { IsTrue (is_on_line text.old) → OnOk result (IsTrue (is_on_line text.new)) }
 {
-    match (byte, &finding.name, &finding.other, &finding.related) {
-        (b'@', Some(name), _, _) | (b'#', _, Some(name), _) => text.push(name.as_bytes()),
-        (b'%', _, _, Some(place)) => text.push_number(place.line),
-        _ => text.push(&[byte]),
+    match byte {
+        b'@' => push_name(text, byte, &finding.name),
+        b'#' => push_name(text, byte, &finding.other),
+        b'%' => push_line(text, byte, &finding.related),
+        _ => push_byte(text, byte),
+    }
+}
+
+fn push_byte(text: &mut Text, byte: u8) -> Result<(), AllocError>
+    requires { IsTrue (is_in_range 32 126 byte) }
+    ensures { IsTrue (is_on_line text.old) → OnOk result (IsTrue (is_on_line text.new)) }
+{
+    text.push(&[byte])
+}
+
+// Adds a name, or the byte where there is none.
+fn push_name(text: &mut Text, byte: u8, name: &Option<Name>) -> Result<(), AllocError>
+    requires { IsTrue (is_in_range 32 126 byte) }
+    ensures { IsTrue (is_on_line text.old) → OnOk result (IsTrue (is_on_line text.new)) }
+{
+    match name {
+        Some(name) => text.push(name.as_bytes()),
+        None => push_byte(text, byte),
+    }
+}
+
+// Adds the line of a place, or the byte where there is none.
+fn push_line(text: &mut Text, byte: u8, place: &Option<Place>) -> Result<(), AllocError>
+    requires { IsTrue (is_in_range 32 126 byte) }
+    ensures { IsTrue (is_on_line text.old) → OnOk result (IsTrue (is_on_line text.new)) }
+{
+    match place {
+        Some(place) => text.push_number(place.line),
+        None => push_byte(text, byte),
     }
 }
