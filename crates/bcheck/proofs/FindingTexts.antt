@@ -102,6 +102,9 @@ file_one (b ∷ bs) = all_more (nat_le 32) (file_byte b) (file_text bs) (file_li
 digits_line : (n : ℕ) → IsTrue (is_one_line (decimal n))
 digits_line n = all_weaker (nat_le 32) (is_in_range 48 57) digit_line (decimal n) (decimal_is n)
 
+pub digits_on_line : (n : ℕ) → IsTrue (is_on_line (decimal n))
+digits_on_line n = all_weaker (is_in_range 32 126) (is_in_range 48 57) digit_printable (decimal n) (decimal_is n)
+
 words_line : (text : List ℕ) → IsTrue (is_on_line text) → IsTrue (is_one_line text)
 words_line text h = all_weaker (nat_le 32) (is_in_range 32 126) printable_line text h
 
