@@ -11,13 +11,14 @@ use Rattle.blang.specs.declared.code.Ival as coded_value
 use Rattle.blang.specs.declared.code.Ival.TheVariants as ival
 use Rattle.blang.specs.declared.code.Definition as coded
 use Rattle.blang.specs.declared.code.Definition.TheVariants as code
-use Rattle.blang.specs.Trees.{Identifier, Text, Stmt, Evaluate, Ival, Ival_constant, Ival_text, Ival_name, Definition, Simple, Vector, Function}
+use Rattle.blang.specs.Trees.{Identifier, Stmt, Ival, Ival_constant, Ival_text, Ival_name, Definition, Simple, Vector, Function}
 use Rattle.blang.specs.WellFormed.{nesting_limit, IsFormed, packed}
 use Rattle.btree.specs.Fitting.{EachAfter, Sits, ival_words, values_words, IvalFits, statement_strings, ival_strings}
 use Rattle.blang.specs.Scan.{fault, name_fault, undefined, Scope, no_scope, function_events, function_scope, inner_fault, scope_fault, identifier_of, scan}
 use Rattle.bword.specs.Words.{same_name}
 use Rattle.blang.specs.Code.{Environment, environment_of, ival_code, vector_words, clean, code_of, fits_limits, fault_of, or_too_large, Piece, piece}
-use Rattle.btree.proofs.CodeLaws.{counts_words}
+use Rattle.btree.proofs.WalkLaws.{length-strings}
+use Rattle.blang.specs.Walk.{walk_value}
 use Rattle.btree.proofs.Fitting.{simple_strings, vector_strings, function_strings, formed_in}
 use Rattle.btree.proofs.ScanSteps.{scanned-Err}
 use Rattle.bemit.specs.Drafts.{led, Made, Draft, Faulty, Going, no_made, fresh, most_words, within_room, with_made, stringed, offset_of, valued, worded, closed, numbered, draft_resolved, fault_in, started}
@@ -65,9 +66,7 @@ ival_is (Ival_text bytes offset) before s m h l =
     ∙ valued_is (ival.Text (offset_of (drafted s m))) (ival.Text offset) s m1 (λ r. ap (λ n. ival.Text n) (offset_is s m (less r) ∙ l ∙ sym h))
 
 ival_length : (x : Ival) → length (ival_strings x) ≡ ival_words x
-ival_length (Ival_constant c) = refl
-ival_length (Ival_text bytes offset) = counts_words (Evaluate (Text bytes offset))
-ival_length (Ival_name w) = refl
+ival_length x = length-strings (walk_value x)
 
 more_more : (m : Made) (vs us : List coded_value.Ival) (ss ts : List ℕ) → more (more m vs ss) us ts ≡ more m (vs ++ us) (ss ++ ts)
 more_more m vs us ss ts = λ i. record m { values = append_assoc m.values vs us i; strings = append_assoc m.strings ss ts i }

@@ -1,5 +1,5 @@
 -- A loop jumps back to its test, and its breaks lead after it.
-use Rattle.std.proofs.Common.{◌≡◌, ℕ, suc, ◌+◌, ◌-◌, ◌≤◌, List, [], ◌∷◌, ◌++◌, length, Result, Ok, Err, refl, sym, ap, ◌∙◌, subst, arith, le_refl, length-append, lt-ltb}
+use Rattle.std.proofs.Common.{◌≡◌, ℕ, suc, ◌+◌, ◌-◌, ◌≤◌, List, [], ◌∷◌, ◌++◌, append-nil, length, Result, Ok, Err, refl, sym, ap, ◌∙◌, subst, arith, le_refl, length-append, lt-ltb}
 use Rattle.blang.specs.declared.token.Diagnostic.{Diagnostic}
 use Rattle.blang.specs.declared.code.Instr.{Instr}
 use Rattle.blang.specs.declared.code.Instr.TheVariants as instr
@@ -96,7 +96,7 @@ loops {names = names} {room = room} {off = off} {off2 = off2} e s x y o = record
         ∙ skip_at (λ b. breaking (λ c. turning start (λ x. done s x) c) b) s2 s4 m1 whole (omega (arith, f2, same_frame))
         (break_at (λ c. turning start (λ x. done s x) c) s2 s4 m2 back closed_code out (omega (arith, f2, same_frame)) same_length end (fills_before (instr.Jump (length m.code) ∷ []) (statement_closes names s q out)) turned)
         ∙ ap (drafted s4) (two m ex (skipped whole))
-        ∙ ap (drafted s4) (added_same m (joined ex (skipped whole)) (statement_parts names (While e s)) (record { code = code; strings = refl; targets = refl; arms = refl; breaks = refl }))
+        ∙ ap (drafted s4) (added_same m (joined ex (skipped whole)) (statement_parts names (While e s)) (record { code = code; strings = ap (λ l. l ++ statement_strings s) (sym (append-nil (strings e))); targets = refl; arms = refl; breaks = refl }))
       where
         start : ℕ
         start = place_of (drafted s1 m)

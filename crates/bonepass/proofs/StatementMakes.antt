@@ -1,14 +1,15 @@
 -- One pass over a statement makes its code: by induction on the tree.
-use Rattle.std.proofs.Common.{◌≡◌, ℕ, zero, suc, ◌+◌, List, ◌∷◌, ◌++◌, length, refl, sym, ap, ◌∙◌, arith, add-zero}
+use Rattle.std.proofs.Common.{◌≡◌, ℕ, zero, suc, ◌+◌, List, [], ◌∷◌, ◌++◌, append-nil, length, refl, sym, ap, ◌∙◌, arith, add-zero}
 use Rattle.blang.specs.declared.code.Instr.{Instr}
 use Rattle.blang.specs.declared.code.Instr.TheVariants as instr
 use Rattle.blang.specs.Trees.{Expr, Stmt, Headed, Compound, If, IfElse, While, Switch, Goto, Break, Return, ReturnValue, Evaluate, Empty, Stmts, Nothing, More}
 use Rattle.blang.specs.WellFormed.{rvalue_rank}
 use Rattle.btree.specs.Fitting.{words, Deeper, Fits, statement_words, body_words, Sits, AllSit, strings, statement_strings, body_strings}
-use Rattle.blang.specs.Walk.{Event}
+use Rattle.blang.specs.Walk.{Event, walk_heading, walk_statement, walk_body}
 use Rattle.btree.specs.Events.{statement_events, body_events}
 use Rattle.blang.specs.Code.{Environment, word_code, arms_code, piece, body_piece}
-use Rattle.btree.proofs.CodeLaws.{counts_words, statement_ends, body_ends}
+use Rattle.btree.proofs.CodeLaws.{statement_ends, body_ends}
+use Rattle.btree.proofs.WalkLaws.{length-strings, plain_strings, heading_plain}
 use Rattle.bemit.specs.Drafts.{Draft}
 use Rattle.bemit.specs.Effects.{done, all_done}
 use Rattle.bonepass.proofs.Breaks.{statement_breaks, body_breaks, body_closes}
@@ -27,24 +28,24 @@ level P x zero h = elim h [ ]
 level P x (suc k) h = deeper (x k h)
 
 statement_offset : (s : Stmt) (off : ℕ) → off + statement_words s ≡ off + length (statement_strings s)
-statement_offset s off = ap (λ n. off + n) (sym (counts_words s))
+statement_offset s off = ap (λ n. off + n) (sym (length-strings (walk_statement s)))
 
 body_offset : (ss : Stmts) (off : ℕ) → off + body_words ss ≡ off + length (body_strings ss)
-body_offset ss off = ap (λ n. off + n) (sym (counts_words (Compound ss)))
+body_offset ss off = ap (λ n. off + n) (sym (length-strings (walk_body ss)))
 
 module _ (names : Environment) where
   if_same : (e : Expr) (s : Stmt) (p : ℕ) → Same p (joined (only (word_code names e) (strings e)) (skipped (statement_parts names s))) (statement_parts names (If e s))
   if_same e s p =
       let ce = word_code names e p in
       let q = p + length ce + 1 in
-      record { code = ap (λ n. ce ++ (instr.JumpIfZero n ∷ (piece names s q).code 0)) (statement_ends names s q 0); strings = refl; targets = refl; arms = refl; breaks = refl }
+      record { code = ap (λ n. ce ++ (instr.JumpIfZero n ∷ (piece names s q).code 0)) (statement_ends names s q 0); strings = ap (λ l. l ++ statement_strings s) (sym (append-nil (strings e))); targets = refl; arms = refl; breaks = refl }
 
   ways_same : (e : Expr) (s other : Stmt) (p : ℕ) → Same p (joined (only (word_code names e) (strings e)) (ways_parts (statement_parts names s) (statement_parts names other))) (statement_parts names (IfElse e s other))
   ways_same e s other p = record {
     code =
         ap (λ n. ce ++ (instr.JumpIfZero n ∷ (cs ++ (instr.Jump (n + length ((piece names other n).code 0)) ∷ (piece names other n).code 0)))) following
         ∙ ap (λ n. ce ++ (instr.JumpIfZero a ∷ (cs ++ (instr.Jump n ∷ (piece names other a).code 0)))) (statement_ends names other a 0);
-    strings = refl;
+    strings = ap (λ l. l ++ (statement_strings s ++ statement_strings other)) (sym (append-nil (strings e)));
     targets = ap (λ n. (piece names s q).targets.labels ++ (piece names other n).targets.labels) following;
     arms = ap (λ n. (piece names s q).targets.arms ++ (piece names other n).targets.arms) following;
     breaks = ap (λ n. statement_breaks names s q ++ statement_breaks names other n) following;
@@ -78,7 +79,7 @@ module _ (names : Environment) where
       let arms = arms_code ((body_piece names ss q).targets.arms) in
       record {
         code = ap (λ n. ce ++ (instr.Jump (n + 1) ∷ ((body_piece names ss q).code (n + 1 + length arms) ++ (instr.Jump (n + 1 + length arms) ∷ arms)))) (body_ends names ss q 0);
-        strings = refl;
+        strings = ap (λ l. strings e ++ l) (sym (append-nil (body_strings ss)));
         targets = refl;
         arms = refl;
         breaks = refl;
@@ -98,10 +99,10 @@ module _ (names : Environment) where
   mutual
     pub done_makes : (s : Stmt) (room off : ℕ) → Sits s room off → Makes names (done s) (statement_events s) room off (statement_parts names s)
     done_makes (Headed h s) room off sits =
-        retold (statement_parts names (Headed h s)) (λ p. record { code = refl; strings = refl; targets = refl; arms = refl; breaks = refl })
+        retold (statement_parts names (Headed h s)) (λ p. record { code = refl; strings = ap (λ l. l ++ statement_strings s) (sym (plain_strings (walk_heading h) (heading_plain h))); targets = refl; arms = refl; breaks = refl })
         (then_ (heading_makes h) (done_makes s room off sits.1) (sym (add-zero off)))
     done_makes (Compound body) room off sits =
-        retold (statement_parts names (Compound body)) (λ p. record { code = refl; strings = refl; targets = refl; arms = refl; breaks = refl })
+        retold (statement_parts names (Compound body)) (λ p. record { code = refl; strings = sym (append-nil (body_strings body)); targets = refl; arms = refl; breaks = refl })
         (level (λ k. AllSit body k off) (λ k h. all_make body k off h) room sits)
     done_makes (If e s) room off sits =
         retold (statement_parts names (If e s)) (if_same e s)
@@ -117,11 +118,17 @@ module _ (names : Environment) where
     done_makes (Switch e body) (suc k) off sits =
         retold (statement_parts names (Switch e body)) (switch_same e body)
         (then_ (evaluated_makes names e k off (suc k) sits.0) (switches (body_code body) (closes body) (all_make body k (off + words e) sits.1)) (expression_words e off))
-    done_makes (Goto e) room off sits = emits instr.Goto (evaluated_makes names e room off room sits)
+    done_makes (Goto e) room off sits =
+        retold (statement_parts names (Goto e)) (λ p. record { code = refl; strings = sym (append-nil (strings e)); targets = refl; arms = refl; breaks = refl })
+        (emits instr.Goto (evaluated_makes names e room off room sits))
     done_makes (Break line) room off sits = broken_makes line
     done_makes Return room off sits = emits instr.Return (emits (instr.Constant 0) idle)
-    done_makes (ReturnValue e) room off sits = emits instr.Return (evaluated_makes names e room off room sits)
-    done_makes (Evaluate e) room off sits = emits instr.Pop (evaluated_makes names e room off room sits)
+    done_makes (ReturnValue e) room off sits =
+        retold (statement_parts names (ReturnValue e)) (λ p. record { code = refl; strings = sym (append-nil (strings e)) ∙ sym (append-nil (strings e ++ [])); targets = refl; arms = refl; breaks = refl })
+        (emits instr.Return (evaluated_makes names e room off room sits))
+    done_makes (Evaluate e) room off sits =
+        retold (statement_parts names (Evaluate e)) (λ p. record { code = refl; strings = sym (append-nil (strings e)); targets = refl; arms = refl; breaks = refl })
+        (emits instr.Pop (evaluated_makes names e room off room sits))
     done_makes Empty room off sits = idle
 
     all_make : (ss : Stmts) (room off : ℕ) → AllSit ss room off → Makes names (all_done ss) (body_events ss) room off (body_parts names ss)

@@ -17,7 +17,7 @@ use Rattle.blang.specs.WellFormed.{nesting_limit, IsFormed}
 use Rattle.btree.specs.Fitting.{Sits, statement_words}
 use Rattle.blang.specs.Scan.{NameKind, Automatic, External, Unlabelled, Labelled, kind_of, Scope, no_scope, scan, function_events, function_scope, scope_fault, scanned}
 use Rattle.btree.specs.Spelling.{size_spelling, name_spelling, spell_statement, list_spelling, ival_spelling}
-use Rattle.blang.specs.Walk.{spell_definition, Event, Declaration, Import, Mention, LabelHere, CaseHere, DefaultHere, BreakHere, Lvalue, LoopBegins, LoopEnds, SwitchBegins, SwitchEnds, walk_parameter, walk_value}
+use Rattle.blang.specs.Walk.{spell_definition, Event, Declaration, Import, Mention, LabelHere, CaseHere, DefaultHere, BreakHere, Lvalue, LoopBegins, LoopEnds, SwitchBegins, SwitchEnds, walk_statement, walk_parameter, walk_value}
 use Rattle.btree.specs.Events.{statement_events}
 use Rattle.bword.specs.Words.{same_name}
 use Rattle.blang.specs.Code.{Referent, In_frame, Outside, At_label, referent_of, environment_of, ival_code, vector_words, strings_of, clean, code_of, fits_limits, or_too_large, fault_of, piece}
@@ -29,7 +29,7 @@ use Rattle.broundtrip.proofs.ExpressionCode.{IsMeaningWithin}
 use Rattle.broundtrip.proofs.StatementCode.{IsVectorWithin, IsEventWithin, piece_within}
 use Rattle.broundtrip.proofs.Scopes.{IsKindWithin, IsTable, few_labels, kind_within}
 use Rattle.broundtrip.proofs.Scans.{IsSettled, scan_advances}
-use Rattle.broundtrip.proofs.Strings.{statement_strings_within, values-sound, values_strings_within, initial_values_within}
+use Rattle.broundtrip.proofs.Strings.{strings_within, values-sound, values_strings_within, initial_values_within}
 use Rattle.broundtrip.proofs.Labels.{parameter_events, labels_in-statement_events, labels_in-parameters, parameters_declared}
 use Rattle.btree.proofs.WalkLaws.{function_events_are}
 
@@ -122,7 +122,7 @@ function_within w parameters body s clean fit named sound sits =
       few_strings = limits.1;
       few_instrs = limits.0;
       targets = Holds-All whole.labels;
-      strings = Holds-All (subst (Holds IsWord) (sym (function_strings w parameters body)) (statement_strings_within body sound));
+      strings = Holds-All (subst (Holds IsWord) (sym (function_strings w parameters body)) (strings_within (walk_statement body) sound));
       code = Holds-All (Holds-append
           (whole.code end short)
           (Holds-cons (omega arith) (Holds-cons tt Holds-nil)));

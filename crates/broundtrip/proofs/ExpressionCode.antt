@@ -14,6 +14,7 @@ use Rattle.blang.specs.Code.{Referent, In_frame, Outside, At_label, Environment,
 use Rattle.broundtrip.proofs.Holds.{Holds, Holds-nil, Holds-cons, Holds-first, Holds-rest, Holds-append, Holds-front, Holds-back}
 use Rattle.broundtrip.proofs.Tokens.{IsSound, AreSound}
 use Rattle.btree.proofs.Spelling.{called_spelling}
+use Rattle.btree.proofs.WalkLaws.{callee_words}
 
 abbrev pub IsMeaningWithin : Sizes → Referent → Type 0
 IsMeaningWithin sizes (In_frame k) = k < sizes.frame
@@ -126,6 +127,7 @@ module _ (names : Environment) (sizes : Sizes) (meant : (x : List ℕ) → IsMea
         let s = subst AreSound (called_spelling e args) sound in
         let d = deeper _ room h.2 in
         let q = p + length (word_code names e p) in
+        let w = callee_words e in
         Holds-append (word_code_within e p 0 room off (Holds-front (spell e) _ s) h.1 (omega (arith, length-append {A = Instr})) (omega arith))
         (Holds-append
         (argument_code_within args q d.0 (off + words e) (Holds-front (spell_arguments args) _ (Holds-rest (Holds-back (spell e) _ s))) d.1 (omega (arith, length-append {A = Instr})) (omega arith))
