@@ -8,7 +8,7 @@ use Rattle.blang.specs.declared.code.Increment.TheVariants as increment
 use Rattle.blang.specs.Trees.{Expr, Arguments, Negate, Not, Indirection, Address, PreIncrement, PreDecrement, PostIncrement, PostDecrement, Named, Literal, Text, Grouped, Indexed, Called, Postfixed, Prefixed, Binary, Conditional, Assigned, No_arguments, Another, constant_value}
 use Rattle.blang.specs.WellFormed.{rvalue_rank, or_rank, conditional_rank, rank}
 use Rattle.btree.specs.Fitting.{words, argument_words, Deeper, Fits, ArgumentsFit, strings_in, strings, argument_strings}
-use Rattle.blang.specs.Walk.{Lvalue, walk, walk_arguments, walk_comma}
+use Rattle.blang.specs.Walk.{Lvalue, callee, walk, walk_arguments, walk_comma}
 use Rattle.btree.specs.Events.{events, argument_events}
 use Rattle.blang.specs.Code.{Environment, Referent, In_frame, Outside, At_label, name_word_code, word_code, address_code, argument_code, argument_count, assignment}
 use Rattle.btree.proofs.WalkLaws.{length-strings, callee_as, plain_strings, comma_plain}
@@ -35,7 +35,7 @@ arguments_words : (args : Arguments) (off : ℕ) → off + argument_words args �
 arguments_words args off = ap (λ n. off + n) (sym (length-strings (walk_arguments args)))
 
 called_strings : (e : Expr) (args : Arguments) → strings e ++ argument_strings args ≡ strings (Called e args)
-called_strings e args = ap (λ l. l ++ argument_strings args) (sym (callee_as strings_in (λ w a b. refl) e)) ∙ ap (λ l. _ ++ l) (sym (append-nil (argument_strings args)))
+called_strings e args = ap (λ l. l ++ argument_strings args) (sym (callee_as strings_in (λ w a b. refl) e)) ∙ ap (λ l. strings_in (callee e (walk e)) ++ l) (sym (append-nil (argument_strings args)))
 
 another_strings : (before : Arguments) (e : Expr) → argument_strings before ++ strings e ≡ argument_strings (Another before e)
 another_strings before e = ap (λ l. argument_strings before ++ (l ++ strings e)) (sym (plain_strings (walk_comma before) (comma_plain before)))

@@ -15,8 +15,8 @@ use Rattle.blang.specs.declared.token.Diagnostic.{Diagnostic}
 use Rattle.blang.specs.Trees.{Identifier, Stmt, Definition, Simple, Vector, Function as function}
 use Rattle.blang.specs.WellFormed.{nesting_limit, IsFormed}
 use Rattle.btree.specs.Fitting.{Sits, statement_words}
-use Rattle.blang.specs.Scan.{NameKind, Automatic, External, Unlabelled, Labelled, kind_of, Scope, no_scope, scan, function_events, function_scope, scope_fault, scanned}
-use Rattle.btree.specs.Spelling.{size_spelling, name_spelling, spell_statement, list_spelling, ival_spelling}
+use Rattle.blang.specs.Scan.{NameKind, Automatic, External, Unlabelled, Labelled, kind_of, Scope, no_scope, scan, function_scope, scope_fault, scanned}
+use Rattle.btree.specs.Spelling.{size_spelling, spell_statement, list_spelling}
 use Rattle.blang.specs.Walk.{spell_definition, Event, Declaration, Import, Mention, LabelHere, CaseHere, DefaultHere, BreakHere, Lvalue, LoopBegins, LoopEnds, SwitchBegins, SwitchEnds, walk_statement, walk_parameter, walk_value}
 use Rattle.btree.specs.Events.{statement_events}
 use Rattle.bword.specs.Words.{same_name}

@@ -115,7 +115,7 @@ module _ (names : Environment) (sizes : Sizes) (meant : (x : List ℕ) → IsMea
     word_code_within (Text bytes offset) p loose room off s f l o = Holds-cons (let e : offset ≡ off = f in omega arith) Holds-nil
     word_code_within (Grouped e) p loose room off s f l o =
         let d = deeper _ room f in
-        word_code_within e p rvalue_rank d.0 off (Holds-front (spell e) _ (Holds-rest s)) d.1 l o
+        word_code_within e p rvalue_rank d.0 off (Holds-front (spell e) _ (Holds-rest s)) d.1 l (omega arith)
     word_code_within (Indexed e f) p loose room off s h l o =
         let d = deeper _ room h.2 in
         let q = p + length (word_code names e p) in
@@ -133,7 +133,7 @@ module _ (names : Environment) (sizes : Sizes) (meant : (x : List ℕ) → IsMea
         (argument_code_within args q d.0 (off + words e) (Holds-front (spell_arguments args) _ (Holds-rest (Holds-back (spell e) _ s))) d.1 (omega (arith, length-append {A = Instr})) (omega arith))
         (Holds-cons (omega (arith, length-append {A = Instr}, argument_count-le names args q)) Holds-nil))
     word_code_within (Postfixed op line e) p loose room off s h l o =
-        postfixed_within op line e p (address_code_within e p 0 room off (Holds-front (spell e) _ s) h.1 (omega (arith, postfixed_length op line e p)) o)
+        postfixed_within op line e p (address_code_within e p 0 room off (Holds-front (spell e) _ s) h.1 (omega (arith, postfixed_length op line e p)) (omega arith))
     word_code_within (Prefixed op line e) p loose room off s h l o =
         let d = deeper _ room h in
         prefixed_within op line e p
@@ -170,7 +170,7 @@ module _ (names : Environment) (sizes : Sizes) (meant : (x : List ℕ) → IsMea
     address_code_within (Named w) p loose room off s f l o = name_address_within (names w.text) w.text (meant w.text) (Holds-first s)
     address_code_within (Grouped e) p loose room off s f l o =
         let d = deeper _ room f in
-        address_code_within e p rvalue_rank d.0 off (Holds-front (spell e) _ (Holds-rest s)) d.1 l o
+        address_code_within e p rvalue_rank d.0 off (Holds-front (spell e) _ (Holds-rest s)) d.1 l (omega arith)
     address_code_within (Prefixed Indirection line e) p loose room off s f l o =
         let d = deeper _ room f in
         word_code_within e p 0 d.0 off (Holds-rest s) d.1 l o

@@ -102,10 +102,10 @@ module _ (names : Environment) (sizes : Sizes) (meant : (x : List ℕ) → IsMea
         let q = p + length (heading_code names h) in
         joined_within
         (heading_piece_within h p (Holds-front (spell_heading h) _ t) (Holds-front (heading_events h) _ v) (omega (arith, from_statement s q)))
-        (piece_within s q room off (Holds-back (spell_heading h) _ t) f.1 (Holds-back (heading_events h) _ v) l o)
+        (piece_within s q room off (Holds-back (spell_heading h) _ t) f.1 (Holds-back (heading_events h) _ v) l (omega arith))
     piece_within (Compound body) p room off t f v l o =
         let d = deeper _ room f in
-        body_within body p d.0 off (Holds-front (spell_body body) _ (Holds-rest t)) d.1 v l o
+        body_within body p d.0 off (Holds-front (spell_body body) _ (Holds-rest t)) d.1 v l (omega arith)
     piece_within (If e s) p room off t f v l o =
         let d = deeper _ room f in
         let q = p + length (word_code names e p) + 1 in
@@ -153,13 +153,13 @@ module _ (names : Environment) (sizes : Sizes) (meant : (x : List ℕ) → IsMea
           arms = Holds-nil;
         }
     piece_within (Goto e) p room off t f v l o =
-        plain_within (λ out k. Holds-append (rvalue_within e p room off (Holds-front (spell e) _ (Holds-rest t)) f (omega arith) o) (Holds-cons tt Holds-nil))
+        plain_within (λ out k. Holds-append (rvalue_within e p room off (Holds-front (spell e) _ (Holds-rest t)) f (omega arith) (omega arith)) (Holds-cons tt Holds-nil))
     piece_within (Break line) p room off t f v l o = plain_within (λ out k. Holds-cons k Holds-nil)
     piece_within Return p room off t f v l o = plain_within (λ out k. Holds-cons (omega arith) (Holds-cons tt Holds-nil))
     piece_within (ReturnValue e) p room off t f v l o =
-        plain_within (λ out k. Holds-append (rvalue_within e p room off (condition-sound e (Holds-front (spell_condition e) _ (Holds-rest t))) f (omega arith) o) (Holds-cons tt Holds-nil))
+        plain_within (λ out k. Holds-append (rvalue_within e p room off (condition-sound e (Holds-front (spell_condition e) _ (Holds-rest t))) f (omega arith) (omega arith)) (Holds-cons tt Holds-nil))
     piece_within (Evaluate e) p room off t f v l o =
-        plain_within (λ out k. Holds-append (rvalue_within e p room off (Holds-front (spell e) _ t) f (omega arith) o) (Holds-cons tt Holds-nil))
+        plain_within (λ out k. Holds-append (rvalue_within e p room off (Holds-front (spell e) _ t) f (omega arith) (omega arith)) (Holds-cons tt Holds-nil))
     piece_within Empty p room off t f v l o = plain_within (λ out k. Holds-nil)
 
     body_within : (ss : Stmts) (p room off : ℕ) → AreSound (spell_body ss) → AllSit ss room off → Holds (IsEventWithin sizes names) (body_events ss)
