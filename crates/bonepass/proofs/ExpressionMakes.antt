@@ -11,10 +11,10 @@ use Rattle.btree.specs.Fitting.{words, argument_words, Deeper, Fits, ArgumentsFi
 use Rattle.blang.specs.Walk.{Lvalue, callee, walk, walk_arguments, walk_comma}
 use Rattle.btree.specs.Events.{events, argument_events}
 use Rattle.blang.specs.Code.{Environment, Referent, In_frame, Outside, At_label, name_word_code, word_code, address_code, argument_code, argument_count, assignment}
-use Rattle.btree.proofs.WalkLaws.{length-strings, callee_as, plain_strings, comma_plain}
+use Rattle.btree.proofs.WalkLaws.{length-strings, comma_events, callee_as, plain_strings, comma_plain}
 use Rattle.bemit.specs.Drafts.{most_instructions}
 use Rattle.bemit.specs.Effects.{most_arguments, held, passed, evaluated}
-use Rattle.bonepass.proofs.Parts.{Makes, then_, retold, rescanned, idle, emits, emits_known}
+use Rattle.bonepass.proofs.Parts.{Makes, then_, retold, ended, ended_twice, rescanned, idle, emits, emits_known}
 use Rattle.bonepass.proofs.Jumps.{parts_ways}
 use Rattle.bonepass.proofs.Expressions.{only, held_code, events_of, events_false, events_called, names_makes, text_makes, word_makes, evaluated_by, checked_makes}
 
@@ -96,11 +96,11 @@ module _ (names : Environment) where
     held_makes (Grouped e) called loose k off room h =
         let i = inside (λ j. Fits e rvalue_rank j off) k h in
         retold (only (held_code names (Grouped e)) (strings (Grouped e))) (λ p. record { code = refl; strings = sym (append-nil (strings e)); targets = refl; arms = refl; breaks = refl })
-        (rescanned (events_false e) (held_makes e false rvalue_rank i.0 off room i.1))
+        (rescanned (events_false e ∙ ended_twice (events e)) (held_makes e false rvalue_rank i.0 off room i.1))
     held_makes (Indexed e f) called loose k off room h =
         let i = inside (λ j. Fits f rvalue_rank j (off + words e)) k h.2 in
         retold (only (held_code names (Indexed e f)) (strings (Indexed e f))) (λ p. record { code = append_assoc (word_code names e p) (word_code names f _) (instr.Binary op.Add ∷ []); strings = ap (λ l. strings e ++ l) (sym (append-nil (strings f))); targets = refl; arms = refl; breaks = refl })
-        (emits (instr.Binary op.Add) (then_ (evaluated_by e (held_makes e false 0 k off room h.1)) (evaluated_by f (held_makes f false rvalue_rank i.0 (off + words e) room i.1)) (expression_words e off)))
+        (rescanned (ap (λ l. events e ++ l) (ended_twice (events f))) (emits (instr.Binary op.Add) (then_ (evaluated_by e (held_makes e false 0 k off room h.1)) (evaluated_by f (held_makes f false rvalue_rank i.0 (off + words e) room i.1)) (expression_words e off))))
     held_makes (Called e args) called loose k off room h =
         let i = inside (λ j. ArgumentsFit args j (off + words e)) k h.2 in
         retold (only (held_code names (Called e args)) (strings (Called e args))) (λ p. record { code = append_assoc (word_code names e p) (argument_code names args _) (instr.Call (argument_count args) ∷ []); strings = called_strings e args; targets = refl; arms = refl; breaks = refl })
@@ -137,18 +137,19 @@ module _ (names : Environment) where
     held_makes (Conditional e f g) called loose k off room h =
         let i = inside (λ j. Fits f rvalue_rank j (off + words e) × Fits g conditional_rank j (off + words e + words f)) k h.2 in
         retold (only (held_code names (Conditional e f g)) (strings (Conditional e f g))) (λ p. record { code = refl; strings = refl; targets = refl; arms = refl; breaks = refl })
-        (then_ (evaluated_by e (held_makes e false or_rank k off room h.1)) (parts_ways (evaluated_by f (held_makes f false rvalue_rank i.0 (off + words e) room i.1.0)) (evaluated_by g (held_makes g false conditional_rank i.0 (off + words e + words f) room i.1.1)) (expression_words f (off + words e))) (expression_words e off))
+        (rescanned (ap (λ l. events e ++ l) (ended (events f ++ events g)))
+        (then_ (evaluated_by e (held_makes e false or_rank k off room h.1)) (parts_ways (evaluated_by f (held_makes f false rvalue_rank i.0 (off + words e) room i.1.0)) (evaluated_by g (held_makes g false conditional_rank i.0 (off + words e + words f) room i.1.1)) (expression_words f (off + words e))) (expression_words e off)))
     held_makes (Assigned op line e f) called loose k off room h =
         let i = inside (λ j. Fits f rvalue_rank j (off + words e)) k h.2 in
         retold (only (held_code names (Assigned op line e f)) (strings (Assigned op line e f))) (λ p. record { code = append_assoc (address_code names e p) (word_code names f _) (assignment op ∷ []); strings = refl; targets = refl; arms = refl; breaks = refl })
-        (rescanned (append_assoc (events e) (Lvalue line e ∷ []) (events f))
+        (rescanned (append_assoc (events e) (Lvalue line e ∷ []) (events f) ∙ ap (λ l. events e ++ Lvalue line e ∷ l) (ended (events f)))
         (emits (assignment op) (then_ (checked_makes e line (held_makes e false 0 k off room h.1)) (evaluated_by f (held_makes f false rvalue_rank i.0 (off + words e) room i.1)) (expression_words e off))))
 
     passed_makes : (args : Arguments) (k off room : ℕ) → ArgumentsFit args k off → Makes names (passed args) (argument_events args) room off (only (argument_code names args) (argument_strings args))
     passed_makes No_arguments k off room h = idle
     passed_makes (Another before e) k off room h =
         retold (only (argument_code names (Another before e)) (argument_strings (Another before e))) (λ p. record { code = refl; strings = another_strings before e; targets = refl; arms = refl; breaks = refl })
-        (then_ (passed_makes before k off room h.0) (evaluated_by e (held_makes e false rvalue_rank k (off + argument_words before) room h.1)) (arguments_words before off))
+        (rescanned (ap (λ l. argument_events before ++ (l ++ events e)) (sym (comma_events before))) (then_ (passed_makes before k off room h.0) (evaluated_by e (held_makes e false rvalue_rank k (off + argument_words before) room h.1)) (arguments_words before off)))
 
   pub evaluated_makes : (e : Expr) (k off room : ℕ) → Fits e rvalue_rank k off → Makes names (evaluated e) (events e) room off (only (word_code names e) (strings e))
   evaluated_makes e k off room h = evaluated_by e (held_makes e false rvalue_rank k off room h)

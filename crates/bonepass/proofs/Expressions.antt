@@ -19,7 +19,7 @@ use Rattle.bemit.specs.Effects.{form, loads, loaded, held, evaluated}
 use Rattle.bemit.specs.declared.form.Form.{Form}
 use Rattle.bemit.specs.declared.form.Form.TheVariants.{Place, Lone, Joined}
 use Rattle.bonepass.proofs.Names.{standing, Agrees, kind_mentioned_is}
-use Rattle.bonepass.proofs.Parts.{Parts, added, add_arms, add_arms-none, drafted, kept, Roomy, smaller, kept_within, changed, put, emit, put_ending, offset_is, scope_of, scope_kept, scope_stepped, level_by, level_then, Makes, scanned_twice, retold, rescanned}
+use Rattle.bonepass.proofs.Parts.{Parts, added, add_arms, add_arms-none, drafted, kept, Roomy, smaller, kept_within, changed, put, emit, put_ending, offset_is, scope_of, scope_kept, scope_stepped, level_by, level_then, Makes, scanned_twice, retold, ended_twice, rescanned}
 
 -- code and strings alone
 abbrev pub only : (ℕ → List Instr) → List ℕ → Parts
@@ -103,8 +103,8 @@ events_false (Named w) = refl
 events_false e = refl
 
 pub events_called : (e : Expr) (args : Arguments) → events_of true e ++ argument_events args ≡ events (Called e args)
-events_called (Named w) args = refl
-events_called e args = refl
+events_called (Named w) args = ap (λ l. Mention true w ∷ l) (ended_twice (argument_events args))
+events_called e args = ap (λ l. events e ++ l) (ended_twice (argument_events args))
 
 -- the name of an expression that is one in parentheses is in the table
 abbrev Rooted : List Entry → Expr → Type 0
@@ -117,7 +117,7 @@ rooted (Named w) called s s2 h =
     let d = mentions called w s s2 h in
     let k = kind_mentioned_is called w s.names d.names d.come in
     (k.0, subst (λ (t : Scope). kind_of w.text t.names ≡ Some k.0) (sym d.is) k.1)
-rooted (Grouped e) called s s2 h = rooted e false s s2 (ap (λ es. scanned es (Ok s)) (events_false e) ∙ h)
+rooted (Grouped e) called s s2 h = rooted e false s s2 (ap (λ es. scanned es (Ok s)) (events_false e ∙ ended_twice (events e)) ∙ h)
 rooted e called s s2 h = tt
 
 form_standing : (i : ℕ) (k : NameKind) → form_at (Some k) ≡ meaning_form (standing i k)

@@ -4,14 +4,15 @@ use Rattle.blang.specs.declared.code.Instr.{Instr}
 use Rattle.blang.specs.declared.code.Instr.TheVariants as instr
 use Rattle.blang.specs.Trees.{Identifier, Declared, Heading, Auto, Extrn, Label, Case, Default, constant_value}
 use Rattle.blang.specs.Scan.{Automatic, kind_of, Scope, scan_event}
-use Rattle.blang.specs.Walk.{Declaration, Import, LabelHere, CaseHere, DefaultHere, Event, BreakHere}
+use Rattle.blang.specs.Walk.{Declaration, Import, LabelHere, CaseHere, DefaultHere, Event, BreakHere, walk_declared, walk_import}
+use Rattle.btree.proofs.WalkLaws.{list_events, declared_events}
 use Rattle.btree.specs.Events.{heading_events}
 use Rattle.blang.specs.Code.{Environment, Referent, In_frame, Outside, At_label, vector_code, heading_piece}
 use Rattle.bemit.specs.Drafts.{Made, Draft, Going, most_words, with_made, following, event_done, emitted, worded, frame_of, vector_set, declared, imported, labelled, within_room, break_drafted, Switch, with_innermost, with_case, with_default}
 use Rattle.bemit.specs.Effects.{headed, parameters_done}
 use Rattle.btree.proofs.ScanSteps.{ArmAdded, kind_of-entered, declares, imports, labels_here, selects, defaults, breaks}
 use Rattle.bonepass.proofs.Names.{later}
-use Rattle.bonepass.proofs.Parts.{Parts, no_parts, added, first_of, first_of-none, add_arms, add_arms-none, drafted, kept, kept_within, kept_none, Roomy, smaller, changed, noted, put, emit, scope_of, scope_kept, scope_stepped, level_by, Makes, nothing_added, then_, retold, idle}
+use Rattle.bonepass.proofs.Parts.{Parts, no_parts, added, first_of, first_of-none, add_arms, add_arms-none, drafted, kept, kept_within, kept_none, Roomy, smaller, changed, noted, put, emit, scope_of, scope_kept, scope_stepped, level_by, Makes, nothing_added, then_, retold, rescanned, idle}
 use Rattle.bonepass.proofs.Expressions.{only, stepped_is}
 use Rattle.bonepass.proofs.Trees.{open_piece}
 
@@ -188,8 +189,8 @@ abbrev pub heading_parts : Environment → Heading → Parts
 heading_parts names h = open_piece (heading_piece names h) [] (λ p. [])
 
 pub heading_makes : {names : Environment} {room off : ℕ} (h : Heading) → Makes names (headed h) (heading_events h) room off (heading_parts names h)
-heading_makes {names = names} (Auto ds) = retold (heading_parts names (Auto ds)) (λ p. record { code = refl; strings = refl; targets = refl; arms = refl; breaks = refl }) (autos_make ds)
-heading_makes {names = names} (Extrn ws) = retold (heading_parts names (Extrn ws)) (λ p. record { code = refl; strings = refl; targets = refl; arms = refl; breaks = refl }) (imports_make ws)
+heading_makes {names = names} (Auto ds) = retold (heading_parts names (Auto ds)) (λ p. record { code = refl; strings = refl; targets = refl; arms = refl; breaks = refl }) (rescanned (sym (append-nil _ ∙ list_events walk_declared (λ d. Declaration d.word d.size) declared_events ds)) (autos_make ds))
+heading_makes {names = names} (Extrn ws) = retold (heading_parts names (Extrn ws)) (λ p. record { code = refl; strings = refl; targets = refl; arms = refl; breaks = refl }) (rescanned (sym (append-nil _ ∙ list_events walk_import Import (λ w. refl) ws)) (imports_make ws))
 heading_makes {names = names} (Label w) = retold (heading_parts names (Label w)) (λ p. record { code = refl; strings = refl; targets = refl; arms = refl; breaks = refl }) (labelled_makes w)
 heading_makes {names = names} (Case line c) = retold (heading_parts names (Case line c)) (λ p. record { code = refl; strings = refl; targets = refl; arms = refl; breaks = refl }) (arm_makes (CaseHere line (constant_value c)) (Some (constant_value c)) (with_case (constant_value c)) (selects line (constant_value c)) (with_case-add (constant_value c)))
 heading_makes {names = names} (Default line) = retold (heading_parts names (Default line)) (λ p. record { code = refl; strings = refl; targets = refl; arms = refl; breaks = refl }) (arm_makes (DefaultHere line) None with_default (defaults line) with_default-add)

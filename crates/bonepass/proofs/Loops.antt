@@ -41,7 +41,7 @@ ended_is : (s s2 : Scope) → scan_event LoopEnds s ≡ Ok s2 → s2 ≡ record 
 ended_is s s2 h = cc
 
 pub loops : {names : Environment} {room off off2 : ℕ} (e : Expr) (s : Stmt) → Makes names (evaluated e) (events e) (suc room) off (only (word_code names e) (strings e)) → Makes names (done s) (statement_events s) room off2 (statement_parts names s) → off2 ≡ off + length (strings e)
-    → Makes names (done (While e s)) (statement_events (While e s)) (suc room) off (statement_parts names (While e s))
+    → Makes names (done (While e s)) (events e ++ (LoopBegins ∷ (statement_events s ++ LoopEnds ∷ []))) (suc room) off (statement_parts names (While e s))
 loops {names = names} {room = room} {off = off} {off2 = off2} e s x y o = record {
   scans = loop_scans;
   depth = λ s1 s3 h.
@@ -72,7 +72,7 @@ loops {names = names} {room = room} {off = off} {off2 = off2} e s x y o = record
     ex : Parts
     ex = only (word_code names e) (strings e)
 
-    loop_scans : (d : Draft) → Nested (suc room) (scope_of d) → scope_of (done (While e s) d) ≡ scanned (statement_events (While e s)) (scope_of d)
+    loop_scans : (d : Draft) → Nested (suc room) (scope_of d) → scope_of (done (While e s) d) ≡ scanned (events e ++ inner) (scope_of d)
     loop_scans d n =
         let d1 = emitted (instr.JumpIfZero 0) (evaluated e d) in
         let n1 : Nested (suc room) (scope_of d1) = subst (Nested (suc room)) (sym (scope_kept _ (evaluated e d))) (nested_after x d n) in

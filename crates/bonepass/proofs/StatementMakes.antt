@@ -1,19 +1,19 @@
 -- One pass over a statement makes its code: by induction on the tree.
-use Rattle.std.proofs.Common.{◌≡◌, ℕ, zero, suc, ◌+◌, List, [], ◌∷◌, ◌++◌, append-nil, length, refl, sym, ap, ◌∙◌, arith, add-zero}
+use Rattle.std.proofs.Common.{◌≡◌, ℕ, zero, suc, ◌+◌, List, [], ◌∷◌, ◌++◌, append-nil, append_assoc, length, refl, sym, ap, ◌∙◌, arith, add-zero}
 use Rattle.blang.specs.declared.code.Instr.{Instr}
 use Rattle.blang.specs.declared.code.Instr.TheVariants as instr
 use Rattle.blang.specs.Trees.{Expr, Stmt, Headed, Compound, If, IfElse, While, Switch, Goto, Break, Return, ReturnValue, Evaluate, Empty, Stmts, Nothing, More}
 use Rattle.blang.specs.WellFormed.{rvalue_rank}
 use Rattle.btree.specs.Fitting.{words, Deeper, Fits, statement_words, body_words, Sits, AllSit, strings, statement_strings, body_strings}
-use Rattle.blang.specs.Walk.{Event, walk_heading, walk_statement, walk_body}
-use Rattle.btree.specs.Events.{statement_events, body_events}
+use Rattle.blang.specs.Walk.{Event, LoopBegins, LoopEnds, SwitchBegins, SwitchEnds, walk_heading, walk_statement, walk_body}
+use Rattle.btree.specs.Events.{events, statement_events, body_events}
 use Rattle.blang.specs.Code.{Environment, word_code, arms_code, piece, body_piece}
 use Rattle.btree.proofs.CodeLaws.{statement_ends, body_ends}
 use Rattle.btree.proofs.WalkLaws.{length-strings, plain_strings, heading_plain}
 use Rattle.bemit.specs.Drafts.{Draft}
 use Rattle.bemit.specs.Effects.{done, all_done}
 use Rattle.bonepass.proofs.Breaks.{statement_breaks, body_breaks, body_closes}
-use Rattle.bonepass.proofs.Parts.{Parts, Same, Makes, joined, then_, retold, deeper, idle, emits}
+use Rattle.bonepass.proofs.Parts.{Parts, Same, Makes, joined, then_, retold, ended, ended_twice, rescanned, deeper, idle, emits}
 use Rattle.bonepass.proofs.Jumps.{skipped, skips, ways_parts, parts_ways}
 use Rattle.bonepass.proofs.Trees.{statement_parts, body_parts}
 use Rattle.bonepass.proofs.Loops.{loops}
@@ -32,6 +32,16 @@ statement_offset s off = ap (λ n. off + n) (sym (length-strings (walk_statement
 
 body_offset : (ss : Stmts) (off : ℕ) → off + body_words ss ≡ off + length (body_strings ss)
 body_offset ss off = ap (λ n. off + n) (sym (length-strings (walk_body ss)))
+
+-- the events of a statement with a condition, of a loop and of a switch
+tested_events : (es fs : List Event) → es ++ fs ≡ ((es ++ []) ++ fs) ++ []
+tested_events es fs = ap (λ l. l ++ fs) (ended es) ∙ ended ((es ++ []) ++ fs)
+
+looped_events : (es fs : List Event) → es ++ (LoopBegins ∷ (fs ++ LoopEnds ∷ [])) ≡ ((es ++ []) ++ (LoopBegins ∷ fs)) ++ LoopEnds ∷ []
+looped_events es fs = sym (append_assoc es (LoopBegins ∷ fs) (LoopEnds ∷ [])) ∙ ap (λ l. (l ++ LoopBegins ∷ fs) ++ LoopEnds ∷ []) (ended es)
+
+switched_events : (es fs : List Event) → es ++ (SwitchBegins ∷ (fs ++ SwitchEnds ∷ [])) ≡ (es ++ (SwitchBegins ∷ (fs ++ []))) ++ SwitchEnds ∷ []
+switched_events es fs = sym (append_assoc es (SwitchBegins ∷ fs) (SwitchEnds ∷ [])) ∙ ap (λ l. (es ++ SwitchBegins ∷ l) ++ SwitchEnds ∷ []) (ended fs)
 
 module _ (names : Environment) where
   if_same : (e : Expr) (s : Stmt) (p : ℕ) → Same p (joined (only (word_code names e) (strings e)) (skipped (statement_parts names s))) (statement_parts names (If e s))
@@ -103,32 +113,32 @@ module _ (names : Environment) where
         (then_ (heading_makes h) (done_makes s room off sits.1) (sym (add-zero off)))
     done_makes (Compound body) room off sits =
         retold (statement_parts names (Compound body)) (λ p. record { code = refl; strings = sym (append-nil (body_strings body)); targets = refl; arms = refl; breaks = refl })
-        (level (λ k. AllSit body k off) (λ k h. all_make body k off h) room sits)
+        (rescanned (ended_twice (body_events body)) (level (λ k. AllSit body k off) (λ k h. all_make body k off h) room sits))
     done_makes (If e s) room off sits =
         retold (statement_parts names (If e s)) (if_same e s)
-        (level (λ k. Fits e rvalue_rank k off × Sits s k (off + words e))
-        (λ k h. then_ (evaluated_makes names e k off k h.0) (skips (done_makes s k (off + words e) h.1)) (expression_words e off)) room sits)
+        (rescanned (tested_events (events e) (statement_events s)) (level (λ k. Fits e rvalue_rank k off × Sits s k (off + words e))
+        (λ k h. then_ (evaluated_makes names e k off k h.0) (skips (done_makes s k (off + words e) h.1)) (expression_words e off)) room sits))
     done_makes (IfElse e s other) room off sits =
         retold (statement_parts names (IfElse e s other)) (ways_same e s other)
-        (level (λ k. Fits e rvalue_rank k off × Sits s k (off + words e) × Sits other k (off + words e + statement_words s))
-        (λ k h. then_ (evaluated_makes names e k off k h.0) (parts_ways (done_makes s k (off + words e) h.1) (done_makes other k (off + words e + statement_words s) h.2) (statement_offset s (off + words e))) (expression_words e off)) room sits.1)
+        (rescanned (tested_events (events e) (statement_events s ++ statement_events other)) (level (λ k. Fits e rvalue_rank k off × Sits s k (off + words e) × Sits other k (off + words e + statement_words s))
+        (λ k h. then_ (evaluated_makes names e k off k h.0) (parts_ways (done_makes s k (off + words e) h.1) (done_makes other k (off + words e + statement_words s) h.2) (statement_offset s (off + words e))) (expression_words e off)) room sits.1))
     done_makes (While e s) zero off sits = elim sits [ ]
-    done_makes (While e s) (suc k) off sits = loops e s (evaluated_makes names e k off (suc k) sits.0) (done_makes s k (off + words e) sits.1) (expression_words e off)
+    done_makes (While e s) (suc k) off sits = rescanned (looped_events (events e) (statement_events s)) (loops e s (evaluated_makes names e k off (suc k) sits.0) (done_makes s k (off + words e) sits.1) (expression_words e off))
     done_makes (Switch e body) zero off sits = elim sits [ ]
     done_makes (Switch e body) (suc k) off sits =
         retold (statement_parts names (Switch e body)) (switch_same e body)
-        (then_ (evaluated_makes names e k off (suc k) sits.0) (switches (body_code body) (closes body) (all_make body k (off + words e) sits.1)) (expression_words e off))
+        (rescanned (switched_events (events e) (body_events body)) (then_ (evaluated_makes names e k off (suc k) sits.0) (switches (body_code body) (closes body) (all_make body k (off + words e) sits.1)) (expression_words e off)))
     done_makes (Goto e) room off sits =
         retold (statement_parts names (Goto e)) (λ p. record { code = refl; strings = sym (append-nil (strings e)); targets = refl; arms = refl; breaks = refl })
-        (emits instr.Goto (evaluated_makes names e room off room sits))
+        (rescanned (ended (events e)) (emits instr.Goto (evaluated_makes names e room off room sits)))
     done_makes (Break line) room off sits = broken_makes line
     done_makes Return room off sits = emits instr.Return (emits (instr.Constant 0) idle)
     done_makes (ReturnValue e) room off sits =
         retold (statement_parts names (ReturnValue e)) (λ p. record { code = refl; strings = sym (append-nil (strings e)) ∙ sym (append-nil (strings e ++ [])); targets = refl; arms = refl; breaks = refl })
-        (emits instr.Return (evaluated_makes names e room off room sits))
+        (rescanned (ended_twice (events e)) (emits instr.Return (evaluated_makes names e room off room sits)))
     done_makes (Evaluate e) room off sits =
         retold (statement_parts names (Evaluate e)) (λ p. record { code = refl; strings = sym (append-nil (strings e)); targets = refl; arms = refl; breaks = refl })
-        (emits instr.Pop (evaluated_makes names e room off room sits))
+        (rescanned (ended (events e)) (emits instr.Pop (evaluated_makes names e room off room sits)))
     done_makes Empty room off sits = idle
 
     all_make : (ss : Stmts) (room off : ℕ) → AllSit ss room off → Makes names (all_done ss) (body_events ss) room off (body_parts names ss)

@@ -1,13 +1,12 @@
 -- What a walk finds: its strings with their words, its levels, and its events.
-use Rattle.std.proofs.Common.{◌≡◌, ◌≤◌, ℕ, zero, suc, ◌+◌, ◌/◌, List, [], ◌∷◌, ◌++◌, map, length, length-append, append-nil, append_assoc, refl, ap, ◌∙◌, subst, arith, true, Option, Some, None}
+use Rattle.std.proofs.Common.{◌≡◌, ◌≤◌, ℕ, zero, suc, ◌+◌, ◌/◌, List, [], ◌∷◌, ◌++◌, map, length, length-append, append-nil, refl, ap, ◌∙◌, subst, arith, Option, Some, None}
 use Rattle.std.specs.List.{flat_map}
 use Rattle.std.proofs.lemmas.List.Concat.{flat_map-append}
-use Rattle.blang.specs.Trees.{Identifier, Expr, Arguments, Named, Literal, Text, Grouped, Indexed, Called, Postfixed, Prefixed, Binary, Conditional, Assigned, No_arguments, Another, Declared, Heading, Auto, Extrn, Label, Case, Default, Stmt, Headed, Compound, If, IfElse, While, Switch, Goto, Break, Return, ReturnValue, Evaluate, Empty, Stmts, Nothing, More}
-use Rattle.blang.specs.Walk.{TextAt, Event, Declaration, Import, Mention, LoopBegins, LoopEnds, SwitchBegins, SwitchEnds, Walk, Quote, Level, ◌▸◌, levels_in, texts_in, events_in, name, walk_commas, walk_list, walk_comma, callee, walk, walk_arguments, walk_size, walk_declared, walk_import, walk_heading, walk_statement, walk_body, walk_parameter}
+use Rattle.blang.specs.Trees.{Identifier, Expr, Arguments, Named, No_arguments, Another, Declared, Heading, Auto, Extrn, Label, Case, Default, Stmt}
+use Rattle.blang.specs.Walk.{TextAt, Event, Declaration, Walk, Quote, Level, ◌▸◌, levels_in, texts_in, events_in, name, walk_commas, walk_list, walk_comma, callee, walk, walk_size, walk_declared, walk_import, walk_heading, walk_statement, walk_parameter}
 use Rattle.blang.specs.WellFormed.{packed, OffsetsFrom}
 use Rattle.blang.specs.Scan.{function_events}
 use Rattle.btree.specs.Fitting.{text_words, words_in, FitsIn, strings_in}
-use Rattle.btree.specs.Events.{events, argument_events, heading_events, statement_events, body_events}
 
 -- what is found in a name whatever it is mentioned for is found alike in what is called
 pub callee_as : {B : Type 0} (find : Walk → B) → ((w : Identifier) (a b : Event) → find (name w a) ≡ find (name w b)) → (e : Expr) → find (callee e (walk e)) ≡ find (walk e)
@@ -143,69 +142,26 @@ heading_plain (Case line c) = (tt, (tt, (tt, tt)))
 heading_plain (Default line) = (tt, (tt, tt))
 
 -- Events.
-called_events : (e : Expr) (args : List Event) → events_in (walk e) ≡ events e → (b : Arguments) → args ≡ argument_events b → events_in (callee e (walk e)) ++ ((args ++ []) ++ []) ≡ events (Called e b)
-called_events (Named w) args h b k = ap (λ l. Mention true w ∷ l) (append-nil (args ++ []) ∙ append-nil args ∙ k)
-called_events e args h b k = ap (λ l. l ++ ((args ++ []) ++ [])) h ∙ ap (λ l. events e ++ l) (append-nil (args ++ []) ∙ append-nil args ∙ k)
-
-mutual
-  pub events_are : (e : Expr) → events_in (walk e) ≡ events e
-  events_are (Named w) = refl
-  events_are (Literal c) = refl
-  events_are (Text bytes offset) = refl
-  events_are (Grouped e) = rw (events_are e, append-nil (events e), append-nil (events e)) refl
-  events_are (Indexed e f) = rw (events_are e, events_are f, append-nil (events f), append-nil (events f)) refl
-  events_are (Called e args) = called_events e (events_in (walk_arguments args)) (events_are e) args (argument_events_are args)
-  events_are (Postfixed op line e) = rw (events_are e) refl
-  events_are (Prefixed op line e) = rw (events_are e) refl
-  events_are (Binary op line e f) = rw (events_are e, events_are f) refl
-  events_are (Conditional e f g) = rw (events_are e, events_are f, events_are g, append-nil (events f ++ events g)) refl
-  events_are (Assigned op line e f) = rw (events_are e, events_are f, append-nil (events f)) refl
-
-  argument_events_are : (args : Arguments) → events_in (walk_arguments args) ≡ argument_events args
-  argument_events_are No_arguments = refl
-  argument_events_are (Another No_arguments e) = events_are e
-  argument_events_are (Another (Another before f) e) = rw (argument_events_are (Another before f), events_are e) refl
-
 -- a list of which each has one event
 module _ {A : Type 0} (say : A → Walk) (event : A → Event) (each : (x : A) → events_in (say x) ≡ event x ∷ []) where
   after_events : (xs : List A) → events_in (walk_commas say xs) ≡ map event xs
   after_events [] = refl
   after_events (x ∷ xs) = rw (each x, after_events xs) refl
 
-  list_events : (xs : List A) → events_in (walk_list say xs) ≡ map event xs
+  pub list_events : (xs : List A) → events_in (walk_list say xs) ≡ map event xs
   list_events [] = refl
   list_events (x ∷ xs) = rw (each x, after_events xs) refl
 
-size_events : (size : Option ℕ) → events_in (walk_size size) ≡ []
-size_events None = refl
-size_events (Some n) = refl
+pub comma_events : (args : Arguments) → events_in (walk_comma args) ≡ []
+comma_events No_arguments = refl
+comma_events (Another before e) = refl
 
-heading_events_are : (h : Heading) → events_in (walk_heading h) ≡ heading_events h
-heading_events_are (Auto declared) =
-    rw (list_events walk_declared (λ d. Declaration d.word d.size) (λ d. ap (λ l. Declaration d.word d.size ∷ l) (size_events d.size)) declared) (append-nil (map (λ (d : Declared). Declaration d.word d.size) declared))
-heading_events_are (Extrn names) = rw (list_events walk_import Import (λ w. refl) names) (append-nil (map Import names))
-heading_events_are (Label w) = refl
-heading_events_are (Case line c) = refl
-heading_events_are (Default line) = refl
+pub declared_events : (d : Declared) → events_in (walk_declared d) ≡ Declaration d.word d.size ∷ []
+declared_events d = ap (λ l. Declaration d.word d.size ∷ l) (size_events d.size)
+  where
+    size_events : (size : Option ℕ) → events_in (walk_size size) ≡ []
+    size_events None = refl
+    size_events (Some n) = refl
 
-mutual
-  pub statement_events_are : (s : Stmt) → events_in (walk_statement s) ≡ statement_events s
-  statement_events_are (Headed h s) = rw (heading_events_are h, statement_events_are s) refl
-  statement_events_are (Compound body) = rw (body_events_are body, append-nil (body_events body), append-nil (body_events body)) refl
-  statement_events_are (If e s) = rw (events_are e, append-nil (events e), statement_events_are s, append-nil (events e ++ statement_events s)) refl
-  statement_events_are (IfElse e s other) = rw (events_are e, append-nil (events e), statement_events_are s, statement_events_are other, append-nil (events e ++ (statement_events s ++ statement_events other))) refl
-  statement_events_are (While e s) = rw (events_are e, append-nil (events e), statement_events_are s) (append_assoc (events e) (LoopBegins ∷ statement_events s) (LoopEnds ∷ []))
-  statement_events_are (Switch e body) = rw (events_are e, body_events_are body, append-nil (body_events body)) (append_assoc (events e) (SwitchBegins ∷ body_events body) (SwitchEnds ∷ []))
-  statement_events_are (Goto e) = rw (events_are e, append-nil (events e)) refl
-  statement_events_are (Break line) = refl
-  statement_events_are Return = refl
-  statement_events_are (ReturnValue e) = rw (events_are e, append-nil (events e), append-nil (events e)) refl
-  statement_events_are (Evaluate e) = rw (events_are e, append-nil (events e)) refl
-  statement_events_are Empty = refl
-
-  body_events_are : (body : Stmts) → events_in (walk_body body) ≡ body_events body
-  body_events_are Nothing = refl
-  body_events_are (More before s) = rw (body_events_are before, statement_events_are s) refl
-
-pub function_events_are : (parameters : List Identifier) (body : Stmt) → function_events parameters body ≡ map (λ w. Declaration w None) parameters ++ statement_events body
-function_events_are parameters body = rw (list_events walk_parameter (λ w. Declaration w None) (λ w. refl) parameters, statement_events_are body) refl
+pub function_events_are : (parameters : List Identifier) (body : Stmt) → function_events parameters body ≡ map (λ w. Declaration w None) parameters ++ events_in (walk_statement body)
+function_events_are parameters body = ap (λ l. l ++ events_in (walk_statement body)) (list_events walk_parameter (λ w. Declaration w None) (λ w. refl) parameters)
