@@ -5,7 +5,7 @@ use Rattle.std.proofs.lemmas.List.Sums.{sum_by-append, sum_by-cons}
 use Rattle.blang.specs.Trees.{Identifier, Expr, Arguments, PrefixOp, Negate, Not, Indirection, Address, PreIncrement, PreDecrement, Named, Literal, Text, Grouped, Indexed, Called, Postfixed, Prefixed, Binary, Conditional, Assigned, No_arguments, Another, Declared, Heading, Auto, Extrn, Label, Case, Default, Stmt, Headed, Compound, If, IfElse, While, Switch, Goto, Break, Return, ReturnValue, Evaluate, Empty, Stmts, Nothing, More, constant_value}
 use Rattle.blang.specs.Walk.{Event, Declaration, Import, Mention, LabelHere, CaseHere, DefaultHere, BreakHere, Lvalue, LoopBegins, LoopEnds, SwitchBegins, SwitchEnds, prefix_events}
 use Rattle.btree.specs.Events.{events, argument_events, heading_events, statement_events, body_events}
-use Rattle.blang.specs.Code.{Environment, word_code, heading_code, heading_targets, piece, body_piece}
+use Rattle.blang.specs.Code.{Environment, word_code, heading_code, heading_targets, fragment, body_fragment}
 use Rattle.broundtrip.proofs.Scans.{label_in, declaration_in}
 
 abbrev labels_in : List Event → ℕ
@@ -62,13 +62,13 @@ module _ (names : Environment) where
   labels_in-heading_events (Default line) p = labels_in-cons (DefaultHere line) []
 
   mutual
-    pub labels_in-statement_events : (s : Stmt) (p : ℕ) → labels_in (statement_events s) ≡ length ((piece names s p).targets.labels)
+    pub labels_in-statement_events : (s : Stmt) (p : ℕ) → labels_in (statement_events s) ≡ length ((fragment names s p).targets.labels)
     labels_in-statement_events (Headed h s) p =
         let q = p + length (heading_code names h) in
         omega (
           arith,
           labels_in-append (heading_events h) (statement_events s),
-          length-append (heading_targets h p).labels ((piece names s q).targets.labels),
+          length-append (heading_targets h p).labels ((fragment names s q).targets.labels),
           labels_in-heading_events h p,
           labels_in-statement_events s q,
         )
@@ -77,12 +77,12 @@ module _ (names : Environment) where
         omega (arith, labels_in-append (events e) (statement_events s), labels_in-events e, labels_in-statement_events s (p + length (word_code names e p) + 1))
     labels_in-statement_events (IfElse e s other) p =
         let q = p + length (word_code names e p) + 1 in
-        let a = (piece names s q).end + 1 in
+        let a = (fragment names s q).end + 1 in
         omega (
           arith,
           labels_in-append (events e) (statement_events s ++ statement_events other),
           labels_in-append (statement_events s) (statement_events other),
-          length-append ((piece names s q).targets.labels) ((piece names other a).targets.labels),
+          length-append ((fragment names s q).targets.labels) ((fragment names other a).targets.labels),
           labels_in-events e,
           labels_in-statement_events s q,
           labels_in-statement_events other a,
@@ -116,14 +116,14 @@ module _ (names : Environment) where
     labels_in-statement_events (Evaluate e) p = labels_in-events e
     labels_in-statement_events Empty p = refl
 
-    labels_in-body_events : (ss : Stmts) (p : ℕ) → labels_in (body_events ss) ≡ length ((body_piece names ss p).targets.labels)
+    labels_in-body_events : (ss : Stmts) (p : ℕ) → labels_in (body_events ss) ≡ length ((body_fragment names ss p).targets.labels)
     labels_in-body_events Nothing p = refl
     labels_in-body_events (More before s) p =
-        let q = (body_piece names before p).end in
+        let q = (body_fragment names before p).end in
         omega (
           arith,
           labels_in-append (body_events before) (statement_events s),
-          length-append ((body_piece names before p).targets.labels) ((piece names s q).targets.labels),
+          length-append ((body_fragment names before p).targets.labels) ((fragment names s q).targets.labels),
           labels_in-body_events before p,
           labels_in-statement_events s q,
         )

@@ -6,7 +6,7 @@ use Rattle.std.proofs.lemmas.List.Sums.{sum_by-append, sum_by-cons}
 use Rattle.blang.specs.Trees.{Identifier, Expr, Arguments, Named, Literal, Text, Grouped, Indexed, Called, Postfixed, Prefixed, Binary, Conditional, Assigned, No_arguments, Another, Stmt, Headed, Compound, If, IfElse, While, Switch, Goto, Break, Return, ReturnValue, Evaluate, Empty, Stmts, Nothing, More, Ival, Ival_constant, Ival_text, Ival_name, Definition, Simple, Vector, Function}
 use Rattle.blang.specs.WellFormed.{rank, or_rank, conditional_rank, rvalue_rank, Binds, ArgumentsBind, StatementBinds, BodyBinds, nesting_limit, packed, OffsetsFrom, IsFormed}
 use Rattle.blang.specs.Walk.{TextAt}
-use Rattle.blang.specs.Code.{strings_of}
+use Rattle.blang.specs.Code.{string_words_of}
 use Rattle.btree.specs.Fitting.{EachAfter, words, argument_words, Deeper, Fits, ArgumentsFit, statement_words, body_words, Sits, AllSit, ival_words, values_words, IvalFits, strings, argument_strings, statement_strings, body_strings, ival_strings}
 use Rattle.btree.specs.Levels.{IsFormedIn}
 use Rattle.btree.proofs.WalkLaws.{nesting, argument_nesting, statement_nesting, body_nesting, texts, argument_texts, statement_texts, body_texts, value_texts, statement_levels_are, statement_texts_are, function_texts, simple_texts, vector_texts}
@@ -67,13 +67,13 @@ pub values_strings_are : (values : List Ival) → packed_all (flat_map value_tex
 values_strings_are [] = refl
 values_strings_are (v ∷ values) = both (value_texts v) (flat_map value_texts values) _ _ (value_strings_are v) (values_strings_are values)
 
-pub simple_strings : (w : Identifier) (values : List Ival) → strings_of (Simple w values) ≡ flat_map ival_strings values
+pub simple_strings : (w : Identifier) (values : List Ival) → string_words_of (Simple w values) ≡ flat_map ival_strings values
 simple_strings w values = rw (simple_texts w values) (values_strings_are values)
 
-pub vector_strings : (w : Identifier) (size : Option ℕ) (values : List Ival) → strings_of (Vector w size values) ≡ flat_map ival_strings values
+pub vector_strings : (w : Identifier) (size : Option ℕ) (values : List Ival) → string_words_of (Vector w size values) ≡ flat_map ival_strings values
 vector_strings w size values = rw (vector_texts w size values) (values_strings_are values)
 
-pub function_strings : (w : Identifier) (parameters : List Identifier) (body : Stmt) → strings_of (Function w parameters body) ≡ statement_strings body
+pub function_strings : (w : Identifier) (parameters : List Identifier) (body : Stmt) → string_words_of (Function w parameters body) ≡ statement_strings body
 function_strings w parameters body = rw (function_texts w parameters body) (statement_strings_are body)
 
 -- they are as many as the offsets count
