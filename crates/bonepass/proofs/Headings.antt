@@ -7,14 +7,14 @@ use Rattle.blang.specs.Scan.{Automatic, kind_of, Scope, scan_event}
 use Rattle.blang.specs.Walk.{Declaration, Import, LabelHere, CaseHere, DefaultHere, Event, BreakHere, walk_declared, walk_import}
 use Rattle.btree.proofs.WalkLaws.{list_events, declared_events}
 use Rattle.btree.specs.Events.{heading_events}
-use Rattle.blang.specs.Code.{Environment, Referent, In_frame, Outside, At_label, vector_code, heading_piece}
+use Rattle.blang.specs.Code.{Environment, Referent, In_frame, Outside, At_label, vector_code, heading_fragment}
 use Rattle.bemit.specs.Drafts.{Made, Draft, Going, most_words, with_made, following, event_done, emitted, worded, frame_of, vector_set, declared, imported, labelled, within_room, break_drafted, Switch, with_innermost, with_case, with_default}
 use Rattle.bemit.specs.Effects.{headed, parameters_done}
 use Rattle.btree.proofs.ScanSteps.{ArmAdded, kind_of-entered, declares, imports, labels_here, selects, defaults, breaks}
 use Rattle.bonepass.proofs.Names.{later}
 use Rattle.bonepass.proofs.Parts.{Parts, no_parts, added, first_of, first_of-none, add_arms, add_arms-none, drafted, kept, kept_within, kept_none, Roomy, smaller, changed, noted, put, emit, scope_of, scope_kept, scope_stepped, level_by, Makes, nothing_added, then_, retold, rescanned, idle}
 use Rattle.bonepass.proofs.Expressions.{only, stepped_is}
-use Rattle.bonepass.proofs.Trees.{open_piece}
+use Rattle.bonepass.proofs.Trees.{open_fragment}
 
 vector_scope : (size : Option ℕ) (k : ℕ) (d : Draft) → scope_of (vector_set size k d) ≡ scope_of d
 vector_scope None k d = refl
@@ -186,7 +186,7 @@ broken_makes line = record {
     whole m = λ i. record { code = m.code ++ instr.Jump 0 ∷ []; strings = sym (append-nil m.strings) i; values = m.values; targets = sym (append-nil m.targets) i; arms = sym (add_arms-none m.arms) i; breaks = m.breaks ++ length m.code ∷ [] }
 
 abbrev pub heading_parts : Environment → Heading → Parts
-heading_parts names h = open_piece (heading_piece names h) [] (λ p. [])
+heading_parts names h = open_fragment (heading_fragment names h) [] (λ p. [])
 
 pub heading_makes : {names : Environment} {room off : ℕ} (h : Heading) → Makes names (headed h) (heading_events h) room off (heading_parts names h)
 heading_makes {names = names} (Auto ds) = retold (heading_parts names (Auto ds)) (λ p. record { code = refl; strings = refl; targets = refl; arms = refl; breaks = refl }) (rescanned (sym (append-nil _ ∙ list_events walk_declared (λ d. Declaration d.word d.size) declared_events ds)) (autos_make ds))

@@ -5,7 +5,7 @@ use Rattle.std.proofs.lemmas.List.Sums.{sum_by-append, sum_by-cons}
 use Rattle.blang.specs.Trees.{Identifier, Expr, Arguments, Named, Literal, Text, Grouped, Indexed, Called, Postfixed, Prefixed, Binary, Conditional, Assigned, No_arguments, Another, Heading, Stmt, Headed, Compound, If, IfElse, While, Switch, Goto, Break, Return, ReturnValue, Evaluate, Empty, Stmts, Nothing, More, Ival, Ival_constant, Ival_text, Ival_name, Definition, Simple, Vector, Function}
 use Rattle.blang.specs.WellFormed.{rank, or_rank, conditional_rank, rvalue_rank, Binds, ArgumentsBind, StatementBinds, BodyBinds, nesting_limit, IsFormed}
 use Rattle.blang.specs.Walk.{Walk, levels_in, callee, walk_commas, walk_list, walk_comma, walk, walk_arguments, walk_size, walk_heading, walk_condition, walk_statement, walk_body, walk_value, walk_values, walk_parameter, walk_definition}
-use Rattle.blang.specs.Code.{strings_of}
+use Rattle.blang.specs.Code.{string_words_of}
 use Rattle.btree.specs.Fitting.{EachAfter, words_in, words, argument_words, Deeper, FitsIn, Fits, ArgumentsFit, statement_words, body_words, Sits, AllSit, ival_words, values_words, IvalFits, strings_in, statement_strings, ival_strings}
 use Rattle.btree.specs.Levels.{IsFormedIn}
 use Rattle.btree.proofs.WalkLaws.{callee_words, strings_are, fits_in, in_room, in_order, at_offset, to_callee, from_callee, plain_words, plain_strings, plain_fits, size_plain, comma_plain, parameters_plain, heading_plain}
@@ -333,12 +333,12 @@ values_strings : (values : List Ival) → strings_in (walk_values values) ≡ fl
 values_strings [] = refl
 values_strings (v ∷ values) = append-nil (ival_strings v ++ strings_in (walk_commas walk_value values)) ∙ ap (λ l. ival_strings v ++ l) (commas_strings values)
 
-pub simple_strings : (w : Identifier) (values : List Ival) → strings_of (Simple w values) ≡ flat_map ival_strings values
+pub simple_strings : (w : Identifier) (values : List Ival) → string_words_of (Simple w values) ≡ flat_map ival_strings values
 simple_strings w values = strings_are (walk_definition (Simple w values)) ∙ values_strings values
 
-pub vector_strings : (w : Identifier) (size : Option ℕ) (values : List Ival) → strings_of (Vector w size values) ≡ flat_map ival_strings values
+pub vector_strings : (w : Identifier) (size : Option ℕ) (values : List Ival) → string_words_of (Vector w size values) ≡ flat_map ival_strings values
 vector_strings w size values = strings_are (walk_definition (Vector w size values)) ∙ ap (λ l. l ++ strings_in (walk_values values)) (plain_strings (walk_size size) (size_plain size)) ∙ values_strings values
 
-pub function_strings : (w : Identifier) (parameters : List Identifier) (body : Stmt) → strings_of (Function w parameters body) ≡ statement_strings body
+pub function_strings : (w : Identifier) (parameters : List Identifier) (body : Stmt) → string_words_of (Function w parameters body) ≡ statement_strings body
 function_strings w parameters body =
     strings_are (walk_definition (Function w parameters body)) ∙ ap (λ l. l ++ statement_strings body) (plain_strings (walk_list walk_parameter parameters) (parameters_plain parameters))
