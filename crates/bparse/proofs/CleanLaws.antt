@@ -8,7 +8,7 @@ use Rattle.blang.specs.declared.token.Letters.TheVariants as letters
 use Rattle.blang.specs.declared.code.Definition as coded
 use Rattle.blang.specs.Trees.{Identifier, Stmt, Definition, Simple, Vector, Function}
 use Rattle.blang.specs.Scan.{Entry, NameKind, Automatic, kind_of, with_declaration, with_entry, fault, name_fault, most_names, Scope, no_scope, scanned, scan_event, with_names, automatic_words, function_events, function_scope, scope_fault, inner_fault, scan, identifier_of}
-use Rattle.blang.specs.Walk.{Event, Declaration}
+use Rattle.blang.specs.Walk.{Event, AutoHere}
 use Rattle.btree.specs.Events.{statement_events}
 use Rattle.bword.specs.Words.{same_name}
 use Rattle.blang.specs.Code.{ival_code, string_words_of, code_of, fits_limits, fault_of, or_too_large, vector_words}
@@ -16,7 +16,7 @@ use Rattle.bparse.specs.Sizes.{IsSmall}
 use Rattle.btree.proofs.WalkLaws.{function_events_are}
 
 abbrev parameter : Identifier → Event
-parameter w = Declaration w None
+parameter w = AutoHere w None
 
 scanned-Err : (es : List Event) (d : Diagnostic) → scanned es (Err d) ≡ Err d
 scanned-Err [] d = refl

@@ -17,7 +17,7 @@ use Rattle.blang.specs.WellFormed.{nesting_limit, IsFormed}
 use Rattle.btree.specs.Fitting.{Sits, statement_words}
 use Rattle.blang.specs.Scan.{NameKind, Automatic, External, Unlabelled, Labelled, kind_of, Scope, no_scope, scan, function_events, function_scope, scope_fault}
 use Rattle.btree.specs.Spelling.{size_spelling, spell_statement, list_spelling}
-use Rattle.blang.specs.Walk.{spell_definition, Event, Declaration, Import, Mention, LabelHere, CaseHere, DefaultHere, BreakHere, Lvalue, LoopBegins, LoopEnds, SwitchBegins, SwitchEnds, walk_list, events_in, walk_statement, walk_parameter, walk_value}
+use Rattle.blang.specs.Walk.{spell_definition, Event, AutoHere, ExtrnHere, Mention, LabelHere, CaseHere, DefaultHere, BreakHere, LvalueWanted, LoopBegins, LoopEnds, SwitchBegins, SwitchEnds, walk_list, events_in, walk_statement, walk_parameter, walk_value}
 use Rattle.bword.specs.Words.{same_name}
 use Rattle.blang.specs.Code.{Referent, In_frame, Outside, At_label, referent_of, environment_of, ival_code, vector_words, string_words_of, clean, code_of, fits_limits, or_too_large, fault_of, fragment}
 use Rattle.btree.proofs.CodeLaws.{counts_words, statement_ends}
@@ -59,13 +59,13 @@ vector_within sizes c (Unlabelled line) f = tt
 vector_within sizes c (Labelled number) f = tt
 
 event_within : (sizes : Sizes) (t : Scope) → t.frame ≡ sizes.frame → (e : Event) → IsSettled t e → IsEventWithin sizes (environment_of t.names) e
-event_within sizes t f (Declaration w (Some c)) h = rw h.is (vector_within sizes c h.kind (λ k q. let r = h.room k q in omega arith))
-event_within sizes t f (Declaration w None) h = no_vector sizes (environment_of t.names w.text)
-event_within sizes t f (Import w) h = tt
+event_within sizes t f (AutoHere w (Some c)) h = rw h.is (vector_within sizes c h.kind (λ k q. let r = h.room k q in omega arith))
+event_within sizes t f (AutoHere w None) h = no_vector sizes (environment_of t.names w.text)
+event_within sizes t f (ExtrnHere w) h = tt
 event_within sizes t f (Mention called w) h = tt
 event_within sizes t f (LabelHere w) h = tt
 event_within sizes t f (CaseHere line value) h = tt
-event_within sizes t f (Lvalue line e) h = tt
+event_within sizes t f (LvalueWanted line e) h = tt
 event_within sizes t f (DefaultHere line) h = tt
 event_within sizes t f (BreakHere line) h = tt
 event_within sizes t f LoopBegins h = tt

@@ -3,7 +3,7 @@ use Rattle.std.proofs.Common.{◌≡◌, ℕ, ◌+◌, ◌≤◌, List, [], ◌�
 use Rattle.std.specs.Prelude.{Option, Some, None, sum_by}
 use Rattle.std.proofs.lemmas.List.Sums.{sum_by-append, sum_by-cons}
 use Rattle.blang.specs.Trees.{Identifier, Expr, Arguments, PrefixOp, Negate, Not, Indirection, Address, PreIncrement, PreDecrement, Named, Literal, Text, Grouped, Indexed, Called, Postfixed, Prefixed, Binary, Conditional, Assigned, No_arguments, Another, Declared, Heading, Auto, Extrn, Label, Case, Default, Stmt, Headed, Compound, If, IfElse, While, Switch, Goto, Break, Return, ReturnValue, Evaluate, Empty, Stmts, Nothing, More}
-use Rattle.blang.specs.Walk.{Declaration, Lvalue, Walk, Noted, Level, ◌▸◌, events_in, prefix_events, callee, walk, walk_arguments, walk_comma, walk_size, walk_commas, walk_list, walk_declared, walk_import, walk_heading, walk_statement, walk_body, walk_parameter, walk_function}
+use Rattle.blang.specs.Walk.{AutoHere, LvalueWanted, Walk, Noted, Level, ◌▸◌, events_in, prefix_events, callee, walk, walk_arguments, comma_before_next, walk_size, walk_commas, walk_list, walk_declared, walk_import, walk_heading, walk_statement, walk_body, walk_parameter, walk_function}
 use Rattle.blang.specs.Scan.{function_events}
 use Rattle.blang.specs.Code.{Environment, word_code, heading_code, heading_targets, fragment, body_fragment}
 use Rattle.broundtrip.proofs.Scans.{label_in, declaration_in}
@@ -24,15 +24,15 @@ prefix_labels : (op : PrefixOp) (line : ℕ) (e : Expr) → sum_by label_in (pre
 prefix_labels Negate line e = refl
 prefix_labels Not line e = refl
 prefix_labels Indirection line e = refl
-prefix_labels Address line e = sum_by-cons label_in (Lvalue line e) []
-prefix_labels PreIncrement line e = sum_by-cons label_in (Lvalue line e) []
-prefix_labels PreDecrement line e = sum_by-cons label_in (Lvalue line e) []
+prefix_labels Address line e = sum_by-cons label_in (LvalueWanted line e) []
+prefix_labels PreIncrement line e = sum_by-cons label_in (LvalueWanted line e) []
+prefix_labels PreDecrement line e = sum_by-cons label_in (LvalueWanted line e) []
 
 callee_labels : (e : Expr) → labels_in (walk e) ≡ 0 → labels_in (callee e (walk e)) ≡ 0
 callee_labels (Named w) h = refl
 callee_labels _ h = h
 
-comma_labels : (args : Arguments) → labels_in (walk_comma args) ≡ 0
+comma_labels : (args : Arguments) → labels_in (comma_before_next args) ≡ 0
 comma_labels No_arguments = refl
 comma_labels (Another before e) = refl
 
@@ -111,11 +111,11 @@ module _ (names : Environment) where
 -- parameters are declared
 further_declared : (ws : List Identifier) → length ws ≤ sum_by declaration_in (events_in (walk_commas walk_parameter ws))
 further_declared [] = omega arith
-further_declared (w ∷ ws) = omega (arith, sum_by-cons declaration_in (Declaration w None) (events_in (walk_commas walk_parameter ws)), further_declared ws)
+further_declared (w ∷ ws) = omega (arith, sum_by-cons declaration_in (AutoHere w None) (events_in (walk_commas walk_parameter ws)), further_declared ws)
 
 list_declared : (ws : List Identifier) → length ws ≤ sum_by declaration_in (events_in (walk_list walk_parameter ws))
 list_declared [] = omega arith
-list_declared (w ∷ ws) = omega (arith, sum_by-cons declaration_in (Declaration w None) (events_in (walk_commas walk_parameter ws)), further_declared ws)
+list_declared (w ∷ ws) = omega (arith, sum_by-cons declaration_in (AutoHere w None) (events_in (walk_commas walk_parameter ws)), further_declared ws)
 
 pub parameters_declared : (ws : List Identifier) (body : Stmt) → length ws ≤ sum_by declaration_in (function_events ws body)
 parameters_declared ws body = omega (arith, list_declared ws, sum_by-append declaration_in (events_in (walk_list walk_parameter ws)) (events_in (walk_statement body)))

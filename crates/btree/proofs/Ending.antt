@@ -5,7 +5,7 @@ use Rattle.blang.specs.declared.token.Token.TheVariants as token
 use Rattle.blang.specs.declared.token.Placed.{Placed}
 use Rattle.blang.specs.Trees.{mark, Expr, Arguments, Number, Named, Literal, Text, Grouped, Indexed, Called, Postfixed, Prefixed, Binary, Conditional, Assigned, No_arguments, Another, name_token, prefix_token, postfix_token, Stmt, Headed, Compound, If, IfElse, While, Switch, Goto, Break, Return, ReturnValue, Evaluate, Empty, Stmts, Nothing, More, keyword_mark, Definition, Simple, Vector, Function}
 use Rattle.btree.specs.Spelling.{spell, spell_arguments, list_spelling, spell_heading, spell_condition, spell_statement, spell_body}
-use Rattle.blang.specs.Walk.{Walk, Said, ◌▸◌, spell_definition, spell_all, plain, walk, walk_arguments, walk_list, walk_heading, walk_condition, walk_statement, walk_body, walk_definition, walk_parameter}
+use Rattle.blang.specs.Walk.{Walk, Said, ◌▸◌, spell_definition, spell_all, plain, walk, walk_arguments, walk_list, walk_heading, walk_parenthesized, walk_statement, walk_body, walk_definition, walk_parameter}
 use Rattle.blang.specs.Cut.{placed}
 use Rattle.blang.specs.WellFormed.{rank, or_rank, conditional_rank, rvalue_rank, is_open}
 use Rattle.btree.specs.Fitting.{words, argument_words, Fits, ArgumentsFit, statement_words, body_words, Sits, AllSit}
@@ -21,11 +21,11 @@ use Rattle.btree.proofs.WalkLaws.{callee_as}
 said : (us : List Leveled) (t : Leveled) (vs : List Leveled) (a : List Placed) (b : List Placed) → tokens us ≡ a → tokens vs ≡ b → tokens (us ++ t ∷ vs) ≡ a ++ t.token ∷ b
 said us t vs a b e f = tokens-append us (t ∷ vs) ∙ ap (λ l. l ++ t.token ∷ tokens vs) e ∙ ap (λ l. a ++ t.token ∷ l) f
 
--- a rvalue in parentheses, and what stands after them
+-- an rvalue in parentheses, and what stands after them
 abbrev condition_levels : Expr → ℕ → List Leveled → List Leveled
 condition_levels e n following = on n (mark token.OpenParen) ∷ (leveled (walk e) n ++ (on n (mark token.CloseParen) ∷ following))
 
-condition_leveled : (e : Expr) (n : ℕ) (following : List Leveled) → leveled (walk_condition e) n ++ following ≡ condition_levels e n following
+condition_leveled : (e : Expr) (n : ℕ) (following : List Leveled) → leveled (walk_parenthesized e) n ++ following ≡ condition_levels e n following
 condition_leveled e n following = ap (λ l. on n (mark token.OpenParen) ∷ l) (append_assoc (leveled (walk e) n) (on n (mark token.CloseParen) ∷ []) following)
 
 -- a list of two parts that is cut: inside the first, or after it
@@ -214,7 +214,7 @@ module _ (most : ℕ) where
       → ((e : Expr) (b : B) → suc n ≤ most → Fits e rvalue_rank (most - suc n) off → Good (off + words e) b → Sits (make e b) (most - n) off)
       → (least : B) → ((o : ℕ) → Good o least) → (e : Expr) (room : ℕ) → Fits e rvalue_rank room off → Ends most spell (λ x. Fits x rvalue_rank (most - suc n) off) (leveled (walk e) (suc n))
       → (following : List Leveled) → Ends most tell (Good (off + words e)) following
-      → Ends most spell_statement (λ x. Sits x (most - n) off) (on (suc n) k ∷ (leveled (walk_condition e) (suc n) ++ following))
+      → Ends most spell_statement (λ x. Sits x (most - n) off) (on (suc n) k ∷ (leveled (walk_parenthesized e) (suc n) ++ following))
   conditioned {B} k tell Good make n off spelled sits least least_good e room fits ends following after_ends =
       subst (λ l. Ends most spell_statement (λ x. Sits x (most - n) off) (on (suc n) k ∷ l)) (sym (condition_leveled e (suc n) following))
       (then_part most (λ (p : Expr × B). spell_condition p.0 ++ tell p.1) spell_statement (λ (p : Expr × B). Fits p.0 rvalue_rank (most - suc n) off × Good (off + words p.0) p.1) (λ x. Sits x (most - n) off) (λ (p : Expr × B). make p.0 p.1)

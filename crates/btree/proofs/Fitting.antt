@@ -4,7 +4,7 @@ use Rattle.std.specs.List.{flat_map}
 use Rattle.std.proofs.lemmas.List.Sums.{sum_by-append, sum_by-cons}
 use Rattle.blang.specs.Trees.{Identifier, Expr, Arguments, Named, Literal, Text, Grouped, Indexed, Called, Postfixed, Prefixed, Binary, Conditional, Assigned, No_arguments, Another, Heading, Stmt, Headed, Compound, If, IfElse, While, Switch, Goto, Break, Return, ReturnValue, Evaluate, Empty, Stmts, Nothing, More, Ival, Ival_constant, Ival_text, Ival_name, Definition, Simple, Vector, Function}
 use Rattle.blang.specs.WellFormed.{rank, or_rank, conditional_rank, rvalue_rank, Binds, ArgumentsBind, StatementBinds, BodyBinds, nesting_limit, IsFormed}
-use Rattle.blang.specs.Walk.{Walk, levels_in, callee, walk_commas, walk_list, walk_comma, walk, walk_arguments, walk_size, walk_heading, walk_condition, walk_statement, walk_body, walk_value, walk_values, walk_parameter, walk_definition}
+use Rattle.blang.specs.Walk.{Walk, levels_in, callee, walk_commas, walk_list, comma_before_next, walk, walk_arguments, walk_size, walk_heading, walk_parenthesized, walk_statement, walk_body, walk_value, walk_values, walk_parameter, walk_definition}
 use Rattle.blang.specs.Code.{string_words_of}
 use Rattle.btree.specs.Fitting.{EachAfter, words_in, words, argument_words, Deeper, FitsIn, Fits, ArgumentsFit, statement_words, body_words, Sits, AllSit, ival_words, values_words, IvalFits, strings_in, statement_strings, ival_strings}
 use Rattle.btree.specs.Levels.{IsFormedIn}
@@ -15,8 +15,8 @@ sink : (P Q : ℕ → Type 0) (room : ℕ) → ((k : ℕ) → P k → Q k) → D
 sink P Q zero f h = absurd h
 sink P Q (suc k) f h = f k h
 
-comma_words : (args : Arguments) → words_in (walk_comma args) ≡ 0
-comma_words args = plain_words (walk_comma args) (comma_plain args)
+comma_words : (args : Arguments) → words_in (comma_before_next args) ≡ 0
+comma_words args = plain_words (comma_before_next args) (comma_plain args)
 
 heading_words : (h : Heading) → words_in (walk_heading h) ≡ 0
 heading_words h = plain_words (walk_heading h) (heading_plain h)
@@ -28,7 +28,7 @@ past w room a h = at_offset w room (a + 0) a (add-zero a) h
 upto : (w : Walk) (room a : ℕ) → FitsIn w room a → FitsIn w room (a + 0)
 upto w room a h = at_offset w room a (a + 0) (sym (add-zero a)) h
 
-after_condition : (e : Expr) (off : ℕ) → off + words_in (walk_condition e) ≡ off + words e
+after_condition : (e : Expr) (off : ℕ) → off + words_in (walk_parenthesized e) ≡ off + words e
 after_condition e off = omega arith
 
 -- What binds and fits in its walk fits.
@@ -70,7 +70,7 @@ mutual
       let o = off + argument_words before in
       (arguments_fit before room off b.0 h.0, fits e rvalue_rank room o b.1 (at_offset (walk e) room _ o (omega (arith, comma_words before)) h.1.1))
 
-condition_fits : (e : Expr) (room off : ℕ) → Binds e rvalue_rank → FitsIn (walk_condition e) room off → Fits e rvalue_rank room off
+condition_fits : (e : Expr) (room off : ℕ) → Binds e rvalue_rank → FitsIn (walk_parenthesized e) room off → Fits e rvalue_rank room off
 condition_fits e room off b h = fits e rvalue_rank room off b (past (walk e) room off h.1.0)
 
 mutual
@@ -79,13 +79,13 @@ mutual
   sits (Compound body) room off b f = sink (λ k. FitsIn (walk_body body) k off) (λ k. AllSit body k off) room (λ k i. all_sit body k off b i) f.0
   sits (If e s) room off b f =
       let o = off + words e in
-      sink (λ k. FitsIn (walk_condition e) k off × FitsIn (walk_statement s) k (off + words_in (walk_condition e))) (λ k. Fits e rvalue_rank k off × Sits s k o) room
+      sink (λ k. FitsIn (walk_parenthesized e) k off × FitsIn (walk_statement s) k (off + words_in (walk_parenthesized e))) (λ k. Fits e rvalue_rank k off × Sits s k o) room
       (λ k i. (condition_fits e k off b.0 i.0, sits s k o b.1 (at_offset (walk_statement s) k _ o (after_condition e off) i.1))) f
   sits (IfElse e s other) room off b f =
-      let c = off + words_in (walk_condition e) in
+      let c = off + words_in (walk_parenthesized e) in
       let o = off + words e in (
         b.0,
-        sink (λ k. FitsIn (walk_condition e) k off × (FitsIn (walk_statement s) k c × (Unit {0} × FitsIn (walk_statement other) k (c + statement_words s + 0))))
+        sink (λ k. FitsIn (walk_parenthesized e) k off × (FitsIn (walk_statement s) k c × (Unit {0} × FitsIn (walk_statement other) k (c + statement_words s + 0))))
             (λ k. Fits e rvalue_rank k off × Sits s k o × Sits other k (o + statement_words s)) room
             (λ k i. (
               condition_fits e k off b.1 i.0,
@@ -95,7 +95,7 @@ mutual
       )
   sits (While e s) room off b f =
       let o = off + words e in
-      sink (λ k. FitsIn (walk_condition e) k off × (Unit {0} × FitsIn (walk_statement s) k (off + words_in (walk_condition e) + 0))) (λ k. Fits e rvalue_rank k off × Sits s k o) room
+      sink (λ k. FitsIn (walk_parenthesized e) k off × (Unit {0} × FitsIn (walk_statement s) k (off + words_in (walk_parenthesized e) + 0))) (λ k. Fits e rvalue_rank k off × Sits s k o) room
       (λ k i. (condition_fits e k off b.0 i.0, sits s k o b.1 (at_offset (walk_statement s) k _ o (omega arith) i.1.1))) f
   sits (Switch e body) room off b f =
       let o = off + words e in
@@ -104,7 +104,7 @@ mutual
   sits (Goto e) room off b f = fits e rvalue_rank room off b (past (walk e) room off f.1.0)
   sits (Break line) room off b f = tt
   sits Return room off b f = tt
-  sits (ReturnValue e) room off b f = condition_fits e room off b (past (walk_condition e) room off f.1.0)
+  sits (ReturnValue e) room off b f = condition_fits e room off b (past (walk_parenthesized e) room off f.1.0)
   sits (Evaluate e) room off b f = fits e rvalue_rank room off b f.0
   sits Empty room off b f = tt
 
@@ -195,9 +195,9 @@ mutual
   arguments_stand No_arguments room off h = tt
   arguments_stand (Another before e) room off h =
       let o = off + argument_words before in
-      (arguments_stand before room off h.0, (plain_fits (walk_comma before) (comma_plain before) room o, at_offset (walk e) room o _ (omega (arith, comma_words before)) (stands e rvalue_rank room o h.1)))
+      (arguments_stand before room off h.0, (plain_fits (comma_before_next before) (comma_plain before) room o, at_offset (walk e) room o _ (omega (arith, comma_words before)) (stands e rvalue_rank room o h.1)))
 
-condition_stands : (e : Expr) (room off : ℕ) → Fits e rvalue_rank room off → FitsIn (walk_condition e) room off
+condition_stands : (e : Expr) (room off : ℕ) → Fits e rvalue_rank room off → FitsIn (walk_parenthesized e) room off
 condition_stands e room off h = (tt, (upto (walk e) room off (stands e rvalue_rank room off h), tt))
 
 mutual
@@ -207,15 +207,15 @@ mutual
   statement_stands (Compound body) room off f = (sink (λ k. AllSit body k off) (λ k. FitsIn (walk_body body) k off) room (λ k i. body_stands body k off i) f, tt)
   statement_stands (If e s) room off f =
       let o = off + words e in
-      let c = off + words_in (walk_condition e) in
-      sink (λ k. Fits e rvalue_rank k off × Sits s k o) (λ k. FitsIn (walk_condition e) k off × FitsIn (walk_statement s) k c) room
+      let c = off + words_in (walk_parenthesized e) in
+      sink (λ k. Fits e rvalue_rank k off × Sits s k o) (λ k. FitsIn (walk_parenthesized e) k off × FitsIn (walk_statement s) k c) room
       (λ k i. (condition_stands e k off i.0, at_offset (walk_statement s) k o c (omega arith) (statement_stands s k o i.1))) f
   statement_stands (IfElse e s other) room off f =
       let o = off + words e in
-      let c = off + words_in (walk_condition e) in
+      let c = off + words_in (walk_parenthesized e) in
       let a = c + statement_words s + 0 in
       sink (λ k. Fits e rvalue_rank k off × Sits s k o × Sits other k (o + statement_words s))
-      (λ k. FitsIn (walk_condition e) k off × (FitsIn (walk_statement s) k c × (Unit {0} × FitsIn (walk_statement other) k a))) room
+      (λ k. FitsIn (walk_parenthesized e) k off × (FitsIn (walk_statement s) k c × (Unit {0} × FitsIn (walk_statement other) k a))) room
       (λ k i. (
         condition_stands e k off i.0,
         (
@@ -225,8 +225,8 @@ mutual
       )) f.1
   statement_stands (While e s) room off f =
       let o = off + words e in
-      let c = off + words_in (walk_condition e) + 0 in
-      sink (λ k. Fits e rvalue_rank k off × Sits s k o) (λ k. FitsIn (walk_condition e) k off × (Unit {0} × FitsIn (walk_statement s) k c)) room
+      let c = off + words_in (walk_parenthesized e) + 0 in
+      sink (λ k. Fits e rvalue_rank k off × Sits s k o) (λ k. FitsIn (walk_parenthesized e) k off × (Unit {0} × FitsIn (walk_statement s) k c)) room
       (λ k i. (condition_stands e k off i.0, (tt, at_offset (walk_statement s) k o c (omega arith) (statement_stands s k o i.1)))) f
   statement_stands (Switch e body) room off f =
       let o = off + words e in
@@ -236,7 +236,7 @@ mutual
   statement_stands (Goto e) room off f = (tt, (upto (walk e) room off (stands e rvalue_rank room off f), tt))
   statement_stands (Break line) room off f = (tt, (tt, tt))
   statement_stands Return room off f = (tt, tt)
-  statement_stands (ReturnValue e) room off f = (tt, (upto (walk_condition e) room off (condition_stands e room off f), tt))
+  statement_stands (ReturnValue e) room off f = (tt, (upto (walk_parenthesized e) room off (condition_stands e room off f), tt))
   statement_stands (Evaluate e) room off f = (stands e rvalue_rank room off f, tt)
   statement_stands Empty room off f = tt
 
