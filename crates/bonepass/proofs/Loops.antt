@@ -1,5 +1,5 @@
 -- A loop jumps back to its test, and its breaks lead after it.
-use Rattle.std.proofs.Common.{◌≡◌, ℕ, suc, ◌+◌, ◌-◌, ◌≤◌, List, [], ◌∷◌, ◌++◌, length, Result, Ok, Err, refl, sym, ap, ◌∙◌, subst, arith, le_refl, length-append, lt-ltb}
+use Rattle.std.proofs.Common.{◌≡◌, ℕ, suc, ◌+◌, ◌-◌, ◌≤◌, List, [], ◌∷◌, ◌++◌, append-nil, length, Result, Ok, Err, refl, sym, ap, ◌∙◌, subst, arith, le_refl, length-append, lt-ltb}
 use Rattle.blang.specs.declared.token.Diagnostic.{Diagnostic}
 use Rattle.blang.specs.declared.code.Instr.{Instr}
 use Rattle.blang.specs.declared.code.Instr.TheVariants as instr
@@ -7,7 +7,7 @@ use Rattle.blang.specs.Trees.{Expr, Stmt, While}
 use Rattle.blang.specs.Scan.{Scope, scan_event, scanned}
 use Rattle.blang.specs.Walk.{Event, LoopBegins, LoopEnds}
 use Rattle.btree.specs.Events.{events, statement_events}
-use Rattle.blang.specs.Code.{Environment, word_code, piece}
+use Rattle.blang.specs.Code.{Environment, word_code, fragment}
 use Rattle.btree.specs.Fitting.{strings, statement_strings}
 use Rattle.btree.proofs.CodeLaws.{scanned-append, statement_ends}
 use Rattle.bemit.specs.Drafts.{Made, Draft, Faulty, Going, most_loops, emitted, place_of, loop_begun, loop_ended}
@@ -41,7 +41,7 @@ ended_is : (s s2 : Scope) → scan_event LoopEnds s ≡ Ok s2 → s2 ≡ record 
 ended_is s s2 h = cc
 
 pub loops : {names : Environment} {room off off2 : ℕ} (e : Expr) (s : Stmt) → Makes names (evaluated e) (events e) (suc room) off (only (word_code names e) (strings e)) → Makes names (done s) (statement_events s) room off2 (statement_parts names s) → off2 ≡ off + length (strings e)
-    → Makes names (done (While e s)) (statement_events (While e s)) (suc room) off (statement_parts names (While e s))
+    → Makes names (done (While e s)) (events e ++ (LoopBegins ∷ (statement_events s ++ LoopEnds ∷ []))) (suc room) off (statement_parts names (While e s))
 loops {names = names} {room = room} {off = off} {off2 = off2} e s x y o = record {
   scans = loop_scans;
   depth = λ s1 s3 h.
@@ -72,7 +72,7 @@ loops {names = names} {room = room} {off = off} {off2 = off2} e s x y o = record
     ex : Parts
     ex = only (word_code names e) (strings e)
 
-    loop_scans : (d : Draft) → Nested (suc room) (scope_of d) → scope_of (done (While e s) d) ≡ scanned (statement_events (While e s)) (scope_of d)
+    loop_scans : (d : Draft) → Nested (suc room) (scope_of d) → scope_of (done (While e s) d) ≡ scanned (events e ++ inner) (scope_of d)
     loop_scans d n =
         let d1 = emitted (instr.JumpIfZero 0) (evaluated e d) in
         let n1 : Nested (suc room) (scope_of d1) = subst (Nested (suc room)) (sym (scope_kept _ (evaluated e d))) (nested_after x d n) in
@@ -96,7 +96,7 @@ loops {names = names} {room = room} {off = off} {off2 = off2} e s x y o = record
         ∙ skip_at (λ b. breaking (λ c. turning start (λ x. done s x) c) b) s2 s4 m1 whole (omega (arith, f2, same_frame))
         (break_at (λ c. turning start (λ x. done s x) c) s2 s4 m2 back closed_code out (omega (arith, f2, same_frame)) same_length end (fills_before (instr.Jump (length m.code) ∷ []) (statement_closes names s q out)) turned)
         ∙ ap (drafted s4) (two m ex (skipped whole))
-        ∙ ap (drafted s4) (added_same m (joined ex (skipped whole)) (statement_parts names (While e s)) (record { code = code; strings = refl; targets = refl; arms = refl; breaks = refl }))
+        ∙ ap (drafted s4) (added_same m (joined ex (skipped whole)) (statement_parts names (While e s)) (record { code = code; strings = ap (λ l. l ++ statement_strings s) (sym (append-nil (strings e))); targets = refl; arms = refl; breaks = refl }))
       where
         start : ℕ
         start = place_of (drafted s1 m)
@@ -111,13 +111,13 @@ loops {names = names} {room = room} {off = off} {off2 = off2} e s x y o = record
         q = length m2.code
 
         out : ℕ
-        out = (piece names s q).end + 1
+        out = (fragment names s q).end + 1
 
         back : Parts
         back = ending (statement_parts names s) (λ p. instr.Jump (length m.code))
 
         closed_code : ℕ → List Instr
-        closed_code p = (piece names s p).code ((piece names s p).end + 1) ++ (instr.Jump (length m.code) ∷ [])
+        closed_code p = (fragment names s p).code ((fragment names s p).end + 1) ++ (instr.Jump (length m.code) ∷ [])
 
         whole : Parts
         whole = closed back closed_code
@@ -130,7 +130,7 @@ loops {names = names} {room = room} {off = off} {off2 = off2} e s x y o = record
 
         less : Roomy s3.frame m3 → Roomy s1.frame m
         less r = smaller s1.frame s3.frame m m3 (omega (arith, f, f2))
-            (omega (arith, length-append m.code (word_code names e (length m.code)), length_put m1 (instr.JumpIfZero 0), length-append m2.code ((piece names s q).code 0)))
+            (omega (arith, length-append m.code (word_code names e (length m.code)), length_put m1 (instr.JumpIfZero 0), length-append m2.code ((fragment names s q).code 0)))
             (omega (arith, length-append m.strings (strings e), length-append m1.strings (statement_strings s))) (le_refl _) r
 
         turned : turning start (λ x. done s x) (drafted s2 m2) ≡ drafted s4 (added m2 back)
@@ -142,10 +142,10 @@ loops {names = names} {room = room} {off = off} {off2 = off2} e s x y o = record
             ∙ stepped_is LoopEnds s3 s4 (added m2 back) ends same_frame
 
         same_length : length (closed_code q) ≡ length (back.code q)
-        same_length = omega (arith, length-append ((piece names s q).code out) (instr.Jump (length m.code) ∷ []), length-append ((piece names s q).code 0) (instr.Jump (length m.code) ∷ []), statement_ends names s q out, statement_ends names s q 0)
+        same_length = omega (arith, length-append ((fragment names s q).code out) (instr.Jump (length m.code) ∷ []), length-append ((fragment names s q).code 0) (instr.Jump (length m.code) ∷ []), statement_ends names s q out, statement_ends names s q 0)
 
         end : q + length (back.code q) ≡ out
-        end = omega (arith, length-append ((piece names s q).code 0) (instr.Jump (length m.code) ∷ []), statement_ends names s q 0)
+        end = omega (arith, length-append ((fragment names s q).code 0) (instr.Jump (length m.code) ∷ []), statement_ends names s q 0)
 
         ce : List Instr
         ce = word_code names e (length m.code)
@@ -153,9 +153,9 @@ loops {names = names} {room = room} {off = off} {off2 = off2} e s x y o = record
         following : List Instr
         following = closed_code (length m.code + length ce + 1)
 
-        code : ce ++ (instr.JumpIfZero (length m.code + length ce + 1 + length following) ∷ following) ≡ ce ++ (instr.JumpIfZero ((piece names s (length m.code + length ce + 1)).end + 1) ∷ following)
+        code : ce ++ (instr.JumpIfZero (length m.code + length ce + 1 + length following) ∷ following) ≡ ce ++ (instr.JumpIfZero ((fragment names s (length m.code + length ce + 1)).end + 1) ∷ following)
         code =
             let r = length m.code + length ce + 1 in
-            let there = (piece names s r).end + 1 in
-            let e : r + length following ≡ there = omega (arith, length-append ((piece names s r).code there) (instr.Jump (length m.code) ∷ []), statement_ends names s r there) in
+            let there = (fragment names s r).end + 1 in
+            let e : r + length following ≡ there = omega (arith, length-append ((fragment names s r).code there) (instr.Jump (length m.code) ∷ []), statement_ends names s r there) in
             ap (λ n. ce ++ (instr.JumpIfZero n ∷ following)) e

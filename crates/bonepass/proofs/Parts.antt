@@ -304,6 +304,13 @@ retold {a = a} b same x = record {
   inside = λ s s2 h z p. sym (same p).breaks ∙ x.inside s s2 h z p;
 }
 
+-- the same events where nothing is after them
+pub ended : (es : List Event) → es ≡ es ++ []
+ended es = sym (append-nil es)
+
+pub ended_twice : (es : List Event) → es ≡ (es ++ []) ++ []
+ended_twice es = ended es ∙ ended (es ++ [])
+
 pub rescanned : {names : Environment} {f : Draft → Draft} {es fs : List Event} {room off : ℕ} {a : Parts} → es ≡ fs → Makes names f es room off a → Makes names f fs room off a
 rescanned {names = names} {f = f} {room = room} {off = off} {a = a} e x = subst (λ l. Makes names f l room off a) e x
 

@@ -15,23 +15,22 @@ use Rattle.blang.specs.declared.token.Diagnostic.{Diagnostic}
 use Rattle.blang.specs.Trees.{Identifier, Stmt, Definition, Simple, Vector, Function as function}
 use Rattle.blang.specs.WellFormed.{nesting_limit, IsFormed}
 use Rattle.btree.specs.Fitting.{Sits, statement_words}
-use Rattle.blang.specs.Scan.{NameKind, Automatic, External, Unlabelled, Labelled, kind_of, Scope, no_scope, scan, function_events, function_scope, scope_fault, scanned}
-use Rattle.btree.specs.Spelling.{size_spelling, name_spelling, spell_statement, list_spelling, ival_spelling}
-use Rattle.blang.specs.Walk.{spell_definition, Event, Declaration, Import, Mention, LabelHere, CaseHere, DefaultHere, BreakHere, Lvalue, LoopBegins, LoopEnds, SwitchBegins, SwitchEnds, walk_parameter, walk_value}
-use Rattle.btree.specs.Events.{statement_events}
+use Rattle.blang.specs.Scan.{NameKind, Automatic, External, Unlabelled, Labelled, kind_of, Scope, no_scope, scan, function_events, function_scope, scope_fault}
+use Rattle.btree.specs.Spelling.{size_spelling, spell_statement, list_spelling}
+use Rattle.blang.specs.Walk.{spell_definition, Event, AutoHere, ExtrnHere, Mention, LabelHere, CaseHere, DefaultHere, BreakHere, LvalueWanted, LoopBegins, LoopEnds, SwitchBegins, SwitchEnds, walk_list, events_in, walk_statement, walk_parameter, walk_value}
 use Rattle.bword.specs.Words.{same_name}
-use Rattle.blang.specs.Code.{Referent, In_frame, Outside, At_label, referent_of, environment_of, ival_code, vector_words, strings_of, clean, code_of, fits_limits, or_too_large, fault_of, piece}
+use Rattle.blang.specs.Code.{Referent, In_frame, Outside, At_label, referent_of, environment_of, ival_code, vector_words, string_words_of, clean, code_of, fits_limits, or_too_large, fault_of, fragment}
 use Rattle.btree.proofs.CodeLaws.{counts_words, statement_ends}
-use Rattle.btree.proofs.Fitting.{simple_strings, vector_strings, function_strings, formed_in}
+use Rattle.btree.proofs.Fitting.{simple_strings, vector_strings, function_strings, formed_in, statement_stands}
 use Rattle.broundtrip.proofs.Holds.{Holds, Holds-nil, Holds-cons, Holds-first, Holds-rest, Holds-append, Holds-front, Holds-back, Holds-weaker, Holds-All}
 use Rattle.broundtrip.proofs.Tokens.{AreSound}
 use Rattle.broundtrip.proofs.ExpressionCode.{IsMeaningWithin}
-use Rattle.broundtrip.proofs.StatementCode.{IsVectorWithin, IsEventWithin, piece_within}
+use Rattle.broundtrip.proofs.StatementCode.{fragment_within}
+use Rattle.broundtrip.proofs.Walks.{IsVectorWithin, IsEventWithin, walk_within}
 use Rattle.broundtrip.proofs.Scopes.{IsKindWithin, IsTable, few_labels, kind_within}
 use Rattle.broundtrip.proofs.Scans.{IsSettled, scan_advances}
-use Rattle.broundtrip.proofs.Strings.{statement_strings_within, values-sound, values_strings_within, initial_values_within}
-use Rattle.broundtrip.proofs.Labels.{parameter_events, labels_in-statement_events, labels_in-parameters, parameters_declared}
-use Rattle.btree.proofs.WalkLaws.{function_events_are}
+use Rattle.broundtrip.proofs.Strings.{strings_within, values-sound, values_strings_within, initial_values_within}
+use Rattle.broundtrip.proofs.Labels.{function_labels, parameters_declared}
 
 -- Tests of sizes.
 two_fit : (a b x y : ℕ) → (nat_le a x && nat_le b y) ≡ true → (a ≤ x) × (b ≤ y)
@@ -60,13 +59,13 @@ vector_within sizes c (Unlabelled line) f = tt
 vector_within sizes c (Labelled number) f = tt
 
 event_within : (sizes : Sizes) (t : Scope) → t.frame ≡ sizes.frame → (e : Event) → IsSettled t e → IsEventWithin sizes (environment_of t.names) e
-event_within sizes t f (Declaration w (Some c)) h = rw h.is (vector_within sizes c h.kind (λ k q. let r = h.room k q in omega arith))
-event_within sizes t f (Declaration w None) h = no_vector sizes (environment_of t.names w.text)
-event_within sizes t f (Import w) h = tt
+event_within sizes t f (AutoHere w (Some c)) h = rw h.is (vector_within sizes c h.kind (λ k q. let r = h.room k q in omega arith))
+event_within sizes t f (AutoHere w None) h = no_vector sizes (environment_of t.names w.text)
+event_within sizes t f (ExtrnHere w) h = tt
 event_within sizes t f (Mention called w) h = tt
 event_within sizes t f (LabelHere w) h = tt
 event_within sizes t f (CaseHere line value) h = tt
-event_within sizes t f (Lvalue line e) h = tt
+event_within sizes t f (LvalueWanted line e) h = tt
 event_within sizes t f (DefaultHere line) h = tt
 event_within sizes t f (BreakHere line) h = tt
 event_within sizes t f LoopBegins h = tt
@@ -83,9 +82,9 @@ function_code w parameters body scope =
       name = w.text;
       parameters = length parameters;
       frame = scope.frame;
-      targets = (piece names body 0).targets.labels;
-      strings = strings_of (function w parameters body);
-      code = (piece names body 0).code ((piece names body 0).end) ++ (instr.Constant 0 ∷ instr.Return ∷ []);
+      targets = (fragment names body 0).targets.labels;
+      strings = string_words_of (function w parameters body);
+      code = (fragment names body 0).code ((fragment names body 0).end) ++ (instr.Constant 0 ∷ instr.Return ∷ []);
     }
 
 no_names : IsTable [] 0 0
@@ -97,22 +96,23 @@ function_within w parameters body s clean fit named sound sits =
     let f = function_code w parameters body s in
     let sizes = sizes_of f in
     let names = environment_of s.names in
-    let a = scan_advances (parameter_events parameters ++ statement_events body) no_scope s (ap (λ es. scanned es (Ok no_scope)) (sym (function_events_are parameters body)) ∙ clean) in
+    let a = scan_advances (function_events parameters body) no_scope s clean in
     let table = a.table no_names in
     let few_names = table.few in
     let counted_labels = a.labels in
     let grown_frame = a.frame in
     let grown_names = a.names in
     let limits = three_fit (length f.code) (length f.strings) f.frame 4096 1024 32767 fit in
-    let declared = parameters_declared parameters (statement_events body) in
-    let labels : s.labels ≡ length f.targets = omega (arith, labels_in-parameters parameters (statement_events body), labels_in-statement_events names body 0) in
-    let end = (piece names body 0).end in
+    let declared = parameters_declared parameters body in
+    let labels : s.labels ≡ length f.targets = omega (arith, function_labels names parameters body) in
+    let end = (fragment names body 0).end in
     let words_of_strings : length f.strings ≡ statement_words body = ap length (function_strings w parameters body) ∙ counts_words body in
-    let short : end < length f.code = omega (arith, statement_ends names body 0 end, length-append ((piece names body 0).code end) (instr.Constant 0 ∷ instr.Return ∷ [])) in
+    let short : end < length f.code = omega (arith, statement_ends names body 0 end, length-append ((fragment names body 0).code end) (instr.Constant 0 ∷ instr.Return ∷ [])) in
     let meant : (x : List ℕ) → IsMeaningWithin sizes (names x) =
     λ x. meaning_within sizes (kind_of x s.names) (λ k q. subst (λ n. IsKindWithin s.frame n k) labels (kind_within s.frame s.labels x s.names table.within k q)) in
-    let vectors : Holds (IsEventWithin sizes names) (statement_events body) = Holds-weaker (event_within sizes s refl) (Holds-back (parameter_events parameters) (statement_events body) a.settles) in
-    let whole = piece_within names sizes meant limits.0 body 0 nesting_limit 0 sound sits vectors short (omega (arith, words_of_strings)) in
+    let vectors = Holds-weaker (event_within sizes s refl) (Holds-back (events_in (walk_list walk_parameter parameters)) (events_in (walk_statement body)) a.settles) in
+    let inside = walk_within sizes names (walk_statement body) nesting_limit 0 sound (statement_stands body nesting_limit 0 sits) (omega (arith, words_of_strings)) vectors in
+    let whole = fragment_within names sizes meant limits.0 body 0 inside short in
     record {
       named = named;
       few_parameters = omega arith;
@@ -122,7 +122,7 @@ function_within w parameters body s clean fit named sound sits =
       few_strings = limits.1;
       few_instrs = limits.0;
       targets = Holds-All whole.labels;
-      strings = Holds-All (subst (Holds IsWord) (sym (function_strings w parameters body)) (statement_strings_within body sound));
+      strings = Holds-All (subst (Holds IsWord) (sym (function_strings w parameters body)) (strings_within (walk_statement body) sound));
       code = Holds-All (Holds-append
           (whole.code end short)
           (Holds-cons (omega arith) (Holds-cons tt Holds-nil)));

@@ -1,5 +1,5 @@
 -- The code of an expression whose tokens are sound is within the ranges of its function.
-use Rattle.std.proofs.Common.{◌≡◌, true, ℕ, zero, suc, ◌+◌, ◌-◌, ◌<◌, ◌≤◌, List, [], ◌∷◌, length, length-append, arith, subst}
+use Rattle.std.proofs.Common.{◌≡◌, true, ℕ, ◌+◌, ◌<◌, ◌≤◌, List, [], ◌∷◌, length, length-append, arith}
 use Rattle.std.specs.Prelude.{Option, Some, None}
 use Rattle.bword.specs.Words.{is_name}
 use Rattle.bword.specs.declared.operators.BinOp.{BinOp}
@@ -7,23 +7,16 @@ use Rattle.blang.specs.CodeParts.{IsInstrWithin, IsWord}
 use Rattle.blang.specs.declared.code.Sizes.{Sizes}
 use Rattle.blang.specs.declared.code.Instr.{Instr}
 use Rattle.blang.specs.Trees.{Constant, Number, Character, Expr, Arguments, PrefixOp, PostfixOp, Negate, Not, Indirection, Address, PreIncrement, PreDecrement, PostIncrement, PostDecrement, Named, Literal, Text, Grouped, Indexed, Called, Postfixed, Prefixed, Binary, Conditional, Assigned, No_arguments, Another, constant_token, constant_value}
-use Rattle.blang.specs.WellFormed.{rank, or_rank, conditional_rank, rvalue_rank}
-use Rattle.btree.specs.Fitting.{words, argument_words, Deeper, Fits, ArgumentsFit}
-use Rattle.btree.specs.Spelling.{spell, spell_arguments, comma_after}
 use Rattle.blang.specs.Code.{Referent, In_frame, Outside, At_label, Environment, name_address_code, name_word_code, assignment, argument_count, word_code, address_code, argument_code}
-use Rattle.broundtrip.proofs.Holds.{Holds, Holds-nil, Holds-cons, Holds-first, Holds-rest, Holds-append, Holds-front, Holds-back}
-use Rattle.broundtrip.proofs.Tokens.{IsSound, AreSound}
-use Rattle.btree.proofs.Spelling.{called_spelling}
+use Rattle.broundtrip.proofs.Holds.{Holds, Holds-nil, Holds-cons, Holds-append}
+use Rattle.broundtrip.proofs.Tokens.{IsSound}
+use Rattle.blang.specs.Walk.{Walk, walk, walk_arguments}
+use Rattle.broundtrip.proofs.Walks.{IsWalkWithin, callee_within}
 
 abbrev pub IsMeaningWithin : Sizes → Referent → Type 0
 IsMeaningWithin sizes (In_frame k) = k < sizes.frame
 IsMeaningWithin sizes Outside = Unit {0}
 IsMeaningWithin sizes (At_label k) = k < sizes.labels
-
--- what stands a level deeper has room
-pub deeper : (Inside : ℕ → Type 0) (room : ℕ) → Deeper Inside room → (k : ℕ) × Inside k
-deeper Inside zero h = absurd h
-deeper Inside (suc room) h = (room, h)
 
 pub word-value_of : (c : Constant) → IsSound (constant_token c) → IsWord (constant_value c)
 word-value_of (Number n) h = h
@@ -106,86 +99,55 @@ module _ (names : Environment) (sizes : Sizes) (meant : (x : List ℕ) → IsMea
   prefixed_within PreIncrement line e p w a l = Holds-append (a (omega (arith, length-append {A = Instr}))) (Holds-cons tt Holds-nil)
   prefixed_within PreDecrement line e p w a l = Holds-append (a (omega (arith, length-append {A = Instr}))) (Holds-cons tt Holds-nil)
 
+  abbrev InWalk : Walk → Type 0
+  InWalk w = IsWalkWithin sizes names w
+
   mutual
-    pub word_code_within : (e : Expr) (p loose room off : ℕ) → AreSound (spell e) → Fits e loose room off → p + length (word_code names e p) < sizes.code
-        → off + words e ≤ sizes.strings → Within (word_code names e p)
-    word_code_within (Named w) p loose room off s f l o = name_word_within (names w.text) w.text (meant w.text) (Holds-first s)
-    word_code_within (Literal c) p loose room off s f l o = Holds-cons (word-value_of c (Holds-first s)) Holds-nil
-    word_code_within (Text bytes offset) p loose room off s f l o = Holds-cons (let e : offset ≡ off = f in omega arith) Holds-nil
-    word_code_within (Grouped e) p loose room off s f l o =
-        let d = deeper _ room f in
-        word_code_within e p rvalue_rank d.0 off (Holds-front (spell e) _ (Holds-rest s)) d.1 l o
-    word_code_within (Indexed e f) p loose room off s h l o =
-        let d = deeper _ room h.2 in
+    pub word_code_within : (e : Expr) (p : ℕ) → InWalk (walk e) → p + length (word_code names e p) < sizes.code → Within (word_code names e p)
+    word_code_within (Named w) p h l = name_word_within (names w.text) w.text (meant w.text) h.0
+    word_code_within (Literal c) p h l = Holds-cons (word-value_of c h) Holds-nil
+    word_code_within (Text bytes offset) p h l = Holds-cons h Holds-nil
+    word_code_within (Grouped e) p h l = word_code_within e p h.0.1 l
+    word_code_within (Indexed e f) p h l =
         let q = p + length (word_code names e p) in
-        Holds-append (word_code_within e p 0 room off (Holds-front (spell e) _ s) h.1 (omega (arith, length-append {A = Instr})) (omega arith))
-        (Holds-append
-        (word_code_within f q rvalue_rank d.0 (off + words e) (Holds-front (spell f) _ (Holds-rest (Holds-back (spell e) _ s))) d.1 (omega (arith, length-append {A = Instr})) (omega arith))
-        (Holds-cons tt (Holds-cons tt Holds-nil)))
-    word_code_within (Called e args) p loose room off sound h l o =
-        let s = subst AreSound (called_spelling e args) sound in
-        let d = deeper _ room h.2 in
+        Holds-append (word_code_within e p h.0 (omega (arith, length-append {A = Instr})))
+        (Holds-append (word_code_within f q h.1.0.1 (omega (arith, length-append {A = Instr}))) (Holds-cons tt (Holds-cons tt Holds-nil)))
+    word_code_within (Called e args) p h l =
         let q = p + length (word_code names e p) in
-        Holds-append (word_code_within e p 0 room off (Holds-front (spell e) _ s) h.1 (omega (arith, length-append {A = Instr})) (omega arith))
-        (Holds-append
-        (argument_code_within args q d.0 (off + words e) (Holds-front (spell_arguments args) _ (Holds-rest (Holds-back (spell e) _ s))) d.1 (omega (arith, length-append {A = Instr})) (omega arith))
-        (Holds-cons (omega (arith, length-append {A = Instr}, argument_count-le names args q)) Holds-nil))
-    word_code_within (Postfixed op line e) p loose room off s h l o =
-        postfixed_within op line e p (address_code_within e p 0 room off (Holds-front (spell e) _ s) h.1 (omega (arith, postfixed_length op line e p)) o)
-    word_code_within (Prefixed op line e) p loose room off s h l o =
-        let d = deeper _ room h in
-        prefixed_within op line e p
-        (λ m. word_code_within e p 0 d.0 off (Holds-rest s) d.1 m o)
-        (λ m. address_code_within e p 0 d.0 off (Holds-rest s) d.1 m o) l
-    word_code_within (Binary op line e f) p loose room off s h l o =
+        Holds-append (word_code_within e p (callee_within sizes names e h.0) (omega (arith, length-append {A = Instr})))
+        (Holds-append (argument_code_within args q h.1.0.1 (omega (arith, length-append {A = Instr}))) (Holds-cons (omega (arith, length-append {A = Instr}, argument_count-le names args q)) Holds-nil))
+    word_code_within (Postfixed op line e) p h l = postfixed_within op line e p (address_code_within e p h.0 (omega (arith, postfixed_length op line e p)))
+    word_code_within (Prefixed op line e) p h l = prefixed_within op line e p (word_code_within e p h.1) (address_code_within e p h.1) l
+    word_code_within (Binary op line e f) p h l =
         let q = p + length (word_code names e p) in
-        Holds-append (word_code_within e p (rank op) room off (Holds-front (spell e) _ s) h.1 (omega (arith, length-append {A = Instr})) (omega arith))
-        (Holds-append
-        (word_code_within f q (rank op - 1) room (off + words e) (Holds-rest (Holds-back (spell e) _ s)) h.2 (omega (arith, length-append {A = Instr})) (omega arith))
-        (Holds-cons tt Holds-nil))
-    word_code_within (Conditional e f g) p loose room off s h l o =
-        let d = deeper _ room h.2 in
+        Holds-append (word_code_within e p h.0 (omega (arith, length-append {A = Instr})))
+        (Holds-append (word_code_within f q h.1.1 (omega (arith, length-append {A = Instr}))) (Holds-cons tt Holds-nil))
+    word_code_within (Conditional e f g) p h l =
         let ce = word_code names e p in
         let q = p + length ce + 1 in
         let cf = word_code names f q in
         let a = q + length cf + 1 in
-        let following = Holds-rest (Holds-back (spell e) _ s) in
-        Holds-append (word_code_within e p or_rank room off (Holds-front (spell e) _ s) h.1 (omega (arith, length-append {A = Instr})) (omega arith))
+        Holds-append (word_code_within e p h.0 (omega (arith, length-append {A = Instr})))
         (Holds-cons (omega (arith, length-append {A = Instr}))
-        (Holds-append (word_code_within f q rvalue_rank d.0 (off + words e) (Holds-front (spell f) _ following) d.1.0 (omega (arith, length-append {A = Instr})) (omega arith))
-        (Holds-cons (omega (arith, length-append {A = Instr}))
-        (word_code_within g a conditional_rank d.0 (off + words e + words f) (Holds-rest (Holds-back (spell f) _ following)) d.1.1 (omega (arith, length-append {A = Instr})) (omega arith)))))
-    word_code_within (Assigned op line e f) p loose room off s h l o =
-        let d = deeper _ room h.2 in
+        (Holds-append (word_code_within f q h.1.1.0 (omega (arith, length-append {A = Instr})))
+        (Holds-cons (omega (arith, length-append {A = Instr})) (word_code_within g a h.1.1.1.1 (omega (arith, length-append {A = Instr}))))))
+    word_code_within (Assigned op line e f) p h l =
         let q = p + length (address_code names e p) in
-        Holds-append (address_code_within e p 0 room off (Holds-front (spell e) _ s) h.1 (omega (arith, length-append {A = Instr})) (omega arith))
-        (Holds-append
-        (word_code_within f q rvalue_rank d.0 (off + words e) (Holds-rest (Holds-back (spell e) _ s)) d.1 (omega (arith, length-append {A = Instr})) (omega arith))
-        (assignment_within op))
+        Holds-append (address_code_within e p h.0 (omega (arith, length-append {A = Instr})))
+        (Holds-append (word_code_within f q h.1.1.1 (omega (arith, length-append {A = Instr}))) (assignment_within op))
 
-    address_code_within : (e : Expr) (p loose room off : ℕ) → AreSound (spell e) → Fits e loose room off → p + length (address_code names e p) < sizes.code
-        → off + words e ≤ sizes.strings → Within (address_code names e p)
-    address_code_within (Named w) p loose room off s f l o = name_address_within (names w.text) w.text (meant w.text) (Holds-first s)
-    address_code_within (Grouped e) p loose room off s f l o =
-        let d = deeper _ room f in
-        address_code_within e p rvalue_rank d.0 off (Holds-front (spell e) _ (Holds-rest s)) d.1 l o
-    address_code_within (Prefixed Indirection line e) p loose room off s f l o =
-        let d = deeper _ room f in
-        word_code_within e p 0 d.0 off (Holds-rest s) d.1 l o
-    address_code_within (Indexed e f) p loose room off s h l o =
-        let d = deeper _ room h.2 in
+    address_code_within : (e : Expr) (p : ℕ) → InWalk (walk e) → p + length (address_code names e p) < sizes.code → Within (address_code names e p)
+    address_code_within (Named w) p h l = name_address_within (names w.text) w.text (meant w.text) h.0
+    address_code_within (Grouped e) p h l = address_code_within e p h.0.1 l
+    address_code_within (Prefixed Indirection line e) p h l = word_code_within e p h.1 l
+    address_code_within (Indexed e f) p h l =
         let q = p + length (word_code names e p) in
-        Holds-append (word_code_within e p 0 room off (Holds-front (spell e) _ s) h.1 (omega (arith, length-append {A = Instr})) (omega arith))
-        (Holds-append
-        (word_code_within f q rvalue_rank d.0 (off + words e) (Holds-front (spell f) _ (Holds-rest (Holds-back (spell e) _ s))) d.1 (omega (arith, length-append {A = Instr})) (omega arith))
-        (Holds-cons tt Holds-nil))
-    address_code_within _ p loose room off s h l o = Holds-cons (omega arith) Holds-nil
+        Holds-append (word_code_within e p h.0 (omega (arith, length-append {A = Instr})))
+        (Holds-append (word_code_within f q h.1.0.1 (omega (arith, length-append {A = Instr}))) (Holds-cons tt Holds-nil))
+    address_code_within _ p h l = Holds-cons (omega arith) Holds-nil
 
-    argument_code_within : (args : Arguments) (p room off : ℕ) → AreSound (spell_arguments args) → ArgumentsFit args room off
-        → p + length (argument_code names args p) < sizes.code → off + argument_words args ≤ sizes.strings → Within (argument_code names args p)
-    argument_code_within No_arguments p room off s h l o = Holds-nil
-    argument_code_within (Another before e) p room off s h l o =
+    argument_code_within : (args : Arguments) (p : ℕ) → InWalk (walk_arguments args) → p + length (argument_code names args p) < sizes.code → Within (argument_code names args p)
+    argument_code_within No_arguments p h l = Holds-nil
+    argument_code_within (Another before e) p h l =
         let q = p + length (argument_code names before p) in
-        Holds-append (argument_code_within before p room off (Holds-front (spell_arguments before) _ s) h.0 (omega (arith, length-append {A = Instr})) (omega arith))
-        (word_code_within e q rvalue_rank room (off + argument_words before) (Holds-back (comma_after before) _ (Holds-back (spell_arguments before) _ s)) h.1
-        (omega (arith, length-append {A = Instr})) (omega arith))
+        Holds-append (argument_code_within before p h.0 (omega (arith, length-append {A = Instr}))) (word_code_within e q h.1.1 (omega (arith, length-append {A = Instr})))

@@ -1,5 +1,6 @@
 pub mod Holds
 pub mod Tokens
+pub mod Walks
 pub mod ExpressionCode
 pub mod StatementCode
 pub mod Scopes

@@ -56,7 +56,7 @@ pub goes_on_with_else : GoesOnWithElse
 goes_on_with_else d f o = definition_longer d f o
 
 pub has_twin : HasTwin
-has_twin d tokens f h = let t = definition_twin d tokens h in (t.tree, t.formed f, t.same_open, t.spelled)
+has_twin d tokens f h = let t = (definition_twin d).twin tokens h in (t.tree, t.alike.formed f, t.alike.same_open, t.spelled)
 
 pub reads_on : ReadsOn
 reads_on tokens = definition_fine tokens

@@ -1,13 +1,11 @@
 -- What comes of a source looks at the names before it by membership alone.
-use Rattle.std.proofs.Common.{◌≡◌, ℕ, List, [], ◌∷◌, ◌++◌, ◌+◌, length, Option, Some, None, refl, sym, ap, ◌∙◌, length-append, if◌then◌else◌}
+use Rattle.std.proofs.Common.{◌≡◌, ℕ, List, [], ◌∷◌, ◌++◌, ◌+◌, Option, Some, refl, sym, ap, ◌∙◌, length-append, if◌then◌else◌}
 use Rattle.std.proofs.lemmas.List.Folds.{list_any-append}
 use Rattle.std.specs.Prelude.{◌||◌}
-use Rattle.std.specs.List.{list_any}
 use Rattle.blang.specs.declared.token.Letters.TheVariants as letters
-use Rattle.blang.specs.declared.token.Placed.{Placed}
 use Rattle.blang.specs.declared.token.Diagnostic.{Diagnostic}
 use Rattle.btree.specs.Compiled.{AreNames, has}
-use Rattle.blang.specs.Compiles.{Defined, CompilesTo, Compilation, compilation_of, compilation_with, compiled_text}
+use Rattle.blang.specs.Compiles.{Defined, compilation_of, compilation_with, compiled_text}
 use Rattle.btree.specs.Laws.{ByMembership}
 use Rattle.blang.specs.Code.{code_of, or_too_large, fault_of}
 use Rattle.blang.specs.Trees.{Definition}

@@ -1,304 +1,167 @@
--- What a walk over a construct finds is what its parts have: levels, strings and events.
-use Rattle.std.proofs.Common.{◌≡◌, ℕ, suc, max, List, [], ◌∷◌, ◌++◌, map, append-nil, append_assoc, refl, ap, ◌∙◌, arith, true, Option, Some, None}
+-- What a walk finds: its strings with their words, its levels, and its events.
+use Rattle.std.proofs.Common.{◌≡◌, ◌≤◌, ℕ, zero, suc, ◌+◌, ◌/◌, List, [], ◌∷◌, ◌++◌, map, length, length-append, append-nil, refl, ap, ◌∙◌, subst, arith, Option, Some, None}
 use Rattle.std.specs.List.{flat_map}
-use Rattle.blang.specs.Trees.{Identifier, Expr, Arguments, Named, Literal, Text, Grouped, Indexed, Called, Postfixed, Prefixed, Binary, Conditional, Assigned, No_arguments, Another, Declared, Heading, Auto, Extrn, Label, Case, Default, Stmt, Headed, Compound, If, IfElse, While, Switch, Goto, Break, Return, ReturnValue, Evaluate, Empty, Stmts, Nothing, More, Ival, Ival_constant, Ival_text, Ival_name, Definition, Simple, Vector, Function}
-use Rattle.blang.specs.Walk.{TextAt, Event, Declaration, Import, Mention, LoopBegins, LoopEnds, SwitchBegins, SwitchEnds, Walk, levels_in, texts_in, events_in, walk_commas, walk_list, callee, walk, walk_arguments, walk_size, walk_declared, walk_import, walk_heading, walk_statement, walk_body, walk_value, walk_values, walk_parameter, walk_function, walk_definition}
-use Rattle.blang.specs.WellFormed.{texts_of}
+use Rattle.std.proofs.lemmas.List.Concat.{flat_map-append}
+use Rattle.blang.specs.Trees.{Identifier, Expr, Arguments, Named, No_arguments, Another, Declared, Heading, Auto, Extrn, Label, Case, Default, Stmt}
+use Rattle.blang.specs.Walk.{TextAt, Event, AutoHere, Walk, TextHere, Level, ◌▸◌, levels_in, texts_in, events_in, name, walk_commas, walk_list, comma_before_next, callee, walk, walk_size, walk_declared, walk_import, walk_heading, walk_statement, walk_parameter}
+use Rattle.blang.specs.WellFormed.{packed, OffsetsFrom}
 use Rattle.blang.specs.Scan.{function_events}
-use Rattle.btree.specs.Events.{events, argument_events, heading_events, statement_events, body_events}
+use Rattle.btree.specs.Fitting.{text_words, words_in, FitsIn, strings_in}
 
-abbrev mutual
-  -- the levels that an expression needs
-  pub nesting : Expr → ℕ
-  nesting (Grouped e) = suc (nesting e)
-  nesting (Indexed e f) = max (nesting e) (suc (nesting f))
-  nesting (Called e args) = max (nesting e) (suc (argument_nesting args))
-  nesting (Postfixed op line e) = nesting e
-  nesting (Prefixed op line e) = suc (nesting e)
-  nesting (Binary op line e f) = max (nesting e) (nesting f)
-  nesting (Conditional e f g) = max (nesting e) (suc (max (nesting f) (nesting g)))
-  nesting (Assigned op line e f) = max (nesting e) (suc (nesting f))
-  nesting _ = 0
+-- what is found in a name whatever it is mentioned for is found alike in what is called
+pub callee_as : {B : Type 0} (find : Walk → B) → ((w : Identifier) (a b : Event) → find (name w a) ≡ find (name w b)) → (e : Expr) → find (callee e (walk e)) ≡ find (walk e)
+callee_as find same (Named w) = same w _ _
+callee_as find same _ = refl
 
-  pub argument_nesting : Arguments → ℕ
-  argument_nesting No_arguments = 0
-  argument_nesting (Another before e) = max (argument_nesting before) (nesting e)
-
-abbrev mutual
-  -- the levels that a statement needs
-  pub statement_nesting : Stmt → ℕ
-  statement_nesting (Headed h s) = statement_nesting s
-  statement_nesting (Compound body) = suc (body_nesting body)
-  statement_nesting (If e s) = suc (max (nesting e) (statement_nesting s))
-  statement_nesting (IfElse e s other) = suc (max (nesting e) (max (statement_nesting s) (statement_nesting other)))
-  statement_nesting (While e s) = suc (max (nesting e) (statement_nesting s))
-  statement_nesting (Switch e body) = suc (max (nesting e) (body_nesting body))
-  statement_nesting (Goto e) = nesting e
-  statement_nesting (ReturnValue e) = nesting e
-  statement_nesting (Evaluate e) = nesting e
-  statement_nesting _ = 0
-
-  pub body_nesting : Stmts → ℕ
-  body_nesting Nothing = 0
-  body_nesting (More before s) = max (body_nesting before) (statement_nesting s)
-
-abbrev mutual
-  -- the strings of an expression, in the order of its tokens
-  pub texts : Expr → List TextAt
-  texts (Text bytes offset) = record { bytes = bytes; offset = offset } ∷ []
-  texts (Grouped e) = texts e
-  texts (Indexed e f) = texts e ++ texts f
-  texts (Called e args) = texts e ++ argument_texts args
-  texts (Postfixed op line e) = texts e
-  texts (Prefixed op line e) = texts e
-  texts (Binary op line e f) = texts e ++ texts f
-  texts (Conditional e f g) = texts e ++ (texts f ++ texts g)
-  texts (Assigned op line e f) = texts e ++ texts f
-  texts _ = []
-
-  pub argument_texts : Arguments → List TextAt
-  argument_texts No_arguments = []
-  argument_texts (Another before e) = argument_texts before ++ texts e
-
-abbrev mutual
-  -- the strings of a statement
-  pub statement_texts : Stmt → List TextAt
-  statement_texts (Headed h s) = statement_texts s
-  statement_texts (Compound body) = body_texts body
-  statement_texts (If e s) = texts e ++ statement_texts s
-  statement_texts (IfElse e s other) = texts e ++ (statement_texts s ++ statement_texts other)
-  statement_texts (While e s) = texts e ++ statement_texts s
-  statement_texts (Switch e body) = texts e ++ body_texts body
-  statement_texts (Goto e) = texts e
-  statement_texts (ReturnValue e) = texts e
-  statement_texts (Evaluate e) = texts e
-  statement_texts _ = []
-
-  pub body_texts : Stmts → List TextAt
-  body_texts Nothing = []
-  body_texts (More before s) = body_texts before ++ statement_texts s
-
-abbrev pub value_texts : Ival → List TextAt
-value_texts (Ival_text bytes offset) = record { bytes = bytes; offset = offset } ∷ []
-value_texts _ = []
-
--- Levels.
-callee_levels : (e : Expr) → levels_in (callee e (walk e)) ≡ levels_in (walk e)
-callee_levels (Named w) = refl
-callee_levels _ = refl
-
-mutual
-  pub levels_are : (e : Expr) → levels_in (walk e) ≡ nesting e
-  levels_are (Named w) = refl
-  levels_are (Literal c) = refl
-  levels_are (Text bytes offset) = refl
-  levels_are (Grouped e) = let h = levels_are e in omega arith
-  levels_are (Indexed e f) = let h = levels_are e in let k = levels_are f in omega arith
-  levels_are (Called e args) = let h = levels_are e in let k = argument_levels_are args in let c = callee_levels e in omega arith
-  levels_are (Postfixed op line e) = let h = levels_are e in omega arith
-  levels_are (Prefixed op line e) = let h = levels_are e in omega arith
-  levels_are (Binary op line e f) = let h = levels_are e in let k = levels_are f in omega arith
-  levels_are (Conditional e f g) = let h = levels_are e in let k = levels_are f in let l = levels_are g in omega arith
-  levels_are (Assigned op line e f) = let h = levels_are e in let k = levels_are f in omega arith
-
-  argument_levels_are : (args : Arguments) → levels_in (walk_arguments args) ≡ argument_nesting args
-  argument_levels_are No_arguments = refl
-  argument_levels_are (Another No_arguments e) = let h = levels_are e in omega arith
-  argument_levels_are (Another (Another before f) e) = let h = levels_are e in let k = argument_levels_are (Another before f) in omega arith
-
--- a list has the levels of none
-no_levels_after : {A : Type 0} (say : A → Walk) → ((x : A) → levels_in (say x) ≡ 0) → (xs : List A) → levels_in (walk_commas say xs) ≡ 0
-no_levels_after say h [] = refl
-no_levels_after say h (x ∷ xs) = let k = h x in let l = no_levels_after say h xs in omega arith
-
-no_levels : {A : Type 0} (say : A → Walk) → ((x : A) → levels_in (say x) ≡ 0) → (xs : List A) → levels_in (walk_list say xs) ≡ 0
-no_levels say h [] = refl
-no_levels say h (x ∷ xs) = let k = h x in let l = no_levels_after say h xs in omega arith
-
-size_levels : (size : Option ℕ) → levels_in (walk_size size) ≡ 0
-size_levels None = refl
-size_levels (Some n) = refl
-
-declared_levels : (d : Declared) → levels_in (walk_declared d) ≡ 0
-declared_levels d = let h = size_levels d.size in omega arith
-
-heading_levels : (h : Heading) → levels_in (walk_heading h) ≡ 0
-heading_levels (Auto declared) = let h = no_levels walk_declared declared_levels declared in omega arith
-heading_levels (Extrn names) = let h = no_levels walk_import (λ w. refl) names in omega arith
-heading_levels (Label w) = refl
-heading_levels (Case line c) = refl
-heading_levels (Default line) = refl
-
-mutual
-  pub statement_levels_are : (s : Stmt) → levels_in (walk_statement s) ≡ statement_nesting s
-  statement_levels_are (Headed h s) = let k = heading_levels h in let l = statement_levels_are s in omega arith
-  statement_levels_are (Compound body) = let h = body_levels_are body in omega arith
-  statement_levels_are (If e s) = let h = levels_are e in let k = statement_levels_are s in omega arith
-  statement_levels_are (IfElse e s other) = let h = levels_are e in let k = statement_levels_are s in let l = statement_levels_are other in omega arith
-  statement_levels_are (While e s) = let h = levels_are e in let k = statement_levels_are s in omega arith
-  statement_levels_are (Switch e body) = let h = levels_are e in let k = body_levels_are body in omega arith
-  statement_levels_are (Goto e) = let h = levels_are e in omega arith
-  statement_levels_are (Break line) = refl
-  statement_levels_are Return = refl
-  statement_levels_are (ReturnValue e) = let h = levels_are e in omega arith
-  statement_levels_are (Evaluate e) = let h = levels_are e in omega arith
-  statement_levels_are Empty = refl
-
-  body_levels_are : (body : Stmts) → levels_in (walk_body body) ≡ body_nesting body
-  body_levels_are Nothing = refl
-  body_levels_are (More before s) = let h = body_levels_are before in let k = statement_levels_are s in omega arith
+pub callee_words : (e : Expr) → words_in (callee e (walk e)) ≡ words_in (walk e)
+callee_words e = callee_as words_in (λ w a b. refl) e
 
 -- Strings.
-callee_texts : (e : Expr) → texts_in (callee e (walk e)) ≡ texts_in (walk e)
-callee_texts (Named w) = refl
-callee_texts _ = refl
+pub length-packed : (bytes : List ℕ) → length (packed bytes) ≡ text_words bytes
+length-packed [] = refl
+length-packed (x ∷ []) = refl
+length-packed (x ∷ y ∷ bytes) = let ih : length (packed bytes) ≡ (length bytes + 2) / 2 = length-packed bytes in omega arith
 
-mutual
-  pub texts_are : (e : Expr) → texts_in (walk e) ≡ texts e
-  texts_are (Named w) = refl
-  texts_are (Literal c) = refl
-  texts_are (Text bytes offset) = refl
-  texts_are (Grouped e) = rw (texts_are e, append-nil (texts e)) refl
-  texts_are (Indexed e f) = rw (texts_are e, texts_are f, append-nil (texts f)) refl
-  texts_are (Called e args) = rw (callee_texts e, texts_are e, argument_texts_are args, append-nil (argument_texts args)) refl
-  texts_are (Postfixed op line e) = rw (texts_are e, append-nil (texts e)) refl
-  texts_are (Prefixed op line e) = texts_are e
-  texts_are (Binary op line e f) = rw (texts_are e, texts_are f) refl
-  texts_are (Conditional e f g) = rw (texts_are e, texts_are f, texts_are g) refl
-  texts_are (Assigned op line e f) = rw (texts_are e, texts_are f) refl
+pub length-strings : (w : Walk) → length (strings_in w) ≡ words_in w
+length-strings (TextHere t) = length-packed t.bytes
+length-strings (Level p w end) = length-strings w
+length-strings (v ▸ w) = omega (arith, length-append (strings_in v) (strings_in w), length-strings v, length-strings w)
+length-strings _ = refl
 
-  argument_texts_are : (args : Arguments) → texts_in (walk_arguments args) ≡ argument_texts args
-  argument_texts_are No_arguments = refl
-  argument_texts_are (Another No_arguments e) = texts_are e
-  argument_texts_are (Another (Another before f) e) = rw (argument_texts_are (Another before f), texts_are e) refl
+abbrev packed_all : List TextAt → List ℕ
+packed_all ts = flat_map (λ t. packed t.bytes) ts
 
--- a list has the strings of none
-no_texts_after : {A : Type 0} (say : A → Walk) → ((x : A) → texts_in (say x) ≡ []) → (xs : List A) → texts_in (walk_commas say xs) ≡ []
-no_texts_after say h [] = refl
-no_texts_after say h (x ∷ xs) = rw (h x) (no_texts_after say h xs)
+pub strings_are : (w : Walk) → packed_all (texts_in w) ≡ strings_in w
+strings_are (TextHere t) = append-nil (packed t.bytes)
+strings_are (Level p w end) = strings_are w
+strings_are (v ▸ w) = flat_map-append (λ (t : TextAt). packed t.bytes) (texts_in v) (texts_in w) ∙ ap (λ l. l ++ packed_all (texts_in w)) (strings_are v) ∙ ap (λ l. strings_in v ++ l) (strings_are w)
+strings_are _ = refl
 
-no_texts : {A : Type 0} (say : A → Walk) → ((x : A) → texts_in (say x) ≡ []) → (xs : List A) → texts_in (walk_list say xs) ≡ []
-no_texts say h [] = refl
-no_texts say h (x ∷ xs) = rw (h x) (no_texts_after say h xs)
+counted : (w : Walk) → length (packed_all (texts_in w)) ≡ words_in w
+counted w = ap length (strings_are w) ∙ length-strings w
 
-size_texts : (size : Option ℕ) → texts_in (walk_size size) ≡ []
-size_texts None = refl
-size_texts (Some n) = refl
+-- Offsets of strings, one part after another.
+apart : (ts us : List TextAt) (off n : ℕ) → length (packed_all ts) ≡ n → OffsetsFrom off (ts ++ us) → OffsetsFrom off ts × OffsetsFrom (off + n) us
+apart [] us off n e h = let same : off ≡ off + n = omega (arith, e) in (tt, subst (λ k. OffsetsFrom k us) same h)
+apart (t ∷ ts) us off n e h =
+    let i = apart ts us (off + length (packed t.bytes)) (length (packed_all ts)) refl h.1 in
+    let same : off + length (packed t.bytes) + length (packed_all ts) ≡ off + n = omega (arith, e, length-append (packed t.bytes) (packed_all ts)) in
+    ((h.0, i.0), subst (λ k. OffsetsFrom k us) same i.1)
 
-heading_texts : (h : Heading) → texts_in (walk_heading h) ≡ []
-heading_texts (Auto declared) = rw (no_texts walk_declared (λ d. size_texts d.size) declared) refl
-heading_texts (Extrn names) = rw (no_texts walk_import (λ w. refl) names) refl
-heading_texts (Label w) = refl
-heading_texts (Case line c) = refl
-heading_texts (Default line) = refl
+together : (ts us : List TextAt) (off n : ℕ) → length (packed_all ts) ≡ n → OffsetsFrom off ts → OffsetsFrom (off + n) us → OffsetsFrom off (ts ++ us)
+together [] us off n e h k = let same : off + n ≡ off = omega (arith, e) in subst (λ k. OffsetsFrom k us) same k
+together (t ∷ ts) us off n e h k =
+    let same : off + n ≡ off + length (packed t.bytes) + length (packed_all ts) = omega (arith, e, length-append (packed t.bytes) (packed_all ts)) in
+    (h.0, together ts us (off + length (packed t.bytes)) (length (packed_all ts)) refl h.1 (subst (λ k. OffsetsFrom k us) same k))
 
-mutual
-  pub statement_texts_are : (s : Stmt) → texts_in (walk_statement s) ≡ statement_texts s
-  statement_texts_are (Headed h s) = rw (heading_texts h) (statement_texts_are s)
-  statement_texts_are (Compound body) = rw (body_texts_are body, append-nil (body_texts body)) refl
-  statement_texts_are (If e s) = rw (texts_are e, append-nil (texts e), statement_texts_are s) refl
-  statement_texts_are (IfElse e s other) = rw (texts_are e, append-nil (texts e), statement_texts_are s, statement_texts_are other) refl
-  statement_texts_are (While e s) = rw (texts_are e, append-nil (texts e), statement_texts_are s) refl
-  statement_texts_are (Switch e body) = rw (texts_are e, body_texts_are body, append-nil (body_texts body)) refl
-  statement_texts_are (Goto e) = rw (texts_are e, append-nil (texts e)) refl
-  statement_texts_are (Break line) = refl
-  statement_texts_are Return = refl
-  statement_texts_are (ReturnValue e) = rw (texts_are e, append-nil (texts e), append-nil (texts e)) refl
-  statement_texts_are (Evaluate e) = rw (texts_are e, append-nil (texts e)) refl
-  statement_texts_are Empty = refl
+-- Levels and offsets: what fits in a walk.
+pub fits_in : (w : Walk) (room off : ℕ) → levels_in w ≤ room → OffsetsFrom off (texts_in w) → FitsIn w room off
+fits_in (TextHere t) room off l o = o.0
+fits_in (Level p w end) zero off l o = absurd (omega arith)
+fits_in (Level p w end) (suc k) off l o = fits_in w k off (omega arith) o
+fits_in (v ▸ w) room off l o =
+    let s = apart (texts_in v) (texts_in w) off (words_in v) (counted v) o in
+    (fits_in v room off (omega arith) s.0, fits_in w room (off + words_in v) (omega arith) s.1)
+fits_in _ room off l o = tt
 
-  body_texts_are : (body : Stmts) → texts_in (walk_body body) ≡ body_texts body
-  body_texts_are Nothing = refl
-  body_texts_are (More before s) = rw (body_texts_are before, statement_texts_are s) refl
+pub in_room : (w : Walk) (room off : ℕ) → FitsIn w room off → levels_in w ≤ room
+in_room (Level p w end) zero off h = absurd h
+in_room (Level p w end) (suc k) off h = let i = in_room w k off h in omega arith
+in_room (v ▸ w) room off h = let i = in_room v room off h.0 in let j = in_room w room (off + words_in v) h.1 in omega arith
+in_room _ room off h = omega arith
 
-pub function_texts : (w : Identifier) (parameters : List Identifier) (body : Stmt) → texts_of (Function w parameters body) ≡ statement_texts body
-function_texts w parameters body = rw (no_texts walk_parameter (λ w. refl) parameters) (statement_texts_are body)
+pub in_order : (w : Walk) (room off : ℕ) → FitsIn w room off → OffsetsFrom off (texts_in w)
+in_order (TextHere t) room off h = (h, tt)
+in_order (Level p w end) zero off h = absurd h
+in_order (Level p w end) (suc k) off h = in_order w k off h
+in_order (v ▸ w) room off h = together (texts_in v) (texts_in w) off (words_in v) (counted v) (in_order v room off h.0) (in_order w room (off + words_in v) h.1)
+in_order _ room off h = tt
 
-after_texts : (values : List Ival) → texts_in (walk_commas walk_value values) ≡ flat_map value_texts values
-after_texts [] = refl
-after_texts (Ival_constant c ∷ values) = after_texts values
-after_texts (Ival_text bytes offset ∷ values) = rw (after_texts values) refl
-after_texts (Ival_name w ∷ values) = after_texts values
+-- the same from an equal offset
+pub at_offset : (w : Walk) (room a b : ℕ) → a ≡ b → FitsIn w room a → FitsIn w room b
+at_offset w room a b e h = subst (λ k. FitsIn w room k) e h
 
-list_texts : (values : List Ival) → texts_in (walk_list walk_value values) ≡ flat_map value_texts values
-list_texts [] = refl
-list_texts (Ival_constant c ∷ values) = after_texts values
-list_texts (Ival_text bytes offset ∷ values) = rw (after_texts values) refl
-list_texts (Ival_name w ∷ values) = after_texts values
+pub to_callee : (e : Expr) (room off : ℕ) → FitsIn (walk e) room off → FitsIn (callee e (walk e)) room off
+to_callee (Named w) room off h = (tt, tt)
+to_callee _ room off h = h
 
-pub values_texts : (values : List Ival) → texts_in (walk_values values) ≡ flat_map value_texts values
-values_texts values = rw (list_texts values) (append-nil (flat_map value_texts values))
+pub from_callee : (e : Expr) (room off : ℕ) → FitsIn (callee e (walk e)) room off → FitsIn (walk e) room off
+from_callee (Named w) room off h = (tt, tt)
+from_callee _ room off h = h
 
-pub simple_texts : (w : Identifier) (values : List Ival) → texts_of (Simple w values) ≡ flat_map value_texts values
-simple_texts w values = values_texts values
+-- Walks without strings and levels.
+abbrev pub IsPlain : Walk → Type 0
+IsPlain (TextHere t) = ⊥
+IsPlain (Level p w end) = ⊥
+IsPlain (v ▸ w) = IsPlain v × IsPlain w
+IsPlain _ = Unit {0}
 
-pub vector_texts : (w : Identifier) (size : Option ℕ) (values : List Ival) → texts_of (Vector w size values) ≡ flat_map value_texts values
-vector_texts w size values = rw (size_texts size) (values_texts values)
+pub plain_words : (w : Walk) → IsPlain w → words_in w ≡ 0
+plain_words (TextHere t) h = absurd h
+plain_words (Level p w end) h = absurd h
+plain_words (v ▸ w) h = omega (arith, plain_words v h.0, plain_words w h.1)
+plain_words _ h = refl
+
+pub plain_strings : (w : Walk) → IsPlain w → strings_in w ≡ []
+plain_strings (TextHere t) h = absurd h
+plain_strings (Level p w end) h = absurd h
+plain_strings (v ▸ w) h = rw (plain_strings v h.0) (plain_strings w h.1)
+plain_strings _ h = refl
+
+pub plain_fits : (w : Walk) → IsPlain w → (room off : ℕ) → FitsIn w room off
+plain_fits (TextHere t) h room off = absurd h
+plain_fits (Level p w end) h room off = absurd h
+plain_fits (v ▸ w) h room off = (plain_fits v h.0 room off, plain_fits w h.1 room (off + words_in v))
+plain_fits _ h room off = tt
+
+module _ {A : Type 0} (say : A → Walk) (each : (x : A) → IsPlain (say x)) where
+  commas_plain : (xs : List A) → IsPlain (walk_commas say xs)
+  commas_plain [] = tt
+  commas_plain (x ∷ xs) = (tt, (each x, commas_plain xs))
+
+  list_plain : (xs : List A) → IsPlain (walk_list say xs)
+  list_plain [] = tt
+  list_plain (x ∷ xs) = (each x, commas_plain xs)
+
+pub size_plain : (size : Option ℕ) → IsPlain (walk_size size)
+size_plain None = tt
+size_plain (Some n) = tt
+
+pub comma_plain : (args : Arguments) → IsPlain (comma_before_next args)
+comma_plain No_arguments = tt
+comma_plain (Another before e) = tt
+
+pub parameters_plain : (ws : List Identifier) → IsPlain (walk_list walk_parameter ws)
+parameters_plain ws = list_plain walk_parameter (λ w. (tt, tt)) ws
+
+pub heading_plain : (h : Heading) → IsPlain (walk_heading h)
+heading_plain (Auto declared) = (tt, (list_plain walk_declared (λ d. ((tt, tt), size_plain d.size)) declared, tt))
+heading_plain (Extrn names) = (tt, (list_plain walk_import (λ w. (tt, tt)) names, tt))
+heading_plain (Label w) = ((tt, tt), tt)
+heading_plain (Case line c) = (tt, (tt, (tt, tt)))
+heading_plain (Default line) = (tt, (tt, tt))
 
 -- Events.
-called_events : (e : Expr) (args : List Event) → events_in (walk e) ≡ events e → (b : Arguments) → args ≡ argument_events b → events_in (callee e (walk e)) ++ ((args ++ []) ++ []) ≡ events (Called e b)
-called_events (Named w) args h b k = ap (λ l. Mention true w ∷ l) (append-nil (args ++ []) ∙ append-nil args ∙ k)
-called_events e args h b k = ap (λ l. l ++ ((args ++ []) ++ [])) h ∙ ap (λ l. events e ++ l) (append-nil (args ++ []) ∙ append-nil args ∙ k)
-
-mutual
-  pub events_are : (e : Expr) → events_in (walk e) ≡ events e
-  events_are (Named w) = refl
-  events_are (Literal c) = refl
-  events_are (Text bytes offset) = refl
-  events_are (Grouped e) = rw (events_are e, append-nil (events e), append-nil (events e)) refl
-  events_are (Indexed e f) = rw (events_are e, events_are f, append-nil (events f), append-nil (events f)) refl
-  events_are (Called e args) = called_events e (events_in (walk_arguments args)) (events_are e) args (argument_events_are args)
-  events_are (Postfixed op line e) = rw (events_are e) refl
-  events_are (Prefixed op line e) = rw (events_are e) refl
-  events_are (Binary op line e f) = rw (events_are e, events_are f) refl
-  events_are (Conditional e f g) = rw (events_are e, events_are f, events_are g, append-nil (events f ++ events g)) refl
-  events_are (Assigned op line e f) = rw (events_are e, events_are f, append-nil (events f)) refl
-
-  argument_events_are : (args : Arguments) → events_in (walk_arguments args) ≡ argument_events args
-  argument_events_are No_arguments = refl
-  argument_events_are (Another No_arguments e) = events_are e
-  argument_events_are (Another (Another before f) e) = rw (argument_events_are (Another before f), events_are e) refl
-
 -- a list of which each has one event
 module _ {A : Type 0} (say : A → Walk) (event : A → Event) (each : (x : A) → events_in (say x) ≡ event x ∷ []) where
   after_events : (xs : List A) → events_in (walk_commas say xs) ≡ map event xs
   after_events [] = refl
   after_events (x ∷ xs) = rw (each x, after_events xs) refl
 
-  list_events : (xs : List A) → events_in (walk_list say xs) ≡ map event xs
+  pub list_events : (xs : List A) → events_in (walk_list say xs) ≡ map event xs
   list_events [] = refl
   list_events (x ∷ xs) = rw (each x, after_events xs) refl
 
-size_events : (size : Option ℕ) → events_in (walk_size size) ≡ []
-size_events None = refl
-size_events (Some n) = refl
+pub comma_events : (args : Arguments) → events_in (comma_before_next args) ≡ []
+comma_events No_arguments = refl
+comma_events (Another before e) = refl
 
-heading_events_are : (h : Heading) → events_in (walk_heading h) ≡ heading_events h
-heading_events_are (Auto declared) =
-    rw (list_events walk_declared (λ d. Declaration d.word d.size) (λ d. ap (λ l. Declaration d.word d.size ∷ l) (size_events d.size)) declared) (append-nil (map (λ (d : Declared). Declaration d.word d.size) declared))
-heading_events_are (Extrn names) = rw (list_events walk_import Import (λ w. refl) names) (append-nil (map Import names))
-heading_events_are (Label w) = refl
-heading_events_are (Case line c) = refl
-heading_events_are (Default line) = refl
+pub declared_events : (d : Declared) → events_in (walk_declared d) ≡ AutoHere d.word d.size ∷ []
+declared_events d = ap (λ l. AutoHere d.word d.size ∷ l) (size_events d.size)
+  where
+    size_events : (size : Option ℕ) → events_in (walk_size size) ≡ []
+    size_events None = refl
+    size_events (Some n) = refl
 
-mutual
-  pub statement_events_are : (s : Stmt) → events_in (walk_statement s) ≡ statement_events s
-  statement_events_are (Headed h s) = rw (heading_events_are h, statement_events_are s) refl
-  statement_events_are (Compound body) = rw (body_events_are body, append-nil (body_events body), append-nil (body_events body)) refl
-  statement_events_are (If e s) = rw (events_are e, append-nil (events e), statement_events_are s, append-nil (events e ++ statement_events s)) refl
-  statement_events_are (IfElse e s other) = rw (events_are e, append-nil (events e), statement_events_are s, statement_events_are other, append-nil (events e ++ (statement_events s ++ statement_events other))) refl
-  statement_events_are (While e s) = rw (events_are e, append-nil (events e), statement_events_are s) (append_assoc (events e) (LoopBegins ∷ statement_events s) (LoopEnds ∷ []))
-  statement_events_are (Switch e body) = rw (events_are e, body_events_are body, append-nil (body_events body)) (append_assoc (events e) (SwitchBegins ∷ body_events body) (SwitchEnds ∷ []))
-  statement_events_are (Goto e) = rw (events_are e, append-nil (events e)) refl
-  statement_events_are (Break line) = refl
-  statement_events_are Return = refl
-  statement_events_are (ReturnValue e) = rw (events_are e, append-nil (events e), append-nil (events e)) refl
-  statement_events_are (Evaluate e) = rw (events_are e, append-nil (events e)) refl
-  statement_events_are Empty = refl
-
-  body_events_are : (body : Stmts) → events_in (walk_body body) ≡ body_events body
-  body_events_are Nothing = refl
-  body_events_are (More before s) = rw (body_events_are before, statement_events_are s) refl
-
-pub function_events_are : (parameters : List Identifier) (body : Stmt) → function_events parameters body ≡ map (λ w. Declaration w None) parameters ++ statement_events body
-function_events_are parameters body = rw (list_events walk_parameter (λ w. Declaration w None) (λ w. refl) parameters, statement_events_are body) refl
+pub function_events_are : (parameters : List Identifier) (body : Stmt) → function_events parameters body ≡ map (λ w. AutoHere w None) parameters ++ events_in (walk_statement body)
+function_events_are parameters body = ap (λ l. l ++ events_in (walk_statement body)) (list_events walk_parameter (λ w. AutoHere w None) (λ w. refl) parameters)

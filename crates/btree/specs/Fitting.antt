@@ -4,7 +4,8 @@ use Rattle.std.specs.Prelude.{List, [], ◌∷◌, ◌++◌, ◌≡◌, ℕ, zer
 use Rattle.blang.specs.Trees.{Another, Arguments, Assigned, Binary, Called, Conditional, Expr, Grouped, Indexed}
 use Rattle.blang.specs.Trees.{Literal, Named, No_arguments, Postfixed, Prefixed, Text, Break, Compound, Empty, Evaluate}
 use Rattle.blang.specs.Trees.{Goto, Headed, If, IfElse, More, Nothing, Return, ReturnValue, Stmt, Stmts, Switch, While}
-use Rattle.blang.specs.Trees.{Ival, Ival_constant, Ival_name, Ival_text}
+use Rattle.blang.specs.Trees.{Ival}
+use Rattle.blang.specs.Walk.{Walk, TextHere, Level, ◌▸◌, walk, walk_arguments, walk_statement, walk_body, walk_value}
 use Rattle.blang.specs.WellFormed.{rank, or_rank, conditional_rank, rvalue_rank, IsPostfix, is_open, IsHeading, packed}
 
 -- what holds of each thing and those before it
@@ -16,29 +17,36 @@ EachAfter P before (x ∷ xs) = P before x × EachAfter P (before ++ x ∷ []) x
 abbrev pub text_words : List ℕ → ℕ
 text_words bytes = (length bytes + 2) / 2
 
--- the string words of an expression
-abbrev mutual
-  pub words : Expr → ℕ
-  words (Named w) = 0
-  words (Literal c) = 0
-  words (Text bytes offset) = text_words bytes
-  words (Grouped e) = words e
-  words (Indexed e f) = words e + words f
-  words (Called e args) = words e + argument_words args
-  words (Postfixed op line e) = words e
-  words (Prefixed op line e) = words e
-  words (Binary op line e f) = words e + words f
-  words (Conditional e f g) = words e + words f + words g
-  words (Assigned op line e f) = words e + words f
+-- the string words in a walk
+abbrev pub words_in : Walk → ℕ
+words_in (TextHere t) = text_words t.bytes
+words_in (Level p w end) = words_in w
+words_in (v ▸ w) = words_in v + words_in w
+words_in _ = 0
 
-  pub argument_words : Arguments → ℕ
-  argument_words No_arguments = 0
-  argument_words (Another before e) = argument_words before + words e
+abbrev pub words : Expr → ℕ
+words e = words_in (walk e)
+
+abbrev pub argument_words : Arguments → ℕ
+argument_words args = words_in (walk_arguments args)
+
+abbrev pub statement_words : Stmt → ℕ
+statement_words s = words_in (walk_statement s)
+
+abbrev pub body_words : Stmts → ℕ
+body_words body = words_in (walk_body body)
 
 -- what stands one level deeper fits the room that is left there
 abbrev pub Deeper : (ℕ → Type 0) → ℕ → Type 0
 Deeper Inside zero = ⊥
 Deeper Inside (suc room) = Inside room
+
+-- What is in a walk needs no more levels than this room, and the offsets of its strings count up from this one.
+abbrev pub FitsIn : Walk → ℕ → ℕ → Type 0
+FitsIn (TextHere t) room off = t.offset ≡ off
+FitsIn (Level p w end) room off = Deeper (λ k. FitsIn w k off) room
+FitsIn (v ▸ w) room off = FitsIn v room off × FitsIn w room (off + words_in v)
+FitsIn _ room off = Unit {0}
 
 -- The expression may stand where operators of this rank may, its nesting needs no more levels than this room,
 -- and the offsets of its strings count up from this one.
@@ -67,26 +75,6 @@ abbrev mutual
   ArgumentsFit (Another before e) room off =
       ArgumentsFit before room off × Fits e rvalue_rank room (off + argument_words before)
 
--- the string words of a statement
-abbrev mutual
-  pub statement_words : Stmt → ℕ
-  statement_words (Headed h s) = statement_words s
-  statement_words (Compound body) = body_words body
-  statement_words (If e s) = words e + statement_words s
-  statement_words (IfElse e s other) = words e + statement_words s + statement_words other
-  statement_words (While e s) = words e + statement_words s
-  statement_words (Switch e body) = words e + body_words body
-  statement_words (Goto e) = words e
-  statement_words (Break line) = 0
-  statement_words Return = 0
-  statement_words (ReturnValue e) = words e
-  statement_words (Evaluate e) = words e
-  statement_words Empty = 0
-
-  pub body_words : Stmts → ℕ
-  body_words Nothing = 0
-  body_words (More before s) = body_words before + statement_words s
-
 -- Its nesting needs no more levels than this room, each else belongs to the nearest if that has none,
 -- and the offsets of its strings count up from this one.
 abbrev mutual
@@ -112,9 +100,7 @@ abbrev mutual
   AllSit (More before s) room off = AllSit before room off × Sits s room (off + body_words before)
 
 abbrev pub ival_words : Ival → ℕ
-ival_words (Ival_constant c) = 0
-ival_words (Ival_text bytes offset) = text_words bytes
-ival_words (Ival_name w) = 0
+ival_words v = words_in (walk_value v)
 
 -- the string words of initial values
 abbrev pub values_words : List Ival → ℕ
@@ -122,49 +108,26 @@ values_words values = sum_by ival_words values
 
 -- a string's offset is the string words before it
 abbrev pub IvalFits : List Ival → Ival → Type 0
-IvalFits before (Ival_constant c) = Unit {0}
-IvalFits before (Ival_text bytes offset) = offset ≡ values_words before
-IvalFits before (Ival_name w) = Unit {0}
+IvalFits before v = FitsIn (walk_value v) 0 (values_words before)
 
 -- the words of the strings themselves
-abbrev mutual
-  pub strings : Expr → List ℕ
-  strings (Named w) = []
-  strings (Literal c) = []
-  strings (Text bytes offset) = packed bytes
-  strings (Grouped e) = strings e
-  strings (Indexed e f) = strings e ++ strings f
-  strings (Called e args) = strings e ++ argument_strings args
-  strings (Postfixed op line e) = strings e
-  strings (Prefixed op line e) = strings e
-  strings (Binary op line e f) = strings e ++ strings f
-  strings (Conditional e f g) = strings e ++ (strings f ++ strings g)
-  strings (Assigned op line e f) = strings e ++ strings f
+abbrev pub strings_in : Walk → List ℕ
+strings_in (TextHere t) = packed t.bytes
+strings_in (Level p w end) = strings_in w
+strings_in (v ▸ w) = strings_in v ++ strings_in w
+strings_in _ = []
 
-  pub argument_strings : Arguments → List ℕ
-  argument_strings No_arguments = []
-  argument_strings (Another before e) = argument_strings before ++ strings e
+abbrev pub strings : Expr → List ℕ
+strings e = strings_in (walk e)
 
-abbrev mutual
-  pub statement_strings : Stmt → List ℕ
-  statement_strings (Headed h s) = statement_strings s
-  statement_strings (Compound body) = body_strings body
-  statement_strings (If e s) = strings e ++ statement_strings s
-  statement_strings (IfElse e s other) = strings e ++ (statement_strings s ++ statement_strings other)
-  statement_strings (While e s) = strings e ++ statement_strings s
-  statement_strings (Switch e body) = strings e ++ body_strings body
-  statement_strings (Goto e) = strings e
-  statement_strings (Break line) = []
-  statement_strings Return = []
-  statement_strings (ReturnValue e) = strings e
-  statement_strings (Evaluate e) = strings e
-  statement_strings Empty = []
+abbrev pub argument_strings : Arguments → List ℕ
+argument_strings args = strings_in (walk_arguments args)
 
-  pub body_strings : Stmts → List ℕ
-  body_strings Nothing = []
-  body_strings (More before s) = body_strings before ++ statement_strings s
+abbrev pub statement_strings : Stmt → List ℕ
+statement_strings s = strings_in (walk_statement s)
+
+abbrev pub body_strings : Stmts → List ℕ
+body_strings body = strings_in (walk_body body)
 
 abbrev pub ival_strings : Ival → List ℕ
-ival_strings (Ival_constant c) = []
-ival_strings (Ival_text bytes offset) = packed bytes
-ival_strings (Ival_name w) = []
+ival_strings v = strings_in (walk_value v)

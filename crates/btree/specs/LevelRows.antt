@@ -17,10 +17,10 @@ number n = Literal (Number n)
 -- f(a) if(a) f(a[1], -a);
 in_a_call : levels_of
     (If a (Evaluate (Called (var 102) (Another (Another No_arguments (Indexed a (number 1))) (Prefixed Negate 1 a)))))
-    ≡ 0 ∷ 0 ∷ 0 ∷ 0 ∷ 1 ∷ 0 ∷ 1 ∷ 0 ∷ 1 ∷ 2 ∷ 2 ∷ 3 ∷ 3 ∷ 2 ∷ 2 ∷ 3 ∷ 3 ∷ 1 ∷ 1 ∷ []
+    ≡ 0 ∷ 0 ∷ 0 ∷ 0 ∷ 1 ∷ 1 ∷ 1 ∷ 1 ∷ 1 ∷ 2 ∷ 2 ∷ 3 ∷ 3 ∷ 2 ∷ 2 ∷ 3 ∷ 3 ∷ 1 ∷ 1 ∷ []
 in_a_call = refl
 
 -- f(a) switch a { a = a ? 1 : 2; }
 in_a_switch : levels_of (Switch a (More Nothing (Evaluate (Assigned None 1 a (Conditional a (number 1) (number 2))))))
-    ≡ 0 ∷ 0 ∷ 0 ∷ 0 ∷ 1 ∷ 1 ∷ 0 ∷ 1 ∷ 2 ∷ 2 ∷ 3 ∷ 3 ∷ 3 ∷ 3 ∷ 1 ∷ 0 ∷ []
+    ≡ 0 ∷ 0 ∷ 0 ∷ 0 ∷ 1 ∷ 1 ∷ 1 ∷ 1 ∷ 2 ∷ 2 ∷ 3 ∷ 3 ∷ 3 ∷ 3 ∷ 1 ∷ 1 ∷ []
 in_a_switch = refl
