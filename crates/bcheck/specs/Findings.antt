@@ -1,5 +1,5 @@
 -- What is known of a finding before it is told.
-use Rattle.std.specs.Prelude.{◌≡◌, ℕ, ◌<◌, IsTrue, false, List, [], ◌++◌, codes, drop, length, take, Some}
+use Rattle.std.specs.Prelude.{◌≡◌, ℕ, ◌<◌, IsTrue, false, List, [], ◌++◌, codes, drop, length, take, Option, Some, IfSome}
 use Rattle.bword.specs.declared.edition.Edition.{Edition}
 use Rattle.bword.specs.ByteEnds.{incoming_of}
 use Rattle.blang.specs.Compiles.{Compilation, CompilesTo}
@@ -14,6 +14,7 @@ use Rattle.bcheck.specs.declared.warnings.Warning.{Warning}
 use Rattle.bcheck.specs.declared.warnings.Warning.TheVariants as warning
 use Rattle.bcheck.specs.declared.excerpt.Excerpt.{Excerpt}
 use Rattle.bcheck.specs.declared.finding.Finding.{Finding}
+use Rattle.bcheck.specs.declared.finding.Spot.{Spot}
 use Rattle.bcheck.specs.declared.finding.Severity.{Severity}
 use Rattle.bcheck.specs.declared.form.Form.{Form}
 
@@ -105,6 +106,15 @@ pub record IsExcerpt (source : List ℕ) (start : ℕ) (e : Excerpt) : Type 0 wh
   pub from_line : length e.left.now < e.column
   pub in_line : IsTrue (is_in_line e.right.now)
   pub marked : 0 < e.marks
+
+-- the line and the column are those of a place of the source
+abbrev pub IsSpot : (source : List ℕ) → Spot → Type 0
+IsSpot source s =
+    (before : List ℕ) × (after : List ℕ) × (source ≡ before ++ after) × (s.line ≡ line_number_after 1 before)
+    × (s.column ≡ column_after 1 before)
+
+abbrev pub IsSecond : (source : List ℕ) → Option Spot → Type 0
+IsSecond source s = IfSome s (IsSpot source)
 
 -- the text has a finding of this code at this place more
 abbrev pub AddsFinding : Form → Severity → (file source : List ℕ) → (start : ℕ) → (code old new : List ℕ) → Type 0

@@ -48,10 +48,14 @@ impl Matter {
             Matter::LongName => ("nm", "a name has at most eight characters", "take a shorter one, wherever it stands"),
             Matter::Constant(constant) => with_code("ct", constant.advice()),
             Matter::Syntax(syntax) => with_code("sx", syntax.advice()),
-            Matter::CaseOutside => ("sx case", "this case is outside of every switch", "put it between the braces of a switch"),
-            Matter::DefaultOutside => ("sx default", "this default is outside of every switch", "put it between the braces of a switch"),
-            Matter::BreakOutside => ("sx break", "no loop and no switch is around this break", "return; leaves the function"),
-            Matter::NameAgain => ("rd", "@ is defined or declared already, in line %", "rename one of the two, or take it out"),
+            Matter::CaseOutside =>
+                ("sx case", "this case is outside of every switch", "put it between the braces of a switch"),
+            Matter::DefaultOutside =>
+                ("sx default", "this default is outside of every switch", "put it between the braces of a switch"),
+            Matter::BreakOutside =>
+                ("sx break", "no loop and no switch is around this break", "return; leaves the function"),
+            Matter::NameAgain =>
+                ("rd", "@ is defined or declared already, in line %", "rename one of the two, or take it out"),
             Matter::CaseAgain => ("rd case", "the switch has a case of this value already", "take another value"),
             Matter::DefaultAgain => ("rd default", "the switch has a default already", "take one of the two out"),
             Matter::NotLvalue(lvalue) => with_code("lv", lvalue.advice()),
@@ -59,7 +63,8 @@ impl Matter {
             Matter::TooManyNames => (">s", "a function has at most 128 names", "make two functions of it"),
             Matter::TooManyCases => (">c", "a function has at most 256 cases", "make two functions of it"),
             Matter::TooLarge(limit) => with_code(">e", limit.advice()),
-            Matter::DataTooLarge => ("load 2", "the data or the labels of the program are too many", "make the vectors smaller"),
+            Matter::DataTooLarge =>
+                ("load 2", "the data or the labels of the program are too many", "make the vectors smaller"),
             Matter::NotDefined(undefined) => with_code("load 3", undefined.advice()),
             Matter::Warning(warning) => warning.advice(),
         }

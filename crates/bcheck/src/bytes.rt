@@ -31,16 +31,23 @@ impl Byte {
         ensures { IsTrue (list_all is_on_line (result.0.now ∷ result.1.now ∷ [])) }
     {
         match self {
-            Byte::CarriageReturn => ("this is a carriage return: lines end in CR LF, as on Windows", "take all of them out: tr -d '\\r' < old.b > new.b"),
-            Byte::ByteOrderMark => ("this is a byte order mark, as some editors write", "save without it, or tail -c +4 old.b > new.b"),
+            Byte::CarriageReturn =>
+                ("this is a carriage return: lines end in CR LF, as on Windows",
+                 "take all of them out: tr -d '\\r' < old.b > new.b"),
+            Byte::ByteOrderMark =>
+                ("this is a byte order mark, as some editors write", "save without it, or tail -c +4 old.b > new.b"),
             Byte::NoBreakSpace => ("this is a no-break space, as in copied pages", "write a plain space in its place"),
-            Byte::CurlyQuote => ("this is a curly quote, as in copied pages", "write the plain quote ' or \" in its place"),
+            Byte::CurlyQuote =>
+                ("this is a curly quote, as in copied pages", "write the plain quote ' or \" in its place"),
             Byte::Dash => ("this is a dash, as in copied pages", "write a plain - in its place"),
-            Byte::FormFeed => ("this is a form feed, as between old pages", "write a space in its place: tr '\\f' ' ' < old.b > new.b"),
+            Byte::FormFeed =>
+                ("this is a form feed, as between old pages",
+                 "write a space in its place: tr '\\f' ' ' < old.b > new.b"),
             Byte::Letter => ("this is a letter beyond ASCII", "take other letters, or put it in a comment"),
             Byte::Caret => ("there is no operator ^", "(a | b) - (a & b) is the exclusive or of a and b"),
             Byte::Tilde => ("there is no operator ~", "-x - 1 has the bits of x the other way round"),
-            Byte::Hash => ("there are no lines that begin with #", "take it out; an external has a value: size 10;"),
+            Byte::Hash =>
+                ("nothing begins with #: there is no #define", "take it out; an external has a value: size 10;"),
             Byte::Backslash => ("no token begins with \\", "take it out; in quotes * begins an escape"),
             Byte::Dot => ("there are no structures and no fractions", "a vector has its parts by numbers: p[0], p[1]"),
             Byte::Other => ("no token begins with this byte", "take it out"),
@@ -90,15 +97,22 @@ impl Constant {
     {
         match self {
             Constant::Number => ("no word holds this number", "at most 65535"),
-            Constant::Octal => ("a number that begins with 0 is to the base 8", "take the 0 before it away, or the digits 8 and 9"),
-            Constant::NoCharacter => ("this is no character constant", "one or two characters and then a quote; * begins an escape"),
-            Constant::Characters => ("single quotes have one or two characters", "\"abc\" is a string; 'ab' and 'c' are two constants"),
-            Constant::Characterless => ("single quotes have one or two characters", "' ' is a blank, and '*0' the character 0"),
+            Constant::Octal =>
+                ("a number that begins with 0 is to the base 8", "take the 0 before it away, or the digits 8 and 9"),
+            Constant::NoCharacter =>
+                ("this is no character constant", "one or two characters and then a quote; * begins an escape"),
+            Constant::Characters =>
+                ("single quotes have one or two characters", "\"abc\" is a string; 'ab' and 'c' are two constants"),
+            Constant::Characterless =>
+                ("single quotes have one or two characters", "' ' is a blank, and '*0' the character 0"),
             Constant::Long => ("a string has at most 254 characters", "make two strings of it"),
-            Constant::Escape => ("* begins an escape, and no escape has this letter", "*n *t *0 *e ** *' *\" *( *) are all"),
-            Constant::Letter => ("this is a letter beyond ASCII, and quotes have none", "take other letters in its place"),
+            Constant::Escape =>
+                ("* begins an escape, and no escape has this letter", "*n *t *0 *e ** *' *\" *( *) are all"),
+            Constant::Letter =>
+                ("this is a letter beyond ASCII, and quotes have none", "take other letters in its place"),
             Constant::Control => ("this byte can't be in quotes", "*t is a tab, *n a newline and *0 the byte 0"),
-            Constant::Unclosed => ("no quote ends this on its line", "write the quote at its end; *n is a newline in quotes"),
+            Constant::Unclosed =>
+                ("no quote ends this on its line", "write the quote at its end; *n is a newline in quotes"),
         }
     }
 }

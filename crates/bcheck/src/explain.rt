@@ -17,7 +17,7 @@ use crate::mention::first_mention;
 use crate::outside::outside;
 use crate::passes::{Fault, Pass};
 use crate::patterns::{Compiled, Found, find};
-use crate::places::place_on;
+use crate::places::{place_on, spot_of};
 use crate::spans::{Span, place_of, spans};
 use crate::verdict::Verdict;
 use crate::words::Words;
@@ -47,6 +47,7 @@ pub(crate) fn explain(
         let told = Told {
             file,
             excerpt: excerpt_at(source, &finding.place),
+            second: spot_of(source, &finding.related),
             severity,
             words: &words,
         };

@@ -44,11 +44,19 @@ impl Finding {
     }
 }
 
+/// The line and the column of a second place.
+#[derive(Clone, Copy)]
+pub(crate) struct Spot {
+    pub line: u64,
+    pub column: usize,
+}
+
 /// What is told of a finding.
 #[derive(Clone, Copy)]
 pub(crate) struct Told<'a> {
     pub file: &'a str,
     pub excerpt: Excerpt<'a>,
+    pub second: Option<Spot>,
     pub severity: Severity,
     pub words: &'a Words,
 }

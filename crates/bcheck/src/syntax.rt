@@ -76,22 +76,30 @@ impl Syntax {
         match self {
             Syntax::CodeText => ("this is a code text, and no source", "b run runs it; check its source in its place"),
             Syntax::BraceOpen => ("the source ends here, and the { of line % is open", "write the } that is missing"),
-            Syntax::ParenOpen => ("the bracket of line % is still open here", "write the ) or the ] that is missing before this"),
-            Syntax::SourceEnds => ("the source ends here, and something is open", "write what is missing: a value, a ; or a statement"),
+            Syntax::ParenOpen =>
+                ("the bracket of line % is still open here", "write the ) or the ] that is missing before this"),
+            Syntax::SourceEnds =>
+                ("the source ends here, and something is open", "write what is missing: a value, a ; or a statement"),
             Syntax::Slashes => ("this is no comment: // is the operator / twice", "/* remark */"),
             Syntax::BraceSemicolon => ("a function ends with its }", "take the ; out"),
-            Syntax::BraceCloses => ("no { is open that this } closes", "take it out, or look before it for a } too many"),
-            Syntax::StatementOutside => ("this statement is outside of every function", "look before it for a } too many, or put it in main"),
+            Syntax::BraceCloses =>
+                ("no { is open that this } closes", "take it out, or look before it for a } too many"),
+            Syntax::StatementOutside =>
+                ("this statement is outside of every function", "look before it for a } too many, or put it in main"),
             Syntax::NameMissing => ("a definition begins with its name", "n 5; or v[3]; or f(x) { .. }"),
-            Syntax::TypeFirst => ("there are no types: a definition begins with its name", "main() and not int main(); n 5; and not int n = 5;"),
+            Syntax::TypeFirst =>
+                ("there are no types: a definition begins with its name",
+                 "main() and not int main(); n 5; and not int n = 5;"),
             Syntax::TypeParameter => ("there are no types: parameters are names alone", "f(a, b)"),
             Syntax::VectorParameter => ("a parameter is a word, and has no brackets", "f(v), and then v[i] in f"),
             Syntax::EqualsOutside => ("outside of functions a value comes without =", "n 5; or v[2] 1, 2, 3;"),
             Syntax::SignOutside => ("an initial value has no sign", "65535 is -1, and 65536 - x is -x"),
             Syntax::BracesOutside => ("the values of a vector come without braces", "v[2] 1, 2, 3;"),
-            Syntax::CallOutside => ("outside of functions only definitions come", "look before it for a } too many, or put it in main"),
+            Syntax::CallOutside =>
+                ("outside of functions only definitions come", "look before it for a } too many, or put it in main"),
             Syntax::AutoValue => ("auto gives no value", "auto i; i = 0;"),
-            Syntax::AutoBrackets => ("auto has the last index of a vector without brackets", "auto v 10; has v[0] to v[10]"),
+            Syntax::AutoBrackets =>
+                ("auto has the last index of a vector without brackets", "auto v 10; has v[0] to v[10]"),
             Syntax::AutoList => ("auto has names with commas between them", "auto a, b, v 10;"),
             Syntax::ExtrnList => ("extrn has names alone, with commas between them", "extrn n, v;"),
             Syntax::For => ("there is no for: this is taken for a call", "i = 0; while(i < 3) { .. i++; }"),
@@ -107,20 +115,29 @@ impl Syntax {
             Syntax::ReturnValue => ("the value of a return is in parentheses", "return(x);"),
             Syntax::SwitchBraces => ("a switch has its statements in braces", "switch x { case 1: .. }"),
             Syntax::ElseInBraces => ("this else has no if: the { of line % is open", "write a } before the else"),
-            Syntax::ElseAlone => ("no if ends right before this else", "between if(x) and else is one statement: put { } around more"),
+            Syntax::ElseAlone =>
+                ("no if ends right before this else", "between if(x) and else is one statement: put { } around more"),
             Syntax::OrOr => ("there is no operator ||", "a | b, or a ? 1 : b"),
             Syntax::EqualsAfter => ("the = of an assignment comes first", "x =+ 2; and not x += 2;"),
             Syntax::Arrow => ("there are no structures, and no ->", "a vector has its parts by numbers: p[0], p[1]"),
-            Syntax::QuoteEscaped => ("the string before this ends at its second quote", "write *\" for a quote in a string, and not \\\""),
+            Syntax::QuoteEscaped =>
+                ("the string before this ends at its second quote", "write *\" for a quote in a string, and not \\\""),
             Syntax::NumberName => ("a number has only digits", "31, or 037 to the base 8; there is no 0x1F"),
-            Syntax::FunctionInside => ("a function begins here, and the { of line % is open", "write the } that is missing before the function"),
+            Syntax::FunctionInside =>
+                ("a function begins here, and the { of line % is open",
+                 "write the } that is missing before the function"),
             Syntax::CallBody => ("a call has no { } after it", "look at the word before the ( for another spelling"),
-            Syntax::OperandMissing => ("an operand is missing before this", "write a name, a constant or an expression there"),
-            Syntax::AssignLeft => ("more than one operand is before this assignment", "== compares; or put ( ) around the assignment"),
-            Syntax::CommaAlone => ("a comma is only between arguments and between names", "two statements have a ; between them"),
+            Syntax::OperandMissing =>
+                ("an operand is missing before this", "write a name, a constant or an expression there"),
+            Syntax::AssignLeft =>
+                ("more than one operand is before this assignment", "== compares; or put ( ) around the assignment"),
+            Syntax::CommaAlone =>
+                ("a comma is only between arguments and between names", "two statements have a ; between them"),
             Syntax::ColonMissing => ("a ? has a : after it", "x ? 1 : 2"),
-            Syntax::Unopened => ("no bracket is open that this closes", "take it out, or write the one that is missing before it"),
-            Syntax::NoStatement => ("a statement has to come before this", "write a ; after the declaration or the label"),
+            Syntax::Unopened =>
+                ("no bracket is open that this closes", "take it out, or write the one that is missing before it"),
+            Syntax::NoStatement =>
+                ("a statement has to come before this", "write a ; after the declaration or the label"),
             Syntax::CallParens => ("a call has its arguments in parentheses", "f(1, 2);"),
             Syntax::SemicolonMissing => ("line % has no ; at its end", "write the ; there, or go on with an operator"),
             Syntax::SemicolonBefore => ("a ; is missing before this", "write it there"),

@@ -35,14 +35,20 @@ impl Unknown {
         ensures { IsTrue (list_all is_on_line (result.0.now ∷ result.1.now ∷ [])) }
     {
         match self {
-            Unknown::OtherEdition => ("in edition 1 @ is a name, neither declared nor a label", "--edition 2 makes it a keyword; in edition 1 declare it, or put a label"),
+            Unknown::OtherEdition =>
+                ("in edition 1 @ is a name, neither declared nor a label",
+                 "--edition 2 makes it a keyword; in edition 1 declare it, or put a label"),
             Unknown::Continue => ("there is no continue", "goto on; and the label on: ; as the last of the loop"),
             Unknown::External => ("@ is an external of line %, not declared here", "extrn @; before it"),
-            Unknown::Function => ("@ is the function of line %, not declared here", "@() calls it, and after extrn @; its name is its value"),
-            Unknown::Library => ("@ is a function of the library", "@() calls it, and after extrn @; its name is its value"),
+            Unknown::Function =>
+                ("@ is the function of line %, not declared here",
+                 "@() calls it, and after extrn @; its name is its value"),
+            Unknown::Library =>
+                ("@ is a function of the library", "@() calls it, and after extrn @; its name is its value"),
             Unknown::Near => ("@ is neither declared nor a label: did you mean #?", "write #, or declare @"),
             Unknown::NoLabel => ("this function has no label @", "put @: before a statement of this function"),
-            Unknown::Other => ("@ is neither declared nor a label", "auto @; for a word of the function, extrn @; for an external"),
+            Unknown::Other =>
+                ("@ is neither declared nor a label", "auto @; for a word of the function, extrn @; for an external"),
         }
     }
 }
@@ -91,8 +97,10 @@ impl Lvalue {
             Lvalue::Character => ("char gives a character, which has no address", "lchar(s, 0, 'x'); stores one"),
             Lvalue::Call => ("the value of a call has no address", "take a name, x[i] or *x as the operand"),
             Lvalue::External => ("@ is an external of line %, not declared here", "extrn @; before it"),
-            Lvalue::Label => ("@ is taken for a label here, which has no address", "declare it first: auto @; or extrn @;"),
-            Lvalue::Other => ("this operator wants something with an address", "take a name, x[i] or *x as its operand"),
+            Lvalue::Label =>
+                ("@ is taken for a label here, which has no address", "declare it first: auto @; or extrn @;"),
+            Lvalue::Other =>
+                ("this operator wants something with an address", "take a name, x[i] or *x as its operand"),
         }
     }
 }
