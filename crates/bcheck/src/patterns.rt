@@ -119,10 +119,11 @@ pub(crate) fn find(
 }
 
 fn unset(spans: &[Span], token: usize) -> Option<Found> {
-    match lexeme_at(spans, token) {
-        Lexeme::Name(name) => Found::of_name(token, Warning::Unset, name),
-        _ => None,
-    }
+    let warning = match lexeme_at(spans, token.wrapping_add(1)) {
+        Lexeme::OpenBracket => Warning::UnsetVector,
+        _ => Warning::Unset,
+    };
+    Found::of_name(token, warning, name_at(spans, token)?)
 }
 
 // What is found of a name that `auto` declares.

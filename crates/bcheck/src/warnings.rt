@@ -30,6 +30,7 @@ pub(crate) enum Warning {
     NoReturn,
     NeverUsed,
     Unset,
+    UnsetVector,
     HidesExternal,
     HidesLibrary,
     NearMain,
@@ -92,6 +93,7 @@ impl Warning {
             Warning::Unset =>
                 ("in", "@ is used here, and nothing has set it before",
                  "@ = 0; before this, or the value that it begins with"),
+            Warning::UnsetVector => ("in", "@ is used as a vector here, and has no words", "auto @ 10; has @[0] to @[10]"),
             Warning::HidesExternal =>
                 ("hi", "this @ hides the external of line %", "extrn @; is the external; or take another name"),
             Warning::HidesLibrary =>
