@@ -14,7 +14,6 @@ use Rattle.blang.specs.declared.token.Diagnostic.{Diagnostic}
 use Rattle.btools.specs.Programs.{load_line}
 use Rattle.bcheck.specs.Checks.{EachOutcome, Judged, Reason, told_first, told_of, verdict_line, status_told}
 use Rattle.bcheck.specs.Findings.{IsReasoned, ReasonAt, TellsEach, matter_code}
-use Rattle.bcheck.specs.declared.advice.Matter.TheVariants as matter
 use Rattle.bcheck.specs.declared.finding.Finding.{Finding}
 use Rattle.bcheck.specs.declared.verdict.Verdict.{Verdict}
 use Rattle.bcheck.specs.declared.verdict.Verdict.TheVariants as verdict

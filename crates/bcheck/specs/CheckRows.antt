@@ -4,7 +4,8 @@ use Rattle.std.specs.Fmt.{digits}
 use Rattle.blang.specs.declared.token.About.TheVariants as about
 use Rattle.blang.specs.declared.token.Letters.TheVariants as letters
 use Rattle.blang.specs.declared.run.LoadFault.TheVariants as fault
-use Rattle.bcheck.specs.Checks.{FindingParts, finding_text, findings_text, is_on_line, json_byte, json_text, file_byte, second_text}
+use Rattle.bcheck.specs.Checks.{FindingParts, finding_text, findings_text, is_on_line, json_byte, json_text, file_byte}
+use Rattle.bcheck.specs.Checks.{second_text}
 use Rattle.bcheck.specs.Checks.{column_after, diagnostic_code, severity_of, severity_word, shown_in_form, told_first}
 use Rattle.blang.specs.Cut.{line_number_after}
 use Rattle.bcheck.specs.declared.finding.Severity.TheVariants as severity

@@ -1,5 +1,6 @@
 -- What is known of a finding before it is told.
-use Rattle.std.specs.Prelude.{◌≡◌, ℕ, ◌<◌, IsTrue, false, List, [], ◌++◌, codes, drop, length, take, Option, Some, IfSome}
+use Rattle.std.specs.Prelude.{◌≡◌, ℕ, ◌<◌, IsTrue, false, List, [], ◌++◌, codes, drop, length, take}
+use Rattle.std.specs.Prelude.{Option, Some, IfSome}
 use Rattle.bword.specs.declared.edition.Edition.{Edition}
 use Rattle.bword.specs.ByteEnds.{incoming_of}
 use Rattle.blang.specs.Compiles.{Compilation, CompilesTo}
@@ -43,6 +44,7 @@ warning_code warning.LibraryArguments = codes "ar"
 warning_code warning.NoReturn = codes "rt"
 warning_code warning.NeverUsed = codes "us"
 warning_code warning.Unset = codes "in"
+warning_code warning.UnsetVector = codes "in"
 warning_code warning.HidesExternal = codes "hi"
 warning_code warning.HidesLibrary = codes "hi"
 warning_code warning.NearMain = codes "ma"

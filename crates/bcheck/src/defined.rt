@@ -1,5 +1,6 @@
 //! The definitions of a source that compiles.
 use crate::brackets::Brackets;
+use crate::kinds::is_ended;
 use crate::passes::Extent;
 use crate::spans::{Span, lexeme_at};
 use blang::Keyword;
@@ -54,7 +55,10 @@ fn function(spans: &[Span], brackets: &Brackets, extent: Extent) -> What {
         let next = lexeme_at(spans, token.wrapping_add(1));
         match lexeme_at(spans, token) {
             Lexeme::Keyword(Keyword::Return) if next == Lexeme::OpenParen => returns = true,
-            Lexeme::Operator(BinOp::And) if is_among(spans, header, end, next) => spreads = true,
+            Lexeme::Operator(BinOp::And)
+                if is_prefix(spans, token) && is_among(spans, header, end, next) => {
+                spreads = true;
+            }
             _ => {}
         }
     }
@@ -63,6 +67,11 @@ fn function(spans: &[Span], brackets: &Brackets, extent: Extent) -> What {
         returns,
         spreads,
     }
+}
+
+// Whether no operand is before an operator.
+fn is_prefix(spans: &[Span], operator: usize) -> bool {
+    !is_ended(&lexeme_at(spans, operator.wrapping_sub(1)))
 }
 
 // Whether a name is one of the parameters, which are at most 128.

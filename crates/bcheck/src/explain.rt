@@ -182,7 +182,6 @@ fn warnings(
     let compiled = Compiled {
         source,
         spans,
-        edition: asked.edition,
         brackets: &brackets,
         defined: &defined,
     };

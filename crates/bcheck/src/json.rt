@@ -15,8 +15,8 @@ pub(crate) fn write(text: &mut Text, told: &Told<'_>) -> Result<(), AllocError>
     requires { IsTrue (list_all is_on_line
         (told.now.words.now.code.now ∷ told.now.words.now.sentence ∷ told.now.words.now.fix ∷ [])) }
     ensures { (source : List ℕ) (start : ℕ) → IsExcerpt source start told.now.excerpt
-        → IsSecond source told.now.second → OnOk result (AddsFinding form.Json told.now.severity told.now.file.now source start
-        told.now.words.now.code.now text.old text.new) }
+        → IsSecond source told.now.second → OnOk result (AddsFinding form.Json told.now.severity told.now.file.now
+        source start told.now.words.now.code.now text.old text.new) }
 {
     let excerpt = &told.excerpt;
     push_all(

@@ -15,15 +15,17 @@ use crate::spans::{Span, is_joined, lexeme_at, name_at, place_of};
 use crate::warnings::Warning;
 use blang::Keyword;
 use blex::Lexeme;
-use bword::{BinOp, Edition, Name};
+use bword::{BinOp, Name};
 use std::alloc::{AllocError, Global};
+
+/// The most warnings that are told of a source.
+const MOST_WARNINGS: usize = 100;
 
 /// A source that compiles.
 #[derive(Clone, Copy)]
 pub(crate) struct Compiled<'a> {
     pub source: &'a [u8],
     pub spans: &'a [Span],
-    pub edition: Edition,
     pub brackets: &'a Brackets,
     pub defined: &'a Defined,
 }
@@ -65,6 +67,10 @@ impl Found {
         let Some(found) = found else {
             return Ok(());
         };
+        // What is shown of a finding is found from the beginning of the source.
+        if findings.len() >= MOST_WARNINGS {
+            return Ok(());
+        }
         findings.push(Finding {
             matter: Matter::Warning(found.warning),
             name: found.name,
@@ -113,10 +119,11 @@ pub(crate) fn find(
 }
 
 fn unset(spans: &[Span], token: usize) -> Option<Found> {
-    match lexeme_at(spans, token) {
-        Lexeme::Name(name) => Found::of_name(token, Warning::Unset, name),
-        _ => None,
-    }
+    let warning = match lexeme_at(spans, token.wrapping_add(1)) {
+        Lexeme::OpenBracket => Warning::UnsetVector,
+        _ => Warning::Unset,
+    };
+    Found::of_name(token, warning, name_at(spans, token)?)
 }
 
 // What is found of a name that `auto` declares.

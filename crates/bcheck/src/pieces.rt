@@ -2,7 +2,8 @@
 ghost use Rattle.std.specs.Char.{digit_char};
 ghost use Rattle.std.specs.List.{flat_map};
 ghost use Rattle.std.specs.Prelude.{◌≡◌, ◌<◌, ◌++◌, OnOk, replicate};
-ghost use Rattle.bcheck.specs.Checks.{escaped, file_byte, file_text, json_byte, json_text, shown_byte, shown_text, spot_words};
+ghost use Rattle.bcheck.specs.Checks.{escaped, file_byte, file_text, json_byte, json_text, shown_byte, shown_text};
+ghost use Rattle.bcheck.specs.Checks.{spot_words};
 ghost use Rattle.bcheck.specs.Pieces.{piece_text, spot_text};
 
 use crate::finding::Spot;

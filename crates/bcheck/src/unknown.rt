@@ -45,7 +45,7 @@ impl Unknown {
                  "@() calls it, and after extrn @; its name is its value"),
             Unknown::Library =>
                 ("@ is a function of the library", "@() calls it, and after extrn @; its name is its value"),
-            Unknown::Near => ("@ is neither declared nor a label: did you mean #?", "write #, or declare @"),
+            Unknown::Near => ("no @ is declared here: did you mean #?", "write #, or declare @"),
             Unknown::NoLabel => ("this function has no label @", "put @: before a statement of this function"),
             Unknown::Other =>
                 ("@ is neither declared nor a label", "auto @; for a word of the function, extrn @; for an external"),
@@ -70,7 +70,7 @@ impl Undefined {
     {
         match self {
             Undefined::Near => ("nothing defines @: did you mean #?", "write #, or define @"),
-            Undefined::Type => ("there are no types: the first name is defined, with @ as value", "@; defines @"),
+            Undefined::Type => ("there are no types: the name before @ is defined", "@; defines @"),
             Undefined::Printf => ("nothing defines @", "printn(n, 10) and putchar(c), or print of examples/print.b"),
             Undefined::Other => ("nothing defines @", "define it, or take one of the six library calls"),
         }

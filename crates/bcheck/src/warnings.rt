@@ -30,6 +30,7 @@ pub(crate) enum Warning {
     NoReturn,
     NeverUsed,
     Unset,
+    UnsetVector,
     HidesExternal,
     HidesLibrary,
     NearMain,
@@ -61,7 +62,7 @@ impl Warning {
             Warning::StringForCharacter =>
                 ("st", "a string is an address, and no character", "write single quotes: 'a'"),
             Warning::StringPut =>
-                ("st", "putchar writes a character, and a string is an address",
+                ("st", "a string is an address, and putchar writes characters",
                  "a loop writes it: while((c = char(s, i++)) != '*e') putchar(c);"),
             Warning::StringCompared =>
                 ("st", "this compares addresses, and no characters",
@@ -73,8 +74,7 @@ impl Warning {
                 ("bs", "a backslash in quotes is a character like others", "* begins an escape: '*n' is a newline"),
             Warning::BitsCompared =>
                 ("pr", "the comparison binds tighter than this operator", "parentheses: (x & 1) == 1"),
-            Warning::ComparesTwice =>
-                ("pr", "this compares the 1 or 0 that the first comparison gives", "1 < x & x < 3"),
+            Warning::ComparesTwice => ("pr", "this compares the 1 or 0 of the first comparison", "1 < x & x < 3"),
             Warning::NotCompared => ("pr", "the ! binds tighter than the comparison", "x != 3, or !(x == 3)"),
             Warning::ManyArguments =>
                 ("ar", "this call has more arguments than @ has parameters",
@@ -93,6 +93,7 @@ impl Warning {
             Warning::Unset =>
                 ("in", "@ is used here, and nothing has set it before",
                  "@ = 0; before this, or the value that it begins with"),
+            Warning::UnsetVector => ("in", "@ is used as a vector here, and has no words", "auto @ 10; has @[0] to @[10]"),
             Warning::HidesExternal =>
                 ("hi", "this @ hides the external of line %", "extrn @; is the external; or take another name"),
             Warning::HidesLibrary =>
@@ -101,7 +102,7 @@ impl Warning {
             Warning::NearMain =>
                 ("ma", "there is no function main: did you mean this one?", "a run begins with main() .."),
             Warning::DefaultLabel =>
-                ("ed", "in edition 1 default is a label, to which nothing leads",
+                ("ed", "in edition 1 this is a label, to which nothing leads",
                  "--edition 2 makes it the default of the switch"),
             Warning::WordOutside =>
                 ("ed", "this defines an external of the name @",

@@ -1,8 +1,5 @@
-mean(sum, n)
-    return(sum / n);
 main() {
-    auto n;
-    n = 2;
-    while(n--)
-        printn(mean(12, n), 10);
+    auto i;
+    for(i = 0; i < 3; i++)
+        printn(i, 10);
 }

@@ -1,7 +1,6 @@
 main() {
     auto i;
-    i = 1;
-    while(i <= 3)
-        printn(i, 10);
-        i++;
+    i = 0;
+    while(i < 3);
+        printn(i++, 10);
 }
