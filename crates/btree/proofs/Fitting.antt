@@ -6,7 +6,7 @@ use Rattle.blang.specs.Trees.{Identifier, Expr, Arguments, Named, Literal, Text,
 use Rattle.blang.specs.WellFormed.{rank, or_rank, conditional_rank, rvalue_rank, Binds, ArgumentsBind, StatementBinds, BodyBinds, nesting_limit, IsFormed}
 use Rattle.blang.specs.Walk.{Walk, levels_in, walk_commas, walk_list, walk_comma, walk, walk_arguments, walk_size, walk_heading, walk_condition, walk_statement, walk_body, walk_value, walk_values, walk_parameter, walk_definition}
 use Rattle.blang.specs.Code.{strings_of}
-use Rattle.btree.specs.Fitting.{EachAfter, words_in, words, argument_words, Deeper, FitsIn, Fits, ArgumentsFit, statement_words, body_words, Sits, AllSit, ival_words, values_words, IvalFits, strings_in, statement_strings, ival_strings}
+use Rattle.btree.specs.Fitting.{EachAfter, words_in, words, argument_words, FitsIn, Fits, ArgumentsFit, statement_words, body_words, Sits, AllSit, ival_words, values_words, IvalFits, strings_in, statement_strings, ival_strings}
 use Rattle.btree.specs.Levels.{IsFormedIn}
 use Rattle.btree.proofs.WalkLaws.{callee_words, strings_are, fits_in, in_room, in_order, at_offset, to_callee, from_callee, plain_words, plain_strings, plain_fits, size_plain, comma_plain, parameters_plain, heading_plain}
 
@@ -22,10 +22,6 @@ past w room a h = at_offset w room (a + 0) a (add-zero a) h
 
 upto : (w : Walk) (room a : ℕ) → FitsIn w room a → FitsIn w room (a + 0)
 upto w room a h = at_offset w room a (a + 0) (sym (add-zero a)) h
-
-pub opened : (P : ℕ → Type 0) (room : ℕ) → Deeper P room → (k : ℕ) × P k
-opened P zero h = absurd h
-opened P (suc k) h = (k, h)
 
 -- What binds and fits in its walk fits.
 mutual
