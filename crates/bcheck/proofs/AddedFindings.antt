@@ -1,5 +1,5 @@
 -- Findings one after another, and what stands in each.
-use Rattle.std.proofs.Common.{◌≡◌, ◌≢◌, ◌∙◌, ◌+◌, ◌<◌, List, [], ℕ, ◌∷◌, ◌++◌, IsTrue, OnOk, Result, Ok, Err, ap, arith, append-nil, append_assoc, codes, decimal, get_or, length, map, replicate, refl, subst, sym, take}
+use Rattle.std.proofs.Common.{◌≡◌, ◌≢◌, ◌∙◌, ◌+◌, ◌<◌, List, [], ℕ, ◌∷◌, ◌++◌, IsTrue, OnOk, Result, Ok, Err, ap, arith, append-nil, append_assoc, codes, decimal, get_or, length, map, None, Option, replicate, Some, refl, subst, sym, take}
 use Rattle.std.specs.Prelude.{nat_lt}
 use Rattle.std.proofs.lemmas.Bool.Decides.{nat_tests}
 use Rattle.std.specs.List.{All, flat_map, list_all}
@@ -13,12 +13,13 @@ use Rattle.blang.specs.Code.{code_of}
 use Rattle.blang.specs.Compiles.{Compilation, CompilesTo}
 use Rattle.blang.specs.Cut.{line_number_after, tokens_from}
 use Rattle.blang.specs.Layout.{load_fault}
-use Rattle.bcheck.specs.Checks.{AreFindings, EachOutcome, FindingParts, IsReason, Reason, column_after, file_text, finding_column, finding_line, finding_text, findings_text, is_on_line, json_text, outcome_of, severity_of, severity_word, shown_text}
-use Rattle.bcheck.specs.Findings.{AddsFinding, IsExcerpt, ReasonAt}
-use Rattle.bcheck.specs.Pieces.{piece_text}
+use Rattle.bcheck.specs.Checks.{AreFindings, EachOutcome, FindingParts, IsReason, Reason, Second, column_after, file_text, finding_column, finding_line, finding_text, findings_text, is_on_line, json_text, outcome_of, second_text, severity_of, severity_word, shown_text}
+use Rattle.bcheck.specs.Findings.{AddsFinding, IsExcerpt, IsSecond, ReasonAt}
+use Rattle.bcheck.specs.Pieces.{piece_text, spot_text}
 use Rattle.bcheck.specs.declared.excerpt.Excerpt.{Excerpt}
 use Rattle.bcheck.specs.declared.pieces.Piece.{Piece}
 use Rattle.bcheck.specs.declared.finding.Severity.{Severity}
+use Rattle.bcheck.specs.declared.finding.Spot.{Spot}
 use Rattle.bcheck.specs.declared.form.Form.{Form}
 use Rattle.bcheck.specs.declared.form.Form.TheVariants as form
 
@@ -36,9 +37,18 @@ people_pieces : (f a l b c d w e s x p r y m n z k q : List ℕ)
     → f ++ (a ++ (l ++ (b ++ (c ++ (d ++ (w ++ (e ++ (s ++ (x ++ (p ++ (r ++ (y ++ (m ++ (n ++ (z ++ (k ++ q)))))))))))))))) ≡ f ++ a ++ l ++ b ++ c ++ d ++ w ++ e ++ (s ++ x ++ (p ++ r) ++ y ++ (m ++ n) ++ z ++ k) ++ q
 people_pieces f a l b c d w e s x p r y m n z k q = simp append_assoc refl
 
-editor_pieces : (a f b l c d e w g k h s i m q : List ℕ)
-    → a ++ (f ++ (b ++ (l ++ (c ++ (d ++ (e ++ (w ++ (g ++ (k ++ (h ++ (s ++ (i ++ (m ++ q))))))))))))) ≡ a ++ f ++ b ++ l ++ c ++ d ++ e ++ w ++ g ++ (k ++ h ++ s ++ i ++ m) ++ q
-editor_pieces a f b l c d e w g k h s i m q = simp append_assoc refl
+editor_pieces : (o a f b l c d e w g k h s i m n q : List ℕ)
+    → ((o ++ (a ++ (f ++ (b ++ (l ++ (c ++ (d ++ (e ++ (w ++ (g ++ (k ++ (h ++ (s ++ (i ++ m)))))))))))))) ++ n) ++ q ≡ o ++ (a ++ f ++ b ++ l ++ c ++ d ++ e ++ w ++ g ++ (k ++ h ++ s ++ i ++ (m ++ n)) ++ q)
+editor_pieces o a f b l c d e w g k h s i m n q = simp append_assoc refl
+
+-- the second place
+abbrev pub second_of : (source : List ℕ) (s : Option Spot) → IsSecond source s → Option (Second source)
+second_of source None i = None
+second_of source (Some s) i = Some (record { before = i.0; after = i.1; split = i.2 })
+
+pub second_same : (source : List ℕ) (s : Option Spot) (i : IsSecond source s) → spot_text s ≡ second_text (second_of source s i)
+second_same source None i = refl
+second_same source (Some s) i = rw (i.3, i.4) refl
 
 text_finding : {source : List ℕ} (p : FindingParts source) (s : Severity) (file f w t m old new : List ℕ) (line column blanks : ℕ) → f ≡ file → w ≡ severity_word s → t ≡ p.sentence → m ≡ p.fix → line ≡ finding_line p → column ≡ finding_column p → blanks ≡ length p.left
     → new ≡ old ++ (file_text f ++ (codes ":" ++ (decimal line ++ (codes ":" ++ (decimal column ++ (codes ": " ++ (w ++ (codes ": " ++ (t ++ (codes "\n    " ++ (flat_map shown_text p.left ++ (flat_map shown_text p.right ++ (codes "\n    " ++ (replicate blanks 32 ++ (replicate p.marks 94 ++ (codes "\n  fix: " ++ (m ++ codes "\n")))))))))))))))))
@@ -46,17 +56,20 @@ text_finding : {source : List ℕ} (p : FindingParts source) (s : Severity) (fil
 text_finding p s file f w t m old new line column blanks ef ew et em el ec eb e =
     (rw (ef, ew, et, em, el, ec, eb) at e) ∙ ap (λ x. old ++ x) (people_pieces (file_text file) (codes ":") (decimal (finding_line p)) (codes ":") (decimal (finding_column p)) (codes ": ") (severity_word s) (codes ": ") p.sentence (codes "\n    ") (flat_map shown_text p.left) (flat_map shown_text p.right) (codes "\n    ") (replicate (length p.left) 32) (replicate p.marks 94) (codes "\n  fix: ") p.fix (codes "\n"))
 
-json_finding : {source : List ℕ} (p : FindingParts source) (s : Severity) (file f w k t m old new : List ℕ) (line column : ℕ) → f ≡ file → w ≡ severity_word s → k ≡ p.code → t ≡ p.sentence → m ≡ p.fix → line ≡ finding_line p → column ≡ finding_column p
-    → new ≡ old ++ (codes "{\"file\":" ++ (json_text f ++ (codes ",\"line\":" ++ (decimal line ++ (codes ",\"column\":" ++ (decimal column ++ (codes ",\"severity\":\"" ++ (w ++ (codes "\",\"code\":" ++ (json_text k ++ (codes ",\"message\":" ++ (json_text t ++ (codes ",\"fix\":" ++ (json_text m ++ codes "}\n"))))))))))))))
+json_finding : {source : List ℕ} (p : FindingParts source) (s : Severity) (file f w k t m n old first both new : List ℕ) (line column : ℕ) → f ≡ file → w ≡ severity_word s → k ≡ p.code → t ≡ p.sentence → m ≡ p.fix → n ≡ second_text p.second → line ≡ finding_line p → column ≡ finding_column p
+    → first ≡ old ++ (codes "{\"file\":" ++ (json_text f ++ (codes ",\"line\":" ++ (decimal line ++ (codes ",\"column\":" ++ (decimal column ++ (codes ",\"severity\":\"" ++ (w ++ (codes "\",\"code\":" ++ (json_text k ++ (codes ",\"message\":" ++ (json_text t ++ (codes ",\"fix\":" ++ (json_text m ++ []))))))))))))))
+    → both ≡ first ++ n → new ≡ both ++ codes "}\n"
     → new ≡ old ++ finding_text form.Json s file p
-json_finding p s file f w k t m old new line column ef ew ek et em el ec e =
-    (rw (ef, ew, ek, et, em, el, ec) at e) ∙ ap (λ x. old ++ x) (editor_pieces (codes "{\"file\":") (json_text file) (codes ",\"line\":") (decimal (finding_line p)) (codes ",\"column\":") (decimal (finding_column p)) (codes ",\"severity\":\"") (severity_word s) (codes "\",\"code\":") (json_text p.code) (codes ",\"message\":") (json_text p.sentence) (codes ",\"fix\":") (json_text p.fix) (codes "}\n"))
+json_finding p s file f w k t m n old first both new line column ef ew ek et em en el ec e0 e1 e2 =
+    let none = append-nil (json_text p.fix) in
+    let e = (rw (ef, ew, ek, et, em, el, ec, none) at e0) in
+    e2 ∙ ap (λ x. x ++ codes "}\n") (e1 ∙ ap (λ x. first ++ x) en ∙ ap (λ x. x ++ second_text p.second) e) ∙ editor_pieces old (codes "{\"file\":") (json_text file) (codes ",\"line\":") (decimal (finding_line p)) (codes ",\"column\":") (decimal (finding_column p)) (codes ",\"severity\":\"") (severity_word s) (codes "\",\"code\":") (json_text p.code) (codes ",\"message\":") (json_text p.sentence) (codes ",\"fix\":") (json_text p.fix) (second_text p.second) (codes "}\n")
 
 less : (a b : ℕ) → a < b → IsTrue (nat_lt a b)
 less a b h = grind (arith, nat_tests)
 
 -- the finding of an excerpt
-module _ (source : List ℕ) (start : ℕ) (e : Excerpt) (x : IsExcerpt source start e) (code sentence fix : List ℕ) (are : IsTrue (list_all is_on_line (code ∷ sentence ∷ fix ∷ []))) where
+module _ (source : List ℕ) (start : ℕ) (e : Excerpt) (x : IsExcerpt source start e) (code sentence fix : List ℕ) (are : IsTrue (list_all is_on_line (code ∷ sentence ∷ fix ∷ []))) (second : Option (Second source)) where
   abbrev finding_at : FindingParts source
   finding_at = record {
     before = x.before;
@@ -72,6 +85,7 @@ module _ (source : List ℕ) (start : ℕ) (e : Excerpt) (x : IsExcerpt source s
     sentence = sentence;
     fix = fix;
     on_lines = are;
+    second = second;
   }
 
   on_its_line : e.line ≡ finding_line finding_at
@@ -86,11 +100,12 @@ module _ (source : List ℕ) (start : ℕ) (e : Excerpt) (x : IsExcerpt source s
   adds_text s file f w t m old new blanks ef ew et em eb is =
       (finding_at, refl, x.first, x.rest, text_finding finding_at s file f w t m old new e.line e.column blanks ef ew et em on_its_line at_its_column eb is)
 
-  pub adds_json : (s : Severity) (file f w k t m old new : List ℕ) → f ≡ file → w ≡ severity_word s → k ≡ code → t ≡ sentence → m ≡ fix
-      → new ≡ old ++ (codes "{\"file\":" ++ (json_text f ++ (codes ",\"line\":" ++ (decimal e.line ++ (codes ",\"column\":" ++ (decimal e.column ++ (codes ",\"severity\":\"" ++ (w ++ (codes "\",\"code\":" ++ (json_text k ++ (codes ",\"message\":" ++ (json_text t ++ (codes ",\"fix\":" ++ (json_text m ++ codes "}\n"))))))))))))))
+  pub adds_json : (s : Severity) (file f w k t m n old first both new : List ℕ) → f ≡ file → w ≡ severity_word s → k ≡ code → t ≡ sentence → m ≡ fix → n ≡ second_text second
+      → first ≡ old ++ (codes "{\"file\":" ++ (json_text f ++ (codes ",\"line\":" ++ (decimal e.line ++ (codes ",\"column\":" ++ (decimal e.column ++ (codes ",\"severity\":\"" ++ (w ++ (codes "\",\"code\":" ++ (json_text k ++ (codes ",\"message\":" ++ (json_text t ++ (codes ",\"fix\":" ++ (json_text m ++ []))))))))))))))
+      → both ≡ first ++ n → new ≡ both ++ codes "}\n"
       → AddsFinding form.Json s file source start code old new
-  adds_json s file f w k t m old new ef ew ek et em is =
-      (finding_at, refl, x.first, x.rest, json_finding finding_at s file f w k t m old new e.line e.column ef ew ek et em on_its_line at_its_column is)
+  adds_json s file f w k t m n old first both new ef ew ek et em en e0 e1 e2 =
+      (finding_at, refl, x.first, x.rest, json_finding finding_at s file f w k t m n old first both new e.line e.column ef ew ek et em en on_its_line at_its_column e0 e1 e2)
 
 -- the finding is one of whatever the source comes to
 abbrev pub Reasoned : Edition → (source : List ℕ) → FindingParts source → Type 0

@@ -1,5 +1,5 @@
 -- The texts of findings: where each ends, how many lines it has, and of which bytes it consists.
-use Rattle.std.proofs.Common.{◌≡◌, ◌≢◌, ◌∙◌, ◌<◌, ◌+◌, ◌*◌, ◌/◌, ◌%◌, ◌==◌, ℕ, zero, suc, List, [], ◌∷◌, ◌++◌, Bool, true, false, IsTrue, if◌then◌else◌, ap, append-nil, append_assoc, arith, codes, decimal, length, nat_le, refl, replicate, subst, sym}
+use Rattle.std.proofs.Common.{◌≡◌, ◌≢◌, ◌∙◌, ◌<◌, ◌+◌, ◌*◌, ◌/◌, ◌%◌, ◌==◌, ℕ, zero, suc, List, [], ◌∷◌, ◌++◌, Bool, true, false, IsTrue, if◌then◌else◌, ap, append-nil, append_assoc, arith, codes, decimal, length, nat_le, Option, Some, None, refl, replicate, subst, sym}
 use Rattle.std.specs.Prelude.{◌&&◌, ◌||◌}
 use Rattle.std.specs.Fmt.{digits, digits_onto, digit_glyph}
 use Rattle.std.specs.Int.{is_in_range}
@@ -9,7 +9,8 @@ use Rattle.std.proofs.lemmas.List.{append_cancel_left}
 use Rattle.std.proofs.Math.Nat.{add_comm, mod-lt, suc-mul, zero-add, zero-mul}
 use Rattle.std.proofs.lemmas.List.Folds.{list_all-append}
 use Rattle.std.proofs.lemmas.List.Sums.{sum_by-append}
-use Rattle.bcheck.specs.Checks.{FindingParts, file_byte, file_text, finding_column, finding_head, finding_line, finding_mark, finding_shown, finding_start, finding_text, finding_words, is_on_line, shown_text, json_byte, json_text, severity_word}
+use Rattle.blang.specs.Cut.{line_number_after}
+use Rattle.bcheck.specs.Checks.{FindingParts, Second, column_after, finding_fix, second_text, file_byte, file_text, finding_column, finding_head, finding_line, finding_mark, finding_shown, finding_start, finding_text, finding_words, is_on_line, shown_text, json_byte, json_text, severity_word}
 use Rattle.bcheck.specs.Excluded.{finding_lines, is_printed, newlines}
 use Rattle.bcheck.proofs.OnLine.{both_on_line, of_three, replicate_on_line, shown_on_line}
 use Rattle.bcheck.specs.declared.finding.Severity.{Severity}
@@ -101,6 +102,9 @@ file_one (b ∷ bs) = all_more (nat_le 32) (file_byte b) (file_text bs) (file_li
 
 digits_line : (n : ℕ) → IsTrue (is_one_line (decimal n))
 digits_line n = all_weaker (nat_le 32) (is_in_range 48 57) digit_line (decimal n) (decimal_is n)
+
+pub digits_on_line : (n : ℕ) → IsTrue (is_on_line (decimal n))
+digits_on_line n = all_weaker (is_in_range 32 126) (is_in_range 48 57) digit_printable (decimal n) (decimal_is n)
 
 words_line : (text : List ℕ) → IsTrue (is_on_line text) → IsTrue (is_one_line text)
 words_line text h = all_weaker (nat_le 32) (is_in_range 32 126) printable_line text h
@@ -226,7 +230,7 @@ fix_line p = codes "  fix: " ++ p.fix
 
 abbrev object_line : {source : List ℕ} → Severity → (file : List ℕ) → FindingParts source → List ℕ
 object_line s file p =
-    codes "{\"file\":" ++ (json_text file ++ (codes ",\"line\":" ++ (decimal (finding_line p) ++ (codes ",\"column\":" ++ (decimal (finding_column p) ++ (codes ",\"severity\":\"" ++ (severity_word s ++ (codes "\",\"code\":" ++ (json_text p.code ++ (codes ",\"message\":" ++ (json_text p.sentence ++ (codes ",\"fix\":" ++ (json_text p.fix ++ codes "}")))))))))))))
+    codes "{\"file\":" ++ (json_text file ++ (codes ",\"line\":" ++ (decimal (finding_line p) ++ (codes ",\"column\":" ++ (decimal (finding_column p) ++ (codes ",\"severity\":\"" ++ (severity_word s ++ (codes "\",\"code\":" ++ (json_text p.code ++ (codes ",\"message\":" ++ (json_text p.sentence ++ (codes ",\"fix\":" ++ (finding_fix p ++ codes "}")))))))))))))
 
 sentence_one : {source : List ℕ} → (s : Severity) (p : FindingParts source) → IsTrue (is_one_line (sentence_line s p))
 sentence_one s p =
@@ -242,12 +246,21 @@ mark_one p = all_more (nat_le 32) (codes "    ") (finding_mark p) refl (words_li
 fix_one : {source : List ℕ} → (p : FindingParts source) → IsTrue (is_one_line (fix_line p))
 fix_one p = all_more (nat_le 32) (codes "  fix: ") p.fix refl (words_line p.fix (parts_of p).4)
 
+second_one : {source : List ℕ} → (s : Option (Second source)) → IsTrue (is_one_line (second_text s))
+second_one None = refl
+second_one (Some s) =
+    (more (codes ",\"related\":{\"line\":") _ refl (more (decimal (line_number_after 1 s.before)) _ (digits_line (line_number_after 1 s.before))
+    (more (codes ",\"column\":") _ refl (more (decimal (column_after 1 s.before)) _ (digits_line (column_after 1 s.before)) (last_line (codes "}") refl))))).line
+
+fix_json_one : {source : List ℕ} → (p : FindingParts source) → IsTrue (is_one_line (finding_fix p))
+fix_json_one p = all_more (nat_le 32) (json_text p.fix) (second_text p.second) (json_one p.fix) (second_one p.second)
+
 object_one : {source : List ℕ} → (s : Severity) (file : List ℕ) (p : FindingParts source) → IsTrue (is_one_line (object_line s file p))
 object_one s file p =
     (more (codes "{\"file\":") _ refl (more (json_text file) _ (json_one file) (more (codes ",\"line\":") _ refl (more (decimal (finding_line p)) _ (digits_line (finding_line p))
     (more (codes ",\"column\":") _ refl (more (decimal (finding_column p)) _ (digits_line (finding_column p)) (more (codes ",\"severity\":\"") _ refl (more (severity_word s) _ (word_line s)
     (more (codes "\",\"code\":") _ refl (more (json_text p.code) _ (json_one p.code) (more (codes ",\"message\":") _ refl (more (json_text p.sentence) _ (json_one p.sentence)
-    (more (codes ",\"fix\":") _ refl (more (json_text p.fix) _ (json_one p.fix) (last_line (codes "}") refl))))))))))))))).line
+    (more (codes ",\"fix\":") _ refl (more (finding_fix p) _ (fix_json_one p) (last_line (codes "}") refl))))))))))))))).line
 
 in_object : (a f b l c d e w g k h s i m q r x : List ℕ)
     → a ++ f ++ b ++ l ++ c ++ d ++ e ++ w ++ g ++ (k ++ h ++ s ++ i ++ m) ++ (q ++ r) ++ x ≡ a ++ (f ++ (b ++ (l ++ (c ++ (d ++ (e ++ (w ++ (g ++ (k ++ (h ++ (s ++ (i ++ (m ++ q))))))))))))) ++ (r ++ x)
@@ -263,7 +276,7 @@ people_is s file p rest = simp append_assoc refl
 
 object_is : {source : List ℕ} → (s : Severity) (file : List ℕ) (p : FindingParts source) (rest : List ℕ) → finding_text form.Json s file p ++ rest ≡ object_line s file p ++ 10 ∷ rest
 object_is s file p rest =
-    in_object (codes "{\"file\":") (json_text file) (codes ",\"line\":") (decimal (finding_line p)) (codes ",\"column\":") (decimal (finding_column p)) (codes ",\"severity\":\"") (severity_word s) (codes "\",\"code\":") (json_text p.code) (codes ",\"message\":") (json_text p.sentence) (codes ",\"fix\":") (json_text p.fix) (codes "}") (codes "\n") rest
+    in_object (codes "{\"file\":") (json_text file) (codes ",\"line\":") (decimal (finding_line p)) (codes ",\"column\":") (decimal (finding_column p)) (codes ",\"severity\":\"") (severity_word s) (codes "\",\"code\":") (json_text p.code) (codes ",\"message\":") (json_text p.sentence) (codes ",\"fix\":") (finding_fix p) (codes "}") (codes "\n") rest
 
 tails : (xs ys : List ℕ) → 10 ∷ xs ≡ 10 ∷ ys → xs ≡ ys
 tails xs ys e = cc
@@ -376,6 +389,15 @@ add a b g h = record { printed = both_printed a b g h.printed }
 last_words : (a : List ℕ) → IsTrue (is_printed a) → Printed a
 last_words a h = record { printed = h }
 
+second_printed : {source : List ℕ} → (s : Option (Second source)) → IsTrue (is_printed (second_text s))
+second_printed None = refl
+second_printed (Some s) =
+    (add (codes ",\"related\":{\"line\":") _ refl (add (decimal (line_number_after 1 s.before)) _ (digits_printed (line_number_after 1 s.before))
+    (add (codes ",\"column\":") _ refl (add (decimal (column_after 1 s.before)) _ (digits_printed (column_after 1 s.before)) (last_words (codes "}") refl))))).printed
+
+fix_json_printed : {source : List ℕ} → (p : FindingParts source) → IsTrue (is_on_line p.fix) → IsTrue (is_printed (finding_fix p))
+fix_json_printed p h = both_printed (json_text p.fix) (second_text p.second) (json_printed p.fix h) (second_printed p.second)
+
 text_printed : {source : List ℕ} → (form : Form) (s : Severity) (file : List ℕ) (p : FindingParts source) → IsTrue (is_printed (finding_start form file)) → IsTrue (is_printed (finding_text form s file p))
 text_printed form.Text s file p h =
     let parts = parts_of p in
@@ -386,11 +408,11 @@ text_printed form.Text s file p h =
     (add (finding_mark p) _ (words_printed (finding_mark p) parts.3) (add (codes "\n  fix: ") _ refl (add p.fix _ (words_printed p.fix parts.4) (last_words (codes "\n") refl))))))))))))))).printed
 text_printed form.Json s file p h =
     let parts = parts_of p in
-    let text = after_start (finding_start form.Json file) (decimal (finding_line p)) (codes ",\"column\":") (decimal (finding_column p)) (codes ",\"severity\":\"") (severity_word s) (codes "\",\"code\":") (json_text p.code) (codes ",\"message\":") (json_text p.sentence) (codes ",\"fix\":") (json_text p.fix) (codes "}\n") in
+    let text = after_start (finding_start form.Json file) (decimal (finding_line p)) (codes ",\"column\":") (decimal (finding_column p)) (codes ",\"severity\":\"") (severity_word s) (codes "\",\"code\":") (json_text p.code) (codes ",\"message\":") (json_text p.sentence) (codes ",\"fix\":") (finding_fix p) (codes "}\n") in
     subst (λ t. IsTrue (is_printed t)) (sym text)
     (add (finding_start form.Json file) _ h (add (decimal (finding_line p)) _ (digits_printed (finding_line p)) (add (codes ",\"column\":") _ refl (add (decimal (finding_column p)) _ (digits_printed (finding_column p)) (add (codes ",\"severity\":\"") _ refl
     (add (severity_word s) _ (word_printed s) (add (codes "\",\"code\":") _ refl (add (json_text p.code) _ (json_printed p.code parts.0) (add (codes ",\"message\":") _ refl
-    (add (json_text p.sentence) _ (json_printed p.sentence parts.1) (add (codes ",\"fix\":") _ refl (add (json_text p.fix) _ (json_printed p.fix parts.4) (last_words (codes "}\n") refl))))))))))))).printed
+    (add (json_text p.sentence) _ (json_printed p.sentence parts.1) (add (codes ",\"fix\":") _ refl (add (finding_fix p) _ (fix_json_printed p parts.4) (last_words (codes "}\n") refl))))))))))))).printed
 
 pub findings_printed : {source : List ℕ} → (form : Form) (s : Severity) (file : List ℕ) → IsTrue (is_printed (finding_start form file)) → (ps : List (FindingParts source)) → IsTrue (is_printed (flat_map (finding_text form s file) ps))
 findings_printed form s file h [] = refl

@@ -96,9 +96,9 @@ module _ (edition : Edition) (source : List ℕ) where
       let f = get_or fs k d in
       of_none edition (take f.place.start source) (drop f.place.start source) (matter_code f.matter) r.stop (found r g) (j r g)
 
-  pub undefined_reason : (name : List ℕ) (v : LoadFault) (f : Finding) → v ≡ fault.Undefined name → Judged edition source (verdict.Unloaded v) → f.matter ≡ matter.NotDefined → IsReasoned edition source f
+  pub undefined_reason : (name : List ℕ) (v : LoadFault) (f : Finding) → v ≡ fault.Undefined name → Judged edition source (verdict.Unloaded v) → matter_code f.matter ≡ codes "load 3" → IsReasoned edition source f
   undefined_reason name v f is j e =
-      λ r g. subst (λ m. Reason edition r.stop (found r g) (matter_code m) (take f.place.start source) (drop f.place.start source)) (sym e)
+      λ r g. subst (λ k. Reason edition r.stop (found r g) k (take f.place.start source) (drop f.place.start source)) (sym e)
       (of_undefined edition (take f.place.start source) (drop f.place.start source) r.stop (found r g) (subst (λ x. ◌≡◌ {A = List ℕ × ℕ} (unwrap_or (load_line x) [], 132) (told_first r.stop (found r g))) is (j r g)))
 
   pub other_reason : (v : LoadFault) (start : ℕ) → ((name : List ℕ) → v ≡ fault.Undefined name → ⊥) → Judged edition source (verdict.Unloaded v) → EachOutcome edition source (ReasonAt (codes "load 2") start)

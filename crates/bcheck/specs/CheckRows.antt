@@ -4,7 +4,7 @@ use Rattle.std.specs.Fmt.{digits}
 use Rattle.blang.specs.declared.token.About.TheVariants as about
 use Rattle.blang.specs.declared.token.Letters.TheVariants as letters
 use Rattle.blang.specs.declared.run.LoadFault.TheVariants as fault
-use Rattle.bcheck.specs.Checks.{FindingParts, finding_text, findings_text, is_on_line, json_byte, json_text, file_byte}
+use Rattle.bcheck.specs.Checks.{FindingParts, finding_text, findings_text, is_on_line, json_byte, json_text, file_byte, second_text}
 use Rattle.bcheck.specs.Checks.{column_after, diagnostic_code, severity_of, severity_word, shown_in_form, told_first}
 use Rattle.blang.specs.Cut.{line_number_after}
 use Rattle.bcheck.specs.declared.finding.Severity.TheVariants as severity
@@ -84,6 +84,7 @@ undefined = record {
   sentence = codes "no n";
   fix = codes "auto n;";
   on_lines = refl;
+  second = None;
 }
 
 error_for_people : finding_text form.Text severity.Error (codes "x.b") undefined
@@ -101,6 +102,14 @@ warning_for_editors : finding_text form.Json severity.Warning (codes "a\"b") und
     ++ codes "\"code\":\"un\",\"message\":\"no n\",\"fix\":\"auto n;\"}\n"
 unfolding digits
 warning_for_editors = refl
+
+-- the second place is where n is defined, and where `g` begins
+second_texts : map (second_text {source = codes "n 5;\nf() ;"})
+    (None ∷ Some (record { before = []; after = codes "n 5;\nf() ;"; split = refl })
+    ∷ Some (record { before = codes "n 5;\nf"; after = codes "() ;"; split = refl }) ∷ [])
+    ≡ ([] ∷ codes ",\"related\":{\"line\":1,\"column\":1}" ∷ codes ",\"related\":{\"line\":2,\"column\":2}" ∷ [])
+unfolding digits
+second_texts = refl
 
 no_findings : findings_text {source = []} form.Text 0 (codes "x.b") [] ≡ []
 no_findings = refl

@@ -123,8 +123,14 @@ shown_byte b = if b == 9 then 32 else (if is_in_range 32 126 b then b else 63)
 abbrev pub shown_text : ℕ → List ℕ
 shown_text b = shown_byte b ∷ []
 
+-- A second place, between these bytes of the source.
+pub record Second (source : List ℕ) : Type 0 where
+  pub before : List ℕ
+  pub after : List ℕ
+  pub split : source ≡ before ++ after
+
 -- A finding. It stands at a place of the source, of whose line it shows some bytes before the place, and some from it
--- on. A sentence and a fix are told of it, and for editors a code.
+-- on. A sentence and a fix are told of it, and for editors a code, and the second place of which it speaks.
 pub record FindingParts (source : List ℕ) : Type 0 where
   pub before : List ℕ
   pub left : List ℕ
@@ -139,6 +145,7 @@ pub record FindingParts (source : List ℕ) : Type 0 where
   pub sentence : List ℕ
   pub fix : List ℕ
   pub on_lines : IsTrue (list_all is_on_line (code ∷ sentence ∷ fix ∷ []))
+  pub second : Option (Second source)
 
 -- the line and the column of its place, from 1
 abbrev pub finding_line : {source : List ℕ} → FindingParts source → ℕ
@@ -154,11 +161,24 @@ finding_shown p = flat_map shown_text p.left ++ flat_map shown_text p.right
 abbrev pub finding_mark : {source : List ℕ} → FindingParts source → List ℕ
 finding_mark p = replicate (length p.left) 32 ++ replicate p.marks 94
 
+-- the line and the column of a second place, for editors
+abbrev pub spot_words : (line column : ℕ) → List ℕ
+spot_words line column =
+    codes ",\"related\":{\"line\":" ++ (decimal line ++ (codes ",\"column\":" ++ (decimal column ++ codes "}")))
+
+abbrev pub second_text : {source : List ℕ} → Option (Second source) → List ℕ
+second_text None = []
+second_text (Some s) =
+    spot_words (line_number_after 1 s.before) (column_after 1 s.before)
+
+abbrev pub finding_fix : {source : List ℕ} → FindingParts source → List ℕ
+finding_fix p = json_text p.fix ++ second_text p.second
+
 abbrev pub finding_words : {source : List ℕ} → Form → FindingParts source → List ℕ
 finding_words form.Text p =
     p.sentence ++ codes "\n    " ++ finding_shown p ++ codes "\n    " ++ finding_mark p ++ codes "\n  fix: " ++ p.fix
 finding_words form.Json p =
-    json_text p.code ++ codes ",\"message\":" ++ json_text p.sentence ++ codes ",\"fix\":" ++ json_text p.fix
+    json_text p.code ++ codes ",\"message\":" ++ json_text p.sentence ++ codes ",\"fix\":" ++ finding_fix p
 
 -- A finding begins with the name of the file: for people on one line, for editors as the first member of an object.
 abbrev pub finding_start : Form → (file : List ℕ) → List ℕ

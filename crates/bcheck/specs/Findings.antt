@@ -1,5 +1,5 @@
 -- What is known of a finding before it is told.
-use Rattle.std.specs.Prelude.{◌≡◌, ℕ, ◌<◌, IsTrue, false, List, [], ◌++◌, codes, drop, length, take, Some}
+use Rattle.std.specs.Prelude.{◌≡◌, ℕ, ◌<◌, IsTrue, false, List, [], ◌++◌, codes, drop, length, take, Option, Some, IfSome}
 use Rattle.bword.specs.declared.edition.Edition.{Edition}
 use Rattle.bword.specs.ByteEnds.{incoming_of}
 use Rattle.blang.specs.Compiles.{Compilation, CompilesTo}
@@ -10,49 +10,66 @@ use Rattle.bcheck.specs.Checks.{EachOutcome, FindingParts, Outcome, Reason, Stan
 use Rattle.bcheck.specs.Checks.{finding_text, is_in_line}
 use Rattle.bcheck.specs.declared.advice.Matter.{Matter}
 use Rattle.bcheck.specs.declared.advice.Matter.TheVariants as matter
+use Rattle.bcheck.specs.declared.warnings.Warning.{Warning}
+use Rattle.bcheck.specs.declared.warnings.Warning.TheVariants as warning
 use Rattle.bcheck.specs.declared.excerpt.Excerpt.{Excerpt}
 use Rattle.bcheck.specs.declared.finding.Finding.{Finding}
+use Rattle.bcheck.specs.declared.finding.Spot.{Spot}
 use Rattle.bcheck.specs.declared.finding.Severity.{Severity}
 use Rattle.bcheck.specs.declared.form.Form.{Form}
+
+-- by which code each warning is known
+abbrev pub warning_code : Warning → List ℕ
+warning_code warning.AndAnd = codes "and"
+warning_code warning.OperatorAssigns = codes "op"
+warning_code warning.ConditionAssigns = codes "if"
+warning_code warning.AssignsComparison = codes "if"
+warning_code warning.EmptyIf = codes "em"
+warning_code warning.EmptyLoop = codes "em"
+warning_code warning.PastVector = codes "ix"
+warning_code warning.StringForCharacter = codes "st"
+warning_code warning.StringPut = codes "st"
+warning_code warning.StringCompared = codes "st"
+warning_code warning.NameAlone = codes "no"
+warning_code warning.ComparesAlone = codes "no"
+warning_code warning.NoEffect = codes "no"
+warning_code warning.Backslash = codes "bs"
+warning_code warning.BitsCompared = codes "pr"
+warning_code warning.ComparesTwice = codes "pr"
+warning_code warning.NotCompared = codes "pr"
+warning_code warning.ManyArguments = codes "ar"
+warning_code warning.FewArguments = codes "ar"
+warning_code warning.LibraryArguments = codes "ar"
+warning_code warning.NoReturn = codes "rt"
+warning_code warning.NeverUsed = codes "us"
+warning_code warning.Unset = codes "in"
+warning_code warning.HidesExternal = codes "hi"
+warning_code warning.HidesLibrary = codes "hi"
+warning_code warning.NearMain = codes "ma"
+warning_code warning.DefaultLabel = codes "ed"
+warning_code warning.WordOutside = codes "ed"
 
 -- by which code each matter is known
 abbrev pub matter_code : Matter → List ℕ
 matter_code matter.OpenComment = codes "*/"
-matter_code matter.Character = codes "ch"
+matter_code (matter.Character byte) = codes "ch"
 matter_code matter.LongName = codes "nm"
-matter_code matter.WrongNumber = codes "ct"
-matter_code matter.WrongCharacter = codes "ct"
-matter_code matter.WrongString = codes "ct"
-matter_code matter.Syntax = codes "sx"
-matter_code matter.SourceEnds = codes "sx"
-matter_code matter.NoStatement = codes "sx"
-matter_code matter.ReturnValue = codes "sx"
-matter_code matter.EqualsAfter = codes "sx"
-matter_code matter.OrOr = codes "sx"
+matter_code (matter.Constant constant) = codes "ct"
+matter_code (matter.Syntax syntax) = codes "sx"
 matter_code matter.CaseOutside = codes "sx case"
 matter_code matter.DefaultOutside = codes "sx default"
 matter_code matter.BreakOutside = codes "sx break"
 matter_code matter.NameAgain = codes "rd"
 matter_code matter.CaseAgain = codes "rd case"
 matter_code matter.DefaultAgain = codes "rd default"
-matter_code matter.NotLvalue = codes "lv"
-matter_code matter.NoAddress = codes "lv"
-matter_code matter.Unknown = codes "un"
-matter_code matter.OtherEdition = codes "un"
+matter_code (matter.NotLvalue lvalue) = codes "lv"
+matter_code (matter.Unknown unknown) = codes "un"
 matter_code matter.TooManyNames = codes ">s"
 matter_code matter.TooManyCases = codes ">c"
-matter_code matter.TooLarge = codes ">e"
+matter_code (matter.TooLarge limit) = codes ">e"
 matter_code matter.DataTooLarge = codes "load 2"
-matter_code matter.NotDefined = codes "load 3"
-matter_code matter.AndAnd = codes "and"
-matter_code matter.OperatorAssigns = codes "op"
-matter_code matter.ConditionAssigns = codes "if"
-matter_code matter.PastVector = codes "ix"
-matter_code matter.StringForCharacter = codes "st"
-matter_code matter.NameAlone = codes "no"
-matter_code matter.ManyArguments = codes "ar"
-matter_code matter.NoReturn = codes "rt"
-matter_code matter.NeverUsed = codes "us"
+matter_code (matter.NotDefined undefined) = codes "load 3"
+matter_code (matter.Warning warning) = warning_code warning
 
 -- a compiler of this source that has read it from its beginning
 abbrev pub Reads : Edition → List ℕ → Compiler → Type 0
@@ -89,6 +106,15 @@ pub record IsExcerpt (source : List ℕ) (start : ℕ) (e : Excerpt) : Type 0 wh
   pub from_line : length e.left.now < e.column
   pub in_line : IsTrue (is_in_line e.right.now)
   pub marked : 0 < e.marks
+
+-- the line and the column are those of a place of the source
+abbrev pub IsSpot : (source : List ℕ) → Spot → Type 0
+IsSpot source s =
+    (before : List ℕ) × (after : List ℕ) × (source ≡ before ++ after) × (s.line ≡ line_number_after 1 before)
+    × (s.column ≡ column_after 1 before)
+
+abbrev pub IsSecond : (source : List ℕ) → Option Spot → Type 0
+IsSecond source s = IfSome s (IsSpot source)
 
 -- the text has a finding of this code at this place more
 abbrev pub AddsFinding : Form → Severity → (file source : List ℕ) → (start : ℕ) → (code old new : List ℕ) → Type 0

@@ -1,9 +1,15 @@
 -- The text of each piece.
-use Rattle.std.specs.Prelude.{ℕ, List, decimal, replicate}
+use Rattle.std.specs.Prelude.{ℕ, List, [], Option, Some, None, decimal, replicate}
 use Rattle.std.specs.List.{flat_map}
-use Rattle.bcheck.specs.Checks.{file_text, json_text, shown_text}
+use Rattle.bcheck.specs.Checks.{file_text, json_text, shown_text, spot_words}
+use Rattle.bcheck.specs.declared.finding.Spot.{Spot}
 use Rattle.bcheck.specs.declared.pieces.Piece.{Piece}
 use Rattle.bcheck.specs.declared.pieces.Piece.TheVariants as piece
+
+-- the line and the column of a second place, as an editor is told them
+abbrev pub spot_text : Option Spot → List ℕ
+spot_text None = []
+spot_text (Some s) = spot_words s.line s.column
 
 abbrev pub piece_text : Piece → List ℕ
 piece_text (piece.Words words) = words.now

@@ -1,25 +1,27 @@
 //! What is said of a source after the line of the compiler.
 ghost use Rattle.std.specs.List.{All};
-ghost use Rattle.std.specs.Prelude.{◌≡◌, ◌≢◌, IfOk, length, vec_items};
+ghost use Rattle.std.specs.Prelude.{◌≡◌, ◌≢◌, IfOk, codes, length, vec_items};
 ghost use Rattle.blang.specs.declared.status.TheConstants.{DONE};
 ghost use Rattle.bcheck.specs.Checks.{AreFindings, EachOutcome, Judged, status_told};
-ghost use Rattle.bcheck.specs.Findings.{IsReasoned, TellsEach, TellsFault};
-ghost use Rattle.bcheck.specs.declared.advice.Matter.TheVariants as matter;
+ghost use Rattle.bcheck.specs.Findings.{IsReasoned, TellsEach, TellsFault, matter_code};
 ghost use Rattle.bcheck.specs.declared.verdict.Verdict.TheVariants as verdict;
 
 use crate::advice::Matter;
+use crate::brackets::Brackets;
+use crate::defined::{Defined, Definition, What};
 use crate::excerpt::excerpt_at;
 use crate::faults::{self, token_named};
 use crate::finding::{Finding, Told};
 use crate::form::{Form, Request};
 use crate::mention::first_mention;
-use crate::passes::{Extent, Fault, Pass};
-use crate::patterns::find;
-use crate::places::place_on;
+use crate::outside::outside;
+use crate::passes::{Fault, Pass};
+use crate::patterns::{Compiled, Found, find};
+use crate::places::{place_on, spot_of};
 use crate::spans::{Span, place_of, spans};
 use crate::verdict::Verdict;
 use crate::words::Words;
-use crate::{json, text};
+use crate::{json, text, unknown};
 use blang::LoadFault;
 use bparse::Step;
 use btools::Text;
@@ -45,6 +47,7 @@ pub(crate) fn explain(
         let told = Told {
             file,
             excerpt: excerpt_at(source, &finding.place),
+            second: spot_of(source, &finding.related),
             severity,
             words: &words,
         };
@@ -91,7 +94,7 @@ fn fault_of(
         match pass.next() {
             Step::Written => {}
             Step::Fault(diagnostic) => {
-                return fault_at(source, asked.edition, spans, &pass.fault(diagnostic));
+                return fault_at(alloc, source, asked.edition, spans, &pass.fault(diagnostic));
             }
             // Memory was refused: the source has a fault, and no read of memory fails.
             _ => return Err(AllocError),
@@ -101,6 +104,7 @@ fn fault_of(
 
 // What is said of this fault, on its line.
 fn fault_at(
+    alloc: Global,
     source: &[u8],
     edition: Edition,
     spans: &[Span],
@@ -108,7 +112,7 @@ fn fault_at(
 ) -> Result<Finding, AllocError>
     ensures { IfOk result (TellsFault edition source.now fault.now.diagnostic) }
 {
-    let found = faults::finding(source, spans, fault);
+    let found = faults::finding(alloc, source, spans, fault);
     // Each diagnostic has a line of the source.
     let Some(place) = place_on(source, edition, &found.place, fault.diagnostic.line) else {
         return Err(AllocError);
@@ -116,7 +120,9 @@ fn fault_at(
     Ok(Finding {
         matter: found.matter,
         name: found.name,
+        other: found.other,
         place,
+        related: found.related,
     })
 }
 
@@ -137,7 +143,9 @@ fn unloaded(
     Ok(Finding {
         matter: Matter::DataTooLarge,
         name: None,
+        other: None,
         place: place_of(spans, 0),
+        related: None,
     })
 }
 
@@ -149,38 +157,54 @@ fn undefined(
     spans: &[Span],
     name: Name,
 ) -> Result<Finding, AllocError>
-    ensures { IfOk result (λ finding. finding.matter ≡ matter.NotDefined) }
+    ensures { IfOk result (λ finding. matter_code finding.matter ≡ codes "load 3") }
 {
     let mention = first_mention(alloc, source, asked.edition, name)?;
-    let token = match mention {
-        Some(mention) => token_named(spans, mention.extent, name, mention.line),
-        None => 0,
+    let (first, token) = match mention {
+        Some(mention) => (
+            mention.extent.first,
+            token_named(spans, mention.extent, name, mention.line),
+        ),
+        None => (0, 0),
     };
-    Ok(Finding {
-        matter: Matter::NotDefined,
-        name: Some(name),
-        place: place_of(spans, token),
-    })
+    Ok(unknown::undefined_name(spans, first, token, name))
 }
 
-// What compiles and is hardly meant.
+// What compiles and is probably a mistake.
 fn warnings(
     alloc: Global,
     source: &[u8],
     asked: Request<'_>,
     spans: &[Span],
 ) -> Result<Vec<Finding>, AllocError> {
-    let functions = functions(alloc, source, asked)?;
+    let brackets = Brackets::new(alloc, spans)?;
+    let defined = definitions_of(alloc, source, asked, spans, &brackets)?;
+    let compiled = Compiled {
+        source,
+        spans,
+        edition: asked.edition,
+        brackets: &brackets,
+        defined: &defined,
+    };
     let mut findings = Vec::new(alloc);
-    for function in functions.as_slice() {
-        find(spans, functions.as_slice(), *function, &mut findings)?;
+    for definition in defined.all.as_slice() {
+        Found::add(outside(&compiled, definition), spans, &mut findings)?;
+        if let What::Function { .. } = definition.what {
+            find(alloc, &compiled, definition.extent, &mut findings)?;
+        }
     }
     Ok(findings)
 }
 
-// The functions of a source that compiles.
-fn functions(alloc: Global, source: &[u8], asked: Request<'_>) -> Result<Vec<Extent>, AllocError> {
-    let mut functions = Vec::new(alloc);
+// The definitions of a source that compiles.
+fn definitions_of(
+    alloc: Global,
+    source: &[u8],
+    asked: Request<'_>,
+    spans: &[Span],
+    brackets: &Brackets,
+) -> Result<Defined, AllocError> {
+    let mut defined = Defined::new(alloc);
     let mut pass = Pass::new(alloc, source, asked.edition);
     for _ in 0..source.len() {
         match pass.next() {
@@ -188,9 +212,10 @@ fn functions(alloc: Global, source: &[u8], asked: Request<'_>) -> Result<Vec<Ext
             Step::Memory => return Err(AllocError),
             _ => break,
         }
-        if pass.is_function() {
-            functions.push(pass.extent)?;
-        }
+        defined.push(
+            spans,
+            Definition::new(spans, brackets, pass.extent, pass.is_function()),
+        )?;
     }
-    Ok(functions)
+    Ok(defined)
 }

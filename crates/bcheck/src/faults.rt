@@ -1,65 +1,80 @@
 //! What is said of a diagnostic.
-ghost use Rattle.std.specs.Prelude.{◌≡◌, IfSome, codes};
+ghost use Rattle.std.specs.Prelude.{◌≡◌, codes};
 ghost use Rattle.bcheck.specs.Checks.{diagnostic_code};
 ghost use Rattle.bcheck.specs.Findings.{matter_code};
 
 use crate::advice::Matter;
-use crate::finding::Finding;
+use crate::around::{Around, look_around};
+use crate::bytes::{Constant, byte_of, constant_at};
+use crate::finding::{Finding, Place};
+use crate::limits::limit_of;
 use crate::passes::{Extent, Fault};
-use crate::spans::{Span, lexeme_at, place_of};
-use blang::{About, Diagnostic, Keyword, Letters};
+use crate::spans::{Span, is_next_line, lexeme_at, place_of};
+use crate::syntax::{self, Mark, Syntax};
+use crate::unknown::{Lvalue, Unknown, unknown_name, without_address};
+use bcode::read_code;
+use blang::{About, Letters, MAX_NESTING};
 use blex::Lexeme;
-use bword::{BinOp, Name};
+use bword::Name;
+use std::alloc::Global;
 
 /// What is said of a fault.
-pub(crate) fn finding(source: &[u8], spans: &[Span], fault: &Fault) -> Finding
+pub(crate) fn finding(alloc: Global, source: &[u8], spans: &[Span], fault: &Fault) -> Finding
     ensures { matter_code result.matter ≡ diagnostic_code fault.now.diagnostic }
 {
     let diagnostic = &fault.diagnostic;
     let token = token_of(spans, fault);
-    if let Letters::NotLvalue = diagnostic.letters {
-        if let Some(finding) = no_address(spans, token, diagnostic.line) {
-            return finding;
+    let place = place_of(spans, token);
+    match (diagnostic.letters, diagnostic.about) {
+        (Letters::Character, _) => character(source, place),
+        (Letters::Constant, _) => constant(source, place),
+        (Letters::Syntax, About::Nothing | About::Name(_)) => syntax_at(
+            alloc, source, spans, fault, token,
+        ),
+        (Letters::NotLvalue, _) => without_address(spans, token, diagnostic.line),
+        (Letters::Undefined, About::Name(name)) => unknown_name(spans, fault.extent, token, name),
+        (Letters::Redeclared, About::Name(name)) => again(spans, fault.extent, token, name),
+        _ => Finding::new(matter_of(source, spans, fault), place),
+    }
+}
+
+fn character(source: &[u8], place: Place) -> Finding
+    ensures { matter_code result.matter ≡ codes "ch" }
+{
+    let byte = byte_of(source.get(place.start..).unwrap_or(&[]));
+    Finding::new(Matter::Character(byte), place)
+}
+
+fn constant(source: &[u8], place: Place) -> Finding
+    ensures { matter_code result.matter ≡ codes "ct" }
+{
+    let (constant, within) = constant_at(source, &place);
+    Finding::new(Matter::Constant(constant), within)
+}
+
+// What is said of a name that is there already, with its first place in the definition or in the source.
+fn again(spans: &[Span], extent: Extent, token: usize, name: Name) -> Finding
+    ensures { matter_code result.matter ≡ codes "rd" }
+{
+    let from = if token == extent.first {
+        0
+    } else {
+        extent.first.saturating_add(1)
+    };
+    let mut related = None;
+    for first in from..token {
+        if lexeme_at(spans, first) == Lexeme::Name(name) {
+            related = Some(place_of(spans, first));
+            break;
         }
     }
-    let place = place_of(spans, token);
-    let first = source.get(place.start).copied();
-    let name = match diagnostic.about {
-        About::Name(name) => Some(name),
-        _ => None,
-    };
     Finding {
-        matter: matter_of(diagnostic, spans, token, first),
-        name,
-        place,
-    }
-}
-
-// What is said of the name that the operator at this place wants the address of, if it is a name on this line.
-fn no_address(spans: &[Span], operator: usize, line: u64) -> Option<Finding>
-    ensures { IfSome result (λ finding. matter_code finding.matter ≡ codes "lv") }
-{
-    let (before, following) = (operator.wrapping_sub(1), operator.wrapping_add(1));
-    let op = lexeme_at(spans, operator);
-    let is_prefix = op == Lexeme::Operator(BinOp::And)
-        || matches!(op, Lexeme::Increment | Lexeme::Decrement if !is_name(spans, before));
-    let token = if is_prefix { following } else { before };
-    let Lexeme::Name(name) = lexeme_at(spans, token) else {
-        return None;
-    };
-    let place = place_of(spans, token);
-    if place.line != line {
-        return None;
-    }
-    Some(Finding {
-        matter: Matter::NoAddress,
+        matter: Matter::NameAgain,
         name: Some(name),
-        place,
-    })
-}
-
-fn is_name(spans: &[Span], token: usize) -> bool {
-    matches!(lexeme_at(spans, token), Lexeme::Name(_))
+        other: None,
+        place: place_of(spans, token),
+        related,
+    }
 }
 
 // The place of the token at fault among the tokens.
@@ -88,52 +103,129 @@ pub(crate) fn token_named(spans: &[Span], extent: Extent, name: Name, line: u64)
     extent.first
 }
 
-// What is said of a diagnostic whose token begins with this byte.
-fn matter_of(diagnostic: &Diagnostic, spans: &[Span], token: usize, first: Option<u8>) -> Matter
-    ensures { matter_code result ≡ diagnostic_code diagnostic.now }
+// What is said of the diagnostics that need no token.
+fn matter_of(source: &[u8], spans: &[Span], fault: &Fault) -> Matter
+    ensures { matter_code result ≡ diagnostic_code fault.now.diagnostic }
 {
-    match (diagnostic.letters, diagnostic.about) {
+    match (fault.diagnostic.letters, fault.diagnostic.about) {
         (Letters::OpenComment, _) => Matter::OpenComment,
-        (Letters::Character, _) => Matter::Character,
+        (Letters::Character, _) => Matter::Character(byte_of(&[])),
         (Letters::LongName, _) => Matter::LongName,
-        (Letters::Constant, _) => match first {
-            Some(b'\'') => Matter::WrongCharacter,
-            Some(b'"') => Matter::WrongString,
-            _ => Matter::WrongNumber,
-        },
+        (Letters::Constant, _) => Matter::Constant(Constant::Number),
         (Letters::Syntax, About::Case) => Matter::CaseOutside,
         (Letters::Syntax, About::Break) => Matter::BreakOutside,
         (Letters::Syntax, About::Default) => Matter::DefaultOutside,
-        (Letters::Syntax, _) => syntax_matter(spans, token),
+        (Letters::Syntax, _) => Matter::Syntax(Syntax::Other),
         (Letters::Redeclared, About::Case) => Matter::CaseAgain,
         (Letters::Redeclared, About::Default) => Matter::DefaultAgain,
         (Letters::Redeclared, _) => Matter::NameAgain,
-        (Letters::NotLvalue, _) => Matter::NotLvalue,
+        (Letters::NotLvalue, _) => Matter::NotLvalue(Lvalue::Other),
         (Letters::TooManyNames, _) => Matter::TooManyNames,
         (Letters::TooManyCases, _) => Matter::TooManyCases,
-        (Letters::Undefined, About::Name(name)) if is_word_of_edition_two(name) =>
-            Matter::OtherEdition,
-        (Letters::Undefined, _) => Matter::Unknown,
-        (Letters::TooLarge, _) => Matter::TooLarge,
+        (Letters::Undefined, _) => Matter::Unknown(Unknown::Other),
+        (Letters::TooLarge, _) => Matter::TooLarge(limit_of(source, spans, fault.extent)),
     }
-}
-
-// Whether edition 2 has this name as a keyword.
-fn is_word_of_edition_two(name: Name) -> bool {
-    matches!(name.as_bytes(), b"break" | b"default")
 }
 
 // What is said of a token with which no program goes on.
-fn syntax_matter(spans: &[Span], token: usize) -> Matter
-    ensures { matter_code result ≡ codes "sx" }
+fn syntax_at(alloc: Global, source: &[u8], spans: &[Span], fault: &Fault, token: usize) -> Finding
+    ensures { matter_code result.matter ≡ codes "sx" }
 {
-    let before = lexeme_at(spans, token.wrapping_sub(1));
-    match (before, lexeme_at(spans, token)) {
-        (_, Lexeme::End) => Matter::SourceEnds,
-        (Lexeme::Operator(_), Lexeme::Assign(_)) => Matter::EqualsAfter,
-        (Lexeme::Operator(BinOp::Or), Lexeme::Operator(BinOp::Or)) => Matter::OrOr,
-        (Lexeme::Keyword(Keyword::Return), _) => Matter::ReturnValue,
-        (Lexeme::Semicolon | Lexeme::Colon, Lexeme::CloseBrace) => Matter::NoStatement,
-        _ => Matter::Syntax,
+    if fault.extent.first == 0 && read_code(alloc, source).is_ok() {
+        return Finding::new(Matter::Syntax(Syntax::CodeText), place_of(spans, token));
     }
+    let around = look_around(spans, fault.extent, token);
+    let (syntax, mark) = syntax::found(source, spans, &around);
+    Finding {
+        matter: Matter::Syntax(syntax),
+        name: None,
+        other: None,
+        place: marked(spans, &around, mark, fault.diagnostic.line),
+        related: related(source, spans, fault.extent, &around, syntax),
+    }
+}
+
+// The place that is marked, if it is on this line, and else the token itself.
+fn marked(spans: &[Span], around: &Around, mark: Mark, line: u64) -> Place {
+    let token = match mark {
+        Mark::Here => around.token,
+        Mark::Before => around.token.wrapping_sub(1),
+        Mark::First => around.first,
+        Mark::Head => around.head(),
+    };
+    let place = place_of(spans, token);
+    if place.line == line {
+        place
+    } else {
+        place_of(spans, around.token)
+    }
+}
+
+// The second place.
+fn related(
+    source: &[u8],
+    spans: &[Span],
+    extent: Extent,
+    around: &Around,
+    syntax: Syntax,
+) -> Option<Place> {
+    let token = match syntax {
+        Syntax::BraceOpen => open_brace(source, spans, extent, around.token)?,
+        Syntax::FunctionInside => open_brace(source, spans, extent, around.first)?,
+        Syntax::ParenOpen | Syntax::ElseInBraces => around.opener?,
+        Syntax::SemicolonMissing => around.token.wrapping_sub(1),
+        _ => return None,
+    };
+    Some(place_of(spans, token))
+}
+
+/// A brace, and the column of the first token of its line.
+#[derive(Clone, Copy)]
+struct Brace {
+    token: usize,
+    column: usize,
+}
+
+// The brace that is open before a token: the first whose `}` is farther left than its line, or the innermost one.
+fn open_brace(source: &[u8], spans: &[Span], extent: Extent, end: usize) -> Option<usize> {
+    let mut braces = [Brace {
+        token: 0,
+        column: 0,
+    }; MAX_NESTING];
+    let mut depth: usize = 0;
+    let mut column = 0;
+    for token in extent.first..end {
+        let is_first = is_next_line(spans, token.wrapping_sub(1));
+        if is_first {
+            column = blanks_before(source, place_of(spans, token).start);
+        }
+        match lexeme_at(spans, token) {
+            Lexeme::OpenBrace => {
+                if let Some(brace) = braces.get_mut(depth) {
+                    *brace = Brace { token, column };
+                }
+                depth = depth.saturating_add(1);
+            }
+            Lexeme::CloseBrace => {
+                depth = depth.saturating_sub(1);
+                let brace = braces.get(depth)?;
+                if is_first && column < brace.column {
+                    return Some(brace.token);
+                }
+            }
+            _ => {}
+        }
+    }
+    Some(braces.get(depth.wrapping_sub(1))?.token)
+}
+
+// How many blanks are directly before a place.
+fn blanks_before(source: &[u8], start: usize) -> usize {
+    for count in 0..start {
+        let byte = source.get(start.saturating_sub(count).saturating_sub(1));
+        if !matches!(byte, Some(b' ' | b'\t')) {
+            return count;
+        }
+    }
+    start
 }

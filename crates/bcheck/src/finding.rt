@@ -17,12 +17,38 @@ pub(crate) struct Place {
     pub len: usize,
 }
 
-/// What is said of a piece of the source, and the name that it is about.
+/// What is said of a piece of the source.
 #[derive(Clone, Copy)]
 pub(crate) struct Finding {
     pub matter: Matter,
+    /// The name that it is about, and another one that is meant perhaps.
     pub name: Option<Name>,
+    pub other: Option<Name>,
     pub place: Place,
+    /// A second place, of which it speaks.
+    pub related: Option<Place>,
+}
+
+impl Finding {
+    /// What speaks of no name and of no second place.
+    pub(crate) fn new(matter: Matter, place: Place) -> Self
+        ensures { result.matter ≡ matter }
+    {
+        Finding {
+            matter,
+            name: None,
+            other: None,
+            place,
+            related: None,
+        }
+    }
+}
+
+/// The line and the column of a second place.
+#[derive(Clone, Copy)]
+pub(crate) struct Spot {
+    pub line: u64,
+    pub column: usize,
 }
 
 /// What is told of a finding.
@@ -30,6 +56,7 @@ pub(crate) struct Finding {
 pub(crate) struct Told<'a> {
     pub file: &'a str,
     pub excerpt: Excerpt<'a>,
+    pub second: Option<Spot>,
     pub severity: Severity,
     pub words: &'a Words,
 }

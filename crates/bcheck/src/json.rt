@@ -2,11 +2,11 @@
 ghost use Rattle.std.specs.List.{list_all};
 ghost use Rattle.std.specs.Prelude.{ℕ, ◌∷◌, List, [], IsTrue, OnOk};
 ghost use Rattle.bcheck.specs.Checks.{is_on_line};
-ghost use Rattle.bcheck.specs.Findings.{AddsFinding, IsExcerpt};
+ghost use Rattle.bcheck.specs.Findings.{AddsFinding, IsExcerpt, IsSecond};
 ghost use Rattle.bcheck.specs.declared.form.Form.TheVariants as form;
 
 use crate::finding::Told;
-use crate::pieces::{Piece, push_all};
+use crate::pieces::{Piece, push_all, push_second};
 use btools::Text;
 use std::alloc::AllocError;
 
@@ -15,7 +15,7 @@ pub(crate) fn write(text: &mut Text, told: &Told<'_>) -> Result<(), AllocError>
     requires { IsTrue (list_all is_on_line
         (told.now.words.now.code.now ∷ told.now.words.now.sentence ∷ told.now.words.now.fix ∷ [])) }
     ensures { (source : List ℕ) (start : ℕ) → IsExcerpt source start told.now.excerpt
-        → OnOk result (AddsFinding form.Json told.now.severity told.now.file.now source start
+        → IsSecond source told.now.second → OnOk result (AddsFinding form.Json told.now.severity told.now.file.now source start
         told.now.words.now.code.now text.old text.new) }
 {
     let excerpt = &told.excerpt;
@@ -36,7 +36,8 @@ pub(crate) fn write(text: &mut Text, told: &Told<'_>) -> Result<(), AllocError>
             Piece::Quoted(told.words.sentence.as_slice()),
             Piece::Words(b",\"fix\":"),
             Piece::Quoted(told.words.fix.as_slice()),
-            Piece::Words(b"}\n"),
         ],
-    )
+    )?;
+    push_second(text, told.second)?;
+    text.push(b"}\n")
 }

@@ -2,21 +2,36 @@
 #![tactic(auto)]
 
 mod advice;
+mod around;
+mod brackets;
+mod bytes;
 mod checking;
+mod conditions;
+mod defined;
+mod effects;
 mod excerpt;
 mod explain;
 mod faults;
 mod finding;
+mod flow;
 mod form;
 mod json;
+mod kinds;
+mod limits;
+mod locals;
 mod mention;
+mod near;
+mod outside;
 mod passes;
 mod patterns;
 mod pieces;
 mod places;
 mod spans;
+mod syntax;
 mod text;
+mod unknown;
 mod verdict;
+mod warnings;
 mod words;
 
 pub use checking::{check, wrong_checks_are_excluded};

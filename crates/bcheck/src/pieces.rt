@@ -2,9 +2,10 @@
 ghost use Rattle.std.specs.Char.{digit_char};
 ghost use Rattle.std.specs.List.{flat_map};
 ghost use Rattle.std.specs.Prelude.{◌≡◌, ◌<◌, ◌++◌, OnOk, replicate};
-ghost use Rattle.bcheck.specs.Checks.{escaped, file_byte, file_text, json_byte, json_text, shown_byte, shown_text};
-ghost use Rattle.bcheck.specs.Pieces.{piece_text};
+ghost use Rattle.bcheck.specs.Checks.{escaped, file_byte, file_text, json_byte, json_text, shown_byte, shown_text, spot_words};
+ghost use Rattle.bcheck.specs.Pieces.{piece_text, spot_text};
 
+use crate::finding::Spot;
 use btools::Text;
 use std::alloc::AllocError;
 
@@ -35,6 +36,31 @@ pub(crate) fn push_all(text: &mut Text, pieces: &[Piece<'_>]) -> Result<(), Allo
         push(text, *piece)?;
     }
     Ok(())
+}
+
+/// Adds the line and the column of a second place, for an editor, if there is one.
+pub(crate) fn push_second(text: &mut Text, second: Option<Spot>) -> Result<(), AllocError>
+    ensures { OnOk result (text.new ≡ text.old ++ spot_text second) }
+{
+    match second {
+        Some(spot) => push_spot(text, spot.line, spot.column as u64),
+        None => Ok(()),
+    }
+}
+
+fn push_spot(text: &mut Text, line: u64, column: u64) -> Result<(), AllocError>
+    ensures { OnOk result (text.new ≡ text.old ++ spot_words line column) }
+{
+    push_all(
+        text,
+        &[
+            Piece::Words(b",\"related\":{\"line\":"),
+            Piece::Number(line),
+            Piece::Words(b",\"column\":"),
+            Piece::Number(column),
+            Piece::Words(b"}"),
+        ],
+    )
 }
 
 fn push(text: &mut Text, piece: Piece<'_>) -> Result<(), AllocError>

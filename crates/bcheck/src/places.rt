@@ -2,8 +2,9 @@
 ghost use Rattle.std.specs.Prelude.{◌≡◌, ◌<◌, IfSome, IsTrue, drop, take};
 ghost use Rattle.blang.specs.Cut.{line_number_after, next_line};
 ghost use Rattle.bcheck.specs.Checks.{IsOver, StandsOn, column_after, next_column};
+ghost use Rattle.bcheck.specs.Findings.{IsSecond};
 
-use crate::finding::Place;
+use crate::finding::{Place, Spot};
 use blex::{Lexeme, Lexer};
 use bword::{Edition, MemIn};
 
@@ -17,6 +18,18 @@ pub(crate) fn parts(source: &[u8], start: usize) -> (&[u8], &[u8])
     } else {
         (source, &[])
     }
+}
+
+/// The line and the column of a place, if there is one.
+pub(crate) fn spot_of(source: &[u8], place: &Option<Place>) -> Option<Spot>
+    ensures { IsSecond source.now result }
+{
+    let Some(place) = place else {
+        return None;
+    };
+    let (before, _) = parts(source, place.start);
+    let (line, column) = end_of(before);
+    Some(Spot { line, column })
 }
 
 /// The line and the column of the place after a text, from 1.

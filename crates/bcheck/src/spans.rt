@@ -2,7 +2,7 @@
 use crate::finding::Place;
 use blang::{Keyword, Letters};
 use blex::{Lexeme, Lexer};
-use bword::{BinOp, Edition, MemIn, is_name_byte};
+use bword::{BinOp, Edition, MemIn, Name, is_name_byte};
 use std::alloc::{AllocError, Global};
 
 /// A token and where it stands.
@@ -56,6 +56,30 @@ pub(crate) fn lexeme_at(spans: &[Span], token: usize) -> Lexeme {
     match spans.get(token) {
         Some(span) => span.lexeme,
         None => Lexeme::End,
+    }
+}
+
+/// The name at a place among the tokens, if one is there.
+pub(crate) fn name_at(spans: &[Span], token: usize) -> Option<Name> {
+    match lexeme_at(spans, token) {
+        Lexeme::Name(name) => Some(name),
+        _ => None,
+    }
+}
+
+/// Whether the next token stands directly after this one.
+pub(crate) fn is_joined(spans: &[Span], token: usize) -> bool {
+    match (spans.get(token), spans.get(token.wrapping_add(1))) {
+        (Some(span), Some(next)) => span.end() == next.place.start,
+        _ => false,
+    }
+}
+
+/// Whether the next token stands on another line.
+pub(crate) fn is_next_line(spans: &[Span], token: usize) -> bool {
+    match (spans.get(token), spans.get(token.wrapping_add(1))) {
+        (Some(span), Some(next)) => span.place.line != next.place.line,
+        _ => false,
     }
 }
 
@@ -138,8 +162,19 @@ fn bad_length(letters: Letters, text: &[u8]) -> usize {
         (Letters::OpenComment, _) => 2,
         (Letters::LongName, _) => name_length(text),
         (Letters::Constant, Some(byte)) if byte.is_ascii_digit() => number_length(text),
+        (Letters::Character, Some(0x80..)) => letter_length(text),
         _ => 1,
     }
+}
+
+// The bytes of a letter beyond ASCII, if the text is UTF-8.
+pub(crate) fn letter_length(text: &[u8]) -> usize {
+    for index in 1..text.len().min(4) {
+        if !matches!(text[index], 0x80..=0xBF) {
+            return index;
+        }
+    }
+    text.len().min(4).max(1)
 }
 
 fn number_length(text: &[u8]) -> usize {

@@ -5,7 +5,7 @@ ghost use Rattle.std.specs.List.{list_all};
 ghost use Rattle.bcheck.specs.Checks.{is_on_line};
 ghost use Rattle.bcheck.specs.Findings.{matter_code};
 
-use crate::finding::Finding;
+use crate::finding::{Finding, Place};
 use btools::Text;
 use bword::Name;
 use std::alloc::{AllocError, Global};
@@ -26,8 +26,8 @@ impl Words {
             IsTrue (list_all is_on_line (words.code.now ∷ words.sentence ∷ words.fix ∷ []))) }
     {
         let (code, sentence, fix) = finding.matter.advice();
-        let sentence = named(alloc, sentence, finding.name)?;
-        let fix = named(alloc, fix, finding.name)?;
+        let sentence = filled(alloc, sentence, finding)?;
+        let fix = filled(alloc, fix, finding)?;
         Ok(Words {
             code,
             sentence,
@@ -36,25 +36,56 @@ impl Words {
     }
 }
 
-// A sentence with a name in the places of `@`.
-fn named(alloc: Global, sentence: &str, name: Option<Name>) -> Result<Text, AllocError>
+// A sentence with the names and the line in the places of `@`, `#` and `%`.
+fn filled(alloc: Global, sentence: &str, finding: &Finding) -> Result<Text, AllocError>
     requires { IsTrue (is_on_line sentence.now) }
     ensures { IfOk result (λ text. IsTrue (is_on_line text)) }
 {
     let mut text = Text::new(alloc);
     let bytes = sentence.as_bytes();
     for byte in bytes {
-        push_named(&mut text, *byte, &name)?;
+        push_filled(&mut text, *byte, finding)?;
     }
     Ok(text)
 }
 
-fn push_named(text: &mut Text, byte: u8, name: &Option<Name>) -> Result<(), AllocError>
+fn push_filled(text: &mut Text, byte: u8, finding: &Finding) -> Result<(), AllocError>
     requires { IsTrue (is_in_range 32 126 byte) }
     ensures { IsTrue (is_on_line text.old) → OnOk result (IsTrue (is_on_line text.new)) }
 {
-    match (byte, name) {
-        (b'@', Some(name)) => text.push(name.as_bytes()),
-        _ => text.push(&[byte]),
+    match byte {
+        b'@' => push_name(text, byte, &finding.name),
+        b'#' => push_name(text, byte, &finding.other),
+        b'%' => push_line(text, byte, &finding.related),
+        _ => push_byte(text, byte),
+    }
+}
+
+fn push_byte(text: &mut Text, byte: u8) -> Result<(), AllocError>
+    requires { IsTrue (is_in_range 32 126 byte) }
+    ensures { IsTrue (is_on_line text.old) → OnOk result (IsTrue (is_on_line text.new)) }
+{
+    text.push(&[byte])
+}
+
+// Adds a name, or the byte where there is none.
+fn push_name(text: &mut Text, byte: u8, name: &Option<Name>) -> Result<(), AllocError>
+    requires { IsTrue (is_in_range 32 126 byte) }
+    ensures { IsTrue (is_on_line text.old) → OnOk result (IsTrue (is_on_line text.new)) }
+{
+    match name {
+        Some(name) => text.push(name.as_bytes()),
+        None => push_byte(text, byte),
+    }
+}
+
+// Adds the line of a place, or the byte where there is none.
+fn push_line(text: &mut Text, byte: u8, place: &Option<Place>) -> Result<(), AllocError>
+    requires { IsTrue (is_in_range 32 126 byte) }
+    ensures { IsTrue (is_on_line text.old) → OnOk result (IsTrue (is_on_line text.new)) }
+{
+    match place {
+        Some(place) => text.push_number(place.line),
+        None => push_byte(text, byte),
     }
 }

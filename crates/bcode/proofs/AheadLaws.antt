@@ -1,22 +1,14 @@
 -- Lines read from the text ahead.
-use Rattle.std.proofs.Common.{subst, ◌≡◌, ℕ, ◌+◌, ◌<◌, true, List, [], ◌∷◌, ◌++◌, length, Option, Some, None, Result, Ok, Err, IsErrAnd, refl, sym, ap, ◌∙◌, arith, append_assoc, append-nil, length-append, eqb, ⊎_elim, ◌⊎◌, inl, inr}
+use Rattle.std.proofs.Common.{subst, ◌≡◌, ℕ, ◌+◌, ◌<◌, List, [], ◌∷◌, ◌++◌, Result, Ok, Err, IsErrAnd, refl, sym, ap, ◌∙◌, arith, append-nil, length-append}
 use Rattle.std.specs.List.{flat_map}
 use Rattle.std.proofs.lemmas.List.Concat.{flat_map-append}
 use Rattle.std.proofs.lemmas.List.Elements.{All-nil, All-push}
 use Rattle.bword.proofs.Taking.{Took-none, Took-append}
-use Rattle.bcode.specs.Ahead.{Ahead, ahead_of, TextAhead, ahead_in, ReadsOpening, TakesBytes, TakesText, BytesFail, ReadsLine, RefusesLine, LineGives, ReadsLines, LinesGive}
+use Rattle.bcode.specs.Ahead.{Ahead, TakesBytes, TakesText, BytesFail, ReadsLine, LineGives, ReadsLines, LinesGive}
 use Rattle.bcode.specs.declared.fault.CodeFault.TheVariants as fault
-use Rattle.blang.specs.Text.{edition_line}
-use Rattle.bword.specs.declared.edition.Edition.TheVariants as editions
 use Rattle.bcode.specs.declared.stop.Stop.{Stop}
 use Rattle.bcode.specs.declared.stop.Stop.TheVariants as stop
-use Rattle.bcode.specs.LineReading.{LineReader}
-use Rattle.bcode.proofs.LineLaws.{IsExact}
-use Rattle.bcode.specs.Streams.{AreLines, IsWholeLine, HasNoNewline, after_line, TakesLine}
-use Rattle.blang.specs.declared.limits.TheConstants.{LINE_LEN}
-use Rattle.bcode.proofs.PartLaws.{is_same}
-use Rattle.bcode.proofs.ShapeLaws.{IsLine}
-use Rattle.bcode.proofs.StreamLaws.{AreLines-none, AreLines-one, AreLines-append, shape_whole, FirstLine, first_line, stream_refuses, FailsAfter-append, FailsAfter-counted}
+use Rattle.bcode.proofs.StreamLaws.{AreLines-none, AreLines-append, FailsAfter-append}
 
 pub Reads-none : (at : Ahead) → TakesBytes at [] at
 Reads-none at = record { took = Took-none at.end; failures = refl; lender = refl }
@@ -37,76 +29,9 @@ Breaks-after {a} {b} {c} {xs} h k = record {
   lender = k.lender ∙ h.lender;
 }
 
--- a text in memory
-
-pub no_length : (t : List ℕ) → eqb (length t) 0 ≡ true → t ≡ []
-no_length [] e = refl
-no_length (x ∷ xs) e = let none = is_same (length (x ∷ xs)) 0 e in absurd (omega arith)
-
 pub both_empty : (xs ys : List ℕ) → xs ++ ys ≡ [] → (xs ≡ []) × (ys ≡ [])
 both_empty [] ys e = (refl, e)
 both_empty (x ∷ xs) ys e = absurd (cc)
-
-after_none : (text taken rest : List ℕ) → text ≡ taken ++ rest → eqb (length text) 0 ≡ true → (taken ≡ []) × (eqb (length rest) 0 ≡ true)
-after_none text taken rest same e =
-    let h = both_empty taken rest (sym same ∙ no_length text e) in (h.0, rw h.1 refl)
-
-pub reads_text : (text taken rest : List ℕ) (line line' : ℕ) → text ≡ taken ++ rest → TakesBytes (ahead_of text line) taken (ahead_of rest line')
-reads_text text taken rest line line' same = record {
-  took = record {
-    bytes = same;
-    bound = omega (arith, ap length same, length-append taken rest);
-    over = after_none text taken rest same;
-    all = λ _ e. same ∙ ap (λ l. taken ++ l) (no_length rest e);
-  };
-  failures = refl;
-  lender = refl;
-}
-
-pub passes_text : (text taken rest : List ℕ) (line : ℕ) → IsWholeLine taken → text ≡ taken ++ rest → TakesText (ahead_of text line) taken 1 (ahead_of rest (line + 1))
-passes_text text taken rest line whole same = record { reads = reads_text text taken rest line (line + 1) same; lines = AreLines-one taken whole; counted = refl }
-
--- the first line of a text in memory
-takes_first : (text : List ℕ) (line : ℕ) (h : FirstLine LINE_LEN text (after_line LINE_LEN text))
-    → TakesLine (ahead_of text line).end h.taken (ahead_of (after_line LINE_LEN text) line).end
-takes_first text line h = record {
-  took = (reads_text text h.taken (after_line LINE_LEN text) line line h.split).took;
-  failures = refl;
-  whole = split h.whole;
-}
-  where
-    split : IsWholeLine h.taken ⊎ (HasNoNewline h.taken × ((after_line LINE_LEN text ≡ []) ⊎ (length h.taken ≡ LINE_LEN)))
-        → IsWholeLine h.taken ⊎ (HasNoNewline h.taken × ((eqb (length (after_line LINE_LEN text)) 0 ≡ true) ⊎ (length h.taken ≡ LINE_LEN)))
-    split (inl w) = inl w
-    split (inr (clean, inl none)) = inr (clean, inl (rw none refl))
-    split (inr (clean, inr full)) = inr (clean, inr full)
-
-module _ {X : Type 0} {spell : X → List ℕ} {within : X → Type 0} {read : LineReader X} (exact : IsExact spell within read) (shape : (x : X) → within x → IsLine 128 (spell x)) where
-  pub reads_line : (text : List ℕ) (line : ℕ) (x : X) (rest : List ℕ) → read text ≡ Some (x, rest)
-      → ReadsLine spell within (ahead_of text line) x (ahead_of rest (line + 1))
-  reads_line text line x rest e =
-      let h = exact.sound text x rest e in record { inside = h.0; passes = passes_text text (spell x) rest line (shape_whole (shape x h.0)) h.1 }
-
-  pub refuses_line : (text : List ℕ) (line : ℕ) → read text ≡ None → RefusesLine spell within (ahead_of text line) line (ahead_of (after_line LINE_LEN text) line)
-  refuses_line text line e = stream_refuses exact shape line (takes_first text line first) refl first.few (none (read first.taken) refl)
-    where
-      first : FirstLine LINE_LEN text (after_line LINE_LEN text)
-      first = first_line LINE_LEN text
-
-      none : (o : Option (X × List ℕ)) → read first.taken ≡ o → read first.taken ≡ None
-      none None same = same
-      none (Some (x, rest)) same =
-          let h = exact.sound first.taken x rest same in
-          let whole : text ≡ spell x ++ (rest ++ after_line LINE_LEN text) =
-          first.split ∙ ap (λ l. l ++ after_line LINE_LEN text) h.1 ∙ append_assoc (spell x) rest (after_line LINE_LEN text) in
-          let some : read text ≡ Some (x, rest ++ after_line LINE_LEN text) = ap read whole ∙ exact.again x (rest ++ after_line LINE_LEN text) h.0 in
-          absurd (cc)
-
-  pub shorter : (text : List ℕ) (x : X) (rest : List ℕ) → read text ≡ Some (x, rest) → length rest < length text
-  shorter text x rest e =
-      let h = exact.sound text x rest e in
-      let some = exact.filled x in
-      omega (arith, ap length h.1, length-append (spell x) rest)
 
 module _ {X : Type 0} {spell : X → List ℕ} {within : X → Type 0} where
   pub ReadsLines-none : (at : Ahead) → ReadsLines spell within 0 at [] at
@@ -169,10 +94,3 @@ pub gives_none : {X V : Type 0} (spell : X → List ℕ) (within : X → Type 0)
 gives_none spell within items old count (Ok v) same = absurd same
 gives_none spell within items old count (Err f) same =
     subst (λ (s : Stop). LinesGive spell within items count old (Err s) old) (sym same) record { read = []; few = omega arith; inside = All-nil within; reads = Reads-none old }
-
-pub no_opening : (text : List ℕ) (line : ℕ) → ((rest : List ℕ) → text ≡ edition_line ++ rest → ⊥) → ReadsOpening (ahead_of text line) editions.One (ahead_of text line)
-no_opening text line none = (refl, λ rest e. none rest (cc))
-
--- no read of a text in memory fails
-pub no_break : (old new : TextAhead) → BytesFail (ahead_in old) (ahead_in new) → ⊥
-no_break old new h = let counted = FailsAfter-counted h.fails in omega (arith, counted)

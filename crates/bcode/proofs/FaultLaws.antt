@@ -1,29 +1,25 @@
 -- The line of a fault, and that a code text is that of one list of definitions.
-use Rattle.std.proofs.Common.{subst, ◌≢◌, Bool, true, false, eqb, replicate, Option, Some, None, Result, Ok, Err, IsErrAnd, MatchResult, length-append, ◌≡◌, ℕ, zero, suc, ◌+◌, ◌^◌, ◌<◌, ◌≤◌, List, [], ◌∷◌, ◌++◌, length, take, refl, sym, ap, ◌∙◌, arith, append_assoc, append-nil, inl, inr}
-use Rattle.std.specs.Prelude.{All, IfErr}
+use Rattle.std.proofs.Common.{subst, ◌≢◌, replicate, length-append, ◌≡◌, ℕ, zero, suc, ◌+◌, ◌^◌, ◌<◌, ◌≤◌, List, [], ◌∷◌, ◌++◌, length, take, refl, sym, ap, ◌∙◌, arith, append_assoc, append-nil}
+use Rattle.std.specs.Prelude.{All}
 use Rattle.std.specs.List.{flat_map}
 use Rattle.std.proofs.lemmas.List.Concat.{flat_map-append}
-use Rattle.std.proofs.lemmas.List.Elements.{All-nil, All-head, All-tail, All-push}
-use Rattle.std.specs.Io.KnownBytes.{Consumes}
-use Rattle.bword.specs.ByteEnds.{Incoming, Took, CanFollow}
+use Rattle.std.proofs.lemmas.List.Elements.{All-nil, All-head, All-tail}
 use Rattle.bword.specs.declared.edition.Edition.{Edition}
 use Rattle.bword.specs.declared.edition.Edition.TheVariants as editions
 use Rattle.blang.specs.CodeParts.{Function, Simple, Vector, IsWord, IsInstrWithin, IsIvalWithin, sizes_of}
-use Rattle.bcode.specs.Ahead.{Ahead, ahead_of, TextAhead, ahead_in, TakesBytes, TakesText, BytesFail, ReadsOpening, StopsAhead, StopsInside, BreaksInside, ReadsDefinition, TextGives}
-use Rattle.bcode.specs.Faults.{BeginsIn, IsFaultLine, IsFaultLineIn, HasHeader, IsFaultOf}
+use Rattle.bcode.specs.Ahead.{Ahead, TakesBytes, TakesText, BytesFail, StopsInside, BreaksInside, ReadsDefinition}
+use Rattle.bcode.specs.Faults.{BeginsIn, IsFaultLine, IsFaultLineIn}
 use Rattle.bcode.specs.Headers.{header_of, header_text}
 use Rattle.bcode.specs.LineReading.{LineReader}
-use Rattle.bcode.specs.Stopping.{LineState, opens, expects, value, target, string, instruction, state_after, Leads, IsStuckAfter}
+use Rattle.bcode.specs.Stopping.{opens, expects, value, target, string, instruction, state_after, IsStuckAfter}
 use Rattle.blang.specs.Text.{joined, end_text, header_line, body_lines, lines_of, definition_text, edition_line, opening, opening_lines, ended_lines, code_lines, IsTextOf, IsCodeText, target_line, string_line, ival_line, instr_line, IsWithinRanges}
 use Rattle.blang.specs.declared.code.Definition.{Definition}
 use Rattle.blang.specs.declared.code.Definition.TheVariants as definition
-use Rattle.bcode.specs.declared.fault.CodeFault.{CodeFault}
-use Rattle.bcode.specs.declared.fault.CodeFault.TheVariants as fault
 use Rattle.bcode.specs.declared.header.Header.TheVariants as header
 use Rattle.blang.specs.declared.code.Sizes.{Sizes}
 use Rattle.blang.specs.declared.code.Instr.{Instr}
 use Rattle.blang.specs.declared.code.Ival.{Ival}
-use Rattle.bcode.proofs.AheadLaws.{Reads-append, Breaks-after, Passes-none, Passes-append, no_length, both_empty}
+use Rattle.bcode.proofs.AheadLaws.{Reads-append, Breaks-after, Passes-append, both_empty}
 use Rattle.bcode.specs.Streams.{IsLinePart}
 use Rattle.bcode.proofs.StreamLaws.{EndsInLine-after, ends_first}
 use Rattle.bcode.proofs.BodyLaws.{two_kinds, three_kinds, two_goes, three_goes, GoesOn, GoesOn-append, items_go, items_go_last, header_go, not_end, text_header}
@@ -53,9 +49,6 @@ fault_line text good stops =
           let b = begins.1 in
           greatest_path good opens text tt stops m (code_lines begins.0 b.definitions) (code_path begins.0 b.definitions b.within) b.enough b.rest b.same;
     }
-
-pub no_code : (text : List ℕ) (good : ℕ) → IsStuckAfter good opens text → (ds : List Definition) → IsCodeText text ds → ⊥
-no_code text good stops ds code = no_path good opens text tt stops (code_lines code.0 ds) (code_path code.0 ds code.1.within) code.1.spelled
 
 -- the same in one edition, after what its texts begin with
 pub fault_line_in : (edition : Edition) (text : List ℕ) (good : ℕ) → IsStuckAfter good (expects []) text → IsFaultLineIn edition (opening edition ++ text) (suc (length (opening_lines edition) + good))
@@ -224,7 +217,7 @@ unique_lines (d ∷ ds) (e ∷ es) in_d in_e same =
     ap (λ z. z ∷ ds) first.0 ∙ ap (λ l. e ∷ l) others
 
 -- no definition begins as the edition's line does
-no_opening : (ds : List Definition) (rest : List ℕ) → edition_line ++ rest ≡ joined (ended_lines ds) → ⊥
+pub no_opening : (ds : List Definition) (rest : List ℕ) → edition_line ++ rest ≡ joined (ended_lines ds) → ⊥
 no_opening [] rest e = no_header header.End rest [] e
 no_opening (d ∷ ds) rest e = no_header (header_of d) rest (joined (body_lines d) ++ joined (ended_lines ds)) (e ∙ code_text d ds)
 
@@ -286,42 +279,6 @@ definitions_go (d ∷ ds) all n rest stops =
     (definition_goes d (All-head IsWithinRanges d ds all)) (definitions_go ds (All-tail IsWithinRanges d ds all)) in
     subst (λ (k : ℕ). IsStuckAfter (k + n) (expects []) (flat_map definition_text (d ∷ ds) ++ rest)) count (both n rest stops)
 
--- a text that doesn't begin with the edition's line stops where it stops without one
-still_opens : (n : ℕ) (text : List ℕ) → ((rest : List ℕ) → text ≡ edition_line ++ rest → ⊥) → IsStuckAfter n (expects []) text → IsStuckAfter n opens text
-still_opens zero text none stuck = record { refused = λ l to rest leads same. refused l to rest leads same; not_finished = λ e same. cc }
-  where
-    refused : (l : List ℕ) (to : LineState) (rest : List ℕ) → Leads opens l to → text ≡ l ++ rest → ⊥
-    refused l to rest (inl x) same = none rest (same ∙ ap (λ t. t ++ rest) x.0)
-    refused l to rest (inr x) same = stuck.refused l to rest x same
-still_opens (suc n) text none stops = (stops.0, stops.1, stops.2, inr stops.3, stops.4, stops.5)
-
-opens_to : (edition : Edition) (text : List ℕ) (n : ℕ) → (edition ≡ editions.One → (rest : List ℕ) → opening edition ++ text ≡ edition_line ++ rest → ⊥) → IsStuckAfter n (expects []) text
-    → IsStuckAfter (length (opening_lines edition) + n) opens (opening edition ++ text)
-opens_to editions.One text n none stops =
-    let same : n ≡ 0 + n = omega arith in subst (λ (m : ℕ). IsStuckAfter m opens text) same (still_opens n text (none refl) stops)
-opens_to editions.Two text n none stops =
-    let same : suc n ≡ 1 + n = omega arith in
-    let first : IsStuckAfter (suc n) opens (edition_line ++ text) = (edition_line, expects [], text, inl (refl, refl), refl, stops) in
-    subst (λ (m : ℕ). IsStuckAfter m opens (edition_line ++ text)) same first
-
--- reading a text in memory from its beginning
-
--- What a text begins with and these definitions were read.
-pub record Knows (text : List ℕ) (known : List Definition) (at : Ahead) : Type 0 where
-  pub edition : Edition
-  pub within : All IsWithinRanges known
-  pub passes : TakesText (ahead_of text 1) (opening edition ++ flat_map definition_text known) (length (opening_lines edition) + length (flat_map lines_of known)) at
-  pub first : edition ≡ editions.One → (rest : List ℕ) → text ≡ edition_line ++ rest → ⊥
-
-pub knows_opening : (text : List ℕ) (edition : Edition) (at : Ahead) → ReadsOpening (ahead_of text 1) edition at → Knows text [] at
-knows_opening text editions.One at h = record {
-  edition = editions.One;
-  within = All-nil IsWithinRanges;
-  passes = rw h.0 (Passes-none (ahead_of text 1));
-  first = λ e rest same. h.1 rest (ap Some same);
-}
-knows_opening text editions.Two at h = record { edition = editions.Two; within = All-nil IsWithinRanges; passes = h; first = λ e. absurd (cc) }
-
 -- a definition more was passed
 pub passes_more : {start at new : Ahead} (o : List ℕ) (k : ℕ) (known : List Definition) (d : Definition) → TakesText start (o ++ flat_map definition_text known) (k + length (flat_map lines_of known)) at → ReadsDefinition at d new
     → TakesText start (o ++ flat_map definition_text (known ++ d ∷ [])) (k + length (flat_map lines_of (known ++ d ∷ []))) new
@@ -337,101 +294,9 @@ passes_more {start} {at} {new} o k known d passes read =
     (subst (λ (t : List ℕ). TakesText start t (k + length (flat_map lines_of known) + length (lines_of d)) new)
     (append_assoc o (flat_map definition_text known) (definition_text d) ∙ ap (λ t. o ++ t) (sym texts)) all)
 
-pub knows_more : (text : List ℕ) (known more : List Definition) (d : Definition) (at new : Ahead) → Knows text known at → ReadsDefinition at d new → more ≡ known ++ d ∷ [] → Knows text more new
-knows_more text known more d at new h read pushed = rw pushed record {
-  edition = h.edition;
-  within = All-push IsWithinRanges known d h.within read.inside;
-  passes = passes_more (opening h.edition) (length (opening_lines h.edition)) known d h.passes read;
-  first = h.first;
-}
-
 pub same_rest : (xs ys zs : List ℕ) → xs ++ ys ≡ xs ++ zs → ys ≡ zs
 same_rest [] ys zs e = e
 same_rest (x ∷ xs) ys zs e = same_rest xs ys zs (cc)
-
--- what is left of a text of which some bytes were taken
-follow : (text taken : List ℕ) (new : Incoming) (left : Option (List ℕ)) → new.left ≡ left → Took (ahead_of text 1).end taken new → (more : List ℕ) × (text ≡ taken ++ more) × CanFollow new more
-follow text taken new None e h = absurd (subst (λ (o : Option (List ℕ)). Consumes (Some text) o taken) e h.bytes)
-follow text taken new (Some more) e h = (more, whole, can (eqb (length text) 0) refl)
-  where
-    whole : text ≡ taken ++ more
-    whole = subst (λ (o : Option (List ℕ)). Consumes (Some text) o taken) e h.bytes
-
-    can : (b : Bool) → eqb (length text) 0 ≡ b → CanFollow new more
-    can true none over = (both_empty taken more (sym whole ∙ no_length text none)).1
-    can false some over = sym (same_rest taken [] more (sym (h.all some over) ∙ whole))
-
-left_text : (text taken : List ℕ) (new : Ahead) → TakesBytes (ahead_of text 1) taken new → (more : List ℕ) × (text ≡ taken ++ more) × CanFollow new.end more
-left_text text taken new h = follow text taken new.end new.end.left refl h.took
-
--- after these definitions the text stops
-stops_after_known : (text : List ℕ) (known : List Definition) (at : Ahead) (rest : List ℕ) (good : ℕ) (h : Knows text known at) → text ≡ opening h.edition ++ flat_map definition_text known ++ rest → IsStuckAfter good (expects []) rest
-    → IsStuckAfter (length (opening_lines h.edition) + (length (flat_map lines_of known) + good)) opens text
-stops_after_known text known at rest good h same stops =
-    let o = opening h.edition in
-    let whole : text ≡ o ++ (flat_map definition_text known ++ rest) = same ∙ append_assoc o (flat_map definition_text known) rest in
-    let k = length (opening_lines h.edition) + (length (flat_map lines_of known) + good) in
-    subst (λ (t : List ℕ). IsStuckAfter k opens t) (sym whole)
-    (opens_to h.edition (flat_map definition_text known ++ rest) (length (flat_map lines_of known) + good) (λ e r s. h.first e r (whole ∙ s))
-    (definitions_go known h.within good rest stops))
-
-stop_line : (text : List ℕ) (known : List Definition) (at new : Ahead) (n : ℕ) → Knows text known at → StopsAhead (expects []) at n new
-    → (good : ℕ) × (n ≡ suc good) × IsStuckAfter good opens text
-stop_line text known at new n h s =
-    let reads = Reads-append h.passes.reads s.reads in
-    let left = left_text text _ new reads in
-    let o = opening h.edition ++ flat_map definition_text known in (
-      length (opening_lines h.edition) + (length (flat_map lines_of known) + s.good),
-      (let x = h.passes.counted in let y = s.there in omega arith),
-      stops_after_known text known at (s.taken ++ left.0) s.good h (left.1 ∙ append_assoc o s.taken left.0) (s.stops left.0 left.2),
-    )
-
-fault_here : (text : List ℕ) (known : List Definition) (at new : Ahead) (n : ℕ) → Knows text known at → StopsAhead (expects []) at n new → IsFaultLine text n
-fault_here text known at new n h s = let t = stop_line text known at new n h s in subst (IsFaultLine text) (sym t.1) (fault_line text t.0 t.2)
-
-no_code_here : (text : List ℕ) (known : List Definition) (at new : Ahead) (n : ℕ) → Knows text known at → StopsAhead (expects []) at n new
-    → (ds : List Definition) → IsCodeText text ds → ⊥
-no_code_here text known at new n h s ds code = let t = stop_line text known at new n h s in no_code text t.0 t.2 ds code
-
-pub exit_only : {V : Type 0} (P : V → Type 0) (text : List ℕ) (known : List Definition) (at new : TextAhead) (r : Result V CodeFault) (e : CodeFault) → IsErrAnd r (λ f. f ≡ e)
-    → TextGives at (Err e) new → Knows text known (ahead_in at) → (ds : List Definition) → IsCodeText text ds → MatchResult r P (λ f. f ≡ fault.Memory)
-exit_only P text known at new (Ok v) e same gives h ds code = absurd same
-exit_only P text known at new (Err f) (fault.Line n) same gives h ds code = absurd (no_code_here text known (ahead_in at) (ahead_in new) n h gives.stopped ds code)
-exit_only P text known at new (Err f) fault.Memory same gives h ds code = same
-
--- a definition's first line was taken after these definitions
-header_taken : (text : List ℕ) (known : List Definition) (at new : Ahead) (taken rest : List ℕ) (d : Definition) → Knows text known at → TakesBytes at taken new → IsWithinRanges d → taken ≡ header_line d ++ rest
-    → HasHeader text
-header_taken text known at new taken rest d h reads inside spelled =
-    let left = left_text text _ new (Reads-append h.passes.reads reads) in
-    let o = opening h.edition in
-    let texts = flat_map definition_text known in
-    record {
-      edition = h.edition;
-      definitions = known;
-      next = d;
-      within = h.within;
-      next_within = inside;
-      rest = rest ++ left.0;
-      same = left.1 ∙ append_assoc (o ++ texts) taken left.0 ∙ append_assoc o texts (taken ++ left.0)
-          ∙ ap (λ t. o ++ (texts ++ t)) (ap (λ t. t ++ left.0) spelled ∙ append_assoc (header_line d) rest left.0);
-    }
-
-pub exit_fault : {V : Type 0} (text : List ℕ) (known : List Definition) (at new : TextAhead) (r : Result V CodeFault) (e : CodeFault) → IsErrAnd r (λ f. f ≡ e)
-    → TextGives at (Err e) new → Knows text known (ahead_in at) → IfErr r (IsFaultOf text)
-exit_fault text known at new (Ok v) e same gives h = absurd same
-exit_fault text known at new (Err f) e same gives h = subst (IsFaultOf text) (sym same) (exit e gives)
-  where
-    exit : (e : CodeFault) → TextGives at (Err e) new → IsFaultOf text e
-    exit (fault.Line n) gives = fault_here text known (ahead_in at) (ahead_in new) n h gives.stopped
-    exit fault.Memory gives = header_taken text known (ahead_in at) (ahead_in new) gives.taken gives.rest gives.next h gives.reads gives.inside gives.spelled
-
--- memory that was refused after a definition
-pub push_fault : {V : Type 0} (text : List ℕ) (known : List Definition) (d : Definition) (at new : Ahead) (r : Result V CodeFault) → IsErrAnd r (λ f. f ≡ fault.Memory)
-    → ReadsDefinition at d new → Knows text known at → IfErr r (IsFaultOf text)
-push_fault text known d at new (Ok v) same read h = absurd same
-push_fault text known d at new (Err f) same read h =
-    subst (IsFaultOf text) (sym same) (header_taken text known at new (definition_text d) (joined (body_lines d)) d h read.passes.reads read.inside refl)
 
 pub definition_shorter : (at new : Ahead) (d : Definition) → ReadsDefinition at d new → new.end.bound < at.end.bound
 definition_shorter at new d read =
@@ -468,46 +333,9 @@ end_breaks passes breaks = record {
       not_end d (sym (same_spelling header_at-exact header.End (header_of d) breaks.taken (joined (body_lines d) ++ rest) end_within (header_of-within d inside) (same ∙ text_header d rest)).0);
 }
 
--- a text in memory goes on after its last line
-over_line : (text : List ℕ) (known : List Definition) (at new : Ahead) → Knows text known at → TakesText at end_text 1 new → (new.end.left ≡ Some [] → ⊥)
-    → (good : ℕ) × (new.line ≡ suc good) × IsStuckAfter good opens text
-over_line text known at new h passes some =
-    let reads = Reads-append h.passes.reads passes.reads in
-    let left = left_text text _ new reads in
-    let o = opening h.edition ++ flat_map definition_text known in (
-      length (opening_lines h.edition) + (length (flat_map lines_of known) + (1 + 0)),
-      (let x = h.passes.counted in let y = passes.counted in omega arith),
-      stops_after_known text known at (end_text ++ left.0) (1 + 0) h (left.1 ∙ append_assoc o end_text left.0)
-          (header_go header.End end_within 0 left.0 record { refused = λ l to rest leads same. leads; not_finished = λ e same. none left.0 left.1 same }),
-    )
-  where
-    none : (more : List ℕ) → text ≡ opening h.edition ++ flat_map definition_text known ++ end_text ++ more → more ≡ [] → ⊥
-    none more whole empty = rest_left new.end.left refl
-      where
-        rest_left : (left : Option (List ℕ)) → new.end.left ≡ left → ⊥
-        rest_left None e = absurd (subst (λ (o : Option (List ℕ)). Consumes (Some text) o (opening h.edition ++ flat_map definition_text known ++ end_text)) e (Reads-append h.passes.reads passes.reads).took.bytes)
-        rest_left (Some u) e =
-            let there : text ≡ opening h.edition ++ flat_map definition_text known ++ end_text ++ u =
-            subst (λ (o : Option (List ℕ)). Consumes (Some text) o (opening h.edition ++ flat_map definition_text known ++ end_text)) e (Reads-append h.passes.reads passes.reads).took.bytes in
-            some (e ∙ ap Some (same_rest (opening h.edition ++ flat_map definition_text known ++ end_text) u more (sym there ∙ whole) ∙ empty))
-
-pub end_fault : (text : List ℕ) (known : List Definition) (at new : Ahead) → Knows text known at → TakesText at end_text 1 new → (new.end.left ≡ Some [] → ⊥) → IsFaultLine text new.line
-end_fault text known at new h passes some = let t = over_line text known at new h passes some in subst (IsFaultLine text) (sym t.1) (fault_line text t.0 t.2)
-
-pub end_no_code : (text : List ℕ) (known : List Definition) (at new : Ahead) → Knows text known at → TakesText at end_text 1 new → (new.end.left ≡ Some [] → ⊥)
-    → (ds : List Definition) → IsCodeText text ds → ⊥
-end_no_code text known at new h passes some ds code = let t = over_line text known at new h passes some in no_code text t.0 t.2 ds code
-
 opened : (edition : Edition) (ds : List Definition) → joined (code_lines edition ds) ≡ opening edition ++ joined (ended_lines ds)
 opened editions.One ds = refl
 opened editions.Two ds = refl
 
 pub code_spelled : (edition : Edition) (ds : List Definition) → joined (code_lines edition ds) ≡ opening edition ++ flat_map definition_text ds ++ end_text
 code_spelled edition ds = opened edition ds ∙ ap (λ t. opening edition ++ t) (code_text-joined ds) ∙ sym (append_assoc (opening edition) (flat_map definition_text ds) end_text)
-
-pub whole_code : (text : List ℕ) (known : List Definition) (at new : Ahead) → Knows text known at → TakesText at end_text 1 new → new.end.left ≡ Some [] → IsCodeText text known
-whole_code text known at new h passes none =
-    let before = opening h.edition ++ flat_map definition_text known in
-    let all : text ≡ before ++ end_text ++ [] =
-    subst (λ (o : Option (List ℕ)). Consumes (Some text) o (before ++ end_text)) none (Reads-append h.passes.reads passes.reads).took.bytes in
-    (h.edition, record { within = h.within; spelled = all ∙ append-nil (before ++ end_text) ∙ sym (code_spelled h.edition known) })

@@ -20,11 +20,11 @@ use Rattle.bcode.proofs.FaultLaws.{definition_shorter, definitions_go, fault_lin
 use Rattle.bcode.proofs.StoppingLaws.{same_after}
 use Rattle.bcode.proofs.StreamLaws.{EndsInLine-after, ends_first}
 
+pub taken_none : (start : ReaderStart) → HasTaken (reader_of start (all_ahead start) false false) []
+taken_none start = record { within = All-nil IsWithinRanges; unbegun = λ _. refl; passes = Passes-none (all_ahead start); is_open = refl }
+
 pub is_open_new : (start : ReaderStart) → MoreCanBeRead (reader_of start (all_ahead start) false false)
-is_open_new start = record {
-  before = [];
-  since = record { within = All-nil IsWithinRanges; unbegun = λ _. refl; passes = Passes-none (all_ahead start); is_open = refl };
-}
+is_open_new start = record { before = []; since = taken_none start }
 
 -- what a text begins with, and definitions, were read
 abbrev After : ReaderStart → List Definition → Ahead → Type 0

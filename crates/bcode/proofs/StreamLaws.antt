@@ -1,17 +1,19 @@
 -- Bytes taken up to a newline.
-use Rattle.std.proofs.Common.{subst, ◌≡◌, ◌≢◌, ℕ, eqb, take, drop, if◌then◌else◌, Bool, ◌+◌, ◌<◌, ◌≤◌, true, false, List, [], ◌∷◌, ◌++◌, length, Option, Some, None, Result, Ok, Err, IsErrAnd, refl, sym, ap, ◌∙◌, ◌-◌, suc, cond, arith, append_assoc, append-nil, length-append, ◌⊎◌, inl, inr}
+use Rattle.std.proofs.Common.{subst, ◌≡◌, ◌≢◌, ℕ, eqb, take, drop, if◌then◌else◌, Bool, ◌+◌, ◌<◌, ◌≤◌, true, false, List, [], ◌∷◌, ◌++◌, length, Option, Some, None, Result, Ok, Err, IsErrAnd, refl, sym, ap, ◌∙◌, ◌-◌, arith, append_assoc, append-nil, length-append, length-take, ◌⊎◌, inl, inr}
 use Rattle.std.specs.Prelude.{is_some, not}
-use Rattle.std.specs.List.{flat_map}
 use Rattle.std.proofs.lemmas.List.Concat.{flat_map-append}
 use Rattle.std.proofs.lemmas.Bool.{false≢true}
 use Rattle.std.proofs.lemmas.List.Elements.{All-nil, All-cons, All-push, All-head, All-tail, All-append}
-use Rattle.bword.specs.ByteEnds.{Incoming, Took, Fails, Grew, NextGives, CanFollow}
+use Rattle.std.specs.Io.{StartsWith}
+use Rattle.std.proofs.lemmas.List.{take-take}
+use Rattle.std.proofs.Math.Seq.{take-append_seam}
+use Rattle.bword.specs.ByteEnds.{Incoming, Took, Fails, Grew, NextGives, CanFollow, TakesReady}
 use Rattle.bword.specs.declared.ends.Device.{Device}
 use Rattle.std.proofs.KnownBytes.{Consumes-nil, Consumes-kept}
 use Rattle.bword.proofs.Taking.{Took-none, Took-append, Took-next}
-use Rattle.bcode.specs.Ahead.{Ahead, BytesFail, ReadsLine, RefusesLine, LineGives, SeesEnd, EndGives}
+use Rattle.bcode.specs.Ahead.{Ahead, ReadsLine, RefusesLine, LineGives, SeesEnd, EndGives}
 use Rattle.bcode.specs.LineReading.{LineReader}
-use Rattle.bcode.specs.Streams.{HasNoNewline, IsWholeLine, AreLines, IsLinePart, EndsInLine, after_line, TakesLine, FailsAfter, FailsInLine}
+use Rattle.bcode.specs.Streams.{HasNoNewline, IsWholeLine, AreLines, IsLinePart, EndsInLine, TakesLine, FailsAfter, FailsInLine}
 use Rattle.blang.specs.declared.limits.TheConstants.{LINE_LEN}
 use Rattle.bcode.specs.declared.stop.Stop.{Stop}
 use Rattle.bcode.specs.declared.stop.Stop.TheVariants as stop
@@ -19,7 +21,7 @@ use Rattle.bcode.proofs.LineLaws.{IsExact}
 use Rattle.bcode.proofs.PartLaws.{only_if, same_read, is_same}
 use Rattle.bcode.proofs.ShapeLaws.{IsLine, edition_line-shape}
 use Rattle.std.specs.Cmp.Lexicographic.{pointwise}
-use Rattle.std.proofs.lemmas.Bool.Decides.{Decides-eqb, nat_tests}
+use Rattle.std.proofs.lemmas.Bool.Decides.{Decides-eqb}
 use Rattle.std.proofs.lemmas.Slice.Eq.{starts_is}
 use Rattle.blang.specs.Text.{edition_line, joined}
 
@@ -144,50 +146,6 @@ byte_part b false e = record {
   few = omega arith;
 }
 
--- a text whose first line, or as many bytes of it, comes before some others
-pub record FirstLine (most : ℕ) (text after : List ℕ) : Type 0 where
-  pub taken : List ℕ
-  pub split : text ≡ taken ++ after
-  pub few : length taken ≤ most
-  pub whole : IsWholeLine taken ⊎ (HasNoNewline taken × ((after ≡ []) ⊎ (length taken ≡ most)))
-
-no_zero : (most : ℕ) → eqb most 0 ≡ false → 1 ≤ most
-no_zero most e = grind (arith, nat_tests)
-
-first_step : (most b : ℕ) (bs after : List ℕ) (full ends : Bool) → eqb most 0 ≡ full → eqb b 10 ≡ ends → FirstLine (most - 1) bs after
-    → FirstLine most (b ∷ bs) (if full then b ∷ bs else if ends then bs else after)
-first_step most b bs after true ends e n h = record {
-  taken = [];
-  split = refl;
-  few = omega arith;
-  whole = inr (All-nil Other, inr (sym (is_same most 0 e)));
-}
-first_step most b bs after false true e n h = record {
-  taken = b ∷ [];
-  split = refl;
-  few = no_zero most e;
-  whole = inl (record { before = []; clean = All-nil Other; ends = ap (λ x. x ∷ []) (is_same b 10 n) });
-}
-first_step most b bs after false false e n h = record {
-  taken = b ∷ h.taken;
-  split = ap (λ l. b ∷ l) h.split;
-  few = (let x = h.few in let y = no_zero most e in omega arith);
-  whole = more h.whole;
-}
-  where
-    other : Other b
-    other same = false≢true (sym n ∙ ap (λ x. eqb x 10) same)
-
-    more : IsWholeLine h.taken ⊎ (HasNoNewline h.taken × ((after ≡ []) ⊎ (length h.taken ≡ most - 1)))
-        → IsWholeLine (b ∷ h.taken) ⊎ (HasNoNewline (b ∷ h.taken) × ((after ≡ []) ⊎ (length (b ∷ h.taken) ≡ most)))
-    more (inl w) = inl (record { before = b ∷ w.before; clean = All-cons Other b w.before other w.clean; ends = ap (λ l. b ∷ l) w.ends })
-    more (inr (clean, inl none)) = inr (All-cons Other b h.taken other clean, inl none)
-    more (inr (clean, inr all)) = inr (All-cons Other b h.taken other clean, inr (let y = no_zero most e in omega (arith, all)))
-
-pub first_line : (most : ℕ) (text : List ℕ) → FirstLine most text (after_line most text)
-first_line most [] = record { taken = []; split = refl; few = omega arith; whole = inr (All-nil Other, inl refl) }
-first_line most (b ∷ bs) = first_step most b bs (after_line (most - 1) bs) (eqb most 0) (eqb b 10) refl refl (first_line (most - 1) bs)
-
 abbrev at : Incoming → List ℕ → ℕ → Ahead
 at end lender line = record { end = end; lender = lender; line = line }
 
@@ -258,6 +216,49 @@ module _ {X : Type 0} {spell : X → List ℕ} {within : X → Type 0} {read : L
                 no_newline bytes s.before rest clean (sym (append-nil bytes) ∙ ap (λ l. bytes ++ l) (sym (can over)) ∙ text)
             split (inr (clean, inr full)) =
                 newline_after bytes s.before more rest clean (let few = s.few in omega (arith, full)) text
+
+  -- a line that is whole among the bytes ahead
+  module _ (ready text : List ℕ) (shown : StartsWith ready text) (x : X) (rest : List ℕ) (found : read text ≡ Some (x, rest)) where
+    before_rest : length text - length rest ≡ length (spell x)
+    before_rest = omega (arith, ap length (exact.sound text x rest found).1, length-append (spell x) rest)
+
+    pub ahead_shorter : length rest ≤ length text
+    ahead_shorter = omega (arith, ap length (exact.sound text x rest found).1, length-append (spell x) rest)
+
+    pub ahead_fits : length text - length rest ≤ length ready
+    ahead_fits = omega (arith, ap length shown, length-take (length text) ready)
+
+    ahead_spelled : take (length text - length rest) ready ≡ spell x
+    ahead_spelled =
+        let h = exact.sound text x rest found in
+        let whole : take (length text) ready ≡ spell x ++ rest = shown ∙ h.1 in
+        let short : length (spell x) ≤ length text = omega (arith, before_rest) in
+        ap (λ n. take n ready) before_rest ∙ sym (take-take (length (spell x)) (length text) ready short)
+        ∙ ap (take (length (spell x))) whole ∙ take-append_seam (spell x) rest
+
+    module _ {old new : Incoming} (t : TakesReady old (take (length text - length rest) ready) new) where
+      taken : Took old (spell x) new
+      taken = subst (λ (l : List ℕ). Took old l new) ahead_spelled t.took
+
+      pub ahead_reads : {lender lender' : List ℕ} (line : ℕ) → lender' ≡ lender → ReadsLine spell within (at old lender line) x (at new lender' (line + 1))
+      ahead_reads line same =
+          let inside = (exact.sound text x rest found).0 in
+          record {
+            inside = inside;
+            passes = record {
+              reads = record { took = taken; failures = t.failures; lender = same };
+              lines = AreLines-one (spell x) (shape_whole (shape x inside));
+              counted = refl;
+            };
+          }
+
+      -- two bytes at least were taken
+      pub ahead_falls : new.bound + 2 ≤ old.bound
+      ahead_falls =
+          let s = shape x (exact.sound text x rest found).0 in
+          let some = s.some in
+          let falls = taken.bound in
+          omega (arith, ap length s.ends, length-append s.before (10 ∷ []))
 
 -- the exit of a `?` after a line that was not read to its end
 pub stream_breaks : {X : Type 0} {spell : X → List ℕ} {within : X → Type 0} → ((x : X) → within x → IsLine 128 (spell x)) → {old new : Incoming} {lender lender' : List ℕ} (line : ℕ)

@@ -1,18 +1,15 @@
 -- What reading some lines takes from where they come from.
-use Rattle.std.specs.Prelude.{◌≡◌, ◌≢◌, ℕ, suc, Bool, true, false, ◌+◌, ◌<◌, ◌≤◌, List, [], ◌∷◌, ◌++◌, length, ◌==◌, All}
+use Rattle.std.specs.Prelude.{◌≡◌, ◌≢◌, ℕ, suc, Bool, true, false, ◌+◌, ◌<◌, ◌≤◌, List, [], ◌∷◌, ◌++◌, length, All}
 use Rattle.std.specs.Prelude.{Option, Some, None, Result, Ok, Err, ◌⊎◌}
 use Rattle.std.specs.List.{flat_map}
 use Rattle.bword.specs.ByteEnds.{Incoming, Took, CanFollow}
 use Rattle.bword.specs.declared.ends.Device.{Device}
-use Rattle.bword.specs.declared.edition.Edition.{Edition}
-use Rattle.bword.specs.declared.edition.Edition.TheVariants as editions
 use Rattle.bcode.specs.Headers.{header_of}
 use Rattle.bcode.specs.Streams.{AreLines, FailsAfter, IsLinePart, EndsInLine}
 use Rattle.bcode.specs.Stopping.{LineKind, IsOfKind, LineState, expects, IsStuckAfter, kinds_after}
 use Rattle.blang.specs.Text.{joined, lines_of, body_lines, header_line, definition_text, end_text, edition_line}
 use Rattle.blang.specs.Text.{IsWithinRanges}
 use Rattle.blang.specs.declared.code.Definition.{Definition}
-use Rattle.bcode.specs.declared.fault.CodeFault.{CodeFault}
 use Rattle.bcode.specs.declared.fault.CodeFault.TheVariants as fault
 use Rattle.bcode.specs.declared.header.Header.{Header}
 use Rattle.bcode.specs.declared.stop.Stop.{Stop}
@@ -23,22 +20,6 @@ pub record Ahead : Type 0 where
   pub end : Incoming
   pub lender : List ℕ
   pub line : ℕ
-
--- a text in memory, from this line on
-abbrev pub ahead_of : List ℕ → ℕ → Ahead
-ahead_of text line = record {
-  end = record { left = Some text; is_over = length text == 0; failures = 0; bound = length text };
-  lender = [];
-  line = line;
-}
-
--- the text that is left in memory, and the number of its first line
-pub record TextAhead : Type 0 where
-  pub text : List ℕ
-  pub line : ℕ
-
-abbrev pub ahead_in : TextAhead → Ahead
-ahead_in t = ahead_of t.text t.line
 
 -- These bytes were taken, and no read failed.
 pub record TakesBytes (old : Ahead) (taken : List ℕ) (new : Ahead) : Type 0 where
@@ -120,11 +101,6 @@ module _ {X : Type 0} (spell : X → List ℕ) (within : X → Type 0) where
   LinesGive items count old (Err (stop.Fault (fault.Line n))) new = RefusesLines count old n new
   LinesGive items count old (Err (stop.Fault fault.Memory)) new = ReadsAtMost count old new
   LinesGive items count old (Err stop.Device) new = BreaksLines count old new
-
--- What a text of this edition begins with was read, or the text begins otherwise and nothing was read.
-abbrev pub ReadsOpening : Ahead → Edition → Ahead → Type 0
-ReadsOpening old editions.Two new = TakesText old edition_line 1 new
-ReadsOpening old editions.One new = (new ≡ old) × ((rest : List ℕ) → old.end.left ≡ Some (edition_line ++ rest) → ⊥)
 
 -- The text stops at line n, whatever follows the bytes that were taken, none of which is of a later line.
 pub record StopsAhead (from : LineState) (old : Ahead) (n : ℕ) (new : Ahead) : Type 0 where
@@ -209,11 +185,6 @@ DefinitionGives old (Ok None) new = TakesText old end_text 1 new
 DefinitionGives old (Err (stop.Fault (fault.Line n))) new = StopsInside old n new
 DefinitionGives old (Err (stop.Fault fault.Memory)) new = HasNext old new
 DefinitionGives old (Err stop.Device) new = BreaksInside old new
-
--- the same in a text in memory, where no read fails
-abbrev pub TextGives : TextAhead → Result (Option Definition) CodeFault → TextAhead → Type 0
-TextGives old (Ok next) new = DefinitionGives (ahead_in old) (Ok next) (ahead_in new)
-TextGives old (Err f) new = DefinitionGives (ahead_in old) (Err (stop.Fault f)) (ahead_in new)
 
 -- No byte was left; or one was taken.
 pub record SeesEnd (old : Ahead) (is_over : Bool) (new : Ahead) : Type 0 where

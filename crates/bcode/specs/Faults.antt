@@ -2,10 +2,16 @@
 use Rattle.std.specs.Prelude.{◌≡◌, ℕ, suc, ◌≤◌, List, ◌++◌, length, take, All}
 use Rattle.std.specs.List.{flat_map}
 use Rattle.bword.specs.declared.edition.Edition.{Edition}
-use Rattle.blang.specs.Text.{joined, opening, code_lines, definition_text, header_line, IsWithinRanges}
+use Rattle.bword.specs.declared.edition.Edition.TheVariants as editions
+use Rattle.blang.specs.Text.{joined, edition_line, opening, code_lines, definition_text, header_line, IsWithinRanges}
 use Rattle.blang.specs.declared.code.Definition.{Definition}
 use Rattle.bcode.specs.declared.fault.CodeFault.{CodeFault}
 use Rattle.bcode.specs.declared.fault.CodeFault.TheVariants as fault
+
+-- the edition that a text is read in: that of the line that it begins with
+abbrev pub IsEditionOf : List ℕ → Edition → Type 0
+IsEditionOf text editions.One = (rest : List ℕ) → text ≡ edition_line ++ rest → ⊥
+IsEditionOf text editions.Two = (rest : List ℕ) × (text ≡ edition_line ++ rest)
 
 -- The text begins with the first m lines of some code text of this edition.
 pub record BeginsIn (edition : Edition) (text : List ℕ) (m : ℕ) : Type 0 where

@@ -1,6 +1,5 @@
 -- Lines of bytes that come one by one.
-use Rattle.std.specs.Prelude.{◌≡◌, ◌≢◌, ℕ, suc, ◌-◌, ◌≤◌, true, List, [], ◌∷◌, ◌++◌, length, All, Result, Ok, Err, ◌⊎◌, ◌==◌}
-use Rattle.std.specs.Prelude.{if◌then◌else◌}
+use Rattle.std.specs.Prelude.{◌≡◌, ◌≢◌, ℕ, suc, ◌≤◌, true, List, [], ◌∷◌, ◌++◌, length, All, Result, Ok, Err, ◌⊎◌}
 use Rattle.bword.specs.ByteEnds.{Incoming, Took, Fails}
 use Rattle.bword.specs.declared.ends.Device.{Device}
 use Rattle.blang.specs.Text.{joined}
@@ -37,11 +36,6 @@ pub record EndsInLine (n : ℕ) (bytes : List ℕ) : Type 0 where
   pub last : List ℕ
   pub part : IsLinePart last
   pub split : bytes ≡ before ++ last
-
--- what comes after the first line, or after so many bytes of it
-abbrev pub after_line : ℕ → List ℕ → List ℕ
-after_line most [] = []
-after_line most (b ∷ bs) = if most == 0 then b ∷ bs else if b == 10 then bs else after_line (most - 1) bs
 
 -- A line was taken; or else all that was left, or as many bytes as no line of the language is longer than.
 pub record TakesLine (old : Incoming) (bytes : List ℕ) (new : Incoming) : Type 0 where

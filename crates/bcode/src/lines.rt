@@ -29,6 +29,7 @@ use bword::{BinOp, Name};
 
 // The text after the end of a line, beside what stood in the line.
 #[tactic(auto, unfolding(crate::specs::LineReading::line_ended))]
+#[inline(always)]
 fn ended<T: Drop>(value: T, text: &[u8]) -> Option<(T, &[u8])>
     ensures { Gives (λ r. (r.0, r.1.now)) result (line_ended value text.now) }
 {
@@ -37,6 +38,7 @@ fn ended<T: Drop>(value: T, text: &[u8]) -> Option<(T, &[u8])>
 }
 
 #[tactic(auto, unfolding(crate::specs::LineReading::operand_at))]
+#[inline(always)]
 fn operand(text: &[u8], below: u32) -> Option<(u16, &[u8])>
     requires { below ≤ WORD_VALUES }
     ensures { Gives (λ r. (r.0, r.1.now)) result (operand_at below text.now) }
@@ -46,6 +48,7 @@ fn operand(text: &[u8], below: u32) -> Option<(u16, &[u8])>
 }
 
 #[tactic(auto, unfolding(crate::specs::LineReading::name_operand_at))]
+#[inline(always)]
 fn name_operand(text: &[u8]) -> Option<(Name, &[u8])>
     ensures { Gives (λ r. (r.0, r.1.now)) result (name_operand_at text.now) }
 {
@@ -54,6 +57,7 @@ fn name_operand(text: &[u8]) -> Option<(Name, &[u8])>
 }
 
 #[tactic(auto, unfolding(crate::specs::LineReading::less_at))]
+#[inline(always)]
 fn less(text: &[u8]) -> Option<(BinOp, &[u8])>
     ensures { Gives (λ r. (r.0, r.1.now)) result (less_at text.now) }
 {
@@ -67,6 +71,7 @@ fn less(text: &[u8]) -> Option<(BinOp, &[u8])>
 }
 
 #[tactic(auto, unfolding(crate::specs::LineReading::greater_at))]
+#[inline(always)]
 fn greater(text: &[u8]) -> Option<(BinOp, &[u8])>
     ensures { Gives (λ r. (r.0, r.1.now)) result (greater_at text.now) }
 {
@@ -80,6 +85,7 @@ fn greater(text: &[u8]) -> Option<(BinOp, &[u8])>
 }
 
 #[tactic(auto, unfolding(crate::specs::LineReading::operator_at))]
+#[inline(always)]
 fn operator(text: &[u8]) -> Option<(BinOp, &[u8])>
     ensures { Gives (λ r. (r.0, r.1.now)) result (operator_at text.now) }
 {
@@ -101,6 +107,7 @@ fn operator(text: &[u8]) -> Option<(BinOp, &[u8])>
 }
 
 #[tactic(auto, unfolding(crate::specs::LineReading::increment_at))]
+#[inline(always)]
 fn increment(text: &[u8]) -> Option<(Increment, &[u8])>
     ensures { Gives (λ r. (r.0, r.1.now)) result (increment_at text.now) }
 {
@@ -115,6 +122,7 @@ fn increment(text: &[u8]) -> Option<(Increment, &[u8])>
 }
 
 #[tactic(auto, unfolding(crate::specs::LineReading::case_at))]
+#[inline(always)]
 fn case(text: &[u8], below: u32) -> Option<(Instr, &[u8])>
     requires { below ≤ WORD_VALUES }
     ensures { Gives (λ r. (r.0, r.1.now)) result (case_at below text.now) }
@@ -127,6 +135,7 @@ fn case(text: &[u8], below: u32) -> Option<(Instr, &[u8])>
 
 /// An instruction of a function of these sizes.
 #[tactic(auto, unfolding(crate::specs::LineReading::instr_at))]
+#[inline(always)]
 pub fn instr(text: &[u8], sizes: Sizes) -> Option<(Instr, &[u8])>
     ensures { Gives (λ r. (r.0, r.1.now)) result (instr_at sizes text.now) }
 {
@@ -160,6 +169,7 @@ pub fn instr(text: &[u8], sizes: Sizes) -> Option<(Instr, &[u8])>
 
 /// An initial value of a definition with this many string words.
 #[tactic(auto, unfolding(crate::specs::LineReading::ival_line_at))]
+#[inline(always)]
 pub fn ival(text: &[u8], strings: u16) -> Option<(Ival, &[u8])>
     ensures { Gives (λ r. (r.0, r.1.now)) result (ival_line_at strings text.now) }
 {
@@ -177,6 +187,7 @@ pub fn ival(text: &[u8], strings: u16) -> Option<(Ival, &[u8])>
 
 /// The line of a letter and a number.
 #[tactic(auto, unfolding(crate::specs::LineReading::number_line_at))]
+#[inline(always)]
 pub fn number_line(text: &[u8], letter: u8, below: u32) -> Option<(u16, &[u8])>
     requires { below ≤ WORD_VALUES }
     ensures { Gives (λ r. (r.0, r.1.now)) result (number_line_at letter below text.now) }

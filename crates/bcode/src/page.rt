@@ -13,7 +13,7 @@ use itoa::{Buffer, write_digits};
 use std::marker::Model;
 
 /// The most bytes that go to a stream at once.
-pub const PAGE_LEN: usize = 4096;
+pub const PAGE_LEN: usize = 1024;
 
 /// Lines that are to be put.
 #[derive(Drop)]

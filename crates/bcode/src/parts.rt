@@ -8,6 +8,7 @@ use bword::Name;
 
 /// The text after this byte, where it begins with it.
 #[tactic(auto, unfolding(crate::specs::Reading::expect_byte))]
+#[inline(always)]
 pub fn expect(text: &[u8], byte: u8) -> Option<&[u8]>
     ensures { Gives (λ rest. rest.now) result (expect_byte byte text.now) }
 {
@@ -19,6 +20,7 @@ pub fn expect(text: &[u8], byte: u8) -> Option<&[u8]>
 
 /// A number below a bound without needless zeros, and the text after the byte that ends it.
 #[tactic(auto, unfolding(crate::specs::Reading::number_at, crate::specs::Reading::number_from))]
+#[inline(always)]
 pub fn number(text: &[u8], end: u8, below: u32) -> Option<(u16, &[u8])>
     requires { below ≤ WORD_VALUES }
     ensures { Gives (λ r. (r.0, r.1.now)) result (number_at end below text.now) }
@@ -45,6 +47,7 @@ pub fn number(text: &[u8], end: u8, below: u32) -> Option<(u16, &[u8])>
     None
 }
 
+#[inline(always)]
 fn digit(byte: u8) -> Option<u32>
     ensures { Gives (λ d. d) result (if is_ascii_digit byte then Some (byte - 48) else None) }
 {
@@ -57,6 +60,7 @@ fn digit(byte: u8) -> Option<u32>
 
 /// A name, and the text after the byte that ends it.
 #[tactic(auto, unfolding(crate::specs::Reading::name_text_at))]
+#[inline(always)]
 pub fn name(text: &[u8], end: u8) -> Option<(Name, &[u8])>
     ensures { Gives (λ r. (r.0, r.1.now)) result (name_text_at end text.now) }
 {

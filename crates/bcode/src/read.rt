@@ -1,24 +1,24 @@
 //! Code texts, read.
 ghost use Rattle.std.specs.Prelude.{◌≡◌, ◌≢◌, ◌<◌, ◌≤◌, List, ◌∷◌, [], decimal, IfOk, IfErr, MatchResult};
-ghost use Rattle.bcode.specs.Ahead.{LinesGive, BodyGives, DefinitionGives, TextGives};
+ghost use Rattle.bcode.specs.Ahead.{LinesGive, BodyGives, DefinitionGives};
 ghost use Rattle.blang.specs.CodeParts.{IsInstrWithin, IsIvalWithin};
-ghost use Rattle.bcode.specs.Faults.{IsFaultOf};
+ghost use Rattle.bcode.specs.Faults.{IsEditionOf, IsFaultOf};
 ghost use Rattle.bcode.specs.Headers.{IsHeaderWithin};
 ghost use Rattle.blang.specs.Text.{line, instr_line, ival_line, IsCodeText};
 ghost use Rattle.blang.specs.declared.code.Definition.{Definition};
 ghost use Rattle.bcode.specs.declared.fault.CodeFault.TheVariants.{Memory};
 ghost use Rattle.bcode.specs.declared.header.Header.TheVariants as headers;
 
-use crate::ahead::Ahead;
 use crate::header::Header;
-use crate::line_source::LineSource;
+use crate::reader::CodeReader;
 use crate::stop::Stop;
+use crate::stream::Stream;
 use crate::{
-    CodeFault, Definition, Function, FunctionParts, Instr, Ival, Simple, SimpleParts, Vector,
-    VectorParts,
+    CodeFault, CodeStep, Definition, Function, FunctionParts, Instr, Ival, Simple, SimpleParts,
+    Vector, VectorParts,
 };
 use blang::{Sizes, WORD_VALUES};
-use bword::Name;
+use bword::{ByteIn, Edition, MemIn, Name};
 use std::alloc::Global;
 
 /// Reads a code text, all of it.
@@ -33,35 +33,40 @@ pub fn read_code(alloc: Global, text: &[u8]) -> Result<Vec<Definition>, CodeFaul
     // No text is that of two lists of definitions.
     ensures unique { (ds es : List Definition) → IsCodeText text.now ds → IsCodeText text.now es → ds ≡ es }
 {
-    let mut ahead = Ahead::new(text);
-    ahead.edition();
+    let mut reader = CodeReader::new(alloc, MemIn::new(text), edition_of(text));
     let mut definitions = Vec::new(alloc);
-    while let Some(definition) = next_of_text(alloc, &mut ahead)? {
-        definitions.push(definition)?;
+    'definitions: loop {
+        match reader.next() {
+            CodeStep::Definition(definition) => definitions.push(definition)?,
+            CodeStep::End => return Ok(definitions),
+            CodeStep::Fault(fault) => return Err(fault),
+            CodeStep::Device => {
+                // A text in memory doesn't fail.
+                let _text = reader.into_end();
+                unreachable!()
+            }
+            CodeStep::Closed => unreachable!(),
+        }
     }
-    if !ahead.is_empty() {
-        return Err(CodeFault::Line(ahead.line()));
-    }
-    Ok(definitions)
 }
 
-// The definition that comes next in a text in memory, which no read fails of.
-fn next_of_text(alloc: Global, ahead: &mut Ahead<'_>) -> Result<Option<Definition>, CodeFault>
-    ensures { TextGives ahead.old result ahead.new }
+// The edition whose first line the text begins with.
+fn edition_of(text: &[u8]) -> Edition
+    ensures { IsEditionOf text.now result }
 {
-    match next_definition(alloc, ahead) {
-        Ok(next) => Ok(next),
-        Err(Stop::Fault(fault)) => Err(fault),
-        Err(Stop::Device) => unreachable!(),
+    if text.starts_with(b"B 2\n") {
+        Edition::Two
+    } else {
+        Edition::One
     }
 }
 
 /// The definition that comes next, or nothing at the last line.
-pub fn next_definition<L: LineSource>(
+pub fn next_definition<I: ByteIn>(
     alloc: Global,
-    lines: &mut L,
+    lines: &mut Stream<I>,
 ) -> Result<Option<Definition>, Stop>
-    ensures { DefinitionGives (L.ahead lines.old) result (L.ahead lines.new) }
+    ensures { DefinitionGives lines.old result lines.new }
 {
     match lines.header()? {
         Header::Function {
@@ -84,15 +89,15 @@ pub fn next_definition<L: LineSource>(
     }
 }
 
-fn function<L: LineSource>(
+fn function<I: ByteIn>(
     alloc: Global,
-    lines: &mut L,
+    lines: &mut Stream<I>,
     name: Name,
     parameters: u16,
     sizes: Sizes,
 ) -> Result<Definition, Stop>
     requires { IsHeaderWithin (headers.Function name parameters sizes) }
-    ensures { BodyGives (headers.Function name parameters sizes) (L.ahead lines.old) result (L.ahead lines.new) }
+    ensures { BodyGives (headers.Function name parameters sizes) lines.old result lines.new }
 {
     let targets = numbers(alloc, lines, b't', u32::from(sizes.code), sizes.labels)?;
     let strings = numbers(alloc, lines, b'w', WORD_VALUES, sizes.strings)?;
@@ -107,15 +112,15 @@ fn function<L: LineSource>(
     })))
 }
 
-fn simple<L: LineSource>(
+fn simple<I: ByteIn>(
     alloc: Global,
-    lines: &mut L,
+    lines: &mut Stream<I>,
     name: Name,
     count: u16,
     strings: u16,
 ) -> Result<Definition, Stop>
     requires { IsHeaderWithin (headers.Simple name count strings) }
-    ensures { BodyGives (headers.Simple name count strings) (L.ahead lines.old) result (L.ahead lines.new) }
+    ensures { BodyGives (headers.Simple name count strings) lines.old result lines.new }
 {
     let values = values(alloc, lines, strings, count)?;
     let strings = numbers(alloc, lines, b'w', WORD_VALUES, strings)?;
@@ -126,16 +131,16 @@ fn simple<L: LineSource>(
     })))
 }
 
-fn vector<L: LineSource>(
+fn vector<I: ByteIn>(
     alloc: Global,
-    lines: &mut L,
+    lines: &mut Stream<I>,
     name: Name,
     words: u16,
     count: u16,
     strings: u16,
 ) -> Result<Definition, Stop>
     requires { IsHeaderWithin (headers.Vector name words count strings) }
-    ensures { BodyGives (headers.Vector name words count strings) (L.ahead lines.old) result (L.ahead lines.new) }
+    ensures { BodyGives (headers.Vector name words count strings) lines.old result lines.new }
 {
     let values = values(alloc, lines, strings, count)?;
     let strings = numbers(alloc, lines, b'w', WORD_VALUES, strings)?;
@@ -147,9 +152,9 @@ fn vector<L: LineSource>(
     })))
 }
 
-fn numbers<L: LineSource>(
+fn numbers<I: ByteIn>(
     alloc: Global,
-    lines: &mut L,
+    lines: &mut Stream<I>,
     letter: u8,
     below: u32,
     count: u16,
@@ -157,7 +162,7 @@ fn numbers<L: LineSource>(
     requires letter { letter ≢ 10 }
     requires below { below ≤ WORD_VALUES }
     ensures { LinesGive (λ n. line ((letter ∷ []) ∷ decimal n ∷ [])) (λ n. n < below) (λ v. v.items) count
-        (L.ahead lines.old) result (L.ahead lines.new) }
+        lines.old result lines.new }
 {
     let mut numbers = Vec::with_capacity(alloc, usize::from(count))?;
     for _ in 0..count {
@@ -166,14 +171,14 @@ fn numbers<L: LineSource>(
     Ok(numbers)
 }
 
-fn values<L: LineSource>(
+fn values<I: ByteIn>(
     alloc: Global,
-    lines: &mut L,
+    lines: &mut Stream<I>,
     strings: u16,
     count: u16,
 ) -> Result<Vec<Ival>, Stop>
-    ensures { LinesGive ival_line (IsIvalWithin strings) (λ v. v.items) count (L.ahead lines.old) result
-        (L.ahead lines.new) }
+    ensures { LinesGive ival_line (IsIvalWithin strings) (λ v. v.items) count lines.old result
+        lines.new }
 {
     let mut values = Vec::with_capacity(alloc, usize::from(count))?;
     for _ in 0..count {
@@ -182,14 +187,14 @@ fn values<L: LineSource>(
     Ok(values)
 }
 
-fn instrs<L: LineSource>(
+fn instrs<I: ByteIn>(
     alloc: Global,
-    lines: &mut L,
+    lines: &mut Stream<I>,
     sizes: Sizes,
     count: u16,
 ) -> Result<Vec<Instr>, Stop>
-    ensures { LinesGive instr_line (IsInstrWithin sizes) (λ v. v.items) count (L.ahead lines.old) result
-        (L.ahead lines.new) }
+    ensures { LinesGive instr_line (IsInstrWithin sizes) (λ v. v.items) count lines.old result
+        lines.new }
 {
     let mut instrs = Vec::with_capacity(alloc, usize::from(count))?;
     for _ in 0..count {

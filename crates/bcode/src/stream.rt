@@ -7,7 +7,6 @@ ghost use Rattle.bcode.specs.Streams.{TakingGives};
 ghost use Rattle.blang.specs.Text.{line, edition_line, instr_line, ival_line};
 
 use crate::header::Header;
-use crate::line_source::LineSource;
 use crate::lines::{header, instr, ival, number_line};
 use crate::stop::Stop;
 use crate::{CodeFault, Instr, Ival};
@@ -86,12 +85,77 @@ impl<I: ByteIn> Stream<I> {
         self.line += 1;
         Ok(())
     }
+
+    /// The first line of a definition, or the last one of a code text.
+    #[inline(always)]
+    pub fn header(&mut self) -> Result<Header, Stop>
+        ensures { LineGives header_text IsHeaderWithin self.old result self.new }
+    {
+        let ahead = self.input.ahead();
+        let Some((header, rest)) = header(ahead) else {
+            return self.fetch_header();
+        };
+        let count = ahead.len() - rest.len();
+        self.input.take(count);
+        self.line += 1;
+        Ok(header)
+    }
+
+    /// An initial value, in a definition with this many string words.
+    #[inline(always)]
+    pub fn ival(&mut self, strings: u16) -> Result<Ival, Stop>
+        ensures { LineGives ival_line (IsIvalWithin strings) self.old result self.new }
+    {
+        let ahead = self.input.ahead();
+        let Some((value, rest)) = ival(ahead, strings) else {
+            return self.fetch_ival(strings);
+        };
+        let count = ahead.len() - rest.len();
+        self.input.take(count);
+        self.line += 1;
+        Ok(value)
+    }
+
+    /// An instruction, in a function of these sizes.
+    #[inline(always)]
+    pub fn instr(&mut self, sizes: Sizes) -> Result<Instr, Stop>
+        ensures { LineGives instr_line (IsInstrWithin sizes) self.old result self.new }
+    {
+        let ahead = self.input.ahead();
+        let Some((instr, rest)) = instr(ahead, sizes) else {
+            return self.fetch_instr(sizes);
+        };
+        let count = ahead.len() - rest.len();
+        self.input.take(count);
+        self.line += 1;
+        Ok(instr)
+    }
+
+    /// The number in a line with this letter, which is below the bound.
+    #[inline(always)]
+    pub fn number(&mut self, letter: u8, below: u32) -> Result<u16, Stop>
+        requires letter { letter ≢ 10 }
+        requires below { below ≤ WORD_VALUES }
+        ensures { LineGives (λ n. line ((letter ∷ []) ∷ decimal n ∷ [])) (λ n. n < below) self.old result self.new }
+    {
+        let ahead = self.input.ahead();
+        let Some((n, rest)) = number_line(ahead, letter, below) else {
+            return self.fetch_number(letter, below);
+        };
+        let count = ahead.len() - rest.len();
+        self.input.take(count);
+        self.line += 1;
+        Ok(n)
+    }
 }
 
-impl<I: ByteIn> LineSource for Stream<I> {
-    ghost ahead = { λ s. s };
-
-    fn header(&mut self) -> Result<Header, Stop> {
+// A line that isn't whole among the bytes ahead, or that is none of a code text, is taken byte by byte.
+impl<I: ByteIn> Stream<I> {
+    #[cold]
+    #[inline(never)]
+    fn fetch_header(&mut self) -> Result<Header, Stop>
+        ensures { LineGives header_text IsHeaderWithin self.old result self.new }
+    {
         read_line(&mut self.input, &mut self.bytes)?;
         let Some((header, _)) = header(self.bytes.as_slice()) else {
             return Err(Stop::Fault(CodeFault::Line(self.line)));
@@ -100,7 +164,11 @@ impl<I: ByteIn> LineSource for Stream<I> {
         Ok(header)
     }
 
-    fn ival(&mut self, strings: u16) -> Result<Ival, Stop> {
+    #[cold]
+    #[inline(never)]
+    fn fetch_ival(&mut self, strings: u16) -> Result<Ival, Stop>
+        ensures { LineGives ival_line (IsIvalWithin strings) self.old result self.new }
+    {
         read_line(&mut self.input, &mut self.bytes)?;
         let Some((value, _)) = ival(self.bytes.as_slice(), strings) else {
             return Err(Stop::Fault(CodeFault::Line(self.line)));
@@ -109,7 +177,11 @@ impl<I: ByteIn> LineSource for Stream<I> {
         Ok(value)
     }
 
-    fn instr(&mut self, sizes: Sizes) -> Result<Instr, Stop> {
+    #[cold]
+    #[inline(never)]
+    fn fetch_instr(&mut self, sizes: Sizes) -> Result<Instr, Stop>
+        ensures { LineGives instr_line (IsInstrWithin sizes) self.old result self.new }
+    {
         read_line(&mut self.input, &mut self.bytes)?;
         let Some((instr, _)) = instr(self.bytes.as_slice(), sizes) else {
             return Err(Stop::Fault(CodeFault::Line(self.line)));
@@ -118,7 +190,13 @@ impl<I: ByteIn> LineSource for Stream<I> {
         Ok(instr)
     }
 
-    fn number(&mut self, letter: u8, below: u32) -> Result<u16, Stop> {
+    #[cold]
+    #[inline(never)]
+    fn fetch_number(&mut self, letter: u8, below: u32) -> Result<u16, Stop>
+        requires letter { letter ≢ 10 }
+        requires below { below ≤ WORD_VALUES }
+        ensures { LineGives (λ n. line ((letter ∷ []) ∷ decimal n ∷ [])) (λ n. n < below) self.old result self.new }
+    {
         read_line(&mut self.input, &mut self.bytes)?;
         let Some((n, _)) = number_line(self.bytes.as_slice(), letter, below) else {
             return Err(Stop::Fault(CodeFault::Line(self.line)));
@@ -129,6 +207,7 @@ impl<I: ByteIn> LineSource for Stream<I> {
 }
 
 // Takes a line, or as much of one as tells that it is none of a code text.
+#[inline(always)]
 fn read_line<I: ByteIn>(input: &mut I, line: &mut Line) -> Result<(), Device>
     ensures gives { TakingGives (I.incoming input.old) result line.new.items (I.incoming input.new) }
     ensures few { OnOk result (length line.new.items ≤ LINE_LEN) }

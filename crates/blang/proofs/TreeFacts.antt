@@ -7,7 +7,7 @@ use Rattle.blang.specs.declared.token.Diagnostic.{Diagnostic}
 use Rattle.blang.specs.Trees.{Number, Negate, PostIncrement, Expr, Arguments, Literal, Text, Grouped, Indexed, Called, Postfixed, Prefixed, Binary, Conditional, Assigned, No_arguments, Another, Heading, Label, Stmt, Headed, Compound, If, IfElse, While, Switch, Goto, ReturnValue, Evaluate, Empty, Nothing, More, Ival_constant, Ival_text, Definition, Simple, Function}
 use Rattle.blang.specs.WellFormed.{rvalue_rank, Binds, StatementBinds, IsFormed, IsViable, StopsAt, Parts, Parted}
 use Rattle.blang.specs.Walk.{TextAt, levels_in, texts_in, walk, walk_statement, spell_definition}
-use Rattle.blang.specs.Code.{strings_of}
+use Rattle.blang.specs.Code.{string_words_of}
 
 abbrev one : Expr
 one = Literal (Number 1)
@@ -139,7 +139,7 @@ second_value = (refl, (refl, tt))
 pub second_value_too_near : IsFormed (values_after_abc 1) → ⊥
 second_value_too_near h = let no : ◌≡◌ {A = ℕ} 1 2 = h.1.0 in omega arith
 
-pub words_of_both : strings_of (after_abc 2) ≡ 25185 ∷ 1123 ∷ 1123 ∷ []
+pub words_of_both : string_words_of (after_abc 2) ≡ 25185 ∷ 1123 ∷ 1123 ∷ []
 words_of_both = refl
 
 -- Where a source is at fault, no program goes on

@@ -1,4 +1,5 @@
--- The code of a definition. Places are absolute in a function.
+-- The code of a definition. A place is the number of an instruction in its function, from 0; a + 1 counts a jump.
+-- `instr_line` in Text has the letter of each instruction.
 use Rattle.std.specs.Prelude.{ℕ, ◌+◌, ◌&&◌, List, [], ◌∷◌, ◌++◌, length, map, max, nat_le, Bool, Option, Some, None}
 use Rattle.std.specs.Prelude.{Result, Ok, Err, if◌then◌else◌}
 use Rattle.std.specs.List.{flat_map}
@@ -94,28 +95,29 @@ tests_code [] = []
 tests_code ((None, t) ∷ arms) = tests_code arms
 tests_code ((Some v, t) ∷ arms) = instr.JumpIfCase v t ∷ tests_code arms
 
--- after the tests
+-- after the tests: drops the value, and goes to the default if there is one
 abbrev pub default_code : Option ℕ → List Instr
 default_code None = instr.Pop ∷ []
 default_code (Some t) = instr.Pop ∷ instr.Jump t ∷ []
 
+-- a test for each constant, and what comes after the tests
 abbrev pub arms_code : Arms ℕ → List Instr
 arms_code arms = tests_code arms ++ default_code (default_in arms)
 
--- A piece of code at a place: its instructions, where a break with no loop and no switch of the piece around leads out,
--- the place after it, and the places of its labels and arms.
-pub record Piece : Type 0 where
+-- A fragment of code that begins at a place p. Its instructions are `code out`: a break in it that is in no loop and no
+-- switch of its own jumps to `out`. The place after it is p and the number of its instructions. Its targets are the
+-- places of its labels, and of its arms of the switch around it.
+pub record Fragment : Type 0 where
   pub code : (out : ℕ) → List Instr
   pub end : ℕ
   pub targets : Targets ℕ
 
--- without labels and arms
-abbrev pub plain : ((out : ℕ) → List Instr) → (end : ℕ) → Piece
-plain code end = record { code = code; end = end; targets = no_targets }
+abbrev pub without_targets : ((out : ℕ) → List Instr) → (end : ℕ) → Fragment
+without_targets code end = record { code = code; end = end; targets = no_targets }
 
--- one piece after another
-abbrev pub joined : Piece → Piece → Piece
-joined a b =
+-- one fragment after another
+abbrev pub in_turn : Fragment → Fragment → Fragment
+in_turn a b =
     record { code = λ out. a.code out ++ b.code out; end = b.end; targets = both_targets a.targets b.targets }
 
 module _ (names : Environment) where
@@ -146,14 +148,14 @@ module _ (names : Environment) where
     word_code (Conditional e f g) p =
         let ce = word_code e p in
         let cf = word_code f (p + length ce + 1) in
-        let a = p + length ce + 1 + length cf + 1 in
-        let cg = word_code g a in
-        ce ++ (instr.JumpIfZero a ∷ (cf ++ (instr.Jump (a + length cg) ∷ cg)))
+        let at_g = p + length ce + 1 + length cf + 1 in
+        let cg = word_code g at_g in
+        ce ++ (instr.JumpIfZero at_g ∷ (cf ++ (instr.Jump (at_g + length cg) ∷ cg)))
     word_code (Assigned op line e f) p =
         let ce = address_code e p in
         ce ++ (word_code f (p + length ce) ++ (assignment op ∷ []))
 
-    -- leaves the address of an lvalue; of anything else, which a scan refuses, 0
+    -- leaves the address of an lvalue; of what a scan refuses, a label's value or 0
     pub address_code : Expr → ℕ → List Instr
     address_code (Named w) p = name_address_code (names w.text) w.text ∷ []
     address_code (Grouped e) p = address_code e p
@@ -176,61 +178,62 @@ module _ (names : Environment) where
   heading_code (Auto declared) = flat_map (λ d. vector_code (names d.word.text) d.size) declared
   heading_code _ = []
 
-  abbrev pub heading_piece : Heading → (p : ℕ) → Piece
-  heading_piece h p =
+  abbrev pub heading_fragment : Heading → (p : ℕ) → Fragment
+  heading_fragment h p =
       record { code = λ out. heading_code h; end = p + length (heading_code h); targets = heading_targets h p }
 
   -- an expression and an instruction after it
-  abbrev pub word_then : Expr → Instr → (p : ℕ) → Piece
-  word_then e i p = plain (λ out. word_code e p ++ (i ∷ [])) (p + length (word_code e p) + 1)
+  abbrev pub word_then : Expr → Instr → (p : ℕ) → Fragment
+  word_then e i p = without_targets (λ out. word_code e p ++ (i ∷ [])) (p + length (word_code e p) + 1)
 
-  -- the code of a statement at p
+  -- The code of a statement at p. `record a { .. }` keeps of a what it doesn't name.
   abbrev mutual
-    pub piece : Stmt → (p : ℕ) → Piece
-    piece (Headed h s) p = let a = heading_piece h p in joined a (piece s a.end)
-    piece (Compound body) p = body_piece body p
-    piece (If e s) p =
+    pub fragment : Stmt → (p : ℕ) → Fragment
+    fragment (Headed h s) p = let a = heading_fragment h p in in_turn a (fragment s a.end)
+    fragment (Compound body) p = body_fragment body p
+    fragment (If e s) p =
         let test = word_code e p in
-        let a = piece s (p + length test + 1) in
+        let a = fragment s (p + length test + 1) in
         record a { code = λ out. test ++ (instr.JumpIfZero a.end ∷ a.code out) }
-    piece (IfElse e s other) p =
+    fragment (IfElse e s other) p =
         let test = word_code e p in
-        let a = piece s (p + length test + 1) in
-        let b = piece other (a.end + 1) in
-        record (joined a b) {
+        let a = fragment s (p + length test + 1) in
+        let b = fragment other (a.end + 1) in
+        record (in_turn a b) {
           code = λ out. test
               ++ (instr.JumpIfZero (a.end + 1) ∷ (a.code out ++ (instr.Jump b.end ∷ b.code out)));
         }
-    piece (While e s) p =
+    fragment (While e s) p =
         let test = word_code e p in
-        let a = piece s (p + length test + 1) in
-        let end = a.end + 1 in
-        record a { code = λ out. test ++ (instr.JumpIfZero end ∷ (a.code end ++ (instr.Jump p ∷ []))); end = end }
-    piece (Switch e body) p =
-        let test = word_code e p in
-        let a = body_piece body (p + length test + 1) in
-        let d = a.end + 1 in
-        let tests = arms_code a.targets.arms in
-        let end = d + length tests in
+        let a = fragment s (p + length test + 1) in
+        let after = a.end + 1 in
+        record a { code = λ _. test ++ (instr.JumpIfZero after ∷ (a.code after ++ (instr.Jump p ∷ []))); end = after }
+    fragment (Switch e body) p =
+        let value = word_code e p in
+        let a = body_fragment body (p + length value + 1) in
+        let choice = arms_code a.targets.arms in
+        let choice_at = a.end + 1 in
+        let after = choice_at + length choice in
         record {
-          code = λ out. test ++ (instr.Jump d ∷ (a.code end ++ (instr.Jump end ∷ tests)));
-          end = end;
+          code = λ _. value ++ (instr.Jump choice_at ∷ (a.code after ++ (instr.Jump after ∷ choice)));
+          end = after;
+          -- a switch keeps its arms to itself
           targets = record a.targets { arms = [] };
         }
-    piece (Goto e) p = word_then e instr.Goto p
-    piece (Break line) p = plain (λ out. instr.Jump out ∷ []) (p + 1)
-    piece Return p = plain (λ out. instr.Constant 0 ∷ instr.Return ∷ []) (p + 2)
-    piece (ReturnValue e) p = word_then e instr.Return p
-    piece (Evaluate e) p = word_then e instr.Pop p
-    piece Empty p = plain (λ out. []) p
+    fragment (Goto e) p = word_then e instr.Goto p
+    fragment (Break line) p = without_targets (λ out. instr.Jump out ∷ []) (p + 1)
+    fragment Return p = without_targets (λ out. instr.Constant 0 ∷ instr.Return ∷ []) (p + 2)
+    fragment (ReturnValue e) p = word_then e instr.Return p
+    fragment (Evaluate e) p = word_then e instr.Pop p
+    fragment Empty p = without_targets (λ out. []) p
 
-    pub body_piece : Stmts → (p : ℕ) → Piece
-    body_piece Nothing p = plain (λ out. []) p
-    body_piece (More before s) p = let a = body_piece before p in joined a (piece s a.end)
+    pub body_fragment : Stmts → (p : ℕ) → Fragment
+    body_fragment Nothing p = without_targets (λ out. []) p
+    body_fragment (More before s) p = let a = body_fragment before p in in_turn a (fragment s a.end)
 
 -- the words of the strings of a definition, one after another
-abbrev pub strings_of : Definition → List ℕ
-strings_of d = flat_map (λ t. packed t.bytes) (texts_of d)
+abbrev pub string_words_of : Definition → List ℕ
+string_words_of d = flat_map (λ t. packed t.bytes) (texts_of d)
 
 abbrev pub ival_code : Ival → coded_value.Ival
 ival_code (Ival_constant c) = ival.Number (constant_value c)
@@ -252,23 +255,24 @@ clean (Err d) = no_scope
 
 abbrev pub code_of : Definition → coded.Definition
 code_of (Simple w values) =
-    code.Simple (record { name = w.text; values = map ival_code values; strings = strings_of (Simple w values) })
+    code.Simple (record { name = w.text; values = map ival_code values; strings = string_words_of (Simple w values) })
 code_of (Vector w size values) =
     code.Vector record {
       name = w.text;
       words = vector_words size values;
       values = map ival_code values;
-      strings = strings_of (Vector w size values);
+      strings = string_words_of (Vector w size values);
     }
 code_of (Function w parameters body) =
     let scope = clean (function_scope parameters body) in
-    let a = piece (environment_of scope.names) body 0 in
+    let a = fragment (environment_of scope.names) body 0 in
+    -- a scan refuses a break with no loop and no switch around it; here it leads to the end
     code.Function (record {
       name = w.text;
       parameters = length parameters;
       frame = scope.frame;
       targets = a.targets.labels;
-      strings = strings_of (Function w parameters body);
+      strings = string_words_of (Function w parameters body);
       code = a.code a.end ++ (instr.Constant 0 ∷ instr.Return ∷ []);
     })
 

@@ -8,7 +8,7 @@ use Rattle.blang.specs.declared.token.Letters.{Letters}
 use Rattle.blang.specs.declared.token.Diagnostic.{Diagnostic}
 use Rattle.blang.specs.Trees.{Identifier, Expr, Indirection, Named, Grouped, Indexed, Prefixed, Stmt, Definition, Simple}
 use Rattle.blang.specs.Trees.{Vector, Function}
-use Rattle.blang.specs.Walk.{Event, Declaration, Import, Mention, LabelHere, CaseHere, DefaultHere, BreakHere, Lvalue}
+use Rattle.blang.specs.Walk.{Event, AutoHere, ExtrnHere, Mention, LabelHere, CaseHere, DefaultHere, BreakHere, LvalueWanted}
 use Rattle.blang.specs.Walk.{LoopBegins, LoopEnds, SwitchBegins, SwitchEnds, events_in, walk_function}
 use Rattle.blang.specs.declared.limits.TheConstants.{MAX_NAMES, MAX_CASES}
 use Rattle.blang.specs.declared.token.About.{About}
@@ -170,13 +170,13 @@ rest_of (x ∷ xs) = xs
 
 -- the scope after an event, or its fault
 abbrev pub scan_event : Event → Scope → Result Scope Diagnostic
-scan_event (Declaration w size) s =
+scan_event (AutoHere w size) s =
     with_names (record s { frame = s.frame + automatic_words size }) (with_declaration w (Automatic s.frame) s.names)
-scan_event (Import w) s = with_names s (with_declaration w External s.names)
+scan_event (ExtrnHere w) s = with_names s (with_declaration w External s.names)
 scan_event (Mention called w) s = with_names s (with_mention called w s.names)
 scan_event (LabelHere w) s = with_names (record s { labels = s.labels + 1 }) (with_label w s.labels s.names)
 scan_event (CaseHere line value) s = scan_case line value s s.switches
-scan_event (Lvalue line e) s = if is_lvalue s.names e then Ok s else Err (fault letters.NotLvalue line)
+scan_event (LvalueWanted line e) s = if is_lvalue s.names e then Ok s else Err (fault letters.NotLvalue line)
 scan_event (DefaultHere line) s = scan_default line s s.switches
 scan_event (BreakHere line) s = if can_break s then Ok s else Err (word_fault letters.Syntax about.Break line)
 scan_event LoopBegins s = Ok (record s { loops = s.loops + 1 })

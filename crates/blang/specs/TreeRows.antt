@@ -1,5 +1,5 @@
--- Closed facts: the first fault of a small definition, and its code.
-use Rattle.std.specs.Prelude.{◌≡◌, ℕ, List, [], ◌∷◌, map, codes, Some, refl}
+-- Closed facts: the events and the first fault of a small definition, and its code.
+use Rattle.std.specs.Prelude.{◌≡◌, ℕ, List, [], ◌∷◌, map, codes, Some, true, false, refl}
 use Rattle.bword.specs.declared.operators.BinOp.TheVariants as op
 use Rattle.blang.specs.declared.token.Letters.TheVariants as letters
 use Rattle.blang.specs.declared.code.Instr.{Instr}
@@ -7,7 +7,9 @@ use Rattle.blang.specs.declared.code.Instr.TheVariants as instr
 use Rattle.blang.specs.declared.code.Definition as coded
 use Rattle.blang.specs.declared.code.Definition.TheVariants as code
 use Rattle.blang.specs.Trees.{Identifier, Number, Expr, Named, Literal, Binary, Stmt, Headed, Default, While, Switch}
-use Rattle.blang.specs.Trees.{Break, Evaluate, Empty, Auto, Nothing, More, Function}
+use Rattle.blang.specs.Trees.{Break, Evaluate, Empty, Auto, Nothing, More, Function, Called, Another, No_arguments}
+use Rattle.blang.specs.Trees.{Prefixed, Address}
+use Rattle.blang.specs.Walk.{Mention, LvalueWanted, LoopBegins, LoopEnds, events_in, walk_statement}
 use Rattle.blang.specs.Scan.{Unlabelled, undefined, name_fault}
 use Rattle.blang.specs.Code.{code_of}
 
@@ -31,6 +33,13 @@ of_f parameters instrs =
       strings = [];
       code = instrs;
     })
+
+-- while(i<2) f(&i);
+events_of_a_loop : events_in (walk_statement (While (Binary op.Lt 1 (Named (word (codes "i"))) (number 2)) (Evaluate
+    (Called (Named (word (codes "f"))) (Another No_arguments (Prefixed Address 1 (Named (word (codes "i")))))))))
+    ≡ Mention false (word (codes "i")) ∷ LoopBegins ∷ Mention true (word (codes "f")) ∷ Mention false (word (codes "i"))
+    ∷ LvalueWanted 1 (Named (word (codes "i"))) ∷ LoopEnds ∷ []
+events_of_a_loop = refl
 
 -- of two names without labels the first is told
 first_undefined : undefined (record { name = codes "a"; kind = Unlabelled 1 }

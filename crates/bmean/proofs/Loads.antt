@@ -5,7 +5,7 @@ use Rattle.std.specs.List.{cons_option, flat_map, list_any}
 use Rattle.std.specs.Option.{option_map, option_and_then}
 use Rattle.blang.specs.declared.code.Definition as coded
 use Rattle.blang.specs.Trees.{Definition}
-use Rattle.blang.specs.Code.{code_of, piece}
+use Rattle.blang.specs.Code.{code_of, fragment}
 use Rattle.blang.specs.declared.run.LoadFault.{LoadFault}
 use Rattle.blang.specs.declared.run.LoadFault.TheVariants as fault
 use Rattle.blang.specs.Layout.{store_words, Shape, shape_of, is_main, defined_names, names_in, Spot, spot_after, spots_after, spots, data_end, first_words, addresses, first_some, some_if, duplicate_after, label_count, address_in, first_undefined, load_fault}

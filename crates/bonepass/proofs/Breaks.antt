@@ -4,7 +4,7 @@ use Rattle.std.proofs.Math.Seq.{set-append_seam}
 use Rattle.blang.specs.declared.code.Instr.{Instr}
 use Rattle.blang.specs.declared.code.Instr.TheVariants as instr
 use Rattle.blang.specs.Trees.{Stmt, Headed, Compound, If, IfElse, While, Switch, Goto, Break, Return, ReturnValue, Evaluate, Empty, Stmts, Nothing, More}
-use Rattle.blang.specs.Code.{Environment, word_code, heading_code, piece, body_piece}
+use Rattle.blang.specs.Code.{Environment, word_code, heading_code, fragment, body_fragment}
 use Rattle.btree.proofs.CodeLaws.{statement_ends, body_ends}
 use Rattle.bemit.specs.Drafts.{led}
 
@@ -63,38 +63,38 @@ module _ (names : Environment) where
     statement_breaks (If e s) p = statement_breaks s (p + length (word_code names e p) + 1)
     statement_breaks (IfElse e s other) p =
         let q = p + length (word_code names e p) + 1 in
-        statement_breaks s q ++ statement_breaks other ((piece names s q).end + 1)
+        statement_breaks s q ++ statement_breaks other ((fragment names s q).end + 1)
     statement_breaks (Break line) p = p ∷ []
     statement_breaks _ p = []
 
     pub body_breaks : Stmts → ℕ → List ℕ
     body_breaks Nothing p = []
-    body_breaks (More before s) p = body_breaks before p ++ statement_breaks s ((body_piece names before p).end)
+    body_breaks (More before s) p = body_breaks before p ++ statement_breaks s ((body_fragment names before p).end)
 
   -- filled with out, the open breaks of a statement's code lead out
   mutual
-    pub statement_closes : (s : Stmt) (p out : ℕ) → Fills out p (statement_breaks s p) ((piece names s p).code 0) ((piece names s p).code out)
+    pub statement_closes : (s : Stmt) (p out : ℕ) → Fills out p (statement_breaks s p) ((fragment names s p).code 0) ((fragment names s p).code out)
     statement_closes (Headed h s) p out = fills_after (heading_code names h) refl (statement_closes s (p + length (heading_code names h)) out)
     statement_closes (Compound body) p out = body_closes body p out
     statement_closes (If e s) p out =
         let q = p + length (word_code names e p) + 1 in
-        fills_after (word_code names e p) refl (fills_after (instr.JumpIfZero ((piece names s q).end) ∷ []) refl (statement_closes s q out))
+        fills_after (word_code names e p) refl (fills_after (instr.JumpIfZero ((fragment names s q).end) ∷ []) refl (statement_closes s q out))
     statement_closes (IfElse e s other) p out =
         let q = p + length (word_code names e p) + 1 in
-        let a = (piece names s q).end + 1 in
-        let jump = instr.Jump ((piece names other a).end) ∷ [] in
+        let a = (fragment names s q).end + 1 in
+        let jump = instr.Jump ((fragment names other a).end) ∷ [] in
         fills_after (word_code names e p) refl
         (fills_after (instr.JumpIfZero a ∷ []) refl
         (fills_both (statement_ends names s q out) (statement_closes s q out) (fills_after jump refl (statement_closes other a out))))
     statement_closes (Break line) p out = fills_one out p
-    statement_closes (While e s) p out = fills_none out p ((piece names (While e s) p).code 0)
-    statement_closes (Switch e body) p out = fills_none out p ((piece names (Switch e body) p).code 0)
-    statement_closes (Goto e) p out = fills_none out p ((piece names (Goto e) p).code 0)
-    statement_closes Return p out = fills_none out p ((piece names Return p).code 0)
-    statement_closes (ReturnValue e) p out = fills_none out p ((piece names (ReturnValue e) p).code 0)
-    statement_closes (Evaluate e) p out = fills_none out p ((piece names (Evaluate e) p).code 0)
+    statement_closes (While e s) p out = fills_none out p ((fragment names (While e s) p).code 0)
+    statement_closes (Switch e body) p out = fills_none out p ((fragment names (Switch e body) p).code 0)
+    statement_closes (Goto e) p out = fills_none out p ((fragment names (Goto e) p).code 0)
+    statement_closes Return p out = fills_none out p ((fragment names Return p).code 0)
+    statement_closes (ReturnValue e) p out = fills_none out p ((fragment names (ReturnValue e) p).code 0)
+    statement_closes (Evaluate e) p out = fills_none out p ((fragment names (Evaluate e) p).code 0)
     statement_closes Empty p out = fills_none out p []
 
-    pub body_closes : (ss : Stmts) (p out : ℕ) → Fills out p (body_breaks ss p) ((body_piece names ss p).code 0) ((body_piece names ss p).code out)
+    pub body_closes : (ss : Stmts) (p out : ℕ) → Fills out p (body_breaks ss p) ((body_fragment names ss p).code 0) ((body_fragment names ss p).code out)
     body_closes Nothing p out = fills_none out p []
-    body_closes (More before s) p out = fills_both (body_ends names before p out) (body_closes before p out) (statement_closes s ((body_piece names before p).end) out)
+    body_closes (More before s) p out = fills_both (body_ends names before p out) (body_closes before p out) (statement_closes s ((body_fragment names before p).end) out)

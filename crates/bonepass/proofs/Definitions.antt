@@ -16,7 +16,7 @@ use Rattle.blang.specs.WellFormed.{nesting_limit, IsFormed, packed}
 use Rattle.btree.specs.Fitting.{EachAfter, Sits, ival_words, values_words, IvalFits, statement_strings, ival_strings}
 use Rattle.blang.specs.Scan.{fault, name_fault, undefined, Scope, no_scope, function_events, function_scope, inner_fault, scope_fault, identifier_of, scan}
 use Rattle.bword.specs.Words.{same_name}
-use Rattle.blang.specs.Code.{Environment, environment_of, ival_code, vector_words, clean, code_of, fits_limits, fault_of, or_too_large, Piece, piece}
+use Rattle.blang.specs.Code.{Environment, environment_of, ival_code, vector_words, clean, code_of, fits_limits, fault_of, or_too_large, Fragment, fragment}
 use Rattle.btree.proofs.WalkLaws.{length-strings}
 use Rattle.blang.specs.Walk.{walk_value}
 use Rattle.btree.proofs.Fitting.{simple_strings, vector_strings, function_strings, formed_in}
@@ -31,7 +31,7 @@ use Rattle.bonepass.proofs.Headings.{parameters_make, worded_scope}
 use Rattle.bonepass.proofs.Breaks.{statement_breaks, fills_whole, statement_closes}
 use Rattle.bonepass.proofs.Trees.{statement_parts}
 use Rattle.bonepass.proofs.StatementMakes.{done_makes}
-use Rattle.bonepass.proofs.Numbered.{renumbered, names_renumbered, numbered_piece, piece_numbered}
+use Rattle.bonepass.proofs.Numbered.{renumbered, names_renumbered, numbered_fragment, fragment_numbered}
 use Rattle.btree.proofs.WalkLaws.{function_events_are}
 
 faulty_is : (r : Draft) (f : Diagnostic) → scope_of r ≡ Err f → r ≡ Faulty f
@@ -143,9 +143,9 @@ function_code w parameters body s strings = code.Function (record {
   name = w.text;
   parameters = length parameters;
   frame = s.frame;
-  targets = (piece (environment_of s.names) body 0).targets.labels;
+  targets = (fragment (environment_of s.names) body 0).targets.labels;
   strings = strings;
-  code = (piece (environment_of s.names) body 0).code ((piece (environment_of s.names) body 0).end) ++ (instr.Constant 0 ∷ instr.Return ∷ []);
+  code = (fragment (environment_of s.names) body 0).code ((fragment (environment_of s.names) body 0).end) ++ (instr.Constant 0 ∷ instr.Return ∷ []);
 })
 
 function_comes : (w : Identifier) (parameters : List Identifier) (body : Stmt) → Sits body nesting_limit 0 → Comes (Function w parameters body) (definition_done (Function w parameters body) fresh)
@@ -173,26 +173,26 @@ function_comes w parameters body sits = go (function_scope parameters body) refl
         renamed = names_renumbered s.names u
 
         out : ℕ
-        out = (piece (environment_of s.names) body 0).end
+        out = (fragment (environment_of s.names) body 0).end
 
         tree : List Instr
-        tree = (piece (environment_of s.names) body 0).code out
+        tree = (fragment (environment_of s.names) body 0).code out
 
         -- No break stands outside of loops and switches.
         no_breaks : statement_breaks (environment_of s.names) body 0 ≡ []
         no_breaks = (function_makes (environment_of s.names) w parameters body sits).inside no_scope s h refl 0
 
-        closed : (piece (environment_of s.names) body 0).code 0 ≡ tree
-        closed = ap (λ l. led out l ((piece (environment_of s.names) body 0).code 0)) (sym no_breaks) ∙ fills_whole [] (statement_closes (environment_of s.names) body 0 out) refl
+        closed : (fragment (environment_of s.names) body 0).code 0 ≡ tree
+        closed = ap (λ l. led out l ((fragment (environment_of s.names) body 0).code 0)) (sym no_breaks) ∙ fills_whole [] (statement_closes (environment_of s.names) body 0 out) refl
 
-        numbered_body : numbered_piece s.names names (environment_of s.names) renamed (piece names body 0) ≡ piece (environment_of s.names) body 0
-        numbered_body = piece_numbered s.names names (environment_of s.names) renamed body 0
+        numbered_body : numbered_fragment s.names names (environment_of s.names) renamed (fragment names body 0) ≡ fragment (environment_of s.names) body 0
+        numbered_body = fragment_numbered s.names names (environment_of s.names) renamed body 0
 
         coded : map (numbered s.names) m.code ≡ tree ++ ends
         coded =
-            ap (map (numbered s.names)) (append_assoc ((piece names body 0).code 0) (instr.Constant 0 ∷ []) (instr.Return ∷ []))
-            ∙ map-append (numbered s.names) ((piece names body 0).code 0) ends
-            ∙ ap (λ l. l ++ ends) (ap (λ (a : Piece). a.code 0) numbered_body ∙ closed)
+            ap (map (numbered s.names)) (append_assoc ((fragment names body 0).code 0) (instr.Constant 0 ∷ []) (instr.Return ∷ []))
+            ∙ map-append (numbered s.names) ((fragment names body 0).code 0) ends
+            ∙ ap (λ l. l ++ ends) (ap (λ (a : Fragment). a.code 0) numbered_body ∙ closed)
 
         whole : code_of d ≡ function_code w parameters body s (statement_strings body)
         whole = λ i. function_code w parameters body (clean (h i)) (function_strings w parameters body i)
@@ -206,8 +206,8 @@ function_comes w parameters body sits = go (function_scope parameters body) refl
             ∙ ap (λ o. Going s o) (function_fits s.frame m (tree ++ ends) long refl)
             ∙ ap (λ c. Going s (if fits_limits c then Some m else None)) (sym whole)
 
-        labels : (piece names body 0).targets.labels ≡ (piece (environment_of s.names) body 0).targets.labels
-        labels = ap (λ (a : Piece). a.targets.labels) numbered_body
+        labels : (fragment names body 0).targets.labels ≡ (fragment (environment_of s.names) body 0).targets.labels
+        labels = ap (λ (a : Fragment). a.targets.labels) numbered_body
 
         code_is : code_with d s.frame (record m { code = map (numbered s.names) m.code }) ≡ code_of d
         code_is = (λ i. code.Function (record { name = w.text; parameters = length parameters; frame = s.frame; targets = labels i; strings = statement_strings body; code = coded i })) ∙ sym whole

@@ -8,7 +8,7 @@ use Rattle.blang.specs.declared.code.Increment.TheVariants as increment
 use Rattle.blang.specs.Trees.{Expr, Arguments, Negate, Not, Indirection, Address, PreIncrement, PreDecrement, PostIncrement, PostDecrement, Named, Literal, Text, Grouped, Indexed, Called, Postfixed, Prefixed, Binary, Conditional, Assigned, No_arguments, Another, constant_value}
 use Rattle.blang.specs.WellFormed.{rvalue_rank, or_rank, conditional_rank, rank}
 use Rattle.btree.specs.Fitting.{words, argument_words, Deeper, Fits, ArgumentsFit, strings_in, strings, argument_strings}
-use Rattle.blang.specs.Walk.{Lvalue, callee, walk, walk_arguments, walk_comma}
+use Rattle.blang.specs.Walk.{LvalueWanted, callee, walk, walk_arguments, comma_before_next}
 use Rattle.btree.specs.Events.{events, argument_events}
 use Rattle.blang.specs.Code.{Environment, Referent, In_frame, Outside, At_label, name_word_code, word_code, address_code, argument_code, argument_count, assignment}
 use Rattle.btree.proofs.WalkLaws.{length-strings, comma_events, callee_as, plain_strings, comma_plain}
@@ -38,7 +38,7 @@ called_strings : (e : Expr) (args : Arguments) → strings e ++ argument_strings
 called_strings e args = ap (λ l. l ++ argument_strings args) (sym (callee_as strings_in (λ w a b. refl) e)) ∙ ap (λ l. strings_in (callee e (walk e)) ++ l) (sym (append-nil (argument_strings args)))
 
 another_strings : (before : Arguments) (e : Expr) → argument_strings before ++ strings e ≡ argument_strings (Another before e)
-another_strings before e = ap (λ l. argument_strings before ++ (l ++ strings e)) (sym (plain_strings (walk_comma before) (comma_plain before)))
+another_strings before e = ap (λ l. argument_strings before ++ (l ++ strings e)) (sym (plain_strings (comma_before_next before) (comma_plain before)))
 
 module _ (names : Environment) where
   name_some : (x : List ℕ) (m : Referent) → 1 ≤ length (name_word_code m x)
@@ -142,7 +142,7 @@ module _ (names : Environment) where
     held_makes (Assigned op line e f) called loose k off room h =
         let i = inside (λ j. Fits f rvalue_rank j (off + words e)) k h.2 in
         retold (only (held_code names (Assigned op line e f)) (strings (Assigned op line e f))) (λ p. record { code = append_assoc (address_code names e p) (word_code names f _) (assignment op ∷ []); strings = refl; targets = refl; arms = refl; breaks = refl })
-        (rescanned (append_assoc (events e) (Lvalue line e ∷ []) (events f) ∙ ap (λ l. events e ++ Lvalue line e ∷ l) (ended (events f)))
+        (rescanned (append_assoc (events e) (LvalueWanted line e ∷ []) (events f) ∙ ap (λ l. events e ++ LvalueWanted line e ∷ l) (ended (events f)))
         (emits (assignment op) (then_ (checked_makes e line (held_makes e false 0 k off room h.1)) (evaluated_by f (held_makes f false rvalue_rank i.0 (off + words e) room i.1)) (expression_words e off))))
 
     passed_makes : (args : Arguments) (k off room : ℕ) → ArgumentsFit args k off → Makes names (passed args) (argument_events args) room off (only (argument_code names args) (argument_strings args))

@@ -6,7 +6,7 @@ use Rattle.blang.specs.declared.code.Instr.{Instr}
 use Rattle.blang.specs.declared.code.Instr.TheVariants as instr
 use Rattle.blang.specs.Trees.{Identifier, Expr, Arguments, Indirection, Named, Literal, Text, Grouped, Indexed, Called, Postfixed, Prefixed, Binary, Conditional, Assigned}
 use Rattle.blang.specs.Scan.{Entry, NameKind, Automatic, External, Unlabelled, Labelled, kind_of, Scope, scan_event, scanned, is_lvalue}
-use Rattle.blang.specs.Walk.{Event, Mention, Lvalue}
+use Rattle.blang.specs.Walk.{Event, Mention, LvalueWanted}
 use Rattle.btree.specs.Events.{events, argument_events}
 use Rattle.blang.specs.Scan as scan
 use Rattle.blang.specs.Code.{Environment, Referent, In_frame, Outside, At_label, name_address_code, name_word_code, word_code, address_code}
@@ -244,14 +244,14 @@ checked_fault Place line d = refl
 checked_fault Lone line d = refl
 checked_fault Joined line d = refl
 
-check_scope : (e : Expr) (line : ℕ) (b : Draft) → ((s : Scope) → scope_of b ≡ Ok s → Rooted s.names e) → scope_of (checked (form e b) line b) ≡ scanned (Lvalue line e ∷ []) (scope_of b)
+check_scope : (e : Expr) (line : ℕ) (b : Draft) → ((s : Scope) → scope_of b ≡ Ok s → Rooted s.names e) → scope_of (checked (form e b) line b) ≡ scanned (LvalueWanted line e ∷ []) (scope_of b)
 check_scope e line (Faulty d) r = ap scope_of (checked_fault (form e (Faulty d)) line d)
 check_scope e line (Going s made) r = go (form e (Going s made)) refl
   where
     same : is_place_form (form e (Going s made)) ≡ is_lvalue s.names e
     same = lvalue_is e s made (r s refl)
 
-    go : (f : Form) → form e (Going s made) ≡ f → scope_of (checked (form e (Going s made)) line (Going s made)) ≡ scan_event (Lvalue line e) s
+    go : (f : Form) → form e (Going s made) ≡ f → scope_of (checked (form e (Going s made)) line (Going s made)) ≡ scan_event (LvalueWanted line e) s
     go Place q = rw q (rw (sym same ∙ ap is_place_form q) refl)
     go Lone q = rw q (rw (sym same ∙ ap is_place_form q) refl)
     go Joined q = rw q (rw (sym same ∙ ap is_place_form q) refl)
@@ -264,7 +264,7 @@ record IsPlace (e : Expr) (line : ℕ) (s s2 : Scope) : Type 0 where
   same : s2 ≡ s
   lvalue : is_lvalue s.names e ≡ true
 
-check_is : (e : Expr) (line : ℕ) (s s2 : Scope) → scan_event (Lvalue line e) s ≡ Ok s2 → IsPlace e line s s2
+check_is : (e : Expr) (line : ℕ) (s s2 : Scope) → scan_event (LvalueWanted line e) s ≡ Ok s2 → IsPlace e line s s2
 check_is e line s s2 h = go (is_lvalue s.names e) refl
   where
     go : (b : Bool) → is_lvalue s.names e ≡ b → IsPlace e line s s2
@@ -278,17 +278,17 @@ place_form Joined h = cc
 
 -- an lvalue that an operator wants
 pub checked_makes : {names : Environment} {room off : ℕ} (e : Expr) (line : ℕ) → Makes names (held false e) (events_of false e) room off (only (held_code names e) (strings e))
-    → Makes names (λ d. checked (form e (held false e d)) line (held false e d)) (events e ++ Lvalue line e ∷ []) room off (only (address_code names e) (strings e))
-checked_makes {names = names} {room = room} {off = off} e line x = rescanned (ap (λ l. l ++ Lvalue line e ∷ []) (events_false e)) (record {
+    → Makes names (λ d. checked (form e (held false e d)) line (held false e d)) (events e ++ LvalueWanted line e ∷ []) room off (only (address_code names e) (strings e))
+checked_makes {names = names} {room = room} {off = off} e line x = rescanned (ap (λ l. l ++ LvalueWanted line e ∷ []) (events_false e)) (record {
   scans = λ d n.
       check_scope e line (held false e d) (λ s q. rooted_after e (scope_of d) s (sym (x.scans d n) ∙ q))
-      ∙ ap (scanned (Lvalue line e ∷ [])) (x.scans d n)
-      ∙ sym (scanned-append (events_of false e) (Lvalue line e ∷ []) (scope_of d));
+      ∙ ap (scanned (LvalueWanted line e ∷ [])) (x.scans d n)
+      ∙ sym (scanned-append (events_of false e) (LvalueWanted line e ∷ []) (scope_of d));
   depth = λ s s3 h.
-      let t = scanned_twice (events_of false e) (Lvalue line e ∷ []) s s3 h in
+      let t = scanned_twice (events_of false e) (LvalueWanted line e ∷ []) s s3 h in
       level_then s t.0 s3 (x.depth s t.0 t.1) (level_by (check_is e line t.0 s3 t.2).same);
   makes = λ s s3 m n h agree l.
-      let t = scanned_twice (events_of false e) (Lvalue line e ∷ []) s s3 h in
+      let t = scanned_twice (events_of false e) (LvalueWanted line e ∷ []) s s3 h in
       let c = check_is e line t.0 s3 t.2 in
       made s t.0 s3 m t.1 c.same c.lvalue agree (x.makes s t.0 m n t.1 (subst (λ (u : Scope). Agrees names u.names) c.same agree) l);
   inside = λ s s2 h z p. refl;

@@ -4,17 +4,17 @@ use Rattle.blang.specs.declared.code.Instr.{Instr}
 use Rattle.blang.specs.declared.code.Instr.TheVariants as instr
 use Rattle.blang.specs.Trees.{Identifier, Declared, Heading, Auto, Extrn, Label, Case, Default, constant_value}
 use Rattle.blang.specs.Scan.{Automatic, kind_of, Scope, scan_event}
-use Rattle.blang.specs.Walk.{Declaration, Import, LabelHere, CaseHere, DefaultHere, Event, BreakHere, walk_declared, walk_import}
+use Rattle.blang.specs.Walk.{AutoHere, ExtrnHere, LabelHere, CaseHere, DefaultHere, Event, BreakHere, walk_declared, walk_import}
 use Rattle.btree.proofs.WalkLaws.{list_events, declared_events}
 use Rattle.btree.specs.Events.{heading_events}
-use Rattle.blang.specs.Code.{Environment, Referent, In_frame, Outside, At_label, vector_code, heading_piece}
+use Rattle.blang.specs.Code.{Environment, Referent, In_frame, Outside, At_label, vector_code, heading_fragment}
 use Rattle.bemit.specs.Drafts.{Made, Draft, Going, most_words, with_made, following, event_done, emitted, worded, frame_of, vector_set, declared, imported, labelled, within_room, break_drafted, Switch, with_innermost, with_case, with_default}
 use Rattle.bemit.specs.Effects.{headed, parameters_done}
 use Rattle.btree.proofs.ScanSteps.{ArmAdded, kind_of-entered, declares, imports, labels_here, selects, defaults, breaks}
 use Rattle.bonepass.proofs.Names.{later}
 use Rattle.bonepass.proofs.Parts.{Parts, no_parts, added, first_of, first_of-none, add_arms, add_arms-none, drafted, kept, kept_within, kept_none, Roomy, smaller, changed, noted, put, emit, scope_of, scope_kept, scope_stepped, level_by, Makes, nothing_added, then_, retold, rescanned, idle}
 use Rattle.bonepass.proofs.Expressions.{only, stepped_is}
-use Rattle.bonepass.proofs.Trees.{open_piece}
+use Rattle.bonepass.proofs.Trees.{open_fragment}
 
 vector_scope : (size : Option ℕ) (k : ℕ) (d : Draft) → scope_of (vector_set size k d) ≡ scope_of d
 vector_scope None k d = refl
@@ -63,21 +63,21 @@ vector_made names None k s m = ap (drafted s) (nothing_added m)
 vector_made names (Some c) k s m = put_vector s m k c ∙ ap (drafted s) (code_only m _)
 
 -- an automatic name
-pub declared_makes : {names : Environment} {room off : ℕ} (w : Identifier) (size : Option ℕ) → Makes names (declared w size) (Declaration w size ∷ []) room off (only (λ p. vector_code names (names w.text) size) [])
+pub declared_makes : {names : Environment} {room off : ℕ} (w : Identifier) (size : Option ℕ) → Makes names (declared w size) (AutoHere w size ∷ []) room off (only (λ p. vector_code names (names w.text) size) [])
 declared_makes {names = names} w size = record {
-  scans = λ d n. vector_scope size (frame_of d) _ ∙ worded_scope _ (event_done (Declaration w size) d) ∙ scope_stepped (Declaration w size) d;
+  scans = λ d n. vector_scope size (frame_of d) _ ∙ worded_scope _ (event_done (AutoHere w size) d) ∙ scope_stepped (AutoHere w size) d;
   depth = λ s s2 h. level_by (declares w size s s2 h).is;
   makes = λ s s2 m n h agree l.
       let d = declares w size s s2 h in
       let kind : kind_of w.text s2.names ≡ Some (Automatic s.frame) = subst (λ (t : Scope). kind_of w.text t.names ≡ Some (Automatic s.frame)) (sym d.is) (kind_of-entered d.come) in
       ap (λ b. vector_set size s.frame (worded (frame_of b) b)) (ap (λ r. following r (kept s.frame m)) h)
-      ∙ ap (vector_set size s.frame) (worded_is s2 s.frame m (later (Declaration w size ∷ []) s s2 h).frame)
+      ∙ ap (vector_set size s.frame) (worded_is s2 s.frame m (later (AutoHere w size ∷ []) s s2 h).frame)
       ∙ vector_made names size s.frame s2 m
       ∙ ap (λ k. drafted s2 (added m (only (λ p. vector_code names k size) []))) (sym (agree w.text (Automatic s.frame) kind));
   inside = λ s s2 h z p. refl;
 }
 
-pub autos_make : {names : Environment} {room off : ℕ} (ds : List Declared) → Makes names (λ d. fold (λ b x. declared x.word x.size b) d ds) (map (λ d. Declaration d.word d.size) ds) room off (only (λ p. flat_map (λ d. vector_code names (names d.word.text) d.size) ds) [])
+pub autos_make : {names : Environment} {room off : ℕ} (ds : List Declared) → Makes names (λ d. fold (λ b x. declared x.word x.size b) d ds) (map (λ d. AutoHere d.word d.size) ds) room off (only (λ p. flat_map (λ d. vector_code names (names d.word.text) d.size) ds) [])
 autos_make [] = idle
 autos_make {names = names} {off = off} (x ∷ ds) =
     retold (only (λ p. flat_map (λ d. vector_code names (names d.word.text) d.size) (x ∷ ds)) []) (λ p. record { code = refl; strings = refl; targets = refl; arms = refl; breaks = refl })
@@ -88,23 +88,23 @@ no_vector names (In_frame k) = refl
 no_vector names Outside = refl
 no_vector names (At_label k) = refl
 
-pub parameters_make : {names : Environment} {room off : ℕ} (ws : List Identifier) → Makes names (parameters_done ws) (map (λ w. Declaration w None) ws) room off no_parts
+pub parameters_make : {names : Environment} {room off : ℕ} (ws : List Identifier) → Makes names (parameters_done ws) (map (λ w. AutoHere w None) ws) room off no_parts
 parameters_make [] = idle
 parameters_make {names = names} {off = off} (w ∷ ws) =
     retold no_parts (λ p. record { code = ap (λ l. l ++ []) (no_vector names (names w.text)); strings = refl; targets = refl; arms = refl; breaks = refl })
     (then_ (declared_makes w None) (parameters_make ws) (sym (add-zero off)))
 
-pub imported_makes : {names : Environment} {room off : ℕ} (w : Identifier) → Makes names (imported w) (Import w ∷ []) room off no_parts
+pub imported_makes : {names : Environment} {room off : ℕ} (w : Identifier) → Makes names (imported w) (ExtrnHere w ∷ []) room off no_parts
 imported_makes w = record {
-  scans = λ d n. scope_stepped (Import w) d;
+  scans = λ d n. scope_stepped (ExtrnHere w) d;
   depth = λ s s2 h. level_by (imports w s s2 h).is;
   makes = λ s s2 m n h agree l.
-      stepped_is (Import w) s s2 m h (ap (λ (t : Scope). t.frame) (imports w s s2 h).is)
+      stepped_is (ExtrnHere w) s s2 m h (ap (λ (t : Scope). t.frame) (imports w s s2 h).is)
       ∙ ap (drafted s2) (nothing_added m);
   inside = λ s s2 h z p. refl;
 }
 
-imports_make : {names : Environment} {room off : ℕ} (ws : List Identifier) → Makes names (λ d. fold (λ b w. imported w b) d ws) (map Import ws) room off no_parts
+imports_make : {names : Environment} {room off : ℕ} (ws : List Identifier) → Makes names (λ d. fold (λ b w. imported w b) d ws) (map ExtrnHere ws) room off no_parts
 imports_make [] = idle
 imports_make {off = off} (w ∷ ws) =
     retold no_parts (λ p. record { code = refl; strings = refl; targets = refl; arms = refl; breaks = refl }) (then_ (imported_makes w) (imports_make ws) (sym (add-zero off)))
@@ -186,11 +186,11 @@ broken_makes line = record {
     whole m = λ i. record { code = m.code ++ instr.Jump 0 ∷ []; strings = sym (append-nil m.strings) i; values = m.values; targets = sym (append-nil m.targets) i; arms = sym (add_arms-none m.arms) i; breaks = m.breaks ++ length m.code ∷ [] }
 
 abbrev pub heading_parts : Environment → Heading → Parts
-heading_parts names h = open_piece (heading_piece names h) [] (λ p. [])
+heading_parts names h = open_fragment (heading_fragment names h) [] (λ p. [])
 
 pub heading_makes : {names : Environment} {room off : ℕ} (h : Heading) → Makes names (headed h) (heading_events h) room off (heading_parts names h)
-heading_makes {names = names} (Auto ds) = retold (heading_parts names (Auto ds)) (λ p. record { code = refl; strings = refl; targets = refl; arms = refl; breaks = refl }) (rescanned (sym (append-nil _ ∙ list_events walk_declared (λ d. Declaration d.word d.size) declared_events ds)) (autos_make ds))
-heading_makes {names = names} (Extrn ws) = retold (heading_parts names (Extrn ws)) (λ p. record { code = refl; strings = refl; targets = refl; arms = refl; breaks = refl }) (rescanned (sym (append-nil _ ∙ list_events walk_import Import (λ w. refl) ws)) (imports_make ws))
+heading_makes {names = names} (Auto ds) = retold (heading_parts names (Auto ds)) (λ p. record { code = refl; strings = refl; targets = refl; arms = refl; breaks = refl }) (rescanned (sym (append-nil _ ∙ list_events walk_declared (λ d. AutoHere d.word d.size) declared_events ds)) (autos_make ds))
+heading_makes {names = names} (Extrn ws) = retold (heading_parts names (Extrn ws)) (λ p. record { code = refl; strings = refl; targets = refl; arms = refl; breaks = refl }) (rescanned (sym (append-nil _ ∙ list_events walk_import ExtrnHere (λ w. refl) ws)) (imports_make ws))
 heading_makes {names = names} (Label w) = retold (heading_parts names (Label w)) (λ p. record { code = refl; strings = refl; targets = refl; arms = refl; breaks = refl }) (labelled_makes w)
 heading_makes {names = names} (Case line c) = retold (heading_parts names (Case line c)) (λ p. record { code = refl; strings = refl; targets = refl; arms = refl; breaks = refl }) (arm_makes (CaseHere line (constant_value c)) (Some (constant_value c)) (with_case (constant_value c)) (selects line (constant_value c)) (with_case-add (constant_value c)))
 heading_makes {names = names} (Default line) = retold (heading_parts names (Default line)) (λ p. record { code = refl; strings = refl; targets = refl; arms = refl; breaks = refl }) (arm_makes (DefaultHere line) None with_default (defaults line) with_default-add)

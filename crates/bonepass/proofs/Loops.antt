@@ -7,7 +7,7 @@ use Rattle.blang.specs.Trees.{Expr, Stmt, While}
 use Rattle.blang.specs.Scan.{Scope, scan_event, scanned}
 use Rattle.blang.specs.Walk.{Event, LoopBegins, LoopEnds}
 use Rattle.btree.specs.Events.{events, statement_events}
-use Rattle.blang.specs.Code.{Environment, word_code, piece}
+use Rattle.blang.specs.Code.{Environment, word_code, fragment}
 use Rattle.btree.specs.Fitting.{strings, statement_strings}
 use Rattle.btree.proofs.CodeLaws.{scanned-append, statement_ends}
 use Rattle.bemit.specs.Drafts.{Made, Draft, Faulty, Going, most_loops, emitted, place_of, loop_begun, loop_ended}
@@ -111,13 +111,13 @@ loops {names = names} {room = room} {off = off} {off2 = off2} e s x y o = record
         q = length m2.code
 
         out : ℕ
-        out = (piece names s q).end + 1
+        out = (fragment names s q).end + 1
 
         back : Parts
         back = ending (statement_parts names s) (λ p. instr.Jump (length m.code))
 
         closed_code : ℕ → List Instr
-        closed_code p = (piece names s p).code ((piece names s p).end + 1) ++ (instr.Jump (length m.code) ∷ [])
+        closed_code p = (fragment names s p).code ((fragment names s p).end + 1) ++ (instr.Jump (length m.code) ∷ [])
 
         whole : Parts
         whole = closed back closed_code
@@ -130,7 +130,7 @@ loops {names = names} {room = room} {off = off} {off2 = off2} e s x y o = record
 
         less : Roomy s3.frame m3 → Roomy s1.frame m
         less r = smaller s1.frame s3.frame m m3 (omega (arith, f, f2))
-            (omega (arith, length-append m.code (word_code names e (length m.code)), length_put m1 (instr.JumpIfZero 0), length-append m2.code ((piece names s q).code 0)))
+            (omega (arith, length-append m.code (word_code names e (length m.code)), length_put m1 (instr.JumpIfZero 0), length-append m2.code ((fragment names s q).code 0)))
             (omega (arith, length-append m.strings (strings e), length-append m1.strings (statement_strings s))) (le_refl _) r
 
         turned : turning start (λ x. done s x) (drafted s2 m2) ≡ drafted s4 (added m2 back)
@@ -142,10 +142,10 @@ loops {names = names} {room = room} {off = off} {off2 = off2} e s x y o = record
             ∙ stepped_is LoopEnds s3 s4 (added m2 back) ends same_frame
 
         same_length : length (closed_code q) ≡ length (back.code q)
-        same_length = omega (arith, length-append ((piece names s q).code out) (instr.Jump (length m.code) ∷ []), length-append ((piece names s q).code 0) (instr.Jump (length m.code) ∷ []), statement_ends names s q out, statement_ends names s q 0)
+        same_length = omega (arith, length-append ((fragment names s q).code out) (instr.Jump (length m.code) ∷ []), length-append ((fragment names s q).code 0) (instr.Jump (length m.code) ∷ []), statement_ends names s q out, statement_ends names s q 0)
 
         end : q + length (back.code q) ≡ out
-        end = omega (arith, length-append ((piece names s q).code 0) (instr.Jump (length m.code) ∷ []), statement_ends names s q 0)
+        end = omega (arith, length-append ((fragment names s q).code 0) (instr.Jump (length m.code) ∷ []), statement_ends names s q 0)
 
         ce : List Instr
         ce = word_code names e (length m.code)
@@ -153,9 +153,9 @@ loops {names = names} {room = room} {off = off} {off2 = off2} e s x y o = record
         following : List Instr
         following = closed_code (length m.code + length ce + 1)
 
-        code : ce ++ (instr.JumpIfZero (length m.code + length ce + 1 + length following) ∷ following) ≡ ce ++ (instr.JumpIfZero ((piece names s (length m.code + length ce + 1)).end + 1) ∷ following)
+        code : ce ++ (instr.JumpIfZero (length m.code + length ce + 1 + length following) ∷ following) ≡ ce ++ (instr.JumpIfZero ((fragment names s (length m.code + length ce + 1)).end + 1) ∷ following)
         code =
             let r = length m.code + length ce + 1 in
-            let there = (piece names s r).end + 1 in
-            let e : r + length following ≡ there = omega (arith, length-append ((piece names s r).code there) (instr.Jump (length m.code) ∷ []), statement_ends names s r there) in
+            let there = (fragment names s r).end + 1 in
+            let e : r + length following ≡ there = omega (arith, length-append ((fragment names s r).code there) (instr.Jump (length m.code) ∷ []), statement_ends names s r there) in
             ap (λ n. ce ++ (instr.JumpIfZero n ∷ following)) e

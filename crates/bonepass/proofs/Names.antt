@@ -5,7 +5,7 @@ use Rattle.std.proofs.lemmas.Iterator.Adapters.{position_from-zero}
 use Rattle.blang.specs.declared.token.Diagnostic.{Diagnostic}
 use Rattle.blang.specs.Trees.{Identifier}
 use Rattle.blang.specs.Scan.{Entry, NameKind, Automatic, External, Unlabelled, Labelled, kind_of, with_entry, with_declaration, with_mention, with_label, kind_mentioned, Scope, scan_event, scanned, automatic_words}
-use Rattle.blang.specs.Walk.{Event, Declaration, Import, Mention, LabelHere, CaseHere, DefaultHere, BreakHere, Lvalue, LoopBegins, LoopEnds, SwitchBegins, SwitchEnds}
+use Rattle.blang.specs.Walk.{Event, AutoHere, ExtrnHere, Mention, LabelHere, CaseHere, DefaultHere, BreakHere, LvalueWanted, LoopBegins, LoopEnds, SwitchBegins, SwitchEnds}
 use Rattle.bword.specs.Words.{same_name}
 use Rattle.blang.specs.Scan as scope
 use Rattle.blang.specs.Code.{Environment, Referent, In_frame, Outside, At_label}
@@ -142,13 +142,13 @@ later_same : (s t s2 : Scope) → t.names ≡ s.names → t.frame ≡ s.frame �
 later_same s t s2 n f h = let same : t ≡ s2 = cc in subst (Later s) same (later_at s t n f)
 
 later_step : (e : Event) (s s2 : Scope) → scan_event e s ≡ Ok s2 → Later s s2
-later_step (Declaration w size) s s2 h = later_renamed s (record s { frame = s.frame + automatic_words size }) s2 refl (omega arith) (λ fs e. entered_extends e) (declares w size s s2 h)
-later_step (Import w) s s2 h = later_renamed s s s2 refl (le_refl s.frame) (λ fs e. entered_extends e) (imports w s s2 h)
+later_step (AutoHere w size) s s2 h = later_renamed s (record s { frame = s.frame + automatic_words size }) s2 refl (omega arith) (λ fs e. entered_extends e) (declares w size s s2 h)
+later_step (ExtrnHere w) s s2 h = later_renamed s s s2 refl (le_refl s.frame) (λ fs e. entered_extends e) (imports w s s2 h)
 later_step (Mention called w) s s2 h = later_renamed s s s2 refl (le_refl s.frame) (mentioned_extends called w s.names) (mentions called w s s2 h)
 later_step (LabelHere w) s s2 h = later_renamed s (record s { labels = s.labels + 1 }) s2 refl (le_refl s.frame) (labelled_extends w s.labels s.names) (labels_here w s s2 h)
 later_step (CaseHere line value) s s2 h = let d = selects line value s s2 h in later_at s s2 d.names d.frame
 later_step (DefaultHere line) s s2 h = let d = defaults line s s2 h in later_at s s2 d.names d.frame
-later_step (Lvalue line e) s s2 h = subst (Later s) (sym (lvalues line e s s2 h).is) (later_at s s refl refl)
+later_step (LvalueWanted line e) s s2 h = subst (Later s) (sym (lvalues line e s s2 h).is) (later_at s s refl refl)
 later_step (BreakHere line) s s2 h = subst (Later s) (sym (breaks line s s2 h).is) (later_at s s refl refl)
 later_step LoopBegins s s2 h = later_same s _ s2 refl refl h
 later_step LoopEnds s s2 h = later_same s _ s2 refl refl h

@@ -10,7 +10,7 @@ use Rattle.blang.specs.declared.code.Instr.{Instr}
 use Rattle.blang.specs.declared.code.Instr.TheVariants as instr
 use Rattle.blang.specs.Trees.{Expr, Arguments, Negate, Not, Indirection, Address, PreIncrement, PreDecrement, PostIncrement, PostDecrement, Named, Literal, Text, Grouped, Indexed, Called, Postfixed, Prefixed, Binary, Conditional, Assigned, No_arguments, Another, Declared, Heading, Auto, Extrn, Label, Case, Default, Stmt, Headed, Compound, If, IfElse, While, Switch, Goto, Break, Return, ReturnValue, Evaluate, Empty, Stmts, Nothing, More}
 use Rattle.blang.specs.Scan.{Entry, NameKind, Automatic, External, Unlabelled, Labelled, kind_of, undefined, undefined_at}
-use Rattle.blang.specs.Code.{Environment, Referent, In_frame, Outside, At_label, environment_of, referent_of, name_address_code, name_word_code, word_code, address_code, argument_code, argument_count, assignment, vector_code, Arms, default_in, tests_code, default_code, arms_code, heading_code, heading_targets, Piece, plain, joined, heading_piece, word_then, piece, body_piece}
+use Rattle.blang.specs.Code.{Environment, Referent, In_frame, Outside, At_label, environment_of, referent_of, name_address_code, name_word_code, word_code, address_code, argument_code, argument_count, assignment, vector_code, Arms, default_in, tests_code, default_code, arms_code, heading_code, heading_targets, Fragment, without_targets, in_turn, heading_fragment, word_then, fragment, body_fragment}
 use Rattle.bemit.specs.Drafts.{entry_of, kind_number, label_number, numbered}
 use Rattle.bonepass.proofs.Jumps.{ways_code}
 use Rattle.bonepass.proofs.Names.{standing_of, names_by, is, kind_here, kind_there, position_here, position_there}
@@ -189,88 +189,88 @@ module _ (es : List Entry) (names names2 : Environment) (renamed : (x : List ℕ
   word_length : (e : Expr) (p : ℕ) → length (word_code names e p) ≡ length (word_code names2 e p)
   word_length e p = same_length _ _ (word_numbered e p)
 
-  abbrev pub numbered_piece : Piece → Piece
-  numbered_piece a = record a { code = λ out. map (numbered es) (a.code out) }
+  abbrev pub numbered_fragment : Fragment → Fragment
+  numbered_fragment a = record a { code = λ out. map (numbered es) (a.code out) }
 
-  -- a piece, and what stands after it
-  followed_numbered : (a a2 : Piece) (b b2 : ℕ → Piece) → numbered_piece a ≡ a2 → ((q : ℕ) → numbered_piece (b q) ≡ b2 q) → numbered_piece (joined a (b a.end)) ≡ joined a2 (b2 a2.end)
+  -- a fragment, and what stands after it
+  followed_numbered : (a a2 : Fragment) (b b2 : ℕ → Fragment) → numbered_fragment a ≡ a2 → ((q : ℕ) → numbered_fragment (b q) ≡ b2 q) → numbered_fragment (in_turn a (b a.end)) ≡ in_turn a2 (b2 a2.end)
   followed_numbered a a2 b b2 h k =
-      (λ i. record (joined a (b a.end)) { code = λ out. map-append (numbered es) (a.code out) ((b a.end).code out) i })
-      ∙ ap (joined (numbered_piece a)) (k a.end)
-      ∙ ap (λ x. joined x (b2 x.end)) h
+      (λ i. record (in_turn a (b a.end)) { code = λ out. map-append (numbered es) (a.code out) ((b a.end).code out) i })
+      ∙ ap (in_turn (numbered_fragment a)) (k a.end)
+      ∙ ap (λ x. in_turn x (b2 x.end)) h
 
   -- an expression, and what stands an instruction after it
-  abbrev tested_piece : List Instr → Piece → Piece
-  tested_piece c a = record a { code = λ out. c ++ a.code out }
+  abbrev tested_fragment : List Instr → Fragment → Fragment
+  tested_fragment c a = record a { code = λ out. c ++ a.code out }
 
-  tested_numbered : (e : Expr) (p : ℕ) (b b2 : ℕ → Piece) → ((q : ℕ) → numbered_piece (b q) ≡ b2 q) → numbered_piece (tested_piece (word_code names e p) (b (p + length (word_code names e p) + 1))) ≡ tested_piece (word_code names2 e p) (b2 (p + length (word_code names2 e p) + 1))
+  tested_numbered : (e : Expr) (p : ℕ) (b b2 : ℕ → Fragment) → ((q : ℕ) → numbered_fragment (b q) ≡ b2 q) → numbered_fragment (tested_fragment (word_code names e p) (b (p + length (word_code names e p) + 1))) ≡ tested_fragment (word_code names2 e p) (b2 (p + length (word_code names2 e p) + 1))
   tested_numbered e p b b2 h =
       let c = word_code names e p in
       let q = p + length c + 1 in
       (λ i. record (b q) { code = λ out. map-append (numbered es) c ((b q).code out) i })
-      ∙ ap (tested_piece (map (numbered es) c)) (h q)
-      ∙ ap₂ (λ n l. tested_piece l (b2 (p + n + 1))) (word_length e p) (word_numbered e p)
+      ∙ ap (tested_fragment (map (numbered es) c)) (h q)
+      ∙ ap₂ (λ n l. tested_fragment l (b2 (p + n + 1))) (word_length e p) (word_numbered e p)
 
-  word_then_numbered : (e : Expr) (i : Instr) (p : ℕ) → numbered es i ≡ i → numbered_piece (word_then names e i p) ≡ word_then names2 e i p
+  word_then_numbered : (e : Expr) (i : Instr) (p : ℕ) → numbered es i ≡ i → numbered_fragment (word_then names e i p) ≡ word_then names2 e i p
   word_then_numbered e i p h =
-      λ k. plain (λ out. (tail_numbered (word_code names e p) (word_code names2 e p) (i ∷ []) (word_numbered e p) ∙ ap (λ j. word_code names2 e p ++ j ∷ []) h) k) (p + word_length e p k + 1)
+      λ k. without_targets (λ out. (tail_numbered (word_code names e p) (word_code names2 e p) (i ∷ []) (word_numbered e p) ∙ ap (λ j. word_code names2 e p ++ j ∷ []) h) k) (p + word_length e p k + 1)
 
-  abbrev skip_piece : Piece → Piece
-  skip_piece a = record a { code = λ out. instr.JumpIfZero a.end ∷ a.code out }
+  abbrev skip_fragment : Fragment → Fragment
+  skip_fragment a = record a { code = λ out. instr.JumpIfZero a.end ∷ a.code out }
 
-  abbrev ways_piece : Piece → Piece → Piece
-  ways_piece a b = record (joined a b) { code = λ out. instr.JumpIfZero (a.end + 1) ∷ (a.code out ++ (instr.Jump b.end ∷ b.code out)) }
+  abbrev ways_fragment : Fragment → Fragment → Fragment
+  ways_fragment a b = record (in_turn a b) { code = λ out. instr.JumpIfZero (a.end + 1) ∷ (a.code out ++ (instr.Jump b.end ∷ b.code out)) }
 
-  both_numbered : (a a2 : Piece) (b b2 : ℕ → Piece) → numbered_piece a ≡ a2 → ((q : ℕ) → numbered_piece (b q) ≡ b2 q) → numbered_piece (ways_piece a (b (a.end + 1))) ≡ ways_piece a2 (b2 (a2.end + 1))
+  both_numbered : (a a2 : Fragment) (b b2 : ℕ → Fragment) → numbered_fragment a ≡ a2 → ((q : ℕ) → numbered_fragment (b q) ≡ b2 q) → numbered_fragment (ways_fragment a (b (a.end + 1))) ≡ ways_fragment a2 (b2 (a2.end + 1))
   both_numbered a a2 b b2 h k =
       let after = b (a.end + 1) in
-      (λ i. record (joined a after) { code = λ out. instr.JumpIfZero (a.end + 1) ∷ map-append (numbered es) (a.code out) (instr.Jump after.end ∷ after.code out) i })
-      ∙ ap (ways_piece (numbered_piece a)) (k (a.end + 1))
-      ∙ ap (λ x. ways_piece x (b2 (x.end + 1))) h
+      (λ i. record (in_turn a after) { code = λ out. instr.JumpIfZero (a.end + 1) ∷ map-append (numbered es) (a.code out) (instr.Jump after.end ∷ after.code out) i })
+      ∙ ap (ways_fragment (numbered_fragment a)) (k (a.end + 1))
+      ∙ ap (λ x. ways_fragment x (b2 (x.end + 1))) h
 
-  abbrev loop_piece : ℕ → Piece → Piece
-  loop_piece p a = record a { code = λ out. instr.JumpIfZero (a.end + 1) ∷ (a.code (a.end + 1) ++ (instr.Jump p ∷ [])); end = a.end + 1 }
+  abbrev loop_fragment : ℕ → Fragment → Fragment
+  loop_fragment p a = record a { code = λ out. instr.JumpIfZero (a.end + 1) ∷ (a.code (a.end + 1) ++ (instr.Jump p ∷ [])); end = a.end + 1 }
 
-  loop_numbered : (p : ℕ) (a a2 : Piece) → numbered_piece a ≡ a2 → numbered_piece (loop_piece p a) ≡ loop_piece p a2
+  loop_numbered : (p : ℕ) (a a2 : Fragment) → numbered_fragment a ≡ a2 → numbered_fragment (loop_fragment p a) ≡ loop_fragment p a2
   loop_numbered p a a2 h =
       (λ i. record a { code = λ out. instr.JumpIfZero (a.end + 1) ∷ map-append (numbered es) (a.code (a.end + 1)) (instr.Jump p ∷ []) i; end = a.end + 1 })
-      ∙ ap (loop_piece p) h
+      ∙ ap (loop_fragment p) h
 
-  abbrev switch_piece : Piece → Piece
-  switch_piece a =
+  abbrev switch_fragment : Fragment → Fragment
+  switch_fragment a =
       let tests = arms_code a.targets.arms in
       let end = a.end + 1 + length tests in
       record { code = λ out. instr.Jump (a.end + 1) ∷ (a.code end ++ (instr.Jump end ∷ tests)); end = end; targets = record a.targets { arms = [] } }
 
-  choice_numbered : (a a2 : Piece) → numbered_piece a ≡ a2 → numbered_piece (switch_piece a) ≡ switch_piece a2
+  choice_numbered : (a a2 : Fragment) → numbered_fragment a ≡ a2 → numbered_fragment (switch_fragment a) ≡ switch_fragment a2
   choice_numbered a a2 h =
       let tests = arms_code a.targets.arms in
       let end = a.end + 1 + length tests in
-      (λ i. record (switch_piece a) { code = λ out. instr.Jump (a.end + 1) ∷ (map-append (numbered es) (a.code end) (instr.Jump end ∷ tests) ∙ ap (λ l. map (numbered es) (a.code end) ++ (instr.Jump end ∷ l)) (arms_numbered a.targets.arms)) i })
-      ∙ ap switch_piece h
+      (λ i. record (switch_fragment a) { code = λ out. instr.Jump (a.end + 1) ∷ (map-append (numbered es) (a.code end) (instr.Jump end ∷ tests) ∙ ap (λ l. map (numbered es) (a.code end) ++ (instr.Jump end ∷ l)) (arms_numbered a.targets.arms)) i })
+      ∙ ap switch_fragment h
 
   mutual
-    pub piece_numbered : (s : Stmt) (p : ℕ) → numbered_piece (piece names s p) ≡ piece names2 s p
-    piece_numbered (Headed h s) p =
-        followed_numbered (heading_piece names h p) (heading_piece names2 h p) (piece names s) (piece names2 s)
-        (λ i. record { code = λ out. heading_numbered h i; end = p + heading_length h i; targets = heading_targets h p }) (λ q. piece_numbered s q)
-    piece_numbered (Compound body) p = body_numbered body p
-    piece_numbered (If e s) p = tested_numbered e p (λ q. skip_piece (piece names s q)) (λ q. skip_piece (piece names2 s q)) (λ q. ap skip_piece (piece_numbered s q))
-    piece_numbered (IfElse e s other) p =
-        tested_numbered e p (λ q. ways_piece (piece names s q) (piece names other ((piece names s q).end + 1))) (λ q. ways_piece (piece names2 s q) (piece names2 other ((piece names2 s q).end + 1)))
-        (λ q. both_numbered (piece names s q) (piece names2 s q) (piece names other) (piece names2 other) (piece_numbered s q) (λ r. piece_numbered other r))
-    piece_numbered (While e s) p =
-        tested_numbered e p (λ q. loop_piece p (piece names s q)) (λ q. loop_piece p (piece names2 s q)) (λ q. loop_numbered p (piece names s q) (piece names2 s q) (piece_numbered s q))
-    piece_numbered (Switch e body) p =
-        tested_numbered e p (λ q. switch_piece (body_piece names body q)) (λ q. switch_piece (body_piece names2 body q)) (λ q. choice_numbered (body_piece names body q) (body_piece names2 body q) (body_numbered body q))
-    piece_numbered (Goto e) p = word_then_numbered e instr.Goto p refl
-    piece_numbered (Break line) p = refl
-    piece_numbered Return p = refl
-    piece_numbered (ReturnValue e) p = word_then_numbered e instr.Return p refl
-    piece_numbered (Evaluate e) p = word_then_numbered e instr.Pop p refl
-    piece_numbered Empty p = refl
+    pub fragment_numbered : (s : Stmt) (p : ℕ) → numbered_fragment (fragment names s p) ≡ fragment names2 s p
+    fragment_numbered (Headed h s) p =
+        followed_numbered (heading_fragment names h p) (heading_fragment names2 h p) (fragment names s) (fragment names2 s)
+        (λ i. record { code = λ out. heading_numbered h i; end = p + heading_length h i; targets = heading_targets h p }) (λ q. fragment_numbered s q)
+    fragment_numbered (Compound body) p = body_numbered body p
+    fragment_numbered (If e s) p = tested_numbered e p (λ q. skip_fragment (fragment names s q)) (λ q. skip_fragment (fragment names2 s q)) (λ q. ap skip_fragment (fragment_numbered s q))
+    fragment_numbered (IfElse e s other) p =
+        tested_numbered e p (λ q. ways_fragment (fragment names s q) (fragment names other ((fragment names s q).end + 1))) (λ q. ways_fragment (fragment names2 s q) (fragment names2 other ((fragment names2 s q).end + 1)))
+        (λ q. both_numbered (fragment names s q) (fragment names2 s q) (fragment names other) (fragment names2 other) (fragment_numbered s q) (λ r. fragment_numbered other r))
+    fragment_numbered (While e s) p =
+        tested_numbered e p (λ q. loop_fragment p (fragment names s q)) (λ q. loop_fragment p (fragment names2 s q)) (λ q. loop_numbered p (fragment names s q) (fragment names2 s q) (fragment_numbered s q))
+    fragment_numbered (Switch e body) p =
+        tested_numbered e p (λ q. switch_fragment (body_fragment names body q)) (λ q. switch_fragment (body_fragment names2 body q)) (λ q. choice_numbered (body_fragment names body q) (body_fragment names2 body q) (body_numbered body q))
+    fragment_numbered (Goto e) p = word_then_numbered e instr.Goto p refl
+    fragment_numbered (Break line) p = refl
+    fragment_numbered Return p = refl
+    fragment_numbered (ReturnValue e) p = word_then_numbered e instr.Return p refl
+    fragment_numbered (Evaluate e) p = word_then_numbered e instr.Pop p refl
+    fragment_numbered Empty p = refl
 
-    body_numbered : (ss : Stmts) (p : ℕ) → numbered_piece (body_piece names ss p) ≡ body_piece names2 ss p
+    body_numbered : (ss : Stmts) (p : ℕ) → numbered_fragment (body_fragment names ss p) ≡ body_fragment names2 ss p
     body_numbered Nothing p = refl
     body_numbered (More before s) p =
-        followed_numbered (body_piece names before p) (body_piece names2 before p) (piece names s) (piece names2 s) (body_numbered before p) (λ q. piece_numbered s q)
+        followed_numbered (body_fragment names before p) (body_fragment names2 before p) (fragment names s) (fragment names2 s) (body_numbered before p) (λ q. fragment_numbered s q)

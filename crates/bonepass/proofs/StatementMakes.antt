@@ -7,7 +7,7 @@ use Rattle.blang.specs.WellFormed.{rvalue_rank}
 use Rattle.btree.specs.Fitting.{words, Deeper, Fits, statement_words, body_words, Sits, AllSit, strings, statement_strings, body_strings}
 use Rattle.blang.specs.Walk.{Event, LoopBegins, LoopEnds, SwitchBegins, SwitchEnds, walk_heading, walk_statement, walk_body}
 use Rattle.btree.specs.Events.{events, statement_events, body_events}
-use Rattle.blang.specs.Code.{Environment, word_code, arms_code, piece, body_piece}
+use Rattle.blang.specs.Code.{Environment, word_code, arms_code, fragment, body_fragment}
 use Rattle.btree.proofs.CodeLaws.{statement_ends, body_ends}
 use Rattle.btree.proofs.WalkLaws.{length-strings, plain_strings, heading_plain}
 use Rattle.bemit.specs.Drafts.{Draft}
@@ -48,16 +48,16 @@ module _ (names : Environment) where
   if_same e s p =
       let ce = word_code names e p in
       let q = p + length ce + 1 in
-      record { code = ap (λ n. ce ++ (instr.JumpIfZero n ∷ (piece names s q).code 0)) (statement_ends names s q 0); strings = ap (λ l. l ++ statement_strings s) (sym (append-nil (strings e))); targets = refl; arms = refl; breaks = refl }
+      record { code = ap (λ n. ce ++ (instr.JumpIfZero n ∷ (fragment names s q).code 0)) (statement_ends names s q 0); strings = ap (λ l. l ++ statement_strings s) (sym (append-nil (strings e))); targets = refl; arms = refl; breaks = refl }
 
   ways_same : (e : Expr) (s other : Stmt) (p : ℕ) → Same p (joined (only (word_code names e) (strings e)) (ways_parts (statement_parts names s) (statement_parts names other))) (statement_parts names (IfElse e s other))
   ways_same e s other p = record {
     code =
-        ap (λ n. ce ++ (instr.JumpIfZero n ∷ (cs ++ (instr.Jump (n + length ((piece names other n).code 0)) ∷ (piece names other n).code 0)))) following
-        ∙ ap (λ n. ce ++ (instr.JumpIfZero a ∷ (cs ++ (instr.Jump n ∷ (piece names other a).code 0)))) (statement_ends names other a 0);
+        ap (λ n. ce ++ (instr.JumpIfZero n ∷ (cs ++ (instr.Jump (n + length ((fragment names other n).code 0)) ∷ (fragment names other n).code 0)))) following
+        ∙ ap (λ n. ce ++ (instr.JumpIfZero a ∷ (cs ++ (instr.Jump n ∷ (fragment names other a).code 0)))) (statement_ends names other a 0);
     strings = ap (λ l. l ++ (statement_strings s ++ statement_strings other)) (sym (append-nil (strings e)));
-    targets = ap (λ n. (piece names s q).targets.labels ++ (piece names other n).targets.labels) following;
-    arms = ap (λ n. (piece names s q).targets.arms ++ (piece names other n).targets.arms) following;
+    targets = ap (λ n. (fragment names s q).targets.labels ++ (fragment names other n).targets.labels) following;
+    arms = ap (λ n. (fragment names s q).targets.arms ++ (fragment names other n).targets.arms) following;
     breaks = ap (λ n. statement_breaks names s q ++ statement_breaks names other n) following;
   }
     where
@@ -68,16 +68,16 @@ module _ (names : Environment) where
       q = p + length ce + 1
 
       cs : List Instr
-      cs = (piece names s q).code 0
+      cs = (fragment names s q).code 0
 
       a : ℕ
-      a = (piece names s q).end + 1
+      a = (fragment names s q).end + 1
 
       following : q + length cs + 1 ≡ a
       following = ap (λ n. n + 1) (statement_ends names s q 0)
 
   abbrev body_code : Stmts → (p out : ℕ) → List Instr
-  body_code ss p out = (body_piece names ss p).code out
+  body_code ss p out = (body_fragment names ss p).code out
 
   closes : (ss : Stmts) → Closes (body_parts names ss) (body_code ss)
   closes ss = record { fills = λ p out. body_closes names ss p out; same_length = λ p out. omega (arith, body_ends names ss p out, body_ends names ss p 0) }
@@ -86,9 +86,9 @@ module _ (names : Environment) where
   switch_same e ss p =
       let ce = word_code names e p in
       let q = p + length ce + 1 in
-      let arms = arms_code ((body_piece names ss q).targets.arms) in
+      let arms = arms_code ((body_fragment names ss q).targets.arms) in
       record {
-        code = ap (λ n. ce ++ (instr.Jump (n + 1) ∷ ((body_piece names ss q).code (n + 1 + length arms) ++ (instr.Jump (n + 1 + length arms) ∷ arms)))) (body_ends names ss q 0);
+        code = ap (λ n. ce ++ (instr.Jump (n + 1) ∷ ((body_fragment names ss q).code (n + 1 + length arms) ++ (instr.Jump (n + 1 + length arms) ∷ arms)))) (body_ends names ss q 0);
         strings = ap (λ l. strings e ++ l) (sym (append-nil (body_strings ss)));
         targets = refl;
         arms = refl;
@@ -99,10 +99,10 @@ module _ (names : Environment) where
   more_same before s p =
       let following = body_ends names before p 0 in
       record {
-        code = ap (λ n. (body_piece names before p).code 0 ++ (piece names s n).code 0) following;
+        code = ap (λ n. (body_fragment names before p).code 0 ++ (fragment names s n).code 0) following;
         strings = refl;
-        targets = ap (λ n. (body_piece names before p).targets.labels ++ (piece names s n).targets.labels) following;
-        arms = ap (λ n. (body_piece names before p).targets.arms ++ (piece names s n).targets.arms) following;
+        targets = ap (λ n. (body_fragment names before p).targets.labels ++ (fragment names s n).targets.labels) following;
+        arms = ap (λ n. (body_fragment names before p).targets.arms ++ (fragment names s n).targets.arms) following;
         breaks = ap (λ n. body_breaks names before p ++ statement_breaks names s n) following;
       }
 

@@ -8,15 +8,15 @@ use Rattle.blang.specs.declared.token.Letters.TheVariants as letters
 use Rattle.blang.specs.declared.code.Definition as coded
 use Rattle.blang.specs.Trees.{Identifier, Stmt, Definition, Simple, Vector, Function}
 use Rattle.blang.specs.Scan.{Entry, NameKind, Automatic, kind_of, with_declaration, with_entry, fault, name_fault, most_names, Scope, no_scope, scanned, scan_event, with_names, automatic_words, function_events, function_scope, scope_fault, inner_fault, scan, identifier_of}
-use Rattle.blang.specs.Walk.{Event, Declaration}
+use Rattle.blang.specs.Walk.{Event, AutoHere}
 use Rattle.btree.specs.Events.{statement_events}
 use Rattle.bword.specs.Words.{same_name}
-use Rattle.blang.specs.Code.{ival_code, strings_of, code_of, fits_limits, fault_of, or_too_large, vector_words}
+use Rattle.blang.specs.Code.{ival_code, string_words_of, code_of, fits_limits, fault_of, or_too_large, vector_words}
 use Rattle.bparse.specs.Sizes.{IsSmall}
 use Rattle.btree.proofs.WalkLaws.{function_events_are}
 
 abbrev parameter : Identifier → Event
-parameter w = Declaration w None
+parameter w = AutoHere w None
 
 scanned-Err : (es : List Event) (d : Diagnostic) → scanned es (Err d) ≡ Err d
 scanned-Err [] d = refl
@@ -84,7 +84,7 @@ pub clean_small : (defined : List (List ℕ)) (d : Definition) → fault_of defi
 clean_small defined (Simple w values) e = tt
 clean_small defined (Vector w size values) e =
     let f = no_fault (scan defined (Vector w size values)) w.line (code_of (Vector w size values)) e in
-    fewer (vector_words size values) (third_true (nat_le (length (map ival_code values)) 1024) (nat_le (length (strings_of (Vector w size values))) 1024) (nat_le (vector_words size values) 32767) f.1)
+    fewer (vector_words size values) (third_true (nat_le (length (map ival_code values)) 1024) (nat_le (length (string_words_of (Vector w size values))) 1024) (nat_le (vector_words size values) 32767) f.1)
 clean_small defined (Function w ps body) e =
     let f = no_fault (scan defined (Function w ps body)) w.line (code_of (Function w ps body)) e in
     let inner = no_inner (list_any (same_name w.text) defined) (name_fault letters.Redeclared w) (inner_fault (Function w ps body)) f.0 in

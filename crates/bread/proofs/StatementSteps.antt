@@ -48,7 +48,7 @@ closed_map {A} {B} is made (Got a r) = go (is (first r)) refl
     go false e = rw e refl
 closed_map is made (Stop r) = refl
 
--- a rvalue and a semicolon
+-- an rvalue and a semicolon
 module _ (room : ℕ) where
   abbrev semicolon : Expr → Reader Expr
   semicolon e r = expect is_semicolon r >>= λ o. Got e

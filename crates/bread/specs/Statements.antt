@@ -19,11 +19,11 @@ use Rattle.bread.specs.Compiling.{PartTaken}
 abbrev pub after_current : {I A : Type 0} → (I → Reader A) → I → Reader A
 after_current reader i ts = reader i (after ts)
 
--- a rvalue, and a semicolon
+-- an rvalue, and a semicolon
 abbrev pub rvalue_ended : ℕ → ℕ → Reader Expr
 rvalue_ended room off ts = reader room Rvalue off ts >>= λ e r. expect is_semicolon r >>= λ o. Got e
 
--- an instruction after a rvalue
+-- an instruction after an rvalue
 abbrev pub evaluated_to : Instr → Expr → Draft → Draft
 evaluated_to last e d = emitted last (evaluated e d)
 

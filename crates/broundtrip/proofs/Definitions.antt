@@ -17,15 +17,15 @@ use Rattle.blang.specs.WellFormed.{nesting_limit, IsFormed}
 use Rattle.btree.specs.Fitting.{Sits, statement_words}
 use Rattle.blang.specs.Scan.{NameKind, Automatic, External, Unlabelled, Labelled, kind_of, Scope, no_scope, scan, function_events, function_scope, scope_fault}
 use Rattle.btree.specs.Spelling.{size_spelling, spell_statement, list_spelling}
-use Rattle.blang.specs.Walk.{spell_definition, Event, Declaration, Import, Mention, LabelHere, CaseHere, DefaultHere, BreakHere, Lvalue, LoopBegins, LoopEnds, SwitchBegins, SwitchEnds, walk_list, events_in, walk_statement, walk_parameter, walk_value}
+use Rattle.blang.specs.Walk.{spell_definition, Event, AutoHere, ExtrnHere, Mention, LabelHere, CaseHere, DefaultHere, BreakHere, LvalueWanted, LoopBegins, LoopEnds, SwitchBegins, SwitchEnds, walk_list, events_in, walk_statement, walk_parameter, walk_value}
 use Rattle.bword.specs.Words.{same_name}
-use Rattle.blang.specs.Code.{Referent, In_frame, Outside, At_label, referent_of, environment_of, ival_code, vector_words, strings_of, clean, code_of, fits_limits, or_too_large, fault_of, piece}
+use Rattle.blang.specs.Code.{Referent, In_frame, Outside, At_label, referent_of, environment_of, ival_code, vector_words, string_words_of, clean, code_of, fits_limits, or_too_large, fault_of, fragment}
 use Rattle.btree.proofs.CodeLaws.{counts_words, statement_ends}
 use Rattle.btree.proofs.Fitting.{simple_strings, vector_strings, function_strings, formed_in, statement_both}
 use Rattle.broundtrip.proofs.Holds.{Holds, Holds-nil, Holds-cons, Holds-first, Holds-rest, Holds-append, Holds-front, Holds-back, Holds-weaker, Holds-All}
 use Rattle.broundtrip.proofs.Tokens.{AreSound}
 use Rattle.broundtrip.proofs.ExpressionCode.{IsMeaningWithin}
-use Rattle.broundtrip.proofs.StatementCode.{piece_within}
+use Rattle.broundtrip.proofs.StatementCode.{fragment_within}
 use Rattle.broundtrip.proofs.Walks.{IsVectorWithin, IsEventWithin, walk_within}
 use Rattle.broundtrip.proofs.Scopes.{IsKindWithin, IsTable, few_labels, kind_within}
 use Rattle.broundtrip.proofs.Scans.{IsSettled, scan_advances}
@@ -59,13 +59,13 @@ vector_within sizes c (Unlabelled line) f = tt
 vector_within sizes c (Labelled number) f = tt
 
 event_within : (sizes : Sizes) (t : Scope) → t.frame ≡ sizes.frame → (e : Event) → IsSettled t e → IsEventWithin sizes (environment_of t.names) e
-event_within sizes t f (Declaration w (Some c)) h = rw h.is (vector_within sizes c h.kind (λ k q. let r = h.room k q in omega arith))
-event_within sizes t f (Declaration w None) h = no_vector sizes (environment_of t.names w.text)
-event_within sizes t f (Import w) h = tt
+event_within sizes t f (AutoHere w (Some c)) h = rw h.is (vector_within sizes c h.kind (λ k q. let r = h.room k q in omega arith))
+event_within sizes t f (AutoHere w None) h = no_vector sizes (environment_of t.names w.text)
+event_within sizes t f (ExtrnHere w) h = tt
 event_within sizes t f (Mention called w) h = tt
 event_within sizes t f (LabelHere w) h = tt
 event_within sizes t f (CaseHere line value) h = tt
-event_within sizes t f (Lvalue line e) h = tt
+event_within sizes t f (LvalueWanted line e) h = tt
 event_within sizes t f (DefaultHere line) h = tt
 event_within sizes t f (BreakHere line) h = tt
 event_within sizes t f LoopBegins h = tt
@@ -82,9 +82,9 @@ function_code w parameters body scope =
       name = w.text;
       parameters = length parameters;
       frame = scope.frame;
-      targets = (piece names body 0).targets.labels;
-      strings = strings_of (function w parameters body);
-      code = (piece names body 0).code ((piece names body 0).end) ++ (instr.Constant 0 ∷ instr.Return ∷ []);
+      targets = (fragment names body 0).targets.labels;
+      strings = string_words_of (function w parameters body);
+      code = (fragment names body 0).code ((fragment names body 0).end) ++ (instr.Constant 0 ∷ instr.Return ∷ []);
     }
 
 no_names : IsTable [] 0 0
@@ -105,14 +105,14 @@ function_within w parameters body s clean fit named sound sits =
     let limits = three_fit (length f.code) (length f.strings) f.frame 4096 1024 32767 fit in
     let declared = parameters_declared parameters body in
     let labels : s.labels ≡ length f.targets = omega (arith, function_labels names parameters body) in
-    let end = (piece names body 0).end in
+    let end = (fragment names body 0).end in
     let words_of_strings : length f.strings ≡ statement_words body = ap length (function_strings w parameters body) ∙ counts_words body in
-    let short : end < length f.code = omega (arith, statement_ends names body 0 end, length-append ((piece names body 0).code end) (instr.Constant 0 ∷ instr.Return ∷ [])) in
+    let short : end < length f.code = omega (arith, statement_ends names body 0 end, length-append ((fragment names body 0).code end) (instr.Constant 0 ∷ instr.Return ∷ [])) in
     let meant : (x : List ℕ) → IsMeaningWithin sizes (names x) =
     λ x. meaning_within sizes (kind_of x s.names) (λ k q. subst (λ n. IsKindWithin s.frame n k) labels (kind_within s.frame s.labels x s.names table.within k q)) in
     let vectors = Holds-weaker (event_within sizes s refl) (Holds-back (events_in (walk_list walk_parameter parameters)) (events_in (walk_statement body)) a.settles) in
     let inside = walk_within sizes names (walk_statement body) nesting_limit 0 sound (statement_both body nesting_limit 0 sits).1 (omega (arith, words_of_strings)) vectors in
-    let whole = piece_within names sizes meant limits.0 body 0 inside short in
+    let whole = fragment_within names sizes meant limits.0 body 0 inside short in
     record {
       named = named;
       few_parameters = omega arith;

@@ -5,7 +5,7 @@ use Rattle.std.proofs.lemmas.List.Sums.{sum_by-cons}
 use Rattle.blang.specs.declared.token.Diagnostic.{Diagnostic}
 use Rattle.blang.specs.Trees.{Identifier}
 use Rattle.blang.specs.Scan.{NameKind, Automatic, Labelled, Entry, kind_of, kind_mentioned, Scope, automatic_words, scan_event, scanned}
-use Rattle.blang.specs.Walk.{Event, Declaration, Import, Mention, LabelHere, CaseHere, DefaultHere, BreakHere, Lvalue, LoopBegins, LoopEnds, SwitchBegins, SwitchEnds}
+use Rattle.blang.specs.Walk.{Event, AutoHere, ExtrnHere, Mention, LabelHere, CaseHere, DefaultHere, BreakHere, LvalueWanted, LoopBegins, LoopEnds, SwitchBegins, SwitchEnds}
 use Rattle.bword.specs.Words.{same_name}
 use Rattle.btree.proofs.ScopeLaws.{changed, kind_of-with_kind, length-with_kind}
 use Rattle.btree.proofs.ScanSteps.{Entered, Relabelled, length-entered, kind_of-entered, kind_of-kept, declares, imports, mentions, labels_here, selects, defaults, lvalues, breaks, by_steps}
@@ -17,7 +17,7 @@ label_in (LabelHere w) = 1
 label_in _ = 0
 
 abbrev pub declaration_in : Event → ℕ
-declaration_in (Declaration w size) = 1
+declaration_in (AutoHere w size) = 1
 declaration_in _ = 0
 
 -- a name that the table has; if it is automatic, the word after its own is in the frame too
@@ -28,7 +28,7 @@ pub record Settled (x : List ℕ) (es : List Entry) (frame : ℕ) : Type 0 where
 
 -- the vector of a declaration is in the frame
 abbrev pub IsSettled : Scope → Event → Type 0
-IsSettled t (Declaration w (Some c)) = Settled w.text t.names t.frame
+IsSettled t (AutoHere w (Some c)) = Settled w.text t.names t.frame
 IsSettled t _ = Unit {0}
 
 -- from one scope to another by these events
@@ -87,7 +87,7 @@ entered_scope e s t n f l a h c = record {
 }
 
 declared_settled : (w : Identifier) (size : Option ℕ) (s : Scope) (new : List Entry) → Entered w.text (Automatic s.frame) s.names new
-    → IsSettled (record s { names = new; frame = s.frame + automatic_words size }) (Declaration w size)
+    → IsSettled (record s { names = new; frame = s.frame + automatic_words size }) (AutoHere w size)
 declared_settled w None s new e = tt
 declared_settled w (Some c) s new e = record {
   kind = Automatic s.frame;
@@ -99,20 +99,20 @@ some_words : (size : Option ℕ) → 1 ≤ automatic_words size
 some_words None = omega arith
 some_words (Some c) = omega arith
 
-declaration_advances : (w : Identifier) (size : Option ℕ) (s t : Scope) → scan_event (Declaration w size) s ≡ Ok t → Advances (Declaration w size ∷ []) s t
+declaration_advances : (w : Identifier) (size : Option ℕ) (s t : Scope) → scan_event (AutoHere w size) s ≡ Ok t → Advances (AutoHere w size ∷ []) s t
 declaration_advances w size s t h =
     let n = declares w size s t h in
     let some = some_words size in
-    subst (λ t. Advances (Declaration w size ∷ []) s t) (sym n.is)
-    (entered_scope (Declaration w size) s (record s { frame = s.frame + automatic_words size; names = n.names }) n.come (omega arith) (omega arith) (omega arith)
+    subst (λ t. Advances (AutoHere w size ∷ []) s t) (sym n.is)
+    (entered_scope (AutoHere w size) s (record s { frame = s.frame + automatic_words size; names = n.names }) n.come (omega arith) (omega arith) (omega arith)
     (λ k. IsTable-entered s.frame (s.frame + automatic_words size) s.labels s.labels k n.come (omega arith) (omega arith) (omega arith) (omega arith))
     (declared_settled w size s n.names n.come))
 
-import_advances : (w : Identifier) (s t : Scope) → scan_event (Import w) s ≡ Ok t → Advances (Import w ∷ []) s t
+import_advances : (w : Identifier) (s t : Scope) → scan_event (ExtrnHere w) s ≡ Ok t → Advances (ExtrnHere w ∷ []) s t
 import_advances w s t h =
     let n = imports w s t h in
-    subst (λ t. Advances (Import w ∷ []) s t) (sym n.is)
-    (entered_scope (Import w) s (record s { names = n.names }) n.come (omega arith) (omega arith) (omega arith)
+    subst (λ t. Advances (ExtrnHere w ∷ []) s t) (sym n.is)
+    (entered_scope (ExtrnHere w) s (record s { names = n.names }) n.come (omega arith) (omega arith) (omega arith)
     (λ k. IsTable-entered s.frame s.frame s.labels s.labels k n.come (omega arith) (omega arith) tt (omega arith))
     tt)
 
@@ -151,13 +151,13 @@ scope_is : (e : Event) (s t u : Scope) → (let r : Result Scope Diagnostic = Ok
 scope_is e s t u h a = let q : u ≡ t = cc in rw (← q) a
 
 advances : (e : Event) (s t : Scope) → scan_event e s ≡ Ok t → Advances (e ∷ []) s t
-advances (Declaration w size) s t h = declaration_advances w size s t h
-advances (Import w) s t h = import_advances w s t h
+advances (AutoHere w size) s t h = declaration_advances w size s t h
+advances (ExtrnHere w) s t h = import_advances w s t h
 advances (Mention called w) s t h = mention_advances called w s t h
 advances (LabelHere w) s t h = label_advances w s t h
 advances (CaseHere line value) s t h = let k = selects line value s t h in same_scope _ s t k.names k.frame k.labels refl refl tt
 advances (DefaultHere line) s t h = let k = defaults line s t h in same_scope _ s t k.names k.frame k.labels refl refl tt
-advances (Lvalue line e) s t h = subst (Advances (Lvalue line e ∷ []) s) (sym (lvalues line e s t h).is) (same_scope _ s s refl refl refl refl refl tt)
+advances (LvalueWanted line e) s t h = subst (Advances (LvalueWanted line e ∷ []) s) (sym (lvalues line e s t h).is) (same_scope _ s s refl refl refl refl refl tt)
 advances (BreakHere line) s t h = subst (Advances (BreakHere line ∷ []) s) (sym (breaks line s t h).is) (same_scope _ s s refl refl refl refl refl tt)
 advances LoopBegins s t h = scope_is LoopBegins s t _ h (same_scope _ s _ refl refl refl refl refl tt)
 advances LoopEnds s t h = scope_is LoopEnds s t _ h (same_scope _ s _ refl refl refl refl refl tt)
@@ -165,13 +165,13 @@ advances SwitchBegins s t h = scope_is SwitchBegins s t _ h (same_scope _ s _ re
 advances SwitchEnds s t h = scope_is SwitchEnds s t _ h (same_scope _ s _ refl refl refl refl refl tt)
 
 settled_on : (e : Event) (t u : Scope) → ((x : List ℕ) → Settled x t.names t.frame → Settled x u.names u.frame) → IsSettled t e → IsSettled u e
-settled_on (Declaration w (Some c)) t u k h = k w.text h
-settled_on (Declaration w None) t u k h = tt
-settled_on (Import w) t u k h = tt
+settled_on (AutoHere w (Some c)) t u k h = k w.text h
+settled_on (AutoHere w None) t u k h = tt
+settled_on (ExtrnHere w) t u k h = tt
 settled_on (Mention called w) t u k h = tt
 settled_on (LabelHere w) t u k h = tt
 settled_on (CaseHere line value) t u k h = tt
-settled_on (Lvalue line e) t u k h = tt
+settled_on (LvalueWanted line e) t u k h = tt
 settled_on (DefaultHere line) t u k h = tt
 settled_on (BreakHere line) t u k h = tt
 settled_on LoopBegins t u k h = tt

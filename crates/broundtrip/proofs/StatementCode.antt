@@ -7,7 +7,7 @@ use Rattle.blang.specs.declared.code.Sizes.{Sizes}
 use Rattle.blang.specs.declared.code.Instr.{Instr}
 use Rattle.blang.specs.Trees.{Expr, Declared, Heading, Auto, Extrn, Label, Case, Default, Stmt, Headed, Compound, If, IfElse, While, Switch, Goto, Break, Return, ReturnValue, Evaluate, Empty, Stmts, Nothing, More}
 use Rattle.blang.specs.Walk.{Walk, walk, walk_commas, walk_list, walk_declared, walk_heading, walk_statement, walk_body}
-use Rattle.blang.specs.Code.{Referent, In_frame, Outside, At_label, Environment, word_code, vector_code, Arms, default_in, heading_code, tests_code, default_code, arms_code, Piece, plain, joined, heading_piece, piece, body_piece}
+use Rattle.blang.specs.Code.{Referent, In_frame, Outside, At_label, Environment, word_code, vector_code, Arms, default_in, heading_code, tests_code, default_code, arms_code, Fragment, without_targets, in_turn, heading_fragment, fragment, body_fragment}
 use Rattle.btree.proofs.CodeLaws.{statement_ends, body_ends}
 use Rattle.broundtrip.proofs.Holds.{Holds, Holds-nil, Holds-cons, Holds-first, Holds-rest, Holds-append}
 use Rattle.broundtrip.proofs.ExpressionCode.{IsMeaningWithin, word-value_of, word_code_within}
@@ -24,16 +24,16 @@ IsConstant (Some v) = IsWord v
 abbrev pub IsArmWithin : Sizes → Option ℕ × ℕ → Type 0
 IsArmWithin sizes arm = IsConstant arm.0 × (arm.1 < sizes.code)
 
--- a piece with its labels and arms, where its breaks lead into the function
-pub record IsPieceWithin (sizes : Sizes) (a : Piece) : Type 0 where
+-- a fragment with its labels and arms, where its breaks lead into the function
+pub record IsPieceWithin (sizes : Sizes) (a : Fragment) : Type 0 where
   pub code : (out : ℕ) → out < sizes.code → Holds (IsInstrWithin sizes) (a.code out)
   pub labels : Holds (IsPlaceWithin sizes) a.targets.labels
   pub arms : Holds (IsArmWithin sizes) a.targets.arms
 
-plain_within : {sizes : Sizes} {code : ℕ → List Instr} {end : ℕ} → ((out : ℕ) → out < sizes.code → Holds (IsInstrWithin sizes) (code out)) → IsPieceWithin sizes (plain code end)
+plain_within : {sizes : Sizes} {code : ℕ → List Instr} {end : ℕ} → ((out : ℕ) → out < sizes.code → Holds (IsInstrWithin sizes) (code out)) → IsPieceWithin sizes (without_targets code end)
 plain_within h = record { code = h; labels = Holds-nil; arms = Holds-nil }
 
-joined_within : {sizes : Sizes} {a b : Piece} → IsPieceWithin sizes a → IsPieceWithin sizes b → IsPieceWithin sizes (joined a b)
+joined_within : {sizes : Sizes} {a b : Fragment} → IsPieceWithin sizes a → IsPieceWithin sizes b → IsPieceWithin sizes (in_turn a b)
 joined_within x y = record { code = λ out k. Holds-append (x.code out k) (y.code out k); labels = Holds-append x.labels y.labels; arms = Holds-append x.arms y.arms }
 
 module _ (names : Environment) (sizes : Sizes) (meant : (x : List ℕ) → IsMeaningWithin sizes (names x)) (few : sizes.code ≤ 4096) where
@@ -70,73 +70,73 @@ module _ (names : Environment) (sizes : Sizes) (meant : (x : List ℕ) → IsMea
   rvalue_within : (e : Expr) (p : ℕ) → InWalk (walk e) → p + length (word_code names e p) < sizes.code → Within (word_code names e p)
   rvalue_within e p = word_code_within names sizes meant few e p
 
-  from_statement : (s : Stmt) (p : ℕ) → p ≤ (piece names s p).end
+  from_statement : (s : Stmt) (p : ℕ) → p ≤ (fragment names s p).end
   from_statement s p = omega (arith, statement_ends names s p 0)
 
-  from_body : (ss : Stmts) (p : ℕ) → p ≤ (body_piece names ss p).end
+  from_body : (ss : Stmts) (p : ℕ) → p ≤ (body_fragment names ss p).end
   from_body ss p = omega (arith, body_ends names ss p 0)
 
-  heading_piece_within : (h : Heading) (p : ℕ) → InWalk (walk_heading h) → p < sizes.code → IsPieceWithin sizes (heading_piece names h p)
-  heading_piece_within (Auto declared) p w l = record { code = λ out k. vectors_code_within declared w.1.0; labels = Holds-nil; arms = Holds-nil }
-  heading_piece_within (Extrn ws) p w l = record { code = λ out k. Holds-nil; labels = Holds-nil; arms = Holds-nil }
-  heading_piece_within (Label v) p w l = record { code = λ out k. Holds-nil; labels = Holds-cons l Holds-nil; arms = Holds-nil }
-  heading_piece_within (Case line c) p w l = record { code = λ out k. Holds-nil; labels = Holds-nil; arms = Holds-cons (word-value_of c w.1.0, l) Holds-nil }
-  heading_piece_within (Default line) p w l = record { code = λ out k. Holds-nil; labels = Holds-nil; arms = Holds-cons (tt, l) Holds-nil }
+  heading_fragment_within : (h : Heading) (p : ℕ) → InWalk (walk_heading h) → p < sizes.code → IsPieceWithin sizes (heading_fragment names h p)
+  heading_fragment_within (Auto declared) p w l = record { code = λ out k. vectors_code_within declared w.1.0; labels = Holds-nil; arms = Holds-nil }
+  heading_fragment_within (Extrn ws) p w l = record { code = λ out k. Holds-nil; labels = Holds-nil; arms = Holds-nil }
+  heading_fragment_within (Label v) p w l = record { code = λ out k. Holds-nil; labels = Holds-cons l Holds-nil; arms = Holds-nil }
+  heading_fragment_within (Case line c) p w l = record { code = λ out k. Holds-nil; labels = Holds-nil; arms = Holds-cons (word-value_of c w.1.0, l) Holds-nil }
+  heading_fragment_within (Default line) p w l = record { code = λ out k. Holds-nil; labels = Holds-nil; arms = Holds-cons (tt, l) Holds-nil }
 
   mutual
-    pub piece_within : (s : Stmt) (p : ℕ) → InWalk (walk_statement s) → (piece names s p).end < sizes.code → IsPieceWithin sizes (piece names s p)
-    piece_within (Headed h s) p w l =
+    pub fragment_within : (s : Stmt) (p : ℕ) → InWalk (walk_statement s) → (fragment names s p).end < sizes.code → IsPieceWithin sizes (fragment names s p)
+    fragment_within (Headed h s) p w l =
         let q = p + length (heading_code names h) in
-        joined_within (heading_piece_within h p w.0 (omega (arith, from_statement s q))) (piece_within s q w.1 l)
-    piece_within (Compound body) p w l = body_within body p w.0.1 l
-    piece_within (If e s) p w l =
+        joined_within (heading_fragment_within h p w.0 (omega (arith, from_statement s q))) (fragment_within s q w.1 l)
+    fragment_within (Compound body) p w l = body_within body p w.0.1 l
+    fragment_within (If e s) p w l =
         let q = p + length (word_code names e p) + 1 in
-        let x = piece_within s q w.1.1 l in
+        let x = fragment_within s q w.1.1 l in
         let test = rvalue_within e p w.1.0.1.0 (omega (arith, from_statement s q)) in
         record { code = λ out k. Holds-append test (Holds-cons l (x.code out k)); labels = x.labels; arms = x.arms }
-    piece_within (IfElse e s other) p w l =
+    fragment_within (IfElse e s other) p w l =
         let q = p + length (word_code names e p) + 1 in
-        let a = (piece names s q).end + 1 in
+        let a = (fragment names s q).end + 1 in
         let within : a < sizes.code = omega (arith, from_statement other a) in
         let test = rvalue_within e p w.1.0.1.0 (omega (arith, from_statement s q)) in
-        let x = piece_within s q w.1.1.0 (omega arith) in
-        let y = piece_within other a w.1.1.1.1 l in
+        let x = fragment_within s q w.1.1.0 (omega arith) in
+        let y = fragment_within other a w.1.1.1.1 l in
         record {
           code = λ out k. Holds-append test (Holds-cons within (Holds-append (x.code out k) (Holds-cons l (y.code out k))));
           labels = Holds-append x.labels y.labels;
           arms = Holds-append x.arms y.arms;
         }
-    piece_within (While e s) p w l =
+    fragment_within (While e s) p w l =
         let q = p + length (word_code names e p) + 1 in
         let start : p < sizes.code = omega (arith, from_statement s q) in
         let test = rvalue_within e p w.1.0.1.0 (omega (arith, from_statement s q)) in
-        let x = piece_within s q w.1.1.1 (omega arith) in
+        let x = fragment_within s q w.1.1.1 (omega arith) in
         record {
-          code = λ out k. Holds-append test (Holds-cons l (Holds-append (x.code ((piece names s q).end + 1) l) (Holds-cons start Holds-nil)));
+          code = λ out k. Holds-append test (Holds-cons l (Holds-append (x.code ((fragment names s q).end + 1) l) (Holds-cons start Holds-nil)));
           labels = x.labels;
           arms = x.arms;
         }
-    piece_within (Switch e body) p w l =
+    fragment_within (Switch e body) p w l =
         let q = p + length (word_code names e p) + 1 in
-        let arms = (body_piece names body q).targets.arms in
-        let start : (body_piece names body q).end + 1 < sizes.code = omega arith in
+        let arms = (body_fragment names body q).targets.arms in
+        let start : (body_fragment names body q).end + 1 < sizes.code = omega arith in
         let value = rvalue_within e p w.1.0 (omega (arith, from_body body q)) in
         let x = body_within body q w.1.1.1.1.0 (omega arith) in
         let tests = Holds-append (tests_code_within arms x.arms) (default_code_within arms x.arms) in
         record {
-          code = λ out k. Holds-append value (Holds-cons start (Holds-append (x.code ((body_piece names body q).end + 1 + length (arms_code arms)) l) (Holds-cons l tests)));
+          code = λ out k. Holds-append value (Holds-cons start (Holds-append (x.code ((body_fragment names body q).end + 1 + length (arms_code arms)) l) (Holds-cons l tests)));
           labels = x.labels;
           arms = Holds-nil;
         }
-    piece_within (Goto e) p w l = plain_within (λ out k. Holds-append (rvalue_within e p w.1.0 (omega arith)) (Holds-cons tt Holds-nil))
-    piece_within (Break line) p w l = plain_within (λ out k. Holds-cons k Holds-nil)
-    piece_within Return p w l = plain_within (λ out k. Holds-cons (omega arith) (Holds-cons tt Holds-nil))
-    piece_within (ReturnValue e) p w l = plain_within (λ out k. Holds-append (rvalue_within e p w.1.0.1.0 (omega arith)) (Holds-cons tt Holds-nil))
-    piece_within (Evaluate e) p w l = plain_within (λ out k. Holds-append (rvalue_within e p w.0 (omega arith)) (Holds-cons tt Holds-nil))
-    piece_within Empty p w l = plain_within (λ out k. Holds-nil)
+    fragment_within (Goto e) p w l = plain_within (λ out k. Holds-append (rvalue_within e p w.1.0 (omega arith)) (Holds-cons tt Holds-nil))
+    fragment_within (Break line) p w l = plain_within (λ out k. Holds-cons k Holds-nil)
+    fragment_within Return p w l = plain_within (λ out k. Holds-cons (omega arith) (Holds-cons tt Holds-nil))
+    fragment_within (ReturnValue e) p w l = plain_within (λ out k. Holds-append (rvalue_within e p w.1.0.1.0 (omega arith)) (Holds-cons tt Holds-nil))
+    fragment_within (Evaluate e) p w l = plain_within (λ out k. Holds-append (rvalue_within e p w.0 (omega arith)) (Holds-cons tt Holds-nil))
+    fragment_within Empty p w l = plain_within (λ out k. Holds-nil)
 
-    body_within : (ss : Stmts) (p : ℕ) → InWalk (walk_body ss) → (body_piece names ss p).end < sizes.code → IsPieceWithin sizes (body_piece names ss p)
+    body_within : (ss : Stmts) (p : ℕ) → InWalk (walk_body ss) → (body_fragment names ss p).end < sizes.code → IsPieceWithin sizes (body_fragment names ss p)
     body_within Nothing p w l = plain_within (λ out k. Holds-nil)
     body_within (More before s) p w l =
-        let q = (body_piece names before p).end in
-        joined_within (body_within before p w.0 (omega (arith, from_statement s q))) (piece_within s q w.1 l)
+        let q = (body_fragment names before p).end in
+        joined_within (body_within before p w.0 (omega (arith, from_statement s q))) (fragment_within s q w.1 l)

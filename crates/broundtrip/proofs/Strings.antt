@@ -8,7 +8,7 @@ use Rattle.btree.specs.Spelling.{comma_spelling, list_spelling, ival_spelling}
 use Rattle.btree.specs.Fitting.{EachAfter, ival_words, values_words, IvalFits, strings_in, ival_strings}
 use Rattle.blang.specs.Code.{ival_code}
 use Rattle.blang.specs.WellFormed.{packed}
-use Rattle.blang.specs.Walk.{Walk, Quote, Level, ◌▸◌, tokens_in, walk_value}
+use Rattle.blang.specs.Walk.{Walk, TextHere, Level, ◌▸◌, tokens_in, walk_value}
 use Rattle.btree.proofs.WalkLaws.{length-strings}
 use Rattle.broundtrip.proofs.Holds.{Holds, Holds-nil, Holds-cons, Holds-first, Holds-rest, Holds-append, Holds-front, Holds-back}
 use Rattle.broundtrip.proofs.Tokens.{IsByte, AreSound}
@@ -23,7 +23,7 @@ packed_within (x ∷ y ∷ bytes) h =
     Holds-cons (omega arith) (packed_within bytes (Holds-rest (Holds-rest h)))
 
 pub strings_within : (w : Walk) → AreSound (tokens_in w) → Holds IsWord (strings_in w)
-strings_within (Quote t) s = packed_within t.bytes (Holds-first s)
+strings_within (TextHere t) s = packed_within t.bytes (Holds-first s)
 strings_within (Level p w end) s = strings_within w (Holds-rest s)
 strings_within (v ▸ w) s = Holds-append (strings_within v (Holds-front (tokens_in v) _ s)) (strings_within w (Holds-back (tokens_in v) _ s))
 strings_within _ s = Holds-nil

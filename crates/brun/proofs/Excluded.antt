@@ -149,7 +149,7 @@ refused_without_code steps source source_after ends status text tells r g none f
     let following = subst (λ t. CompilesTo [] (tokens_from editions.One 1 t) r) (sym rest.whole) g in
     other_stop r.stop fault (s.runs rest.more rest.follows r following).1 stop
 
-told_device : (line : List ℕ) (answer : ℕ) (o p : Outgoing) (status : ℕ) → answer < 133 → Reported line answer o p status → status ≡ 133 → Grew o.failures p.failures
+pub told_device : (line : List ℕ) (answer : ℕ) (o p : Outgoing) (status : ℕ) → answer < 133 → Reported line answer o p status → status ≡ 133 → Grew o.failures p.failures
 told_device line answer o p status less (inl told) is = let same : answer ≡ 133 = sym told.1 ∙ is in absurd (omega (arith, less, same))
 told_device line answer o p status less (inr r) is = by_kind r.fault r.refuses r.status
   where
@@ -158,7 +158,7 @@ told_device line answer o p status less (inr r) is = by_kind r.fault r.refuses r
     by_kind end_fault.Memory h s = let bad : 133 ≡ 134 = sym is ∙ s in absurd (omega (arith, bad))
 
 -- A run has the status 133 only where a read of its input, or a write of its output or of its line failed.
-abbrev AnyFailed : RunEnds → Type 0
+abbrev pub AnyFailed : RunEnds → Type 0
 AnyFailed ends =
     Grew ends.input.failures ends.input_after.failures ⊎ Grew ends.out.failures ends.out_after.failures ⊎ Grew ends.line.failures ends.line_after.failures
 

@@ -6,6 +6,7 @@ pub mod HeadlineSteps
 pub mod MeantSteps
 pub mod RunSteps
 mod AlikeLaws
+mod TextExcluded
 mod TextLaws
 mod MigrateSteps
 mod Unmigrated

@@ -30,7 +30,7 @@ abbrev pub NoFirst : List ℕ → Type 0
 NoFirst text = (d : Definition) (rest : List ℕ) → IsWithinRanges d → text ≡ definition_text d ++ rest → ⊥
 
 -- the last line is no definition's
-no_first_at_end : NoFirst end_text
+pub no_first_at_end : NoFirst end_text
 no_first_at_end d rest inside same =
     not_end d (sym (same_spelling header_at-exact header.End (header_of d) [] (joined (body_lines d) ++ rest) end_within (header_of-within d inside) (same ∙ text_header d rest)).0)
 

@@ -1,10 +1,14 @@
 -- What no rewriting of a code text is.
 use Rattle.std.specs.Prelude.{◌≡◌, [], ◌++◌, List, ℕ, Some}
+use Rattle.bword.specs.ByteEnds.{Grew, Outgoing}
 use Rattle.bword.specs.declared.edition.Edition.TheVariants as editions
+use Rattle.bword.specs.declared.ends.EndFault.{EndFault}
+use Rattle.blang.specs.Compiles.{Tells}
 use Rattle.blang.specs.Text.{opening, definition_text, end_text, IsWithinRanges}
 use Rattle.blang.specs.declared.code.Definition.{Definition}
+use Rattle.blang.specs.declared.status.TheConstants.{DEVICE, MEMORY}
 use Rattle.bcode.specs.Streams.{AreLines}
-use Rattle.brun.specs.Migrates.{Rewriting, IsMigrated, HasBadLine, InputFailed}
+use Rattle.brun.specs.Migrates.{Rewriting, IsMigrated, HasBadLine, InputFailed, OutFailed, Migrates}
 
 -- These bytes are all that was written.
 pub record HasWritten (w : Rewriting) (bytes : List ℕ) : Type 0 where
@@ -21,3 +25,17 @@ pub record Unmigrated : Type 0 where
   -- a byte after the wrong line is taken
   pub read_on : (w : Rewriting) (taken : List ℕ) (n : ℕ) → HasBadLine w taken n → (lines rest : List ℕ)
       → AreLines n lines → taken ≡ lines ++ rest → rest ≡ []
+  -- a byte after the definition that the output refuses is taken
+  pub read_past : (w : Rewriting) (taken : List ℕ) (fault : EndFault) (d : Definition) (more : List ℕ)
+      → IsWithinRanges d → taken ≡ definition_text d ++ more → HasWritten w (opening editions.Two)
+      → OutFailed w taken fault → more ≡ []
+  -- something is read before the first line was written
+  pub read_early : (w : Rewriting) (line line_after : Outgoing) (status : ℕ) → HasWritten w []
+      → Migrates w line line_after status → w.input_after ≡ w.input
+  -- a failure where none was, and want of memory at a text without definitions
+  pub failure_invented : (w : Rewriting) (line line_after : Outgoing)
+      → (Grew w.input.failures w.input_after.failures → ⊥) → (Grew w.out.failures w.out_after.failures → ⊥)
+      → (Grew line.failures line_after.failures → ⊥) → Migrates w line line_after DEVICE → ⊥
+  pub refusal_invented : (w : Rewriting) (line line_after : Outgoing) → Tells w.input end_text
+      → (Grew w.out.refusals w.out_after.refusals → ⊥) → (Grew line.refusals line_after.refusals → ⊥)
+      → Migrates w line line_after MEMORY → ⊥

@@ -108,8 +108,8 @@ fn write_definitions<I: ByteIn, O: ByteOut>(
     }
 }
 
-/// No migration succeeds without each definition, none waits for the next one before it writes, and none takes a byte
-/// after a wrong line.
+/// No migration succeeds without each definition, none waits for the next one before it writes, none takes a byte after
+/// a wrong line or a refused definition, and none fails or is out of memory for no reason.
 pub fn wrong_migrations_are_excluded()
     ensures { Unmigrated }
 {}

@@ -1,12 +1,17 @@
 //! The streams of a process, kept in order: what was written is shown before more input is fetched, and before a line
 //! is written beside it.
+ghost use Rattle.std.specs.Prelude.{◌≤◌, length};
+
 use crate::serving::{refuse_words, serve};
 use blang::status::{self, Status};
 use bword::{ByteIn, ByteOut, Reading, Writing};
-use std::alloc::Global;
+use std::alloc::{AllocError, Global};
 use std::cell::RefCell;
-use std::io::{self, BufReader, BufWriter, ErrorKind, Read, Write};
+use std::io::{self, BufReader, ErrorKind, Read, Write};
 use std::rt::Files;
+
+// The bytes of output that are written at once.
+const BLOCK_LEN: usize = 8192;
 
 /// What a process reads and writes.
 #[derive(Drop)]
@@ -73,40 +78,94 @@ fn answer<R: AllocGlobal + Files, I: ByteIn, O: ByteOut, D: ByteOut>(
     }
 }
 
-// Output that is written in blocks, unless each piece is to be shown at once.
+// Output that streams share.
 #[derive(Drop)]
 struct Output<W: Write + Drop> {
-    blocks: RefCell<BufWriter<W>>,
-    at_once: bool,
+    block: RefCell<Block<W>>,
 }
 
 impl<W: Write + Drop> Output<W> {
-    fn new(alloc: Global, writer: W, at_once: bool) -> io::Result<Self> {
-        let blocks = RefCell::new(BufWriter::new(alloc, writer)?);
-        Ok(Output { blocks, at_once })
+    fn new(alloc: Global, writer: W, at_once: bool) -> Result<Self, AllocError> {
+        let len = if at_once { 0 } else { BLOCK_LEN };
+        let block = RefCell::new(Block {
+            writer,
+            bytes: vec![in alloc; 0; len]?,
+            filled: 0,
+        });
+        Ok(Output { block })
     }
 
     // Shows what was written, or fails where some of it can't be.
     fn show(&self) -> io::Result<()> {
-        match self.blocks.try_borrow_mut() {
-            Ok(mut blocks) => blocks.flush(),
+        match self.block.try_borrow_mut() {
+            Ok(mut block) => block.show(),
             Err(_) => Err(io::Error::from(ErrorKind::Other)),
         }
     }
 
+    #[inline(always)]
     fn take(&self, bytes: &[u8]) -> io::Result<()> {
-        match self.blocks.try_borrow_mut() {
-            Ok(mut blocks) => blocks.write_all(bytes)?,
-            Err(_) => return Err(io::Error::from(ErrorKind::Other)),
+        match self.block.try_borrow_mut() {
+            Ok(mut block) => {
+                if block.keep(bytes) {
+                    return Ok(());
+                }
+                block.pass_on(bytes)
+            }
+            Err(_) => Err(io::Error::from(ErrorKind::Other)),
         }
-        if self.at_once {
-            return self.show();
+    }
+}
+
+// Bytes on their way to a writer. Where there is no room for any, each piece is shown at once.
+#[derive(Drop)]
+struct Block<W: Write + Drop> {
+    writer: W,
+    bytes: Vec<u8>,
+    filled: usize,
+    ghost within: { filled ≤ length bytes.items },
+}
+
+impl<W: Write + Drop> Block<W> {
+    // Keeps a piece, if there is room for it.
+    #[inline(always)]
+    fn keep(&mut self, piece: &[u8]) -> bool {
+        if piece.len() > self.bytes.len() - self.filled {
+            return false;
         }
-        Ok(())
+        let end = self.filled + piece.len();
+        match piece {
+            // The program that runs writes most pieces, of one byte.
+            [byte] => self.bytes[self.filled] = *byte,
+            _ => self.bytes[self.filled..end].copy_from_slice(piece),
+        }
+        self.filled = end;
+        true
+    }
+
+    // Shows what is kept, and then keeps a piece, or shows it if it is longer than a block.
+    #[cold]
+    #[inline(never)]
+    fn pass_on(&mut self, piece: &[u8]) -> io::Result<()> {
+        self.show()?;
+        if self.keep(piece) {
+            return Ok(());
+        }
+        self.writer.write_all(piece)?;
+        self.writer.flush()
+    }
+
+    // Shows what is kept. What can't be shown isn't tried again.
+    fn show(&mut self) -> io::Result<()> {
+        let filled = self.filled;
+        self.filled = 0;
+        self.writer.write_all(&self.bytes[..filled])?;
+        self.writer.flush()
     }
 }
 
 impl<W: Write + Drop> Write for &Output<W> {
+    #[inline(always)]
     fn write(&mut self, buf: &[u8]) -> io::Result<usize> {
         self.take(buf)?;
         Ok(buf.len())

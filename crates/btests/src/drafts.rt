@@ -144,12 +144,9 @@ fn each_label_instruction_is_resolved(rt: HostRuntime) -> Result<(), Fail> {
     let mut buffer = CodeBuffer::new();
     assert!(rt; buffer.emit_label(0).is_ok());
     assert!(rt; buffer.emit(Instr::Label(1)).is_ok());
-    for labels in [
-        [Instr::Label(1), Instr::Label(0)],
-        [Instr::Label(0), Instr::Label(1)],
-    ] {
+    for [first, second] in [[1, 0], [0, 1]] {
         buffer.resolve(&scope);
-        assert!(rt; buffer.code() == labels.as_slice());
+        assert!(rt; buffer.code() == [Instr::Label(first), Instr::Label(second)].as_slice());
     }
     Ok(())
 }

@@ -1,5 +1,5 @@
 -- What the contracts of `trace` and `locate` exclude.
-use Rattle.std.proofs.Common.{◌≡◌, ◌∙◌, ℕ, ◌+◌, ◌<◌, ◌≤◌, ◌⊎◌, Bool, true, false, List, [], ◌∷◌, ◌++◌, Option, Some, None, ap, append-nil, append_assoc, arith, codes, decimal, drop, inl, inr, map, refl, reverse, subst, suc, sym, take, zero}
+use Rattle.std.proofs.Common.{◌≡◌, ◌∙◌, ℕ, ◌+◌, ◌<◌, ◌≤◌, ◌⊎◌, Bool, true, false, List, [], ◌∷◌, ◌++◌, Option, Some, None, ap, append-nil, append_assoc, arith, codes, decimal, drop, inl, inr, length, map, refl, reverse, subst, suc, sym, take, zero}
 use Rattle.std.specs.Prelude.{All}
 use Rattle.std.specs.Io.KnownBytes.{Appends}
 use Rattle.std.specs.List.{flat_map}
@@ -9,7 +9,7 @@ use Rattle.std.proofs.lemmas.List.Elements.{All-head, All-tail}
 use Rattle.bword.specs.declared.edition.Edition.{Edition}
 use Rattle.bword.specs.declared.ends.EndFault.{EndFault}
 use Rattle.bword.specs.declared.ends.EndFault.TheVariants as end_fault
-use Rattle.bword.specs.ByteEnds.{Kept, outgoing_of, Grew, Incoming, Outgoing, Refuses, Took, Unread, Writes, incoming_of}
+use Rattle.bword.specs.ByteEnds.{CanFollow, Kept, outgoing_of, Grew, Incoming, Outgoing, Refuses, Took, Unread, Writes, incoming_of}
 use Rattle.bword.proofs.Putting.{Writes-append}
 use Rattle.blang.specs.declared.code.Definition.{Definition}
 use Rattle.blang.specs.declared.code.Instr.{Instr}
@@ -38,13 +38,13 @@ use Rattle.btools.specs.Columns.{left, right}
 use Rattle.btools.specs.Programs as programs
 use Rattle.btools.specs.Programs.{HasProgram, NoProgram, WasCompiled, nothing_written}
 use Rattle.btools.proofs.Excluded.{not_grown}
-use Rattle.btrace.specs.Excluded.{ComesAlways, IsSourceOf, LocatesExcluded, TracesExcluded, calling, calling_f, closing, nothing, passing, status_of, storing, trapping, writing}
+use Rattle.btrace.specs.Excluded.{ComesAlways, IsSourceOf, LocatesExcluded, TracesExcluded, calling, calling_f, closing, nothing, passing, reading, status_of, storing, trapping, writing}
 use Rattle.btrace.specs.Locates as locates
 use Rattle.btrace.specs.Locates.{Locates, TellsSite, located_status, site_line}
 use Rattle.btrace.specs.Programs.{Placed, function_with, functions_of}
 use Rattle.btrace.specs.RowTexts.{Place, code_of, first_words, has_more, margin, name_in, name_of, operands_text, place_text, step_row, stored_text, words_text, written_row}
 use Rattle.btrace.specs.Traces as traces
-use Rattle.btrace.specs.Traces.{AreShown, EndsAs, IsWhere, ShowsRows, ShowsStep, TellsEnd, TellsPlace, TraceRow, Traces, Tries, rows_text, shown_of, store_after, stored_after, waits_at, which_of}
+use Rattle.btrace.specs.Traces.{AreShown, EndsAs, IsWhere, IsTried, ShowsRows, ShowsStep, TakesByte, TellsEnd, TellsPlace, TraceRow, Traces, Tries, rows_text, shown_of, store_after, stored_after, waits_at, which_of}
 use Rattle.btrace.specs.declared.tracing.TheConstants.{HEADING}
 use Rattle.btrace.specs.declared.tracing.Which.{Which}
 use Rattle.btrace.proofs.ReadTexts.{all_above, above_append, at, after_line, after_number, line_skipped, number_above, number_skipped, skip_digits, words_above}
@@ -709,6 +709,134 @@ module _ (edition : Edition) (source : List ℕ) (ends : RunEnds) (text : List �
             ∙ ap (λ ws. codes "at     " ++ (codes "in f        place    0  line " ++ (right 4 (decimal w.line) ++ (ws ++ (codes "\n" ++ callers_text fs store w.callers))))) (passing_words a.input),
       )
 
+-- the trace of a run whose read failed
+record AtRead (ds : List Definition) (steps : ℕ) (which : Which) (text : List ℕ) : Type 0 where
+  made : ℕ
+  within : made ≤ steps
+  taken : List ℕ
+  rows : List TraceRow
+  ending : List ℕ
+  text_is : text ≡ rows_text rows ++ ending
+  shown : (more : List ℕ) → AreShown (functions_of ds) (machine_functions ds) which (machine ds (taken ++ more)) made rows
+  tried : (more : List ℕ) → IsTried (functions_of ds) which (machine ds (taken ++ more)) made ending
+  reads : (byte : ℕ) (more : List ℕ) → TakesByte (machine ds (taken ++ byte ∷ more)) made byte more
+
+can_come : (j : Incoming) (more : List ℕ) → j.is_over ≡ false → CanFollow j more
+can_come j more unended = λ over. let bad : true ≡ false = sym over ∙ unended in cc
+
+-- a text that was told of no refused write
+told_whole : (line : List ℕ) (answer : ℕ) (o p : Outgoing) (status : ℕ) → (Grew o.failures p.failures → ⊥) → (Grew o.refusals p.refusals → ⊥) → Reported line answer o p status → Writes o line p
+told_whole line answer o p status failed refused (inl t) = t.0
+told_whole line answer o p status failed refused (inr r) = absurd (by_kind r.fault r.refuses)
+  where
+    by_kind : (fault : EndFault) → Refuses o line fault p → ⊥
+    by_kind end_fault.Device h = failed h.counted.0
+    by_kind end_fault.Memory h = refused h.counted.0
+
+-- A run whose read failed has a trace just as far as that.
+read_result : (ds : List Definition) (steps : ℕ) (i j : Incoming) (o p : Outgoing) (fs : List Placed) (which : Which) (old new : List ℕ) (result : Outcome) → (j.failures ≡ i.failures → ⊥) → RunGives (machine ds) steps i j o p result
+    → ShowsRows fs (machine_functions ds) which (machine ds) steps i j result old new → result ≡ outcome.Device
+read_result ds steps i j o p fs which old new (outcome.Exit n) failed h s = absurd (failed h.no_failure)
+read_result ds steps i j o p fs which old new (outcome.Trap kind) failed h s = absurd (failed h.no_failure)
+read_result ds steps i j o p fs which old new outcome.Limit failed h s = absurd (failed h.no_failure)
+read_result ds steps i j o p fs which old new outcome.Device failed h s = refl
+read_result ds steps i j o p fs which old new outcome.Memory failed h s = absurd (s.ends [] (λ e. refl))
+
+module _ (edition : Edition) (source : List ℕ) (ds : List Definition) (is : IsSourceOf edition source ds) (steps from : ℕ) (which : Which) (named : which_of (functions_of ds) from None ≡ Some which)
+    (ends : RunEnds) (status : ℕ) (failed : ends.input_after.failures ≡ ends.input.failures → ⊥) (unended : ends.input_after.is_over ≡ false) (whole : Grew ends.out.failures ends.out_after.failures → ⊥) (room : Grew ends.out.refusals ends.out_after.refusals → ⊥)
+    (text : List ℕ) (before : ends.out.written ≡ Some []) (following : ends.out_after.written ≡ Some (HEADING.now ++ text)) where
+  read_shows : (result : Outcome) → result ≡ outcome.Device → ShowsRows (functions_of ds) (machine_functions ds) which (machine ds) steps ends.input ends.input_after result HEADING.now (HEADING.now ++ text) → AtRead ds steps which text
+  read_shows result device shows =
+      let s = subst (λ r. ShowsRows (functions_of ds) (machine_functions ds) which (machine ds) steps ends.input ends.input_after r HEADING.now (HEADING.now ++ text)) device shows in
+      record {
+        made = s.made;
+        within = s.within;
+        taken = s.taken;
+        rows = s.rows;
+        ending = s.ending;
+        text_is = append_cancel_left HEADING.now text (rows_text s.rows ++ s.ending) (s.text_is ∙ append_assoc HEADING.now (rows_text s.rows) s.ending);
+        shown = λ more. s.shown more (can_come ends.input_after more unended);
+        tried = λ more. s.ends more (can_come ends.input_after more unended);
+        reads = λ byte more. s.reads refl byte more (can_come ends.input_after (byte ∷ more) unended);
+      }
+
+  at_read : Traces edition source steps from None ends status → AtRead ds steps which text
+  at_read (traces.traced mid other image w result t output answer program chosen gives shows reported tells) =
+      let same = only edition source ds is ends.line mid other image program in
+      let written = wrote ends.out ends.out_after [] t (HEADING.now ++ text) before following (told_whole t DONE ends.out ends.out_after answer whole room reported) in
+      let device = read_result other steps ends.input ends.input_after nothing_written (outgoing_of output) (functions_of other) w HEADING.now t result failed gives shows in
+      let mine = subst (λ x. ShowsRows (functions_of x) (machine_functions x) w (machine x) steps ends.input ends.input_after result HEADING.now t) same shows in
+      let wanted : w ≡ which = some_same w which (sym (subst (λ x. which_of (functions_of x) from None ≡ Some w) same chosen) ∙ named) in
+      read_shows result device
+      (subst (λ x. ShowsRows (functions_of ds) (machine_functions ds) x (machine ds) steps ends.input ends.input_after result HEADING.now (HEADING.now ++ text)) wanted
+      (subst (λ x. ShowsRows (functions_of ds) (machine_functions ds) w (machine ds) steps ends.input ends.input_after result HEADING.now x) (sym written) mine))
+  at_read (traces.not_begun mid other image w result program chosen never f quiet) = absurd (failed (ap (λ (i : Incoming). i.failures) quiet.unread))
+  at_read (traces.unnamed mid other image program unknown r quiet) = absurd (failed (ap (λ (i : Incoming). i.failures) quiet.unread))
+  at_read (traces.stopped none quiet) = absurd (failed (ap (λ (i : Incoming). i.failures) quiet.unread))
+  at_read (traces.no_memory other image program same unfailed e) = absurd (failed unfailed)
+
+abbrev reading_code : List Instr
+reading_code = instr.External (codes "getchar") ∷ instr.Load ∷ instr.Call 0 ∷ instr.Pop ∷ closing
+
+abbrev reading_main : (place : ℕ) → List ℕ → Call
+reading_main place operands = call (loaded reading_code 8) 8 place operands
+
+-- The read of `reading` is in its third step.
+no_step_back : (byte : ℕ) (more : List ℕ) → byte ∷ more ≡ more → ⊥
+no_step_back byte more e = let n = ap length e in omega (arith, n)
+
+read_is_third : (taken : List ℕ) (made : ℕ) → made ≤ 4 → TakesByte (machine reading (taken ++ 0 ∷ [])) made 0 [] → made ≡ 2
+read_is_third taken zero le t = absurd (no_step_back 0 [] (sym t.0 ∙ t.1))
+read_is_third taken (suc zero) le t = absurd (no_step_back 0 [] (sym t.0 ∙ t.1))
+read_is_third taken (suc (suc zero)) le t = refl
+read_is_third [] (suc (suc (suc zero))) le t = absurd (no_step_back 0 [] (sym t.0 ∙ t.1))
+read_is_third (b ∷ taken) (suc (suc (suc zero))) le t = absurd (no_step_back 0 [] (sym t.0 ∙ t.1))
+read_is_third [] (suc (suc (suc (suc zero)))) le t = absurd (no_step_back 0 [] (sym t.0 ∙ t.1))
+read_is_third (b ∷ taken) (suc (suc (suc (suc zero)))) le t = absurd (no_step_back 0 [] (sym t.0 ∙ t.1))
+read_is_third taken (suc (suc (suc (suc (suc n))))) le t = absurd (omega arith)
+
+reading_head : row_head (functions_of reading) 1 (reading_main 0 []) ≡ codes "       1  main         0"
+unfolding digits
+reading_head = refl
+
+reading_tail : row_tail (functions_of reading) (reading_main 0 []) ≡ codes "  x getchar   \n"
+unfolding digits
+reading_tail = refl
+
+reading_second : row_head (functions_of reading) 2 (reading_main 1 (3 ∷ [])) ≡ codes "       2  main         1"
+unfolding digits
+reading_second = refl
+
+third_some : (call : Call) (line : ℕ) → at 0 (step_row (functions_of reading) 3 call line) ≡ 32
+unfolding digits
+third_some call line = refl
+
+-- the first of the two rows before it
+read_rows : (text : List ℕ) → AtRead reading 4 (record { from = 1; function = None }) text → Begins (codes "       1  main         0") (codes "  x getchar   \n") 50 text
+read_rows text a =
+    let fs = functions_of reading in
+    let fns = machine_functions reading in
+    let states = machine reading (a.taken ++ []) in
+    let third = read_is_third a.taken a.made a.within (a.reads 0 []) in
+    let shown = subst (λ m. AreShown fs fns (record { from = 1; function = None }) states m a.rows) third (a.shown []) in
+    let r = first_row fs fns states 0 (reading_main 0 []) refl (1 ∷ []) a.ending a.rows shown.all shown.each in
+    let s = first_row fs fns states 1 (reading_main 1 (3 ∷ [])) refl [] a.ending r.rows r.all r.each in
+    let seventh : at 7 (rows_text r.rows ++ a.ending) ≡ 50 = ap (at 7) s.text_is ∙ ap (λ h. at 7 (h ++ (right 6 (decimal s.line) ++ (row_tail fs (reading_main 1 (3 ∷ [])) ++ (stored_text (store_after states 2) (stored_after fns states 1) ++ (written_row s.bytes ++ (rows_text s.rows ++ a.ending))))))) reading_second in
+    let next = or_seventh (store_after states 1) (stored_after fns states 0) r.bytes (rows_text r.rows ++ a.ending) 50 seventh in
+    subst (λ t. Begins (codes "       1  main         0") (codes "  x getchar   \n") 50 t) (sym a.text_is) (row_begins fs fns states 0 (reading_main 0 []) (1 ∷ []) a.ending _ _ _ 50 reading_head reading_tail r next)
+
+-- its own row, where no row before it is asked for
+read_row : (from : ℕ) (text : List ℕ) → ((input : List ℕ) → shown_of (record { from = from; function = None }) (machine reading input) 2 ≡ []) → (a : AtRead reading 4 (record { from = from; function = None }) text)
+    → IsTried (functions_of reading) (record { from = from; function = None }) (machine reading (a.taken ++ [])) 2 text
+read_row from text none a =
+    let fs = functions_of reading in
+    let which : Which = record { from = from; function = None } in
+    let states = machine reading (a.taken ++ []) in
+    let third = read_is_third a.taken a.made a.within (a.reads 0 []) in
+    let shown = subst (λ m. AreShown fs (machine_functions reading) which states m a.rows) third (a.shown []) in
+    let is : text ≡ a.ending = a.text_is ∙ ap (λ r. r ++ a.ending) (no_row a.rows (shown.all ∙ none (a.taken ++ []))) in
+    subst (IsTried fs which states 2) (sym is) (subst (λ m. IsTried fs which states m a.ending) third (a.tried []))
+
 -- the place of the second step of `trapping`
 trapped_last : (input : List ℕ) (last made : ℕ) (kind : Trap) → last + 1 ≡ made → made ≤ 2 → state_outcome (machine trapping input made) ≡ outcome.Trap kind → last ≡ 1
 trapped_last input zero made kind e le comes =
@@ -917,6 +1045,19 @@ excluded = record {
       let start = codes "     1  x f         \nat     i" ++ (rest ++ a.0) in
       let more = ap (drop 15) (after_line_number (codes "       1  main         0") _ start _ 50 b refl) in
       seventh_is (at 7 b.more) 50 b.next 105 (sym (ap (at 7) more)) (λ e. omega (arith, e)) (λ e. omega (arith, e));
+  rows_lost = λ edition source ends status is failed unended whole room before following h.
+      let start = codes "     1  x getchar   \n" in
+      let a = at_read edition source reading is 4 1 (record { from = 1; function = None }) refl ends status failed unended whole room (codes "       1  main         0" ++ start) before following h in
+      let b = read_rows (codes "       1  main         0" ++ start) a in
+      let more = ap (drop 15) (after_line_number (codes "       1  main         0") _ start _ 50 b refl) in
+      seventh_is (at 7 b.more) 50 b.next 0 (sym (ap (at 7) more)) (λ e. omega (arith, e)) (λ e. omega (arith, e));
+  row_of_read_lost = λ edition source ends status is failed unended whole room before following h.
+      let a = at_read edition source reading is 4 3 (record { from = 3; function = None }) refl ends status failed unended whole room [] before following h in
+      let t = read_row 3 [] (λ input. refl) a in
+      differ 0 0 32 _ _ t.2 refl (third_some t.0.call t.1) (λ e. omega (arith, e));
+  row_after_read = λ text some edition source ends status is failed unended whole room before following h.
+      let a = at_read edition source reading is 4 4 (record { from = 4; function = None }) refl ends status failed unended whole room text before following h in
+      some (read_row 4 text (λ input. refl) a).2;
   read_failed = λ edition source steps from name ends failed refused h. read_told edition source steps from name ends failed refused h;
 }
 

@@ -1,5 +1,5 @@
 -- Steps that are made and shown, one after another.
-use Rattle.std.proofs.Common.{◌≡◌, ◌∙◌, ℕ, ◌+◌, ◌<◌, Bool, true, false, cond, List, [], ◌∷◌, ◌++◌, Ok, Err, ap, append-nil, append_assoc, arith, drop, length, refl, subst, sym, if◌then◌else◌, inl, ⊎_elim}
+use Rattle.std.proofs.Common.{◌≡◌, ◌∙◌, ℕ, ◌+◌, ◌<◌, Bool, true, false, cond, List, [], ◌∷◌, ◌++◌, Ok, Err, ap, append-nil, append_assoc, arith, drop, length, refl, subst, sym, if◌then◌else◌, ⊎_elim}
 use Rattle.std.proofs.Math.Seq.{drop-append_seam}
 use Rattle.std.proofs.lemmas.List.{map-append, map-id}
 use Rattle.std.proofs.lemmas.List.Concat.{flat_map-append}
@@ -16,13 +16,14 @@ use Rattle.bmach.specs.Steps.{world_with}
 use Rattle.bmach.specs.Stepping.{Paused, machine_at}
 use Rattle.bmach.specs.Stops.{active_of}
 use Rattle.bmach.specs.Stored.{stored, stored_next}
-use Rattle.bmach.specs.Turns.{KeepsBelow, LeavesWords, MovesOn, HasHalted, TurnGives}
+use Rattle.bmach.specs.Turns.{FailsAtRead, KeepsBelow, LeavesWords, MovesOn, HasHalted, TurnGives}
 use Rattle.bmach.proofs.Running.{at_limit, following, one_more, run_over}
-use Rattle.bmach.proofs.Turning.{follows, goes_on, runs_on, took_broken}
+use Rattle.bmach.proofs.Turning.{follows, goes_on, runs_on, took_nothing}
+use Rattle.btools.proofs.Excluded.{not_grown}
 use Rattle.btrace.specs.Programs.{Placed}
 use Rattle.btrace.specs.RowTexts.{step_row, stored_text, written_row}
 use Rattle.btrace.specs.Traces as traces
-use Rattle.btrace.specs.Traces.{AddsEnd, AddsIf, AddsLast, AddsPlaces, AddsStep, AreShown, EndsAs, IsTried, TellsPlace, TraceRow, ShowsStep, StepsGive, Tries, is_shown, is_wanted, rows_text, shown_of, steps_from, store_after, stored_after}
+use Rattle.btrace.specs.Traces.{AddsEnd, AddsIf, AddsLast, AddsPlaces, AddsStep, AreShown, EndsAs, IsTried, TellsPlace, TraceRow, ShowsStep, StepsGive, TakesByte, Tries, is_shown, is_wanted, rows_text, shown_of, steps_from, store_after, stored_after}
 use Rattle.btrace.specs.declared.tracing.Which.{Which}
 
 -- So many steps were made from a state on, and the rows of those that are to be shown added to a text.
@@ -185,6 +186,9 @@ module _ (fs : List Placed) (which : Which) (first now : Paused) (made : ℕ) (i
 halted : (now new : Paused) (first : Image) {j m : Incoming} {p q : Outgoing} (r : Outcome) → now.image ≡ first → HasHalted (λ left before. step now.image (machine_at now left before)) j m p q r → HasHalted (λ left before. step first (machine_at now left before)) j m p q r
 halted now new first {j} {m} {p} {q} r same g = subst (λ (x : Image). HasHalted (λ left before. step x (machine_at now left before)) j m p q r) same g
 
+read_failed : (now : Paused) (first : Image) {j m : Incoming} {p q : Outgoing} → now.image ≡ first → FailsAtRead (λ left before. step now.image (machine_at now left before)) j m p q → FailsAtRead (λ left before. step first (machine_at now left before)) j m p q
+read_failed now first {j} {m} {p} {q} same f = subst (λ (x : Image). FailsAtRead (λ left before. step x (machine_at now left before)) j m p q) same f
+
 -- where no read failed in the step in which the run was over
 pub unfailed_step : (now new : Paused) (j m : Incoming) (p q : Outgoing) (r : Outcome) → (r ≡ outcome.Device → ⊥) → TurnGives now.image (machine_at now) (machine_at new) j m p q (Err r) → m.failures ≡ j.failures
 unfailed_step now new j m p q (outcome.Exit status) other g = ap (λ (x : Incoming). x.failures) g.input
@@ -202,7 +206,7 @@ module _ (fs : List Placed) (which : Which) (first now : Paused) (made : ℕ) (i
       (subst (λ (x : Image). TurnGives x (machine_at now) (machine_at new) j m (outgoing_of p) (outgoing_of q) (Err r)) t.image_is g)
 
   -- by a step that was made
-  module _ (new : Paused) (q : Kept) (n : ℕ) (r : Outcome) (lt : made < n) (t : IsTraced fs which first made now i j o p old text) (g : HasHalted (λ left before. step first.image (machine_at now left before)) j m (outgoing_of p) (outgoing_of q) r) (own : r ≡ outcome.Limit → ⊥) (ending : List ℕ) where
+  module _ (new : Paused) (q : Kept) (n : ℕ) (r : Outcome) (lt : made < n) (t : IsTraced fs which first made now i j o p old text) (g : HasHalted (λ left before. step first.image (machine_at now left before)) j m (outgoing_of p) (outgoing_of q) r) (own : r ≡ outcome.Limit → ⊥) (read : r ≡ outcome.Device → ⊥) (ending : List ℕ) where
     abbrev can_before : (more : List ℕ) → CanFollow m more → CanFollow j more
     can_before more can = subst (λ (x : Incoming). CanFollow x more) g.input can
 
@@ -240,6 +244,7 @@ module _ (fs : List Placed) (which : Which) (first now : Paused) (made : ℕ) (i
       took = took_before;
       shown = λ more can. shown_not fs first.image.functions which (steps_from first (t.goes.taken ++ more)) made t.rows b (decided fs which first now made i j m o p old text text' b is t more (can_before more can)) (t.shown more (can_before more can)) hidden;
       ends = ends;
+      reads = λ e. absurd (read e);
     }
     over_by true seen a text'' end ends = record {
       made = made + 1;
@@ -251,31 +256,31 @@ module _ (fs : List Placed) (which : Which) (first now : Paused) (made : ℕ) (i
       took = took_before;
       shown = λ more can. shown_so fs first.image.functions which (steps_from first (t.goes.taken ++ more)) made t.rows b (decided fs which first now made i j m o p old text text' b is t more (can_before more can)) (t.shown more (can_before more can)) seen _ (last_row more can a);
       ends = ends;
+      reads = λ e. absurd (read e);
     }
 
-  -- by a step that failed
-  module _ (new : Paused) (q : Kept) (n : ℕ) (r : Outcome) (lt : made < n) (t : IsTraced fs which first made now i j o p old text) (taken : List ℕ) (took : Took j taken m) where
-    abbrev fed : List ℕ → List ℕ
-    fed more = (t.goes.taken ++ taken) ++ more
+  -- by a step whose read failed
+  module _ (new : Paused) (q : Kept) (n : ℕ) (lt : made < n) (t : IsTraced fs which first made now i j o p old text) (f : FailsAtRead (λ left before. step first.image (machine_at now left before)) j m (outgoing_of p) (outgoing_of q)) where
+    abbrev states_of : List ℕ → ℕ → State
+    states_of more = steps_from first (t.goes.taken ++ more)
 
-    abbrev Failed : List ℕ → Type 0
-    Failed ending = (more : List ℕ) → CanFollow m more → IsTried fs which (steps_from first (fed more)) made ending
+    can_come : (more : List ℕ) → CanFollow m more → CanFollow j more
+    can_come more can = follows (took_nothing f.fails) can
 
-    tried : (more : List ℕ) → CanFollow m more → Tries (steps_from first (fed more)) made
-    tried more can = record {
-      call = now.call;
-      below = now.below;
-      world = world_with now.store (taken ++ more) t.goes.output;
-      state_is = ap (λ xs. steps_from first xs made) (append_assoc t.goes.taken taken more) ∙ there fs which first now made i j m o p old text text' b is t (taken ++ more) (follows took can);
-    }
+    took_so : Took i t.goes.taken m
+    took_so = subst (λ (xs : List ℕ). Took i xs m) (append-nil t.goes.taken) (Took-append t.goes.took (took_nothing f.fails))
 
     -- whether it is to be shown
-    told : (more : List ℕ) → CanFollow m more → is_shown which (steps_from first (fed more)) made ≡ b
-    told more can =
-        ap (λ xs. is_shown which (steps_from first xs) made) (append_assoc t.goes.taken taken more)
-        ∙ decided fs which first now made i j m o p old text text' b is t (taken ++ more) (follows took can)
+    told : (more : List ℕ) → CanFollow m more → is_shown which (states_of more) made ≡ b
+    told more can = decided fs which first now made i j m o p old text text' b is t more (can_come more can)
 
-    failed_by : (c : Bool) → b ≡ c → AddsIf c fs (made + 1) now.call (next_stored now) new.store p.bytes q.bytes (Err r) text text' → (ending : List ℕ) × (text' ≡ text ++ ending) × Failed ending
+    abbrev Failed : List ℕ → Type 0
+    Failed ending = (more : List ℕ) → CanFollow m more → IsTried fs which (states_of more) made ending
+
+    tried : (more : List ℕ) → CanFollow m more → Tries (states_of more) made
+    tried more can = tries fs which first now made i j m o p old text text' b is t more (can_come more can)
+
+    failed_by : (c : Bool) → b ≡ c → AddsIf c fs (made + 1) now.call (next_stored now) new.store p.bytes q.bytes (Err outcome.Device) text text' → (ending : List ℕ) × (text' ≡ text ++ ending) × Failed ending
     unfolding tried
     failed_by false hidden none = (
       [],
@@ -288,9 +293,16 @@ module _ (fs : List Placed) (which : Which) (first now : Paused) (made : ℕ) (i
       λ more can. (tried more can, a.0, sym (ap (λ (x : Bool). if x then step_row fs (made + 1) now.call a.0 else []) (told more can ∙ seen))),
     )
 
-    over_failed : (text'' : List ℕ) → AddsIf b fs (made + 1) now.call (next_stored now) new.store p.bytes q.bytes (Err r) text text' → text'' ≡ text'
-        → ((ending : List ℕ) → Failed ending → (more : List ℕ) → CanFollow m more → EndsAs fs which (steps_from first (fed more)) made n r ending) → traces.ShowsRows fs first.image.functions which (steps_from first) n i m r old text''
-    over_failed text'' a end ends =
+    takes_byte : (byte : ℕ) (more : List ℕ) → CanFollow m (byte ∷ more) → TakesByte (states_of (byte ∷ more)) made byte more
+    takes_byte byte more can =
+        let before = can_come (byte ∷ more) can in (
+          ap (λ s. (state_world s).input) (there fs which first now made i j m o p old text text' b is t (byte ∷ more) before),
+          ap (λ s. (state_world s).input) (after_it fs which first now made i j m o p old text text' b is t (byte ∷ more) before) ∙ f.reads byte more t.goes.output,
+        )
+
+    over_failed : (text'' : List ℕ) → AddsIf b fs (made + 1) now.call (next_stored now) new.store p.bytes q.bytes (Err outcome.Device) text text' → text'' ≡ text'
+        → traces.ShowsRows fs first.image.functions which (steps_from first) n i m outcome.Device old text''
+    over_failed text'' a end =
         let last = failed_by b refl a in
         record {
           made = made;
@@ -298,10 +310,11 @@ module _ (fs : List Placed) (which : Which) (first now : Paused) (made : ℕ) (i
           rows = t.rows;
           ending = last.0;
           text_is = end ∙ last.1 ∙ ap (λ x. x ++ last.0) t.text_is;
-          taken = t.goes.taken ++ taken;
-          took = Took-append t.goes.took took;
-          shown = λ more can. subst (λ (xs : List ℕ). AreShown fs first.image.functions which (steps_from first xs) made t.rows) (sym (append_assoc t.goes.taken taken more)) (t.shown (taken ++ more) (follows took can));
-          ends = ends last.0 last.2;
+          taken = t.goes.taken;
+          took = took_so;
+          shown = λ more can. t.shown more (can_come more can);
+          ends = last.2;
+          reads = λ e byte more can. takes_byte byte more can;
         }
 
   -- the words where it is over
@@ -316,20 +329,20 @@ module _ (fs : List Placed) (which : Which) (first now : Paused) (made : ℕ) (i
       → (text'' : List ℕ) → AddsEnd fs new.store (active_of now.call) new.below r text' text'' → traces.ShowsRows fs first.image.functions which (steps_from first) n i m r old text''
   over_shows new q n (outcome.Exit status) lt t g words a kept text'' end =
       let h = halted now new first.image (outcome.Exit status) t.image_is g in
-      over_by new q n (outcome.Exit status) lt t h (λ e. cc) [] b refl a text'' (end ∙ sym (append-nil text')) (λ more can. ((last_shows new q n (outcome.Exit status) lt t h (λ e. cc) [] more can).outcome, refl))
+      over_by new q n (outcome.Exit status) lt t h (λ e. cc) (λ e. cc) [] b refl a text'' (end ∙ sym (append-nil text')) (λ more can. ((last_shows new q n (outcome.Exit status) lt t h (λ e. cc) (λ e. cc) [] more can).outcome, refl))
   over_shows new q n (outcome.Trap kind) lt t g words a kept text'' end =
       let h = halted now new first.image (outcome.Trap kind) t.image_is g in
       let told = subst (λ (below : List machine.Call). TellsPlace fs new.store (active_of now.call) below end.0) kept end.1 in
-      over_by new q n (outcome.Trap kind) lt t h (λ e. cc) end.0 b refl a text'' end.2
+      over_by new q n (outcome.Trap kind) lt t h (λ e. cc) (λ e. cc) end.0 b refl a text'' end.2
       (λ more can.
-      let before = can_before new q n (outcome.Trap kind) lt t h (λ e. cc) end.0 more can in (
-        (last_shows new q n (outcome.Trap kind) lt t h (λ e. cc) end.0 more can).outcome,
+      let before = can_before new q n (outcome.Trap kind) lt t h (λ e. cc) (λ e. cc) end.0 more can in (
+        (last_shows new q n (outcome.Trap kind) lt t h (λ e. cc) (λ e. cc) end.0 more can).outcome,
         (made, refl, (tries fs which first now made i j m o p old text text' b is t more before, subst (λ (store : List ℕ). TellsPlace fs store (active_of now.call) now.below end.0) (words_left new t words more before) told)),
       ))
   over_shows new q n outcome.Limit lt t g words a kept text'' end = absurd g
   over_shows new q n outcome.Device lt t g words a kept text'' end =
-      let took = took_broken now.image (machine_at now) (machine_at new) j m (outgoing_of p) (outgoing_of q) outcome.Device (inl refl) g in
-      over_failed new q n outcome.Device lt t took.0 took.1 text'' a end (λ ending f more can. f more can)
+      ⊎_elim (λ f. over_failed new q n lt t (read_failed now first.image t.image_is f) text'' a end)
+      (λ w. absurd (not_grown 0 0 refl refl w.refuses.counted.0)) g
   over_shows new q n outcome.Memory lt t g words a kept text'' end = absurd end
 
 -- all steps were made
@@ -352,4 +365,5 @@ all_show fs which first now made i j o p old text text' t end = record {
         refl,
         (record { call = now.call; below = now.below; world = world_with now.store more t.goes.output; state_is = there }, subst (λ (store : List ℕ). TellsPlace fs store (active_of now.call) now.below end.0) (sym (ap (λ s. (state_world s).store) there)) end.1),
       );
+  reads = λ e. cc;
 }

@@ -21,7 +21,7 @@ use Rattle.brun.proofs.RunSteps.{outcome-resolved, run_loaded, run_of_loaded, wo
 use Rattle.btools.specs.Programs.{HasProgram, nothing_written}
 use Rattle.btrace.specs.Programs.{Placed, functions_of}
 use Rattle.btrace.specs.RowTexts.{places_text, step_row, stored_text, written_row}
-use Rattle.btrace.specs.Traces.{AreShown, EndsAs, IsTried, IsWhere, TraceRow, ShowsRows, ShowsStep, StepsGive, TellsEnd, TellsPlace, Traces, Tries, is_shown, is_step, shown_of, steps_from, store_after, stored_after, traced, waits_at, which_of}
+use Rattle.btrace.specs.Traces.{AreShown, EndsAs, IsTried, IsWhere, TraceRow, ShowsRows, ShowsStep, StepsGive, TakesByte, TellsEnd, TellsPlace, Traces, Tries, is_shown, is_step, shown_of, steps_from, store_after, stored_after, traced, waits_at, which_of}
 use Rattle.btrace.specs.declared.tracing.TheConstants.{HEADING}
 use Rattle.btrace.specs.declared.tracing.Which.{Which}
 
@@ -114,6 +114,12 @@ module _ (fs : List Placed) (which : Which) (I : Image) (f g : ℕ → State) (e
   ends_same made n outcome.Device text h = tried_same made text h
   ends_same made n outcome.Memory text h = h
 
+  pub takes_same : (made byte : ℕ) (more : List ℕ) → TakesByte g made byte more → TakesByte f made byte more
+  takes_same made byte more h = (
+    ap (λ (w : World). w.input) (sym (world_same made)) ∙ h.0,
+    ap (λ (w : World). w.input) (sym (world_same (made + 1))) ∙ h.1,
+  )
+
 shows_run : (fs : List Placed) (which : Which) (ds : List Definition) (image : Image) (p : Paused) → IsLoadedFrom ds image → IsUnstarted image p → (n : ℕ) (i j : Incoming) (r : Outcome) (old new : List ℕ) → ShowsRows fs p.image.functions which (steps_from p) n i j r old new → ShowsRows fs (image_of ds).functions which (machine ds) n i j r old new
 shows_run fs which ds image p loaded begins n i j r old new s =
     let e : (input : List ℕ) (k : ℕ) → steps_from p input k ≡ state_resolved (image_of ds) (machine ds input k) =
@@ -129,6 +135,7 @@ shows_run fs which ds image p loaded begins n i j r old new s =
       took = s.took;
       shown = λ more can. are_shown fs which (image_of ds) (machine ds (s.taken ++ more)) (steps_from p (s.taken ++ more)) (e (s.taken ++ more)) s.made s.rows (subst (λ (fns : List Loaded). AreShown fs fns which (steps_from p (s.taken ++ more)) s.made s.rows) same (s.shown more can));
       ends = λ more can. ends_same fs which (image_of ds) (machine ds (s.taken ++ more)) (steps_from p (s.taken ++ more)) (e (s.taken ++ more)) s.made n r s.ending (s.ends more can);
+      reads = λ failed byte more can. takes_same fs which (image_of ds) (machine ds (s.taken ++ byte ∷ more)) (steps_from p (s.taken ++ byte ∷ more)) (e (s.taken ++ byte ∷ more)) s.made byte more (s.reads failed byte more can);
     }
 
 -- the trace of a program that has begun

@@ -1,5 +1,5 @@
 -- What the contracts of `trace` and `locate` exclude.
-use Rattle.std.specs.Prelude.{◌≡◌, ℕ, ◌<◌, List, [], ◌∷◌, ◌++◌, Option, Some, None, codes, map, take}
+use Rattle.std.specs.Prelude.{◌≡◌, ℕ, ◌<◌, false, List, [], ◌∷◌, ◌++◌, Option, Some, None, codes, map, take}
 use Rattle.bword.specs.declared.edition.Edition.{Edition}
 use Rattle.bword.specs.ByteEnds.{Grew}
 use Rattle.blang.specs.declared.code.Definition.{Definition}
@@ -71,6 +71,12 @@ writing = function (codes "main")
     (instr.External (codes "putchar") ∷ instr.Load ∷ instr.Constant 97 ∷ instr.Call 1 ∷ instr.Pop ∷ closing)
     ∷ []
 
+-- of `main(){getchar();}`, which reads in its third step
+abbrev pub reading : List Definition
+reading = function (codes "main")
+    (instr.External (codes "getchar") ∷ instr.Load ∷ instr.Call 0 ∷ instr.Pop ∷ closing)
+    ∷ []
+
 -- of `main(){*3=5;}`, which stores a word in its third step
 abbrev pub storing : List Definition
 storing = function (codes "main") (instr.Constant 3 ∷ instr.Constant 5 ∷ instr.Store ∷ instr.Pop ∷ closing) ∷ []
@@ -104,6 +110,15 @@ NoBeginning ds steps from text =
     (edition : Edition) (source : List ℕ) (ends : RunEnds) (status : ℕ) → IsSourceOf edition source ds
     → (Grew ends.input.failures ends.input_after.failures → ⊥) → ends.out.written ≡ Some []
     → ends.out_after.written ≡ Some (HEADING.now ++ text) → Traces edition source steps from None ends status → ⊥
+
+-- Where a read failed before the end was seen, and no write failed, no trace is this text.
+abbrev pub NoTraceOfRead : List Definition → (steps from : ℕ) → List ℕ → Type 0
+NoTraceOfRead ds steps from text =
+    (edition : Edition) (source : List ℕ) (ends : RunEnds) (status : ℕ) → IsSourceOf edition source ds
+    → (ends.input_after.failures ≡ ends.input.failures → ⊥) → ends.input_after.is_over ≡ false
+    → (Grew ends.out.failures ends.out_after.failures → ⊥) → (Grew ends.out.refusals ends.out_after.refusals → ⊥)
+    → ends.out.written ≡ Some [] → ends.out_after.written ≡ Some (HEADING.now ++ text)
+    → Traces edition source steps from None ends status → ⊥
 
 pub record TracesExcluded : Type 0 where
   -- a row with the number before, with the place after the step, without a name, with another instruction
@@ -167,6 +182,10 @@ pub record TracesExcluded : Type 0 where
   pub cut_off_without_row : (rest : List ℕ) → NoBeginning nothing 1 1 (codes "at     " ++ rest)
   pub cut_out : (rest : List ℕ)
       → NoBeginning calling 2 1 (codes "       1  main         0     1  x f         \nat     i" ++ rest)
+  -- of a read that failed: the row of its step lost, those before it, and a row of a step after it
+  pub rows_lost : NoTraceOfRead reading 4 1 (codes "       1  main         0     1  x getchar   \n")
+  pub row_of_read_lost : NoTraceOfRead reading 4 3 []
+  pub row_after_read : (text : List ℕ) → (text ≡ [] → ⊥) → NoTraceOfRead reading 4 4 text
   -- want of memory told where a read failed and no write was refused memory
   pub read_failed : (edition : Edition) (source : List ℕ) (steps from : ℕ) (name : Option (List ℕ)) (ends : RunEnds)
       → (ends.input_after.failures ≡ ends.input.failures → ⊥)

@@ -1,5 +1,5 @@
 -- What comes of a source whose steps are written.
-use Rattle.std.specs.Prelude.{◌≡◌, ◌⊎◌, ℕ, ◌+◌, ◌-◌, ◌≤◌, ◌==◌, ◌&&◌, Bool, true, false, List, [], ◌++◌}
+use Rattle.std.specs.Prelude.{◌≡◌, ◌⊎◌, ℕ, ◌+◌, ◌-◌, ◌≤◌, ◌==◌, ◌&&◌, Bool, true, false, List, [], ◌∷◌, ◌++◌}
 use Rattle.std.specs.Prelude.{None, Result, Ok, Err, codes, drop, filter, length, map, nat_le, option_map, refl}
 use Rattle.std.specs.Prelude.{All, Option, Some, if◌then◌else◌}
 use Rattle.std.specs.List.{flat_map, range_with_len}
@@ -134,8 +134,13 @@ EndsAs fs which states made steps outcome.Limit ending =
 EndsAs fs which states made steps outcome.Device ending = IsTried fs which states made ending
 EndsAs fs which states made steps outcome.Memory ending = ⊥
 
+-- The next step takes this byte of the input, and nothing more.
+abbrev pub TakesByte : (ℕ → State) → (made byte : ℕ) → (more : List ℕ) → Type 0
+TakesByte states made byte more =
+    ((state_world (states made)).input ≡ byte ∷ more) × ((state_world (states (made + 1))).input ≡ more)
+
 -- The rows of the steps of this machine were added to a text, and an ending. Its input is what was taken and what may
--- follow.
+-- follow. Where a read failed, it was that of the step after these.
 pub record ShowsRows (fs : List Placed) (functions : List Loaded) (which : Which) (states : States) (steps : ℕ)
     (i j : Incoming) (result : Outcome) (old new : List ℕ) : Type 0 where
   pub made : ℕ
@@ -147,6 +152,8 @@ pub record ShowsRows (fs : List Placed) (functions : List Loaded) (which : Which
   pub took : Took i taken j
   pub shown : (more : List ℕ) → CanFollow j more → AreShown fs functions which (states (taken ++ more)) made rows
   pub ends : (more : List ℕ) → CanFollow j more → EndsAs fs which (states (taken ++ more)) made steps result ending
+  pub reads : result ≡ outcome.Device → (byte : ℕ) (more : List ℕ) → CanFollow j (byte ∷ more)
+      → TakesByte (states (taken ++ byte ∷ more)) made byte more
 
 -- A step was shown before it was made, with the words at these addresses as they are after it and these bytes written.
 pub record AddsStep (fs : List Placed) (number : ℕ) (call : Call) (addresses store bytes old new : List ℕ) : Type 0

@@ -4,7 +4,7 @@ use Rattle.blang.specs.declared.token.Token.TheVariants as token
 use Rattle.blang.specs.Trees.{Identifier, Ival, Ival_constant, Ival_text, Ival_name, Stmt, Definition, Simple, Vector, Function, constant_token}
 use Rattle.blang.specs.Cut.{string_token}
 use Rattle.blang.specs.WellFormed.{nesting_limit, texts_of, OffsetsFrom, IsFormed}
-use Rattle.blang.specs.Walk.{Declaration, walk_value, walk_values, walk_parameter, walk_definition}
+use Rattle.blang.specs.Walk.{AutoHere, walk_value, walk_values, walk_parameter, walk_definition}
 use Rattle.btree.specs.DefinitionReader.{is_open_definition}
 use Rattle.btree.proofs.Relined.{Like, like_itself, like_plain, beside, like_levels, like_offsets, HasTwin, one_token, both, made, after_token, before_token, list_twin, list_like}
 use Rattle.btree.proofs.ExpressionRelined.{constant_kept}
@@ -43,6 +43,6 @@ definition_twin (Vector w size values) =
     (λ (p : ℕ × (ℕ × List Ival)). Vector (record { text = w.text; line = p.0 }) size p.1.1) (λ p. refl)
     (λ p q a. record { formed = formed_alike (Vector (record { text = w.text; line = p.0 }) size p.1.1) (Vector (record { text = w.text; line = q.0 }) size q.1.1) (beside (like_plain _ _ tt tt) (beside (like_itself _) (beside (like_itself _) (beside (like_itself _) a.1.1)))); same_open = refl })
 definition_twin (Function w parameters body) =
-    made (both (one_token (token.Name w.text) w.line) (after_token token.OpenParen (λ line. refl) (both (list_twin walk_parameter Any (name_twin (λ v. Declaration v None)) parameters) (after_token token.CloseParen (λ line. refl) (statement_twin body)))))
+    made (both (one_token (token.Name w.text) w.line) (after_token token.OpenParen (λ line. refl) (both (list_twin walk_parameter Any (name_twin (λ v. AutoHere v None)) parameters) (after_token token.CloseParen (λ line. refl) (statement_twin body)))))
     (λ (p : ℕ × (List Identifier × Stmt)). Function (record { text = w.text; line = p.0 }) p.1.0 p.1.1) (λ p. refl)
     (λ p q a. record { formed = λ f. let s = a.1.1 in (s.binds f.0, like_levels nesting_limit s.like f.1 f.2, like_offsets s.like f.2); same_open = a.1.1.same_open })

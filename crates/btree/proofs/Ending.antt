@@ -4,7 +4,7 @@ use Rattle.blang.specs.declared.token.Keyword.TheVariants as keyword
 use Rattle.blang.specs.declared.token.Token.TheVariants as token
 use Rattle.blang.specs.declared.token.Placed.{Placed}
 use Rattle.blang.specs.Trees.{mark, Expr, Arguments, Number, Named, Literal, Text, Grouped, Indexed, Called, Postfixed, Prefixed, Binary, Conditional, Assigned, No_arguments, Another, name_token, prefix_token, postfix_token, Stmt, Headed, Compound, If, IfElse, While, Switch, Goto, Break, Return, ReturnValue, Evaluate, Empty, Stmts, Nothing, More, keyword_mark, Definition, Simple, Vector, Function}
-use Rattle.blang.specs.Walk.{Walk, Blank, Said, Noted, Level, ◌▸◌, Event, Lvalue, LoopBegins, LoopEnds, SwitchBegins, SwitchEnds, tokens_in, spell_definition, spell_all, callee, prefix_events, plain, walk, walk_arguments, walk_list, walk_heading, walk_condition, walk_statement, walk_body, walk_definition, walk_parameter}
+use Rattle.blang.specs.Walk.{Walk, NothingHere, Said, Noted, Level, ◌▸◌, Event, LvalueWanted, LoopBegins, LoopEnds, SwitchBegins, SwitchEnds, tokens_in, spell_definition, spell_all, callee, prefix_events, plain, walk, walk_arguments, walk_list, walk_heading, walk_parenthesized, walk_statement, walk_body, walk_definition, walk_parameter}
 use Rattle.blang.specs.Cut.{placed}
 use Rattle.blang.specs.WellFormed.{rank, or_rank, conditional_rank, rvalue_rank, is_open, Binds, ArgumentsBind, StatementBinds, BodyBinds}
 use Rattle.btree.specs.Fitting.{words_in, FitsIn}
@@ -162,7 +162,7 @@ module _ (most : ℕ) where
         (closed (mark token.CloseParen) args room b.2 h.1.0 (level_ended (mark token.OpenParen) [] (λ x. []) room h.1.0 No_arguments tt (λ k. tt) (λ k i. arguments_ended args k (suc n) _ b.2 i)))
         (λ x. Called e x) (λ x. refl) (λ x a. (b.0, b.1, a))
     ended (Postfixed op line e) loose room n off b h =
-        followed (loosened loose (omega arith) (ended e 0 room n off b.1 h.0)) room h.0 (whole {say = λ (o : Unit {0}). Said (placed (postfix_token op) line) ▸ Noted (Lvalue line e)} {Bind = λ o. Unit {0}} tt tt (tt, tt)) (λ o. Postfixed op line e) (λ o. refl) (λ o a. b)
+        followed (loosened loose (omega arith) (ended e 0 room n off b.1 h.0)) room h.0 (whole {say = λ (o : Unit {0}). Noted (LvalueWanted line e) ▸ Said (placed (postfix_token op) line)} {Bind = λ o. Unit {0}} tt tt (tt, tt)) (λ o. Postfixed op line e) (λ o. refl) (λ o a. b)
     ended (Prefixed op line e) loose room n off b h =
         seen (level_ended (placed (prefix_token op) line) _ (λ x. prefix_events op line x) room h one tt (λ k. tt) (λ k i. ended e 0 k (suc n) off b i)) (λ x. Prefixed op line x) (λ x. refl) (λ x a. a)
     ended (Binary op line e f) loose room n off b h =
@@ -174,17 +174,17 @@ module _ (most : ℕ) where
         (λ (p : Expr × Expr). Conditional e p.0 p.1) (λ p. refl) (λ p a. (b.0, b.1, a.0, a.1))
     ended (Assigned op line e f) loose room n off b h =
         followed (loosened loose (omega arith) (ended e 0 room n off b.1 h.0)) room h.0
-        (silent (Noted (Lvalue line e)) refl tt (level_ended (placed (token.Assign op) line) [] (λ x. []) room h.1.1 one tt (λ k. tt) (λ k i. ended f rvalue_rank k (suc n) _ b.2 i)))
+        (silent (Noted (LvalueWanted line e)) refl tt (level_ended (placed (token.Assign op) line) [] (λ x. []) room h.1.1 one tt (λ k. tt) (λ k i. ended f rvalue_rank k (suc n) _ b.2 i)))
         (λ x. Assigned op line e x) (λ x. refl) (λ x a. (b.0, b.1, a))
 
     arguments_ended : (args : Arguments) (room n off : ℕ) → ArgumentsBind args → FitsIn (walk_arguments args) room off → HasEnd walk_arguments ArgumentsBind n off (walk_arguments args)
     arguments_ended No_arguments room n off b h = whole No_arguments tt tt
     arguments_ended (Another No_arguments e) room n off b h =
-        followed (whole No_arguments tt tt) room tt (silent Blank refl tt (ended e rvalue_rank room n _ b.1 h.1.1)) (λ x. Another No_arguments x) (λ x. refl) (λ x a. (tt, a))
+        followed (whole No_arguments tt tt) room tt (silent NothingHere refl tt (ended e rvalue_rank room n _ b.1 h.1.1)) (λ x. Another No_arguments x) (λ x. refl) (λ x a. (tt, a))
     arguments_ended (Another (Another c d) e) room n off b h =
         followed (arguments_ended (Another c d) room n off b.0 h.0) room h.0 (after (mark token.Comma) one tt tt (ended e rvalue_rank room n _ b.1 h.1.1)) (λ x. Another (Another c d) x) (λ x. refl) (λ x a. (b.0, a))
 
-  condition_ended : (e : Expr) (room n off : ℕ) → Binds e rvalue_rank → FitsIn (walk_condition e) room off → HasEnd walk_condition (λ (x : Expr). Binds x rvalue_rank) n off (walk_condition e)
+  condition_ended : (e : Expr) (room n off : ℕ) → Binds e rvalue_rank → FitsIn (walk_parenthesized e) room off → HasEnd walk_parenthesized (λ (x : Expr). Binds x rvalue_rank) n off (walk_parenthesized e)
   condition_ended e room n off b h = after (mark token.OpenParen) one tt (tt, tt) (closed (mark token.CloseParen) e room b h.1.0 (ended e rvalue_rank room n _ b h.1.0))
 
 -- the branches of an if: one, or two
@@ -200,7 +200,7 @@ abbrev branched : Expr → Stmt × Option Stmt → Stmt
 branched e (s, None) = If e s
 branched e (s, Some other) = IfElse e s other
 
-branched_walk : (e : Expr) (b : Stmt × Option Stmt) → Level (keyword_mark keyword.If) (walk_condition e ▸ branches_walk b) [] ≡ walk_statement (branched e b)
+branched_walk : (e : Expr) (b : Stmt × Option Stmt) → Level (keyword_mark keyword.If) (walk_parenthesized e ▸ branches_walk b) [] ≡ walk_statement (branched e b)
 branched_walk e (s, None) = refl
 branched_walk e (s, Some other) = refl
 

@@ -4,7 +4,7 @@ use Rattle.blang.specs.declared.token.Token.TheVariants as token
 use Rattle.blang.specs.Trees.{mark, kept, Constant, Number, Character, Expr, Arguments, PostfixOp, PostIncrement, PostDecrement, Named, Literal, Text, Grouped, Indexed, Called, Postfixed, Prefixed, Binary, Conditional, Assigned, No_arguments, Another, constant_token, prefix_token, postfix_token}
 use Rattle.blang.specs.Cut.{placed, string_token}
 use Rattle.blang.specs.WellFormed.{rank, or_rank, conditional_rank, rvalue_rank, IsPostfix, Binds, ArgumentsBind}
-use Rattle.blang.specs.Walk.{◌▸◌, tokens_in, walk, walk_arguments, walk_comma}
+use Rattle.blang.specs.Walk.{◌▸◌, tokens_in, walk, walk_arguments, comma_before_next}
 use Rattle.btree.proofs.ExpressionSound.{prefix_kept}
 use Rattle.btree.proofs.Relined.{Like, like_itself, like_plain, beside, opening, like_callee, HasTwin, silent, one_token, both, made, after_token, before_token}
 use Rattle.btree.proofs.Spelling.{called_spelling}
@@ -17,7 +17,7 @@ pub record Alike (e f : Expr) : Type 0 where
 
 pub record ArgumentsAlike (a b : Arguments) : Type 0 where
   pub like : Like (walk_arguments a) (walk_arguments b)
-  pub comma : Like (walk_comma a) (walk_comma b)
+  pub comma : Like (comma_before_next a) (comma_before_next b)
   pub binds : ArgumentsBind a → ArgumentsBind b
 
 pub constant_kept : (c : Constant) (line : ℕ) → kept (placed (constant_token c) line) ≡ mark (constant_token c)
@@ -77,10 +77,10 @@ mutual
 
   arguments_twin : (args : Arguments) → HasTwin walk_arguments ArgumentsAlike args
   arguments_twin No_arguments = silent No_arguments refl (record { like = like_itself _; comma = like_itself _; binds = λ b. b })
-  arguments_twin (Another before e) = made (both (before_comma before) (expression_twin e)) (λ (p : Arguments × Expr). Another p.0 p.1) (λ p. sym (append_assoc (tokens_in (walk_arguments p.0)) (tokens_in (walk_comma p.0)) (tokens_in (walk p.1)))) another_alike
+  arguments_twin (Another before e) = made (both (before_comma before) (expression_twin e)) (λ (p : Arguments × Expr). Another p.0 p.1) (λ p. sym (append_assoc (tokens_in (walk_arguments p.0)) (tokens_in (comma_before_next p.0)) (tokens_in (walk p.1)))) another_alike
 
   -- arguments, and the comma after them
-  before_comma : (args : Arguments) → HasTwin (λ (a : Arguments). walk_arguments a ▸ walk_comma a) ArgumentsAlike args
+  before_comma : (args : Arguments) → HasTwin (λ (a : Arguments). walk_arguments a ▸ comma_before_next a) ArgumentsAlike args
   before_comma No_arguments = silent No_arguments refl (record { like = like_itself _; comma = like_itself _; binds = λ b. b })
   before_comma (Another before e) =
-      made (before_token token.Comma (λ line. refl) (both (before_comma before) (expression_twin e))) (λ (p : Arguments × Expr). Another p.0 p.1) (λ p. ap (λ l. l ++ mark token.Comma ∷ []) (sym (append_assoc (tokens_in (walk_arguments p.0)) (tokens_in (walk_comma p.0)) (tokens_in (walk p.1))))) another_alike
+      made (before_token token.Comma (λ line. refl) (both (before_comma before) (expression_twin e))) (λ (p : Arguments × Expr). Another p.0 p.1) (λ p. ap (λ l. l ++ mark token.Comma ∷ []) (sym (append_assoc (tokens_in (walk_arguments p.0)) (tokens_in (comma_before_next p.0)) (tokens_in (walk p.1))))) another_alike

@@ -4,14 +4,14 @@ use Rattle.std.specs.List.{flat_map}
 use Rattle.std.proofs.lemmas.List.Sums.{sum_by-append, sum_by-cons}
 use Rattle.blang.specs.Trees.{Identifier, Expr, Arguments, Named, Literal, Text, Grouped, Indexed, Called, Postfixed, Prefixed, Binary, Conditional, Assigned, No_arguments, Another, Heading, Stmt, Headed, Compound, If, IfElse, While, Switch, Goto, Break, Return, ReturnValue, Evaluate, Empty, Stmts, Nothing, More, Ival, Ival_constant, Ival_text, Ival_name, Definition, Simple, Vector, Function}
 use Rattle.blang.specs.WellFormed.{rank, or_rank, conditional_rank, rvalue_rank, Binds, ArgumentsBind, StatementBinds, BodyBinds, nesting_limit, IsFormed}
-use Rattle.blang.specs.Walk.{Walk, levels_in, walk_commas, walk_list, walk_comma, walk, walk_arguments, walk_size, walk_heading, walk_condition, walk_statement, walk_body, walk_value, walk_values, walk_parameter, walk_definition}
-use Rattle.blang.specs.Code.{strings_of}
+use Rattle.blang.specs.Walk.{Walk, levels_in, walk_commas, walk_list, comma_before_next, walk, walk_arguments, walk_size, walk_heading, walk_parenthesized, walk_statement, walk_body, walk_value, walk_values, walk_parameter, walk_definition}
+use Rattle.blang.specs.Code.{string_words_of}
 use Rattle.btree.specs.Fitting.{EachAfter, words_in, words, argument_words, FitsIn, Fits, ArgumentsFit, statement_words, body_words, Sits, AllSit, ival_words, values_words, IvalFits, strings_in, statement_strings, ival_strings}
 use Rattle.btree.specs.Levels.{IsFormedIn}
 use Rattle.btree.proofs.WalkLaws.{callee_words, strings_are, fits_in, in_room, in_order, at_offset, to_callee, from_callee, plain_words, plain_strings, plain_fits, size_plain, comma_plain, parameters_plain, heading_plain}
 
-comma_words : (args : Arguments) → words_in (walk_comma args) ≡ 0
-comma_words args = plain_words (walk_comma args) (comma_plain args)
+comma_words : (args : Arguments) → words_in (comma_before_next args) ≡ 0
+comma_words args = plain_words (comma_before_next args) (comma_plain args)
 
 heading_words : (h : Heading) → words_in (walk_heading h) ≡ 0
 heading_words h = plain_words (walk_heading h) (heading_plain h)
@@ -53,7 +53,7 @@ mutual
       let o = off + argument_words before in
       (arguments_fit before room off b.0 h.0, fits e rvalue_rank room o b.1 (at_offset (walk e) room _ o (omega (arith, comma_words before)) h.1.1))
 
-condition_fits : (e : Expr) (room off : ℕ) → Binds e rvalue_rank → FitsIn (walk_condition e) room off → Fits e rvalue_rank room off
+condition_fits : (e : Expr) (room off : ℕ) → Binds e rvalue_rank → FitsIn (walk_parenthesized e) room off → Fits e rvalue_rank room off
 condition_fits e room off b h = fits e rvalue_rank room off b (past (walk e) room off h.1.0)
 
 mutual
@@ -75,7 +75,7 @@ mutual
   sits (Goto e) room off b f = fits e rvalue_rank room off b (past (walk e) room off f.1.0)
   sits (Break line) room off b f = tt
   sits Return room off b f = tt
-  sits (ReturnValue e) room off b f = condition_fits e room off b (past (walk_condition e) room off f.1.0)
+  sits (ReturnValue e) room off b f = condition_fits e room off b (past (walk_parenthesized e) room off f.1.0)
   sits (Evaluate e) room off b f = fits e rvalue_rank room off b f.0
   sits Empty room off b f = tt
 
@@ -123,9 +123,9 @@ mutual
       let o = off + argument_words before in
       let i = arguments_both before room off h.0 in
       let j = both e rvalue_rank room o h.1 in
-      ((i.0, j.0), (i.1, (plain_fits (walk_comma before) (comma_plain before) room o, at_offset (walk e) room o _ (omega (arith, comma_words before)) j.1)))
+      ((i.0, j.0), (i.1, (plain_fits (comma_before_next before) (comma_plain before) room o, at_offset (walk e) room o _ (omega (arith, comma_words before)) j.1)))
 
-condition_both : (e : Expr) (room off : ℕ) → Fits e rvalue_rank room off → Binds e rvalue_rank × FitsIn (walk_condition e) room off
+condition_both : (e : Expr) (room off : ℕ) → Fits e rvalue_rank room off → Binds e rvalue_rank × FitsIn (walk_parenthesized e) room off
 condition_both e room off h = let i = both e rvalue_rank room off h in (i.0, (tt, (upto (walk e) room off i.1, tt)))
 
 mutual
@@ -160,7 +160,7 @@ mutual
   statement_both (Goto e) room off f = let i = both e rvalue_rank room off f in (i.0, (tt, (upto (walk e) room off i.1, tt)))
   statement_both (Break line) room off f = (tt, (tt, (tt, tt)))
   statement_both Return room off f = (tt, (tt, tt))
-  statement_both (ReturnValue e) room off f = let i = condition_both e room off f in (i.0, (tt, (upto (walk_condition e) room off i.1, tt)))
+  statement_both (ReturnValue e) room off f = let i = condition_both e room off f in (i.0, (tt, (upto (walk_parenthesized e) room off i.1, tt)))
   statement_both (Evaluate e) room off f = let i = both e rvalue_rank room off f in (i.0, (i.1, tt))
   statement_both Empty room off f = (tt, tt)
 
@@ -257,12 +257,12 @@ values_strings : (values : List Ival) → strings_in (walk_values values) ≡ fl
 values_strings [] = refl
 values_strings (v ∷ values) = append-nil (ival_strings v ++ strings_in (walk_commas walk_value values)) ∙ ap (λ l. ival_strings v ++ l) (commas_strings values)
 
-pub simple_strings : (w : Identifier) (values : List Ival) → strings_of (Simple w values) ≡ flat_map ival_strings values
+pub simple_strings : (w : Identifier) (values : List Ival) → string_words_of (Simple w values) ≡ flat_map ival_strings values
 simple_strings w values = strings_are (walk_definition (Simple w values)) ∙ values_strings values
 
-pub vector_strings : (w : Identifier) (size : Option ℕ) (values : List Ival) → strings_of (Vector w size values) ≡ flat_map ival_strings values
+pub vector_strings : (w : Identifier) (size : Option ℕ) (values : List Ival) → string_words_of (Vector w size values) ≡ flat_map ival_strings values
 vector_strings w size values = strings_are (walk_definition (Vector w size values)) ∙ ap (λ l. l ++ strings_in (walk_values values)) (plain_strings (walk_size size) (size_plain size)) ∙ values_strings values
 
-pub function_strings : (w : Identifier) (parameters : List Identifier) (body : Stmt) → strings_of (Function w parameters body) ≡ statement_strings body
+pub function_strings : (w : Identifier) (parameters : List Identifier) (body : Stmt) → string_words_of (Function w parameters body) ≡ statement_strings body
 function_strings w parameters body =
     strings_are (walk_definition (Function w parameters body)) ∙ ap (λ l. l ++ statement_strings body) (plain_strings (walk_list walk_parameter parameters) (parameters_plain parameters))

@@ -2,7 +2,7 @@
 use Rattle.std.proofs.Common.{◌≡◌, ℕ, zero, suc, ◌+◌, ◌-◌, ◌≤◌, List, [], ◌∷◌, ◌++◌, ap, ◌∙◌, refl, subst, arith}
 use Rattle.std.proofs.lemmas.List.{map-append}
 use Rattle.blang.specs.Trees.{Definition}
-use Rattle.blang.specs.Walk.{Walk, Said, Quote, Level, ◌▸◌, tokens_in, walk_definition, spell_definition}
+use Rattle.blang.specs.Walk.{Walk, Said, TextHere, Level, ◌▸◌, tokens_in, walk_definition, spell_definition}
 use Rattle.btree.specs.Fitting.{words_in, Deeper, FitsIn}
 use Rattle.btree.specs.Levels.{Leveled, tokens, leveled, definition_levels, program_levels, IsFormedIn, NoneAbove, LevelsOfTokens, NeedsLevels, HasLevels}
 use Rattle.btree.proofs.Fitting.{definition_fits, definition_binds, definition_stands}
@@ -34,7 +34,7 @@ deeper P most n le p = let e : suc (most - suc n) ≡ most - n = omega arith in 
 -- What fits, fits as many levels as its tokens have, and has no level above its room.
 module _ (most : ℕ) where
   pub within : (w : Walk) (room n off : ℕ) → FitsIn w room off → NoneAbove most (leveled w n) → FitsIn w (most - n) off
-  within (Quote t) room n off h none = h
+  within (TextHere t) room n off h none = h
   within (Level p w end) zero n off h none = absurd h
   within (Level p w end) (suc k) n off h none = deeper (λ k. FitsIn w k off) most n none.0 (within w k (suc n) off h none.1)
   within (v ▸ w) room n off h none = let s = none_split most (leveled v n) (leveled w n) none in (within v room n off h.0 s.0, within w room n (off + words_in v) h.1 s.1)
@@ -42,7 +42,7 @@ module _ (most : ℕ) where
 
   has : (w : Walk) (room n off : ℕ) → n + room ≤ most → FitsIn w room off → NoneAbove most (leveled w n)
   has (Said p) room n off le h = (omega arith, tt)
-  has (Quote t) room n off le h = (omega arith, tt)
+  has (TextHere t) room n off le h = (omega arith, tt)
   has (Level p w end) zero n off le h = absurd h
   has (Level p w end) (suc k) n off le h = (omega arith, has w k (suc n) off (omega arith) h)
   has (v ▸ w) room n off le h = none_join most (leveled v n) (leveled w n) (has v room n off le h.0) (has w room n (off + words_in v) le h.1)

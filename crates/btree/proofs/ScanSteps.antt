@@ -8,7 +8,7 @@ use Rattle.std.proofs.lemmas.Bool.Decides.{nat_tests}
 use Rattle.blang.specs.declared.token.Diagnostic.{Diagnostic}
 use Rattle.blang.specs.Trees.{Identifier, Expr}
 use Rattle.blang.specs.Scan.{NameKind, Automatic, External, Unlabelled, Labelled, Entry, most_names, kind_of, with_entry, with_declaration, kind_mentioned, with_mention, with_kind, with_label, Scope, automatic_words, Around, most_cases, is_lvalue, with_names, scan_case, scan_default, can_break, scan_event, scanned}
-use Rattle.blang.specs.Walk.{Event, Declaration, Import, Mention, LabelHere, CaseHere, DefaultHere, BreakHere, Lvalue}
+use Rattle.blang.specs.Walk.{Event, AutoHere, ExtrnHere, Mention, LabelHere, CaseHere, DefaultHere, BreakHere, LvalueWanted}
 use Rattle.bword.specs.Words.{same_name}
 use Rattle.btree.proofs.ScopeLaws.{kind_of-push}
 
@@ -99,11 +99,11 @@ with_names_is : {P : List Entry → Type 0} (s t : Scope) (r : Result (List Entr
 with_names_is s t (Ok names) p h = let e : record s { names = names } ≡ t = cc in record { names = names; come = p names refl; is = sym e }
 with_names_is s t (Err d) p h = cc
 
-pub declares : (w : Identifier) (size : Option ℕ) (s t : Scope) → scan_event (Declaration w size) s ≡ Ok t
+pub declares : (w : Identifier) (size : Option ℕ) (s t : Scope) → scan_event (AutoHere w size) s ≡ Ok t
     → Renamed (record s { frame = s.frame + automatic_words size }) (Entered w.text (Automatic s.frame) s.names) t
 declares w size s t h = with_names_is (record s { frame = s.frame + automatic_words size }) t _ (declared_is w (Automatic s.frame) s.names) h
 
-pub imports : (w : Identifier) (s t : Scope) → scan_event (Import w) s ≡ Ok t → Renamed s (Entered w.text External s.names) t
+pub imports : (w : Identifier) (s t : Scope) → scan_event (ExtrnHere w) s ≡ Ok t → Renamed s (Entered w.text External s.names) t
 imports w s t h = with_names_is s t _ (declared_is w External s.names) h
 
 pub mentions : (called : Bool) (w : Identifier) (s t : Scope) → scan_event (Mention called w) s ≡ Ok t → Renamed s (Mentioned called w s.names) t
@@ -157,7 +157,7 @@ passed : (b : Bool) (s t : Scope) (d : Diagnostic) → (let r : Result Scope Dia
 passed true s t d h = let e : s ≡ t = cc in record { is = sym e; holds = refl }
 passed false s t d h = cc
 
-pub lvalues : (line : ℕ) (e : Expr) (s t : Scope) → scan_event (Lvalue line e) s ≡ Ok t → Passed (is_lvalue s.names e) s t
+pub lvalues : (line : ℕ) (e : Expr) (s t : Scope) → scan_event (LvalueWanted line e) s ≡ Ok t → Passed (is_lvalue s.names e) s t
 lvalues line e s t h = passed (is_lvalue s.names e) s t _ h
 
 pub breaks : (line : ℕ) (s t : Scope) → scan_event (BreakHere line) s ≡ Ok t → Passed (can_break s) s t

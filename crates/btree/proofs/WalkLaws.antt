@@ -3,7 +3,7 @@ use Rattle.std.proofs.Common.{◌≡◌, ◌≤◌, ℕ, zero, suc, ◌+◌, ◌
 use Rattle.std.specs.List.{flat_map}
 use Rattle.std.proofs.lemmas.List.Concat.{flat_map-append}
 use Rattle.blang.specs.Trees.{Identifier, Expr, Arguments, Named, No_arguments, Another, Declared, Heading, Auto, Extrn, Label, Case, Default, Stmt}
-use Rattle.blang.specs.Walk.{TextAt, Event, Declaration, Walk, Quote, Level, ◌▸◌, levels_in, texts_in, events_in, name, walk_commas, walk_list, walk_comma, callee, walk, walk_size, walk_declared, walk_import, walk_heading, walk_statement, walk_parameter}
+use Rattle.blang.specs.Walk.{TextAt, Event, AutoHere, Walk, TextHere, Level, ◌▸◌, levels_in, texts_in, events_in, name, walk_commas, walk_list, comma_before_next, callee, walk, walk_size, walk_declared, walk_import, walk_heading, walk_statement, walk_parameter}
 use Rattle.blang.specs.WellFormed.{packed, OffsetsFrom}
 use Rattle.blang.specs.Scan.{function_events}
 use Rattle.btree.specs.Fitting.{text_words, words_in, FitsIn, strings_in}
@@ -23,7 +23,7 @@ length-packed (x ∷ []) = refl
 length-packed (x ∷ y ∷ bytes) = let ih : length (packed bytes) ≡ (length bytes + 2) / 2 = length-packed bytes in omega arith
 
 pub length-strings : (w : Walk) → length (strings_in w) ≡ words_in w
-length-strings (Quote t) = length-packed t.bytes
+length-strings (TextHere t) = length-packed t.bytes
 length-strings (Level p w end) = length-strings w
 length-strings (v ▸ w) = omega (arith, length-append (strings_in v) (strings_in w), length-strings v, length-strings w)
 length-strings _ = refl
@@ -32,7 +32,7 @@ abbrev packed_all : List TextAt → List ℕ
 packed_all ts = flat_map (λ t. packed t.bytes) ts
 
 pub strings_are : (w : Walk) → packed_all (texts_in w) ≡ strings_in w
-strings_are (Quote t) = append-nil (packed t.bytes)
+strings_are (TextHere t) = append-nil (packed t.bytes)
 strings_are (Level p w end) = strings_are w
 strings_are (v ▸ w) = flat_map-append (λ (t : TextAt). packed t.bytes) (texts_in v) (texts_in w) ∙ ap (λ l. l ++ packed_all (texts_in w)) (strings_are v) ∙ ap (λ l. strings_in v ++ l) (strings_are w)
 strings_are _ = refl
@@ -56,7 +56,7 @@ together (t ∷ ts) us off n e h k =
 
 -- Levels and offsets: what fits in a walk.
 pub fits_in : (w : Walk) (room off : ℕ) → levels_in w ≤ room → OffsetsFrom off (texts_in w) → FitsIn w room off
-fits_in (Quote t) room off l o = o.0
+fits_in (TextHere t) room off l o = o.0
 fits_in (Level p w end) zero off l o = absurd (omega arith)
 fits_in (Level p w end) (suc k) off l o = fits_in w k off (omega arith) o
 fits_in (v ▸ w) room off l o =
@@ -71,7 +71,7 @@ in_room (v ▸ w) room off h = let i = in_room v room off h.0 in let j = in_room
 in_room _ room off h = omega arith
 
 pub in_order : (w : Walk) (room off : ℕ) → FitsIn w room off → OffsetsFrom off (texts_in w)
-in_order (Quote t) room off h = (h, tt)
+in_order (TextHere t) room off h = (h, tt)
 in_order (Level p w end) zero off h = absurd h
 in_order (Level p w end) (suc k) off h = in_order w k off h
 in_order (v ▸ w) room off h = together (texts_in v) (texts_in w) off (words_in v) (counted v) (in_order v room off h.0) (in_order w room (off + words_in v) h.1)
@@ -91,25 +91,25 @@ from_callee _ room off h = h
 
 -- Walks without strings and levels.
 abbrev pub IsPlain : Walk → Type 0
-IsPlain (Quote t) = ⊥
+IsPlain (TextHere t) = ⊥
 IsPlain (Level p w end) = ⊥
 IsPlain (v ▸ w) = IsPlain v × IsPlain w
 IsPlain _ = Unit {0}
 
 pub plain_words : (w : Walk) → IsPlain w → words_in w ≡ 0
-plain_words (Quote t) h = absurd h
+plain_words (TextHere t) h = absurd h
 plain_words (Level p w end) h = absurd h
 plain_words (v ▸ w) h = omega (arith, plain_words v h.0, plain_words w h.1)
 plain_words _ h = refl
 
 pub plain_strings : (w : Walk) → IsPlain w → strings_in w ≡ []
-plain_strings (Quote t) h = absurd h
+plain_strings (TextHere t) h = absurd h
 plain_strings (Level p w end) h = absurd h
 plain_strings (v ▸ w) h = rw (plain_strings v h.0) (plain_strings w h.1)
 plain_strings _ h = refl
 
 pub plain_fits : (w : Walk) → IsPlain w → (room off : ℕ) → FitsIn w room off
-plain_fits (Quote t) h room off = absurd h
+plain_fits (TextHere t) h room off = absurd h
 plain_fits (Level p w end) h room off = absurd h
 plain_fits (v ▸ w) h room off = (plain_fits v h.0 room off, plain_fits w h.1 room (off + words_in v))
 plain_fits _ h room off = tt
@@ -127,7 +127,7 @@ pub size_plain : (size : Option ℕ) → IsPlain (walk_size size)
 size_plain None = tt
 size_plain (Some n) = tt
 
-pub comma_plain : (args : Arguments) → IsPlain (walk_comma args)
+pub comma_plain : (args : Arguments) → IsPlain (comma_before_next args)
 comma_plain No_arguments = tt
 comma_plain (Another before e) = tt
 
@@ -152,16 +152,16 @@ module _ {A : Type 0} (say : A → Walk) (event : A → Event) (each : (x : A) �
   list_events [] = refl
   list_events (x ∷ xs) = rw (each x, after_events xs) refl
 
-pub comma_events : (args : Arguments) → events_in (walk_comma args) ≡ []
+pub comma_events : (args : Arguments) → events_in (comma_before_next args) ≡ []
 comma_events No_arguments = refl
 comma_events (Another before e) = refl
 
-pub declared_events : (d : Declared) → events_in (walk_declared d) ≡ Declaration d.word d.size ∷ []
-declared_events d = ap (λ l. Declaration d.word d.size ∷ l) (size_events d.size)
+pub declared_events : (d : Declared) → events_in (walk_declared d) ≡ AutoHere d.word d.size ∷ []
+declared_events d = ap (λ l. AutoHere d.word d.size ∷ l) (size_events d.size)
   where
     size_events : (size : Option ℕ) → events_in (walk_size size) ≡ []
     size_events None = refl
     size_events (Some n) = refl
 
-pub function_events_are : (parameters : List Identifier) (body : Stmt) → function_events parameters body ≡ map (λ w. Declaration w None) parameters ++ events_in (walk_statement body)
-function_events_are parameters body = ap (λ l. l ++ events_in (walk_statement body)) (list_events walk_parameter (λ w. Declaration w None) (λ w. refl) parameters)
+pub function_events_are : (parameters : List Identifier) (body : Stmt) → function_events parameters body ≡ map (λ w. AutoHere w None) parameters ++ events_in (walk_statement body)
+function_events_are parameters body = ap (λ l. l ++ events_in (walk_statement body)) (list_events walk_parameter (λ w. AutoHere w None) (λ w. refl) parameters)

@@ -5,7 +5,7 @@ use Rattle.blang.specs.Trees.{Another, Arguments, Assigned, Binary, Called, Cond
 use Rattle.blang.specs.Trees.{Literal, Named, No_arguments, Postfixed, Prefixed, Text, Break, Compound, Empty, Evaluate}
 use Rattle.blang.specs.Trees.{Goto, Headed, If, IfElse, More, Nothing, Return, ReturnValue, Stmt, Stmts, Switch, While}
 use Rattle.blang.specs.Trees.{Ival}
-use Rattle.blang.specs.Walk.{Walk, Quote, Level, ◌▸◌, walk, walk_arguments, walk_statement, walk_body, walk_value}
+use Rattle.blang.specs.Walk.{Walk, TextHere, Level, ◌▸◌, walk, walk_arguments, walk_statement, walk_body, walk_value}
 use Rattle.blang.specs.WellFormed.{rank, or_rank, conditional_rank, rvalue_rank, IsPostfix, is_open, IsHeading, packed}
 
 -- what holds of each thing and those before it
@@ -19,7 +19,7 @@ text_words bytes = (length bytes + 2) / 2
 
 -- the string words in a walk
 abbrev pub words_in : Walk → ℕ
-words_in (Quote t) = text_words t.bytes
+words_in (TextHere t) = text_words t.bytes
 words_in (Level p w end) = words_in w
 words_in (v ▸ w) = words_in v + words_in w
 words_in _ = 0
@@ -43,7 +43,7 @@ Deeper Inside (suc room) = Inside room
 
 -- What is in a walk needs no more levels than this room, and the offsets of its strings count up from this one.
 abbrev pub FitsIn : Walk → ℕ → ℕ → Type 0
-FitsIn (Quote t) room off = t.offset ≡ off
+FitsIn (TextHere t) room off = t.offset ≡ off
 FitsIn (Level p w end) room off = Deeper (λ k. FitsIn w k off) room
 FitsIn (v ▸ w) room off = FitsIn v room off × FitsIn w room (off + words_in v)
 FitsIn _ room off = Unit {0}
@@ -112,7 +112,7 @@ IvalFits before v = FitsIn (walk_value v) 0 (values_words before)
 
 -- the words of the strings themselves
 abbrev pub strings_in : Walk → List ℕ
-strings_in (Quote t) = packed t.bytes
+strings_in (TextHere t) = packed t.bytes
 strings_in (Level p w end) = strings_in w
 strings_in (v ▸ w) = strings_in v ++ strings_in w
 strings_in _ = []

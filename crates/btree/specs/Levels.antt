@@ -3,7 +3,7 @@ use Rattle.std.specs.Prelude.{◌≡◌, ℕ, suc, ◌≤◌, List, [], ◌∷�
 use Rattle.blang.specs.declared.token.Placed.{Placed}
 use Rattle.blang.specs.Cut.{string_token}
 use Rattle.blang.specs.Trees.{mark, Definition, Simple, Vector, Function}
-use Rattle.blang.specs.Walk.{Walk, Said, Quote, Level, ◌▸◌, walk_definition, spell_all}
+use Rattle.blang.specs.Walk.{Walk, Said, TextHere, Level, ◌▸◌, walk_definition, spell_all}
 use Rattle.btree.specs.Fitting.{EachAfter, Sits, IvalFits}
 
 pub record Leveled : Type 0 where
@@ -19,7 +19,7 @@ tokens ts = map (λ t. t.token) ts
 -- the tokens of a walk that stands at level n
 abbrev pub leveled : Walk → ℕ → List Leveled
 leveled (Said p) n = on n p ∷ []
-leveled (Quote t) n = on n (mark (string_token t.bytes)) ∷ []
+leveled (TextHere t) n = on n (mark (string_token t.bytes)) ∷ []
 leveled (Level p w end) n = on (suc n) p ∷ leveled w (suc n)
 leveled (v ▸ w) n = leveled v n ++ leveled w n
 leveled _ n = []

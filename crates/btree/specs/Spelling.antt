@@ -2,15 +2,15 @@
 use Rattle.std.specs.Prelude.{List, [], ◌∷◌, ℕ, Option}
 use Rattle.blang.specs.declared.token.Placed.{Placed}
 use Rattle.blang.specs.Trees.{Identifier, Expr, Arguments, name_token, Declared, Heading, Stmt, Stmts, Ival}
-use Rattle.blang.specs.Walk.{Walk, tokens_in, walk_commas, walk_list, walk_comma, walk, walk_arguments, walk_size}
-use Rattle.blang.specs.Walk.{walk_declared, walk_heading, walk_condition, walk_statement, walk_body, walk_value, walk_values}
+use Rattle.blang.specs.Walk.{Walk, tokens_in, walk_commas, walk_list, comma_before_next, walk, walk_arguments, walk_size}
+use Rattle.blang.specs.Walk.{walk_declared, walk_heading, walk_parenthesized, walk_statement, walk_body, walk_value, walk_values}
 
 abbrev pub spell : Expr → List Placed
 spell e = tokens_in (walk e)
 
 -- what stands between these arguments and a further one
 abbrev pub comma_after : Arguments → List Placed
-comma_after args = tokens_in (walk_comma args)
+comma_after args = tokens_in (comma_before_next args)
 
 abbrev pub spell_arguments : Arguments → List Placed
 spell_arguments args = tokens_in (walk_arguments args)
@@ -38,7 +38,7 @@ abbrev pub spell_heading : Heading → List Placed
 spell_heading h = tokens_in (walk_heading h)
 
 abbrev pub spell_condition : Expr → List Placed
-spell_condition e = tokens_in (walk_condition e)
+spell_condition e = tokens_in (walk_parenthesized e)
 
 abbrev pub spell_statement : Stmt → List Placed
 spell_statement s = tokens_in (walk_statement s)

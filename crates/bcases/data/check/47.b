@@ -1,1 +1,1 @@
-f(x, y) if(x=y) f();
+f(x, y) if(x=y) g(); g() ;

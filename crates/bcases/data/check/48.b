@@ -1,1 +1,1 @@
-f(x, y) while(x===y) f();
+f(x, y) while(x===y) g(); g() ;

@@ -1,1 +1,1 @@
-f(x) { auto a, b; f(a); }
+f(x) { auto a, b; a = x; f(a); }

@@ -1,1 +1,1 @@
-f(x, y) { if((x = y)) f(); while(x = f()) f(); if(x = y / 2) f(); if(x == y) f(); if(f(x = y)) f(); return(x); }
+f(x, y) { if((x = y)) g(); while(x = g()) g(); if(x = y / 2) g(); if(x == y) g(); if(h(x = y)) g(); return(x); } g() return(0); h(x) return(x);

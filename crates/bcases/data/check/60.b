@@ -1,1 +1,1 @@
-f(x) { auto v 5; v[5] = 1; f(v[f()]); return(1); }
+f(x) { auto v 5; v[5] = 1; f(v[f(x)]); return(1); }

@@ -1,1 +1,1 @@
-f(x) { (x); f(); goto x1; x1: x ? x : x; return(x); }
+f(x) { x = x ? x : x; g(x); goto x1; x1: return(x); } g(x) ;

@@ -24,5 +24,5 @@ loop-finding-preserved c =
       | in-Text+in_ok-write-in-Text w ↦
           finding_more c.args.asked.form form.Text edition _ c.severity-severity.result c.args.asked.file.now source f.place.start code _ _ _ c.loop-finding.finding-index w.in-Text.is c.severity-severity.ensures w.said-is reason c.loop-finding.invariant (w.in_ok-write-in-Text.ensures source f.place.start c.excerpt_at.ensures)
       | in-Json+in_ok-write-in-Json w ↦
-          finding_more c.args.asked.form form.Json edition _ c.severity-severity.result c.args.asked.file.now source f.place.start code _ _ _ c.loop-finding.finding-index w.in-Json.is c.severity-severity.ensures w.said-is reason c.loop-finding.invariant (w.in_ok-write-in-Json.ensures source f.place.start c.excerpt_at.ensures)
+          finding_more c.args.asked.form form.Json edition _ c.severity-severity.result c.args.asked.file.now source f.place.start code _ _ _ c.loop-finding.finding-index w.in-Json.is c.severity-severity.ensures w.said-is reason c.loop-finding.invariant (w.in_ok-write-in-Json.ensures source f.place.start c.excerpt_at.ensures c.spot_of.ensures)
     ]

@@ -1,4 +1,4 @@
-use Rattle.std.proofs.Common.{refl}
+use Rattle.std.proofs.Common.{None, refl}
 use Rattle.bcheck.proofs.AddedFindings.{adds_text, on_ok}
 use Rattle.bcheck.proofs.text.write.Goals as goal
 
@@ -7,6 +7,6 @@ returns c = λ source start x.
     let told = c.args.told.now in
     let words = told.words.now in
     on_ok c.push_all.result _ _ (λ e.
-    adds_text source start told.excerpt x words.code.now words.sentence words.fix c.requires told.severity told.file.now c.as_bytes.result.now c.word.result.now c.as_slice.result.now c.as_slice-2.result.now c.args.text.now _ _
+    adds_text source start told.excerpt x words.code.now words.sentence words.fix c.requires None told.severity told.file.now c.as_bytes.result.now c.word.result.now c.as_slice.result.now c.as_slice-2.result.now c.args.text.now _ _
     c.as_bytes.ensures.value c.word.ensures c.as_slice.ensures c.as_slice-2.ensures refl e)
     c.push_all.ensures

@@ -17,13 +17,13 @@ returns-in_err-targets g c =
     let s = c.args.sizes in
     body_exit _ _ _ _ _ c.from_residual.ensures.1
     (ends_among target_line (λ n. n < s.code) (target s.code) (of_target s.code) (λ l x. x) (λ (v : Vec ℕ Global). v.items) _ _ s.labels (replicate s.strings string ++ replicate s.code (instruction s)) _
-    (subst (λ (b : ℕ). LinesGive target_line (λ n. n < b) (λ (v : Vec ℕ Global). v.items) s.labels (g.L.LineSource.ahead c.args.lines.now) (Err c.in_err-targets.field-0.0) (g.L.LineSource.ahead c.numbers.new.lines))
+    (subst (λ (b : ℕ). LinesGive target_line (λ n. n < b) (λ (v : Vec ℕ Global). v.items) s.labels c.args.lines.now (Err c.in_err-targets.field-0.0) c.numbers.new.lines)
     c.from.ensures c.in_err-targets.ensures))
 
 pub returns-in_err-strings : goal.returns-in_err-strings
 returns-in_err-strings g c =
     let s = c.args.sizes in
-    let t = subst (λ (b : ℕ). ReadsLines target_line (λ n. n < b) s.labels (g.L.LineSource.ahead c.args.lines.now) c.in_ok-targets.targets.items (g.L.LineSource.ahead c.numbers.new.lines)) c.from.ensures c.in_ok-targets.ensures in
+    let t = subst (λ (b : ℕ). ReadsLines target_line (λ n. n < b) s.labels c.args.lines.now c.in_ok-targets.targets.items c.numbers.new.lines) c.from.ensures c.in_ok-targets.ensures in
     body_exit _ _ _ _ _ c.from_residual-in_err-strings.ensures.1
     (ends_after target_line (λ n. n < s.code) (target s.code) (of_target s.code) _ s.labels (replicate s.strings string ++ replicate s.code (instruction s)) _ t
     (ends_among string_line IsWord string of_string (λ l x. x) (λ (v : Vec ℕ Global). v.items) _ _ s.strings (replicate s.code (instruction s)) _ c.in_err-strings.ensures))
@@ -31,7 +31,7 @@ returns-in_err-strings g c =
 pub returns-in_err-code : goal.returns-in_err-code
 returns-in_err-code g c =
     let s = c.args.sizes in
-    let t = subst (λ (b : ℕ). ReadsLines target_line (λ n. n < b) s.labels (g.L.LineSource.ahead c.args.lines.now) c.in_ok-targets.targets.items (g.L.LineSource.ahead c.numbers.new.lines)) c.from.ensures c.in_ok-targets.ensures in
+    let t = subst (λ (b : ℕ). ReadsLines target_line (λ n. n < b) s.labels c.args.lines.now c.in_ok-targets.targets.items c.numbers.new.lines) c.from.ensures c.in_ok-targets.ensures in
     body_exit _ _ _ _ _ c.from_residual-in_err-code.ensures.1
     (ends_after target_line (λ n. n < s.code) (target s.code) (of_target s.code) _ s.labels (replicate s.strings string ++ replicate s.code (instruction s)) _ t
     (ends_after string_line IsWord string of_string _ s.strings (replicate s.code (instruction s)) _ c.in_ok-strings.ensures
@@ -40,7 +40,7 @@ returns-in_err-code g c =
 pub from_parts-requires : goal.from_parts-requires
 from_parts-requires g c =
     let s = c.args.sizes in
-    let t = subst (λ (b : ℕ). ReadsLines target_line (λ n. n < b) s.labels (g.L.LineSource.ahead c.args.lines.now) c.in_ok-targets.targets.items (g.L.LineSource.ahead c.numbers.new.lines)) c.from.ensures c.in_ok-targets.ensures in
+    let t = subst (λ (b : ℕ). ReadsLines target_line (λ n. n < b) s.labels c.args.lines.now c.in_ok-targets.targets.items c.numbers.new.lines) c.from.ensures c.in_ok-targets.ensures in
     let w = c.in_ok-strings.ensures in
     let k = c.in_ok-code.ensures in
     let sizes = same_sizes s _ _ _ t.all w.all k.all in
@@ -51,7 +51,7 @@ from_parts-requires g c =
 pub returns : goal.returns
 returns g c =
     let s = c.args.sizes in
-    let t = subst (λ (b : ℕ). ReadsLines target_line (λ n. n < b) s.labels (g.L.LineSource.ahead c.args.lines.now) c.in_ok-targets.targets.items (g.L.LineSource.ahead c.numbers.new.lines)) c.from.ensures c.in_ok-targets.ensures in
+    let t = subst (λ (b : ℕ). ReadsLines target_line (λ n. n < b) s.labels c.args.lines.now c.in_ok-targets.targets.items c.numbers.new.lines) c.from.ensures c.in_ok-targets.ensures in
     let w = c.in_ok-strings.ensures in
     let k = c.in_ok-code.ensures in
     record {

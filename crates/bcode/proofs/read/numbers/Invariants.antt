@@ -4,4 +4,4 @@ use Rattle.blang.specs.Text.{line}
 use Rattle.bcode.proofs.read.numbers.Given as goal
 
 abbrev pub invariant-loop : goal.invariant-loop
-invariant-loop g l = ReadsLines (λ n. line ((l.letter ∷ []) ∷ decimal n ∷ [])) (λ n. n < l.below) l.counter (g.L.LineSource.ahead l.initial.lines) l.numbers.items (g.L.LineSource.ahead l.lines)
+invariant-loop g l = ReadsLines (λ n. line ((l.letter ∷ []) ∷ decimal n ∷ [])) (λ n. n < l.below) l.counter l.initial.lines l.numbers.items l.lines

@@ -1,10 +1,8 @@
-use Rattle.std.proofs.Common.{length}
-use Rattle.bcode.specs.Ahead.{ahead_in}
-use Rattle.bcode.proofs.FaultLaws.{Knows}
+use Rattle.bcode.proofs.MemoryLaws.{HasRead}
 use Rattle.bcode.proofs.read.read_code.Given as goal
 
-abbrev pub invariant-loop-definitions : goal.invariant-loop-definitions
-invariant-loop-definitions l = Knows l.text l.definitions.items (ahead_in l.ahead)
+abbrev pub invariant-definitions : goal.invariant-definitions
+invariant-definitions l = HasRead l.text l.definitions.items l.reader
 
-abbrev pub decreases-loop-definitions : goal.decreases-loop-definitions
-decreases-loop-definitions l = length l.ahead.text
+abbrev pub decreases-definitions : goal.decreases-definitions
+decreases-definitions l = l.reader.ahead.end.bound

@@ -4,4 +4,4 @@ use Rattle.blang.specs.Text.{ival_line}
 use Rattle.bcode.proofs.read.values.Given as goal
 
 abbrev pub invariant-loop : goal.invariant-loop
-invariant-loop g l = ReadsLines ival_line (IsIvalWithin l.strings) l.counter (g.L.LineSource.ahead l.initial.lines) l.values.items (g.L.LineSource.ahead l.lines)
+invariant-loop g l = ReadsLines ival_line (IsIvalWithin l.strings) l.counter l.initial.lines l.values.items l.lines

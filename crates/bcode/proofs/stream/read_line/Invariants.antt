@@ -1,4 +1,4 @@
-use Rattle.std.proofs.Common.{ℕ, ◌≡◌, ◌-◌, length}
+use Rattle.std.proofs.Common.{◌≡◌, ◌-◌, length}
 use Rattle.bcode.proofs.StreamLaws.{InLine}
 use Rattle.bcode.proofs.stream.read_line.Given as goal
 

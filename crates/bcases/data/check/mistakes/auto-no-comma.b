@@ -1,0 +1,4 @@
+main() {
+    auto a b;
+    a = b = 1;
+}

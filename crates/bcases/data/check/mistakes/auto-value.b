@@ -1,0 +1,4 @@
+main() {
+    auto i = 0;
+    printn(i, 10);
+}

@@ -1,0 +1,5 @@
+main() {
+    auto s;
+    s = "a\n";
+    putchar(char(s, 0));
+}

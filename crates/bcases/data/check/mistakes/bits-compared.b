@@ -1,0 +1,6 @@
+main() {
+    auto i;
+    i = 3;
+    if(i & 1 == 1)
+        putchar('a');
+}

@@ -1,0 +1,5 @@
+main() {
+    while(1)
+        putchar('a');
+    }
+    break;

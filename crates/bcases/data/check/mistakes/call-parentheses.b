@@ -1,0 +1,4 @@
+f(a, b) return(a + b);
+main() {
+    f 1, 2);
+}

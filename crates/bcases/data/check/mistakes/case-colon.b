@@ -1,0 +1,5 @@
+main() {
+    switch 1 {
+    case 1 putchar('a');
+    }
+}

@@ -1,0 +1,5 @@
+main() {
+    auto s;
+    s = "abc";
+    char(s, 0) = 'x';
+}

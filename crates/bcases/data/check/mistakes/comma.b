@@ -1,0 +1,5 @@
+main() {
+    auto a, b;
+    a = 1, b = 2;
+    printn(a + b, 10);
+}

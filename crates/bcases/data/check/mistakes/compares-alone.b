@@ -1,0 +1,6 @@
+main() {
+    auto i;
+    i = 3;
+    i == 4;
+    printn(i, 10);
+}

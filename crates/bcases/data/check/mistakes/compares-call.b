@@ -1,0 +1,6 @@
+main() {
+    auto i;
+    i = 3;
+    i == getchar();
+    printn(i, 10);
+}

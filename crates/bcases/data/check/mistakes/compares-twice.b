@@ -1,0 +1,6 @@
+main() {
+    auto i;
+    i = 3;
+    if(1 < i < 3)
+        putchar('a');
+}

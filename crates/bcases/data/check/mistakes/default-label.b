@@ -1,0 +1,6 @@
+main() {
+    switch 5 {
+    case 1: putchar('a');
+    default: putchar('b');
+    }
+}

@@ -1,0 +1,5 @@
+main() {
+    auto i;
+    i = 0;
+    do i++; while(i < 3);
+}

@@ -1,0 +1,7 @@
+main() {
+    auto i;
+    i = 0;
+    do {
+        i++;
+    } while(i < 3);
+}

@@ -1,0 +1,6 @@
+main() {
+    auto x;
+    x = 1;
+    if(x) putchar('a');
+    elif(x) putchar('b');
+}

@@ -1,0 +1,8 @@
+main() {
+    auto x;
+    x = 1;
+    if(x) {
+        putchar('a');
+    else
+        putchar('b');
+}

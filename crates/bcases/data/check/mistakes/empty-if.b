@@ -1,0 +1,6 @@
+main() {
+    auto i;
+    i = 0;
+    if(i == 0);
+        putchar('a');
+}

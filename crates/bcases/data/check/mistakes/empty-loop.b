@@ -1,0 +1,6 @@
+main() {
+    auto i;
+    i = 0;
+    while(i < 3);
+        i++;
+}

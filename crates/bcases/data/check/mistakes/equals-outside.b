@@ -1,0 +1,5 @@
+n = 5;
+main() {
+    extrn n;
+    printn(n, 10);
+}

@@ -1,0 +1,4 @@
+main() {
+    for(;;)
+        putchar('a');
+}

@@ -1,0 +1,4 @@
+five() return(5);
+main() {
+    printn(five, 10);
+}

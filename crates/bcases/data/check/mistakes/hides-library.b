@@ -1,0 +1,5 @@
+main() {
+    auto getchar;
+    getchar = 1;
+    printn(getchar, 10);
+}

@@ -1,0 +1,6 @@
+main() {
+    auto x;
+    x = 4;
+    if x > 3
+        putchar('a');
+}

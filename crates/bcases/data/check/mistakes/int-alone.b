@@ -1,0 +1,5 @@
+int x;
+main() {
+    extrn x;
+    printn(x, 10);
+}

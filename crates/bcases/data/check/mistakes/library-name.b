@@ -1,0 +1,3 @@
+main() {
+    printn(getchar, 10);
+}

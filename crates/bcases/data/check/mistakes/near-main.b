@@ -1,0 +1,3 @@
+mian() {
+    putchar('a');
+}

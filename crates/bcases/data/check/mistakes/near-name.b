@@ -1,0 +1,5 @@
+main() {
+    auto count;
+    count = 1;
+    printn(cout, 10);
+}

@@ -1,0 +1,5 @@
+main() {
+    auto s;
+    s = "say \"hi\"";
+    putchar(char(s, 0));
+}

@@ -1,0 +1,6 @@
+main() {
+    auto s;
+    s = "abc";
+    if(s == "abc")
+        putchar('a');
+}

@@ -1,0 +1,5 @@
+main() {
+    auto s;
+    s = "abcä";
+    putchar(char(s, 0));
+}

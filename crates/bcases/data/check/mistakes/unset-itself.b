@@ -1,0 +1,5 @@
+main() {
+    auto s;
+    s = s + 3;
+    printn(s, 10);
+}

@@ -1,0 +1,2 @@
+f(a[]) return(a[0]);
+main() f("b");

@@ -1,0 +1,6 @@
+next() return(0);
+main() {
+    while(next()) ;
+    if(next())
+        putchar('a');
+}

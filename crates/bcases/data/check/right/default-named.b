@@ -1,0 +1,5 @@
+main() {
+    goto default;
+    putchar('a');
+    default: putchar('b');
+}

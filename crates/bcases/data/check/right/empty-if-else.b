@@ -1,0 +1,4 @@
+main() {
+    if(getchar() == 4) ;
+    else putchar('a');
+}

@@ -1,0 +1,4 @@
+main() {
+    while(getchar() != '*n') ;
+    putchar('!');
+}

@@ -1,0 +1,2 @@
+maine(n) return(n);
+main() printn(maine(5), 10);

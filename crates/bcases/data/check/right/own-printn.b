@@ -1,0 +1,4 @@
+printn(n) putchar(n + '0');
+main() {
+    printn(5);
+}

@@ -1,0 +1,5 @@
+digits(n) {
+    auto d;
+    d = n % 10;
+    return(d);
+}

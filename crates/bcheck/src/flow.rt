@@ -1,0 +1,137 @@
+//! Automatics that are used before anything has set them.
+use crate::around::{ends_statement, may_begin};
+use crate::brackets::Brackets;
+use crate::kinds::is_ended;
+use crate::locals::Locals;
+use crate::spans::{Span, is_joined, lexeme_at, name_at};
+use blang::Keyword;
+use blex::Lexeme;
+use bword::BinOp;
+
+/// How far the judgement of a function has come.
+#[derive(Clone, Copy)]
+pub(crate) struct Flow {
+    /// Whether a label or an address has ended it.
+    is_over: bool,
+    /// The tokens of the loop around, in which all that is mentioned may be set.
+    loop_first: usize,
+    loop_end: usize,
+    /// The automatic to which a value is assigned just now.
+    pending: Option<usize>,
+}
+
+impl Flow {
+    pub(crate) fn new() -> Self {
+        Flow {
+            is_over: false,
+            loop_first: 0,
+            loop_end: 0,
+            pending: None,
+        }
+    }
+
+    /// Goes on past a token of a statement, and answers whether it is an automatic that nothing has set before.
+    pub(crate) fn step(
+        &mut self,
+        spans: &[Span],
+        brackets: &Brackets,
+        locals: &mut Locals,
+        token: usize,
+    ) -> bool {
+        if let Some(name) = name_at(spans, token) {
+            let place = locals.place(&name);
+            self.is_over = self.is_over || is_label(spans, token);
+            return self.meets(spans, locals, token, place);
+        }
+        match lexeme_at(spans, token) {
+            Lexeme::Keyword(Keyword::While) if token >= self.loop_end => {
+                self.loop_first = brackets.mate(token.wrapping_add(1)).saturating_add(1);
+                self.loop_end = statement_end(spans, brackets, self.loop_first);
+            }
+            Lexeme::Semicolon
+            | Lexeme::Comma
+            | Lexeme::CloseParen
+            | Lexeme::CloseBracket
+            | Lexeme::Question
+            | Lexeme::Colon => self.settle(locals),
+            _ => {}
+        }
+        false
+    }
+
+    // What a mention of a local does, and whether nothing has set it before.
+    fn meets(
+        &mut self,
+        spans: &[Span],
+        locals: &mut Locals,
+        token: usize,
+        place: Option<usize>,
+    ) -> bool {
+        let Some(place) = place else {
+            return false;
+        };
+        if locals.is_set(place) || self.is_over {
+            return false;
+        }
+        if token >= self.loop_first && token < self.loop_end {
+            locals.set(place);
+            return false;
+        }
+        if is_address(spans, token) {
+            self.is_over = true;
+            return false;
+        }
+        if is_target(spans, token) {
+            self.settle(locals);
+            self.pending = Some(place);
+            return false;
+        }
+        locals.set(place);
+        true
+    }
+
+    // The assignment is over.
+    fn settle(&mut self, locals: &mut Locals) {
+        if let Some(place) = self.pending {
+            locals.set(place);
+        }
+        self.pending = None;
+    }
+}
+
+// Whether a name is a label here.
+fn is_label(spans: &[Span], token: usize) -> bool {
+    lexeme_at(spans, token.wrapping_add(1)) == Lexeme::Colon && may_begin(spans, token)
+}
+
+// Whether the address of a name is taken.
+fn is_address(spans: &[Span], token: usize) -> bool {
+    lexeme_at(spans, token.wrapping_sub(1)) == Lexeme::Operator(BinOp::And)
+        && !is_ended(&lexeme_at(spans, token.wrapping_sub(2)))
+}
+
+// Whether a value is assigned to a name itself. `x=-1` is told of in another way.
+fn is_target(spans: &[Span], token: usize) -> bool {
+    let next = token.wrapping_add(1);
+    let assigns = match lexeme_at(spans, next) {
+        Lexeme::Assign(None) => true,
+        Lexeme::Assign(Some(BinOp::Sub | BinOp::Mul | BinOp::And)) => is_joined(spans, next),
+        _ => false,
+    };
+    assigns && lexeme_at(spans, token.wrapping_sub(1)) != Lexeme::Operator(BinOp::Mul)
+}
+
+/// The token after the statement that begins with this one.
+fn statement_end(spans: &[Span], brackets: &Brackets, first: usize) -> usize {
+    let mut token = first;
+    for _ in first..spans.len() {
+        let last = brackets.mate(token).max(token);
+        let next = last.saturating_add(1);
+        let ends = ends_statement(spans, last) && lexeme_at(spans, last) != Lexeme::Colon;
+        if ends && lexeme_at(spans, next) != Lexeme::Keyword(Keyword::Else) {
+            return next;
+        }
+        token = next;
+    }
+    spans.len()
+}

@@ -1,0 +1,169 @@
+//! Kinds of tokens, of which patterns consist.
+use blang::Keyword;
+use blex::Lexeme;
+use bword::{BinOp, Name};
+
+/// Which tokens fit a place of a pattern.
+#[derive(Clone, Copy)]
+pub(crate) enum Kind {
+    Any,
+    /// This one alone.
+    Is(Lexeme),
+    /// A name of these letters.
+    Word(&'static str),
+    /// A name that C has for a type.
+    Type,
+    Name,
+    /// A number or a character.
+    Constant,
+    /// A name, a constant or a string.
+    Operand,
+    /// The last token of an operand.
+    Ended,
+    Keyword,
+    Operator,
+    /// `=`, with an operator or alone.
+    Assigns,
+    /// An operator, an assignment or a mark that an operand comes after.
+    Waits,
+    /// `==` and `!=`.
+    Compares,
+    /// `<`, `<=`, `>` and `>=`.
+    Relates,
+    /// `&` and `|`.
+    Bits,
+    /// `)`, `]`, `,`, `;`, `:` and `}`.
+    Closes,
+}
+
+/// What C calls its types and their parts, and some words that come before them.
+const TYPES: [&str; 13] = [
+    "int", "char", "void", "long", "short", "unsigned", "signed", "float", "double", "bool",
+    "const", "static", "struct",
+];
+
+impl Kind {
+    /// Whether a token fits.
+    pub(crate) fn fits(&self, lexeme: &Lexeme) -> bool {
+        match self {
+            Kind::Any => true,
+            Kind::Is(one) => *lexeme == *one,
+            Kind::Word(word) => is_word(lexeme, word),
+            Kind::Type => is_type(lexeme),
+            Kind::Name => matches!(lexeme, Lexeme::Name(_)),
+            Kind::Constant => matches!(lexeme, Lexeme::Number(_) | Lexeme::Character(_)),
+            Kind::Operand => is_operand(lexeme),
+            Kind::Ended => is_ended(lexeme),
+            Kind::Keyword => matches!(lexeme, Lexeme::Keyword(_)),
+            Kind::Operator => matches!(lexeme, Lexeme::Operator(_)),
+            Kind::Assigns => matches!(lexeme, Lexeme::Assign(_)),
+            Kind::Waits => waits(lexeme),
+            Kind::Compares => matches!(lexeme, Lexeme::Operator(BinOp::Eq | BinOp::Ne)),
+            Kind::Relates => matches!(
+                lexeme,
+                Lexeme::Operator(BinOp::Lt | BinOp::Le | BinOp::Gt | BinOp::Ge)
+            ),
+            Kind::Bits => matches!(lexeme, Lexeme::Operator(BinOp::And | BinOp::Or)),
+            Kind::Closes => closes(lexeme),
+        }
+    }
+
+    /// Whether each token is of its kind.
+    pub(crate) fn fit(kinds: &[Kind; 5], tokens: &[Lexeme; 5]) -> bool {
+        for index in 0..5 {
+            if !kinds[index].fits(&tokens[index]) {
+                return false;
+            }
+        }
+        true
+    }
+}
+
+/// Whether a token is the name of these letters.
+pub(crate) fn is_word(lexeme: &Lexeme, word: &str) -> bool {
+    match lexeme {
+        Lexeme::Name(name) => name.as_str() == word,
+        _ => false,
+    }
+}
+
+/// Whether C has a type of this name.
+pub(crate) fn is_type_name(name: &Name) -> bool {
+    for word in &TYPES {
+        if name.as_str() == *word {
+            return true;
+        }
+    }
+    false
+}
+
+fn is_type(lexeme: &Lexeme) -> bool {
+    match lexeme {
+        Lexeme::Name(name) => is_type_name(name),
+        _ => false,
+    }
+}
+
+fn is_operand(lexeme: &Lexeme) -> bool {
+    matches!(
+        lexeme,
+        Lexeme::Name(_) | Lexeme::Number(_) | Lexeme::Character(_) | Lexeme::String
+    )
+}
+
+/// Whether an operand may end with this token.
+pub(crate) fn is_ended(lexeme: &Lexeme) -> bool {
+    matches!(
+        lexeme,
+        Lexeme::Name(_)
+            | Lexeme::Number(_)
+            | Lexeme::Character(_)
+            | Lexeme::String
+            | Lexeme::CloseParen
+            | Lexeme::CloseBracket
+            | Lexeme::Increment
+            | Lexeme::Decrement
+    )
+}
+
+fn waits(lexeme: &Lexeme) -> bool {
+    matches!(
+        lexeme,
+        Lexeme::Operator(_)
+            | Lexeme::Assign(_)
+            | Lexeme::Not
+            | Lexeme::Question
+            | Lexeme::Comma
+            | Lexeme::OpenParen
+            | Lexeme::OpenBracket
+            | Lexeme::Keyword(Keyword::Goto | Keyword::Switch)
+    )
+}
+
+fn closes(lexeme: &Lexeme) -> bool {
+    matches!(
+        lexeme,
+        Lexeme::CloseParen
+            | Lexeme::CloseBracket
+            | Lexeme::CloseBrace
+            | Lexeme::Comma
+            | Lexeme::Semicolon
+            | Lexeme::Colon
+    )
+}
+
+/// Whether a bracket opens.
+pub(crate) fn opens_bracket(lexeme: &Lexeme) -> bool {
+    matches!(
+        lexeme,
+        Lexeme::OpenParen | Lexeme::OpenBracket | Lexeme::OpenBrace
+    )
+}
+
+/// Whether a bracket closes.
+pub(crate) fn closes_bracket(lexeme: &Lexeme) -> bool {
+    matches!(
+        lexeme,
+        Lexeme::CloseParen | Lexeme::CloseBracket | Lexeme::CloseBrace
+    )
+}

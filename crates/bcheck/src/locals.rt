@@ -1,0 +1,133 @@
+//! The names that a function declares.
+use crate::passes::Extent;
+use crate::spans::{Span, lexeme_at, name_at};
+use blang::Keyword;
+use blex::Lexeme;
+use bword::Name;
+use std::alloc::{AllocError, Global};
+
+/// As what a name is declared.
+#[derive(Clone, Copy, PartialEq, Eq)]
+pub(crate) enum Role {
+    Parameter,
+    Auto,
+    /// A vector with this last index.
+    Vector(u16),
+    External,
+}
+
+/// A name that a function declares.
+#[derive(Clone, Copy)]
+pub(crate) struct Local {
+    pub name: Name,
+    pub role: Role,
+    /// How often the function has it, but for the declaration.
+    pub uses: u64,
+    /// Whether a statement that came before has set it.
+    pub is_set: bool,
+}
+
+/// The names that a function declares, at most 128.
+#[derive(Drop)]
+pub(crate) struct Locals {
+    all: Vec<Local>,
+    /// How often the function has the name `default`.
+    pub defaults: u64,
+}
+
+impl Locals {
+    /// Those of a function.
+    pub(crate) fn new(alloc: Global, spans: &[Span], function: Extent) -> Result<Self, AllocError> {
+        let mut locals = Locals {
+            all: Vec::new(alloc),
+            defaults: 0,
+        };
+        let mut role = Some(Role::Parameter);
+        for token in function.first.saturating_add(1)..function.end {
+            match lexeme_at(spans, token) {
+                Lexeme::Keyword(Keyword::Auto) => role = Some(Role::Auto),
+                Lexeme::Keyword(Keyword::Extrn) => role = Some(Role::External),
+                Lexeme::Semicolon | Lexeme::CloseParen => role = None,
+                _ => locals.meet(spans, token, role)?,
+            }
+        }
+        Ok(locals)
+    }
+
+    // Adds the name that this token is, if it declares one, and else counts it.
+    fn meet(&mut self, spans: &[Span], token: usize, role: Option<Role>) -> Result<(), AllocError> {
+        let Some(name) = name_at(spans, token) else {
+            return Ok(());
+        };
+        match role {
+            Some(role) => self.declare(spans, token, name, role),
+            None => {
+                self.mention(&name);
+                Ok(())
+            }
+        }
+    }
+
+    fn declare(
+        &mut self,
+        spans: &[Span],
+        token: usize,
+        name: Name,
+        role: Role,
+    ) -> Result<(), AllocError> {
+        let role = match (role, lexeme_at(spans, token.wrapping_add(1))) {
+            (Role::Auto, Lexeme::Number(last)) => Role::Vector(last),
+            _ => role,
+        };
+        self.all.push(Local {
+            name,
+            role,
+            uses: 0,
+            is_set: role != Role::Auto,
+        })?;
+        Ok(())
+    }
+
+    fn mention(&mut self, name: &Name) {
+        if name.as_str() == "default" {
+            self.defaults = self.defaults.saturating_add(1);
+        }
+        if let Some(place) = self.place(name) {
+            if let Some(local) = self.all.get_mut(place) {
+                local.uses = local.uses.saturating_add(1);
+            }
+        }
+    }
+
+    /// The place of a name among them.
+    pub(crate) fn place(&self, name: &Name) -> Option<usize> {
+        for place in 0..self.all.len() {
+            if let Some(local) = self.all.get(place) {
+                if local.name == *name {
+                    return Some(place);
+                }
+            }
+        }
+        None
+    }
+
+    /// The one of this name.
+    pub(crate) fn find(&self, name: &Name) -> Option<Local> {
+        self.all.get(self.place(name)?).copied()
+    }
+
+    /// Whether one is set; one that isn't there is.
+    pub(crate) fn is_set(&self, place: usize) -> bool {
+        match self.all.get(place) {
+            Some(local) => local.is_set,
+            None => true,
+        }
+    }
+
+    /// Takes one as set from now on.
+    pub(crate) fn set(&mut self, place: usize) {
+        if let Some(local) = self.all.get_mut(place) {
+            local.is_set = true;
+        }
+    }
+}

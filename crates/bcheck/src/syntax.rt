@@ -1,0 +1,482 @@
+//! What is said of a token with which no program goes on, by the tokens around it.
+ghost use Rattle.std.specs.List.{list_all};
+ghost use Rattle.std.specs.Prelude.{◌∷◌, [], IsTrue};
+ghost use Rattle.bcheck.specs.Checks.{is_on_line};
+
+use crate::around::{Around, Part, opener_of};
+use crate::kinds::Kind;
+use crate::spans::{Span, is_joined, is_next_line, lexeme_at};
+use blang::Keyword;
+use blex::Lexeme;
+use bword::BinOp;
+
+/// What a token with which no program goes on comes of.
+#[derive(Clone, Copy, PartialEq, Eq)]
+pub(crate) enum Syntax {
+    CodeText,
+    BraceOpen,
+    ParenOpen,
+    SourceEnds,
+    Slashes,
+    BraceSemicolon,
+    BraceCloses,
+    StatementOutside,
+    NameMissing,
+    TypeFirst,
+    TypeParameter,
+    VectorParameter,
+    EqualsOutside,
+    SignOutside,
+    BracesOutside,
+    CallOutside,
+    AutoValue,
+    AutoBrackets,
+    AutoList,
+    ExtrnList,
+    For,
+    Do,
+    Then,
+    ElseIf,
+    TypeInside,
+    CaseSign,
+    CaseValue,
+    CaseList,
+    CaseColon,
+    Condition,
+    ReturnValue,
+    SwitchBraces,
+    ElseInBraces,
+    ElseAlone,
+    OrOr,
+    EqualsAfter,
+    Arrow,
+    QuoteEscaped,
+    NumberName,
+    FunctionInside,
+    CallBody,
+    OperandMissing,
+    AssignLeft,
+    CommaAlone,
+    ColonMissing,
+    Unopened,
+    NoStatement,
+    CallParens,
+    SemicolonMissing,
+    SemicolonBefore,
+    TwoOperands,
+    Other,
+}
+
+impl Syntax {
+    /// One sentence on it, and how to fix it. `%` stands for the line of the second place.
+    #[rattlefmt::skip]
+    pub(crate) fn advice(self) -> (&'static str, &'static str)
+        ensures { IsTrue (list_all is_on_line (result.0.now ∷ result.1.now ∷ [])) }
+    {
+        match self {
+            Syntax::CodeText => ("this is a code text, and no source", "b run runs it; check its source in its place"),
+            Syntax::BraceOpen => ("the source ends here, and the { of line % is open", "write the } that is missing"),
+            Syntax::ParenOpen =>
+                ("the bracket of line % is still open here", "write the ) or the ] that is missing before this"),
+            Syntax::SourceEnds =>
+                ("the source ends here, and something is open", "write what is missing: a value, a ; or a statement"),
+            Syntax::Slashes => ("this is no comment: // is the operator / twice", "/* remark */"),
+            Syntax::BraceSemicolon => ("a function ends with its }", "take the ; out"),
+            Syntax::BraceCloses =>
+                ("no { is open that this } closes", "take it out, or look before it for a } too many"),
+            Syntax::StatementOutside =>
+                ("this statement is outside of every function", "look before it for a } too many, or put it in main"),
+            Syntax::NameMissing => ("a definition begins with its name", "n 5; or v[3]; or f(x) { .. }"),
+            Syntax::TypeFirst =>
+                ("there are no types: a definition begins with its name",
+                 "main() and not int main(); n 5; and not int n = 5;"),
+            Syntax::TypeParameter => ("there are no types: parameters are names alone", "f(a, b)"),
+            Syntax::VectorParameter => ("a parameter is a word, and has no brackets", "f(v), and then v[i] in f"),
+            Syntax::EqualsOutside => ("outside of functions a value comes without =", "n 5; or v[2] 1, 2, 3;"),
+            Syntax::SignOutside => ("an initial value has no sign", "65535 is -1, and 65536 - x is -x"),
+            Syntax::BracesOutside => ("the values of a vector come without braces", "v[2] 1, 2, 3;"),
+            Syntax::CallOutside =>
+                ("outside of functions only definitions come", "look before it for a } too many, or put it in main"),
+            Syntax::AutoValue => ("auto gives no value", "auto i; i = 0;"),
+            Syntax::AutoBrackets =>
+                ("auto has the last index of a vector without brackets", "auto v 10; has v[0] to v[10]"),
+            Syntax::AutoList => ("auto has names with commas between them", "auto a, b, v 10;"),
+            Syntax::ExtrnList => ("extrn has names alone, with commas between them", "extrn n, v;"),
+            Syntax::For => ("there is no for: this is taken for a call", "i = 0; while(i < 3) { .. i++; }"),
+            Syntax::Do => ("there is no do", "a label and a goto: L: { .. } if(i < 3) goto L;"),
+            Syntax::Then => ("there is no then", "if(x) f(); else g();"),
+            Syntax::ElseIf => ("there is no such word", "else if(x) .."),
+            Syntax::TypeInside => ("there are no types", "auto i;"),
+            Syntax::CaseSign => ("a case has a number without a sign", "case 65535: is the case of -1"),
+            Syntax::CaseValue => ("a case has a number or a character", "case 1: or case 'a':"),
+            Syntax::CaseList => ("a case has one value", "case 1: case 2: .."),
+            Syntax::CaseColon => ("a : comes after the value of a case", "case 1: .."),
+            Syntax::Condition => ("a condition is in parentheses", "if(x > 3) or while(x > 3)"),
+            Syntax::ReturnValue => ("the value of a return is in parentheses", "return(x);"),
+            Syntax::SwitchBraces => ("a switch has its statements in braces", "switch x { case 1: .. }"),
+            Syntax::ElseInBraces => ("this else has no if: the { of line % is open", "write a } before the else"),
+            Syntax::ElseAlone =>
+                ("no if ends right before this else", "between if(x) and else is one statement: put { } around more"),
+            Syntax::OrOr => ("there is no operator ||", "a | b, or a ? 1 : b"),
+            Syntax::EqualsAfter => ("the = of an assignment comes first", "x =+ 2; and not x += 2;"),
+            Syntax::Arrow => ("there are no structures, and no ->", "a vector has its parts by numbers: p[0], p[1]"),
+            Syntax::QuoteEscaped =>
+                ("the string before this ends at its second quote", "write *\" for a quote in a string, and not \\\""),
+            Syntax::NumberName => ("a number has only digits", "31, or 037 to the base 8; there is no 0x1F"),
+            Syntax::FunctionInside =>
+                ("a function begins here, and the { of line % is open",
+                 "write the } that is missing before the function"),
+            Syntax::CallBody => ("a call has no { } after it", "look at the word before the ( for another spelling"),
+            Syntax::OperandMissing =>
+                ("an operand is missing before this", "write a name, a constant or an expression there"),
+            Syntax::AssignLeft =>
+                ("more than one operand is before this assignment", "== compares; or put ( ) around the assignment"),
+            Syntax::CommaAlone =>
+                ("a comma is only between arguments and between names", "two statements have a ; between them"),
+            Syntax::ColonMissing => ("a ? has a : after it", "x ? 1 : 2"),
+            Syntax::Unopened =>
+                ("no bracket is open that this closes", "take it out, or write the one that is missing before it"),
+            Syntax::NoStatement =>
+                ("a statement has to come before this", "write a ; after the declaration or the label"),
+            Syntax::CallParens => ("a call has its arguments in parentheses", "f(1, 2);"),
+            Syntax::SemicolonMissing => ("line % has no ; at its end", "write the ; there, or go on with an operator"),
+            Syntax::SemicolonBefore => ("a ; is missing before this", "write it there"),
+            Syntax::TwoOperands => ("an operator, a comma or a ; is missing before this", "write it there"),
+            Syntax::Other => ("no program goes on with this", "look before it, too: for a ; or a ) or an operator"),
+        }
+    }
+}
+
+/// What else has to be so.
+#[derive(Clone, Copy)]
+enum If {
+    Always,
+    /// The token before stands on another line.
+    NextLine,
+    /// The token stands right after the one before.
+    Joined,
+    /// The token before is the statement's first one.
+    Second,
+    /// The statement begins at the beginning of a line.
+    LineStart,
+    /// The string before ends with a backslash.
+    Backslash,
+    /// A `?` has no `:`.
+    Asked,
+    ParenOpen,
+    BraceOpen,
+    /// The brace that is open is the one after the condition of an `if`.
+    IfBrace,
+    /// The parenthesis that is open is the one after `for`.
+    For,
+}
+
+/// Which token is marked.
+#[derive(Clone, Copy)]
+pub(crate) enum Mark {
+    Here,
+    Before,
+    First,
+    Head,
+}
+
+/// In which part of a definition, and what else is so; the first token of the statement, the two tokens before, the
+/// token and the next one; what is said, and which token is marked.
+#[derive(Clone, Copy)]
+struct Row(Option<Part>, If, [Kind; 5], Syntax, Mark);
+
+const ANY: Kind = Kind::Any;
+
+const END: Kind = Kind::Is(Lexeme::End);
+
+const AUTO: Kind = Kind::Is(Lexeme::Keyword(Keyword::Auto));
+
+const EXTRN: Kind = Kind::Is(Lexeme::Keyword(Keyword::Extrn));
+
+const CASE: Kind = Kind::Is(Lexeme::Keyword(Keyword::Case));
+
+const IF: Kind = Kind::Is(Lexeme::Keyword(Keyword::If));
+
+const WHILE: Kind = Kind::Is(Lexeme::Keyword(Keyword::While));
+
+const SWITCH: Kind = Kind::Is(Lexeme::Keyword(Keyword::Switch));
+
+const RETURN: Kind = Kind::Is(Lexeme::Keyword(Keyword::Return));
+
+const ELSE: Kind = Kind::Is(Lexeme::Keyword(Keyword::Else));
+
+const DIV: Kind = Kind::Is(Lexeme::Operator(BinOp::Div));
+
+const SUB: Kind = Kind::Is(Lexeme::Operator(BinOp::Sub));
+
+const GT: Kind = Kind::Is(Lexeme::Operator(BinOp::Gt));
+
+const OR: Kind = Kind::Is(Lexeme::Operator(BinOp::Or));
+
+const EQUALS: Kind = Kind::Is(Lexeme::Assign(None));
+
+const SEMICOLON: Kind = Kind::Is(Lexeme::Semicolon);
+
+const COLON: Kind = Kind::Is(Lexeme::Colon);
+
+const COMMA: Kind = Kind::Is(Lexeme::Comma);
+
+const OPEN_PAREN: Kind = Kind::Is(Lexeme::OpenParen);
+
+const CLOSE_PAREN: Kind = Kind::Is(Lexeme::CloseParen);
+
+const OPEN_BRACKET: Kind = Kind::Is(Lexeme::OpenBracket);
+
+const CLOSE_BRACKET: Kind = Kind::Is(Lexeme::CloseBracket);
+
+const OPEN_BRACE: Kind = Kind::Is(Lexeme::OpenBrace);
+
+const CLOSE_BRACE: Kind = Kind::Is(Lexeme::CloseBrace);
+
+const STRING: Kind = Kind::Is(Lexeme::String);
+
+const START: Option<Part> = Some(Part::Start);
+
+const EXTERNAL: Option<Part> = Some(Part::External);
+
+const HEADER: Option<Part> = Some(Part::Header);
+
+const BODY: Option<Part> = Some(Part::Body);
+
+/// The end of the source, comments, and the first token of a definition.
+#[rattlefmt::skip]
+const BEGINNINGS: [Row; 9] = [
+    Row(None, If::ParenOpen, [ANY, ANY, ANY, END, ANY], Syntax::ParenOpen, Mark::Here),
+    Row(None, If::BraceOpen, [ANY, ANY, ANY, END, ANY], Syntax::BraceOpen, Mark::Here),
+    Row(None, If::Always, [ANY, ANY, ANY, END, ANY], Syntax::SourceEnds, Mark::Here),
+    Row(None, If::Joined, [ANY, ANY, DIV, DIV, ANY], Syntax::Slashes, Mark::Before),
+    Row(None, If::Always, [ANY, ANY, ANY, DIV, DIV], Syntax::Slashes, Mark::Here),
+    Row(START, If::Always, [ANY, ANY, CLOSE_BRACE, SEMICOLON, ANY], Syntax::BraceSemicolon, Mark::Here),
+    Row(START, If::Always, [ANY, ANY, ANY, CLOSE_BRACE, ANY], Syntax::BraceCloses, Mark::Here),
+    Row(START, If::Always, [ANY, ANY, ANY, Kind::Keyword, ANY], Syntax::StatementOutside, Mark::Here),
+    Row(START, If::Always, [ANY, ANY, ANY, ANY, ANY], Syntax::NameMissing, Mark::Here),
+];
+
+/// Externals and the parameters of a function.
+#[rattlefmt::skip]
+const OUTSIDE: [Row; 12] = [
+    Row(EXTERNAL, If::Always, [Kind::Type, ANY, ANY, ANY, ANY], Syntax::TypeFirst, Mark::First),
+    Row(EXTERNAL, If::NextLine, [ANY, ANY, Kind::Ended, Kind::Name, ANY], Syntax::SemicolonMissing, Mark::Here),
+    Row(EXTERNAL, If::NextLine, [ANY, ANY, Kind::Name, OPEN_PAREN, ANY], Syntax::TypeFirst, Mark::First),
+    Row(EXTERNAL, If::Always, [ANY, ANY, Kind::Name, OPEN_PAREN, ANY], Syntax::TypeFirst, Mark::First),
+    Row(EXTERNAL, If::Always, [ANY, ANY, ANY, Kind::Assigns, ANY], Syntax::EqualsOutside, Mark::Here),
+    Row(EXTERNAL, If::Always, [ANY, ANY, ANY, SUB, ANY], Syntax::SignOutside, Mark::Here),
+    Row(EXTERNAL, If::Always, [ANY, ANY, ANY, OPEN_BRACE, ANY], Syntax::BracesOutside, Mark::Here),
+    Row(HEADER, If::Always, [ANY, ANY, Kind::Name, Kind::Name, ANY], Syntax::TypeParameter, Mark::Before),
+    Row(HEADER, If::Always, [ANY, ANY, Kind::Name, OPEN_BRACKET, ANY], Syntax::VectorParameter, Mark::Here),
+    Row(HEADER, If::Always, [ANY, ANY, ANY, Kind::Constant, ANY], Syntax::CallOutside, Mark::Here),
+    Row(HEADER, If::Always, [ANY, ANY, ANY, STRING, ANY], Syntax::CallOutside, Mark::Here),
+    Row(HEADER, If::Always, [ANY, ANY, Kind::Name, OPEN_PAREN, ANY], Syntax::CallOutside, Mark::Here),
+];
+
+/// Declarations in a function.
+#[rattlefmt::skip]
+const DECLARATIONS: [Row; 6] = [
+    Row(BODY, If::Always, [AUTO, ANY, Kind::Name, EQUALS, ANY], Syntax::AutoValue, Mark::Here),
+    Row(BODY, If::Always, [AUTO, ANY, Kind::Name, OPEN_BRACKET, ANY], Syntax::AutoBrackets, Mark::Here),
+    Row(BODY, If::NextLine, [AUTO, ANY, Kind::Operand, ANY, ANY], Syntax::SemicolonMissing, Mark::Here),
+    Row(BODY, If::Always, [AUTO, ANY, ANY, ANY, ANY], Syntax::AutoList, Mark::Here),
+    Row(BODY, If::NextLine, [EXTRN, ANY, Kind::Name, ANY, ANY], Syntax::SemicolonMissing, Mark::Here),
+    Row(BODY, If::Always, [EXTRN, ANY, ANY, ANY, ANY], Syntax::ExtrnList, Mark::Here),
+];
+
+/// Words, with what has to come after them.
+#[rattlefmt::skip]
+const WORDS: [Row; 14] = [
+    Row(BODY, If::For, [ANY, ANY, ANY, ANY, ANY], Syntax::For, Mark::Head),
+    Row(BODY, If::Always, [ANY, ANY, Kind::Word("do"), ANY, ANY], Syntax::Do, Mark::Before),
+    Row(BODY, If::Always, [ANY, ANY, Kind::Word("then"), ANY, ANY], Syntax::Then, Mark::Before),
+    Row(BODY, If::Always, [Kind::Word("elif"), ANY, CLOSE_PAREN, ANY, ANY], Syntax::ElseIf, Mark::First),
+    Row(BODY, If::Always, [Kind::Word("elsif"), ANY, CLOSE_PAREN, ANY, ANY], Syntax::ElseIf, Mark::First),
+    Row(BODY, If::Always, [Kind::Word("elseif"), ANY, CLOSE_PAREN, ANY, ANY], Syntax::ElseIf, Mark::First),
+    Row(BODY, If::Always, [ANY, ANY, Kind::Type, Kind::Name, ANY], Syntax::TypeInside, Mark::Before),
+    Row(BODY, If::Always, [ANY, ANY, CASE, SUB, ANY], Syntax::CaseSign, Mark::Here),
+    Row(BODY, If::Always, [ANY, ANY, CASE, ANY, ANY], Syntax::CaseValue, Mark::Here),
+    Row(BODY, If::Always, [ANY, CASE, Kind::Constant, COMMA, ANY], Syntax::CaseList, Mark::Here),
+    Row(BODY, If::Always, [ANY, CASE, Kind::Constant, ANY, ANY], Syntax::CaseColon, Mark::Here),
+    Row(BODY, If::Always, [ANY, ANY, IF, ANY, ANY], Syntax::Condition, Mark::Here),
+    Row(BODY, If::Always, [ANY, ANY, WHILE, ANY, ANY], Syntax::Condition, Mark::Here),
+    Row(BODY, If::Always, [ANY, ANY, RETURN, ANY, ANY], Syntax::ReturnValue, Mark::Here),
+];
+
+/// Operators and operands, and brackets around them.
+#[rattlefmt::skip]
+const OPERANDS: [Row; 12] = [
+    Row(BODY, If::Always, [ANY, ANY, OR, OR, ANY], Syntax::OrOr, Mark::Here),
+    Row(BODY, If::Always, [ANY, ANY, Kind::Operator, Kind::Assigns, ANY], Syntax::EqualsAfter, Mark::Here),
+    Row(BODY, If::Joined, [ANY, ANY, SUB, GT, ANY], Syntax::Arrow, Mark::Before),
+    Row(BODY, If::Backslash, [ANY, ANY, STRING, ANY, ANY], Syntax::QuoteEscaped, Mark::Here),
+    Row(BODY, If::Joined, [ANY, ANY, Kind::Constant, Kind::Name, ANY], Syntax::NumberName, Mark::Here),
+    Row(BODY, If::Always, [ANY, ANY, Kind::Waits, Kind::Closes, ANY], Syntax::OperandMissing, Mark::Here),
+    Row(BODY, If::Always, [ANY, ANY, Kind::Waits, Kind::Operator, ANY], Syntax::OperandMissing, Mark::Here),
+    Row(BODY, If::Always, [ANY, ANY, Kind::Waits, Kind::Assigns, ANY], Syntax::OperandMissing, Mark::Here),
+    Row(BODY, If::Always, [ANY, ANY, Kind::Waits, Kind::Keyword, ANY], Syntax::OperandMissing, Mark::Here),
+    Row(BODY, If::ParenOpen, [ANY, ANY, Kind::Ended, OPEN_BRACE, ANY], Syntax::ParenOpen, Mark::Here),
+    Row(BODY, If::Asked, [ANY, ANY, Kind::Ended, Kind::Closes, ANY], Syntax::ColonMissing, Mark::Here),
+    Row(BODY, If::ParenOpen, [ANY, ANY, Kind::Ended, Kind::Closes, ANY], Syntax::ParenOpen, Mark::Here),
+];
+
+/// Statements that begin or end at the wrong place.
+#[rattlefmt::skip]
+const STATEMENTS: [Row; 9] = [
+    Row(BODY, If::ParenOpen, [ANY, ANY, Kind::Ended, Kind::Keyword, ANY], Syntax::ParenOpen, Mark::Here),
+    Row(BODY, If::Always, [SWITCH, ANY, Kind::Ended, ANY, ANY], Syntax::SwitchBraces, Mark::Here),
+    Row(BODY, If::IfBrace, [ANY, ANY, SEMICOLON, ELSE, ANY], Syntax::ElseInBraces, Mark::Here),
+    Row(BODY, If::IfBrace, [ANY, ANY, CLOSE_BRACE, ELSE, ANY], Syntax::ElseInBraces, Mark::Here),
+    Row(BODY, If::NextLine, [ANY, ANY, Kind::Ended, ELSE, ANY], Syntax::SemicolonMissing, Mark::Here),
+    Row(BODY, If::Always, [ANY, ANY, SEMICOLON, ELSE, ANY], Syntax::ElseAlone, Mark::Here),
+    Row(BODY, If::Always, [ANY, ANY, CLOSE_BRACE, ELSE, ANY], Syntax::ElseAlone, Mark::Here),
+    Row(BODY, If::LineStart, [Kind::Name, ANY, CLOSE_PAREN, OPEN_BRACE, ANY], Syntax::FunctionInside, Mark::First),
+    Row(BODY, If::Always, [Kind::Name, ANY, CLOSE_PAREN, OPEN_BRACE, ANY], Syntax::CallBody, Mark::First),
+];
+
+/// The rest, where what comes after an operand is no part of its expression.
+#[rattlefmt::skip]
+const REST: [Row; 12] = [
+    Row(BODY, If::Always, [ANY, ANY, ANY, Kind::Assigns, ANY], Syntax::AssignLeft, Mark::Here),
+    Row(BODY, If::Always, [ANY, ANY, ANY, COMMA, ANY], Syntax::CommaAlone, Mark::Here),
+    Row(BODY, If::Always, [ANY, ANY, ANY, CLOSE_PAREN, ANY], Syntax::Unopened, Mark::Here),
+    Row(BODY, If::Always, [ANY, ANY, ANY, CLOSE_BRACKET, ANY], Syntax::Unopened, Mark::Here),
+    Row(BODY, If::Always, [ANY, ANY, SEMICOLON, CLOSE_BRACE, ANY], Syntax::NoStatement, Mark::Here),
+    Row(BODY, If::Always, [ANY, ANY, COLON, CLOSE_BRACE, ANY], Syntax::NoStatement, Mark::Here),
+    Row(BODY, If::NextLine, [ANY, ANY, Kind::Ended, ANY, ANY], Syntax::SemicolonMissing, Mark::Here),
+    Row(BODY, If::Always, [ANY, ANY, Kind::Ended, CLOSE_BRACE, ANY], Syntax::SemicolonBefore, Mark::Here),
+    Row(BODY, If::Second, [ANY, ANY, Kind::Name, Kind::Operand, ANY], Syntax::CallParens, Mark::Here),
+    Row(BODY, If::Always, [ANY, ANY, Kind::Ended, Kind::Operand, ANY], Syntax::TwoOperands, Mark::Here),
+    Row(BODY, If::Always, [ANY, ANY, Kind::Ended, Kind::Keyword, ANY], Syntax::TwoOperands, Mark::Here),
+    Row(BODY, If::Always, [ANY, ANY, Kind::Ended, OPEN_BRACE, ANY], Syntax::TwoOperands, Mark::Here),
+];
+
+/// What is said of a token with which no program goes on, and which token is marked: the first row that fits tells it.
+pub(crate) fn found(source: &[u8], spans: &[Span], around: &Around) -> (Syntax, Mark) {
+    let place = Tried {
+        source,
+        spans,
+        around,
+        tokens: window(spans, around),
+    };
+    let found = match around.part {
+        Part::Body => in_body(&place),
+        _ => outside(&place),
+    };
+    found.unwrap_or((Syntax::Other, Mark::Here))
+}
+
+/// A token on which rows are tried.
+#[derive(Clone, Copy)]
+struct Tried<'a> {
+    source: &'a [u8],
+    spans: &'a [Span],
+    around: &'a Around,
+    tokens: [Lexeme; 5],
+}
+
+fn outside(tried: &Tried<'_>) -> Option<(Syntax, Mark)> {
+    beginnings(tried).or(first_of(tried, &OUTSIDE))
+}
+
+fn beginnings(tried: &Tried<'_>) -> Option<(Syntax, Mark)> {
+    first_of(tried, &BEGINNINGS)
+}
+
+fn in_body(tried: &Tried<'_>) -> Option<(Syntax, Mark)> {
+    beginnings(tried)
+        .or(words(tried))
+        .or(operands(tried))
+        .or(rest(tried))
+}
+
+fn words(tried: &Tried<'_>) -> Option<(Syntax, Mark)> {
+    first_of(tried, &DECLARATIONS).or(first_of(tried, &WORDS))
+}
+
+fn operands(tried: &Tried<'_>) -> Option<(Syntax, Mark)> {
+    first_of(tried, &OPERANDS)
+}
+
+fn rest(tried: &Tried<'_>) -> Option<(Syntax, Mark)> {
+    first_of(tried, &STATEMENTS).or(first_of(tried, &REST))
+}
+
+// What the first row says that fits.
+fn first_of(tried: &Tried<'_>, rows: &[Row]) -> Option<(Syntax, Mark)> {
+    for row in rows {
+        if fits(row, tried) {
+            return Some((row.3, row.4));
+        }
+    }
+    None
+}
+
+fn window(spans: &[Span], around: &Around) -> [Lexeme; 5] {
+    [
+        lexeme_at(spans, around.first),
+        lexeme_at(spans, around.token.wrapping_sub(2)),
+        lexeme_at(spans, around.token.wrapping_sub(1)),
+        lexeme_at(spans, around.token),
+        lexeme_at(spans, around.token.wrapping_add(1)),
+    ]
+}
+
+fn fits(row: &Row, tried: &Tried<'_>) -> bool {
+    is_part(row.0, tried.around.part)
+        && Kind::fit(&row.2, &tried.tokens)
+        && holds(row.1, tried.source, tried.spans, tried.around)
+}
+
+fn is_part(asked: Option<Part>, part: Part) -> bool {
+    match asked {
+        Some(asked) => asked == part,
+        None => true,
+    }
+}
+
+// Whether this is so of a token.
+fn holds(condition: If, source: &[u8], spans: &[Span], around: &Around) -> bool {
+    let before = around.token.wrapping_sub(1);
+    match condition {
+        If::Always => true,
+        If::NextLine => is_next_line(spans, before),
+        If::Joined => is_joined(spans, before),
+        If::Second => around.first == before,
+        If::LineStart => is_line_start(source, spans, around.first),
+        If::Backslash => ends_with_backslash(source, spans, before),
+        If::Asked => around.is_asked,
+        If::ParenOpen => around.is_in(spans, Lexeme::OpenParen)
+            || around.is_in(spans, Lexeme::OpenBracket),
+        If::BraceOpen => around.is_in(spans, Lexeme::OpenBrace),
+        If::IfBrace => around.is_in(spans, Lexeme::OpenBrace) && is_after_if(spans, around.head()),
+        If::For => around.is_call_of(spans, "for"),
+    }
+}
+
+// Whether the condition of an `if` ends with this token.
+fn is_after_if(spans: &[Span], closer: usize) -> bool {
+    match opener_of(spans, closer) {
+        Some(opener) => IF.fits(&lexeme_at(spans, opener.wrapping_sub(1))),
+        None => false,
+    }
+}
+
+fn is_line_start(source: &[u8], spans: &[Span], token: usize) -> bool {
+    match spans.get(token) {
+        Some(span) => matches!(
+            source.get(span.place.start.wrapping_sub(1)),
+            None | Some(b'\n')
+        ),
+        None => false,
+    }
+}
+
+// Whether the last character of a string is a backslash.
+fn ends_with_backslash(source: &[u8], spans: &[Span], token: usize) -> bool {
+    match spans.get(token) {
+        Some(span) => source.get(span.end().wrapping_sub(2)) == Some(&b'\\'),
+        None => false,
+    }
+}

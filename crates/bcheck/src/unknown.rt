@@ -1,0 +1,244 @@
+//! What is said of names that mean nothing where they are, and of operands without an address.
+ghost use Rattle.std.specs.List.{list_all};
+ghost use Rattle.std.specs.Prelude.{◌≡◌, ◌∷◌, [], IsTrue, codes};
+ghost use Rattle.bcheck.specs.Checks.{is_on_line};
+ghost use Rattle.bcheck.specs.Findings.{matter_code};
+
+use crate::advice::Matter;
+use crate::around::opener_of;
+use crate::finding::{Finding, Place};
+use crate::kinds::{Kind, is_ended, is_word};
+use crate::near::{Definitions, find_definitions, library_arguments, near};
+use crate::passes::Extent;
+use crate::spans::{Span, lexeme_at, place_of};
+use blang::Keyword;
+use blex::Lexeme;
+use bword::{BinOp, Name};
+
+/// A name of a function that is neither declared nor a label.
+#[derive(Clone, Copy)]
+pub(crate) enum Unknown {
+    OtherEdition,
+    Continue,
+    External,
+    Function,
+    Library,
+    Near,
+    NoLabel,
+    Other,
+}
+
+impl Unknown {
+    /// One sentence on it, and how to fix it.
+    #[rattlefmt::skip]
+    pub(crate) fn advice(self) -> (&'static str, &'static str)
+        ensures { IsTrue (list_all is_on_line (result.0.now ∷ result.1.now ∷ [])) }
+    {
+        match self {
+            Unknown::OtherEdition =>
+                ("in edition 1 @ is a name, neither declared nor a label",
+                 "--edition 2 makes it a keyword; in edition 1 declare it, or put a label"),
+            Unknown::Continue => ("there is no continue", "goto on; and the label on: ; as the last of the loop"),
+            Unknown::External => ("@ is an external of line %, not declared here", "extrn @; before it"),
+            Unknown::Function =>
+                ("@ is the function of line %, not declared here",
+                 "@() calls it, and after extrn @; its name is its value"),
+            Unknown::Library =>
+                ("@ is a function of the library", "@() calls it, and after extrn @; its name is its value"),
+            Unknown::Near => ("@ is neither declared nor a label: did you mean #?", "write #, or declare @"),
+            Unknown::NoLabel => ("this function has no label @", "put @: before a statement of this function"),
+            Unknown::Other =>
+                ("@ is neither declared nor a label", "auto @; for a word of the function, extrn @; for an external"),
+        }
+    }
+}
+
+/// A name that nothing defines.
+#[derive(Clone, Copy)]
+pub(crate) enum Undefined {
+    Near,
+    Type,
+    Printf,
+    Other,
+}
+
+impl Undefined {
+    /// One sentence on it, and how to fix it.
+    #[rattlefmt::skip]
+    pub(crate) fn advice(self) -> (&'static str, &'static str)
+        ensures { IsTrue (list_all is_on_line (result.0.now ∷ result.1.now ∷ [])) }
+    {
+        match self {
+            Undefined::Near => ("nothing defines @: did you mean #?", "write #, or define @"),
+            Undefined::Type => ("there are no types: the first name is defined, with @ as value", "@; defines @"),
+            Undefined::Printf => ("nothing defines @", "printn(n, 10) and putchar(c), or print of examples/print.b"),
+            Undefined::Other => ("nothing defines @", "define it, or take one of the six library calls"),
+        }
+    }
+}
+
+/// An operand without an address.
+#[derive(Clone, Copy)]
+pub(crate) enum Lvalue {
+    Character,
+    Call,
+    External,
+    Label,
+    Other,
+}
+
+impl Lvalue {
+    /// One sentence on it, and how to fix it.
+    #[rattlefmt::skip]
+    pub(crate) fn advice(self) -> (&'static str, &'static str)
+        ensures { IsTrue (list_all is_on_line (result.0.now ∷ result.1.now ∷ [])) }
+    {
+        match self {
+            Lvalue::Character => ("char gives a character, which has no address", "lchar(s, 0, 'x'); stores one"),
+            Lvalue::Call => ("the value of a call has no address", "take a name, x[i] or *x as the operand"),
+            Lvalue::External => ("@ is an external of line %, not declared here", "extrn @; before it"),
+            Lvalue::Label =>
+                ("@ is taken for a label here, which has no address", "declare it first: auto @; or extrn @;"),
+            Lvalue::Other =>
+                ("this operator wants something with an address", "take a name, x[i] or *x as its operand"),
+        }
+    }
+}
+
+/// What is said of a name of a function that is neither declared nor a label.
+pub(crate) fn unknown_name(spans: &[Span], extent: Extent, token: usize, name: Name) -> Finding
+    ensures { matter_code result.matter ≡ codes "un" }
+{
+    let defined = find_definitions(spans, &name);
+    let other = like(spans, extent, &name, &defined);
+    let is_label = lexeme_at(spans, token.wrapping_sub(1)) == Lexeme::Keyword(Keyword::Goto);
+    let what = match name.as_str() {
+        "break" | "default" => Unknown::OtherEdition,
+        "continue" => Unknown::Continue,
+        _ if defined.same.is_some() => kind_of(spans, &defined),
+        _ if library_arguments(&name).is_some() => Unknown::Library,
+        _ if other.is_some() => Unknown::Near,
+        _ if is_label => Unknown::NoLabel,
+        _ => Unknown::Other,
+    };
+    Finding {
+        matter: Matter::Unknown(what),
+        name: Some(name),
+        other,
+        place: place_of(spans, token),
+        related: place_at(spans, defined.same),
+    }
+}
+
+// Whether the definition of the name is a function.
+fn kind_of(spans: &[Span], defined: &Definitions) -> Unknown {
+    match defined.same {
+        Some(token) if lexeme_at(spans, token.wrapping_add(1)) == Lexeme::OpenParen =>
+            Unknown::Function,
+        _ => Unknown::External,
+    }
+}
+
+// A name like this one, of the function, of a definition or of the library.
+fn like(spans: &[Span], extent: Extent, name: &Name, defined: &Definitions) -> Option<Name> {
+    match near(spans, extent.first, extent.end, name) {
+        Some(other) => Some(other),
+        None => match lexeme_at(spans, defined.near?) {
+            Lexeme::Name(other) => Some(other),
+            _ => None,
+        },
+    }
+}
+
+fn place_at(spans: &[Span], token: Option<usize>) -> Option<Place> {
+    match token {
+        Some(token) => Some(place_of(spans, token)),
+        None => None,
+    }
+}
+
+/// What is said of a name that nothing defines, which is first mentioned by a token of this definition.
+pub(crate) fn undefined_name(spans: &[Span], first: usize, token: usize, name: Name) -> Finding
+    ensures { matter_code result.matter ≡ codes "load 3" }
+{
+    let defined = find_definitions(spans, &name);
+    let other = like(spans, Extent { first: 0, end: 0 }, &name, &defined);
+    let is_external = lexeme_at(spans, first.wrapping_add(1)) != Lexeme::OpenParen;
+    let what = if is_external && Kind::Type.fits(&lexeme_at(spans, first)) {
+        Undefined::Type
+    } else if name.as_str() == "printf" {
+        Undefined::Printf
+    } else if other.is_some() {
+        Undefined::Near
+    } else {
+        Undefined::Other
+    };
+    Finding {
+        matter: Matter::NotDefined(what),
+        name: Some(name),
+        other,
+        place: place_of(spans, token),
+        related: None,
+    }
+}
+
+/// What is said of the operand that the operator at this place wants the address of, on this line.
+pub(crate) fn without_address(spans: &[Span], operator: usize, line: u64) -> Finding
+    ensures { matter_code result.matter ≡ codes "lv" }
+{
+    let operand = operand_of(spans, operator);
+    let place = place_of(spans, operand);
+    let Lexeme::Name(name) = lexeme_at(spans, operand) else {
+        return Finding::new(
+            Matter::NotLvalue(ended_by(spans, operand)),
+            place_of(spans, operator),
+        );
+    };
+    if place.line != line {
+        return Finding::new(Matter::NotLvalue(Lvalue::Other), place_of(spans, operator));
+    }
+    let defined = find_definitions(spans, &name);
+    let what = match defined.same {
+        Some(_) => Lvalue::External,
+        None => Lvalue::Label,
+    };
+    Finding {
+        matter: Matter::NotLvalue(what),
+        name: Some(name),
+        other: None,
+        place,
+        related: place_at(spans, defined.same),
+    }
+}
+
+// The name after a prefix operator, or the last token before another one.
+fn operand_of(spans: &[Span], operator: usize) -> usize {
+    let before = operator.wrapping_sub(1);
+    let op = lexeme_at(spans, operator);
+    let is_counted = matches!(op, Lexeme::Increment | Lexeme::Decrement);
+    let is_prefix = op == Lexeme::Operator(BinOp::And)
+        || (is_counted && !is_ended(&lexeme_at(spans, before)));
+    if is_prefix {
+        operator.wrapping_add(1)
+    } else {
+        before
+    }
+}
+
+// What an operand is whose last token is this one.
+fn ended_by(spans: &[Span], last: usize) -> Lvalue {
+    if lexeme_at(spans, last) != Lexeme::CloseParen {
+        return Lvalue::Other;
+    }
+    let Some(opener) = opener_of(spans, last) else {
+        return Lvalue::Other;
+    };
+    let callee = lexeme_at(spans, opener.wrapping_sub(1));
+    if is_word(&callee, "char") {
+        Lvalue::Character
+    } else if Kind::Name.fits(&callee) {
+        Lvalue::Call
+    } else {
+        Lvalue::Other
+    }
+}

@@ -1,0 +1,111 @@
+//! What is said of code that compiles and is probably a mistake.
+ghost use Rattle.std.specs.List.{list_all};
+ghost use Rattle.std.specs.Prelude.{◌≡◌, ◌∷◌, [], IsTrue};
+ghost use Rattle.bcheck.specs.Checks.{is_on_line};
+ghost use Rattle.bcheck.specs.Findings.{warning_code};
+
+/// What is probably a mistake.
+#[derive(Clone, Copy)]
+pub(crate) enum Warning {
+    AndAnd,
+    OperatorAssigns,
+    ConditionAssigns,
+    AssignsComparison,
+    EmptyIf,
+    EmptyLoop,
+    PastVector,
+    StringForCharacter,
+    StringPut,
+    StringCompared,
+    NameAlone,
+    ComparesAlone,
+    NoEffect,
+    Backslash,
+    BitsCompared,
+    ComparesTwice,
+    NotCompared,
+    ManyArguments,
+    FewArguments,
+    LibraryArguments,
+    NoReturn,
+    NeverUsed,
+    Unset,
+    HidesExternal,
+    HidesLibrary,
+    NearMain,
+    DefaultLabel,
+    WordOutside,
+}
+
+impl Warning {
+    /// By which code it is known, one sentence on it, and how to fix it.
+    #[rattlefmt::skip]
+    pub(crate) fn advice(self) -> (&'static str, &'static str, &'static str)
+        ensures on_lines { IsTrue (list_all is_on_line (result.0.now ∷ result.1.now ∷ result.2.now ∷ [])) }
+        ensures code { result.0.now ≡ warning_code self }
+    {
+        match self {
+            Warning::AndAnd => ("and", "&& is the operator & and then an address", "a & b, or a ? b : 0"),
+            Warning::OperatorAssigns =>
+                ("op", "this operator changes what stands before it", "a blank after the = sets it: x = -1;"),
+            Warning::ConditionAssigns =>
+                ("if", "this condition assigns", "== compares; parentheses around it show that it is meant"),
+            Warning::AssignsComparison =>
+                ("if", "this assigns what the comparison gives, 1 or 0",
+                 "parentheses around the assignment: (c = f()) != 'a'"),
+            Warning::EmptyIf => ("em", "this ; is all that the if does", "take it out"),
+            Warning::EmptyLoop => ("em", "this ; is all that the loop repeats", "take it out"),
+            Warning::PastVector =>
+                ("ix", "the vector @ has no word of this index",
+                 "auto v 5; has v[0] to v[5], and so has v[5]; outside"),
+            Warning::StringForCharacter =>
+                ("st", "a string is an address, and no character", "write single quotes: 'a'"),
+            Warning::StringPut =>
+                ("st", "putchar writes a character, and a string is an address",
+                 "a loop writes it: while((c = char(s, i++)) != '*e') putchar(c);"),
+            Warning::StringCompared =>
+                ("st", "this compares addresses, and no characters",
+                 "a loop compares char(s, i) and char(t, i), as in examples/copy.b"),
+            Warning::NameAlone => ("no", "this statement does nothing", "a call has parentheses: f();"),
+            Warning::ComparesAlone => ("no", "this statement compares, and does nothing more", "= assigns: x = 4;"),
+            Warning::NoEffect => ("no", "this statement does nothing", "assign its value, x = a + b; or take it out"),
+            Warning::Backslash =>
+                ("bs", "a backslash in quotes is a character like others", "* begins an escape: '*n' is a newline"),
+            Warning::BitsCompared =>
+                ("pr", "the comparison binds tighter than this operator", "parentheses: (x & 1) == 1"),
+            Warning::ComparesTwice =>
+                ("pr", "this compares the 1 or 0 that the first comparison gives", "1 < x & x < 3"),
+            Warning::NotCompared => ("pr", "the ! binds tighter than the comparison", "x != 3, or !(x == 3)"),
+            Warning::ManyArguments =>
+                ("ar", "this call has more arguments than @ has parameters",
+                 "the last ones are lost: take them out, or name them in @"),
+            Warning::FewArguments =>
+                ("ar", "this call has fewer arguments than @ has parameters",
+                 "the last parameters are 0: write the arguments, 0 if it is meant"),
+            Warning::LibraryArguments =>
+                ("ar", "@ takes another number of arguments",
+                 "char(s, i) lchar(s, i, c) getchar() putchar(c) printn(n, b) exit(n)"),
+            Warning::NoReturn =>
+                ("rt", "the value of @ is used, and @ returns none",
+                 "return(x); in @ gives the value x; without it the value is 0"),
+            Warning::NeverUsed =>
+                ("us", "@ is declared and never used", "take it out, or look for another spelling of it"),
+            Warning::Unset =>
+                ("in", "@ is used here, and nothing has set it before",
+                 "@ = 0; before this, or the value that it begins with"),
+            Warning::HidesExternal =>
+                ("hi", "this @ hides the external of line %", "extrn @; is the external; or take another name"),
+            Warning::HidesLibrary =>
+                ("hi", "this @ hides the function of the library",
+                 "take it out: a call declares a function; or take another name"),
+            Warning::NearMain =>
+                ("ma", "there is no function main: did you mean this one?", "a run begins with main() .."),
+            Warning::DefaultLabel =>
+                ("ed", "in edition 1 default is a label, to which nothing leads",
+                 "--edition 2 makes it the default of the switch"),
+            Warning::WordOutside =>
+                ("ed", "this defines an external of the name @",
+                 "look before it for a } too many; --edition 2 has @ as a keyword"),
+        }
+    }
+}
