@@ -21,7 +21,7 @@ use Rattle.blang.specs.Walk.{spell_definition, Event, AutoHere, ExtrnHere, Menti
 use Rattle.bword.specs.Words.{same_name}
 use Rattle.blang.specs.Code.{Referent, In_frame, Outside, At_label, referent_of, environment_of, ival_code, vector_words, string_words_of, clean, code_of, fits_limits, or_too_large, fault_of, fragment}
 use Rattle.btree.proofs.CodeLaws.{counts_words, statement_ends}
-use Rattle.btree.proofs.Fitting.{simple_strings, vector_strings, function_strings, formed_in, statement_stands}
+use Rattle.btree.proofs.Fitting.{simple_strings, vector_strings, function_strings, formed_in, statement_both}
 use Rattle.broundtrip.proofs.Holds.{Holds, Holds-nil, Holds-cons, Holds-first, Holds-rest, Holds-append, Holds-front, Holds-back, Holds-weaker, Holds-All}
 use Rattle.broundtrip.proofs.Tokens.{AreSound}
 use Rattle.broundtrip.proofs.ExpressionCode.{IsMeaningWithin}
@@ -111,7 +111,7 @@ function_within w parameters body s clean fit named sound sits =
     let meant : (x : List ℕ) → IsMeaningWithin sizes (names x) =
     λ x. meaning_within sizes (kind_of x s.names) (λ k q. subst (λ n. IsKindWithin s.frame n k) labels (kind_within s.frame s.labels x s.names table.within k q)) in
     let vectors = Holds-weaker (event_within sizes s refl) (Holds-back (events_in (walk_list walk_parameter parameters)) (events_in (walk_statement body)) a.settles) in
-    let inside = walk_within sizes names (walk_statement body) nesting_limit 0 sound (statement_stands body nesting_limit 0 sits) (omega (arith, words_of_strings)) vectors in
+    let inside = walk_within sizes names (walk_statement body) nesting_limit 0 sound (statement_both body nesting_limit 0 sits).1 (omega (arith, words_of_strings)) vectors in
     let whole = fragment_within names sizes meant limits.0 body 0 inside short in
     record {
       named = named;

@@ -1,32 +1,17 @@
--- A spelling that is cut anywhere can be ended, by the tree up to there and the shortest parts after it.
-use Rattle.std.proofs.Common.{◌≡◌, ℕ, suc, ◌+◌, ◌-◌, ◌≤◌, false, List, [], ◌∷◌, ◌++◌, sym, ap, ◌∙◌, refl, subst, append_assoc, arith, Option, Some, None}
+-- A walk that is cut anywhere can be ended, by the tree up to there and the shortest parts after it.
+use Rattle.std.proofs.Common.{◌≡◌, ℕ, zero, suc, ◌+◌, ◌-◌, ◌≤◌, false, List, [], ◌∷◌, ◌++◌, sym, ap, ◌∙◌, refl, subst, append_assoc, append-nil, arith, Option, Some, None}
 use Rattle.blang.specs.declared.token.Keyword.TheVariants as keyword
 use Rattle.blang.specs.declared.token.Token.TheVariants as token
 use Rattle.blang.specs.declared.token.Placed.{Placed}
 use Rattle.blang.specs.Trees.{mark, Expr, Arguments, Number, Named, Literal, Text, Grouped, Indexed, Called, Postfixed, Prefixed, Binary, Conditional, Assigned, No_arguments, Another, name_token, prefix_token, postfix_token, Stmt, Headed, Compound, If, IfElse, While, Switch, Goto, Break, Return, ReturnValue, Evaluate, Empty, Stmts, Nothing, More, keyword_mark, Definition, Simple, Vector, Function}
-use Rattle.btree.specs.Spelling.{spell, spell_arguments, list_spelling, spell_heading, spell_condition, spell_statement, spell_body}
-use Rattle.blang.specs.Walk.{Walk, Said, ◌▸◌, spell_definition, spell_all, plain, walk, walk_arguments, walk_list, walk_heading, walk_parenthesized, walk_statement, walk_body, walk_definition, walk_parameter}
+use Rattle.blang.specs.Walk.{Walk, NothingHere, Said, Noted, Level, ◌▸◌, Event, LvalueWanted, LoopBegins, LoopEnds, SwitchBegins, SwitchEnds, tokens_in, spell_definition, spell_all, callee, prefix_events, plain, walk, walk_arguments, walk_list, walk_heading, walk_parenthesized, walk_statement, walk_body, walk_definition, walk_parameter}
 use Rattle.blang.specs.Cut.{placed}
-use Rattle.blang.specs.WellFormed.{rank, or_rank, conditional_rank, rvalue_rank, is_open}
-use Rattle.btree.specs.Fitting.{words, argument_words, Fits, ArgumentsFit, statement_words, body_words, Sits, AllSit}
-use Rattle.btree.specs.Levels.{Leveled, on, tokens, leveled, definition_levels, program_levels, IsFormedIn, AllFormedIn, NoneAbove, CanBeEnded}
-use Rattle.btree.proofs.CommaLaws.{append-nil}
-use Rattle.btree.proofs.ExpressionSound.{looser}
-use Rattle.btree.proofs.Fitting.{opened}
-use Rattle.btree.proofs.Levels.{tokens-append, tokens-leveled, none_split, deeper, fit_within, arguments_within, statement_within, body_within, definition_within}
-use Rattle.btree.proofs.Spelling.{called_spelling}
-use Rattle.btree.proofs.WalkLaws.{callee_as}
-
--- the tokens of a part, a token and what is after it
-said : (us : List Leveled) (t : Leveled) (vs : List Leveled) (a : List Placed) (b : List Placed) → tokens us ≡ a → tokens vs ≡ b → tokens (us ++ t ∷ vs) ≡ a ++ t.token ∷ b
-said us t vs a b e f = tokens-append us (t ∷ vs) ∙ ap (λ l. l ++ t.token ∷ tokens vs) e ∙ ap (λ l. a ++ t.token ∷ l) f
-
--- an rvalue in parentheses, and what stands after them
-abbrev condition_levels : Expr → ℕ → List Leveled → List Leveled
-condition_levels e n following = on n (mark token.OpenParen) ∷ (leveled (walk e) n ++ (on n (mark token.CloseParen) ∷ following))
-
-condition_leveled : (e : Expr) (n : ℕ) (following : List Leveled) → leveled (walk_parenthesized e) n ++ following ≡ condition_levels e n following
-condition_leveled e n following = ap (λ l. on n (mark token.OpenParen) ∷ l) (append_assoc (leveled (walk e) n) (on n (mark token.CloseParen) ∷ []) following)
+use Rattle.blang.specs.WellFormed.{rank, or_rank, conditional_rank, rvalue_rank, is_open, Binds, ArgumentsBind, StatementBinds, BodyBinds}
+use Rattle.btree.specs.Fitting.{words_in, FitsIn}
+use Rattle.btree.specs.Levels.{Leveled, tokens, leveled, definition_levels, program_levels, IsFormedIn, AllFormedIn, NoneAbove, CanBeEnded}
+use Rattle.btree.proofs.Fitting.{DefinitionBinds, definition_fits, definition_binds, definition_stands}
+use Rattle.btree.proofs.Levels.{tokens-append, tokens-leveled, none_split, deeper, within, definition_within}
+use Rattle.btree.proofs.WalkLaws.{callee_as, from_callee, plain_fits, heading_plain, parameters_plain}
 
 -- a list of two parts that is cut: inside the first, or after it
 data Cut (a b u v : List Leveled) : Type 0 where
@@ -42,282 +27,259 @@ cut a b [] v e = inside a refl
 cut [] b (t ∷ u) v e = beyond t u refl e
 cut (x ∷ a) b (t ∷ u) v e = let h : x ≡ t = cc in let r : a ++ b ≡ u ++ v = cc in cut_cons x t a b u v h (cut a b u v r)
 
--- a tree whose spelling begins with these tokens
-record End {T : Type 0} (say : T → List Placed) (Good : T → Type 0) (u : List Leveled) : Type 0 where
+-- a tree whose tokens begin with these, and which fits
+record End {T : Type 0} (say : T → Walk) (Bind : T → Type 0) (room off : ℕ) (u : List Leveled) : Type 0 where
   tree : T
-  good : Good tree
+  bind : Bind tree
+  fits : FitsIn (say tree) room off
   more : List Placed
-  spelled : say tree ≡ tokens u ++ more
+  spelled : tokens_in (say tree) ≡ tokens u ++ more
 
--- with something after it
-with_rest : {T S : Type 0} (say : T → List Placed) (tell : S → List Placed) (Good : T → Type 0) (Fine : S → Type 0) (make : T → S) (rest : List Placed) → ((x : T) → tell (make x) ≡ say x ++ rest) → ((x : T) → Good x → Fine (make x)) → (u : List Leveled) → End say Good u → End tell Fine u
-with_rest say tell Good Fine make rest s g u e = record { tree = make e.tree; good = g e.tree e.good; more = e.more ++ rest; spelled = s e.tree ∙ ap (λ l. l ++ rest) e.spelled ∙ append_assoc (tokens u) e.more rest }
-
--- after a part, and after a part and a token
-after_part : {T S : Type 0} (say : T → List Placed) (tell : S → List Placed) (Good : T → Type 0) (Fine : S → Type 0) (make : T → S) (a y : List Leveled) (front : List Placed) → tokens a ≡ front → ((x : T) → tell (make x) ≡ front ++ say x) → ((x : T) → Good x → Fine (make x)) → End say Good y → End tell Fine (a ++ y)
-after_part say tell Good Fine make a y front h s g e = record { tree = make e.tree; good = g e.tree e.good; more = e.more; spelled = s e.tree ∙ ap (λ l. front ++ l) e.spelled ∙ sym (append_assoc front (tokens y) e.more) ∙ ap (λ l. l ++ e.more) (ap (λ l. l ++ tokens y) (sym h) ∙ sym (tokens-append a y)) }
-
-after_token : {T S : Type 0} (say : T → List Placed) (tell : S → List Placed) (Good : T → Type 0) (Fine : S → Type 0) (make : T → S) (a : List Leveled) (t : Leveled) (y : List Leveled) (front : List Placed) → tokens a ≡ front → ((x : T) → tell (make x) ≡ front ++ t.token ∷ say x) → ((x : T) → Good x → Fine (make x)) → End say Good y → End tell Fine (a ++ t ∷ y)
-after_token say tell Good Fine make a t y front h s g e = record { tree = make e.tree; good = g e.tree e.good; more = e.more; spelled = s e.tree ∙ ap (λ l. front ++ t.token ∷ l) e.spelled ∙ sym (append_assoc front (t.token ∷ tokens y) e.more) ∙ ap (λ l. l ++ e.more) (sym (said a t y front (tokens y) h refl)) }
+looser : (e : Expr) (tight loose : ℕ) → tight ≤ loose → Binds e tight → Binds e loose
+looser (Binary op line e f) tight loose le b = (omega (arith, b.0), b.1, b.2)
+looser (Conditional e f g) tight loose le b = (omega (arith, b.0), b.1, b.2, b.3)
+looser (Assigned op line e f) tight loose le b = (omega (arith, b.0), b.1, b.2)
+looser _ tight loose le b = b
 
 -- the shortest expression
-one : Placed
-one = mark (token.Number 1)
-
-abbrev one_tree : Expr
-one_tree = Literal (Number 1)
+abbrev one : Expr
+one = Literal (Number 1)
 
 module _ (most : ℕ) where
-  -- wherever the spelling is cut
-  abbrev Ends : {T : Type 0} → (T → List Placed) → (T → Type 0) → List Leveled → Type 0
-  Ends say Good xs = (u v : List Leveled) → xs ≡ u ++ v → NoneAbove most u → End say Good u
+  -- wherever the walk is cut after its first token
+  record HasEnd {T : Type 0} (say : T → Walk) (Bind : T → Type 0) (n off : ℕ) (w : Walk) : Type 0 where
+    end : (t : Leveled) (u v : List Leveled) → leveled w n ≡ (t ∷ u) ++ v → NoneAbove most (t ∷ u) → End say Bind (most - n) off (t ∷ u)
 
-  leaf : {T : Type 0} (say : T → List Placed) (Good : T → Type 0) (xs : List Leveled) (x : T) → tokens xs ≡ say x → Good x → Ends say Good xs
-  leaf say Good xs x h g u v eq none = record { tree = x; good = g; more = tokens v; spelled = sym h ∙ ap tokens eq ∙ tokens-append u v }
+  -- a tree that is ended by itself
+  whole : {T : Type 0} {say : T → Walk} {Bind : T → Type 0} {n off : ℕ} (x : T) → Bind x → FitsIn (say x) (most - n) off → HasEnd say Bind n off (say x)
+  whole {say = say} {n = n} x b f = record { end = λ t u v e none. record { tree = x; bind = b; fits = f; more = tokens v; spelled = sym (tokens-leveled (say x) n) ∙ ap tokens e ∙ tokens-append (t ∷ u) v } }
 
-  nothing_yet : {T : Type 0} (say : T → List Placed) (Good : T → Type 0) (x : T) → Good x → Ends say Good []
-  nothing_yet say Good x g [] v eq none = record { tree = x; good = g; more = say x; spelled = refl }
-  nothing_yet say Good x g (t ∷ u) v eq none = cc
+  -- what is made of a tree, with these tokens after it
+  made : {S T : Type 0} {say : S → Walk} {tell : T → Walk} {A : S → Type 0} {B : T → Type 0} {n off : ℕ} {w : Walk} → HasEnd say A n off w → (make : S → T) → (rest : List Placed)
+      → ((x : S) → tokens_in (tell (make x)) ≡ tokens_in (say x) ++ rest) → ((x : S) → A x → B (make x)) → ((x : S) → FitsIn (say x) (most - n) off → FitsIn (tell (make x)) (most - n) off) → HasEnd tell B n off w
+  made h make rest same bind fits = record {
+    end = λ t u v e none.
+        let x = h.end t u v e none in
+        record { tree = make x.tree; bind = bind x.tree x.bind; fits = fits x.tree x.fits; more = x.more ++ rest; spelled = same x.tree ∙ ap (λ l. l ++ rest) x.spelled ∙ append_assoc (tokens (t ∷ u)) x.more rest };
+  }
 
-  sequenced : {T : Type 0} (say : T → List Placed) (Good : T → Type 0) (a b : List Leveled) → Ends say Good a → ((y v : List Leveled) → NoneAbove most a → b ≡ y ++ v → NoneAbove most y → End say Good (a ++ y)) → Ends say Good (a ++ b)
-  sequenced say Good a b before following u v eq none = go (cut a b u v eq)
+  -- a tree with the walk of another thing
+  seen : {S T : Type 0} {say : S → Walk} {tell : T → Walk} {A : S → Type 0} {B : T → Type 0} {n off : ℕ} {w : Walk} → HasEnd say A n off w → (make : S → T) → ((x : S) → say x ≡ tell (make x)) → ((x : S) → A x → B (make x)) → HasEnd tell B n off w
+  seen {say = say} {tell = tell} {n = n} {off = off} h make same bind =
+      made h make [] (λ x. ap tokens_in (sym (same x)) ∙ sym (append-nil (tokens_in (say x)))) bind (λ x f. subst (λ w. FitsIn w (most - n) off) (same x) f)
+
+  -- a part, which is ended as the whole is, and what is after it
+  followed : {S T : Type 0} {say : S → Walk} {tell : T → Walk} {A : S → Type 0} {B : T → Type 0} {n off : ℕ} {v w : Walk} → HasEnd tell B n off v → (room : ℕ) → FitsIn v room off → HasEnd say A n (off + words_in v) w → (make : S → T)
+      → ((x : S) → v ▸ say x ≡ tell (make x)) → ((x : S) → A x → B (make x)) → HasEnd tell B n off (v ▸ w)
+  followed {say = say} {tell = tell} {A = A} {B = B} {n = n} {off = off} {v = v} {w = w} h room fits k make same bind = record { end = λ t u rest e none. go t u rest none (cut (leveled v n) (leveled w n) (t ∷ u) rest e) }
     where
-      go : Cut a b u v → End say Good u
-      go (inside x p) = before u x p none
-      go (beyond t y p q) = let n = none_split most a (t ∷ y) (subst (λ l. NoneAbove most l) p none) in subst (λ l. End say Good l) (sym p) (following (t ∷ y) v n.0 q n.1)
+      go : (t : Leveled) (u rest : List Leveled) → NoneAbove most (t ∷ u) → Cut (leveled v n) (leveled w n) (t ∷ u) rest → End tell B (most - n) off (t ∷ u)
+      go t u rest none (inside x p) = h.end t u x p none
+      go t u rest none (beyond s y p q) =
+          let both = none_split most (leveled v n) (s ∷ y) (subst (λ l. NoneAbove most l) p none) in
+          let x = k.end s y rest q both.1 in
+          subst (λ l. End tell B (most - n) off l) (sym p) (record {
+            tree = make x.tree;
+            bind = bind x.tree x.bind;
+            fits = subst (λ w. FitsIn w (most - n) off) (same x.tree) (within most v room n off fits both.0, x.fits);
+            more = x.more;
+            spelled = ap tokens_in (sym (same x.tree)) ∙ ap (λ l. tokens_in v ++ l) x.spelled ∙ sym (append_assoc (tokens_in v) (tokens (s ∷ y)) x.more)
+                ∙ ap (λ l. (l ++ tokens (s ∷ y)) ++ x.more) (sym (tokens-leveled v n)) ∙ ap (λ l. l ++ x.more) (sym (tokens-append (leveled v n) (s ∷ y)));
+          })
 
-  then_part : {T S : Type 0} (say : T → List Placed) (tell : S → List Placed) (Good : T → Type 0) (Fine : S → Type 0) (make : T → S) (a : List Leveled) (t : Leveled) (b : List Leveled) (front : List Placed) → tokens a ≡ front → ((x : T) → tell (make x) ≡ front ++ t.token ∷ say x) → (NoneAbove most a → t.level ≤ most → (x : T) → Good x → Fine (make x)) → Ends tell Fine a → Ends say Good b → Ends tell Fine (a ++ t ∷ b)
-  then_part say tell Good Fine make a t b front h s g before following u v eq none = go (cut a (t ∷ b) u v eq)
+  -- a part in which nothing changes
+  fixed : {n off : ℕ} (w : Walk) → FitsIn w (most - n) off → HasEnd (λ (o : Unit {0}). w) (λ (o : Unit {0}). Unit {0}) n off w
+  fixed {n} {off} w f = whole {T = Unit {0}} {say = λ o. w} {Bind = λ o. Unit {0}} {n = n} {off = off} tt tt f
+
+  one_token : {n off : ℕ} (p : Placed) → HasEnd (λ (o : Unit {0}). Said p) (λ (o : Unit {0}). Unit {0}) n off (Said p)
+  one_token p = fixed (Said p) tt
+
+  -- after a token; where the cut is right after it, there is a shortest thing
+  after : {T : Type 0} {say : T → Walk} {Bind : T → Type 0} {n off : ℕ} {w : Walk} (p : Placed) (least : T) → Bind least → FitsIn (say least) (most - n) (off + 0) → HasEnd say Bind n (off + 0) w → HasEnd (λ (x : T). Said p ▸ say x) Bind n off (Said p ▸ w)
+  after {say = say} p least b f h =
+      followed (made (one_token p) (λ o. least) (tokens_in (say least)) (λ o. refl) (λ o a. b) (λ o a. (tt, f))) 0 tt h (λ x. x) (λ x. refl) (λ x a. a)
+
+  -- with a token after it
+  closed : {T : Type 0} {say : T → Walk} {Bind : T → Type 0} {n off : ℕ} (p : Placed) (x : T) (room : ℕ) → Bind x → FitsIn (say x) room off → HasEnd say Bind n off (say x) → HasEnd (λ (y : T). say y ▸ Said p) Bind n off (say x ▸ Said p)
+  closed p x room b f h = followed (made h (λ y. y) (p ∷ []) (λ y. refl) (λ y a. a) (λ y g. (g, tt))) room f (one_token p) (λ o. x) (λ o. refl) (λ o a. b)
+
+  -- after what is no token
+  silent : {T : Type 0} {say : T → Walk} {Bind : T → Type 0} {n off : ℕ} {w : Walk} (v : Walk) → [] ≡ leveled v n → FitsIn v 0 off → HasEnd say Bind n (off + words_in v) w → HasEnd (λ (x : T). v ▸ say x) Bind n off (v ▸ w)
+  silent {n = n} v quiet f h = followed (record { end = λ t u rest q none. absurd (nothing t u rest (quiet ∙ q)) }) 0 f h (λ x. x) (λ x. refl) (λ x a. a)
     where
-      go : Cut a (t ∷ b) u v → End tell Fine u
-      go (inside x p) = before u x p none
-      go (beyond r y p q) =
-          let same : r ≡ t = cc in
-          let rest : b ≡ y ++ v = cc in
-          let there : u ≡ a ++ t ∷ y = p ∙ ap (λ k. a ++ k ∷ y) same in
-          let n = none_split most a (t ∷ y) (subst (λ l. NoneAbove most l) there none) in
-          subst (λ l. End tell Fine l) (sym there) (after_token say tell Good Fine make a t y front h s (g n.0 n.1.0) (following y v rest n.1.1))
+      nothing : (t : Leveled) (u rest : List Leveled) → [] ≡ (t ∷ u) ++ rest → ⊥
+      nothing t u rest q = cc
 
-  -- a part and what closes it
-  closed : {T : Type 0} (say : T → List Placed) (Good : T → Type 0) (xs d : List Leveled) (x : T) → tokens xs ≡ say x → (NoneAbove most xs → Good x) → Ends say Good xs → Ends (λ x. say x ++ tokens d) Good (xs ++ d)
-  closed say Good xs d x h g before u v eq none = go (cut xs d u v eq)
+  -- two things, of which the second has a shortest one
+  pair : {S T : Type 0} {say : S → Walk} {tell : T → Walk} {A : S → Type 0} {B : T → Type 0} {n off : ℕ} {w : Walk} (x : S) (room : ℕ) → A x → FitsIn (say x) room off → HasEnd say A n off (say x) → (least : T) → B least → ((k o : ℕ) → FitsIn (tell least) k o)
+      → HasEnd tell B n (off + words_in (say x)) w → HasEnd (λ (p : S × T). say p.0 ▸ tell p.1) (λ (p : S × T). A p.0 × B p.1) n off (say x ▸ w)
+  pair {S} {T} {say = say} {tell = tell} {n = n} x room a f h least b g k =
+      followed (made h (λ y. (y, least)) (tokens_in (tell least)) (λ y. refl) (λ y c. (c, b)) (λ y i. (i, g (most - n) _))) room f k (λ y. (x, y)) (λ y. refl) (λ y c. (a, c))
+
+  -- a level deeper
+  level_ended : {T : Type 0} {say : T → Walk} {Bind : T → Type 0} {n off : ℕ} {w : Walk} (p : Placed) (end : List Event) (ends : T → List Event) (room : ℕ) → FitsIn (Level p w end) room off → (least : T) → Bind least → ((k : ℕ) → FitsIn (say least) k off)
+      → ((k : ℕ) → FitsIn w k off → HasEnd say Bind (suc n) off w) → HasEnd (λ (x : T). Level p (say x) (ends x)) Bind n off (Level p w end)
+  level_ended p end ends zero f least b g h = absurd f
+  level_ended {say = say} {Bind = Bind} {n = n} {off = off} {w = w} p end ends (suc k) f least b g h = record { end = λ t u v e none. go t u v e none }
     where
-      go : Cut xs d u v → End (λ x. say x ++ tokens d) Good u
-      go (inside z p) = with_rest say (λ x. say x ++ tokens d) Good Good (λ x. x) (tokens d) (λ x. refl) (λ x g. g) u (before u z p none)
-      go (beyond t y p q) =
-          let n = none_split most xs (t ∷ y) (subst (λ l. NoneAbove most l) p none) in
-          record { tree = x; good = g n.0; more = tokens v; spelled = ap (λ l. l ++ tokens d) (sym h) ∙ sym (tokens-append xs d) ∙ ap tokens eq ∙ tokens-append u v }
+      go : (t : Leveled) (u v : List Leveled) → leveled (Level p w end) n ≡ (t ∷ u) ++ v → NoneAbove most (t ∷ u) → End (λ x. Level p (say x) (ends x)) Bind (most - n) off (t ∷ u)
+      go t [] v e none =
+          let same : record { token = p; level = suc n } ≡ t = cc in
+          let up : suc n ≤ most = subst (λ (t : Leveled). t.level ≤ most) (sym same) none.0 in
+          record { tree = least; bind = b; fits = deeper (λ k. FitsIn (say least) k off) most n up (g (most - suc n)); more = tokens_in (say least); spelled = ap (λ (t : Leveled). t.token ∷ tokens_in (say least)) same }
+      go t (s ∷ u) v e none =
+          let same : record { token = p; level = suc n } ≡ t = cc in
+          let rest : leveled w (suc n) ≡ (s ∷ u) ++ v = cc in
+          let up : suc n ≤ most = subst (λ (t : Leveled). t.level ≤ most) (sym same) none.0 in
+          let x = (h k f).end s u v rest none.1 in
+          let opens : p ∷ tokens_in (say x.tree) ≡ t.token ∷ tokens_in (say x.tree) = ap (λ (t : Leveled). t.token ∷ tokens_in (say x.tree)) same in
+          let goes_on : t.token ∷ tokens_in (say x.tree) ≡ t.token ∷ (tokens (s ∷ u) ++ x.more) = ap (λ l. t.token ∷ l) x.spelled in
+          record { tree = x.tree; bind = x.bind; fits = deeper (λ k. FitsIn (say x.tree) k off) most n up x.fits; more = x.more; spelled = opens ∙ goes_on }
 
-  looser_ends : (tight loose n off : ℕ) → tight ≤ loose → (xs : List Leveled) → Ends spell (λ x. Fits x tight (most - n) off) xs → Ends spell (λ x. Fits x loose (most - n) off) xs
-  looser_ends tight loose n off le xs ends u v eq none = with_rest spell spell (λ x. Fits x tight (most - n) off) (λ x. Fits x loose (most - n) off) (λ x. x) [] (λ x. sym (append-nil (spell x))) (λ x g. looser x tight loose (most - n) off le g) u (ends u v eq none)
+  -- Expressions.
+  abbrev HasExpression : (loose n off : ℕ) → Walk → Type 0
+  HasExpression loose n off w = HasEnd walk (λ (x : Expr). Binds x loose) n off w
+
+  loosened : {tight n off : ℕ} {w : Walk} (loose : ℕ) → tight ≤ loose → HasExpression tight n off w → HasExpression loose n off w
+  loosened {tight = tight} loose le h = seen h (λ x. x) (λ x. refl) (λ x b. looser x tight loose le b)
+
+  of_callee : (e : Expr) {loose n off : ℕ} → HasExpression loose n off (walk e) → HasExpression loose n off (callee e (walk e))
+  of_callee e {n = n} h = record { end = λ t u v q none. h.end t u v (sym (callee_as (λ w. leveled w n) (λ w a b. refl) e) ∙ q) none }
 
   mutual
-    ended : (e : Expr) (loose room n off : ℕ) → Fits e loose room off → Ends spell (λ x. Fits x loose (most - n) off) (leveled (walk e) n)
-    ended (Named w) loose room n off h = leaf spell (λ x. Fits x loose (most - n) off) (leveled (walk (Named w)) n) (Named w) refl tt
-    ended (Literal c) loose room n off h = leaf spell (λ x. Fits x loose (most - n) off) (leveled (walk (Literal c)) n) (Literal c) refl tt
-    ended (Text bytes offset) loose room n off h = leaf spell (λ x. Fits x loose (most - n) off) (leveled (walk (Text bytes offset)) n) (Text bytes offset) refl h
-    ended (Grouped e) loose room n off h =
-        let o = opened (λ k. Fits e rvalue_rank k off) room h in
-        then_part (λ x. spell x ++ mark token.CloseParen ∷ []) spell (λ x. Fits x rvalue_rank (most - suc n) off) (λ x. Fits x loose (most - n) off) (λ x. Grouped x)
-        [] (on (suc n) (mark token.OpenParen)) (leveled (walk e) (suc n) ++ on n (mark token.CloseParen) ∷ []) [] refl (λ x. refl)
-        (λ na le x g. deeper (λ k. Fits x rvalue_rank k off) most n le g)
-        (nothing_yet spell (λ x. Fits x loose (most - n) off) one_tree tt)
-        (closed spell (λ x. Fits x rvalue_rank (most - suc n) off) (leveled (walk e) (suc n)) (on n (mark token.CloseParen) ∷ []) e (tokens-leveled (walk e) (suc n)) (fit_within most e rvalue_rank o.0 (suc n) off o.1) (ended e rvalue_rank o.0 (suc n) off o.1))
-    ended (Indexed e f) loose room n off h =
-        let o = opened (λ k. Fits f rvalue_rank k (off + words e)) room h.2 in
-        then_part (λ x. spell x ++ mark token.CloseBracket ∷ []) spell (λ x. Fits x rvalue_rank (most - suc n) (off + words e)) (λ x. Fits x loose (most - n) off) (λ x. Indexed e x)
-        (leveled (walk e) n) (on (suc n) (mark token.OpenBracket)) (leveled (walk f) (suc n) ++ on n (mark token.CloseBracket) ∷ []) (spell e) (tokens-leveled (walk e) n) (λ x. refl)
-        (λ na le x g. (h.0, fit_within most e 0 room n off h.1 na, deeper (λ k. Fits x rvalue_rank k (off + words e)) most n le g))
-        (looser_ends 0 loose n off (omega arith) (leveled (walk e) n) (ended e 0 room n off h.1))
-        (closed spell (λ x. Fits x rvalue_rank (most - suc n) (off + words e)) (leveled (walk f) (suc n)) (on n (mark token.CloseBracket) ∷ []) f (tokens-leveled (walk f) (suc n)) (fit_within most f rvalue_rank o.0 (suc n) (off + words e) o.1) (ended f rvalue_rank o.0 (suc n) (off + words e) o.1))
-    ended (Called e args) loose room n off h =
-        let o = opened (λ k. ArgumentsFit args k (off + words e)) room h.2 in
-        subst (λ l. Ends spell (λ x. Fits x loose (most - n) off) (l ++ (on (suc n) (mark token.OpenParen) ∷ (leveled (walk_arguments args) (suc n) ++ on n (mark token.CloseParen) ∷ [])))) (sym (callee_as (λ w. leveled w n) (λ w a b. refl) e))
-        (then_part (λ x. spell_arguments x ++ mark token.CloseParen ∷ []) spell (λ x. ArgumentsFit x (most - suc n) (off + words e)) (λ x. Fits x loose (most - n) off) (λ x. Called e x)
-        (leveled (walk e) n) (on (suc n) (mark token.OpenParen)) (leveled (walk_arguments args) (suc n) ++ on n (mark token.CloseParen) ∷ []) (spell e) (tokens-leveled (walk e) n) (λ x. called_spelling e x)
-        (λ na le x g. (h.0, fit_within most e 0 room n off h.1 na, deeper (λ k. ArgumentsFit x k (off + words e)) most n le g))
-        (looser_ends 0 loose n off (omega arith) (leveled (walk e) n) (ended e 0 room n off h.1))
-        (closed spell_arguments (λ x. ArgumentsFit x (most - suc n) (off + words e)) (leveled (walk_arguments args) (suc n)) (on n (mark token.CloseParen) ∷ []) args (tokens-leveled (walk_arguments args) (suc n)) (arguments_within most args o.0 (suc n) (off + words e) o.1) (arguments_ended args o.0 (suc n) (off + words e) o.1)))
-    ended (Postfixed op line e) loose room n off h =
-        then_part (λ (x : Unit {0}). []) spell (λ (x : Unit {0}). Unit {0}) (λ x. Fits x loose (most - n) off) (λ (x : Unit {0}). Postfixed op line e)
-        (leveled (walk e) n) (on n (placed (postfix_token op) line)) [] (spell e) (tokens-leveled (walk e) n) (λ x. refl)
-        (λ na le x g. (h.0, fit_within most e 0 room n off h.1 na))
-        (looser_ends 0 loose n off (omega arith) (leveled (walk e) n) (ended e 0 room n off h.1))
-        (nothing_yet (λ (x : Unit {0}). []) (λ (x : Unit {0}). Unit {0}) tt tt)
-    ended (Prefixed op line e) loose room n off h =
-        let o = opened (λ k. Fits e 0 k off) room h in
-        then_part spell spell (λ x. Fits x 0 (most - suc n) off) (λ x. Fits x loose (most - n) off) (λ x. Prefixed op line x)
-        [] (on (suc n) (placed (prefix_token op) line)) (leveled (walk e) (suc n)) [] refl (λ x. refl)
-        (λ na le x g. deeper (λ k. Fits x 0 k off) most n le g)
-        (nothing_yet spell (λ x. Fits x loose (most - n) off) one_tree tt)
-        (ended e 0 o.0 (suc n) off o.1)
-    ended (Binary op line e f) loose room n off h =
-        then_part spell spell (λ x. Fits x (rank op - 1) (most - n) (off + words e)) (λ x. Fits x loose (most - n) off) (λ x. Binary op line e x)
-        (leveled (walk e) n) (on n (placed (token.Operator op) line)) (leveled (walk f) n) (spell e) (tokens-leveled (walk e) n) (λ x. refl)
-        (λ na le x g. (h.0, fit_within most e (rank op) room n off h.1 na, g))
-        (looser_ends (rank op) loose n off h.0 (leveled (walk e) n) (ended e (rank op) room n off h.1))
-        (ended f (rank op - 1) room n (off + words e) h.2)
-    ended (Conditional e f g) loose room n off h =
-        let o = opened (λ k. Fits f rvalue_rank k (off + words e) × Fits g conditional_rank k (off + words e + words f)) room h.2 in
-        then_part (λ (p : Expr × Expr). spell p.0 ++ mark token.Colon ∷ spell p.1) spell (λ (p : Expr × Expr). Fits p.0 rvalue_rank (most - suc n) (off + words e) × Fits p.1 conditional_rank (most - suc n) (off + words e + words p.0)) (λ x. Fits x loose (most - n) off) (λ (p : Expr × Expr). Conditional e p.0 p.1)
-        (leveled (walk e) n) (on (suc n) (mark token.Question)) (leveled (walk f) (suc n) ++ on (suc n) (mark token.Colon) ∷ leveled (walk g) (suc n)) (spell e) (tokens-leveled (walk e) n) (λ p. refl)
-        (λ na le p k. (h.0, fit_within most e or_rank room n off h.1 na, deeper (λ k. Fits p.0 rvalue_rank k (off + words e) × Fits p.1 conditional_rank k (off + words e + words p.0)) most n le k))
-        (looser_ends or_rank loose n off (omega (arith, h.0)) (leveled (walk e) n) (ended e or_rank room n off h.1))
-        (then_part spell (λ (p : Expr × Expr). spell p.0 ++ mark token.Colon ∷ spell p.1) (λ x. Fits x conditional_rank (most - suc n) (off + words e + words f)) (λ (p : Expr × Expr). Fits p.0 rvalue_rank (most - suc n) (off + words e) × Fits p.1 conditional_rank (most - suc n) (off + words e + words p.0)) (λ x. (f, x))
-        (leveled (walk f) (suc n)) (on (suc n) (mark token.Colon)) (leveled (walk g) (suc n)) (spell f) (tokens-leveled (walk f) (suc n)) (λ x. refl)
-        (λ na le x k. (fit_within most f rvalue_rank o.0 (suc n) (off + words e) o.1.0 na, k))
-        (λ u v eq none. with_rest spell (λ (p : Expr × Expr). spell p.0 ++ mark token.Colon ∷ spell p.1) (λ x. Fits x rvalue_rank (most - suc n) (off + words e)) (λ (p : Expr × Expr). Fits p.0 rvalue_rank (most - suc n) (off + words e) × Fits p.1 conditional_rank (most - suc n) (off + words e + words p.0)) (λ x. (x, one_tree)) (mark token.Colon ∷ spell one_tree) (λ x. refl) (λ x k. (k, tt)) u (ended f rvalue_rank o.0 (suc n) (off + words e) o.1.0 u v eq none))
-        (ended g conditional_rank o.0 (suc n) (off + words e + words f) o.1.1))
-    ended (Assigned op line e f) loose room n off h =
-        let o = opened (λ k. Fits f rvalue_rank k (off + words e)) room h.2 in
-        then_part spell spell (λ x. Fits x rvalue_rank (most - suc n) (off + words e)) (λ x. Fits x loose (most - n) off) (λ x. Assigned op line e x)
-        (leveled (walk e) n) (on (suc n) (placed (token.Assign op) line)) (leveled (walk f) (suc n)) (spell e) (tokens-leveled (walk e) n) (λ x. refl)
-        (λ na le x g. (h.0, fit_within most e 0 room n off h.1 na, deeper (λ k. Fits x rvalue_rank k (off + words e)) most n le g))
-        (looser_ends 0 loose n off (omega arith) (leveled (walk e) n) (ended e 0 room n off h.1))
-        (ended f rvalue_rank o.0 (suc n) (off + words e) o.1)
+    ended : (e : Expr) (loose room n off : ℕ) → Binds e loose → FitsIn (walk e) room off → HasExpression loose n off (walk e)
+    ended (Named w) loose room n off b h = whole (Named w) tt (tt, tt)
+    ended (Literal c) loose room n off b h = whole (Literal c) tt tt
+    ended (Text bytes offset) loose room n off b h = whole (Text bytes offset) tt h
+    ended (Grouped e) loose room n off b h =
+        seen (closed (mark token.CloseParen) e room b h.0 (level_ended (mark token.OpenParen) [] (λ x. []) room h.0 one tt (λ k. tt) (λ k i. ended e rvalue_rank k (suc n) off b i))) (λ x. Grouped x) (λ x. refl) (λ x a. a)
+    ended (Indexed e f) loose room n off b h =
+        followed (loosened loose (omega arith) (ended e 0 room n off b.1 h.0)) room h.0
+        (closed (mark token.CloseBracket) f room b.2 h.1.0 (level_ended (mark token.OpenBracket) [] (λ x. []) room h.1.0 one tt (λ k. tt) (λ k i. ended f rvalue_rank k (suc n) _ b.2 i)))
+        (λ x. Indexed e x) (λ x. refl) (λ x a. (b.0, b.1, a))
+    ended (Called e args) loose room n off b h =
+        followed (of_callee e (loosened loose (omega arith) (ended e 0 room n off b.1 (from_callee e room off h.0)))) room h.0
+        (closed (mark token.CloseParen) args room b.2 h.1.0 (level_ended (mark token.OpenParen) [] (λ x. []) room h.1.0 No_arguments tt (λ k. tt) (λ k i. arguments_ended args k (suc n) _ b.2 i)))
+        (λ x. Called e x) (λ x. refl) (λ x a. (b.0, b.1, a))
+    ended (Postfixed op line e) loose room n off b h =
+        followed (loosened loose (omega arith) (ended e 0 room n off b.1 h.0)) room h.0 (whole {say = λ (o : Unit {0}). Noted (LvalueWanted line e) ▸ Said (placed (postfix_token op) line)} {Bind = λ o. Unit {0}} tt tt (tt, tt)) (λ o. Postfixed op line e) (λ o. refl) (λ o a. b)
+    ended (Prefixed op line e) loose room n off b h =
+        seen (level_ended (placed (prefix_token op) line) _ (λ x. prefix_events op line x) room h one tt (λ k. tt) (λ k i. ended e 0 k (suc n) off b i)) (λ x. Prefixed op line x) (λ x. refl) (λ x a. a)
+    ended (Binary op line e f) loose room n off b h =
+        followed (loosened loose b.0 (ended e (rank op) room n off b.1 h.0)) room h.0 (after (placed (token.Operator op) line) one tt tt (ended f (rank op - 1) room n _ b.2 h.1.1)) (λ x. Binary op line e x) (λ x. refl) (λ x a. (b.0, b.1, a))
+    ended (Conditional e f g) loose room n off b h =
+        followed (loosened loose (omega (arith, b.0)) (ended e or_rank room n off b.1 h.0)) room h.0
+        (level_ended (mark token.Question) [] (λ x. []) room h.1 (one, one) (tt, tt) (λ k. (tt, (tt, tt)))
+        (λ k i. pair f k b.2 i.0 (ended f rvalue_rank k (suc n) _ b.2 i.0) one tt (λ k o. (tt, tt)) (after (mark token.Colon) one tt tt (ended g conditional_rank k (suc n) _ b.3 i.1.1))))
+        (λ (p : Expr × Expr). Conditional e p.0 p.1) (λ p. refl) (λ p a. (b.0, b.1, a.0, a.1))
+    ended (Assigned op line e f) loose room n off b h =
+        followed (loosened loose (omega arith) (ended e 0 room n off b.1 h.0)) room h.0
+        (silent (Noted (LvalueWanted line e)) refl tt (level_ended (placed (token.Assign op) line) [] (λ x. []) room h.1.1 one tt (λ k. tt) (λ k i. ended f rvalue_rank k (suc n) _ b.2 i)))
+        (λ x. Assigned op line e x) (λ x. refl) (λ x a. (b.0, b.1, a))
 
-    arguments_ended : (args : Arguments) (room n off : ℕ) → ArgumentsFit args room off → Ends spell_arguments (λ x. ArgumentsFit x (most - n) off) (leveled (walk_arguments args) n)
-    arguments_ended No_arguments room n off h = leaf spell_arguments (λ x. ArgumentsFit x (most - n) off) [] No_arguments refl tt
-    arguments_ended (Another No_arguments e) room n off h = λ u v eq none. with_rest spell spell_arguments (λ x. Fits x rvalue_rank (most - n) (off + argument_words No_arguments)) (λ x. ArgumentsFit x (most - n) off) (λ x. Another No_arguments x) [] (λ x. sym (append-nil (spell x))) (λ x g. (tt, g)) u (ended e rvalue_rank room n (off + argument_words No_arguments) h.1 u v eq none)
-    arguments_ended (Another (Another before c) e) room n off h =
-        then_part spell spell_arguments (λ x. Fits x rvalue_rank (most - n) (off + argument_words (Another before c))) (λ x. ArgumentsFit x (most - n) off) (λ x. Another (Another before c) x)
-        (leveled (walk_arguments (Another before c)) n) (on n (mark token.Comma)) (leveled (walk e) n) (spell_arguments (Another before c)) (tokens-leveled (walk_arguments (Another before c)) n) (λ x. refl)
-        (λ na le x g. (arguments_within most (Another before c) room n off h.0 na, g))
-        (arguments_ended (Another before c) room n off h.0)
-        (ended e rvalue_rank room n (off + argument_words (Another before c)) h.1)
+    arguments_ended : (args : Arguments) (room n off : ℕ) → ArgumentsBind args → FitsIn (walk_arguments args) room off → HasEnd walk_arguments ArgumentsBind n off (walk_arguments args)
+    arguments_ended No_arguments room n off b h = whole No_arguments tt tt
+    arguments_ended (Another No_arguments e) room n off b h =
+        followed (whole No_arguments tt tt) room tt (silent NothingHere refl tt (ended e rvalue_rank room n _ b.1 h.1.1)) (λ x. Another No_arguments x) (λ x. refl) (λ x a. (tt, a))
+    arguments_ended (Another (Another c d) e) room n off b h =
+        followed (arguments_ended (Another c d) room n off b.0 h.0) room h.0 (after (mark token.Comma) one tt tt (ended e rvalue_rank room n _ b.1 h.1.1)) (λ x. Another (Another c d) x) (λ x. refl) (λ x a. (b.0, a))
+
+  condition_ended : (e : Expr) (room n off : ℕ) → Binds e rvalue_rank → FitsIn (walk_parenthesized e) room off → HasEnd walk_parenthesized (λ (x : Expr). Binds x rvalue_rank) n off (walk_parenthesized e)
+  condition_ended e room n off b h = after (mark token.OpenParen) one tt (tt, tt) (closed (mark token.CloseParen) e room b h.1.0 (ended e rvalue_rank room n _ b h.1.0))
 
 -- the branches of an if: one, or two
-abbrev branches_spelling : Stmt × Option Stmt → List Placed
-branches_spelling (s, None) = spell_statement s
-branches_spelling (s, Some other) = spell_statement s ++ (keyword_mark keyword.Else ∷ spell_statement other)
+abbrev branches_walk : Stmt × Option Stmt → Walk
+branches_walk (s, None) = walk_statement s
+branches_walk (s, Some other) = walk_statement s ▸ plain (token.Keyword keyword.Else) ▸ walk_statement other
+
+abbrev BranchesBind : Stmt × Option Stmt → Type 0
+BranchesBind (s, None) = StatementBinds s
+BranchesBind (s, Some other) = (is_open s ≡ false) × StatementBinds s × StatementBinds other
 
 abbrev branched : Expr → Stmt × Option Stmt → Stmt
 branched e (s, None) = If e s
 branched e (s, Some other) = IfElse e s other
 
-abbrev BranchesSit : (room off : ℕ) → Stmt × Option Stmt → Type 0
-BranchesSit room off (s, None) = Sits s room off
-BranchesSit room off (s, Some other) = (is_open s ≡ false) × Sits s room off × Sits other room (off + statement_words s)
+branched_walk : (e : Expr) (b : Stmt × Option Stmt) → Level (keyword_mark keyword.If) (walk_parenthesized e ▸ branches_walk b) [] ≡ walk_statement (branched e b)
+branched_walk e (s, None) = refl
+branched_walk e (s, Some other) = refl
 
-branched_spelled : (e : Expr) (b : Stmt × Option Stmt) → spell_statement (branched e b) ≡ keyword_mark keyword.If ∷ (spell_condition e ++ branches_spelling b)
-branched_spelled e (s, None) = refl
-branched_spelled e (s, Some other) = refl
+branched_binds : (e : Expr) (b : Stmt × Option Stmt) → Binds e rvalue_rank → BranchesBind b → StatementBinds (branched e b)
+branched_binds e (s, None) c d = (c, d)
+branched_binds e (s, Some other) c d = (d.0, c, d.1, d.2)
 
 module _ (most : ℕ) where
-  branched_sits : (n off : ℕ) (e : Expr) (b : Stmt × Option Stmt) → suc n ≤ most → Fits e rvalue_rank (most - suc n) off → BranchesSit (most - suc n) (off + words e) b → Sits (branched e b) (most - n) off
-  branched_sits n off e (s, None) le f g = deeper (λ k. Fits e rvalue_rank k off × Sits s k (off + words e)) most n le (f, g)
-  branched_sits n off e (s, Some other) le f g = (g.0, deeper (λ k. Fits e rvalue_rank k off × Sits s k (off + words e) × Sits other k (off + words e + statement_words s)) most n le (f, g.1, g.2))
-
-  -- a condition, and what depends on it
-  conditioned : {B : Type 0} (k : Placed) (tell : B → List Placed) (Good : ℕ → B → Type 0) (make : Expr → B → Stmt) (n off : ℕ)
-      → ((e : Expr) (b : B) → spell_statement (make e b) ≡ k ∷ (spell_condition e ++ tell b))
-      → ((e : Expr) (b : B) → suc n ≤ most → Fits e rvalue_rank (most - suc n) off → Good (off + words e) b → Sits (make e b) (most - n) off)
-      → (least : B) → ((o : ℕ) → Good o least) → (e : Expr) (room : ℕ) → Fits e rvalue_rank room off → Ends most spell (λ x. Fits x rvalue_rank (most - suc n) off) (leveled (walk e) (suc n))
-      → (following : List Leveled) → Ends most tell (Good (off + words e)) following
-      → Ends most spell_statement (λ x. Sits x (most - n) off) (on (suc n) k ∷ (leveled (walk_parenthesized e) (suc n) ++ following))
-  conditioned {B} k tell Good make n off spelled sits least least_good e room fits ends following after_ends =
-      subst (λ l. Ends most spell_statement (λ x. Sits x (most - n) off) (on (suc n) k ∷ l)) (sym (condition_leveled e (suc n) following))
-      (then_part most (λ (p : Expr × B). spell_condition p.0 ++ tell p.1) spell_statement (λ (p : Expr × B). Fits p.0 rvalue_rank (most - suc n) off × Good (off + words p.0) p.1) (λ x. Sits x (most - n) off) (λ (p : Expr × B). make p.0 p.1)
-      [] (on (suc n) k) (condition_levels e (suc n) following) [] refl (λ p. spelled p.0 p.1)
-      (λ na le p g. sits p.0 p.1 le g.0 g.1)
-      (nothing_yet most spell_statement (λ x. Sits x (most - n) off) Empty tt)
-      (then_part most (λ (p : Expr × B). spell p.0 ++ mark token.CloseParen ∷ tell p.1) (λ (p : Expr × B). spell_condition p.0 ++ tell p.1) (λ (p : Expr × B). Fits p.0 rvalue_rank (most - suc n) off × Good (off + words p.0) p.1) (λ (p : Expr × B). Fits p.0 rvalue_rank (most - suc n) off × Good (off + words p.0) p.1) (λ (p : Expr × B). p)
-      [] (on (suc n) (mark token.OpenParen)) (leveled (walk e) (suc n) ++ on (suc n) (mark token.CloseParen) ∷ following) [] refl (λ p. ap (λ l. mark token.OpenParen ∷ l) (append_assoc (spell p.0) (mark token.CloseParen ∷ []) (tell p.1)))
-      (λ na le p g. g)
-      (nothing_yet most (λ (p : Expr × B). spell_condition p.0 ++ tell p.1) (λ (p : Expr × B). Fits p.0 rvalue_rank (most - suc n) off × Good (off + words p.0) p.1) (one_tree, least) (tt, least_good (off + words one_tree)))
-      (then_part most tell (λ (p : Expr × B). spell p.0 ++ mark token.CloseParen ∷ tell p.1) (Good (off + words e)) (λ (p : Expr × B). Fits p.0 rvalue_rank (most - suc n) off × Good (off + words p.0) p.1) (λ b. (e, b))
-      (leveled (walk e) (suc n)) (on (suc n) (mark token.CloseParen)) following (spell e) (tokens-leveled (walk e) (suc n)) (λ b. refl)
-      (λ na le b g. (fit_within most e rvalue_rank room (suc n) off fits na, g))
-      (λ u v eq none. with_rest spell (λ (p : Expr × B). spell p.0 ++ mark token.CloseParen ∷ tell p.1) (λ x. Fits x rvalue_rank (most - suc n) off) (λ (p : Expr × B). Fits p.0 rvalue_rank (most - suc n) off × Good (off + words p.0) p.1) (λ x. (x, least)) (mark token.CloseParen ∷ tell least) (λ x. refl) (λ x g. (g, least_good (off + words x))) u (ends u v eq none))
-      after_ends)))
-
   mutual
-    statement_ended : (s : Stmt) (room n off : ℕ) → Sits s room off → Ends most spell_statement (λ x. Sits x (most - n) off) (leveled (walk_statement s) n)
-    statement_ended (Headed h s) room n off f =
-        sequenced most spell_statement (λ x. Sits x (most - n) off) (leveled (walk_heading h) n) (leveled (walk_statement s) n)
-        (λ u v eq none. with_rest (λ (o : Unit {0}). spell_heading h) spell_statement (λ (o : Unit {0}). Unit {0}) (λ x. Sits x (most - n) off) (λ (o : Unit {0}). Headed h Empty) (mark token.Semicolon ∷ []) (λ o. refl) (λ o g. (f.0, tt)) u (leaf most (λ (o : Unit {0}). spell_heading h) (λ (o : Unit {0}). Unit {0}) (leveled (walk_heading h) n) tt (tokens-leveled (walk_heading h) n) tt u v eq none))
-        (λ y v na q ny. after_part spell_statement spell_statement (λ x. Sits x (most - n) off) (λ x. Sits x (most - n) off) (λ x. Headed h x) (leveled (walk_heading h) n) y (spell_heading h) (tokens-leveled (walk_heading h) n) (λ x. refl) (λ x g. (f.0, g)) (statement_ended s room n off f.1 y v q ny))
-    statement_ended (Compound body) room n off f =
-        let o = opened (λ k. AllSit body k off) room f in
-        then_part most (λ x. spell_body x ++ mark token.CloseBrace ∷ []) spell_statement (λ x. AllSit x (most - suc n) off) (λ x. Sits x (most - n) off) (λ x. Compound x)
-        [] (on (suc n) (mark token.OpenBrace)) (leveled (walk_body body) (suc n) ++ on n (mark token.CloseBrace) ∷ []) [] refl (λ x. refl)
-        (λ na le x g. deeper (λ k. AllSit x k off) most n le g)
-        (nothing_yet most spell_statement (λ x. Sits x (most - n) off) Empty tt)
-        (closed most spell_body (λ x. AllSit x (most - suc n) off) (leveled (walk_body body) (suc n)) (on n (mark token.CloseBrace) ∷ []) body (tokens-leveled (walk_body body) (suc n)) (body_within most body o.0 (suc n) off o.1) (body_ended body o.0 (suc n) off o.1))
-    statement_ended (If e s) room n off f =
-        let o = opened (λ k. Fits e rvalue_rank k off × Sits s k (off + words e)) room f in
-        conditioned (keyword_mark keyword.If) spell_statement (λ o x. Sits x (most - suc n) o) (λ e x. If e x) n off (λ e x. refl) (λ e x le g k. deeper (λ r. Fits e rvalue_rank r off × Sits x r (off + words e)) most n le (g, k)) Empty (λ o. tt)
-        e o.0 o.1.0 (ended most e rvalue_rank o.0 (suc n) off o.1.0) (leveled (walk_statement s) (suc n)) (statement_ended s o.0 (suc n) (off + words e) o.1.1)
-    statement_ended (IfElse e s other) room n off f =
-        let o = opened (λ k. Fits e rvalue_rank k off × Sits s k (off + words e) × Sits other k (off + words e + statement_words s)) room f.1 in
-        conditioned (keyword_mark keyword.If) branches_spelling (λ o b. BranchesSit (most - suc n) o b) branched n off branched_spelled (branched_sits n off) (Empty, None) (λ o. tt)
-        e o.0 o.1.0 (ended most e rvalue_rank o.0 (suc n) off o.1.0) (leveled (walk_statement s) (suc n) ++ on (suc n) (keyword_mark keyword.Else) ∷ leveled (walk_statement other) (suc n))
-        (then_part most spell_statement branches_spelling (λ x. Sits x (most - suc n) (off + words e + statement_words s)) (BranchesSit (most - suc n) (off + words e)) (λ x. (s, Some x))
-        (leveled (walk_statement s) (suc n)) (on (suc n) (keyword_mark keyword.Else)) (leveled (walk_statement other) (suc n)) (spell_statement s) (tokens-leveled (walk_statement s) (suc n)) (λ x. refl)
-        (λ na le x g. (f.0, statement_within most s o.0 (suc n) (off + words e) o.1.1 na, g))
-        (λ u v eq none. with_rest spell_statement branches_spelling (λ x. Sits x (most - suc n) (off + words e)) (BranchesSit (most - suc n) (off + words e)) (λ x. (x, None)) [] (λ x. sym (append-nil (spell_statement x))) (λ x g. g) u (statement_ended s o.0 (suc n) (off + words e) o.1.1 u v eq none))
-        (statement_ended other o.0 (suc n) (off + words e + statement_words s) o.1.2))
-    statement_ended (While e s) room n off f =
-        let o = opened (λ k. Fits e rvalue_rank k off × Sits s k (off + words e)) room f in
-        conditioned (keyword_mark keyword.While) spell_statement (λ o x. Sits x (most - suc n) o) (λ e x. While e x) n off (λ e x. refl) (λ e x le g k. deeper (λ r. Fits e rvalue_rank r off × Sits x r (off + words e)) most n le (g, k)) Empty (λ o. tt)
-        e o.0 o.1.0 (ended most e rvalue_rank o.0 (suc n) off o.1.0) (leveled (walk_statement s) (suc n)) (statement_ended s o.0 (suc n) (off + words e) o.1.1)
-    statement_ended (Switch e body) room n off f =
-        let o = opened (λ k. Fits e rvalue_rank k off × AllSit body k (off + words e)) room f in
-        then_part most (λ (p : Expr × Stmts). spell p.0 ++ mark token.OpenBrace ∷ (spell_body p.1 ++ mark token.CloseBrace ∷ [])) spell_statement (λ (p : Expr × Stmts). Fits p.0 rvalue_rank (most - suc n) off × AllSit p.1 (most - suc n) (off + words p.0)) (λ x. Sits x (most - n) off) (λ (p : Expr × Stmts). Switch p.0 p.1)
-        [] (on (suc n) (keyword_mark keyword.Switch)) (leveled (walk e) (suc n) ++ on (suc n) (mark token.OpenBrace) ∷ (leveled (walk_body body) (suc n) ++ on (suc n) (mark token.CloseBrace) ∷ [])) [] refl (λ p. refl)
-        (λ na le p g. deeper (λ k. Fits p.0 rvalue_rank k off × AllSit p.1 k (off + words p.0)) most n le g)
-        (nothing_yet most spell_statement (λ x. Sits x (most - n) off) Empty tt)
-        (then_part most (λ b. spell_body b ++ mark token.CloseBrace ∷ []) (λ (p : Expr × Stmts). spell p.0 ++ mark token.OpenBrace ∷ (spell_body p.1 ++ mark token.CloseBrace ∷ [])) (λ b. AllSit b (most - suc n) (off + words e)) (λ (p : Expr × Stmts). Fits p.0 rvalue_rank (most - suc n) off × AllSit p.1 (most - suc n) (off + words p.0)) (λ b. (e, b))
-        (leveled (walk e) (suc n)) (on (suc n) (mark token.OpenBrace)) (leveled (walk_body body) (suc n) ++ on (suc n) (mark token.CloseBrace) ∷ []) (spell e) (tokens-leveled (walk e) (suc n)) (λ b. refl)
-        (λ na le b g. (fit_within most e rvalue_rank o.0 (suc n) off o.1.0 na, g))
-        (λ u v eq none. with_rest spell (λ (p : Expr × Stmts). spell p.0 ++ mark token.OpenBrace ∷ (spell_body p.1 ++ mark token.CloseBrace ∷ [])) (λ x. Fits x rvalue_rank (most - suc n) off) (λ (p : Expr × Stmts). Fits p.0 rvalue_rank (most - suc n) off × AllSit p.1 (most - suc n) (off + words p.0)) (λ x. (x, Nothing)) (mark token.OpenBrace ∷ mark token.CloseBrace ∷ []) (λ x. refl) (λ x g. (g, tt)) u (ended most e rvalue_rank o.0 (suc n) off o.1.0 u v eq none))
-        (closed most spell_body (λ b. AllSit b (most - suc n) (off + words e)) (leveled (walk_body body) (suc n)) (on (suc n) (mark token.CloseBrace) ∷ []) body (tokens-leveled (walk_body body) (suc n)) (body_within most body o.0 (suc n) (off + words e) o.1.1) (body_ended body o.0 (suc n) (off + words e) o.1.1)))
-    statement_ended (Goto e) room n off f =
-        then_part most (λ x. spell x ++ mark token.Semicolon ∷ []) spell_statement (λ x. Fits x rvalue_rank (most - n) off) (λ x. Sits x (most - n) off) (λ x. Goto x)
-        [] (on n (keyword_mark keyword.Goto)) (leveled (walk e) n ++ on n (mark token.Semicolon) ∷ []) [] refl (λ x. refl) (λ na le x g. g)
-        (nothing_yet most spell_statement (λ x. Sits x (most - n) off) Empty tt)
-        (closed most spell (λ x. Fits x rvalue_rank (most - n) off) (leveled (walk e) n) (on n (mark token.Semicolon) ∷ []) e (tokens-leveled (walk e) n) (fit_within most e rvalue_rank room n off f) (ended most e rvalue_rank room n off f))
-    statement_ended (Break line) room n off f = leaf most spell_statement (λ x. Sits x (most - n) off) (leveled (walk_statement (Break line)) n) (Break line) refl tt
-    statement_ended Return room n off f = leaf most spell_statement (λ x. Sits x (most - n) off) (leveled (walk_statement Return) n) Return refl tt
-    statement_ended (ReturnValue e) room n off f =
-        subst (λ l. Ends most spell_statement (λ x. Sits x (most - n) off) (on n (keyword_mark keyword.Return) ∷ l)) (sym (condition_leveled e n (on n (mark token.Semicolon) ∷ [])))
-        (then_part most (λ x. mark token.OpenParen ∷ (spell x ++ mark token.CloseParen ∷ mark token.Semicolon ∷ [])) spell_statement (λ x. Fits x rvalue_rank (most - n) off) (λ x. Sits x (most - n) off) (λ x. ReturnValue x)
-        [] (on n (keyword_mark keyword.Return)) (condition_levels e n (on n (mark token.Semicolon) ∷ [])) [] refl (λ x. ap (λ l. keyword_mark keyword.Return ∷ mark token.OpenParen ∷ l) (append_assoc (spell x) (mark token.CloseParen ∷ []) (mark token.Semicolon ∷ []))) (λ na le x g. g)
-        (nothing_yet most spell_statement (λ x. Sits x (most - n) off) Empty tt)
-        (then_part most (λ x. spell x ++ mark token.CloseParen ∷ mark token.Semicolon ∷ []) (λ x. mark token.OpenParen ∷ (spell x ++ mark token.CloseParen ∷ mark token.Semicolon ∷ [])) (λ x. Fits x rvalue_rank (most - n) off) (λ x. Fits x rvalue_rank (most - n) off) (λ x. x)
-        [] (on n (mark token.OpenParen)) (leveled (walk e) n ++ on n (mark token.CloseParen) ∷ on n (mark token.Semicolon) ∷ []) [] refl (λ x. refl) (λ na le x g. g)
-        (nothing_yet most (λ x. mark token.OpenParen ∷ (spell x ++ mark token.CloseParen ∷ mark token.Semicolon ∷ [])) (λ x. Fits x rvalue_rank (most - n) off) one_tree tt)
-        (closed most spell (λ x. Fits x rvalue_rank (most - n) off) (leveled (walk e) n) (on n (mark token.CloseParen) ∷ on n (mark token.Semicolon) ∷ []) e (tokens-leveled (walk e) n) (fit_within most e rvalue_rank room n off f) (ended most e rvalue_rank room n off f))))
-    statement_ended (Evaluate e) room n off f = λ u v eq none. with_rest (λ x. spell x ++ mark token.Semicolon ∷ []) spell_statement (λ x. Fits x rvalue_rank (most - n) off) (λ x. Sits x (most - n) off) (λ x. Evaluate x) [] (λ x. sym (append-nil (spell x ++ mark token.Semicolon ∷ []))) (λ x g. g) u
-        (closed most spell (λ x. Fits x rvalue_rank (most - n) off) (leveled (walk e) n) (on n (mark token.Semicolon) ∷ []) e (tokens-leveled (walk e) n) (fit_within most e rvalue_rank room n off f) (ended most e rvalue_rank room n off f) u v eq none)
-    statement_ended Empty room n off f = leaf most spell_statement (λ x. Sits x (most - n) off) (leveled (walk_statement Empty) n) Empty refl tt
+    statement_ended : (s : Stmt) (room n off : ℕ) → StatementBinds s → FitsIn (walk_statement s) room off → HasEnd most walk_statement StatementBinds n off (walk_statement s)
+    statement_ended (Headed h s) room n off b f =
+        followed most (made most (fixed most (walk_heading h) (plain_fits (walk_heading h) (heading_plain h) (most - n) off)) (λ o. Headed h Empty) (mark token.Semicolon ∷ []) (λ o. refl) (λ o a. (b.0, tt)) (λ o g. (g, tt))) room f.0
+        (statement_ended s room n _ b.1 f.1) (λ x. Headed h x) (λ x. refl) (λ x a. (b.0, a))
+    statement_ended (Compound body) room n off b f =
+        seen most (closed most (mark token.CloseBrace) body room b f.0 (level_ended most (mark token.OpenBrace) [] (λ x. []) room f.0 Nothing tt (λ k. tt) (λ k i. body_ended body k (suc n) off b i))) (λ x. Compound x) (λ x. refl) (λ x a. a)
+    statement_ended (If e s) room n off b f =
+        seen most (level_ended most (keyword_mark keyword.If) [] (λ x. []) room f (one, Empty) (tt, tt) (λ k. ((tt, (tt, tt)), tt))
+        (λ k i. pair most e k b.0 i.0 (condition_ended most e k (suc n) off b.0 i.0) Empty tt (λ k o. tt) (statement_ended s k (suc n) _ b.1 i.1)))
+        (λ (p : Expr × Stmt). If p.0 p.1) (λ p. refl) (λ p a. a)
+    statement_ended (IfElse e s other) room n off b f =
+        seen most (level_ended most (keyword_mark keyword.If) [] (λ x. []) room f (one, (Empty, None)) (tt, tt) (λ k. ((tt, (tt, tt)), tt))
+        (λ k i. pair most {tell = branches_walk} {B = BranchesBind} e k b.1 i.0 (condition_ended most e k (suc n) off b.1 i.0) (Empty, None) tt (λ k o. tt)
+        (followed most (seen most (statement_ended s k (suc n) _ b.2 i.1.0) (λ x. (x, None)) (λ x. refl) (λ x a. a)) k i.1.0 (after most (keyword_mark keyword.Else) Empty tt tt (statement_ended other k (suc n) _ b.3 i.1.1.1)) (λ y. (s, Some y)) (λ y. refl) (λ y a. (b.0, b.2, a)))))
+        (λ (p : Expr × (Stmt × Option Stmt)). branched p.0 p.1) (λ p. branched_walk p.0 p.1) (λ p a. branched_binds p.0 p.1 a.0 a.1)
+    statement_ended (While e s) room n off b f =
+        seen most (level_ended most (keyword_mark keyword.While) _ (λ x. LoopEnds ∷ []) room f (one, Empty) (tt, tt) (λ k. ((tt, (tt, tt)), (tt, tt)))
+        (λ k i. pair most e k b.0 i.0 (condition_ended most e k (suc n) off b.0 i.0) Empty tt (λ k o. (tt, tt)) (silent most (Noted LoopBegins) refl tt (statement_ended s k (suc n) _ b.1 i.1.1))))
+        (λ (p : Expr × Stmt). While p.0 p.1) (λ p. refl) (λ p a. a)
+    statement_ended (Switch e body) room n off b f =
+        seen most (level_ended most (keyword_mark keyword.Switch) _ (λ x. SwitchEnds ∷ []) room f (one, Nothing) (tt, tt) (λ k. (tt, (tt, (tt, (tt, tt)))))
+        (λ k i. pair most e k b.0 i.0 (ended most e rvalue_rank k (suc n) off b.0 i.0) Nothing tt (λ k o. (tt, (tt, (tt, tt))))
+        (after most (mark token.OpenBrace) Nothing tt (tt, (tt, tt)) (silent most (Noted SwitchBegins) refl tt (closed most (mark token.CloseBrace) body k b.1 i.1.1.1.0 (body_ended body k (suc n) _ b.1 i.1.1.1.0))))))
+        (λ (p : Expr × Stmts). Switch p.0 p.1) (λ p. refl) (λ p a. a)
+    statement_ended (Goto e) room n off b f =
+        seen most (after most (keyword_mark keyword.Goto) one tt (tt, tt) (closed most (mark token.Semicolon) e room b f.1.0 (ended most e rvalue_rank room n _ b f.1.0))) (λ x. Goto x) (λ x. refl) (λ x a. a)
+    statement_ended (Break line) room n off b f = whole most (Break line) tt (tt, (tt, tt))
+    statement_ended Return room n off b f = whole most Return tt (tt, tt)
+    statement_ended (ReturnValue e) room n off b f =
+        seen most (after most (keyword_mark keyword.Return) one tt ((tt, (tt, tt)), tt) (closed most (mark token.Semicolon) e room b f.1.0 (condition_ended most e room n _ b f.1.0))) (λ x. ReturnValue x) (λ x. refl) (λ x a. a)
+    statement_ended (Evaluate e) room n off b f = seen most (closed most (mark token.Semicolon) e room b f.0 (ended most e rvalue_rank room n off b f.0)) (λ x. Evaluate x) (λ x. refl) (λ x a. a)
+    statement_ended Empty room n off b f = whole most Empty tt tt
 
-    body_ended : (body : Stmts) (room n off : ℕ) → AllSit body room off → Ends most spell_body (λ x. AllSit x (most - n) off) (leveled (walk_body body) n)
-    body_ended Nothing room n off f = leaf most spell_body (λ x. AllSit x (most - n) off) [] Nothing refl tt
-    body_ended (More before s) room n off f =
-        sequenced most spell_body (λ x. AllSit x (most - n) off) (leveled (walk_body before) n) (leveled (walk_statement s) n) (body_ended before room n off f.0)
-        (λ y v na q ny. after_part spell_statement spell_body (λ x. Sits x (most - n) (off + body_words before)) (λ x. AllSit x (most - n) off) (λ x. More before x) (leveled (walk_body before) n) y (spell_body before) (tokens-leveled (walk_body before) n) (λ x. refl) (λ x g. (body_within most before room n off f.0 na, g)) (statement_ended s room n (off + body_words before) f.1 y v q ny))
+    body_ended : (body : Stmts) (room n off : ℕ) → BodyBinds body → FitsIn (walk_body body) room off → HasEnd most walk_body BodyBinds n off (walk_body body)
+    body_ended Nothing room n off b f = whole most Nothing tt tt
+    body_ended (More before s) room n off b f = followed most (body_ended before room n off b.0 f.0) room f.0 (statement_ended s room n _ b.1 f.1) (λ x. More before x) (λ x. refl) (λ x a. (b.0, a))
 
-  definition_ended : (d : Definition) (room : ℕ) → IsFormedIn room d → Ends most spell_definition (IsFormedIn most) (definition_levels d)
-  definition_ended (Simple w values) room f = leaf most spell_definition (IsFormedIn most) (definition_levels (Simple w values)) (Simple w values) (tokens-leveled (walk_definition (Simple w values)) 0) f
-  definition_ended (Vector w size values) room f = leaf most spell_definition (IsFormedIn most) (definition_levels (Vector w size values)) (Vector w size values) (tokens-leveled (walk_definition (Vector w size values)) 0) f
+  definition_ended : (d : Definition) (room : ℕ) → IsFormedIn room d → HasEnd most walk_definition DefinitionBinds 0 0 (walk_definition d)
+  definition_ended (Simple w values) room f = whole most (Simple w values) tt (definition_stands (Simple w values) (most - 0) f)
+  definition_ended (Vector w size values) room f = whole most (Vector w size values) tt (definition_stands (Vector w size values) (most - 0) f)
   definition_ended (Function w parameters body) room f =
-      let names = list_spelling walk_parameter parameters in
-      let head : List Placed = name_token w ∷ mark token.OpenParen ∷ (names ++ mark token.CloseParen ∷ []) in
-      let following : (x : Stmt) → spell_definition (Function w parameters x) ≡ head ++ spell_statement x = λ x. ap (λ l. name_token w ∷ mark token.OpenParen ∷ l) (sym (append_assoc names (mark token.CloseParen ∷ []) (spell_statement x))) in
-      let front : Walk = Said (name_token w) ▸ plain token.OpenParen ▸ walk_list walk_parameter parameters ▸ plain token.CloseParen in
-      let same : most - 0 ≡ most = omega arith in
-      subst (λ l. Ends most spell_definition (IsFormedIn most) (on 0 (name_token w) ∷ on 0 (mark token.OpenParen) ∷ l)) (append_assoc (leveled (walk_list walk_parameter parameters) 0) (on 0 (mark token.CloseParen) ∷ []) (leveled (walk_statement body) 0))
-      (sequenced most spell_definition (IsFormedIn most) (leveled front 0) (leveled (walk_statement body) 0)
-      (λ u v eq none. with_rest (λ (o : Unit {0}). head) spell_definition (λ (o : Unit {0}). Unit {0}) (IsFormedIn most) (λ (o : Unit {0}). Function w parameters Empty) (mark token.Semicolon ∷ []) (λ o. following Empty) (λ o g. tt) u (leaf most (λ (o : Unit {0}). head) (λ (o : Unit {0}). Unit {0}) (leveled front 0) tt (tokens-leveled front 0) tt u v eq none))
-      (λ y v na q ny. after_part spell_statement spell_definition (λ x. Sits x (most - 0) 0) (IsFormedIn most) (λ x. Function w parameters x) (leveled front 0) y head (tokens-leveled front 0) following (λ x g. subst (λ k. Sits x k 0) same g) (statement_ended body room 0 0 f y v q ny)))
+      let names = walk_list walk_parameter parameters in
+      let few : (k o : ℕ) → FitsIn names k o = plain_fits names (parameters_plain parameters) in
+      let h = definition_stands (Function w parameters body) room f in
+      let b = definition_binds (Function w parameters body) room f in
+      seen most (after most (name_token w) Empty tt (tt, (few _ _, (tt, tt))) (after most (mark token.OpenParen) Empty tt (few _ _, (tt, tt))
+      (followed most (made most (fixed most names (few _ _)) (λ o. Empty) (mark token.CloseParen ∷ mark token.Semicolon ∷ []) (λ o. refl) (λ o a. tt) (λ o g. (g, (tt, tt)))) room h.1.1.0 (after most (mark token.CloseParen) Empty tt tt (statement_ended body room 0 _ b h.1.1.1.1)) (λ x. x) (λ x. refl) (λ x a. a))))
+      (λ x. Function w parameters x) (λ x. refl) (λ x a. a)
 
-  program_ended : (ds : List Definition) (room : ℕ) → AllFormedIn room ds → Ends most spell_all (AllFormedIn most) (program_levels ds)
-  program_ended [] room f = leaf most spell_all (AllFormedIn most) [] [] refl tt
-  program_ended (d ∷ ds) room f =
-      sequenced most spell_all (AllFormedIn most) (definition_levels d) (program_levels ds)
-      (λ u v eq none. with_rest spell_definition spell_all (IsFormedIn most) (AllFormedIn most) (λ x. x ∷ []) [] (λ x. refl) (λ x g. (g, tt)) u (definition_ended d room f.0 u v eq none))
-      (λ y v na q ny. after_part spell_all spell_all (AllFormedIn most) (AllFormedIn most) (λ es. d ∷ es) (definition_levels d) y (spell_definition d) (tokens-leveled (walk_definition d) 0) (λ x. refl) (λ x g. (definition_within most d room f.0 na, g)) (program_ended ds room f.1 y v q ny))
+  program_ended : (ds : List Definition) (room : ℕ) → AllFormedIn room ds → (t : Leveled) (u v : List Leveled) → program_levels ds ≡ (t ∷ u) ++ v → NoneAbove most (t ∷ u)
+      → (es : List Definition) × (more : List Placed) × AllFormedIn most es × (spell_all es ≡ tokens (t ∷ u) ++ more)
+  program_ended [] room f t u v e none = cc
+  program_ended (d ∷ ds) room f t u v e none = go (program_ended ds room f.1) (cut (definition_levels d) (program_levels ds) (t ∷ u) v e)
+    where
+      go : ((t : Leveled) (u v : List Leveled) → program_levels ds ≡ (t ∷ u) ++ v → NoneAbove most (t ∷ u) → (es : List Definition) × (more : List Placed) × AllFormedIn most es × (spell_all es ≡ tokens (t ∷ u) ++ more))
+          → Cut (definition_levels d) (program_levels ds) (t ∷ u) v → (es : List Definition) × (more : List Placed) × AllFormedIn most es × (spell_all es ≡ tokens (t ∷ u) ++ more)
+      go further (inside x p) =
+          let y = (definition_ended d room f.0).end t u x p none in
+          let same : most - 0 ≡ most = omega arith in
+          (y.tree ∷ [], y.more, (definition_fits y.tree most y.bind (subst (λ k. FitsIn (walk_definition y.tree) k 0) same y.fits), tt), append-nil (spell_definition y.tree) ∙ y.spelled)
+      go further (beyond s y p q) =
+          let n = none_split most (definition_levels d) (s ∷ y) (subst (λ l. NoneAbove most l) p none) in
+          let z = further s y v q n.1 in (
+            d ∷ z.0,
+            z.1,
+            (definition_within most d room f.0 n.0, z.2),
+            ap (λ l. spell_definition d ++ l) z.3 ∙ sym (append_assoc (spell_definition d) (tokens (s ∷ y)) z.1) ∙ ap (λ l. (l ++ tokens (s ∷ y)) ++ z.1) (sym (tokens-leveled (walk_definition d) 0))
+                ∙ ap (λ l. l ++ z.1) (sym (tokens-append (definition_levels d) (s ∷ y))) ∙ ap (λ l. tokens l ++ z.1) (sym p),
+          )
 
 pub can_be_ended : CanBeEnded
-can_be_ended ds deepest most u v f eq none = let e = program_ended most ds deepest f u v eq none in (e.tree, e.more, e.good, e.spelled)
+can_be_ended ds deepest most [] v f e none = ([], [], tt, refl)
+can_be_ended ds deepest most (t ∷ u) v f e none = program_ended most ds deepest f t u v e none

@@ -1,11 +1,11 @@
 -- The levels of a program are those of its tokens, and it needs no more than those.
 use Rattle.std.proofs.Common.{◌≡◌, ℕ, zero, suc, ◌+◌, ◌-◌, ◌≤◌, List, [], ◌∷◌, ◌++◌, ap, ◌∙◌, refl, subst, arith}
 use Rattle.std.proofs.lemmas.List.{map-append}
-use Rattle.blang.specs.Trees.{Expr, Arguments, Stmt, Stmts, Definition}
-use Rattle.blang.specs.Walk.{Walk, Said, TextHere, Level, ◌▸◌, tokens_in, walk, walk_arguments, walk_statement, walk_body, walk_definition, spell_definition}
-use Rattle.btree.specs.Fitting.{words_in, Deeper, FitsIn, Fits, ArgumentsFit, Sits, AllSit}
+use Rattle.blang.specs.Trees.{Definition}
+use Rattle.blang.specs.Walk.{Walk, Said, TextHere, Level, ◌▸◌, tokens_in, walk_definition, spell_definition}
+use Rattle.btree.specs.Fitting.{words_in, Deeper, FitsIn}
 use Rattle.btree.specs.Levels.{Leveled, tokens, leveled, definition_levels, program_levels, IsFormedIn, NoneAbove, LevelsOfTokens, NeedsLevels, HasLevels}
-use Rattle.btree.proofs.Fitting.{fits, arguments_fit, sits, all_sit, binds, arguments_bind, statement_binds, body_binds, stands, arguments_stand, statement_stands, body_stands, definition_fits, definition_binds, definition_stands}
+use Rattle.btree.proofs.Fitting.{definition_fits, definition_binds, definition_stands}
 
 pub tokens-append : (us vs : List Leveled) → tokens (us ++ vs) ≡ tokens us ++ tokens vs
 tokens-append us vs = map-append (λ (t : Leveled). t.token) us vs
@@ -39,18 +39,6 @@ module _ (most : ℕ) where
   within (Level p w end) (suc k) n off h none = deeper (λ k. FitsIn w k off) most n none.0 (within w k (suc n) off h none.1)
   within (v ▸ w) room n off h none = let s = none_split most (leveled v n) (leveled w n) none in (within v room n off h.0 s.0, within w room n (off + words_in v) h.1 s.1)
   within _ room n off h none = tt
-
-  pub fit_within : (e : Expr) (loose room n off : ℕ) → Fits e loose room off → NoneAbove most (leveled (walk e) n) → Fits e loose (most - n) off
-  fit_within e loose room n off h none = fits e loose (most - n) off (binds e loose room off h) (within (walk e) room n off (stands e loose room off h) none)
-
-  pub arguments_within : (args : Arguments) (room n off : ℕ) → ArgumentsFit args room off → NoneAbove most (leveled (walk_arguments args) n) → ArgumentsFit args (most - n) off
-  arguments_within args room n off h none = arguments_fit args (most - n) off (arguments_bind args room off h) (within (walk_arguments args) room n off (arguments_stand args room off h) none)
-
-  pub statement_within : (s : Stmt) (room n off : ℕ) → Sits s room off → NoneAbove most (leveled (walk_statement s) n) → Sits s (most - n) off
-  statement_within s room n off f none = sits s (most - n) off (statement_binds s room off f) (within (walk_statement s) room n off (statement_stands s room off f) none)
-
-  pub body_within : (body : Stmts) (room n off : ℕ) → AllSit body room off → NoneAbove most (leveled (walk_body body) n) → AllSit body (most - n) off
-  body_within body room n off f none = all_sit body (most - n) off (body_binds body room off f) (within (walk_body body) room n off (body_stands body room off f) none)
 
   has : (w : Walk) (room n off : ℕ) → n + room ≤ most → FitsIn w room off → NoneAbove most (leveled w n)
   has (Said p) room n off le h = (omega arith, tt)
