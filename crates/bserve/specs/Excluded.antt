@@ -1,5 +1,5 @@
 -- What no answer to a command line is, and what each one is.
-use Rattle.std.specs.Prelude.{◌≡◌, ◌⊎◌, ℕ, List, [], ◌∷◌, codes}
+use Rattle.std.specs.Prelude.{◌≡◌, ◌⊎◌, ℕ, List, [], ◌∷◌, Option, codes}
 use Rattle.clap.specs.Words.{IsAmong, Text, fault_of, subcommand_of}
 use Rattle.clap.specs.declared.error.kind.ErrorKind.{ErrorKind}
 use Rattle.clap.specs.declared.error.kind.ErrorKind.TheVariants as kind
@@ -11,9 +11,14 @@ use Rattle.blang.specs.Headline.{GoesOff, Headline}
 use Rattle.blang.specs.Machine.{HasNotRun, Reported, RunEnds}
 use Rattle.brun.specs.OneRun.{nothing_written, one_run_ends, unread}
 use Rattle.brun.specs.Runs.{RunsText}
-use Rattle.bcommand.specs.CommandLine.{asked, command_line, contradiction, go, run}
+use Rattle.bcommand.specs.CommandLine.{asked, command_line, contradiction, draw, go, list, locate, map, run, trace}
+use Rattle.bdraw.specs.Draws.{Draws}
+use Rattle.blist.specs.Listings.{Lists}
+use Rattle.blist.specs.Maps.{Maps}
+use Rattle.btrace.specs.Locates.{Locates}
+use Rattle.btrace.specs.Traces.{Traces}
 use Rattle.bserve.specs.declared.shelf.MemFile.{MemFile}
-use Rattle.bserve.specs.Serves.{Does, HasNoFile, IsHelp, NamesFile, SaysNothing, Serves, unread_line}
+use Rattle.bserve.specs.Serves.{Does, HasNoFile, IsHelp, NamesFile, SaysNothing, Serves, telling_ends, unread_line}
 use Rattle.bserve.specs.Shelves.{Holdings, holding}
 
 -- The words have a fault, and don't ask for help.
@@ -67,6 +72,22 @@ pub record FileIsRead (file : MemFile) : Type 0 where
       → Does (holding file) (go file.name.now steps edition) ends status
       → ((following : Unread) × GoesOff edition steps (unread file.text.now) (incoming_of following) ends status)
       ⊎ SaysNothing ends status MEMORY
+  -- another source is listed, its memory shown or drawn, or its steps or its place told
+  pub list_alone : (name : Option (List ℕ)) (edition : Edition) (ends : RunEnds) (status : ℕ)
+      → Does (holding file) (list file.name.now name edition) ends status
+      → Lists edition file.text.now name (telling_ends ends) status ⊎ SaysNothing ends status MEMORY
+  pub map_alone : (edition : Edition) (ends : RunEnds) (status : ℕ)
+      → Does (holding file) (map file.name.now edition) ends status
+      → Maps edition file.text.now (telling_ends ends) status ⊎ SaysNothing ends status MEMORY
+  pub draw_alone : (edition : Edition) (steps : Option ℕ) (ends : RunEnds) (status : ℕ)
+      → Does (holding file) (draw file.name.now edition steps) ends status
+      → Draws edition file.text.now steps ends status ⊎ SaysNothing ends status MEMORY
+  pub trace_alone : (steps from : ℕ) (function : Option (List ℕ)) (edition : Edition) (ends : RunEnds) (status : ℕ)
+      → Does (holding file) (trace file.name.now steps from function edition) ends status
+      → Traces edition file.text.now steps from function ends status ⊎ SaysNothing ends status MEMORY
+  pub locate_alone : (steps : ℕ) (edition : Edition) (ends : RunEnds) (status : ℕ)
+      → Does (holding file) (locate file.name.now steps edition) ends status
+      → Locates edition file.text.now steps ends status ⊎ SaysNothing ends status MEMORY
   -- another output than `a`, or another status than 0
   pub one_go : (input : Unread) (out line : Kept) (status : ℕ) → file.text.now ≡ codes "main(){putchar('a');}"
       → Does (holding file) (go file.name.now 100 editions.One) (one_run_ends input out line) status
