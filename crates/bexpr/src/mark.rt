@@ -24,6 +24,7 @@ pub enum Mark {
 
 impl Mark {
     /// Whether a token is this one.
+    #[inline(always)]
     pub fn is(self, lexeme: Lexeme) -> bool
         ensures { (text : List ℕ) → result ≡ is_mark self (token_of_lexeme lexeme text) }
     {

@@ -68,6 +68,7 @@ impl<I: ByteIn> Tokens<I> {
     }
 
     /// The current token, without the characters of a string.
+    #[inline(always)]
     pub fn lexeme(&self) -> Lexeme
         requires { IsLoaded self.now }
         ensures { token_of_lexeme result self.now.text ≡ first self.now.ahead }
@@ -86,6 +87,7 @@ impl<I: ByteIn> Tokens<I> {
     }
 
     /// The line of the current token.
+    #[inline(always)]
     pub fn line(&self) -> u64
         ensures { result ≡ line_ahead self.now.ahead }
     {
@@ -96,11 +98,13 @@ impl<I: ByteIn> Tokens<I> {
     }
 
     /// How many tokens were taken: as many as come before the current one.
+    #[inline(always)]
     pub fn taken(&self) -> u64 {
         self.taken.get()
     }
 
     /// Where the current token is.
+    #[inline(always)]
     pub fn origin(&self) -> Origin {
         Origin {
             line: self.line(),
@@ -125,6 +129,7 @@ impl<I: ByteIn> Tokens<I> {
     }
 
     /// Whether the current token is this one.
+    #[inline(always)]
     pub fn is_at(&self, mark: Mark) -> bool
         ensures { result ≡ is_mark mark (first self.now.ahead) }
     {
@@ -135,6 +140,7 @@ impl<I: ByteIn> Tokens<I> {
     }
 
     /// Reads the current token, unless it is there.
+    #[inline(always)]
     pub fn look(&mut self) -> Result<(), Device>
         requires { IsReady self.old }
         ensures ok { OnOk result (Looks self.old self.new) }
@@ -150,6 +156,7 @@ impl<I: ByteIn> Tokens<I> {
     }
 
     /// Reads the token after the current one, which is a name, unless it is there.
+    #[inline(always)]
     pub fn look_on(&mut self) -> Result<(), Device>
         requires loaded { IsLoaded self.old }
         requires name { is_name (first self.old.ahead) ≡ true }
@@ -176,6 +183,7 @@ impl<I: ByteIn> Tokens<I> {
     }
 
     /// Takes the current token, which is no last one, and reads the next.
+    #[inline(always)]
     pub fn advance(&mut self) -> Result<(), Device>
         requires loaded { IsLoaded self.old }
         requires goes_on { is_last (first self.old.ahead) ≡ false }

@@ -11,6 +11,7 @@ use blang::Letters;
 use bword::{BinOp, ByteIn, Device};
 
 /// The rest of the operator or the punctuation that begins with this byte, or none of it where nothing fits.
+#[inline(always)]
 pub(crate) fn operator<I: ByteIn>(source: &mut Source<I>, first: u8) -> Result<Lexeme, Device>
     requires { BeginsFixed first source.old }
     ensures ok { IfOk result (λ lexeme. PassesLexeme first source.old lexeme source.new) }
@@ -24,6 +25,7 @@ pub(crate) fn operator<I: ByteIn>(source: &mut Source<I>, first: u8) -> Result<L
 
 // The token of this byte, if no longer one begins with it.
 #[tactic(auto, unfolding(blang::specs::Cut::operator_of, blang::specs::Cut::other_of, blang::specs::Cut::fixed_of))]
+#[inline(always)]
 fn alone(byte: u8) -> Option<Lexeme>
     ensures { IfSome result (IsAlone byte) }
 {
@@ -111,6 +113,7 @@ fn one_or_stray(first: u8) -> Lexeme
 
 // The binary operator of this one byte.
 #[tactic(auto, unfolding(blang::specs::Cut::operator_of))]
+#[inline(always)]
 fn operator_of_one(byte: u8) -> Option<BinOp>
     ensures { result ≡ operator_of (byte ∷ []) }
 {
@@ -130,6 +133,7 @@ fn operator_of_one(byte: u8) -> Option<BinOp>
 
 // The binary operator of these two bytes.
 #[tactic(auto, unfolding(blang::specs::Cut::operator_of))]
+#[inline(always)]
 fn operator_of_two(first: u8, second: u8) -> Option<BinOp>
     ensures { result ≡ operator_of (first ∷ second ∷ []) }
 {
@@ -176,6 +180,7 @@ fn fixed_of_one(byte: u8) -> Option<Lexeme>
 }
 
 #[tactic(auto, unfolding(blang::specs::Cut::fixed_of, blang::specs::Cut::other_of))]
+#[inline(always)]
 fn fixed_of_two(first: u8, second: Option<u8>) -> Option<Lexeme>
     ensures { MayStandFor result (fixed_of_two first second) }
 {

@@ -76,6 +76,7 @@ fn quoted<I: ByteIn, const ROOM: usize>(
 }
 
 // The rest of the character that begins with this byte, which is not the quote.
+#[inline(always)]
 fn character<I: ByteIn>(source: &mut Source<I>, first: u8) -> Result<Option<u8>, Device>
     ensures ok { IfOk result (λ character. PassesCharacter first source.old character source.new) }
     ensures err { OnErr result (SourceFails source.old source.new) }

@@ -13,6 +13,7 @@ use blang::{Keyword, Letters};
 use bword::{ByteIn, Device, Edition, NAME_LEN, Name, is_name_byte};
 
 /// The rest of the word that begins with this byte.
+#[inline(always)]
 pub(crate) fn word<I: ByteIn>(source: &mut Source<I>, first: u8) -> Result<Lexeme, Device>
     requires { is_name_start first ≡ true }
     ensures ok { IfOk result (λ lexeme. PassesLexeme first source.old lexeme source.new) }
@@ -51,6 +52,7 @@ fn name_byte<I: ByteIn>(source: &mut Source<I>) -> Result<Option<u8>, Device>
 
 // The keyword or the name that this is.
 #[tactic(auto, unfolding(blang::specs::Cut::word_token))]
+#[inline(always)]
 fn keyword_or_name(edition: Edition, text: &[u8]) -> Lexeme
     requires { IsTrue (is_name text.now) }
     ensures { IsLexemeOf result (word_token edition text.now) }
@@ -62,6 +64,7 @@ fn keyword_or_name(edition: Edition, text: &[u8]) -> Lexeme
 }
 
 #[tactic(auto, unfolding(blang::specs::Cut::keyword_of))]
+#[inline(always)]
 fn keyword(edition: Edition, text: &[u8]) -> Option<Keyword>
     ensures { result ≡ keyword_of edition text.now }
 {
@@ -81,6 +84,7 @@ fn keyword(edition: Edition, text: &[u8]) -> Option<Keyword>
     }
 }
 
+#[inline(always)]
 fn keyword_if(text: &[u8], spelling: &[u8], keyword: Keyword) -> Option<Keyword>
     ensures { result ≡ if is_text text.now spelling.now then Some keyword else None }
 {
