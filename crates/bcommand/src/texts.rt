@@ -38,7 +38,9 @@ Examples:
 There are two editions of the language. In edition 2, break leaves the nearest
 while or switch, and a switch without a case for its value goes to its default.
 In edition 1 these two words are names like others. A source is of edition 1
-unless --edition 2 is given. Use 1 for old sources and 2 for new ones.
+unless --edition 2 comes after the name of the command. Use 1 for old sources
+and 2 for new ones. b run and b migrate have no --edition: a code text begins
+with the line B 2 if it is of edition 2.
 
 The status is 0 if a source compiles. After a run it is the exit status of the
 program. These are the other statuses, with their line on standard error:
@@ -109,7 +111,7 @@ the name of a definition in the source.
 
 Examples:
   b list hello.b
-  b list hello.b main
+  b list --edition 2 menu.b main
 
 Statuses: 0 listed, 1 a fault of the source, 132 code that doesn't load,
 133 a failed read or write, 134 out of memory, 135 a wrong command line, or no
@@ -125,7 +127,7 @@ active calls. The program then reads standard input, and its output is dropped.
 
 Examples:
   b map hello.b
-  b map --svg hello.b > hello.svg
+  b map --svg --edition 2 menu.b > menu.svg
   b map --svg --steps 40 hello.b > hello.svg
 
 Statuses: 0 shown, 1 a fault of the source, 132 code that doesn't load,
@@ -143,7 +145,7 @@ The program reads standard input. Its output is in the trace alone. The trace is
 kept in memory, and written when the run is over.
 
 Examples:
-  b trace hello.b
+  b trace --edition 2 menu.b
   b trace --from 100 --steps 200 --function main hello.b
 
 Statuses: 0 to 127 the program's own, 1 also a fault of the source, 130 a trap,
@@ -168,6 +170,9 @@ Statuses: 0 no fault, 1 a fault of the source, 132 code that doesn't load,
 b --help explains the letters.";
 
 pub(crate) const RUN_HELP: &str = "\
+FILE is a code text, as b compile writes it; b go takes a source. A code text
+begins with the line B 2 if it is of edition 2, so there is no --edition.
+
 The program reads standard input and writes standard output. A step is one
 instruction. If the line is limit, give more steps by --steps N or --no-limit.
 

@@ -9,7 +9,7 @@ use bword::Name;
 use itoa::Buffer;
 use std::alloc::AllocError;
 
-/// How wide the columns of code and of the source are.
+/// How wide the columns of code and of the source are, each with at least one blank at its end.
 const CODE_WIDTH: usize = 14;
 
 const SOURCE_WIDTH: usize = 40;
@@ -105,15 +105,15 @@ fn push_beside(text: &mut Text, used: usize, source: &[u8], named: Named) -> Res
     if let Named::Nothing = named {
         return Ok(());
     }
-    text.push_blanks(SOURCE_WIDTH.saturating_sub(source.len()))?;
+    text.push_blanks(SOURCE_WIDTH.saturating_sub(source.len()).max(1))?;
     push_named(text, named)
 }
 
-// So much of a line of the source as has room, each byte that is no ASCII character as `.`.
+// So much of a line of the source as leaves a blank, each byte that is no ASCII character as `.`.
 fn push_source(text: &mut Text, source: &[u8]) -> Result<(), AllocError>
     ensures { OnOk result (Extends text.old text.new) }
 {
-    let len = source.len().min(SOURCE_WIDTH);
+    let len = source.len().min(SOURCE_WIDTH - 1);
     for byte in &source[..len] {
         push_source_byte(text, *byte)?;
     }

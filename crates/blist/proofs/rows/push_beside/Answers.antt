@@ -15,5 +15,5 @@ returns c =
     let t1 = c.push_blanks.new.self in
     let t2 = c.push_source.new.text in
     let t3 = c.push_blanks-2.new.self in
-    let more = extends_both t1 t2 t3 c.in_ok-push_source.ensures (extends t2 t3 (replicate c.saturating_sub-2.result 32) (blanks c.saturating_sub-2.result) c.in_ok-push_blanks-2.ensures) in
+    let more = extends_both t1 t2 t3 c.in_ok-push_source.ensures (extends t2 t3 (replicate c.max-2.result 32) (blanks c.max-2.result) c.in_ok-push_blanks-2.ensures) in
     on_ok_weaker c.push_named.result (λ e. beside_blanks c.args.used c.max.result start t1 c.push_named.new.text (omega (arith, c.max.ensures, c.saturating_sub.ensures)) c.in_ok-push_blanks.ensures (extends_both t1 t3 c.push_named.new.text more e)) c.push_named.ensures
