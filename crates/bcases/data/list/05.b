@@ -1,0 +1,1 @@
+main() { auto n; n = 1; n = n + 1; n = n + 22; }
