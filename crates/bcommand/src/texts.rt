@@ -138,8 +138,9 @@ pub(crate) const TRACE_HELP: &str = "\
 A row has the number of a step, the function, the place in it, the number of the
 source line, the instruction, and the topmost operands before it, at most five.
 After the row come the words that the step stored, each with its address, and
-what it wrote. After a trap, or at the limit of steps, the trace shows the place
-and the calls that led there, each with at most six parameters.
+what it wrote. Words are shown as signed numbers. After a trap, or at the limit
+of steps, the trace shows the place and the calls that led there, each with at
+most six parameters.
 
 The program reads standard input. Its output is in the trace alone. The trace is
 kept in memory, and written when the run is over.
