@@ -522,7 +522,7 @@ fn the_line_of_a_trace_is_refused_memory(rt: HostRuntime) -> Result<(), Fail> {
 const UNREAD: &str = "\
 b map --steps 9 x.b~@
 b go --where x.b~@
-b trace --from 5 x.b~    step  function place  line  code         operands
+b trace --from 5 x.b~    step  function place  line  code         operands, signed
        5  main         4     4  x getchar    10
        6  main         5     4  v            10 3
        7  main         6     4  k 0          10 3

@@ -9,7 +9,7 @@ fn calls_too_deep(rt: HostRuntime) -> Result<(), Fail> {
     fs::write(&rt, "dp.b", b"main() main();")?;
     let (out, line) = serves(&rt, "b trace --steps 20000 --from 12288 dp.b", "", 130)?;
     fs::remove_file(&rt, "dp.b")?;
-    let begins = "    step  function place  line  code         operands
+    let begins = "    step  function place  line  code         operands, signed
    12288  main         2     1  k 0          7
 at     in main     place    2  line    1
 ";

@@ -1,5 +1,5 @@
 -- The places of a run, one after another.
-use Rattle.std.proofs.Common.{◌≡◌, ◌∙◌, ℕ, zero, suc, ◌+◌, ◌-◌, ◌<◌, None, Some, add-one, arith, List, [], ◌∷◌, ◌++◌, ap, append-nil, append_assoc, codes, decimal, length, map, min, nat_lt, refl, subst, sym, take, if◌then◌else◌}
+use Rattle.std.proofs.Common.{◌≡◌, ◌∙◌, ℕ, zero, suc, ◌+◌, ◌-◌, ◌<◌, None, Some, add-one, arith, List, [], ◌∷◌, ◌++◌, ap, append-nil, append_assoc, codes, length, map, min, nat_lt, refl, subst, sym, take, if◌then◌else◌}
 use Rattle.std.specs.List.{flat_map, range_with_len}
 use Rattle.std.proofs.lemmas.List.Concat.{flat_map-append}
 use Rattle.btools.specs.Columns.{left}
@@ -11,16 +11,16 @@ use Rattle.blang.specs.Machine.{Call}
 use Rattle.bmach.specs.Stops.{active_of}
 use Rattle.bmach.specs.declared.machine.Active.{Active}
 use Rattle.btrace.specs.Programs.{Placed}
-use Rattle.btrace.specs.RowTexts.{Place, first_words, has_more, parameter_at, place_text, places_text, words_text}
+use Rattle.btrace.specs.RowTexts.{Place, first_words, has_more, parameter_at, place_text, places_text, signed_text, words_text}
 use Rattle.btrace.specs.Traces.{AddsPlaces, waits_at}
 
 -- the words of the first parameters, where so many are shown
-pub words_shown : (old text new store : List ℕ) (call : Active) (count : ℕ) → count ≡ min call.parameters 6 → text ≡ (old ++ (if nat_lt 0 count then codes "  with" else [])) ++ flat_map (λ w. codes " " ++ decimal w) (map (parameter_at store call) (range_with_len 0 count))
+pub words_shown : (old text new store : List ℕ) (call : Active) (count : ℕ) → count ≡ min call.parameters 6 → text ≡ (old ++ (if nat_lt 0 count then codes "  with" else [])) ++ flat_map (λ w. codes " " ++ signed_text w) (map (parameter_at store call) (range_with_len 0 count))
     → new ≡ text ++ (if has_more call then codes " .." else []) → new ≡ old ++ words_text (first_words store call) (has_more call)
 words_shown old text new store call count is before end =
     let words = map (parameter_at store call) (range_with_len 0 count) in
     let with : List ℕ = if nat_lt 0 (length words) then codes "  with" else [] in
-    let all : List ℕ = flat_map (λ w. codes " " ++ decimal w) words in
+    let all : List ℕ = flat_map (λ w. codes " " ++ signed_text w) words in
     let dots : List ℕ = if has_more call then codes " .." else [] in
     let same : length words ≡ count = length-map-range_with_len (parameter_at store call) 0 count in
     end ∙ ap (λ x. x ++ dots) (before ∙ ap (λ n. (old ++ (if nat_lt 0 n then codes "  with" else [])) ++ all) (sym same) ∙ append_assoc old with all)
@@ -29,12 +29,12 @@ words_shown old text new store call count is before end =
 
 -- with the word of one parameter more
 pub one_word : (start text t1 t2 store : List ℕ) (call : Active) (index word : ℕ) → word ≡ parameter_at store call index
-    → text ≡ start ++ flat_map (λ w. codes " " ++ decimal w) (map (parameter_at store call) (range_with_len 0 index)) → t1 ≡ text ++ codes " " → t2 ≡ t1 ++ decimal word
-    → t2 ≡ start ++ flat_map (λ w. codes " " ++ decimal w) (map (parameter_at store call) (range_with_len 0 (index + 1)))
+    → text ≡ start ++ flat_map (λ w. codes " " ++ signed_text w) (map (parameter_at store call) (range_with_len 0 index)) → t1 ≡ text ++ codes " " → t2 ≡ t1 ++ signed_text word
+    → t2 ≡ start ++ flat_map (λ w. codes " " ++ signed_text w) (map (parameter_at store call) (range_with_len 0 (index + 1)))
 one_word start text t1 t2 store call index word is before e1 e2 =
-    let f : ℕ → List ℕ = λ w. codes " " ++ decimal w in
+    let f : ℕ → List ℕ = λ w. codes " " ++ signed_text w in
     let words = map (parameter_at store call) (range_with_len 0 index) in
-    e2 ∙ ap (λ x. x ++ decimal word) e1 ∙ append_assoc text (codes " ") (decimal word) ∙ ap (λ x. x ++ f word) before
+    e2 ∙ ap (λ x. x ++ signed_text word) e1 ∙ append_assoc text (codes " ") (signed_text word) ∙ ap (λ x. x ++ f word) before
     ∙ flat_map_more f start words word ∙ ap (λ w. start ++ flat_map f (words ++ w ∷ [])) is
     ∙ ap (λ ws. start ++ flat_map f ws) (sym (map-range_with_len_more (parameter_at store call) 0 index index (omega arith)))
 

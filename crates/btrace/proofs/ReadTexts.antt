@@ -1,11 +1,12 @@
 -- Reading a text that has a number of any length in it.
 use Rattle.std.proofs.Common.{◌≡◌, ◌∙◌, ℕ, zero, suc, ◌+◌, ◌-◌, ◌/◌, ◌%◌, Bool, true, false, ◌==◌, List, [], ◌∷◌, ◌++◌, ap, append_assoc, arith, codes, decimal, get_or, length, nat_lt, refl, replicate, if◌then◌else◌}
-use Rattle.std.specs.Prelude.{◌&&◌}
+use Rattle.std.specs.Prelude.{◌&&◌, int_lt, nat_abs, pos}
 use Rattle.std.specs.Fmt.{digit_glyph, digits, digits_onto}
 use Rattle.std.specs.List.{flat_map}
 use Rattle.std.proofs.lemmas.Bool.{lt-ltb, ltb-true}
 use Rattle.btools.specs.Columns.{right}
-use Rattle.btrace.specs.RowTexts.{words_text}
+use Rattle.bword.specs.Words.{signed_of}
+use Rattle.btrace.specs.RowTexts.{signed_text, words_text}
 
 -- the character in a column
 abbrev pub at : ℕ → List ℕ → ℕ
@@ -136,15 +137,24 @@ blanks_above (suc k) = blanks_above k
 pub number_above : (width n : ℕ) → all_above 10 (right width (decimal n)) ≡ true
 number_above width n = above_append 10 (replicate (width - length (decimal n)) 32) (decimal n) (blanks_above (width - length (decimal n))) (lower (decimal n) (digits_above n))
 
-each_above : (words : List ℕ) → all_above 10 (flat_map (λ w. codes " " ++ decimal w) words) ≡ true
+signed_above : (word : ℕ) → all_above 10 (signed_text word) ≡ true
+signed_above word =
+    let size = nat_abs (signed_of word) in
+    above_append 10 (if int_lt (signed_of word) (pos 0) then codes "-" else []) (decimal size) (sign (int_lt (signed_of word) (pos 0))) (lower (decimal size) (digits_above size))
+  where
+    sign : (b : Bool) → all_above 10 (if b then codes "-" else []) ≡ true
+    sign true = refl
+    sign false = refl
+
+each_above : (words : List ℕ) → all_above 10 (flat_map (λ w. codes " " ++ signed_text w) words) ≡ true
 each_above [] = refl
 each_above (w ∷ words) =
-    above_append 10 (codes " " ++ decimal w) (flat_map (λ x. codes " " ++ decimal x) words) (lower (decimal w) (digits_above w)) (each_above words)
+    above_append 10 (codes " " ++ signed_text w) (flat_map (λ x. codes " " ++ signed_text x) words) (signed_above w) (each_above words)
 
 pub words_above : (words : List ℕ) (has_more : Bool) → all_above 10 (words_text words has_more) ≡ true
 words_above words has_more =
-    above_append 10 ((if nat_lt 0 (length words) then codes "  with" else []) ++ flat_map (λ w. codes " " ++ decimal w) words) (if has_more then codes " .." else [])
-    (above_append 10 (if nat_lt 0 (length words) then codes "  with" else []) (flat_map (λ w. codes " " ++ decimal w) words) (first (nat_lt 0 (length words))) (each_above words)) (last has_more)
+    above_append 10 ((if nat_lt 0 (length words) then codes "  with" else []) ++ flat_map (λ w. codes " " ++ signed_text w) words) (if has_more then codes " .." else [])
+    (above_append 10 (if nat_lt 0 (length words) then codes "  with" else []) (flat_map (λ w. codes " " ++ signed_text w) words) (first (nat_lt 0 (length words))) (each_above words)) (last has_more)
   where
     first : (b : Bool) → all_above 10 (if b then codes "  with" else []) ≡ true
     first true = refl

@@ -1,13 +1,30 @@
 -- What stands in the rows of a trace, on small values.
-use Rattle.std.specs.Prelude.{◌≡◌, ℕ, true, false, [], ◌∷◌, ◌++◌, Some, None, codes, refl, replicate}
+use Rattle.std.specs.Prelude.{◌≡◌, ℕ, true, false, [], ◌∷◌, ◌++◌, Some, None, codes, map, refl, replicate}
 use Rattle.std.specs.Fmt.{digits}
 use Rattle.blang.specs.declared.run.Outcome.TheVariants as outcome
 use Rattle.blang.specs.declared.run.Trap.TheVariants as trap
 use Rattle.btrace.specs.Locates.{located_status}
 use Rattle.bmach.specs.declared.machine.Active.{Active}
-use Rattle.btrace.specs.RowTexts.{stored_text, first_words, has_more, instr_text, margin, operands_text, word_row}
-use Rattle.btrace.specs.RowTexts.{words_text, written_row}
+use Rattle.btrace.specs.RowTexts.{first_words, has_more, instr_text, margin, operands_text, signed_text, stored_text}
+use Rattle.btrace.specs.RowTexts.{word_row, words_text, written_byte, written_row}
 use Rattle.btrace.specs.Traces.{is_wanted, which_of}
+
+-- a word is shown as a signed number
+signed_zero : signed_text 0 ≡ codes "0"
+unfolding digits
+signed_zero = refl
+
+signed_greatest : signed_text 32767 ≡ codes "32767"
+unfolding digits
+signed_greatest = refl
+
+signed_least : signed_text 32768 ≡ codes "-32768"
+unfolding digits
+signed_least = refl
+
+signed_minus_one : signed_text 65535 ≡ codes "-1"
+unfolding digits
+signed_minus_one = refl
 
 -- the topmost five operands
 no_operands : operands_text [] ≡ []
@@ -21,10 +38,22 @@ topmost_operands : operands_text (1 ∷ 2 ∷ 3 ∷ 4 ∷ 5 ∷ 6 ∷ []) ≡ co
 unfolding digits
 topmost_operands = refl
 
+signed_operands : operands_text (65535 ∷ 32768 ∷ 7 ∷ []) ≡ codes " -1 -32768 7"
+unfolding digits
+signed_operands = refl
+
 -- a word beside its address
 word_shown : word_row (7 ∷ 8 ∷ []) 1 ≡ replicate 43 32 ++ codes "@1 = 8\n"
 unfolding digits margin
 word_shown = refl
+
+signed_word : word_row (7 ∷ 65535 ∷ []) 1 ≡ replicate 43 32 ++ codes "@1 = -1\n"
+unfolding digits margin
+signed_word = refl
+
+unsigned_address : word_row [] 65535 ≡ replicate 43 32 ++ codes "@65535 = 0\n"
+unfolding digits margin
+unsigned_address = refl
 
 no_word : stored_text (7 ∷ []) [] ≡ []
 no_word = refl
@@ -36,6 +65,12 @@ nothing_written = refl
 written_shown : written_row (codes "a\n") ≡ replicate 43 32 ++ codes "writes 'a*n'\n"
 unfolding margin
 written_shown = refl
+
+-- a character, an escape, and a byte that is neither
+bytes_shown : map written_byte (32 ∷ 42 ∷ 46 ∷ 92 ∷ 126 ∷ 0 ∷ 4 ∷ 9 ∷ 10 ∷ 1 ∷ 11 ∷ 31 ∷ 127 ∷ 128 ∷ 255 ∷ [])
+    ≡ (codes " " ∷ codes "**" ∷ codes "." ∷ codes "\\" ∷ codes "~" ∷ codes "*0" ∷ codes "*e" ∷ codes "*t" ∷ codes "*n"
+    ∷ codes "\\x01" ∷ codes "\\x0b" ∷ codes "\\x1f" ∷ codes "\\x7f" ∷ codes "\\x80" ∷ codes "\\xff" ∷ [])
+bytes_shown = refl
 
 -- The parameters of a call stand at the beginning of its frame, and six of them are shown.
 abbrev a_call : (parameters start : ℕ) → Active
@@ -62,6 +97,10 @@ no_words = refl
 words_shown : words_text (3 ∷ 4 ∷ []) true ≡ codes "  with 3 4 .."
 unfolding digits
 words_shown = refl
+
+signed_words : words_text (65535 ∷ 7 ∷ []) false ≡ codes "  with -1 7"
+unfolding digits
+signed_words = refl
 
 -- an instruction that isn't there
 no_instruction : instr_text None ≡ []

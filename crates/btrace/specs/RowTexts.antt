@@ -1,14 +1,15 @@
 -- The texts of the rows of a trace.
 use Rattle.std.specs.Prelude.{◌≡◌, ℕ, Bool, ◌-◌, List, [], ◌∷◌, ◌++◌, Option, Some, None, codes, decimal, drop}
-use Rattle.std.specs.Prelude.{◌+◌, ◌%◌, length, map, min, nat_lt, refl, replicate, reverse, slice_get, slice_index}
-use Rattle.std.specs.Prelude.{if◌then◌else◌}
+use Rattle.std.specs.Prelude.{◌+◌, ◌/◌, ◌%◌, ◌==◌, ◌||◌, length, map, min, nat_lt, refl, replicate, reverse, slice_get}
+use Rattle.std.specs.Prelude.{slice_index, if◌then◌else◌}
+use Rattle.std.specs.Char.{digit_char}
 use Rattle.std.specs.List.{flat_map, range_with_len}
-use Rattle.blang.specs.Layout.{store_words}
+use Rattle.blang.specs.Layout.{printed, store_words}
 use Rattle.blang.specs.Machine.{Call}
 use Rattle.blang.specs.Text.{instr_line}
 use Rattle.blang.specs.declared.code.Instr.{Instr}
 use Rattle.bmach.specs.declared.machine.Active.{Active}
-use Rattle.btools.specs.Characters.{shown_byte}
+use Rattle.btools.specs.Characters.{is_printable, shown_byte}
 use Rattle.btools.specs.Columns.{left, right, without_newline}
 use Rattle.btrace.specs.Programs.{Placed, function_with}
 use Rattle.btrace.specs.declared.places.TheConstants.{SHOWN_PARAMETERS}
@@ -42,11 +43,15 @@ operands_shown = refl
 margin_width : MARGIN ≡ 43
 margin_width = refl
 
+-- a word as `printn` writes it to the base 10
+abbrev pub signed_text : ℕ → List ℕ
+signed_text word = printed word 10
+
 -- the topmost operands, the topmost last, and `..` before them if there are more
 abbrev pub operands_text : List ℕ → List ℕ
 operands_text words =
     (if nat_lt 0 (length words - SHOWN_OPERANDS) then codes " .." else [])
-    ++ flat_map (λ w. codes " " ++ decimal w) (drop (length words - SHOWN_OPERANDS) words)
+    ++ flat_map (λ w. codes " " ++ signed_text w) (drop (length words - SHOWN_OPERANDS) words)
 
 -- the number of a step, the call before it, and a line of the source
 abbrev pub step_row : List Placed → (number : ℕ) → Call → (line : ℕ) → List ℕ
@@ -62,16 +67,28 @@ margin = replicate MARGIN 32
 -- an address and its word
 abbrev pub word_row : (store : List ℕ) → (address : ℕ) → List ℕ
 word_row store address =
-    margin ++ codes "@" ++ decimal address ++ codes " = " ++ decimal (slice_index store address) ++ codes "\n"
+    margin ++ codes "@" ++ decimal address ++ codes " = " ++ signed_text (slice_index store address) ++ codes "\n"
 
 abbrev pub stored_text : (store addresses : List ℕ) → List ℕ
 stored_text store addresses = flat_map (word_row store) addresses
+
+-- a byte in hexadecimal digits
+abbrev pub hexadecimal : ℕ → List ℕ
+hexadecimal b = codes "\\x" ++ digit_char (b / 16) ∷ digit_char (b % 16) ∷ []
+
+-- whether a byte that isn't printable has an escape in B
+abbrev pub has_escape : ℕ → Bool
+has_escape b = (b == 0) || (b == 4) || (b == 9) || (b == 10)
+
+-- a byte that was written: a character, the escape that stands for it, or its hexadecimal digits
+abbrev pub written_byte : ℕ → List ℕ
+written_byte b = if is_printable b || has_escape b then shown_byte b else hexadecimal b
 
 -- what was written, if something was
 abbrev pub written_row : List ℕ → List ℕ
 written_row [] = []
 written_row (byte ∷ bytes) =
-    margin ++ codes "writes '" ++ flat_map shown_byte (byte ∷ bytes) ++ codes "'\n"
+    margin ++ codes "writes '" ++ flat_map written_byte (byte ∷ bytes) ++ codes "'\n"
 
 -- a place of a run: a call, and a line of the source
 pub record Place : Type 0 where
@@ -94,7 +111,7 @@ has_more call = nat_lt SHOWN_PARAMETERS call.parameters
 
 abbrev pub words_text : List ℕ → (are_more : Bool) → List ℕ
 words_text words are_more =
-    (if nat_lt 0 (length words) then codes "  with" else []) ++ flat_map (λ w. codes " " ++ decimal w) words
+    (if nat_lt 0 (length words) then codes "  with" else []) ++ flat_map (λ w. codes " " ++ signed_text w) words
     ++ (if are_more then codes " .." else [])
 
 -- a function, a place in it, and a line of the source

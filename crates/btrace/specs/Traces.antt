@@ -25,7 +25,7 @@ use Rattle.btrace.specs.declared.tracing.TheConstants.{HEADING, UNNAMED}
 use Rattle.btrace.specs.declared.tracing.Which.{Which}
 
 -- the columns of a trace
-trace_heading : HEADING.now ≡ codes "    step  function place  line  code         operands\n"
+trace_heading : HEADING.now ≡ codes "    step  function place  line  code         operands, signed\n"
 trace_heading = refl
 
 -- what is said of a name that no function has

@@ -4,7 +4,7 @@ ghost use Rattle.btrace.specs.Programs.{entries_of};
 ghost use Rattle.btrace.specs.RowTexts.{first_words, has_more, place_text, site_text, words_text};
 ghost use Rattle.btrace.specs.Traces.{AddsPlaces};
 
-use crate::rows::{frame_address, name_of};
+use crate::rows::{frame_address, name_of, push_signed};
 use crate::tables::Tables;
 use bmach::{Active, Stepper};
 use btools::Text;
@@ -87,7 +87,7 @@ fn push_words<S: Store + Drop>(
     push_if(text, count > 0, b"  with")?;
     for index in 0..count {
         text.push(b" ")?;
-        text.push_number(u64::from(stepper.word(frame_address(call, index))))?;
+        push_signed(text, stepper.word(frame_address(call, index)))?;
     }
     push_if(text, call.parameters > SHOWN_PARAMETERS, b" ..")
 }

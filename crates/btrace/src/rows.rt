@@ -1,10 +1,11 @@
 //! The rows of a trace.
 ghost use Rattle.std.specs.Prelude.{◌≡◌, ◌≤◌, ℕ, List, [], ◌+◌, ◌-◌, ◌%◌, ◌^◌, ◌<◌, ◌++◌, OnOk, option_map};
+ghost use Rattle.std.specs.Char.{digit_char};
 ghost use Rattle.std.specs.List.{flat_map, range_with_len};
-ghost use Rattle.btools.specs.Characters.{shown_byte};
 ghost use Rattle.btools.specs.Columns.{left};
 ghost use Rattle.btrace.specs.Programs.{entries_of, placed_entry};
-ghost use Rattle.btrace.specs.RowTexts.{instr_in, instr_text, margin, name_in, operands_text, step_row, stored_text, word_row, written_row};
+ghost use Rattle.btrace.specs.RowTexts.{hexadecimal, instr_in, instr_text, margin, name_in, operands_text, signed_text, step_row};
+ghost use Rattle.btrace.specs.RowTexts.{stored_text, word_row, written_byte, written_row};
 
 use crate::tables::{Entry, Tables};
 use bcode::{Page, push_instr_line};
@@ -83,9 +84,20 @@ fn push_operands(text: &mut Text, operands: &[u16]) -> Result<(), AllocError>
     text.push(if first > 0 { b" .." } else { b"" })?;
     for word in &operands[first..] {
         text.push(b" ")?;
-        text.push_number(u64::from(*word))?;
+        push_signed(text, *word)?;
     }
     Ok(())
+}
+
+/// Adds a word as `printn` writes it to the base 10.
+pub fn push_signed(text: &mut Text, word: u16) -> Result<(), AllocError>
+    ensures { OnOk result (text.new ≡ text.old ++ signed_text word) }
+{
+    if word <= 32767 {
+        return text.push_number(u64::from(word));
+    }
+    text.push(b"-")?;
+    text.push_number(u64::from(word.wrapping_neg()))
 }
 
 /// Adds a row for each word that a step has stored.
@@ -124,7 +136,7 @@ fn push_word<S: Store + Drop>(
     text.push(b"@")?;
     text.push_number(u64::from(address))?;
     text.push(b" = ")?;
-    text.push_number(u64::from(stepper.word(address)))?;
+    push_signed(text, stepper.word(address))?;
     text.push(b"\n")
 }
 
@@ -142,12 +154,40 @@ pub fn push_written(text: &mut Text, bytes: &[u8]) -> Result<(), AllocError>
 }
 
 fn push_bytes(text: &mut Text, bytes: &[u8]) -> Result<(), AllocError>
-    ensures { OnOk result (text.new ≡ text.old ++ flat_map shown_byte bytes.now) }
+    ensures { OnOk result (text.new ≡ text.old ++ flat_map written_byte bytes.now) }
 {
     for byte in bytes {
-        push_byte(text, *byte)?;
+        push_written_byte(text, *byte)?;
     }
     Ok(())
+}
+
+// A character or its escape, or else the byte in hexadecimal digits.
+fn push_written_byte(text: &mut Text, byte: u8) -> Result<(), AllocError>
+    ensures { OnOk result (text.new ≡ text.old ++ written_byte byte) }
+{
+    match byte {
+        0 | 4 | b'\t' | b'\n' | 32..=126 => push_byte(text, byte),
+        _ => push_hexadecimal(text, byte),
+    }
+}
+
+fn push_hexadecimal(text: &mut Text, byte: u8) -> Result<(), AllocError>
+    ensures { OnOk result (text.new ≡ text.old ++ hexadecimal byte) }
+{
+    text.push(&[b'\\', b'x', digit(byte / 16), digit(byte % 16)])
+}
+
+// A hexadecimal digit.
+fn digit(value: u8) -> u8
+    requires { value < 16 }
+    ensures { result ≡ digit_char value }
+{
+    if value < 10 {
+        b'0' + value
+    } else {
+        b'a' - 10 + value
+    }
 }
 
 fn push_margin(text: &mut Text) -> Result<(), AllocError>

@@ -23,7 +23,7 @@ use bword::{ByteIn, ByteOut, Edition, MemOut, Store};
 use std::alloc::{AllocError, Global};
 
 /// The columns of a trace.
-const HEADING: &[u8] = b"    step  function place  line  code         operands\n";
+const HEADING: &[u8] = b"    step  function place  line  code         operands, signed\n";
 
 /// The message for a name that no function has.
 const UNNAMED: &[u8] = b"error: the source has no function of this NAME\n";

@@ -13,8 +13,8 @@ loop-word-init c =
 pub loop-word-preserved : goal.loop-word-preserved
 loop-word-preserved c =
     let first = c.saturating_sub-first.result in
-    one_operand _ c.loop-word.text c.push-in-loop-word.new.self c.push_number.new.self (take (length c.args.operands.now - first) (drop first c.args.operands.now)) c.loop-word.word-index c.from.result
-    c.loop-word-test.true c.from.ensures c.loop-word.invariant c.in_ok-push-2.ensures c.in_ok-push_number.ensures
+    one_operand _ c.loop-word.text c.push-in-loop-word.new.self c.push_signed.new.text (take (length c.args.operands.now - first) (drop first c.args.operands.now)) c.loop-word.word-index
+    c.loop-word-test.true c.loop-word.invariant c.in_ok-push-2.ensures c.in_ok-push_signed.ensures
 
 pub returns : goal.returns
 returns c = operands_end c.args.operands.now c.args.text.now c.loop-word.text c.saturating_sub-first.result c.loop-word.word-index c.saturating_sub-first.ensures c.loop-word-test.false c.loop-word.invariant

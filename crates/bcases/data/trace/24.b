@@ -1,0 +1,5 @@
+main() {
+    putchar(32769);
+    putchar(32639);
+    putchar(65406);
+}
