@@ -15,7 +15,7 @@ use Rattle.bmach.specs.Loading.{IsFault}
 use Rattle.blang.specs.declared.status.TheConstants.{REFUSED}
 use Rattle.bcheck.specs.Checks.{AreFindings, Judged, EachOutcome, Outcome, outcome_of, TellsFirst, told, shown_in_form, verdict_line, status_told, told_first}
 use Rattle.btools.specs.Programs.{load_line}
-use Rattle.blang.specs.Machine.{Reported}
+use Rattle.blang.specs.Reports.{Reported}
 use Rattle.bcheck.specs.declared.form.Form.{Form}
 use Rattle.bcheck.specs.declared.verdict.Verdict.{Verdict}
 use Rattle.bcheck.specs.declared.verdict.Verdict.TheVariants as verdict

@@ -20,7 +20,8 @@ use Rattle.blang.specs.declared.token.Diagnostic.{Diagnostic}
 use Rattle.blang.specs.Compiles.{Compilation, CompilesTo, line_of}
 use Rattle.blang.specs.Cut.{tokens_from}
 use Rattle.blang.specs.Layout.{load_fault}
-use Rattle.blang.specs.Machine.{ComesTo, Image, Running, RunEnds, RunGives, run, state_world}
+use Rattle.blang.specs.Machine.{Image, Running, run, state_world}
+use Rattle.blang.specs.Reports.{ComesTo, RunEnds, RunGives}
 use Rattle.btools.specs.Excluded.{Excluded, code_in}
 use Rattle.btools.specs.Programs.{load_line, nothing_written}
 use Rattle.btools.proofs.Excluded.{device_grew, excluded, no_done, not_grown, other_answer, was_told}

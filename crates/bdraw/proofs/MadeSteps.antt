@@ -8,7 +8,8 @@ use Rattle.bword.proofs.Taking.{Took-append}
 use Rattle.blang.specs.declared.code.Definition.{Definition}
 use Rattle.blang.specs.declared.run.Outcome.{Outcome}
 use Rattle.blang.specs.declared.run.Outcome.TheVariants as outcome
-use Rattle.blang.specs.Machine.{ComesTo, Halted, Image, RunGives, Running, State, States, StopsAtWrite, Stuck, run, state_outcome, state_world, step, steps}
+use Rattle.blang.specs.Machine.{Halted, Image, Running, State, States, Stuck, run, state_world, step, steps}
+use Rattle.blang.specs.Reports.{ComesTo, RunGives, StopsAtWrite, state_outcome}
 use Rattle.bmach.specs.Steps.{world_with}
 use Rattle.bmach.specs.Stepping.{HasEnd, IsUnstarted, Paused, machine_at}
 use Rattle.bmach.specs.Turns.{HasHalted, LeavesWords, MovesOn, TurnGives}

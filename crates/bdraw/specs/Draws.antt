@@ -9,7 +9,8 @@ use Rattle.blang.specs.declared.run.Outcome.{Outcome}
 use Rattle.blang.specs.declared.run.Outcome.TheVariants as outcome
 use Rattle.blang.specs.declared.status.TheConstants.{DEVICE, DONE, MEMORY}
 use Rattle.blang.specs.Layout.{Shape as Named, World, shape_of, size_of}
-use Rattle.blang.specs.Machine.{Call, Image, Running, State, run, state_world, steps, RunGives, RunEnds, Reported}
+use Rattle.blang.specs.Machine.{Call, Image, Running, State, run, state_world, steps}
+use Rattle.blang.specs.Reports.{RunGives, RunEnds, Reported}
 use Rattle.bmach.specs.Stepping.{BeginsNot, HasEnd, Paused, machine_at}
 use Rattle.bmach.specs.Turns.{MovesOn}
 use Rattle.btools.specs.Programs.{HasProgram, NoProgram, image_address, nothing_written}

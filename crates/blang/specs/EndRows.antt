@@ -1,7 +1,6 @@
 -- Closed facts: the tokens that bytes end with.
 use Rattle.std.specs.Prelude.{◌≡◌, ℕ, List, [], ◌∷◌, map, replicate, codes, Option, Some, refl}
 use Rattle.std.specs.List.{flat_map}
-use Rattle.bword.specs.declared.edition.Edition.{Edition}
 use Rattle.bword.specs.declared.edition.Edition.TheVariants as editions
 use Rattle.bword.specs.declared.operators.BinOp.TheVariants as op
 use Rattle.blang.specs.Cut.{Piece, Word, whole, word_token, keyword_of, number_in, with_quoted_byte, operator_of}

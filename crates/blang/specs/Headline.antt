@@ -5,8 +5,9 @@ use Rattle.bword.specs.ByteEnds.{Incoming, Outgoing, Took, Writes, CanFollow, Ke
 use Rattle.bword.specs.declared.edition.Edition.{Edition}
 use Rattle.blang.specs.Code.{code_of}
 use Rattle.blang.specs.Trees.{Definition}
-use Rattle.blang.specs.Machine.{State, Halted, Shows, RunGives, IsOwnStatus, machine, state_world}
-use Rattle.blang.specs.Machine.{load_number, RunEnds, HasNotRun, NotLoaded, Finishes, report_text}
+use Rattle.blang.specs.Machine.{State, Halted, machine, state_world}
+use Rattle.blang.specs.Reports.{Shows, RunGives, IsOwnStatus}
+use Rattle.blang.specs.Reports.{load_number, RunEnds, HasNotRun, NotLoaded, Finishes, report_text}
 use Rattle.blang.specs.Layout.{World, Ending, load_fault, Exited, Trapped}
 use Rattle.blang.specs.declared.run.Outcome.{Outcome}
 use Rattle.blang.specs.Value.{Answer, Ends, Wants}
@@ -19,7 +20,7 @@ use Rattle.blang.specs.declared.token.Diagnostic.{Diagnostic}
 use Rattle.blang.specs.declared.run.Outcome.TheVariants as outcome
 use Rattle.blang.specs.declared.run.Trap.TheVariants as trap
 use Rattle.blang.specs.Compiles as compiled
-use Rattle.blang.specs.Machine as runs
+use Rattle.blang.specs.Reports as reports
 use Rattle.blang.specs.Value as answer
 use Rattle.blang.specs.declared.run.Report.TheVariants as report
 
@@ -154,7 +155,7 @@ pub record IsEnd
 -- The limit was reached, with what just so many steps write, a beginning of what the program writes.
 pub record IsLimit (ds : List Definition) (input : List ℕ) (steps : ℕ) (ends : RunEnds) (status : ℕ) : Type 0 where
   pub world : World
-  pub shows : runs.Shows outcome.Limit world.input world.output (machine (map code_of ds) input steps)
+  pub shows : reports.Shows outcome.Limit world.input world.output (machine (map code_of ds) input steps)
   pub begins : IsBeginningOf world.output (answer_world (meant ds input (steps + 1))).output
   pub says : Says ends status world.input world.output (report_text report.Limit) LIMIT
 

@@ -11,6 +11,7 @@ pub mod Text
 pub mod Compiles
 pub mod Layout
 pub mod Machine
+pub mod Reports
 pub mod Value
 pub mod Meaning
 pub mod Headline

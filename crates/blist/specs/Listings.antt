@@ -9,7 +9,8 @@ use Rattle.blang.specs.Text.{lines_of}
 use Rattle.blang.specs.declared.code.Definition.{Definition}
 use Rattle.blang.specs.declared.status.TheConstants.{DONE, MEMORY, WRONG_COMMAND}
 use Rattle.blang.specs.Layout.{shape_of}
-use Rattle.blang.specs.Machine.{Image, Reported}
+use Rattle.blang.specs.Machine.{Image}
+use Rattle.blang.specs.Reports.{Reported}
 use Rattle.blist.specs.declared.listing.TheConstants.{HEADING, UNDEFINED}
 use Rattle.blist.specs.declared.rows.Spot.{Spot}
 use Rattle.blist.specs.declared.rows.Spot.TheVariants as spot

@@ -6,7 +6,8 @@ use Rattle.bword.specs.declared.edition.Edition.{Edition}
 use Rattle.blang.specs.declared.code.Definition.{Definition}
 use Rattle.blang.specs.declared.status.TheConstants.{DONE, MEMORY}
 use Rattle.blang.specs.Layout.{Function, DefinitionKind, Shape, Simple, Vector, shape_of, size_of}
-use Rattle.blang.specs.Machine.{Image, Reported}
+use Rattle.blang.specs.Machine.{Image}
+use Rattle.blang.specs.Reports.{Reported}
 use Rattle.blist.specs.declared.layout.TheConstants.{HEADING, SHOWN}
 use Rattle.btools.specs.Columns.{left, right}
 use Rattle.btools.specs.Programs.{HasProgram, NoProgram, ToldEnds, image_address}

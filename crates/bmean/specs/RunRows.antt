@@ -13,7 +13,8 @@ use Rattle.blang.specs.Code.{code_of}
 use Rattle.blang.specs.declared.run.Outcome.{Outcome}
 use Rattle.blang.specs.declared.run.Outcome.TheVariants.{Exit, Trap, Limit}
 use Rattle.blang.specs.declared.run.Trap.TheVariants as trap
-use Rattle.blang.specs.Machine.{State, Halted, image_of, run, state_outcome, state_world}
+use Rattle.blang.specs.Machine.{State, Halted, image_of, run, state_world}
+use Rattle.blang.specs.Reports.{state_outcome}
 use Rattle.blang.specs.Value.{Answer, Gives, Ends, Wants}
 use Rattle.blang.specs.Meaning.{meant}
 

@@ -13,7 +13,11 @@ use Rattle.blang.specs.declared.run.Outcome.TheVariants as outcome
 use Rattle.blang.specs.declared.run.Trap.{Trap}
 use Rattle.blang.specs.declared.run.Trap.TheVariants as trap
 use Rattle.blang.specs.Layout.{label_target, store_words, World, Reply, Gives, Ends, next_byte, is_base, argument, library, Ending, Exited, Trapped, Callee, NoFunction, OfLibrary, OfProgram, callee_of, refusal, first_world}
-use Rattle.blang.specs.Machine.{Loaded, Image, Call, State, Running, Halted, Stuck, take_one, take_two, on_reply, operator_reply, at_place, returned, gone_to_place, program_function_called, callee_called, act, act_if, step, steps, main_begun, machine_started, image_of, run, state_outcome, RunGives, IsOwnStatus, machine}
+use Rattle.blang.specs.Machine.{Loaded, Image, Call, State, Running, Halted, Stuck, take_one, take_two, on_reply}
+use Rattle.blang.specs.Machine.{operator_reply, at_place, returned, gone_to_place, program_function_called}
+use Rattle.blang.specs.Machine.{callee_called, act, act_if, step, steps, main_begun, machine_started, image_of, run}
+use Rattle.blang.specs.Machine.{machine}
+use Rattle.blang.specs.Reports.{state_outcome, RunGives, IsOwnStatus}
 
 abbrev pub IsProper : Ending → Type 0
 IsProper (Exited n) = n < 128

@@ -15,7 +15,8 @@ use Rattle.blang.specs.Compiles.{CompilesTo, Tells, fault_text, line_of, Run, Na
 use Rattle.btree.specs.SourceRows.{ComesIn}
 use Rattle.btree.proofs.SourceRows.{edition_rows}
 use Rattle.blang.specs.Trees.{Definition, Expr, Arguments, Character, Named, Literal, Called, No_arguments, Another, Evaluate, Compound, Stmts, Nothing, More}
-use Rattle.blang.specs.Machine.{State, Halted, image_of, state_outcome, Reported, report_text, RunEnds, RunGives, Finishes, machine}
+use Rattle.blang.specs.Machine.{State, Halted, image_of, machine}
+use Rattle.blang.specs.Reports.{state_outcome, Reported, report_text, RunEnds, RunGives, Finishes}
 use Rattle.blang.specs.Machine as runs
 use Rattle.blang.specs.Layout.{World, Ending, Exited, Trapped}
 use Rattle.blang.specs.declared.run.Outcome.{Outcome}

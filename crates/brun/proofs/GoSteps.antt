@@ -11,7 +11,7 @@ use Rattle.broundtrip.proofs.ReadingBack.{reads_back}
 use Rattle.brun.proofs.MeantSteps.{does_as_meant}
 use Rattle.blang.specs.Headline.{RunsProgram, RunsSource, GoesOff, no_code}
 use Rattle.blang.specs.Headline as going
-use Rattle.blang.specs.Machine.{RunEnds, HasNotRun}
+use Rattle.blang.specs.Reports.{RunEnds, HasNotRun}
 use Rattle.brun.specs.Runs.{RunsDefinitions, RunsText}
 use Rattle.brun.specs.Runs as runs
 

@@ -10,7 +10,9 @@ use Rattle.blang.specs.Code.{code_of}
 use Rattle.blang.specs.Compiles as compiled
 use Rattle.blang.specs.Compiles.{CompilesTo, Tells, line_of, Run, Compiles, SourceFailed, EndRefused, status_of}
 use Rattle.blang.specs.Trees.{Definition}
-use Rattle.blang.specs.Machine.{State, Running, Halted, Stuck, image_of, Shows, ComesTo, RunGives, state_outcome, Reported, report_text, load_number, RunEnds, Finishes, HasNotRun, machine}
+use Rattle.blang.specs.Machine.{State, Running, Halted, Stuck, image_of, machine}
+use Rattle.blang.specs.Reports.{Shows, ComesTo, RunGives, state_outcome, Reported, report_text, load_number, RunEnds}
+use Rattle.blang.specs.Reports.{Finishes, HasNotRun}
 use Rattle.blang.specs.Machine as runs
 use Rattle.blang.specs.Layout.{World, Ending, Exited, Trapped}
 use Rattle.blang.specs.declared.run.LoadFault.{LoadFault}

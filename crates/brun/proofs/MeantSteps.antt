@@ -3,7 +3,9 @@ use Rattle.std.proofs.Common.{◌≡◌, ◌≢◌, ℕ, zero, suc, ◌+◌, ◌
 use Rattle.bword.specs.ByteEnds.{Incoming, Outgoing}
 use Rattle.blang.specs.Code.{code_of}
 use Rattle.blang.specs.Trees.{Definition}
-use Rattle.blang.specs.Machine.{Image, Call, State, Running, Halted, Stuck, step, steps, machine_started, image_of, run, Shows, state_outcome, state_world, ComesTo, RunGives, IsOwnStatus, machine}
+use Rattle.blang.specs.Machine.{Image, Call, State, Running, Halted, Stuck, step, steps, machine_started, image_of, run}
+use Rattle.blang.specs.Machine.{state_world, machine}
+use Rattle.blang.specs.Reports.{Shows, state_outcome, ComesTo, RunGives, IsOwnStatus}
 use Rattle.blang.specs.Layout.{World, Ending, Exited, Trapped, first_world}
 use Rattle.blang.specs.declared.run.Outcome.{Outcome}
 use Rattle.blang.specs.declared.run.Outcome.TheVariants as outcome

@@ -2,7 +2,8 @@
 use Rattle.std.proofs.Common.{◌≡◌, ◌∙◌, ℕ, ◌<◌, List, [], ap, arith, refl, subst, sym, ◌⊎◌, inl, inr, ⊎_elim}
 use Rattle.std.specs.Prelude.{None, Some}
 use Rattle.blang.specs.Layout.{load_fault}
-use Rattle.blang.specs.Machine.{Finishes, HasNotRun, NotLoaded, Reported, RunEnds, RunGives, load_number, machine, report_text}
+use Rattle.blang.specs.Machine.{machine}
+use Rattle.blang.specs.Reports.{Finishes, HasNotRun, NotLoaded, Reported, RunEnds, RunGives, load_number, report_text}
 use Rattle.blang.specs.Text.{IsCodeText}
 use Rattle.blang.specs.declared.code.Definition.{Definition}
 use Rattle.blang.specs.declared.run.LoadFault.TheVariants as fault

@@ -10,7 +10,7 @@ use Rattle.bword.specs.ByteEnds.{Grew, Outgoing, Refuses, Writes}
 use Rattle.bword.specs.declared.ends.EndFault.{EndFault}
 use Rattle.bword.specs.declared.ends.EndFault.TheVariants as end_fault
 use Rattle.blang.specs.Compiles.{Tells, status_of}
-use Rattle.blang.specs.Machine.{Reported}
+use Rattle.blang.specs.Reports.{Reported}
 use Rattle.blang.specs.Text.{opening, code_lines, definition_text, end_text, header_line, joined, IsTextOf, IsWithinRanges}
 use Rattle.blang.specs.declared.status.TheConstants.{DEVICE, MEMORY, REFUSED}
 use Rattle.blang.specs.declared.code.Definition.{Definition}

@@ -12,7 +12,7 @@ use Rattle.blang.specs.Text.{opening, header_line, lines_of, definition_text, en
 use Rattle.blang.specs.Text.{IsWithinRanges}
 use Rattle.blang.specs.declared.code.Definition.{Definition}
 use Rattle.blang.specs.declared.status.TheConstants.{DONE, REFUSED, DEVICE, MEMORY}
-use Rattle.blang.specs.Machine.{Reported, report_text, RunEnds}
+use Rattle.blang.specs.Reports.{Reported, report_text, RunEnds}
 use Rattle.brun.specs.Runs.{RunsText}
 use Rattle.brun.specs.declared.migrating.Halt.{Halt}
 use Rattle.brun.specs.declared.migrating.Halt.TheVariants as halt

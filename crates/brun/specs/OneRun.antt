@@ -3,7 +3,7 @@ use Rattle.std.specs.Prelude.{◌≡◌, ℕ, List, [], codes, ◌⊎◌, false}
 use Rattle.bword.specs.declared.edition.Edition.TheVariants as editions
 use Rattle.bword.specs.ByteEnds.{Incoming, Unread, Kept, incoming_of, outgoing_of}
 use Rattle.blang.specs.Compiles.{Run, CompileHeadline}
-use Rattle.blang.specs.Machine.{RunEnds}
+use Rattle.blang.specs.Reports.{RunEnds}
 use Rattle.blang.specs.Headline.{Headline}
 
 -- bytes in memory that nothing was taken of, and an output in memory that has nothing

@@ -12,7 +12,7 @@ use Rattle.blang.specs.declared.run.Outcome.TheVariants as outcome
 use Rattle.blang.specs.declared.run.Trap.{Trap}
 use Rattle.blang.specs.declared.run.Trap.TheVariants as trap
 use Rattle.blang.specs.Headline.{line_at, status_at}
-use Rattle.blang.specs.Machine.{Reported, report_text, load_number, Finishes, NotLoaded}
+use Rattle.blang.specs.Reports.{Reported, report_text, load_number, Finishes, NotLoaded}
 use Rattle.brun.specs.Runs.{NotRead}
 use Rattle.blang.specs.declared.run.Report.TheVariants as report
 

@@ -1,6 +1,6 @@
 //! The line that tells why a run has no end of its own.
 ghost use Rattle.std.specs.Prelude.{◌≡◌, ◌≤◌, length};
-ghost use Rattle.blang.specs.Machine.{Reported, report_text, trap_letters, load_number};
+ghost use Rattle.blang.specs.Reports.{Reported, report_text, trap_letters, load_number};
 
 use arrayvec::ArrayString;
 use blang::status::{self, Status};

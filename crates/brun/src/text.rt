@@ -1,6 +1,6 @@
 //! Running a code text.
 ghost use Rattle.std.specs.Prelude.{◌≡◌};
-ghost use Rattle.blang.specs.Machine.{Finishes};
+ghost use Rattle.blang.specs.Reports.{Finishes};
 ghost use Rattle.brun.specs.Runs.{RunsDefinitions, RunsText, NotRead};
 
 use crate::report::{number_of, write_report};

@@ -6,7 +6,7 @@ use Rattle.blang.specs.declared.status.TheConstants.{DEVICE, MEMORY}
 use Rattle.bword.specs.ByteEnds.{Unread, incoming_of}
 use Rattle.bword.specs.declared.edition.Edition.{Edition}
 use Rattle.blang.specs.Headline.{GoesOff, Headline}
-use Rattle.blang.specs.Machine.{HasNotRun, RunEnds}
+use Rattle.blang.specs.Reports.{HasNotRun, RunEnds}
 use Rattle.bcommand.specs.CommandLine.{asked_of, go}
 use Rattle.bcommand.specs.declared.job.Job.{Job}
 use Rattle.clap.specs.Words.{Text}

@@ -12,7 +12,7 @@ use Rattle.bword.specs.declared.ends.EndFault.{EndFault}
 use Rattle.bword.specs.declared.ends.EndFault.TheVariants as end_fault
 use Rattle.blang.specs.Compiles.{status_of}
 use Rattle.blang.specs.Headline.{GoesOff, Headline}
-use Rattle.blang.specs.Machine.{HasNotRun, Reported, RunEnds}
+use Rattle.blang.specs.Reports.{HasNotRun, Reported, RunEnds}
 use Rattle.brun.specs.OneRun.{nothing_written, one_run_ends, unread}
 use Rattle.brun.specs.Runs.{RunsText}
 use Rattle.brun.proofs.OneRun.{one_run}

@@ -8,7 +8,7 @@ use Rattle.bword.specs.declared.edition.Edition.{Edition}
 use Rattle.bword.specs.declared.edition.Edition.TheVariants as editions
 use Rattle.blang.specs.declared.status.TheConstants.{DONE, DEVICE, MEMORY, WRONG_COMMAND}
 use Rattle.blang.specs.Headline.{GoesOff, Headline}
-use Rattle.blang.specs.Machine.{HasNotRun, Reported, RunEnds}
+use Rattle.blang.specs.Reports.{HasNotRun, Reported, RunEnds}
 use Rattle.brun.specs.OneRun.{nothing_written, one_run_ends, unread}
 use Rattle.brun.specs.Runs.{RunsText}
 use Rattle.bcommand.specs.CommandLine.{asked, command_line, contradiction, draw, go, list, locate, map, run, trace}

@@ -10,7 +10,7 @@ use Rattle.blang.specs.declared.status.TheConstants.{DONE, DEVICE, MEMORY, WRONG
 use Rattle.blang.specs.Headline.{GoesOff, Headline}
 use Rattle.brun.specs.Migrates.{Migrates}
 use Rattle.brun.specs.OneRun.{unread}
-use Rattle.blang.specs.Machine.{Reported, RunEnds, HasNotRun}
+use Rattle.blang.specs.Reports.{Reported, RunEnds, HasNotRun}
 use Rattle.brun.specs.Runs.{RunsText}
 use Rattle.bcheck.specs.Checks.{Checks}
 use Rattle.bcheck.specs.declared.form.Form.{Form}

@@ -3,7 +3,7 @@ ghost use Rattle.std.specs.Prelude.{◌≡◌, ◌≢◌, ◌⊎◌, [], IfOk, m
 ghost use Rattle.clap.specs.Words.{kind_of};
 ghost use Rattle.bword.specs.ByteEnds.{Incoming, Outgoing};
 ghost use Rattle.blang.specs.declared.status.TheConstants.{DEVICE, MEMORY, WRONG_COMMAND};
-ghost use Rattle.blang.specs.Machine.{Reported};
+ghost use Rattle.blang.specs.Reports.{Reported};
 ghost use Rattle.bcommand.specs.CommandLine.{check, draw, go, list, locate, map, run, asked_of, trace};
 ghost use Rattle.bserve.specs.Excluded.{Excluded, FileIsRead};
 ghost use Rattle.bserve.specs.Serves.{Does, NamesFile, RefusesWords, Serves, form_of, no_file_line, unread_line};

@@ -11,7 +11,8 @@ use Rattle.blang.specs.declared.token.Diagnostic.{Diagnostic}
 use Rattle.blang.specs.Compiles.{Compilation, CompilesTo, Whatever, code_text, line_of, status_of}
 use Rattle.blang.specs.Cut.{tokens_from}
 use Rattle.blang.specs.Layout.{load_fault}
-use Rattle.blang.specs.Machine.{Image, Reported}
+use Rattle.blang.specs.Machine.{Image}
+use Rattle.blang.specs.Reports.{Reported}
 use Rattle.blang.specs.Text.{IsCodeText, IsTextOf}
 use Rattle.broundtrip.proofs.ReadingBack.{reads_back}
 use Rattle.btools.specs.Programs.{HasProgram, NoProgram, WasCompiled, faulty, load_line, no_memory, refused, unread}

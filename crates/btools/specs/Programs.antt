@@ -12,7 +12,8 @@ use Rattle.blang.specs.Compiles.{Compiles}
 use Rattle.blang.specs.declared.status.TheConstants.{MEMORY, REFUSED}
 use Rattle.blang.specs.Layout.{address_in, load_fault}
 use Rattle.bmach.specs.Loading.{IsFault}
-use Rattle.blang.specs.Machine.{Image, Reported}
+use Rattle.blang.specs.Machine.{Image}
+use Rattle.blang.specs.Reports.{Reported}
 use Rattle.bmach.specs.Resolved.{IsLoadedFrom}
 use Rattle.blang.specs.declared.run.LoadFault.{LoadFault}
 use Rattle.blang.specs.declared.run.LoadFault.TheVariants as fault

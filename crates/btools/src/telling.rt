@@ -1,6 +1,6 @@
 //! Texts that are written whole, and their statuses.
 ghost use Rattle.std.specs.Prelude.{◌≡◌};
-ghost use Rattle.blang.specs.Machine.{Reported};
+ghost use Rattle.blang.specs.Reports.{Reported};
 
 use blang::status::{self, Status};
 use bword::ByteOut;

@@ -23,7 +23,8 @@ use Rattle.blang.specs.declared.status.TheConstants.{DONE, LIMIT, MEMORY, TRAP, 
 use Rattle.blang.specs.Compiles as compiled
 use Rattle.blang.specs.Compiles.{CompilesTo, Tells, code_text}
 use Rattle.blang.specs.Cut.{tokens_from}
-use Rattle.blang.specs.Machine.{Call, Finishes, Halted, Image, Loaded, Reported, RunEnds, RunGives, Running, State, Stuck, image_of, machine, report_text, run, state_outcome, state_world}
+use Rattle.blang.specs.Machine.{Call, Halted, Image, Loaded, Running, State, Stuck, image_of, machine, run, state_world}
+use Rattle.blang.specs.Reports.{Finishes, Reported, RunEnds, RunGives, report_text, state_outcome}
 use Rattle.blang.specs.Text.{IsCodeText}
 use Rattle.bcode.proofs.FaultLaws.{unique_code}
 use Rattle.bmach.specs.Resolved.{IsLoadedFrom}

@@ -5,7 +5,8 @@ use Rattle.bword.specs.ByteEnds.{Incoming, Outgoing}
 use Rattle.blang.specs.declared.code.Definition.{Definition}
 use Rattle.blang.specs.declared.run.Outcome.{Outcome}
 use Rattle.blang.specs.declared.run.Outcome.TheVariants as outcome
-use Rattle.blang.specs.Machine.{Finishes, Image, RunEnds, RunGives, State, image_of, machine, run, state_outcome}
+use Rattle.blang.specs.Machine.{Image, State, image_of, machine, run}
+use Rattle.blang.specs.Reports.{Finishes, RunEnds, RunGives, state_outcome}
 use Rattle.bmach.specs.Resolved.{IsLoadedFrom, state_resolved}
 use Rattle.bmach.specs.Stepping.{IsUnstarted, Paused}
 use Rattle.bmach.specs.Stops.{EndsAt, IsOverAt, RunsCall, active_of}

@@ -10,7 +10,8 @@ use Rattle.bword.proofs.Putting.{Writes-append}
 use Rattle.bword.proofs.Taking.{Took-append}
 use Rattle.blang.specs.declared.run.Outcome.{Outcome}
 use Rattle.blang.specs.declared.run.Outcome.TheVariants as outcome
-use Rattle.blang.specs.Machine.{Image, Loaded, State, Running, Shows, state_outcome, step, steps, state_world}
+use Rattle.blang.specs.Machine.{Image, Loaded, State, Running, step, steps, state_world}
+use Rattle.blang.specs.Reports.{Shows, state_outcome}
 use Rattle.blang.specs.Machine as machine
 use Rattle.bmach.specs.Steps.{world_with}
 use Rattle.bmach.specs.Stepping.{Paused, machine_at}

@@ -13,7 +13,8 @@ use Rattle.blang.specs.declared.run.Trap.{Trap}
 use Rattle.blang.specs.declared.status.TheConstants.{DEVICE, LIMIT, MEMORY, REFUSED, TRAP}
 use Rattle.blang.specs.Compiles.{Compilation, CompilesTo, code_text}
 use Rattle.blang.specs.Cut.{tokens_from}
-use Rattle.blang.specs.Machine.{RunEnds, machine, report_text, state_outcome}
+use Rattle.blang.specs.Machine.{machine}
+use Rattle.blang.specs.Reports.{RunEnds, report_text, state_outcome}
 use Rattle.blang.specs.Text.{IsCodeText}
 use Rattle.btrace.specs.Locates.{Locates}
 use Rattle.btrace.specs.Traces.{Traces}

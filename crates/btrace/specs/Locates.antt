@@ -6,7 +6,8 @@ use Rattle.blang.specs.declared.code.Definition.{Definition}
 use Rattle.blang.specs.declared.run.Outcome.{Outcome}
 use Rattle.blang.specs.declared.run.Outcome.TheVariants as outcome
 use Rattle.blang.specs.declared.status.TheConstants.{LIMIT, MEMORY, TRAP}
-use Rattle.blang.specs.Machine.{Finishes, HasNotRun, Image, RunEnds, RunGives, machine, Reported}
+use Rattle.blang.specs.Machine.{Image, machine}
+use Rattle.blang.specs.Reports.{Finishes, HasNotRun, RunEnds, RunGives, Reported}
 use Rattle.bmach.specs.Stepping.{BeginsNot}
 use Rattle.bmach.specs.Stops.{IsOverAt}
 use Rattle.bmach.specs.declared.machine.Active.{Active}

@@ -8,8 +8,10 @@ use Rattle.bword.specs.declared.edition.Edition.{Edition}
 use Rattle.bword.specs.ByteEnds.{CanFollow, Incoming, Outgoing, Kept, Took, outgoing_of}
 use Rattle.blang.specs.declared.code.Definition.{Definition}
 use Rattle.blang.specs.declared.status.TheConstants.{DONE, MEMORY, WRONG_COMMAND}
-use Rattle.blang.specs.Machine.{Call, Image, Loaded, State, Running, Halted, Stuck, States, Reported, RunEnds, Finishes}
-use Rattle.blang.specs.Machine.{HasNotRun, RunGives, image_of, machine, state_outcome, state_world}
+use Rattle.blang.specs.Machine.{Call, Image, Loaded, State, Running, Halted, Stuck, States}
+use Rattle.blang.specs.Reports.{Reported, RunEnds, Finishes}
+use Rattle.blang.specs.Machine.{image_of, machine, state_world}
+use Rattle.blang.specs.Reports.{HasNotRun, RunGives, state_outcome}
 use Rattle.blang.specs.Machine as runs
 use Rattle.bmach.specs.Stepping.{BeginsNot, Paused, machine_at}
 use Rattle.bmach.specs.Stops.{active_of}

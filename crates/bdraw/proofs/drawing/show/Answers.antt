@@ -1,5 +1,5 @@
 use Rattle.std.proofs.Common.{ℕ, List, subst}
-use Rattle.blang.specs.Machine.{Reported}
+use Rattle.blang.specs.Reports.{Reported}
 use Rattle.bdraw.specs.Draws.{shown}
 use Rattle.bdraw.proofs.drawing.show.Goals as goal
 

@@ -1,6 +1,6 @@
 use Rattle.std.proofs.Common.{◌∙◌, ℕ, List, ap, refl, subst}
 use Rattle.blist.specs.Maps.{map_text, mapped, no_memory, stopped}
-use Rattle.blang.specs.Machine.{Reported}
+use Rattle.blang.specs.Reports.{Reported}
 use Rattle.blist.proofs.layout.map.Goals as goal
 
 pub returns-in-Err-clause-maps : goal.returns-in-Err-clause-maps

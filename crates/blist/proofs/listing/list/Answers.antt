@@ -4,7 +4,7 @@ use Rattle.std.specs.Borrow.{Bor}
 use Rattle.std.specs.Prelude.{Option, option_map}
 use Rattle.blang.specs.declared.code.Definition.{Definition}
 use Rattle.blist.specs.Listings.{listed, no_memory, stopped, unnamed, wanted}
-use Rattle.blang.specs.Machine.{Reported}
+use Rattle.blang.specs.Reports.{Reported}
 use Rattle.blist.proofs.listing.list.Goals as goal
 
 pub returns-in-Err-clause-lists : goal.returns-in-Err-clause-lists

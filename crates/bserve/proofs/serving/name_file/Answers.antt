@@ -1,5 +1,5 @@
 use Rattle.std.proofs.Common.{◌∙◌, ℕ, List, inl, refl, subst}
-use Rattle.blang.specs.Machine.{Reported}
+use Rattle.blang.specs.Reports.{Reported}
 use Rattle.bserve.proofs.serving.name_file.Goals as goal
 
 pub returns-in-Ok-clause-names : goal.returns-in-Ok-clause-names

@@ -1,5 +1,5 @@
 use Rattle.std.proofs.Common.{◌∙◌, List, ℕ, inl, inr, refl, subst}
-use Rattle.blang.specs.Machine.{Reported}
+use Rattle.blang.specs.Reports.{Reported}
 use Rattle.btrace.proofs.locating.tell_site.Goals as goal
 
 pub returns-in-Ok-clause-tells : goal.returns-in-Ok-clause-tells

@@ -1,5 +1,6 @@
 use Rattle.std.proofs.Common.{◌≡◌, ◌∙◌, [], ap, map, subst, sym}
-use Rattle.blang.specs.Machine.{RunGives, steps}
+use Rattle.blang.specs.Machine.{steps}
+use Rattle.blang.specs.Reports.{RunGives}
 use Rattle.bmach.specs.Images.{loaded_of}
 use Rattle.bmach.specs.Stepping.{Paused, machine_at}
 use Rattle.bmach.specs.Stops.{IsOverAt}
