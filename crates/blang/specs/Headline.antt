@@ -5,9 +5,9 @@ use Rattle.bword.specs.ByteEnds.{Incoming, Outgoing, Took, Writes, CanFollow, Ke
 use Rattle.bword.specs.declared.edition.Edition.{Edition}
 use Rattle.blang.specs.Code.{code_of}
 use Rattle.blang.specs.Trees.{Definition}
-use Rattle.blang.specs.Machine.{State, Halted, machine, state_world}
-use Rattle.blang.specs.Reports.{Shows, RunGives, IsOwnStatus}
-use Rattle.blang.specs.Reports.{load_number, RunEnds, HasNotRun, NotLoaded, Finishes, report_text}
+use Rattle.blang.specs.Machine.{State, Running, Halted, Stuck, machine}
+use Rattle.blang.specs.Reports.{Shows, RunGives, IsOwnStatus, load_number, RunEnds, HasNotRun, NotLoaded, Finishes}
+use Rattle.blang.specs.Reports.{report_text}
 use Rattle.blang.specs.Layout.{World, Ending, load_fault, Exited, Trapped}
 use Rattle.blang.specs.declared.run.Outcome.{Outcome}
 use Rattle.blang.specs.Value.{Answer, Ends, Wants}
@@ -20,63 +20,29 @@ use Rattle.blang.specs.declared.token.Diagnostic.{Diagnostic}
 use Rattle.blang.specs.declared.run.Outcome.TheVariants as outcome
 use Rattle.blang.specs.declared.run.Trap.TheVariants as trap
 use Rattle.blang.specs.Compiles as compiled
-use Rattle.blang.specs.Reports as reports
 use Rattle.blang.specs.Value as answer
 use Rattle.blang.specs.declared.run.Report.TheVariants as report
 
--- The program ends, with this outcome, this input left and this output.
-pub record Meets (result : Outcome) (left output : List ℕ) (answer : Answer ⊥) : Type 0 where
-  pub ending : Ending
-  pub world : World
-  pub ends : answer ≡ Ends ending world
-  pub shows : Shows result left output (Halted ending world)
+-- A state of a machine and an answer of a program agree: the program ends as the machine has halted, or the machine
+-- runs, and has written a beginning of what the program writes. No answer agrees with a machine that is stuck.
+abbrev pub Agrees : State → Answer ⊥ → Type 0
+Agrees (Running call below w) answer = IsBeginningOf w.output (answer_world answer).output
+Agrees (Halted e w) answer = answer ≡ Ends e w
+Agrees (Stuck w) answer = ⊥
 
--- The program ends so with one fuel more than the steps, on each input that begins with the bytes that were taken.
-pub record EndsSo (ds : List Definition) (steps : ℕ) (i j : Incoming) (o p : Outgoing) (result : Outcome) : Type 0 where
-  pub taken : List ℕ
-  pub took : Took i taken j
-  pub no_failure : j.failures ≡ i.failures
-  pub output : List ℕ
-  pub written : Writes o output p
-  pub ends : (more : List ℕ) → CanFollow j more → Meets result more output (meant ds (taken ++ more) (steps + 1))
+-- On each input, the code does what the program means: after any number of steps it agrees with the meaning, which has
+-- one fuel more, and where the program ends, the code halts so at some step.
+pub record RunsAsMeant (ds : List Definition) : Type 0 where
+  pub agrees : (input : List ℕ) (n : ℕ) → Agrees (machine (map code_of ds) input n) (meant ds input (n + 1))
+  pub done : (input : List ℕ) (n : ℕ) (e : Ending) (w : World) → meant ds input n ≡ Ends e w
+      → (step : ℕ) × (machine (map code_of ds) input step ≡ Halted e w)
 
--- The machine halts so at some step, and not within so many.
-pub record HaltsLater (state : ℕ → State) (steps : ℕ) (e : Ending) (w : World) : Type 0 where
-  pub step : ℕ
-  pub halts : state step ≡ Halted e w
-  pub not_within : (n : ℕ) → n ≤ steps → state n ≢ Halted e w
-
--- A beginning of what the program writes was written. Where the program ends, its code takes more steps.
-pub record ReachesLimit (ds : List Definition) (steps : ℕ) (i j : Incoming) (o p : Outgoing) : Type 0 where
-  pub taken : List ℕ
-  pub took : Took i taken j
-  pub no_failure : j.failures ≡ i.failures
-  pub output : List ℕ
-  pub written : Writes o output p
-  pub begins : (more : List ℕ) → CanFollow j more
-      → IsBeginningOf output (answer_world (meant ds (taken ++ more) (steps + 1))).output
-  pub later : (more : List ℕ) → CanFollow j more → (n : ℕ) (e : Ending) (w : World)
-      → meant ds (taken ++ more) n ≡ Ends e w → HaltsLater (machine (map code_of ds) (taken ++ more)) steps e w
-
--- What any number of the code's steps write is a beginning of what the program writes.
-abbrev pub WritesAsMeant : List Definition → Type 0
-WritesAsMeant ds =
-    (input : List ℕ) (n : ℕ)
-    → IsBeginningOf (state_world (machine (map code_of ds) input n)).output (answer_world (meant ds input (n + 1))).output
-
--- what a run of so many steps does, by its outcome
-abbrev pub RunsAsMeant : List Definition → ℕ → (i j : Incoming) (o p : Outgoing) → Outcome → Type 0
-RunsAsMeant ds steps i j o p outcome.Limit = ReachesLimit ds steps i j o p
-RunsAsMeant ds steps i j o p outcome.Device = WritesAsMeant ds
-RunsAsMeant ds steps i j o p outcome.Memory = WritesAsMeant ds
-RunsAsMeant ds steps i j o p result = EndsSo ds steps i j o p result
-
--- Just so many steps of the program's code were made, or those up to its halt, and what they did is what the program
--- means. The code was never stuck, and a status of the program's own is below 128.
+-- Just so many steps of the program's code were made, or those up to its halt, and the code does what the program
+-- means. It was never stuck, and a status of the program's own is below 128.
 pub record DoesAsMeant (ds : List Definition) (steps : ℕ) (i j : Incoming) (o p : Outgoing) (result : Outcome)
     : Type 0 where
   pub made : RunGives (machine (map code_of ds)) steps i j o p result
-  pub meant : RunsAsMeant ds steps i j o p result
+  pub meant : RunsAsMeant ds
   pub not_stuck : result ≢ outcome.Trap trap.Stuck
   pub own_status : IsOwnStatus result
 
@@ -155,7 +121,7 @@ pub record IsEnd
 -- The limit was reached, with what just so many steps write, a beginning of what the program writes.
 pub record IsLimit (ds : List Definition) (input : List ℕ) (steps : ℕ) (ends : RunEnds) (status : ℕ) : Type 0 where
   pub world : World
-  pub shows : reports.Shows outcome.Limit world.input world.output (machine (map code_of ds) input steps)
+  pub shows : Shows outcome.Limit world.input world.output (machine (map code_of ds) input steps)
   pub begins : IsBeginningOf world.output (answer_world (meant ds input (steps + 1))).output
   pub says : Says ends status world.input world.output (report_text report.Limit) LIMIT
 
