@@ -9,13 +9,15 @@ use Rattle.blex.specs.declared.lexeme.Lexeme.TheVariants as lexeme
 use Rattle.blex.specs.declared.lexeme.Seen.{Seen}
 use Rattle.blex.specs.Lexers.{Lexer, LexGives, GivesAt, OpenGives, progress_after}
 use Rattle.blang.specs.Endings.{EndsWith}
-use Rattle.blang.specs.Cut.{is_last, last_of, token_first, tokens_from}
+use Rattle.blang.specs.Cut.{is_last, token_first, tokens_from}
+use Rattle.blex.specs.Lasts.{last_of}
+use Rattle.blex.proofs.CallLaws.{last_is}
 use Rattle.blex.specs.Sources as S
 use Rattle.blex.specs.declared.lexer.LexStop.{LexStop}
 use Rattle.blex.specs.declared.lexer.LexStop.TheVariants as stop
 use Rattle.blex.specs.declared.lexer.Progress.{Progress}
 use Rattle.blex.specs.declared.lexer.Progress.TheVariants as progress
-use Rattle.blang.specs.declared.token.Last.{Last}
+use Rattle.blex.specs.declared.lexeme.Last.{Last}
 use Rattle.blang.specs.declared.token.Token.{Token}
 use Rattle.blang.specs.declared.token.Token.TheVariants as token
 use Rattle.blang.specs.declared.token.Placed.{Placed}
@@ -87,7 +89,7 @@ none_of None e = refl
 none_of (Some x) e = cc
 
 after_open : (p : Progress) (at : Placed) → p ≡ progress_after (last_of at.token) at.line → is_last at.token ≡ false → p ≡ progress.Open
-after_open p at e h = e ∙ ap (λ o. progress_after o at.line) (none_of (last_of at.token) h)
+after_open p at e h = e ∙ ap (λ o. progress_after o at.line) (none_of (last_of at.token) (sym (last_is at.token) ∙ h))
 
 true_or_false : (b : Bool) → b ≡ true → b ≡ false → ⊥
 true_or_false true h e = cc

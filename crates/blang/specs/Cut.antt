@@ -1,5 +1,5 @@
 -- The cut of a source into tokens: what a whole piece of it is, and each piece the longest at its place.
-use Rattle.std.specs.Prelude.{ℕ, ◌+◌, ◌-◌, ◌*◌, Bool, ◌&&◌, ◌||◌, ◌==◌, nat_le, nat_lt, List, [], ◌∷◌, ◌++◌, length}
+use Rattle.std.specs.Prelude.{ℕ, ◌+◌, ◌-◌, ◌*◌, Bool, true, false, ◌&&◌, ◌||◌, ◌==◌, nat_le, nat_lt, List, [], ◌∷◌, ◌++◌, length}
 use Rattle.std.specs.Prelude.{take, drop, fold, codes, nat_eq, Option, Some, None, if◌then◌else◌, suc, zero, min}
 use Rattle.std.specs.Prelude.{is_some}
 use Rattle.std.specs.List.{list_all, find}
@@ -14,12 +14,10 @@ use Rattle.bword.specs.declared.edition.Edition.TheVariants as editions
 use Rattle.blang.specs.declared.token.TheConstants.{STRING_LEN}
 use Rattle.blang.specs.declared.token.Keyword.{Keyword}
 use Rattle.blang.specs.declared.token.Token.{Token}
-use Rattle.blang.specs.declared.token.Last.{Last}
 use Rattle.blang.specs.declared.token.Placed.{Placed}
 use Rattle.blang.specs.declared.token.Keyword.TheVariants as keyword
 use Rattle.blang.specs.declared.token.Token.TheVariants as token
 use Rattle.blang.specs.declared.token.Letters.TheVariants as letters
-use Rattle.blang.specs.declared.token.Last.TheVariants as last
 
 -- what a piece is: space, which is no token, or a token
 pub data Piece : Type 0 where
@@ -233,19 +231,11 @@ line_number_after line (b ∷ bs) = line_number_after (next_line line b) bs
 abbrev pub placed : Token → ℕ → Placed
 placed t line = record { token = t; line = line }
 
--- a last token
-abbrev pub token_of : Last → Token
-token_of (last.Bad letters) = token.Bad letters
-token_of last.End = token.End
-
--- the token, if it is a last one: the end of a source, or a piece that is wrong
-abbrev pub last_of : Token → Option Last
-last_of (token.Bad letters) = Some (last.Bad letters)
-last_of token.End = Some last.End
-last_of _ = None
-
+-- the end of a source, or a piece that is wrong: no token comes after it
 abbrev pub is_last : Token → Bool
-is_last t = is_some (last_of t)
+is_last (token.Bad letters) = true
+is_last token.End = true
+is_last _ = false
 
 abbrev pub token_first : Token → ℕ → List Placed → List Placed
 token_first t line rest = placed t line ∷ (if is_last t then [] else rest)

@@ -17,4 +17,4 @@ pub use limits::{
     WORD_VALUES,
 };
 pub use run::{Library, LoadFault, Outcome, Report, Trap};
-pub use token::{About, Diagnostic, Keyword, Last, Letters, Placed, STRING_LEN, Token};
+pub use token::{About, Diagnostic, Keyword, Letters, Placed, STRING_LEN, Token};

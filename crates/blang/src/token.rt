@@ -90,13 +90,6 @@ pub struct Placed {
     pub line: u64,
 }
 
-/// A token that no other comes after.
-#[derive(Clone, Copy)]
-pub enum Last {
-    Bad(Letters),
-    End,
-}
-
 /// What a diagnostic is about, beside its letters.
 #[derive(Clone, Copy)]
 pub enum About {

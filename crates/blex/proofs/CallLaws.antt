@@ -1,14 +1,16 @@
 -- Calls of a lexer give the first tokens of its source.
 use Rattle.std.proofs.Common.{◌≡◌, ℕ, suc, Bool, true, false, List, [], ◌∷◌, ◌++◌, length, Option, Some, None, Ok, refl, sym, ap, ◌∙◌, arith, append_assoc, append-nil, subst, ◌⊎◌, inl, inr, ⊎_elim}
+use Rattle.std.specs.Prelude.{is_some}
 use Rattle.std.specs.Io.KnownBytes.{Consumes}
 use Rattle.bword.specs.ByteEnds.{Incoming, Took, CanFollow}
-use Rattle.blang.specs.declared.token.Last.{Last}
-use Rattle.blang.specs.declared.token.Last.TheVariants as last
+use Rattle.blex.specs.declared.lexeme.Last.{Last}
+use Rattle.blex.specs.declared.lexeme.Last.TheVariants as last
 use Rattle.blang.specs.declared.token.Token.{Token}
 use Rattle.blang.specs.declared.token.Token.TheVariants as token
 use Rattle.blang.specs.declared.token.Placed.{Placed}
 use Rattle.blex.specs.declared.lexer.Progress.TheVariants as progress
-use Rattle.blang.specs.Cut.{tokens_from, token_first, token_of, last_of, placed, line_number_after}
+use Rattle.blang.specs.Cut.{tokens_from, token_first, is_last, placed, line_number_after}
+use Rattle.blex.specs.Lasts.{token_of, last_of}
 use Rattle.blex.specs.Sources.{GoesAfter, CanCome}
 use Rattle.blex.specs.Lexing.{PassesToken}
 use Rattle.blex.specs.Lexers.{Lexer, GivesAt, new, progress_after}
@@ -21,18 +23,24 @@ first_cons t [] (u ∷ us) e = refl
 first_cons t (p ∷ ps) [] e = cc
 first_cons t (p ∷ ps) (u ∷ us) e = ap (λ l. t ∷ l) e
 
+-- what the lexer keeps is the last token
+pub last_is : (t : Token) → is_last t ≡ is_some (last_of t)
+last_is (token.Bad letters) = refl
+last_is token.End = refl
+last_is _ = refl
+
 -- a token that is no last one, and one that is
 once_more : (t : Placed) (ts : List Placed) → last_of t.token ≡ None → once (t ∷ ts) ≡ t ∷ once ts
-once_more t ts e = rw e refl
+once_more t ts e = rw (last_is t.token, e) refl
 
 once_last : (t : Placed) (ts : List Placed) (l : Last) → last_of t.token ≡ Some l → once (t ∷ ts) ≡ t ∷ []
-once_last t ts l e = rw e refl
+once_last t ts l e = rw (last_is t.token, e) refl
 
 token_first_more : (t : Placed) (ts : List Placed) → last_of t.token ≡ None → token_first t.token t.line ts ≡ t ∷ ts
-token_first_more t ts e = rw e refl
+token_first_more t ts e = rw (last_is t.token, e) refl
 
 token_first_last : (t : Placed) (ts : List Placed) (l : Last) → last_of t.token ≡ Some l → token_first t.token t.line ts ≡ t ∷ []
-token_first_last t ts l e = rw e refl
+token_first_last t ts l e = rw (last_is t.token, e) refl
 
 last_token : (t : Token) (l : Last) → last_of t ≡ Some l → t ≡ token_of l
 last_token (token.Bad letters) l e = let same : last.Bad letters ≡ l = cc in ap token_of same

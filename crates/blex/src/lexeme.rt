@@ -2,10 +2,10 @@
 ghost use Rattle.std.specs.Prelude.{ℕ, List, ◌≡◌, ◌≢◌};
 ghost use Rattle.blex.specs.declared.lexeme.Lexeme.TheVariants as lexeme;
 ghost use Rattle.blex.specs.Lexemes.{token_of_lexeme, IsLexemeOf};
-ghost use Rattle.blang.specs.Cut.{last_of, token_of};
+ghost use Rattle.blex.specs.Lasts.{last_of, token_of};
 
 use arrayvec::ArrayVec;
-use blang::{Keyword, Last, Letters, STRING_LEN, Token};
+use blang::{Keyword, Letters, STRING_LEN, Token};
 use bword::{BinOp, Name};
 
 /// A token with the characters of a string kept apart, so that it is small and `Copy`.
@@ -48,6 +48,13 @@ pub enum Lexeme {
 pub struct Seen {
     pub lexeme: Lexeme,
     pub line: u64,
+}
+
+/// A token that no other comes after.
+#[derive(Clone, Copy)]
+pub enum Last {
+    Bad(Letters),
+    End,
 }
 
 impl Lexeme {
