@@ -31,9 +31,6 @@ abbrev pub kind_of : List ℕ → List Entry → Option NameKind
 kind_of x [] = None
 kind_of x (e ∷ es) = if same_name e.name x then Some e.kind else kind_of x es
 
-abbrev pub most_names : ℕ
-most_names = MAX_NAMES
-
 -- a diagnostic with letters and a line alone, and one with a name
 abbrev pub fault : Letters → ℕ → Diagnostic
 fault l line = record { letters = l; about = about.Nothing; line = line }
@@ -44,7 +41,7 @@ name_fault l w = record { letters = l; about = about.Name w.text; line = w.line 
 -- one more name, where there is room
 abbrev pub with_entry : Identifier → NameKind → List Entry → Result (List Entry) Diagnostic
 with_entry w k es =
-    if nat_lt (length es) most_names
+    if nat_lt (length es) MAX_NAMES
     then Ok (es ++ record { name = w.text; kind = k } ∷ [])
     else Err (fault letters.TooManyNames w.line)
 
@@ -135,9 +132,6 @@ abbrev pub with_names : Scope → Result (List Entry) Diagnostic → Result Scop
 with_names s (Ok names) = Ok (record s { names = names })
 with_names s (Err d) = Err d
 
-abbrev pub most_cases : ℕ
-most_cases = MAX_CASES
-
 abbrev pub word_fault : Letters → About → ℕ → Diagnostic
 word_fault l word line = record { letters = l; about = word; line = line }
 
@@ -149,7 +143,7 @@ abbrev pub scan_case : ℕ → ℕ → Scope → List Around → Result Scope Di
 scan_case line value s [] = Err (word_fault letters.Syntax about.Case line)
 scan_case line value s (around ∷ others) =
     if list_any (nat_eq value) around.constants then Err (word_fault letters.Redeclared about.Case line) else
-    if nat_lt s.cases most_cases
+    if nat_lt s.cases MAX_CASES
     then Ok (record s { switches = with_constant value around ∷ others; cases = s.cases + 1 })
     else Err (fault letters.TooManyCases line)
 

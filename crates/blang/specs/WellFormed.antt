@@ -111,10 +111,6 @@ abbrev mutual
   BodyBinds Nothing = Unit {0}
   BodyBinds (More before s) = BodyBinds before × StatementBinds s
 
--- the greatest level of nesting
-abbrev pub nesting_limit : ℕ
-nesting_limit = MAX_NESTING
-
 -- Offsets: where the strings of a definition lie among its string words.
 
 -- the strings of a definition
@@ -135,7 +131,7 @@ OffsetsFrom off (t ∷ ts) = (t.offset ≡ off) × OffsetsFrom (off + length (pa
 -- The three rules. Initial values have no operators and no levels.
 abbrev pub IsFormed : Definition → Type 0
 IsFormed (Function w parameters body) =
-    StatementBinds body × (levels_in (walk_statement body) ≤ nesting_limit)
+    StatementBinds body × (levels_in (walk_statement body) ≤ MAX_NESTING)
     × OffsetsFrom 0 (texts_in (walk_statement body))
 IsFormed d = OffsetsFrom 0 (texts_of d)
 

@@ -12,7 +12,8 @@ use Rattle.blang.specs.declared.code.Ival.TheVariants as ival
 use Rattle.blang.specs.declared.code.Definition as coded
 use Rattle.blang.specs.declared.code.Definition.TheVariants as code
 use Rattle.blang.specs.Trees.{Identifier, Stmt, Ival, Ival_constant, Ival_text, Ival_name, Definition, Simple, Vector, Function}
-use Rattle.blang.specs.WellFormed.{nesting_limit, IsFormed, packed}
+use Rattle.blang.specs.WellFormed.{IsFormed, packed}
+use Rattle.blang.specs.declared.limits.TheConstants.{MAX_NESTING}
 use Rattle.btree.specs.Fitting.{EachAfter, Sits, ival_words, values_words, IvalFits, statement_strings, ival_strings}
 use Rattle.blang.specs.Scan.{fault, name_fault, undefined, Scope, no_scope, function_events, function_scope, inner_fault, scope_fault, identifier_of, scan}
 use Rattle.bword.specs.Words.{same_name}
@@ -21,7 +22,8 @@ use Rattle.btree.proofs.WalkLaws.{length-strings}
 use Rattle.blang.specs.Walk.{walk_value}
 use Rattle.btree.proofs.Fitting.{simple_strings, vector_strings, function_strings, formed_in}
 use Rattle.btree.proofs.ScanSteps.{scanned-Err}
-use Rattle.bemit.specs.Drafts.{led, Made, Draft, Faulty, Going, no_made, fresh, most_words, within_room, with_made, stringed, offset_of, valued, worded, closed, numbered, draft_resolved, fault_in, started}
+use Rattle.bemit.specs.Drafts.{led, Made, Draft, Faulty, Going, no_made, fresh, within_room, with_made, stringed, offset_of, valued, worded, closed, numbered, draft_resolved, fault_in, started}
+use Rattle.blang.specs.declared.limits.TheConstants.{MAX_WORDS}
 use Rattle.bemit.specs.Drafts as drafts
 use Rattle.bemit.specs.Effects.{ival_done, values_done, definition_done, code_with}
 use Rattle.bonepass.specs.Laws.{pass_over, OnePass}
@@ -132,10 +134,10 @@ function_fits frame m c l v = go (nat_le (length m.code) 4096) (nat_le (length m
 abbrev function_parts : Environment → Stmt → Parts
 function_parts names body = ending (ending (joined no_parts (statement_parts names body)) (λ p. instr.Constant 0)) (λ p. instr.Return)
 
-function_makes : (names : Environment) (w : Identifier) (parameters : List Identifier) (body : Stmt) → Sits body nesting_limit 0 → Makes names (definition_done (Function w parameters body)) (function_events parameters body) nesting_limit 0 (function_parts names body)
+function_makes : (names : Environment) (w : Identifier) (parameters : List Identifier) (body : Stmt) → Sits body MAX_NESTING 0 → Makes names (definition_done (Function w parameters body)) (function_events parameters body) MAX_NESTING 0 (function_parts names body)
 function_makes names w parameters body sits =
-    subst (λ es. Makes names (definition_done (Function w parameters body)) es nesting_limit 0 (function_parts names body)) (sym (function_events_are parameters body))
-    (emits instr.Return (emits (instr.Constant 0) (then_ (parameters_make parameters) (done_makes names body nesting_limit 0 sits) refl)))
+    subst (λ es. Makes names (definition_done (Function w parameters body)) es MAX_NESTING 0 (function_parts names body)) (sym (function_events_are parameters body))
+    (emits instr.Return (emits (instr.Constant 0) (then_ (parameters_make parameters) (done_makes names body MAX_NESTING 0 sits) refl)))
 
 -- the code of a function with this scope and these words of its strings
 abbrev function_code : Identifier → List Identifier → Stmt → Scope → List ℕ → coded.Definition
@@ -148,7 +150,7 @@ function_code w parameters body s strings = code.Function (record {
   code = (fragment (environment_of s.names) body 0).code ((fragment (environment_of s.names) body 0).end) ++ (instr.Constant 0 ∷ instr.Return ∷ []);
 })
 
-function_comes : (w : Identifier) (parameters : List Identifier) (body : Stmt) → Sits body nesting_limit 0 → Comes (Function w parameters body) (definition_done (Function w parameters body) fresh)
+function_comes : (w : Identifier) (parameters : List Identifier) (body : Stmt) → Sits body MAX_NESTING 0 → Comes (Function w parameters body) (definition_done (Function w parameters body) fresh)
 function_comes w parameters body sits = go (function_scope parameters body) refl
   where
     d : Definition

@@ -12,7 +12,7 @@ use Rattle.blang.specs.Walk.{LvalueWanted, callee, walk, walk_arguments, comma_b
 use Rattle.btree.specs.Events.{events, argument_events}
 use Rattle.blang.specs.Code.{Environment, Referent, In_frame, Outside, At_label, name_word_code, word_code, address_code, argument_code, argument_count, assignment}
 use Rattle.btree.proofs.WalkLaws.{length-strings, comma_events, callee_as, plain_strings, comma_plain}
-use Rattle.bemit.specs.Drafts.{most_instructions}
+use Rattle.blang.specs.declared.limits.TheConstants.{MAX_INSTRUCTIONS}
 use Rattle.bemit.specs.Effects.{most_arguments, held, passed, evaluated}
 use Rattle.bonepass.proofs.Parts.{Makes, then_, retold, ended, ended_twice, rescanned, idle, emits, emits_known}
 use Rattle.bonepass.proofs.Jumps.{parts_ways}
@@ -80,7 +80,7 @@ module _ (names : Environment) where
       let q = p + length (argument_code names before p) in
       omega (arith, arguments_some before p, word_some e q, length-append (argument_code names before p) (word_code names e q))
 
-  count_known : (e : Expr) (args : Arguments) (p : ℕ) → length (word_code names e p ++ argument_code names args (p + length (word_code names e p))) ≤ most_instructions → instr.Call (min (argument_count args) most_arguments) ≡ instr.Call (argument_count args)
+  count_known : (e : Expr) (args : Arguments) (p : ℕ) → length (word_code names e p ++ argument_code names args (p + length (word_code names e p))) ≤ MAX_INSTRUCTIONS → instr.Call (min (argument_count args) most_arguments) ≡ instr.Call (argument_count args)
   count_known e args p h =
       let q = p + length (word_code names e p) in
       let le : argument_count args ≤ most_arguments = omega (arith, h, arguments_some args q, length-append (word_code names e p) (argument_code names args q)) in

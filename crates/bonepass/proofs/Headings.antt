@@ -8,7 +8,8 @@ use Rattle.blang.specs.Walk.{AutoHere, ExtrnHere, LabelHere, CaseHere, DefaultHe
 use Rattle.btree.proofs.WalkLaws.{list_events, declared_events}
 use Rattle.btree.specs.Events.{heading_events}
 use Rattle.blang.specs.Code.{Environment, Referent, In_frame, Outside, At_label, vector_code, heading_fragment}
-use Rattle.bemit.specs.Drafts.{Made, Draft, Going, most_words, with_made, following, event_done, emitted, worded, frame_of, vector_set, declared, imported, labelled, within_room, break_drafted, Switch, with_innermost, with_case, with_default}
+use Rattle.bemit.specs.Drafts.{Made, Draft, Going, with_made, following, event_done, emitted, worded, frame_of, vector_set, declared, imported, labelled, within_room, break_drafted, Switch, with_innermost, with_case, with_default}
+use Rattle.blang.specs.declared.limits.TheConstants.{MAX_WORDS}
 use Rattle.bemit.specs.Effects.{headed, parameters_done}
 use Rattle.btree.proofs.ScanSteps.{ArmAdded, kind_of-entered, declares, imports, labels_here, selects, defaults, breaks}
 use Rattle.bonepass.proofs.Names.{later}
@@ -21,9 +22,9 @@ vector_scope None k d = refl
 vector_scope (Some c) k d = scope_kept _ _ ∙ scope_kept _ _ ∙ scope_kept _ _ ∙ scope_kept _ d
 
 pub worded_scope : (n : ℕ) (d : Draft) → scope_of (worded n d) ≡ scope_of d
-worded_scope n d = go (nat_lt most_words n) refl
+worded_scope n d = go (nat_lt MAX_WORDS n) refl
   where
-    go : (b : Bool) → nat_lt most_words n ≡ b → scope_of (worded n d) ≡ scope_of d
+    go : (b : Bool) → nat_lt MAX_WORDS n ≡ b → scope_of (worded n d) ≡ scope_of d
     go true q = rw q (scope_kept _ d)
     go false q = rw q refl
 
@@ -33,12 +34,12 @@ none_made s (Some m) = refl
 
 -- no frame has too many words
 worded_is : (s2 : Scope) (frame : ℕ) (m : Made) → frame ≤ s2.frame → worded s2.frame (Going s2 (kept frame m)) ≡ drafted s2 m
-worded_is s2 frame m f = go (nat_lt most_words s2.frame) refl
+worded_is s2 frame m f = go (nat_lt MAX_WORDS s2.frame) refl
   where
-    go : (b : Bool) → nat_lt most_words s2.frame ≡ b → worded s2.frame (Going s2 (kept frame m)) ≡ drafted s2 m
-    go true q = rw q (none_made s2 (kept frame m) ∙ ap (λ o. Going s2 o) (sym (kept_none s2.frame m (λ r. omega (arith, r.frame_fits, ltb-true most_words s2.frame q)))))
+    go : (b : Bool) → nat_lt MAX_WORDS s2.frame ≡ b → worded s2.frame (Going s2 (kept frame m)) ≡ drafted s2 m
+    go true q = rw q (none_made s2 (kept frame m) ∙ ap (λ o. Going s2 o) (sym (kept_none s2.frame m (λ r. omega (arith, r.frame_fits, ltb-true MAX_WORDS s2.frame q)))))
     go false q =
-        let le : s2.frame ≤ most_words = omega (arith, ltb-false most_words s2.frame q) in
+        let le : s2.frame ≤ MAX_WORDS = omega (arith, ltb-false MAX_WORDS s2.frame q) in
         rw q (ap (λ o. Going s2 o) (kept_within frame m (omega (arith, le, f)) ∙ sym (kept_within s2.frame m le)))
 
 put_vector : (s : Scope) (m : Made) (k c : ℕ) → vector_set (Some c) k (drafted s m) ≡ drafted s (record m { code = m.code ++ (instr.Automatic k ∷ instr.Automatic (k + 1) ∷ instr.Store ∷ instr.Pop ∷ []) })

@@ -8,7 +8,8 @@ use Rattle.blang.specs.Walk.{Event}
 use Rattle.blang.specs.Code.{Environment, Arms, default_in, tests_code, default_code, arms_code}
 use Rattle.btree.proofs.CodeLaws.{scanned-append}
 use Rattle.btree.proofs.ScanSteps.{scanned-Err}
-use Rattle.bemit.specs.Drafts.{Switch, no_arms, tests, leading, Made, Draft, Faulty, Going, most_instructions, most_string_words, most_values, most_words, within_room, with_made, emitted, place_of, mark_of, offset_of, filled, following, event_done}
+use Rattle.bemit.specs.Drafts.{Switch, no_arms, tests, leading, Made, Draft, Faulty, Going, within_room, with_made, emitted, place_of, mark_of, offset_of, filled, following, event_done}
+use Rattle.blang.specs.declared.limits.TheConstants.{MAX_INSTRUCTIONS, MAX_STRING_WORDS, MAX_VALUES, MAX_WORDS}
 use Rattle.bonepass.proofs.Names.{Agrees, agrees_before, later}
 
 -- What a piece of a definition adds, by the place where it begins. Its breaks have no target yet.
@@ -131,27 +132,27 @@ added_same m a b s =
 
 -- what is made, while it is within all room
 abbrev pub kept : ℕ → Made → Option Made
-kept frame m = if nat_le frame most_words then within_room m else None
+kept frame m = if nat_le frame MAX_WORDS then within_room m else None
 
 abbrev pub drafted : Scope → Made → Draft
 drafted s m = Going s (kept s.frame m)
 
 pub record Roomy (frame : ℕ) (m : Made) : Type 0 where
-  pub frame_fits : frame ≤ most_words
-  pub code_fits : length m.code ≤ most_instructions
-  pub strings_fit : length m.strings ≤ most_string_words
-  pub values_fit : length m.values ≤ most_values
+  pub frame_fits : frame ≤ MAX_WORDS
+  pub code_fits : length m.code ≤ MAX_INSTRUCTIONS
+  pub strings_fit : length m.strings ≤ MAX_STRING_WORDS
+  pub values_fit : length m.values ≤ MAX_VALUES
 
 pub kept_some : (frame : ℕ) (m : Made) → Roomy frame m → kept frame m ≡ Some m
 kept_some frame m r = rw (le-leb _ _ r.frame_fits, le-leb _ _ r.code_fits, le-leb _ _ r.strings_fit, le-leb _ _ r.values_fit) refl
 
-pub kept_within : (frame : ℕ) (m : Made) → frame ≤ most_words → kept frame m ≡ within_room m
+pub kept_within : (frame : ℕ) (m : Made) → frame ≤ MAX_WORDS → kept frame m ≡ within_room m
 kept_within frame m h = rw (le-leb _ _ h) refl
 
 pub kept_cases : (frame : ℕ) (m : Made) → (Roomy frame m × (kept frame m ≡ Some m)) ⊎ ((Roomy frame m → ⊥) × (kept frame m ≡ None))
-kept_cases frame m = go (nat_le frame most_words) (nat_le (length m.code) most_instructions) (nat_le (length m.strings) most_string_words) (nat_le (length m.values) most_values) refl refl refl refl
+kept_cases frame m = go (nat_le frame MAX_WORDS) (nat_le (length m.code) MAX_INSTRUCTIONS) (nat_le (length m.strings) MAX_STRING_WORDS) (nat_le (length m.values) MAX_VALUES) refl refl refl refl
   where
-    go : (a b c d : Bool) → nat_le frame most_words ≡ a → nat_le (length m.code) most_instructions ≡ b → nat_le (length m.strings) most_string_words ≡ c → nat_le (length m.values) most_values ≡ d
+    go : (a b c d : Bool) → nat_le frame MAX_WORDS ≡ a → nat_le (length m.code) MAX_INSTRUCTIONS ≡ b → nat_le (length m.strings) MAX_STRING_WORDS ≡ c → nat_le (length m.values) MAX_VALUES ≡ d
         → (Roomy frame m × (kept frame m ≡ Some m)) ⊎ ((Roomy frame m → ⊥) × (kept frame m ≡ None))
     go true true true true p q r t =
         let y : Roomy frame m = record { frame_fits = leb-true _ _ p; code_fits = leb-true _ _ q; strings_fit = leb-true _ _ r; values_fit = leb-true _ _ t } in
@@ -353,7 +354,7 @@ put_ending m a j = λ i. record {
   breaks = m.breaks ++ a.breaks (length m.code);
 }
 
-pub emits_known : {names : Environment} {f : Draft → Draft} {es : List Event} {room off : ℕ} {a : Parts} (i j : Instr) → ((p : ℕ) → length (a.code p) ≤ most_instructions → i ≡ j) → Makes names f es room off a → Makes names (λ d. emitted i (f d)) es room off (ending a (λ p. j))
+pub emits_known : {names : Environment} {f : Draft → Draft} {es : List Event} {room off : ℕ} {a : Parts} (i j : Instr) → ((p : ℕ) → length (a.code p) ≤ MAX_INSTRUCTIONS → i ≡ j) → Makes names f es room off a → Makes names (λ d. emitted i (f d)) es room off (ending a (λ p. j))
 emits_known {f = f} {a = a} i j known x = record {
   scans = λ d n. scope_kept _ (f d) ∙ x.scans d n;
   depth = x.depth;

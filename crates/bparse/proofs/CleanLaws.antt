@@ -7,7 +7,8 @@ use Rattle.blang.specs.declared.token.Diagnostic.{Diagnostic}
 use Rattle.blang.specs.declared.token.Letters.TheVariants as letters
 use Rattle.blang.specs.declared.code.Definition as coded
 use Rattle.blang.specs.Trees.{Identifier, Stmt, Definition, Simple, Vector, Function}
-use Rattle.blang.specs.Scan.{Entry, NameKind, Automatic, kind_of, with_declaration, with_entry, fault, name_fault, most_names, Scope, no_scope, scanned, scan_event, with_names, automatic_words, function_events, function_scope, scope_fault, inner_fault, scan, identifier_of}
+use Rattle.blang.specs.Scan.{Entry, NameKind, Automatic, kind_of, with_declaration, with_entry, fault, name_fault, Scope, no_scope, scanned, scan_event, with_names, automatic_words, function_events, function_scope, scope_fault, inner_fault, scan, identifier_of}
+use Rattle.blang.specs.declared.limits.TheConstants.{MAX_NAMES}
 use Rattle.blang.specs.Walk.{Event, AutoHere}
 use Rattle.btree.specs.Events.{statement_events}
 use Rattle.bword.specs.Words.{same_name}
@@ -24,20 +25,20 @@ scanned-Err (e ∷ es) d = refl
 
 -- a table with one more name
 abbrev Grown : List Entry → List Entry → Type 0
-Grown es names = (length names ≡ length es + 1) × (length es + 1 ≤ most_names)
+Grown es names = (length names ≡ length es + 1) × (length es + 1 ≤ MAX_NAMES)
 
-entered_grown : (b : Bool) (w : Identifier) (k : NameKind) (es names : List Entry) (d : Diagnostic) → nat_lt (length es) most_names ≡ b
+entered_grown : (b : Bool) (w : Identifier) (k : NameKind) (es names : List Entry) (d : Diagnostic) → nat_lt (length es) MAX_NAMES ≡ b
     → (if b then Ok (es ++ record { name = w.text; kind = k } ∷ []) else Err d) ≡ Ok names → Grown es names
 entered_grown true w k es names d e h =
     let same : names ≡ es ++ record { name = w.text; kind = k } ∷ [] = cc in
-    (ap length same ∙ length-append es (record { name = w.text; kind = k } ∷ []), let l = ltb-true (length es) most_names e in omega (arith, l))
+    (ap length same ∙ length-append es (record { name = w.text; kind = k } ∷ []), let l = ltb-true (length es) MAX_NAMES e in omega (arith, l))
 entered_grown false w k es names d e h = cc
 
 declared_grown : (o : Option NameKind) (w : Identifier) (k : NameKind) (es names : List Entry) → kind_of w.text es ≡ o → with_declaration w k es ≡ Ok names → Grown es names
 declared_grown (Some old) w k es names e h = let g = rw e at h in cc
-declared_grown None w k es names e h = entered_grown (nat_lt (length es) most_names) w k es names (fault letters.TooManyNames w.line) refl (rw e at h)
+declared_grown None w k es names e h = entered_grown (nat_lt (length es) MAX_NAMES) w k es names (fault letters.TooManyNames w.line) refl (rw e at h)
 
-few : (ps : List Identifier) (es : List Event) (s s2 : Scope) → length s.names ≤ most_names → scanned (map parameter ps ++ es) (Ok s) ≡ Ok s2 → length ps + length s.names ≤ most_names
+few : (ps : List Identifier) (es : List Event) (s s2 : Scope) → length s.names ≤ MAX_NAMES → scanned (map parameter ps ++ es) (Ok s) ≡ Ok s2 → length ps + length s.names ≤ MAX_NAMES
 few [] es s s2 h e = omega (arith, h)
 few (w ∷ ps) es s s2 h e = go (with_declaration w (Automatic s.frame) s.names) refl (λ n le g. few ps es (record following { names = n }) s2 le g)
   where
@@ -45,8 +46,8 @@ few (w ∷ ps) es s s2 h e = go (with_declaration w (Automatic s.frame) s.names)
     following = record s { frame = s.frame + automatic_words None }
 
     go : (r : Result (List Entry) Diagnostic) → with_declaration w (Automatic s.frame) s.names ≡ r
-        → ((n : List Entry) → length n ≤ most_names → scanned (map parameter ps ++ es) (Ok (record following { names = n })) ≡ Ok s2 → length ps + length n ≤ most_names)
-        → length (w ∷ ps) + length s.names ≤ most_names
+        → ((n : List Entry) → length n ≤ MAX_NAMES → scanned (map parameter ps ++ es) (Ok (record following { names = n })) ≡ Ok s2 → length ps + length n ≤ MAX_NAMES)
+        → length (w ∷ ps) + length s.names ≤ MAX_NAMES
     go (Ok names) r more =
         let grown = declared_grown (kind_of w.text s.names) w (Automatic s.frame) s.names names refl r in
         let rest = more names (omega (arith, grown.0, grown.1)) (subst (λ x. scanned (map parameter ps ++ es) (with_names following x) ≡ Ok s2) r e) in

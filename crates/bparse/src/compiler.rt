@@ -3,7 +3,7 @@ ghost use Rattle.std.specs.Prelude.{◌≡◌, ◌≤◌, length, OnOk};
 ghost use Rattle.std.specs.Map.{keys_of};
 ghost use Rattle.bword.specs.declared.edition.Edition.TheVariants as editions;
 ghost use Rattle.btree.specs.Reading.{first};
-ghost use Rattle.bemit.specs.Drafts.{most_instructions, most_values};
+ghost use Rattle.blang.specs.declared.limits.TheConstants.{MAX_INSTRUCTIONS, MAX_VALUES};
 ghost use Rattle.bexpr.specs.Tokens.{IsReady, IsLoaded};
 ghost use Rattle.bparse.specs.Compilers.{SameCompiler, CompilerGives, compiler_start};
 ghost use Rattle.bparse.specs.Compilers as compilers;
@@ -112,14 +112,14 @@ impl<I: ByteIn, O: ByteOut> Compiler<I, O> {
     /// An instruction is of the line of the token that it was made from or after which it was made, the jump back of a
     /// loop and the tests of a switch are of the line of their keyword.
     pub fn lines(&self) -> &[u64]
-        ensures { length result.now ≤ most_instructions }
+        ensures { length result.now ≤ MAX_INSTRUCTIONS }
     {
         self.parser.draft.lines()
     }
 
     /// The source line of each initial value of the definition that was written last.
     pub fn value_lines(&self) -> &[u64]
-        ensures { length result.now ≤ most_values }
+        ensures { length result.now ≤ MAX_VALUES }
     {
         self.parser.draft.value_lines()
     }

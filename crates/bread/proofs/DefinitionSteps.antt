@@ -14,7 +14,7 @@ use Rattle.btree.specs.ExpressionReader.{is_close_paren, is_close_bracket}
 use Rattle.btree.specs.Commas.{list_reader}
 use Rattle.blang.specs.Code.{vector_constant}
 use Rattle.btree.specs.StatementReader.{is_semicolon, name, size, statement}
-use Rattle.blang.specs.WellFormed.{nesting_limit}
+use Rattle.blang.specs.declared.limits.TheConstants.{MAX_NESTING}
 use Rattle.btree.specs.Fitting.{values_words}
 use Rattle.btree.specs.DefinitionReader.{ival_at, ival, valued, vector, function_body, function, after_name_at, after_name, definition}
 use Rattle.btree.proofs.Fine.{Fine}
@@ -207,13 +207,13 @@ module _ (w : Identifier) (old mid : Tokens) where
   function_first halt.Device h = h
 
   module _ (ps : List Identifier) (r : Runs old mid parameters (λ v. Got ps v)) where
-    function_runs : Runs old mid (function w) (λ v. statement nesting_limit 0 v >>= λ s. Got (Function w ps s))
+    function_runs : Runs old mid (function w) (λ v. statement MAX_NESTING 0 v >>= λ s. Got (Function w ps s))
     function_runs = Moves-as (λ u v. function w u ≡ function_body w ps v) (λ u v x. function_is w u ∙ ap (λ y. y >>= function_body w) x) r
 
-    pub function_then : (new : Tokens) (why : Halt) → Halts (statement nesting_limit 0) mid why new → Halts (function w) old why new
-    function_then new why h = halts_then old mid new (function w) (statement nesting_limit 0) (λ s. Got (Function w ps s)) why function_runs h
+    pub function_then : (new : Tokens) (why : Halt) → Halts (statement MAX_NESTING 0) mid why new → Halts (function w) old why new
+    function_then new why h = halts_then old mid new (function w) (statement MAX_NESTING 0) (λ s. Got (Function w ps s)) why function_runs h
 
-    pub function_took : (start d1 d2 d3 d4 : Draft) (new : Tokens) (count : ℕ) → d1 ≡ parameters_done ps start → count ≡ min (length ps) 65535 → PartTaken (statement nesting_limit 0) done d1 mid new d2 → d3 ≡ emitted (instr.Constant 0) d2 → d4 ≡ emitted instr.Return d3 → TookKind (function w) w start old new d4 (kind.Function count)
+    pub function_took : (start d1 d2 d3 d4 : Draft) (new : Tokens) (count : ℕ) → d1 ≡ parameters_done ps start → count ≡ min (length ps) 65535 → PartTaken (statement MAX_NESTING 0) done d1 mid new d2 → d3 ≡ emitted (instr.Constant 0) d2 → d4 ≡ emitted instr.Return d3 → TookKind (function w) w start old new d4 (kind.Function count)
     function_took start d1 d2 d3 d4 new count e c t x y = record { tree = Function w ps t.tree; runs = went (λ s. Got (Function w ps s)) function_runs t.runs; made = y ∙ rw (x, t.made, e) refl; named = refl; kind_is = c }
 
 -- a definition

@@ -9,7 +9,8 @@ ghost use Rattle.blang.specs.Trees.{Goto};
 ghost use Rattle.btree.specs.StatementReader.{level, goes_on, statement, returned, compound, switched};
 ghost use Rattle.btree.specs.StatementReader as reader;
 ghost use Rattle.blang.specs.declared.code.Instr.TheVariants as instr;
-ghost use Rattle.bemit.specs.Drafts.{most_instructions, place_of, filled, breaks_filled};
+ghost use Rattle.bemit.specs.Drafts.{place_of, filled, breaks_filled};
+ghost use Rattle.blang.specs.declared.limits.TheConstants.{MAX_INSTRUCTIONS};
 ghost use Rattle.bemit.specs.Effects.{evaluated, done, all_done};
 ghost use Rattle.bexpr.specs.Tokens.{is_name, IsLoaded, IsSingle};
 ghost use Rattle.bread.specs.Headings.{unheaded};
@@ -118,7 +119,7 @@ fn close_loop(draft: &mut Draft, top: u16, mark: bemit::Mark)
 // The place of the next instruction, of which there are few.
 fn next_place(draft: &Draft) -> u16
     ensures place { result ≡ place_of draft.now }
-    ensures few { result ≤ most_instructions }
+    ensures few { result ≤ MAX_INSTRUCTIONS }
 {
     if draft.place() == 0 {
         return 0;

@@ -13,7 +13,8 @@ use Rattle.blang.specs.declared.code.Definition as coded
 use Rattle.blang.specs.declared.code.Definition.TheVariants as code
 use Rattle.blang.specs.declared.token.Diagnostic.{Diagnostic}
 use Rattle.blang.specs.Trees.{Identifier, Stmt, Definition, Simple, Vector, Function as function}
-use Rattle.blang.specs.WellFormed.{nesting_limit, IsFormed}
+use Rattle.blang.specs.WellFormed.{IsFormed}
+use Rattle.blang.specs.declared.limits.TheConstants.{MAX_NESTING}
 use Rattle.btree.specs.Fitting.{Sits, statement_words}
 use Rattle.blang.specs.Scan.{NameKind, Automatic, External, Unlabelled, Labelled, kind_of, Scope, no_scope, scan, function_events, function_scope, scope_fault}
 use Rattle.btree.specs.Spelling.{size_spelling, spell_statement, list_spelling}
@@ -91,7 +92,7 @@ no_names : IsTable [] 0 0
 no_names = record { few = omega arith; within = Holds-nil; labelled = omega arith }
 
 function_within : (w : Identifier) (parameters : List Identifier) (body : Stmt) (s : Scope) → function_scope parameters body ≡ Ok s → fits_limits (code.Function (function_code w parameters body s)) ≡ true
-    → is_name w.text ≡ true → AreSound (spell_statement body) → Sits body nesting_limit 0 → IsFunctionWithinRanges (function_code w parameters body s)
+    → is_name w.text ≡ true → AreSound (spell_statement body) → Sits body MAX_NESTING 0 → IsFunctionWithinRanges (function_code w parameters body s)
 function_within w parameters body s clean fit named sound sits =
     let f = function_code w parameters body s in
     let sizes = sizes_of f in
@@ -111,7 +112,7 @@ function_within w parameters body s clean fit named sound sits =
     let meant : (x : List ℕ) → IsMeaningWithin sizes (names x) =
     λ x. meaning_within sizes (kind_of x s.names) (λ k q. subst (λ n. IsKindWithin s.frame n k) labels (kind_within s.frame s.labels x s.names table.within k q)) in
     let vectors = Holds-weaker (event_within sizes s refl) (Holds-back (events_in (walk_list walk_parameter parameters)) (events_in (walk_statement body)) a.settles) in
-    let inside = walk_within sizes names (walk_statement body) nesting_limit 0 sound (statement_both body nesting_limit 0 sits).1 (omega (arith, words_of_strings)) vectors in
+    let inside = walk_within sizes names (walk_statement body) MAX_NESTING 0 sound (statement_both body MAX_NESTING 0 sits).1 (omega (arith, words_of_strings)) vectors in
     let whole = fragment_within names sizes meant limits.0 body 0 inside short in
     record {
       named = named;

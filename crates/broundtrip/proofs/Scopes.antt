@@ -2,7 +2,8 @@
 use Rattle.std.proofs.Common.{◌≡◌, ℕ, ◌+◌, ◌<◌, ◌≤◌, Bool, true, false, List, [], ◌∷◌, ◌++◌, length, ap, arith, length-append, if◌then◌else◌, Option, Some}
 use Rattle.std.specs.Prelude.{sum_by}
 use Rattle.std.proofs.lemmas.List.Sums.{sum_by-append, sum_by-cons}
-use Rattle.blang.specs.Scan.{NameKind, Automatic, External, Unlabelled, Labelled, Entry, most_names, kind_of, with_kind}
+use Rattle.blang.specs.Scan.{NameKind, Automatic, External, Unlabelled, Labelled, Entry, kind_of, with_kind}
+use Rattle.blang.specs.declared.limits.TheConstants.{MAX_NAMES}
 use Rattle.bword.specs.Words.{same_name}
 use Rattle.btree.proofs.ScopeLaws.{length-with_kind}
 use Rattle.btree.proofs.ScanSteps.{Entered, Relabelled}
@@ -50,11 +51,11 @@ abbrev IsEntryWithin : ℕ → ℕ → Entry → Type 0
 IsEntryWithin frame labels e = IsKindWithin frame labels e.kind
 
 pub record IsTable (es : List Entry) (frame labels : ℕ) : Type 0 where
-  pub few : length es ≤ most_names
+  pub few : length es ≤ MAX_NAMES
   pub within : Holds (IsEntryWithin frame labels) es
   pub labelled : labels ≤ labels_of es
 
-pub few_labels : {es : List Entry} {frame labels : ℕ} → IsTable es frame labels → labels ≤ most_names
+pub few_labels : {es : List Entry} {frame labels : ℕ} → IsTable es frame labels → labels ≤ MAX_NAMES
 few_labels {es} {frame} {labels} t = let f = t.few in let l = t.labelled in omega (arith, labels_of-length es)
 
 kind_of_within : (b : Bool) (frame labels : ℕ) (k : NameKind) (o : Option NameKind) → IsKindWithin frame labels k → ((j : NameKind) → o ≡ Some j → IsKindWithin frame labels j)

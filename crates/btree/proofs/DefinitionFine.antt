@@ -8,7 +8,7 @@ use Rattle.btree.specs.Reading.{Got, ◌>>=◌, first, expect}
 use Rattle.btree.specs.ExpressionReader.{is_close_paren, is_close_bracket}
 use Rattle.btree.specs.Commas.{list_reader}
 use Rattle.btree.specs.StatementReader.{is_semicolon, name, size, statement}
-use Rattle.blang.specs.WellFormed.{nesting_limit}
+use Rattle.blang.specs.declared.limits.TheConstants.{MAX_NESTING}
 use Rattle.btree.specs.Fitting.{values_words}
 use Rattle.btree.specs.DefinitionReader.{ival, valued, vector, function_body, function, after_name_at, after_name, definition}
 use Rattle.btree.proofs.Fine.{Near, Any, Fine, Start, bind_fine, shift, stuck, same, got_fine, map_fine, expect_then, expect_start, closed_fine}
@@ -63,7 +63,7 @@ body_start : (w : Identifier) (parameters : List Identifier) → Start closing A
 body_start w parameters = record { with_ = mark token.Semicolon ∷ []; value = Function w parameters Empty; done = λ k h. refl; front = λ k h. tt }
 
 body_fine : (w : Identifier) (parameters : List Identifier) (ts : List Placed) → Fine Closer (function_body w parameters) ts
-body_fine w parameters ts = map_fine closing (statement nesting_limit 0) (Function w parameters) ts (statement_fine nesting_limit 0 ts)
+body_fine w parameters ts = map_fine closing (statement MAX_NESTING 0) (Function w parameters) ts (statement_fine MAX_NESTING 0 ts)
 
 function_start : (w : Identifier) → Start closing Any (function w)
 function_start w = record { with_ = mark token.CloseParen ∷ mark token.Semicolon ∷ []; value = Function w [] Empty; done = λ k h. refl; front = λ k h. tt }

@@ -3,7 +3,8 @@ use Rattle.std.proofs.Common.{◌≡◌, ℕ, List, [], ◌∷◌, sym, ap, refl
 use Rattle.blang.specs.declared.token.Token.TheVariants as token
 use Rattle.blang.specs.Trees.{Identifier, Ival, Ival_constant, Ival_text, Ival_name, Stmt, Definition, Simple, Vector, Function, constant_token}
 use Rattle.blang.specs.Cut.{string_token}
-use Rattle.blang.specs.WellFormed.{nesting_limit, texts_of, OffsetsFrom, IsFormed}
+use Rattle.blang.specs.WellFormed.{texts_of, OffsetsFrom, IsFormed}
+use Rattle.blang.specs.declared.limits.TheConstants.{MAX_NESTING}
 use Rattle.blang.specs.Walk.{AutoHere, walk_value, walk_values, walk_parameter, walk_definition}
 use Rattle.btree.specs.DefinitionReader.{is_open_definition}
 use Rattle.btree.proofs.Relined.{Like, like_itself, like_plain, beside, like_levels, like_offsets, HasTwin, one_token, both, made, after_token, before_token, list_twin, list_like}
@@ -45,4 +46,4 @@ definition_twin (Vector w size values) =
 definition_twin (Function w parameters body) =
     made (both (one_token (token.Name w.text) w.line) (after_token token.OpenParen (λ line. refl) (both (list_twin walk_parameter Any (name_twin (λ v. AutoHere v None)) parameters) (after_token token.CloseParen (λ line. refl) (statement_twin body)))))
     (λ (p : ℕ × (List Identifier × Stmt)). Function (record { text = w.text; line = p.0 }) p.1.0 p.1.1) (λ p. refl)
-    (λ p q a. record { formed = λ f. let s = a.1.1 in (s.binds f.0, like_levels nesting_limit s.like f.1 f.2, like_offsets s.like f.2); same_open = a.1.1.same_open })
+    (λ p q a. record { formed = λ f. let s = a.1.1 in (s.binds f.0, like_levels MAX_NESTING s.like f.1 f.2, like_offsets s.like f.2); same_open = a.1.1.same_open })

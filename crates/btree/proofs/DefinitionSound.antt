@@ -9,7 +9,8 @@ use Rattle.blang.specs.Walk.{spell_definition, walk_value, walk_parameter}
 use Rattle.blang.specs.Cut.{placed}
 use Rattle.btree.specs.Reading.{Read, Got, Stop, ◌>>=◌, first, expect}
 use Rattle.btree.specs.ExpressionReader.{is_close_paren, is_close_bracket}
-use Rattle.blang.specs.WellFormed.{IsNonempty, nesting_limit, IsFormed}
+use Rattle.blang.specs.WellFormed.{IsNonempty, IsFormed}
+use Rattle.blang.specs.declared.limits.TheConstants.{MAX_NESTING}
 use Rattle.btree.specs.Fitting.{EachAfter, Sits, values_words, IvalFits}
 use Rattle.btree.specs.Commas.{list_reader}
 use Rattle.btree.specs.StatementReader.{is_semicolon, is_else, name, size, statement}
@@ -58,9 +59,9 @@ vector_sound w ts = go (size ts) (size_sound ts)
         (valued_sound (name_token w ∷ mark token.OpenBracket ∷ (size_spelling n ++ (mark token.CloseBracket ∷ []))) (Vector w n) (λ values. ap (λ l. name_token w ∷ mark token.OpenBracket ∷ l) (sym (append_assoc (size_spelling n) (mark token.CloseBracket ∷ []) (spell_values values)))) (λ values f. in_formed (Vector w n values) f) (λ values. refl) r2 (is_semicolon (first r2)) refl))
 
 body_sound : (w : Identifier) (parameters : List Identifier) (ts : List Placed) → SpelledDefinition (name_token w ∷ mark token.OpenParen ∷ (list_spelling walk_parameter parameters ++ (mark token.CloseParen ∷ kept_tokens ts))) (function_body w parameters ts)
-body_sound w parameters ts = go (statement nesting_limit 0 ts) (statement_sound nesting_limit 0 ts)
+body_sound w parameters ts = go (statement MAX_NESTING 0 ts) (statement_sound MAX_NESTING 0 ts)
   where
-    go : (x : Read Stmt) → Spelled (λ s. Sits s nesting_limit 0) (kept_tokens ts) x → SpelledDefinition (name_token w ∷ mark token.OpenParen ∷ (list_spelling walk_parameter parameters ++ (mark token.CloseParen ∷ kept_tokens ts))) (x >>= λ s. Got (Function w parameters s))
+    go : (x : Read Stmt) → Spelled (λ s. Sits s MAX_NESTING 0) (kept_tokens ts) x → SpelledDefinition (name_token w ∷ mark token.OpenParen ∷ (list_spelling walk_parameter parameters ++ (mark token.CloseParen ∷ kept_tokens ts))) (x >>= λ s. Got (Function w parameters s))
     go (Stop r) p = tt
     go (Got s r) p = (ap (λ l. name_token w ∷ mark token.OpenParen ∷ l) (ap (λ l. list_spelling walk_parameter parameters ++ (mark token.CloseParen ∷ l)) p.0 ∙ sym (append_assoc (list_spelling walk_parameter parameters) (mark token.CloseParen ∷ spell_statement s) (kept_tokens r))), in_formed (Function w parameters s) p.1, p.2)
 

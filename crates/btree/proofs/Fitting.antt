@@ -3,7 +3,8 @@ use Rattle.std.proofs.Common.{◌≡◌, ℕ, zero, suc, ◌+◌, ◌-◌, List,
 use Rattle.std.specs.List.{flat_map}
 use Rattle.std.proofs.lemmas.List.Sums.{sum_by-append, sum_by-cons}
 use Rattle.blang.specs.Trees.{Identifier, Expr, Arguments, Named, Literal, Text, Grouped, Indexed, Called, Postfixed, Prefixed, Binary, Conditional, Assigned, No_arguments, Another, Heading, Stmt, Headed, Compound, If, IfElse, While, Switch, Goto, Break, Return, ReturnValue, Evaluate, Empty, Stmts, Nothing, More, Ival, Ival_constant, Ival_text, Ival_name, Definition, Simple, Vector, Function}
-use Rattle.blang.specs.WellFormed.{rank, or_rank, conditional_rank, rvalue_rank, Binds, ArgumentsBind, StatementBinds, BodyBinds, nesting_limit, IsFormed}
+use Rattle.blang.specs.WellFormed.{rank, or_rank, conditional_rank, rvalue_rank, Binds, ArgumentsBind, StatementBinds, BodyBinds, IsFormed}
+use Rattle.blang.specs.declared.limits.TheConstants.{MAX_NESTING}
 use Rattle.blang.specs.Walk.{Walk, levels_in, walk_commas, walk_list, comma_before_next, walk, walk_arguments, walk_size, walk_heading, walk_parenthesized, walk_statement, walk_body, walk_value, walk_values, walk_parameter, walk_definition}
 use Rattle.blang.specs.Code.{string_words_of}
 use Rattle.btree.specs.Fitting.{EachAfter, words_in, words, argument_words, FitsIn, Fits, ArgumentsFit, statement_words, body_words, Sits, AllSit, ival_words, values_words, IvalFits, strings_in, statement_strings, ival_strings}
@@ -236,17 +237,17 @@ definition_stands (Vector w size values) room f =
 definition_stands (Function w parameters body) room f =
     (tt, (tt, (plain_fits (walk_list walk_parameter parameters) (parameters_plain parameters) room 0, (tt, at_offset (walk_statement body) room 0 _ (omega (arith, parameter_words parameters)) (statement_both body room 0 f).1))))
 
-pub formed_in : (d : Definition) → IsFormed d → IsFormedIn nesting_limit d
+pub formed_in : (d : Definition) → IsFormed d → IsFormedIn MAX_NESTING d
 formed_in (Simple w values) f = let d = walk_definition (Simple w values) in definition_fits (Simple w values) (levels_in d) tt (fits_in d (levels_in d) 0 (omega arith) f)
 formed_in (Vector w size values) f = let d = walk_definition (Vector w size values) in definition_fits (Vector w size values) (levels_in d) tt (fits_in d (levels_in d) 0 (omega arith) f)
-formed_in (Function w parameters body) f = sits body nesting_limit 0 f.0 (fits_in (walk_statement body) nesting_limit 0 f.1 f.2)
+formed_in (Function w parameters body) f = sits body MAX_NESTING 0 f.0 (fits_in (walk_statement body) MAX_NESTING 0 f.1 f.2)
 
-pub in_formed : (d : Definition) → IsFormedIn nesting_limit d → IsFormed d
-in_formed (Simple w values) f = in_order (walk_definition (Simple w values)) nesting_limit 0 (definition_stands (Simple w values) nesting_limit f)
-in_formed (Vector w size values) f = in_order (walk_definition (Vector w size values)) nesting_limit 0 (definition_stands (Vector w size values) nesting_limit f)
+pub in_formed : (d : Definition) → IsFormedIn MAX_NESTING d → IsFormed d
+in_formed (Simple w values) f = in_order (walk_definition (Simple w values)) MAX_NESTING 0 (definition_stands (Simple w values) MAX_NESTING f)
+in_formed (Vector w size values) f = in_order (walk_definition (Vector w size values)) MAX_NESTING 0 (definition_stands (Vector w size values) MAX_NESTING f)
 in_formed (Function w parameters body) f =
-    let t = statement_both body nesting_limit 0 f in
-    (t.0, in_room (walk_statement body) nesting_limit 0 t.1, in_order (walk_statement body) nesting_limit 0 t.1)
+    let t = statement_both body MAX_NESTING 0 f in
+    (t.0, in_room (walk_statement body) MAX_NESTING 0 t.1, in_order (walk_statement body) MAX_NESTING 0 t.1)
 
 -- The words of the strings of a definition.
 commas_strings : (values : List Ival) → strings_in (walk_commas walk_value values) ≡ flat_map ival_strings values

@@ -4,7 +4,8 @@ use Rattle.blang.specs.Cut.{tokens_from}
 use Rattle.blang.specs.Trees.{bare, Definition}
 use Rattle.blang.specs.Walk.{spell_definition, spell_all}
 use Rattle.btree.specs.Reading.{Got}
-use Rattle.blang.specs.WellFormed.{nesting_limit, AllFormed}
+use Rattle.blang.specs.WellFormed.{AllFormed}
+use Rattle.blang.specs.declared.limits.TheConstants.{MAX_NESTING}
 use Rattle.btree.specs.DefinitionReader.{definition}
 use Rattle.btree.specs.Levels.{AllFormedIn}
 use Rattle.btree.specs.ProgramRules.{OneProgram, FormedWithin, HasParts, OneWay}
@@ -32,11 +33,11 @@ same_programs (d ∷ ds) (e ∷ es) f g h =
 pub one_program : OneProgram
 one_program ds es tokens p q = same_programs ds es p.formed q.formed (p.spelled ∙ sym q.spelled)
 
-all_formed_in : (ds : List Definition) → AllFormed ds → AllFormedIn nesting_limit ds
+all_formed_in : (ds : List Definition) → AllFormed ds → AllFormedIn MAX_NESTING ds
 all_formed_in [] f = tt
 all_formed_in (d ∷ ds) f = (formed_in d f.0, all_formed_in ds f.1)
 
-all_in_formed : (ds : List Definition) → AllFormedIn nesting_limit ds → AllFormed ds
+all_in_formed : (ds : List Definition) → AllFormedIn MAX_NESTING ds → AllFormed ds
 all_in_formed [] f = tt
 all_in_formed (d ∷ ds) f = (in_formed d f.0, all_in_formed ds f.1)
 

@@ -7,7 +7,8 @@ use Rattle.std.specs.Cmp.Lexicographic.{nat_list_eq_equiv}
 use Rattle.std.proofs.lemmas.Bool.Decides.{nat_tests}
 use Rattle.blang.specs.declared.token.Diagnostic.{Diagnostic}
 use Rattle.blang.specs.Trees.{Identifier, Expr}
-use Rattle.blang.specs.Scan.{NameKind, Automatic, External, Unlabelled, Labelled, Entry, most_names, kind_of, with_entry, with_declaration, kind_mentioned, with_mention, with_kind, with_label, Scope, automatic_words, Around, most_cases, is_lvalue, with_names, scan_case, scan_default, can_break, scan_event, scanned}
+use Rattle.blang.specs.Scan.{NameKind, Automatic, External, Unlabelled, Labelled, Entry, kind_of, with_entry, with_declaration, kind_mentioned, with_mention, with_kind, with_label, Scope, automatic_words, Around, is_lvalue, with_names, scan_case, scan_default, can_break, scan_event, scanned}
+use Rattle.blang.specs.declared.limits.TheConstants.{MAX_NAMES, MAX_CASES}
 use Rattle.blang.specs.Walk.{Event, AutoHere, ExtrnHere, Mention, LabelHere, CaseHere, DefaultHere, BreakHere, LvalueWanted}
 use Rattle.bword.specs.Words.{same_name}
 use Rattle.btree.proofs.ScopeLaws.{kind_of-push}
@@ -16,16 +17,16 @@ use Rattle.btree.proofs.ScopeLaws.{kind_of-push}
 -- an entry more, of a name that wasn't there
 pub record Entered (x : List ℕ) (k : NameKind) (es new : List Entry) : Type 0 where
   pub absent : kind_of x es ≡ None
-  pub room : length es < most_names
+  pub room : length es < MAX_NAMES
   pub is : new ≡ es ++ record { name = x; kind = k } ∷ []
 
-entered_if : (b : Bool) (x : List ℕ) (k : NameKind) (es new : List Entry) (d : Diagnostic) → kind_of x es ≡ None → (b ≡ true → length es < most_names)
+entered_if : (b : Bool) (x : List ℕ) (k : NameKind) (es new : List Entry) (d : Diagnostic) → kind_of x es ≡ None → (b ≡ true → length es < MAX_NAMES)
     → (let r : Result (List Entry) Diagnostic = if b then Ok (es ++ record { name = x; kind = k } ∷ []) else Err d in r) ≡ Ok new → Entered x k es new
 entered_if true x k es new d a room h = record { absent = a; room = room refl; is = let e : es ++ record { name = x; kind = k } ∷ [] ≡ new = cc in sym e }
 entered_if false x k es new d a room h = cc
 
 entered_is : (w : Identifier) (k : NameKind) (es new : List Entry) → kind_of w.text es ≡ None → with_entry w k es ≡ Ok new → Entered w.text k es new
-entered_is w k es new a h = entered_if (nat_lt (length es) most_names) w.text k es new _ a (λ l. grind (arith, nat_tests)) h
+entered_is w k es new a h = entered_if (nat_lt (length es) MAX_NAMES) w.text k es new _ a (λ l. grind (arith, nat_tests)) h
 
 declared_is : (w : Identifier) (k : NameKind) (es new : List Entry) → with_declaration w k es ≡ Ok new → Entered w.text k es new
 declared_is w k es new h = go (kind_of w.text es) refl
@@ -136,7 +137,7 @@ unless false s t r d f h = f h
 selected_is : (line value : ℕ) (s t : Scope) (switches : List Around) → switches ≡ s.switches → scan_case line value s switches ≡ Ok t → ArmAdded s t
 selected_is line value s t [] q h = cc
 selected_is line value s t (around ∷ others) q h =
-    unless (list_any (nat_eq value) around.constants) s t _ _ (provided (nat_lt s.cases most_cases) s t _ _ (arm_added around _ others _ s t q)) h
+    unless (list_any (nat_eq value) around.constants) s t _ _ (provided (nat_lt s.cases MAX_CASES) s t _ _ (arm_added around _ others _ s t q)) h
 
 defaulted_is : (line : ℕ) (s t : Scope) (switches : List Around) → switches ≡ s.switches → scan_default line s switches ≡ Ok t → ArmAdded s t
 defaulted_is line s t [] q h = cc

@@ -8,7 +8,8 @@ use Rattle.btree.specs.Reading.{Got, Stop, Reader, ◌>>=◌, first, line_ahead,
 use Rattle.btree.specs.ExpressionReader.{is_close_paren, is_close_bracket}
 use Rattle.btree.specs.Commas.{list_reader}
 use Rattle.btree.specs.StatementReader.{is_semicolon, name, size, statement}
-use Rattle.blang.specs.WellFormed.{nesting_limit, is_open}
+use Rattle.blang.specs.WellFormed.{is_open}
+use Rattle.blang.specs.declared.limits.TheConstants.{MAX_NESTING}
 use Rattle.btree.specs.Fitting.{values_words}
 
 abbrev pub ival_at : ℕ → Token → Reader Ival
@@ -33,7 +34,7 @@ abbrev pub vector : Identifier → Reader Definition
 vector w ts = size ts >>= λ n r. expect is_close_bracket r >>= λ o. valued (Vector w n)
 
 abbrev pub function_body : Identifier → List Identifier → Reader Definition
-function_body w parameters ts = statement nesting_limit 0 ts >>= λ s. Got (Function w parameters s)
+function_body w parameters ts = statement MAX_NESTING 0 ts >>= λ s. Got (Function w parameters s)
 
 -- after the parenthesis that opens the parameters
 abbrev pub function : Identifier → Reader Definition

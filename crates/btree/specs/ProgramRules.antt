@@ -6,7 +6,8 @@ use Rattle.blang.specs.declared.token.Diagnostic.{Diagnostic}
 use Rattle.blang.specs.Cut.{tokens_from}
 use Rattle.blang.specs.Trees.{kept_tokens, Definition}
 use Rattle.blang.specs.Walk.{spell_all}
-use Rattle.blang.specs.WellFormed.{nesting_limit, AllFormed, Parted}
+use Rattle.blang.specs.WellFormed.{AllFormed, Parted}
+use Rattle.blang.specs.declared.limits.TheConstants.{MAX_NESTING}
 use Rattle.btree.specs.Levels.{AllFormedIn}
 
 -- A well-formed program stands for tokens that are its spelling, with the lines that trees keep.
@@ -20,7 +21,7 @@ OneProgram = (ds es : List Definition) (tokens : List Placed) → IsSpelling ds 
 
 -- The three rules of a well-formed program are those that a reader meets, with as many levels as the limit.
 abbrev pub FormedWithin : Type 0
-FormedWithin = (ds : List Definition) → (AllFormed ds → AllFormedIn nesting_limit ds) × (AllFormedIn nesting_limit ds
+FormedWithin = (ds : List Definition) → (AllFormed ds → AllFormedIn MAX_NESTING ds) × (AllFormedIn MAX_NESTING ds
     → AllFormed ds)
 
 -- Each source stops being a program's somewhere, and has parts before.

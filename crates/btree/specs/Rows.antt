@@ -14,7 +14,7 @@ use Rattle.blang.specs.Cut.{placed, string_token}
 use Rattle.btree.specs.Reading.{Got, Stop, Reader}
 use Rattle.btree.specs.ExpressionReader.{Rvalue, reader}
 use Rattle.btree.specs.StatementReader.{statement}
-use Rattle.blang.specs.WellFormed.{nesting_limit}
+use Rattle.blang.specs.declared.limits.TheConstants.{MAX_NESTING}
 use Rattle.btree.specs.DefinitionReader.{definition}
 
 -- names of one letter on line 1, and the tokens that they are
@@ -40,7 +40,7 @@ abbrev pub five : Placed
 five = mark (token.Number 5)
 
 abbrev pub expression : Reader Expr
-expression = reader nesting_limit Rvalue 0
+expression = reader MAX_NESTING Rvalue 0
 
 -- `f()`, and what stands after it
 abbrev pub function : List Placed → List Placed

@@ -1,5 +1,6 @@
 use Rattle.std.proofs.Common.{◌≡◌, ◌+◌, ◌<◌, ◌≤◌, ◌++◌, length, drop, get_or, arith, sym, ap, ◌∙◌, length-append}
-use Rattle.bemit.specs.Drafts.{tests, most_instructions}
+use Rattle.bemit.specs.Drafts.{tests}
+use Rattle.blang.specs.declared.limits.TheConstants.{MAX_INSTRUCTIONS}
 use Rattle.bemit.specs.Buffers.{Buffer}
 use Rattle.bemit.specs.Switches.{cases_of}
 use Rattle.bemit.specs.declared.parts.Case.{Case}
@@ -17,5 +18,5 @@ returns-in_err-emit-clause-full c =
     let some = tests-from c.args.switch c.loop-place.place all none within here in
     let long : length c.loop-place.buffer.code + length (tests (cases_of c.args.switch (drop c.loop-place.place all))) ≡ length c.args.buffer.now.code + length (tests (cases_of c.args.switch all)) =
     sym (length-append c.loop-place.buffer.code _) ∙ ap length c.loop-place.invariant.to_do ∙ length-append c.args.buffer.now.code _ in
-    let full : most_instructions ≤ length c.loop-place.buffer.code = let room = c.in_err-emit.ensures.room.1 in grind arith in
+    let full : MAX_INSTRUCTIONS ≤ length c.loop-place.buffer.code = let room = c.in_err-emit.ensures.room.1 in grind arith in
     on_err c.from_residual.result (omega (arith, some, long, full))
