@@ -4,7 +4,6 @@ pub mod OneRun
 pub mod GoSteps
 pub mod HeadlineSteps
 pub mod MeantSteps
-mod MeantBefore
 pub mod RunSteps
 mod AlikeLaws
 mod TextExcluded
