@@ -16,8 +16,9 @@ use Rattle.bword.specs.declared.edition.Edition.{Edition}
 use Rattle.bword.specs.declared.edition.Edition.TheVariants as editions
 use Rattle.bcommand.specs.declared.job.Job.{Job}
 use Rattle.bcommand.specs.declared.job.Job.TheVariants as job
-use Rattle.bcommand.specs.declared.job.Subject.{Subject}
-use Rattle.bcommand.specs.declared.job.Target.{Target}
+use Rattle.bcommand.specs.declared.job.Question.{Question as Questioned}
+use Rattle.bcommand.specs.declared.job.Question.TheVariants as questioned
+use Rattle.bcommand.specs.declared.job.Source.{Source as Given}
 use Rattle.bcommand.specs.declared.job.Walk.{Walk}
 
 -- a flag
@@ -164,23 +165,34 @@ name_in rows = first_of (codes "NAME") rows
 abbrev pub function_in : List Row → Option Text
 function_in rows = first_of (codes "function") rows
 
--- What is asked for: that a source is compiled, that the code text in a file is run, that the source in a file is
--- compiled and run, or is so and where the run was over is told, that a code text is migrated, that the code of the
--- source in a file, or of its definitions of a name, is listed, that its layout is shown, that its memory is drawn,
--- after so many steps if there is a number, that the source in a file is checked, for an editor or for people, that so
--- many steps of its program are made and those from a number on, or of a function, are shown; or a limit of steps and
--- none, which contradict each other.
+-- a source: the name of its file, and its edition
+pub record Source : Type 0 where
+  pub file : Text
+  pub edition : Edition
+
+abbrev pub source_in : List Row → Source
+source_in rows = record { file = file_in rows; edition = edition_in rows }
+
+-- What is asked of a source: its code, or that of its definitions of a name; its layout; a picture of its memory, after
+-- so many steps if there is a number; its faults, for an editor or for people; the steps of its program among so many,
+-- those from a number on, or of a function; or a run of so many steps, and where it is over.
+pub data Question : Type 0 where
+  list : (name : Option Text) → Question
+  map : Question
+  draw : (steps : Option ℕ) → Question
+  check : (for_editor : Bool) → Question
+  trace : (steps from : ℕ) (function : Option Text) → Question
+  locate : (steps : ℕ) → Question
+
+-- What is asked for: that a source is compiled, that the code text in a file is run for so many steps, that a source is
+-- compiled and run for so many, that a code text is migrated, something of a source; or a limit of steps and none,
+-- which contradict each other.
 pub data Asked : Type 0 where
   compile : (edition : Edition) → Asked
   run : (file : Text) (steps : ℕ) → Asked
-  go : (file : Text) (steps : ℕ) (edition : Edition) → Asked
-  locate : (file : Text) (steps : ℕ) (edition : Edition) → Asked
+  go : Source → (steps : ℕ) → Asked
   migrate : Asked
-  list : (file : Text) (name : Option Text) (edition : Edition) → Asked
-  map : (file : Text) (edition : Edition) → Asked
-  draw : (file : Text) (edition : Edition) (steps : Option ℕ) → Asked
-  check : (file : Text) (edition : Edition) (for_editor : Bool) → Asked
-  trace : (file : Text) (steps from : ℕ) (function : Option Text) (edition : Edition) → Asked
+  ask : Source → Question → Asked
   contradiction : Asked
 
 abbrev pub run_asked : Text → Option ℕ → Asked
@@ -188,56 +200,57 @@ run_asked file (Some steps) = run file steps
 run_asked file None = contradiction
 
 -- where the run was over is asked for by a flag
-abbrev pub go_asked : Text → Edition → (is_located : Bool) → Option ℕ → Asked
-go_asked file edition false (Some steps) = go file steps edition
-go_asked file edition true (Some steps) = locate file steps edition
-go_asked file edition is_located None = contradiction
+abbrev pub go_asked : Source → (is_located : Bool) → Option ℕ → Asked
+go_asked source false (Some steps) = go source steps
+go_asked source true (Some steps) = ask source (locate steps)
+go_asked source is_located None = contradiction
 
 -- a picture is asked for by its flag, or by a number of steps
-abbrev pub map_asked : Text → Edition → Bool → Option ℕ → Asked
-map_asked file edition false None = map file edition
-map_asked file edition false (Some steps) = draw file edition (Some steps)
-map_asked file edition true steps = draw file edition steps
+abbrev pub map_asked : Bool → Option ℕ → Question
+map_asked false None = map
+map_asked false (Some steps) = draw (Some steps)
+map_asked true steps = draw steps
+
+abbrev pub walk_in : List Row → Question
+walk_in rows = trace (trace_steps_in rows) (from_in rows) (function_in rows)
 
 -- what a command asks for, by its name and what was found of its options
 abbrev pub asked_by : Text → List Row → Asked
 asked_by name rows = if bytes_eq name (codes "run") then run_asked (file_in rows) (steps_in rows)
     else (if bytes_eq name (codes "go")
-    then go_asked (file_in rows) (edition_in rows) (is_set_in (codes "where") rows) (steps_in rows)
+    then go_asked (source_in rows) (is_set_in (codes "where") rows) (steps_in rows)
     else (if bytes_eq name (codes "migrate") then migrate
-    else (if bytes_eq name (codes "list") then list (file_in rows) (name_in rows) (edition_in rows)
-    else (if bytes_eq name (codes "map") then map_asked (file_in rows) (edition_in rows) (is_set_in (codes "svg") rows)
-    (option_number (codes "steps") rows)
-    else (if bytes_eq name (codes "check")
-    then check (file_in rows) (edition_in rows) (is_set_in (codes "json") rows)
-    else (if bytes_eq name (codes "trace")
-    then trace (file_in rows) (trace_steps_in rows) (from_in rows) (function_in rows) (edition_in rows)
+    else (if bytes_eq name (codes "list") then ask (source_in rows) (list (name_in rows))
+    else (if bytes_eq name (codes "map")
+    then ask (source_in rows) (map_asked (is_set_in (codes "svg") rows) (option_number (codes "steps") rows))
+    else (if bytes_eq name (codes "check") then ask (source_in rows) (check (is_set_in (codes "json") rows))
+    else (if bytes_eq name (codes "trace") then ask (source_in rows) (walk_in rows)
     else compile (edition_in rows)))))))
 
 abbrev pub asked : Option (Text × List Row) → Asked
 asked None = compile editions.One
 asked (Some command) = asked_by command.0 command.1
 
+abbrev pub source_shown : Given → Source
+source_shown source = record { file = source.file.now; edition = source.edition }
+
+abbrev pub walk_shown : Walk → Question
+walk_shown walk = trace walk.steps walk.from (option_map (λ n. n.now) walk.function)
+
+-- what a question of a job is
+abbrev pub question_of : Questioned → Question
+question_of (questioned.List name) = list (option_map (λ n. n.now) name)
+question_of questioned.Map = map
+question_of (questioned.Draw steps) = draw steps
+question_of (questioned.Check for_editor) = check for_editor
+question_of (questioned.Trace walk) = walk_shown walk
+question_of (questioned.Locate steps) = locate steps
+
 -- what a job is of what can be asked for
 abbrev pub asked_of : Job → Asked
 asked_of (job.Compile edition) = compile edition
-asked_of (job.Run target) = run target.file.now target.steps
-asked_of (job.Go target edition) = go target.file.now target.steps edition
-asked_of (job.Locate target edition) = locate target.file.now target.steps edition
+asked_of (job.Run file steps) = run file.now steps
+asked_of (job.Go source steps) = go (source_shown source) steps
 asked_of job.Migrate = migrate
-asked_of (job.List subject) = list subject.file.now (option_map (λ n. n.now) subject.name) subject.edition
-asked_of (job.Map subject) = map subject.file.now subject.edition
-asked_of (job.Draw subject steps) = draw subject.file.now subject.edition steps
-asked_of (job.Check subject for_editor) = check subject.file.now subject.edition for_editor
-asked_of (job.Trace walk) =
-    trace walk.file.now walk.steps walk.from (option_map (λ n. n.now) walk.function) walk.edition
+asked_of (job.Ask source question) = ask (source_shown source) (question_of question)
 asked_of job.Contradiction = contradiction
-
-abbrev pub target_shown : Target → Text × ℕ
-target_shown target = (target.file.now, target.steps)
-
-abbrev pub subject_shown : Subject → Text × Option Text × Edition
-subject_shown subject = (subject.file.now, option_map (λ n. n.now) subject.name, subject.edition)
-
-abbrev pub walk_shown : Walk → Text × Edition × ℕ × ℕ × Option Text
-walk_shown walk = (walk.file.now, walk.edition, walk.steps, walk.from, option_map (λ n. n.now) walk.function)

@@ -4,8 +4,10 @@ use Rattle.clap.specs.Words.{Text, fault_of, is_simple, is_simple_and_free, subc
 use Rattle.clap.specs.declared.error.kind.ErrorKind.TheVariants as kind
 use Rattle.clap.proofs.OnLiterals.{clap_on_literals}
 use Rattle.bword.specs.declared.edition.Edition.TheVariants as editions
-use Rattle.bcommand.specs.CommandLine.{Asked, asked, command_line}
-use Rattle.bcommand.specs.CommandLine.{compile, run, go, locate, migrate, list, map, draw, check, trace, contradiction}
+use Rattle.bword.specs.declared.edition.Edition.{Edition}
+use Rattle.bcommand.specs.CommandLine.{Asked, Source, asked, command_line}
+use Rattle.bcommand.specs.CommandLine.{compile, run, go, migrate, ask, contradiction}
+use Rattle.bcommand.specs.CommandLine.{list, map, draw, check, trace, locate}
 
 pub is_simple_line : is_simple command_line ≡ true
 is_simple_line = refl
@@ -16,6 +18,10 @@ is_free_line = refl
 -- what words ask for that have no fault
 abbrev Asks : List Text → Asked → Type 0
 Asks words what = (fault_of command_line words ≡ []) × (asked (subcommand_of command_line words) ≡ what)
+
+-- the source in the file x
+abbrev x : Edition → Source
+x edition = record { file = codes "x"; edition = edition }
 
 compiles : Asks (codes "b" ∷ codes "compile" ∷ []) (compile editions.One)
 unfolding clap_on_literals
@@ -38,17 +44,17 @@ unfolding clap_on_literals
 runs_so_long = (refl, refl)
 
 goes : Asks (codes "b" ∷ codes "go" ∷ codes "x" ∷ codes "--edition" ∷ codes "2" ∷ [])
-    (go (codes "x") 10000000 editions.Two)
+    (go (x editions.Two) 10000000)
 unfolding clap_on_literals
 goes = (refl, refl)
 
 goes_without_limit : Asks (codes "b" ∷ codes "go" ∷ codes "--no-limit" ∷ codes "x" ∷ [])
-    (go (codes "x") 18446744073709551615 editions.One)
+    (go (x editions.One) 18446744073709551615)
 unfolding clap_on_literals
 goes_without_limit = (refl, refl)
 
 locates : Asks (codes "b" ∷ codes "go" ∷ codes "--where" ∷ codes "--steps" ∷ codes "50" ∷ codes "x" ∷ [])
-    (locate (codes "x") 50 editions.One)
+    (ask (x editions.One) (locate 50))
 unfolding clap_on_literals
 locates = (refl, refl)
 
@@ -79,12 +85,12 @@ migrates_one_edition : fault_of command_line (codes "b" ∷ codes "migrate" ∷ 
 unfolding clap_on_literals
 migrates_one_edition = refl
 
-lists : Asks (codes "b" ∷ codes "list" ∷ codes "x" ∷ []) (list (codes "x") None editions.One)
+lists : Asks (codes "b" ∷ codes "list" ∷ codes "x" ∷ []) (ask (x editions.One) (list None))
 unfolding clap_on_literals
 lists = (refl, refl)
 
 lists_one : Asks (codes "b" ∷ codes "list" ∷ codes "--edition" ∷ codes "2" ∷ codes "x" ∷ codes "f" ∷ [])
-    (list (codes "x") (Some (codes "f")) editions.Two)
+    (ask (x editions.Two) (list (Some (codes "f"))))
 unfolding clap_on_literals
 lists_one = (refl, refl)
 
@@ -92,7 +98,7 @@ lists_no_file : fault_of command_line (codes "b" ∷ codes "list" ∷ []) ≡ ki
 unfolding clap_on_literals
 lists_no_file = refl
 
-maps : Asks (codes "b" ∷ codes "map" ∷ codes "x" ∷ codes "--edition=2" ∷ []) (map (codes "x") editions.Two)
+maps : Asks (codes "b" ∷ codes "map" ∷ codes "x" ∷ codes "--edition=2" ∷ []) (ask (x editions.Two) map)
 unfolding clap_on_literals
 maps = (refl, refl)
 
@@ -100,26 +106,26 @@ maps_no_name : fault_of command_line (codes "b" ∷ codes "map" ∷ codes "x" �
 unfolding clap_on_literals
 maps_no_name = refl
 
-draws : Asks (codes "b" ∷ codes "map" ∷ codes "--svg" ∷ codes "x" ∷ []) (draw (codes "x") editions.One None)
+draws : Asks (codes "b" ∷ codes "map" ∷ codes "--svg" ∷ codes "x" ∷ []) (ask (x editions.One) (draw None))
 unfolding clap_on_literals
 draws = (refl, refl)
 
 draws_a_run : Asks (codes "b" ∷ codes "map" ∷ codes "x" ∷ codes "--svg" ∷ codes "--steps=40" ∷ [])
-    (draw (codes "x") editions.One (Some 40))
+    (ask (x editions.One) (draw (Some 40)))
 unfolding clap_on_literals
 draws_a_run = (refl, refl)
 
 draws_by_a_number : Asks (codes "b" ∷ codes "map" ∷ codes "--edition=2" ∷ codes "--steps" ∷ codes "40" ∷ codes "x" ∷ [])
-    (draw (codes "x") editions.Two (Some 40))
+    (ask (x editions.Two) (draw (Some 40)))
 unfolding clap_on_literals
 draws_by_a_number = (refl, refl)
 
-checks : Asks (codes "b" ∷ codes "check" ∷ codes "x" ∷ []) (check (codes "x") editions.One false)
+checks : Asks (codes "b" ∷ codes "check" ∷ codes "x" ∷ []) (ask (x editions.One) (check false))
 unfolding clap_on_literals
 checks = (refl, refl)
 
 checks_for_editors : Asks (codes "b" ∷ codes "check" ∷ codes "--json" ∷ codes "--edition" ∷ codes "2" ∷ codes "x" ∷ [])
-    (check (codes "x") editions.Two true)
+    (ask (x editions.Two) (check true))
 unfolding clap_on_literals
 checks_for_editors = (refl, refl)
 
@@ -127,12 +133,12 @@ checks_no_file : fault_of command_line (codes "b" ∷ codes "check" ∷ []) ≡ 
 unfolding clap_on_literals
 checks_no_file = refl
 
-traces : Asks (codes "b" ∷ codes "trace" ∷ codes "x" ∷ []) (trace (codes "x") 1000 1 None editions.One)
+traces : Asks (codes "b" ∷ codes "trace" ∷ codes "x" ∷ []) (ask (x editions.One) (trace 1000 1 None))
 unfolding clap_on_literals
 traces = (refl, refl)
 
 traces_some : Asks (codes "b" ∷ codes "trace" ∷ codes "--edition=2" ∷ codes "--steps" ∷ codes "50" ∷ codes "--from=7"
-    ∷ codes "--function" ∷ codes "f" ∷ codes "x" ∷ []) (trace (codes "x") 50 7 (Some (codes "f")) editions.Two)
+    ∷ codes "--function" ∷ codes "f" ∷ codes "x" ∷ []) (ask (x editions.Two) (trace 50 7 (Some (codes "f"))))
 unfolding clap_on_literals
 traces_some = (refl, refl)
 

@@ -5,45 +5,44 @@ use bword::Edition;
 #[derive(Clone, Copy)]
 pub enum Job<'a> {
     Compile(Edition),
-    Run(Target<'a>),
-    Go(Target<'a>, Edition),
-    /// A run that tells where it ended.
-    Locate(Target<'a>, Edition),
+    /// A run of the code text in a file, of so many steps at most.
+    Run(&'a str, u64),
+    /// A run of a source, of so many steps at most.
+    Go(Source<'a>, u64),
     Migrate,
-    List(Subject<'a>),
-    Map(Subject<'a>),
-    /// A picture of memory, after so many steps if a number is given.
-    Draw(Subject<'a>, Option<u64>),
-    /// A check of a source, and whether an editor reads it.
-    Check(Subject<'a>, bool),
-    Trace(Walk<'a>),
+    Ask(Source<'a>, Question<'a>),
     /// Both a limit of steps and no limit, which contradict each other.
     Contradiction,
 }
 
-/// A source whose program is run step by step, and the steps that are shown: those from a number on, all of them or
-/// those of a function.
+/// What is asked of a source.
+#[derive(Clone, Copy)]
+pub enum Question<'a> {
+    /// Its code, or only that of the definitions of a name, if there is one.
+    List(Option<&'a str>),
+    /// The layout of its memory.
+    Map,
+    /// A picture of memory, after so many steps if a number is given.
+    Draw(Option<u64>),
+    /// Its faults, and whether an editor reads them.
+    Check(bool),
+    Trace(Walk<'a>),
+    /// Where a run of so many steps at most is over.
+    Locate(u64),
+}
+
+/// A run step by step, and the steps that are shown: those from a number on, all of them or those of a function.
 #[derive(Clone, Copy)]
 pub struct Walk<'a> {
-    pub file: &'a str,
-    pub edition: Edition,
     /// The most steps that are made.
     pub steps: u64,
     pub from: u64,
     pub function: Option<&'a str>,
 }
 
-/// A source to show, or only its definitions of a name, if there is one.
+/// A source in a file.
 #[derive(Clone, Copy)]
-pub struct Subject<'a> {
+pub struct Source<'a> {
     pub file: &'a str,
-    pub name: Option<&'a str>,
     pub edition: Edition,
-}
-
-/// A file to run, and how long.
-#[derive(Clone, Copy)]
-pub struct Target<'a> {
-    pub file: &'a str,
-    pub steps: u64,
 }

@@ -6,6 +6,6 @@ mod job;
 mod parsing;
 mod texts;
 
-pub use job::{Job, Subject, Target, Walk};
+pub use job::{Job, Question, Source, Walk};
 pub use parsing::parse;
 pub use texts::{CONTRADICTION, UNREAD};

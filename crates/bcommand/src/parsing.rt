@@ -1,10 +1,10 @@
 //! The words of a command line, read.
-ghost use Rattle.std.specs.Prelude.{◌≡◌, [], None, IfOk, IfErr, codes, map, option_map, string_bytes};
-ghost use Rattle.clap.specs.Words.{HasKind, fault_of, found_of, rows_of, subcommand_of, subcommand_rows_of};
-ghost use Rattle.bcommand.specs.CommandLine.{asked, asked_of, command_line, edition_in, file_in, from_in, function_in, go_asked, is_set_in, map_asked, name_in, option_number, run_asked, steps_asked, steps_in, subject_shown, target_shown, trace_steps_in, walk_shown};
+ghost use Rattle.std.specs.Prelude.{◌≡◌, [], IfOk, IfErr, codes, map, option_map, string_bytes};
+ghost use Rattle.clap.specs.Words.{HasKind, fault_of, first_of, found_of, rows_of, subcommand_of, subcommand_rows_of};
+ghost use Rattle.bcommand.specs.CommandLine.{asked, asked_of, command_line, edition_in, file_in, go_asked, is_set_in, map_asked, option_number, question_of, run_asked, source_in, source_shown, steps_asked, steps_in, walk_in, walk_shown};
 
 use crate::commands::command;
-use crate::job::{Job, Subject, Target, Walk};
+use crate::job::{Job, Question, Source, Walk};
 use bword::Edition;
 use clap::{ArgMatches, Error};
 use std::alloc::Global;
@@ -46,10 +46,10 @@ fn job_of<'a>(matches: &ArgMatches<'a>) -> Job<'a>
         "run" => run_of(given),
         "go" => go_of(given),
         "migrate" => Job::Migrate,
-        "list" => Job::List(subject_of(given)),
-        "map" => map_of(given),
-        "check" => Job::Check(whole_subject(given), is_set(given, "json")),
-        "trace" => Job::Trace(walk_of(given)),
+        "list" => Job::Ask(source_of(given), Question::List(text_of(given, "NAME"))),
+        "map" => Job::Ask(source_of(given), map_of(given)),
+        "check" => Job::Ask(source_of(given), Question::Check(is_set(given, "json"))),
+        "trace" => Job::Ask(source_of(given), Question::Trace(walk_of(given))),
         _ => Job::Compile(edition_of(given)),
     }
 }
@@ -57,20 +57,30 @@ fn job_of<'a>(matches: &ArgMatches<'a>) -> Job<'a>
 fn run_of<'a>(given: &ArgMatches<'a>) -> Job<'a>
     ensures { asked_of result ≡ run_asked (file_in (rows_of (found_of given.now))) (steps_in (rows_of (found_of given.now))) }
 {
-    match target_of(given) {
-        Some(target) => Job::Run(target),
+    match steps_of(number_of(given, "steps"), is_set(given, "no-limit")) {
+        Some(steps) => Job::Run(file_of(given), steps),
         None => Job::Contradiction,
     }
 }
 
 fn go_of<'a>(given: &ArgMatches<'a>) -> Job<'a>
-    ensures { asked_of result ≡ go_asked (file_in (rows_of (found_of given.now))) (edition_in (rows_of (found_of given.now))) (is_set_in (codes "where") (rows_of (found_of given.now))) (steps_in (rows_of (found_of given.now))) }
+    ensures { asked_of result ≡ go_asked (source_in (rows_of (found_of given.now))) (is_set_in (codes "where") (rows_of (found_of given.now))) (steps_in (rows_of (found_of given.now))) }
 {
-    let edition = edition_of(given);
-    match (target_of(given), is_set(given, "where")) {
-        (Some(target), true) => Job::Locate(target, edition),
-        (Some(target), false) => Job::Go(target, edition),
+    let source = source_of(given);
+    let steps = steps_of(number_of(given, "steps"), is_set(given, "no-limit"));
+    match (steps, is_set(given, "where")) {
+        (Some(steps), true) => Job::Ask(source, Question::Locate(steps)),
+        (Some(steps), false) => Job::Go(source, steps),
         (None, _) => Job::Contradiction,
+    }
+}
+
+fn source_of<'a>(given: &ArgMatches<'a>) -> Source<'a>
+    ensures { source_shown result ≡ source_in (rows_of (found_of given.now)) }
+{
+    Source {
+        file: file_of(given),
+        edition: edition_of(given),
     }
 }
 
@@ -83,76 +93,27 @@ fn edition_of(given: &ArgMatches<'_>) -> Edition
     }
 }
 
-fn subject_of<'a>(given: &ArgMatches<'a>) -> Subject<'a>
-    ensures { subject_shown result ≡ (file_in (rows_of (found_of given.now)), name_in (rows_of (found_of given.now)), edition_in (rows_of (found_of given.now))) }
-{
-    let file = given.get_str("FILE").unwrap_or("");
-    let name = given.get_str("NAME");
-    let edition = edition_of(given);
-    Subject {
-        file,
-        name,
-        edition,
-    }
-}
-
 // A number of steps asks for a picture, too.
-fn map_of<'a>(given: &ArgMatches<'a>) -> Job<'a>
-    ensures { asked_of result ≡ map_asked (file_in (rows_of (found_of given.now))) (edition_in (rows_of (found_of given.now))) (is_set_in (codes "svg") (rows_of (found_of given.now))) (option_number (codes "steps") (rows_of (found_of given.now))) }
+fn map_of<'a>(given: &ArgMatches<'a>) -> Question<'a>
+    ensures { question_of result ≡ map_asked (is_set_in (codes "svg") (rows_of (found_of given.now))) (option_number (codes "steps") (rows_of (found_of given.now))) }
 {
-    let subject = whole_subject(given);
     match (is_set(given, "svg"), number_of(given, "steps")) {
-        (false, None) => Job::Map(subject),
-        (_, steps) => Job::Draw(subject, steps),
-    }
-}
-
-// A source of which no name is asked for.
-fn whole_subject<'a>(given: &ArgMatches<'a>) -> Subject<'a>
-    ensures { subject_shown result ≡ (file_in (rows_of (found_of given.now)), None, edition_in (rows_of (found_of given.now))) }
-{
-    let file = given.get_str("FILE").unwrap_or("");
-    let edition = edition_of(given);
-    Subject {
-        file,
-        name: None,
-        edition,
+        (false, None) => Question::Map,
+        (_, steps) => Question::Draw(steps),
     }
 }
 
 fn walk_of<'a>(given: &ArgMatches<'a>) -> Walk<'a>
-    ensures { walk_shown result ≡ (
-      file_in (rows_of (found_of given.now)),
-      edition_in (rows_of (found_of given.now)),
-      trace_steps_in (rows_of (found_of given.now)),
-      from_in (rows_of (found_of given.now)),
-      function_in (rows_of (found_of given.now)),
-    ) }
+    ensures { walk_shown result ≡ walk_in (rows_of (found_of given.now)) }
 {
-    let file = given.get_str("FILE").unwrap_or("");
-    let edition = edition_of(given);
-    let steps = number_of(given, "steps").unwrap_or(DEFAULT_TRACE_STEPS);
-    let from = number_of(given, "from").unwrap_or(1);
-    let function = given.get_str("function");
     Walk {
-        file,
-        edition,
-        steps,
-        from,
-        function,
+        steps: number_of(given, "steps").unwrap_or(DEFAULT_TRACE_STEPS),
+        from: number_of(given, "from").unwrap_or(1),
+        function: text_of(given, "function"),
     }
 }
 
 // None where there is a limit of steps and none.
-fn target_of<'a>(given: &ArgMatches<'a>) -> Option<Target<'a>>
-    ensures { option_map target_shown result
-        ≡ option_map (λ n. (file_in (rows_of (found_of given.now)), n)) (steps_in (rows_of (found_of given.now))) }
-{
-    let file = given.get_str("FILE").unwrap_or("");
-    let steps = steps_of(number_of(given, "steps"), is_set(given, "no-limit"))?;
-    Some(Target { file, steps })
-}
-
 fn steps_of(asked: Option<u64>, is_without_limit: bool) -> Option<u64>
     ensures { result ≡ steps_asked asked is_without_limit }
 {
@@ -162,6 +123,18 @@ fn steps_of(asked: Option<u64>, is_without_limit: bool) -> Option<u64>
         (None, true) => Some(u64::MAX),
         (None, false) => Some(DEFAULT_STEPS),
     }
+}
+
+fn file_of<'a>(given: &ArgMatches<'a>) -> &'a str
+    ensures { result.now ≡ file_in (rows_of (found_of given.now)) }
+{
+    text_of(given, "FILE").unwrap_or("")
+}
+
+fn text_of<'a>(given: &ArgMatches<'a>, id: &str) -> Option<&'a str>
+    ensures { option_map (λ t. t.now) result ≡ first_of id.now (rows_of (found_of given.now)) }
+{
+    given.get_str(id)
 }
 
 fn number_of(given: &ArgMatches<'_>, id: &str) -> Option<u64>

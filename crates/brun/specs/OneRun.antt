@@ -3,7 +3,7 @@ use Rattle.std.specs.Prelude.{◌≡◌, ℕ, List, [], codes, ◌⊎◌, false}
 use Rattle.bword.specs.declared.edition.Edition.TheVariants as editions
 use Rattle.bword.specs.ByteEnds.{Incoming, Unread, Kept, incoming_of, outgoing_of}
 use Rattle.blang.specs.Compiles.{Run, CompileHeadline}
-use Rattle.blang.specs.Reports.{RunEnds}
+use Rattle.blang.specs.Reports.{RunEnds, run_ends}
 use Rattle.blang.specs.Headline.{Headline}
 
 -- bytes in memory that nothing was taken of, and an output in memory that has nothing
@@ -15,14 +15,9 @@ nothing_written = record { bytes = []; refusals = 0 }
 
 -- a run without input
 abbrev pub one_run_ends : (input : Unread) (out line : Kept) → RunEnds
-one_run_ends input out line = record {
-  input = unread [];
-  input_after = incoming_of input;
-  out = outgoing_of nothing_written;
-  out_after = outgoing_of out;
-  line = outgoing_of nothing_written;
-  line_after = outgoing_of line;
-}
+one_run_ends input out line = run_ends
+    (unread []) (incoming_of input) (outgoing_of nothing_written) (outgoing_of out)
+    (outgoing_of nothing_written) (outgoing_of line)
 
 -- A run of `main(){putchar('a');}` is out of memory, or it answers 0 and has written `a` and no line.
 abbrev pub OneRunIsKnown : Type 0

@@ -2,6 +2,7 @@
 ghost use Rattle.std.specs.Prelude.{◌≡◌};
 ghost use Rattle.bword.specs.declared.edition.Edition.TheVariants as editions;
 ghost use Rattle.blang.specs.Headline.{GoesOff, Headline};
+ghost use Rattle.blang.specs.Reports.{run_ends};
 ghost use Rattle.brun.specs.OneRun.{OneCompilationIsKnown, OneRunIsKnown};
 
 use crate::text::run_text;
@@ -19,22 +20,12 @@ pub fn go<S: ByteIn, I: ByteIn, O: ByteOut, D: ByteOut>(
     diag: &mut D,
     steps: u64,
 ) -> Status
-    ensures goes { GoesOff editions.One steps (S.incoming source.old) (S.incoming source.new) (record {
-      input = I.incoming input.old;
-      input_after = I.incoming input.new;
-      out = O.outgoing out.old;
-      out_after = O.outgoing out.new;
-      line = D.outgoing diag.old;
-      line_after = D.outgoing diag.new;
-    }) result }
-    ensures headline { Headline editions.One steps (S.incoming source.old) (S.incoming source.new) (record {
-      input = I.incoming input.old;
-      input_after = I.incoming input.new;
-      out = O.outgoing out.old;
-      out_after = O.outgoing out.new;
-      line = D.outgoing diag.old;
-      line_after = D.outgoing diag.new;
-    }) result }
+    ensures goes { GoesOff editions.One steps (S.incoming source.old) (S.incoming source.new) (run_ends
+        (I.incoming input.old) (I.incoming input.new) (O.outgoing out.old) (O.outgoing out.new)
+        (D.outgoing diag.old) (D.outgoing diag.new)) result }
+    ensures headline { Headline editions.One steps (S.incoming source.old) (S.incoming source.new) (run_ends
+        (I.incoming input.old) (I.incoming input.new) (O.outgoing out.old) (O.outgoing out.new)
+        (D.outgoing diag.old) (D.outgoing diag.new)) result }
     ensures source_lender { S.lender source.new ≡ S.lender source.old }
     ensures input_lender { I.lender input.new ≡ I.lender input.old }
     ensures out_lender { O.lender out.new ≡ O.lender out.old }
@@ -56,22 +47,12 @@ pub fn go_edition<S: ByteIn, I: ByteIn, O: ByteOut, D: ByteOut>(
     steps: u64,
     edition: Edition,
 ) -> Status
-    ensures goes { GoesOff edition steps (S.incoming source.old) (S.incoming source.new) (record {
-      input = I.incoming input.old;
-      input_after = I.incoming input.new;
-      out = O.outgoing out.old;
-      out_after = O.outgoing out.new;
-      line = D.outgoing diag.old;
-      line_after = D.outgoing diag.new;
-    }) result }
-    ensures headline { Headline edition steps (S.incoming source.old) (S.incoming source.new) (record {
-      input = I.incoming input.old;
-      input_after = I.incoming input.new;
-      out = O.outgoing out.old;
-      out_after = O.outgoing out.new;
-      line = D.outgoing diag.old;
-      line_after = D.outgoing diag.new;
-    }) result }
+    ensures goes { GoesOff edition steps (S.incoming source.old) (S.incoming source.new) (run_ends
+        (I.incoming input.old) (I.incoming input.new) (O.outgoing out.old) (O.outgoing out.new)
+        (D.outgoing diag.old) (D.outgoing diag.new)) result }
+    ensures headline { Headline edition steps (S.incoming source.old) (S.incoming source.new) (run_ends
+        (I.incoming input.old) (I.incoming input.new) (O.outgoing out.old) (O.outgoing out.new)
+        (D.outgoing diag.old) (D.outgoing diag.new)) result }
     ensures source_lender { S.lender source.new ≡ S.lender source.old }
     ensures input_lender { I.lender input.new ≡ I.lender input.old }
     ensures out_lender { O.lender out.new ≡ O.lender out.old }

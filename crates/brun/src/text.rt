@@ -1,6 +1,6 @@
 //! Running a code text.
 ghost use Rattle.std.specs.Prelude.{◌≡◌};
-ghost use Rattle.blang.specs.Reports.{Finishes};
+ghost use Rattle.blang.specs.Reports.{Finishes, run_ends};
 ghost use Rattle.brun.specs.Runs.{RunsDefinitions, RunsText, NotRead};
 
 use crate::report::{number_of, write_report};
@@ -24,14 +24,9 @@ pub fn run_text<I: ByteIn, O: ByteOut, D: ByteOut>(
     diag: &mut D,
     steps: u64,
 ) -> Status
-    ensures runs { RunsText steps code.now (record {
-      input = I.incoming input.old;
-      input_after = I.incoming input.new;
-      out = O.outgoing out.old;
-      out_after = O.outgoing out.new;
-      line = D.outgoing diag.old;
-      line_after = D.outgoing diag.new;
-    }) result }
+    ensures runs { RunsText steps code.now (run_ends
+        (I.incoming input.old) (I.incoming input.new) (O.outgoing out.old) (O.outgoing out.new)
+        (D.outgoing diag.old) (D.outgoing diag.new)) result }
     ensures input_lender { I.lender input.new ≡ I.lender input.old }
     ensures out_lender { O.lender out.new ≡ O.lender out.old }
     ensures diag_lender { D.lender diag.new ≡ D.lender diag.old }
@@ -62,14 +57,9 @@ fn run_definitions<I: ByteIn, O: ByteOut, D: ByteOut>(
     diag: &mut D,
     steps: u64,
 ) -> Status
-    ensures runs { RunsDefinitions steps definitions.items (record {
-      input = I.incoming input.old;
-      input_after = I.incoming input.new;
-      out = O.outgoing out.old;
-      out_after = O.outgoing out.new;
-      line = D.outgoing diag.old;
-      line_after = D.outgoing diag.new;
-    }) result }
+    ensures runs { RunsDefinitions steps definitions.items (run_ends
+        (I.incoming input.old) (I.incoming input.new) (O.outgoing out.old) (O.outgoing out.new)
+        (D.outgoing diag.old) (D.outgoing diag.new)) result }
     ensures input_lender { I.lender input.new ≡ I.lender input.old }
     ensures out_lender { O.lender out.new ≡ O.lender out.old }
     ensures diag_lender { D.lender diag.new ≡ D.lender diag.old }

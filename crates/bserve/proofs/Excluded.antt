@@ -1,5 +1,5 @@
 -- Answers that the contracts of `serve` and `refuse_words` exclude, whatever is proved of the body that gives them.
-use Rattle.std.proofs.Common.{◌≡◌, ◌≢◌, ◌∙◌, ◌⊎◌, ℕ, List, [], ◌∷◌, Option, Some, ap, refl, sym, subst, arith, inl, inr}
+use Rattle.std.proofs.Common.{◌≡◌, ◌∙◌, ◌⊎◌, ℕ, List, [], ◌∷◌, Some, ap, refl, sym, subst, arith, inl, inr}
 use Rattle.std.specs.Prelude.{codes}
 use Rattle.std.specs.Io.KnownBytes.{Appends}
 use Rattle.clap.specs.Words.{IsAmong, Text, fault_of, subcommand_of}
@@ -16,16 +16,11 @@ use Rattle.blang.specs.Reports.{HasNotRun, Reported, RunEnds}
 use Rattle.brun.specs.OneRun.{nothing_written, one_run_ends, unread}
 use Rattle.brun.specs.Runs.{RunsText}
 use Rattle.brun.proofs.OneRun.{one_run}
-use Rattle.bcommand.specs.CommandLine.{asked, command_line, draw, go, list, locate, map, run, trace}
-use Rattle.bdraw.specs.Draws.{Draws}
-use Rattle.blist.specs.Listings.{Lists}
-use Rattle.blist.specs.Maps.{Maps}
-use Rattle.btrace.specs.Locates.{Locates}
-use Rattle.btrace.specs.Traces.{Traces}
+use Rattle.bcommand.specs.CommandLine.{Question, ask, asked, command_line, go, run}
 use Rattle.bserve.specs.declared.shelf.MemFile.{MemFile}
 use Rattle.bserve.specs.Shelves.{Holdings, holding}
-use Rattle.bserve.specs.Serves.{Does, HasNoFile, IsHelp, NamesFile, RefusesWords, SaysNothing, Serves, did, refused, no_memory, telling_ends}
-use Rattle.bserve.specs.Excluded.{AreWrong, Excluded, FileIsRead}
+use Rattle.bserve.specs.Serves.{Answers, Does, HasNoFile, IsHelp, NamesFile, RefusesWords, SaysNothing, Serves, did, refused, no_memory}
+use Rattle.bserve.specs.Excluded.{AreWrong, Excluded, FileIsRead, alone}
 
 fault_is_told : (f : EndFault) → 0 ≡ status_of f → ⊥
 fault_is_told end_fault.Device e = omega (arith, e)
@@ -191,32 +186,16 @@ module _ (file : MemFile) where
   run_alone steps ends status (inl none) = inr (no_file ends status none)
   run_alone steps ends status (inr runs) = inl (subst (λ t. RunsText steps t ends status) runs.1.1 runs.2)
 
-  go_alone : (edition : Edition) (steps : ℕ) (ends : RunEnds) (status : ℕ) → Does (holding file) (go file.name.now steps edition) ends status → ((following : Unread) × GoesOff edition steps (unread file.text.now) (incoming_of following) ends status) ⊎ SaysNothing ends status 134
+  go_alone : (edition : Edition) (steps : ℕ) (ends : RunEnds) (status : ℕ) → Does (holding file) (go (alone file edition) steps) ends status → ((following : Unread) × GoesOff edition steps (unread file.text.now) (incoming_of following) ends status) ⊎ SaysNothing ends status 134
   go_alone edition steps ends status (inl none) = inr (no_file ends status none)
   go_alone edition steps ends status (inr goes) =
       inl (goes.1, subst (λ t. GoesOff edition steps (unread t) (incoming_of goes.1) ends status) goes.2.1 goes.3)
 
-  list_alone : (name : Option (List ℕ)) (edition : Edition) (ends : RunEnds) (status : ℕ) → Does (holding file) (list file.name.now name edition) ends status → Lists edition file.text.now name (telling_ends ends) status ⊎ SaysNothing ends status 134
-  list_alone name edition ends status (inl told) = inr (named ends status told)
-  list_alone name edition ends status (inr lists) = inl (subst (λ t. Lists edition t name (telling_ends ends) status) lists.1.1 lists.3)
+  ask_alone : (edition : Edition) (question : Question) (ends : RunEnds) (status : ℕ) → Does (holding file) (ask (alone file edition) question) ends status → Answers (alone file edition) file.text.now question ends status ⊎ SaysNothing ends status 134
+  ask_alone edition question ends status (inl told) = inr (named ends status told)
+  ask_alone edition question ends status (inr answers) = inl (subst (λ t. Answers (alone file edition) t question ends status) answers.1.1 answers.2)
 
-  map_alone : (edition : Edition) (ends : RunEnds) (status : ℕ) → Does (holding file) (map file.name.now edition) ends status → Maps edition file.text.now (telling_ends ends) status ⊎ SaysNothing ends status 134
-  map_alone edition ends status (inl told) = inr (named ends status told)
-  map_alone edition ends status (inr maps) = inl (subst (λ t. Maps edition t (telling_ends ends) status) maps.1.1 maps.3)
-
-  draw_alone : (edition : Edition) (steps : Option ℕ) (ends : RunEnds) (status : ℕ) → Does (holding file) (draw file.name.now edition steps) ends status → Draws edition file.text.now steps ends status ⊎ SaysNothing ends status 134
-  draw_alone edition steps ends status (inl told) = inr (named ends status told)
-  draw_alone edition steps ends status (inr draws) = inl (subst (λ t. Draws edition t steps ends status) draws.1.1 draws.2)
-
-  trace_alone : (steps from : ℕ) (function : Option (List ℕ)) (edition : Edition) (ends : RunEnds) (status : ℕ) → Does (holding file) (trace file.name.now steps from function edition) ends status → Traces edition file.text.now steps from function ends status ⊎ SaysNothing ends status 134
-  trace_alone steps from function edition ends status (inl told) = inr (named ends status told)
-  trace_alone steps from function edition ends status (inr traces) = inl (subst (λ t. Traces edition t steps from function ends status) traces.1.1 traces.2)
-
-  locate_alone : (steps : ℕ) (edition : Edition) (ends : RunEnds) (status : ℕ) → Does (holding file) (locate file.name.now steps edition) ends status → Locates edition file.text.now steps ends status ⊎ SaysNothing ends status 134
-  locate_alone steps edition ends status (inl told) = inr (named ends status told)
-  locate_alone steps edition ends status (inr places) = inl (subst (λ t. Locates edition t steps ends status) places.1.1 places.2)
-
-  one_go : (input : Unread) (out line : Kept) (status : ℕ) → file.text.now ≡ codes "main(){putchar('a');}" → Does (holding file) (go file.name.now 100 editions.One) (one_run_ends input out line) status → (status ≡ 134) ⊎ ((status ≡ 0) × (out.bytes ≡ codes "a") × (line.bytes ≡ []))
+  one_go : (input : Unread) (out line : Kept) (status : ℕ) → file.text.now ≡ codes "main(){putchar('a');}" → Does (holding file) (go (alone file editions.One) 100) (one_run_ends input out line) status → (status ≡ 134) ⊎ ((status ≡ 0) × (out.bytes ≡ codes "a") × (line.bytes ≡ []))
   one_go input out line status one (inl none) = inl (no_file _ status none).status_is
   one_go input out line status one (inr goes) =
       one_run goes.1 input out line status
@@ -228,10 +207,6 @@ module _ (file : MemFile) where
     named = λ ends told. not_device ends (named ends 133 told);
     run_alone = run_alone;
     go_alone = go_alone;
-    list_alone = list_alone;
-    map_alone = map_alone;
-    draw_alone = draw_alone;
-    trace_alone = trace_alone;
-    locate_alone = locate_alone;
+    ask_alone = ask_alone;
     one_go = one_go;
   }

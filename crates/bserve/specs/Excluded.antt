@@ -1,5 +1,5 @@
 -- What no answer to a command line is, and what each one is.
-use Rattle.std.specs.Prelude.{◌≡◌, ◌⊎◌, ℕ, List, [], ◌∷◌, Option, codes}
+use Rattle.std.specs.Prelude.{◌≡◌, ◌⊎◌, ℕ, List, [], ◌∷◌, codes}
 use Rattle.clap.specs.Words.{IsAmong, Text, fault_of, subcommand_of}
 use Rattle.clap.specs.declared.error.kind.ErrorKind.{ErrorKind}
 use Rattle.clap.specs.declared.error.kind.ErrorKind.TheVariants as kind
@@ -7,18 +7,13 @@ use Rattle.bword.specs.ByteEnds.{Kept, Outgoing, Unread, incoming_of, outgoing_o
 use Rattle.bword.specs.declared.edition.Edition.{Edition}
 use Rattle.bword.specs.declared.edition.Edition.TheVariants as editions
 use Rattle.blang.specs.declared.status.TheConstants.{DONE, DEVICE, MEMORY, WRONG_COMMAND}
-use Rattle.blang.specs.Headline.{GoesOff, Headline}
+use Rattle.blang.specs.Headline.{GoesOff}
 use Rattle.blang.specs.Reports.{HasNotRun, Reported, RunEnds}
 use Rattle.brun.specs.OneRun.{nothing_written, one_run_ends, unread}
 use Rattle.brun.specs.Runs.{RunsText}
-use Rattle.bcommand.specs.CommandLine.{asked, command_line, contradiction, draw, go, list, locate, map, run, trace}
-use Rattle.bdraw.specs.Draws.{Draws}
-use Rattle.blist.specs.Listings.{Lists}
-use Rattle.blist.specs.Maps.{Maps}
-use Rattle.btrace.specs.Locates.{Locates}
-use Rattle.btrace.specs.Traces.{Traces}
+use Rattle.bcommand.specs.CommandLine.{Question, Source, ask, asked, command_line, contradiction, go, run}
 use Rattle.bserve.specs.declared.shelf.MemFile.{MemFile}
-use Rattle.bserve.specs.Serves.{Does, HasNoFile, IsHelp, NamesFile, SaysNothing, Serves, telling_ends, unread_line}
+use Rattle.bserve.specs.Serves.{Answers, Does, HasNoFile, IsHelp, NamesFile, SaysNothing, Serves, unread_line}
 use Rattle.bserve.specs.Shelves.{Holdings, holding}
 
 -- The words have a fault, and don't ask for help.
@@ -59,6 +54,10 @@ pub record Excluded (shelf : Holdings) : Type 0 where
   -- words that can't be read and end well
   pub unread_words_done : (old new : Outgoing) → Reported unread_line WRONG_COMMAND old new DONE → ⊥
 
+-- the source in a file
+abbrev pub alone : MemFile → Edition → Source
+alone file edition = record { file = file.name.now; edition = edition }
+
 -- of a file in memory
 pub record FileIsRead (file : MemFile) : Type 0 where
   -- it is said to be missing
@@ -69,26 +68,14 @@ pub record FileIsRead (file : MemFile) : Type 0 where
       → RunsText steps file.text.now ends status ⊎ SaysNothing ends status MEMORY
   -- another source is compiled and run, or this one as of another edition
   pub go_alone : (edition : Edition) (steps : ℕ) (ends : RunEnds) (status : ℕ)
-      → Does (holding file) (go file.name.now steps edition) ends status
+      → Does (holding file) (go (alone file edition) steps) ends status
       → ((following : Unread) × GoesOff edition steps (unread file.text.now) (incoming_of following) ends status)
       ⊎ SaysNothing ends status MEMORY
-  -- another source is listed, its memory shown or drawn, or its steps or its place told
-  pub list_alone : (name : Option (List ℕ)) (edition : Edition) (ends : RunEnds) (status : ℕ)
-      → Does (holding file) (list file.name.now name edition) ends status
-      → Lists edition file.text.now name (telling_ends ends) status ⊎ SaysNothing ends status MEMORY
-  pub map_alone : (edition : Edition) (ends : RunEnds) (status : ℕ)
-      → Does (holding file) (map file.name.now edition) ends status
-      → Maps edition file.text.now (telling_ends ends) status ⊎ SaysNothing ends status MEMORY
-  pub draw_alone : (edition : Edition) (steps : Option ℕ) (ends : RunEnds) (status : ℕ)
-      → Does (holding file) (draw file.name.now edition steps) ends status
-      → Draws edition file.text.now steps ends status ⊎ SaysNothing ends status MEMORY
-  pub trace_alone : (steps from : ℕ) (function : Option (List ℕ)) (edition : Edition) (ends : RunEnds) (status : ℕ)
-      → Does (holding file) (trace file.name.now steps from function edition) ends status
-      → Traces edition file.text.now steps from function ends status ⊎ SaysNothing ends status MEMORY
-  pub locate_alone : (steps : ℕ) (edition : Edition) (ends : RunEnds) (status : ℕ)
-      → Does (holding file) (locate file.name.now steps edition) ends status
-      → Locates edition file.text.now steps ends status ⊎ SaysNothing ends status MEMORY
+  -- what is asked is answered of another source
+  pub ask_alone : (edition : Edition) (question : Question) (ends : RunEnds) (status : ℕ)
+      → Does (holding file) (ask (alone file edition) question) ends status
+      → Answers (alone file edition) file.text.now question ends status ⊎ SaysNothing ends status MEMORY
   -- another output than `a`, or another status than 0
   pub one_go : (input : Unread) (out line : Kept) (status : ℕ) → file.text.now ≡ codes "main(){putchar('a');}"
-      → Does (holding file) (go file.name.now 100 editions.One) (one_run_ends input out line) status
+      → Does (holding file) (go (alone file editions.One) 100) (one_run_ends input out line) status
       → (status ≡ MEMORY) ⊎ ((status ≡ 0) × (out.bytes ≡ codes "a") × (line.bytes ≡ []))

@@ -21,8 +21,9 @@ use Rattle.btools.specs.Programs.{ToldEnds}
 use Rattle.bdraw.specs.Draws.{Draws}
 use Rattle.btrace.specs.Locates.{Locates}
 use Rattle.btrace.specs.Traces.{Traces}
-use Rattle.bcommand.specs.CommandLine.{Asked, asked, command_line}
-use Rattle.bcommand.specs.CommandLine.{compile, run, go, locate, migrate, list, map, draw, check, trace, contradiction}
+use Rattle.bcommand.specs.CommandLine.{Asked, Question, Source, asked, command_line}
+use Rattle.bcommand.specs.CommandLine.{compile, run, go, migrate, ask, contradiction}
+use Rattle.bcommand.specs.CommandLine.{list, map, draw, check, trace, locate}
 use Rattle.bserve.specs.Shelves.{Holdings}
 
 -- the message for words that aren't UTF-8
@@ -76,45 +77,45 @@ compiling edition ends status = record {
   status = status;
 }
 
+-- what is asked of a source of this text is answered
+abbrev pub Answers : Source → (text : List ℕ) → Question → RunEnds → ℕ → Type 0
+Answers source text (list name) ends status =
+    (ends.input_after ≡ ends.input) × Lists source.edition text name (telling_ends ends) status
+Answers source text map ends status =
+    (ends.input_after ≡ ends.input) × Maps source.edition text (telling_ends ends) status
+Answers source text (draw steps) ends status = Draws source.edition text steps ends status
+Answers source text (check for_editor) ends status =
+    (ends.input_after ≡ ends.input) × (ends.line_after ≡ ends.line) × Checks (record {
+      edition = source.edition;
+      form = form_of for_editor;
+      file = source.file;
+      source = text;
+      out = ends.out;
+      out_after = ends.out_after;
+      status = status;
+    })
+Answers source text (trace steps from function) ends status =
+    Traces source.edition text steps from function ends status
+Answers source text (locate steps) ends status = Locates source.edition text steps ends status
+
 -- what was asked for is done, for a text that the shelf holds under the name of the file
 abbrev pub Does : Holdings → Asked → RunEnds → ℕ → Type 0
 Does shelf (compile edition) ends status =
     Compiles (compiling edition ends status) × CompileHeadline (compiling edition ends status)
 Does shelf (run file steps) ends status = HasNoFile (shelf.lacks file) ends status
     ⊎ ((text : List ℕ) × shelf.holds file text × RunsText steps text ends status)
-Does shelf (go file steps edition) ends status = HasNoFile (shelf.lacks file) ends status
-    ⊎ ((source : List ℕ) × (following : Unread) × shelf.holds file source
-    × GoesOff edition steps (unread source) (incoming_of following) ends status
-    × Headline edition steps (unread source) (incoming_of following) ends status)
-Does shelf (locate file steps edition) ends status = NamesFile (shelf.lacks file) file ends status
-    ⊎ ((source : List ℕ) × shelf.holds file source × Locates edition source steps ends status)
+Does shelf (go source steps) ends status = HasNoFile (shelf.lacks source.file) ends status
+    ⊎ ((text : List ℕ) × (following : Unread) × shelf.holds source.file text
+    × GoesOff source.edition steps (unread text) (incoming_of following) ends status
+    × Headline source.edition steps (unread text) (incoming_of following) ends status)
 Does shelf migrate ends status = Migrates (record {
   input = ends.input;
   input_after = ends.input_after;
   out = ends.out;
   out_after = ends.out_after;
 }) ends.line ends.line_after status
-Does shelf (list file name edition) ends status = NamesFile (shelf.lacks file) file ends status
-    ⊎ ((source : List ℕ) × shelf.holds file source × (ends.input_after ≡ ends.input)
-    × Lists edition source name (telling_ends ends) status)
-Does shelf (map file edition) ends status = NamesFile (shelf.lacks file) file ends status
-    ⊎ ((source : List ℕ) × shelf.holds file source × (ends.input_after ≡ ends.input)
-    × Maps edition source (telling_ends ends) status)
-Does shelf (draw file edition steps) ends status = NamesFile (shelf.lacks file) file ends status
-    ⊎ ((source : List ℕ) × shelf.holds file source × Draws edition source steps ends status)
-Does shelf (check file edition for_editor) ends status = NamesFile (shelf.lacks file) file ends status
-    ⊎ ((source : List ℕ) × shelf.holds file source × (ends.input_after ≡ ends.input)
-    × (ends.line_after ≡ ends.line) × Checks (record {
-      edition = edition;
-      form = form_of for_editor;
-      file = file;
-      source = source;
-      out = ends.out;
-      out_after = ends.out_after;
-      status = status;
-    }))
-Does shelf (trace file steps from function edition) ends status = NamesFile (shelf.lacks file) file ends status
-    ⊎ ((source : List ℕ) × shelf.holds file source × Traces edition source steps from function ends status)
+Does shelf (ask source question) ends status = NamesFile (shelf.lacks source.file) source.file ends status
+    ⊎ ((text : List ℕ) × shelf.holds source.file text × Answers source text question ends status)
 Does shelf contradiction ends status =
     HasNotRun ends × Reported contradiction_line WRONG_COMMAND ends.line ends.line_after status
 

@@ -1,17 +1,17 @@
 //! Serving a command line.
-ghost use Rattle.std.specs.Prelude.{◌≡◌, ◌≢◌, ◌⊎◌, [], IfOk, map as map_each, option_map, string_bytes};
+ghost use Rattle.std.specs.Prelude.{◌≡◌, ◌≢◌, ◌⊎◌, [], IfOk, map as map_each, string_bytes};
 ghost use Rattle.clap.specs.Words.{kind_of};
 ghost use Rattle.bword.specs.ByteEnds.{Incoming, Outgoing};
 ghost use Rattle.blang.specs.declared.status.TheConstants.{DEVICE, MEMORY, WRONG_COMMAND};
-ghost use Rattle.blang.specs.Reports.{Reported};
-ghost use Rattle.bcommand.specs.CommandLine.{check, draw, go, list, locate, map, run, asked_of, trace};
+ghost use Rattle.blang.specs.Reports.{Reported, run_ends};
+ghost use Rattle.bcommand.specs.CommandLine.{ask, asked_of, go, question_of, run, source_shown};
 ghost use Rattle.bserve.specs.Excluded.{Excluded, FileIsRead};
-ghost use Rattle.bserve.specs.Serves.{Does, NamesFile, RefusesWords, Serves, form_of, no_file_line, unread_line};
+ghost use Rattle.bserve.specs.Serves.{Answers, Does, NamesFile, RefusesWords, Serves, form_of, no_file_line, unread_line};
 ghost use Rattle.bserve.specs.Shelves.{anything};
 
 use crate::shelf::{FileFault, MemFile, Shelf, SystemFiles};
 use bcheck::{Form, Request, check};
-use bcommand::{CONTRADICTION, Job, Subject, Target, UNREAD, Walk, parse};
+use bcommand::{CONTRADICTION, Job, Question, Source, UNREAD, parse};
 use bdraw::draw;
 use blang::status::{self, Status};
 use blist::{list, map};
@@ -19,7 +19,7 @@ use bparse::compile_edition;
 use brun::{go_edition, migrate, run_text};
 use btools::tell;
 use btrace::{Wanted, locate, trace};
-use bword::{ByteIn, ByteOut, Edition, MemIn};
+use bword::{ByteIn, ByteOut, MemIn};
 use clap::Error;
 use clap::error::ErrorKind;
 use std::alloc::{AllocError, Global};
@@ -38,14 +38,9 @@ pub fn serve<R: AllocGlobal + Files, I: ByteIn, O: ByteOut, D: ByteOut>(
     out: &mut O,
     diag: &mut D,
 ) -> Status
-    ensures serves { Serves anything (map_each string_bytes words.now) (record {
-      input = I.incoming input.old;
-      input_after = I.incoming input.new;
-      out = O.outgoing out.old;
-      out_after = O.outgoing out.new;
-      line = D.outgoing diag.old;
-      line_after = D.outgoing diag.new;
-    }) result }
+    ensures serves { Serves anything (map_each string_bytes words.now) (run_ends
+        (I.incoming input.old) (I.incoming input.new) (O.outgoing out.old) (O.outgoing out.new)
+        (D.outgoing diag.old) (D.outgoing diag.new)) result }
     ensures input_lender { I.lender input.new ≡ I.lender input.old }
     ensures out_lender { O.lender out.new ≡ O.lender out.old }
     ensures diag_lender { D.lender diag.new ≡ D.lender diag.old }
@@ -65,14 +60,9 @@ pub fn serve_with<S: Shelf, I: ByteIn, O: ByteOut, D: ByteOut>(
     out: &mut O,
     diag: &mut D,
 ) -> Status
-    ensures serves { Serves (S.holdings shelf.now) (map_each string_bytes words.now) (record {
-      input = I.incoming input.old;
-      input_after = I.incoming input.new;
-      out = O.outgoing out.old;
-      out_after = O.outgoing out.new;
-      line = D.outgoing diag.old;
-      line_after = D.outgoing diag.new;
-    }) result }
+    ensures serves { Serves (S.holdings shelf.now) (map_each string_bytes words.now) (run_ends
+        (I.incoming input.old) (I.incoming input.new) (O.outgoing out.old) (O.outgoing out.new)
+        (D.outgoing diag.old) (D.outgoing diag.new)) result }
     ensures input_lender { I.lender input.new ≡ I.lender input.old }
     ensures out_lender { O.lender out.new ≡ O.lender out.old }
     ensures diag_lender { D.lender diag.new ≡ D.lender diag.old }
@@ -92,31 +82,19 @@ fn perform<S: Shelf, I: ByteIn, O: ByteOut, D: ByteOut>(
     out: &mut O,
     diag: &mut D,
 ) -> Status
-    ensures does { Does (S.holdings shelf.now) (asked_of job.entry) (record {
-      input = I.incoming input.old;
-      input_after = I.incoming input.new;
-      out = O.outgoing out.old;
-      out_after = O.outgoing out.new;
-      line = D.outgoing diag.old;
-      line_after = D.outgoing diag.new;
-    }) result }
+    ensures does { Does (S.holdings shelf.now) (asked_of job.entry) (run_ends
+        (I.incoming input.old) (I.incoming input.new) (O.outgoing out.old) (O.outgoing out.new)
+        (D.outgoing diag.old) (D.outgoing diag.new)) result }
     ensures input_lender { I.lender input.new ≡ I.lender input.old }
     ensures out_lender { O.lender out.new ≡ O.lender out.old }
     ensures diag_lender { D.lender diag.new ≡ D.lender diag.old }
 {
     match job {
         Job::Compile(edition) => compile_edition(alloc, input, out, diag, edition),
-        Job::Run(target) => run_file(alloc, shelf, target, input, out, diag),
-        Job::Go(target, edition) => go_file(alloc, shelf, target, edition, input, out, diag),
-        Job::Locate(target, edition) => locate_file(
-            alloc, shelf, target, edition, input, out, diag,
-        ),
+        Job::Run(file, steps) => run_file(alloc, shelf, file, steps, input, out, diag),
+        Job::Go(source, steps) => go_file(alloc, shelf, source, steps, input, out, diag),
         Job::Migrate => migrate(alloc, input, out, diag),
-        Job::List(subject) => list_file(alloc, shelf, subject, out, diag),
-        Job::Map(subject) => map_file(alloc, shelf, subject, out, diag),
-        Job::Draw(subject, steps) => draw_file(alloc, shelf, subject, steps, input, out, diag),
-        Job::Check(subject, for_editor) => check_file(alloc, shelf, subject, for_editor, out, diag),
-        Job::Trace(walk) => trace_file(alloc, shelf, walk, input, out, diag),
+        Job::Ask(source, question) => ask_file(alloc, shelf, source, question, input, out, diag),
         Job::Contradiction => refuse_with(CONTRADICTION, diag),
     }
 }
@@ -125,25 +103,21 @@ fn perform<S: Shelf, I: ByteIn, O: ByteOut, D: ByteOut>(
 fn run_file<S: Shelf, I: ByteIn, O: ByteOut, D: ByteOut>(
     alloc: Global,
     shelf: &S,
-    target: Target<'_>,
+    file: &str,
+    steps: u64,
     input: &mut I,
     out: &mut O,
     diag: &mut D,
 ) -> Status
-    ensures does { Does (S.holdings shelf.now) (run target.entry.file.now target.entry.steps) (record {
-      input = I.incoming input.old;
-      input_after = I.incoming input.new;
-      out = O.outgoing out.old;
-      out_after = O.outgoing out.new;
-      line = D.outgoing diag.old;
-      line_after = D.outgoing diag.new;
-    }) result }
+    ensures does { Does (S.holdings shelf.now) (run file.now steps) (run_ends
+        (I.incoming input.old) (I.incoming input.new) (O.outgoing out.old) (O.outgoing out.new)
+        (D.outgoing diag.old) (D.outgoing diag.new)) result }
     ensures input_lender { I.lender input.new ≡ I.lender input.old }
     ensures out_lender { O.lender out.new ≡ O.lender out.old }
     ensures diag_lender { D.lender diag.new ≡ D.lender diag.old }
 {
-    match shelf.read(alloc, target.file) {
-        Ok(code) => run_text(alloc, code.as_slice(), input, out, diag, target.steps),
+    match shelf.read(alloc, file) {
+        Ok(code) => run_text(alloc, code.as_slice(), input, out, diag, steps),
         Err(fault) => status_of(fault),
     }
 }
@@ -152,159 +126,95 @@ fn run_file<S: Shelf, I: ByteIn, O: ByteOut, D: ByteOut>(
 fn go_file<S: Shelf, I: ByteIn, O: ByteOut, D: ByteOut>(
     alloc: Global,
     shelf: &S,
-    target: Target<'_>,
-    edition: Edition,
+    source: Source<'_>,
+    steps: u64,
     input: &mut I,
     out: &mut O,
     diag: &mut D,
 ) -> Status
-    ensures does { Does (S.holdings shelf.now) (go target.entry.file.now target.entry.steps edition) (record {
-      input = I.incoming input.old;
-      input_after = I.incoming input.new;
-      out = O.outgoing out.old;
-      out_after = O.outgoing out.new;
-      line = D.outgoing diag.old;
-      line_after = D.outgoing diag.new;
-    }) result }
+    ensures does { Does (S.holdings shelf.now) (go (source_shown source.entry) steps) (run_ends
+        (I.incoming input.old) (I.incoming input.new) (O.outgoing out.old) (O.outgoing out.new)
+        (D.outgoing diag.old) (D.outgoing diag.new)) result }
     ensures input_lender { I.lender input.new ≡ I.lender input.old }
     ensures out_lender { O.lender out.new ≡ O.lender out.old }
     ensures diag_lender { D.lender diag.new ≡ D.lender diag.old }
 {
-    match shelf.read(alloc, target.file) {
-        Ok(source) => go_edition(
+    match shelf.read(alloc, source.file) {
+        Ok(text) => go_edition(
             alloc,
-            &mut MemIn::new(source.as_slice()),
+            &mut MemIn::new(text.as_slice()),
             input,
             out,
             diag,
-            target.steps,
-            edition,
+            steps,
+            source.edition,
         ),
         Err(fault) => status_of(fault),
     }
 }
 
-// Lists the code of the source in a file.
-fn list_file<S: Shelf, O: ByteOut, D: ByteOut>(
+// Answers what is asked of the source in a file.
+fn ask_file<S: Shelf, I: ByteIn, O: ByteOut, D: ByteOut>(
     alloc: Global,
     shelf: &S,
-    subject: Subject<'_>,
-    out: &mut O,
-    diag: &mut D,
-) -> Status
-    ensures does { (unread : Incoming) → Does (S.holdings shelf.now) (list subject.entry.file.now (option_map (λ n. n.now) subject.entry.name) subject.entry.edition) (record {
-      input = unread;
-      input_after = unread;
-      out = O.outgoing out.old;
-      out_after = O.outgoing out.new;
-      line = D.outgoing diag.old;
-      line_after = D.outgoing diag.new;
-    }) result }
-    ensures out_lender { O.lender out.new ≡ O.lender out.old }
-    ensures diag_lender { D.lender diag.new ≡ D.lender diag.old }
-{
-    match shelf.read(alloc, subject.file) {
-        Ok(source) => list(
-            alloc,
-            source.as_slice(),
-            subject.edition,
-            subject.name,
-            out,
-            diag,
-        ),
-        Err(fault) => name_file(alloc, subject.file, fault, diag),
-    }
-}
-
-// Shows the layout of the source in a file.
-fn map_file<S: Shelf, O: ByteOut, D: ByteOut>(
-    alloc: Global,
-    shelf: &S,
-    subject: Subject<'_>,
-    out: &mut O,
-    diag: &mut D,
-) -> Status
-    ensures does { (unread : Incoming) → Does (S.holdings shelf.now) (map subject.entry.file.now subject.entry.edition) (record {
-      input = unread;
-      input_after = unread;
-      out = O.outgoing out.old;
-      out_after = O.outgoing out.new;
-      line = D.outgoing diag.old;
-      line_after = D.outgoing diag.new;
-    }) result }
-    ensures out_lender { O.lender out.new ≡ O.lender out.old }
-    ensures diag_lender { D.lender diag.new ≡ D.lender diag.old }
-{
-    match shelf.read(alloc, subject.file) {
-        Ok(source) => map(alloc, source.as_slice(), subject.edition, out, diag),
-        Err(fault) => name_file(alloc, subject.file, fault, diag),
-    }
-}
-
-// Draws the memory of the source in a file.
-fn draw_file<S: Shelf, I: ByteIn, O: ByteOut, D: ByteOut>(
-    alloc: Global,
-    shelf: &S,
-    subject: Subject<'_>,
-    steps: Option<u64>,
+    source: Source<'_>,
+    question: Question<'_>,
     input: &mut I,
     out: &mut O,
     diag: &mut D,
 ) -> Status
-    ensures does { Does (S.holdings shelf.now) (draw subject.entry.file.now subject.entry.edition steps) (record {
-      input = I.incoming input.old;
-      input_after = I.incoming input.new;
-      out = O.outgoing out.old;
-      out_after = O.outgoing out.new;
-      line = D.outgoing diag.old;
-      line_after = D.outgoing diag.new;
-    }) result }
+    ensures does { Does (S.holdings shelf.now) (ask (source_shown source.entry) (question_of question.entry)) (run_ends
+        (I.incoming input.old) (I.incoming input.new) (O.outgoing out.old) (O.outgoing out.new)
+        (D.outgoing diag.old) (D.outgoing diag.new)) result }
     ensures input_lender { I.lender input.new ≡ I.lender input.old }
     ensures out_lender { O.lender out.new ≡ O.lender out.old }
     ensures diag_lender { D.lender diag.new ≡ D.lender diag.old }
 {
-    match shelf.read(alloc, subject.file) {
-        Ok(source) => draw(
-            alloc,
-            source.as_slice(),
-            subject.edition,
-            steps,
-            input,
-            out,
-            diag,
-        ),
-        Err(fault) => name_file(alloc, subject.file, fault, diag),
+    match shelf.read(alloc, source.file) {
+        Ok(text) => answer(alloc, source, text.as_slice(), question, input, out, diag),
+        Err(fault) => name_file(alloc, source.file, fault, diag),
     }
 }
 
-// Checks the source in a file.
-fn check_file<S: Shelf, O: ByteOut, D: ByteOut>(
+// Answers what is asked of a source of this text.
+fn answer<I: ByteIn, O: ByteOut, D: ByteOut>(
     alloc: Global,
-    shelf: &S,
-    subject: Subject<'_>,
-    for_editor: bool,
+    source: Source<'_>,
+    text: &[u8],
+    question: Question<'_>,
+    input: &mut I,
     out: &mut O,
     diag: &mut D,
 ) -> Status
-    ensures does { (unread : Incoming) → Does (S.holdings shelf.now) (check subject.entry.file.now subject.entry.edition for_editor) (record {
-      input = unread;
-      input_after = unread;
-      out = O.outgoing out.old;
-      out_after = O.outgoing out.new;
-      line = D.outgoing diag.old;
-      line_after = D.outgoing diag.new;
-    }) result }
+    ensures answers { Answers (source_shown source.entry) text.now (question_of question.entry) (run_ends
+        (I.incoming input.old) (I.incoming input.new) (O.outgoing out.old) (O.outgoing out.new)
+        (D.outgoing diag.old) (D.outgoing diag.new)) result }
+    ensures input_lender { I.lender input.new ≡ I.lender input.old }
     ensures out_lender { O.lender out.new ≡ O.lender out.old }
     ensures diag_lender { D.lender diag.new ≡ D.lender diag.old }
 {
-    let request = Request {
-        edition: subject.edition,
-        file: subject.file,
-        form: form_of(for_editor),
-    };
-    match shelf.read(alloc, subject.file) {
-        Ok(source) => check(alloc, source.as_slice(), request, out),
-        Err(fault) => name_file(alloc, subject.file, fault, diag),
+    let edition = source.edition;
+    match question {
+        Question::List(name) => list(alloc, text, edition, name, out, diag),
+        Question::Map => map(alloc, text, edition, out, diag),
+        Question::Draw(steps) => draw(alloc, text, edition, steps, input, out, diag),
+        Question::Check(for_editor) => {
+            let request = Request {
+                edition,
+                file: source.file,
+                form: form_of(for_editor),
+            };
+            check(alloc, text, request, out)
+        }
+        Question::Trace(walk) => {
+            let wanted = Wanted {
+                steps: walk.steps,
+                from: walk.from,
+                function: walk.function,
+            };
+            trace(alloc, text, edition, wanted, input, out, diag)
+        }
+        Question::Locate(steps) => locate(alloc, text, edition, steps, input, out, diag),
     }
 }
 
@@ -314,92 +224,9 @@ fn form_of(for_editor: bool) -> Form
     if for_editor { Form::Json } else { Form::Text }
 }
 
-// Runs the source in a file and writes its steps.
-fn trace_file<S: Shelf, I: ByteIn, O: ByteOut, D: ByteOut>(
-    alloc: Global,
-    shelf: &S,
-    walk: Walk<'_>,
-    input: &mut I,
-    out: &mut O,
-    diag: &mut D,
-) -> Status
-    ensures does { Does (S.holdings shelf.now) (trace walk.entry.file.now walk.entry.steps walk.entry.from (option_map (λ n. n.now) walk.entry.function) walk.entry.edition) (record {
-      input = I.incoming input.old;
-      input_after = I.incoming input.new;
-      out = O.outgoing out.old;
-      out_after = O.outgoing out.new;
-      line = D.outgoing diag.old;
-      line_after = D.outgoing diag.new;
-    }) result }
-    ensures input_lender { I.lender input.new ≡ I.lender input.old }
-    ensures out_lender { O.lender out.new ≡ O.lender out.old }
-    ensures diag_lender { D.lender diag.new ≡ D.lender diag.old }
-{
-    let wanted = Wanted {
-        steps: walk.steps,
-        from: walk.from,
-        function: walk.function,
-    };
-    match shelf.read(alloc, walk.file) {
-        Ok(source) => trace(
-            alloc,
-            source.as_slice(),
-            walk.edition,
-            wanted,
-            input,
-            out,
-            diag,
-        ),
-        Err(fault) => name_file(alloc, walk.file, fault, diag),
-    }
-}
-
-// Compiles the source in a file, runs it and tells where the run was over.
-fn locate_file<S: Shelf, I: ByteIn, O: ByteOut, D: ByteOut>(
-    alloc: Global,
-    shelf: &S,
-    target: Target<'_>,
-    edition: Edition,
-    input: &mut I,
-    out: &mut O,
-    diag: &mut D,
-) -> Status
-    ensures does { Does (S.holdings shelf.now) (locate target.entry.file.now target.entry.steps edition) (record {
-      input = I.incoming input.old;
-      input_after = I.incoming input.new;
-      out = O.outgoing out.old;
-      out_after = O.outgoing out.new;
-      line = D.outgoing diag.old;
-      line_after = D.outgoing diag.new;
-    }) result }
-    ensures input_lender { I.lender input.new ≡ I.lender input.old }
-    ensures out_lender { O.lender out.new ≡ O.lender out.old }
-    ensures diag_lender { D.lender diag.new ≡ D.lender diag.old }
-{
-    match shelf.read(alloc, target.file) {
-        Ok(source) => locate(
-            alloc,
-            source.as_slice(),
-            edition,
-            target.steps,
-            input,
-            out,
-            diag,
-        ),
-        Err(fault) => name_file(alloc, target.file, fault, diag),
-    }
-}
-
 // Names a file that can't be opened or read, unless there was no memory for it.
 fn name_file<D: ByteOut>(alloc: Global, file: &str, fault: FileFault, diag: &mut D) -> Status
-    ensures names { (unread : Incoming) (out : Outgoing) → NamesFile (fault ≡ FileFault.Device) file.now (record {
-      input = unread;
-      input_after = unread;
-      out = out;
-      out_after = out;
-      line = D.outgoing diag.old;
-      line_after = D.outgoing diag.new;
-    }) result }
+    ensures names { (unread : Incoming) (out : Outgoing) → NamesFile (fault ≡ FileFault.Device) file.now (run_ends unread unread out out (D.outgoing diag.old) (D.outgoing diag.new)) result }
     ensures diag_lender { D.lender diag.new ≡ D.lender diag.old }
 {
     match fault {
@@ -448,14 +275,7 @@ fn refuse_with<D: ByteOut>(text: &str, diag: &mut D) -> Status
 
 // Writes help to the output, and what is wrong beside it.
 fn refuse<O: ByteOut, D: ByteOut>(alloc: Global, error: Error, out: &mut O, diag: &mut D) -> Status
-    ensures refuses { (unread : Incoming) → RefusesWords (kind_of error) (record {
-      input = unread;
-      input_after = unread;
-      out = O.outgoing out.old;
-      out_after = O.outgoing out.new;
-      line = D.outgoing diag.old;
-      line_after = D.outgoing diag.new;
-    }) result }
+    ensures refuses { (unread : Incoming) → RefusesWords (kind_of error) (run_ends unread unread (O.outgoing out.old) (O.outgoing out.new) (D.outgoing diag.old) (D.outgoing diag.new)) result }
     ensures out_lender { O.lender out.new ≡ O.lender out.old }
     ensures diag_lender { D.lender diag.new ≡ D.lender diag.old }
 {

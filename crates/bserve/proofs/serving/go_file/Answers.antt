@@ -1,10 +1,11 @@
 use Rattle.std.proofs.Common.{inl, refl}
+use Rattle.bcommand.specs.CommandLine.{source_shown}
 use Rattle.bserve.proofs.Answered.{gone, not_read}
 use Rattle.bserve.proofs.serving.go_file.Goals as goal
 
 pub returns-in-Ok-clause-does : goal.returns-in-Ok-clause-does
 returns-in-Ok-clause-does g c =
-    gone (g.S.Shelf.holdings c.args.shelf.now) c.args.target.file.now c.args.edition c.args.target.steps _ _ _ _ _ _ c.as_slice.ensures.value c.in-Ok.ensures.text c.new.ensures
+    gone (g.S.Shelf.holdings c.args.shelf.now) (source_shown c.args.source) c.args.steps _ _ _ _ _ _ c.as_slice.ensures.value c.in-Ok.ensures.text c.new.ensures
     c.go_edition.ensures.goes c.go_edition.ensures.headline
 
 pub returns-in-Err-clause-does : goal.returns-in-Err-clause-does

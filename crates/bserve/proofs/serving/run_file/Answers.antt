@@ -4,7 +4,7 @@ use Rattle.bserve.proofs.serving.run_file.Goals as goal
 
 pub returns-in-Ok-clause-does : goal.returns-in-Ok-clause-does
 returns-in-Ok-clause-does g c =
-    inr (c.as_slice.result.now, held (g.S.Shelf.holdings c.args.shelf.now) c.args.target.file.now _ _ c.as_slice.ensures.value c.in-Ok.ensures.text, c.run_text.ensures.runs)
+    inr (c.as_slice.result.now, held (g.S.Shelf.holdings c.args.shelf.now) c.args.file.now _ _ c.as_slice.ensures.value c.in-Ok.ensures.text, c.run_text.ensures.runs)
 
 pub returns-in-Err-clause-does : goal.returns-in-Err-clause-does
 returns-in-Err-clause-does g c =

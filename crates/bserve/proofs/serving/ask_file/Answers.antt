@@ -1,10 +1,10 @@
 use Rattle.std.proofs.Common.{inl, inr}
 use Rattle.bserve.proofs.Answered.{held, named_for}
-use Rattle.bserve.proofs.serving.trace_file.Goals as goal
+use Rattle.bserve.proofs.serving.ask_file.Goals as goal
 
 pub returns-in-Ok-clause-does : goal.returns-in-Ok-clause-does
 returns-in-Ok-clause-does g c =
-    inr (c.as_slice.result.now, held (g.S.Shelf.holdings c.args.shelf.now) c.args.walk.file.now _ _ c.as_slice.ensures.value c.in-Ok.ensures.text, c.trace.ensures.traces)
+    inr (c.as_slice.result.now, held (g.S.Shelf.holdings c.args.shelf.now) c.args.source.file.now _ _ c.as_slice.ensures.value c.in-Ok.ensures.text, c.answer.ensures.answers)
 
 pub returns-in-Err-clause-does : goal.returns-in-Err-clause-does
 returns-in-Err-clause-does g c =
