@@ -1,0 +1,5 @@
+/* print.b: flush, which does nothing. */
+main() {
+    putstr("a");
+    putnumb(flush());
+}
