@@ -1,5 +1,0 @@
-/* print.b: flush, which does nothing. */
-main() {
-    putstr("a");
-    putnumb(flush());
-}
