@@ -1,10 +1,15 @@
 /* vectors.b: vectors. It needs no other file. */
 
-/* sort(v, n, order) sorts the n words v[0] to v[n - 1], the smallest first, and gives v. They are signed numbers, or
-   what order compares: order(a, b) is above 0 where a comes after b, as compare of strings.b is. Words that are equal
-   for order may change places.
+/* sort(v, n) sorts the n signed words v[0] to v[n - 1], the smallest first, and gives v.
    Known from: this project. */
-sort(v, n, order) {
+sort(v, n)
+    return(sortby(v, n, 0));
+
+/* sortby(v, n, order) sorts the n words by a function, and gives v: order(a, b) is above 0 where a comes after b, as
+   compare of strings.b is for strings. Words that are equal for it may change places. Where order is 0, they are signed
+   numbers.
+   Known from: this project. */
+sortby(v, n, order) {
     auto gap, i, k, x;
 
     gap = n / 2;

@@ -9,7 +9,7 @@ main() {
     givevec(words, 20);
     v = getvec(9);
     n = 0;
-    while(n < 10 ? getstr(line, 11) : 0)
+    while(n < 10 ? getline(line, 11) : 0)
         if(length(line) > 0 & compare(line, "none") != 0)
             v[n++] = number(line);
     sort(v, n);

@@ -1,9 +1,9 @@
-/* input.b: getstr of at most three characters, which leaves the words after them alone. */
+/* input.b: getline of at most three characters, which leaves the words after them alone. */
 main() {
     auto line 2;
 
     line[2] = 1972;
-    while(getstr(line, 3))
+    while(getline(line, 3))
         show(line);
     printn(line[2], 10);
 }

@@ -1,4 +1,4 @@
-/* vectors.b, strings.b, print.b: lines of sort, of sort with an order, and of getvec. */
+/* vectors.b, strings.b, print.b: lines of sort, of sortby, and of getvec. */
 words[5] "pear", "fig", "apple", "", "figs", "fig";
 numbers[3] 1, 3, 2, 3;
 room[9];
@@ -61,11 +61,11 @@ orders() {
     extrn words, numbers, compare, falling;
     auto i;
 
-    sort(words, 6, compare);
+    sortby(words, 6, compare);
     i = 0;
     while(i < 6)
         printf("<%s>", words[i++]);
-    sort(numbers, 4, falling);
+    sortby(numbers, 4, falling);
     i = 0;
     while(i < 4)
         printf(" %d", numbers[i++]);

@@ -1,7 +1,7 @@
 /* print.b: assert of a word that isn't 0, which it gives, and then of 0. */
 main() {
     putnumb(assert(7, "7 isn't 0"));
-    putnumb(assert(-1));
+    putnumb(assert(-1, ""));
     putchar('*n');
     assert(2 < 1, "2 is less than 1");
     putstr("not written");
@@ -76,11 +76,11 @@ flush()
     ;
 
 /* assert(ok, text) gives ok if it isn't 0. Otherwise it writes assert: and the string text, and ends the run with the
-   status 1. Where text is missing, it writes false in its place.
+   status 1.
    Known from: C. */
 assert(ok, text) {
     if(ok)
         return(ok);
-    printf("assert: %s*n", text ? text : "false");
+    printf("assert: %s*n", text);
     exit(1);
 }

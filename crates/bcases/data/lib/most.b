@@ -1,9 +1,9 @@
-/* input.b: getstr of at most three characters, which leaves the words after them alone. */
+/* input.b: getline of at most three characters, which leaves the words after them alone. */
 main() {
     auto line 2;
 
     line[2] = 1972;
-    while(getstr(line, 3))
+    while(getline(line, 3))
         show(line);
     printn(line[2], 10);
 }
@@ -19,18 +19,22 @@ show(s) {
 }
 /* input.b: what reads. It needs no other file. */
 
-/* getstr(s, most) reads a line into the string s, without its newline, and gives s. It gives 0 where the input is at
-   its end; then s is empty. The end of the input ends a line, too. A line of n characters takes the words s[0] to
-   s[n / 2]. Of a line with more than most characters, only the first most are kept; where most is 0 or missing, all
-   are.
-   Known from: Kernighan's tutorial; most is this project's. */
-getstr(s, most) {
+/* getline(s, most) reads a line into the string s, without its newline, and gives s. At the end of the input it gives
+   0, and s is empty. The last line needs no newline. Of a line with more than most characters, the first most are kept;
+   most is 1 at least. They take the words s[0] to s[most / 2].
+   Known from: C. */
+getline(s, most) {
     auto i, c;
 
     i = 0;
     while((c = getchar()) != '*n' & c != '*e')
-        if(most == 0 | i < most)
+        if(i < most)
             lchar(s, i++, c);
     lchar(s, i, '*e');
     return(c == '*e' & i == 0 ? 0 : s);
 }
+
+/* getstr(s) does the same, and keeps 32767 characters. s has to have room for each line that comes.
+   Known from: Kernighan's tutorial. */
+getstr(s)
+    return(getline(s, 32767));

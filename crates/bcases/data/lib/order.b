@@ -1,4 +1,4 @@
-/* vectors.b, strings.b, print.b: lines of sort, of sort with an order, and of getvec. */
+/* vectors.b, strings.b, print.b: lines of sort, of sortby, and of getvec. */
 words[5] "pear", "fig", "apple", "", "figs", "fig";
 numbers[3] 1, 3, 2, 3;
 room[9];
@@ -61,11 +61,11 @@ orders() {
     extrn words, numbers, compare, falling;
     auto i;
 
-    sort(words, 6, compare);
+    sortby(words, 6, compare);
     i = 0;
     while(i < 6)
         printf("<%s>", words[i++]);
-    sort(numbers, 4, falling);
+    sortby(numbers, 4, falling);
     i = 0;
     while(i < 4)
         printf(" %d", numbers[i++]);
@@ -100,11 +100,16 @@ vectors() {
 }
 /* vectors.b: vectors. It needs no other file. */
 
-/* sort(v, n, order) sorts the n words v[0] to v[n - 1], the smallest first, and gives v. They are signed numbers, or
-   what order compares: order(a, b) is above 0 where a comes after b, as compare of strings.b is. Words that are equal
-   for order may change places.
+/* sort(v, n) sorts the n signed words v[0] to v[n - 1], the smallest first, and gives v.
    Known from: this project. */
-sort(v, n, order) {
+sort(v, n)
+    return(sortby(v, n, 0));
+
+/* sortby(v, n, order) sorts the n words by a function, and gives v: order(a, b) is above 0 where a comes after b, as
+   compare of strings.b is for strings. Words that are equal for it may change places. Where order is 0, they are signed
+   numbers.
+   Known from: this project. */
+sortby(v, n, order) {
     auto gap, i, k, x;
 
     gap = n / 2;
@@ -303,11 +308,11 @@ flush()
     ;
 
 /* assert(ok, text) gives ok if it isn't 0. Otherwise it writes assert: and the string text, and ends the run with the
-   status 1. Where text is missing, it writes false in its place.
+   status 1.
    Known from: C. */
 assert(ok, text) {
     if(ok)
         return(ok);
-    printf("assert: %s*n", text ? text : "false");
+    printf("assert: %s*n", text);
     exit(1);
 }

@@ -1,26 +1,32 @@
 main() {
     auto line 10;
 
-    while(getstr(line, 21))
+    if(getstr(line))
+        printf("%s*n", line);
+    while(getline(line, 21))
         printf("<%s>*n", line);
 }
 /* input.b: what reads. It needs no other file. */
 
-/* getstr(s, most) reads a line into the string s, without its newline, and gives s. It gives 0 where the input is at
-   its end; then s is empty. The end of the input ends a line, too. A line of n characters takes the words s[0] to
-   s[n / 2]. Of a line with more than most characters, only the first most are kept; where most is 0 or missing, all
-   are.
-   Known from: Kernighan's tutorial; most is this project's. */
-getstr(s, most) {
+/* getline(s, most) reads a line into the string s, without its newline, and gives s. At the end of the input it gives
+   0, and s is empty. The last line needs no newline. Of a line with more than most characters, the first most are kept;
+   most is 1 at least. They take the words s[0] to s[most / 2].
+   Known from: C. */
+getline(s, most) {
     auto i, c;
 
     i = 0;
     while((c = getchar()) != '*n' & c != '*e')
-        if(most == 0 | i < most)
+        if(i < most)
             lchar(s, i++, c);
     lchar(s, i, '*e');
     return(c == '*e' & i == 0 ? 0 : s);
 }
+
+/* getstr(s) does the same, and keeps 32767 characters. s has to have room for each line that comes.
+   Known from: Kernighan's tutorial. */
+getstr(s)
+    return(getline(s, 32767));
 /* print.b: what writes. It needs no other file. */
 
 /* putstr(s) writes the string s. It writes nothing where s is 0, which is no string. Gives 0.
@@ -91,11 +97,11 @@ flush()
     ;
 
 /* assert(ok, text) gives ok if it isn't 0. Otherwise it writes assert: and the string text, and ends the run with the
-   status 1. Where text is missing, it writes false in its place.
+   status 1.
    Known from: C. */
 assert(ok, text) {
     if(ok)
         return(ok);
-    printf("assert: %s*n", text ? text : "false");
+    printf("assert: %s*n", text);
     exit(1);
 }

@@ -123,11 +123,11 @@ flush()
     ;
 
 /* assert(ok, text) gives ok if it isn't 0. Otherwise it writes assert: and the string text, and ends the run with the
-   status 1. Where text is missing, it writes false in its place.
+   status 1.
    Known from: C. */
 assert(ok, text) {
     if(ok)
         return(ok);
-    printf("assert: %s*n", text ? text : "false");
+    printf("assert: %s*n", text);
     exit(1);
 }

@@ -1,21 +1,36 @@
 v[4] 3, 1, 4, 1, 5;
 
 main() {
-    extrn v;
-    auto i;
+    extrn v, falling;
 
     sort(v, 5);
+    show(v);
+    sortby(v, 5, falling);
+    show(v);
+}
+
+falling(a, b)
+    return(b > a);
+
+show(v) {
+    auto i;
+
     i = 0;
     while(i < 5)
         printf("%d ", v[i++]);
 }
 /* vectors.b: vectors. It needs no other file. */
 
-/* sort(v, n, order) sorts the n words v[0] to v[n - 1], the smallest first, and gives v. They are signed numbers, or
-   what order compares: order(a, b) is above 0 where a comes after b, as compare of strings.b is. Words that are equal
-   for order may change places.
+/* sort(v, n) sorts the n signed words v[0] to v[n - 1], the smallest first, and gives v.
    Known from: this project. */
-sort(v, n, order) {
+sort(v, n)
+    return(sortby(v, n, 0));
+
+/* sortby(v, n, order) sorts the n words by a function, and gives v: order(a, b) is above 0 where a comes after b, as
+   compare of strings.b is for strings. Words that are equal for it may change places. Where order is 0, they are signed
+   numbers.
+   Known from: this project. */
+sortby(v, n, order) {
     auto gap, i, k, x;
 
     gap = n / 2;
@@ -142,11 +157,11 @@ flush()
     ;
 
 /* assert(ok, text) gives ok if it isn't 0. Otherwise it writes assert: and the string text, and ends the run with the
-   status 1. Where text is missing, it writes false in its place.
+   status 1.
    Known from: C. */
 assert(ok, text) {
     if(ok)
         return(ok);
-    printf("assert: %s*n", text ? text : "false");
+    printf("assert: %s*n", text);
     exit(1);
 }
