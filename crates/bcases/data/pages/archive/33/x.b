@@ -1,14 +1,14 @@
 main() {
     auto first 10, last 10, both 20;
 
-    putstr("First name? ");
+    putstr("First name?*n");
     flush();
     getstr(first);
-    putstr("Last name? ");
+    putstr("Last name?*n");
     flush();
     getstr(last);
     concat(both, last, ", ", first);
-    printf("*n%s has %d letters.*n", both, letters(both));
+    printf("%s has %d letters.*n", both, letters(both));
 }
 
 letters(s) {
