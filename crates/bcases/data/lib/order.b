@@ -1,0 +1,318 @@
+/* vectors.b, strings.b, print.b: lines of sort, of sortby, and of getvec. */
+words[5] "pear", "fig", "apple", "", "figs", "fig";
+numbers[3] 1, 3, 2, 3;
+room[9];
+
+main() {
+    sorts();
+    putchar('*n');
+    orders();
+    putchar('*n');
+    vectors();
+    putchar('*n');
+}
+
+sorts() {
+    auto v 4;
+
+    show(sort(set(v, 3, 1, 2, 0, 5), 0));
+    show(sort(set(v, 3, 1, 2, 0, 5), 1));
+    show(sort(set(v, 3, 1, 2, 0, 5), 2));
+    show(sort(set(v, 3, 1, 2, 0, 5), 5));
+    show(sort(set(v, 1, 2, 3, 4, 5), 5));
+    show(sort(set(v, 5, 4, 3, 2, 1), 5));
+    show(sort(set(v, 2, 1, 2, 1, 2), 5));
+    show(sort(set(v, 0, 32767, -1, 1 << 15, 1), 5));
+    show(sort(set(v, 3, 1, 2, 0, 5), -1));
+    set(v, 9, 8, 7, 6, 5);
+    sort(v + 1, 3);
+    show(v);
+    many();
+}
+
+set(v, a, b, c, d, e) {
+    v[0] = a;
+    v[1] = b;
+    v[2] = c;
+    v[3] = d;
+    v[4] = e;
+    return(v);
+}
+
+show(v)
+    printf("%d %d %d %d %d*n", v[0], v[1], v[2], v[3], v[4]);
+
+/* The numbers 0 to 99, 37 apart. */
+many() {
+    auto v 99, i;
+
+    i = 0;
+    while(i < 100) {
+        v[i] = i * 37 % 100;
+        i++;
+    }
+    sort(v, 100);
+    while(--i >= 0 ? v[i] == i : 0)
+        ;
+    printf("%d", i);
+}
+
+orders() {
+    extrn words, numbers, compare, falling;
+    auto i;
+
+    sortby(words, 6, compare);
+    i = 0;
+    while(i < 6)
+        printf("<%s>", words[i++]);
+    sortby(numbers, 4, falling);
+    i = 0;
+    while(i < 4)
+        printf(" %d", numbers[i++]);
+}
+
+falling(a, b)
+    return(b - a);
+
+vectors() {
+    extrn room;
+    auto a, b, c;
+
+    printf("%d ", getvec(0));
+    givevec(room, 9);
+    printf("%d %d %d ", getvec(10), getvec(-1), getvec(32767));
+    printf("%d ", getvec(9) == room);
+    printf("%d*n", getvec(0));
+    givevec(room, 9);
+    a = getvec(0);
+    b = getvec(3);
+    c = getvec(4);
+    printf("%d %d %d %d ", a == room, b == room + 1, c == room + 5, getvec(0));
+    rlsevec(b, 3);
+    printf("%d ", getvec(0));
+    rlsevec(c, 4);
+    rlsevec(0, 4);
+    printf("%d %d ", getvec(5), getvec(4) == c);
+    rlsevec(c, 4);
+    rlsevec(b, 3);
+    rlsevec(a, 0);
+    printf("%d", getvec(9) == room);
+}
+/* vectors.b: vectors. It needs no other file. */
+
+/* sort(v, n) sorts the n signed words v[0] to v[n - 1], the smallest first, and gives v.
+   Known from: this project. */
+sort(v, n)
+    return(sortby(v, n, 0));
+
+/* sortby(v, n, order) sorts the n words by a function, and gives v: order(a, b) is above 0 where a comes after b, as
+   compare of strings.b is for strings. Words that are equal for it may change places. Where order is 0, they are signed
+   numbers.
+   Known from: this project. */
+sortby(v, n, order) {
+    auto gap, i, k, x;
+
+    gap = n / 2;
+    while(gap > 0) {
+        i = gap;
+        while(i < n) {
+            x = v[i];
+            k = i++ - gap;
+            while(k < 0 ? 0 : (order ? order(v[k], x) > 0 : v[k] > x)) {
+                v[k + gap] = v[k];
+                k =- gap;
+            }
+            v[k + gap] = x;
+        }
+        gap =/ 2;
+    }
+    return(v);
+}
+
+/* givevec(v, n) gives the words v[0] to v[n], which are the program's own, to getvec. What it gave before is forgotten.
+   Gives 0.
+   Known from: this project. */
+givevec(v, n) {
+    extrn vecnext, vecleft;
+
+    vecnext = v;
+    vecleft = n + 1;
+}
+
+/* getvec(n) gives a vector v with the words v[0] to v[n], which no other call has. They aren't cleared. It gives 0
+   where fewer words are left of what givevec gave, or n is negative.
+   Known from: later compilers. */
+getvec(n) {
+    extrn vecnext, vecleft;
+
+    if(n < 0 | n >= vecleft)
+        return(0);
+    vecleft =- n + 1;
+    vecnext =+ n + 1;
+    return(vecnext - n - 1);
+}
+
+/* rlsevec(v, n) takes back v, which getvec(n) gave, where it is the last one that wasn't taken back. Else its words are
+   lost until givevec. Of 0, which is no vector, it takes nothing. Gives 0.
+   Known from: later compilers. */
+rlsevec(v, n) {
+    extrn vecnext, vecleft;
+
+    if(v ? v + n + 1 == vecnext : 0) {
+        vecnext = v;
+        vecleft =+ n + 1;
+    }
+}
+
+vecnext;
+vecleft;
+/* strings.b: strings, which end in *e. It needs no other file. A string of n characters takes n / 2 + 1 words: those
+   of auto v 10 hold up to 21 characters. */
+
+/* length(s) gives the number of characters of s, without its end.
+   Known from: later compilers. */
+length(s) {
+    auto n;
+
+    n = 0;
+    while(char(s, n) != '*e')
+        n++;
+    return(n);
+}
+
+/* copy(to, from) copies the string from with its end to to, and gives to.
+   Known from: later compilers. */
+copy(to, from) {
+    auto i;
+
+    i = 0;
+    while(lchar(to, i, char(from, i)) != '*e')
+        i++;
+    return(to);
+}
+
+/* concat(to, a, b, ..) puts up to ten strings into to, one after the other, and gives to. to has to have room for all
+   of their characters and one end. It may be the first of them, which is then made longer, and no other.
+   Known from: Kernighan's tutorial. */
+concat(to, a, b, c, d, e, f, g, h, i, j) {
+    auto n, from, at, k, ch;
+
+    n = at = 0;
+    while(n < 10 ? (from = (&a)[n++]) : 0) {
+        k = 0;
+        while((ch = char(from, k++)) != '*e')
+            lchar(to, at++, ch);
+    }
+    lchar(to, at, '*e');
+    return(to);
+}
+
+/* compare(s, t) gives 0 if the strings are equal, -1 if s comes before t, and 1 if it comes after t. The first
+   characters that differ decide; what ends first comes first.
+   Known from: later compilers. */
+compare(s, t) {
+    auto i, c, d;
+
+    i = 0;
+    while((c = char(s, i)) == (d = char(t, i++)))
+        if(c == '*e')
+            return(0);
+    if(c == '*e')
+        return(-1);
+    return(d == '*e' | c > d ? 1 : -1);
+}
+
+/* index(s, t) gives the index in s at which the string t is found first, or -1 where it isn't in s.
+   Known from: C. */
+index(s, t) {
+    auto i, k, c;
+
+    i = 0;
+    while(1) {
+        k = 0;
+        while((c = char(t, k)) != '*e' & char(s, i + k) == c)
+            k++;
+        if(c == '*e')
+            return(i);
+        if(char(s, i++) == '*e')
+            return(-1);
+    }
+}
+/* print.b: what writes. It needs no other file. */
+
+/* putstr(s) writes the string s. It writes nothing where s is 0, which is no string. Gives 0.
+   Known from: Kernighan's tutorial. */
+putstr(s) {
+    auto i, c;
+
+    i = 0;
+    if(s)
+        while((c = char(s, i++)) != '*e')
+            putchar(c);
+}
+
+/* putnumb(n) writes the number n to the base 10, - first if it is negative. Gives 0.
+   Known from: Kernighan's tutorial. */
+putnumb(n)
+    printn(n, 10);
+
+/* putoct(n) writes the 16 bits of the word n to the base 8, without a sign: -1 is 177777. Gives 0.
+   Known from: this project. */
+putoct(n) {
+    auto bit;
+
+    bit = 15;
+    while(bit > 0 & n >> bit == 0)
+        bit =- 3;
+    while(bit >= 0) {
+        putchar('0' + (n >> bit & 7));
+        bit =- 3;
+    }
+}
+
+/* printf(form, a, b, ..) writes the string form. In place of %d, %o, %c and %s it writes the next value: as putnumb,
+   putoct, putchar and putstr do. %% is a %. A % before anything else is written as it is, and takes no value. There
+   are nine values at most; one that is missing is 0. Gives 0.
+   Known from: the manual of 1972. */
+printf(form, a, b, c, d, e, f, g, h, i) {
+    auto at, taken, kind, x;
+
+    at = taken = 0;
+    while((kind = char(form, at++)) != '*e')
+        if(kind != '%')
+            putchar(kind);
+        else {
+            kind = char(form, at++);
+            x = taken < 9 ? (&a)[taken] : 0;
+            taken++;
+            if(kind == 'd')
+                putnumb(x);
+            else if(kind == 'o')
+                putoct(x);
+            else if(kind == 'c')
+                putchar(x);
+            else if(kind == 's')
+                putstr(x);
+            else {
+                putchar('%');
+                taken--;
+                if(kind != '%')
+                    at--;
+            }
+        }
+}
+
+/* flush() does nothing: the output is shown before the program waits for input. Gives 0.
+   Known from: Kernighan's tutorial. */
+flush()
+    ;
+
+/* assert(ok, text) gives ok if it isn't 0. Otherwise it writes assert: and the string text, and ends the run with the
+   status 1.
+   Known from: C. */
+assert(ok, text) {
+    if(ok)
+        return(ok);
+    printf("assert: %s*n", text);
+    exit(1);
+}

@@ -1,0 +1,1 @@
+main() { auto i; i = 0; while(i < 3) { printn(i, 10); i++; } }

@@ -1,0 +1,1 @@
+main() if(1 > 2 | 2 > 1) putchar('y');

@@ -1,0 +1,1 @@
+main() { auto i; i = 1; i =+ 2; printn(i, 10); }

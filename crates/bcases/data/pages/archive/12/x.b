@@ -1,0 +1,1 @@
+f() return 5; main() printn(f(), 10);

@@ -1,0 +1,1 @@
+main() switch 2 { case 2: putchar('2'); }

@@ -1,0 +1,1 @@
+main() { repeat { putchar('r'); exit(); } }

@@ -1,0 +1,1 @@
+n -5; main() { extrn n; printn(n, 10); }

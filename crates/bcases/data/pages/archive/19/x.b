@@ -1,0 +1,1 @@
+n 65531; main() { extrn n; printn(n, 10); }
