@@ -1,4 +1,5 @@
 mod Finding
+mod Searching
 mod Functions
 mod PlaceParts
 mod RowParts

@@ -1,7 +1,6 @@
 //! What is known of the functions of a program.
-ghost use Rattle.std.specs.Prelude.{◌≡◌, ◌≤◌, IfOk, map, option_map};
-ghost use Rattle.blang.specs.Layout.{data_end, shape_of};
-ghost use Rattle.btrace.specs.Programs.{entries_of, function_with, function_named, functions_of, placed_entry};
+ghost use Rattle.std.specs.Prelude.{◌<◌};
+ghost use Rattle.std.specs.List.{AllPairs};
 
 use blang::{Definition, FunctionParts};
 use bmach::{FIRST_ADDRESS, size_of};
@@ -23,9 +22,14 @@ pub struct Entry<'a> {
 pub struct Tables<'a> {
     entries: Vec<Entry<'a>>,
     lines: &'a [u64],
+    ghost in_order: { AllPairs (λ e f. e.strings < f.strings) entries.items },
 }
 
 impl<'a> Tables<'a> {
+    ghost use Rattle.std.specs.Prelude.{◌≡◌, ◌≤◌, IfOk, map, option_map};
+    ghost use Rattle.blang.specs.Layout.{data_end, shape_of};
+    ghost use Rattle.btrace.specs.Programs.{entries_of, function_with, function_named, functions_of, placed_entry};
+
     pub fn new(alloc: Global, program: &'a Program) -> Result<Self, AllocError>
         requires { data_end (map shape_of program.now.definitions.items) ≤ 65536 }
         ensures { IfOk result (λ t. entries_of t ≡ functions_of program.now.definitions.items) }
@@ -54,9 +58,20 @@ impl<'a> Tables<'a> {
     pub fn entry(&self, strings: u32) -> Option<Entry<'a>>
         ensures { option_map placed_entry result ≡ function_with (entries_of self.now) strings }
     {
-        for entry in &self.entries {
+        let mut low = 0;
+        let mut size = self.entries.len();
+        while size > 0 {
+            let half = size / 2;
+            let place = low + half;
+            let entry = self.entries[place];
             if entry.strings == strings {
-                return Some(*entry);
+                return Some(entry);
+            }
+            if entry.strings < strings {
+                low = place + 1;
+                size -= half + 1;
+            } else {
+                size = half;
             }
         }
         None

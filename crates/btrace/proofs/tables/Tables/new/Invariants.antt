@@ -1,6 +1,8 @@
-use Rattle.std.proofs.Common.{◌≡◌, map, take}
+use Rattle.std.proofs.Common.{◌≡◌, ◌≤◌, map, take}
+use Rattle.std.specs.List.{All}
 use Rattle.blang.specs.Layout.{data_end, shape_of}
 use Rattle.btrace.specs.Programs.{functions_of, placed_entry}
+use Rattle.btrace.proofs.Searching.{Ascend}
 use Rattle.btrace.proofs.tables.Tables.new.Given as goal
 
 -- the functions so far, and where the next definition lies
@@ -8,4 +10,6 @@ abbrev pub invariant-loop-definition : goal.invariant-loop-definition
 invariant-loop-definition l = record {
   address : l.address ≡ data_end (map shape_of (take l.definition-index l.definition-items));
   entries : map placed_entry l.entries.items ≡ functions_of (take l.definition-index l.definition-items);
+  ascend : Ascend l.entries.items;
+  below : All (λ e. e.strings ≤ l.address) l.entries.items;
 }
