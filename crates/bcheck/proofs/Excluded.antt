@@ -25,7 +25,7 @@ use Rattle.btree.specs.SourceRows.{ComesIn}
 use Rattle.btree.proofs.SourceRows.{edition_rows}
 use Rattle.bcheck.specs.Checks as checks
 use Rattle.bcheck.specs.Checks.{IsOver, Reason, StandsOn, code_keyword, column_after, diagnostic_code, json_text}
-use Rattle.bcheck.specs.Checks.{AreFindings, Check, Checks, FindingParts, Outcome, TellsFirst, finding_column, finding_fix, finding_head, finding_line, finding_start, finding_text, outcome_of, findings_text, severity_of, shown_in_form, told_first}
+use Rattle.bcheck.specs.Checks.{AreFindings, Check, Checks, FindingParts, Outcome, TellsFirst, finding_column, fix_and_second, finding_head, finding_line, finding_start, finding_text, outcome_of, findings_text, severity_of, shown_in_form, told_first}
 use Rattle.bcheck.specs.Excluded.{BeginsWith, ComesTo, Excluded, IsTold, Never, NeverOf, finding_lines, is_printed, newlines}
 use Rattle.bcheck.specs.declared.finding.Severity.{Severity}
 use Rattle.bcheck.specs.declared.finding.Severity.TheVariants as severity
@@ -212,7 +212,7 @@ words_after k h s i m q a = simp append_assoc refl
 
 json_words : {source : List ℕ} (p : FindingParts source) (file after : List ℕ) → (more : List ℕ) × ((text_placed form.Json severity.Error file p).0 ++ after ≡ json_text p.code ++ more)
 unfolding text_placed
-json_words p file after = (_, words_after (json_text p.code) (codes ",\"message\":") (json_text p.sentence) (codes ",\"fix\":") (finding_fix p) (codes "}\n") after)
+json_words p file after = (_, words_after (json_text p.code) (codes ",\"message\":") (json_text p.sentence) (codes ",\"fix\":") (fix_and_second p) (codes "}\n") after)
 
 other_letters : NeverOf (λ c d row column rest. (c.form ≡ form.Json) × (first : ℕ) × (second : ℕ) × (more : List ℕ)
     × (rest ≡ 34 ∷ first ∷ second ∷ more) × (first ∷ second ∷ [] ≢ letters_text d.letters))

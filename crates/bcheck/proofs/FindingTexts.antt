@@ -10,7 +10,7 @@ use Rattle.std.proofs.Math.Nat.{add_comm, mod-lt, suc-mul, zero-add, zero-mul}
 use Rattle.std.proofs.lemmas.List.Folds.{list_all-append}
 use Rattle.std.proofs.lemmas.List.Sums.{sum_by-append}
 use Rattle.blang.specs.Cut.{line_number_after}
-use Rattle.bcheck.specs.Checks.{FindingParts, Second, column_after, finding_fix, second_text, file_byte, file_text, finding_column, finding_head, finding_line, finding_mark, finding_shown, finding_start, finding_text, finding_words, is_on_line, shown_text, json_byte, json_text, severity_word}
+use Rattle.bcheck.specs.Checks.{FindingParts, Second, column_after, fix_and_second, second_text, file_byte, file_text, finding_column, finding_head, finding_line, finding_mark, finding_shown, finding_start, finding_text, finding_words, is_on_line, shown_text, json_byte, json_text, severity_word}
 use Rattle.bcheck.specs.Excluded.{finding_lines, is_printed, newlines}
 use Rattle.bcheck.proofs.OnLine.{both_on_line, of_three, replicate_on_line, shown_on_line}
 use Rattle.bcheck.specs.declared.finding.Severity.{Severity}
@@ -230,7 +230,7 @@ fix_line p = codes "  fix: " ++ p.fix
 
 abbrev object_line : {source : List ℕ} → Severity → (file : List ℕ) → FindingParts source → List ℕ
 object_line s file p =
-    codes "{\"file\":" ++ (json_text file ++ (codes ",\"line\":" ++ (decimal (finding_line p) ++ (codes ",\"column\":" ++ (decimal (finding_column p) ++ (codes ",\"severity\":\"" ++ (severity_word s ++ (codes "\",\"code\":" ++ (json_text p.code ++ (codes ",\"message\":" ++ (json_text p.sentence ++ (codes ",\"fix\":" ++ (finding_fix p ++ codes "}")))))))))))))
+    codes "{\"file\":" ++ (json_text file ++ (codes ",\"line\":" ++ (decimal (finding_line p) ++ (codes ",\"column\":" ++ (decimal (finding_column p) ++ (codes ",\"severity\":\"" ++ (severity_word s ++ (codes "\",\"code\":" ++ (json_text p.code ++ (codes ",\"message\":" ++ (json_text p.sentence ++ (codes ",\"fix\":" ++ (fix_and_second p ++ codes "}")))))))))))))
 
 sentence_one : {source : List ℕ} → (s : Severity) (p : FindingParts source) → IsTrue (is_one_line (sentence_line s p))
 sentence_one s p =
@@ -252,7 +252,7 @@ second_one (Some s) =
     (more (codes ",\"related\":{\"line\":") _ refl (more (decimal (line_number_after 1 s.before)) _ (digits_line (line_number_after 1 s.before))
     (more (codes ",\"column\":") _ refl (more (decimal (column_after 1 s.before)) _ (digits_line (column_after 1 s.before)) (last_line (codes "}") refl))))).line
 
-fix_json_one : {source : List ℕ} → (p : FindingParts source) → IsTrue (is_one_line (finding_fix p))
+fix_json_one : {source : List ℕ} → (p : FindingParts source) → IsTrue (is_one_line (fix_and_second p))
 fix_json_one p = all_more (nat_le 32) (json_text p.fix) (second_text p.second) (json_one p.fix) (second_one p.second)
 
 object_one : {source : List ℕ} → (s : Severity) (file : List ℕ) (p : FindingParts source) → IsTrue (is_one_line (object_line s file p))
@@ -260,7 +260,7 @@ object_one s file p =
     (more (codes "{\"file\":") _ refl (more (json_text file) _ (json_one file) (more (codes ",\"line\":") _ refl (more (decimal (finding_line p)) _ (digits_line (finding_line p))
     (more (codes ",\"column\":") _ refl (more (decimal (finding_column p)) _ (digits_line (finding_column p)) (more (codes ",\"severity\":\"") _ refl (more (severity_word s) _ (word_line s)
     (more (codes "\",\"code\":") _ refl (more (json_text p.code) _ (json_one p.code) (more (codes ",\"message\":") _ refl (more (json_text p.sentence) _ (json_one p.sentence)
-    (more (codes ",\"fix\":") _ refl (more (finding_fix p) _ (fix_json_one p) (last_line (codes "}") refl))))))))))))))).line
+    (more (codes ",\"fix\":") _ refl (more (fix_and_second p) _ (fix_json_one p) (last_line (codes "}") refl))))))))))))))).line
 
 in_object : (a f b l c d e w g k h s i m q r x : List ℕ)
     → a ++ f ++ b ++ l ++ c ++ d ++ e ++ w ++ g ++ (k ++ h ++ s ++ i ++ m) ++ (q ++ r) ++ x ≡ a ++ (f ++ (b ++ (l ++ (c ++ (d ++ (e ++ (w ++ (g ++ (k ++ (h ++ (s ++ (i ++ (m ++ q))))))))))))) ++ (r ++ x)
@@ -276,7 +276,7 @@ people_is s file p rest = simp append_assoc refl
 
 object_is : {source : List ℕ} → (s : Severity) (file : List ℕ) (p : FindingParts source) (rest : List ℕ) → finding_text form.Json s file p ++ rest ≡ object_line s file p ++ 10 ∷ rest
 object_is s file p rest =
-    in_object (codes "{\"file\":") (json_text file) (codes ",\"line\":") (decimal (finding_line p)) (codes ",\"column\":") (decimal (finding_column p)) (codes ",\"severity\":\"") (severity_word s) (codes "\",\"code\":") (json_text p.code) (codes ",\"message\":") (json_text p.sentence) (codes ",\"fix\":") (finding_fix p) (codes "}") (codes "\n") rest
+    in_object (codes "{\"file\":") (json_text file) (codes ",\"line\":") (decimal (finding_line p)) (codes ",\"column\":") (decimal (finding_column p)) (codes ",\"severity\":\"") (severity_word s) (codes "\",\"code\":") (json_text p.code) (codes ",\"message\":") (json_text p.sentence) (codes ",\"fix\":") (fix_and_second p) (codes "}") (codes "\n") rest
 
 tails : (xs ys : List ℕ) → 10 ∷ xs ≡ 10 ∷ ys → xs ≡ ys
 tails xs ys e = cc
@@ -395,7 +395,7 @@ second_printed (Some s) =
     (add (codes ",\"related\":{\"line\":") _ refl (add (decimal (line_number_after 1 s.before)) _ (digits_printed (line_number_after 1 s.before))
     (add (codes ",\"column\":") _ refl (add (decimal (column_after 1 s.before)) _ (digits_printed (column_after 1 s.before)) (last_words (codes "}") refl))))).printed
 
-fix_json_printed : {source : List ℕ} → (p : FindingParts source) → IsTrue (is_on_line p.fix) → IsTrue (is_printed (finding_fix p))
+fix_json_printed : {source : List ℕ} → (p : FindingParts source) → IsTrue (is_on_line p.fix) → IsTrue (is_printed (fix_and_second p))
 fix_json_printed p h = both_printed (json_text p.fix) (second_text p.second) (json_printed p.fix h) (second_printed p.second)
 
 text_printed : {source : List ℕ} → (form : Form) (s : Severity) (file : List ℕ) (p : FindingParts source) → IsTrue (is_printed (finding_start form file)) → IsTrue (is_printed (finding_text form s file p))
@@ -408,11 +408,11 @@ text_printed form.Text s file p h =
     (add (finding_mark p) _ (words_printed (finding_mark p) parts.3) (add (codes "\n  fix: ") _ refl (add p.fix _ (words_printed p.fix parts.4) (last_words (codes "\n") refl))))))))))))))).printed
 text_printed form.Json s file p h =
     let parts = parts_of p in
-    let text = after_start (finding_start form.Json file) (decimal (finding_line p)) (codes ",\"column\":") (decimal (finding_column p)) (codes ",\"severity\":\"") (severity_word s) (codes "\",\"code\":") (json_text p.code) (codes ",\"message\":") (json_text p.sentence) (codes ",\"fix\":") (finding_fix p) (codes "}\n") in
+    let text = after_start (finding_start form.Json file) (decimal (finding_line p)) (codes ",\"column\":") (decimal (finding_column p)) (codes ",\"severity\":\"") (severity_word s) (codes "\",\"code\":") (json_text p.code) (codes ",\"message\":") (json_text p.sentence) (codes ",\"fix\":") (fix_and_second p) (codes "}\n") in
     subst (λ t. IsTrue (is_printed t)) (sym text)
     (add (finding_start form.Json file) _ h (add (decimal (finding_line p)) _ (digits_printed (finding_line p)) (add (codes ",\"column\":") _ refl (add (decimal (finding_column p)) _ (digits_printed (finding_column p)) (add (codes ",\"severity\":\"") _ refl
     (add (severity_word s) _ (word_printed s) (add (codes "\",\"code\":") _ refl (add (json_text p.code) _ (json_printed p.code parts.0) (add (codes ",\"message\":") _ refl
-    (add (json_text p.sentence) _ (json_printed p.sentence parts.1) (add (codes ",\"fix\":") _ refl (add (finding_fix p) _ (fix_json_printed p parts.4) (last_words (codes "}\n") refl))))))))))))).printed
+    (add (json_text p.sentence) _ (json_printed p.sentence parts.1) (add (codes ",\"fix\":") _ refl (add (fix_and_second p) _ (fix_json_printed p parts.4) (last_words (codes "}\n") refl))))))))))))).printed
 
 pub findings_printed : {source : List ℕ} → (form : Form) (s : Severity) (file : List ℕ) → IsTrue (is_printed (finding_start form file)) → (ps : List (FindingParts source)) → IsTrue (is_printed (flat_map (finding_text form s file) ps))
 findings_printed form s file h [] = refl

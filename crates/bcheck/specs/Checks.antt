@@ -171,14 +171,15 @@ second_text None = []
 second_text (Some s) =
     spot_words (line_number_after 1 s.before) (column_after 1 s.before)
 
-abbrev pub finding_fix : {source : List ℕ} → FindingParts source → List ℕ
-finding_fix p = json_text p.fix ++ second_text p.second
+-- the fix, and the second place, if there is one
+abbrev pub fix_and_second : {source : List ℕ} → FindingParts source → List ℕ
+fix_and_second p = json_text p.fix ++ second_text p.second
 
 abbrev pub finding_words : {source : List ℕ} → Form → FindingParts source → List ℕ
 finding_words form.Text p =
     p.sentence ++ codes "\n    " ++ finding_shown p ++ codes "\n    " ++ finding_mark p ++ codes "\n  fix: " ++ p.fix
 finding_words form.Json p =
-    json_text p.code ++ codes ",\"message\":" ++ json_text p.sentence ++ codes ",\"fix\":" ++ finding_fix p
+    json_text p.code ++ codes ",\"message\":" ++ json_text p.sentence ++ codes ",\"fix\":" ++ fix_and_second p
 
 -- A finding begins with the name of the file: for people on one line, for editors as the first member of an object.
 abbrev pub finding_start : Form → (file : List ℕ) → List ℕ

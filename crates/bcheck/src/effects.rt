@@ -1,7 +1,7 @@
 //! Statements that do nothing.
 use crate::around::ends_statement;
 use crate::brackets::Brackets;
-use crate::kinds::{Kind, is_ended};
+use crate::kinds::{Kind, is_ended, is_operand};
 use crate::patterns::Found;
 use crate::spans::{Span, lexeme_at};
 use crate::warnings::Warning;
@@ -32,16 +32,11 @@ pub(crate) fn statement(spans: &[Span], brackets: &Brackets, first: usize) -> Op
 }
 
 fn begins_expression(lexeme: &Lexeme) -> bool {
-    matches!(
-        lexeme,
-        Lexeme::Name(_)
-            | Lexeme::Number(_)
-            | Lexeme::Character(_)
-            | Lexeme::String
-            | Lexeme::OpenParen
-            | Lexeme::Not
-            | Lexeme::Operator(BinOp::Mul | BinOp::Sub | BinOp::And)
-    )
+    is_operand(lexeme)
+        || matches!(
+            lexeme,
+            Lexeme::OpenParen | Lexeme::Not | Lexeme::Operator(BinOp::Mul | BinOp::Sub | BinOp::And)
+        )
 }
 
 // Whether a statement begins with this token.

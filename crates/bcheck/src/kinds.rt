@@ -104,7 +104,8 @@ fn is_type(lexeme: &Lexeme) -> bool {
     }
 }
 
-fn is_operand(lexeme: &Lexeme) -> bool {
+/// Whether a token is an operand.
+pub(crate) fn is_operand(lexeme: &Lexeme) -> bool {
     matches!(
         lexeme,
         Lexeme::Name(_) | Lexeme::Number(_) | Lexeme::Character(_) | Lexeme::String
@@ -113,17 +114,11 @@ fn is_operand(lexeme: &Lexeme) -> bool {
 
 /// Whether an operand may end with this token.
 pub(crate) fn is_ended(lexeme: &Lexeme) -> bool {
-    matches!(
-        lexeme,
-        Lexeme::Name(_)
-            | Lexeme::Number(_)
-            | Lexeme::Character(_)
-            | Lexeme::String
-            | Lexeme::CloseParen
-            | Lexeme::CloseBracket
-            | Lexeme::Increment
-            | Lexeme::Decrement
-    )
+    is_operand(lexeme)
+        || matches!(
+            lexeme,
+            Lexeme::CloseParen | Lexeme::CloseBracket | Lexeme::Increment | Lexeme::Decrement
+        )
 }
 
 fn waits(lexeme: &Lexeme) -> bool {

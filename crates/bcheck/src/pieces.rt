@@ -1,5 +1,4 @@
 //! The pieces that the text of a finding consists of.
-ghost use Rattle.std.specs.Char.{digit_char};
 ghost use Rattle.std.specs.List.{flat_map};
 ghost use Rattle.std.specs.Prelude.{◌≡◌, ◌<◌, ◌++◌, OnOk, replicate};
 ghost use Rattle.bcheck.specs.Checks.{escaped, file_byte, file_text, json_byte, json_text, shown_byte, shown_text};
@@ -121,18 +120,14 @@ fn push_file_byte(text: &mut Text, byte: u8) -> Result<(), AllocError>
 fn push_escaped(text: &mut Text, byte: u8) -> Result<(), AllocError>
     ensures { OnOk result (text.new ≡ text.old ++ escaped byte) }
 {
-    text.push(&[b'\\', b'u', b'0', b'0', digit(byte / 16), digit(byte % 16)])
-}
-
-fn digit(value: u8) -> u8
-    requires { value < 16 }
-    ensures { result ≡ digit_char value }
-{
-    if value < 10 {
-        b'0' + value
-    } else {
-        b'a' - 10 + value
-    }
+    text.push(&[
+        b'\\',
+        b'u',
+        b'0',
+        b'0',
+        hexadecimal_digit(byte / 16),
+        hexadecimal_digit(byte % 16),
+    ])
 }
 
 fn push_shown(text: &mut Text, bytes: &[u8]) -> Result<(), AllocError>

@@ -33,7 +33,7 @@ pub record TakesText (old : Ahead) (text : List ℕ) (count : ℕ) (new : Ahead)
   pub lines : AreLines count text
   pub counted : new.line ≡ old.line + count
 
--- A read failed after these bytes, and nothing was read after that.
+-- A read failed after these bytes, and no read came after it.
 pub record BytesFail (old new : Ahead) : Type 0 where
   pub taken : List ℕ
   pub fails : FailsAfter old.end taken new.end

@@ -115,7 +115,7 @@ pub record MemoryRefused (before : List Definition) (old new : CodeReader) : Typ
   pub whole : definition_text next ≡ header_line next ++ rest ++ more
   pub closed : new.is_closed ≡ true
 
--- A read failed before a further definition was whole, and nothing was read after that.
+-- A read failed before a further definition was whole, and no read came after it.
 pub record ReadBroke (before : List Definition) (old new : CodeReader) : Type 0 where
   pub breaks : BytesFail old.ahead new.ahead
   pub none : NoneWhole old.first.edition (opening_read old ++ flat_map definition_text before ++ breaks.taken) before

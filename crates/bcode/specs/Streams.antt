@@ -43,7 +43,7 @@ pub record TakesLine (old : Incoming) (bytes : List ℕ) (new : Incoming) : Type
   pub failures : new.failures ≡ old.failures
   pub whole : IsWholeLine bytes ⊎ (HasNoNewline bytes × ((new.is_over ≡ true) ⊎ (length bytes ≡ LINE_LEN)))
 
--- After these bytes a read failed, and nothing was read after that.
+-- After these bytes a read failed, and no read came after it. A byte that was ready by then may be among them.
 pub record FailsAfter (old : Incoming) (taken : List ℕ) (new : Incoming) : Type 0 where
   pub mid : Incoming
   pub took : Took old taken mid

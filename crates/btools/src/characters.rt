@@ -1,4 +1,5 @@
 //! Words shown as characters.
+ghost use Rattle.std.specs.Char.{digit_char};
 ghost use Rattle.std.specs.Prelude.{◌≡◌, ◌++◌, OnOk};
 ghost use Rattle.btools.specs.Characters.{shown_byte, shown_word};
 
@@ -29,5 +30,17 @@ pub fn push_byte(text: &mut Text, byte: u8) -> Result<(), AllocError>
         4 => text.push(b"*e"),
         32..=126 => text.push(&[byte]),
         _ => text.push(b"."),
+    }
+}
+
+/// The hexadecimal digit of a number below 16.
+pub fn hexadecimal_digit(value: u8) -> u8
+    requires { value < 16 }
+    ensures { result ≡ digit_char value }
+{
+    if value < 10 {
+        b'0' + value
+    } else {
+        b'a' - 10 + value
     }
 }

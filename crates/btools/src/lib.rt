@@ -7,7 +7,7 @@ mod program;
 mod telling;
 mod text;
 
-pub use characters::{push_byte, push_characters};
+pub use characters::{hexadecimal_digit, push_byte, push_characters};
 pub use frames::{Frame, FrameWord, frames_of};
 pub use program::{Names, Program, lines_in, load_line, read_program, wrong_programs_are_excluded};
 pub use telling::tell;

@@ -1,6 +1,5 @@
 //! The rows of a trace.
 ghost use Rattle.std.specs.Prelude.{◌≡◌, ◌≤◌, ℕ, List, [], ◌+◌, ◌-◌, ◌%◌, ◌^◌, ◌<◌, ◌++◌, OnOk, option_map};
-ghost use Rattle.std.specs.Char.{digit_char};
 ghost use Rattle.std.specs.List.{flat_map, range_with_len};
 ghost use Rattle.btools.specs.Columns.{left};
 ghost use Rattle.btrace.specs.Programs.{entries_of, placed_entry};
@@ -175,19 +174,12 @@ fn push_written_byte(text: &mut Text, byte: u8) -> Result<(), AllocError>
 fn push_hexadecimal(text: &mut Text, byte: u8) -> Result<(), AllocError>
     ensures { OnOk result (text.new ≡ text.old ++ hexadecimal byte) }
 {
-    text.push(&[b'\\', b'x', digit(byte / 16), digit(byte % 16)])
-}
-
-// A hexadecimal digit.
-fn digit(value: u8) -> u8
-    requires { value < 16 }
-    ensures { result ≡ digit_char value }
-{
-    if value < 10 {
-        b'0' + value
-    } else {
-        b'a' - 10 + value
-    }
+    text.push(&[
+        b'\\',
+        b'x',
+        hexadecimal_digit(byte / 16),
+        hexadecimal_digit(byte % 16),
+    ])
 }
 
 fn push_margin(text: &mut Text) -> Result<(), AllocError>
