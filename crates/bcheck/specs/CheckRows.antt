@@ -1,4 +1,4 @@
--- Closed facts on what is told of a source, each at its limits and one past them.
+-- Closed facts: what is told of a source, each at its limits and one past them.
 use Rattle.std.specs.Prelude.{◌≡◌, [], ◌∷◌, ◌++◌, codes, map, None, Some, refl, true, false}
 use Rattle.std.specs.Fmt.{digits}
 use Rattle.blang.specs.declared.token.About.TheVariants as about

@@ -1,4 +1,4 @@
--- What is written of a source that is checked.
+-- Promise: what is written of a source that is checked.
 use Rattle.std.specs.Prelude.{◌≡◌, ◌≢◌, ℕ, ◌/◌, ◌%◌, ◌+◌, ◌<◌, ◌==◌, ◌||◌, nat_lt, not, Bool, IsTrue, if◌then◌else◌}
 use Rattle.std.specs.Prelude.{List, [], ◌∷◌, ◌++◌, ◌⊎◌, codes, decimal, length, map, min, replicate, Option, Some, None}
 use Rattle.std.specs.Prelude.{unwrap_or}

@@ -1,4 +1,4 @@
--- What the contract of a check excludes, whatever its source, its file and its output are.
+-- Promise: what the contract of a check excludes, whatever its source, its file and its output are.
 use Rattle.std.specs.Prelude.{◌≡◌, ◌≢◌, ℕ, ◌+◌, ◌*◌, ◌<◌, ◌≤◌, ◌==◌, Bool, ◌||◌, false, IsTrue}
 use Rattle.std.specs.Prelude.{List, [], ◌∷◌, ◌++◌, Some, codes, decimal, map}
 use Rattle.std.specs.Int.{is_in_range}

@@ -1,4 +1,4 @@
--- What is known of a finding before it is told.
+-- Promise: what is known of a finding before it is told.
 use Rattle.std.specs.Prelude.{◌≡◌, ℕ, ◌<◌, IsTrue, false, List, [], ◌++◌, codes, drop, length, take}
 use Rattle.std.specs.Prelude.{Option, Some, IfSome}
 use Rattle.bword.specs.declared.edition.Edition.{Edition}

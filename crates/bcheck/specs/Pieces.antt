@@ -1,4 +1,4 @@
--- The text of each piece.
+-- Inner words: the text of each piece.
 use Rattle.std.specs.Prelude.{ℕ, List, [], Option, Some, None, decimal, replicate}
 use Rattle.std.specs.List.{flat_map}
 use Rattle.bcheck.specs.Checks.{file_text, json_text, shown_text, spot_words}

@@ -1,4 +1,4 @@
--- What no reader of a code text does.
+-- Promise: what no reader of a code text does.
 use Rattle.std.specs.Prelude.{◌≡◌, ℕ, suc, ◌≤◌, List, [], ◌++◌, length}
 use Rattle.bcode.specs.Readers.{CodeReader, StoppedAtLine}
 use Rattle.bcode.specs.Streams.{AreLines}

@@ -1,4 +1,4 @@
--- Where a text stops being the beginning of a code text.
+-- Promise: where a text stops being the beginning of a code text.
 use Rattle.std.specs.Prelude.{◌≡◌, ℕ, suc, ◌≤◌, List, ◌++◌, length, take, All}
 use Rattle.std.specs.List.{flat_map}
 use Rattle.bword.specs.declared.edition.Edition.{Edition}

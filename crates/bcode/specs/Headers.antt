@@ -1,4 +1,4 @@
--- What the first line of a definition tells of it.
+-- Inner words: what the first line of a definition tells of it.
 use Rattle.std.specs.Prelude.{ℕ, ◌&&◌, ◌||◌, ◌==◌, nat_le, Bool, true, List, [], ◌∷◌, codes, decimal, length, IsTrue}
 use Rattle.bword.specs.Words.{is_name}
 use Rattle.blang.specs.CodeParts.{sizes_of}

@@ -1,4 +1,4 @@
--- Which lines are read, each range at its limit and one past it.
+-- Closed facts: which lines are read, each range at its limit and one past it.
 use Rattle.std.specs.Prelude.{◌≡◌, ℕ, ◌^◌, true, false, List, [], ◌∷◌, map, length, replicate, is_some, codes, refl}
 use Rattle.bcode.specs.LineReading.{header_at, any_header_at, sizes_at, function_header_at, simple_header_at}
 use Rattle.bcode.specs.LineReading.{vector_header_at, line_ended, instr_at, ival_line_at, number_line_at, operand_at}

@@ -1,4 +1,4 @@
--- What goes to a stream by way of a page, which is put when it is full.
+-- Inner words: what goes to a stream by way of a page, which is put when it is full.
 use Rattle.std.specs.Prelude.{◌≡◌, ℕ, List, ◌++◌, Result, Ok, Err}
 use Rattle.bword.specs.ByteEnds.{Outgoing, Writes, Refuses}
 use Rattle.bword.specs.declared.ends.EndFault.{EndFault}

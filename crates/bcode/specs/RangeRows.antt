@@ -1,4 +1,4 @@
--- The ranges of a code text: each at its limit, and one past it.
+-- Closed facts: the ranges of a code text: each at its limit, and one past it.
 use Rattle.std.specs.Prelude.{ℕ, ◌<◌, ◌≤◌, [], length, replicate, codes, refl}
 use Rattle.std.proofs.Common.{arith}
 use Rattle.std.proofs.lemmas.List.{length-replicate}

@@ -1,4 +1,4 @@
--- Which answers end a stream of code, and that a code text is not refused.
+-- Closed facts: which answers end a stream of code, and that a code text is not refused.
 use Rattle.std.specs.Prelude.{◌≡◌, ℕ, true, false, List, [], ◌∷◌, map, replicate, codes, All, refl}
 use Rattle.std.proofs.Common.{ap, arith}
 use Rattle.bword.specs.declared.edition.Edition.TheVariants as editions

@@ -1,4 +1,4 @@
--- What a call of the reader of a code text does, counted from when the reader was made.
+-- Promise: what a call of the reader of a code text does, counted from when the reader was made.
 use Rattle.std.specs.Prelude.{◌≡◌, ℕ, ◌+◌, ◌<◌, Bool, true, false, List, [], ◌∷◌, ◌++◌, length, All, Option, Some, None}
 use Rattle.std.specs.Prelude.{Result, Ok, Err, if◌then◌else◌}
 use Rattle.std.specs.List.{flat_map}

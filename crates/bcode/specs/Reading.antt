@@ -1,4 +1,4 @@
--- Reading the parts of a line from the front of a text: what was read, and the text after it.
+-- Inner words: reading the parts of a line from the front of a text: what was read, and the text after it.
 use Rattle.std.specs.Prelude.{◌≡◌, ℕ, ◌+◌, ◌*◌, ◌-◌, ◌==◌, nat_lt, if◌then◌else◌, List, [], ◌∷◌, take, drop, Option}
 use Rattle.std.specs.Prelude.{Some, None}
 use Rattle.std.specs.Char.{is_ascii_digit}

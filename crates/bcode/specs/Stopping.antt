@@ -1,4 +1,4 @@
--- A text as lines, each of which a state expects or not.
+-- Promise: a text as lines, each of which a state expects or not.
 use Rattle.std.specs.Prelude.{◌≡◌, ℕ, zero, suc, ◌<◌, List, [], ◌∷◌, ◌++◌, replicate, ◌⊎◌}
 use Rattle.blang.specs.CodeParts.{IsWord, IsInstrWithin, IsIvalWithin}
 use Rattle.bcode.specs.Headers.{header_text, IsHeaderWithin}

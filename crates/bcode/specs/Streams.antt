@@ -1,4 +1,4 @@
--- Lines of bytes that come one by one.
+-- Inner words: lines of bytes that come one by one.
 use Rattle.std.specs.Prelude.{◌≡◌, ◌≢◌, ℕ, suc, ◌≤◌, true, List, [], ◌∷◌, ◌++◌, length, All, Result, Ok, Err, ◌⊎◌}
 use Rattle.bword.specs.ByteEnds.{Incoming, Took, Fails}
 use Rattle.bword.specs.declared.ends.Device.{Device}

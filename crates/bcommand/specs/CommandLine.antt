@@ -1,5 +1,5 @@
--- The command line, and what its words ask for. How words are cut into options, and which have a fault, are definitions
--- of `clap`, which reads them.
+-- Promise: the command line, and what its words ask for. How words are cut into options, and which have a fault, are
+-- definitions of `clap`, which reads them.
 use Rattle.std.specs.Prelude.{ℕ, ◌==◌, ◌&&◌, ◌^◌, Bool, true, false, List, [], length, codes, nat_lt}
 use Rattle.std.specs.Prelude.{Option, Some, None, if◌then◌else◌, option_and_then, option_map, unwrap_or}
 use Rattle.std.specs.Char.{digit_value}

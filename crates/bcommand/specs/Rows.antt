@@ -1,4 +1,4 @@
--- What the rows of the table of commands say to `clap`.
+-- Inner words: what the rows of the table of commands say to `clap`.
 use Rattle.std.specs.Prelude.{List, fold}
 use Rattle.clap.specs.Words.{App, Rule, Text, new_app, with_rule, with_subcommand}
 use Rattle.bcommand.specs.CommandLine.{argument_rule, bare_line, flag_rule, named_rule, number_rule}

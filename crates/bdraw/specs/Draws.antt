@@ -1,4 +1,4 @@
--- What comes of a source whose memory is drawn.
+-- Promise: what comes of a source whose memory is drawn.
 use Rattle.std.specs.Prelude.{◌≡◌, refl, ℕ, zero, suc, ◌+◌, ◌%◌, ◌==◌, if◌then◌else◌, min, List, [], ◌∷◌, ◌++◌}
 use Rattle.std.specs.Prelude.{map, take, Option, Some, None, Result, Ok, Err, slice_index}
 use Rattle.std.specs.List.{flat_map}

@@ -1,4 +1,4 @@
--- What no picture of memory is, of each source and whatever its ends do.
+-- Promise: what no picture of memory is, of each source and whatever its ends do.
 use Rattle.std.specs.Prelude.{◌≡◌, ℕ, ◌==◌, ◌&&◌, not, true, Bool, List, [], ◌∷◌, ◌++◌, map, take, Option, Some, None}
 use Rattle.std.specs.Prelude.{◌⊎◌, IsTrue, codes, if◌then◌else◌, refl, slice_index}
 use Rattle.std.specs.List.{list_all}

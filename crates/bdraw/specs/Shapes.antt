@@ -1,4 +1,4 @@
--- The SVG text of a picture.
+-- Inner words: the SVG text of a picture.
 use Rattle.std.specs.Prelude.{◌≡◌, refl, ℕ, ◌+◌, ◌%◌, ◌^◌, ◌==◌, ◌∷◌, List, [], ◌++◌, codes, decimal}
 use Rattle.std.specs.Prelude.{nat_lt, if◌then◌else◌}
 use Rattle.std.specs.List.{flat_map}

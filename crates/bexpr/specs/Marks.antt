@@ -1,4 +1,4 @@
--- Tokens that stand at fixed places.
+-- Inner words: tokens that stand at fixed places.
 use Rattle.std.specs.Prelude.{Bool, true, false}
 use Rattle.blang.specs.declared.token.Token.{Token}
 use Rattle.blang.specs.declared.token.Token.TheVariants as token

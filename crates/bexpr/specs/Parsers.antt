@@ -1,4 +1,4 @@
--- What the calls of the parser do with the tokens and with the draft.
+-- Inner words: what the calls of the parser do with the tokens and with the draft.
 use Rattle.std.specs.Prelude.{◌≡◌, ℕ, ◌+◌, ◌<◌, nat_le, if◌then◌else◌, min, Bool, Option, Some, None, Result, Ok, Err}
 use Rattle.bword.specs.declared.operators.BinOp.{BinOp}
 use Rattle.blang.specs.declared.token.Token.{Token}

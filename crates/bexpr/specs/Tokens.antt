@@ -1,4 +1,4 @@
--- The tokens of a source, of which some are ahead, and what taking them does.
+-- Inner words: the tokens of a source, of which some are ahead, and what taking them does.
 use Rattle.std.specs.Prelude.{◌≡◌, ℕ, ◌+◌, ◌≤◌, ◌⊎◌, Bool, true, false, List, [], ◌∷◌, ◌++◌, length, Option, Some, None}
 use Rattle.std.specs.Prelude.{if◌then◌else◌}
 use Rattle.bword.specs.ByteEnds.{Incoming, Grew}

@@ -8,7 +8,7 @@ ghost use Rattle.bexpr.specs.Tokens.{all_tokens, is_name, IsReady, IsLoaded, Loo
 ghost use Rattle.bexpr.specs.Marks.{is_mark};
 
 use crate::mark::Mark;
-use bemit::Origin;
+use bemit::TokenOrigin;
 use blang::{About, Diagnostic, Letters};
 use blex::{Lexeme, Lexer, Seen};
 use bword::{ByteIn, Device, Edition};
@@ -105,8 +105,8 @@ impl<I: ByteIn> Tokens<I> {
 
     /// Where the current token is.
     #[inline(always)]
-    pub fn origin(&self) -> Origin {
-        Origin {
+    pub fn origin(&self) -> TokenOrigin {
+        TokenOrigin {
             line: self.line(),
             token: self.taken(),
         }

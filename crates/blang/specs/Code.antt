@@ -1,5 +1,5 @@
--- The code of a definition. A place is the number of an instruction in its function, from 0; a + 1 counts a jump.
--- `instr_line` in Text has the letter of each instruction.
+-- Promise: the code of a definition. A place is the number of an instruction in its function, from 0; a + 1 counts a
+-- jump. `instr_line` in Text has the letter of each instruction.
 use Rattle.std.specs.Prelude.{ℕ, ◌+◌, ◌&&◌, List, [], ◌∷◌, ◌++◌, length, map, max, nat_le, Bool, Option, Some, None}
 use Rattle.std.specs.Prelude.{Result, Ok, Err, if◌then◌else◌}
 use Rattle.std.specs.List.{flat_map}

@@ -1,5 +1,5 @@
--- What the code of a definition is made of, and the ranges that a code text keeps.
--- The parts of a definition, with lists in place of vectors.
+-- Promise: what the code of a definition is made of, and the ranges that a code text keeps. The parts of a definition,
+-- with lists in place of vectors.
 use Rattle.std.specs.Prelude.{ℕ, ◌<◌, ◌≤◌, List, length, All, IsTrue}
 use Rattle.bword.specs.Words.{is_name}
 use Rattle.blang.specs.declared.limits.TheConstants.{MAX_INSTRUCTIONS, MAX_LABELS, MAX_PARAMETERS, MAX_STRING_WORDS}

@@ -1,4 +1,4 @@
--- How sources are cut, one source a line.
+-- Closed facts: how sources are cut, one source a line.
 use Rattle.std.specs.Prelude.{◌≡◌, ℕ, List, [], ◌∷◌, ◌++◌, map, length, filter, replicate, codes, refl, is_some, Some}
 use Rattle.std.specs.Prelude.{None, true, false}
 use Rattle.std.specs.List.{range_with_len}

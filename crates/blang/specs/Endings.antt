@@ -1,4 +1,4 @@
--- The token that bytes end with.
+-- Promise: the token that bytes end with.
 use Rattle.std.specs.Prelude.{◌≡◌, ℕ, List, ◌++◌, Some}
 use Rattle.bword.specs.declared.edition.Edition.{Edition}
 use Rattle.blang.specs.Cut.{Word, whole}

@@ -1,5 +1,5 @@
--- What a run has to do with the meaning of its program, and what comes of a source that is compiled and run; where
--- nothing fails, the whole promise of `go_edition`, over streams that tell their bytes.
+-- Promise: what a run has to do with the meaning of its program, and what comes of a source that is compiled and run;
+-- where nothing fails, the whole promise of `go_edition`, over streams that tell their bytes.
 use Rattle.std.specs.Prelude.{◌≡◌, ◌≢◌, ℕ, ◌+◌, ◌≤◌, List, ◌++◌, map, [], Some, None}
 use Rattle.bword.specs.ByteEnds.{Incoming, Outgoing, Took, Writes, CanFollow, Kept, outgoing_of, Grew}
 use Rattle.bword.specs.declared.edition.Edition.{Edition}

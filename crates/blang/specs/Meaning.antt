@@ -1,4 +1,4 @@
--- What a program means, on an input and with so much fuel: going on with the statements that remain.
+-- Promise: what a program means, on an input and with so much fuel: going on with the statements that remain.
 use Rattle.std.specs.Prelude.{ℕ, zero, suc, ◌+◌, ◌%◌, List, [], ◌∷◌, Option, Some, None, unwrap_or, ◌==◌}
 use Rattle.std.specs.Prelude.{if◌then◌else◌, map, ◌≡◌, ◌++◌}
 use Rattle.blang.specs.Trees.{Declared, Heading, Auto, Stmt, Headed, Compound, If, IfElse, While, Switch, Goto, Break}

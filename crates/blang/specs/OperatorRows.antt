@@ -1,4 +1,4 @@
--- Closed facts on operators: the rank of each, which forms are lvalues, and which operators want one.
+-- Closed facts: operators: the rank of each, which forms are lvalues, and which operators want one.
 use Rattle.std.specs.Prelude.{◌≡◌, true, false, List, [], ◌∷◌, map, length, replicate, codes, None, refl}
 use Rattle.bword.specs.Words.{operators}
 use Rattle.bword.specs.declared.operators.BinOp.TheVariants as op

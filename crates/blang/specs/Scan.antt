@@ -1,5 +1,5 @@
--- The first fault of a definition beside its syntax: its names in their one table, its cases, defaults, breaks and
--- lvalues, in source order.
+-- Promise: the first fault of a definition beside its syntax: its names in their one table, its cases, defaults, breaks
+-- and lvalues, in source order.
 use Rattle.std.specs.Prelude.{ℕ, List, [], ◌∷◌, ◌++◌, length, Bool, true, false, nat_lt, Option, Some, None, Result, Ok}
 use Rattle.std.specs.Prelude.{Err, if◌then◌else◌, ◌+◌, ◌-◌, nat_eq}
 use Rattle.std.specs.List.{list_any}

@@ -1,5 +1,5 @@
--- Definitions of each kind, and what a view shows of one.
--- The text of code: lines, whose parts have one space between them.
+-- Promise: definitions of each kind, and what a view shows of one. The text of code: lines, whose parts have one space
+-- between them.
 use Rattle.std.specs.Prelude.{◌≡◌, ℕ, List, [], ◌∷◌, ◌++◌, length, map, All, codes, decimal}
 use Rattle.std.specs.List.{flat_map}
 use Rattle.bword.specs.Words.{operator_text}

@@ -1,4 +1,4 @@
--- Texts of single definitions, and the lines of each instruction and initial value.
+-- Closed facts: texts of single definitions, and the lines of each instruction and initial value.
 use Rattle.std.specs.Prelude.{◌≡◌, ℕ, List, [], ◌∷◌, map, codes, decimal, refl}
 use Rattle.std.specs.Fmt.{digits}
 use Rattle.bword.specs.declared.edition.Edition.TheVariants as editions

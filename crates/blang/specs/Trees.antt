@@ -1,4 +1,4 @@
--- Trees of expressions, statements and definitions, and the tokens that stand alone in them.
+-- Promise: trees of expressions, statements and definitions, and the tokens that stand alone in them.
 use Rattle.std.specs.Prelude.{Bool, true, false, List, map, if◌then◌else◌, ℕ, Option}
 use Rattle.bword.specs.declared.operators.BinOp.{BinOp}
 use Rattle.bword.specs.declared.operators.BinOp.TheVariants as op

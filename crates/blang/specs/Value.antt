@@ -1,4 +1,4 @@
--- Programs as trees, and the value of an expression.
+-- Promise: programs as trees, and the value of an expression.
 use Rattle.std.specs.Prelude.{ℕ, Option, Some, None, List, [], ◌∷◌, ◌++◌, if◌then◌else◌, ◌+◌, ◌%◌, length, Bool}
 use Rattle.std.specs.Prelude.{not, unwrap_or, ◌==◌}
 use Rattle.bword.specs.declared.operators.BinOp.{BinOp}

@@ -1,5 +1,5 @@
--- Each construct once, from left to right, and four things that are found there: tokens, strings, events of the scan,
--- levels of nesting.
+-- Promise: each construct once, from left to right, and four things that are found there: tokens, strings, events of
+-- the scan, levels of nesting.
 use Rattle.std.specs.Prelude.{List, [], ◌∷◌, ◌++◌, ℕ, suc, max, Bool, true, false, Option, Some, None}
 use Rattle.blang.specs.declared.token.Token.{Token}
 use Rattle.blang.specs.declared.token.Placed.{Placed}

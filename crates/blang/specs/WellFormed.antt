@@ -1,5 +1,5 @@
--- Which trees are well formed, by three rules (how operators and `else` bind, how deep trees nest, where strings lie),
--- and where the tokens of a source stop being those of a program.
+-- Promise: which trees are well formed, by three rules (how operators and `else` bind, how deep trees nest, where
+-- strings lie), and where the tokens of a source stop being those of a program.
 use Rattle.std.specs.Prelude.{List, [], ◌∷◌, ◌++◌, ◌≡◌, ℕ, ◌+◌, ◌-◌, ◌*◌, ◌≤◌, length, Bool, true, false, Option}
 use Rattle.std.specs.Prelude.{Some, None, map, ◌⊎◌}
 use Rattle.bword.specs.declared.operators.BinOp.{BinOp}

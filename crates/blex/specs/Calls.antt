@@ -1,4 +1,4 @@
--- What some calls of a lexer give, from the first on.
+-- Promise: what some calls of a lexer give, from the first on.
 use Rattle.std.specs.Prelude.{◌≡◌, ℕ, zero, suc, ◌≤◌, false, List, [], ◌∷◌, ◌++◌, length, Some, Ok, if◌then◌else◌}
 use Rattle.bword.specs.ByteEnds.{Incoming, Took, CanFollow}
 use Rattle.bword.specs.declared.edition.Edition.{Edition}

@@ -1,4 +1,4 @@
--- The last token, as a lexer keeps it.
+-- Inner words: the last token, as a lexer keeps it.
 use Rattle.std.specs.Prelude.{Option, Some, None}
 use Rattle.blang.specs.declared.token.Token.{Token}
 use Rattle.blang.specs.declared.token.Token.TheVariants as token

@@ -1,4 +1,4 @@
--- What a lexeme stands for.
+-- Promise: what a lexeme stands for.
 use Rattle.std.specs.Prelude.{◌≡◌, ℕ, List, Option}
 use Rattle.std.specs.Option.{option_map}
 use Rattle.blex.specs.declared.lexeme.Lexeme.{Lexeme}

@@ -1,4 +1,4 @@
--- Runs of bytes that a source passes at once.
+-- Inner words: runs of bytes that a source passes at once.
 use Rattle.std.specs.Prelude.{◌≡◌, ℕ, ◌==◌, Bool, true, not, List, ◌++◌, length, take, nat_lt}
 use Rattle.std.specs.List.{list_all}
 use Rattle.bword.specs.Words.{is_name_byte}

@@ -1,4 +1,4 @@
--- What no listing and no map is, of each source and whatever its ends do.
+-- Promise: what no listing and no map is, of each source and whatever its ends do.
 use Rattle.std.specs.Prelude.{◌≡◌, ℕ, ◌≤◌, ◌==◌, Bool, List, [], ◌∷◌, ◌++◌, codes, filter, length, nat_lt}
 use Rattle.std.specs.Prelude.{if◌then◌else◌, Option, Some, None, ◌⊎◌, IsTrue}
 use Rattle.std.specs.List.{flat_map, list_all}

@@ -1,4 +1,4 @@
--- The code of a source, as it is listed.
+-- Promise: the code of a source, as it is listed.
 use Rattle.std.specs.Prelude.{◌≡◌, ℕ, ◌-◌, Bool, true, List, [], ◌++◌, codes, map, filter, length}
 use Rattle.std.specs.Prelude.{replicate, max, decimal, refl, Option, Some, None, ◌⊎◌}
 use Rattle.std.specs.List.{flat_map}

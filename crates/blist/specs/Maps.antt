@@ -1,4 +1,4 @@
--- The layout of memory, as it is shown.
+-- Promise: the layout of memory, as it is shown.
 use Rattle.std.specs.Prelude.{◌≡◌, ℕ, zero, suc, ◌+◌, ◌%◌, List, [], ◌++◌, codes, decimal, min, nat_lt}
 use Rattle.std.specs.Prelude.{slice_index, refl, if◌then◌else◌}
 use Rattle.std.specs.List.{flat_map}

@@ -1,4 +1,4 @@
--- What the loader's parts do.
+-- Inner words: what the loader's parts do.
 use Rattle.std.specs.Prelude.{◌≡◌, ℕ, ◌+◌, ◌||◌, not, Bool, List, [], ◌∷◌, ◌++◌, length, nat_lt, Option, Some, None}
 use Rattle.std.specs.Prelude.{option_map, if◌then◌else◌}
 use Rattle.blang.specs.declared.code.Definition.{Definition}

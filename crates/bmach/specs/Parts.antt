@@ -1,4 +1,4 @@
--- What the loader has so far.
+-- Inner words: what the loader has so far.
 use Rattle.std.specs.Prelude.{◌≡◌, ℕ, List, map, Option, None, Result, MatchResult}
 use Rattle.blang.specs.declared.code.Definition.{Definition}
 use Rattle.blang.specs.declared.run.LoadFault.{LoadFault}

@@ -1,4 +1,4 @@
--- What the laws exclude, and what they still allow at their limits: states and answers, by their numbers.
+-- Closed facts: what the laws exclude, and what they still allow at their limits: states and answers, by their numbers.
 use Rattle.std.specs.Prelude.{◌≡◌, ℕ, zero, suc, ◌≤◌, ◌+◌, List, [], ◌∷◌, length, map}
 use Rattle.std.proofs.Common.{arith, refl, ap, ◌∙◌}
 use Rattle.blang.specs.Trees.{Empty, Break, While, Literal, Number, Nothing, More}

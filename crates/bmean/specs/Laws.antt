@@ -1,4 +1,4 @@
--- The laws that join the meaning of a program and the run of its code.
+-- Promise: the laws that join the meaning of a program and the run of its code.
 use Rattle.std.specs.Prelude.{◌≡◌, ◌≢◌, ℕ, ◌+◌, ◌≤◌, List, map}
 use Rattle.bmach.specs.Resolved.{IsLoadedFrom}
 use Rattle.blang.specs.Trees.{Definition}

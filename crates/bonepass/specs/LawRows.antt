@@ -1,4 +1,4 @@
--- What one pass makes of a small definition: the parts that the law is about.
+-- Closed facts: what one pass makes of a small definition: the parts that the law is about.
 use Rattle.std.specs.Prelude.{◌≡◌, ℕ, List, [], ◌∷◌, codes, Option, Some, None, map, is_none, true, false, refl}
 use Rattle.blang.specs.declared.code.Instr.{Instr}
 use Rattle.blang.specs.declared.code.Instr.TheVariants as instr

@@ -1,4 +1,4 @@
--- One pass over a definition makes the code that its tree has.
+-- Promise: One pass over a definition makes the code that its tree has.
 use Rattle.std.specs.Prelude.{◌≡◌, ℕ, List, Some, None}
 use Rattle.blang.specs.Trees.{Definition}
 use Rattle.blang.specs.WellFormed.{IsFormed}

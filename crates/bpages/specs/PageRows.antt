@@ -1,4 +1,4 @@
--- Words and pages of a small table, in which pages 1 and 3 are made.
+-- Closed facts: words and pages of a small table, in which pages 1 and 3 are made.
 use Rattle.std.specs.Prelude.{◌≡◌, ℕ, List, [], ◌∷◌, ◌++◌, map, replicate, refl}
 use Rattle.std.specs.FinSet as set
 use Rattle.bpages.specs.Pages.{paged_word, made_below}

@@ -1,4 +1,4 @@
--- Pages of 256 words in one list, after a page of zeros, and a table of where each of them starts.
+-- Promise: pages of 256 words in one list, after a page of zeros, and a table of where each of them starts.
 use Rattle.std.specs.Prelude.{◌≡◌, ◌≢◌, ℕ, zero, suc, ◌+◌, ◌*◌, ◌/◌, ◌%◌, ◌<◌, ◌≤◌, List, length, map, ◌==◌}
 use Rattle.std.specs.Prelude.{if◌then◌else◌, slice_index}
 use Rattle.std.proofs.Common.{arith, ◌∙◌, inl, inr}

@@ -21,7 +21,7 @@ use Rattle.bread.specs.Definitions.{TookDefinition}
 use Rattle.bread.specs.Headers.{Heads}
 use Rattle.bparse.specs.Sizes.{IsSmall}
 use Rattle.bexpr.specs.Tokens.{Tokens, tokens_of, Moves}
-use Rattle.bread.specs.declared.header.Header.{Header}
+use Rattle.bread.specs.declared.header.DefinitionHead.{DefinitionHead}
 use Rattle.bparse.proofs.CleanLaws.{clean_small}
 
 pub end_of : (t : Token) → is_end t ≡ true → t ≡ token.End
@@ -32,7 +32,7 @@ pub not_end : (t : Token) → is_end t ≡ false → t ≡ token.End → ⊥
 not_end t e h = let bad : true ≡ false = sym (ap is_end h) ∙ e in cc
 
 -- the definition of a draft, and how it begins
-pub record Drafted (names : Defined) (tree : Definition) (header : Header) (draft : Draft) : Type 0 where
+pub record Drafted (names : Defined) (tree : Definition) (header : DefinitionHead) (draft : Draft) : Type 0 where
   pub formed : IsFormed tree
   pub made : draft ≡ definition_done tree (started names (identifier_of tree))
   pub heads : Heads header tree
@@ -40,10 +40,10 @@ pub record Drafted (names : Defined) (tree : Definition) (header : Header) (draf
 pub tree_formed : (mid new : Tokens) (tree : Definition) → Moves mid new (λ u v. definition u ≡ Got tree v) → IsFormed tree
 tree_formed mid new tree m = (definition_read (tokens_of mid (m.taken ++ [])) (tokens_of new []) tree (m.come [] (λ over. refl))).1
 
-pub drafted : (names : Defined) (mid new : Tokens) (header : Header) (draft : Draft) → (t : TookDefinition names mid header new draft) → Drafted names t.tree header draft
+pub drafted : (names : Defined) (mid new : Tokens) (header : DefinitionHead) (draft : Draft) → (t : TookDefinition names mid header new draft) → Drafted names t.tree header draft
 drafted names mid new header draft t = record { formed = tree_formed mid new t.tree t.moves; made = t.made; heads = t.heads }
 
-module _ (names : Defined) (tree : Definition) (header : Header) (draft : Draft) (d : Drafted names tree header draft) where
+module _ (names : Defined) (tree : Definition) (header : DefinitionHead) (draft : Draft) (d : Drafted names tree header draft) where
   pub fault_is : fault_in header.line draft ≡ fault_of names tree
   fault_is =
       ap (λ n. fault_in n draft) d.heads.line ∙ ap (fault_in (identifier_of tree).line) d.made ∙ (one_pass names tree d.formed).0

@@ -1,4 +1,4 @@
--- What a call of the compiler does, counted from when the compiler was made.
+-- Promise: what a call of the compiler does, counted from when the compiler was made.
 use Rattle.std.specs.Prelude.{◌≡◌, ◌≢◌, ℕ, ◌≤◌, ◌<◌, Bool, true, false, List, [], ◌∷◌, ◌++◌, length, map, Option, Some}
 use Rattle.std.specs.Prelude.{None, ◌⊎◌, if◌then◌else◌}
 use Rattle.btree.specs.Compiled.{AreNames}

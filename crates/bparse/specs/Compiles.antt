@@ -1,4 +1,4 @@
--- What the compiler does with a whole source.
+-- Promise: what the compiler does with a whole source.
 use Rattle.std.specs.Prelude.{◌≡◌, ◌≢◌, ℕ, false}
 use Rattle.bparse.specs.Compilers.{Compiler, SameCompiler, CompilerGives}
 use Rattle.bparse.specs.declared.step.Step.{Step}

@@ -1,4 +1,4 @@
--- What the contract of compiling excludes, on small sources.
+-- Promise: what the contract of compiling excludes, on small sources.
 use Rattle.std.specs.Prelude.{◌≡◌, ◌≢◌, ◌⊎◌, ℕ, List, [], ◌∷◌, codes, Some, false}
 use Rattle.bword.specs.declared.edition.Edition.TheVariants as editions
 use Rattle.bword.specs.ByteEnds.{Grew}

@@ -1,4 +1,4 @@
--- Definitions whose counts fit the words of a view.
+-- Inner words: definitions whose counts fit the words of a view.
 use Rattle.std.specs.Prelude.{ℕ, ◌≤◌, length}
 use Rattle.blang.specs.Trees.{Definition, Simple, Vector, Function}
 use Rattle.blang.specs.Code.{vector_words}

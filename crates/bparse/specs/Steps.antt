@@ -1,4 +1,4 @@
--- What reading and writing one definition does.
+-- Inner words: what reading and writing one definition does.
 use Rattle.std.specs.Prelude.{◌≡◌, ◌≢◌, ℕ, ◌<◌, Bool, false, true, List, [], ◌∷◌, ◌++◌, Option, Some, None, Result, Ok}
 use Rattle.std.specs.Prelude.{Err, ◌⊎◌}
 use Rattle.btree.specs.Compiled.{AreNames}

@@ -9,26 +9,26 @@ ghost use Rattle.bparse.specs.Sizes.{IsSmall};
 
 use bemit::Draft;
 use blang::View;
-use bread::{Header, Kind};
+use bread::{DefinitionHead, HeadKind};
 
 /// The definition that begins so.
-pub(crate) fn view<'a>(header: &Header, draft: &'a Draft) -> View<'a>
+pub(crate) fn view<'a>(header: &DefinitionHead, draft: &'a Draft) -> View<'a>
     ensures { IfMade draft.now (λ s m. (tree : Definition) → Heads header.now tree → IsSmall tree → definition_of result ≡ code_with tree s.frame m) }
 {
     let name = header.name;
     match header.kind {
-        Kind::Simple => View::Simple {
+        HeadKind::Simple => View::Simple {
             name,
             values: draft.values(),
             strings: draft.strings(),
         },
-        Kind::Vector { words } => View::Vector {
+        HeadKind::Vector { words } => View::Vector {
             name,
             words,
             values: draft.values(),
             strings: draft.strings(),
         },
-        Kind::Function { parameters } => View::Function {
+        HeadKind::Function { parameters } => View::Function {
             name,
             parameters,
             frame: draft.frame(),

@@ -27,9 +27,9 @@ use Rattle.bexpr.specs.Marks.{is_comma}
 use Rattle.bexpr.specs.Parsers.{Halts}
 use Rattle.bexpr.specs.declared.halt.Halt.{Halt}
 use Rattle.bexpr.specs.declared.halt.Halt.TheVariants as halt
-use Rattle.bread.specs.declared.header.Header.{Header}
-use Rattle.bread.specs.declared.header.Kind.{Kind}
-use Rattle.bread.specs.declared.header.Kind.TheVariants as kind
+use Rattle.bread.specs.declared.header.DefinitionHead.{DefinitionHead}
+use Rattle.bread.specs.declared.header.HeadKind.{HeadKind}
+use Rattle.bread.specs.declared.header.HeadKind.TheVariants as kind
 use Rattle.bread.specs.Compiling.{PartTaken, CompilesPart}
 use Rattle.bread.specs.Definitions.{TakesValue, initial_value_list, parameters, TookList, FindsList, TookKind, FindsKind, TookDefinition, FindsDefinition}
 use Rattle.bexpr.proofs.TokenSteps.{Moves-as, Moves-breaks}
@@ -103,11 +103,11 @@ list_err reader effect most old start (Ok n) new draft why e h = absurd e
 list_err reader effect most old start (Err s) new draft why e h = subst (λ x. Halts reader old x new) (sym e) h
 
 -- what stands after a name
-pub kind_err : (reader : Identifier → Reader Definition) (old : Tokens) (start : Draft) (r : Result Kind Halt) (new : Tokens) (draft : Draft) (why : Halt) → IsErrAnd r (λ y. y ≡ why) → ((w : Identifier) → Halts (reader w) old why new) → FindsKind reader old start r new draft
+pub kind_err : (reader : Identifier → Reader Definition) (old : Tokens) (start : Draft) (r : Result HeadKind Halt) (new : Tokens) (draft : Draft) (why : Halt) → IsErrAnd r (λ y. y ≡ why) → ((w : Identifier) → Halts (reader w) old why new) → FindsKind reader old start r new draft
 kind_err reader old start (Ok n) new draft why e h = absurd e
 kind_err reader old start (Err s) new draft why e h = λ w. subst (λ x. Halts (reader w) old x new) (sym e) (h w)
 
-pub kind_after : (p q : Identifier → Reader Definition) (old mid : Tokens) (start : Draft) (r : Result Kind Halt) (new : Tokens) (draft : Draft) → ((w : Identifier) → Runs old mid (q w) (p w)) → FindsKind p mid start r new draft → FindsKind q old start r new draft
+pub kind_after : (p q : Identifier → Reader Definition) (old mid : Tokens) (start : Draft) (r : Result HeadKind Halt) (new : Tokens) (draft : Draft) → ((w : Identifier) → Runs old mid (q w) (p w)) → FindsKind p mid start r new draft → FindsKind q old start r new draft
 kind_after p q old mid start (Ok k) new draft m h = (λ w. let t = h.0 w in record { tree = t.tree; runs = run_then (m w) t.runs; made = t.made; named = t.named; kind_is = t.kind_is }, h.1)
 kind_after p q old mid start (Err why) new draft m h = λ w. halts_after old mid new (q w) (p w) why (m w) (h w)
 
@@ -217,7 +217,7 @@ module _ (w : Identifier) (old mid : Tokens) where
     function_took start d1 d2 d3 d4 new count e c t x y = record { tree = Function w ps t.tree; runs = went (λ s. Got (Function w ps s)) function_runs t.runs; made = y ∙ rw (x, t.made, e) refl; named = refl; kind_is = c }
 
 -- a definition
-pub definition_err : (names : List (List ℕ)) (old : Tokens) (r : Result Header Halt) (new : Tokens) (draft : Draft) (why : Halt) → IsErrAnd r (λ y. y ≡ why) → Halts definition old why new → FindsDefinition names old r new draft
+pub definition_err : (names : List (List ℕ)) (old : Tokens) (r : Result DefinitionHead Halt) (new : Tokens) (draft : Draft) (why : Halt) → IsErrAnd r (λ y. y ≡ why) → Halts definition old why new → FindsDefinition names old r new draft
 definition_err names old (Ok n) new draft why e h = absurd e
 definition_err names old (Err s) new draft why e h = subst (λ x. Halts definition old x new) (sym e) h
 
@@ -227,7 +227,7 @@ definition_first old new why h = halts_first old new name after_name why h
 pub definition_then : (old mid new : Tokens) (w : Identifier) (why : Halt) → Runs old mid name (λ v. Got w v) → Halts (after_name w) mid why new → Halts definition old why new
 definition_then old mid new w why r h = halts_after old mid new definition (after_name w) why (run_bind after_name r) h
 
-pub definition_took : (names : List (List ℕ)) (old mid new : Tokens) (w : Identifier) (d1 draft : Draft) (k : Kind) → Runs old mid name (λ v. Got w v) → work mid < work old → d1 ≡ started names w → TookKind (after_name w) w d1 mid new draft k → IsSingle new → TookDefinition names old (record { name = w.text; line = w.line; kind = k }) new draft
+pub definition_took : (names : List (List ℕ)) (old mid new : Tokens) (w : Identifier) (d1 draft : Draft) (k : HeadKind) → Runs old mid name (λ v. Got w v) → work mid < work old → d1 ≡ started names w → TookKind (after_name w) w d1 mid new draft k → IsSingle new → TookDefinition names old (record { name = w.text; line = w.line; kind = k }) new draft
 definition_took names old mid new w d1 draft k r f e t l = record {
   tree = t.tree;
   moves = run_then (run_bind after_name r) t.runs;

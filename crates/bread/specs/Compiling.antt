@@ -1,4 +1,4 @@
--- What the calls that read statements and definitions do with the tokens and with the draft.
+-- Inner words: what the calls that read statements and definitions do with the tokens and with the draft.
 use Rattle.std.specs.Prelude.{◌≡◌, ℕ, ◌<◌, Bool, true, false, Option, Result, Ok, Err}
 use Rattle.blang.specs.Trees.{Constant, Heading, constant_value}
 use Rattle.btree.specs.Reading.{Reader, Got}

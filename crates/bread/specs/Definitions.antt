@@ -1,4 +1,4 @@
--- What the calls that read definitions do with the tokens and with the draft.
+-- Inner words: what the calls that read definitions do with the tokens and with the draft.
 use Rattle.std.specs.Prelude.{◌≡◌, ℕ, ◌<◌, min, Bool, List, [], length, Result, Ok, Err, if◌then◌else◌}
 use Rattle.blang.specs.declared.code.Ival.{Ival}
 use Rattle.blang.specs.Trees.{Identifier, Definition}
@@ -16,8 +16,8 @@ use Rattle.bexpr.specs.Tokens.{Tokens, IsLoaded, IsSingle, Runs, TokensFail, Adv
 use Rattle.bexpr.specs.declared.halt.Halt.{Halt}
 use Rattle.bexpr.specs.declared.halt.Halt.TheVariants as halt
 use Rattle.bexpr.specs.Parsers.{Halts}
-use Rattle.bread.specs.declared.header.Header.{Header}
-use Rattle.bread.specs.declared.header.Kind.{Kind}
+use Rattle.bread.specs.declared.header.DefinitionHead.{DefinitionHead}
+use Rattle.bread.specs.declared.header.HeadKind.{HeadKind}
 use Rattle.bread.specs.Headers.{IsKind, Heads}
 
 -- the current token was taken, and a value added
@@ -57,7 +57,7 @@ FindsList reader effect most old start (Err why) new draft = Halts reader old wh
 
 -- What stands after the name of a definition was read and compiled.
 pub record TookKind (reader : Reader Definition) (w : Identifier) (start : Draft) (old new : Tokens) (draft : Draft)
-    (kind : Kind) : Type 0 where
+    (kind : HeadKind) : Type 0 where
   pub tree : Definition
   pub runs : Runs old new reader (λ v. Got tree v)
   pub made : draft ≡ definition_done tree start
@@ -65,13 +65,13 @@ pub record TookKind (reader : Reader Definition) (w : Identifier) (start : Draft
   pub kind_is : IsKind kind tree
 
 -- whatever the name is
-abbrev pub FindsKind : (Identifier → Reader Definition) → Tokens → Draft → Result Kind Halt → Tokens → Draft → Type 0
+abbrev pub FindsKind : (Identifier → Reader Definition) → Tokens → Draft → Result HeadKind Halt → Tokens → Draft → Type 0
 FindsKind reader old start (Ok kind) new draft = ((w : Identifier) → TookKind (reader w) w start old new draft kind)
     × IsSingle new
 FindsKind reader old start (Err why) new draft = (w : Identifier) → Halts (reader w) old why new
 
 -- A definition was read and compiled, after definitions of these names.
-pub record TookDefinition (names : List (List ℕ)) (old : Tokens) (header : Header) (new : Tokens) (draft : Draft) : Type
+pub record TookDefinition (names : List (List ℕ)) (old : Tokens) (header : DefinitionHead) (new : Tokens) (draft : Draft) : Type
     0 where
   pub tree : Definition
   pub moves : Runs old new definition (λ v. Got tree v)
@@ -81,6 +81,6 @@ pub record TookDefinition (names : List (List ℕ)) (old : Tokens) (header : Hea
   pub loaded : IsLoaded new
   pub single : IsSingle new
 
-abbrev pub FindsDefinition : List (List ℕ) → Tokens → Result Header Halt → Tokens → Draft → Type 0
+abbrev pub FindsDefinition : List (List ℕ) → Tokens → Result DefinitionHead Halt → Tokens → Draft → Type 0
 FindsDefinition names old (Ok header) new draft = TookDefinition names old header new draft
 FindsDefinition names old (Err why) new draft = Halts definition old why new

@@ -1,4 +1,4 @@
--- Reading what stands before a statement, one heading at a time.
+-- Inner words: reading what stands before a statement, one heading at a time.
 use Rattle.std.specs.Prelude.{◌≡◌, ℕ, List}
 use Rattle.blang.specs.declared.token.Placed.{Placed}
 use Rattle.btree.specs.Reading.{Got, Stop, Reader, ◌>>=◌, first, expect}

@@ -1,4 +1,4 @@
--- Parts of statements, as the calls read them.
+-- Inner words: parts of statements, as the calls read them.
 use Rattle.std.specs.Prelude.{◌≡◌, ℕ, suc, ◌+◌, ◌≤◌, Result, Ok, Err}
 use Rattle.blang.specs.Trees.{Expr, Stmt, Stmts, Nothing, Break, ReturnValue}
 use Rattle.btree.specs.Reading.{Got, Reader, ◌>>=◌, after, expect, many}

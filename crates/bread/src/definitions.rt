@@ -12,7 +12,7 @@ ghost use Rattle.bexpr.specs.Tokens.{IsLoaded, IsSingle};
 ghost use Rattle.bread.specs.Compiling.{untold, CompilesPart};
 ghost use Rattle.bread.specs.Definitions.{TakesValue, initial_value_list, parameters, FindsList, FindsKind, FindsDefinition, definition_begun};
 
-use crate::header::{Header, Kind, MOST_COUNTED};
+use crate::header::{DefinitionHead, HeadKind, MOST_COUNTED};
 use crate::statement::statement;
 use crate::take::{Word, name, size};
 use bemit::Draft;
@@ -26,7 +26,10 @@ use bword::ByteIn;
 const NESTING: u8 = MAX_NESTING as u8;
 
 /// Reads the definition that comes, after definitions of these names.
-pub fn definition<I: ByteIn>(parser: &mut Parser<I>, names: &NameTable) -> Result<Header, Halt>
+pub fn definition<I: ByteIn>(
+    parser: &mut Parser<I>,
+    names: &NameTable,
+) -> Result<DefinitionHead, Halt>
     requires { IsLoaded parser.old.tokens }
     ensures { FindsDefinition (keys_of names.now) parser.old.tokens result parser.new.tokens parser.new.draft }
 {
@@ -34,7 +37,7 @@ pub fn definition<I: ByteIn>(parser: &mut Parser<I>, names: &NameTable) -> Resul
     let is_defined = names.find(&word.name, &mut Probes::new()).is_some();
     begin(&mut parser.draft, word, is_defined);
     let kind = after_name(parser)?;
-    Ok(Header {
+    Ok(DefinitionHead {
         name: word.name,
         line: word.line,
         kind,
@@ -56,7 +59,7 @@ fn begin(draft: &mut Draft, word: Word, is_defined: bool)
 }
 
 // What stands after the name.
-fn after_name<I: ByteIn>(parser: &mut Parser<I>) -> Result<Kind, Halt>
+fn after_name<I: ByteIn>(parser: &mut Parser<I>) -> Result<HeadKind, Halt>
     requires { IsLoaded parser.old.tokens }
     ensures { FindsKind after_name parser.old.tokens parser.old.draft result parser.new.tokens parser.new.draft }
 {
@@ -71,13 +74,13 @@ fn after_name<I: ByteIn>(parser: &mut Parser<I>) -> Result<Kind, Halt>
         }
         _ => {
             values(parser)?;
-            Ok(Kind::Simple)
+            Ok(HeadKind::Simple)
         }
     }
 }
 
 // What stands after an opening bracket.
-fn vector<I: ByteIn>(parser: &mut Parser<I>) -> Result<Kind, Halt>
+fn vector<I: ByteIn>(parser: &mut Parser<I>) -> Result<HeadKind, Halt>
     requires { IsSingle parser.old.tokens }
     ensures { FindsKind vector parser.old.tokens parser.old.draft result parser.new.tokens parser.new.draft }
 {
@@ -86,7 +89,7 @@ fn vector<I: ByteIn>(parser: &mut Parser<I>) -> Result<Kind, Halt>
     let count = values(parser)?;
     let words = count.max(constant_of(size) + 1);
     parser.draft.limit_words(words);
-    Ok(Kind::Vector {
+    Ok(HeadKind::Vector {
         words: words.min(MOST_COUNTED) as u16,
     })
 }
@@ -101,7 +104,7 @@ fn constant_of(size: Option<u16>) -> u32
 }
 
 // What stands after the parenthesis that opens the parameters.
-fn function<I: ByteIn>(parser: &mut Parser<I>) -> Result<Kind, Halt>
+fn function<I: ByteIn>(parser: &mut Parser<I>) -> Result<HeadKind, Halt>
     requires { IsLoaded parser.old.tokens }
     ensures { FindsKind function parser.old.tokens parser.old.draft result parser.new.tokens parser.new.draft }
 {
@@ -109,7 +112,7 @@ fn function<I: ByteIn>(parser: &mut Parser<I>) -> Result<Kind, Halt>
     statement(parser, NESTING)?;
     parser.draft.emit(Instr::Constant(0));
     parser.draft.emit(Instr::Return);
-    Ok(Kind::Function { parameters })
+    Ok(HeadKind::Function { parameters })
 }
 
 // A parameter.

@@ -6,7 +6,7 @@ pub const MOST_COUNTED: u32 = 65535;
 
 /// What a definition is of.
 #[derive(Clone, Copy)]
-pub enum Kind {
+pub enum HeadKind {
     Simple,
     /// A vector of this many words, or of `MOST_COUNTED` and more.
     Vector { words: u16 },
@@ -16,8 +16,8 @@ pub enum Kind {
 
 /// The name of a definition, the name's line, and what it is of.
 #[derive(Clone, Copy)]
-pub struct Header {
+pub struct DefinitionHead {
     pub name: Name,
     pub line: u64,
-    pub kind: Kind,
+    pub kind: HeadKind,
 }

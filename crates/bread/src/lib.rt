@@ -8,4 +8,4 @@ mod statement;
 mod take;
 
 pub use definitions::definition;
-pub use header::{Header, Kind};
+pub use header::{DefinitionHead, HeadKind};

@@ -100,7 +100,7 @@ fn skip_to_here(draft: &mut Draft, test: u16)
 }
 
 // The breaks since this mark lead to what comes.
-fn break_to_here(draft: &mut Draft, mark: bemit::Mark)
+fn break_to_here(draft: &mut Draft, mark: bemit::BreakCount)
     ensures { draft.new ≡ breaks_filled mark.count (place_of draft.old) draft.old }
 {
     let here = draft.place();
@@ -108,7 +108,7 @@ fn break_to_here(draft: &mut Draft, mark: bemit::Mark)
 }
 
 // Ends a loop after its statement: it goes back to this place, and its breaks are those since this mark.
-fn close_loop(draft: &mut Draft, top: u16, mark: bemit::Mark)
+fn close_loop(draft: &mut Draft, top: u16, mark: bemit::BreakCount)
     ensures { draft.new ≡ closed_loop top mark.count draft.old }
 {
     draft.emit(Instr::Jump(top));
@@ -129,7 +129,7 @@ fn next_place(draft: &Draft) -> u16
 
 // Ends a switch after its statements: the jump to its tests is at this place, and its breaks are those since this
 // mark.
-fn close_switch(draft: &mut Draft, jump: u16, mark: bemit::Mark)
+fn close_switch(draft: &mut Draft, jump: u16, mark: bemit::BreakCount)
     ensures { draft.new ≡ closed_switch jump mark.count draft.old }
 {
     let tests = next_place(draft) + 1;

@@ -1,4 +1,4 @@
--- Texts that are none of some definitions: without any, and without the last line.
+-- Closed facts: texts that are none of some definitions: without any, and without the last line.
 use Rattle.std.specs.Prelude.{◌≡◌, [], ◌∷◌, codes, length}
 use Rattle.std.specs.Fmt.{digits}
 use Rattle.std.proofs.Common.{ap, arith, refl, ◌∙◌}

@@ -1,4 +1,4 @@
--- What is written for a source without a fault can be read back.
+-- Promise: what is written for a source without a fault can be read back.
 use Rattle.std.specs.Prelude.{◌≡◌, ℕ, List, [], map, None}
 use Rattle.bword.specs.declared.edition.Edition.{Edition}
 use Rattle.blang.specs.Text.{IsTextOf}

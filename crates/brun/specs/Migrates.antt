@@ -1,4 +1,4 @@
--- What comes of a code text of the first edition that is written as one of the second.
+-- Promise: what comes of a code text of the first edition that is written as one of the second.
 use Rattle.std.specs.Prelude.{◌≡◌, ℕ, ◌<◌, ◌≤◌, true, List, [], ◌∷◌, ◌++◌, length, All, Result, Ok, Err, ◌⊎◌}
 use Rattle.std.specs.List.{flat_map}
 use Rattle.bword.specs.ByteEnds.{Incoming, Outgoing, Took, Writes, Refuses, Began, CanFollow}

@@ -1,4 +1,4 @@
--- What the headlines alone say of one program and one source, over streams in memory: they say something.
+-- Promise: what the headlines alone say of one program and one source, over streams in memory: they say something.
 use Rattle.std.specs.Prelude.{◌≡◌, ℕ, List, [], codes, ◌⊎◌, false}
 use Rattle.bword.specs.declared.edition.Edition.TheVariants as editions
 use Rattle.bword.specs.ByteEnds.{Incoming, Unread, Kept, incoming_of, outgoing_of}

@@ -1,4 +1,4 @@
--- What no rewriting of a code text is.
+-- Promise: what no rewriting of a code text is.
 use Rattle.std.specs.Prelude.{◌≡◌, [], ◌++◌, List, ℕ, Some}
 use Rattle.bword.specs.ByteEnds.{Grew, Outgoing}
 use Rattle.bword.specs.declared.edition.Edition.TheVariants as editions

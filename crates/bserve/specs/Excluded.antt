@@ -1,4 +1,4 @@
--- What no answer to a command line is, and what each one is.
+-- Promise: what no answer to a command line is, and what each one is.
 use Rattle.std.specs.Prelude.{◌≡◌, ◌⊎◌, ℕ, List, [], ◌∷◌, codes}
 use Rattle.clap.specs.Words.{IsAmong, Text, fault_of, subcommand_of}
 use Rattle.clap.specs.declared.error.kind.ErrorKind.{ErrorKind}

@@ -1,4 +1,4 @@
--- What is known of files, by their names.
+-- Promise: what is known of files, by their names.
 use Rattle.std.specs.Prelude.{◌≡◌, ◌≢◌, ℕ, List}
 use Rattle.clap.specs.Words.{Text}
 use Rattle.bserve.specs.declared.shelf.MemFile.{MemFile}

@@ -1,4 +1,4 @@
--- Bytes shown as characters.
+-- Inner words: bytes shown as characters.
 use Rattle.std.specs.Prelude.{ℕ, ◌==◌, ◌/◌, ◌%◌, ◌&&◌, Bool, IsTrue, List, [], ◌∷◌, ◌++◌, codes, nat_le, nat_lt}
 use Rattle.std.specs.Prelude.{if◌then◌else◌}
 use Rattle.std.specs.List.{list_all}

@@ -1,4 +1,4 @@
--- Lines and columns of a text.
+-- Inner words: lines and columns of a text.
 use Rattle.std.specs.Prelude.{ℕ, ◌-◌, List, ◌++◌, length, replicate, take}
 
 abbrev pub right : ℕ → List ℕ → List ℕ

@@ -1,4 +1,5 @@
--- The outcome of a source decides what is told of its program, whatever its streams do: program, line and status.
+-- Promise: the outcome of a source decides what is told of its program, whatever its streams do: program, line and
+-- status.
 use Rattle.std.specs.Prelude.{◌≡◌, ℕ, List, [], map, Some, None, ◌⊎◌}
 use Rattle.bword.specs.declared.edition.Edition.{Edition}
 use Rattle.bword.specs.ByteEnds.{Grew, Outgoing, Writes}

@@ -1,4 +1,4 @@
--- A source that is compiled and loaded, or why it can't be.
+-- Promise: a source that is compiled and loaded, or why it can't be.
 use Rattle.std.specs.Prelude.{◌≡◌, ℕ, List, [], codes, false, Option, Some, None, MatchOption, Result, Ok, Err, ◌⊎◌}
 use Rattle.std.specs.Prelude.{unwrap_or}
 use Rattle.bword.specs.declared.edition.Edition.{Edition}

@@ -1,4 +1,4 @@
--- What the contracts of `trace` and `locate` exclude.
+-- Promise: what the contracts of `trace` and `locate` exclude.
 use Rattle.std.specs.Prelude.{◌≡◌, ℕ, ◌<◌, false, List, [], ◌∷◌, ◌++◌, Option, Some, None, codes, map, take}
 use Rattle.bword.specs.declared.edition.Edition.{Edition}
 use Rattle.bword.specs.ByteEnds.{Grew}

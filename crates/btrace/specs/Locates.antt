@@ -1,4 +1,4 @@
--- What comes of a source that is run and where its run was over is told.
+-- Promise: what comes of a source that is run and where its run was over is told.
 use Rattle.std.specs.Prelude.{◌≡◌, ◌⊎◌, ℕ, List, ◌++◌, Option, Some, None, codes}
 use Rattle.bword.specs.declared.edition.Edition.{Edition}
 use Rattle.bword.specs.ByteEnds.{Outgoing}

@@ -1,4 +1,4 @@
--- The functions of a program, as a trace tells of them.
+-- Promise: the functions of a program, as a trace tells of them.
 use Rattle.std.specs.Prelude.{ℕ, ◌==◌, List, map, filter_map, find, zip, Option, Some, None}
 use Rattle.std.specs.Str.{bytes_eq}
 use Rattle.blang.specs.CodeParts.{Function, function_of}

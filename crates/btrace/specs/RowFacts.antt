@@ -1,4 +1,4 @@
--- What stands in the rows of a trace, on small values.
+-- Closed facts: what stands in the rows of a trace, on small values.
 use Rattle.std.specs.Prelude.{◌≡◌, ℕ, true, false, [], ◌∷◌, ◌++◌, Some, None, codes, map, refl, replicate}
 use Rattle.std.specs.Fmt.{digits}
 use Rattle.blang.specs.declared.run.Outcome.TheVariants as outcome

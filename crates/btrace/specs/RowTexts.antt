@@ -1,4 +1,4 @@
--- The texts of the rows of a trace.
+-- Inner words: the texts of the rows of a trace.
 use Rattle.std.specs.Prelude.{◌≡◌, ℕ, Bool, ◌-◌, List, [], ◌∷◌, ◌++◌, Option, Some, None, codes, decimal, drop}
 use Rattle.std.specs.Prelude.{◌+◌, ◌/◌, ◌%◌, ◌==◌, ◌||◌, length, map, min, nat_lt, refl, replicate, reverse, slice_get}
 use Rattle.std.specs.Prelude.{slice_index, if◌then◌else◌}

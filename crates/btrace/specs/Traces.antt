@@ -1,4 +1,4 @@
--- What comes of a source whose steps are written.
+-- Promise: what comes of a source whose steps are written.
 use Rattle.std.specs.Prelude.{◌≡◌, ◌⊎◌, ℕ, ◌+◌, ◌-◌, ◌≤◌, ◌==◌, ◌&&◌, Bool, true, false, List, [], ◌∷◌, ◌++◌}
 use Rattle.std.specs.Prelude.{None, Result, Ok, Err, codes, drop, filter, length, map, nat_le, option_map, refl}
 use Rattle.std.specs.Prelude.{All, Option, Some, if◌then◌else◌}

@@ -1,4 +1,4 @@
--- Reading things with commas between them, from the left.
+-- Inner words: reading things with commas between them, from the left.
 use Rattle.std.specs.Prelude.{List, [], ◌∷◌, ◌++◌}
 use Rattle.btree.specs.Reading.{Got, Reader, ◌>>=◌, after, many}
 use Rattle.btree.specs.ExpressionReader.{comma, always}

@@ -1,4 +1,4 @@
--- Reading a definition from the left, with one token ahead.
+-- Inner words: reading a definition from the left, with one token ahead.
 use Rattle.std.specs.Prelude.{ℕ, Bool, false, List, [], if◌then◌else◌}
 use Rattle.blang.specs.declared.token.Token.{Token}
 use Rattle.blang.specs.declared.token.Token.TheVariants as token

@@ -1,4 +1,4 @@
--- What may be a fault in each construct.
+-- Inner words: what may be a fault in each construct.
 use Rattle.std.specs.Prelude.{List}
 use Rattle.blang.specs.Trees.{Expr, Arguments, Heading, Stmt, Stmts}
 use Rattle.blang.specs.Walk.{Event, events_in, walk, walk_arguments, walk_heading, walk_statement, walk_body}

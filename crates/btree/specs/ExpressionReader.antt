@@ -1,4 +1,4 @@
--- Reading an expression from the left, with one token ahead.
+-- Inner words: reading an expression from the left, with one token ahead.
 use Rattle.std.specs.Prelude.{ℕ, zero, suc, ◌+◌, Bool, true, false, Option, Some, None, nat_eq, if◌then◌else◌}
 use Rattle.bword.specs.declared.operators.BinOp.{BinOp}
 use Rattle.bword.specs.declared.operators.BinOp.TheVariants as op

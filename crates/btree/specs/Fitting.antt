@@ -1,5 +1,6 @@
--- The three rules of well-formed trees at once, with the room that is left and the offset that comes next, as a reader
--- meets them; and the words of the strings of a tree. `FormedWithin` says that the rules are those of `WellFormed`.
+-- Inner words: the three rules of well-formed trees at once, with the room that is left and the offset that comes next,
+-- as a reader meets them; and the words of the strings of a tree. `FormedWithin` says that the rules are those of
+-- `WellFormed`.
 use Rattle.std.specs.Prelude.{List, [], ◌∷◌, ◌++◌, ◌≡◌, ℕ, zero, suc, ◌+◌, ◌-◌, ◌/◌, ◌≤◌, length, false, sum_by}
 use Rattle.blang.specs.Trees.{Another, Arguments, Assigned, Binary, Called, Conditional, Expr, Grouped, Indexed}
 use Rattle.blang.specs.Trees.{Literal, Named, No_arguments, Postfixed, Prefixed, Text, Break, Compound, Empty, Evaluate}

@@ -1,4 +1,4 @@
--- The laws of reading a definition, and of what comes of a source.
+-- Promise: the laws of reading a definition, and of what comes of a source.
 use Rattle.std.specs.Prelude.{◌≡◌, ℕ, map, List, [], ◌∷◌, ◌++◌, true, false}
 use Rattle.blang.specs.declared.token.Token.TheVariants as token
 use Rattle.blang.specs.declared.token.Keyword.TheVariants as keyword

@@ -1,4 +1,4 @@
--- The level of each token of two functions.
+-- Closed facts: the level of each token of two functions.
 use Rattle.std.specs.Prelude.{◌≡◌, ℕ, List, [], ◌∷◌, map, None, refl}
 use Rattle.blang.specs.Trees.{Number, Expr, Literal, Indexed, Called, Prefixed, Negate, Conditional, Assigned}
 use Rattle.blang.specs.Trees.{No_arguments, Another, Stmt, If, Switch, Evaluate, Nothing, More, Function}

@@ -1,4 +1,4 @@
--- Levels of nesting, token by token: the level at which a token stands, or which it opens.
+-- Inner words: levels of nesting, token by token: the level at which a token stands, or which it opens.
 use Rattle.std.specs.Prelude.{◌≡◌, ℕ, suc, ◌≤◌, List, [], ◌∷◌, ◌++◌, map}
 use Rattle.blang.specs.declared.token.Placed.{Placed}
 use Rattle.blang.specs.Cut.{string_token}

@@ -1,4 +1,4 @@
--- What comes of some sources.
+-- Closed facts: what comes of some sources.
 use Rattle.std.specs.Prelude.{ℕ, List, [], ◌∷◌, ◌++◌}
 use Rattle.blang.specs.declared.code.Instr.{Instr}
 use Rattle.blang.specs.declared.code.Instr.TheVariants as instr

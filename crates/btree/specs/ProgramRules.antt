@@ -1,4 +1,4 @@
--- Laws of programs: one stands for tokens, and there is one way of parts.
+-- Promise: laws of programs: one stands for tokens, and there is one way of parts.
 use Rattle.bword.specs.declared.edition.Edition.{Edition}
 use Rattle.std.specs.Prelude.{◌≡◌, ℕ, List, Option}
 use Rattle.blang.specs.declared.token.Placed.{Placed}

@@ -1,4 +1,4 @@
--- Reading from the left, with one token ahead.
+-- Inner words: reading from the left, with one token ahead.
 use Rattle.std.specs.Prelude.{ℕ, zero, suc, List, [], ◌∷◌, length, Bool, Option, Some, None, if◌then◌else◌}
 use Rattle.blang.specs.declared.token.Token.{Token}
 use Rattle.blang.specs.declared.token.Token.TheVariants as token

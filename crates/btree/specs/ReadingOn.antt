@@ -1,4 +1,4 @@
--- What a reader with one token ahead may depend on, and that it can be ended wherever it stops.
+-- Inner words: what a reader with one token ahead may depend on, and that it can be ended wherever it stops.
 use Rattle.std.specs.Prelude.{◌≡◌, Bool, true, false, List, ◌++◌, ◌⊎◌}
 use Rattle.blang.specs.declared.token.Token.{Token}
 use Rattle.blang.specs.declared.token.Token.TheVariants as token

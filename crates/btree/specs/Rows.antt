@@ -1,4 +1,4 @@
--- Hard places of the grammar, each with what is read there.
+-- Closed facts: hard places of the grammar, each with what is read there.
 use Rattle.std.specs.Prelude.{◌≡◌, ℕ, zero, suc, List, [], ◌∷◌, ◌++◌, Some, None, replicate}
 use Rattle.bword.specs.declared.operators.BinOp.{BinOp}
 use Rattle.bword.specs.declared.operators.BinOp.TheVariants as op

@@ -1,4 +1,4 @@
--- What is written for whole sources: the code text, and the line of the diagnostic.
+-- Closed facts: what is written for whole sources: the code text, and the line of the diagnostic.
 use Rattle.std.specs.Prelude.{◌≡◌, ℕ, List, [], codes}
 use Rattle.bword.specs.declared.edition.Edition.{Edition}
 use Rattle.bword.specs.declared.edition.Edition.TheVariants as editions

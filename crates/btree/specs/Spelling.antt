@@ -1,4 +1,4 @@
--- The tokens of each construct.
+-- Inner words: the tokens of each construct.
 use Rattle.std.specs.Prelude.{List, [], ◌∷◌, ℕ, Option}
 use Rattle.blang.specs.declared.token.Placed.{Placed}
 use Rattle.blang.specs.Trees.{Identifier, Expr, Arguments, name_token, Declared, Heading, Stmt, Stmts, Ival}

@@ -1,4 +1,4 @@
--- Lines that trees don't keep are never read.
+-- Inner words: lines that trees don't keep are never read.
 use Rattle.std.specs.Prelude.{◌≡◌, List}
 use Rattle.blang.specs.declared.token.Placed.{Placed}
 use Rattle.blang.specs.Trees.{kept_tokens}

@@ -1,4 +1,4 @@
--- When a count of failures or refusals has grown.
+-- Closed facts: when a count of failures or refusals has grown.
 use Rattle.std.specs.Prelude.{◌≡◌, ℕ, ◌<◌, ◌≤◌}
 use Rattle.std.proofs.Common.{◌⊎◌, inl, inr, ⊎_elim, refl, arith}
 use Rattle.bword.specs.ByteEnds.{most, Grew}

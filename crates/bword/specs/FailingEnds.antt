@@ -1,4 +1,4 @@
--- Ends over memory that fail at a stated place.
+-- Promise: ends over memory that fail at a stated place.
 use Rattle.std.specs.Prelude.{◌≡◌, ℕ, ◌+◌, ◌-◌, ◌<◌, ◌≤◌, min, ◌==◌, Bool, if◌then◌else◌, List, [], ◌++◌, take, length}
 use Rattle.std.specs.Prelude.{slice_get, Option, Some, None, is_some, Result, Ok, Err}
 use Rattle.std.proofs.Common.{arith}

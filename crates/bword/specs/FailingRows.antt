@@ -1,4 +1,4 @@
--- Which call of a failing end fails, and what it keeps.
+-- Closed facts: which call of a failing end fails, and what it keeps.
 use Rattle.std.specs.Prelude.{◌≡◌, ℕ, List, [], ◌∷◌, map, codes, true, Option, Some, None, Result, Ok, Err, refl}
 use Rattle.std.proofs.Common.{arith}
 use Rattle.bword.specs.declared.ends.Device.{Device}

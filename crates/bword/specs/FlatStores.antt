@@ -1,4 +1,4 @@
--- A store in one piece.
+-- Promise: a store in one piece.
 use Rattle.std.specs.Prelude.{ℕ, List}
 use Rattle.bword.specs.declared.flat_store.FlatStore.{FlatStore}
 

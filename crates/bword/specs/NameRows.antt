@@ -1,4 +1,4 @@
--- Which texts are names.
+-- Closed facts: which texts are names.
 use Rattle.std.specs.Prelude.{◌≡◌, ℕ, Bool, true, false, List, [], ◌∷◌, ◌++◌, map, length, replicate, filter, codes}
 use Rattle.std.specs.Prelude.{refl}
 use Rattle.std.specs.List.{range_with_len}

@@ -1,4 +1,4 @@
--- Strings in a store of four words, of which word 2 holds `ab`.
+-- Closed facts: strings in a store of four words, of which word 2 holds `ab`.
 use Rattle.std.specs.Prelude.{◌≡◌, ℕ, List, [], ◌∷◌, map, length, slice_index, refl}
 use Rattle.bword.specs.Words.{byte_address, char_of, with_char, zeros}
 

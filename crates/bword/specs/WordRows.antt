@@ -1,4 +1,5 @@
--- The operators at some words, one pair of operands a line. Words above 32767 are below zero: 65535 is -1.
+-- Closed facts: the operators at some words, one pair of operands a line. Words above 32767 are below zero: 65535 is
+-- -1.
 use Rattle.std.specs.Prelude.{◌≡◌, ℕ, List, [], ◌∷◌, map, codes, Option, Some, None, refl}
 use Rattle.bword.specs.declared.operators.BinOp.{BinOp}
 use Rattle.bword.specs.declared.operators.BinOp.TheVariants as op

@@ -1,5 +1,6 @@
--- Words of 16 bits are the numbers from 0 to 65535, and each operation is one on whole numbers, whose result is taken
--- modulo 65536. The operators, the words of a store with the bytes of its strings, and the names of the language.
+-- Promise: words of 16 bits are the numbers from 0 to 65535, and each operation is one on whole numbers, whose result
+-- is taken modulo 65536. The operators, the words of a store with the bytes of its strings, and the names of the
+-- language.
 use Rattle.std.specs.Prelude.{ℕ, ◌+◌, ◌*◌, ◌/◌, ◌%◌, ◌^◌, Bool, not, Option, Some, None, nat_lt, ◌==◌, if◌then◌else◌}
 use Rattle.std.specs.Prelude.{bit_and, bit_or, ℤ, pos, neg_ℤ, ◌-ℤ◌, unsigned_abs, int_lt, int_le, int_div, int_rem}
 use Rattle.std.specs.Prelude.{List, [], ◌∷◌, codes, ◌≡◌, ◌<◌, length, replicate, slice_index, slice_set, zero, suc, ◌-◌}
