@@ -1,6 +1,6 @@
 -- How sources are cut, one source a line.
 use Rattle.std.specs.Prelude.{◌≡◌, ℕ, List, [], ◌∷◌, ◌++◌, map, length, filter, replicate, codes, refl, is_some, Some}
-use Rattle.std.specs.Prelude.{None}
+use Rattle.std.specs.Prelude.{None, true, false}
 use Rattle.std.specs.List.{range_with_len}
 use Rattle.bword.specs.ByteEnds.{most}
 use Rattle.bword.specs.declared.edition.Edition.{Edition}
@@ -9,7 +9,7 @@ use Rattle.bword.specs.declared.operators.BinOp.TheVariants as op
 use Rattle.blang.specs.declared.token.Token.{Token}
 use Rattle.blang.specs.Cut.{Word, whole, is_blank, word_token, keyword_of, number_in, with_quoted_byte, plain_of}
 use Rattle.blang.specs.Cut.{number_token, escape_of, operator_of, other_of, fixed_of, string_token, tokens_from, placed, cut, longest}
-use Rattle.blang.specs.Cut.{greatest}
+use Rattle.blang.specs.Cut.{greatest, is_last}
 use Rattle.blang.specs.Cut as cut_rules
 use Rattle.blang.specs.declared.token.Token.TheVariants as token
 use Rattle.blang.specs.declared.token.Keyword.TheVariants as keyword
@@ -296,6 +296,10 @@ stops : map tokens (codes "x # y" ∷ codes "x 08 y" ∷ []) ≡
     (x ∷ token.Bad letters.Character ∷ []) ∷ (x ∷ token.Bad letters.Constant ∷ []) ∷ []
 unfolding tokens_from cut longest greatest whole word_token keyword_of number_in operator_of other_of fixed_of
 stops = refl
+
+last_tokens : map is_last (token.Bad letters.Character ∷ token.End ∷ token.Semicolon ∷ token.Name (codes "x") ∷ [])
+    ≡ true ∷ true ∷ false ∷ false ∷ []
+last_tokens = refl
 
 -- How far a piece reaches that fits nothing: through its run, the byte in quotes that doesn't fit, its one byte,
 -- or to the end.

@@ -5,6 +5,7 @@ use Rattle.blang.specs.Trees.{Empty, Break, While, Literal, Number, Nothing, Mor
 use Rattle.blang.specs.Layout.{World, Exited}
 use Rattle.blang.specs.Machine.{Call, State, Running, Halted, Stuck}
 use Rattle.blang.specs.Value.{Answer, Gives, Ends, Wants, Item, Do, Loop_mark, Switch_mark}
+use Rattle.blang.specs.Headline.{Agrees}
 use Rattle.bmean.specs.Laws.{HaltsAsMeant, MeantIsDone, NeverStuck, WritesAsMeant, WantsAsItRuns, RunsWithoutEnd}
 use Rattle.bmean.specs.Sentences.{in_front, after_break}
 
@@ -87,6 +88,22 @@ writes_past_its_meaning law =
     let begins = law 0 main [] (written (1 ∷ [])) refl in
     let lengths : suc (length begins.0) ≡ 0 = ap length begins.1 in
     omega (arith, lengths)
+
+-- a state that has halted agrees with the same end alone, one that runs with all that goes on so, and a stuck one never
+pub ends_alike : Agrees (Halted (Exited 0) (written [])) (Ends (Exited 0) (written []))
+ends_alike = refl
+
+pub halts_and_wants : Agrees (Halted (Exited 0) (written [])) (Wants (written [])) → ⊥
+halts_and_wants agrees = let same : 2 ≡ 1 = ap kind agrees in omega (arith, same)
+
+pub writes_less : Agrees (Running main [] (written [])) (Wants (written (1 ∷ [])))
+writes_less = (1 ∷ [], refl)
+
+pub writes_more : Agrees (Running main [] (written (1 ∷ []))) (Wants (written [])) → ⊥
+writes_more begins = let lengths : suc (length begins.0) ≡ 0 = ap length begins.1 in omega (arith, lengths)
+
+pub stuck_agrees : Agrees (Stuck (written [])) (Wants (written [])) → ⊥
+stuck_agrees agrees = agrees
 
 -- where fuel is wanted, as many steps at least are made
 runs_later : (m : ℕ) → 1 ≤ m → state_kind (one_step m) ≡ 0 → ⊥
