@@ -15,7 +15,6 @@ pub(crate) struct Mention {
 }
 
 /// The first mention of an external in the code of a source that compiles, if there is one.
-#[inline(never)]
 pub(crate) fn first_mention(
     alloc: Global,
     source: &[u8],
@@ -23,11 +22,23 @@ pub(crate) fn first_mention(
     name: Name,
 ) -> Result<Option<Mention>, AllocError> {
     let code = code_of(alloc, source, edition)?;
-    let Ok(definitions) = read_code(alloc, code.bytes()) else {
-        return Err(AllocError);
-    };
+    match read_code(alloc, code.bytes()) {
+        Ok(definitions) => mention_in(alloc, source, edition, definitions.as_slice(), name),
+        Err(_) => Err(AllocError),
+    }
+}
+
+// The first mention in these definitions of a source.
+#[inline(never)]
+fn mention_in(
+    alloc: Global,
+    source: &[u8],
+    edition: Edition,
+    definitions: &[Definition],
+    name: Name,
+) -> Result<Option<Mention>, AllocError> {
     let mut pass = Pass::new(alloc, source, edition);
-    for definition in definitions.as_slice() {
+    for definition in definitions {
         match pass.next() {
             Step::Written => {}
             Step::Memory => return Err(AllocError),
