@@ -81,6 +81,7 @@ fn findings(
 }
 
 // What is said of the fault that a source has.
+#[inline(never)]
 fn fault_of(
     alloc: Global,
     source: &[u8],
@@ -196,6 +197,7 @@ fn warnings(
 }
 
 // The definitions of a source that compiles.
+#[inline(never)]
 fn definitions_of(
     alloc: Global,
     source: &[u8],

@@ -1,9 +1,10 @@
 //! Where a name is mentioned first that nothing defines.
 use crate::passes::{Extent, Pass};
 use bcode::read_code;
-use blang::{Definition, Instr, Ival, View};
-use bparse::Step;
-use bword::{Edition, MemOut, Name};
+use blang::{Definition, Instr, Ival, View, status};
+use bparse::{Step, compile_edition};
+use btools::Sink;
+use bword::{Edition, MemIn, MemOut, Name};
 use std::alloc::{AllocError, Global};
 
 /// The line of a mention, and the tokens of the definition that it stands in.
@@ -21,11 +22,23 @@ pub(crate) fn first_mention(
     name: Name,
 ) -> Result<Option<Mention>, AllocError> {
     let code = code_of(alloc, source, edition)?;
-    let Ok(definitions) = read_code(alloc, code.bytes()) else {
-        return Err(AllocError);
-    };
+    match read_code(alloc, code.bytes()) {
+        Ok(definitions) => mention_in(alloc, source, edition, definitions.as_slice(), name),
+        Err(_) => Err(AllocError),
+    }
+}
+
+// The first mention in these definitions of a source.
+#[inline(never)]
+fn mention_in(
+    alloc: Global,
+    source: &[u8],
+    edition: Edition,
+    definitions: &[Definition],
+    name: Name,
+) -> Result<Option<Mention>, AllocError> {
     let mut pass = Pass::new(alloc, source, edition);
-    for definition in definitions.as_slice() {
+    for definition in definitions {
         match pass.next() {
             Step::Written => {}
             Step::Memory => return Err(AllocError),
@@ -42,16 +55,19 @@ pub(crate) fn first_mention(
 }
 
 // The code of a source that compiles.
+#[inline(never)]
 fn code_of(alloc: Global, source: &[u8], edition: Edition) -> Result<MemOut, AllocError> {
-    let mut pass = Pass::new(alloc, source, edition);
-    for _ in 0..source.len() {
-        match pass.next() {
-            Step::Written => {}
-            Step::Memory => return Err(AllocError),
-            _ => break,
-        }
+    let mut code = MemOut::new(alloc);
+    match compile_edition(
+        alloc,
+        &mut MemIn::new(source),
+        &mut code,
+        &mut Sink,
+        edition,
+    ) {
+        status::DONE => Ok(code),
+        _ => Err(AllocError),
     }
-    Ok(pass.into_code())
 }
 
 // The place of the first instruction or initial value that mentions the external.

@@ -5,7 +5,8 @@ ghost use Rattle.bcheck.specs.Findings.{Reads};
 
 use blang::Diagnostic;
 use bparse::{Compiler, Step};
-use bword::{Edition, MemIn, MemOut};
+use btools::Sink;
+use bword::{Edition, MemIn};
 use std::alloc::Global;
 
 /// The tokens of a definition: from one place among all tokens to another.
@@ -27,7 +28,7 @@ pub(crate) struct Fault {
 /// A compiler that tells where its definitions stand.
 #[derive(Drop)]
 pub(crate) struct Pass<'a> {
-    pub compiler: Compiler<MemIn<'a>, MemOut>,
+    pub compiler: Compiler<MemIn<'a>, Sink>,
     /// Of the definition that was read last.
     pub extent: Extent,
 }
@@ -37,9 +38,8 @@ impl<'a> Pass<'a> {
         ensures reads { Reads edition source.now result.compiler }
         ensures is_open { result.compiler.is_closed ≡ false }
     {
-        let out = MemOut::new(alloc);
         Pass {
-            compiler: Compiler::with_edition(alloc, MemIn::new(source), out, edition),
+            compiler: Compiler::with_edition(alloc, MemIn::new(source), Sink, edition),
             extent: Extent { first: 0, end: 0 },
         }
     }
@@ -81,16 +81,6 @@ impl<'a> Pass<'a> {
             self.compiler.value_lines()
         };
         lines.get(place).copied().unwrap_or(0)
-    }
-
-    /// What was written.
-    pub(crate) fn into_code(self) -> MemOut {
-        let Pass {
-            compiler,
-            extent: _,
-        } = self;
-        let (_, code) = compiler.into_ends();
-        code
     }
 }
 

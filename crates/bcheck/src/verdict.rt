@@ -61,6 +61,7 @@ impl Verdict {
 }
 
 /// What the compiler and the loader say of a source, unless memory is refused.
+#[inline(never)]
 pub(crate) fn judge(alloc: Global, source: &[u8], edition: Edition) -> Option<Verdict>
     ensures { IfSome result (Judged edition source.now) }
 {

@@ -17,7 +17,8 @@ use Rattle.bmach.proofs.Beginning.{run_from}
 use Rattle.bmach.proofs.Running.{following, memory_unfailed, one_more, run_over, same_run, steps_add}
 use Rattle.bmach.proofs.Turning.{follows, goes_on, runs_on}
 use Rattle.btools.specs.Programs.{nothing_written}
-use Rattle.bdraw.specs.Draws.{DrawsRun, EndGives, IsAfter, IsAtEnd, IsMade, IsOver, LeavesAtEnd, ShowsMemory, no_memory, over, unread, untold}
+use Rattle.bdraw.specs.Draws.{DrawsRun, EndGives, IsAfter, IsAtEnd, IsMade, IsOver, LeavesAtEnd, ShowsMemory, no_memory, over, unread}
+use Rattle.btools.specs.Programs.{untold}
 
 -- a state after which nothing happens
 abbrev HasStopped : State → Type 0

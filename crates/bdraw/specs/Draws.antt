@@ -152,10 +152,6 @@ pub data Draws (edition : Edition) (source : List ℕ) (steps : Option ℕ) (end
   stopped : NoProgram edition source ends.line ends.line_after status → ends.out_after ≡ ends.out
       → ends.input_after ≡ ends.input → Draws edition source steps ends status
 
--- a stream that doesn't tell what it took
-abbrev pub untold : Outgoing
-untold = record { written = None; failures = 0; refusals = 0 }
-
 -- so many steps were made
 abbrev pub IsMade : (first : Paused) (made : ℕ) (now : Paused) (i j : Incoming) (o q : Outgoing) → Type 0
 IsMade first made now i j o q =

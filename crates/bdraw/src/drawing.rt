@@ -2,17 +2,17 @@
 ghost use Rattle.std.specs.Prelude.{◌≡◌, IfOk};
 ghost use Rattle.bmach.specs.Stepping.{IsUnstarted};
 ghost use Rattle.bdraw.specs.Excluded.{NoPictures, WrongShapes};
-ghost use Rattle.bdraw.specs.Draws.{Draws, DrawsRun, EndGives, IsPicture, Made, ShowsMemory, Unbegun, untold};
+ghost use Rattle.btools.specs.Programs.{untold};
+ghost use Rattle.bdraw.specs.Draws.{Draws, DrawsRun, EndGives, IsPicture, Made, ShowsMemory, Unbegun};
 
 use crate::picture::picture_of;
 use crate::scene::{Memory, Moment, Scene, calls_of, no_calls};
 use crate::shapes::picture_text;
-use crate::sink::Sink;
 use blang::Outcome;
 use blang::status::{self, Status};
 use bmach::Stepper;
 use bpages::PagedStore;
-use btools::{Program, Text, read_program, tell};
+use btools::{Program, Sink, Text, read_program, tell};
 use bword::{ByteIn, ByteOut, Edition, Store};
 use std::alloc::{AllocError, Global};
 

@@ -5,6 +5,5 @@ mod drawing;
 mod picture;
 mod scene;
 mod shapes;
-mod sink;
 
 pub use drawing::{draw, wrong_pictures_are_excluded};

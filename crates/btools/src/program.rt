@@ -5,6 +5,7 @@ ghost use Rattle.btools.specs.Programs.{IsThisProgram, IsUnread, LoadGives, NoPr
 ghost use Rattle.btools.specs.Excluded.{WrongPrograms};
 
 use crate::frames::{Frame, frames_of};
+use crate::sink::Sink;
 use crate::telling::tell;
 use bcode::{CodeFault, read_code};
 use blang::status::{self, Status};
@@ -171,14 +172,10 @@ fn names_of(alloc: Global, source: &[u8], edition: Edition) -> Result<Names, All
     Ok(Names { frames, lines })
 }
 
-// The lines of a source that compiles.
+// The lines of a source that compiles. A compiler is large, so it has a frame of its own.
+#[inline(never)]
 fn lines_of(alloc: Global, source: &[u8], edition: Edition) -> Result<Vec<u64>, AllocError> {
-    let mut compiler = Compiler::with_edition(
-        alloc,
-        MemIn::new(source),
-        MemOut::new(alloc),
-        edition,
-    );
+    let mut compiler = Compiler::with_edition(alloc, MemIn::new(source), Sink, edition);
     let mut lines = Vec::new(alloc);
     // A definition has a byte at least.
     for _ in 0..source.len() {

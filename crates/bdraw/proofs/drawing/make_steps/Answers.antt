@@ -1,5 +1,5 @@
 use Rattle.std.proofs.Common.{◌∙◌, refl}
-use Rattle.bdraw.specs.Draws.{untold}
+use Rattle.btools.specs.Programs.{untold}
 use Rattle.bdraw.proofs.MadeSteps.{made_none, made_one, made_over}
 use Rattle.bdraw.proofs.drawing.make_steps.Goals as goal
 

@@ -1,5 +1,6 @@
 use Rattle.std.proofs.Common.{◌≡◌}
-use Rattle.bdraw.specs.Draws.{IsMade, untold}
+use Rattle.btools.specs.Programs.{untold}
+use Rattle.bdraw.specs.Draws.{IsMade}
 use Rattle.bdraw.proofs.drawing.make_steps.Given as goal
 
 abbrev pub invariant-loop-made : goal.invariant-loop-made

@@ -1,6 +1,6 @@
 //! An end for what nobody looks at.
 ghost use Rattle.std.specs.Prelude.{[], true};
-ghost use Rattle.bdraw.specs.Draws.{untold};
+ghost use Rattle.btools.specs.Programs.{untold};
 
 use bword::{ByteOut, EndFault};
 
