@@ -63,7 +63,9 @@ pub fn compile_edition<I: ByteIn, O: ByteOut, D: ByteOut>(
     }
 }
 
-// Compiles all definitions from one end to the other, and gives the last answer.
+// Compiles all definitions from one end to the other, and gives the last answer. The compiler is large, and a caller
+// that had it inlined would keep its room in each frame.
+#[inline(never)]
 fn compile_code<I: ByteIn, O: ByteOut>(
     alloc: Global,
     source: &mut I,
