@@ -1,0 +1,2 @@
+" Written by tools/editors.
+autocmd BufRead,BufNewFile *.b set filetype=bthompson

@@ -1,0 +1,3 @@
+" Written by tools/editors.
+compiler bthompson
+setlocal commentstring=/*%s*/ shiftwidth=4 expandtab
