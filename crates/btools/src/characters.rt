@@ -1,6 +1,6 @@
 //! Words shown as characters.
 ghost use Rattle.std.specs.Char.{digit_char};
-ghost use Rattle.std.specs.Prelude.{◌≡◌, ◌++◌, OnOk};
+ghost use Rattle.std.specs.Prelude.{◌≡◌, ◌<◌, ◌++◌, OnOk};
 ghost use Rattle.btools.specs.Characters.{shown_byte, shown_word};
 
 use crate::text::Text;
