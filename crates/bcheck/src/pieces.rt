@@ -6,7 +6,7 @@ ghost use Rattle.bcheck.specs.Checks.{spot_words};
 ghost use Rattle.bcheck.specs.Pieces.{piece_text, spot_text};
 
 use crate::finding::Spot;
-use btools::Text;
+use btools::{Text, hexadecimal_digit};
 use std::alloc::AllocError;
 
 /// A piece of a text.

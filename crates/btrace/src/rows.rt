@@ -10,7 +10,7 @@ use crate::tables::{Entry, Tables};
 use bcode::{Page, push_instr_line};
 use blang::Instr;
 use bmach::{Active, Stepper};
-use btools::{Text, push_byte};
+use btools::{Text, hexadecimal_digit, push_byte};
 use bword::Store;
 use std::alloc::AllocError;
 use std::ops::Range;
