@@ -1,7 +1,7 @@
 //! The answer of a command line, beside the one that is kept.
 use anyhow::{Result, bail, ensure};
+use bcli::serve;
 use blang::status::Status;
-use bserve::serve;
 use bword::{ByteOut, MemIn, MemOut};
 use std::rt::Files;
 

@@ -7,7 +7,7 @@ use Rattle.blang.specs.Text.{IsCodeText}
 use Rattle.blang.specs.declared.code.Definition.{Definition}
 use Rattle.blang.specs.Code.{code_of}
 use Rattle.blang.specs.Compiles.{code_text, line_of, Compiles}
-use Rattle.broundtrip.proofs.ReadingBack.{reads_back}
+use Rattle.bgrammar.proofs.ReadingBack.{reads_back}
 use Rattle.blang.specs.Layout.{load_fault}
 use Rattle.blang.specs.declared.run.LoadFault.{LoadFault}
 use Rattle.blang.specs.declared.run.LoadFault.TheVariants as fault

@@ -21,8 +21,8 @@ use Rattle.blang.specs.declared.run.LoadFault.TheVariants as fault
 use Rattle.blang.specs.Layout.{load_fault}
 use Rattle.blang.specs.declared.status.TheConstants.{DEVICE, DONE, FAULT}
 use Rattle.blang.specs.declared.token.Diagnostic.{Diagnostic}
-use Rattle.btree.specs.SourceRows.{ComesIn}
-use Rattle.btree.proofs.SourceRows.{edition_rows}
+use Rattle.bgrammar.specs.SourceRows.{ComesIn}
+use Rattle.bgrammar.proofs.SourceRows.{edition_rows}
 use Rattle.bcheck.specs.Checks as checks
 use Rattle.bcheck.specs.Checks.{IsOver, Reason, StandsOn, code_keyword, column_after, diagnostic_code, json_text}
 use Rattle.bcheck.specs.Checks.{AreFindings, Check, Checks, FindingParts, Outcome, TellsFirst, finding_column, fix_and_second, finding_head, finding_line, finding_start, finding_text, outcome_of, findings_text, severity_of, shown_in_form, told_first}

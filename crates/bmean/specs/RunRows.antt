@@ -6,9 +6,9 @@ use Rattle.std.specs.Fmt.{digits}
 use Rattle.blang.specs.Cut.{whole, word_token, keyword_of, number_in, with_quoted_byte, escape_of, operator_of}
 use Rattle.blang.specs.Cut.{other_of, fixed_of, tokens_from, cut, longest, greatest}
 use Rattle.blang.specs.declared.token.Placed.{Placed}
-use Rattle.btree.specs.Reading.{Got, Stop}
+use Rattle.bgrammar.specs.Reading.{Got, Stop}
 use Rattle.blang.specs.Trees.{Definition}
-use Rattle.btree.specs.DefinitionReader.{definition}
+use Rattle.bgrammar.specs.DefinitionReader.{definition}
 use Rattle.blang.specs.Code.{code_of}
 use Rattle.blang.specs.declared.run.Outcome.{Outcome}
 use Rattle.blang.specs.declared.run.Outcome.TheVariants.{Exit, Trap, Limit}

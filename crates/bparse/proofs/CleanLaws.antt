@@ -10,11 +10,11 @@ use Rattle.blang.specs.Trees.{Identifier, Stmt, Definition, Simple, Vector, Func
 use Rattle.blang.specs.Scan.{Entry, NameKind, Automatic, kind_of, with_declaration, with_entry, fault, name_fault, Scope, no_scope, scanned, scan_event, with_names, automatic_words, function_events, function_scope, scope_fault, inner_fault, scan, identifier_of}
 use Rattle.blang.specs.declared.limits.TheConstants.{MAX_NAMES}
 use Rattle.blang.specs.Walk.{Event, AutoHere}
-use Rattle.btree.specs.Events.{statement_events}
+use Rattle.bgrammar.specs.Events.{statement_events}
 use Rattle.bword.specs.Words.{same_name}
 use Rattle.blang.specs.Code.{ival_code, string_words_of, code_of, fits_limits, fault_of, or_too_large, vector_words}
 use Rattle.bparse.specs.Sizes.{IsSmall}
-use Rattle.btree.proofs.WalkLaws.{function_events_are}
+use Rattle.bgrammar.proofs.WalkLaws.{function_events_are}
 
 abbrev parameter : Identifier → Event
 parameter w = AutoHere w None

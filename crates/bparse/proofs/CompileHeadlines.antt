@@ -4,7 +4,7 @@ use Rattle.bword.specs.ByteEnds.{Grew, Writes}
 use Rattle.bword.specs.declared.ends.EndFault.TheVariants as end_fault
 use Rattle.blang.specs.Cut.{tokens_from}
 use Rattle.blang.specs.Compiles.{Compilation, CompilesTo, Run, Compiles, SourceFailed, EndRefused, Tells, IsUndisturbed, CompileAnswers, CompileHeadline, fault_text, fault_status}
-use Rattle.btree.proofs.GoesLaws.{each_source_comes}
+use Rattle.bgrammar.proofs.GoesLaws.{each_source_comes}
 use Rattle.bword.proofs.Remaining.{Rest}
 use Rattle.bparse.proofs.Remaining.{rest_of, writes_nothing}
 

@@ -10,22 +10,22 @@ use Rattle.blang.specs.Cut.{is_last, placed, token_first, tokens_from}
 use Rattle.blang.specs.declared.token.Token.TheVariants as token
 use Rattle.blang.specs.declared.token.Placed.{Placed}
 use Rattle.blang.specs.declared.token.Diagnostic.{Diagnostic}
-use Rattle.btree.specs.Compiled.{AreNames}
+use Rattle.bgrammar.specs.Compiled.{AreNames}
 use Rattle.blang.specs.Compiles.{Defined, Compilation, CompilesTo, ending, next_text, compiled_text}
 use Rattle.blang.specs.Code.{fault_of}
 use Rattle.blang.specs.Trees.{Definition}
-use Rattle.btree.specs.DefinitionReader.{definition}
+use Rattle.bgrammar.specs.DefinitionReader.{definition}
 use Rattle.blang.specs.WellFormed.{fault_at}
-use Rattle.btree.specs.Reading.{Got, Stop, first, line_ahead}
+use Rattle.bgrammar.specs.Reading.{Got, Stop, first, line_ahead}
 use Rattle.blang.specs.Scan.{identifier_of}
-use Rattle.btree.proofs.Membership.{by_membership}
-use Rattle.btree.proofs.Outcomes.{Ended}
-use Rattle.btree.proofs.GoesLaws.{tokens_from-ended, ended_cons, goes_once, goes_some, goes_end}
-use Rattle.btree.proofs.GoesReads.{goes_after_read, goes_fault_read, goes_stop_read}
-use Rattle.bexpr.specs.Tokens.{Tokens, tokens_of, tokens_with, is_name, IsLoaded, IsSingle, Looks, LooksAt, Moves, work, TakesAhead, TokensFail}
+use Rattle.bgrammar.proofs.Membership.{by_membership}
+use Rattle.bgrammar.proofs.Outcomes.{Ended}
+use Rattle.bgrammar.proofs.GoesLaws.{tokens_from-ended, ended_cons, goes_once, goes_some, goes_end}
+use Rattle.bgrammar.proofs.GoesReads.{goes_after_read, goes_fault_read, goes_stop_read}
+use Rattle.bread.specs.Tokens.{Tokens, tokens_of, tokens_with, is_name, IsLoaded, IsSingle, Looks, LooksAt, Moves, work, TakesAhead, TokensFail}
 use Rattle.bword.specs.ByteEnds.{CanFollow}
-use Rattle.bexpr.proofs.TokenSteps.{Reads-append, LooksAt-append, CanFollow-append}
-use Rattle.bexpr.proofs.Moving.{single_here}
+use Rattle.bread.proofs.TokenSteps.{Reads-append, LooksAt-append, CanFollow-append}
+use Rattle.bread.proofs.Moving.{single_here}
 use Rattle.blex.proofs.Passing.{Grew-after}
 use Rattle.bparse.specs.Steps.{Point, point, SourceComesTo, HasCode, Writing, Stopping, Breaking, ReadFails, OutRefuses, NamesRefuse, PointGives, StandsAt, refused_step}
 use Rattle.bparse.specs.declared.step.Step.{Step}

@@ -6,9 +6,9 @@ use Rattle.bword.specs.ByteEnds.{Incoming, Outgoing, Grew, Writes, Refuses, CanF
 use Rattle.blang.specs.Cut.{whole, word_token, keyword_of, number_in, with_quoted_byte, escape_of, operator_of, other_of, fixed_of, tokens_from, cut, longest, greatest}
 use Rattle.blang.specs.declared.token.Diagnostic.{Diagnostic}
 use Rattle.blang.specs.Compiles.{Run, Compiles, Compilation, CompilesTo, TakenUpTo, Whatever, IsCompiled, IsFaulty, TextCutOff, LineCutOff, NamesRefused, EndRefused, SourceFailed, code_text, fault_text, line_of}
-use Rattle.btree.specs.SourceRows.{Comes}
-use Rattle.btree.proofs.SourceRows.{worked_rows, function_rows, outcome_at, outcome_sound}
-use Rattle.btree.proofs.GoesLaws.{tokens_from-ended, each_source_comes}
+use Rattle.bgrammar.specs.SourceRows.{Comes}
+use Rattle.bgrammar.proofs.SourceRows.{worked_rows, function_rows, outcome_at, outcome_sound}
+use Rattle.bgrammar.proofs.GoesLaws.{tokens_from-ended, each_source_comes}
 use Rattle.bparse.specs.Excluded.{Observed, NoneFailed, NoneRefused, AllTaken, NoReadFailed, Excluded}
 use Rattle.bparse.proofs.ReadingLaws.{held_at_fault}
 use Rattle.bparse.proofs.Remaining.{rest_of, all_written}

@@ -8,19 +8,19 @@ use Rattle.blang.specs.Code.{code_of, fault_of}
 use Rattle.blang.specs.Compiles.{Defined}
 use Rattle.blang.specs.Trees.{Definition}
 use Rattle.blang.specs.WellFormed.{IsFormed}
-use Rattle.btree.specs.DefinitionReader.{definition}
-use Rattle.btree.specs.Reading.{Got}
+use Rattle.bgrammar.specs.DefinitionReader.{definition}
+use Rattle.bgrammar.specs.Reading.{Got}
 use Rattle.blang.specs.Scan.{identifier_of}
-use Rattle.btree.proofs.LawProofs.{definition_read}
+use Rattle.bgrammar.proofs.LawProofs.{definition_read}
 use Rattle.bemit.specs.Drafts.{Draft, Going, fault_in, draft_resolved, started}
 use Rattle.bemit.specs.Effects.{code_with, definition_done}
 use Rattle.bemit.specs.Views.{IfMade}
-use Rattle.bonepass.proofs.Definitions.{one_pass}
+use Rattle.bcodegen.proofs.Definitions.{one_pass}
 use Rattle.bparse.specs.Steps.{is_end}
 use Rattle.bread.specs.Definitions.{TookDefinition}
 use Rattle.bread.specs.Headers.{Heads}
 use Rattle.bparse.specs.Sizes.{IsSmall}
-use Rattle.bexpr.specs.Tokens.{Tokens, tokens_of, Moves}
+use Rattle.bread.specs.Tokens.{Tokens, tokens_of, Moves}
 use Rattle.bread.specs.declared.header.DefinitionHead.{DefinitionHead}
 use Rattle.bparse.proofs.CleanLaws.{clean_small}
 

@@ -7,7 +7,7 @@ use Rattle.std.specs.Bool.{OnTrue}
 use Rattle.std.specs.Map.{keys_of}
 use Rattle.blang.specs.declared.token.Letters.TheVariants as letters
 use Rattle.blang.specs.Code.{code_of, or_too_large, fault_of}
-use Rattle.btree.specs.Compiled.{AreNames, has}
+use Rattle.bgrammar.specs.Compiled.{AreNames, has}
 use Rattle.blang.specs.Compiles.{Defined}
 use Rattle.blang.specs.Trees.{Definition}
 use Rattle.blang.specs.Scan.{inner_fault, identifier_of, name_fault}

@@ -1,7 +1,7 @@
 -- How far is read where a fault is told.
 use Rattle.std.proofs.Common.{◌≡◌, [], refl}
 use Rattle.blang.specs.declared.token.Diagnostic.{Diagnostic}
-use Rattle.btree.specs.Reading.{after}
+use Rattle.bgrammar.specs.Reading.{after}
 use Rattle.bparse.specs.Compilers.{Compiler, CompilerGives}
 use Rattle.bparse.specs.declared.step.Step.TheVariants as step
 

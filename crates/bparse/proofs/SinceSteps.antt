@@ -13,23 +13,23 @@ use Rattle.blang.specs.Cut.{tokens_from}
 use Rattle.blang.specs.Endings.{EndsWith}
 use Rattle.blang.specs.declared.token.Diagnostic.{Diagnostic}
 use Rattle.blang.specs.declared.token.Placed.{Placed}
-use Rattle.btree.specs.Compiled.{AreNames}
+use Rattle.bgrammar.specs.Compiled.{AreNames}
 use Rattle.blang.specs.Compiles.{Compilation, CompilesTo, ending, compiled_text}
 use Rattle.blang.specs.Trees.{Definition, kept}
 use Rattle.blang.specs.Walk.{spell_definition, spell_all}
 use Rattle.blang.specs.WellFormed.{IsFormed, AllFormed}
-use Rattle.btree.specs.DefinitionReader.{definition}
-use Rattle.btree.specs.Reading.{Got}
-use Rattle.btree.specs.Unread.{kept_read}
-use Rattle.btree.proofs.Membership.{are_names_after, are_names_push}
-use Rattle.btree.proofs.GoesLaws.{goes_once, goes_some}
-use Rattle.btree.proofs.GoesReads.{Taken, got_taken}
-use Rattle.btree.proofs.LawProofs.{definition_read}
-use Rattle.btree.proofs.ProgramLaws.{read_there}
-use Rattle.btree.proofs.StatementUnread.{lines_unread}
-use Rattle.bexpr.specs.Tokens.{tokens_of, IsReady, LooksAt, last_ahead}
+use Rattle.bgrammar.specs.DefinitionReader.{definition}
+use Rattle.bgrammar.specs.Reading.{Got}
+use Rattle.bgrammar.specs.Unread.{kept_read}
+use Rattle.bgrammar.proofs.Membership.{are_names_after, are_names_push}
+use Rattle.bgrammar.proofs.GoesLaws.{goes_once, goes_some}
+use Rattle.bgrammar.proofs.GoesReads.{Taken, got_taken}
+use Rattle.bgrammar.proofs.LawProofs.{definition_read}
+use Rattle.bgrammar.proofs.ProgramLaws.{read_there}
+use Rattle.bgrammar.proofs.StatementUnread.{lines_unread}
+use Rattle.bread.specs.Tokens.{tokens_of, IsReady, LooksAt, last_ahead}
 use Rattle.bword.specs.ByteEnds.{CanFollow}
-use Rattle.bexpr.proofs.TokenSteps.{EndsWith-append}
+use Rattle.bread.proofs.TokenSteps.{EndsWith-append}
 use Rattle.bparse.specs.Steps.{Point, point, name_of, Writing, Stopping, Breaking, BreakingNear, ReadFails, OutRefuses, NamesRefuse, OpensAndGives, GivesNext, PointGives, refused_step, to_begin}
 use Rattle.bparse.specs.Compilers.{CompilerStart, Compiler, compiler_of, Spelled, GoesOnAfter, OpeningWritten, HasWrittenSince, MoreCanBeWritten, Wrote, StoppedAfter, BrokeOff, BrokeOffNear, TakenNear, GivesAfter, CompilerGives}
 use Rattle.bparse.specs.Compilers as compilers

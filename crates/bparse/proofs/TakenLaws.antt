@@ -13,9 +13,9 @@ use Rattle.blang.specs.Compiles.{TakenUpTo}
 use Rattle.blang.specs.Trees.{Definition, Simple, bare}
 use Rattle.blang.specs.Walk.{spell_all}
 use Rattle.blang.specs.WellFormed.{AllFormed}
-use Rattle.btree.specs.DefinitionReader.{definition}
-use Rattle.btree.specs.Reading.{Got}
-use Rattle.btree.proofs.ProgramLaws.{read_first}
+use Rattle.bgrammar.specs.DefinitionReader.{definition}
+use Rattle.bgrammar.specs.Reading.{Got}
+use Rattle.bgrammar.proofs.ProgramLaws.{read_first}
 
 -- how many tokens bytes have at most
 first_short : (b : Bool) (p : Placed) (rest : List Placed) (n : ℕ) → length rest ≤ n → length (p ∷ (if b then [] else rest)) ≤ n + 1

@@ -10,15 +10,15 @@ use Rattle.blang.specs.Compiles.{TakenUpTo}
 use Rattle.blang.specs.Trees.{Definition, Simple, bare, kept}
 use Rattle.blang.specs.Walk.{spell_definition, spell_all}
 use Rattle.blang.specs.WellFormed.{IsFormed}
-use Rattle.btree.specs.DefinitionReader.{definition}
-use Rattle.btree.specs.Reading.{Got, Stop, after}
-use Rattle.btree.specs.Unread.{kept_read}
-use Rattle.btree.proofs.GoesReads.{got_taken, stop_taken}
-use Rattle.btree.proofs.KeptLemmas.{map_bare-kept}
-use Rattle.btree.proofs.LawProofs.{definition_read}
-use Rattle.btree.proofs.Parting.{stop_on, bare_spelled}
-use Rattle.btree.proofs.StatementUnread.{lines_unread}
-use Rattle.bexpr.specs.Tokens.{Tokens, tokens_of, tokens_with, last_ahead, IsSingle}
+use Rattle.bgrammar.specs.DefinitionReader.{definition}
+use Rattle.bgrammar.specs.Reading.{Got, Stop, after}
+use Rattle.bgrammar.specs.Unread.{kept_read}
+use Rattle.bgrammar.proofs.GoesReads.{got_taken, stop_taken}
+use Rattle.bgrammar.proofs.KeptLemmas.{map_bare-kept}
+use Rattle.bgrammar.proofs.LawProofs.{definition_read}
+use Rattle.bgrammar.proofs.Parting.{stop_on, bare_spelled}
+use Rattle.bgrammar.proofs.StatementUnread.{lines_unread}
+use Rattle.bread.specs.Tokens.{Tokens, tokens_of, tokens_with, last_ahead, IsSingle}
 use Rattle.bparse.specs.Compilers.{Compiler, HasWrittenSince, ReadNoFurther}
 use Rattle.bparse.specs.Steps.{StandsAt}
 use Rattle.bparse.proofs.SinceSteps.{AllFormed-append, spell_all-append, follow, tree_spelled}

@@ -1,8 +1,8 @@
 -- Promise: what a call of the compiler does, counted from when the compiler was made.
 use Rattle.std.specs.Prelude.{◌≡◌, ◌≢◌, ℕ, ◌≤◌, ◌<◌, Bool, true, false, List, [], ◌∷◌, ◌++◌, length, map, Option, Some}
 use Rattle.std.specs.Prelude.{None, ◌⊎◌, if◌then◌else◌}
-use Rattle.btree.specs.Compiled.{AreNames}
-use Rattle.bexpr.specs.Tokens.{Tokens, all_tokens, tokens_of, IsReady, IsSingle, last_ahead, work}
+use Rattle.bgrammar.specs.Compiled.{AreNames}
+use Rattle.bread.specs.Tokens.{Tokens, all_tokens, tokens_of, IsReady, IsSingle, last_ahead, work}
 use Rattle.bparse.specs.Steps.{name_of, HasCode, to_begin, StandsAt}
 use Rattle.bparse.specs.declared.step.Step.{Step}
 use Rattle.bparse.specs.declared.step.Step.TheVariants as step

@@ -4,7 +4,7 @@ use Rattle.bword.specs.declared.edition.Edition.TheVariants as editions
 use Rattle.bword.specs.ByteEnds.{Grew}
 use Rattle.blang.specs.Compiles.{Run, Compiles, Tells}
 use Rattle.blang.specs.declared.token.Diagnostic.{Diagnostic}
-use Rattle.btree.specs.Reading.{after}
+use Rattle.bgrammar.specs.Reading.{after}
 use Rattle.bparse.specs.Compilers.{Compiler, CompilerGives}
 use Rattle.bparse.specs.declared.step.Step.TheVariants as step
 

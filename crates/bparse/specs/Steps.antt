@@ -1,11 +1,11 @@
 -- Inner words: what reading and writing one definition does.
 use Rattle.std.specs.Prelude.{◌≡◌, ◌≢◌, ℕ, ◌<◌, Bool, false, true, List, [], ◌∷◌, ◌++◌, Option, Some, None, Result, Ok}
 use Rattle.std.specs.Prelude.{Err, ◌⊎◌}
-use Rattle.btree.specs.Compiled.{AreNames}
-use Rattle.btree.specs.DefinitionReader.{definition}
-use Rattle.btree.specs.Reading.{Got, Stop, first}
+use Rattle.bgrammar.specs.Compiled.{AreNames}
+use Rattle.bgrammar.specs.DefinitionReader.{definition}
+use Rattle.bgrammar.specs.Reading.{Got, Stop, first}
 use Rattle.blang.specs.declared.token.Placed.{Placed}
-use Rattle.bexpr.specs.Tokens.{Tokens, tokens_of, IsSingle, TakesAhead, LooksAt, work}
+use Rattle.bread.specs.Tokens.{Tokens, tokens_of, IsSingle, TakesAhead, LooksAt, work}
 use Rattle.bparse.specs.declared.step.Step.{Step}
 use Rattle.bparse.specs.declared.step.Step.TheVariants as step
 use Rattle.bword.specs.declared.edition.Edition.{Edition}

@@ -2,9 +2,9 @@
 ghost use Rattle.std.specs.Prelude.{◌≡◌, ◌≤◌, length, OnOk};
 ghost use Rattle.std.specs.Map.{keys_of};
 ghost use Rattle.bword.specs.declared.edition.Edition.TheVariants as editions;
-ghost use Rattle.btree.specs.Reading.{first};
+ghost use Rattle.bgrammar.specs.Reading.{first};
 ghost use Rattle.blang.specs.declared.limits.TheConstants.{MAX_INSTRUCTIONS, MAX_VALUES};
-ghost use Rattle.bexpr.specs.Tokens.{IsReady, IsLoaded};
+ghost use Rattle.bread.specs.Tokens.{IsReady, IsLoaded};
 ghost use Rattle.bparse.specs.Compilers.{SameCompiler, CompilerGives, compiler_start};
 ghost use Rattle.bparse.specs.Compilers as compilers;
 ghost use Rattle.bparse.specs.Steps.{point, PointGives, GivesNext, is_end, to_begin};
@@ -12,10 +12,9 @@ ghost use Rattle.bparse.specs.Steps.{point, PointGives, GivesNext, is_end, to_be
 use crate::step::Step;
 use crate::view::view;
 use bcode::{write_begin, write_definition, write_end};
-use bexpr::{Halt, Parser, Tokens};
 use blex::Lexeme;
 use bnames::NameTable;
-use bread::definition;
+use bread::{Halt, Parser, Tokens, definition};
 use bword::{ByteIn, ByteOut, Edition};
 use std::alloc::Global;
 use std::marker::Model;

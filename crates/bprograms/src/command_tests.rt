@@ -1,6 +1,6 @@
 //! Command lines: what is written, the line beside it and the status.
+use bcli::{MemFile, serve, serve_with};
 use bparse::Status;
-use bserve::{MemFile, serve, serve_with};
 use bword::{ByteIn, ByteOut, MemIn, MemOut};
 use std::alloc::Global;
 use std::process::Abort;

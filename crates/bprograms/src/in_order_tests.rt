@@ -1,7 +1,7 @@
 //! The order of what a process reads and writes, in a log of its streams.
 use crate::command_tests::words_of;
+use bcli::{Streams, serve_in_order};
 use bparse::Status;
-use bserve::{Streams, serve_in_order};
 use std::cell::RefCell;
 use std::fs;
 use std::io::{self, ErrorKind, Read, Write};

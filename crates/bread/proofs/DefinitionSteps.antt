@@ -9,31 +9,31 @@ use Rattle.blang.specs.declared.code.Ival as coded
 use Rattle.blang.specs.declared.code.Ival.TheVariants as ival_code
 use Rattle.blang.specs.declared.code.Instr.TheVariants as instr
 use Rattle.blang.specs.Trees.{Identifier, Number, Character, Ival, Ival_constant, Ival_name, Definition, Simple, Vector, Function}
-use Rattle.btree.specs.Reading.{Read, Reader, Got, Stop, ◌>>=◌, first, line_ahead, after, expect}
-use Rattle.btree.specs.ExpressionReader.{is_close_paren, is_close_bracket}
-use Rattle.btree.specs.Commas.{list_reader}
+use Rattle.bgrammar.specs.Reading.{Read, Reader, Got, Stop, ◌>>=◌, first, line_ahead, after, expect}
+use Rattle.bgrammar.specs.ExpressionReader.{is_close_paren, is_close_bracket}
+use Rattle.bgrammar.specs.Commas.{list_reader}
 use Rattle.blang.specs.Code.{vector_constant}
-use Rattle.btree.specs.StatementReader.{is_semicolon, name, size, statement}
+use Rattle.bgrammar.specs.StatementReader.{is_semicolon, name, size, statement}
 use Rattle.blang.specs.declared.limits.TheConstants.{MAX_NESTING}
-use Rattle.btree.specs.Fitting.{values_words}
-use Rattle.btree.specs.DefinitionReader.{ival_at, ival, valued, vector, function_body, function, after_name_at, after_name, definition}
-use Rattle.btree.proofs.Fine.{Fine}
-use Rattle.btree.proofs.ExpressionFine.{Closer}
+use Rattle.bgrammar.specs.Fitting.{values_words}
+use Rattle.bgrammar.specs.DefinitionReader.{ival_at, ival, valued, vector, function_body, function, after_name_at, after_name, definition}
+use Rattle.bgrammar.proofs.Fine.{Fine}
+use Rattle.bgrammar.proofs.ExpressionFine.{Closer}
 use Rattle.bemit.specs.Drafts.{Draft, emitted, stringed, offset_of, worded, started}
 use Rattle.bemit.specs.Drafts as drafts
 use Rattle.bemit.specs.Effects.{ival_done, done, values_done, parameters_done, definition_done}
-use Rattle.bexpr.specs.Tokens.{Tokens, IsLoaded, IsSingle, work, Runs, TokensFail, Advances}
-use Rattle.bexpr.specs.Marks.{is_comma}
-use Rattle.bexpr.specs.Parsers.{Halts}
-use Rattle.bexpr.specs.declared.halt.Halt.{Halt}
-use Rattle.bexpr.specs.declared.halt.Halt.TheVariants as halt
+use Rattle.bread.specs.Tokens.{Tokens, IsLoaded, IsSingle, work, Runs, TokensFail, Advances}
+use Rattle.bread.specs.Marks.{is_comma}
+use Rattle.bread.specs.Parsers.{Halts}
+use Rattle.bread.specs.declared.halt.Halt.{Halt}
+use Rattle.bread.specs.declared.halt.Halt.TheVariants as halt
 use Rattle.bread.specs.declared.header.DefinitionHead.{DefinitionHead}
 use Rattle.bread.specs.declared.header.HeadKind.{HeadKind}
 use Rattle.bread.specs.declared.header.HeadKind.TheVariants as kind
 use Rattle.bread.specs.Compiling.{PartTaken, CompilesPart}
 use Rattle.bread.specs.Definitions.{TakesValue, initial_value_list, parameters, TookList, FindsList, TookKind, FindsKind, TookDefinition, FindsDefinition}
-use Rattle.bexpr.proofs.TokenSteps.{Moves-as, Moves-breaks}
-use Rattle.bexpr.proofs.Moving.{run_here, run_past, run_then, run_bind}
+use Rattle.bread.proofs.TokenSteps.{Moves-as, Moves-breaks}
+use Rattle.bread.proofs.Moving.{run_here, run_past, run_then, run_bind}
 use Rattle.bread.proofs.Steps.{began, went, halts_first, halts_then, halts_after, device}
 use Rattle.bread.proofs.Takings.{less}
 use Rattle.bread.proofs.Lists.{InList, list_first, list_halts, list_ends}

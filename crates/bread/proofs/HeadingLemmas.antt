@@ -4,12 +4,12 @@ use Rattle.blang.specs.declared.token.Token.{Token}
 use Rattle.blang.specs.declared.token.Token.TheVariants as token
 use Rattle.blang.specs.declared.token.Placed.{Placed}
 use Rattle.blang.specs.Trees.{Identifier, Heading, Auto, Extrn, Label, Case, Default, Stmt, Headed, Evaluate}
-use Rattle.btree.specs.Reading.{Read, Got, Stop, Reader, ◌>>=◌, first, line_ahead, after, expect, turns, many}
-use Rattle.btree.specs.ExpressionReader.{is_colon}
-use Rattle.btree.specs.Commas.{list_reader}
-use Rattle.btree.specs.StatementReader.{is_semicolon, name, constant, declared, Headings, No_heading, Then, headed, Lead, no_lead, with_heading, Step, Declares, Imports, Selects, Defaults, Mentions, Labels, step_at, lead_step, lead_turn, lead, stmt_at, stmt_after, level, ended, statement}
-use Rattle.btree.proofs.Fine.{many_some, many_none}
-use Rattle.btree.proofs.StatementFine.{lasting, lead_loop}
+use Rattle.bgrammar.specs.Reading.{Read, Got, Stop, Reader, ◌>>=◌, first, line_ahead, after, expect, turns, many}
+use Rattle.bgrammar.specs.ExpressionReader.{is_colon}
+use Rattle.bgrammar.specs.Commas.{list_reader}
+use Rattle.bgrammar.specs.StatementReader.{is_semicolon, name, constant, declared, Headings, No_heading, Then, headed, Lead, no_lead, with_heading, Step, Declares, Imports, Selects, Defaults, Mentions, Labels, step_at, lead_step, lead_turn, lead, stmt_at, stmt_after, level, ended, statement}
+use Rattle.bgrammar.proofs.Fine.{many_some, many_none}
+use Rattle.bgrammar.proofs.StatementFine.{lasting, lead_loop}
 use Rattle.bread.specs.Headings.{unheaded, IsHeadedBy, IsUnheaded, StopsHeading}
 
 -- headings after these

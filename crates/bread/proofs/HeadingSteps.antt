@@ -7,20 +7,20 @@ use Rattle.blang.specs.declared.token.Token.TheVariants as token
 use Rattle.blang.specs.declared.token.Keyword.TheVariants as keyword
 use Rattle.blang.specs.declared.token.Placed.{Placed}
 use Rattle.blang.specs.Trees.{Identifier, Heading, Auto, Extrn, Label, Case, Default}
-use Rattle.btree.specs.Reading.{Read, Reader, Got, Stop, ◌>>=◌, first, line_ahead, after, expect}
-use Rattle.btree.specs.ExpressionReader.{is_colon}
-use Rattle.btree.specs.Commas.{list_reader}
-use Rattle.btree.specs.StatementReader.{is_semicolon, name, size, constant, declared, no_lead, with_heading, Step, Declares, Imports, Selects, Defaults, step_at, lead_turn}
+use Rattle.bgrammar.specs.Reading.{Read, Reader, Got, Stop, ◌>>=◌, first, line_ahead, after, expect}
+use Rattle.bgrammar.specs.ExpressionReader.{is_colon}
+use Rattle.bgrammar.specs.Commas.{list_reader}
+use Rattle.bgrammar.specs.StatementReader.{is_semicolon, name, size, constant, declared, no_lead, with_heading, Step, Declares, Imports, Selects, Defaults, step_at, lead_turn}
 use Rattle.bemit.specs.Drafts.{Draft, selected, defaulted, imported, labelled}
 use Rattle.bemit.specs.Drafts as drafts
 use Rattle.bemit.specs.Effects.{headed}
-use Rattle.bexpr.specs.Tokens.{Tokens, IsLoaded, work, Moves, Runs, TokensFail, Advances, LooksOn, Same, AreAfter, KeepsAhead, tokens_with}
-use Rattle.bexpr.specs.Parsers.{Halts}
-use Rattle.bexpr.specs.declared.halt.Halt.{Halt}
-use Rattle.bexpr.specs.declared.halt.Halt.TheVariants as halt
+use Rattle.bread.specs.Tokens.{Tokens, IsLoaded, work, Moves, Runs, TokensFail, Advances, LooksOn, Same, AreAfter, KeepsAhead, tokens_with}
+use Rattle.bread.specs.Parsers.{Halts}
+use Rattle.bread.specs.declared.halt.Halt.{Halt}
+use Rattle.bread.specs.declared.halt.Halt.TheVariants as halt
 use Rattle.bread.specs.Headings.{auto, extrn, case, default, IsHeadedBy, IsUnheaded, StopsHeading}
 use Rattle.bread.specs.Compiling.{PartTaken, TookConstant, TookHeading, FindsHeading}
-use Rattle.bexpr.proofs.TokenSteps.{Moves-append, Moves-breaks}
+use Rattle.bread.proofs.TokenSteps.{Moves-append, Moves-breaks}
 use Rattle.bread.proofs.Steps.{began, went, halts_first, halts_then, run_seen}
 use Rattle.bread.proofs.HeadingLemmas.{heading_read, heading_stops, label_read, no_label}
 

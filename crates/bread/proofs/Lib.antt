@@ -1,3 +1,7 @@
+pub mod Moving
+pub mod Chains
+pub mod ExpressionSteps
+pub mod TokenSteps
 pub mod HeadingLemmas
 pub mod Steps
 pub mod Takings

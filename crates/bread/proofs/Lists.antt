@@ -4,22 +4,22 @@ use Rattle.std.proofs.lemmas.List.Sums.{fold-append}
 use Rattle.blang.specs.declared.token.Token.{Token}
 use Rattle.blang.specs.declared.token.Token.TheVariants as token
 use Rattle.blang.specs.declared.token.Placed.{Placed}
-use Rattle.btree.specs.Reading.{Reader, Got, ◌>>=◌, first, after, expect, many}
-use Rattle.btree.specs.ExpressionReader.{comma, always}
-use Rattle.btree.specs.Commas.{comma_item, list_reader}
-use Rattle.btree.proofs.Fine.{Fine, many_some, many_none}
-use Rattle.btree.proofs.ExpressionFine.{Closer, closing}
-use Rattle.btree.proofs.CommaLaws.{comma_loop}
+use Rattle.bgrammar.specs.Reading.{Reader, Got, ◌>>=◌, first, after, expect, many}
+use Rattle.bgrammar.specs.ExpressionReader.{comma, always}
+use Rattle.bgrammar.specs.Commas.{comma_item, list_reader}
+use Rattle.bgrammar.proofs.Fine.{Fine, many_some, many_none}
+use Rattle.bgrammar.proofs.ExpressionFine.{Closer, closing}
+use Rattle.bgrammar.proofs.CommaLaws.{comma_loop}
 use Rattle.bemit.specs.Drafts.{Draft}
-use Rattle.bexpr.specs.Tokens.{Tokens, IsSingle, work, Runs, TokensFail, Advances}
-use Rattle.bexpr.specs.Marks.{is_comma}
-use Rattle.bexpr.specs.Parsers.{Halts}
-use Rattle.bexpr.specs.declared.halt.Halt.{Halt}
-use Rattle.bexpr.specs.declared.halt.Halt.TheVariants as halt
+use Rattle.bread.specs.Tokens.{Tokens, IsSingle, work, Runs, TokensFail, Advances}
+use Rattle.bread.specs.Marks.{is_comma}
+use Rattle.bread.specs.Parsers.{Halts}
+use Rattle.bread.specs.declared.halt.Halt.{Halt}
+use Rattle.bread.specs.declared.halt.Halt.TheVariants as halt
 use Rattle.bread.specs.Compiling.{untold, PartTaken, CompilesPart}
-use Rattle.bexpr.specs.Parsers.{Expects}
-use Rattle.bexpr.proofs.TokenSteps.{Moves-breaks}
-use Rattle.bexpr.proofs.Moving.{run_here, run_past, run_then, run_bind}
+use Rattle.bread.specs.Parsers.{Expects}
+use Rattle.bread.proofs.TokenSteps.{Moves-breaks}
+use Rattle.bread.proofs.Moving.{run_here, run_past, run_then, run_bind}
 use Rattle.bread.proofs.Steps.{began, went, halts_first, halts_then, device}
 
 -- the things read so far

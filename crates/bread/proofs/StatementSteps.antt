@@ -7,29 +7,29 @@ use Rattle.blang.specs.declared.token.Keyword.{Keyword}
 use Rattle.blang.specs.declared.token.Keyword.TheVariants as keyword
 use Rattle.blang.specs.declared.token.Placed.{Placed}
 use Rattle.blang.specs.Trees.{Expr, Heading, Stmt, Headed, Compound, If, IfElse, While, Switch, Goto, Break, Return, ReturnValue, Evaluate, Empty, Stmts, Nothing, More}
-use Rattle.btree.specs.Fitting.{words, statement_words, body_words}
-use Rattle.btree.specs.Reading.{Read, Reader, Got, Stop, ◌>>=◌, first, line_ahead, after, expect, many}
-use Rattle.btree.specs.ExpressionReader.{is_close_paren, always, Rvalue, reader, inner}
-use Rattle.btree.specs.StatementReader.{is_open_paren, is_open_brace, is_close_brace, is_semicolon, is_else, Headings, No_heading, Then, headed, goes_on, Level, else_part, chosen, looped, one_more, body, compound, switched, tested, returned, stmt_at, level, statement}
-use Rattle.btree.specs.StatementReader as whole
-use Rattle.btree.proofs.Fine.{many_some, many_none}
-use Rattle.btree.proofs.StatementFine.{closing, Good, Room, full, some, has_level, body_loop}
+use Rattle.bgrammar.specs.Fitting.{words, statement_words, body_words}
+use Rattle.bgrammar.specs.Reading.{Read, Reader, Got, Stop, ◌>>=◌, first, line_ahead, after, expect, many}
+use Rattle.bgrammar.specs.ExpressionReader.{is_close_paren, always, Rvalue, reader, inner}
+use Rattle.bgrammar.specs.StatementReader.{is_open_paren, is_open_brace, is_close_brace, is_semicolon, is_else, Headings, No_heading, Then, headed, goes_on, Level, else_part, chosen, looped, one_more, body, compound, switched, tested, returned, stmt_at, level, statement}
+use Rattle.bgrammar.specs.StatementReader as whole
+use Rattle.bgrammar.proofs.Fine.{many_some, many_none}
+use Rattle.bgrammar.proofs.StatementFine.{closing, Good, Room, full, some, has_level, body_loop}
 use Rattle.blang.specs.declared.code.Instr.{Instr}
 use Rattle.blang.specs.declared.code.Instr.TheVariants as instr
 use Rattle.bemit.specs.Views.{IfMade}
 use Rattle.bemit.specs.Drafts.{Draft, Faulty, Going, emitted, filled, place_of, mark_of, begun, loop_begun, break_drafted as broken_here}
 use Rattle.bemit.specs.Effects.{evaluated, done, all_done}
 use Rattle.bemit.specs.Effects as effects
-use Rattle.bexpr.specs.Tokens.{Tokens, IsLoaded, IsSingle, work, Moves, Runs, Advances}
-use Rattle.bexpr.specs.Parsers.{Halts, TookWord}
-use Rattle.bexpr.specs.declared.halt.Halt.{Halt}
-use Rattle.bexpr.specs.declared.halt.Halt.TheVariants as halt
+use Rattle.bread.specs.Tokens.{Tokens, IsLoaded, IsSingle, work, Moves, Runs, Advances}
+use Rattle.bread.specs.Parsers.{Halts, TookWord}
+use Rattle.bread.specs.declared.halt.Halt.{Halt}
+use Rattle.bread.specs.declared.halt.Halt.TheVariants as halt
 use Rattle.bread.specs.Headings.{unheaded, IsHeadedBy, IsUnheaded, StopsHeading}
 use Rattle.bread.specs.Compiling.{untold, PartTaken, CompilesPart, TookHeading, FindsHeading}
-use Rattle.bexpr.specs.Parsers.{Expects}
+use Rattle.bread.specs.Parsers.{Expects}
 use Rattle.bread.specs.Statements.{after_current, rvalue_ended, evaluated_to, break_after, return_value, condition, conditional_after, repeated, statements, closed_loop, closed_switch, Chooses}
-use Rattle.bexpr.proofs.TokenSteps.{Moves-append, Moves-as, Moves-breaks}
-use Rattle.bexpr.proofs.Moving.{run_here, run_past, run_then}
+use Rattle.bread.proofs.TokenSteps.{Moves-append, Moves-as, Moves-breaks}
+use Rattle.bread.proofs.Moving.{run_here, run_past, run_then}
 use Rattle.bread.proofs.Steps.{began, went, halts_first, halts_then, halts_after, run_seen}
 use Rattle.bread.proofs.Takings.{falls_after, falls_all}
 

@@ -2,15 +2,15 @@
 use Rattle.std.proofs.Common.{◌≡◌, ℕ, List, ◌∷◌, ◌++◌, Result, Ok, Err, IsErrAnd, refl, sym, subst}
 use Rattle.bword.specs.declared.edition.Edition.{Edition}
 use Rattle.blang.specs.declared.token.Placed.{Placed}
-use Rattle.btree.specs.Reading.{Reader, Got, ◌>>=◌, first, line_ahead}
+use Rattle.bgrammar.specs.Reading.{Reader, Got, ◌>>=◌, first, line_ahead}
 use Rattle.bemit.specs.Drafts.{Draft}
-use Rattle.bexpr.specs.Tokens.{Tokens, tokens_of, tokens_with, IsLoaded, Moves, Runs, TokensFail}
-use Rattle.bexpr.specs.declared.halt.Halt.{Halt}
-use Rattle.bexpr.specs.declared.halt.Halt.TheVariants as halt
-use Rattle.bexpr.specs.Parsers.{Halts}
+use Rattle.bread.specs.Tokens.{Tokens, tokens_of, tokens_with, IsLoaded, Moves, Runs, TokensFail}
+use Rattle.bread.specs.declared.halt.Halt.{Halt}
+use Rattle.bread.specs.declared.halt.Halt.TheVariants as halt
+use Rattle.bread.specs.Parsers.{Halts}
 use Rattle.bread.specs.Compiling.{CompilesPart}
-use Rattle.bexpr.proofs.TokenSteps.{Moves-breaks, stays_same}
-use Rattle.bexpr.proofs.Moving.{run_then, run_bind}
+use Rattle.bread.proofs.TokenSteps.{Moves-breaks, stays_same}
+use Rattle.bread.proofs.Moving.{run_then, run_bind}
 
 first_with : (ahead : List Placed) (edition : Edition) (line : ℕ) (bytes : List ℕ) (p : Placed) (ps : List Placed) → ahead ≡ p ∷ ps → first (tokens_with ahead edition line bytes) ≡ first ahead
 first_with ahead edition line bytes p ps e = rw e refl

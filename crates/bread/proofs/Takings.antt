@@ -10,12 +10,12 @@ use Rattle.blang.specs.declared.token.Placed.{Placed}
 use Rattle.blex.specs.Lexemes.{token_of_lexeme}
 use Rattle.blex.proofs.LexemeSteps.{token_here}
 use Rattle.blang.specs.Trees.{Number, Character}
-use Rattle.btree.specs.Reading.{Got, Stop, first}
-use Rattle.btree.specs.StatementReader.{constant_at, name_at, size_at, step_at}
-use Rattle.btree.specs.DefinitionReader.{ival_at}
-use Rattle.bexpr.specs.Tokens.{Tokens, work, Advances}
+use Rattle.bgrammar.specs.Reading.{Got, Stop, first}
+use Rattle.bgrammar.specs.StatementReader.{constant_at, name_at, size_at, step_at}
+use Rattle.bgrammar.specs.DefinitionReader.{ival_at}
+use Rattle.bread.specs.Tokens.{Tokens, work, Advances}
 use Rattle.bread.specs.Compiling.{FindsConstant}
-use Rattle.bexpr.proofs.Moving.{run_past}
+use Rattle.bread.proofs.Moving.{run_past}
 
 pub less : {a b : Tokens} → Advances a b → work b < work a
 less h = let k = h.falls in omega (arith, k)

@@ -1,14 +1,14 @@
 -- Inner words: what the calls that read statements and definitions do with the tokens and with the draft.
 use Rattle.std.specs.Prelude.{◌≡◌, ℕ, ◌<◌, Bool, true, false, Option, Result, Ok, Err}
 use Rattle.blang.specs.Trees.{Constant, Heading, constant_value}
-use Rattle.btree.specs.Reading.{Reader, Got}
-use Rattle.btree.specs.StatementReader.{name, size, constant}
+use Rattle.bgrammar.specs.Reading.{Reader, Got}
+use Rattle.bgrammar.specs.StatementReader.{name, size, constant}
 use Rattle.bemit.specs.Drafts.{Draft}
 use Rattle.bemit.specs.Effects.{headed}
-use Rattle.bexpr.specs.Tokens.{Tokens, IsLoaded, IsSingle, Moves, Runs, TokensFail, work}
-use Rattle.bexpr.specs.declared.halt.Halt.{Halt}
-use Rattle.bexpr.specs.declared.halt.Halt.TheVariants as halt
-use Rattle.bexpr.specs.Parsers.{Halts}
+use Rattle.bread.specs.Tokens.{Tokens, IsLoaded, IsSingle, Moves, Runs, TokensFail, work}
+use Rattle.bread.specs.declared.halt.Halt.{Halt}
+use Rattle.bread.specs.declared.halt.Halt.TheVariants as halt
+use Rattle.bread.specs.Parsers.{Halts}
 use Rattle.bread.specs.declared.take.Word as take
 use Rattle.bread.specs.Headings.{IsHeadedBy, IsUnheaded, StopsHeading}
 

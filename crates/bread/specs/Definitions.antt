@@ -2,20 +2,20 @@
 use Rattle.std.specs.Prelude.{◌≡◌, ℕ, ◌<◌, min, Bool, List, [], length, Result, Ok, Err, if◌then◌else◌}
 use Rattle.blang.specs.declared.code.Ival.{Ival}
 use Rattle.blang.specs.Trees.{Identifier, Definition}
-use Rattle.btree.specs.Reading.{Reader, Got, ◌>>=◌, first, after, expect}
-use Rattle.btree.specs.ExpressionReader.{is_close_paren}
-use Rattle.btree.specs.Commas.{list_reader}
-use Rattle.btree.specs.StatementReader.{is_semicolon, name}
+use Rattle.bgrammar.specs.Reading.{Reader, Got, ◌>>=◌, first, after, expect}
+use Rattle.bgrammar.specs.ExpressionReader.{is_close_paren}
+use Rattle.bgrammar.specs.Commas.{list_reader}
+use Rattle.bgrammar.specs.StatementReader.{is_semicolon, name}
 use Rattle.blang.specs.Trees as tree
-use Rattle.btree.specs.DefinitionReader.{ival, definition}
+use Rattle.bgrammar.specs.DefinitionReader.{ival, definition}
 use Rattle.blang.specs.declared.token.Letters.TheVariants as letters
 use Rattle.blang.specs.Scan.{name_fault, identifier_of}
 use Rattle.bemit.specs.Drafts.{Draft, Faulty, fresh, valued, started}
 use Rattle.bemit.specs.Effects.{definition_done}
-use Rattle.bexpr.specs.Tokens.{Tokens, IsLoaded, IsSingle, Runs, TokensFail, Advances, work}
-use Rattle.bexpr.specs.declared.halt.Halt.{Halt}
-use Rattle.bexpr.specs.declared.halt.Halt.TheVariants as halt
-use Rattle.bexpr.specs.Parsers.{Halts}
+use Rattle.bread.specs.Tokens.{Tokens, IsLoaded, IsSingle, Runs, TokensFail, Advances, work}
+use Rattle.bread.specs.declared.halt.Halt.{Halt}
+use Rattle.bread.specs.declared.halt.Halt.TheVariants as halt
+use Rattle.bread.specs.Parsers.{Halts}
 use Rattle.bread.specs.declared.header.DefinitionHead.{DefinitionHead}
 use Rattle.bread.specs.declared.header.HeadKind.{HeadKind}
 use Rattle.bread.specs.Headers.{IsKind, Heads}

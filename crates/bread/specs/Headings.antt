@@ -1,11 +1,11 @@
 -- Inner words: reading what stands before a statement, one heading at a time.
 use Rattle.std.specs.Prelude.{◌≡◌, ℕ, List}
 use Rattle.blang.specs.declared.token.Placed.{Placed}
-use Rattle.btree.specs.Reading.{Got, Stop, Reader, ◌>>=◌, first, expect}
-use Rattle.btree.specs.ExpressionReader.{is_colon}
-use Rattle.btree.specs.Commas.{list_reader}
+use Rattle.bgrammar.specs.Reading.{Got, Stop, Reader, ◌>>=◌, first, expect}
+use Rattle.bgrammar.specs.ExpressionReader.{is_colon}
+use Rattle.bgrammar.specs.Commas.{list_reader}
 use Rattle.blang.specs.Trees.{Heading, Auto, Extrn, Case, Default, Stmt, Headed}
-use Rattle.btree.specs.StatementReader.{is_semicolon, name, constant, declared, stmt_at, level, statement}
+use Rattle.bgrammar.specs.StatementReader.{is_semicolon, name, constant, declared, stmt_at, level, statement}
 
 -- a heading after its keyword
 abbrev pub auto : Reader Heading

@@ -1,3 +1,6 @@
+pub mod Marks
+pub mod Parsers
+pub mod Tokens
 pub mod Headings
 pub mod Compiling
 pub mod Statements

@@ -1,18 +1,18 @@
 -- Inner words: parts of statements, as the calls read them.
 use Rattle.std.specs.Prelude.{◌≡◌, ℕ, suc, ◌+◌, ◌≤◌, Result, Ok, Err}
 use Rattle.blang.specs.Trees.{Expr, Stmt, Stmts, Nothing, Break, ReturnValue}
-use Rattle.btree.specs.Reading.{Got, Reader, ◌>>=◌, after, expect, many}
-use Rattle.btree.specs.ExpressionReader.{is_close_paren, always, Rvalue, reader}
-use Rattle.btree.specs.StatementReader.{is_open_paren, is_close_brace, is_semicolon, goes_on, one_more, level, tested}
-use Rattle.btree.specs.StatementReader.{chosen, looped, else_part}
+use Rattle.bgrammar.specs.Reading.{Got, Reader, ◌>>=◌, after, expect, many}
+use Rattle.bgrammar.specs.ExpressionReader.{is_close_paren, always, Rvalue, reader}
+use Rattle.bgrammar.specs.StatementReader.{is_open_paren, is_close_brace, is_semicolon, goes_on, one_more, level, tested}
+use Rattle.bgrammar.specs.StatementReader.{chosen, looped, else_part}
 use Rattle.blang.specs.declared.code.Instr.{Instr}
 use Rattle.blang.specs.declared.code.Instr.TheVariants as instr
 use Rattle.bemit.specs.Drafts as drafts
 use Rattle.bemit.specs.Drafts.{Draft, emitted, filled, place_of, breaks_filled, arms_size}
 use Rattle.bemit.specs.Effects.{evaluated, done}
-use Rattle.bexpr.specs.Tokens.{Tokens, IsSingle, work}
-use Rattle.bexpr.specs.declared.halt.Halt.{Halt}
-use Rattle.bexpr.specs.Parsers.{Halts}
+use Rattle.bread.specs.Tokens.{Tokens, IsSingle, work}
+use Rattle.bread.specs.declared.halt.Halt.{Halt}
+use Rattle.bread.specs.Parsers.{Halts}
 use Rattle.bread.specs.Compiling.{PartTaken}
 
 -- after the current token

@@ -2,21 +2,21 @@
 ghost use Rattle.std.specs.Prelude.{◌≡◌, ◌+◌, false, None};
 ghost use Rattle.std.specs.Map.{keys_of};
 ghost use Rattle.blang.specs.Cut.{is_last};
-ghost use Rattle.btree.specs.Reading.{first};
+ghost use Rattle.bgrammar.specs.Reading.{first};
 ghost use Rattle.blang.specs.Code.{vector_constant};
-ghost use Rattle.btree.specs.DefinitionReader.{ival, after_name, vector, function};
-ghost use Rattle.btree.specs.StatementReader.{name};
+ghost use Rattle.bgrammar.specs.DefinitionReader.{ival, after_name, vector, function};
+ghost use Rattle.bgrammar.specs.StatementReader.{name};
 ghost use Rattle.bemit.specs.Drafts as drafts;
 ghost use Rattle.bemit.specs.Effects.{ival_done, values_done, parameters_done};
-ghost use Rattle.bexpr.specs.Tokens.{IsLoaded, IsSingle};
+ghost use Rattle.bread.specs.Tokens.{IsLoaded, IsSingle};
 ghost use Rattle.bread.specs.Compiling.{untold, CompilesPart};
 ghost use Rattle.bread.specs.Definitions.{TakesValue, initial_value_list, parameters, FindsList, FindsKind, FindsDefinition, definition_begun};
 
 use crate::header::{DefinitionHead, HeadKind, MOST_COUNTED};
 use crate::statement::statement;
 use crate::take::{Word, name, size};
+use crate::{Halt, Mark, Parser};
 use bemit::Draft;
-use bexpr::{Halt, Mark, Parser};
 use blang::{About, Diagnostic, Instr, Ival, Letters, MAX_NESTING};
 use blex::Lexeme;
 use bnames::{NameTable, Probes};

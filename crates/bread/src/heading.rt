@@ -1,17 +1,17 @@
 //! What comes before a statement.
 ghost use Rattle.std.specs.Prelude.{◌≡◌};
 ghost use Rattle.blang.specs.declared.token.Token.TheVariants as token;
-ghost use Rattle.btree.specs.Reading.{first};
-ghost use Rattle.btree.specs.StatementReader.{name, declared};
+ghost use Rattle.bgrammar.specs.Reading.{first};
+ghost use Rattle.bgrammar.specs.StatementReader.{name, declared};
 ghost use Rattle.bemit.specs.Drafts as drafts;
 ghost use Rattle.bemit.specs.Drafts.{imported};
 ghost use Rattle.bemit.specs.Effects.{headed};
-ghost use Rattle.bexpr.specs.Tokens.{IsLoaded, IsSingle};
+ghost use Rattle.bread.specs.Tokens.{IsLoaded, IsSingle};
 ghost use Rattle.bread.specs.Headings.{auto, extrn, case, default};
 ghost use Rattle.bread.specs.Compiling.{untold, CompilesPart, FindsHeading};
 
 use crate::take::{constant, name, size};
-use bexpr::{Halt, Mark, Parser};
+use crate::{Halt, Mark, Parser};
 use blang::Keyword;
 use blex::Lexeme;
 use bword::{ByteIn, Name};

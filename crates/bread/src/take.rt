@@ -1,9 +1,9 @@
 //! Taking one token.
 ghost use Rattle.std.specs.Prelude.{◌≡◌};
-ghost use Rattle.bexpr.specs.Tokens.{IsLoaded, IsSingle};
+ghost use Rattle.bread.specs.Tokens.{IsLoaded, IsSingle};
 ghost use Rattle.bread.specs.Compiling.{FindsName, FindsSize, FindsConstant};
 
-use bexpr::{Halt, Parser};
+use crate::{Halt, Parser};
 use blex::Lexeme;
 use bword::{ByteIn, Name};
 

@@ -12,8 +12,8 @@ use Rattle.blang.specs.declared.token.Diagnostic.{Diagnostic}
 use Rattle.blang.specs.Code.{code_of}
 use Rattle.blang.specs.Compiles as compiled
 use Rattle.blang.specs.Compiles.{CompilesTo, Tells, fault_text, line_of, Run, NamesRefused, EndRefused, status_of}
-use Rattle.btree.specs.SourceRows.{ComesIn}
-use Rattle.btree.proofs.SourceRows.{edition_rows}
+use Rattle.bgrammar.specs.SourceRows.{ComesIn}
+use Rattle.bgrammar.proofs.SourceRows.{edition_rows}
 use Rattle.blang.specs.Trees.{Definition, Expr, Arguments, Character, Named, Literal, Called, No_arguments, Another, Evaluate, Compound, Stmts, Nothing, More}
 use Rattle.blang.specs.Machine.{State, Halted, image_of, machine}
 use Rattle.blang.specs.Reports.{state_outcome, Reported, report_text, RunEnds, RunGives, Finishes}

@@ -7,7 +7,7 @@ use Rattle.bcode.proofs.FaultLaws.{unique_code}
 use Rattle.blang.specs.Code.{code_of}
 use Rattle.blang.specs.Compiles.{code_text, Compiles}
 use Rattle.blang.specs.Trees.{Definition}
-use Rattle.broundtrip.proofs.ReadingBack.{reads_back}
+use Rattle.bgrammar.proofs.ReadingBack.{reads_back}
 use Rattle.brun.proofs.MeantSteps.{does_as_meant}
 use Rattle.blang.specs.Headline.{RunsProgram, RunsSource, GoesOff, no_code}
 use Rattle.blang.specs.Headline as going

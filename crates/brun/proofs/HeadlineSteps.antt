@@ -23,7 +23,7 @@ use Rattle.bmean.proofs.LawProofs.{code_agrees}
 use Rattle.blang.specs.Headline.{RunsProgram, RunsSource, GoesOff, NothingFailed, Says, line_at, status_at, IsEnd, IsLimit, RunAnswers, GoAnswers, Headline}
 use Rattle.blang.specs.Headline as going
 use Rattle.blang.specs.declared.run.Report.TheVariants as report
-use Rattle.btree.proofs.GoesLaws.{each_source_comes}
+use Rattle.bgrammar.proofs.GoesLaws.{each_source_comes}
 use Rattle.bmach.proofs.Running.{device_failed}
 use Rattle.bparse.proofs.Remaining.{rest_of, writes_nothing}
 use Rattle.brun.proofs.MeantSteps.{halted_later}

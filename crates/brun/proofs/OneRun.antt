@@ -19,9 +19,9 @@ use Rattle.blang.specs.Machine as runs_at
 use Rattle.blang.specs.Meaning.{Loads}
 use Rattle.blang.specs.Cut.{placed}
 use Rattle.blang.specs.Headline.{NothingFailed, GoAnswers, RunAnswers}
-use Rattle.btree.proofs.Parting.{parted_end}
-use Rattle.btree.proofs.Outcomes.{parted_after, parted_once}
-use Rattle.btree.proofs.SourceRows.{worked_rows}
+use Rattle.bgrammar.proofs.Parting.{parted_end}
+use Rattle.bgrammar.proofs.Outcomes.{parted_after, parted_once}
+use Rattle.bgrammar.proofs.SourceRows.{worked_rows}
 use Rattle.brun.specs.OneRun.{OneRunIsKnown, OneCompilationIsKnown, one_run_ends, one_compilation_run, unread}
 use Rattle.brun.proofs.Excluded.{writes_a, main_a, state}
 

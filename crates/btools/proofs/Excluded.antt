@@ -14,7 +14,7 @@ use Rattle.blang.specs.Layout.{load_fault}
 use Rattle.blang.specs.Machine.{Image}
 use Rattle.blang.specs.Reports.{Reported}
 use Rattle.blang.specs.Text.{IsCodeText, IsTextOf}
-use Rattle.broundtrip.proofs.ReadingBack.{reads_back}
+use Rattle.bgrammar.proofs.ReadingBack.{reads_back}
 use Rattle.btools.specs.Programs.{HasProgram, NoProgram, WasCompiled, faulty, load_line, no_memory, refused, unread}
 use Rattle.btools.specs.Excluded.{WrongPrograms, code_in}
 

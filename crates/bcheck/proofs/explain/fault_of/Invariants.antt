@@ -1,5 +1,5 @@
 use Rattle.std.specs.Prelude.{◌≡◌, false}
-use Rattle.bexpr.specs.Tokens.{work}
+use Rattle.bread.specs.Tokens.{work}
 use Rattle.bcheck.specs.Findings.{Reads}
 use Rattle.bcheck.proofs.explain.fault_of.Given as goal
 

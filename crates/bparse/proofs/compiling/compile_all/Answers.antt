@@ -1,4 +1,4 @@
-use Rattle.bexpr.specs.Tokens.{work}
+use Rattle.bread.specs.Tokens.{work}
 use Rattle.bparse.proofs.CompileSteps.{keeps_none, keeps_more, written_last}
 use Rattle.bparse.proofs.compiling.compile_all.Goals as goal
 

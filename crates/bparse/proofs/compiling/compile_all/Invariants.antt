@@ -1,5 +1,5 @@
 use Rattle.std.specs.Prelude.{◌≡◌, false}
-use Rattle.bexpr.specs.Tokens.{work}
+use Rattle.bread.specs.Tokens.{work}
 use Rattle.bparse.specs.Compilers.{SameCompiler}
 use Rattle.bparse.proofs.compiling.compile_all.Given as goal
 

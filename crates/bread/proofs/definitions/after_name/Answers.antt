@@ -1,6 +1,6 @@
 use Rattle.std.proofs.Common.{◌∙◌}
 use Rattle.blex.proofs.LexemeSteps.{token_here, lexeme_here}
-use Rattle.btree.specs.DefinitionReader.{vector, function, after_name}
+use Rattle.bgrammar.specs.DefinitionReader.{vector, function, after_name}
 use Rattle.bread.proofs.DefinitionSteps.{kind_err, kind_after, bracket_runs, paren_runs, simple_halts, simple_took}
 use Rattle.bread.proofs.definitions.after_name.Goals as goal
 

@@ -1,9 +1,9 @@
 use Rattle.std.proofs.Common.{refl, sym, ◌∙◌}
-use Rattle.bexpr.specs.declared.halt.Halt.TheVariants as halt
+use Rattle.bread.specs.declared.halt.Halt.TheVariants as halt
 use Rattle.std.proofs.Common.{None}
-use Rattle.btree.specs.ExpressionReader.{is_close_paren}
-use Rattle.btree.specs.StatementReader.{name}
-use Rattle.btree.proofs.StatementFine.{name_fine}
+use Rattle.bgrammar.specs.ExpressionReader.{is_close_paren}
+use Rattle.bgrammar.specs.StatementReader.{name}
+use Rattle.bgrammar.proofs.StatementFine.{name_fine}
 use Rattle.bemit.specs.Drafts as drafts
 use Rattle.bemit.specs.Effects.{parameters_done}
 use Rattle.bread.proofs.Takings.{less, both_fall}

@@ -1,7 +1,7 @@
 use Rattle.std.proofs.Common.{None}
-use Rattle.btree.specs.StatementReader.{name}
+use Rattle.bgrammar.specs.StatementReader.{name}
 use Rattle.bemit.specs.Drafts as drafts
-use Rattle.bexpr.specs.Tokens.{work}
+use Rattle.bread.specs.Tokens.{work}
 use Rattle.bread.proofs.DefinitionSteps.{InCounted}
 use Rattle.bread.proofs.definitions.parameters.Given as goal
 

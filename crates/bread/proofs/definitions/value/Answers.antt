@@ -2,11 +2,11 @@ use Rattle.std.proofs.Common.{sym, ap, ◌∙◌}
 use Rattle.blex.proofs.LexemeSteps.{token_here}
 use Rattle.blang.specs.declared.code.Ival.TheVariants as ival
 use Rattle.blang.specs.Trees.{Ival_text}
-use Rattle.btree.specs.Fitting.{values_words}
-use Rattle.btree.specs.DefinitionReader.{ival, ival_at}
+use Rattle.bgrammar.specs.Fitting.{values_words}
+use Rattle.bgrammar.specs.DefinitionReader.{ival, ival_at}
 use Rattle.bemit.specs.Drafts.{valued, stringed, offset_of}
 use Rattle.bread.proofs.DefinitionSteps.{number_ends, name_ends, value_ends}
-use Rattle.bexpr.proofs.Moving.{single_here, not_named, halt_here}
+use Rattle.bread.proofs.Moving.{single_here, not_named, halt_here}
 use Rattle.bread.proofs.Takings.{constant_here, ival_none}
 use Rattle.bread.proofs.definitions.value.Goals as goal
 

@@ -1,8 +1,8 @@
 use Rattle.std.proofs.Common.{[], refl, sym, ◌∙◌}
-use Rattle.bexpr.specs.declared.halt.Halt.TheVariants as halt
-use Rattle.btree.specs.StatementReader.{is_semicolon}
-use Rattle.btree.specs.DefinitionReader.{ival}
-use Rattle.btree.proofs.DefinitionFine.{ival_fine}
+use Rattle.bread.specs.declared.halt.Halt.TheVariants as halt
+use Rattle.bgrammar.specs.StatementReader.{is_semicolon}
+use Rattle.bgrammar.specs.DefinitionReader.{ival}
+use Rattle.bgrammar.proofs.DefinitionFine.{ival_fine}
 use Rattle.bemit.specs.Effects.{ival_done, values_done}
 use Rattle.bread.proofs.Takings.{less, both_fall}
 use Rattle.bread.proofs.Lists.{list_begins, list_goes}

@@ -1,6 +1,6 @@
-use Rattle.btree.specs.DefinitionReader.{ival}
+use Rattle.bgrammar.specs.DefinitionReader.{ival}
 use Rattle.bemit.specs.Effects.{ival_done}
-use Rattle.bexpr.specs.Tokens.{work}
+use Rattle.bread.specs.Tokens.{work}
 use Rattle.bread.proofs.DefinitionSteps.{InCounted}
 use Rattle.bread.proofs.definitions.values.Given as goal
 

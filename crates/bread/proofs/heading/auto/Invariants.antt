@@ -1,7 +1,7 @@
-use Rattle.btree.specs.StatementReader.{declared}
+use Rattle.bgrammar.specs.StatementReader.{declared}
 use Rattle.bemit.specs.Drafts.{imported}
 use Rattle.bemit.specs.Drafts as drafts
-use Rattle.bexpr.specs.Tokens.{work}
+use Rattle.bread.specs.Tokens.{work}
 use Rattle.bread.proofs.Lists.{InList}
 use Rattle.bread.proofs.heading.auto.Given as goal
 

@@ -1,10 +1,10 @@
 use Rattle.std.proofs.Common.{refl, sym, ◌∙◌}
 use Rattle.blang.specs.Trees.{Extrn}
-use Rattle.btree.specs.StatementReader.{is_semicolon, name}
-use Rattle.btree.proofs.StatementFine.{name_fine}
+use Rattle.bgrammar.specs.StatementReader.{is_semicolon, name}
+use Rattle.bgrammar.proofs.StatementFine.{name_fine}
 use Rattle.bemit.specs.Drafts.{imported}
 use Rattle.bemit.specs.Effects.{headed}
-use Rattle.bexpr.specs.declared.halt.Halt.TheVariants as halt
+use Rattle.bread.specs.declared.halt.Halt.TheVariants as halt
 use Rattle.bread.proofs.Steps.{compiles_err}
 use Rattle.bread.proofs.Takings.{less, both_fall}
 use Rattle.bread.proofs.Lists.{list_begins, list_goes, closed_first, closed_comma, closed_breaks, closed_ends}

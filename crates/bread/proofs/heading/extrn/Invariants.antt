@@ -1,6 +1,6 @@
-use Rattle.btree.specs.StatementReader.{name}
+use Rattle.bgrammar.specs.StatementReader.{name}
 use Rattle.bemit.specs.Drafts.{imported}
-use Rattle.bexpr.specs.Tokens.{work}
+use Rattle.bread.specs.Tokens.{work}
 use Rattle.bread.proofs.Lists.{InList}
 use Rattle.bread.proofs.heading.extrn.Given as goal
 

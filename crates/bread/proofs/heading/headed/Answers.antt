@@ -1,6 +1,6 @@
 use Rattle.std.proofs.Common.{◌∙◌, ap, None, refl}
 use Rattle.blang.specs.declared.token.Token.TheVariants as token
-use Rattle.btree.specs.StatementReader.{step_at}
+use Rattle.bgrammar.specs.StatementReader.{step_at}
 use Rattle.bread.specs.Headings.{IsUnheaded}
 use Rattle.bread.proofs.Steps.{run_seen}
 use Rattle.bread.proofs.HeadingLemmas.{no_heading}

@@ -1,5 +1,5 @@
 use Rattle.std.proofs.Common.{◌∙◌, ap, sym, None, refl}
-use Rattle.btree.specs.StatementReader.{step_at}
+use Rattle.bgrammar.specs.StatementReader.{step_at}
 use Rattle.bread.specs.Headings.{IsUnheaded}
 use Rattle.bread.proofs.Steps.{run_seen}
 use Rattle.bread.proofs.HeadingLemmas.{no_heading}

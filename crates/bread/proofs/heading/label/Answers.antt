@@ -1,7 +1,7 @@
 use Rattle.std.proofs.Common.{refl, sym, ap, ◌∙◌}
 use Rattle.bemit.specs.Drafts.{labelled}
-use Rattle.bexpr.specs.declared.halt.Halt.TheVariants as halt
-use Rattle.bexpr.proofs.TokenSteps.{Moves-breaks}
+use Rattle.bread.specs.declared.halt.Halt.TheVariants as halt
+use Rattle.bread.proofs.TokenSteps.{Moves-breaks}
 use Rattle.bread.proofs.HeadingSteps.{label_absent, label_took, heading_err}
 use Rattle.bread.proofs.heading.label.Goals as goal
 

@@ -2,10 +2,10 @@ use Rattle.std.proofs.Common.{◌+◌, sym, ap, ◌∙◌}
 use Rattle.std.specs.Option.{is_some}
 use Rattle.blang.specs.declared.token.Token.TheVariants as token
 use Rattle.blex.proofs.LexemeSteps.{token_here, lexeme_here}
-use Rattle.btree.specs.Fitting.{words, statement_words, body_words}
+use Rattle.bgrammar.specs.Fitting.{words, statement_words, body_words}
 use Rattle.blang.specs.Trees.{Goto}
-use Rattle.btree.specs.StatementReader.{compound, switched, chosen, looped, goes_on, level}
-use Rattle.btree.specs.StatementReader as reader
+use Rattle.bgrammar.specs.StatementReader.{compound, switched, chosen, looped, goes_on, level}
+use Rattle.bgrammar.specs.StatementReader as reader
 use Rattle.blang.specs.declared.code.Instr.TheVariants as instr
 use Rattle.bemit.specs.Drafts.{filled}
 use Rattle.bemit.specs.Effects.{evaluated, done}

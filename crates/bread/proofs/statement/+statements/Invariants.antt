@@ -1,5 +1,5 @@
 use Rattle.std.specs.Prelude.{ℕ, ◌+◌, ◌*◌}
-use Rattle.bexpr.specs.Tokens.{work, IsSingle}
+use Rattle.bread.specs.Tokens.{work, IsSingle}
 use Rattle.bread.proofs.StatementSteps.{InHeadings, InBody}
 use Rattle.bread.proofs.statement.+statements.Given as goal
 

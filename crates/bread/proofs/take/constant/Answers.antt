@@ -1,6 +1,6 @@
 use Rattle.std.proofs.Common.{◌∙◌, ap, sym}
-use Rattle.btree.specs.StatementReader.{constant, constant_at}
-use Rattle.bexpr.proofs.Moving.{halt_here}
+use Rattle.bgrammar.specs.StatementReader.{constant, constant_at}
+use Rattle.bread.proofs.Moving.{halt_here}
 use Rattle.bread.proofs.Takings.{constant_found, constant_none}
 use Rattle.bread.proofs.take.constant.Goals as goal
 use Rattle.bread.proofs.take.constant.Goals.{in-Number, in-Number-2}

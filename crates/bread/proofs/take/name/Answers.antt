@@ -1,6 +1,6 @@
 use Rattle.std.proofs.Common.{◌∙◌, ap, sym}
-use Rattle.btree.specs.StatementReader.{name, name_at}
-use Rattle.bexpr.proofs.Moving.{single_here, not_named, halt_here}
+use Rattle.bgrammar.specs.StatementReader.{name, name_at}
+use Rattle.bread.proofs.Moving.{single_here, not_named, halt_here}
 use Rattle.bread.proofs.Takings.{name_none}
 use Rattle.bread.proofs.take.name.Goals as goal
 

@@ -1,7 +1,7 @@
 use Rattle.std.proofs.Common.{◌∙◌, ap, sym, None}
-use Rattle.btree.specs.Reading.{Got}
-use Rattle.btree.specs.StatementReader.{size, size_at}
-use Rattle.bexpr.proofs.Moving.{run_here}
+use Rattle.bgrammar.specs.Reading.{Got}
+use Rattle.bgrammar.specs.StatementReader.{size, size_at}
+use Rattle.bread.proofs.Moving.{run_here}
 use Rattle.bread.proofs.Takings.{size_none}
 use Rattle.bread.proofs.take.size.Goals as goal
 

@@ -1,0 +1,58 @@
+-- What is answered where memory was refused, and what is done for a job.
+use Rattle.std.proofs.Common.{subst, ◌≡◌, ◌⊎◌, ℕ, List, false, sym, inl, inr}
+use Rattle.clap.specs.declared.error.kind.ErrorKind.{ErrorKind}
+use Rattle.clap.specs.declared.error.kind.ErrorKind.TheVariants as kind
+use Rattle.blang.specs.declared.status.TheConstants.{DEVICE, MEMORY}
+use Rattle.bword.specs.ByteEnds.{Unread, incoming_of}
+use Rattle.blang.specs.Headline.{GoesOff, Headline}
+use Rattle.blang.specs.Reports.{HasNotRun, RunEnds}
+use Rattle.bcommand.specs.CommandLine.{Source, asked_of, go, question_of}
+use Rattle.bcommand.specs.declared.job.Job.{Job}
+use Rattle.bcommand.specs.declared.job.Question.{Question as Questioned}
+use Rattle.clap.specs.Words.{Text}
+use Rattle.bcli.specs.Serves.{Answers, Does, HasNoFile, IsHelp, NamesFile, SaysNothing, RefusesWords}
+use Rattle.bcli.specs.declared.shelf.FileFault.{FileFault}
+use Rattle.bcli.specs.declared.shelf.FileFault.TheVariants as file_fault
+use Rattle.bcli.specs.Shelves.{Holdings}
+
+no_help : (k : ErrorKind) → k ≡ kind.OutOfMemory → IsHelp k → ⊥
+no_help k is (inl help) = cc
+no_help k is (inr version) = cc
+
+pub memory_alone : (k : ErrorKind) (ends : RunEnds) (status : ℕ) → k ≡ kind.OutOfMemory → RefusesWords k ends status
+    → SaysNothing ends status MEMORY
+memory_alone k ends status is (inl tells) = absurd (no_help k is tells.help)
+memory_alone k ends status is (inr (inl complains)) = absurd (complains.no_memory is)
+memory_alone k ends status is (inr (inr silent)) = silent
+
+pub done : (shelf : Holdings) (job same : Job) (ends : RunEnds) (status : ℕ) → job ≡ same → Does shelf (asked_of same) ends status → Does shelf (asked_of job) ends status
+done shelf job same ends status is does = subst (λ (j : Job). Does shelf (asked_of j) ends status) (sym is) does
+
+pub answered : (source : Source) (text : List ℕ) (question same : Questioned) (ends : RunEnds) (status : ℕ) → question ≡ same → Answers source text (question_of same) ends status → Answers source text (question_of question) ends status
+answered source text question same ends status is answers = subst (λ (q : Questioned). Answers source text (question_of q) ends status) (sym is) answers
+
+-- the text that is given is the one that was read
+pub held : (shelf : Holdings) (file : Text) (given read : List ℕ) → given ≡ read → shelf.holds file read → shelf.holds file given
+held shelf file given read same holds = subst (λ t. shelf.holds file t) (sym same) holds
+
+pub not_read : (reason : Type 0) (fault : FileFault) (ends : RunEnds) (status : ℕ) → HasNotRun ends → ends.line_after ≡ ends.line → (fault ≡ file_fault.Device → reason)
+    → (fault ≡ file_fault.Device) × (status ≡ DEVICE) ⊎ (status ≡ MEMORY) → HasNoFile reason ends status
+not_read reason fault ends status still silent why (inl device) = inl (why device.0, record { unread = still; no_line = silent; status_is = device.1 })
+not_read reason fault ends status still silent why (inr memory) = inr (record { unread = still; no_line = silent; status_is = memory })
+
+pub named_for : (reason other : Type 0) (file : Text) (ends : RunEnds) (status : ℕ) → (reason → other) → NamesFile reason file ends status → NamesFile other file ends status
+named_for reason other file ends status why (inl named) = inl (why named.0, named.1, named.2)
+named_for reason other file ends status why (inr silent) = inr silent
+
+-- the source in a file, over an end in memory
+pub gone : (shelf : Holdings) (source : Source) (steps : ℕ) (given read : List ℕ) (first following : Unread) (ends : RunEnds) (status : ℕ)
+    → given ≡ read → shelf.holds source.file read → first ≡ record { left = given; is_over = false } → GoesOff source.edition steps (incoming_of first) (incoming_of following) ends status
+    → Headline source.edition steps (incoming_of first) (incoming_of following) ends status → Does shelf (go source steps) ends status
+gone shelf source steps given read first following ends status same holds is goes headline =
+    inr (
+      given,
+      following,
+      held shelf source.file given read same holds,
+      subst (λ (u : Unread). GoesOff source.edition steps (incoming_of u) (incoming_of following) ends status) is goes,
+      subst (λ (u : Unread). Headline source.edition steps (incoming_of u) (incoming_of following) ends status) is headline,
+    )

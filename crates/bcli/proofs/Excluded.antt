@@ -1,0 +1,212 @@
+-- Answers that the contracts of `serve` and `refuse_words` exclude, whatever is proved of the body that gives them.
+use Rattle.std.proofs.Common.{◌≡◌, ◌∙◌, ◌⊎◌, ℕ, List, [], ◌∷◌, Some, ap, refl, sym, subst, arith, inl, inr}
+use Rattle.std.specs.Prelude.{codes}
+use Rattle.std.specs.Io.KnownBytes.{Appends}
+use Rattle.clap.specs.Words.{IsAmong, Text, fault_of, subcommand_of}
+use Rattle.clap.specs.declared.error.kind.ErrorKind.{ErrorKind}
+use Rattle.clap.specs.declared.error.kind.ErrorKind.TheVariants as kind
+use Rattle.bword.specs.ByteEnds.{Kept, Outgoing, Unread, Writes, incoming_of, outgoing_of}
+use Rattle.bword.specs.declared.edition.Edition.{Edition}
+use Rattle.bword.specs.declared.edition.Edition.TheVariants as editions
+use Rattle.bword.specs.declared.ends.EndFault.{EndFault}
+use Rattle.bword.specs.declared.ends.EndFault.TheVariants as end_fault
+use Rattle.blang.specs.Compiles.{status_of}
+use Rattle.blang.specs.Headline.{GoesOff, Headline}
+use Rattle.blang.specs.Reports.{HasNotRun, Reported, RunEnds}
+use Rattle.brun.specs.OneRun.{nothing_written, one_run_ends, unread}
+use Rattle.brun.specs.Runs.{RunsText}
+use Rattle.brun.proofs.OneRun.{one_run}
+use Rattle.bcommand.specs.CommandLine.{Question, ask, asked, command_line, go, run}
+use Rattle.bcli.specs.declared.shelf.MemFile.{MemFile}
+use Rattle.bcli.specs.Shelves.{Holdings, holding}
+use Rattle.bcli.specs.Serves.{Answers, Does, HasNoFile, IsHelp, NamesFile, RefusesWords, SaysNothing, Serves, did, refused, no_memory}
+use Rattle.bcli.specs.Excluded.{AreWrong, Excluded, FileIsRead, alone}
+
+fault_is_told : (f : EndFault) → 0 ≡ status_of f → ⊥
+fault_is_told end_fault.Device e = omega (arith, e)
+fault_is_told end_fault.Memory e = omega (arith, e)
+
+fault_is_no_complaint : (f : EndFault) → 135 ≡ status_of f → ⊥
+fault_is_no_complaint end_fault.Device e = omega (arith, e)
+fault_is_no_complaint end_fault.Memory e = omega (arith, e)
+
+not_done : (text : List ℕ) (status : ℕ) (old new : Outgoing) → (0 ≡ status → ⊥) → Reported text status old new 0 → ⊥
+not_done text status old new other (inl written) = other written.1
+not_done text status old new other (inr stopped) = fault_is_told stopped.fault stopped.status
+
+no_complaint : (text : List ℕ) (old new : Outgoing) → Reported text 0 old new 135 → ⊥
+no_complaint text old new (inl written) = omega (arith, written.1)
+no_complaint text old new (inr stopped) = fault_is_no_complaint stopped.fault stopped.status
+
+silent_done : (ends : RunEnds) → SaysNothing ends 0 134 → ⊥
+silent_done ends silent = omega (arith, silent.status_is)
+
+silent_complaint : (ends : RunEnds) → SaysNothing ends 135 134 → ⊥
+silent_complaint ends silent = omega (arith, silent.status_is)
+
+refused_done : (k : ErrorKind) (ends : RunEnds) → (IsHelp k → ⊥) → RefusesWords k ends 0 → ⊥
+refused_done k ends other (inl helps) = other helps.help
+refused_done k ends other (inr (inl complains)) = not_done complains.text 135 ends.line ends.line_after (λ e. omega (arith, e)) complains.told
+refused_done k ends other (inr (inr silent)) = silent_done ends silent
+
+refused_still : (k : ErrorKind) (ends : RunEnds) (status : ℕ) → (IsHelp k → ⊥) → RefusesWords k ends status → HasNotRun ends
+refused_still k ends status other (inl helps) = absurd (other helps.help)
+refused_still k ends status other (inr (inl complains)) = complains.unread
+refused_still k ends status other (inr (inr silent)) = silent.unread
+
+helped : (k : ErrorKind) (ends : RunEnds) → IsHelp k → RefusesWords k ends 135 → ⊥
+helped k ends help (inl helps) = no_complaint helps.text ends.out ends.out_after helps.told
+helped k ends help (inr (inl complains)) = complains.no_help help
+helped k ends help (inr (inr silent)) = silent_complaint ends silent
+
+helped_aside : (k : ErrorKind) (ends : RunEnds) (status : ℕ) → IsHelp k → RefusesWords k ends status
+    → (ends.input_after ≡ ends.input) × (ends.line_after ≡ ends.line)
+helped_aside k ends status help (inl helps) = (helps.unread, helps.no_line)
+helped_aside k ends status help (inr (inl complains)) = absurd (complains.no_help help)
+helped_aside k ends status help (inr (inr silent)) = (silent.unread.unread, silent.no_line)
+
+asks_help : (k : ErrorKind) (words : List Text) → fault_of command_line words ≡ kind.DisplayHelp ∷ []
+    → IsAmong k (fault_of command_line words) → IsHelp k
+asks_help k words is among = only (subst (IsAmong k) is among)
+  where
+    only : IsAmong k (kind.DisplayHelp ∷ []) → IsHelp k
+    only (inl same) = inl same
+    only (inr other) = absurd other
+
+no_fault : (words : List Text) → fault_of command_line words ≡ kind.DisplayHelp ∷ [] → fault_of command_line words ≡ [] → ⊥
+no_fault words is none = nothing (sym none ∙ is)
+  where
+    nothing : [] ≡ kind.DisplayHelp ∷ [] → ⊥
+    nothing e = cc
+
+-- a text that leaves an end with nothing has no byte
+nothing_of : (o p : Outgoing) (text : List ℕ) → o ≡ outgoing_of nothing_written → p ≡ o → Writes o text p → text ≡ []
+nothing_of o p text first same w =
+    let known : o.written ≡ Some [] = ap (λ (q : Outgoing). q.written) first in
+    sym (subst (λ x. Appends x x text) known (subst (λ (q : Outgoing). Appends o.written q.written text) same w.appended))
+
+no_silent_help : (k : ErrorKind) (ends : RunEnds) → IsHelp k → ends.out ≡ outgoing_of nothing_written → ends.out_after ≡ ends.out → RefusesWords k ends 0 → ⊥
+no_silent_help k ends help first same (inl helps) = by_report helps.told
+  where
+    by_report : Reported helps.text 0 ends.out ends.out_after 0 → ⊥
+    by_report (inl written) = helps.some_text (nothing_of ends.out ends.out_after helps.text first same written.0)
+    by_report (inr stopped) = fault_is_told stopped.fault stopped.status
+no_silent_help k ends help first same (inr (inl complains)) = complains.no_help help
+no_silent_help k ends help first same (inr (inr silent)) = silent_done ends silent
+
+no_silent_complaint : (k : ErrorKind) (ends : RunEnds) → (IsHelp k → ⊥) → ends.line ≡ outgoing_of nothing_written → ends.line_after ≡ ends.line → RefusesWords k ends 135 → ⊥
+no_silent_complaint k ends other first same (inl helps) = other helps.help
+no_silent_complaint k ends other first same (inr (inl complains)) = by_report complains.told
+  where
+    by_report : Reported complains.text 135 ends.line ends.line_after 135 → ⊥
+    by_report (inl written) = complains.some_text (nothing_of ends.line ends.line_after complains.text first same written.0)
+    by_report (inr stopped) = fault_is_no_complaint stopped.fault stopped.status
+no_silent_complaint k ends other first same (inr (inr silent)) = silent_complaint ends silent
+
+unread_done : (file : List ℕ) (ends : RunEnds) → NamesFile (Unit {0}) file ends 0 → ⊥
+unread_done file ends (inl named) = not_done _ 133 ends.line ends.line_after (λ e. omega (arith, e)) named.2
+unread_done file ends (inr silent) = silent_done ends silent
+
+unread_run : (file : List ℕ) (ends : RunEnds) (status : ℕ) → NamesFile (Unit {0}) file ends status → HasNotRun ends
+unread_run file ends status (inl named) = named.1
+unread_run file ends status (inr silent) = silent.unread
+
+no_file_done : (ends : RunEnds) → HasNoFile (Unit {0}) ends 0 → ⊥
+no_file_done ends (inl device) = omega (arith, device.1.status_is)
+no_file_done ends (inr memory) = silent_done ends memory
+
+module _ (shelf : Holdings) where
+  asked_alone : (words : List Text) (ends : RunEnds) (status : ℕ) → fault_of command_line words ≡ [] → Serves shelf words ends status
+      → Does shelf (asked (subcommand_of command_line words)) ends status ⊎ SaysNothing ends status 134
+  asked_alone words ends status none (did clean does) = inl does
+  asked_alone words ends status none (refused k among answers) = absurd (subst (IsAmong k) none among)
+  asked_alone words ends status none (no_memory silent) = inr silent
+
+  wrong_done : (words : List Text) (ends : RunEnds) → AreWrong words → Serves shelf words ends 0 → ⊥
+  wrong_done words ends wrong (did clean does) = wrong.fault clean
+  wrong_done words ends wrong (refused k among answers) = refused_done k ends (wrong.no_help k among) answers
+  wrong_done words ends wrong (no_memory silent) = silent_done ends silent
+
+  wrong_run : (words : List Text) (ends : RunEnds) (status : ℕ) → AreWrong words → Serves shelf words ends status → HasNotRun ends
+  wrong_run words ends status wrong (did clean does) = absurd (wrong.fault clean)
+  wrong_run words ends status wrong (refused k among answers) = refused_still k ends status (wrong.no_help k among) answers
+  wrong_run words ends status wrong (no_memory silent) = silent.unread
+
+  help_refused : (words : List Text) (ends : RunEnds) → fault_of command_line words ≡ kind.DisplayHelp ∷ [] → Serves shelf words ends 135 → ⊥
+  help_refused words ends is (did clean does) = no_fault words is clean
+  help_refused words ends is (refused k among answers) = helped k ends (asks_help k words is among) answers
+  help_refused words ends is (no_memory silent) = silent_complaint ends silent
+
+  help_beside : (words : List Text) (ends : RunEnds) (status : ℕ) → fault_of command_line words ≡ kind.DisplayHelp ∷ [] → Serves shelf words ends status
+      → (ends.input_after ≡ ends.input) × (ends.line_after ≡ ends.line)
+  help_beside words ends status is (did clean does) = absurd (no_fault words is clean)
+  help_beside words ends status is (refused k among answers) = helped_aside k ends status (asks_help k words is among) answers
+  help_beside words ends status is (no_memory silent) = (silent.unread.unread, silent.no_line)
+
+  help_silent : (words : List Text) (ends : RunEnds) → fault_of command_line words ≡ kind.DisplayHelp ∷ [] → ends.out ≡ outgoing_of nothing_written → ends.out_after ≡ ends.out → Serves shelf words ends 0 → ⊥
+  help_silent words ends is first same (did clean does) = no_fault words is clean
+  help_silent words ends is first same (refused k among answers) = no_silent_help k ends (asks_help k words is among) first same answers
+  help_silent words ends is first same (no_memory silent) = silent_done ends silent
+
+  complaint_silent : (words : List Text) (ends : RunEnds) → AreWrong words → ends.line ≡ outgoing_of nothing_written → ends.line_after ≡ ends.line → Serves shelf words ends 135 → ⊥
+  complaint_silent words ends wrong first same (did clean does) = wrong.fault clean
+  complaint_silent words ends wrong first same (refused k among answers) = no_silent_complaint k ends (wrong.no_help k among) first same answers
+  complaint_silent words ends wrong first same (no_memory silent) = silent_complaint ends silent
+
+  pub excluded : Excluded shelf
+  excluded = record {
+    asked_alone = asked_alone;
+    wrong_done = wrong_done;
+    wrong_run = wrong_run;
+    help_refused = help_refused;
+    help_beside = help_beside;
+    help_silent = help_silent;
+    complaint_silent = complaint_silent;
+    unread_done = unread_done;
+    unread_run = unread_run;
+    no_file_done = no_file_done;
+    both_done = λ ends does. not_done _ 135 ends.line ends.line_after (λ e. omega (arith, e)) does.1;
+    both_run = λ ends status does. does.0;
+    unread_words_done = λ old new told. not_done _ 135 old new (λ e. omega (arith, e)) told;
+  }
+
+module _ (file : MemFile) where
+  no_file : (ends : RunEnds) (status : ℕ) → HasNoFile (Holdings.lacks (holding file) file.name.now) ends status → SaysNothing ends status 134
+  no_file ends status (inl device) = absurd (device.0 refl)
+  no_file ends status (inr memory) = memory
+
+  named : (ends : RunEnds) (status : ℕ) → NamesFile (Holdings.lacks (holding file) file.name.now) file.name.now ends status → SaysNothing ends status 134
+  named ends status (inl told) = absurd (told.0 refl)
+  named ends status (inr memory) = memory
+
+  not_device : (ends : RunEnds) → SaysNothing ends 133 134 → ⊥
+  not_device ends silent = omega (arith, silent.status_is)
+
+  run_alone : (steps : ℕ) (ends : RunEnds) (status : ℕ) → Does (holding file) (run file.name.now steps) ends status → RunsText steps file.text.now ends status ⊎ SaysNothing ends status 134
+  run_alone steps ends status (inl none) = inr (no_file ends status none)
+  run_alone steps ends status (inr runs) = inl (subst (λ t. RunsText steps t ends status) runs.1.1 runs.2)
+
+  go_alone : (edition : Edition) (steps : ℕ) (ends : RunEnds) (status : ℕ) → Does (holding file) (go (alone file edition) steps) ends status → ((following : Unread) × GoesOff edition steps (unread file.text.now) (incoming_of following) ends status) ⊎ SaysNothing ends status 134
+  go_alone edition steps ends status (inl none) = inr (no_file ends status none)
+  go_alone edition steps ends status (inr goes) =
+      inl (goes.1, subst (λ t. GoesOff edition steps (unread t) (incoming_of goes.1) ends status) goes.2.1 goes.3)
+
+  ask_alone : (edition : Edition) (question : Question) (ends : RunEnds) (status : ℕ) → Does (holding file) (ask (alone file edition) question) ends status → Answers (alone file edition) file.text.now question ends status ⊎ SaysNothing ends status 134
+  ask_alone edition question ends status (inl told) = inr (named ends status told)
+  ask_alone edition question ends status (inr answers) = inl (subst (λ t. Answers (alone file edition) t question ends status) answers.1.1 answers.2)
+
+  one_go : (input : Unread) (out line : Kept) (status : ℕ) → file.text.now ≡ codes "main(){putchar('a');}" → Does (holding file) (go (alone file editions.One) 100) (one_run_ends input out line) status → (status ≡ 134) ⊎ ((status ≡ 0) × (out.bytes ≡ codes "a") × (line.bytes ≡ []))
+  one_go input out line status one (inl none) = inl (no_file _ status none).status_is
+  one_go input out line status one (inr goes) =
+      one_run goes.1 input out line status
+      (subst (λ t. Headline editions.One 100 (unread t) (incoming_of goes.1) (one_run_ends input out line) status) (goes.2.1 ∙ one) goes.4)
+
+  pub file_is_read : FileIsRead file
+  file_is_read = record {
+    no_file = λ ends none. not_device ends (no_file ends 133 none);
+    named = λ ends told. not_device ends (named ends 133 told);
+    run_alone = run_alone;
+    go_alone = go_alone;
+    ask_alone = ask_alone;
+    one_go = one_go;
+  }

@@ -1,0 +1,154 @@
+-- Promise: the answer to a command line.
+use Rattle.std.specs.Prelude.{◌≡◌, ◌≢◌, ℕ, Bool, List, [], ◌++◌, codes, if◌then◌else◌, ◌⊎◌}
+use Rattle.clap.specs.Words.{IsAmong, Text, fault_of, subcommand_of}
+use Rattle.clap.specs.declared.error.kind.ErrorKind.{ErrorKind}
+use Rattle.clap.specs.declared.error.kind.ErrorKind.TheVariants as kind
+use Rattle.bword.specs.ByteEnds.{Unread, incoming_of}
+use Rattle.bword.specs.declared.edition.Edition.{Edition}
+use Rattle.blang.specs.Compiles.{CompileHeadline, Compiles, Run}
+use Rattle.blang.specs.declared.status.TheConstants.{DONE, DEVICE, MEMORY, WRONG_COMMAND}
+use Rattle.blang.specs.Headline.{GoesOff, Headline}
+use Rattle.brun.specs.Migrates.{Migrates}
+use Rattle.brun.specs.OneRun.{unread}
+use Rattle.blang.specs.Reports.{Reported, RunEnds, HasNotRun}
+use Rattle.brun.specs.Runs.{RunsText}
+use Rattle.bcheck.specs.Checks.{Checks}
+use Rattle.bcheck.specs.declared.form.Form.{Form}
+use Rattle.bcheck.specs.declared.form.Form.TheVariants as forms
+use Rattle.blist.specs.Listings.{Lists}
+use Rattle.blist.specs.Maps.{Maps}
+use Rattle.btools.specs.Programs.{ToldEnds}
+use Rattle.bdraw.specs.Draws.{Draws}
+use Rattle.btrace.specs.Locates.{Locates}
+use Rattle.btrace.specs.Traces.{Traces}
+use Rattle.bcommand.specs.CommandLine.{Asked, Question, Source, asked, command_line}
+use Rattle.bcommand.specs.CommandLine.{compile, run, go, migrate, ask, contradiction}
+use Rattle.bcommand.specs.CommandLine.{list, map, draw, check, trace, locate}
+use Rattle.bcli.specs.Shelves.{Holdings}
+
+-- the message for words that aren't UTF-8
+abbrev pub unread_line : List ℕ
+unread_line = codes "error: a word of the command line is not UTF-8\n\nFor more information, try '--help'.\n"
+
+-- the message for a limit of steps and none
+abbrev pub contradiction_line : List ℕ
+contradiction_line =
+    codes "error: the argument '--steps <N>' cannot be used with '--no-limit'\n\nFor more information, try '--help'.\n"
+
+-- Nothing was read or written, and this is the status.
+pub record SaysNothing (ends : RunEnds) (status answer : ℕ) : Type 0 where
+  pub unread : HasNotRun ends
+  pub no_line : ends.line_after ≡ ends.line
+  pub status_is : status ≡ answer
+
+-- The file could not be opened or read, for which there is this reason, or memory ran out.
+abbrev pub HasNoFile : Type 0 → RunEnds → ℕ → Type 0
+HasNoFile reason ends status = reason × SaysNothing ends status DEVICE ⊎ SaysNothing ends status MEMORY
+
+-- the message for a file that can't be opened or read
+abbrev pub no_file_line : List ℕ → List ℕ
+no_file_line file = codes "error: the file '" ++ file ++ codes "' can't be read\n"
+
+-- The file could not be opened or read, for which there is this reason, and its name was told; or memory was refused.
+abbrev pub NamesFile : Type 0 → Text → RunEnds → ℕ → Type 0
+NamesFile reason file ends status =
+    reason × HasNotRun ends × Reported (no_file_line file) DEVICE ends.line ends.line_after status
+    ⊎ SaysNothing ends status MEMORY
+
+-- the streams of a command that tells of a source
+abbrev pub telling_ends : RunEnds → ToldEnds
+telling_ends ends =
+    record { out = ends.out; out_after = ends.out_after; line = ends.line; line_after = ends.line_after }
+
+-- how findings are told
+abbrev pub form_of : (for_editor : Bool) → Form
+form_of for_editor = if for_editor then forms.Json else forms.Text
+
+-- the compiler over the streams of the program
+abbrev pub compiling : Edition → RunEnds → ℕ → Run
+compiling edition ends status = record {
+  edition = edition;
+  source = ends.input;
+  source_after = ends.input_after;
+  code = ends.out;
+  code_after = ends.out_after;
+  line = ends.line;
+  line_after = ends.line_after;
+  status = status;
+}
+
+-- what is asked of a source of this text is answered
+abbrev pub Answers : Source → (text : List ℕ) → Question → RunEnds → ℕ → Type 0
+Answers source text (list name) ends status =
+    (ends.input_after ≡ ends.input) × Lists source.edition text name (telling_ends ends) status
+Answers source text map ends status =
+    (ends.input_after ≡ ends.input) × Maps source.edition text (telling_ends ends) status
+Answers source text (draw steps) ends status = Draws source.edition text steps ends status
+Answers source text (check for_editor) ends status =
+    (ends.input_after ≡ ends.input) × (ends.line_after ≡ ends.line) × Checks (record {
+      edition = source.edition;
+      form = form_of for_editor;
+      file = source.file;
+      source = text;
+      out = ends.out;
+      out_after = ends.out_after;
+      status = status;
+    })
+Answers source text (trace steps from function) ends status =
+    Traces source.edition text steps from function ends status
+Answers source text (locate steps) ends status = Locates source.edition text steps ends status
+
+-- what was asked for is done, for a text that the shelf holds under the name of the file
+abbrev pub Does : Holdings → Asked → RunEnds → ℕ → Type 0
+Does shelf (compile edition) ends status =
+    Compiles (compiling edition ends status) × CompileHeadline (compiling edition ends status)
+Does shelf (run file steps) ends status = HasNoFile (shelf.lacks file) ends status
+    ⊎ ((text : List ℕ) × shelf.holds file text × RunsText steps text ends status)
+Does shelf (go source steps) ends status = HasNoFile (shelf.lacks source.file) ends status
+    ⊎ ((text : List ℕ) × (following : Unread) × shelf.holds source.file text
+    × GoesOff source.edition steps (unread text) (incoming_of following) ends status
+    × Headline source.edition steps (unread text) (incoming_of following) ends status)
+Does shelf migrate ends status = Migrates (record {
+  input = ends.input;
+  input_after = ends.input_after;
+  out = ends.out;
+  out_after = ends.out_after;
+}) ends.line ends.line_after status
+Does shelf (ask source question) ends status = NamesFile (shelf.lacks source.file) source.file ends status
+    ⊎ ((text : List ℕ) × shelf.holds source.file text × Answers source text question ends status)
+Does shelf contradiction ends status =
+    HasNotRun ends × Reported contradiction_line WRONG_COMMAND ends.line ends.line_after status
+
+abbrev pub IsHelp : ErrorKind → Type 0
+IsHelp k = (k ≡ kind.DisplayHelp) ⊎ (k ≡ kind.DisplayVersion)
+
+-- A text was written to the output, for a reason of this kind: help or the version was asked for.
+pub record AnswersHelp (k : ErrorKind) (ends : RunEnds) (status : ℕ) : Type 0 where
+  pub help : IsHelp k
+  pub unread : ends.input_after ≡ ends.input
+  pub no_line : ends.line_after ≡ ends.line
+  pub text : List ℕ
+  pub some_text : text ≢ []
+  pub told : Reported text DONE ends.out ends.out_after status
+
+-- A text was written beside the output, for a reason of another kind.
+pub record Complains (k : ErrorKind) (ends : RunEnds) (status : ℕ) : Type 0 where
+  pub no_help : IsHelp k → ⊥
+  pub no_memory : k ≢ kind.OutOfMemory
+  pub unread : HasNotRun ends
+  pub text : List ℕ
+  pub some_text : text ≢ []
+  pub told : Reported text WRONG_COMMAND ends.line ends.line_after status
+
+-- what is answered for a reason of this kind
+abbrev pub RefusesWords : ErrorKind → RunEnds → ℕ → Type 0
+RefusesWords k ends status = AnswersHelp k ends status ⊎ Complains k ends status ⊎ SaysNothing ends status MEMORY
+
+-- Words without a fault get what they ask for, of the files on this shelf. Others are answered for one of their faults,
+-- of which help is one. To read any words takes memory; where it is refused, nothing is read or written.
+pub data Serves (shelf : Holdings) (words : List Text) (ends : RunEnds) (status : ℕ) : Type 0 where
+  did : fault_of command_line words ≡ [] → Does shelf (asked (subcommand_of command_line words)) ends status
+      → Serves shelf words ends status
+  refused : (k : ErrorKind) → IsAmong k (fault_of command_line words) → RefusesWords k ends status
+      → Serves shelf words ends status
+  no_memory : SaysNothing ends status MEMORY → Serves shelf words ends status

@@ -1,0 +1,20 @@
+-- Promise: what is known of files, by their names.
+use Rattle.std.specs.Prelude.{◌≡◌, ◌≢◌, ℕ, List}
+use Rattle.clap.specs.Words.{Text}
+use Rattle.bcli.specs.declared.shelf.MemFile.{MemFile}
+
+-- Which texts are read under a name, and under which names none can be read.
+pub record Holdings : Type 1 where
+  pub holds : Text → List ℕ → Type 0
+  pub lacks : Text → Type 0
+
+-- nothing is known: under each name any text may be read, or none
+abbrev pub anything : Holdings
+anything = record { holds = λ name text. Unit {0}; lacks = λ name. Unit {0} }
+
+-- one file: under its name its text is read, and no other
+abbrev pub holding : MemFile → Holdings
+holding file = record {
+  holds = λ name text. (name ≡ file.name.now) × (text ≡ file.text.now);
+  lacks = λ name. name ≢ file.name.now;
+}

@@ -1,0 +1,312 @@
+//! Serving a command line.
+ghost use Rattle.std.specs.Prelude.{◌≡◌, ◌≢◌, ◌⊎◌, [], IfOk, map as map_each, string_bytes};
+ghost use Rattle.clap.specs.Words.{kind_of};
+ghost use Rattle.bword.specs.ByteEnds.{Incoming, Outgoing};
+ghost use Rattle.blang.specs.declared.status.TheConstants.{DEVICE, MEMORY, WRONG_COMMAND};
+ghost use Rattle.blang.specs.Reports.{Reported, run_ends};
+ghost use Rattle.bcommand.specs.CommandLine.{ask, asked_of, go, question_of, run, source_shown};
+ghost use Rattle.bcli.specs.Excluded.{Excluded, FileIsRead};
+ghost use Rattle.bcli.specs.Serves.{Answers, Does, NamesFile, RefusesWords, Serves, form_of, no_file_line, unread_line};
+ghost use Rattle.bcli.specs.Shelves.{anything};
+
+use crate::shelf::{FileFault, MemFile, Shelf, SystemFiles};
+use bcheck::{Form, Request, check};
+use bcommand::{CONTRADICTION, Job, Question, Source, UNREAD, parse};
+use bdraw::draw;
+use blang::status::{self, Status};
+use blist::{list, map};
+use bparse::compile_edition;
+use brun::{go_edition, migrate, run_text};
+use btools::tell;
+use btrace::{Wanted, locate, trace};
+use bword::{ByteIn, ByteOut, MemIn};
+use clap::Error;
+use clap::error::ErrorKind;
+use std::alloc::{AllocError, Global};
+use std::rt::Files;
+
+// The message where that of `clap` is empty.
+const UNTOLD: &str = "b: there is no message for these words\n";
+
+/// Does what the words of a command line ask for, with the files of the system. The first word is the program's name.
+///
+/// The same as `serve_with`.
+pub fn serve<R: AllocGlobal + Files, I: ByteIn, O: ByteOut, D: ByteOut>(
+    rt: &R,
+    words: &[String],
+    input: &mut I,
+    out: &mut O,
+    diag: &mut D,
+) -> Status
+    ensures serves { Serves anything (map_each string_bytes words.now) (run_ends
+        (I.incoming input.old) (I.incoming input.new) (O.outgoing out.old) (O.outgoing out.new)
+        (D.outgoing diag.old) (D.outgoing diag.new)) result }
+    ensures input_lender { I.lender input.new ≡ I.lender input.old }
+    ensures out_lender { O.lender out.new ≡ O.lender out.old }
+    ensures diag_lender { D.lender diag.new ≡ D.lender diag.old }
+{
+    serve_with(rt.alloc(), &SystemFiles { rt }, words, input, out, diag)
+}
+
+/// Does what the words of a command line ask for, with the files on a shelf. The first word is the program's own name.
+///
+/// Help goes to `out` with status 0. What is wrong with the words goes to `diag` with status 135. The words are read
+/// first, then FILE if a command needs it, and then the input. The status is 133 if FILE can't be read.
+pub fn serve_with<S: Shelf, I: ByteIn, O: ByteOut, D: ByteOut>(
+    alloc: Global,
+    shelf: &S,
+    words: &[String],
+    input: &mut I,
+    out: &mut O,
+    diag: &mut D,
+) -> Status
+    ensures serves { Serves (S.holdings shelf.now) (map_each string_bytes words.now) (run_ends
+        (I.incoming input.old) (I.incoming input.new) (O.outgoing out.old) (O.outgoing out.new)
+        (D.outgoing diag.old) (D.outgoing diag.new)) result }
+    ensures input_lender { I.lender input.new ≡ I.lender input.old }
+    ensures out_lender { O.lender out.new ≡ O.lender out.old }
+    ensures diag_lender { D.lender diag.new ≡ D.lender diag.old }
+{
+    match parse(alloc, words) {
+        Ok(job) => perform(alloc, shelf, job, input, out, diag),
+        Err(error) => refuse(alloc, error, out, diag),
+    }
+}
+
+// Does what is asked for.
+fn perform<S: Shelf, I: ByteIn, O: ByteOut, D: ByteOut>(
+    alloc: Global,
+    shelf: &S,
+    job: Job<'_>,
+    input: &mut I,
+    out: &mut O,
+    diag: &mut D,
+) -> Status
+    ensures does { Does (S.holdings shelf.now) (asked_of job.entry) (run_ends
+        (I.incoming input.old) (I.incoming input.new) (O.outgoing out.old) (O.outgoing out.new)
+        (D.outgoing diag.old) (D.outgoing diag.new)) result }
+    ensures input_lender { I.lender input.new ≡ I.lender input.old }
+    ensures out_lender { O.lender out.new ≡ O.lender out.old }
+    ensures diag_lender { D.lender diag.new ≡ D.lender diag.old }
+{
+    match job {
+        Job::Compile(edition) => compile_edition(alloc, input, out, diag, edition),
+        Job::Run(file, steps) => run_file(alloc, shelf, file, steps, input, out, diag),
+        Job::Go(source, steps) => go_file(alloc, shelf, source, steps, input, out, diag),
+        Job::Migrate => migrate(alloc, input, out, diag),
+        Job::Ask(source, question) => ask_file(alloc, shelf, source, question, input, out, diag),
+        Job::Contradiction => refuse_with(CONTRADICTION, diag),
+    }
+}
+
+// Runs the code text in a file.
+fn run_file<S: Shelf, I: ByteIn, O: ByteOut, D: ByteOut>(
+    alloc: Global,
+    shelf: &S,
+    file: &str,
+    steps: u64,
+    input: &mut I,
+    out: &mut O,
+    diag: &mut D,
+) -> Status
+    ensures does { Does (S.holdings shelf.now) (run file.now steps) (run_ends
+        (I.incoming input.old) (I.incoming input.new) (O.outgoing out.old) (O.outgoing out.new)
+        (D.outgoing diag.old) (D.outgoing diag.new)) result }
+    ensures input_lender { I.lender input.new ≡ I.lender input.old }
+    ensures out_lender { O.lender out.new ≡ O.lender out.old }
+    ensures diag_lender { D.lender diag.new ≡ D.lender diag.old }
+{
+    match shelf.read(alloc, file) {
+        Ok(code) => run_text(alloc, code.as_slice(), input, out, diag, steps),
+        Err(fault) => status_of(fault),
+    }
+}
+
+// Compiles the source in a file and runs it.
+fn go_file<S: Shelf, I: ByteIn, O: ByteOut, D: ByteOut>(
+    alloc: Global,
+    shelf: &S,
+    source: Source<'_>,
+    steps: u64,
+    input: &mut I,
+    out: &mut O,
+    diag: &mut D,
+) -> Status
+    ensures does { Does (S.holdings shelf.now) (go (source_shown source.entry) steps) (run_ends
+        (I.incoming input.old) (I.incoming input.new) (O.outgoing out.old) (O.outgoing out.new)
+        (D.outgoing diag.old) (D.outgoing diag.new)) result }
+    ensures input_lender { I.lender input.new ≡ I.lender input.old }
+    ensures out_lender { O.lender out.new ≡ O.lender out.old }
+    ensures diag_lender { D.lender diag.new ≡ D.lender diag.old }
+{
+    match shelf.read(alloc, source.file) {
+        Ok(text) => go_edition(
+            alloc,
+            &mut MemIn::new(text.as_slice()),
+            input,
+            out,
+            diag,
+            steps,
+            source.edition,
+        ),
+        Err(fault) => status_of(fault),
+    }
+}
+
+// Answers what is asked of the source in a file.
+fn ask_file<S: Shelf, I: ByteIn, O: ByteOut, D: ByteOut>(
+    alloc: Global,
+    shelf: &S,
+    source: Source<'_>,
+    question: Question<'_>,
+    input: &mut I,
+    out: &mut O,
+    diag: &mut D,
+) -> Status
+    ensures does { Does (S.holdings shelf.now) (ask (source_shown source.entry) (question_of question.entry)) (run_ends
+        (I.incoming input.old) (I.incoming input.new) (O.outgoing out.old) (O.outgoing out.new)
+        (D.outgoing diag.old) (D.outgoing diag.new)) result }
+    ensures input_lender { I.lender input.new ≡ I.lender input.old }
+    ensures out_lender { O.lender out.new ≡ O.lender out.old }
+    ensures diag_lender { D.lender diag.new ≡ D.lender diag.old }
+{
+    match shelf.read(alloc, source.file) {
+        Ok(text) => answer(alloc, source, text.as_slice(), question, input, out, diag),
+        Err(fault) => name_file(alloc, source.file, fault, diag),
+    }
+}
+
+// Answers what is asked of a source of this text.
+fn answer<I: ByteIn, O: ByteOut, D: ByteOut>(
+    alloc: Global,
+    source: Source<'_>,
+    text: &[u8],
+    question: Question<'_>,
+    input: &mut I,
+    out: &mut O,
+    diag: &mut D,
+) -> Status
+    ensures answers { Answers (source_shown source.entry) text.now (question_of question.entry) (run_ends
+        (I.incoming input.old) (I.incoming input.new) (O.outgoing out.old) (O.outgoing out.new)
+        (D.outgoing diag.old) (D.outgoing diag.new)) result }
+    ensures input_lender { I.lender input.new ≡ I.lender input.old }
+    ensures out_lender { O.lender out.new ≡ O.lender out.old }
+    ensures diag_lender { D.lender diag.new ≡ D.lender diag.old }
+{
+    let edition = source.edition;
+    match question {
+        Question::List(name) => list(alloc, text, edition, name, out, diag),
+        Question::Map => map(alloc, text, edition, out, diag),
+        Question::Draw(steps) => draw(alloc, text, edition, steps, input, out, diag),
+        Question::Check(for_editor) => {
+            let request = Request {
+                edition,
+                file: source.file,
+                form: form_of(for_editor),
+            };
+            check(alloc, text, request, out)
+        }
+        Question::Trace(walk) => {
+            let wanted = Wanted {
+                steps: walk.steps,
+                from: walk.from,
+                function: walk.function,
+            };
+            trace(alloc, text, edition, wanted, input, out, diag)
+        }
+        Question::Locate(steps) => locate(alloc, text, edition, steps, input, out, diag),
+    }
+}
+
+fn form_of(for_editor: bool) -> Form
+    ensures { result ≡ form_of for_editor }
+{
+    if for_editor { Form::Json } else { Form::Text }
+}
+
+// Names a file that can't be opened or read, unless there was no memory for it.
+fn name_file<D: ByteOut>(alloc: Global, file: &str, fault: FileFault, diag: &mut D) -> Status
+    ensures names { (unread : Incoming) (out : Outgoing) → NamesFile (fault ≡ FileFault.Device) file.now (run_ends unread unread out out (D.outgoing diag.old) (D.outgoing diag.new)) result }
+    ensures diag_lender { D.lender diag.new ≡ D.lender diag.old }
+{
+    match fault {
+        FileFault::Device => match no_file_line(alloc, file) {
+            Ok(text) => tell(text.as_bytes(), status::DEVICE, diag),
+            Err(_) => status::MEMORY,
+        },
+        FileFault::Memory => status::MEMORY,
+    }
+}
+
+fn no_file_line(alloc: Global, file: &str) -> Result<String, AllocError>
+    ensures { IfOk result (λ text. string_bytes text ≡ no_file_line file.now) }
+{
+    let mut text = String::from_str(alloc, "error: the file '")?;
+    text.push_str(file)?;
+    text.push_str("' can't be read\n")?;
+    Ok(text)
+}
+
+// The status for a file that was not read.
+fn status_of(fault: FileFault) -> Status
+    ensures { (fault ≡ FileFault.Device) × (result ≡ DEVICE) ⊎ (result ≡ MEMORY) }
+{
+    match fault {
+        FileFault::Device => status::DEVICE,
+        FileFault::Memory => status::MEMORY,
+    }
+}
+
+/// Refuses a command line with a word that isn't UTF-8, and says so.
+pub fn refuse_words<D: ByteOut>(diag: &mut D) -> Status
+    ensures gives { Reported unread_line WRONG_COMMAND (D.outgoing diag.old) (D.outgoing diag.new) result }
+    ensures diag_lender { D.lender diag.new ≡ D.lender diag.old }
+{
+    refuse_with(UNREAD, diag)
+}
+
+// Writes what is wrong with a command line.
+fn refuse_with<D: ByteOut>(text: &str, diag: &mut D) -> Status
+    ensures gives { Reported text.now WRONG_COMMAND (D.outgoing diag.old) (D.outgoing diag.new) result }
+    ensures diag_lender { D.lender diag.new ≡ D.lender diag.old }
+{
+    tell(text.as_bytes(), status::WRONG_COMMAND, diag)
+}
+
+// Writes help to the output, and what is wrong beside it.
+fn refuse<O: ByteOut, D: ByteOut>(alloc: Global, error: Error, out: &mut O, diag: &mut D) -> Status
+    ensures refuses { (unread : Incoming) → RefusesWords (kind_of error) (run_ends unread unread (O.outgoing out.old) (O.outgoing out.new) (D.outgoing diag.old) (D.outgoing diag.new)) result }
+    ensures out_lender { O.lender out.new ≡ O.lender out.old }
+    ensures diag_lender { D.lender diag.new ≡ D.lender diag.old }
+{
+    if error.kind() == ErrorKind::OutOfMemory {
+        return status::MEMORY;
+    }
+    let Ok(text) = error.to_string(alloc) else {
+        return status::MEMORY;
+    };
+    let said = or_untold(text.as_str());
+    if error.use_stderr() {
+        refuse_with(said, diag)
+    } else {
+        tell(said.as_bytes(), status::DONE, out)
+    }
+}
+
+// The text of an error, or another one where it is empty. No contract of `clap` says that it isn't.
+fn or_untold(text: &str) -> &str
+    ensures { result.now ≢ [] }
+{
+    if text.is_empty() { UNTOLD } else { text }
+}
+
+/// No command line gives these answers, whatever the shelf holds: success or an action for wrong words, a complaint for
+/// help, success for a file that can't be read, a run where a limit of steps and none are asked for.
+pub fn wrong_answers_are_excluded<S: Shelf>(_shelf: &S)
+    ensures { Excluded (S.holdings _shelf.now) }
+{}
+
+/// A file in memory isn't missing, and its own text is compiled or run, and no other.
+pub fn files_are_read(_file: MemFile<'_>)
+    ensures { FileIsRead _file.entry }
+{}

@@ -1,4 +1,0 @@
-pub mod Moving
-pub mod Chains
-pub mod Steps
-pub mod TokenSteps

@@ -1,0 +1,5 @@
+use Rattle.bgrammar.proofs.StatementUnread.{lines_unread}
+use Rattle.bgrammar.proofs.other_lines_are_never_read.Goals as goal
+
+pub returns : goal.returns
+returns c = lines_unread

@@ -1,5 +1,0 @@
-use Rattle.bserve.proofs.Excluded.{file_is_read}
-use Rattle.bserve.proofs.serving.files_are_read.Goals as goal
-
-pub returns : goal.returns
-returns c = file_is_read c.args._file

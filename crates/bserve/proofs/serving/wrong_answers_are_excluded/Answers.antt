@@ -1,5 +1,0 @@
-use Rattle.bserve.proofs.Excluded.{excluded}
-use Rattle.bserve.proofs.serving.wrong_answers_are_excluded.Goals as goal
-
-pub returns : goal.returns
-returns g c = excluded (g.S.Shelf.holdings c.args._shelf.now)

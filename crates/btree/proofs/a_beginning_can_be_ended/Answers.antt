@@ -1,5 +1,0 @@
-use Rattle.btree.proofs.Ending.{can_be_ended}
-use Rattle.btree.proofs.a_beginning_can_be_ended.Goals as goal
-
-pub returns : goal.returns
-returns c = can_be_ended

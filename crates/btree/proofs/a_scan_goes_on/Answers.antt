@@ -1,5 +1,0 @@
-use Rattle.btree.proofs.CodeLaws.{scans_on}
-use Rattle.btree.proofs.a_scan_goes_on.Goals as goal
-
-pub returns : goal.returns
-returns c = scans_on

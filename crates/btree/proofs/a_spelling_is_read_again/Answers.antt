@@ -1,5 +1,0 @@
-use Rattle.btree.proofs.LawProofs.{reads_again}
-use Rattle.btree.proofs.a_spelling_is_read_again.Goals as goal
-
-pub returns : goal.returns
-returns c = reads_again

@@ -1,5 +1,0 @@
-use Rattle.btree.proofs.StatementUnread.{lines_unread}
-use Rattle.btree.proofs.other_lines_are_never_read.Goals as goal
-
-pub returns : goal.returns
-returns c = lines_unread

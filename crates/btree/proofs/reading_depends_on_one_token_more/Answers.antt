@@ -1,5 +1,0 @@
-use Rattle.btree.proofs.LawProofs.{reads_on}
-use Rattle.btree.proofs.reading_depends_on_one_token_more.Goals as goal
-
-pub returns : goal.returns
-returns c = reads_on

@@ -1,5 +1,0 @@
-use Rattle.btree.proofs.OutcomeRows.{outcome_rows}
-use Rattle.btree.proofs.rows_of_outcomes.Goals as goal
-
-pub returns : goal.returns
-returns c = outcome_rows
