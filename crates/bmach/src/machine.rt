@@ -46,12 +46,8 @@ pub enum Callee<'a> {
     OfProgram(&'a LoadedFunction),
 }
 
-/// How a run ends.
-#[derive(Clone, Copy)]
-pub enum End {
-    Exit(u8),
-    Trap(Trap),
-}
+/// The outcome where an operand is missing, or an instruction.
+pub const STUCK: Outcome = Outcome::Trap(Trap::Stuck);
 
 /// What came of an operation that looks at one call alone.
 #[derive(Clone, Copy)]
@@ -59,14 +55,12 @@ pub enum Pace {
     GoesOn,
     /// There is no room for the word that the call gets.
     Gives(u16),
-    Traps(Trap),
-    IsStuck,
-    /// The store has no memory.
-    IsRefused,
     /// The callee below so many arguments is to be called; the call is after its operation.
     Calls(u16),
     /// The topmost word is to be returned.
     Returns,
+    /// The run is over.
+    Ends(Outcome),
 }
 
 /// Where the steps of a call have come.
@@ -75,16 +69,6 @@ pub struct Pause<'a> {
     pub call: Call<'a>,
     /// How many steps are left.
     pub left: u64,
-}
-
-/// What came of a step that was tried.
-#[derive(Clone, Copy)]
-pub enum Tried {
-    Made,
-    /// It is left to do, and nothing has changed.
-    IsLeft,
-    /// The run is over.
-    IsOver(Outcome),
 }
 
 /// Where the steps of all calls have come.
@@ -137,18 +121,16 @@ impl Active {
     }
 }
 
-/// What came of a call or a return.
+/// What a call asks for.
 #[derive(Clone, Copy)]
 pub enum Flow {
     GoesOn,
-    Halts(End),
-    IsStuck,
-    /// The call gets a word.
+    /// The caller gets a word.
     Gives(u16),
-    /// The call gets the next byte.
+    /// The caller gets the next byte.
     Reads,
-    /// The character's bytes are to be written, and the call gets it.
+    /// The character's bytes are to be written, and the caller gets it.
     WritesCharacter(u16),
-    /// The number is to be written to the base, and the call gets 0.
+    /// The number is to be written to the base, and the caller gets 0.
     WritesNumber(u16, Base),
 }

@@ -7,8 +7,8 @@ ghost use Rattle.blang.specs.Machine.{Running, at_place};
 ghost use Rattle.bmach.specs.Steps.{Acts, Paced, machine_call};
 ghost use Rattle.blang.specs.Layout.{World};
 
-use crate::Trap;
-use crate::machine::{Call, Pace};
+use crate::machine::{Call, Pace, STUCK};
+use crate::{Outcome, Trap};
 use blang::Increment;
 use bword::{BinOp, Store, binary, negate, not};
 use std::alloc::AllocError;
@@ -20,7 +20,6 @@ pub fn put<'a>(call: &mut Call<'a>, word: u16) -> Pace
     ensures paced { (image : machine.Image) (below : List machine.Call) (w : World) (s : machine.State) →
         Paced image result (machine_call call.new) below w s
         (Running (at_place (machine_call call.old) (call.old.place + 1) (word ∷ call.old.operands.own)) below w) }
-    ensures function { call.new.function.now ≡ call.old.function.now }
     ensures below { call.new.operands.below ≡ call.old.operands.below }
 {
     call.place += 1;
@@ -36,11 +35,10 @@ pub fn put<'a>(call: &mut Call<'a>, word: u16) -> Pace
 pub fn load<'a, S: Store>(call: &mut Call<'a>, store: &S) -> Pace
     requires { call.old.place + 1 < 2 ^ 64 }
     ensures acts { Acts instr.Load call.old (S.words store.now) result call.new (S.words store.now) }
-    ensures function { call.new.function.now ≡ call.old.function.now }
     ensures below { call.new.operands.below ≡ call.old.operands.below }
 {
     match call.operands.take() {
-        None => Pace::IsStuck,
+        None => Pace::Ends(STUCK),
         Some(address) => put(call, store.get(address)),
     }
 }
@@ -50,15 +48,14 @@ pub fn load<'a, S: Store>(call: &mut Call<'a>, store: &S) -> Pace
 pub fn store<'a, S: Store>(call: &mut Call<'a>, store: &mut S) -> Pace
     requires { call.old.place + 1 < 2 ^ 64 }
     ensures acts { Acts instr.Store call.old (S.words store.old) result call.new (S.words store.new) }
-    ensures function { call.new.function.now ≡ call.old.function.now }
     ensures below { call.new.operands.below ≡ call.old.operands.below }
 {
     match call.operands.take() {
-        None => Pace::IsStuck,
+        None => Pace::Ends(STUCK),
         Some(word) => match call.operands.take() {
-            None => Pace::IsStuck,
+            None => Pace::Ends(STUCK),
             Some(address) => match store.set(address, word) {
-                Err(_) => Pace::IsRefused,
+                Err(_) => Pace::Ends(Outcome::Memory),
                 Ok(()) => put(call, word),
             },
         },
@@ -79,11 +76,10 @@ pub fn set<S: Store>(store: &mut S, address: u16, word: u16) -> Result<(), Alloc
 pub fn negate_word<'a>(call: &mut Call<'a>) -> Pace
     requires { call.old.place + 1 < 2 ^ 64 }
     ensures acts { (words : List ℕ) → Acts instr.Negate call.old words result call.new words }
-    ensures function { call.new.function.now ≡ call.old.function.now }
     ensures below { call.new.operands.below ≡ call.old.operands.below }
 {
     match call.operands.take() {
-        None => Pace::IsStuck,
+        None => Pace::Ends(STUCK),
         Some(word) => put(call, negate(word)),
     }
 }
@@ -92,11 +88,10 @@ pub fn negate_word<'a>(call: &mut Call<'a>) -> Pace
 pub fn not_word<'a>(call: &mut Call<'a>) -> Pace
     requires { call.old.place + 1 < 2 ^ 64 }
     ensures acts { (words : List ℕ) → Acts instr.Not call.old words result call.new words }
-    ensures function { call.new.function.now ≡ call.old.function.now }
     ensures below { call.new.operands.below ≡ call.old.operands.below }
 {
     match call.operands.take() {
-        None => Pace::IsStuck,
+        None => Pace::Ends(STUCK),
         Some(word) => put(call, not(word)),
     }
 }
@@ -105,15 +100,14 @@ pub fn not_word<'a>(call: &mut Call<'a>) -> Pace
 pub fn operate<'a>(call: &mut Call<'a>, operator: BinOp) -> Pace
     requires { call.old.place + 1 < 2 ^ 64 }
     ensures acts { (words : List ℕ) → Acts (instr.Binary operator) call.old words result call.new words }
-    ensures function { call.new.function.now ≡ call.old.function.now }
     ensures below { call.new.operands.below ≡ call.old.operands.below }
 {
     match call.operands.take() {
-        None => Pace::IsStuck,
+        None => Pace::Ends(STUCK),
         Some(right) => match call.operands.take() {
-            None => Pace::IsStuck,
+            None => Pace::Ends(STUCK),
             Some(left) => match binary(operator, left, right) {
-                Err(_) => Pace::Traps(Trap::ZeroDivisor),
+                Err(_) => Pace::Ends(Outcome::Trap(Trap::ZeroDivisor)),
                 Ok(word) => put(call, word),
             },
         },
@@ -124,17 +118,16 @@ pub fn operate<'a>(call: &mut Call<'a>, operator: BinOp) -> Pace
 pub fn modify<'a, S: Store>(call: &mut Call<'a>, store: &mut S, operator: BinOp) -> Pace
     requires { call.old.place + 1 < 2 ^ 64 }
     ensures acts { Acts (instr.Modify operator) call.old (S.words store.old) result call.new (S.words store.new) }
-    ensures function { call.new.function.now ≡ call.old.function.now }
     ensures below { call.new.operands.below ≡ call.old.operands.below }
 {
     match call.operands.take() {
-        None => Pace::IsStuck,
+        None => Pace::Ends(STUCK),
         Some(right) => match call.operands.take() {
-            None => Pace::IsStuck,
+            None => Pace::Ends(STUCK),
             Some(address) => match binary(operator, store.get(address), right) {
-                Err(_) => Pace::Traps(Trap::ZeroDivisor),
+                Err(_) => Pace::Ends(Outcome::Trap(Trap::ZeroDivisor)),
                 Ok(word) => match store.set(address, word) {
-                    Err(_) => Pace::IsRefused,
+                    Err(_) => Pace::Ends(Outcome::Memory),
                     Ok(()) => put(call, word),
                 },
             },
@@ -168,15 +161,14 @@ pub fn left(which: Increment, word: u16) -> u16
 pub fn count<'a, S: Store>(call: &mut Call<'a>, store: &mut S, which: Increment) -> Pace
     requires { call.old.place + 1 < 2 ^ 64 }
     ensures acts { Acts (instr.Increment which) call.old (S.words store.old) result call.new (S.words store.new) }
-    ensures function { call.new.function.now ≡ call.old.function.now }
     ensures below { call.new.operands.below ≡ call.old.operands.below }
 {
     match call.operands.take() {
-        None => Pace::IsStuck,
+        None => Pace::Ends(STUCK),
         Some(address) => {
             let word = store.get(address);
             match store.set(address, counted(which, word)) {
-                Err(_) => Pace::IsRefused,
+                Err(_) => Pace::Ends(Outcome::Memory),
                 Ok(()) => put(call, left(which, word)),
             }
         }
@@ -186,7 +178,6 @@ pub fn count<'a, S: Store>(call: &mut Call<'a>, store: &mut S, which: Increment)
 #[inline(always)]
 pub fn jump<'a>(call: &mut Call<'a>, target: u32) -> Pace
     ensures acts { (words : List ℕ) → Acts (instr.Jump target) call.old words result call.new words }
-    ensures function { call.new.function.now ≡ call.old.function.now }
     ensures below { call.new.operands.below ≡ call.old.operands.below }
 {
     call.place = target as usize;
@@ -197,11 +188,10 @@ pub fn jump<'a>(call: &mut Call<'a>, target: u32) -> Pace
 pub fn jump_if_zero<'a>(call: &mut Call<'a>, target: u32) -> Pace
     requires { call.old.place + 1 < 2 ^ 64 }
     ensures acts { (words : List ℕ) → Acts (instr.JumpIfZero target) call.old words result call.new words }
-    ensures function { call.new.function.now ≡ call.old.function.now }
     ensures below { call.new.operands.below ≡ call.old.operands.below }
 {
     match call.operands.take() {
-        None => Pace::IsStuck,
+        None => Pace::Ends(STUCK),
         Some(word) => {
             if word == 0 {
                 call.place = target as usize;
@@ -216,13 +206,12 @@ pub fn jump_if_zero<'a>(call: &mut Call<'a>, target: u32) -> Pace
 #[inline(always)]
 pub fn go_to_label<'a>(call: &mut Call<'a>) -> Pace
     ensures acts { (words : List ℕ) → Acts instr.Goto call.old words result call.new words }
-    ensures function { call.new.function.now ≡ call.old.function.now }
     ensures below { call.new.operands.below ≡ call.old.operands.below }
 {
     match call.operands.take() {
-        None => Pace::IsStuck,
+        None => Pace::Ends(STUCK),
         Some(value) => match target_of(call, value) {
-            None => Pace::Traps(Trap::NotALabel),
+            None => Pace::Ends(Outcome::Trap(Trap::NotALabel)),
             Some(target) => {
                 call.place = target as usize;
                 Pace::GoesOn
@@ -250,11 +239,10 @@ pub fn target_of<'a>(call: &Call<'a>, value: u16) -> Option<u16>
 pub fn jump_if_case<'a>(call: &mut Call<'a>, value: u16, target: u32) -> Pace
     requires { call.old.place + 1 < 2 ^ 64 }
     ensures acts { (words : List ℕ) → Acts (instr.JumpIfCase value target) call.old words result call.new words }
-    ensures function { call.new.function.now ≡ call.old.function.now }
     ensures below { call.new.operands.below ≡ call.old.operands.below }
 {
     match call.operands.take() {
-        None => Pace::IsStuck,
+        None => Pace::Ends(STUCK),
         Some(word) => {
             if word == value {
                 call.place = target as usize;
@@ -270,11 +258,10 @@ pub fn jump_if_case<'a>(call: &mut Call<'a>, value: u16, target: u32) -> Pace
 pub fn pop<'a>(call: &mut Call<'a>) -> Pace
     requires { call.old.place + 1 < 2 ^ 64 }
     ensures acts { (words : List ℕ) → Acts instr.Pop call.old words result call.new words }
-    ensures function { call.new.function.now ≡ call.old.function.now }
     ensures below { call.new.operands.below ≡ call.old.operands.below }
 {
     match call.operands.take() {
-        None => Pace::IsStuck,
+        None => Pace::Ends(STUCK),
         Some(_) => {
             call.place += 1;
             Pace::GoesOn
@@ -287,7 +274,6 @@ pub fn pop<'a>(call: &mut Call<'a>) -> Pace
 pub fn begin_call<'a>(call: &mut Call<'a>, count: u16) -> Pace
     requires { call.old.place + 1 < 2 ^ 64 }
     ensures acts { (words : List ℕ) → Acts (instr.Call count) call.old words result call.new words }
-    ensures function { call.new.function.now ≡ call.old.function.now }
     ensures below { call.new.operands.below ≡ call.old.operands.below }
 {
     call.place += 1;

@@ -39,28 +39,9 @@ fn stored_by<'a>(
 {
     let operands = calls.top.operands.own();
     match operation {
-        Operation::Store
-        | Operation::StorePop
-        | Operation::ModifyOr
-        | Operation::ModifyAnd
-        | Operation::ModifyEq
-        | Operation::ModifyNe
-        | Operation::ModifyLt
-        | Operation::ModifyLe
-        | Operation::ModifyGt
-        | Operation::ModifyGe
-        | Operation::ModifyShl
-        | Operation::ModifyShr
-        | Operation::ModifySub
-        | Operation::ModifyAdd
-        | Operation::ModifyRem
-        | Operation::ModifyMul
-        | Operation::ModifyDiv
-        | Operation::ModifyPop(_) => operand(operands, 1),
-        Operation::PreIncrement
-        | Operation::PreDecrement
-        | Operation::PostIncrement
-        | Operation::PostDecrement => operand(operands, 0),
+        Operation::Store | Operation::StorePop | Operation::Modify(_) | Operation::ModifyPop(_) =>
+            operand(operands, 1),
+        Operation::Increment(_) => operand(operands, 0),
         Operation::Call(count) => stored_by_call(calls, functions, count),
         _ => 0..0,
     }
