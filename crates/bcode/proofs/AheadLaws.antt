@@ -6,8 +6,8 @@ use Rattle.std.proofs.lemmas.List.Elements.{All-nil, All-push}
 use Rattle.bword.proofs.Taking.{Took-none, Took-append}
 use Rattle.bcode.specs.Ahead.{Ahead, TakesBytes, TakesText, BytesFail, ReadsLine, LineGives, ReadsLines, LinesGive}
 use Rattle.bcode.specs.declared.fault.CodeFault.TheVariants as fault
-use Rattle.bcode.specs.declared.stop.Stop.{Stop}
-use Rattle.bcode.specs.declared.stop.Stop.TheVariants as stop
+use Rattle.bcode.specs.declared.code_stop.CodeStop.{CodeStop}
+use Rattle.bcode.specs.declared.code_stop.CodeStop.TheVariants as stop
 use Rattle.bcode.proofs.StreamLaws.{AreLines-none, AreLines-append, FailsAfter-append}
 
 pub Reads-none : (at : Ahead) → TakesBytes at [] at
@@ -49,13 +49,13 @@ module _ {X : Type 0} {spell : X → List ℕ} {within : X → Type 0} where
       }
 
   -- the exit of a `?` after some lines
-  pub gives_lines : {V : Type 0} (items : V → List X) {old mid : Ahead} {i : ℕ} {xs : List X} (count : ℕ) (now : Ahead) (r : Result V Stop) (e : Stop)
+  pub gives_lines : {V : Type 0} (items : V → List X) {old mid : Ahead} {i : ℕ} {xs : List X} (count : ℕ) (now : Ahead) (r : Result V CodeStop) (e : CodeStop)
       → ReadsLines spell within i old xs mid → i < count → IsErrAnd r (λ f. f ≡ e) → LineGives spell within mid (Err e) now → LinesGive spell within items count old r now
   gives_lines items count now (Ok v) e before less same gives = absurd same
   gives_lines {V} items {old} {mid} {i} {xs} count now (Err f) e before less same gives =
-      subst (λ (s : Stop). LinesGive spell within items count old (Err s) now) (sym same) (stopped e gives)
+      subst (λ (s : CodeStop). LinesGive spell within items count old (Err s) now) (sym same) (stopped e gives)
     where
-      stopped : (e : Stop) → LineGives spell within mid (Err e) now → LinesGive spell within items count old (Err e) now
+      stopped : (e : CodeStop) → LineGives spell within mid (Err e) now → LinesGive spell within items count old (Err e) now
       stopped (stop.Fault (fault.Line n)) refused = record {
         read = xs;
         fewer = rw before.all less;
@@ -75,13 +75,13 @@ module _ {X : Type 0} {spell : X → List ℕ} {within : X → Type 0} where
       }
 
   -- the exit where a line's value has no room
-  pub gives_memory : {V : Type 0} (items : V → List X) {old mid : Ahead} {i : ℕ} {xs : List X} {x : X} (count : ℕ) (now : Ahead) (r : Result V Stop)
+  pub gives_memory : {V : Type 0} (items : V → List X) {old mid : Ahead} {i : ℕ} {xs : List X} {x : X} (count : ℕ) (now : Ahead) (r : Result V CodeStop)
       → ReadsLines spell within i old xs mid → i < count → ReadsLine spell within mid x now → IsErrAnd r (λ f. f ≡ stop.Fault fault.Memory)
       → LinesGive spell within items count old r now
   gives_memory items count now (Ok v) before less step same = absurd same
   gives_memory {V} items {old} {mid} {i} {xs} {x} count now (Err f) before less step same =
       let more = ReadsLines-more (xs ++ x ∷ []) before step refl in
-      subst (λ (s : Stop). LinesGive spell within items count old (Err s) now) (sym same) record {
+      subst (λ (s : CodeStop). LinesGive spell within items count old (Err s) now) (sym same) record {
         read = xs ++ x ∷ [];
         few = (let n = more.all in omega arith);
         inside = more.inside;
@@ -89,8 +89,8 @@ module _ {X : Type 0} {spell : X → List ℕ} {within : X → Type 0} where
       }
 
 -- the exit where there is no room for any
-pub gives_none : {X V : Type 0} (spell : X → List ℕ) (within : X → Type 0) (items : V → List X) (old : Ahead) (count : ℕ) (r : Result V Stop) → IsErrAnd r (λ f. f ≡ stop.Fault fault.Memory)
+pub gives_none : {X V : Type 0} (spell : X → List ℕ) (within : X → Type 0) (items : V → List X) (old : Ahead) (count : ℕ) (r : Result V CodeStop) → IsErrAnd r (λ f. f ≡ stop.Fault fault.Memory)
     → LinesGive spell within items count old r old
 gives_none spell within items old count (Ok v) same = absurd same
 gives_none spell within items old count (Err f) same =
-    subst (λ (s : Stop). LinesGive spell within items count old (Err s) old) (sym same) record { read = []; few = omega arith; inside = All-nil within; reads = Reads-none old }
+    subst (λ (s : CodeStop). LinesGive spell within items count old (Err s) old) (sym same) record { read = []; few = omega arith; inside = All-nil within; reads = Reads-none old }

@@ -16,8 +16,8 @@ use Rattle.blang.specs.declared.code.Definition.TheVariants as definition
 use Rattle.bcode.specs.declared.fault.CodeFault.TheVariants as fault
 use Rattle.bcode.specs.declared.header.Header.{Header}
 use Rattle.bcode.specs.declared.header.Header.TheVariants as header
-use Rattle.bcode.specs.declared.stop.Stop.{Stop}
-use Rattle.bcode.specs.declared.stop.Stop.TheVariants as stop
+use Rattle.bcode.specs.declared.code_stop.CodeStop.{CodeStop}
+use Rattle.bcode.specs.declared.code_stop.CodeStop.TheVariants as stop
 use Rattle.bcode.proofs.AheadLaws.{Reads-append, Passes-append, Breaks-after}
 use Rattle.bcode.proofs.StreamLaws.{EndsInLine-after, ends_first}
 use Rattle.bcode.proofs.HeaderLaws.{header_at-exact}
@@ -113,7 +113,7 @@ module _ {X : Type 0} (spell : X → List ℕ) (within : X → Type 0) (kind : L
     }
 
     -- lines of one kind, before those of others, were not read
-    pub ends_among : {V : Type 0} (items : V → List X) (old new : Ahead) (count : ℕ) (ks : List LineKind) (e : Stop) → LinesGive spell within items count old (Err e) new
+    pub ends_among : {V : Type 0} (items : V → List X) (old new : Ahead) (count : ℕ) (ks : List LineKind) (e : CodeStop) → LinesGive spell within items count old (Err e) new
         → EndsAmong (replicate count kind ++ ks) old e new
     ends_among items old new count ks (stop.Fault (fault.Line n)) r = stops_here count ks n r
     ends_among items old new count ks (stop.Fault fault.Memory) r = record {
@@ -123,13 +123,13 @@ module _ {X : Type 0} (spell : X → List ℕ) (within : X → Type 0) (kind : L
     }
     ends_among items old new count ks stop.Device r = breaks_here count ks r
 
-    pub ends_among_last : {V : Type 0} (items : V → List X) (old new : Ahead) (count : ℕ) (e : Stop) → LinesGive spell within items count old (Err e) new
+    pub ends_among_last : {V : Type 0} (items : V → List X) (old new : Ahead) (count : ℕ) (e : CodeStop) → LinesGive spell within items count old (Err e) new
         → EndsAmong (replicate count kind) old e new
     ends_among_last items old new count e r =
         subst (λ (ks : List LineKind). EndsAmong ks old e new) (append-nil (replicate count kind)) (ends_among items old new count [] e r)
 
   -- lines were not read after those of a kind
-  pub ends_after : {a b : Ahead} {xs : List X} (c : Ahead) (count : ℕ) (ks : List LineKind) (e : Stop) → ReadsLines spell within count a xs b → EndsAmong ks b e c
+  pub ends_after : {a b : Ahead} {xs : List X} (c : Ahead) (count : ℕ) (ks : List LineKind) (e : CodeStop) → ReadsLines spell within count a xs b → EndsAmong ks b e c
       → EndsAmong (replicate count kind ++ ks) a e c
   ends_after c count ks (stop.Fault (fault.Line n)) r h = StopsAmong-following r.passes (goes_on count ks r) (kinds_length count ks) h
   ends_after {a} {b} {xs} c count ks (stop.Fault fault.Memory) r h = record {
@@ -142,9 +142,9 @@ module _ {X : Type 0} (spell : X → List ℕ) (within : X → Type 0) (kind : L
   ends_after c count ks stop.Device r h = BreaksAmong-following r.passes (goes_on count ks r) (kinds_length count ks) h
 
 -- the exit of a `?` after lines
-pub body_exit : (h : Header) (old now : Ahead) (r : Result Definition Stop) (e : Stop) → IsErrAnd r (λ f. f ≡ e) → EndsAmong (kinds_after h) old e now → BodyGives h old r now
+pub body_exit : (h : Header) (old now : Ahead) (r : Result Definition CodeStop) (e : CodeStop) → IsErrAnd r (λ f. f ≡ e) → EndsAmong (kinds_after h) old e now → BodyGives h old r now
 body_exit h old now (Ok d) e same ends = absurd same
-body_exit h old now (Err f) e same ends = subst (λ (s : Stop). BodyGives h old (Err s) now) (sym same) ends
+body_exit h old now (Err f) e same ends = subst (λ (s : CodeStop). BodyGives h old (Err s) now) (sym same) ends
 
 two_joined : {X Y : Type 0} (f : X → List ℕ) (g : Y → List ℕ) (xs : List X) (ys : List Y) → joined (map f xs ++ map g ys) ≡ flat_map f xs ++ flat_map g ys
 two_joined f g xs ys =
@@ -291,11 +291,11 @@ header_breaks r = record {
   none = λ d rest inside same. r.none (header_of d) (joined (body_lines d) ++ rest) (header_of-within d inside) (same ∙ text_header d rest);
 }
 
-pub header_exit : (old now : Ahead) (r : Result (Option Definition) Stop) (e : Stop) → IsErrAnd r (λ f. f ≡ e) → LineGives header_text IsHeaderWithin old (Err e) now → DefinitionGives old r now
+pub header_exit : (old now : Ahead) (r : Result (Option Definition) CodeStop) (e : CodeStop) → IsErrAnd r (λ f. f ≡ e) → LineGives header_text IsHeaderWithin old (Err e) now → DefinitionGives old r now
 header_exit old now (Ok o) e same gives = absurd same
-header_exit old now (Err f) e same gives = subst (λ (s : Stop). DefinitionGives old (Err s) now) (sym same) (exit e gives)
+header_exit old now (Err f) e same gives = subst (λ (s : CodeStop). DefinitionGives old (Err s) now) (sym same) (exit e gives)
   where
-    exit : (e : Stop) → LineGives header_text IsHeaderWithin old (Err e) now → DefinitionGives old (Err e) now
+    exit : (e : CodeStop) → LineGives header_text IsHeaderWithin old (Err e) now → DefinitionGives old (Err e) now
     exit (stop.Fault (fault.Line n)) gives = header_stops n gives
     exit (stop.Fault fault.Memory) gives = absurd gives
     exit stop.Device gives = header_breaks gives
@@ -370,12 +370,12 @@ body_breaks h state r s = record {
 }
 
 -- the exit of a `?` after a header
-pub next_exit : {old mid : Ahead} (h : Header) (now : Ahead) (r : Result (Option Definition) Stop) (e : Stop) → (h ≡ header.End → ⊥)
+pub next_exit : {old mid : Ahead} (h : Header) (now : Ahead) (r : Result (Option Definition) CodeStop) (e : CodeStop) → (h ≡ header.End → ⊥)
     → ReadsLine header_text IsHeaderWithin old h mid → IsErrAnd r (λ f. f ≡ e) → BodyGives h mid (Err e) now → DefinitionGives old r now
 next_exit h now (Ok o) e more read same gives = absurd same
-next_exit {old} {mid} h now (Err f) e more read same gives = subst (λ (s : Stop). DefinitionGives old (Err s) now) (sym same) (exit e gives)
+next_exit {old} {mid} h now (Err f) e more read same gives = subst (λ (s : CodeStop). DefinitionGives old (Err s) now) (sym same) (exit e gives)
   where
-    exit : (e : Stop) → BodyGives h mid (Err e) now → DefinitionGives old (Err e) now
+    exit : (e : CodeStop) → BodyGives h mid (Err e) now → DefinitionGives old (Err e) now
     exit (stop.Fault (fault.Line n)) gives = body_stops h n (state_of h more) read gives
     exit (stop.Fault fault.Memory) gives = next_from h (state_of h more) read gives
     exit stop.Device gives = body_breaks h (state_of h more) read gives

@@ -13,8 +13,8 @@ use Rattle.blang.specs.Text.{edition_line, opening, opening_lines, lines_of, def
 use Rattle.bcode.specs.declared.code_step.CodeStep.{CodeStep}
 use Rattle.blang.specs.declared.code.Definition.{Definition}
 use Rattle.bcode.specs.declared.fault.CodeFault.TheVariants as fault
-use Rattle.bcode.specs.declared.stop.Stop.{Stop}
-use Rattle.bcode.specs.declared.stop.Stop.TheVariants as stop
+use Rattle.bcode.specs.declared.code_stop.CodeStop.{CodeStop}
+use Rattle.bcode.specs.declared.code_stop.CodeStop.TheVariants as stop
 use Rattle.bcode.proofs.AheadLaws.{Reads-append, Passes-none, Passes-append, Breaks-after}
 use Rattle.bcode.proofs.FaultLaws.{definition_shorter, definitions_go, fault_line_in, no_code_in, no_opening_line, no_opening_code, passes_more, same_rest, code_spelled, end_stops, end_breaks}
 use Rattle.bcode.proofs.StoppingLaws.{same_after}
@@ -183,7 +183,7 @@ stopped_opening editions.Two source lender false at new ds n s e r = record {
     none more can rest same = r.none more can tt rest tt (ap (λ t. t ++ r.taken ++ more) (sym nothing) ∙ same)
 
 -- what a call answers and does
-pub next_gives : (edition : Edition) (source : Incoming) (lender : List ℕ) (b : Bool) (at new : Ahead) → MoreCanBeRead (reader_of (beginning edition source lender) at b false) → (r : Result (Option Definition) Stop)
+pub next_gives : (edition : Edition) (source : Incoming) (lender : List ℕ) (b : Bool) (at new : Ahead) → MoreCanBeRead (reader_of (beginning edition source lender) at b false) → (r : Result (Option Definition) CodeStop)
     → NextDefinitionGives (to_open b edition) at r new
     → let old = reader_of (beginning edition source lender) at b false in let now = reader_of (beginning edition source lender) new true (is_last_step (code_step r)) in
     StepGives old (code_step r) now × (is_last_step (code_step r) ≡ false → MoreCanBeRead now)
@@ -202,7 +202,7 @@ next_gives edition source lender b at new is_open (Err stop.Device) gives =
     ((is_open, λ ds s. record { breaks = gives.breaks; none = none_whole edition source lender b at ds s gives.breaks.taken gives.none; closed = refl }), λ e. absurd (cc))
 
 pub call_gives : (edition : Edition) (source : Incoming) (lender : List ℕ) (b closed : Bool) (at new : Ahead) → closed ≡ false → (closed ≡ false → MoreCanBeRead (reader_of (beginning edition source lender) at b closed))
-    → (opens : Bool) → opens ≡ to_open b edition → (r : Result (Option Definition) Stop) → NextDefinitionGives opens at r new
+    → (opens : Bool) → opens ≡ to_open b edition → (r : Result (Option Definition) CodeStop) → NextDefinitionGives opens at r new
     → (answer : CodeStep) → answer ≡ code_step r → (last : Bool) → last ≡ is_last_step answer
     → StepGives (reader_of (beginning edition source lender) at b closed) answer (reader_of (beginning edition source lender) new true last)
     × (last ≡ false → MoreCanBeRead (reader_of (beginning edition source lender) new true last))
@@ -226,11 +226,11 @@ breaks_next true old mid now h broke = record {
 breaks_next false old mid now h broke =
     subst (λ (a : Ahead). BreaksNext false a now) h record { breaks = broke.breaks; none = broke.none }
 
-pub opening_exit : (opens : Bool) (old now : Ahead) (r : Result (Option Definition) Stop) (e : Stop) → IsErrAnd r (λ f. f ≡ e) → OpeningGives opens old (Err e) now → NextDefinitionGives opens old r now
+pub opening_exit : (opens : Bool) (old now : Ahead) (r : Result (Option Definition) CodeStop) (e : CodeStop) → IsErrAnd r (λ f. f ≡ e) → OpeningGives opens old (Err e) now → NextDefinitionGives opens old r now
 opening_exit opens old now (Ok o) e same gives = absurd same
-opening_exit opens old now (Err f) e same gives = subst (λ (s : Stop). NextDefinitionGives opens old (Err s) now) (sym same) (exit e gives)
+opening_exit opens old now (Err f) e same gives = subst (λ (s : CodeStop). NextDefinitionGives opens old (Err s) now) (sym same) (exit e gives)
   where
-    exit : (e : Stop) → OpeningGives opens old (Err e) now → NextDefinitionGives opens old (Err e) now
+    exit : (e : CodeStop) → OpeningGives opens old (Err e) now → NextDefinitionGives opens old (Err e) now
     exit (stop.Fault (fault.Line n)) gives = inl gives
     exit (stop.Fault fault.Memory) gives = absurd gives
     exit stop.Device gives = record {
@@ -238,21 +238,21 @@ opening_exit opens old now (Err f) e same gives = subst (λ (s : Stop). NextDefi
       none = λ d rest inside same. gives.1.none tt (definition_text d ++ rest) tt (same ∙ ap (λ o. opening_line o ++ (definition_text d ++ rest)) gives.0);
     }
 
-pub definition_exit : (opens : Bool) (old mid now : Ahead) (r : Result (Option Definition) Stop) (e : Stop) → OpeningRead opens old mid → IsErrAnd r (λ f. f ≡ e) → DefinitionGives mid (Err e) now → NextDefinitionGives opens old r now
+pub definition_exit : (opens : Bool) (old mid now : Ahead) (r : Result (Option Definition) CodeStop) (e : CodeStop) → OpeningRead opens old mid → IsErrAnd r (λ f. f ≡ e) → DefinitionGives mid (Err e) now → NextDefinitionGives opens old r now
 definition_exit opens old mid now (Ok o) e h same gives = absurd same
-definition_exit opens old mid now (Err f) e h same gives = subst (λ (s : Stop). NextDefinitionGives opens old (Err s) now) (sym same) (exit e gives)
+definition_exit opens old mid now (Err f) e h same gives = subst (λ (s : CodeStop). NextDefinitionGives opens old (Err s) now) (sym same) (exit e gives)
   where
-    exit : (e : Stop) → DefinitionGives mid (Err e) now → NextDefinitionGives opens old (Err e) now
+    exit : (e : CodeStop) → DefinitionGives mid (Err e) now → NextDefinitionGives opens old (Err e) now
     exit (stop.Fault (fault.Line n)) gives = inr (mid, h, gives)
     exit (stop.Fault fault.Memory) gives = (mid, h, gives)
     exit stop.Device gives = breaks_next opens old mid now h gives
 
-pub end_exit : (opens : Bool) (old mid end now : Ahead) (r : Result (Option Definition) Stop) (e : Stop) → OpeningRead opens old mid → TakesText mid end_text 1 end → IsErrAnd r (λ f. f ≡ e) → EndingGives end (Err e) now
+pub end_exit : (opens : Bool) (old mid end now : Ahead) (r : Result (Option Definition) CodeStop) (e : CodeStop) → OpeningRead opens old mid → TakesText mid end_text 1 end → IsErrAnd r (λ f. f ≡ e) → EndingGives end (Err e) now
     → NextDefinitionGives opens old r now
 end_exit opens old mid end now (Ok o) e h last same gives = absurd same
-end_exit opens old mid end now (Err f) e h last same gives = subst (λ (s : Stop). NextDefinitionGives opens old (Err s) now) (sym same) (exit e gives)
+end_exit opens old mid end now (Err f) e h last same gives = subst (λ (s : CodeStop). NextDefinitionGives opens old (Err s) now) (sym same) (exit e gives)
   where
-    exit : (e : Stop) → EndingGives end (Err e) now → NextDefinitionGives opens old (Err e) now
+    exit : (e : CodeStop) → EndingGives end (Err e) now → NextDefinitionGives opens old (Err e) now
     exit (stop.Fault (fault.Line n)) gives =
         inr (mid, h, subst (λ (k : ℕ). StopsInside mid k now) (sym gives.0) (end_stops gives.1.0 last gives.1.2 gives.1.3 gives.1.1))
     exit (stop.Fault fault.Memory) gives = absurd gives

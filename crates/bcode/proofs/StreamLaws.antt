@@ -15,8 +15,8 @@ use Rattle.bcode.specs.Ahead.{Ahead, ReadsLine, RefusesLine, LineGives, SeesEnd,
 use Rattle.bcode.specs.LineReading.{LineReader}
 use Rattle.bcode.specs.Streams.{HasNoNewline, IsWholeLine, AreLines, IsLinePart, EndsInLine, TakesLine, FailsAfter, FailsInLine}
 use Rattle.blang.specs.declared.limits.TheConstants.{LINE_LEN}
-use Rattle.bcode.specs.declared.stop.Stop.{Stop}
-use Rattle.bcode.specs.declared.stop.Stop.TheVariants as stop
+use Rattle.bcode.specs.declared.code_stop.CodeStop.{CodeStop}
+use Rattle.bcode.specs.declared.code_stop.CodeStop.TheVariants as stop
 use Rattle.bcode.proofs.LineLaws.{IsExact}
 use Rattle.bcode.proofs.PartLaws.{only_if, same_read, is_same}
 use Rattle.bcode.proofs.ShapeLaws.{IsLine, edition_line-shape}
@@ -262,10 +262,10 @@ module _ {X : Type 0} {spell : X → List ℕ} {within : X → Type 0} {read : L
 
 -- the exit of a `?` after a line that was not read to its end
 pub stream_breaks : {X : Type 0} {spell : X → List ℕ} {within : X → Type 0} → ((x : X) → within x → IsLine 128 (spell x)) → {old new : Incoming} {lender lender' : List ℕ} (line : ℕ)
-    → FailsInLine old new → lender' ≡ lender → (r : Result X Stop) → IsErrAnd r (λ s. s ≡ stop.Device) → LineGives spell within (at old lender line) r (at new lender' line)
+    → FailsInLine old new → lender' ≡ lender → (r : Result X CodeStop) → IsErrAnd r (λ s. s ≡ stop.Device) → LineGives spell within (at old lender line) r (at new lender' line)
 stream_breaks shape line f same (Ok x) is = absurd is
 stream_breaks {X} {spell} {within} shape {old} {new} {lender} {lender'} line f same (Err e) is =
-    subst (λ (s : Stop). LineGives spell within (at old lender line) (Err s) (at new lender' line)) (sym is) record {
+    subst (λ (s : CodeStop). LineGives spell within (at old lender line) (Err s) (at new lender' line)) (sym is) record {
       breaks = record { taken = f.taken; fails = f.fails; lender = same };
       none = none;
     }

@@ -12,8 +12,8 @@ use Rattle.blang.specs.Text.{IsWithinRanges}
 use Rattle.blang.specs.declared.code.Definition.{Definition}
 use Rattle.bcode.specs.declared.fault.CodeFault.TheVariants as fault
 use Rattle.bcode.specs.declared.header.Header.{Header}
-use Rattle.bcode.specs.declared.stop.Stop.{Stop}
-use Rattle.bcode.specs.declared.stop.Stop.TheVariants as stop
+use Rattle.bcode.specs.declared.code_stop.CodeStop.{CodeStop}
+use Rattle.bcode.specs.declared.code_stop.CodeStop.TheVariants as stop
 
 -- the end that the lines come from, which end it is, and the number of the next line
 pub record Ahead : Type 0 where
@@ -59,7 +59,7 @@ module _ {X : Type 0} (spell : X → List ℕ) (within : X → Type 0) where
     pub breaks : BytesFail old new
     pub none : (x : X) (rest : List ℕ) → within x → breaks.taken ≡ spell x ++ rest → ⊥
 
-  abbrev pub LineGives : Ahead → Result X Stop → Ahead → Type 0
+  abbrev pub LineGives : Ahead → Result X CodeStop → Ahead → Type 0
   LineGives old (Ok x) new = ReadsLine old x new
   LineGives old (Err (stop.Fault (fault.Line n))) new = RefusesLine old n new
   LineGives old (Err (stop.Fault fault.Memory)) new = ⊥
@@ -96,7 +96,7 @@ module _ {X : Type 0} (spell : X → List ℕ) (within : X → Type 0) where
     pub inside : All within read
     pub reads : TakesBytes old (flat_map spell read) new
 
-  abbrev pub LinesGive : {V : Type 0} → (V → List X) → ℕ → Ahead → Result V Stop → Ahead → Type 0
+  abbrev pub LinesGive : {V : Type 0} → (V → List X) → ℕ → Ahead → Result V CodeStop → Ahead → Type 0
   LinesGive items count old (Ok v) new = ReadsLines count old (items v) new
   LinesGive items count old (Err (stop.Fault (fault.Line n))) new = RefusesLines count old n new
   LinesGive items count old (Err (stop.Fault fault.Memory)) new = ReadsAtMost count old new
@@ -142,12 +142,12 @@ pub record ReadsFirst (kinds : List LineKind) (old new : Ahead) : Type 0 where
   pub reads : TakesBytes old (joined lines) new
 
 -- why lines of these kinds were not read
-abbrev pub EndsAmong : List LineKind → Ahead → Stop → Ahead → Type 0
+abbrev pub EndsAmong : List LineKind → Ahead → CodeStop → Ahead → Type 0
 EndsAmong kinds old (stop.Fault (fault.Line n)) new = StopsAmong kinds old n new
 EndsAmong kinds old (stop.Fault fault.Memory) new = ReadsFirst kinds old new
 EndsAmong kinds old stop.Device new = BreaksAmong kinds old new
 
-abbrev pub BodyGives : Header → Ahead → Result Definition Stop → Ahead → Type 0
+abbrev pub BodyGives : Header → Ahead → Result Definition CodeStop → Ahead → Type 0
 BodyGives h old (Ok d) new = ReadsBody h old d new
 BodyGives h old (Err why) new = EndsAmong (kinds_after h) old why new
 
@@ -179,7 +179,7 @@ pub record BreaksInside (old new : Ahead) : Type 0 where
   pub none : (d : Definition) (rest : List ℕ) → IsWithinRanges d → breaks.taken ≡ definition_text d ++ rest → ⊥
 
 -- a definition was read, or the last line
-abbrev pub DefinitionGives : Ahead → Result (Option Definition) Stop → Ahead → Type 0
+abbrev pub DefinitionGives : Ahead → Result (Option Definition) CodeStop → Ahead → Type 0
 DefinitionGives old (Ok (Some d)) new = ReadsDefinition old d new
 DefinitionGives old (Ok None) new = TakesText old end_text 1 new
 DefinitionGives old (Err (stop.Fault (fault.Line n))) new = StopsInside old n new
@@ -204,7 +204,7 @@ abbrev pub OpeningRead : Bool → Ahead → Ahead → Type 0
 OpeningRead true old new = TakesText old edition_line 1 new
 OpeningRead false old new = new ≡ old
 
-abbrev pub OpeningGives : Bool → Ahead → Result (Unit {0}) Stop → Ahead → Type 0
+abbrev pub OpeningGives : Bool → Ahead → Result (Unit {0}) CodeStop → Ahead → Type 0
 OpeningGives opens old (Ok u) new = OpeningRead opens old new
 OpeningGives opens old (Err (stop.Fault (fault.Line n))) new =
     (opens ≡ true) × RefusesLine {X = Unit {0}} (λ _. edition_line) (λ _. Unit {0}) old n new
@@ -229,7 +229,7 @@ pub record BreaksNext (opens : Bool) (old new : Ahead) : Type 0 where
       → breaks.taken ≡ opening_line opens ++ (definition_text d ++ rest) → ⊥
 
 -- what reading the next definition does, where a line may have to come before it
-abbrev pub NextDefinitionGives : Bool → Ahead → Result (Option Definition) Stop → Ahead → Type 0
+abbrev pub NextDefinitionGives : Bool → Ahead → Result (Option Definition) CodeStop → Ahead → Type 0
 NextDefinitionGives opens old (Ok (Some d)) new = (mid : Ahead) × OpeningRead opens old mid × ReadsDefinition mid d new
 NextDefinitionGives opens old (Ok None) new = (mid : Ahead) × OpeningRead opens old mid × ReadsLast mid new
 NextDefinitionGives opens old (Err (stop.Fault (fault.Line n))) new =
@@ -240,7 +240,7 @@ NextDefinitionGives opens old (Err (stop.Fault fault.Memory)) new = (mid : Ahead
 NextDefinitionGives opens old (Err stop.Device) new = BreaksNext opens old new
 
 -- nothing came after the last line; or something did, in a line of this number
-abbrev pub EndingGives : Ahead → Result (Unit {0}) Stop → Ahead → Type 0
+abbrev pub EndingGives : Ahead → Result (Unit {0}) CodeStop → Ahead → Type 0
 EndingGives old (Ok u) new = TakesBytes old [] new × (new.end.is_over ≡ true)
 EndingGives old (Err (stop.Fault (fault.Line n))) new = (n ≡ old.line)
     × ((taken : List ℕ) × (taken ≢ []) × IsLinePart taken × TakesBytes old taken new)

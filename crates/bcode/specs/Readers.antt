@@ -3,6 +3,8 @@ use Rattle.std.specs.Prelude.{◌≡◌, ℕ, ◌+◌, ◌<◌, Bool, true, fals
 use Rattle.std.specs.Prelude.{Result, Ok, Err, if◌then◌else◌}
 use Rattle.std.specs.List.{flat_map}
 use Rattle.bword.specs.ByteEnds.{Incoming, CanFollow}
+use Rattle.bword.specs.declared.ends.EndFault.{EndFault}
+use Rattle.bword.specs.declared.ends.EndFault.TheVariants as end_fault
 use Rattle.bword.specs.declared.edition.Edition.{Edition}
 use Rattle.bword.specs.declared.edition.Edition.TheVariants as editions
 use Rattle.bcode.specs.Ahead.{Ahead, TakesBytes, TakesText, BytesFail}
@@ -13,8 +15,8 @@ use Rattle.bcode.specs.declared.code_step.CodeStep.{CodeStep}
 use Rattle.bcode.specs.declared.code_step.CodeStep.TheVariants as step
 use Rattle.blang.specs.declared.code.Definition.{Definition}
 use Rattle.bcode.specs.declared.fault.CodeFault.TheVariants as fault
-use Rattle.bcode.specs.declared.stop.Stop.{Stop}
-use Rattle.bcode.specs.declared.stop.Stop.TheVariants as stop
+use Rattle.bcode.specs.declared.code_stop.CodeStop.{CodeStop}
+use Rattle.bcode.specs.declared.code_stop.CodeStop.TheVariants as stop
 
 -- the edition of a reader, and what its end told when it was made, and which end it is
 pub record ReaderStart : Type 0 where
@@ -121,8 +123,13 @@ pub record ReadBroke (before : List Definition) (old new : CodeReader) : Type 0 
   pub none : NoneWhole old.first.edition (opening_read old ++ flat_map definition_text before ++ breaks.taken) before
   pub closed : new.is_closed ≡ true
 
+-- how a stream that refuses what is written stops the writing
+abbrev pub stop_of : EndFault → CodeStop
+stop_of end_fault.Device = stop.Device
+stop_of end_fault.Memory = stop.Fault fault.Memory
+
 -- the answer of a call, and whether it is the last one
-abbrev pub code_step : Result (Option Definition) Stop → CodeStep
+abbrev pub code_step : Result (Option Definition) CodeStop → CodeStep
 code_step (Ok (Some d)) = step.Definition d
 code_step (Ok None) = step.End
 code_step (Err (stop.Fault f)) = step.Fault f

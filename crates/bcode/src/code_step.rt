@@ -2,7 +2,7 @@
 ghost use Rattle.std.specs.Prelude.{◌≡◌};
 ghost use Rattle.bcode.specs.Readers.{is_last_step, code_step};
 
-use crate::stop::Stop;
+use crate::code_stop::CodeStop;
 use crate::{CodeFault, Definition};
 
 /// What comes next of a code text.
@@ -22,14 +22,14 @@ pub enum CodeStep {
 
 impl CodeStep {
     /// What is answered where the next definition was read so.
-    pub(crate) fn of(next: Result<Option<Definition>, Stop>) -> Self
+    pub(crate) fn of(next: Result<Option<Definition>, CodeStop>) -> Self
         ensures { result ≡ code_step next }
     {
         match next {
             Ok(Some(definition)) => CodeStep::Definition(definition),
             Ok(None) => CodeStep::End,
-            Err(Stop::Fault(fault)) => CodeStep::Fault(fault),
-            Err(Stop::Device) => CodeStep::Device,
+            Err(CodeStop::Fault(fault)) => CodeStep::Fault(fault),
+            Err(CodeStop::Device) => CodeStep::Device,
         }
     }
 

@@ -9,9 +9,9 @@ ghost use Rattle.blang.specs.declared.code.Definition.{Definition};
 ghost use Rattle.bcode.specs.declared.fault.CodeFault.TheVariants.{Memory};
 ghost use Rattle.bcode.specs.declared.header.Header.TheVariants as headers;
 
+use crate::code_stop::CodeStop;
 use crate::header::Header;
 use crate::reader::CodeReader;
-use crate::stop::Stop;
 use crate::stream::Stream;
 use crate::{
     CodeFault, CodeStep, Definition, Function, FunctionParts, Instr, Ival, Simple, SimpleParts,
@@ -65,7 +65,7 @@ fn edition_of(text: &[u8]) -> Edition
 pub fn next_definition<I: ByteIn>(
     alloc: Global,
     lines: &mut Stream<I>,
-) -> Result<Option<Definition>, Stop>
+) -> Result<Option<Definition>, CodeStop>
     ensures { DefinitionGives lines.old result lines.new }
 {
     match lines.header()? {
@@ -95,7 +95,7 @@ fn function<I: ByteIn>(
     name: Name,
     parameters: u16,
     sizes: Sizes,
-) -> Result<Definition, Stop>
+) -> Result<Definition, CodeStop>
     requires { IsHeaderWithin (headers.Function name parameters sizes) }
     ensures { BodyGives (headers.Function name parameters sizes) lines.old result lines.new }
 {
@@ -118,7 +118,7 @@ fn simple<I: ByteIn>(
     name: Name,
     count: u16,
     strings: u16,
-) -> Result<Definition, Stop>
+) -> Result<Definition, CodeStop>
     requires { IsHeaderWithin (headers.Simple name count strings) }
     ensures { BodyGives (headers.Simple name count strings) lines.old result lines.new }
 {
@@ -138,7 +138,7 @@ fn vector<I: ByteIn>(
     words: u16,
     count: u16,
     strings: u16,
-) -> Result<Definition, Stop>
+) -> Result<Definition, CodeStop>
     requires { IsHeaderWithin (headers.Vector name words count strings) }
     ensures { BodyGives (headers.Vector name words count strings) lines.old result lines.new }
 {
@@ -158,7 +158,7 @@ fn numbers<I: ByteIn>(
     letter: u8,
     below: u32,
     count: u16,
-) -> Result<Vec<u16>, Stop>
+) -> Result<Vec<u16>, CodeStop>
     requires letter { letter ≢ 10 }
     requires below { below ≤ WORD_VALUES }
     ensures { LinesGive (λ n. line ((letter ∷ []) ∷ decimal n ∷ [])) (λ n. n < below) (λ v. v.items) count
@@ -176,7 +176,7 @@ fn values<I: ByteIn>(
     lines: &mut Stream<I>,
     strings: u16,
     count: u16,
-) -> Result<Vec<Ival>, Stop>
+) -> Result<Vec<Ival>, CodeStop>
     ensures { LinesGive ival_line (IsIvalWithin strings) (λ v. v.items) count lines.old result
         lines.new }
 {
@@ -192,7 +192,7 @@ fn instrs<I: ByteIn>(
     lines: &mut Stream<I>,
     sizes: Sizes,
     count: u16,
-) -> Result<Vec<Instr>, Stop>
+) -> Result<Vec<Instr>, CodeStop>
     ensures { LinesGive instr_line (IsInstrWithin sizes) (λ v. v.items) count lines.old result
         lines.new }
 {

@@ -5,8 +5,8 @@ ghost use Rattle.bcode.specs.Excluded.{Excluded};
 ghost use Rattle.bcode.specs.Readers.{SameReader, StepGives, reader_start, to_open};
 ghost use Rattle.bcode.specs.Readers as readers;
 
+use crate::code_stop::CodeStop;
 use crate::read::next_definition;
-use crate::stop::Stop;
 use crate::stream::Stream;
 use crate::{CodeFault, CodeStep, Definition};
 use bword::{ByteIn, Edition};
@@ -99,7 +99,7 @@ fn read_next<I: ByteIn>(
     alloc: Global,
     opens: bool,
     lines: &mut Stream<I>,
-) -> Result<Option<Definition>, Stop>
+) -> Result<Option<Definition>, CodeStop>
     ensures { NextDefinitionGives opens lines.old result lines.new }
 {
     read_opening(opens, lines)?;
@@ -113,20 +113,20 @@ fn read_next<I: ByteIn>(
 }
 
 // The line that the text begins with, if it is still to be read.
-fn read_opening<I: ByteIn>(opens: bool, lines: &mut Stream<I>) -> Result<(), Stop>
+fn read_opening<I: ByteIn>(opens: bool, lines: &mut Stream<I>) -> Result<(), CodeStop>
     ensures { OpeningGives opens lines.old result lines.new }
 {
     if opens { lines.opening() } else { Ok(()) }
 }
 
 // The end of the input, after the last line.
-fn read_end<I: ByteIn>(lines: &mut Stream<I>) -> Result<(), Stop>
+fn read_end<I: ByteIn>(lines: &mut Stream<I>) -> Result<(), CodeStop>
     ensures { EndingGives lines.old result lines.new }
 {
     if lines.is_over()? {
         return Ok(());
     }
-    Err(Stop::Fault(CodeFault::Line(lines.line())))
+    Err(CodeStop::Fault(CodeFault::Line(lines.line())))
 }
 
 /// At a line that is at fault no byte after it is taken, and no more of its bytes than a line of code has.

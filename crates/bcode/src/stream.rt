@@ -6,9 +6,9 @@ ghost use Rattle.bcode.specs.Headers.{header_text, IsHeaderWithin};
 ghost use Rattle.bcode.specs.Streams.{TakingGives};
 ghost use Rattle.blang.specs.Text.{line, edition_line, instr_line, ival_line};
 
+use crate::code_stop::CodeStop;
 use crate::header::Header;
 use crate::lines::{header, instr, ival, number_line};
-use crate::stop::Stop;
 use crate::{CodeFault, Instr, Ival};
 use arrayvec::ArrayVec;
 use blang::{LINE_LEN, Sizes, WORD_VALUES};
@@ -75,12 +75,12 @@ impl<I: ByteIn> Stream<I> {
     }
 
     /// The line that a text of the second edition begins with.
-    pub fn opening(&mut self) -> Result<(), Stop>
+    pub fn opening(&mut self) -> Result<(), CodeStop>
         ensures { LineGives (λ _. edition_line) (λ _. Unit {0}) self.old result self.new }
     {
         read_line(&mut self.input, &mut self.bytes)?;
         if !self.bytes.as_slice().starts_with(b"B 2\n") {
-            return Err(Stop::Fault(CodeFault::Line(self.line)));
+            return Err(CodeStop::Fault(CodeFault::Line(self.line)));
         }
         self.line += 1;
         Ok(())
@@ -88,7 +88,7 @@ impl<I: ByteIn> Stream<I> {
 
     /// The first line of a definition, or the last one of a code text.
     #[inline(always)]
-    pub fn header(&mut self) -> Result<Header, Stop>
+    pub fn header(&mut self) -> Result<Header, CodeStop>
         ensures { LineGives header_text IsHeaderWithin self.old result self.new }
     {
         let ahead = self.input.ahead();
@@ -103,7 +103,7 @@ impl<I: ByteIn> Stream<I> {
 
     /// An initial value, in a definition with this many string words.
     #[inline(always)]
-    pub fn ival(&mut self, strings: u16) -> Result<Ival, Stop>
+    pub fn ival(&mut self, strings: u16) -> Result<Ival, CodeStop>
         ensures { LineGives ival_line (IsIvalWithin strings) self.old result self.new }
     {
         let ahead = self.input.ahead();
@@ -118,7 +118,7 @@ impl<I: ByteIn> Stream<I> {
 
     /// An instruction, in a function of these sizes.
     #[inline(always)]
-    pub fn instr(&mut self, sizes: Sizes) -> Result<Instr, Stop>
+    pub fn instr(&mut self, sizes: Sizes) -> Result<Instr, CodeStop>
         ensures { LineGives instr_line (IsInstrWithin sizes) self.old result self.new }
     {
         let ahead = self.input.ahead();
@@ -133,7 +133,7 @@ impl<I: ByteIn> Stream<I> {
 
     /// The number in a line with this letter, which is below the bound.
     #[inline(always)]
-    pub fn number(&mut self, letter: u8, below: u32) -> Result<u16, Stop>
+    pub fn number(&mut self, letter: u8, below: u32) -> Result<u16, CodeStop>
         requires letter { letter ≢ 10 }
         requires below { below ≤ WORD_VALUES }
         ensures { LineGives (λ n. line ((letter ∷ []) ∷ decimal n ∷ [])) (λ n. n < below) self.old result self.new }
@@ -153,12 +153,12 @@ impl<I: ByteIn> Stream<I> {
 impl<I: ByteIn> Stream<I> {
     #[cold]
     #[inline(never)]
-    fn fetch_header(&mut self) -> Result<Header, Stop>
+    fn fetch_header(&mut self) -> Result<Header, CodeStop>
         ensures { LineGives header_text IsHeaderWithin self.old result self.new }
     {
         read_line(&mut self.input, &mut self.bytes)?;
         let Some((header, _)) = header(self.bytes.as_slice()) else {
-            return Err(Stop::Fault(CodeFault::Line(self.line)));
+            return Err(CodeStop::Fault(CodeFault::Line(self.line)));
         };
         self.line += 1;
         Ok(header)
@@ -166,12 +166,12 @@ impl<I: ByteIn> Stream<I> {
 
     #[cold]
     #[inline(never)]
-    fn fetch_ival(&mut self, strings: u16) -> Result<Ival, Stop>
+    fn fetch_ival(&mut self, strings: u16) -> Result<Ival, CodeStop>
         ensures { LineGives ival_line (IsIvalWithin strings) self.old result self.new }
     {
         read_line(&mut self.input, &mut self.bytes)?;
         let Some((value, _)) = ival(self.bytes.as_slice(), strings) else {
-            return Err(Stop::Fault(CodeFault::Line(self.line)));
+            return Err(CodeStop::Fault(CodeFault::Line(self.line)));
         };
         self.line += 1;
         Ok(value)
@@ -179,12 +179,12 @@ impl<I: ByteIn> Stream<I> {
 
     #[cold]
     #[inline(never)]
-    fn fetch_instr(&mut self, sizes: Sizes) -> Result<Instr, Stop>
+    fn fetch_instr(&mut self, sizes: Sizes) -> Result<Instr, CodeStop>
         ensures { LineGives instr_line (IsInstrWithin sizes) self.old result self.new }
     {
         read_line(&mut self.input, &mut self.bytes)?;
         let Some((instr, _)) = instr(self.bytes.as_slice(), sizes) else {
-            return Err(Stop::Fault(CodeFault::Line(self.line)));
+            return Err(CodeStop::Fault(CodeFault::Line(self.line)));
         };
         self.line += 1;
         Ok(instr)
@@ -192,14 +192,14 @@ impl<I: ByteIn> Stream<I> {
 
     #[cold]
     #[inline(never)]
-    fn fetch_number(&mut self, letter: u8, below: u32) -> Result<u16, Stop>
+    fn fetch_number(&mut self, letter: u8, below: u32) -> Result<u16, CodeStop>
         requires letter { letter ≢ 10 }
         requires below { below ≤ WORD_VALUES }
         ensures { LineGives (λ n. line ((letter ∷ []) ∷ decimal n ∷ [])) (λ n. n < below) self.old result self.new }
     {
         read_line(&mut self.input, &mut self.bytes)?;
         let Some((n, _)) = number_line(self.bytes.as_slice(), letter, below) else {
-            return Err(Stop::Fault(CodeFault::Line(self.line)));
+            return Err(CodeStop::Fault(CodeFault::Line(self.line)));
         };
         self.line += 1;
         Ok(n)
