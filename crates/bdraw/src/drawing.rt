@@ -1,5 +1,6 @@
 //! Drawing the memory of a program.
 ghost use Rattle.std.specs.Prelude.{◌≡◌, IfOk};
+ghost use Rattle.blang.specs.Reports.{run_ends};
 ghost use Rattle.bmach.specs.Stepping.{IsUnstarted};
 ghost use Rattle.bdraw.specs.Excluded.{NoPictures, WrongShapes};
 ghost use Rattle.btools.specs.Programs.{untold};
@@ -29,14 +30,9 @@ pub fn draw<I: ByteIn, O: ByteOut, D: ByteOut>(
     out: &mut O,
     diag: &mut D,
 ) -> Status
-    ensures draws { Draws edition source.now steps (record {
-      input = I.incoming input.old;
-      input_after = I.incoming input.new;
-      out = O.outgoing out.old;
-      out_after = O.outgoing out.new;
-      line = D.outgoing diag.old;
-      line_after = D.outgoing diag.new;
-    }) result }
+    ensures draws { Draws edition source.now steps (run_ends
+        (I.incoming input.old) (I.incoming input.new) (O.outgoing out.old) (O.outgoing out.new)
+        (D.outgoing diag.old) (D.outgoing diag.new)) result }
     ensures input_lender { I.lender input.new ≡ I.lender input.old }
     ensures out_lender { O.lender out.new ≡ O.lender out.old }
     ensures diag_lender { D.lender diag.new ≡ D.lender diag.old }

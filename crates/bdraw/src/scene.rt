@@ -49,7 +49,7 @@ pub enum Moment {
 
 /// The innermost active calls, the running one last.
 #[derive(Drop)]
-pub struct Calls {
+pub struct DrawnCalls {
     pub drawn: Vec<Active>,
     /// How many more there are.
     pub others: u64,
@@ -61,12 +61,12 @@ pub struct Scene<'a, M: Memory> {
     pub program: &'a Program,
     pub memory: &'a M,
     pub moment: Moment,
-    pub calls: &'a Calls,
+    pub calls: &'a DrawnCalls,
 }
 
 /// No calls, as before a run.
-pub fn no_calls(alloc: Global) -> Calls {
-    Calls {
+pub fn no_calls(alloc: Global) -> DrawnCalls {
+    DrawnCalls {
         drawn: Vec::new(alloc),
         others: 0,
     }
@@ -76,7 +76,7 @@ pub fn no_calls(alloc: Global) -> Calls {
 pub fn calls_of<S: Store + Drop>(
     alloc: Global,
     stepper: &Stepper<'_, S>,
-) -> Result<Calls, AllocError> {
+) -> Result<DrawnCalls, AllocError> {
     let mut calls = no_calls(alloc);
     for number in (0..MAX_CALLS).rev() {
         match stepper.caller(number) {

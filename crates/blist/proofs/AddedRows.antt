@@ -9,7 +9,7 @@ use Rattle.std.proofs.lemmas.List.Concat.{flat_map-append}
 use Rattle.std.specs.Prelude.{Option}
 use Rattle.blang.specs.Text.{lines_of}
 use Rattle.blang.specs.declared.code.Definition.{Definition}
-use Rattle.blist.specs.declared.rows.Spot.{Spot}
+use Rattle.blist.specs.declared.rows.CodeSpot.{CodeSpot}
 use Rattle.btools.specs.Characters.{IsPrintable}
 use Rattle.btools.specs.Columns.{right, without_newline}
 use Rattle.btools.proofs.AddedTexts.{piece}
@@ -33,7 +33,7 @@ adds_both old mid new ls ks first second = (
 in_order : (old margin code beside end : List ℕ) → (((old ++ margin) ++ code) ++ beside) ++ end ≡ old ++ (margin ++ code ++ beside ++ end)
 in_order old margin code beside end = simp append_assoc
 
-pub adds_row : (old : List ℕ) (spot : Spot) (number : Option ℕ) (line beside : List ℕ) → IsPrintable beside → IsApart (length (without_newline line)) beside
+pub adds_row : (old : List ℕ) (spot : CodeSpot) (number : Option ℕ) (line beside : List ℕ) → IsPrintable beside → IsApart (length (without_newline line)) beside
     → Adds old (line ∷ []) ((((old ++ margin_text spot number) ++ without_newline line) ++ beside) ++ codes "\n")
 adds_row old spot number line beside following apart =
     let r : ListingRow = record { spot = spot; number = number; line = line; beside = beside; beside_is_printable = following; beside_is_apart = apart } in (
@@ -73,7 +73,7 @@ address_added t t' t'' t''' digits n is a b c =
     piece t t' t''' (replicate (6 - suc (length digits)) 32) (codes "@" ++ digits) blanks (piece t' t'' t''' (codes "@") digits b c)
 
 -- the parts of a row, one after another
-pub row_added : (old t1 t2 t3 t4 t5 code page : List ℕ) (spot : Spot) (number : Option ℕ) → t1 ≡ old ++ right 6 (spot_text spot) → t2 ≡ t1 ++ right 6 (number_text number) ++ codes "  "
+pub row_added : (old t1 t2 t3 t4 t5 code page : List ℕ) (spot : CodeSpot) (number : Option ℕ) → t1 ≡ old ++ right 6 (spot_text spot) → t2 ≡ t1 ++ right 6 (number_text number) ++ codes "  "
     → t3 ≡ t2 ++ code → code ≡ without_newline page → AddsBeside (length code) t3 t4 → t5 ≡ t4 ++ codes "\n" → Adds old (page ∷ []) t5
 row_added old t1 t2 t3 t4 t5 code page spot number a b three same d end =
     let lies = right 6 (spot_text spot) in

@@ -6,8 +6,8 @@ use Rattle.std.specs.Fmt.{digits, digits_onto, digit_glyph}
 use Rattle.std.proofs.lemmas.Bool.{and_from, and_parts, cond-false, cond-true, cond_both, eqb-true, le-leb, le-ltb, leb-true, lt-ltb, ne_eqb}
 use Rattle.std.proofs.lemmas.List.Elements.{filter-append}
 use Rattle.std.proofs.lemmas.List.Folds.{list_all-append}
-use Rattle.blist.specs.declared.rows.Spot.{Spot}
-use Rattle.blist.specs.declared.rows.Spot.TheVariants as spot
+use Rattle.blist.specs.declared.rows.CodeSpot.{CodeSpot}
+use Rattle.blist.specs.declared.rows.CodeSpot.TheVariants as spot
 use Rattle.btools.specs.Characters.{IsPrintable, is_printable}
 use Rattle.btools.specs.Columns.{right, without_newline}
 use Rattle.blist.specs.Excluded.{WrongRows, from_letter, is_one_line, newlines}
@@ -46,7 +46,7 @@ number n = all_digits 64 n [] refl
 at_right : (width : ℕ) (text : List ℕ) → list_all is_margin text ≡ true → list_all is_margin (right width text) ≡ true
 at_right width text p = both (replicate (width - length text) 32) text (blanks (width - length text)) p
 
-a_spot : (s : Spot) → list_all is_margin (spot_text s) ≡ true
+a_spot : (s : CodeSpot) → list_all is_margin (spot_text s) ≡ true
 a_spot spot.Nowhere = refl
 a_spot (spot.Place n) = number n
 a_spot (spot.Address n) = both (codes "@") (decimal n) refl (number n)
@@ -55,7 +55,7 @@ a_number : (n : Option ℕ) → list_all is_margin (number_text n) ≡ true
 a_number None = refl
 a_number (Some n) = number n
 
-margin : (s : Spot) (n : Option ℕ) → list_all is_margin (margin_text s n) ≡ true
+margin : (s : CodeSpot) (n : Option ℕ) → list_all is_margin (margin_text s n) ≡ true
 margin s n =
     both (right 6 (spot_text s) ++ right 6 (number_text n)) (codes "  ")
     (both (right 6 (spot_text s)) (right 6 (number_text n)) (at_right 6 (spot_text s) (a_spot s)) (at_right 6 (number_text n) (a_number n))) refl

@@ -4,7 +4,7 @@ use Rattle.std.proofs.Common.{inr}
 use Rattle.std.specs.Fmt.{digits}
 use Rattle.blang.specs.declared.code.Definition.{Definition}
 use Rattle.blang.specs.declared.code.Definition.TheVariants as definition
-use Rattle.blist.specs.declared.rows.Spot.TheVariants as spot
+use Rattle.blist.specs.declared.rows.CodeSpot.TheVariants as spot
 use Rattle.blist.specs.Listings.{ListingRow, margin_text, row_text, wanted}
 
 place_and_number : margin_text (spot.Place 7) (Some 3) ≡ codes "     7     3  "

@@ -12,8 +12,8 @@ use Rattle.blang.specs.Layout.{shape_of}
 use Rattle.blang.specs.Machine.{Image}
 use Rattle.blang.specs.Reports.{Reported}
 use Rattle.blist.specs.declared.listing.TheConstants.{HEADING, UNDEFINED}
-use Rattle.blist.specs.declared.rows.Spot.{Spot}
-use Rattle.blist.specs.declared.rows.Spot.TheVariants as spot
+use Rattle.blist.specs.declared.rows.CodeSpot.{CodeSpot}
+use Rattle.blist.specs.declared.rows.CodeSpot.TheVariants as spot
 use Rattle.btools.specs.Characters.{IsPrintable}
 use Rattle.btools.specs.Columns.{right, without_newline}
 use Rattle.btools.specs.Programs.{HasProgram, NoProgram, ToldEnds}
@@ -31,7 +31,7 @@ abbrev pub IsApart : ℕ → List ℕ → Type 0
 IsApart used beside = (beside ≡ []) ⊎ ((rest : List ℕ) × (beside ≡ replicate (max (14 - used) 1) 32 ++ rest))
 
 -- where a line of code lies: nowhere, at a place of its function, or at an address
-abbrev pub spot_text : Spot → List ℕ
+abbrev pub spot_text : CodeSpot → List ℕ
 spot_text spot.Nowhere = []
 spot_text (spot.Place n) = decimal n
 spot_text (spot.Address n) = codes "@" ++ decimal n
@@ -42,7 +42,7 @@ number_text None = []
 number_text (Some n) = decimal n
 
 -- what stands before a line of code: both, each at the right of a column of six, and two blanks
-abbrev pub margin_text : Spot → Option ℕ → List ℕ
+abbrev pub margin_text : CodeSpot → Option ℕ → List ℕ
 margin_text s number = right 6 (spot_text s) ++ right 6 (number_text number) ++ codes "  "
 
 empty_margin : margin_text spot.Nowhere None ≡ replicate 14 32
@@ -51,7 +51,7 @@ empty_margin = refl
 -- A row: where a line of code lies and the number of its line of the source, the line with its newline, and what stands
 -- beside it. A line of code begins with a letter, and a margin has none, so a row shows no other code than its line.
 pub record ListingRow : Type 0 where
-  pub spot : Spot
+  pub spot : CodeSpot
   pub number : Option ℕ
   pub line : List ℕ
   pub beside : List ℕ

@@ -3,6 +3,7 @@ ghost use Rattle.std.specs.Prelude.{◌≡◌, ◌++◌, IfOk, OnOk};
 ghost use Rattle.blang.specs.Layout.{shape_of};
 ghost use Rattle.blist.specs.Excluded.{NoMaps};
 ghost use Rattle.blist.specs.Maps.{Maps, dots, kind_text, map_row, map_text, words_from};
+ghost use Rattle.btools.specs.Programs.{told_ends};
 
 use blang::Definition;
 use blang::status::{self, Status};
@@ -35,12 +36,8 @@ pub fn map<O: ByteOut, D: ByteOut>(
     out: &mut O,
     diag: &mut D,
 ) -> Status
-    ensures maps { Maps edition source.now (record {
-      out = O.outgoing out.old;
-      out_after = O.outgoing out.new;
-      line = D.outgoing diag.old;
-      line_after = D.outgoing diag.new;
-    }) result }
+    ensures maps { Maps edition source.now (told_ends
+        (O.outgoing out.old) (O.outgoing out.new) (D.outgoing diag.old) (D.outgoing diag.new)) result }
     ensures out_lender { O.lender out.new ≡ O.lender out.old }
     ensures diag_lender { D.lender diag.new ≡ D.lender diag.old }
 {

@@ -6,8 +6,9 @@ ghost use Rattle.blang.specs.CodeParts.{function_of, simple_of, vector_of};
 ghost use Rattle.blang.specs.declared.code.Definition.TheVariants as definition;
 ghost use Rattle.blist.specs.Excluded.{NoListings, WrongRows};
 ghost use Rattle.blist.specs.Listings.{Adds, AreRows, Lists, is_wanted, wanted};
+ghost use Rattle.btools.specs.Programs.{told_ends};
 
-use crate::rows::{Named, Spot, Told, push_row};
+use crate::rows::{CodeSpot, Named, RowColumns, push_row};
 use crate::source_lines::SourceLines;
 use bcode::{Page, push_header_line, push_instr_line, push_ival_line, push_number_line};
 use blang::status::{self, Status};
@@ -37,12 +38,8 @@ pub fn list<O: ByteOut, D: ByteOut>(
     out: &mut O,
     diag: &mut D,
 ) -> Status
-    ensures lists { Lists edition source.now (option_map (λ n. n.now) name.entry) (record {
-      out = O.outgoing out.old;
-      out_after = O.outgoing out.new;
-      line = D.outgoing diag.old;
-      line_after = D.outgoing diag.new;
-    }) result }
+    ensures lists { Lists edition source.now (option_map (λ n. n.now) name.entry) (told_ends
+        (O.outgoing out.old) (O.outgoing out.new) (D.outgoing diag.old) (D.outgoing diag.new)) result }
     ensures out_lender { O.lender out.new ≡ O.lender out.old }
     ensures diag_lender { D.lender diag.new ≡ D.lender diag.old }
 {
@@ -221,8 +218,8 @@ fn low_word(number: usize) -> u16 {
 fn push_header(text: &mut Text, page: &Page, address: u16) -> Result<(), AllocError>
     ensures { OnOk result (Adds text.old (page.now ∷ []) text.new) }
 {
-    let told = Told {
-        spot: Spot::Address(address),
+    let told = RowColumns {
+        spot: CodeSpot::Address(address),
         line: None,
         source: b"",
         named: Named::Nothing,
@@ -237,8 +234,8 @@ fn push_targets(text: &mut Text, targets: &[u16], frame: Option<&Frame>) -> Resu
     for (index, target) in targets.iter().enumerate() {
         let mut page = Page::new();
         push_number_line(&mut page, b't', *target);
-        let told = Told {
-            spot: Spot::Nowhere,
+        let told = RowColumns {
+            spot: CodeSpot::Nowhere,
             line: None,
             source: b"",
             named: label_in(frame, index),
@@ -255,8 +252,8 @@ fn push_strings(text: &mut Text, words: &[u16], address: u16) -> Result<(), Allo
     for (index, word) in words.iter().enumerate() {
         let mut page = Page::new();
         push_number_line(&mut page, b'w', *word);
-        let told = Told {
-            spot: Spot::Address(address.wrapping_add(low_word(index))),
+        let told = RowColumns {
+            spot: CodeSpot::Address(address.wrapping_add(low_word(index))),
             line: None,
             source: b"",
             named: Named::Characters(*word),
@@ -278,8 +275,8 @@ fn push_values(
     for (index, value) in values.iter().enumerate() {
         let mut page = Page::new();
         push_ival_line(&mut page, *value);
-        let told = Told {
-            spot: Spot::Address(address.wrapping_add(low_word(index))),
+        let told = RowColumns {
+            spot: CodeSpot::Address(address.wrapping_add(low_word(index))),
             line: lines.get(index).copied(),
             source: b"",
             named: Named::Nothing,
@@ -300,8 +297,8 @@ fn push_code(text: &mut Text, code: &[Instr], told: Sources<'_>) -> Result<(), A
         before = line;
         let mut page = Page::new();
         push_instr_line(&mut page, instr);
-        let told = Told {
-            spot: Spot::Place(low_word(place)),
+        let told = RowColumns {
+            spot: CodeSpot::Place(low_word(place)),
             line,
             source,
             named: named(told.frame, instr),

@@ -16,7 +16,7 @@ const SOURCE_WIDTH: usize = 40;
 
 /// The place or the address of a line of code.
 #[derive(Clone, Copy)]
-pub enum Spot {
+pub enum CodeSpot {
     Nowhere,
     /// At this place of its function.
     Place(u16),
@@ -37,8 +37,8 @@ pub enum Named {
 
 /// The columns beside a line of code.
 #[derive(Clone, Copy)]
-pub struct Told<'a> {
-    pub spot: Spot,
+pub struct RowColumns<'a> {
+    pub spot: CodeSpot,
     /// The line of the source, and its text if the row shows it.
     pub line: Option<u64>,
     pub source: &'a [u8],
@@ -46,7 +46,7 @@ pub struct Told<'a> {
 }
 
 /// Adds the row of the line of code on a page.
-pub fn push_row(text: &mut Text, page: &Page, told: Told<'_>) -> Result<(), AllocError>
+pub fn push_row(text: &mut Text, page: &Page, told: RowColumns<'_>) -> Result<(), AllocError>
     ensures { OnOk result (Adds text.old (page.now ∷ []) text.new) }
 {
     push_spot(text, told.spot)?;
@@ -58,13 +58,13 @@ pub fn push_row(text: &mut Text, page: &Page, told: Told<'_>) -> Result<(), Allo
     text.push(b"\n")
 }
 
-fn push_spot(text: &mut Text, spot: Spot) -> Result<(), AllocError>
+fn push_spot(text: &mut Text, spot: CodeSpot) -> Result<(), AllocError>
     ensures { OnOk result (text.new ≡ text.old ++ right 6 (spot_text spot)) }
 {
     match spot {
-        Spot::Nowhere => text.push_blanks(6),
-        Spot::Place(place) => text.push_right_number(6, u64::from(place)),
-        Spot::Address(address) => push_address(text, address),
+        CodeSpot::Nowhere => text.push_blanks(6),
+        CodeSpot::Place(place) => text.push_right_number(6, u64::from(place)),
+        CodeSpot::Address(address) => push_address(text, address),
     }
 }
 

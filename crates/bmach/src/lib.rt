@@ -30,7 +30,7 @@ pub use addresses::FIRST_ADDRESS;
 use blang::Library;
 pub use blang::{LoadFault, Outcome, Trap};
 pub use image::Image;
-pub use loader::load;
+pub use loader::{load, load_slice};
 pub use machine::{Active, Stop};
 pub use parts::{name_of, size_of};
 pub use resolve::resolving_changes_no_run;

@@ -45,6 +45,29 @@ pub fn load(alloc: Global, definitions: Vec<Definition>) -> Result<Image, LoadFa
     }
 }
 
+/// Loads definitions as `load` does, and leaves them to the caller.
+pub fn load_slice(alloc: Global, definitions: &[Definition]) -> Result<Image, LoadFault>
+    ensures ok { IfOk result (λ image. IsLoadedFrom definitions.now image) }
+    ensures loads { OnOk result (load_fault definitions.now ≡ None) }
+    ensures err { IfErr result (λ f. IsFault f (load_fault definitions.now)) }
+{
+    let addresses = addresses_of(alloc, definitions)?;
+    if !fits(definitions) {
+        return Err(LoadFault::TooLarge);
+    }
+    let main = main_of(definitions);
+    let part = load_each(alloc, &addresses, definitions)?;
+    match main {
+        None => Err(LoadFault::NoMain),
+        Some(main) => Ok(Image {
+            functions: part.functions,
+            main,
+            words: part.words,
+            addresses,
+        }),
+    }
+}
+
 // Whether the store has room for the data, and words for the labels' values.
 fn fits(definitions: &[Definition]) -> bool
     ensures { result ≡ fits_store (map shape_of definitions.now) }
@@ -73,15 +96,41 @@ fn load_all(
         × (first_undefined (known_in addresses.now) (flat_map names_in definitions.items) ≡ None))
         (λ f. IsFault f (undefined_fault (known_in addresses.now) (flat_map names_in definitions.items))) }
 {
-    let mut part = Part {
-        words: Vec::from_slice(alloc, &FIRST_WORDS)?,
-        functions: Vec::new(alloc),
-        first_label: 1,
-    };
+    let mut part = first_part(alloc)?;
+    for definition in definitions {
+        part.add(alloc, addresses, &definition)?;
+    }
+    Ok(part)
+}
+
+// The words up to the data end, and the functions, of definitions that stay.
+fn load_each(
+    alloc: Global,
+    addresses: &Addresses,
+    definitions: &[Definition],
+) -> Result<Part, LoadFault>
+    requires { IsTrue (fits_store (map shape_of definitions.now)) }
+    ensures { MatchResult result
+        (λ part. (part_of part ≡ fold (with_definition (known_in addresses.now)) first_part definitions.now)
+        × (first_undefined (known_in addresses.now) (flat_map names_in definitions.now) ≡ None))
+        (λ f. IsFault f (undefined_fault (known_in addresses.now) (flat_map names_in definitions.now))) }
+{
+    let mut part = first_part(alloc)?;
     for definition in definitions {
         part.add(alloc, addresses, definition)?;
     }
     Ok(part)
+}
+
+// What a program has before its definitions.
+fn first_part(alloc: Global) -> Result<Part, LoadFault>
+    ensures { MatchResult result (λ part. part_of part ≡ first_part) (λ f. f ≡ fault.Memory) }
+{
+    Ok(Part {
+        words: Vec::from_slice(alloc, &FIRST_WORDS)?,
+        functions: Vec::new(alloc),
+        first_label: 1,
+    })
 }
 
 // Which of the functions is the main one.

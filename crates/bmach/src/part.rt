@@ -28,17 +28,17 @@ impl Part {
         &mut self,
         alloc: Global,
         addresses: &Addresses,
-        definition: Definition,
+        definition: &Definition,
     ) -> Result<(), LoadFault>
-        requires words { length self.old.words.items + size_of (shape_of definition) ≤ 65536 }
+        requires words { length self.old.words.items + size_of (shape_of definition.now) ≤ 65536 }
         requires functions { 7 + length self.old.functions.items ≤ length self.old.words.items }
-        requires labels { self.old.first_label + labels_in (shape_of definition).kind ≤ 65536 }
-        ensures { AddsDefinition (known_in addresses.now) self.old definition result self.new }
+        requires labels { self.old.first_label + labels_in (shape_of definition.now).kind ≤ 65536 }
+        ensures { AddsDefinition (known_in addresses.now) self.old definition.now result self.new }
     {
         match definition {
-            Definition::Function(function) => self.add_function(alloc, addresses, &function),
-            Definition::Simple(simple) => self.add_simple(addresses, &simple),
-            Definition::Vector(vector) => self.add_vector(addresses, &vector),
+            Definition::Function(function) => self.add_function(alloc, addresses, function),
+            Definition::Simple(simple) => self.add_simple(addresses, simple),
+            Definition::Vector(vector) => self.add_vector(addresses, vector),
         }
     }
 

@@ -3,7 +3,7 @@ ghost use Rattle.std.specs.Prelude.{◌≡◌, ◌≤◌, length, OnOk};
 ghost use Rattle.std.specs.Map.{keys_of};
 ghost use Rattle.bword.specs.declared.edition.Edition.TheVariants as editions;
 ghost use Rattle.bgrammar.specs.Reading.{first};
-ghost use Rattle.blang.specs.declared.limits.TheConstants.{MAX_INSTRUCTIONS, MAX_VALUES};
+ghost use Rattle.blang.specs.declared.limits.TheConstants.{MAX_INSTRUCTIONS, MAX_NAMES, MAX_VALUES, MAX_WORDS};
 ghost use Rattle.bread.specs.Tokens.{IsReady, IsLoaded};
 ghost use Rattle.bparse.specs.Compilers.{SameCompiler, CompilerGives, compiler_start};
 ghost use Rattle.bparse.specs.Compilers as compilers;
@@ -12,6 +12,7 @@ ghost use Rattle.bparse.specs.Steps.{point, PointGives, GivesNext, is_end, to_be
 use crate::step::Step;
 use crate::view::view;
 use bcode::{write_begin, write_definition, write_end};
+use bemit::NameEntry;
 use blex::Lexeme;
 use bnames::NameTable;
 use bread::{Halt, Parser, Tokens, definition};
@@ -121,6 +122,21 @@ impl<I: ByteIn, O: ByteOut> Compiler<I, O> {
         ensures { length result.now ≤ MAX_VALUES }
     {
         self.parser.draft.value_lines()
+    }
+
+    /// The names of the function that was written last, in the order in which they were first seen; of an external none.
+    /// Each internal name has its label.
+    pub fn local_names(&self) -> &[NameEntry]
+        ensures { length result.now ≤ MAX_NAMES }
+    {
+        self.parser.draft.names()
+    }
+
+    /// How many words the frame of the function that was written last has.
+    pub fn frame_words(&self) -> u16
+        ensures { result ≤ MAX_WORDS }
+    {
+        self.parser.draft.frame()
     }
 
     /// How many tokens come before the current one: the one after the definitions that were written, or the one with

@@ -8,6 +8,7 @@ ghost use Rattle.bparse.specs.Excluded.{Excluded};
 use crate::compiler::Compiler;
 use crate::diagnostic::write_diagnostic;
 use crate::step::Step;
+use crate::watcher::{Unwatched, Watcher};
 use blang::status::{self, Status};
 use bword::{ByteIn, ByteOut, Edition};
 use std::alloc::Global;
@@ -51,7 +52,27 @@ pub fn compile_edition<I: ByteIn, O: ByteOut, D: ByteOut>(
     ensures code_lender { O.lender code.new ≡ O.lender code.old }
     ensures diag_lender { D.lender diag.new ≡ D.lender diag.old }
 {
-    match compile_code(alloc, source, code, edition) {
+    compile_watched(alloc, source, code, diag, &mut Unwatched, edition)
+}
+
+/// Compiles a source as `compile_edition` does, and lets the watcher look at the compiler after each definition.
+pub fn compile_watched<I: ByteIn, O: ByteOut, D: ByteOut, W: Watcher>(
+    alloc: Global,
+    source: &mut I,
+    code: &mut O,
+    diag: &mut D,
+    watcher: &mut W,
+    edition: Edition,
+) -> Status
+    ensures compiles { Compiles (run_of edition (I.incoming source.old) (I.incoming source.new)
+        (O.outgoing code.old) (O.outgoing code.new) (D.outgoing diag.old) (D.outgoing diag.new) result) }
+    ensures headline { CompileHeadline (run_of edition (I.incoming source.old) (I.incoming source.new)
+        (O.outgoing code.old) (O.outgoing code.new) (D.outgoing diag.old) (D.outgoing diag.new) result) }
+    ensures source_lender { I.lender source.new ≡ I.lender source.old }
+    ensures code_lender { O.lender code.new ≡ O.lender code.old }
+    ensures diag_lender { D.lender diag.new ≡ D.lender diag.old }
+{
+    match compile_code(alloc, source, code, watcher, edition) {
         Step::Finished => status::DONE,
         Step::Fault(fault) => match write_diagnostic(&fault, diag) {
             Ok(()) => status::FAULT,
@@ -66,10 +87,11 @@ pub fn compile_edition<I: ByteIn, O: ByteOut, D: ByteOut>(
 // Compiles all definitions from one end to the other, and gives the last answer. The compiler is large, and a caller
 // that had it inlined would keep its room in each frame.
 #[inline(never)]
-fn compile_code<I: ByteIn, O: ByteOut>(
+fn compile_code<I: ByteIn, O: ByteOut, W: Watcher>(
     alloc: Global,
     source: &mut I,
     code: &mut O,
+    watcher: &mut W,
     edition: Edition,
 ) -> Step
     ensures gives { CodeGives edition (I.incoming source.old) (O.outgoing code.old) result
@@ -78,7 +100,7 @@ fn compile_code<I: ByteIn, O: ByteOut>(
     ensures code_lender { O.lender code.new ≡ O.lender code.old }
 {
     let mut compiler = Compiler::with_edition(alloc, source, code, edition);
-    let last = compile_all(&mut compiler);
+    let last = compile_all(&mut compiler, watcher);
     let (source, code) = compiler.into_ends();
     let _ = source;
     let _ = code;
@@ -86,12 +108,17 @@ fn compile_code<I: ByteIn, O: ByteOut>(
 }
 
 // Compiles definitions until there is none, or one can't be written.
-fn compile_all<I: ByteIn, O: ByteOut>(compiler: &mut Compiler<I, O>) -> Step
+fn compile_all<I: ByteIn, O: ByteOut, W: Watcher>(
+    compiler: &mut Compiler<I, O>,
+    watcher: &mut W,
+) -> Step
     requires { compiler.old.is_closed ≡ false }
     ensures { LastGives compiler.old result compiler.new }
 {
     'definitions: loop {
-        match compiler.next_definition() {
+        let step = compiler.next_definition();
+        watcher.watch(compiler, &step);
+        match step {
             Step::Written => {}
             last => return last,
         }

@@ -6,8 +6,11 @@ mod compiling;
 mod diagnostic;
 mod step;
 mod view;
+mod watcher;
 
+pub use bemit::{EntryKind, NameEntry};
 pub use blang::status::{self, Status};
 pub use compiler::Compiler;
-pub use compiling::{compile, compile_edition, wrong_compilings_are_excluded};
+pub use compiling::{compile, compile_edition, compile_watched, wrong_compilings_are_excluded};
 pub use step::Step;
+pub use watcher::{Unwatched, Watcher};

@@ -8,7 +8,6 @@ use Rattle.blang.specs.declared.code.Definition.{Definition}
 use Rattle.bcode.specs.Faults.{IsFaultOf}
 use Rattle.bcode.specs.declared.fault.CodeFault.{CodeFault}
 use Rattle.bcode.specs.declared.fault.CodeFault.TheVariants as code_fault
-use Rattle.bcode.proofs.FaultLaws.{unique_code}
 use Rattle.blang.specs.Layout.{load_fault}
 use Rattle.bmach.specs.Loading.{IsFault}
 use Rattle.blang.specs.Machine.{Image}
@@ -71,11 +70,3 @@ module _ (edition : Edition) (source : List ℕ) (line : Outgoing) where
     loaded = gives.2;
   }
   loaded mid line_after code (Err status) h gives = no_program mid line_after code status h gives
-
--- a program that is loaded, whose definitions were read once more
-pub with_image : (code : List ℕ) (ds : List Definition) (image : Image) (line : Outgoing) (r : Result Program ℕ) → IsCodeText code ds → load_fault ds ≡ None → IsLoadedFrom ds image
-    → MatchResult r (λ p. IsCodeText code p.definitions.items × (p.image ≡ image)) (IsUnread code) → LoadGives code line r line
-with_image code ds image line (Ok p) is loads loaded h =
-    let same = unique_code code ds p.definitions.items is h.0 in
-    (h.0, subst (λ (x : List Definition). load_fault x ≡ None) same loads, subst (λ (x : Image). IsLoadedFrom p.definitions.items x) (sym h.1) (subst (λ (x : List Definition). IsLoadedFrom x image) same loaded), refl)
-with_image code ds image line (Err status) is loads loaded h = not_read h refl

@@ -34,6 +34,11 @@ pub record ToldEnds : Type 0 where
   pub line : Outgoing
   pub line_after : Outgoing
 
+-- the same, in order
+abbrev pub told_ends : (out out_after line line_after : Outgoing) → ToldEnds
+told_ends out out_after line line_after =
+    record { out = out; out_after = out_after; line = line; line_after = line_after }
+
 -- The source was compiled between these ends of lines, to this code and with this status.
 pub record WasCompiled (edition : Edition) (source : List ℕ) (line line_after : Outgoing) (code : List ℕ) (status : ℕ)
     : Type 0 where

@@ -1,19 +1,18 @@
 //! A source that is compiled and loaded, with what is told of it.
-ghost use Rattle.std.specs.Prelude.{◌≡◌, MatchResult, option_map};
+ghost use Rattle.std.specs.Prelude.{◌≡◌, ℕ, List, MatchResult, option_map};
 ghost use Rattle.blang.specs.Text.{IsCodeText};
 ghost use Rattle.btools.specs.Programs.{IsThisProgram, IsUnread, LoadGives, NoProgram, TellsFault, load_line, unread_status};
 ghost use Rattle.btools.specs.Excluded.{WrongPrograms};
 
-use crate::frames::{Frame, frames_of};
-use crate::sink::Sink;
+use crate::names::{NameKeeper, Names};
 use crate::telling::tell;
 use bcode::{CodeFault, read_code};
 use blang::status::{self, Status};
 use blang::{Definition, LoadFault};
-use bmach::{Image, load};
-use bparse::{Compiler, Step, compile_edition};
+use bmach::{Image, load_slice};
+use bparse::compile_watched;
 use bword::{ByteOut, Edition, MemIn, MemOut};
-use std::alloc::{AllocError, Global};
+use std::alloc::Global;
 
 /// A program, as it was compiled and as it was loaded.
 #[derive(Drop)]
@@ -21,15 +20,6 @@ pub struct Program {
     pub definitions: Vec<Definition>,
     pub image: Image,
     pub names: Names,
-}
-
-/// The names and lines beside the code of a program.
-#[derive(Drop)]
-pub struct Names {
-    /// The names of each function, in order.
-    pub frames: Vec<Frame>,
-    /// The line of the source of each instruction and each initial value, in the order of the definitions.
-    pub lines: Vec<u64>,
 }
 
 /// How many of the lines of a program's names are those of a definition: one for each instruction or initial value.
@@ -54,79 +44,36 @@ pub fn read_program<D: ByteOut>(
     ensures same { D.lender diag.new ≡ D.lender diag.old }
 {
     let mut code = MemOut::new(alloc);
-    let status = compile_edition(alloc, &mut MemIn::new(source), &mut code, diag, edition);
+    let mut keeper = NameKeeper::new(alloc);
+    let mut input = MemIn::new(source);
+    let status = compile_watched(alloc, &mut input, &mut code, diag, &mut keeper, edition);
     if status != status::DONE {
         return Err(status);
     }
-    load_program(alloc, source, edition, code.bytes(), diag)
+    load_program(alloc, code, keeper, diag)
 }
 
-// Loads the program of a code text.
+// Loads the program of a code text, with the names that were kept.
 fn load_program<D: ByteOut>(
     alloc: Global,
-    source: &[u8],
-    edition: Edition,
-    code: &[u8],
+    code: MemOut,
+    keeper: NameKeeper,
     diag: &mut D,
 ) -> Result<Program, Status>
-    ensures gives { LoadGives code.now (D.outgoing diag.old) result (D.outgoing diag.new) }
+    ensures gives { LoadGives code.bytes (D.outgoing diag.old) result (D.outgoing diag.new) }
     ensures same { D.lender diag.new ≡ D.lender diag.old }
 {
     match read(alloc, code) {
-        Ok(definitions) => load_definitions(alloc, source, edition, code, definitions, diag),
+        Ok(definitions) => load_definitions(alloc, definitions, keeper, diag),
         Err(status) => Err(status),
     }
 }
 
-// Loads the definitions of a code text.
-fn load_definitions<D: ByteOut>(
-    alloc: Global,
-    source: &[u8],
-    edition: Edition,
-    code: &[u8],
-    definitions: Vec<Definition>,
-    diag: &mut D,
-) -> Result<Program, Status>
-    requires { IsCodeText code.now definitions.items }
-    ensures gives { LoadGives code.now (D.outgoing diag.old) result (D.outgoing diag.new) }
-    ensures same { D.lender diag.new ≡ D.lender diag.old }
+// The definitions of a code text, which goes as they are read.
+fn read(alloc: Global, code: MemOut) -> Result<Vec<Definition>, Status>
+    ensures { MatchResult result (λ v. IsCodeText code.bytes v.items) (IsUnread code.bytes) }
 {
-    match load(alloc, definitions) {
-        Ok(image) => with_definitions(alloc, source, edition, code, image),
-        Err(fault) => Err(refuse(&fault, diag)),
-    }
-}
-
-// The program of an image, whose definitions were let go as they were loaded.
-fn with_definitions(
-    alloc: Global,
-    source: &[u8],
-    edition: Edition,
-    code: &[u8],
-    image: Image,
-) -> Result<Program, Status>
-    ensures { MatchResult result
-        (λ p. IsCodeText code.now p.definitions.items × (p.image ≡ image)) (IsUnread code.now) }
-{
-    let definitions = match read(alloc, code) {
-        Ok(definitions) => definitions,
-        Err(status) => return Err(status),
-    };
-    match names_of(alloc, source, edition) {
-        Ok(names) => Ok(Program {
-            definitions,
-            image,
-            names,
-        }),
-        Err(_) => Err(status::MEMORY),
-    }
-}
-
-// The definitions of a code text.
-fn read(alloc: Global, code: &[u8]) -> Result<Vec<Definition>, Status>
-    ensures { MatchResult result (λ v. IsCodeText code.now v.items) (IsUnread code.now) }
-{
-    match read_code(alloc, code) {
+    match read_code(alloc, code.bytes()) {
         Ok(definitions) => Ok(definitions),
         Err(fault) => Err(unread(fault)),
     }
@@ -138,6 +85,30 @@ fn unread(fault: CodeFault) -> Status
     match fault {
         CodeFault::Line(_) => status::REFUSED,
         CodeFault::Memory => status::MEMORY,
+    }
+}
+
+// Loads definitions, with the names that were kept of their source.
+fn load_definitions<D: ByteOut>(
+    alloc: Global,
+    definitions: Vec<Definition>,
+    keeper: NameKeeper,
+    diag: &mut D,
+) -> Result<Program, Status>
+    ensures gives { (code : List ℕ) → IsCodeText code definitions.items
+        → LoadGives code (D.outgoing diag.old) result (D.outgoing diag.new) }
+    ensures same { D.lender diag.new ≡ D.lender diag.old }
+{
+    match load_slice(alloc, &definitions) {
+        Ok(image) => match keeper.into_names() {
+            Some(names) => Ok(Program {
+                definitions,
+                image,
+                names,
+            }),
+            None => Err(status::MEMORY),
+        },
+        Err(fault) => Err(refuse(&fault, diag)),
     }
 }
 
@@ -163,32 +134,6 @@ pub fn load_line(fault: &LoadFault) -> Option<&'static [u8]>
         LoadFault::NoMain => Some(b"load 4\n"),
         LoadFault::Memory => None,
     }
-}
-
-// What the source of a program tells beside its code.
-fn names_of(alloc: Global, source: &[u8], edition: Edition) -> Result<Names, AllocError> {
-    let frames = frames_of(alloc, source, edition)?;
-    let lines = lines_of(alloc, source, edition)?;
-    Ok(Names { frames, lines })
-}
-
-// The lines of a source that compiles. A compiler is large, so it has a frame of its own.
-#[inline(never)]
-fn lines_of(alloc: Global, source: &[u8], edition: Edition) -> Result<Vec<u64>, AllocError> {
-    let mut compiler = Compiler::with_edition(alloc, MemIn::new(source), Sink, edition);
-    let mut lines = Vec::new(alloc);
-    // A definition has a byte at least.
-    for _ in 0..source.len() {
-        match compiler.next_definition() {
-            Step::Written => {
-                lines.extend_from_slice(compiler.lines())?;
-                lines.extend_from_slice(compiler.value_lines())?;
-            }
-            Step::Memory => return Err(AllocError),
-            _ => break,
-        }
-    }
-    Ok(lines)
 }
 
 /// No source gives another program than that of its definitions, or another status or line if it has none.

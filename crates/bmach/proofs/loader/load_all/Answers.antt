@@ -1,4 +1,4 @@
-use Rattle.std.proofs.Common.{◌≡◌, ◌≤◌, ◌+◌, List, [], ◌∷◌, ◌++◌, map, length, true, sym, ap, ◌∙◌, subst, arith}
+use Rattle.std.proofs.Common.{◌≡◌, ◌≤◌, ◌+◌, ℕ, Option, None, List, [], ◌∷◌, ◌++◌, map, length, true, sym, ap, ◌∙◌, subst, arith}
 use Rattle.std.specs.Prelude.{flat_map, fold}
 use Rattle.std.proofs.lemmas.List.{length-map, map-append, append-nil, append_assoc, nil_from_length}
 use Rattle.std.proofs.lemmas.List.Sums.{fold-append}
@@ -7,6 +7,7 @@ use Rattle.blang.specs.declared.code.Definition.{Definition}
 use Rattle.blang.specs.Layout.{data_end, label_count, labels_in, names_in, shape_of, size_of, first_undefined}
 use Rattle.bmach.specs.Loading.{Part, IsFault, first_part, fits_store, known_in, undefined_fault, with_definition}
 use Rattle.bmach.specs.Images.{loaded_of}
+use Rattle.bmach.specs.Parts.{part_of}
 use Rattle.bmach.proofs.Fitting.{one_more_fits}
 use Rattle.bmach.proofs.Undefined.{defined_after, undefined_after}
 use Rattle.bmach.proofs.Whole.{loaded_all, length-words, length-functions, functions_within}
@@ -21,19 +22,36 @@ room before d left rest ds is all h = one_more_fits (map shape_of before) (shape
     (sym (ap fits_store (map-append shape_of before (d ∷ rest)))
     ∙ ap (λ es. fits_store (map shape_of (before ++ es))) (sym is) ∙ ap (λ es. fits_store (map shape_of es)) all ∙ h)
 
+-- One definition more was loaded.
+one_more : (known : List ℕ → Option ℕ) (before : List Definition) (d : Definition) (left rest ds : List Definition) (old new : Part)
+    → old ≡ fold (with_definition known) first_part before → first_undefined known (flat_map names_in before) ≡ None
+    → new ≡ with_definition known old d → first_undefined known (names_in d) ≡ None → left ≡ d ∷ rest → before ++ left ≡ ds
+    → (new ≡ fold (with_definition known) first_part (before ++ d ∷ []))
+    × (first_undefined known (flat_map names_in (before ++ d ∷ [])) ≡ None)
+    × ((before ++ d ∷ []) ++ rest ≡ ds)
+one_more known before d left rest ds old new is none more d_none split all = (
+  more ∙ ap (λ p. with_definition known p d) is ∙ sym (fold-append (with_definition known) first_part before (d ∷ [])),
+  defined_after known names_in before d none d_none,
+  append_assoc before (d ∷ []) rest ∙ ap (λ es. before ++ es) (sym split) ∙ all,
+)
+
+pub loop-definition-preserved-in_ok-add : goal.loop-definition-preserved-in_ok-add
+loop-definition-preserved-in_ok-add c =
+    let i = c.loop-definition.invariant in
+    let m = one_more (known_in c.args.addresses.now) c.loop-definition.yielded c.in-Some.definition c.loop-definition.definition-iterator.rest.items c.next.new.self.rest.items c.args.definitions.items (part_of c.loop-definition.part) (part_of c.add.new.self) i.part i.defined c.in_ok-add.ensures.0 c.in_ok-add.ensures.1 c.in-Some.ensures.steps.0 i.all in
+    record { part = m.0; defined = m.1; all = m.2 }
+
+pub loop-definition-preserved-in_ok-add-2 : goal.loop-definition-preserved-in_ok-add-2
+loop-definition-preserved-in_ok-add-2 c =
+    let i = c.loop-definition.invariant in
+    let m = one_more (known_in c.args.addresses.now) c.loop-definition.yielded c.in-Some.definition c.loop-definition.definition-iterator.rest.items c.next.new.self.rest.items c.args.definitions.items (part_of c.loop-definition.part) (part_of c.add.new.self) i.part i.defined c.in_ok-add.ensures.0 c.in_ok-add.ensures.1 c.in-Some.ensures.steps.0 i.all in
+    record { part = m.0; defined = m.1; all = m.2 }
+
 pub loop-definition-preserved : goal.loop-definition-preserved
 loop-definition-preserved c =
-    let known = known_in c.args.addresses.now in
-    let before = c.loop-definition.yielded in
-    let d = c.in-Some.definition in
-    record {
-      part = c.in_ok-add.ensures.0
-          ∙ ap (λ p. with_definition known p d) c.loop-definition.invariant.part
-          ∙ sym (fold-append (with_definition known) first_part before (d ∷ []));
-      defined = defined_after known names_in before d c.loop-definition.invariant.defined c.in_ok-add.ensures.1;
-      all = append_assoc before (d ∷ []) c.next.new.self.rest.items
-          ∙ ap (λ es. before ++ es) (sym c.in-Some.ensures.steps.0) ∙ c.loop-definition.invariant.all;
-    }
+    let i = c.loop-definition.invariant in
+    let m = one_more (known_in c.args.addresses.now) c.loop-definition.yielded c.in-Some.definition c.loop-definition.definition-iterator.rest.items c.next.new.self.rest.items c.args.definitions.items (part_of c.loop-definition.part) (part_of c.add.new.self) i.part i.defined c.in_ok-add.ensures.0 c.in_ok-add.ensures.1 c.in-Some.ensures.steps.0 i.all in
+    record { part = m.0; defined = m.1; all = m.2 }
 
 pub add-requires-clause-words : goal.add-requires-clause-words
 add-requires-clause-words c =

@@ -1,4 +1,6 @@
+use Rattle.std.proofs.Common.{subst}
 use Rattle.bread.specs.Tokens.{work}
+use Rattle.bparse.specs.Compilers.{CompilerGives}
 use Rattle.bparse.proofs.CompileSteps.{keeps_none, keeps_more, written_last}
 use Rattle.bparse.proofs.compiling.compile_all.Goals as goal
 
@@ -6,7 +8,11 @@ pub definitions-init : goal.definitions-init
 definitions-init g c = (keeps_none c.args.compiler.now, c.requires)
 
 pub definitions-preserved : goal.definitions-preserved
-definitions-preserved g c = (keeps_more c.definitions.invariant.0 c.next_definition.ensures.keeps, (written_last c.in-Written.ensures.gives).now.is_open)
+definitions-preserved g c =
+    let gives = subst (λ s. CompilerGives c.definitions.compiler s c.next_definition-step.new.self) c.in-Written.is c.next_definition-step.ensures.gives in
+    (keeps_more c.definitions.invariant.0 c.next_definition-step.ensures.keeps, (written_last gives).now.is_open)
 
 pub definitions-smaller : goal.definitions-smaller
-definitions-smaller g c = (written_last c.in-Written.ensures.gives).falls
+definitions-smaller g c =
+    let gives = subst (λ s. CompilerGives c.definitions.compiler s c.next_definition-step.new.self) c.in-Written.is c.next_definition-step.ensures.gives in
+    (written_last gives).falls

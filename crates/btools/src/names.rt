@@ -1,0 +1,142 @@
+//! The names and lines beside the code of a program, as the compiler tells them.
+use bparse::{Compiler, EntryKind, NameEntry, Step, Watcher};
+use bword::{ByteIn, ByteOut, Name};
+use std::alloc::{AllocError, Global};
+
+/// A word of a frame that has a name.
+#[derive(Clone, Copy)]
+pub struct FrameWord {
+    pub name: Name,
+    /// Which word of the frame it is.
+    pub offset: u32,
+    /// Whether it is the own word of a vector, whose words follow.
+    pub is_vector: bool,
+}
+
+/// The names of a function.
+#[derive(Drop)]
+pub struct Frame {
+    /// Its parameters and automatics, in order.
+    pub words: Vec<FrameWord>,
+    /// Its labels, in order.
+    pub labels: Vec<Name>,
+}
+
+impl Frame {
+    /// The name of a word, and whether it is the first word of a vector of this name.
+    pub fn word(&self, offset: u32) -> Option<(Name, bool)> {
+        for word in self.words.as_slice() {
+            if word.offset == offset {
+                return Some((word.name, false));
+            }
+            if word.is_vector && word.offset.saturating_add(1) == offset {
+                return Some((word.name, true));
+            }
+        }
+        None
+    }
+}
+
+/// The names and lines beside the code of a program.
+#[derive(Drop)]
+pub struct Names {
+    /// The names of each function, in order.
+    pub frames: Vec<Frame>,
+    /// The line of the source of each instruction and each initial value, in the order of the definitions.
+    pub lines: Vec<u64>,
+}
+
+impl Names {
+    // Adds what the compiler tells of the definition that it wrote last.
+    fn add<I: ByteIn, O: ByteOut>(
+        &mut self,
+        alloc: Global,
+        compiler: &Compiler<I, O>,
+    ) -> Result<(), AllocError> {
+        self.lines.extend_from_slice(compiler.lines())?;
+        self.lines.extend_from_slice(compiler.value_lines())?;
+        // A function alone has instructions.
+        if compiler.lines().is_empty() {
+            return Ok(());
+        }
+        let names = compiler.local_names();
+        self.frames.push(Frame {
+            words: words_of(alloc, names, u32::from(compiler.frame_words()))?,
+            labels: labels_of(alloc, names)?,
+        })?;
+        Ok(())
+    }
+}
+
+/// A watcher that keeps the names and lines of all definitions.
+#[derive(Drop)]
+pub(crate) struct NameKeeper {
+    alloc: Global,
+    names: Names,
+    is_refused: bool,
+}
+
+impl NameKeeper {
+    pub(crate) fn new(alloc: Global) -> Self {
+        NameKeeper {
+            alloc,
+            names: Names {
+                frames: Vec::new(alloc),
+                lines: Vec::new(alloc),
+            },
+            is_refused: false,
+        }
+    }
+
+    /// What was kept, unless memory ran out.
+    pub(crate) fn into_names(self) -> Option<Names> {
+        if self.is_refused {
+            None
+        } else {
+            Some(self.names)
+        }
+    }
+}
+
+impl Watcher for NameKeeper {
+    fn watch<I: ByteIn, O: ByteOut>(&mut self, compiler: &Compiler<I, O>, step: &Step) {
+        if let Step::Written = step {
+            self.is_refused = self.is_refused || self.names.add(self.alloc, compiler).is_err();
+        }
+    }
+}
+
+// The words of a frame of this size that have a name. The word after a vector's own is the vector's, and has none.
+fn words_of(alloc: Global, names: &[NameEntry], size: u32) -> Result<Vec<FrameWord>, AllocError> {
+    let mut words = Vec::new(alloc);
+    let mut end = size;
+    for entry in names.iter().rev() {
+        if let EntryKind::Automatic(offset) = entry.kind() {
+            words.push(FrameWord {
+                name: entry.name(),
+                offset,
+                is_vector: offset.saturating_add(1) < end,
+            })?;
+            end = offset;
+        }
+    }
+    words.reverse();
+    Ok(words)
+}
+
+// The labels, by their numbers.
+fn labels_of(alloc: Global, names: &[NameEntry]) -> Result<Vec<Name>, AllocError> {
+    let mut labels = Vec::new(alloc);
+    for entry in names {
+        if let EntryKind::Label(number) = entry.kind() {
+            let place = usize::from(number);
+            if labels.len() <= place {
+                labels.resize(place + 1, entry.name())?;
+            }
+            if let Some(label) = labels.get_mut(place) {
+                *label = entry.name();
+            }
+        }
+    }
+    Ok(labels)
+}
