@@ -2,5 +2,7 @@
 #![tactic(auto)]
 
 mod files;
+mod joined_in;
 
 pub use files::{FileLine, SourceFile, SourceFiles};
+pub use joined_in::JoinedIn;
