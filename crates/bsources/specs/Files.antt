@@ -53,6 +53,22 @@ beyond_first_among file (next ∷ rest) line =
 abbrev pub beyond_first : Files → ℕ → Option Line
 beyond_first files line = beyond_first_among files.first files.rest line
 
+-- a file with its bytes
+pub record NamedText : Type 0 where
+  pub name : List ℕ
+  pub text : List ℕ
+
+abbrev pub file_in : NamedText → File
+file_in it = file_of it.name it.text
+
+-- the files that follow the first one, and their bytes
+pub record Followed : Type 0 where
+  pub text : List ℕ
+  pub files : List File
+
+abbrev pub followed : List NamedText → Followed
+followed texts = record { text = following (map (λ it. it.text) texts); files = map file_in texts }
+
 -- what the types of the code are of these
 abbrev pub file_shown : SourceFile → File
 file_shown file = record { name = file.name.now; lines = file.lines }

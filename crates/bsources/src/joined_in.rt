@@ -12,7 +12,7 @@ use std::marker::Model;
 /// A call fails where one of the other stream does. It gives no more bytes than a `u64` can count; a further call
 /// fails. After the end no call fails.
 #[derive(Drop)]
-pub struct JoinedIn<'a, I: ByteIn + Drop> {
+pub struct JoinedIn<'a, I: ByteIn> {
     first: I,
     rest: &'a [u8],
     is_past_first: bool,
@@ -21,7 +21,7 @@ pub struct JoinedIn<'a, I: ByteIn + Drop> {
     refused: u64,
 }
 
-impl<'a, I: ByteIn + Drop> Model for JoinedIn<'a, I> {
+impl<'a, I: ByteIn> Model for JoinedIn<'a, I> {
     ghost use Rattle.std.specs.Prelude.{◌≡◌, [], true};
     ghost use Rattle.std.specs.Io.KnownBytes.{IsAtEnd};
     ghost use Rattle.bword.specs.ByteEnds.{Incoming};
@@ -44,7 +44,7 @@ impl<'a, I: ByteIn + Drop> Model for JoinedIn<'a, I> {
         × (j.is_over ≡ true → (j.is_past_first ≡ true) × (j.rest.now ≡ [])) };
 }
 
-impl<'a, I: ByteIn + Drop> JoinedIn<'a, I> {
+impl<'a, I: ByteIn> JoinedIn<'a, I> {
     /// A stream that gives the bytes of this one, and then these.
     pub fn new(first: I, rest: &'a [u8]) -> Self
         ensures { result ≡ record { first = I.incoming first; ready = I.ready first; lender = I.lender first; rest = rest.now; is_past_first = false; is_over = false; given = 0; refused = 0 } }
@@ -75,7 +75,7 @@ impl<'a, I: ByteIn + Drop> JoinedIn<'a, I> {
     }
 }
 
-impl<I: ByteIn + Drop> ByteIn for JoinedIn<'_, I> {
+impl<I: ByteIn> ByteIn for JoinedIn<'_, I> {
     ghost incoming = { joined_in };
 
     ghost lender = { λ j. j.lender };

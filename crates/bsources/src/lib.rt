@@ -2,7 +2,9 @@
 #![tactic(auto)]
 
 mod files;
+mod following;
 mod joined_in;
 
 pub use files::{FileLine, SourceFile, SourceFiles};
+pub use following::Following;
 pub use joined_in::JoinedIn;
