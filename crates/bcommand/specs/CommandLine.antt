@@ -1,16 +1,16 @@
 -- Promise: the command line, and what its words ask for. How words are cut into options, and which have a fault, are
 -- definitions of `clap`, which reads them.
 use Rattle.std.specs.Prelude.{ℕ, ◌==◌, ◌&&◌, ◌^◌, Bool, true, false, List, [], length, codes, nat_lt}
-use Rattle.std.specs.Prelude.{Option, Some, None, if◌then◌else◌, option_and_then, option_map, unwrap_or}
+use Rattle.std.specs.Prelude.{Option, Some, None, if◌then◌else◌, map as map_each, option_and_then, option_map, unwrap_or}
 use Rattle.std.specs.Char.{digit_value}
 use Rattle.std.specs.List.{list_all}
 use Rattle.std.specs.Option.{option_map_or}
 use Rattle.std.specs.Str.{bytes_eq}
 use Rattle.std.specs.Str.Parse.{digits_value, without_leading_plus}
-use Rattle.clap.specs.Words.{App, Row, Rule, Text, first_of, one_of}
+use Rattle.clap.specs.Words.{App, Row, Rule, Text, all_of, first_of, one_of}
 use Rattle.clap.specs.Words.{new_app, new_rule, with_rule, with_subcommand}
 use Rattle.clap.specs.Simple.{on_top}
-use Rattle.clap.specs.declared.builder.action.ArgAction.TheVariants.{Set, SetTrue}
+use Rattle.clap.specs.declared.builder.action.ArgAction.TheVariants.{Append, Set, SetTrue}
 use Rattle.clap.specs.declared.builder.value_parser.ValueParser.TheVariants as parser
 use Rattle.bword.specs.declared.edition.Edition.{Edition}
 use Rattle.bword.specs.declared.edition.Edition.TheVariants as editions
@@ -34,9 +34,13 @@ number_rule name most = record (new_rule name) {
   parser = Some (parser.Unsigned 1 most);
 }
 
--- an option whose value is a name
-abbrev pub named_rule : Text → Rule
-named_rule name = record (new_rule name) { long = Some name; action = Some Set; value_names = 1 }
+-- an option whose value is a text
+abbrev pub text_rule : Text → Rule
+text_rule name = record (new_rule name) { long = Some name; action = Some Set; value_names = 1 }
+
+-- the same, which may be given often
+abbrev pub repeated_rule : Text → Rule
+repeated_rule name = record (new_rule name) { long = Some name; action = Some Append; value_names = 1 }
 
 -- an argument without an option, and whether it has to be there
 abbrev pub argument_rule : Text → Bool → Rule
@@ -64,7 +68,10 @@ abbrev pub svg_rule : Rule
 svg_rule = flag_rule (codes "svg")
 
 abbrev pub function_rule : Rule
-function_rule = named_rule (codes "function")
+function_rule = text_rule (codes "function")
+
+abbrev pub with_lib_rule : Rule
+with_lib_rule = repeated_rule (codes "with")
 
 abbrev pub file_rule : Rule
 file_rule = argument_rule (codes "FILE") true
@@ -77,20 +84,21 @@ abbrev pub with_run_options : App → App
 with_run_options command = with_rule (with_rule (with_rule command steps_rule) no_limit_rule) file_rule
 
 abbrev pub compile_command : App
-compile_command = with_rule (new_app (codes "compile")) edition_rule
+compile_command = with_rule (with_rule (new_app (codes "compile")) edition_rule) with_lib_rule
 
 abbrev pub run_command : App
 run_command = with_run_options (new_app (codes "run"))
 
 abbrev pub go_command : App
-go_command = with_rule (with_run_options (with_rule (new_app (codes "go")) edition_rule)) where_rule
+go_command =
+    with_rule (with_rule (with_run_options (with_rule (new_app (codes "go")) edition_rule)) where_rule) with_lib_rule
 
 abbrev pub migrate_command : App
 migrate_command = new_app (codes "migrate")
 
 -- a command that tells of a source
 abbrev pub telling : App → App
-telling command = with_rule (with_rule command edition_rule) file_rule
+telling command = with_rule (with_rule (with_rule command edition_rule) file_rule) with_lib_rule
 
 abbrev pub list_command : App
 list_command = with_rule (telling (new_app (codes "list"))) name_rule
@@ -159,19 +167,24 @@ from_in rows = unwrap_or (option_number (codes "from") rows) 1
 abbrev pub file_in : List Row → Text
 file_in rows = unwrap_or (first_of (codes "FILE") rows) []
 
+-- the files that come after the first one
+abbrev pub libs_in : List Row → List Text
+libs_in rows = unwrap_or (all_of (codes "with") rows) []
+
 abbrev pub name_in : List Row → Option Text
 name_in rows = first_of (codes "NAME") rows
 
 abbrev pub function_in : List Row → Option Text
 function_in rows = first_of (codes "function") rows
 
--- a source: the name of its file, and its edition
+-- a source: the name of its file, those of the files that come after it, and its edition
 pub record Source : Type 0 where
   pub file : Text
+  pub libs : List Text
   pub edition : Edition
 
 abbrev pub source_in : List Row → Source
-source_in rows = record { file = file_in rows; edition = edition_in rows }
+source_in rows = record { file = file_in rows; libs = libs_in rows; edition = edition_in rows }
 
 -- What is asked of a source: its code, or that of its definitions of a name; its layout; a picture of its memory, after
 -- so many steps if there is a number; its faults, for an editor or for people; the steps of its program among so many,
@@ -184,11 +197,11 @@ pub data Question : Type 0 where
   trace : (steps from : ℕ) (function : Option Text) → Question
   locate : (steps : ℕ) → Question
 
--- What is asked for: that a source is compiled, that the code text in a file is run for so many steps, that a source is
+-- What is asked for: that a source is compiled, with the files that come after it, that the code text in a file is run for so many steps, that a source is
 -- compiled and run for so many, that a code text is migrated, something of a source; or a limit of steps and none,
 -- which contradict each other.
 pub data Asked : Type 0 where
-  compile : (edition : Edition) → Asked
+  compile : (edition : Edition) (libs : List Text) → Asked
   run : (file : Text) (steps : ℕ) → Asked
   go : Source → (steps : ℕ) → Asked
   migrate : Asked
@@ -225,14 +238,15 @@ asked_by name rows = if bytes_eq name (codes "run") then run_asked (file_in rows
     then ask (source_in rows) (map_asked (is_set_in (codes "svg") rows) (option_number (codes "steps") rows))
     else (if bytes_eq name (codes "check") then ask (source_in rows) (check (is_set_in (codes "json") rows))
     else (if bytes_eq name (codes "trace") then ask (source_in rows) (walk_in rows)
-    else compile (edition_in rows)))))))
+    else compile (edition_in rows) (libs_in rows)))))))
 
 abbrev pub asked : Option (Text × List Row) → Asked
-asked None = compile editions.One
+asked None = compile editions.One []
 asked (Some command) = asked_by command.0 command.1
 
 abbrev pub source_shown : Given → Source
-source_shown source = record { file = source.file.now; edition = source.edition }
+source_shown source =
+    record { file = source.file.now; libs = map_each (λ lib. lib.now) source.libs.now; edition = source.edition }
 
 abbrev pub walk_shown : Walk → Question
 walk_shown walk = trace walk.steps walk.from (option_map (λ n. n.now) walk.function)
@@ -248,7 +262,7 @@ question_of (questioned.Locate steps) = locate steps
 
 -- what a job is of what can be asked for
 abbrev pub asked_of : Job → Asked
-asked_of (job.Compile edition) = compile edition
+asked_of (job.Compile edition libs) = compile edition (map_each (λ lib. lib.now) libs.now)
 asked_of (job.Run file steps) = run file.now steps
 asked_of (job.Go source steps) = go (source_shown source) steps
 asked_of job.Migrate = migrate

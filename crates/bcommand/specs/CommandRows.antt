@@ -21,17 +21,21 @@ Asks words what = (fault_of command_line words ≡ []) × (asked (subcommand_of 
 
 -- the source in the file x
 abbrev x : Edition → Source
-x edition = record { file = codes "x"; edition = edition }
+x edition = record { file = codes "x"; libs = []; edition = edition }
 
-compiles : Asks (codes "b" ∷ codes "compile" ∷ []) (compile editions.One)
+-- the same, and after it these files
+abbrev x_with : List Text → Source
+x_with libs = record { file = codes "x"; libs = libs; edition = editions.One }
+
+compiles : Asks (codes "b" ∷ codes "compile" ∷ []) (compile editions.One [])
 unfolding clap_on_literals
 compiles = (refl, refl)
 
-compiles_the_second : Asks (codes "b" ∷ codes "compile" ∷ codes "--edition" ∷ codes "2" ∷ []) (compile editions.Two)
+compiles_the_second : Asks (codes "b" ∷ codes "compile" ∷ codes "--edition" ∷ codes "2" ∷ []) (compile editions.Two [])
 unfolding clap_on_literals
 compiles_the_second = (refl, refl)
 
-compiles_the_first : Asks (codes "b" ∷ codes "compile" ∷ codes "--edition=1" ∷ []) (compile editions.One)
+compiles_the_first : Asks (codes "b" ∷ codes "compile" ∷ codes "--edition=1" ∷ []) (compile editions.One [])
 unfolding clap_on_literals
 compiles_the_first = (refl, refl)
 
@@ -150,6 +154,31 @@ traces_within_limits : fault_of command_line (codes "b" ∷ codes "trace" ∷ co
     ≡ kind.UnknownArgument ∷ []
 unfolding clap_on_literals
 traces_within_limits = refl
+
+compiles_two : Asks (codes "b" ∷ codes "compile" ∷ codes "--with" ∷ codes "l" ∷ [])
+    (compile editions.One (codes "l" ∷ []))
+unfolding clap_on_literals
+compiles_two = (refl, refl)
+
+goes_with : Asks (codes "b" ∷ codes "go" ∷ codes "--with" ∷ codes "l" ∷ codes "x" ∷ codes "--with=m" ∷ [])
+    (go (x_with (codes "l" ∷ codes "m" ∷ [])) 10000000)
+unfolding clap_on_literals
+goes_with = (refl, refl)
+
+checks_with : Asks (codes "b" ∷ codes "check" ∷ codes "x" ∷ codes "--with" ∷ codes "x" ∷ [])
+    (ask (x_with (codes "x" ∷ [])) (check false))
+unfolding clap_on_literals
+checks_with = (refl, refl)
+
+with_nothing : fault_of command_line (codes "b" ∷ codes "go" ∷ codes "x" ∷ codes "--with" ∷ [])
+    ≡ kind.InvalidValue ∷ []
+unfolding clap_on_literals
+with_nothing = refl
+
+code_with : fault_of command_line (codes "b" ∷ codes "run" ∷ codes "x" ∷ codes "--with" ∷ codes "l" ∷ [])
+    ≡ kind.UnknownArgument ∷ []
+unfolding clap_on_literals
+code_with = refl
 
 no_command : fault_of command_line (codes "b" ∷ []) ≡ kind.MissingSubcommand ∷ []
 unfolding clap_on_literals

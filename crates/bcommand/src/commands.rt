@@ -35,8 +35,10 @@ pub(crate) enum Kind {
     Flag,
     /// An option with a number from 1 to this one.
     Number(u32),
-    /// An option with a name.
-    Named,
+    /// An option with a text, and how its help calls the text.
+    Text(&'static str),
+    /// The same, which may be given often.
+    Repeated(&'static str),
     /// An argument, and whether it has to be there.
     Positional(bool),
 }
@@ -76,7 +78,7 @@ const FROM: ArgumentRow = ArgumentRow {
 
 const FUNCTION: ArgumentRow = ArgumentRow {
     id: "function",
-    kind: Kind::Named,
+    kind: Kind::Text("NAME"),
     help: "Shows the steps of this function; of all if not given",
 };
 
@@ -104,6 +106,12 @@ const SVG: ArgumentRow = ArgumentRow {
     help: "Draws a picture, an SVG file",
 };
 
+const WITH: ArgumentRow = ArgumentRow {
+    id: "with",
+    kind: Kind::Repeated("LIB"),
+    help: "Puts the source in LIB after FILE; as often as wanted",
+};
+
 const FILE: ArgumentRow = ArgumentRow {
     id: "FILE",
     kind: Kind::Positional(true),
@@ -122,7 +130,7 @@ const COMMANDS: [CommandRow; 8] = [
         about: "Compiles the source on standard input to code text on standard output",
         usage: Some("b compile [OPTIONS] < FILE"),
         help: COMPILE_HELP,
-        arguments: &[EDITION],
+        arguments: &[EDITION, WITH],
     },
     CommandRow {
         name: "run",
@@ -136,7 +144,7 @@ const COMMANDS: [CommandRow; 8] = [
         about: "Compiles the source in FILE and runs it",
         usage: None,
         help: GO_HELP,
-        arguments: &[EDITION, STEPS, NO_LIMIT, FILE, WHERE],
+        arguments: &[EDITION, STEPS, NO_LIMIT, FILE, WHERE, WITH],
     },
     CommandRow {
         name: "migrate",
@@ -150,28 +158,28 @@ const COMMANDS: [CommandRow; 8] = [
         about: "Lists the code of the source in FILE, with the lines it comes from",
         usage: None,
         help: LIST_HELP,
-        arguments: &[EDITION, FILE, NAME],
+        arguments: &[EDITION, FILE, WITH, NAME],
     },
     CommandRow {
         name: "map",
         about: "Shows where each name of the source in FILE lies in memory",
         usage: None,
         help: MAP_HELP,
-        arguments: &[EDITION, FILE, SVG, MOMENT],
+        arguments: &[EDITION, FILE, WITH, SVG, MOMENT],
     },
     CommandRow {
         name: "check",
         about: "Tells what is wrong in the source in FILE, where, and how to fix it",
         usage: None,
         help: CHECK_HELP,
-        arguments: &[EDITION, FILE, JSON],
+        arguments: &[EDITION, FILE, WITH, JSON],
     },
     CommandRow {
         name: "trace",
         about: "Runs the source in FILE and shows each step",
         usage: None,
         help: TRACE_HELP,
-        arguments: &[EDITION, FILE, TRACE_STEPS, FROM, FUNCTION],
+        arguments: &[EDITION, FILE, WITH, TRACE_STEPS, FROM, FUNCTION],
     },
 ];
 
@@ -243,7 +251,8 @@ fn argument_of<'a>(alloc: Global, row: ArgumentRow) -> Arg<'a>
             .value_name("N")
             .action(ArgAction::Set)
             .value_parser(value_parser!(u64).range(1..=i64::from(most))),
-        Kind::Named => arg.long(row.id).value_name("NAME").action(ArgAction::Set),
+        Kind::Text(name) => arg.long(row.id).value_name(name).action(ArgAction::Set),
+        Kind::Repeated(name) => arg.long(row.id).value_name(name).action(ArgAction::Append),
         Kind::Positional(is_required) => arg.required(is_required).action(ArgAction::Set),
     }
 }

@@ -4,7 +4,8 @@ use bword::Edition;
 /// What the words of a command line ask for.
 #[derive(Clone, Copy)]
 pub enum Job<'a> {
-    Compile(Edition),
+    /// Compiles standard input, and these files after it.
+    Compile(Edition, &'a [&'a str]),
     /// A run of the code text in a file, of so many steps at most.
     Run(&'a str, u64),
     /// A run of a source, of so many steps at most.
@@ -40,9 +41,10 @@ pub struct Walk<'a> {
     pub function: Option<&'a str>,
 }
 
-/// A source in a file.
+/// A source in a file, and in those that come after it.
 #[derive(Clone, Copy)]
 pub struct Source<'a> {
     pub file: &'a str,
+    pub libs: &'a [&'a str],
     pub edition: Edition,
 }

@@ -7,5 +7,5 @@ mod parsing;
 mod texts;
 
 pub use job::{Job, Question, Source, Walk};
-pub use parsing::parse;
+pub use parsing::{job_of, parse};
 pub use texts::{CONTRADICTION, UNREAD};

@@ -1,7 +1,7 @@
 //! The words of a command line, read.
 ghost use Rattle.std.specs.Prelude.{◌≡◌, [], IfOk, IfErr, codes, map, option_map, string_bytes};
 ghost use Rattle.clap.specs.Words.{HasKind, fault_of, first_of, found_of, rows_of, subcommand_of, subcommand_rows_of};
-ghost use Rattle.bcommand.specs.CommandLine.{asked, asked_of, command_line, edition_in, file_in, go_asked, is_set_in, map_asked, option_number, question_of, run_asked, source_in, source_shown, steps_asked, steps_in, walk_in, walk_shown};
+ghost use Rattle.bcommand.specs.CommandLine.{asked, asked_of, command_line, edition_in, file_in, go_asked, is_set_in, libs_in, map_asked, option_number, question_of, run_asked, source_in, source_shown, steps_asked, steps_in, walk_in, walk_shown};
 
 use crate::commands::command;
 use crate::job::{Job, Question, Source, Walk};
@@ -15,20 +15,10 @@ const DEFAULT_STEPS: u64 = 10_000_000;
 /// The steps of a trace if the command doesn't say how many.
 const DEFAULT_TRACE_STEPS: u64 = 1_000;
 
-/// What the words of a command line ask for; the first one is the program's own name.
+/// What is found in the words of a command line; the first one is the program's own name.
 ///
 /// A request for help is an error, too.
-pub fn parse<'a>(alloc: Global, words: &'a [String]) -> Result<Job<'a>, Error>
-    ensures ok { IfOk result (λ job. (fault_of command_line (map string_bytes words.entry.now) ≡ [])
-        × (asked_of job ≡ asked (subcommand_of command_line (map string_bytes words.entry.now)))) }
-    ensures err { IfErr result (HasKind (fault_of command_line (map string_bytes words.entry.now))) }
-{
-    let matches = matches_of(alloc, words)?;
-    Ok(job_of(&matches))
-}
-
-// What is found in the words, if they are a command line.
-fn matches_of<'a>(alloc: Global, words: &'a [String]) -> Result<ArgMatches<'a>, Error>
+pub fn parse<'a>(alloc: Global, words: &'a [String]) -> Result<ArgMatches<'a>, Error>
     ensures ok { IfOk result (λ m. (fault_of command_line (map string_bytes words.entry.now) ≡ [])
         × (subcommand_rows_of m ≡ subcommand_of command_line (map string_bytes words.entry.now))) }
     ensures err { IfErr result (HasKind (fault_of command_line (map string_bytes words.entry.now))) }
@@ -36,11 +26,12 @@ fn matches_of<'a>(alloc: Global, words: &'a [String]) -> Result<ArgMatches<'a>, 
     command(alloc)?.try_get_matches_from(words)
 }
 
-fn job_of<'a>(matches: &ArgMatches<'a>) -> Job<'a>
+/// What is asked for by what was found.
+pub fn job_of<'a>(matches: &'a ArgMatches<'a>) -> Job<'a>
     ensures { asked_of result ≡ asked (subcommand_rows_of matches.now) }
 {
     let Some((name, given)) = matches.subcommand() else {
-        return Job::Compile(Edition::One);
+        return Job::Compile(Edition::One, &[]);
     };
     match name {
         "run" => run_of(given),
@@ -50,11 +41,11 @@ fn job_of<'a>(matches: &ArgMatches<'a>) -> Job<'a>
         "map" => Job::Ask(source_of(given), map_of(given)),
         "check" => Job::Ask(source_of(given), Question::Check(is_set(given, "json"))),
         "trace" => Job::Ask(source_of(given), Question::Trace(walk_of(given))),
-        _ => Job::Compile(edition_of(given)),
+        _ => Job::Compile(edition_of(given), libs_of(given)),
     }
 }
 
-fn run_of<'a>(given: &ArgMatches<'a>) -> Job<'a>
+fn run_of<'a>(given: &'a ArgMatches<'a>) -> Job<'a>
     ensures { asked_of result ≡ run_asked (file_in (rows_of (found_of given.now))) (steps_in (rows_of (found_of given.now))) }
 {
     match steps_of(number_of(given, "steps"), is_set(given, "no-limit")) {
@@ -63,7 +54,7 @@ fn run_of<'a>(given: &ArgMatches<'a>) -> Job<'a>
     }
 }
 
-fn go_of<'a>(given: &ArgMatches<'a>) -> Job<'a>
+fn go_of<'a>(given: &'a ArgMatches<'a>) -> Job<'a>
     ensures { asked_of result ≡ go_asked (source_in (rows_of (found_of given.now))) (is_set_in (codes "where") (rows_of (found_of given.now))) (steps_in (rows_of (found_of given.now))) }
 {
     let source = source_of(given);
@@ -75,11 +66,12 @@ fn go_of<'a>(given: &ArgMatches<'a>) -> Job<'a>
     }
 }
 
-fn source_of<'a>(given: &ArgMatches<'a>) -> Source<'a>
+fn source_of<'a>(given: &'a ArgMatches<'a>) -> Source<'a>
     ensures { source_shown result ≡ source_in (rows_of (found_of given.now)) }
 {
     Source {
         file: file_of(given),
+        libs: libs_of(given),
         edition: edition_of(given),
     }
 }
@@ -129,6 +121,12 @@ fn file_of<'a>(given: &ArgMatches<'a>) -> &'a str
     ensures { result.now ≡ file_in (rows_of (found_of given.now)) }
 {
     text_of(given, "FILE").unwrap_or("")
+}
+
+fn libs_of<'a>(given: &'a ArgMatches<'a>) -> &'a [&'a str]
+    ensures { map (λ t. t.now) result.now ≡ libs_in (rows_of (found_of given.now)) }
+{
+    given.get_strs("with").unwrap_or(&[])
 }
 
 fn text_of<'a>(given: &ArgMatches<'a>, id: &str) -> Option<&'a str>

@@ -1,7 +1,7 @@
 use Rattle.bcommand.specs.CommandLine.{command_line}
 use Rattle.bcommand.specs.CommandRows.{is_free_line, is_simple_line}
 use Rattle.bcommand.proofs.ReadWords.{faulty_words, read_words}
-use Rattle.bcommand.proofs.parsing.matches_of.Goals as goal
+use Rattle.bcommand.proofs.parsing.parse.Goals as goal
 
 pub returns-clause-ok : goal.returns-clause-ok
 returns-clause-ok c =
