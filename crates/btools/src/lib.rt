@@ -5,6 +5,7 @@ mod characters;
 mod frames;
 mod program;
 mod sink;
+mod tables;
 mod telling;
 mod text;
 
@@ -12,5 +13,6 @@ pub use characters::{hexadecimal_digit, push_byte, push_characters};
 pub use frames::{Frame, FrameWord, frames_of};
 pub use program::{Names, Program, lines_in, load_line, read_program, wrong_programs_are_excluded};
 pub use sink::Sink;
+pub use tables::{Entry, Tables};
 pub use telling::tell;
 pub use text::Text;

@@ -1,6 +1,3 @@
-mod Finding
-mod Searching
-mod Functions
 mod PlaceParts
 mod RowParts
 mod Shown

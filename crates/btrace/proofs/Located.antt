@@ -16,7 +16,7 @@ use Rattle.bmach.proofs.Resolving.{run-resolved}
 use Rattle.bmach.proofs.Running.{same_run}
 use Rattle.brun.proofs.RunSteps.{outcome-resolved, run_loaded, run_of_loaded}
 use Rattle.btools.specs.Programs.{HasProgram}
-use Rattle.btrace.specs.Programs.{Placed, functions_of}
+use Rattle.btools.specs.Functions.{Placed, functions_of}
 use Rattle.btrace.specs.Locates.{Locates, TellsSite, located, located_status, unlocated}
 use Rattle.btrace.specs.Traces.{steps_from}
 use Rattle.btrace.proofs.Unresolved.{running_from}

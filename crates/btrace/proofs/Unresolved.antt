@@ -20,9 +20,11 @@ use Rattle.bmach.proofs.Resolving.{run-resolved, stored-resolved}
 use Rattle.bmach.proofs.Running.{same_run}
 use Rattle.brun.proofs.RunSteps.{outcome-resolved, run_loaded, run_of_loaded, world-resolved}
 use Rattle.btools.specs.Programs.{HasProgram, nothing_written}
-use Rattle.btrace.specs.Programs.{Placed, functions_of}
+use Rattle.btools.specs.Functions.{Placed, functions_of}
 use Rattle.btrace.specs.RowTexts.{places_text, step_row, stored_text, written_row}
-use Rattle.btrace.specs.Traces.{AreShown, EndsAs, IsTried, IsWhere, TraceRow, ShowsRows, ShowsStep, StepsGive, TakesByte, TellsEnd, TellsPlace, Traces, Tries, is_shown, is_step, shown_of, steps_from, store_after, stored_after, traced, waits_at, which_of}
+use Rattle.btrace.specs.Traces.{AreShown, EndsAs, IsTried, IsWhere, TraceRow, ShowsRows, ShowsStep, StepsGive, TakesByte, TellsEnd, TellsPlace, Traces, Tries, is_shown, is_step, shown_of, steps_from, store_after, stored_after, traced, waits_at, wanted_of, which_of}
+use Rattle.btrace.specs.Trails.{chosen}
+use Rattle.btrace.specs.declared.trail.Rows.{Rows}
 use Rattle.btrace.specs.declared.tracing.TheConstants.{HEADING}
 use Rattle.btrace.specs.declared.tracing.Which.{Which}
 
@@ -52,9 +54,9 @@ module _ (fs : List Placed) (which : Which) (I : Image) (f g : ℕ → State) (e
 
   shown_same : (made : ℕ) → shown_of which g made ≡ shown_of which f made
   shown_same made =
-      let first : shown_of which g made ≡ shown_of which (λ n. state_resolved I (f n)) made = λ i. filter (λ n. is_step which (n + 1) (e n i)) (range_with_len 0 made) in
-      let second : shown_of which (λ n. state_resolved I (f n)) made ≡ shown_of which f made = λ i. filter (λ n. step_same I which (n + 1) (f n) i) (range_with_len 0 made) in
-      first ∙ second
+      let first : wanted_of which g made ≡ wanted_of which (λ n. state_resolved I (f n)) made = λ i. filter (λ n. is_step which (n + 1) (e n i)) (range_with_len 0 made) in
+      let second : wanted_of which (λ n. state_resolved I (f n)) made ≡ wanted_of which f made = λ i. filter (λ n. step_same I which (n + 1) (f n) i) (range_with_len 0 made) in
+      ap (chosen which.rows) (first ∙ second)
 
   tries_same : (made : ℕ) (t : Tries g made) → (u : Tries f made) × (call_resolved I u.call ≡ t.call) × (u.world ≡ t.world) × (map (call_resolved I) u.below ≡ t.below)
   tries_same made t =
@@ -140,17 +142,17 @@ shows_run fs which ds image p loaded begins n i j r old new s =
     }
 
 -- the trace of a program that has begun
-pub traced_whole : (edition : Edition) (source : List ℕ) (n from : ℕ) (name : Option (List ℕ)) (ends : RunEnds) (status : ℕ) (mid : Outgoing) (ds : List Definition) (image : Image) (fs : List Placed) (which : Which) (p : Paused) (result : Outcome) (begun text told_text : List ℕ) (first last : Kept) (told : ℕ)
-    → HasProgram edition source ends.line mid ds image → fs ≡ functions_of ds → which_of fs from name ≡ Some which → IsUnstarted image p → outgoing_of first ≡ nothing_written → StepsGive p n ends.input ends.input_after (outgoing_of first) (outgoing_of last) result
-    → begun ≡ [] → ShowsRows fs p.image.functions which (steps_from p) n ends.input ends.input_after result (begun ++ HEADING.now) text → told_text ≡ text → Reported told_text DONE ends.out ends.out_after told
-    → TellsEnd told result mid ends.line_after status → Traces edition source n from name ends status
-traced_whole edition source n from name ends status mid ds image fs which p result begun text told_text first last told is functions named begins empty gives none shows same tells end =
-    let run_gives = same_run (run image) (steps_from p) n ends.input ends.input_after (outgoing_of first) (outgoing_of last) result (run_from image p begins) gives in
-    let ds_gives = run_of_loaded ds image is.loaded n ends.input ends.input_after (outgoing_of first) (outgoing_of last) result run_gives in
-    let ds_shows = shows_run fs which ds image p is.loaded begins n ends.input ends.input_after result (begun ++ HEADING.now) text shows in
-    traced mid ds image which result text last told is
-    (subst (λ (x : List Placed). which_of x from name ≡ Some which) functions named)
-    (rw empty at ds_gives)
+pub traced_whole : (edition : Edition) (source : List ℕ) (n : ℕ) (shown : Rows) (name : Option (List ℕ)) (ends : RunEnds) (status : ℕ) (mid : Outgoing) (ds : List Definition) (image : Image) (fs : List Placed) (which : Which) (p : Paused) (result : Outcome) (heading text : List ℕ) (told : ℕ)
+    → HasProgram edition source ends.line mid ds image → fs ≡ functions_of ds → which_of fs shown name ≡ Some which → IsUnstarted image p → (output : Kept) × StepsGive p n ends.input ends.input_after nothing_written (outgoing_of output) result
+    → heading ≡ HEADING.now → ShowsRows fs p.image.functions which (steps_from p) n ends.input ends.input_after result heading text → Reported text DONE ends.out ends.out_after told
+    → TellsEnd told result mid ends.line_after status → Traces edition source n shown name ends status
+traced_whole edition source n shown name ends status mid ds image fs which p result heading text told is functions named begins gives begun shows tells end =
+    let run_gives = same_run (run image) (steps_from p) n ends.input ends.input_after nothing_written (outgoing_of gives.0) result (run_from image p begins) gives.1 in
+    let ds_gives = run_of_loaded ds image is.loaded n ends.input ends.input_after nothing_written (outgoing_of gives.0) result run_gives in
+    let ds_shows = shows_run fs which ds image p is.loaded begins n ends.input ends.input_after result heading text shows in
+    traced mid ds image which result text gives.0 told is
+    (subst (λ (x : List Placed). which_of x shown name ≡ Some which) functions named)
+    ds_gives
     (subst (λ (x : List Placed). ShowsRows x (image_of ds).functions which (machine ds) n ends.input ends.input_after result HEADING.now text) functions
-    (subst (λ (t : List ℕ). ShowsRows fs (image_of ds).functions which (machine ds) n ends.input ends.input_after result (t ++ HEADING.now) text) none ds_shows))
-    (subst (λ (t : List ℕ). Reported t DONE ends.out ends.out_after told) same tells) end
+    (subst (λ (t : List ℕ). ShowsRows fs (image_of ds).functions which (machine ds) n ends.input ends.input_after result t text) begun ds_shows))
+    tells end

@@ -12,7 +12,7 @@ use Rattle.bmach.specs.Stepping.{BeginsNot}
 use Rattle.bmach.specs.Stops.{IsOverAt}
 use Rattle.bmach.specs.declared.machine.Active.{Active}
 use Rattle.btools.specs.Programs.{HasProgram, NoProgram}
-use Rattle.btrace.specs.Programs.{Placed, functions_of}
+use Rattle.btools.specs.Functions.{Placed, functions_of}
 use Rattle.btrace.specs.RowTexts.{site_text}
 
 -- the status of an outcome that is at a place of the program

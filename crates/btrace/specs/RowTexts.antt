@@ -11,7 +11,7 @@ use Rattle.blang.specs.declared.code.Instr.{Instr}
 use Rattle.bmach.specs.declared.machine.Active.{Active}
 use Rattle.btools.specs.Characters.{is_printable, shown_byte}
 use Rattle.btools.specs.Columns.{left, right, without_newline}
-use Rattle.btrace.specs.Programs.{Placed, function_with}
+use Rattle.btools.specs.Functions.{Placed, function_with}
 use Rattle.btrace.specs.declared.places.TheConstants.{SHOWN_PARAMETERS}
 use Rattle.btrace.specs.declared.rows.TheConstants.{MARGIN, SHOWN_OPERANDS}
 

@@ -1,6 +1,6 @@
 -- Promise: what comes of a source whose steps are written.
 use Rattle.std.specs.Prelude.{◌≡◌, ◌⊎◌, ℕ, ◌+◌, ◌-◌, ◌≤◌, ◌==◌, ◌&&◌, Bool, true, false, List, [], ◌∷◌, ◌++◌}
-use Rattle.std.specs.Prelude.{None, Result, Ok, Err, codes, drop, filter, length, map, nat_le, option_map, refl}
+use Rattle.std.specs.Prelude.{None, Result, Ok, Err, codes, filter, map, nat_le, option_map, refl}
 use Rattle.std.specs.Prelude.{All, Option, Some, if◌then◌else◌}
 use Rattle.std.specs.List.{flat_map, range_with_len}
 use Rattle.std.specs.Option.{option_map_or}
@@ -15,16 +15,19 @@ use Rattle.blang.specs.Reports.{HasNotRun, RunGives, state_outcome}
 use Rattle.blang.specs.Machine as runs
 use Rattle.bmach.specs.Stepping.{BeginsNot, Paused, machine_at}
 use Rattle.bmach.specs.Stops.{active_of}
-use Rattle.bmach.specs.Stored.{stored}
+use Rattle.bmach.specs.Stored.{stored, stored_next}
+use Rattle.bmach.specs.Turns.{TurnGives}
 use Rattle.bmach.specs.declared.machine.Active.{Active}
 use Rattle.blang.specs.declared.run.Outcome.{Outcome}
 use Rattle.blang.specs.declared.run.Outcome.TheVariants as outcome
 use Rattle.blang.specs.Layout.{World}
 use Rattle.btools.specs.Programs.{HasProgram, NoProgram, nothing_written}
-use Rattle.btrace.specs.Programs.{Placed, function_named, functions_of}
+use Rattle.btools.specs.Functions.{Placed, function_named, functions_of}
 use Rattle.btrace.specs.RowTexts.{Place, places_text, step_row, stored_text, written_row}
+use Rattle.btrace.specs.Trails.{chosen, first_of}
 use Rattle.btrace.specs.declared.tracing.TheConstants.{HEADING, UNNAMED}
 use Rattle.btrace.specs.declared.tracing.Which.{Which}
+use Rattle.btrace.specs.declared.trail.Rows.{Rows}
 
 -- the columns of a trace
 trace_heading : HEADING.now ≡ codes "    step  function place  line  code         operands, signed\n"
@@ -34,15 +37,17 @@ trace_heading = refl
 unnamed_line : UNNAMED.now ≡ codes "error: the source has no function of this NAME\n"
 unnamed_line = refl
 
--- which steps are shown: those from a number on, of the function of a name; none where no function has the name
-abbrev pub which_of : List Placed → (from : ℕ) → (name : Option (List ℕ)) → Option Which
-which_of fs from None = Some (record { from = from; function = None })
-which_of fs from (Some name) =
-    option_map (λ f. record { from = from; function = Some f.strings }) (function_named fs name)
+-- which steps are shown: those of the function of a name, from a number on or the last ones; none where no function
+-- has the name
+abbrev pub which_of : List Placed → Rows → (name : Option (List ℕ)) → Option Which
+which_of fs rows None = Some (record { rows = rows; function = None })
+which_of fs rows (Some name) =
+    option_map (λ f. record { rows = rows; function = Some f.strings }) (function_named fs name)
 
--- whether a step is shown that has this number, of a call of the function with its string words there
+-- whether a step may be shown that has this number, of a call of the function with its string words there
 abbrev pub is_wanted : Which → (number strings : ℕ) → Bool
-is_wanted which number strings = nat_le which.from number && option_map_or (λ f. strings == f) which.function true
+is_wanted which number strings =
+    nat_le (first_of which.rows) number && option_map_or (λ f. strings == f) which.function true
 
 abbrev pub is_step : Which → (number : ℕ) → State → Bool
 is_step which number (Running call below w) = is_wanted which number call.function.strings
@@ -53,9 +58,13 @@ is_step which number (Stuck w) = false
 abbrev pub is_shown : Which → (ℕ → State) → (made : ℕ) → Bool
 is_shown which states made = is_step which (made + 1) (states made)
 
--- the steps among so many that are shown, each by the number of those before it
+-- the steps among so many that may be shown, each by the number of those before it
+abbrev pub wanted_of : Which → (ℕ → State) → (made : ℕ) → List ℕ
+wanted_of which states made = filter (is_shown which states) (range_with_len 0 made)
+
+-- those that are shown: all of them, or the last ones
 abbrev pub shown_of : Which → (ℕ → State) → (made : ℕ) → List ℕ
-shown_of which states made = filter (is_shown which states) (range_with_len 0 made)
+shown_of which states made = chosen which.rows (wanted_of which states made)
 
 -- a machine that is to make a step: its call, those below it, and its world
 pub record Tries (states : ℕ → State) (made : ℕ) : Type 0 where
@@ -90,7 +99,7 @@ pub record TraceRow : Type 0 where
 abbrev pub rows_text : List TraceRow → List ℕ
 rows_text rows = flat_map (λ r. r.text) rows
 
--- Each step that is to be shown has a row, in order, and nothing else has one.
+-- Each step that is shown has a row, in order, and nothing else has one.
 pub record AreShown (fs : List Placed) (functions : List Loaded) (which : Which) (states : ℕ → State) (made : ℕ)
     (rows : List TraceRow) : Type 0 where
   pub all : map (λ r. r.made) rows ≡ shown_of which states made
@@ -167,13 +176,21 @@ pub record AddsStep (fs : List Placed) (number : ℕ) (call : Call) (addresses s
 abbrev pub AddsLast : List Placed → (number : ℕ) → Call → List ℕ → List ℕ → Type 0
 AddsLast fs number call old new = (line : ℕ) × (new ≡ old ++ step_row fs number call line)
 
--- what was added for a step, if it is shown
-abbrev pub AddsIf : Bool → List Placed → (number : ℕ) → Call → (addresses store before following : List ℕ)
+-- what was added for a step that wrote these bytes, if it is shown
+abbrev pub AddsIf : Bool → List Placed → (number : ℕ) → Call → (addresses store bytes : List ℕ)
     → Result (Unit {0}) Outcome → List ℕ → List ℕ → Type 0
-AddsIf false fs number call addresses store before following result old new = new ≡ old
-AddsIf true fs number call addresses store before following (Ok u) old new =
-    AddsStep fs number call addresses store (drop (length before) following) old new
-AddsIf true fs number call addresses store before following (Err r) old new = AddsLast fs number call old new
+AddsIf false fs number call addresses store bytes result old new = new ≡ old
+AddsIf true fs number call addresses store bytes (Ok u) old new = AddsStep fs number call addresses store bytes old new
+AddsIf true fs number call addresses store bytes (Err r) old new = AddsLast fs number call old new
+
+-- a step was made, or the run was over with it; what it wrote is kept by itself, and is in what was added for it
+abbrev pub TracesStep : List Placed → (is_shown : Bool) → (made : ℕ) → (before following : Paused) → (i j : Incoming)
+    → Result (Unit {0}) Outcome → (old new : List ℕ) → Type 0
+TracesStep fs is_shown made before following i j result old new =
+    (written : Kept)
+    × TurnGives before.image (machine_at before) (machine_at following) i j nothing_written (outgoing_of written) result
+    × AddsIf is_shown fs (made + 1) before.call (stored_next before.image.functions before.call before.below)
+    following.store written.bytes result old new
 
 -- what was added for an outcome
 abbrev pub AddsEnd : List Placed → (store : List ℕ) → Active → List Call → Outcome → List ℕ → List ℕ → Type 0
@@ -199,27 +216,27 @@ StepsGive first n i j o p result = RunGives (steps_from first) n i j o p result
 -- The program of the source was run for so many steps at most, as the machine runs it, and its trace written; or it
 -- did not begin; or no function has the name, and that was told; or there is no program, and why was told; or memory
 -- was refused, which is told only where no read failed.
-pub data Traces (edition : Edition) (source : List ℕ) (steps from : ℕ) (name : Option (List ℕ)) (ends : RunEnds)
-    (status : ℕ) : Type 0 where
+pub data Traces (edition : Edition) (source : List ℕ) (steps : ℕ) (shown : Rows) (name : Option (List ℕ))
+    (ends : RunEnds) (status : ℕ) : Type 0 where
   traced : (mid : Outgoing) (ds : List Definition) (image : Image) (which : Which) (result : Outcome) (text : List ℕ)
       (output : Kept) (told : ℕ) → HasProgram edition source ends.line mid ds image
-      → which_of (functions_of ds) from name ≡ Some which
+      → which_of (functions_of ds) shown name ≡ Some which
       → RunGives (machine ds) steps ends.input ends.input_after nothing_written (outgoing_of output) result
       → ShowsRows (functions_of ds) (image_of ds).functions which (machine ds) steps ends.input ends.input_after result
       HEADING.now text
       → Reported text DONE ends.out ends.out_after told → TellsEnd told result mid ends.line_after status
-      → Traces edition source steps from name ends status
+      → Traces edition source steps shown name ends status
   not_begun : (mid : Outgoing) (ds : List Definition) (image : Image) (which : Which) (result : Outcome)
       → HasProgram edition source ends.line mid ds image
-      → which_of (functions_of ds) from name ≡ Some which → BeginsNot image result
+      → which_of (functions_of ds) shown name ≡ Some which → BeginsNot image result
       → Finishes result mid ends.line_after status → HasNotRun ends
-      → Traces edition source steps from name ends status
+      → Traces edition source steps shown name ends status
   unnamed : (mid : Outgoing) (ds : List Definition) (image : Image) → HasProgram edition source ends.line mid ds image
-      → which_of (functions_of ds) from name ≡ None
+      → which_of (functions_of ds) shown name ≡ None
       → Reported UNNAMED.now WRONG_COMMAND mid ends.line_after status → HasNotRun ends
-      → Traces edition source steps from name ends status
+      → Traces edition source steps shown name ends status
   stopped : NoProgram edition source ends.line ends.line_after status → HasNotRun ends
-      → Traces edition source steps from name ends status
+      → Traces edition source steps shown name ends status
   no_memory : (ds : List Definition) (image : Image) → HasProgram edition source ends.line ends.line_after ds image
       → ends.out_after ≡ ends.out → ends.input_after.failures ≡ ends.input.failures → status ≡ MEMORY
-      → Traces edition source steps from name ends status
+      → Traces edition source steps shown name ends status

@@ -4,8 +4,9 @@
 mod locating;
 mod places;
 mod rows;
-mod tables;
 mod tracing;
+mod trail;
 
 pub use locating::{locate, wrong_places_are_excluded};
 pub use tracing::{Wanted, trace, wrong_traces_are_excluded};
+pub use trail::Rows;

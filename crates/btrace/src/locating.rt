@@ -2,16 +2,15 @@
 ghost use Rattle.std.specs.Prelude.{◌≡◌, ℕ, IfOk};
 ghost use Rattle.btrace.specs.Excluded.{LocatesExcluded};
 ghost use Rattle.btrace.specs.Locates.{Locates, TellsSite, located_status, site_line};
-ghost use Rattle.btrace.specs.Programs.{entries_of};
+ghost use Rattle.btools.specs.Functions.{entries_of};
 
 use crate::places::push_site;
-use crate::tables::Tables;
 use blang::Outcome;
 use blang::status::{self, Status};
 use bmach::{Active, Stepper};
 use bpages::PagedStore;
 use brun::finish;
-use btools::{Text, read_program, tell};
+use btools::{Tables, Text, read_program, tell};
 use bword::{ByteIn, ByteOut, Edition};
 use std::alloc::{AllocError, Global};
 

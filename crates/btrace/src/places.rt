@@ -1,13 +1,12 @@
 //! The places where a run was.
 ghost use Rattle.std.specs.Prelude.{◌≡◌, ◌-◌, ℕ, [], ◌++◌, OnOk, if◌then◌else◌};
-ghost use Rattle.btrace.specs.Programs.{entries_of};
+ghost use Rattle.btools.specs.Functions.{entries_of};
 ghost use Rattle.btrace.specs.RowTexts.{first_words, has_more, place_text, site_text, words_text};
 ghost use Rattle.btrace.specs.Traces.{AddsPlaces};
 
 use crate::rows::{frame_address, name_of, push_signed};
-use crate::tables::Tables;
 use bmach::{Active, Stepper};
-use btools::Text;
+use btools::{Tables, Text};
 use bword::Store;
 use std::alloc::AllocError;
 

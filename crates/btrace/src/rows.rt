@@ -2,15 +2,14 @@
 ghost use Rattle.std.specs.Prelude.{◌≡◌, ◌≤◌, ℕ, List, [], ◌+◌, ◌-◌, ◌%◌, ◌^◌, ◌<◌, ◌++◌, OnOk, option_map};
 ghost use Rattle.std.specs.List.{flat_map, range_with_len};
 ghost use Rattle.btools.specs.Columns.{left};
-ghost use Rattle.btrace.specs.Programs.{entries_of, placed_entry};
+ghost use Rattle.btools.specs.Functions.{entries_of, placed_entry};
 ghost use Rattle.btrace.specs.RowTexts.{hexadecimal, instr_in, instr_text, margin, name_in, operands_text, signed_text, step_row};
 ghost use Rattle.btrace.specs.RowTexts.{stored_text, word_row, written_byte, written_row};
 
-use crate::tables::{Entry, Tables};
 use bcode::{Page, push_instr_line};
 use blang::Instr;
 use bmach::{Active, Stepper};
-use btools::{Text, hexadecimal_digit, push_byte};
+use btools::{Entry, Tables, Text, hexadecimal_digit, push_byte};
 use bword::Store;
 use std::alloc::AllocError;
 use std::ops::Range;
