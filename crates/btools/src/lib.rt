@@ -4,6 +4,7 @@
 mod characters;
 mod frames;
 mod program;
+mod quoting;
 mod sink;
 mod tables;
 mod telling;
@@ -12,6 +13,7 @@ mod text;
 pub use characters::{hexadecimal_digit, push_byte, push_characters};
 pub use frames::{Frame, FrameWord, frames_of};
 pub use program::{Names, Program, lines_in, load_line, read_program, wrong_programs_are_excluded};
+pub use quoting::{push_file, push_quoted};
 pub use sink::Sink;
 pub use tables::{Entry, Tables};
 pub use telling::tell;

@@ -7,7 +7,7 @@ use Rattle.std.proofs.lemmas.List.Concat.{flat_map-append}
 use Rattle.std.proofs.lemmas.List.Elements.{All-drop}
 use Rattle.std.proofs.lemmas.List.Folds.{flat_map-map}
 use Rattle.btrace.specs.Traces.{TraceRow, rows_text}
-use Rattle.btrace.specs.Trails.{Keeps, chosen, last_of, trail_text, without_first}
+use Rattle.btrace.specs.Trails.{Keeps, KeepsIf, chosen, last_of, trail_text, without_first}
 use Rattle.btrace.specs.declared.trail.Rows.{Rows}
 use Rattle.btrace.specs.declared.trail.Rows.TheVariants as rows
 use Rattle.btrace.specs.declared.trail.Trail.{Trail}
@@ -75,6 +75,16 @@ holds_more (rows.Last n) heading rs r t u v h text last row keeps =
           ∙ ap (last_of n) (sym (map-append f rs (r ∷ []))) ∙ sym (map-chosen f (rows.Last n) (rs ++ r ∷ [])),
       keeps.2,
     )
+
+-- the rows with one more, if its step is shown
+abbrev pub with_row : Bool → List TraceRow → (made : ℕ) → (row : List ℕ) → List TraceRow
+with_row b rows made row = if b then rows ++ record { made = made; text = row } ∷ [] else rows
+
+pub holds_after : (b : Bool) (which : Rows) (heading : List ℕ) (rs : List TraceRow) (made : ℕ) (row : List ℕ) (t u v : Trail) → Holds which heading rs t → u.text ≡ t.text → u.last.items ≡ t.last.items → u.row ≡ row → KeepsIf b which u v → (b ≡ false → row ≡ [])
+    → Holds which heading (with_row b rs made row) v
+holds_after true which heading rs made row t u v h text last is keeps none = holds_more which heading rs (record { made = made; text = row }) t u v h text last is keeps
+holds_after false (rows.From k) heading rs made row t u v h text last is keeps none = (keeps.0 ∙ text ∙ h.0, keeps.1 ∙ last ∙ h.1, keeps.2 ∙ is ∙ none refl)
+holds_after false (rows.Last n) heading rs made row t u v h text last is keeps none = (keeps.0 ∙ text ∙ h.0, keeps.1 ∙ last ∙ h.1, keeps.2 ∙ is ∙ none refl)
 
 -- the text of what is kept, and of what comes after it
 pub held : (which : Rows) (heading : List ℕ) (rs : List TraceRow) (t u : Trail) → Holds which heading rs t → u.text ≡ t.text → u.last.items ≡ t.last.items → trail_text u ≡ heading ++ rows_text (chosen which rs) ++ u.row

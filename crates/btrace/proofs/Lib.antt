@@ -1,5 +1,6 @@
 mod PlaceParts
 mod RowParts
+mod Kept
 mod Shown
 mod Unresolved
 mod Located

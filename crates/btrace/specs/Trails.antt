@@ -1,5 +1,5 @@
 -- Inner words: which rows of a run are kept.
-use Rattle.std.specs.Prelude.{◌≡◌, ℕ, ◌+◌, ◌-◌, List, [], ◌∷◌, ◌++◌, drop, length, nat_lt, if◌then◌else◌}
+use Rattle.std.specs.Prelude.{◌≡◌, ℕ, ◌-◌, Bool, true, false, List, [], ◌∷◌, ◌++◌, drop, length, nat_lt, if◌then◌else◌}
 use Rattle.std.specs.List.{flat_map}
 use Rattle.btrace.specs.declared.trail.Rows.{Rows}
 use Rattle.btrace.specs.declared.trail.Rows.TheVariants as rows
@@ -33,3 +33,8 @@ Keeps (rows.From number) old new =
     (new.text ≡ old.text ++ old.row) × (new.last.items ≡ old.last.items) × (new.row ≡ [])
 Keeps (rows.Last count) old new =
     (new.text ≡ old.text) × (new.last.items ≡ without_first count (old.last.items ++ old.row ∷ [])) × (new.row ≡ [])
+
+-- and one that isn't shown was not
+abbrev pub KeepsIf : Bool → Rows → Trail → Trail → Type 0
+KeepsIf true rows old new = Keeps rows old new
+KeepsIf false rows old new = (new.text ≡ old.text) × (new.last.items ≡ old.last.items) × (new.row ≡ old.row)

@@ -1,6 +1,7 @@
 //! The steps of a program, written for people, and where its run was over.
 #![tactic(auto)]
 
+mod legend;
 mod locating;
 mod places;
 mod rows;

@@ -5,11 +5,14 @@ ghost use Rattle.bmach.specs.Stepping.{machine_at};
 ghost use Rattle.bmach.specs.Turns.{KeepsBelow, LeavesWords};
 ghost use Rattle.bword.specs.ByteEnds.{Kept, outgoing_of};
 ghost use Rattle.btrace.specs.Excluded.{TracesExcluded};
+ghost use Rattle.bsources.specs.Files.{files_shown};
 ghost use Rattle.btools.specs.Functions.{entries_of};
 ghost use Rattle.btools.specs.Programs.{nothing_written};
+ghost use Rattle.btrace.specs.RowTexts.{legend_of};
 ghost use Rattle.btrace.specs.Traces.{AddsEnd, ShowsRows, StepsGive, Traces, TracesStep, is_wanted, steps_from, which_of};
 ghost use Rattle.btrace.specs.Trails.{trail_text};
 
+use crate::legend::Legend;
 use crate::places::push_places;
 use crate::rows::{push_step, push_stored, push_written};
 use crate::trail::{Rows, Trail};
@@ -18,6 +21,7 @@ use blang::status::{self, Status};
 use bmach::{Active, Stepper};
 use bpages::PagedStore;
 use brun::finish;
+use bsources::SourceFiles;
 use btools::{Tables, Text, read_program, tell};
 use bword::{ByteIn, ByteOut, Edition, MemOut, Store};
 use std::alloc::{AllocError, Global};
@@ -37,6 +41,8 @@ pub struct Wanted<'a> {
     pub rows: Rows,
     /// The name of the function whose steps are shown; all, if there is none.
     pub function: Option<&'a str>,
+    /// The files of the source.
+    pub files: SourceFiles<'a>,
 }
 
 /// Which steps are shown.
@@ -74,7 +80,7 @@ pub fn trace<I: ByteIn, O: ByteOut, D: ByteOut>(
     out: &mut O,
     diag: &mut D,
 ) -> Status
-    ensures traces { Traces edition source.now wanted.entry.steps wanted.entry.rows (option_map (λ n. n.now) wanted.entry.function) (record {
+    ensures traces { Traces edition source.now wanted.entry.steps wanted.entry.rows (files_shown wanted.entry.files) (option_map (λ n. n.now) wanted.entry.function) (record {
       input = I.incoming input.old;
       input_after = I.incoming input.new;
       out = O.outgoing out.old;
@@ -106,8 +112,12 @@ pub fn trace<I: ByteIn, O: ByteOut, D: ByteOut>(
     let Ok(mut trail) = Trail::new(alloc, HEADING) else {
         return status::MEMORY;
     };
+    let legend = Legend {
+        tables: &tables,
+        files: wanted.files,
+    };
     let steps = wanted.steps;
-    let outcome = match trace_steps(alloc, stepper, &tables, which, steps, &mut trail, input) {
+    let outcome = match trace_steps(alloc, stepper, &legend, which, steps, &mut trail, input) {
         Ok(outcome) => outcome,
         Err(_) => return status::MEMORY,
     };
@@ -141,7 +151,7 @@ fn which_of(tables: &Tables<'_>, wanted: Wanted<'_>) -> Option<Which>
 fn trace_steps<S: Store + Drop, I: ByteIn>(
     alloc: Global,
     mut stepper: Stepper<'_, S>,
-    tables: &Tables<'_>,
+    legend: &Legend<'_>,
     which: Which,
     steps: u64,
     trail: &mut Trail,
@@ -151,7 +161,7 @@ fn trace_steps<S: Store + Drop, I: ByteIn>(
     requires row { trail.old.row ≡ [] }
     ensures gives { IfOk result (λ outcome. (output : Kept) × StepsGive stepper.entry steps
         (I.incoming input.old) (I.incoming input.new) nothing_written (outgoing_of output) outcome) }
-    ensures shows { IfOk result (λ outcome. ShowsRows (entries_of tables.now) stepper.entry.image.functions which (steps_from stepper.entry) steps
+    ensures shows { IfOk result (λ outcome. ShowsRows (legend_of legend.now) stepper.entry.image.functions which (steps_from stepper.entry) steps
         (I.incoming input.old) (I.incoming input.new) outcome trail.old.text (trail_text trail.new)) }
     ensures unfailed { OnErr result ((I.incoming input.new).failures ≡ (I.incoming input.old).failures) }
     ensures same { I.lender input.new ≡ I.lender input.old }
@@ -160,19 +170,17 @@ fn trace_steps<S: Store + Drop, I: ByteIn>(
         let call = stepper.top();
         let is_shown = which.shows(made, call);
         let row = &mut trail.row;
-        let turned = trace_step(alloc, &mut stepper, tables, is_shown, made, row, input)?;
-        if let Err(Outcome::Device) = turned {
-            return Ok(Outcome::Device);
-        }
-        if is_shown {
-            trail.keep(alloc, which.rows)?;
-        }
-        if let Err(outcome) = turned {
-            push_end(&mut trail.row, tables, &stepper, call, outcome)?;
-            return Ok(outcome);
+        match trace_step(alloc, &mut stepper, legend, is_shown, made, row, input)? {
+            Ok(()) => trail.keep_if(is_shown, alloc, which.rows)?,
+            Err(Outcome::Device) => return Ok(Outcome::Device),
+            Err(outcome) => {
+                trail.keep_if(is_shown, alloc, which.rows)?;
+                push_end(&mut trail.row, legend, &stepper, call, outcome)?;
+                return Ok(outcome);
+            }
         }
     }
-    push_end(&mut trail.row, tables, &stepper, stepper.top(), Outcome::Limit)?;
+    push_end(&mut trail.row, legend, &stepper, stepper.top(), Outcome::Limit)?;
     Ok(Outcome::Limit)
 }
 
@@ -180,14 +188,14 @@ fn trace_steps<S: Store + Drop, I: ByteIn>(
 fn trace_step<S: Store + Drop, I: ByteIn>(
     alloc: Global,
     stepper: &mut Stepper<'_, S>,
-    tables: &Tables<'_>,
+    legend: &Legend<'_>,
     is_shown: bool,
     made: u64,
     row: &mut Text,
     input: &mut I,
 ) -> Result<Result<(), Outcome>, AllocError>
     requires { made + 1 < 2 ^ 64 }
-    ensures shows { IfOk result (λ r. TracesStep (entries_of tables.now) is_shown made stepper.old stepper.new
+    ensures shows { IfOk result (λ r. TracesStep (legend_of legend.now) is_shown made stepper.old stepper.new
         (I.incoming input.old) (I.incoming input.new) r row.old row.new) }
     ensures unfailed { OnErr result ((I.incoming input.new).failures ≡ (I.incoming input.old).failures) }
     ensures words { IfOk result (λ r. LeavesWords (λ left before. step stepper.old.image (machine_at stepper.old left before)) r
@@ -200,7 +208,7 @@ fn trace_step<S: Store + Drop, I: ByteIn>(
     if !is_shown {
         return Ok(stepper.step(input, &mut written));
     }
-    push_step(row, tables, stepper, made)?;
+    push_step(row, legend, stepper, made)?;
     let stored = stepper.stored();
     match stepper.step(input, &mut written) {
         Ok(()) => {
@@ -215,15 +223,15 @@ fn trace_step<S: Store + Drop, I: ByteIn>(
 // Adds where a run ended, if it was by a trap or at the limit. A run that was refused memory has no trace.
 fn push_end<S: Store + Drop>(
     text: &mut Text,
-    tables: &Tables<'_>,
+    legend: &Legend<'_>,
     stepper: &Stepper<'_, S>,
     call: Active,
     outcome: Outcome,
 ) -> Result<(), AllocError>
-    ensures { OnOk result (AddsEnd (entries_of tables.now) stepper.now.store call stepper.now.below outcome text.old text.new) }
+    ensures { OnOk result (AddsEnd (legend_of legend.now) stepper.now.store call stepper.now.below outcome text.old text.new) }
 {
     match outcome {
-        Outcome::Trap(_) | Outcome::Limit => push_places(text, tables, stepper, call),
+        Outcome::Trap(_) | Outcome::Limit => push_places(text, legend, stepper, call),
         Outcome::Exit(_) | Outcome::Device => Ok(()),
         Outcome::Memory => Err(AllocError),
     }

@@ -1,8 +1,8 @@
 //! What is kept of the rows of a trace.
-ghost use Rattle.std.specs.Prelude.{◌≡◌, [], IfOk, OnOk};
+ghost use Rattle.std.specs.Prelude.{◌≡◌, [], IfOk, OnOk, drop};
 ghost use Rattle.blang.specs.Reports.{Reported};
 ghost use Rattle.blang.specs.declared.status.TheConstants.{DONE};
-ghost use Rattle.btrace.specs.Trails.{Keeps, first_of, trail_text};
+ghost use Rattle.btrace.specs.Trails.{Keeps, KeepsIf, first_of, trail_text};
 
 use blang::status::{self, Status};
 use btools::{Text, tell};
@@ -79,8 +79,24 @@ impl Trail {
         Ok(())
     }
 
+    /// The same of a row that is shown, and nothing of another one.
+    pub fn keep_if(&mut self, is_shown: bool, alloc: Global, rows: Rows) -> Result<(), AllocError>
+        ensures { OnOk result (KeepsIf is_shown rows self.old self.new) }
+    {
+        if is_shown {
+            self.keep(alloc, rows)
+        } else {
+            Ok(())
+        }
+    }
+
     // Takes the oldest row away. Its memory is that of the next one.
-    fn reuse_oldest(&mut self) {
+    fn reuse_oldest(&mut self)
+        requires { self.old.row ≡ [] }
+        ensures text { self.new.text ≡ self.old.text }
+        ensures last { self.new.last.items ≡ drop 1 self.old.last.items }
+        ensures row { self.new.row ≡ [] }
+    {
         if let Some(oldest) = self.last.pop_front() {
             self.row = oldest;
             self.row.clear();
