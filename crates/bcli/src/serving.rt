@@ -18,7 +18,7 @@ use blist::{list, map};
 use bparse::compile_edition;
 use brun::{go_edition, migrate, run_text};
 use btools::tell;
-use btrace::{Wanted, locate, trace};
+use btrace::{Rows, Wanted, locate, trace};
 use bword::{ByteIn, ByteOut, MemIn};
 use clap::Error;
 use clap::error::ErrorKind;
@@ -209,7 +209,7 @@ fn answer<I: ByteIn, O: ByteOut, D: ByteOut>(
         Question::Trace(walk) => {
             let wanted = Wanted {
                 steps: walk.steps,
-                from: walk.from,
+                rows: Rows::From(walk.from),
                 function: walk.function,
             };
             trace(alloc, text, edition, wanted, input, out, diag)

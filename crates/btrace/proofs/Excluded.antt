@@ -42,10 +42,11 @@ use Rattle.btools.proofs.Excluded.{not_grown}
 use Rattle.btrace.specs.Excluded.{ComesAlways, IsSourceOf, LocatesExcluded, TracesExcluded, calling, calling_f, closing, nothing, passing, reading, status_of, storing, trapping, writing}
 use Rattle.btrace.specs.Locates as locates
 use Rattle.btrace.specs.Locates.{Locates, TellsSite, located_status, site_line}
-use Rattle.btrace.specs.Programs.{Placed, function_with, functions_of}
+use Rattle.btools.specs.Functions.{Placed, function_with, functions_of}
 use Rattle.btrace.specs.RowTexts.{Place, code_of, first_words, has_more, margin, name_in, name_of, operands_text, place_text, step_row, stored_text, words_text, written_row}
 use Rattle.btrace.specs.Traces as traces
-use Rattle.btrace.specs.Traces.{AreShown, EndsAs, IsWhere, IsTried, ShowsRows, ShowsStep, TakesByte, TellsEnd, TellsPlace, TraceRow, Traces, Tries, rows_text, shown_of, store_after, stored_after, waits_at, which_of}
+use Rattle.btrace.specs.Traces.{AreShown, EndsAs, IsWhere, IsTried, ShowsRows, ShowsStep, TakesByte, TellsPlace, TraceRow, Traces, Tries, rows_text, shown_of, store_after, stored_after, waits_at, which_of}
+use Rattle.btools.specs.Programs.{TellsEnd}
 use Rattle.btrace.specs.declared.tracing.TheConstants.{HEADING}
 use Rattle.btrace.specs.declared.tracing.Which.{Which}
 use Rattle.btrace.proofs.ReadTexts.{all_above, above_append, at, after_line, after_number, line_skipped, number_above, number_skipped, skip_digits, words_above}

@@ -1,8 +1,6 @@
-mod Finding
-mod Searching
-mod Functions
 mod PlaceParts
 mod RowParts
+mod Kept
 mod Shown
 mod Unresolved
 mod Located

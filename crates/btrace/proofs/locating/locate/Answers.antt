@@ -1,7 +1,7 @@
 use Rattle.std.proofs.Common.{◌∙◌, Some, ap, refl, sym}
-use Rattle.btrace.specs.Programs.{entries_of}
+use Rattle.btools.specs.Functions.{entries_of}
 use Rattle.btrace.specs.Locates.{no_memory, not_begun, stopped}
-use Rattle.btrace.proofs.Functions.{data_fit}
+use Rattle.btools.proofs.Functions.{data_fit}
 use Rattle.btrace.proofs.Located.{located_whole, no_other, not_none, unlocated_whole}
 use Rattle.btrace.proofs.locating.locate.Goals as goal
 use Rattle.btrace.proofs.locating.locate.Goals.{in_default-located_status-2, in_default-located_status}

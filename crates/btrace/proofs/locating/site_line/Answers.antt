@@ -1,6 +1,6 @@
 use Rattle.std.proofs.Common.{◌∙◌, ◌++◌, ap, codes}
 use Rattle.btools.proofs.AddedTexts.{piece}
-use Rattle.btrace.specs.Programs.{entries_of}
+use Rattle.btools.specs.Functions.{entries_of}
 use Rattle.btrace.specs.Locates.{site_line}
 use Rattle.btrace.specs.RowTexts.{site_text}
 use Rattle.btrace.proofs.locating.site_line.Goals as goal

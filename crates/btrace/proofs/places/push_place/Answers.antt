@@ -1,7 +1,7 @@
 use Rattle.std.proofs.Common.{◌++◌, codes}
 use Rattle.std.proofs.lemmas.Result.{on_ok_weaker}
 use Rattle.btools.proofs.AddedTexts.{piece}
-use Rattle.btrace.specs.Programs.{entries_of}
+use Rattle.btools.specs.Functions.{entries_of}
 use Rattle.btrace.specs.RowTexts.{first_words, has_more, site_text, words_text}
 use Rattle.btrace.proofs.places.push_place.Goals as goal
 

@@ -1,7 +1,7 @@
 use Rattle.std.proofs.Common.{◌∙◌, ◌<◌, List, arith, length, subst, sym}
 use Rattle.std.proofs.lemmas.List.{take_all}
 use Rattle.blang.specs.Machine.{Call}
-use Rattle.btrace.specs.Programs.{entries_of}
+use Rattle.btools.specs.Functions.{entries_of}
 use Rattle.btrace.specs.Traces.{AddsPlaces}
 use Rattle.btrace.proofs.PlaceParts.{first_place, one_more, some_caller}
 use Rattle.btrace.proofs.places.push_places.Goals as goal

@@ -1,5 +1,5 @@
 use Rattle.std.proofs.Common.{take}
-use Rattle.btrace.specs.Programs.{entries_of}
+use Rattle.btools.specs.Functions.{entries_of}
 use Rattle.btrace.specs.Traces.{AddsPlaces}
 use Rattle.btrace.proofs.places.push_places.Given as goal
 

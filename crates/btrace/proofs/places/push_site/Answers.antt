@@ -1,7 +1,7 @@
 use Rattle.std.proofs.Common.{◌∙◌, ap, codes, decimal}
 use Rattle.std.proofs.lemmas.Result.{on_ok_weaker}
 use Rattle.btools.specs.Columns.{right}
-use Rattle.btrace.specs.Programs.{entries_of, function_with}
+use Rattle.btools.specs.Functions.{entries_of, function_with}
 use Rattle.btrace.specs.RowTexts.{name_in}
 use Rattle.btrace.proofs.PlaceParts.{site_parts}
 use Rattle.btrace.proofs.places.push_site.Goals as goal

@@ -5,7 +5,7 @@ use Rattle.std.proofs.lemmas.Result.{on_ok_weaker}
 use Rattle.btools.specs.Columns.{left, right}
 use Rattle.btools.proofs.AddedTexts.{piece}
 use Rattle.bmach.specs.declared.machine.Active.{Active}
-use Rattle.btrace.specs.Programs.{entries_of, function_with, placed_entry}
+use Rattle.btools.specs.Functions.{entries_of, function_with, placed_entry}
 use Rattle.btrace.specs.RowTexts.{instr_in, instr_text, name_in, operands_text}
 use Rattle.btrace.proofs.rows.push_step.Goals as goal
 

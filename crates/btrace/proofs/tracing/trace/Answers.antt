@@ -1,9 +1,9 @@
 use Rattle.std.proofs.Common.{◌≡◌, ◌∙◌, ℕ, List, [], None, Some, ap, inl, inr, refl, subst, sym}
 use Rattle.std.specs.Prelude.{option_map}
 use Rattle.bword.specs.ByteEnds.{outgoing_of}
-use Rattle.btrace.specs.Programs.{Placed, entries_of}
+use Rattle.btools.specs.Functions.{Placed, entries_of}
 use Rattle.btrace.specs.Traces.{ShowsRows, no_memory, not_begun, steps_from, stopped, unnamed, which_of}
-use Rattle.btrace.proofs.Functions.{data_fit}
+use Rattle.btools.proofs.Functions.{data_fit}
 use Rattle.btrace.proofs.Unresolved.{traced_whole}
 use Rattle.btrace.proofs.tracing.trace.Goals as goal
 

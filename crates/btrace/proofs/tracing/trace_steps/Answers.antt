@@ -2,7 +2,7 @@ use Rattle.std.proofs.Common.{◌≡◌, ◌∙◌, ℕ, ◌+◌, ap, arith, ref
 use Rattle.bword.specs.ByteEnds.{outgoing_of}
 use Rattle.blang.specs.declared.run.Outcome.TheVariants as outcome
 use Rattle.bmach.specs.declared.machine.Active.{Active}
-use Rattle.btrace.specs.Programs.{entries_of}
+use Rattle.btools.specs.Functions.{entries_of}
 use Rattle.btrace.specs.Traces.{ShowsRows, StepsGive, is_wanted, steps_from}
 use Rattle.btrace.proofs.Shown.{all_give, all_show, over_gives, over_shows, traced_none, traced_one}
 use Rattle.btrace.proofs.tracing.trace_steps.Goals as goal

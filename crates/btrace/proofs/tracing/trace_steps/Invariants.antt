@@ -1,5 +1,5 @@
 use Rattle.std.proofs.Common.{◌≡◌}
-use Rattle.btrace.specs.Programs.{entries_of}
+use Rattle.btools.specs.Functions.{entries_of}
 use Rattle.btrace.proofs.Shown.{IsTraced}
 use Rattle.btrace.proofs.tracing.trace_steps.Given as goal
 

@@ -10,7 +10,7 @@ use Rattle.blang.specs.CodeParts.{Function}
 use Rattle.blang.specs.declared.code.Definition.TheVariants as definition
 use Rattle.blang.specs.Layout.{Spot, data_end, label_count, load_fault, first_some, shape_of, size_of, some_if, spot_after, spots}
 use Rattle.bmach.proofs.Spots.{data_end-push, length-spots_after, spots_after-push, zip-push}
-use Rattle.btrace.specs.Programs.{Placed, functions_of, placed_function}
+use Rattle.btools.specs.Functions.{Placed, functions_of, placed_function}
 
 pub one_more : (ds : List Definition) (d : Definition) → functions_of (ds ++ d ∷ []) ≡ functions_of ds ++ filter_map placed_function ((spot_after (map shape_of ds) (shape_of d), d) ∷ [])
 one_more ds d =

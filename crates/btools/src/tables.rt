@@ -2,9 +2,9 @@
 ghost use Rattle.std.specs.Prelude.{◌<◌};
 ghost use Rattle.std.specs.List.{AllPairs};
 
+use crate::program::{Program, lines_in};
 use blang::{Definition, FunctionParts};
 use bmach::{FIRST_ADDRESS, size_of};
-use btools::{Program, lines_in};
 use std::alloc::{AllocError, Global};
 
 /// A function of a program.
@@ -28,7 +28,7 @@ pub struct Tables<'a> {
 impl<'a> Tables<'a> {
     ghost use Rattle.std.specs.Prelude.{◌≡◌, ◌≤◌, IfOk, map, option_map};
     ghost use Rattle.blang.specs.Layout.{data_end, shape_of};
-    ghost use Rattle.btrace.specs.Programs.{entries_of, function_with, function_named, functions_of, placed_entry};
+    ghost use Rattle.btools.specs.Functions.{LiesAt, entries_of, function_with, function_named, functions_of, placed_entry};
 
     pub fn new(alloc: Global, program: &'a Program) -> Result<Self, AllocError>
         requires { data_end (map shape_of program.now.definitions.items) ≤ 65536 }
@@ -54,9 +54,16 @@ impl<'a> Tables<'a> {
         Ok(Tables { entries, lines })
     }
 
-    /// The function whose string words begin there.
-    pub fn entry(&self, strings: u32) -> Option<Entry<'a>>
-        ensures { option_map placed_entry result ≡ function_with (entries_of self.now) strings }
+    /// The functions, in order.
+    pub fn entries(&self) -> &[Entry<'a>]
+        ensures { result.now ≡ self.now.entries.items }
+    {
+        self.entries.as_slice()
+    }
+
+    /// The number of the function whose string words begin there, from 0.
+    pub fn position(&self, strings: u32) -> Option<usize>
+        ensures { LiesAt self.now.entries.items strings result }
     {
         let mut low = 0;
         let mut size = self.entries.len();
@@ -65,7 +72,7 @@ impl<'a> Tables<'a> {
             let place = low + half;
             let entry = self.entries[place];
             if entry.strings == strings {
-                return Some(entry);
+                return Some(place);
             }
             if entry.strings < strings {
                 low = place + 1;
@@ -75,6 +82,16 @@ impl<'a> Tables<'a> {
             }
         }
         None
+    }
+
+    /// The function whose string words begin there.
+    pub fn entry(&self, strings: u32) -> Option<Entry<'a>>
+        ensures { option_map placed_entry result ≡ function_with (entries_of self.now) strings }
+    {
+        match self.position(strings) {
+            Some(place) => Some(self.entries[place]),
+            None => None,
+        }
     }
 
     /// The function of a name.

@@ -1,9 +1,9 @@
 use Rattle.std.proofs.Common.{◌≡◌, ◌≤◌, map, take}
 use Rattle.std.specs.List.{All}
 use Rattle.blang.specs.Layout.{data_end, shape_of}
-use Rattle.btrace.specs.Programs.{functions_of, placed_entry}
-use Rattle.btrace.proofs.Searching.{Ascend}
-use Rattle.btrace.proofs.tables.Tables.new.Given as goal
+use Rattle.btools.specs.Functions.{functions_of, placed_entry}
+use Rattle.btools.proofs.Searching.{Ascend}
+use Rattle.btools.proofs.tables.Tables.new.Given as goal
 
 -- the functions so far, and where the next definition lies
 abbrev pub invariant-loop-definition : goal.invariant-loop-definition

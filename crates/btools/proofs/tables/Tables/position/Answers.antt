@@ -1,16 +1,18 @@
-use Rattle.std.proofs.Common.{◌∙◌, ◌+◌, ◌/◌, Some, ap, arith, sym}
-use Rattle.btrace.specs.Programs.{placed_entry}
-use Rattle.btrace.specs.declared.tables.Entry.{Entry}
-use Rattle.btrace.proofs.Searching.{above_all, below_all, higher, with_neither, with_one}
-use Rattle.btrace.proofs.tables.Tables.entry.Goals as goal
+use Rattle.std.proofs.Common.{◌∙◌, ◌+◌, ◌/◌, ◌<◌, ap, arith, length, sym}
+use Rattle.std.proofs.lemmas.List.{get_or_default}
+use Rattle.btools.specs.declared.tables.Entry.{Entry}
+use Rattle.btools.proofs.Searching.{above_all, below_all, higher, with_neither}
+use Rattle.btools.proofs.tables.Tables.position.Goals as goal
 
 pub returns-then-entry-strings : goal.returns-then-entry-strings
 returns-then-entry-strings c =
     let es = c.args.self.now.entries.items in
     let place = c.loop-size.low + c.loop-size.size / 2 in
     let found = c.index-entry.result.now in
-    let is = c.index-entry.ensures in
-    sym (with_one es c.args.strings place found c.args.self.now.in_order (omega (arith, c.loop-size.invariant.within, c.loop-size-test.true)) (ap (λ (x : Entry). x.strings) (sym is) ∙ c.if-entry-strings.true) ∙ ap (λ x. Some (placed_entry x)) (sym is))
+    let within : place < length es = omega (arith, c.loop-size.invariant.within, c.loop-size-test.true) in (
+      within,
+      λ d. ap (λ (x : Entry). x.strings) (sym (c.index-entry.ensures ∙ get_or_default es place found d within)) ∙ c.if-entry-strings.true,
+    )
 
 pub loop-size-preserved-then-entry-strings-2 : goal.loop-size-preserved-then-entry-strings-2
 loop-size-preserved-then-entry-strings-2 c = record {
@@ -28,5 +30,5 @@ loop-size-preserved c = record {
 
 pub returns : goal.returns
 returns c =
-    sym (with_neither c.args.self.now.entries.items c.args.strings c.loop-size.low c.loop-size.invariant.before
-    (λ k d le within. c.loop-size.invariant.after k d (omega (arith, le, c.loop-size-test.false)) within))
+    with_neither c.args.self.now.entries.items c.args.strings c.loop-size.low c.loop-size.invariant.before
+    (λ k d le within. c.loop-size.invariant.after k d (omega (arith, le, c.loop-size-test.false)) within)

@@ -1,12 +1,12 @@
--- Promise: the functions of a program, as a trace tells of them.
-use Rattle.std.specs.Prelude.{ℕ, ◌==◌, List, map, filter_map, find, zip, Option, Some, None}
+-- Promise: the functions of a program, each with where it lies.
+use Rattle.std.specs.Prelude.{◌≡◌, ◌<◌, ℕ, ◌==◌, List, map, filter_map, find, get_or, length, zip, Option, Some, None}
 use Rattle.std.specs.Str.{bytes_eq}
 use Rattle.blang.specs.CodeParts.{Function, function_of}
 use Rattle.blang.specs.Layout.{Spot, shape_of, spots}
 use Rattle.blang.specs.declared.code.Definition.{Definition}
 use Rattle.blang.specs.declared.code.Definition.TheVariants as definition
-use Rattle.btrace.specs.declared.tables.Entry.{Entry}
-use Rattle.btrace.specs.declared.tables.Tables.{Tables}
+use Rattle.btools.specs.declared.tables.Entry.{Entry}
+use Rattle.btools.specs.declared.tables.Tables.{Tables}
 
 -- a function with the address of its first string word
 pub record Placed : Type 0 where
@@ -35,3 +35,8 @@ placed_entry e = record { strings = e.strings; function = function_of e.parts.no
 -- the functions that a table has
 abbrev pub entries_of : Tables → List Placed
 entries_of t = map placed_entry t.entries.items
+
+-- A function of this number has its string words there; or none has.
+abbrev pub LiesAt : List Entry → (strings : ℕ) → Option ℕ → Type 0
+LiesAt es strings None = (k : ℕ) (d : Entry) → k < length es → (get_or es k d).strings ≡ strings → ⊥
+LiesAt es strings (Some i) = (i < length es) × ((d : Entry) → (get_or es i d).strings ≡ strings)

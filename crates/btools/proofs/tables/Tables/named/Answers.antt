@@ -1,8 +1,8 @@
 use Rattle.std.proofs.Common.{◌∙◌, ap, map, sym}
 use Rattle.std.specs.Str.{bytes_eq}
-use Rattle.btrace.specs.Programs.{Placed, function_named, placed_entry}
-use Rattle.btrace.proofs.Finding.{found, missed}
-use Rattle.btrace.proofs.tables.Tables.named.Goals as goal
+use Rattle.btools.specs.Functions.{Placed, function_named, placed_entry}
+use Rattle.btools.proofs.Finding.{found, missed}
+use Rattle.btools.proofs.tables.Tables.named.Goals as goal
 
 pub returns-then-eq : goal.returns-then-eq
 returns-then-eq c =

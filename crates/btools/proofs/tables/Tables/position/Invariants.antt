@@ -1,6 +1,6 @@
 use Rattle.std.proofs.Common.{ℕ, ◌+◌, ◌<◌, ◌≤◌, get_or, length}
-use Rattle.btrace.specs.declared.tables.Entry.{Entry}
-use Rattle.btrace.proofs.tables.Tables.entry.Given as goal
+use Rattle.btools.specs.declared.tables.Entry.{Entry}
+use Rattle.btools.proofs.tables.Tables.position.Given as goal
 
 -- the function is none of those before the place, nor of those after the size
 abbrev pub invariant-loop-size : goal.invariant-loop-size

@@ -8,9 +8,9 @@ use Rattle.std.proofs.lemmas.List.Quantifiers.{all_pairs_push}
 use Rattle.blang.specs.Layout.{shape_of, size_of}
 use Rattle.blang.specs.declared.code.Definition.{Definition}
 use Rattle.blang.specs.declared.code.Definition.TheVariants as definition
-use Rattle.btrace.specs.Programs.{function_with, placed_entry}
-use Rattle.btrace.specs.declared.tables.Entry.{Entry}
-use Rattle.btrace.proofs.Finding.{other_number, same_number}
+use Rattle.btools.specs.Functions.{LiesAt, function_with, placed_entry}
+use Rattle.btools.specs.declared.tables.Entry.{Entry}
+use Rattle.btools.proofs.Finding.{other_number, same_number}
 
 at_or_before : (k m : ℕ) → k ≤ m → (k < m) ⊎ (k ≡ m)
 at_or_before zero zero le = inr refl
@@ -61,14 +61,12 @@ higher a b other le = grind arith
 
 -- those before a place are too low, and the others too high
 pub with_neither : (es : List Entry) (strings place : ℕ) → ((k : ℕ) (d : Entry) → k < place → (get_or es k d).strings < strings) → ((k : ℕ) (d : Entry) → place ≤ k → k < length es → strings < (get_or es k d).strings)
-    → function_with (map placed_entry es) strings ≡ None
-with_neither es strings place before after =
-    with_none es strings
-    (λ k d within same.
+    → LiesAt es strings None
+with_neither es strings place before after = λ k d within same.
     ⊎_elim
     (λ at. (let high = after k d (omega (arith, at)) within in omega (arith, high, same)))
     (⊎_elim (λ lt. (let low = before k d lt in omega (arith, low, same))) (λ gt. (let high = after k d (omega (arith, gt)) within in omega (arith, high, same))))
-    (cases_order k place))
+    (cases_order k place)
 
 -- What a definition leaves: the functions ascend, and the next address is past them.
 module _ (es new : List Entry) (address size : ℕ) (below : All (λ e. e.strings ≤ address) es) where

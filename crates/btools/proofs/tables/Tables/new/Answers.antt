@@ -2,11 +2,11 @@ use Rattle.std.proofs.Common.{◌∙◌, ◌+◌, ◌≤◌, ◌<◌, List, [], 
 use Rattle.std.proofs.lemmas.List.{map-append}
 use Rattle.blang.specs.Layout.{data_end, shape_of}
 use Rattle.blang.specs.declared.code.Definition.{Definition}
-use Rattle.btrace.specs.Programs.{placed_entry}
-use Rattle.btrace.proofs.Searching.{Ascend, further, one_more, some_word}
-use Rattle.btrace.proofs.Functions.{ends_within, next_end, with_function, with_other}
-use Rattle.btrace.proofs.tables.Tables.new.Goals.{in-Function+in_ok-push, in_default}
-use Rattle.btrace.proofs.tables.Tables.new.Goals as goal
+use Rattle.btools.specs.Functions.{placed_entry}
+use Rattle.btools.proofs.Searching.{Ascend, further, one_more, some_word}
+use Rattle.btools.proofs.Functions.{ends_within, next_end, with_function, with_other}
+use Rattle.btools.proofs.tables.Tables.new.Goals.{in-Function+in_ok-push, in_default}
+use Rattle.btools.proofs.tables.Tables.new.Goals as goal
 
 pub overflow_add-strings : goal.overflow_add-strings
 overflow_add-strings c =

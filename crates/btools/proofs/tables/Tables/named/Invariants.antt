@@ -1,6 +1,6 @@
 use Rattle.std.proofs.Common.{◌≡◌, None, map, take}
-use Rattle.btrace.specs.Programs.{function_named, placed_entry}
-use Rattle.btrace.proofs.tables.Tables.named.Given as goal
+use Rattle.btools.specs.Functions.{function_named, placed_entry}
+use Rattle.btools.proofs.tables.Tables.named.Given as goal
 
 -- none of those so far has the name
 abbrev pub invariant-loop-entry : goal.invariant-loop-entry
