@@ -7,7 +7,7 @@ ghost use Rattle.bdraw.specs.declared.shapes.Shape.TheVariants as shape;
 use crate::scene::{Memory, Moment, Scene, function_of};
 use crate::shapes::{Cell, Fill, HALF_BOX, Label, Shape, Style};
 use blang::{Definition, FunctionParts};
-use bmach::{Active, FIRST_ADDRESS, name_of, size_of};
+use bmach::{Active, FIRST_ADDRESS, LIBRARY, name_of, size_of};
 use btools::{Frame, Program, Text, push_characters};
 use bword::Name;
 use std::alloc::{AllocError, Global};
@@ -27,11 +27,6 @@ const FIRST_BOX: u32 = 160;
 const BOX_STEP: u32 = 62;
 
 const ROW_STEP: u32 = 50;
-
-/// The names of the words that each program has.
-const LIBRARY: [&[u8]; 7] = [
-    b"unused", b"char", b"lchar", b"getchar", b"putchar", b"printn", b"exit",
-];
 
 /// The shapes of a picture, from above.
 #[derive(Drop)]
@@ -139,10 +134,13 @@ impl Picture {
     fn add_library_names(&mut self, alloc: Global, y: u32) -> Result<(), AllocError>
         ensures { OnOk result (drawn self.new.shapes.items ≡ drawn self.old.shapes.items) }
     {
+        let mut unused = Text::new(alloc);
+        unused.push(b"unused")?;
+        self.add_above(y, 0, unused)?;
         for place in 0..LIBRARY.len() {
             let mut above = Text::new(alloc);
-            above.push(LIBRARY[place])?;
-            self.add_above(y, place as u16, above)?;
+            above.push(LIBRARY[place].0.as_bytes())?;
+            self.add_above(y, place as u16 + 1, above)?;
         }
         Ok(())
     }

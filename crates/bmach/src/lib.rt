@@ -26,7 +26,7 @@ mod stepper;
 mod stored;
 mod text;
 
-pub use addresses::FIRST_ADDRESS;
+pub use addresses::{FIRST_ADDRESS, LIBRARY};
 use blang::Library;
 pub use blang::{LoadFault, Outcome, Trap};
 pub use image::Image;

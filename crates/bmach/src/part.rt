@@ -7,7 +7,7 @@ ghost use Rattle.bmach.specs.Parts.{AddsDefinition};
 
 use crate::LoadFault;
 use crate::address_table::Addresses;
-use crate::addresses::FIRST_ADDRESS;
+use crate::addresses::FIRST_FUNCTION;
 use crate::image::LoadedFunction;
 use crate::resolve::{push_values, resolved_code};
 use blang::{Definition, Function, Simple, Vector};
@@ -55,7 +55,7 @@ impl Part {
         ensures { AddsDefinition (known_in addresses.now) self.old (definition.Function function.now) result self.new }
     {
         let parts = function.parts();
-        let value = FIRST_ADDRESS + self.functions.len() as u16;
+        let value = FIRST_FUNCTION + self.functions.len() as u16;
         self.words.push(value)?;
         let strings = self.words.len() as u32;
         self.words.extend_from_slice(&parts.strings)?;

@@ -11,16 +11,20 @@ use Rattle.bword.specs.declared.edition.Edition.TheVariants as editions
 use Rattle.bword.proofs.Putting.{Writes-none, Writes-append, Refuses-following, Refuses-short}
 use Rattle.bword.proofs.Taking.{Took-none}
 use Rattle.bcode.specs.Ahead.{TakesBytes}
-use Rattle.bcode.specs.Readers.{CodeReader, all_ahead, opening_read, HasTaken, Gave, TextEnded, StoppedAtLine, MemoryRefused, ReadBroke, SameReader}
+use Rattle.bcode.specs.Readers.{CodeReader, GivesAfter, all_ahead, opening_read, HasTaken, Gave, TextEnded, StoppedAtLine, MemoryRefused, ReadBroke, SameReader, stop_of}
+use Rattle.bcode.specs.declared.code_step.CodeStep.TheVariants as step
 use Rattle.blang.specs.Text.{opening, header_line, definition_text, end_text, IsTextOf, IsWithinRanges}
 use Rattle.bcode.specs.Faults.{IsFaultLineIn}
 use Rattle.blang.specs.declared.code.Definition.{Definition}
 use Rattle.bcode.specs.Streams.{FailsAfter}
 use Rattle.bcode.proofs.StreamLaws.{FailsAfter-took, FailsAfter-append}
 use Rattle.bcode.proofs.FaultLaws.{code_spelled, unique_code}
-use Rattle.brun.specs.Migrates.{rewritten, Becomes, Rewriting, RewritingGives, halt_of, first_line, definition, last_line, OutFailed}
-use Rattle.brun.specs.declared.migrating.Halt.{Halt}
-use Rattle.brun.specs.declared.migrating.Halt.TheVariants as halt
+use Rattle.brun.specs.Migrates.{rewritten, Becomes, Rewriting, RewritingGives, Migrates, faulty, no_memory, first_line, definition, last_line, OutFailed}
+use Rattle.brun.specs.Runs.{NotRead}
+use Rattle.bcode.specs.declared.code_stop.CodeStop.{CodeStop}
+use Rattle.bcode.specs.declared.code_stop.CodeStop.TheVariants as stop
+use Rattle.bcode.specs.declared.fault.CodeFault.{CodeFault}
+use Rattle.bcode.specs.declared.fault.CodeFault.TheVariants as code_fault
 use Rattle.brun.proofs.AlikeLaws.{runs_as}
 use Rattle.brun.proofs.TextLaws.{NoFirst, are_whole, texts_push, rewritten-push, becomes_after, becomes_whole}
 
@@ -80,7 +84,7 @@ module _ (old r new : CodeReader) (opened now : Outgoing) (one : old.first.editi
         let b = becomes_after (taken ++ more) bytes ds (rest ++ more) p.since.within (ap (λ l. l ++ more) comes ∙ append_assoc (flat_map definition_text ds) rest more) becomes in
         subst (λ t. Began out t now) (sym b.1) (began_written b.0 written)
 
-    pub stopped : (n : ℕ) → StoppedAtLine ds r n new → RewritingGives (at now) (Err (halt.Line n))
+    stopped : (n : ℕ) → StoppedAtLine ds r n new → RewritingGives (at now) (Err (stop.Fault (code_fault.Line n)))
     stopped n h = (
       h.taken,
       (from_start h.taken h.reads).took,
@@ -110,7 +114,7 @@ module _ (old r new : CodeReader) (opened now : Outgoing) (one : old.first.editi
             h.none more can d rest inside
             (spelled more ∙ ap (λ l. flat_map definition_text ds ++ l) same ∙ ap (λ t. t ++ flat_map definition_text ds ++ (definition_text d ++ rest)) (sym (ap opening first_one)))
 
-    pub broke : ReadBroke ds r new → RewritingGives (at now) (Err halt.Device)
+    pub broke : ReadBroke ds r new → RewritingGives (at now) (Err stop.Device)
     broke h =
         let before = reads_texts r ds first_one p.since in
         let same = p.keeps.first in
@@ -135,7 +139,7 @@ module _ (old r new : CodeReader) (opened now : Outgoing) (one : old.first.editi
             (ap (λ t. t ++ flat_map definition_text ds ++ h.breaks.taken) (opened_one r first_one) ∙ ap (λ l. flat_map definition_text ds ++ l) same
             ∙ ap (λ t. t ++ flat_map definition_text ds ++ (definition_text d ++ following)) (sym (ap opening first_one)))
 
-    pub no_room : MemoryRefused ds r new → RewritingGives (at now) (Err halt.Memory)
+    no_room : MemoryRefused ds r new → RewritingGives (at now) (Err (stop.Fault code_fault.Memory))
     no_room h = (
       h.taken,
       (from_start h.taken h.reads).took,
@@ -156,6 +160,10 @@ module _ (old r new : CodeReader) (opened now : Outgoing) (one : old.first.editi
       where
         comes : h.taken ≡ flat_map definition_text ds ++ (header_line h.next ++ h.rest)
         comes = h.spelled ∙ ap (λ t. t ++ flat_map definition_text ds ++ (header_line h.next ++ h.rest)) (ap opening first_one)
+
+    pub faulted : (why : CodeFault) → GivesAfter ds r (step.Fault why) new → RewritingGives (at now) (Err (stop.Fault why))
+    faulted (code_fault.Line n) h = stopped n h
+    faulted code_fault.Memory h = no_room h
 
     -- the last line was written
     pub ended : (last : Outgoing) → TextEnded ds r new → Writes now end_text last → RewritingGives (at last) (Ok tt)
@@ -197,7 +205,7 @@ module _ (old r new : CodeReader) (opened now : Outgoing) (one : old.first.editi
         whole : IsTextOf editions.One h.taken ds
         whole = subst (λ e. IsTextOf e h.taken ds) first_one h.whole
 
-    pub end_refused : (last : Outgoing) (fault : EndFault) → TextEnded ds r new → Refuses now end_text fault last → RewritingGives (at last) (Err (halt_of fault))
+    pub end_refused : (last : Outgoing) (fault : EndFault) → TextEnded ds r new → Refuses now end_text fault last → RewritingGives (at last) (Err (stop_of fault))
     end_refused last end_fault.Device h refused = (h.taken, (from_start h.taken h.reads).took, inr (end_failed last end_fault.Device h refused))
     end_refused last end_fault.Memory h refused = (h.taken, (from_start h.taken h.reads).took, inr (end_failed last end_fault.Memory h refused))
 
@@ -218,7 +226,7 @@ module _ (old r new : CodeReader) (opened now : Outgoing) (one : old.first.editi
             subst (λ t. Began out t last) (ap (λ l. l ++ b.0) (sym (rewritten-push ds d)) ∙ sym b.1) (began_refused (Refuses-short b.0 (Refuses-following written refused)));
       }
 
-      pub definition_refused : (last : Outgoing) (fault : EndFault) → Refuses now (definition_text d) fault last → RewritingGives (at last) (Err (halt_of fault))
+      pub definition_refused : (last : Outgoing) (fault : EndFault) → Refuses now (definition_text d) fault last → RewritingGives (at last) (Err (stop_of fault))
       definition_refused last end_fault.Device refused = (taken, taken_all.took, inr (definition_failed last end_fault.Device refused))
       definition_refused last end_fault.Memory refused = (taken, taken_all.took, inr (definition_failed last end_fault.Memory refused))
 
@@ -235,9 +243,9 @@ pub passing_none : (r : CodeReader) (out : Outgoing) → HasTaken r [] → Passi
 passing_none r out s = record { definitions = []; since = s; written = Writes-none out; keeps = record { first = refl; lender = refl } }
 
 -- the exit of a `?` after a write
-pub refused_exit : (w : Rewriting) (r : Result (Unit {0}) Halt) (fault : EndFault) → IsErrAnd r (λ h. h ≡ halt_of fault) → RewritingGives w (Err (halt_of fault)) → RewritingGives w r
+pub refused_exit : (w : Rewriting) (r : Result (Unit {0}) CodeStop) (fault : EndFault) → IsErrAnd r (λ h. h ≡ stop_of fault) → RewritingGives w (Err (stop_of fault)) → RewritingGives w r
 refused_exit w (Ok u) fault same gives = absurd same
-refused_exit w (Err h) fault same gives = subst (λ (e : Halt). RewritingGives w (Err e)) (sym same) gives
+refused_exit w (Err h) fault same gives = subst (λ (e : CodeStop). RewritingGives w (Err e)) (sym same) gives
 
 -- the first line was refused, before anything was read
 begin_failed : (input : Incoming) (out following : Outgoing) (fault : EndFault) → Refuses out (opening editions.Two) fault following
@@ -251,6 +259,11 @@ begin_failed input out following fault refused = record {
 }
 
 pub begin_refused : (input : Incoming) (out following : Outgoing) (fault : EndFault) → Refuses out (opening editions.Two) fault following
-    → RewritingGives (record { input = input; input_after = input; out = out; out_after = following }) (Err (halt_of fault))
+    → RewritingGives (record { input = input; input_after = input; out = out; out_after = following }) (Err (stop_of fault))
 begin_refused input out following end_fault.Device refused = ([], Took-none input, inr (begin_failed input out following end_fault.Device refused))
 begin_refused input out following end_fault.Memory refused = ([], Took-none input, inr (begin_failed input out following end_fault.Memory refused))
+
+-- a text that was not written to its end
+pub refused_text : (w : Rewriting) (why : CodeFault) {line following : Outgoing} {status : ℕ} → RewritingGives w (Err (stop.Fault why)) → NotRead why line following status → Migrates w line following status
+refused_text w (code_fault.Line n) gives told = faulty n gives told
+refused_text w code_fault.Memory gives told = no_memory gives told.0 told.1

@@ -14,8 +14,9 @@ use Rattle.blang.specs.declared.code.Definition.{Definition}
 use Rattle.blang.specs.declared.status.TheConstants.{DONE, REFUSED, DEVICE, MEMORY}
 use Rattle.blang.specs.Reports.{Reported, report_text, RunEnds}
 use Rattle.brun.specs.Runs.{RunsText}
-use Rattle.brun.specs.declared.migrating.Halt.{Halt}
-use Rattle.brun.specs.declared.migrating.Halt.TheVariants as halt
+use Rattle.bcode.specs.declared.code_stop.CodeStop.{CodeStop}
+use Rattle.bcode.specs.declared.code_stop.CodeStop.TheVariants as stop
+use Rattle.bcode.specs.declared.fault.CodeFault.TheVariants as code_fault
 use Rattle.blang.specs.declared.run.Report.TheVariants as report
 
 -- the text of these definitions in the second edition, without the last line
@@ -141,24 +142,20 @@ pub record OutFailed (w : Rewriting) (taken : List ℕ) (fault : EndFault) : Typ
   pub refused : IsRefused w taken fault
   pub begun : HasBegun w taken
 
--- how an output that refused stops the writing
-abbrev pub halt_of : EndFault → Halt
-halt_of end_fault.Device = halt.Device
-halt_of end_fault.Memory = halt.Memory
-
 -- some bytes were taken, of which this holds
 abbrev pub Taking : Rewriting → (List ℕ → Type 0) → Type 0
 Taking w P = (taken : List ℕ) × Took w.input taken w.input_after × P taken
 
 -- what was read and written, by the answer
-abbrev pub RewritingGives : Rewriting → Result (Unit {0}) Halt → Type 0
+abbrev pub RewritingGives : Rewriting → Result (Unit {0}) CodeStop → Type 0
 RewritingGives w (Ok u) = Taking w (IsMigrated w)
-RewritingGives w (Err (halt.Line n)) = Taking w (λ taken. HasBadLine w taken n)
-RewritingGives w (Err halt.Device) = Taking w (λ taken. InputFailed w taken ⊎ OutFailed w taken end_fault.Device)
-RewritingGives w (Err halt.Memory) = Taking w (λ taken. NoRoom w taken ⊎ OutFailed w taken end_fault.Memory)
+RewritingGives w (Err (stop.Fault (code_fault.Line n))) = Taking w (λ taken. HasBadLine w taken n)
+RewritingGives w (Err stop.Device) = Taking w (λ taken. InputFailed w taken ⊎ OutFailed w taken end_fault.Device)
+RewritingGives w (Err (stop.Fault code_fault.Memory)) =
+    Taking w (λ taken. NoRoom w taken ⊎ OutFailed w taken end_fault.Memory)
 
 -- the same from when a reader was made, after what was written then
-abbrev pub DefinitionsGive : CodeReader → Outgoing → Result (Unit {0}) Halt → CodeReader → Outgoing → Type 0
+abbrev pub DefinitionsGive : CodeReader → Outgoing → Result (Unit {0}) CodeStop → CodeReader → Outgoing → Type 0
 DefinitionsGive old opened result new following = (out : Outgoing) → Writes out (opening editions.Two) opened
     → RewritingGives (record {
       input = old.first.source;

@@ -2,37 +2,14 @@
 ghost use Rattle.std.specs.Prelude.{◌≡◌, []};
 ghost use Rattle.bword.specs.declared.edition.Edition.TheVariants as editions;
 ghost use Rattle.bcode.specs.Readers.{SameReader, HasTaken};
-ghost use Rattle.brun.specs.Migrates.{Migrates, RewritingGives, DefinitionsGive, halt_of};
+ghost use Rattle.brun.specs.Migrates.{Migrates, RewritingGives, DefinitionsGive};
 ghost use Rattle.brun.specs.Unmigrated.{Unmigrated};
 
-use crate::report::write_report;
-use bcode::{CodeFault, CodeReader, CodeStep, write_begin, write_definition, write_end};
-use blang::Report;
+use crate::text::refuse;
+use bcode::{CodeReader, CodeStep, CodeStop, write_begin, write_definition, write_end};
 use blang::status::{self, Status};
-use bword::{ByteIn, ByteOut, Edition, EndFault};
+use bword::{ByteIn, ByteOut, Edition};
 use std::alloc::Global;
-
-/// Why no more is written.
-#[derive(Clone, Copy)]
-pub(crate) enum Halt {
-    /// No code text of the first edition goes on with this line.
-    Line(u64),
-    /// A read or a write failed.
-    Device,
-    /// Out of memory.
-    Memory,
-}
-
-impl From<EndFault> for Halt {
-    ghost from_gives = { λ fault halt. halt ≡ halt_of fault };
-
-    fn from(fault: EndFault) -> Self {
-        match fault {
-            EndFault::Device => Halt::Device,
-            EndFault::Memory => Halt::Memory,
-        }
-    }
-}
 
 /// Writes a code text of the first edition as one of the second, each definition when it has been read.
 ///
@@ -56,9 +33,8 @@ pub fn migrate<I: ByteIn, O: ByteOut, D: ByteOut>(
 {
     match migrate_code(alloc, input, out) {
         Ok(()) => status::DONE,
-        Err(Halt::Line(line)) => write_report(Report::Code(line), status::REFUSED, diag),
-        Err(Halt::Device) => status::DEVICE,
-        Err(Halt::Memory) => status::MEMORY,
+        Err(CodeStop::Fault(fault)) => refuse(fault, diag),
+        Err(CodeStop::Device) => status::DEVICE,
     }
 }
 
@@ -67,7 +43,7 @@ fn migrate_code<I: ByteIn, O: ByteOut>(
     alloc: Global,
     input: &mut I,
     out: &mut O,
-) -> Result<(), Halt>
+) -> Result<(), CodeStop>
     ensures gives { RewritingGives (record {
       input = I.incoming input.old;
       input_after = I.incoming input.new;
@@ -89,7 +65,7 @@ fn migrate_code<I: ByteIn, O: ByteOut>(
 fn write_definitions<I: ByteIn, O: ByteOut>(
     reader: &mut CodeReader<I>,
     out: &mut O,
-) -> Result<(), Halt>
+) -> Result<(), CodeStop>
     requires since { HasTaken reader.old [] }
     requires edition { reader.old.first.edition ≡ editions.One }
     ensures gives { DefinitionsGive reader.old (O.outgoing out.old) result reader.new (O.outgoing out.new) }
@@ -100,9 +76,8 @@ fn write_definitions<I: ByteIn, O: ByteOut>(
         match reader.next() {
             CodeStep::Definition(definition) => write_definition(definition.view(), out)?,
             CodeStep::End => return Ok(write_end(out)?),
-            CodeStep::Fault(CodeFault::Line(line)) => return Err(Halt::Line(line)),
-            CodeStep::Fault(CodeFault::Memory) => return Err(Halt::Memory),
-            CodeStep::Device => return Err(Halt::Device),
+            CodeStep::Fault(fault) => return Err(CodeStop::Fault(fault)),
+            CodeStep::Device => return Err(CodeStop::Device),
             CodeStep::Closed => unreachable!(),
         }
     }

@@ -37,8 +37,8 @@ pub fn run_text<I: ByteIn, O: ByteOut, D: ByteOut>(
     }
 }
 
-// The status of a text that was not read, and its line if it is no code text.
-fn refuse<D: ByteOut>(fault: CodeFault, diag: &mut D) -> Status
+/// The status of a text that was not read, and its line if it is no code text.
+pub(crate) fn refuse<D: ByteOut>(fault: CodeFault, diag: &mut D) -> Status
     ensures gives { NotRead fault (D.outgoing diag.old) (D.outgoing diag.new) result }
     ensures diag_lender { D.lender diag.new ≡ D.lender diag.old }
 {

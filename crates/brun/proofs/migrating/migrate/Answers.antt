@@ -1,6 +1,6 @@
-use Rattle.brun.specs.Migrates.{faulty}
+use Rattle.brun.proofs.MigrateSteps.{refused_text}
 use Rattle.brun.proofs.migrating.migrate.Goals as goal
 
-pub returns-in-Err-Line-clause-migrates : goal.returns-in-Err-Line-clause-migrates
-returns-in-Err-Line-clause-migrates g c =
-    faulty c.in-Err-Line.line (rw c.in-Err-Line.field-0-is at c.in-Err-Line.ensures.gives) c.write_report.ensures.gives
+pub returns-in-Err-Fault-clause-migrates : goal.returns-in-Err-Fault-clause-migrates
+returns-in-Err-Fault-clause-migrates g c =
+    refused_text _ c.in-Err-Fault.fault (rw c.in-Err-Fault.field-0-is at c.in-Err-Fault.ensures.gives) c.refuse.ensures.gives

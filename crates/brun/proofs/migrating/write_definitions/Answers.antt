@@ -1,5 +1,5 @@
 use Rattle.std.proofs.Common.{refl, ◌∙◌}
-use Rattle.brun.proofs.MigrateSteps.{passing_none, passing_more, stopped, broke, no_room, ended, end_refused, definition_refused, refused_exit}
+use Rattle.brun.proofs.MigrateSteps.{passing_none, passing_more, faulted, broke, ended, end_refused, definition_refused, refused_exit}
 use Rattle.brun.proofs.migrating.write_definitions.Goals as goal
 
 pub definitions-init : goal.definitions-init
@@ -49,15 +49,10 @@ returns-in-End-clause-gives g c = λ out begun.
     (c.in-End.ensures.gives.1 c.definitions.invariant.0.definitions c.definitions.invariant.0.since)
     c.in_ok-write_end-in-End.ensures.gives
 
-pub returns-in-Fault-Line-clause-gives : goal.returns-in-Fault-Line-clause-gives
-returns-in-Fault-Line-clause-gives g c = λ out begun.
-    stopped _ _ _ _ _ c.requires.edition c.definitions.invariant.0 c.in-Fault-Line.ensures.keeps out begun c.in-Fault-Line.line
-    ((rw c.in-Fault-Line.field-0-is at c.in-Fault-Line.ensures.gives).1 c.definitions.invariant.0.definitions c.definitions.invariant.0.since)
-
-pub returns-in-Fault-Memory-clause-gives : goal.returns-in-Fault-Memory-clause-gives
-returns-in-Fault-Memory-clause-gives g c = λ out begun.
-    no_room _ _ _ _ _ c.requires.edition c.definitions.invariant.0 c.in-Fault-Memory.ensures.keeps out begun
-    ((rw c.in-Fault-Memory.field-0-is at c.in-Fault-Memory.ensures.gives).1 c.definitions.invariant.0.definitions c.definitions.invariant.0.since)
+pub returns-in-Fault-clause-gives : goal.returns-in-Fault-clause-gives
+returns-in-Fault-clause-gives g c = λ out begun.
+    faulted _ _ _ _ _ c.requires.edition c.definitions.invariant.0 c.in-Fault.ensures.keeps out begun c.in-Fault.fault
+    (c.in-Fault.ensures.gives.1 c.definitions.invariant.0.definitions c.definitions.invariant.0.since)
 
 pub returns-in-Device-clause-gives : goal.returns-in-Device-clause-gives
 returns-in-Device-clause-gives g c = λ out begun.
