@@ -1,6 +1,6 @@
 -- Answers that the contracts of `serve` and `refuse_words` exclude, whatever is proved of the body that gives them.
-use Rattle.std.proofs.Common.{◌≡◌, ◌∙◌, ◌⊎◌, ℕ, List, [], ◌∷◌, Some, ap, refl, sym, subst, arith, inl, inr}
-use Rattle.std.specs.Prelude.{codes}
+use Rattle.std.proofs.Common.{◌≡◌, ◌∙◌, ◌⊎◌, ℕ, List, [], ◌∷◌, Some, ap, refl, sym, subst, arith, inl, inr, map, append-nil}
+use Rattle.std.specs.Prelude.{Contains, codes}
 use Rattle.std.specs.Io.KnownBytes.{Appends}
 use Rattle.clap.specs.Words.{IsAmong, Text, fault_of, subcommand_of}
 use Rattle.clap.specs.declared.error.kind.ErrorKind.{ErrorKind}
@@ -19,8 +19,9 @@ use Rattle.brun.proofs.OneRun.{one_run}
 use Rattle.bcommand.specs.CommandLine.{Question, ask, asked, command_line, go, run}
 use Rattle.bcli.specs.declared.shelf.MemFile.{MemFile}
 use Rattle.bcli.specs.Shelves.{Holdings, holding}
-use Rattle.bcli.specs.Serves.{Answers, Does, HasNoFile, IsHelp, NamesFile, RefusesWords, SaysNothing, Serves, did, refused, no_memory}
-use Rattle.bcli.specs.Excluded.{AreWrong, Excluded, FileIsRead, alone}
+use Rattle.bsources.specs.Files.{Files, NamedText}
+use Rattle.bcli.specs.Serves.{NamesLib, Reads, files_read, whole, Answers, Does, HasNoFile, IsHelp, NamesFile, RefusesWords, SaysNothing, Serves, did, refused, no_memory}
+use Rattle.bcli.specs.Excluded.{AreWrong, Excluded, FileIsRead, alone, files_alone}
 
 fault_is_told : (f : EndFault) → 0 ≡ status_of f → ⊥
 fault_is_told end_fault.Device e = omega (arith, e)
@@ -186,20 +187,42 @@ module _ (file : MemFile) where
   run_alone steps ends status (inl none) = inr (no_file ends status none)
   run_alone steps ends status (inr runs) = inl (subst (λ t. RunsText steps t ends status) runs.1.1 runs.2)
 
+  -- no file follows
+  none_follow : (texts : List NamedText) → map (λ (it : NamedText). it.name) texts ≡ [] → texts ≡ []
+  none_follow [] e = refl
+  none_follow (it ∷ texts) e = cc
+
+  no_lib : (names : List Text) (ends : RunEnds) (status : ℕ) → names ≡ [] → NamesLib (holding file) names ends status → ⊥
+  no_lib names ends status e told = nothing (subst (λ (ns : List Text). Contains ns told.0) e told.1)
+    where
+      nothing : Contains [] told.0 → ⊥
+      nothing h = omega (arith, h.1)
+
+  whole_alone : (edition : Edition) (r : Reads (holding file) (alone file edition)) → whole r ≡ file.text.now
+  whole_alone edition r = rw (none_follow r.libs.texts r.libs.names_are, append-nil r.text) r.held.1
+
+  files_of_alone : (edition : Edition) (r : Reads (holding file) (alone file edition)) → files_read r ≡ files_alone file
+  files_of_alone edition r = rw (none_follow r.libs.texts r.libs.names_are, r.held.1) refl
+
   go_alone : (edition : Edition) (steps : ℕ) (ends : RunEnds) (status : ℕ) → Does (holding file) (go (alone file edition) steps) ends status → ((following : Unread) × GoesOff edition steps (unread file.text.now) (incoming_of following) ends status) ⊎ SaysNothing ends status 134
   go_alone edition steps ends status (inl none) = inr (no_file ends status none)
-  go_alone edition steps ends status (inr goes) =
-      inl (goes.1, subst (λ t. GoesOff edition steps (unread t) (incoming_of goes.1) ends status) goes.2.1 goes.3)
+  go_alone edition steps ends status (inr (inl told)) = absurd (no_lib [] ends status refl told)
+  go_alone edition steps ends status (inr (inr goes)) =
+      inl (goes.1, subst (λ t. GoesOff edition steps (unread t) (incoming_of goes.1) ends status) (whole_alone edition goes.0) goes.2)
 
-  ask_alone : (edition : Edition) (question : Question) (ends : RunEnds) (status : ℕ) → Does (holding file) (ask (alone file edition) question) ends status → Answers (alone file edition) file.text.now question ends status ⊎ SaysNothing ends status 134
+  ask_alone : (edition : Edition) (question : Question) (ends : RunEnds) (status : ℕ) → Does (holding file) (ask (alone file edition) question) ends status → Answers edition (files_alone file) file.text.now question ends status ⊎ SaysNothing ends status 134
   ask_alone edition question ends status (inl told) = inr (named ends status told)
-  ask_alone edition question ends status (inr answers) = inl (subst (λ t. Answers (alone file edition) t question ends status) answers.1.1 answers.2)
+  ask_alone edition question ends status (inr (inl told)) = absurd (no_lib [] ends status refl told)
+  ask_alone edition question ends status (inr (inr answers)) =
+      inl (subst (λ (f : Files). Answers edition f file.text.now question ends status) (files_of_alone edition answers.0)
+      (subst (λ t. Answers edition (files_read answers.0) t question ends status) (whole_alone edition answers.0) answers.1))
 
   one_go : (input : Unread) (out line : Kept) (status : ℕ) → file.text.now ≡ codes "main(){putchar('a');}" → Does (holding file) (go (alone file editions.One) 100) (one_run_ends input out line) status → (status ≡ 134) ⊎ ((status ≡ 0) × (out.bytes ≡ codes "a") × (line.bytes ≡ []))
   one_go input out line status one (inl none) = inl (no_file _ status none).status_is
-  one_go input out line status one (inr goes) =
+  one_go input out line status one (inr (inl told)) = absurd (no_lib [] _ status refl told)
+  one_go input out line status one (inr (inr goes)) =
       one_run goes.1 input out line status
-      (subst (λ t. Headline editions.One 100 (unread t) (incoming_of goes.1) (one_run_ends input out line) status) (goes.2.1 ∙ one) goes.4)
+      (subst (λ t. Headline editions.One 100 (unread t) (incoming_of goes.1) (one_run_ends input out line) status) (whole_alone editions.One goes.0 ∙ one) goes.3)
 
   pub file_is_read : FileIsRead file
   file_is_read = record {

@@ -12,6 +12,7 @@ use Rattle.blang.specs.Reports.{HasNotRun, Reported, RunEnds}
 use Rattle.brun.specs.OneRun.{nothing_written, one_run_ends, unread}
 use Rattle.brun.specs.Runs.{RunsText}
 use Rattle.bcommand.specs.CommandLine.{Question, Source, ask, asked, command_line, contradiction, go, run}
+use Rattle.bsources.specs.Files.{Files, file_of}
 use Rattle.bcli.specs.declared.shelf.MemFile.{MemFile}
 use Rattle.bcli.specs.Serves.{Answers, Does, HasNoFile, IsHelp, NamesFile, SaysNothing, Serves, unread_line}
 use Rattle.bcli.specs.Shelves.{Holdings, holding}
@@ -56,7 +57,11 @@ pub record Excluded (shelf : Holdings) : Type 0 where
 
 -- the source in a file
 abbrev pub alone : MemFile → Edition → Source
-alone file edition = record { file = file.name.now; edition = edition }
+alone file edition = record { file = file.name.now; libs = []; edition = edition }
+
+-- its name and its lines
+abbrev pub files_alone : MemFile → Files
+files_alone file = record { first = file_of file.name.now file.text.now; rest = [] }
 
 -- of a file in memory
 pub record FileIsRead (file : MemFile) : Type 0 where
@@ -74,7 +79,7 @@ pub record FileIsRead (file : MemFile) : Type 0 where
   -- what is asked is answered of another source
   pub ask_alone : (edition : Edition) (question : Question) (ends : RunEnds) (status : ℕ)
       → Does (holding file) (ask (alone file edition) question) ends status
-      → Answers (alone file edition) file.text.now question ends status ⊎ SaysNothing ends status MEMORY
+      → Answers edition (files_alone file) file.text.now question ends status ⊎ SaysNothing ends status MEMORY
   -- another output than `a`, or another status than 0
   pub one_go : (input : Unread) (out line : Kept) (status : ℕ) → file.text.now ≡ codes "main(){putchar('a');}"
       → Does (holding file) (go (alone file editions.One) 100) (one_run_ends input out line) status
