@@ -1,5 +1,5 @@
 -- Promise: what no answer to a command line is, and what each one is.
-use Rattle.std.specs.Prelude.{◌≡◌, ◌⊎◌, ℕ, List, [], ◌∷◌, codes}
+use Rattle.std.specs.Prelude.{◌≡◌, ◌⊎◌, ℕ, List, [], ◌∷◌, ◌++◌, codes}
 use Rattle.clap.specs.Words.{IsAmong, Text, fault_of, subcommand_of}
 use Rattle.clap.specs.declared.error.kind.ErrorKind.{ErrorKind}
 use Rattle.clap.specs.declared.error.kind.ErrorKind.TheVariants as kind
@@ -14,7 +14,7 @@ use Rattle.brun.specs.Runs.{RunsText}
 use Rattle.bcommand.specs.CommandLine.{Question, Source, ask, asked, command_line, contradiction, go, run}
 use Rattle.bsources.specs.Files.{Files, file_of}
 use Rattle.bcli.specs.declared.shelf.MemFile.{MemFile}
-use Rattle.bcli.specs.Serves.{Answers, Does, HasNoFile, IsHelp, NamesFile, SaysNothing, Serves, unread_line}
+use Rattle.bcli.specs.Serves.{Answers, Does, HasNoFile, IsHelp, NamesFile, NamesLib, SaysNothing, Serves, unread_line}
 use Rattle.bcli.specs.Shelves.{Holdings, holding}
 
 -- The words have a fault, and don't ask for help.
@@ -49,6 +49,15 @@ pub record Excluded (shelf : Holdings) : Type 0 where
   pub unread_run : (file : List ℕ) (ends : RunEnds) (status : ℕ) → NamesFile (Unit {0}) file ends status
       → HasNotRun ends
   pub no_file_done : (ends : RunEnds) → HasNoFile (Unit {0}) ends DONE → ⊥
+  -- a file after the first one that can't be read, after which all went well, or the program read or wrote
+  pub lib_done : (libs : List Text) (ends : RunEnds) → NamesLib shelf libs ends DONE → ⊥
+  pub lib_run : (libs : List Text) (ends : RunEnds) (status : ℕ) → NamesLib shelf libs ends status → HasNotRun ends
+  -- a source of two files that is run as other bytes than the one's, a newline and the other's
+  pub joined_alone : (file lib a b : List ℕ) (edition : Edition) (steps : ℕ) (ends : RunEnds) (status : ℕ)
+      → ((t : List ℕ) → shelf.holds file t → t ≡ a) → ((t : List ℕ) → shelf.holds lib t → t ≡ b)
+      → Does shelf (go (record { file = file; libs = lib ∷ []; edition = edition }) steps) ends status
+      → ((following : Unread) × GoesOff edition steps (unread (a ++ 10 ∷ b)) (incoming_of following) ends status)
+      ⊎ HasNotRun ends
   -- a limit of steps and none that end well, or that run
   pub both_done : (ends : RunEnds) → Does shelf contradiction ends DONE → ⊥
   pub both_run : (ends : RunEnds) (status : ℕ) → Does shelf contradiction ends status → HasNotRun ends
