@@ -4,22 +4,25 @@ ghost use Rattle.clap.specs.Words.{kind_of};
 ghost use Rattle.bword.specs.ByteEnds.{Incoming, Outgoing};
 ghost use Rattle.blang.specs.declared.status.TheConstants.{DEVICE, MEMORY, WRONG_COMMAND};
 ghost use Rattle.blang.specs.Reports.{Reported, run_ends};
-ghost use Rattle.bcommand.specs.CommandLine.{ask, asked_of, go, question_of, run, source_shown};
+ghost use Rattle.bcommand.specs.CommandLine.{ask, asked_of, compile, go, question_of, run, source_shown};
 ghost use Rattle.bcli.specs.Excluded.{Excluded, FileIsRead};
-ghost use Rattle.bcli.specs.Serves.{Answers, Does, NamesFile, RefusesWords, Serves, form_of, no_file_line, unread_line};
+ghost use Rattle.bsources.specs.Files.{files_shown};
+ghost use Rattle.bcli.specs.Serves.{Answers, CompilesJoined, Does, NamesFile, RefusesWords, Serves, form_of, no_file_line, unread_line};
 ghost use Rattle.bcli.specs.Shelves.{anything};
 
 use crate::shelf::{FileFault, MemFile, Shelf, SystemFiles};
+use crate::sources::{Unread, read_libs, read_source};
 use bcheck::{Form, Request, check};
-use bcommand::{CONTRADICTION, Job, Question, Source, UNREAD, parse};
+use bcommand::{CONTRADICTION, Job, Question, Source, UNREAD, job_of, parse};
 use bdraw::draw;
 use blang::status::{self, Status};
 use blist::{list, map};
 use bparse::compile_edition;
 use brun::{go_edition, migrate, run_text};
+use bsources::{JoinedIn, SourceFiles};
 use btools::tell;
 use btrace::{Rows, Wanted, locate, trace};
-use bword::{ByteIn, ByteOut, MemIn};
+use bword::{ByteIn, ByteOut, Edition, MemIn};
 use clap::Error;
 use clap::error::ErrorKind;
 use std::alloc::{AllocError, Global};
@@ -68,7 +71,7 @@ pub fn serve_with<S: Shelf, I: ByteIn, O: ByteOut, D: ByteOut>(
     ensures diag_lender { D.lender diag.new ≡ D.lender diag.old }
 {
     match parse(alloc, words) {
-        Ok(job) => perform(alloc, shelf, job, input, out, diag),
+        Ok(found) => perform(alloc, shelf, job_of(&found), input, out, diag),
         Err(error) => refuse(alloc, error, out, diag),
     }
 }
@@ -90,13 +93,63 @@ fn perform<S: Shelf, I: ByteIn, O: ByteOut, D: ByteOut>(
     ensures diag_lender { D.lender diag.new ≡ D.lender diag.old }
 {
     match job {
-        Job::Compile(edition) => compile_edition(alloc, input, out, diag, edition),
+        Job::Compile(edition, libs) => {
+            compile_input(alloc, shelf, edition, libs, input, out, diag)
+        }
         Job::Run(file, steps) => run_file(alloc, shelf, file, steps, input, out, diag),
         Job::Go(source, steps) => go_file(alloc, shelf, source, steps, input, out, diag),
         Job::Migrate => migrate(alloc, input, out, diag),
         Job::Ask(source, question) => ask_file(alloc, shelf, source, question, input, out, diag),
         Job::Contradiction => refuse_with(CONTRADICTION, diag),
     }
+}
+
+// Compiles the input, and files after it.
+fn compile_input<S: Shelf, I: ByteIn, O: ByteOut, D: ByteOut>(
+    alloc: Global,
+    shelf: &S,
+    edition: Edition,
+    libs: &[&str],
+    input: &mut I,
+    out: &mut O,
+    diag: &mut D,
+) -> Status
+    ensures does { Does (S.holdings shelf.now) (compile edition (map_each (λ lib. lib.now) libs.now)) (run_ends
+        (I.incoming input.old) (I.incoming input.new) (O.outgoing out.old) (O.outgoing out.new)
+        (D.outgoing diag.old) (D.outgoing diag.new)) result }
+    ensures input_lender { I.lender input.new ≡ I.lender input.old }
+    ensures out_lender { O.lender out.new ≡ O.lender out.old }
+    ensures diag_lender { D.lender diag.new ≡ D.lender diag.old }
+{
+    if libs.is_empty() {
+        return compile_edition(alloc, input, out, diag, edition);
+    }
+    match read_libs(alloc, shelf, libs) {
+        Ok(libs) => compile_joined(alloc, libs.text(), edition, input, out, diag),
+        Err(lib) => name_file(alloc, lib.name, lib.fault, diag),
+    }
+}
+
+// Compiles the input, and bytes after it.
+fn compile_joined<I: ByteIn, O: ByteOut, D: ByteOut>(
+    alloc: Global,
+    rest: &[u8],
+    edition: Edition,
+    input: &mut I,
+    out: &mut O,
+    diag: &mut D,
+) -> Status
+    ensures compiles { CompilesJoined edition rest.now (run_ends
+        (I.incoming input.old) (I.incoming input.new) (O.outgoing out.old) (O.outgoing out.new)
+        (D.outgoing diag.old) (D.outgoing diag.new)) result }
+    ensures input_lender { I.lender input.new ≡ I.lender input.old }
+    ensures out_lender { O.lender out.new ≡ O.lender out.old }
+    ensures diag_lender { D.lender diag.new ≡ D.lender diag.old }
+{
+    let mut source = JoinedIn::new(input, rest);
+    let status = compile_edition(alloc, &mut source, out, diag, edition);
+    let _ = source.into_first();
+    status
 }
 
 // Runs the code text in a file.
@@ -139,17 +192,18 @@ fn go_file<S: Shelf, I: ByteIn, O: ByteOut, D: ByteOut>(
     ensures out_lender { O.lender out.new ≡ O.lender out.old }
     ensures diag_lender { D.lender diag.new ≡ D.lender diag.old }
 {
-    match shelf.read(alloc, source.file) {
-        Ok(text) => go_edition(
+    match read_source(alloc, shelf, source) {
+        Ok(whole) => go_edition(
             alloc,
-            &mut MemIn::new(text.as_slice()),
+            &mut MemIn::new(whole.text.as_slice()),
             input,
             out,
             diag,
             steps,
             source.edition,
         ),
-        Err(fault) => status_of(fault),
+        Err(Unread::File(fault)) => status_of(fault),
+        Err(Unread::Lib(lib)) => name_file(alloc, lib.name, lib.fault, diag),
     }
 }
 
@@ -170,30 +224,46 @@ fn ask_file<S: Shelf, I: ByteIn, O: ByteOut, D: ByteOut>(
     ensures out_lender { O.lender out.new ≡ O.lender out.old }
     ensures diag_lender { D.lender diag.new ≡ D.lender diag.old }
 {
-    match shelf.read(alloc, source.file) {
-        Ok(text) => answer(alloc, source, text.as_slice(), question, input, out, diag),
-        Err(fault) => name_file(alloc, source.file, fault, diag),
+    match read_source(alloc, shelf, source) {
+        Ok(whole) => {
+            let files = SourceFiles {
+                first: whole.first,
+                rest: whole.libs.files(),
+            };
+            answer(
+                alloc,
+                source.edition,
+                files,
+                whole.text.as_slice(),
+                question,
+                input,
+                out,
+                diag,
+            )
+        }
+        Err(Unread::File(fault)) => name_file(alloc, source.file, fault, diag),
+        Err(Unread::Lib(lib)) => name_file(alloc, lib.name, lib.fault, diag),
     }
 }
 
-// Answers what is asked of a source of this text.
+// Answers what is asked of a source of these files and of this text.
 fn answer<I: ByteIn, O: ByteOut, D: ByteOut>(
     alloc: Global,
-    source: Source<'_>,
+    edition: Edition,
+    files: SourceFiles<'_>,
     text: &[u8],
     question: Question<'_>,
     input: &mut I,
     out: &mut O,
     diag: &mut D,
 ) -> Status
-    ensures answers { Answers (source_shown source.entry) text.now (question_of question.entry) (run_ends
+    ensures answers { Answers edition (files_shown files.entry) text.now (question_of question.entry) (run_ends
         (I.incoming input.old) (I.incoming input.new) (O.outgoing out.old) (O.outgoing out.new)
         (D.outgoing diag.old) (D.outgoing diag.new)) result }
     ensures input_lender { I.lender input.new ≡ I.lender input.old }
     ensures out_lender { O.lender out.new ≡ O.lender out.old }
     ensures diag_lender { D.lender diag.new ≡ D.lender diag.old }
 {
-    let edition = source.edition;
     match question {
         Question::List(name) => list(alloc, text, edition, name, out, diag),
         Question::Map => map(alloc, text, edition, out, diag),
@@ -201,7 +271,7 @@ fn answer<I: ByteIn, O: ByteOut, D: ByteOut>(
         Question::Check(for_editor) => {
             let request = Request {
                 edition,
-                file: source.file,
+                file: files.first.name,
                 form: form_of(for_editor),
             };
             check(alloc, text, request, out)

@@ -1,5 +1,5 @@
 -- Promise: an end over another end and bytes that follow it.
-use Rattle.std.specs.Prelude.{◌≡◌, ℕ, ◌+◌, ◌-◌, ◌≤◌, min, Bool, if◌then◌else◌, List, ◌++◌, take, option_map, ◌⊎◌}
+use Rattle.std.specs.Prelude.{◌≡◌, ℕ, ◌+◌, ◌-◌, ◌≤◌, min, Bool, false, if◌then◌else◌, List, ◌++◌, take, option_map, ◌⊎◌}
 use Rattle.std.proofs.Common.{arith}
 use Rattle.bword.specs.ByteEnds.{Fails, Incoming, most}
 
@@ -34,3 +34,16 @@ ready_joined j = take (most - j.given) (if j.is_past_first then j.rest else j.re
 -- A call fails only where one of the other end did, or where no more bytes can be counted.
 abbrev pub FailsIn : Joined → Joined → Type 0
 FailsIn old new = (Fails old.first new.first × (new.refused ≡ old.refused)) ⊎ (old.given ≡ most)
+
+-- An end that has given nothing.
+abbrev pub joined_new : (first : Incoming) → (ready lender rest : List ℕ) → Joined
+joined_new first ready lender rest = record {
+  first = first;
+  ready = ready;
+  lender = lender;
+  rest = rest;
+  is_past_first = false;
+  is_over = false;
+  given = 0;
+  refused = 0;
+}

@@ -1,8 +1,8 @@
 //! An end over another end and bytes that follow it.
-ghost use Rattle.std.specs.Prelude.{ℕ, ◌≡◌, false, true, IsTrue, OnErr};
+ghost use Rattle.std.specs.Prelude.{◌≡◌, IsTrue, OnErr};
 ghost use Rattle.std.specs.Io.{StartsWith};
 ghost use Rattle.bword.specs.ByteEnds.{GivesReady, NextGives};
-ghost use Rattle.bsources.specs.JoinedEnds.{FailsIn, bounded_joined, joined_in, ready_joined};
+ghost use Rattle.bsources.specs.JoinedEnds.{FailsIn, bounded_joined, joined_in, joined_new, ready_joined};
 
 use bword::{ByteIn, Device};
 use std::marker::Model;
@@ -47,7 +47,7 @@ impl<'a, I: ByteIn> Model for JoinedIn<'a, I> {
 impl<'a, I: ByteIn> JoinedIn<'a, I> {
     /// A stream that gives the bytes of this one, and then these.
     pub fn new(first: I, rest: &'a [u8]) -> Self
-        ensures { result ≡ record { first = I.incoming first; ready = I.ready first; lender = I.lender first; rest = rest.now; is_past_first = false; is_over = false; given = 0; refused = 0 } }
+        ensures { result ≡ joined_new (I.incoming first) (I.ready first) (I.lender first) rest.now }
     {
         JoinedIn {
             first,

@@ -7,25 +7,25 @@ use Rattle.bcli.proofs.serving.answer.Goals as goal
 
 pub returns-in-List-clause-answers : goal.returns-in-List-clause-answers
 returns-in-List-clause-answers g c =
-    answered _ _ c.args.question (questions.List c.in-List.name) _ _ c.in-List.is (refl, c.list.ensures.lists)
+    answered _ _ _ c.args.question (questions.List c.in-List.name) _ _ c.in-List.is (refl, c.list.ensures.lists)
 
 pub returns-in-Map-clause-answers : goal.returns-in-Map-clause-answers
 returns-in-Map-clause-answers g c =
-    answered _ _ c.args.question questions.Map _ _ c.in-Map.is (refl, c.map.ensures.maps)
+    answered _ _ _ c.args.question questions.Map _ _ c.in-Map.is (refl, c.map.ensures.maps)
 
 pub returns-in-Draw-clause-answers : goal.returns-in-Draw-clause-answers
 returns-in-Draw-clause-answers g c =
-    answered _ _ c.args.question (questions.Draw c.in-Draw.steps) _ _ c.in-Draw.is c.draw.ensures.draws
+    answered _ _ _ c.args.question (questions.Draw c.in-Draw.steps) _ _ c.in-Draw.is c.draw.ensures.draws
 
 pub returns-in-Check-clause-answers : goal.returns-in-Check-clause-answers
 returns-in-Check-clause-answers g c =
-    answered _ _ c.args.question (questions.Check c.in-Check.for_editor) _ _ c.in-Check.is (
+    answered _ _ _ c.args.question (questions.Check c.in-Check.for_editor) _ _ c.in-Check.is (
       refl,
       refl,
       subst (λ (f : Form). Checks (record {
-        edition = c.args.source.edition;
+        edition = c.args.edition;
         form = f;
-        file = c.args.source.file.now;
+        file = c.args.files.first.name.now;
         source = c.args.text.now;
         out = g.O.ByteOut.outgoing c.args.out.now;
         out_after = g.O.ByteOut.outgoing c.check.new.out;
@@ -35,8 +35,8 @@ returns-in-Check-clause-answers g c =
 
 pub returns-in-Trace-clause-answers : goal.returns-in-Trace-clause-answers
 returns-in-Trace-clause-answers g c =
-    answered _ _ c.args.question (questions.Trace c.in-Trace.walk) _ _ c.in-Trace.is c.trace.ensures.traces
+    answered _ _ _ c.args.question (questions.Trace c.in-Trace.walk) _ _ c.in-Trace.is c.trace.ensures.traces
 
 pub returns-in-Locate-clause-answers : goal.returns-in-Locate-clause-answers
 returns-in-Locate-clause-answers g c =
-    answered _ _ c.args.question (questions.Locate c.in-Locate.steps) _ _ c.in-Locate.is c.locate.ensures.locates
+    answered _ _ _ c.args.question (questions.Locate c.in-Locate.steps) _ _ c.in-Locate.is c.locate.ensures.locates
