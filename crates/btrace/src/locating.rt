@@ -48,13 +48,14 @@ pub fn locate<I: ByteIn, O: ByteOut, D: ByteOut>(
         Ok(program) => program,
         Err(status) => return status,
     };
+    let image = &program.image;
     let Ok(tables) = Tables::new(alloc, &program) else {
         return status::MEMORY;
     };
     let Ok(store) = PagedStore::new(alloc) else {
         return status::MEMORY;
     };
-    let stepper = match Stepper::begin(alloc, &program.image, store) {
+    let stepper = match Stepper::begin(alloc, image, store) {
         Ok(stepper) => stepper,
         Err(outcome) => return finish(outcome, diag),
     };

@@ -1,0 +1,4 @@
+mod Noting
+mod Made
+mod Lines
+mod Rows

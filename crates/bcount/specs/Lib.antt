@@ -1,0 +1,4 @@
+pub mod Tallies
+pub mod Tables
+pub mod Counts
+pub mod Steps
