@@ -96,15 +96,11 @@ pub fn lines_of(
 fn blank_lines(alloc: Global, last: u64) -> Result<Vec<LineCount>, AllocError>
     ensures { IfOk result (λ v. v.items ≡ replicate last (record { times = None; steps = 0 })) }
 {
-    let mut lines = Vec::new(alloc);
-    for made in 0..last {
-        let _ = made;
-        lines.push(LineCount {
-            times: None,
-            steps: 0,
-        })?;
-    }
-    Ok(lines)
+    let blank = LineCount {
+        times: None,
+        steps: 0,
+    };
+    vec![in alloc; blank; last as usize]
 }
 
 // Adds the count of an instruction to its line.

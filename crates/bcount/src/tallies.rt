@@ -62,10 +62,5 @@ fn bump(counts: &mut Vec<u64>, place: usize)
 fn zeros(alloc: Global, count: usize) -> Result<Vec<u64>, AllocError>
     ensures { IfOk result (λ v. v.items ≡ replicate count 0) }
 {
-    let mut zeros = Vec::new(alloc);
-    for made in 0..count {
-        let _ = made;
-        zeros.push(0)?;
-    }
-    Ok(zeros)
+    vec![in alloc; 0; count]
 }

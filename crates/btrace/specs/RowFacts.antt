@@ -3,7 +3,7 @@ use Rattle.std.specs.Prelude.{◌≡◌, ℕ, true, false, [], ◌∷◌, ◌++�
 use Rattle.std.specs.Fmt.{digits}
 use Rattle.blang.specs.declared.run.Outcome.TheVariants as outcome
 use Rattle.blang.specs.declared.run.Trap.TheVariants as trap
-use Rattle.btrace.specs.Locates.{located_status}
+use Rattle.btrace.specs.Locates.{located_status, site_line}
 use Rattle.bmach.specs.declared.machine.Active.{Active}
 use Rattle.btrace.specs.RowTexts.{first_words, has_more, instr_text, margin, operands_text, signed_text, stored_text}
 use Rattle.btrace.specs.RowTexts.{word_row, words_text, written_byte, written_row}
@@ -172,3 +172,9 @@ line_of_first = refl
 line_of_next : line_text 4 two_files 3 ≡ codes "   1 of l.b"
 unfolding digits
 line_of_next = refl
+
+-- a place in the second file, and the step after it
+site_with_step : site_line (record { functions = []; files = two_files }) 9 15 7 450016
+    ≡ codes "at     in          place   15  line    5 of l.b  step 450016\n"
+unfolding digits
+site_with_step = refl

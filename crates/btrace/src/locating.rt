@@ -1,7 +1,7 @@
 //! Telling where a run was over.
 ghost use Rattle.std.specs.Prelude.{◌≡◌, ℕ, IfOk};
 ghost use Rattle.btrace.specs.Excluded.{LocatesExcluded};
-ghost use Rattle.bsources.specs.Files.{files_shown};
+ghost use Rattle.bsources.specs.Files.{File, files_shown};
 ghost use Rattle.btrace.specs.RowTexts.{legend_of};
 ghost use Rattle.btrace.specs.Locates.{Locates, TellsSite, located_status, site_line};
 
@@ -113,5 +113,5 @@ fn site_line(alloc: Global, legend: &Legend<'_>, stop: Stop) -> Result<Text, All
 
 /// No run is answered by its trap or its limit without the place, by another place, or by the status of other steps.
 pub fn wrong_places_are_excluded()
-    ensures { LocatesExcluded }
+    ensures { (file : File) → LocatesExcluded file }
 {}

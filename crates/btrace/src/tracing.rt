@@ -5,7 +5,7 @@ ghost use Rattle.bmach.specs.Stepping.{machine_at};
 ghost use Rattle.bmach.specs.Turns.{KeepsBelow, LeavesWords};
 ghost use Rattle.bword.specs.ByteEnds.{Kept, outgoing_of};
 ghost use Rattle.btrace.specs.Excluded.{TracesExcluded};
-ghost use Rattle.bsources.specs.Files.{files_shown};
+ghost use Rattle.bsources.specs.Files.{File, files_shown};
 ghost use Rattle.btools.specs.Functions.{entries_of};
 ghost use Rattle.btools.specs.Programs.{nothing_written};
 ghost use Rattle.btrace.specs.RowTexts.{legend_of};
@@ -241,5 +241,5 @@ fn push_end<S: Store + Drop>(
 /// No trace has a row too few, too many or at another step, or a row or a place that shows another state, or the status
 /// of other steps.
 pub fn wrong_traces_are_excluded()
-    ensures { TracesExcluded }
+    ensures { (file : File) → TracesExcluded file }
 {}
