@@ -2,3 +2,5 @@ mod Noting
 mod Made
 mod Lines
 mod Rows
+mod Whole
+mod Excluded

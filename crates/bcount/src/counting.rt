@@ -2,6 +2,7 @@
 ghost use Rattle.std.specs.Prelude.{◌≡◌, IfOk, map};
 ghost use Rattle.blang.specs.Reports.{run_ends};
 ghost use Rattle.bcount.specs.Counts.{Counts, IsTableOf, asked_of};
+ghost use Rattle.bcount.specs.Excluded.{CountsExcluded};
 ghost use Rattle.bcount.specs.Steps.{CountsSteps};
 ghost use Rattle.bcount.specs.Tallies.{blank, tallies_of};
 
@@ -149,3 +150,8 @@ fn text_of(
     };
     table_text(alloc, &table)
 }
+
+/// No count has a step too few or too many, or one of another instruction.
+pub fn wrong_counts_are_excluded()
+    ensures { CountsExcluded }
+{}

@@ -6,5 +6,5 @@ mod lines;
 mod table;
 mod tallies;
 
-pub use counting::{Counting, count};
+pub use counting::{Counting, count, wrong_counts_are_excluded};
 pub use table::Style;
