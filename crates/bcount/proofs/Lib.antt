@@ -1,6 +1,6 @@
 mod Noting
 mod Made
-mod Lines
+mod LineSums
 mod Rows
 mod Whole
 mod Excluded

@@ -884,7 +884,7 @@ module _ (file : File) where
   unshown input (suc (suc zero)) le = refl
   unshown input (suc (suc (suc n))) le = absurd (omega arith)
 
-  trapping_placed : (i j : Incoming) (text : List ℕ) → Told trapping 2 3 None i j (HEADING.now ++ text) TRAP → at 28 text ≡ 49
+  trapping_placed : (i j : Incoming) (text : List ℕ) → Told trapping 2 (wanted.From 3) None i j (HEADING.now ++ text) TRAP → at 28 text ≡ 49
   trapping_placed i j text t =
       let fs = functions_of trapping in
       let none : Which = record { rows = wanted.From 3; function = None } in

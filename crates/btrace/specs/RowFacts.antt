@@ -124,19 +124,19 @@ first_wanted : is_wanted (record { rows = rows.Last 2; function = None }) 1 8 �
 first_wanted = refl
 
 -- the last ones, where there are more, as many, fewer, and where none is asked for
-more_than_last : chosen (rows.Last 2) (4 ∷ 5 ∷ 6 ∷ []) ≡ 5 ∷ 6 ∷ []
+more_than_last : chosen {A = ℕ} (rows.Last 2) (4 ∷ 5 ∷ 6 ∷ []) ≡ 5 ∷ 6 ∷ []
 more_than_last = refl
 
-as_many_as_last : chosen (rows.Last 2) (5 ∷ 6 ∷ []) ≡ 5 ∷ 6 ∷ []
+as_many_as_last : chosen {A = ℕ} (rows.Last 2) (5 ∷ 6 ∷ []) ≡ 5 ∷ 6 ∷ []
 as_many_as_last = refl
 
-fewer_than_last : chosen (rows.Last 2) (6 ∷ []) ≡ 6 ∷ []
+fewer_than_last : chosen {A = ℕ} (rows.Last 2) (6 ∷ []) ≡ 6 ∷ []
 fewer_than_last = refl
 
-no_last : chosen (rows.Last 0) (6 ∷ []) ≡ []
+no_last : chosen {A = ℕ} (rows.Last 0) (6 ∷ []) ≡ []
 no_last = refl
 
-all_from : chosen (rows.From 2) (4 ∷ 5 ∷ 6 ∷ []) ≡ 4 ∷ 5 ∷ 6 ∷ []
+all_from : chosen {A = ℕ} (rows.From 2) (4 ∷ 5 ∷ 6 ∷ []) ≡ 4 ∷ 5 ∷ 6 ∷ []
 all_from = refl
 
 other_wanted : is_wanted (record { rows = rows.From 3; function = Some 8 }) 3 9 ≡ false

@@ -84,7 +84,7 @@ fn located_status(outcome: Outcome) -> Option<Status>
 
 fn tell_site<D: ByteOut>(
     alloc: Global,
-    legend: &Legend<'_>,
+    legend: &Legend<'_, '_, '_>,
     stop: Stop,
     status: Status,
     diag: &mut D,
@@ -98,7 +98,7 @@ fn tell_site<D: ByteOut>(
     }
 }
 
-fn site_line(alloc: Global, legend: &Legend<'_>, stop: Stop) -> Result<Text, AllocError>
+fn site_line(alloc: Global, legend: &Legend<'_, '_, '_>, stop: Stop) -> Result<Text, AllocError>
     ensures { IfOk result (λ text. (line : ℕ)
         × (text ≡ site_line (legend_of legend.now) stop.call.strings stop.call.place line stop.steps)) }
 {

@@ -152,7 +152,7 @@ fn which_of(tables: &Tables<'_>, wanted: Wanted<'_>) -> Option<Which>
 fn trace_steps<S: Store + Drop, I: ByteIn>(
     alloc: Global,
     mut stepper: Stepper<'_, S>,
-    legend: &Legend<'_>,
+    legend: &Legend<'_, '_, '_>,
     which: Which,
     steps: u64,
     trail: &mut Trail,
@@ -189,7 +189,7 @@ fn trace_steps<S: Store + Drop, I: ByteIn>(
 fn trace_step<S: Store + Drop, I: ByteIn>(
     alloc: Global,
     stepper: &mut Stepper<'_, S>,
-    legend: &Legend<'_>,
+    legend: &Legend<'_, '_, '_>,
     is_shown: bool,
     made: u64,
     row: &mut Text,
@@ -224,7 +224,7 @@ fn trace_step<S: Store + Drop, I: ByteIn>(
 // Adds where a run ended, if it was by a trap or at the limit. A run that was refused memory has no trace.
 fn push_end<S: Store + Drop>(
     text: &mut Text,
-    legend: &Legend<'_>,
+    legend: &Legend<'_, '_, '_>,
     stepper: &Stepper<'_, S>,
     call: Active,
     outcome: Outcome,

@@ -2,7 +2,7 @@ use Rattle.std.proofs.Common.{◌∙◌, ap, arith, map, length}
 use Rattle.std.specs.List.{range_with_len}
 use Rattle.std.proofs.lemmas.List.{take_all}
 use Rattle.bcount.specs.Counts.{line_count}
-use Rattle.bcount.proofs.Lines.{next_line, no_lines}
+use Rattle.bcount.proofs.LineSums.{next_line, no_lines}
 use Rattle.bcount.proofs.lines.lines_of.Goals as goal
 
 pub loop-instruction-init : goal.loop-instruction-init
