@@ -2,7 +2,7 @@
 use Rattle.std.proofs.Common.{◌≡◌, ◌∙◌, ℕ, ◌+◌, ◌-◌, ◌<◌, ◌≤◌, ◌⊎◌, inl, inr, ⊎_elim, Bool, true, false, List, [], ◌∷◌, ◌++◌, ap, append-nil, append_assoc, arith, cond, drop, length, map, nat_lt, refl, sym, if◌then◌else◌}
 use Rattle.std.specs.List.{All, flat_map}
 use Rattle.std.proofs.lemmas.Bool.{cases_order, cond-false, cond-true, le-ltb, lt-ltb}
-use Rattle.std.proofs.lemmas.List.{drop-append-le, drop-drop, drop-map, length-append, length-drop, length-map, map-append}
+use Rattle.std.proofs.lemmas.List.{drop_all, drop-append-le, drop-drop, drop-map, length-append, length-drop, length-map, map-append}
 use Rattle.std.proofs.lemmas.List.Concat.{flat_map-append}
 use Rattle.std.proofs.lemmas.List.Elements.{All-drop}
 use Rattle.std.proofs.lemmas.List.Folds.{flat_map-map}
@@ -35,7 +35,7 @@ last_more n xs x =
     (λ few.
     let same : length (xs ++ x ∷ []) - n ≡ d = omega (arith, whole, few) in
     let short : length kept ≤ n = omega (arith, long, few) in
-    ap (λ m. drop m (xs ++ x ∷ [])) same ∙ front ∙ sym (cond-false (nat_lt n (length kept)) (drop 1 kept) kept (le-ltb (length kept) n short)))
+    ap (λ m. drop m (xs ++ x ∷ [])) same ∙ front ∙ sym (cond-false (nat_lt n (length kept)) (drop 1 kept) kept (le-ltb n (length kept) short)))
     (λ many.
     let same : length (xs ++ x ∷ []) - n ≡ d + 1 = omega (arith, whole, many) in
     let more : n < length kept = omega (arith, long, many) in
@@ -52,7 +52,7 @@ Holds (rows.Last n) heading rs t = (t.text ≡ heading) × (t.last.items ≡ map
 
 pub holds_none : (which : Rows) (heading : List ℕ) (t : Trail) → t.text ≡ heading → t.last.items ≡ [] → t.row ≡ [] → Holds which heading [] t
 holds_none (rows.From k) heading t a b c = (a ∙ sym (append-nil heading), b, c)
-holds_none (rows.Last n) heading t a b c = (a, b, c)
+holds_none (rows.Last n) heading t a b c = (a, b ∙ ap (map (λ (r : TraceRow). r.text)) (sym (drop_all (0 - n) [] (omega arith))), c)
 
 pub row_none : (which : Rows) (heading : List ℕ) (rs : List TraceRow) (t : Trail) → Holds which heading rs t → t.row ≡ []
 row_none (rows.From k) heading rs t h = h.2

@@ -10,8 +10,7 @@ use Rattle.std.proofs.lemmas.List.FromFn.{length-map-range_with_len, map-range_w
 use Rattle.blang.specs.Machine.{Call}
 use Rattle.bmach.specs.Stops.{active_of}
 use Rattle.bmach.specs.declared.machine.Active.{Active}
-use Rattle.btools.specs.Functions.{Placed}
-use Rattle.btrace.specs.RowTexts.{Place, first_words, has_more, parameter_at, place_text, places_text, signed_text, words_text}
+use Rattle.btrace.specs.RowTexts.{Legend, Place, first_words, has_more, parameter_at, place_text, places_text, signed_text, words_text}
 use Rattle.btrace.specs.Traces.{AddsPlaces, waits_at}
 
 -- the words of the first parameters, where so many are shown

@@ -1,6 +1,6 @@
 -- Steps that are made and shown, one after another.
-use Rattle.std.proofs.Common.{◌≡◌, ◌∙◌, ℕ, ◌+◌, ◌<◌, Bool, true, false, cond, List, [], ◌∷◌, ◌++◌, Ok, Err, Result, ap, append-nil, append_assoc, arith, drop, length, refl, subst, sym, if◌then◌else◌, ⊎_elim}
-use Rattle.std.proofs.Math.Seq.{drop-append_seam}
+use Rattle.std.proofs.Common.{◌≡◌, ◌∙◌, ℕ, ◌+◌, ◌<◌, Bool, true, false, cond, List, [], ◌∷◌, ◌++◌, Ok, Err, Result, ap, append-nil, append_assoc, arith, drop, length, refl, subst, sym, if◌then◌else◌, ⊎_elim, map, inl}
+use Rattle.std.specs.List.{All}
 use Rattle.std.proofs.lemmas.List.{map-append, map-id}
 use Rattle.std.proofs.lemmas.List.Concat.{flat_map-append}
 use Rattle.std.proofs.lemmas.List.Elements.{All-nil, All-append, All-cons}

@@ -20,8 +20,8 @@ use Rattle.bmach.proofs.Resolving.{run-resolved, stored-resolved}
 use Rattle.bmach.proofs.Running.{same_run}
 use Rattle.brun.proofs.RunSteps.{outcome-resolved, run_loaded, run_of_loaded, world-resolved}
 use Rattle.btools.specs.Programs.{HasProgram, nothing_written}
-use Rattle.btools.specs.Functions.{Placed, functions_of}
-use Rattle.btrace.specs.RowTexts.{places_text, step_row, stored_text, written_row}
+use Rattle.bsources.specs.Files.{Files}
+use Rattle.btrace.specs.RowTexts.{Legend, legend_in, places_text, step_row, stored_text, written_row}
 use Rattle.btrace.specs.Traces.{AreShown, EndsAs, IsTried, IsWhere, TraceRow, ShowsRows, ShowsStep, StepsGive, TakesByte, TellsPlace, Traces, Tries, is_shown, is_step, shown_of, steps_from, store_after, stored_after, traced, waits_at, wanted_of, which_of}
 use Rattle.btools.specs.Programs.{TellsEnd}
 use Rattle.btrace.specs.Trails.{chosen}

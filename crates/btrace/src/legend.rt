@@ -8,9 +8,9 @@ use std::alloc::AllocError;
 
 /// The functions of a program, and the files of its source.
 #[derive(Clone, Copy)]
-pub struct Legend<'a> {
-    pub tables: &'a Tables<'a>,
-    pub files: SourceFiles<'a>,
+pub struct Legend<'a, 'b, 'c> {
+    pub tables: &'a Tables<'b>,
+    pub files: SourceFiles<'c>,
 }
 
 /// Adds the number of a line, at the right of a column. For a line after the first file it is that in its own file,
@@ -18,7 +18,7 @@ pub struct Legend<'a> {
 pub fn push_line(
     text: &mut Text,
     width: usize,
-    legend: &Legend<'_>,
+    legend: &Legend<'_, '_, '_>,
     line: u64,
 ) -> Result<(), AllocError>
     ensures { OnOk result (text.new ≡ text.old ++ line_text width (legend_of legend.now).files line) }

@@ -1,7 +1,7 @@
 //! Telling where a run was over.
 ghost use Rattle.std.specs.Prelude.{◌≡◌, ℕ, IfOk};
 ghost use Rattle.btrace.specs.Excluded.{LocatesExcluded};
-ghost use Rattle.bsources.specs.Files.{files_shown};
+ghost use Rattle.bsources.specs.Files.{File, files_shown};
 ghost use Rattle.btrace.specs.RowTexts.{legend_of};
 ghost use Rattle.btrace.specs.Locates.{Locates, TellsSite, located_status, site_line};
 
@@ -48,13 +48,14 @@ pub fn locate<I: ByteIn, O: ByteOut, D: ByteOut>(
         Ok(program) => program,
         Err(status) => return status,
     };
+    let image = &program.image;
     let Ok(tables) = Tables::new(alloc, &program) else {
         return status::MEMORY;
     };
     let Ok(store) = PagedStore::new(alloc) else {
         return status::MEMORY;
     };
-    let stepper = match Stepper::begin(alloc, &program.image, store) {
+    let stepper = match Stepper::begin(alloc, image, store) {
         Ok(stepper) => stepper,
         Err(outcome) => return finish(outcome, diag),
     };
@@ -83,7 +84,7 @@ fn located_status(outcome: Outcome) -> Option<Status>
 
 fn tell_site<D: ByteOut>(
     alloc: Global,
-    legend: &Legend<'_>,
+    legend: &Legend<'_, '_, '_>,
     stop: Stop,
     status: Status,
     diag: &mut D,
@@ -97,7 +98,7 @@ fn tell_site<D: ByteOut>(
     }
 }
 
-fn site_line(alloc: Global, legend: &Legend<'_>, stop: Stop) -> Result<Text, AllocError>
+fn site_line(alloc: Global, legend: &Legend<'_, '_, '_>, stop: Stop) -> Result<Text, AllocError>
     ensures { IfOk result (λ text. (line : ℕ)
         × (text ≡ site_line (legend_of legend.now) stop.call.strings stop.call.place line stop.steps)) }
 {
@@ -112,5 +113,5 @@ fn site_line(alloc: Global, legend: &Legend<'_>, stop: Stop) -> Result<Text, All
 
 /// No run is answered by its trap or its limit without the place, by another place, or by the status of other steps.
 pub fn wrong_places_are_excluded()
-    ensures { LocatesExcluded }
+    ensures { (file : File) → LocatesExcluded file }
 {}

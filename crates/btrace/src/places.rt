@@ -16,7 +16,7 @@ const SHOWN_PARAMETERS: u16 = 6;
 /// Adds the place where a run ended: the call that ran, and the calls that led there.
 pub fn push_places<S: Store + Drop>(
     text: &mut Text,
-    legend: &Legend<'_>,
+    legend: &Legend<'_, '_, '_>,
     stepper: &Stepper<'_, S>,
     call: Active,
 ) -> Result<(), AllocError>
@@ -48,7 +48,7 @@ fn at_its_call(call: Active) -> Active
 // The place of a call and the words of its parameters.
 fn push_place<S: Store + Drop>(
     text: &mut Text,
-    legend: &Legend<'_>,
+    legend: &Legend<'_, '_, '_>,
     stepper: &Stepper<'_, S>,
     call: Active,
 ) -> Result<(), AllocError>
@@ -61,7 +61,7 @@ fn push_place<S: Store + Drop>(
 }
 
 /// Adds the function of a call, the place in it, and the line of the source.
-pub fn push_site(text: &mut Text, legend: &Legend<'_>, call: Active) -> Result<(), AllocError>
+pub fn push_site(text: &mut Text, legend: &Legend<'_, '_, '_>, call: Active) -> Result<(), AllocError>
     ensures { OnOk result ((line : ℕ) × (text.new ≡ text.old ++ site_text (legend_of legend.now) call.strings call.place line)) }
 {
     let entry = legend.tables.entry(call.strings);

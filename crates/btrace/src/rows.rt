@@ -24,7 +24,7 @@ const SHOWN_OPERANDS: usize = 5;
 /// Adds the row of a step, before it is made.
 pub fn push_step<S: Store + Drop>(
     text: &mut Text,
-    legend: &Legend<'_>,
+    legend: &Legend<'_, '_, '_>,
     stepper: &Stepper<'_, S>,
     made: u64,
 ) -> Result<(), AllocError>

@@ -5,7 +5,7 @@ ghost use Rattle.bmach.specs.Stepping.{machine_at};
 ghost use Rattle.bmach.specs.Turns.{KeepsBelow, LeavesWords};
 ghost use Rattle.bword.specs.ByteEnds.{Kept, outgoing_of};
 ghost use Rattle.btrace.specs.Excluded.{TracesExcluded};
-ghost use Rattle.bsources.specs.Files.{files_shown};
+ghost use Rattle.bsources.specs.Files.{File, files_shown};
 ghost use Rattle.btools.specs.Functions.{entries_of};
 ghost use Rattle.btools.specs.Programs.{nothing_written};
 ghost use Rattle.btrace.specs.RowTexts.{legend_of};
@@ -96,6 +96,7 @@ pub fn trace<I: ByteIn, O: ByteOut, D: ByteOut>(
         Ok(program) => program,
         Err(status) => return status,
     };
+    let image = &program.image;
     let Ok(tables) = Tables::new(alloc, &program) else {
         return status::MEMORY;
     };
@@ -105,7 +106,7 @@ pub fn trace<I: ByteIn, O: ByteOut, D: ByteOut>(
     let Ok(store) = PagedStore::new(alloc) else {
         return status::MEMORY;
     };
-    let stepper = match Stepper::begin(alloc, &program.image, store) {
+    let stepper = match Stepper::begin(alloc, image, store) {
         Ok(stepper) => stepper,
         Err(outcome) => return finish(outcome, diag),
     };
@@ -151,7 +152,7 @@ fn which_of(tables: &Tables<'_>, wanted: Wanted<'_>) -> Option<Which>
 fn trace_steps<S: Store + Drop, I: ByteIn>(
     alloc: Global,
     mut stepper: Stepper<'_, S>,
-    legend: &Legend<'_>,
+    legend: &Legend<'_, '_, '_>,
     which: Which,
     steps: u64,
     trail: &mut Trail,
@@ -188,7 +189,7 @@ fn trace_steps<S: Store + Drop, I: ByteIn>(
 fn trace_step<S: Store + Drop, I: ByteIn>(
     alloc: Global,
     stepper: &mut Stepper<'_, S>,
-    legend: &Legend<'_>,
+    legend: &Legend<'_, '_, '_>,
     is_shown: bool,
     made: u64,
     row: &mut Text,
@@ -223,7 +224,7 @@ fn trace_step<S: Store + Drop, I: ByteIn>(
 // Adds where a run ended, if it was by a trap or at the limit. A run that was refused memory has no trace.
 fn push_end<S: Store + Drop>(
     text: &mut Text,
-    legend: &Legend<'_>,
+    legend: &Legend<'_, '_, '_>,
     stepper: &Stepper<'_, S>,
     call: Active,
     outcome: Outcome,
@@ -240,5 +241,5 @@ fn push_end<S: Store + Drop>(
 /// No trace has a row too few, too many or at another step, or a row or a place that shows another state, or the status
 /// of other steps.
 pub fn wrong_traces_are_excluded()
-    ensures { TracesExcluded }
+    ensures { (file : File) → TracesExcluded file }
 {}

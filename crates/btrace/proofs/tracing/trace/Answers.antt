@@ -19,38 +19,21 @@ returns-in_default-clause-traces g c = no_memory c.in-Ok.program.definitions.ite
 pub returns-in_default-which_of-clause-traces : goal.returns-in_default-which_of-clause-traces
 returns-in_default-which_of-clause-traces g c =
     unnamed (g.D.ByteOut.outgoing c.read_program.new.diag) c.in-Ok.program.definitions.items c.in-Ok.program.image c.in-Ok.ensures.gives
-    (subst (λ (fs : List Placed). which_of fs c.args.wanted.from (option_map (λ n. n.now) c.args.wanted.function) ≡ None) c.in-Ok-new.ensures (sym c.which_of.ensures ∙ c.in_default-which_of.is)) c.tell.ensures.told (record { unread = refl; silent = refl })
+    (subst (λ (fs : List Placed). which_of fs c.args.wanted.rows (option_map (λ n. n.now) c.args.wanted.function) ≡ None) c.in-Ok-new.ensures (sym c.which_of.ensures ∙ c.in_default-which_of.is)) c.tell.ensures.told (record { unread = refl; silent = refl })
 
 pub returns-in_default-new-clause-traces : goal.returns-in_default-new-clause-traces
 returns-in_default-new-clause-traces g c = no_memory c.in-Ok.program.definitions.items c.in-Ok.program.image c.in-Ok.ensures.gives refl refl refl
 
-pub returns-in_default-heading-clause-traces : goal.returns-in_default-heading-clause-traces
-returns-in_default-heading-clause-traces g c = no_memory c.in-Ok.program.definitions.items c.in-Ok.program.image c.in-Ok.ensures.gives refl refl refl
+pub returns-in_default-new-2-clause-traces : goal.returns-in_default-new-2-clause-traces
+returns-in_default-new-2-clause-traces g c = no_memory c.in-Ok.program.definitions.items c.in-Ok.program.image c.in-Ok.ensures.gives refl refl refl
 
 pub returns-in-Err-begin-clause-traces : goal.returns-in-Err-begin-clause-traces
 returns-in-Err-begin-clause-traces g c =
     not_begun (g.D.ByteOut.outgoing c.read_program.new.diag) c.in-Ok.program.definitions.items c.in-Ok.program.image c.in-Some.which c.in-Err-begin.outcome c.in-Ok.ensures.gives
-    (subst (λ (fs : List Placed). which_of fs c.args.wanted.from (option_map (λ n. n.now) c.args.wanted.function) ≡ Some c.in-Some.which) c.in-Ok-new.ensures (sym c.which_of.ensures ∙ c.in-Some.is)) c.in-Err-begin.ensures
+    (subst (λ (fs : List Placed). which_of fs c.args.wanted.rows (option_map (λ n. n.now) c.args.wanted.function) ≡ Some c.in-Some.which) c.in-Ok-new.ensures (sym c.which_of.ensures ∙ c.in-Some.is)) c.in-Err-begin.ensures
     c.finish.ensures.gives (record { unread = refl; silent = refl })
 
 pub returns-in-Err-trace_steps-clause-traces : goal.returns-in-Err-trace_steps-clause-traces
 returns-in-Err-trace_steps-clause-traces g c =
     no_memory c.in-Ok.program.definitions.items c.in-Ok.program.image c.in-Ok.ensures.gives refl (rw c.in-Err-trace_steps.is at c.trace_steps.ensures.unfailed) refl
 
-pub returns-then-told-ne-DONE-clause-traces : goal.returns-then-told-ne-DONE-clause-traces
-returns-then-told-ne-DONE-clause-traces g c =
-    let gives = c.in-Ok-trace_steps.ensures.gives in
-    let named = (sym c.which_of.ensures) ∙ c.in-Some.is in
-    traced_whole c.args.edition c.args.source.now c.args.wanted.steps c.args.wanted.from _ _ c.tell-told.result (g.D.ByteOut.outgoing c.read_program.new.diag) c.in-Ok.program.definitions.items c.in-Ok.program.image (entries_of c.in-Ok-new.tables) c.in-Some.which
-    c.in-Ok-begin.stepper c.in-Ok-trace_steps.outcome [] c.trace_steps.new.text c.as_slice.result.now c.new-written.result c.trace_steps.new.written c.tell-told.result c.in-Ok.ensures.gives c.in-Ok-new.ensures named c.in-Ok-begin.ensures
-    (ap outgoing_of c.new-written.ensures) gives refl (subst (λ (t : List ℕ). ShowsRows (entries_of c.in-Ok-new.tables) c.in-Ok-begin.stepper.image.functions c.in-Some.which (steps_from c.in-Ok-begin.stepper) c.args.wanted.steps (g.I.ByteIn.incoming c.args.input.now) (g.I.ByteIn.incoming c.trace_steps.new.input) c.in-Ok-trace_steps.outcome t c.trace_steps.new.text) c.in-Ok-heading.ensures c.in-Ok-trace_steps.ensures.shows)
-    c.as_slice.ensures c.tell-told.ensures.told (inr (c.if-told-ne-DONE.true, refl, refl))
-
-pub returns-clause-traces : goal.returns-clause-traces
-returns-clause-traces g c =
-    let gives = c.in-Ok-trace_steps.ensures.gives in
-    let named = (sym c.which_of.ensures) ∙ c.in-Some.is in
-    traced_whole c.args.edition c.args.source.now c.args.wanted.steps c.args.wanted.from _ _ c.finish-2.result (g.D.ByteOut.outgoing c.read_program.new.diag) c.in-Ok.program.definitions.items c.in-Ok.program.image (entries_of c.in-Ok-new.tables) c.in-Some.which
-    c.in-Ok-begin.stepper c.in-Ok-trace_steps.outcome [] c.trace_steps.new.text c.as_slice.result.now c.new-written.result c.trace_steps.new.written c.tell-told.result c.in-Ok.ensures.gives c.in-Ok-new.ensures named c.in-Ok-begin.ensures
-    (ap outgoing_of c.new-written.ensures) gives refl (subst (λ (t : List ℕ). ShowsRows (entries_of c.in-Ok-new.tables) c.in-Ok-begin.stepper.image.functions c.in-Some.which (steps_from c.in-Ok-begin.stepper) c.args.wanted.steps (g.I.ByteIn.incoming c.args.input.now) (g.I.ByteIn.incoming c.trace_steps.new.input) c.in-Ok-trace_steps.outcome t c.trace_steps.new.text) c.in-Ok-heading.ensures c.in-Ok-trace_steps.ensures.shows)
-    c.as_slice.ensures c.tell-told.ensures.told (inl (c.if-told-ne-DONE.false, c.finish-2.ensures.gives))
