@@ -5,12 +5,17 @@ use Rattle.bword.specs.declared.edition.Edition.{Edition}
 use Rattle.blang.specs.declared.token.Token.{Token}
 use Rattle.blang.specs.declared.token.Token.TheVariants as token
 use Rattle.blang.specs.declared.token.Placed.{Placed}
-use Rattle.blang.specs.Cut.{Word, whole, is_last, placed, piece_first, tokens_from}
+use Rattle.blang.specs.Cut.{Space, Word, whole, is_last, next_line, placed, piece_first, tokens_from}
 use Rattle.blex.specs.Sources.{Source, GoesAfter, SourceFails, StaysAtEnd, room}
 use Rattle.blex.specs.Lexing.{PassesPiece, PassesToken, piece_of, ComesAfter, IsLongest}
 use Rattle.blex.proofs.Passing.{Passes-refl, Passes-append, Breaks-after}
 use Rattle.blex.proofs.ByteSteps.{Passes-then, room-falls, none_passed}
 use Rattle.blex.proofs.Cutting.{tokens_from-piece, tokens_from-nil, whole-nil}
+use Rattle.blex.proofs.EachPiece.{whole-blank, blank-stops}
+use Rattle.blex.proofs.BlockSteps.{and-true_both}
+use Rattle.blex.proofs.NameRuns.{run_keeps_line, space_blank, space_stays}
+use Rattle.blex.specs.Runs.{PassesRun, is_space}
+use Rattle.std.specs.List.{list_all}
 
 -- space so far
 pub record InSpace (old : Source) (line : ℕ) (new : Source) : Type 0 where
@@ -75,6 +80,28 @@ space_more {a} {b} {m} {c} {line} first line' None h n k e f = record {
   passes = passed first None h n k;
   line_is = e;
   cut = λ xs. piece_cut first None h n k xs tt;
+}
+
+-- a run of spaces is space
+space_line : (b line : ℕ) → is_space b ≡ true → next_line line b ≡ line
+space_line b line e = rw (space_stays b e) refl
+
+space_cut : (edition : Edition) (line : ℕ) (run xs : List ℕ) → list_all is_space run ≡ true → tokens_from edition line (run ++ xs) ≡ tokens_from edition line xs
+space_cut edition line [] xs e = refl
+space_cut edition line (b ∷ bs) xs e =
+    let both = and-true_both (is_space b) (list_all is_space bs) e in
+    let blank = space_blank b both.0 in
+    tokens_from-piece edition line (b ∷ []) (bs ++ xs) Space (omega arith) (whole-blank edition b [] blank) (blank-stops edition b (bs ++ xs) blank)
+    ∙ ap (λ l. tokens_from edition l (bs ++ xs)) (space_line b line both.0)
+    ∙ space_cut edition line bs xs both.1
+
+pub space_run : {a b c : Source} {line line' : ℕ} → InSpace a line b → PassesRun is_space b c → line' ≡ c.line → InSpace a line' c
+space_run {a} {b} {c} {line} {line'} h k e = record {
+  bytes = h.bytes ++ k.run;
+  passes = Passes-append h.passes k.passes;
+  line_is = e;
+  cut = λ xs. ap (tokens_from a.edition a.line) (append_assoc h.bytes k.run xs) ∙ h.cut (k.run ++ xs) ∙ space_cut a.edition b.line k.run xs k.all
+      ∙ ap (λ l. tokens_from a.edition l xs) (sym (run_keeps_line k));
 }
 
 pub token_passed : {a b m c : Source} {line : ℕ} (first : ℕ) (piece : Option Token) → InSpace a line b → GoesAfter b (first ∷ []) m → PassesPiece first m piece c
