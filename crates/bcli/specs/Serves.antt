@@ -9,7 +9,7 @@ use Rattle.bword.specs.declared.edition.Edition.{Edition}
 use Rattle.blang.specs.Compiles.{CompileHeadline, Compiles, Run}
 use Rattle.blang.specs.declared.status.TheConstants.{DONE, DEVICE, MEMORY, WRONG_COMMAND}
 use Rattle.blang.specs.Headline.{GoesOff, Headline}
-use Rattle.brun.specs.Migrates.{Migrates}
+use Rattle.brun.specs.Migrates.{Migrates, rewriting}
 use Rattle.brun.specs.OneRun.{unread}
 use Rattle.blang.specs.Reports.{Reported, RunEnds, HasNotRun}
 use Rattle.brun.specs.Runs.{RunsText}
@@ -152,12 +152,8 @@ Does shelf (go source steps) ends status = HasNoFile (shelf.lacks source.file) e
     ⊎ ((r : Reads shelf source) × (following : Unread)
     × GoesOff source.edition steps (unread (whole r)) (incoming_of following) ends status
     × Headline source.edition steps (unread (whole r)) (incoming_of following) ends status)
-Does shelf migrate ends status = Migrates (record {
-  input = ends.input;
-  input_after = ends.input_after;
-  out = ends.out;
-  out_after = ends.out_after;
-}) ends.line ends.line_after status
+Does shelf migrate ends status =
+    Migrates (rewriting ends.input ends.input_after ends.out ends.out_after) ends.line ends.line_after status
 Does shelf (ask source question) ends status = NamesFile (shelf.lacks source.file) source.file ends status
     ⊎ NamesLib shelf source.libs ends status
     ⊎ ((r : Reads shelf source) × Answers source.edition (files_read r) (whole r) question ends status)
