@@ -8,4 +8,5 @@ mod page;
 mod rows;
 mod showing;
 
+pub use escapes::escaped_texts_stay_in_place;
 pub use showing::{Rows, Wanted, show};

@@ -151,7 +151,7 @@ rows.forEach((row, k) => {\n\
 \x20 } else row.below = last.below;\n\
 });\n\
 facts.calls.pop();\n\
-let told = rows.find(row => row.step === facts.calls_at)?.below;\n\
+let told = rows.find(row => row.step === facts.calls_at + 1)?.below;\n\
 for (const [strings, start] of facts.calls) {\n\
 \x20 const f = facts.definitions.find(([address]) => address === strings - 1);\n\
 \x20 fill(told, f?.[1], start);\n\
@@ -162,7 +162,9 @@ for (const [strings, start] of facts.calls) {\n\
 const words = new Map();\n\
 for (let k = 0; k + 1 < facts.words.length; k += 2) words.set(facts.words[k], facts.words[k + 1]);\n\
 for (const row of rows) row.stored.forEach((_, k) => words.has(row.address + k) || words.set(row.address + k, 0));\n\
-const used = [...words.keys()].sort((a, b) => a - b);\n\
+const first = 7;\n\
+const stores = new Set(rows.flatMap(row => row.stored.map((_, k) => row.address + k)));\n\
+const used = [...words.keys()].filter(a => a >= first || stores.has(a)).sort((a, b) => a - b);\n\
 let at = made;\n\
 function seek(to) {\n\
 \x20 for (; at < to; at++) rows[at].stored.forEach((word, k) => words.set(rows[at].address + k, word));\n\
@@ -200,14 +202,16 @@ function range(from, to, fresh) {\n\
 }\n\
 \n\
 // The source, a line each, each file with its own numbers.\n\
-const files = new Map(facts.parts.slice(0, -1).map(([name, line]) => [line, shown(name)]));\n\
 const lines = [];\n\
-let number = 0;\n\
-shown(facts.source).split(\"\\n\").forEach((line, k) => {\n\
-\x20 number = files.has(k + 1) ? 1 : number + 1;\n\
-\x20 if (files.size > 1 && files.has(k + 1)) $(\"source\").append(element(\"div\", files.get(k + 1), \"file\"));\n\
-\x20 lines.push(element(\"div\", String(number).padStart(4) + \"  \" + line));\n\
-\x20 $(\"source\").append(lines[k]);\n\
+const all = shown(facts.source).split(\"\\n\");\n\
+facts.parts.pop();\n\
+facts.parts.forEach(([name, count], k) => {\n\
+\x20 if (facts.parts.length > 1) $(\"source\").append(element(\"div\", shown(name), \"file\"));\n\
+\x20 const last = k + 1 === facts.parts.length;\n\
+\x20 all.splice(0, last ? all.length : count).forEach((line, n) => {\n\
+\x20   lines.push(element(\"div\", String(n + 1).padStart(4) + \"  \" + line));\n\
+\x20   $(\"source\").append(lines.at(-1));\n\
+\x20 });\n\
 });\n\
 $(\"title\").textContent = document.title = shown(facts.parts[0][0]) + \", step by step\";\n\
 \n\
@@ -244,7 +248,7 @@ function showMemory(row, fresh) {\n\
 \x20 for (let call = row; call; call = call.below) {\n\
 \x20   free = Math.max(free, (call.start ?? 0) + (functions.get(call.name)?.frame ?? 0));\n\
 \x20 }\n\
-\x20 const others = used.filter(a => a < facts.definitions[0]?.[0] || a >= free);\n\
+\x20 const others = used.filter(a => a >= free || a < first);\n\
 \x20 if (others.length) {\n\
 \x20   const line = table.insertRow();\n\
 \x20   line.append(element(\"th\", \"other words\"));\n\
