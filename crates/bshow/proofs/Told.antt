@@ -58,18 +58,20 @@ none_first which = ap (range_with_len (first_of which 0)) (zero_less (first_of w
 
 pub told_none : (fs : List Placed) (which : Rows) (first : Paused) (i : Incoming) (o : Kept) (r : Record) → r.texts ≡ [] → r.heard ≡ [] → r.calls ≡ calls_text first.below → r.calls_at ≡ 0 → r.output ≡ o.bytes
     → IsTold fs which first 0 first i i o o r
-told_none fs which first i o r texts heard calls at output = record {
-  image_is = refl;
-  goes = goes_on (following first.image 0 (machine_at first)) (machine_at first) i (outgoing_of o) (λ left before. refl);
-  within = omega (arith, at);
-  among = λ lt. omega (arith, lt);
-  tells = λ more can. record {
-    shown = subst (AreShown fs first.image.functions which (steps_from first more) 0) (sym texts) (none_of fs first.image.functions which (steps_from first more) (none_first which));
-    calls_are = calls ∙ ap (λ n. calls_text (below_of (steps_from first more n))) (sym at);
-    heard = heard;
-  };
-  output = output;
-}
+told_none fs which first i o r texts heard calls at output =
+    let begun = goes_on (following first.image 0 (machine_at first)) (machine_at first) i (outgoing_of o) (λ left before. refl) in
+    record {
+      image_is = refl;
+      goes = begun;
+      within = omega (arith, at);
+      among = λ lt. omega (arith, lt);
+      tells = λ more can. record {
+            shown = subst (AreShown fs first.image.functions which (steps_from first (begun.taken ++ more)) 0) (sym texts) (none_of fs first.image.functions which (steps_from first (begun.taken ++ more)) (none_first which));
+            calls_are = calls ∙ ap (λ n. calls_text (below_of (steps_from first (begun.taken ++ more) n))) (sym at);
+            heard = heard;
+          };
+      output = output;
+    }
 
 -- the calls are told anew, or not
 pub told_anew : (fs : List Placed) (which : Rows) (first : Paused) (made : ℕ) (now : Paused) (i j : Incoming) (o q : Kept) (r : Record) → IsTold fs which first made now i j o q r
@@ -177,8 +179,8 @@ module _ (fs : List Placed) (which : Rows) (first now : Paused) (made : ℕ) (i 
         ap (λ s. heard_by fs s (machine_at new more (t.goes.output ++ g.output))) (sym (here more can))
         ∙ ap (heard_by fs (steps_from first (input more) made)) (sym (went more can))
 
-    wrote : drop (length r.output) r'.output ≡ g.output
-    wrote = (λ n. drop (length (t.output n)) (output n)) ∙ since p q g.output g.written
+    wrote_it : drop (length r.output) r'.output ≡ g.output
+    wrote_it = (λ n. drop (length (t.output n)) (output n)) ∙ since p q g.output g.written
 
     store_before : (more : List ℕ) → CanFollow m more → now.store ≡ store_after (steps_from first (input more)) made
     store_before more can = ap (λ s. (state_world s).store) (sym (here more can))
@@ -189,7 +191,7 @@ module _ (fs : List Placed) (which : Rows) (first now : Paused) (made : ℕ) (i 
     row_shown : (more : List ℕ) → CanFollow m more → (row : List ℕ) → IsRow fs made now new (Ok tt) (drop (length r.output) r'.output) row → ShowsStep fs first.image.functions (steps_from first (input more)) made row
     row_shown more can row x =
         let bytes = drop (length r.output) r'.output in
-        let addresses : range_with_len x.1 x.2 ≡ stored_after first.image.functions (steps_from first (input more)) made = x.3 ∙ stored_it more can in
+        let addresses : range_with_len x.1.0 x.1.1 ≡ stored_after first.image.functions (steps_from first (input more)) made = x.1.2 ∙ stored_it more can in
         let cells = call_cells fs (made + 1) now.call (length now.below) x.0 in
         record {
           tries = record {
@@ -199,12 +201,12 @@ module _ (fs : List Placed) (which : Rows) (first now : Paused) (made : ℕ) (i 
             state_is = here more can;
           };
           line = x.0;
-          address = x.1;
-          count = x.2;
+          address = x.1.0;
+          count = x.1.1;
           stored_from = sym addresses;
           bytes = bytes;
-          wrote = ap (λ s. (state_world s).output) (went more can) ∙ ap (λ y. t.goes.output ++ y) (sym wrote);
-          row_is = x.4 ∙ (λ n. cells ++ done_cells x.1 (words_in (store_before more can n) (addresses n)) (words_in (store_then more can n) (addresses n)) (heard_it more can n) bytes);
+          wrote = ap (λ s. (state_world s).output) (went more can) ∙ ap (λ y. t.goes.output ++ y) (sym wrote_it);
+          row_is = x.1.3 ∙ (λ n. cells ++ done_cells x.1.0 (words_in (store_before more can n) (addresses n)) (words_in (store_then more can n) (addresses n)) (heard_it more can n) bytes);
         }
 
     abbrev goes_further : MovesOn (λ left before. steps first.image (made + 1) (machine_at first left before)) (machine_at new) i m (outgoing_of o) (outgoing_of q)
