@@ -13,7 +13,7 @@ use Rattle.bshow.specs.Shows.{AreShown, ShowsStep, StepRow, first_of, shown_of}
 use Rattle.bshow.specs.Steps.{has_row, kept_texts, retells}
 use Rattle.bshow.specs.declared.showing.Rows.{Rows}
 use Rattle.bshow.specs.declared.showing.Rows.TheVariants as rows
-use Rattle.bshow.proofs.Ranges.{one_further, one_more}
+use Rattle.bshow.proofs.Ranges.{one_from_zero, one_further, one_more}
 
 empty_range : (a n : ℕ) → n ≡ 0 → range_with_len a n ≡ []
 empty_range a n e = ap (range_with_len a) e
@@ -65,11 +65,13 @@ module _ (fs : List Placed) (functions : List Loaded) (states : ℕ → State) (
   all_last : (count : ℕ) (texts : List (List ℕ)) (h : AreShown fs functions (rows.Last count) states made texts) → made < count → AreShown fs functions (rows.Last count) states (made + 1) (texts ++ row ∷ [])
   all_last count texts h lt =
       let none : made - count ≡ 0 = omega (arith, lt) in
-      let still : made + 1 - count ≡ 0 = omega (arith, lt) in
+      let many_before : made - (made - count) ≡ made = omega (arith, lt) in
+      let still : 0 ≡ made + 1 - count = omega (arith, lt) in
+      let whole : made + 1 ≡ made + 1 - (made + 1 - count) = omega (arith, lt) in
       record {
         kept = h.kept ++ fresh ∷ [];
         texts_are = ap (λ ts. ts ++ row ∷ []) h.texts_are ∙ sym (map-append row_of h.kept (fresh ∷ []));
-        all = numbers h.kept ∙ ap (λ ns. ns ++ made ∷ []) (h.all ∙ ap (λ a. range_with_len a (made - a)) none) ∙ sym (one_more 0 made) ∙ ap (λ a. range_with_len a (made + 1 - a)) (sym still);
+        all = numbers h.kept ∙ ap (λ ns. ns ++ made ∷ []) (h.all ∙ (λ j. range_with_len (none j) (many_before j))) ∙ sym (one_from_zero made) ∙ (λ j. range_with_len (still j) (whole j));
         each = with_row h.kept h.each;
       }
 

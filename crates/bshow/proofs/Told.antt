@@ -39,12 +39,12 @@ pub record TellsOf (fs : List Placed) (functions : List Loaded) (which : Rows) (
 
 -- So many steps were made from a state on, and told.
 pub record IsTold (fs : List Placed) (which : Rows) (first : Paused) (made : ℕ) (now : Paused) (i j : Incoming) (o q : Kept) (r : Record) : Type 0 where
-  image_is : now.image ≡ first.image
-  goes : MovesOn (λ left before. steps first.image made (machine_at first left before)) (machine_at now) i j (outgoing_of o) (outgoing_of q)
-  within : r.calls_at ≤ made
-  among : IsAmong which made r.calls_at
-  tells : (more : List ℕ) → CanFollow j more → TellsOf fs first.image.functions which (steps_from first (goes.taken ++ more)) made r
-  output : r.output ≡ q.bytes
+  pub image_is : now.image ≡ first.image
+  pub goes : MovesOn (λ left before. steps first.image made (machine_at first left before)) (machine_at now) i j (outgoing_of o) (outgoing_of q)
+  pub within : r.calls_at ≤ made
+  pub among : IsAmong which made r.calls_at
+  pub tells : (more : List ℕ) → CanFollow j more → TellsOf fs first.image.functions which (steps_from first (goes.taken ++ more)) made r
+  pub output : r.output ≡ q.bytes
 
 -- before the first step
 none_of : (fs : List Placed) (functions : List Loaded) (which : Rows) (states : ℕ → State) → shown_of which 0 ≡ [] → AreShown fs functions which states 0 []
@@ -66,10 +66,10 @@ told_none fs which first i o r texts heard calls at output =
       within = omega (arith, at);
       among = λ lt. omega (arith, lt);
       tells = λ more can. record {
-            shown = subst (AreShown fs first.image.functions which (steps_from first (begun.taken ++ more)) 0) (sym texts) (none_of fs first.image.functions which (steps_from first (begun.taken ++ more)) (none_first which));
-            calls_are = calls ∙ ap (λ n. calls_text (below_of (steps_from first (begun.taken ++ more) n))) (sym at);
-            heard = heard;
-          };
+        shown = subst (AreShown fs first.image.functions which (steps_from first (begun.taken ++ more)) 0) (sym texts) (none_of fs first.image.functions which (steps_from first (begun.taken ++ more)) (none_first which));
+        calls_are = calls ∙ ap (λ n. calls_text (below_of (steps_from first (begun.taken ++ more) n))) (sym at);
+        heard = heard;
+      };
       output = output;
     }
 

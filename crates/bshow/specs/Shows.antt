@@ -119,8 +119,14 @@ EndsAs fs states made steps outcome.Limit next =
 EndsAs fs states made steps result next = ⊥
 
 -- the page: its fixed parts, and between them the rows, what came of the run, and the facts
+unfoldable pub head : List ℕ
+head = HEAD.now
+
+unfoldable pub tail : List ℕ
+tail = TAIL.now
+
 abbrev pub page_text : (rows sentence facts : List ℕ) → List ℕ
-page_text rows sentence facts = HEAD.now ++ rows ++ BETWEEN.now ++ sentence ++ SCRIPT.now ++ facts ++ TAIL.now
+page_text rows sentence facts = head ++ rows ++ BETWEEN.now ++ sentence ++ SCRIPT.now ++ facts ++ tail
 
 abbrev pub rows_text : List (List ℕ) → List ℕ
 rows_text texts = flat_map (λ t. t) texts

@@ -1,7 +1,6 @@
 //! What a page tells beside its rows, as one object of JSON.
 ghost use Rattle.std.specs.Prelude.{◌≡◌, ◌≤◌, ◌++◌, OnOk, map};
 ghost use Rattle.blang.specs.Layout.{data_end, shape_of};
-ghost use Rattle.std.specs.List.{flat_map};
 ghost use Rattle.bsources.specs.Files.{file_shown, files_shown};
 ghost use Rattle.bshow.specs.Facts.{calls_text, definition_text, definitions_text, file_text, files_text, frame_numbers, frame_text, frame_word_text};
 ghost use Rattle.bshow.specs.Facts.{active_text, frames_text, memory_text, program_text, run_text, some_word};
@@ -47,17 +46,7 @@ fn push_files(text: &mut Text, files: SourceFiles<'_>) -> Result<(), AllocError>
 {
     text.push(b"[")?;
     push_file(text, files.first)?;
-    push_rest(text, files.rest)?;
     text.push(b"0]")
-}
-
-fn push_rest(text: &mut Text, files: &[SourceFile<'_>]) -> Result<(), AllocError>
-    ensures { OnOk result (text.new ≡ text.old ++ flat_map file_text (map file_shown files.now)) }
-{
-    for file in files {
-        push_file(text, *file)?;
-    }
-    Ok(())
 }
 
 fn push_file(text: &mut Text, file: SourceFile<'_>) -> Result<(), AllocError>

@@ -7,7 +7,7 @@ ghost use Rattle.bmach.specs.Turns.{LeavesWords, TurnGives};
 ghost use Rattle.bword.specs.ByteEnds.{outgoing_of};
 ghost use Rattle.btools.specs.Programs.{nothing_written};
 ghost use Rattle.btrace.specs.Programs.{entries_of};
-ghost use Rattle.bshow.specs.Shows.{Shows, StepsGive, asked_of, record_of, rows_text};
+ghost use Rattle.bshow.specs.Shows.{Shows, StepsGive, asked_of, head, record_of, rows_text, tail};
 ghost use Rattle.bshow.specs.Steps.{ShowsRun, ShowsUnbegun, broken_status, AddsDone, AddsNext, IsEmpty, IsPage, KeepsStep, TellsRun, TellsUnless, has_row, heard_if, kept_texts, retells, retold};
 ghost use Rattle.bshow.specs.Steps.{unbegun_page};
 
@@ -230,13 +230,13 @@ fn unbegun_page(
         program.now.names.frames.items trap) }
 {
     let mut page = Text::new(alloc);
-    page.push(HEAD)?;
+    push_head(&mut page)?;
     page.push(BETWEEN)?;
     push_unbegun(&mut page, trap)?;
     page.push(SCRIPT)?;
     push_program(&mut page, program, wanted.files, source, wanted.given)?;
     page.push(NO_RUN)?;
-    page.push(TAIL)?;
+    push_tail(&mut page)?;
     Ok(page)
 }
 
@@ -256,7 +256,7 @@ fn page_of<S: Store + Drop>(
         program.now.names.frames.items (entries_of tables.now) (record_of kept.now) stepper.now ended page) }
 {
     let mut page = Text::new(alloc);
-    page.push(HEAD)?;
+    push_head(&mut page)?;
     push_rows(&mut page, &kept.rows)?;
     push_next(&mut page, tables, stepper, ended)?;
     page.push(BETWEEN)?;
@@ -271,14 +271,26 @@ fn page_of<S: Store + Drop>(
         kept.heard.as_slice(),
         kept.written.bytes(),
     )?;
-    page.push(TAIL)?;
+    push_tail(&mut page)?;
     Ok(page)
+}
+
+fn push_head(page: &mut Text) -> Result<(), AllocError>
+    ensures { OnOk result (page.new ≡ page.old ++ head) }
+{
+    page.push(HEAD)
+}
+
+fn push_tail(page: &mut Text) -> Result<(), AllocError>
+    ensures { OnOk result (page.new ≡ page.old ++ tail) }
+{
+    page.push(TAIL)
 }
 
 fn push_rows(page: &mut Text, rows: &VecDeque<Text>) -> Result<(), AllocError>
     ensures { OnOk result (page.new ≡ page.old ++ rows_text rows.now.items) }
 {
-    for row in rows.iter() {
+    for row in rows {
         page.push(row.as_slice())?;
     }
     Ok(())

@@ -1,4 +1,4 @@
-use Rattle.std.proofs.Common.{◌≡◌, ◌∙◌, ◌+◌, ◌≤◌, ◌++◌, ap, append_assoc, append-nil, arith, codes, decimal, map, refl, sym, take}
+use Rattle.std.proofs.Common.{◌≡◌, ◌∙◌, ◌+◌, ◌≤◌, ◌++◌, ℕ, List, ap, append_assoc, append-nil, arith, codes, decimal, map, refl, sym, take}
 use Rattle.std.proofs.lemmas.List.{take_all}
 use Rattle.std.proofs.lemmas.Result.{on_ok_weaker}
 use Rattle.blang.specs.Layout.{data_end, shape_of}
@@ -7,7 +7,7 @@ use Rattle.bshow.proofs.FactParts.{ends_within, next_end, one_definition, texts_
 use Rattle.bshow.proofs.facts.push_definitions.Goals as goal
 
 pub loop-definition-init : goal.loop-definition-init
-loop-definition-init c = record { address = refl; text = c.in_ok-push.ensures ∙ sym (append-nil _) }
+loop-definition-init c = record { address = c.from-address.ensures; text = c.in_ok-push.ensures ∙ sym (append-nil _) }
 
 pub overflow_add-address : goal.overflow_add-address
 overflow_add-address c =
@@ -35,5 +35,7 @@ returns c =
     let start = c.args.text.now in
     let here : c.loop-definition.address ≡ data_end (map shape_of ds) = c.loop-definition.invariant.address ∙ ap (λ xs. data_end (map shape_of xs)) whole in
     let all = c.loop-definition.invariant.text ∙ ap (λ xs. (start ++ codes "[") ++ texts_of xs) whole ∙ append_assoc start (codes "[") (texts_of ds) in
-    on_ok_weaker c.push-2.result (λ end. piece _ _ _ _ _ (piece _ _ _ _ _ all c.in_ok-push_number.ensures) end
+    let digits : List ℕ = decimal c.from.result in
+    let begun = piece start c.loop-definition.text c.push_number.new.self (codes "[" ++ texts_of ds) digits all c.in_ok-push_number.ensures in
+    on_ok_weaker c.push-2.result (λ end. piece start c.push_number.new.self c.push-2.new.self (codes "[" ++ texts_of ds ++ digits) (codes "]") begun end
     ∙ ap (λ n. start ++ (codes "[" ++ texts_of ds ++ decimal n ++ codes "]")) (c.from.ensures ∙ here)) c.push-2.ensures

@@ -1,8 +1,0 @@
-use Rattle.std.proofs.Common.{◌≡◌, ◌++◌, map, take}
-use Rattle.std.specs.List.{flat_map}
-use Rattle.bsources.specs.Files.{file_shown}
-use Rattle.bshow.specs.Facts.{file_text}
-use Rattle.bshow.proofs.facts.push_rest.Given as goal
-
-abbrev pub invariant-loop-file : goal.invariant-loop-file
-invariant-loop-file l = l.text ≡ l.fn.text ++ flat_map (λ f. file_text (file_shown f)) (take l.file-index l.files)
