@@ -13,6 +13,7 @@ use Rattle.bmach.proofs.Spots.{data_end-push, length-spots_after, spots_after-pu
 use Rattle.bmach.specs.Stops.{active_of}
 use Rattle.bmach.specs.declared.machine.Active.{Active}
 use Rattle.btools.proofs.AddedTexts.{each_more}
+use Rattle.bshow.specs.Shows.{rows_text}
 use Rattle.bshow.specs.Facts.{active_text, all_addresses, call_text, definition_text, spot_text}
 
 -- the texts of definitions, with one more
@@ -81,3 +82,7 @@ call_more below number a head text new lt e before one =
 pub all_are : (n : ℕ) → n ≡ store_words → range_with_len 0 n ≡ all_addresses
 unfolding all_addresses
 all_are n e = ap (range_with_len 0) e
+
+-- one row more
+pub one_row : (start text new row : List ℕ) (rest : List (List ℕ)) → text ++ rows_text (row ∷ rest) ≡ start → new ≡ text ++ row → new ++ rows_text rest ≡ start
+one_row start text new row rest before one = ap (λ t. t ++ rows_text rest) one ∙ append_assoc text row (rows_text rest) ∙ before

@@ -287,6 +287,7 @@ fn push_tail(page: &mut Text) -> Result<(), AllocError>
     page.push(TAIL)
 }
 
+#[tactic(auto, using(crate::proofs::FactParts::one_row))]
 fn push_rows(page: &mut Text, rows: &VecDeque<Text>) -> Result<(), AllocError>
     ensures { OnOk result (page.new ≡ page.old ++ rows_text rows.now.items) }
 {
