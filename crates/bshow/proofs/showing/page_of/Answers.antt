@@ -1,34 +1,32 @@
-use Rattle.std.proofs.Common.{◌≡◌, ◌∙◌, ◌++◌, ℕ, List, [], ap, codes, decimal}
-use Rattle.std.proofs.lemmas.Result.{on_ok_weaker}
+use Rattle.std.proofs.Common.{◌≡◌, ◌∙◌, ◌++◌, ℕ, List, [], ap}
 use Rattle.btools.proofs.AddedTexts.{piece}
 use Rattle.bsources.specs.Files.{files_shown}
-use Rattle.bshow.specs.Facts.{no_run_text, program_text, run_text, sentence, unbegun_sentence}
-use Rattle.bshow.specs.Shows.{asked_of, head, rows_text, tail}
+use Rattle.bshow.specs.Facts.{program_text, run_text, sentence}
+use Rattle.bshow.specs.Shows.{head, rows_text, tail}
 use Rattle.bshow.specs.declared.page.TheConstants.{BETWEEN, SCRIPT}
 use Rattle.bshow.proofs.showing.page_of.Goals as goal
 
 pub returns : goal.returns
 returns g c =
-    let t0 = c.new-page.result in
-    let a0 : List ℕ = head in
-    let a1 : List ℕ = rows_text c.args.kept.now.rows.items in
-    let a2 : List ℕ = c.in_ok-push_next.ensures.0 in
-    let a3 : List ℕ = BETWEEN.now in
-    let a4 : List ℕ = sentence c.args.ended.outcome c.args.ended.made in
-    let a5 : List ℕ = SCRIPT.now in
-    let a6 : List ℕ = program_text (files_shown c.args.wanted.files) c.args.source.now c.args.wanted.given.now c.args.program.now.definitions.items c.args.program.now.names.frames.items in
-    let a7 : List ℕ = run_text c.as_slice.result.now c.args.kept.now.calls_at c.args.stepper.now.store c.as_slice-2.result.now c.bytes.result.now in
-    let a8 : List ℕ = tail in
-    let p1 = piece t0 c.push_head.new.page c.push_rows.new.page (a0) a1 c.in_ok-push_head.ensures c.in_ok-push_rows.ensures in
-    let p2 = piece t0 c.push_rows.new.page c.push_next.new.page (a0 ++ a1) a2 p1 c.in_ok-push_next.ensures.2 in
-    let p3 = piece t0 c.push_next.new.page c.push.new.self (a0 ++ a1 ++ a2) a3 p2 c.in_ok-push.ensures in
-    let p4 = piece t0 c.push.new.self c.push_sentence.new.text (a0 ++ a1 ++ a2 ++ a3) a4 p3 c.in_ok-push_sentence.ensures in
-    let p5 = piece t0 c.push_sentence.new.text c.push-2.new.self (a0 ++ a1 ++ a2 ++ a3 ++ a4) a5 p4 c.in_ok-push-2.ensures in
-    let p6 = piece t0 c.push-2.new.self c.push_program.new.text (a0 ++ a1 ++ a2 ++ a3 ++ a4 ++ a5) a6 p5 c.in_ok-push_program.ensures in
-    let p7 = piece t0 c.push_program.new.text c.push_run.new.text (a0 ++ a1 ++ a2 ++ a3 ++ a4 ++ a5 ++ a6) a7 p6 c.in_ok-push_run.ensures in
-    let p8 = piece t0 c.push_run.new.text c.push_tail.new.page (a0 ++ a1 ++ a2 ++ a3 ++ a4 ++ a5 ++ a6 ++ a7) a8 p7 c.in_ok-push_tail.ensures in (
-      a2,
-      c.in_ok-push_next.ensures.1,
-      p8 ∙ ap (λ t. t ++ (a0 ++ a1 ++ a2 ++ a3 ++ a4 ++ a5 ++ a6 ++ a7 ++ a8)) c.new-page.ensures
-          ∙ (λ i. a0 ++ a1 ++ a2 ++ a3 ++ a4 ++ a5 ++ a6 ++ run_text (c.as_slice.ensures i) c.args.kept.now.calls_at c.args.stepper.now.store (c.as_slice-2.ensures i) (c.bytes.ensures i) ++ a8),
+    let end = c.push_tail.new.page in
+    let next = c.in_ok-push_next.ensures in
+    let said : List ℕ = sentence c.args.ended.outcome c.args.ended.made in
+    let rows : List ℕ = rows_text c.args.kept.now.rows.items in
+    let program : List ℕ = program_text (files_shown c.args.wanted.files) c.args.source.now c.args.wanted.given.now c.args.program.now.definitions.items c.args.program.now.names.frames.items in
+    let run : List ℕ = run_text c.as_slice.result.now c.args.kept.now.calls_at c.args.stepper.now.store c.as_slice-2.result.now c.bytes.result.now in
+    let facts = piece c.push-2.new.self c.push_program.new.text c.push_run.new.text program run c.in_ok-push_program.ensures c.in_ok-push_run.ensures in
+    let table = piece c.push_head.new.page c.push_rows.new.page c.push_next.new.page rows next.0 c.in_ok-push_rows.ensures next.2 in
+    let x5 : List ℕ → List ℕ = λ r. (program ++ r) ++ tail in
+    let x3 : List ℕ → List ℕ = λ r. said ++ SCRIPT.now ++ x5 r in
+    let x1 : List ℕ → List ℕ = λ r. (rows ++ next.0) ++ BETWEEN.now ++ x3 r in
+    let q5 = piece c.push-2.new.self c.push_run.new.text end (program ++ run) tail facts c.in_ok-push_tail.ensures in
+    let q4 = piece c.push_sentence.new.text c.push-2.new.self end SCRIPT.now (x5 run) c.in_ok-push-2.ensures q5 in
+    let q3 = piece c.push.new.self c.push_sentence.new.text end said (SCRIPT.now ++ x5 run) c.in_ok-push_sentence.ensures q4 in
+    let q2 = piece c.push_next.new.page c.push.new.self end BETWEEN.now (x3 run) c.in_ok-push.ensures q3 in
+    let q1 = piece c.push_head.new.page c.push_next.new.page end (rows ++ next.0) (BETWEEN.now ++ x3 run) table q2 in
+    let q0 = piece c.new-page.result c.push_head.new.page end head (x1 run) c.in_ok-push_head.ensures q1 in (
+      next.0,
+      next.1,
+      q0 ∙ ap (λ t. t ++ (head ++ x1 run)) c.new-page.ensures
+          ∙ (λ i. head ++ x1 (run_text (c.as_slice.ensures i) c.args.kept.now.calls_at c.args.stepper.now.store (c.as_slice-2.ensures i) (c.bytes.ensures i))),
     )
