@@ -199,9 +199,9 @@ run_whole edition source asked ends status ds image frames fs first is functions
 pub unbegun_whole : (edition : Edition) (source : List ℕ) (asked : Asked) (ends : RunEnds) (status : ℕ) (ds : List Definition) (image : Image) (frames : List Frame) (r : Outcome)
     → HasProgram edition source ends.line ends.line_after ds image → BeginsNot image r → ends.input_after ≡ ends.input
     → ShowsUnbegun asked source ds frames r ends.out ends.out_after status → Shows edition source asked ends status
-unbegun_whole edition source asked ends status ds image frames (outcome.Trap kind) is begins unread h =
-    ⊎_elim (λ page. not_begun ds image frames kind is begins page unread) (λ m. no_memory ds image is m.1 (ap (λ (x : Incoming). x.failures) unread) m.0) h
-unbegun_whole edition source asked ends status ds image frames (outcome.Exit n) is begins unread h = no_memory ds image is h.1 (ap (λ (x : Incoming). x.failures) unread) h.0
-unbegun_whole edition source asked ends status ds image frames outcome.Limit is begins unread h = no_memory ds image is h.1 (ap (λ (x : Incoming). x.failures) unread) h.0
-unbegun_whole edition source asked ends status ds image frames outcome.Device is begins unread h = no_memory ds image is h.1 (ap (λ (x : Incoming). x.failures) unread) h.0
-unbegun_whole edition source asked ends status ds image frames outcome.Memory is begins unread h = no_memory ds image is h.1 (ap (λ (x : Incoming). x.failures) unread) h.0
+unbegun_whole edition source asked ends status ds image frames (outcome.Trap kind) is begins still h =
+    ⊎_elim (λ page. not_begun ds image frames kind is begins page still) (λ m. no_memory ds image is m.1 (ap (λ (x : Incoming). x.failures) still) m.0) h
+unbegun_whole edition source asked ends status ds image frames (outcome.Exit n) is begins still h = no_memory ds image is h.1 (ap (λ (x : Incoming). x.failures) still) h.0
+unbegun_whole edition source asked ends status ds image frames outcome.Limit is begins still h = no_memory ds image is h.1 (ap (λ (x : Incoming). x.failures) still) h.0
+unbegun_whole edition source asked ends status ds image frames outcome.Device is begins still h = no_memory ds image is h.1 (ap (λ (x : Incoming). x.failures) still) h.0
+unbegun_whole edition source asked ends status ds image frames outcome.Memory is begins still h = no_memory ds image is h.1 (ap (λ (x : Incoming). x.failures) still) h.0

@@ -1,4 +1,4 @@
-use Rattle.std.proofs.Common.{◌≡◌, ◌∙◌, ◌++◌, ℕ, List, ap, codes, decimal}
+use Rattle.std.proofs.Common.{◌++◌, ℕ, List, codes, decimal}
 use Rattle.std.proofs.lemmas.Result.{on_ok_weaker}
 use Rattle.btools.proofs.AddedTexts.{piece}
 use Rattle.bshow.proofs.ending.push_trap.Goals as goal

@@ -1,4 +1,4 @@
-use Rattle.std.proofs.Common.{◌≡◌, ◌∙◌, ◌<◌, ◌++◌, ap, append_assoc, append-nil, arith, codes, length, sym}
+use Rattle.std.proofs.Common.{◌∙◌, ◌<◌, ◌++◌, ap, append_assoc, append-nil, arith, codes, length, sym}
 use Rattle.std.specs.List.{flat_map}
 use Rattle.std.proofs.lemmas.List.{take_all}
 use Rattle.std.proofs.lemmas.Result.{on_ok_weaker}

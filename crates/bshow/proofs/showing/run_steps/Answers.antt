@@ -1,4 +1,4 @@
-use Rattle.std.proofs.Common.{◌≡◌, ◌∙◌, ℕ, ◌+◌, ap, arith, refl, subst, sym}
+use Rattle.std.proofs.Common.{◌≡◌, ◌∙◌, ℕ, ap, arith, refl, subst}
 use Rattle.bword.specs.ByteEnds.{Kept, Outgoing, outgoing_of}
 use Rattle.blang.specs.declared.run.Outcome.TheVariants as outcome
 use Rattle.btrace.specs.Programs.{entries_of}
