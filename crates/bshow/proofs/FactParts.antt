@@ -1,5 +1,5 @@
 -- The parts of the facts of a page, one after another.
-use Rattle.std.proofs.Common.{◌≡◌, ◌∙◌, ℕ, zero, suc, ◌+◌, ◌<◌, ◌≤◌, Bool, true, false, ◌||◌, List, [], ◌∷◌, ◌++◌, None, Option, Some, ap, append-nil, append_assoc, arith, codes, get_or, length, map, nat_lt, refl, sym, take}
+use Rattle.std.proofs.Common.{◌≡◌, ◌∙◌, ℕ, zero, suc, ◌+◌, ◌<◌, ◌≤◌, Bool, true, false, ◌||◌, List, [], ◌∷◌, ◌++◌, None, Option, Some, ap, append-nil, append_assoc, arith, get_or, length, map, nat_lt, refl, sym, take}
 use Rattle.std.specs.Prelude.{option_map, slice_get, zip}
 use Rattle.std.specs.List.{flat_map, range_with_len}
 use Rattle.std.proofs.lemmas.List.{length-map, map-append, take-map, take_more}
@@ -8,7 +8,7 @@ use Rattle.std.proofs.lemmas.List.Concat.{flat_map-append}
 use Rattle.std.proofs.lemmas.List.Sums.{sum_by-take-le}
 use Rattle.blang.specs.Machine.{Call}
 use Rattle.blang.specs.declared.code.Definition.{Definition}
-use Rattle.blang.specs.Layout.{Spot, data_end, first_some, label_count, load_fault, shape_of, size_of, some_if, spot_after, spots, store_words}
+use Rattle.blang.specs.Layout.{data_end, first_some, label_count, load_fault, shape_of, size_of, some_if, spot_after, spots, store_words}
 use Rattle.bmach.proofs.Spots.{data_end-push, length-spots_after, spots_after-push, zip-push}
 use Rattle.bmach.specs.Stops.{active_of}
 use Rattle.bmach.specs.declared.machine.Active.{Active}

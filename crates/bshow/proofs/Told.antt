@@ -1,9 +1,7 @@
 -- Steps that are made and told, one after another.
-use Rattle.std.proofs.Common.{◌≡◌, ◌∙◌, ℕ, ◌+◌, ◌-◌, ◌<◌, ◌≤◌, Bool, true, false, List, [], ◌∷◌, ◌++◌, Ok, Err, Some, ap, append-nil, append_assoc, arith, drop, length, map, refl, subst, sym, ⊎_elim}
-use Rattle.std.specs.Prelude.{All}
+use Rattle.std.proofs.Common.{◌≡◌, ◌∙◌, ℕ, ◌+◌, ◌-◌, ◌<◌, ◌≤◌, Bool, true, false, List, [], ◌∷◌, ◌++◌, Ok, Err, Some, ap, append-nil, append_assoc, arith, drop, length, refl, subst, sym}
 use Rattle.std.specs.List.{flat_map, range_with_len}
 use Rattle.std.proofs.Math.Seq.{drop-append_seam}
-use Rattle.std.proofs.lemmas.List.Concat.{flat_map-append}
 use Rattle.std.proofs.lemmas.List.Elements.{All-nil}
 use Rattle.bword.specs.ByteEnds.{CanFollow, Incoming, Kept, Outgoing, Took, Writes, outgoing_of}
 use Rattle.bword.proofs.Putting.{Writes-append}
@@ -22,10 +20,8 @@ use Rattle.bmach.proofs.Turning.{follows, goes_on, runs_on}
 use Rattle.btrace.specs.Programs.{Placed}
 use Rattle.bshow.specs.Facts.{calls_text}
 use Rattle.bshow.specs.Rows.{call_cells, done_cells, heard_by, heard_in, words_in}
-use Rattle.bshow.specs.Shows as shows
-use Rattle.bshow.specs.Shows.{AreShown, Record, ShowsStep, StepsGive, TellsCalls, TellsSteps, Tries, below_of, first_of, heard_after, shown_of, record_of, steps_from, store_after, stored_after}
-use Rattle.bshow.specs.Steps.{IsNext, IsRow, KeepsStep, KeepsRow, TellsRun, TellsUnless, has_row, heard_if, kept_texts, next_stored, retells, retold}
-use Rattle.bshow.specs.declared.showing.Ended.{Ended}
+use Rattle.bshow.specs.Shows.{AreShown, Record, ShowsStep, StepsGive, TellsSteps, below_of, first_of, heard_after, shown_of, record_of, steps_from, store_after, stored_after}
+use Rattle.bshow.specs.Steps.{IsRow, KeepsStep, KeepsRow, TellsRun, TellsUnless, has_row, kept_texts, next_stored, retells, retold}
 use Rattle.bshow.specs.declared.showing.Recorder.{Recorder}
 use Rattle.bshow.specs.declared.showing.Rows.{Rows}
 use Rattle.bshow.proofs.Kept.{IsAmong, none_shown, one_shown, told_before, told_now}

@@ -1,5 +1,5 @@
 -- What is told of a program that was loaded is what its definitions do.
-use Rattle.std.proofs.Common.{◌≡◌, ◌∙◌, ℕ, ◌+◌, List, [], ◌∷◌, ◌++◌, None, Some, ⊎_elim, ap, codes, length, map, refl, subst, sym}
+use Rattle.std.proofs.Common.{◌≡◌, ◌∙◌, ℕ, ◌+◌, List, ◌++◌, None, Some, ⊎_elim, ap, codes, length, map, refl, subst, sym}
 use Rattle.std.specs.List.{flat_map, range_with_len}
 use Rattle.std.proofs.lemmas.List.{length-map}
 use Rattle.std.proofs.lemmas.List.Folds.{flat_map-map}
@@ -12,8 +12,8 @@ use Rattle.blang.specs.declared.run.Outcome.TheVariants as outcome
 use Rattle.blang.specs.declared.status.TheConstants.{DEVICE, MEMORY}
 use Rattle.blang.specs.Layout.{World}
 use Rattle.blang.specs.Machine.{Call, Halted, Image, Loaded, Running, State, Stuck, image_of, machine, run, state_world}
-use Rattle.blang.specs.Reports.{RunEnds, RunGives, state_outcome}
-use Rattle.bmach.specs.Resolved.{IsLoadedFrom, call_resolved, resolved, state_resolved}
+use Rattle.blang.specs.Reports.{RunEnds, state_outcome}
+use Rattle.bmach.specs.Resolved.{call_resolved, resolved, state_resolved}
 use Rattle.bmach.specs.Stepping.{BeginsNot, IsUnstarted, Paused}
 use Rattle.bmach.specs.Stored.{stored}
 use Rattle.bmach.proofs.Beginning.{run_from}
@@ -25,7 +25,7 @@ use Rattle.btools.specs.Programs.{HasProgram, nothing_written}
 use Rattle.btrace.specs.Programs.{Placed, functions_of}
 use Rattle.bshow.specs.Facts.{call_text, calls_text, program_text}
 use Rattle.bshow.specs.Rows.{call_cells, done_cells, heard_by, words_in}
-use Rattle.bshow.specs.Shows.{AreShown, Asked, EndsAs, IsPageOf, IsWritten, Record, Shows, ShowsStep, StepRow, StepsGive, TellsCalls, TellsSteps, Tries, below_of, heard_after, shown, no_memory, not_begun, steps_from, store_after, stored_after, unread}
+use Rattle.bshow.specs.Shows.{AreShown, Asked, EndsAs, IsPageOf, IsWritten, Record, Shows, ShowsStep, StepRow, StepsGive, TellsSteps, Tries, below_of, heard_after, shown, no_memory, not_begun, steps_from, store_after, stored_after, unread}
 use Rattle.bshow.specs.Steps.{IsPage, ShowsRun, ShowsUnbegun, TellsRun, TellsUnless, broken, broken_status, refused, told}
 use Rattle.bshow.specs.declared.showing.Ended.{Ended}
 use Rattle.bshow.specs.declared.showing.Rows.{Rows}

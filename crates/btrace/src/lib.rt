@@ -7,7 +7,7 @@ mod rows;
 mod tables;
 mod tracing;
 
+pub use locating::{locate, wrong_places_are_excluded};
 pub use rows::{instr_at, name_of, push_signed};
 pub use tables::{Entry, Tables};
-pub use locating::{locate, wrong_places_are_excluded};
 pub use tracing::{Wanted, trace, wrong_traces_are_excluded};

@@ -1,4 +1,4 @@
-use Rattle.std.proofs.Common.{◌≡◌, ◌∙◌, ◌++◌, ℕ, List, ap}
+use Rattle.std.proofs.Common.{◌∙◌, ◌++◌, ℕ, List, ap}
 use Rattle.btools.proofs.AddedTexts.{piece}
 use Rattle.bsources.specs.Files.{files_shown}
 use Rattle.bshow.specs.Facts.{program_text, run_text, sentence}

@@ -1,9 +1,8 @@
-use Rattle.std.proofs.Common.{◌≡◌, ◌∙◌, List, ℕ, ap, refl, subst, sym}
-use Rattle.bword.specs.ByteEnds.{Outgoing}
+use Rattle.std.proofs.Common.{◌∙◌, List, ℕ, refl, subst, sym}
 use Rattle.blang.specs.declared.status.TheConstants.{DONE}
 use Rattle.blang.specs.Reports.{Reported}
 use Rattle.btrace.specs.Programs.{entries_of}
-use Rattle.bshow.specs.Shows.{asked_of, record_of}
+use Rattle.bshow.specs.Shows.{record_of}
 use Rattle.bshow.specs.Steps.{TellsRun, broken, refused, told}
 use Rattle.bshow.proofs.Whole.{unfailed, whole_told}
 use Rattle.bshow.proofs.showing.show_run.Goals as goal

@@ -1,4 +1,4 @@
-use Rattle.std.proofs.Common.{◌≡◌, ◌∙◌, ℕ, List, inl, subst}
+use Rattle.std.proofs.Common.{◌∙◌, ℕ, List, inl, subst}
 use Rattle.blang.specs.declared.status.TheConstants.{DONE}
 use Rattle.blang.specs.Reports.{Reported}
 use Rattle.bshow.proofs.showing.show_unbegun.Goals as goal

@@ -1,4 +1,4 @@
-use Rattle.std.proofs.Common.{◌≡◌, ◌∙◌, ◌++◌, ℕ, List, ap, append-nil, sym}
+use Rattle.std.proofs.Common.{◌∙◌, ◌++◌, ℕ, List, ap, append-nil, sym}
 use Rattle.btools.proofs.AddedTexts.{piece}
 use Rattle.bsources.specs.Files.{files_shown}
 use Rattle.bshow.specs.Facts.{no_run_text, program_text, unbegun_sentence}
