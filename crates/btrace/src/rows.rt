@@ -55,7 +55,8 @@ pub fn name_of<'a>(entry: Option<Entry<'a>>) -> &'a [u8]
     }
 }
 
-fn instr_at(entry: Option<Entry<'_>>, place: usize) -> Option<Instr>
+/// The instruction at a place of a function.
+pub fn instr_at(entry: Option<Entry<'_>>, place: usize) -> Option<Instr>
     ensures { result ≡ instr_in (option_map placed_entry entry.entry) place }
 {
     match entry {
