@@ -70,6 +70,7 @@ module _ (es : List Entry) (first now : Paused) (made : ℕ) (i j m : Incoming) 
 
   pub made_one : (after : Paused) (new : List (List ℕ)) → made + 1 ≤ most → TurnGives now.image (machine_at now) (machine_at after) j m untold untold (Ok tt) → after.image ≡ now.image → new ≡ noted now.call.function.strings now.call.place es tallies
       → IsMade es first (made + 1) after i m new
+  unfolding rebased
   made_one after new within g same is =
       let g' : MovesOn (λ left before. step first.image (machine_at now left before)) (machine_at after) j m untold untold =
       subst (λ (x : Image). MovesOn (λ left before. step x (machine_at now left before)) (machine_at after) j m untold untold) t.image_is g in

@@ -1,6 +1,7 @@
 mod PlaceParts
 mod RowParts
 mod Kept
+mod Telling
 mod Shown
 mod Unresolved
 mod Located

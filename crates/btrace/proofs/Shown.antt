@@ -180,6 +180,7 @@ module _ (legend : Legend) (which : Which) (first now : Paused) (made : ℕ) (i 
         }
 
     traced_by : (c : Bool) → b ≡ c → new.image ≡ first.image → AddsIf c legend (made + 1) now.call (next_stored now) new.store w.bytes (Ok tt) [] row → IsTraced legend which first (made + 1) new i m (with_row c rows made row)
+    unfolding rebased
     traced_by false hidden same none = record {
       image_is = same;
       kept = record { bytes = t.kept.bytes ++ g.output; refusals = t.kept.refusals };

@@ -173,12 +173,14 @@ fn trace_steps<S: Store + Drop, I: ByteIn>(
         let row = &mut trail.row;
         match trace_step(alloc, &mut stepper, legend, is_shown, made, row, input)? {
             Ok(()) => trail.keep_if(is_shown, alloc, which.rows)?,
-            Err(Outcome::Device) => return Ok(Outcome::Device),
-            Err(outcome) => {
-                trail.keep_if(is_shown, alloc, which.rows)?;
-                push_end(&mut trail.row, legend, &stepper, call, outcome)?;
-                return Ok(outcome);
-            }
+            Err(outcome) => match outcome {
+                Outcome::Device => return Ok(Outcome::Device),
+                _ => {
+                    trail.keep_if(is_shown, alloc, which.rows)?;
+                    push_end(&mut trail.row, legend, &stepper, call, outcome)?;
+                    return Ok(outcome);
+                }
+            },
         }
     }
     push_end(&mut trail.row, legend, &stepper, stepper.top(), Outcome::Limit)?;

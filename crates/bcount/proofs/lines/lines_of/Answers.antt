@@ -6,7 +6,7 @@ use Rattle.bcount.proofs.LineSums.{next_line, no_lines}
 use Rattle.bcount.proofs.lines.lines_of.Goals as goal
 
 pub loop-instruction-init : goal.loop-instruction-init
-loop-instruction-init c = c.in_ok-blank_lines.ensures ∙ no_lines 1 c.args.last
+loop-instruction-init c = c.in_ok-lines.ensures ∙ no_lines 1 c.args.last
 
 pub loop-instruction-preserved : goal.loop-instruction-preserved
 loop-instruction-preserved c = ?

@@ -1,8 +1,9 @@
-use Rattle.std.proofs.Common.{◌≡◌, ◌∙◌, ℕ, List, [], None, Some, ap, inl, inr, refl, subst, sym}
+use Rattle.std.proofs.Common.{◌≡◌, ◌∙◌, List, None, Some, inl, inr, refl, subst, sym}
 use Rattle.std.specs.Prelude.{option_map}
-use Rattle.bword.specs.ByteEnds.{outgoing_of}
+use Rattle.bsources.specs.Files.{files_shown}
 use Rattle.btools.specs.Functions.{Placed, entries_of}
-use Rattle.btrace.specs.Traces.{ShowsRows, no_memory, not_begun, steps_from, stopped, unnamed, which_of}
+use Rattle.btrace.specs.Traces.{no_memory, not_begun, stopped, unnamed, which_of}
+use Rattle.btrace.specs.Trails.{trail_text}
 use Rattle.btools.proofs.Functions.{data_fit}
 use Rattle.btrace.proofs.Unresolved.{traced_whole}
 use Rattle.btrace.proofs.tracing.trace.Goals as goal
@@ -37,3 +38,21 @@ pub returns-in-Err-trace_steps-clause-traces : goal.returns-in-Err-trace_steps-c
 returns-in-Err-trace_steps-clause-traces g c =
     no_memory c.in-Ok.program.definitions.items c.in-Ok.program.image c.in-Ok.ensures.gives refl (rw c.in-Err-trace_steps.is at c.trace_steps.ensures.unfailed) refl
 
+
+pub returns-then-told-ne-DONE-clause-traces : goal.returns-then-told-ne-DONE-clause-traces
+returns-then-told-ne-DONE-clause-traces g c =
+    let files = files_shown c.args.wanted.files in
+    let named = (sym c.which_of.ensures) ∙ c.in-Some.is in
+    traced_whole c.args.edition c.args.source.now c.args.wanted.steps c.args.wanted.rows files _ _ c.tell-told.result (g.D.ByteOut.outgoing c.read_program.new.diag) c.in-Ok.program.definitions.items c.in-Ok.program.image
+    (record { functions = entries_of c.in-Ok-new.tables; files = files }) c.in-Some.which c.in-Ok-begin.stepper c.in-Ok-trace_steps.outcome c.in-Ok-new-3.trail.text (trail_text c.trace_steps.new.trail) c.tell-told.result c.in-Ok.ensures.gives
+    (λ i. record { functions = c.in-Ok-new.ensures i; files = files }) named c.in-Ok-begin.ensures c.in-Ok-trace_steps.ensures.gives c.in-Ok-new-3.ensures.text c.in-Ok-trace_steps.ensures.shows
+    c.tell-told.ensures.told (inr (c.if-told-ne-DONE.true, refl, refl))
+
+pub returns-clause-traces : goal.returns-clause-traces
+returns-clause-traces g c =
+    let files = files_shown c.args.wanted.files in
+    let named = (sym c.which_of.ensures) ∙ c.in-Some.is in
+    traced_whole c.args.edition c.args.source.now c.args.wanted.steps c.args.wanted.rows files _ _ c.finish-2.result (g.D.ByteOut.outgoing c.read_program.new.diag) c.in-Ok.program.definitions.items c.in-Ok.program.image
+    (record { functions = entries_of c.in-Ok-new.tables; files = files }) c.in-Some.which c.in-Ok-begin.stepper c.in-Ok-trace_steps.outcome c.in-Ok-new-3.trail.text (trail_text c.trace_steps.new.trail) c.tell-told.result c.in-Ok.ensures.gives
+    (λ i. record { functions = c.in-Ok-new.ensures i; files = files }) named c.in-Ok-begin.ensures c.in-Ok-trace_steps.ensures.gives c.in-Ok-new-3.ensures.text c.in-Ok-trace_steps.ensures.shows
+    c.tell-told.ensures.told (inl (c.if-told-ne-DONE.false, c.finish-2.ensures.gives))
