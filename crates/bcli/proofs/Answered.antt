@@ -1,5 +1,5 @@
 -- What is answered where memory was refused, and what is done for a job.
-use Rattle.std.proofs.Common.{ap, ◌∙◌, subst, ◌≡◌, ◌⊎◌, ℕ, List, false, sym, inl, inr}
+use Rattle.std.proofs.Common.{ap, ◌∙◌, subst, ◌≡◌, ◌⊎◌, ℕ, List, [], ◌∷◌, map, length, refl, false, sym, inl, inr}
 use Rattle.clap.specs.declared.error.kind.ErrorKind.{ErrorKind}
 use Rattle.clap.specs.declared.error.kind.ErrorKind.TheVariants as kind
 use Rattle.blang.specs.declared.status.TheConstants.{DEVICE, MEMORY}
@@ -8,15 +8,17 @@ use Rattle.blang.specs.Headline.{GoesOff, Headline}
 use Rattle.blang.specs.Reports.{HasNotRun, RunEnds}
 use Rattle.bword.specs.declared.edition.Edition.{Edition}
 use Rattle.brun.specs.OneRun.{unread}
-use Rattle.bcommand.specs.CommandLine.{Question, Source, ask, asked_of, go, question_of}
+use Rattle.std.specs.Borrow.{Bor}
+use Rattle.blang.specs.Compiles.{CompileHeadline, Compiles}
+use Rattle.bcommand.specs.CommandLine.{Question, Source, ask, compile, asked_of, go, question_of}
 use Rattle.bcommand.specs.declared.job.Job.{Job}
 use Rattle.bcommand.specs.declared.job.Question.{Question as Questioned}
 use Rattle.clap.specs.Words.{Text}
 use Rattle.bsources.specs.Files.{Files, Followed, file_shown}
 use Rattle.bcli.specs.declared.sources.LibFault.{LibFault}
 use Rattle.bcli.specs.declared.sources.Whole.{Whole}
-use Rattle.bcli.specs.Reading.{HasReadSource, LibIsUnread}
-use Rattle.bcli.specs.Serves.{NamesLib, files_read, whole, Answers, Does, HasNoFile, IsHelp, NamesFile, SaysNothing, RefusesWords}
+use Rattle.bcli.specs.Reading.{HasReadLibs, HasReadSource, LibIsUnread}
+use Rattle.bcli.specs.Serves.{CompilesJoined, NamesLib, compiling, files_read, whole, Answers, Does, HasNoFile, IsHelp, NamesFile, SaysNothing, RefusesWords}
 use Rattle.bcli.specs.declared.shelf.FileFault.{FileFault}
 use Rattle.bcli.specs.declared.shelf.FileFault.TheVariants as file_fault
 use Rattle.bcli.specs.Shelves.{Holdings}
@@ -82,3 +84,31 @@ asked_of_source shelf source it files given question ends status h same first re
 pub lib_named : (shelf : Holdings) (names : List Text) (it : LibFault) (ends : RunEnds) (status : ℕ) → LibIsUnread shelf names it
     → NamesFile (it.fault ≡ file_fault.Device) it.name.now ends status → NamesLib shelf names ends status
 lib_named shelf names it ends status h told = (it.name.now, h.among, named_for _ _ _ _ _ h.reason told)
+
+-- the source on the input was compiled, and no file follows
+pub compiled_alone : (shelf : Holdings) (edition : Edition) (libs : List Text) (ends : RunEnds) (status : ℕ) → libs ≡ []
+    → Compiles (compiling edition ends.input ends.input_after ends status) → CompileHeadline (compiling edition ends.input ends.input_after ends status)
+    → Does shelf (compile edition libs) ends status
+compiled_alone shelf edition [] ends status none compiles headline = (compiles, headline)
+compiled_alone shelf edition (lib ∷ libs) ends status none compiles headline = cc
+
+-- the same, and files follow
+pub compiled_with : (shelf : Holdings) (edition : Edition) (libs : List Text) (rest : List ℕ) (it : Followed) (ends : RunEnds) (status : ℕ) → (libs ≡ [] → ⊥)
+    → HasReadLibs shelf libs it → rest ≡ it.text → CompilesJoined edition rest ends status → Does shelf (compile edition libs) ends status
+compiled_with shelf edition [] rest it ends status some read is compiles = absurd (some refl)
+compiled_with shelf edition (lib ∷ libs) rest it ends status some read is compiles =
+    inr (read.0, subst (λ (t : List ℕ). CompilesJoined edition t ends status) (is ∙ ap (λ (f : Followed). f.text) read.1) compiles)
+
+pub not_compiled : (shelf : Holdings) (edition : Edition) (libs : List Text) (ends : RunEnds) (status : ℕ) → (libs ≡ [] → ⊥)
+    → NamesLib shelf libs ends status → Does shelf (compile edition libs) ends status
+not_compiled shelf edition [] ends status some told = absurd (some refl)
+not_compiled shelf edition (lib ∷ libs) ends status some told = inl told
+
+-- a list of which each element is shown otherwise
+pub shown_none : (libs : List (Bor Text)) → length libs ≡ 0 → map (λ lib. lib.now) libs ≡ []
+shown_none [] e = refl
+shown_none (lib ∷ libs) e = cc
+
+pub shown_some : (libs : List (Bor Text)) → (length libs ≡ 0 → ⊥) → map (λ lib. lib.now) libs ≡ [] → ⊥
+shown_some [] some e = some refl
+shown_some (lib ∷ libs) some e = cc

@@ -1,3 +1,3 @@
 mod Answered
 mod Excluded
-mod Sources
+mod ReadLibs

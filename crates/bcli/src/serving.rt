@@ -1,10 +1,10 @@
 //! Serving a command line.
 ghost use Rattle.std.specs.Prelude.{◌≡◌, ◌≢◌, ◌⊎◌, [], IfOk, map as map_each, string_bytes};
-ghost use Rattle.clap.specs.Words.{kind_of};
+ghost use Rattle.clap.specs.Words.{kind_of, subcommand_rows_of};
 ghost use Rattle.bword.specs.ByteEnds.{Incoming, Outgoing};
 ghost use Rattle.blang.specs.declared.status.TheConstants.{DEVICE, MEMORY, WRONG_COMMAND};
 ghost use Rattle.blang.specs.Reports.{Reported, run_ends};
-ghost use Rattle.bcommand.specs.CommandLine.{ask, asked_of, compile, go, question_of, run, source_shown};
+ghost use Rattle.bcommand.specs.CommandLine.{ask, asked, asked_of, compile, go, question_of, run, source_shown};
 ghost use Rattle.bcli.specs.Excluded.{Excluded, FileIsRead};
 ghost use Rattle.bsources.specs.Files.{files_shown};
 ghost use Rattle.bcli.specs.Serves.{Answers, CompilesJoined, Does, NamesFile, RefusesWords, Serves, form_of, no_file_line, unread_line};
@@ -23,8 +23,8 @@ use bsources::{JoinedIn, SourceFiles};
 use btools::tell;
 use btrace::{Rows, Wanted, locate, trace};
 use bword::{ByteIn, ByteOut, Edition, MemIn};
-use clap::Error;
 use clap::error::ErrorKind;
+use clap::{ArgMatches, Error};
 use std::alloc::{AllocError, Global};
 use std::rt::Files;
 
@@ -71,9 +71,28 @@ pub fn serve_with<S: Shelf, I: ByteIn, O: ByteOut, D: ByteOut>(
     ensures diag_lender { D.lender diag.new ≡ D.lender diag.old }
 {
     match parse(alloc, words) {
-        Ok(found) => perform(alloc, shelf, job_of(&found), input, out, diag),
+        Ok(found) => perform_found(alloc, shelf, &found, input, out, diag),
         Err(error) => refuse(alloc, error, out, diag),
     }
+}
+
+// Does what is asked for by what was found in the words.
+fn perform_found<S: Shelf, I: ByteIn, O: ByteOut, D: ByteOut>(
+    alloc: Global,
+    shelf: &S,
+    found: &ArgMatches<'_>,
+    input: &mut I,
+    out: &mut O,
+    diag: &mut D,
+) -> Status
+    ensures does { Does (S.holdings shelf.now) (asked (subcommand_rows_of found.now)) (run_ends
+        (I.incoming input.old) (I.incoming input.new) (O.outgoing out.old) (O.outgoing out.new)
+        (D.outgoing diag.old) (D.outgoing diag.new)) result }
+    ensures input_lender { I.lender input.new ≡ I.lender input.old }
+    ensures out_lender { O.lender out.new ≡ O.lender out.old }
+    ensures diag_lender { D.lender diag.new ≡ D.lender diag.old }
+{
+    perform(alloc, shelf, job_of(found), input, out, diag)
 }
 
 // Does what is asked for.

@@ -27,7 +27,7 @@ pub fn parse<'a>(alloc: Global, words: &'a [String]) -> Result<ArgMatches<'a>, E
 }
 
 /// What is asked for by what was found.
-pub fn job_of<'a>(matches: &'a ArgMatches<'a>) -> Job<'a>
+pub fn job_of<'m, 'a: 'm>(matches: &'m ArgMatches<'a>) -> Job<'m>
     ensures { asked_of result ≡ asked (subcommand_rows_of matches.now) }
 {
     let Some((name, given)) = matches.subcommand() else {
@@ -45,7 +45,7 @@ pub fn job_of<'a>(matches: &'a ArgMatches<'a>) -> Job<'a>
     }
 }
 
-fn run_of<'a>(given: &'a ArgMatches<'a>) -> Job<'a>
+fn run_of<'m, 'a: 'm>(given: &'m ArgMatches<'a>) -> Job<'m>
     ensures { asked_of result ≡ run_asked (file_in (rows_of (found_of given.now))) (steps_in (rows_of (found_of given.now))) }
 {
     match steps_of(number_of(given, "steps"), is_set(given, "no-limit")) {
@@ -54,7 +54,7 @@ fn run_of<'a>(given: &'a ArgMatches<'a>) -> Job<'a>
     }
 }
 
-fn go_of<'a>(given: &'a ArgMatches<'a>) -> Job<'a>
+fn go_of<'m, 'a: 'm>(given: &'m ArgMatches<'a>) -> Job<'m>
     ensures { asked_of result ≡ go_asked (source_in (rows_of (found_of given.now))) (is_set_in (codes "where") (rows_of (found_of given.now))) (steps_in (rows_of (found_of given.now))) }
 {
     let source = source_of(given);
@@ -66,7 +66,7 @@ fn go_of<'a>(given: &'a ArgMatches<'a>) -> Job<'a>
     }
 }
 
-fn source_of<'a>(given: &'a ArgMatches<'a>) -> Source<'a>
+fn source_of<'m, 'a: 'm>(given: &'m ArgMatches<'a>) -> Source<'m>
     ensures { source_shown result ≡ source_in (rows_of (found_of given.now)) }
 {
     Source {
@@ -123,7 +123,7 @@ fn file_of<'a>(given: &ArgMatches<'a>) -> &'a str
     text_of(given, "FILE").unwrap_or("")
 }
 
-fn libs_of<'a>(given: &'a ArgMatches<'a>) -> &'a [&'a str]
+fn libs_of<'m, 'a: 'm>(given: &'m ArgMatches<'a>) -> &'m [&'m str]
     ensures { map (λ t. t.now) result.now ≡ libs_in (rows_of (found_of given.now)) }
 {
     given.get_strs("with").unwrap_or(&[])

@@ -4,4 +4,14 @@ use Rattle.bcli.proofs.Answered.{asked_of_source, lib_named, named_for}
 use Rattle.bcli.proofs.serving.ask_file.Goals as goal
 
 pub returns-in-Ok-clause-does : goal.returns-in-Ok-clause-does
-returns-in-Ok-clause-does g c = ?
+returns-in-Ok-clause-does g c =
+    asked_of_source (g.S.Shelf.holdings c.args.shelf.now) (source_shown c.args.source) c.in-Ok.whole _ _ _ _ _ c.in-Ok.ensures.ok c.as_slice.ensures.value refl c.files.ensures c.answer.ensures.answers
+
+pub returns-in-Err-File-clause-does : goal.returns-in-Err-File-clause-does
+returns-in-Err-File-clause-does g c =
+    inl (named_for _ _ _ _ _ (rw c.in-Err-File.field-0-is at c.in-Err-File.ensures.err) (c.name_file.ensures.names (g.I.ByteIn.incoming c.args.input.now) (g.O.ByteOut.outgoing c.args.out.now)))
+
+pub returns-in-Err-Lib-clause-does : goal.returns-in-Err-Lib-clause-does
+returns-in-Err-Lib-clause-does g c =
+    inr (inl (lib_named (g.S.Shelf.holdings c.args.shelf.now) _ c.in-Err-Lib.lib _ _ (rw c.in-Err-Lib.field-0-is at c.in-Err-Lib.ensures.err)
+    (c.name_file.ensures.names (g.I.ByteIn.incoming c.args.input.now) (g.O.ByteOut.outgoing c.args.out.now))))

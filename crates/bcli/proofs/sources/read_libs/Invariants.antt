@@ -1,5 +1,5 @@
 use Rattle.std.proofs.Common.{take}
-use Rattle.bcli.proofs.Sources.{shown}
+use Rattle.bcli.proofs.ReadLibs.{shown}
 use Rattle.bcli.specs.Reading.{HasReadLibs}
 use Rattle.bcli.proofs.sources.read_libs.Given as goal
 

@@ -23,7 +23,7 @@ reads_more : (shelf : Holdings) (names : List Text) (name text : List ℕ) (r : 
 reads_more shelf names name text r holds = record {
   texts = r.texts ++ record { name = name; text = text } ∷ [];
   names_are = map-append (λ (it : NamedText). it.name) r.texts (record { name = name; text = text } ∷ []) ∙ ap (λ ns. ns ++ name ∷ []) r.names_are;
-  held = All-push _ r.texts (record { name = name; text = text }) r.held holds;
+  held = All-push (λ x. shelf.holds x.name x.text) r.texts (record { name = name; text = text }) r.held holds;
 }
 
 pub reads_next : (shelf : Holdings) (names : List (Bor Text)) (i : ℕ) (d : Bor Text) (text : List ℕ) (libs more : Followed) → i < length names
