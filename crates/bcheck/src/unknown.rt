@@ -53,14 +53,48 @@ impl Unknown {
     }
 }
 
-/// A name that nothing defines.
+/// A name that nothing defines. Of one that a file of the folder `lib` defines it is which file.
 #[derive(Clone, Copy)]
 pub(crate) enum Undefined {
     Near,
     Type,
-    Printf,
+    InInput,
+    InNumbers,
+    InPrint,
+    InStrings,
+    InVectors,
     Other,
 }
+
+/// What the files of the folder `lib` define.
+const IN_LIBRARY: [(&str, Undefined); 26] = [
+    ("abs", Undefined::InNumbers),
+    ("assert", Undefined::InPrint),
+    ("compare", Undefined::InStrings),
+    ("concat", Undefined::InStrings),
+    ("copy", Undefined::InStrings),
+    ("flush", Undefined::InPrint),
+    ("getline", Undefined::InInput),
+    ("getstr", Undefined::InInput),
+    ("getvec", Undefined::InVectors),
+    ("givevec", Undefined::InVectors),
+    ("index", Undefined::InStrings),
+    ("length", Undefined::InStrings),
+    ("max", Undefined::InNumbers),
+    ("min", Undefined::InNumbers),
+    ("number", Undefined::InNumbers),
+    ("printf", Undefined::InPrint),
+    ("putnumb", Undefined::InPrint),
+    ("putoct", Undefined::InPrint),
+    ("putstr", Undefined::InPrint),
+    ("rand", Undefined::InNumbers),
+    ("randseed", Undefined::InNumbers),
+    ("rlsevec", Undefined::InVectors),
+    ("sort", Undefined::InVectors),
+    ("sortby", Undefined::InVectors),
+    ("vecleft", Undefined::InVectors),
+    ("vecnext", Undefined::InVectors),
+];
 
 impl Undefined {
     /// One sentence on it, and how to fix it.
@@ -71,7 +105,11 @@ impl Undefined {
         match self {
             Undefined::Near => ("nothing defines @: did you mean #?", "write #, or define @"),
             Undefined::Type => ("there are no types: the name before @ is defined", "@; defines @"),
-            Undefined::Printf => ("nothing defines @", "printn(n, 10) and putchar(c), or print of examples/print.b"),
+            Undefined::InInput => ("nothing defines @", "lib/input.b has it: b go FILE --with lib/input.b"),
+            Undefined::InNumbers => ("nothing defines @", "lib/numbers.b has it: b go FILE --with lib/numbers.b"),
+            Undefined::InPrint => ("nothing defines @", "lib/print.b has it: b go FILE --with lib/print.b"),
+            Undefined::InStrings => ("nothing defines @", "lib/strings.b has it: b go FILE --with lib/strings.b"),
+            Undefined::InVectors => ("nothing defines @", "lib/vectors.b has it: b go FILE --with lib/vectors.b"),
             Undefined::Other => ("nothing defines @", "define it, or take one of the six library calls"),
         }
     }
@@ -164,14 +202,11 @@ pub(crate) fn undefined_name(spans: &[Span], first: usize, token: usize, name: N
     let defined = find_definitions(spans, &name);
     let other = like(spans, Extent { first: 0, end: 0 }, &name, &defined);
     let is_external = lexeme_at(spans, first.wrapping_add(1)) != Lexeme::OpenParen;
-    let what = if is_external && Kind::Type.fits(&lexeme_at(spans, first)) {
-        Undefined::Type
-    } else if name.as_str() == "printf" {
-        Undefined::Printf
-    } else if other.is_some() {
-        Undefined::Near
-    } else {
-        Undefined::Other
+    let what = match in_library(&name) {
+        _ if is_external && Kind::Type.fits(&lexeme_at(spans, first)) => Undefined::Type,
+        Some(file) => file,
+        None if other.is_some() => Undefined::Near,
+        None => Undefined::Other,
     };
     Finding {
         matter: Matter::NotDefined(what),
@@ -180,6 +215,16 @@ pub(crate) fn undefined_name(spans: &[Span], first: usize, token: usize, name: N
         place: place_of(spans, token),
         related: None,
     }
+}
+
+// Of a name that a file of the folder `lib` defines, which file.
+fn in_library(name: &Name) -> Option<Undefined> {
+    for (word, file) in &IN_LIBRARY {
+        if name.as_str() == *word {
+            return Some(*file);
+        }
+    }
+    None
 }
 
 /// What is said of the operand that the operator at this place wants the address of, on this line.
