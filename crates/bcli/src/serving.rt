@@ -11,6 +11,7 @@ ghost use Rattle.bcli.specs.Shelves.{anything};
 
 use crate::shelf::{FileFault, MemFile, Shelf, SystemFiles};
 use bcheck::{Form, Request, check};
+use bsources::{SourceFile, SourceFiles};
 use bcommand::{CONTRADICTION, Job, Question, Source, UNREAD, parse};
 use bdraw::draw;
 use blang::status::{self, Status};
@@ -201,7 +202,10 @@ fn answer<I: ByteIn, O: ByteOut, D: ByteOut>(
         Question::Check(for_editor) => {
             let request = Request {
                 edition,
-                file: source.file,
+                files: SourceFiles {
+                    first: SourceFile::new(source.file, text),
+                    rest: &[],
+                },
                 form: form_of(for_editor),
             };
             check(alloc, text, request, out)

@@ -1,22 +1,30 @@
-use Rattle.std.proofs.Common.{ap, subst, sym, vec_items}
-use Rattle.bcheck.specs.Checks.{Judged, status_told}
-use Rattle.bcheck.specs.Findings.{IsReasoned}
-use Rattle.bcheck.proofs.Reasons.{alone, clean_reasons, every_ok, faulty_reason}
+use Rattle.std.proofs.Common.{ap, length, subst, vec_items}
+use Rattle.bcheck.specs.Checks.{Judged}
+use Rattle.bcheck.proofs.Reasons.{clean_reasons, every_ok, faulty_reason, if_ok, one_reasoned}
 use Rattle.bcheck.proofs.explain.findings.Goals as goal
-use Rattle.bcheck.proofs.explain.findings.Goals.{in-Faulty+in_ok-error-in-Faulty, in-Unloaded+in_ok-error-in-Unloaded}
 
 pub returns-in-Clean-clause-reasons : goal.returns-in-Clean-clause-reasons
 returns-in-Clean-clause-reasons c =
-    let edition = c.args.asked.edition in
-    let source = c.args.source.now in
-    every_ok c.warnings.result _ (λ found. clean_reasons edition source (subst (λ v. Judged edition source v) c.in-Clean.is c.requires) (vec_items found))
+    let edition = c.args.source.edition in
+    let source = c.args.source.text.now in
+    every_ok c.warnings.result _ (λ found. clean_reasons edition source (subst (λ v. Judged edition source v) c.in-Clean.is c.requires.judged) (vec_items found))
 
-pub returns-clause-reasons : goal.returns-clause-reasons
-returns-clause-reasons c =
-    let edition = c.args.asked.edition in
-    let source = c.args.source.now in
-    alone edition source _ _ c.match-verdict.error c.in_ok-push.ensures.items c.new-findings.ensures.items (elim c.match-verdict.branch [
-      | in-Faulty+in_ok-error-in-Faulty w ↦
-          subst (λ f. IsReasoned edition source f) (sym w.error-is) (faulty_reason edition source c.args.verdict.now w.in_ok-error-in-Faulty.error (ap status_told w.in-Faulty.is) c.requires w.in_ok-error-in-Faulty.ensures)
-      | in-Unloaded+in_ok-error-in-Unloaded w ↦ subst (λ f. IsReasoned edition source f) (sym w.error-is) w.in_ok-error-in-Unloaded.ensures
-    ])
+pub returns-in-Faulty-clause-one : goal.returns-in-Faulty-clause-one
+returns-in-Faulty-clause-one c = if_ok c.alone.result _ _ (λ found e some. ap length e) c.alone.ensures
+
+pub returns-in-Faulty-clause-reasons : goal.returns-in-Faulty-clause-reasons
+returns-in-Faulty-clause-reasons c =
+    let edition = c.args.source.edition in
+    let source = c.args.source.text.now in
+    let error = c.in_ok-error.error in
+    if_ok c.alone.result _ _ (λ found e.
+    one_reasoned edition source (vec_items found) error e (faulty_reason edition source c.args.judgement.now.verdict _ _ error c.in-Faulty.is c.requires.judged c.requires.stop c.in_ok-error.ensures))
+    c.alone.ensures
+
+pub returns-in-Unloaded-clause-one : goal.returns-in-Unloaded-clause-one
+returns-in-Unloaded-clause-one c = if_ok c.alone.result _ _ (λ found e some. ap length e) c.alone.ensures
+
+pub returns-in-Unloaded-clause-reasons : goal.returns-in-Unloaded-clause-reasons
+returns-in-Unloaded-clause-reasons c =
+    let refused = c.in_ok-refused.refused in
+    if_ok c.alone.result _ _ (λ found e. one_reasoned c.args.source.edition c.args.source.text.now (vec_items found) refused e c.in_ok-refused.ensures) c.alone.ensures
