@@ -102,10 +102,13 @@ at_first source m start line column = record {
   some = omega (arith, column);
 }
 
+positive : (m n : ℕ) → not (suc m == 0) ≡ nat_lt 0 (suc n)
+positive m n = grind (arith, nat_tests)
+
 -- whether there are several files, by their list
 pub several_is : (rest : List SourceFile) (empty : Bool) → empty ≡ (length rest == 0) → not empty ≡ nat_lt 0 (length (map file_shown rest))
 several_is [] empty e = ap not e
-several_is (x ∷ xs) empty e = ap not e
+several_is (x ∷ xs) empty e = ap not e ∙ positive (length xs) (length (map file_shown xs))
 
 pub below_min : (i n a b : ℕ) → i < n → n ≡ min a b → i < b
 below_min i n a b h e = let less : n ≤ b = subst (λ m. m ≤ b) (sym e) (min-le_right a b) in omega (arith, h, less)

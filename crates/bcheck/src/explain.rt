@@ -1,6 +1,6 @@
 //! What is said of a source after the line of the compiler.
 ghost use Rattle.std.specs.List.{All};
-ghost use Rattle.std.specs.Prelude.{[], ◌∷◌, ◌≡◌, ◌≢◌, IfOk, length, vec_items};
+ghost use Rattle.std.specs.Prelude.{◌≡◌, ◌≢◌, IfOk, IfSome, None, length, vec_items};
 ghost use Rattle.blang.specs.declared.status.TheConstants.{DONE};
 ghost use Rattle.bsources.specs.Files.{files_shown};
 ghost use Rattle.bcheck.specs.Checks.{AreFindings, EachOutcome, Judged, status_told};
@@ -79,27 +79,39 @@ fn findings(
     ensures one { IfOk result (λ found. status_told judgement.now.verdict ≢ DONE → length (vec_items found) ≡ 1) }
     ensures reasons { IfOk result (λ found. All (IsReasoned source.entry.edition source.entry.text.now) (vec_items found)) }
 {
-    let compiled = &judgement.compiled;
-    match &judgement.verdict {
-        Verdict::Clean => warnings(alloc, source, files, compiled.ends.as_slice()),
-        Verdict::Faulty(_, diagnostic) => {
-            let error = fault_of(alloc, source, compiled, diagnostic)?;
-            alone(alloc, error)
+    match error_of(alloc, source, judgement)? {
+        Some(error) => {
+            let mut findings = Vec::new(alloc);
+            findings.push(error)?;
+            Ok(findings)
         }
-        Verdict::Unloaded(fault) => {
-            let refused = unloaded(alloc, source, compiled, fault)?;
-            alone(alloc, refused)
-        }
+        None => warnings(alloc, source, files, judgement.compiled.ends.as_slice()),
     }
 }
 
-// One finding.
-fn alone(alloc: Global, finding: Finding) -> Result<Vec<Finding>, AllocError>
-    ensures { IfOk result (λ found. vec_items found ≡ finding ∷ []) }
+// What is said of the error that a source has, if it has one.
+fn error_of(
+    alloc: Global,
+    source: Source<'_>,
+    judgement: &Judgement,
+) -> Result<Option<Finding>, AllocError>
+    requires judged { Judged source.edition source.text.now judgement.now.verdict }
+    requires stop { IsStopOf source.edition source.text.now judgement.now.verdict }
+    ensures none { IfOk result (λ error. error ≡ None → judgement.now.verdict ≡ verdict.Clean) }
+    ensures reason { IfOk result (λ error. IfSome error (IsReasoned source.entry.edition source.entry.text.now)) }
 {
-    let mut findings = Vec::new(alloc);
-    findings.push(finding)?;
-    Ok(findings)
+    let compiled = &judgement.compiled;
+    match &judgement.verdict {
+        Verdict::Clean => Ok(None),
+        Verdict::Faulty(_, diagnostic) => {
+            let error = fault_of(alloc, source, compiled, diagnostic)?;
+            Ok(Some(error))
+        }
+        Verdict::Unloaded(fault) => {
+            let refused = unloaded(alloc, source, compiled, fault)?;
+            Ok(Some(refused))
+        }
+    }
 }
 
 // What is said of the fault that a source has, on its line.
