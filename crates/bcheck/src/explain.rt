@@ -82,7 +82,13 @@ fn findings(
     match error_of(alloc, source, judgement)? {
         Some(error) => {
             let mut findings = Vec::new(alloc);
-            findings.push(error)?;
+            findings.push(Finding {
+                matter: error.matter,
+                name: error.name,
+                other: error.other,
+                place: error.place,
+                related: error.related,
+            })?;
             Ok(findings)
         }
         None => warnings(alloc, source, files, judgement.compiled.ends.as_slice()),

@@ -1,4 +1,4 @@
-use Rattle.std.proofs.Common.{◌<◌, arith, get_or, length, subst, sym}
+use Rattle.std.proofs.Common.{◌<◌, get_or, length, subst, sym}
 use Rattle.bcheck.proofs.PlaceSteps.{below_min, column_more, column_some, line_more}
 use Rattle.bcheck.proofs.places.position.Goals as goal
 

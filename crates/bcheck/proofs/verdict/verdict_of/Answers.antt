@@ -16,9 +16,9 @@ returns-in-Finished-clause-stop c =
     if_ok c.judge_code.result _ _ (λ v other. no_stop c.args.source.edition c.args.source.text.now v other) c.judge_code.ensures.other
 
 pub returns-in_ok-line_of-in-Fault-clause-judged : goal.returns-in_ok-line_of-in-Fault-clause-judged
-returns-in_ok-line_of-in-Fault-clause-judged c = c.in_ok-line_of.ensures c.in-Fault.diagnostic
+returns-in_ok-line_of-in-Fault-clause-judged c = c.in_ok-line_of-in-Fault.ensures c.in-Fault.diagnostic
 
 pub returns-in_ok-line_of-in-Fault-clause-stop : goal.returns-in_ok-line_of-in-Fault-clause-stop
 returns-in_ok-line_of-in-Fault-clause-stop c =
     let compiled = c.args.compiled.now in
-    stop_judged c.args.source.edition c.args.source.text.now compiled compiled.last _ c.in-Fault.diagnostic c.requires refl c.in-Fault.is
+    stop_judged c.args.source.edition c.args.source.text.now compiled compiled.last c.in_ok-line_of-in-Fault.field-0 c.in-Fault.diagnostic c.requires refl c.in-Fault.is
