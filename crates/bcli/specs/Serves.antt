@@ -132,7 +132,7 @@ Answers edition files text (check for_editor) ends status =
     (ends.input_after ≡ ends.input) × (ends.line_after ≡ ends.line) × Checks (record {
       edition = edition;
       form = form_of for_editor;
-      file = files.first.name;
+      files = files;
       source = text;
       out = ends.out;
       out_after = ends.out_after;

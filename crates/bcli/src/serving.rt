@@ -290,7 +290,7 @@ fn answer<I: ByteIn, O: ByteOut, D: ByteOut>(
         Question::Check(for_editor) => {
             let request = Request {
                 edition,
-                file: files.first.name,
+                files,
                 form: form_of(for_editor),
             };
             check(alloc, text, request, out)

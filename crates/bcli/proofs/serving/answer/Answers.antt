@@ -26,7 +26,7 @@ returns-in-Check-clause-answers g c =
       subst (λ (f : Form). Checks (record {
         edition = c.args.edition;
         form = f;
-        file = c.args.files.first.name.now;
+        files = files_shown c.args.files;
         source = c.args.text.now;
         out = g.O.ByteOut.outgoing c.args.out.now;
         out_after = g.O.ByteOut.outgoing c.check.new.out;
