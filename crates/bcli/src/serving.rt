@@ -6,6 +6,7 @@ ghost use Rattle.blang.specs.declared.status.TheConstants.{DEVICE, MEMORY, WRONG
 ghost use Rattle.blang.specs.Reports.{Reported, run_ends};
 ghost use Rattle.bcommand.specs.CommandLine.{ask, asked_of, compile, go, question_of, run, source_shown};
 ghost use Rattle.bcli.specs.Excluded.{Excluded, FileIsRead};
+ghost use Rattle.bshow.specs.Shows.{asked_of as page_of};
 ghost use Rattle.bsources.specs.Files.{files_shown};
 ghost use Rattle.bcli.specs.Serves.{Answers, CompilesJoined, Does, NamesFile, RefusesWords, Serves, ShowsRun, form_of, page_rows, style_of, traced_rows, no_file_line, unread_line};
 ghost use Rattle.bcli.specs.Shelves.{anything};
@@ -323,18 +324,27 @@ fn show_run<I: ByteIn, O: ByteOut, D: ByteOut>(
     ensures out_lender { O.lender out.new ≡ O.lender out.old }
     ensures diag_lender { D.lender diag.new ≡ D.lender diag.old }
 {
-    let wanted = bshow::Wanted {
-        steps: display.steps,
-        rows: page_rows(display.rows),
-        files,
-        given: display.input.unwrap_or("").as_bytes(),
-    };
     match display.input {
         Some(given) => {
+            let wanted = page_of(files, display, given.as_bytes());
             let mut given = MemIn::new(given.as_bytes());
             show(alloc, text, edition, wanted, &mut given, out, diag)
         }
-        None => show(alloc, text, edition, wanted, input, out, diag),
+        None => {
+            let wanted = page_of(files, display, b"");
+            show(alloc, text, edition, wanted, input, out, diag)
+        }
+    }
+}
+
+fn page_of<'a>(files: SourceFiles<'a>, display: Display<'_>, given: &'a [u8]) -> bshow::Wanted<'a>
+    ensures { page_of result ≡ record { steps = display.entry.steps; which = page_rows display.entry.rows; files = files_shown files.entry; given = given.now } }
+{
+    bshow::Wanted {
+        steps: display.steps,
+        rows: page_rows(display.rows),
+        files,
+        given,
     }
 }
 
