@@ -197,8 +197,8 @@ module _ (shelf : Holdings) where
     lib_done = lib_done;
     lib_run = lib_run;
     joined_alone = joined_alone;
-    both_done = λ ends does. not_done _ 135 ends.line ends.line_after (λ e. omega (arith, e)) does.1;
-    both_run = λ ends status does. does.0;
+    both_done = λ clash ends does. not_done _ 135 ends.line ends.line_after (λ e. omega (arith, e)) does.1;
+    both_run = λ clash ends status does. does.0;
     unread_words_done = λ old new told. not_done _ 135 old new (λ e. omega (arith, e)) told;
   }
 

@@ -13,6 +13,7 @@ use Rattle.brun.specs.OneRun.{nothing_written, one_run_ends, unread}
 use Rattle.brun.specs.Runs.{RunsText}
 use Rattle.bcommand.specs.CommandLine.{Question, Source, ask, asked, command_line, contradiction, go, run}
 use Rattle.bsources.specs.Files.{Files, file_of}
+use Rattle.bcommand.specs.declared.job.Clash.{Clash}
 use Rattle.bcli.specs.declared.shelf.MemFile.{MemFile}
 use Rattle.bcli.specs.Serves.{Answers, Does, HasNoFile, IsHelp, NamesFile, NamesLib, SaysNothing, Serves, unread_line}
 use Rattle.bcli.specs.Shelves.{Holdings, holding}
@@ -58,9 +59,10 @@ pub record Excluded (shelf : Holdings) : Type 0 where
       → Does shelf (go (record { file = file; libs = lib ∷ []; edition = edition }) steps) ends status
       → ((following : Unread) × GoesOff edition steps (unread (a ++ 10 ∷ b)) (incoming_of following) ends status)
       ⊎ HasNotRun ends
-  -- a limit of steps and none that end well, or that run
-  pub both_done : (ends : RunEnds) → Does shelf contradiction ends DONE → ⊥
-  pub both_run : (ends : RunEnds) (status : ℕ) → Does shelf contradiction ends status → HasNotRun ends
+  -- two options that contradict each other, and end well or run
+  pub both_done : (clash : Clash) (ends : RunEnds) → Does shelf (contradiction clash) ends DONE → ⊥
+  pub both_run : (clash : Clash) (ends : RunEnds) (status : ℕ) → Does shelf (contradiction clash) ends status
+      → HasNotRun ends
   -- words that can't be read and end well
   pub unread_words_done : (old new : Outgoing) → Reported unread_line WRONG_COMMAND old new DONE → ⊥
 

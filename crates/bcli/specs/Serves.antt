@@ -1,6 +1,6 @@
 -- Promise: the answer to a command line.
 use Rattle.std.specs.Prelude.{◌≡◌, ◌≢◌, ℕ, Bool, List, [], ◌∷◌, ◌++◌, All, Contains, codes, if◌then◌else◌, ◌⊎◌}
-use Rattle.std.specs.Prelude.{map as map_each}
+use Rattle.std.specs.Prelude.{Option, Some, None, map as map_each}
 use Rattle.clap.specs.Words.{IsAmong, Text, fault_of, subcommand_of}
 use Rattle.clap.specs.declared.error.kind.ErrorKind.{ErrorKind}
 use Rattle.clap.specs.declared.error.kind.ErrorKind.TheVariants as kind
@@ -24,19 +24,25 @@ use Rattle.btools.specs.Programs.{ToldEnds}
 use Rattle.bdraw.specs.Draws.{Draws}
 use Rattle.btrace.specs.Locates.{Locates}
 use Rattle.btrace.specs.Traces.{Traces}
-use Rattle.bcommand.specs.CommandLine.{Asked, Question, Source, asked, command_line}
+use Rattle.btrace.specs.declared.trail.Rows.{Rows as Traced}
+use Rattle.btrace.specs.declared.trail.Rows.TheVariants as traced
+use Rattle.bcount.specs.Counts.{Counts}
+use Rattle.bcount.specs.declared.table.Style.{Style}
+use Rattle.bcount.specs.declared.table.Style.TheVariants as styles
+use Rattle.bshow.specs.Shows.{Shows}
+use Rattle.bshow.specs.declared.showing.Rows.{Rows as Paged}
+use Rattle.bshow.specs.declared.showing.Rows.TheVariants as paged
+use Rattle.bformat.specs.Formats.{Formats}
+use Rattle.bcommand.specs.CommandLine.{Asked, Question, Source, asked, clash_line, command_line}
 use Rattle.bcommand.specs.CommandLine.{compile, run, go, migrate, ask, contradiction}
-use Rattle.bcommand.specs.CommandLine.{list, map, draw, check, trace, locate}
+use Rattle.bcommand.specs.CommandLine.{list, map, draw, check, trace, locate, count, show, format}
+use Rattle.bcommand.specs.declared.job.Rows.{Rows}
+use Rattle.bcommand.specs.declared.job.Rows.TheVariants as which
 use Rattle.bcli.specs.Shelves.{Holdings}
 
 -- the message for words that aren't UTF-8
 abbrev pub unread_line : List ℕ
 unread_line = codes "error: a word of the command line is not UTF-8\n\nFor more information, try '--help'.\n"
-
--- the message for a limit of steps and none
-abbrev pub contradiction_line : List ℕ
-contradiction_line =
-    codes "error: the argument '--steps <N>' cannot be used with '--no-limit'\n\nFor more information, try '--help'.\n"
 
 -- Nothing was read or written, and this is the status.
 pub record SaysNothing (ends : RunEnds) (status answer : ℕ) : Type 0 where
@@ -62,6 +68,29 @@ NamesFile reason file ends status =
 abbrev pub telling_ends : RunEnds → ToldEnds
 telling_ends ends =
     record { out = ends.out; out_after = ends.out_after; line = ends.line; line_after = ends.line_after }
+
+-- which steps are shown
+abbrev pub traced_rows : Rows → Traced
+traced_rows (which.From number) = traced.From number
+traced_rows (which.Last count) = traced.Last count
+
+abbrev pub page_rows : Rows → Paged
+page_rows (which.From number) = paged.From number
+page_rows (which.Last count) = paged.Last count
+
+-- how counts are told
+abbrev pub style_of : (for_editor : Bool) → Style
+style_of for_editor = if for_editor then styles.Json else styles.Table
+
+-- a page of a run whose input is given, or that reads the program's own
+abbrev pub ShowsRun : Edition → Files → (text : List ℕ) → (steps : ℕ) → Paged → (input : Option Text) → RunEnds → ℕ
+    → Type 0
+ShowsRun edition files text steps rows None ends status =
+    Shows edition text (record { steps = steps; which = rows; files = files; given = [] }) ends status
+ShowsRun edition files text steps rows (Some given) ends status =
+    (ends.input_after ≡ ends.input) × (after : Unread)
+    × Shows edition text (record { steps = steps; which = rows; files = files; given = given })
+    (record ends { input = incoming_of (unread given); input_after = incoming_of after }) status
 
 -- how findings are told
 abbrev pub form_of : (for_editor : Bool) → Form
@@ -138,9 +167,23 @@ Answers edition files text (check for_editor) ends status =
       out_after = ends.out_after;
       status = status;
     })
-Answers edition files text (trace steps from function) ends status =
-    Traces edition text steps from function ends status
-Answers edition files text (locate steps) ends status = Locates edition text steps ends status
+Answers edition files text (trace steps shown function) ends status =
+    Traces edition text steps (traced_rows shown) files function ends status
+Answers edition files text (locate steps) ends status = Locates edition text files steps ends status
+Answers edition files text (count steps for_editor) ends status =
+    Counts (record { edition = edition; steps = steps; files = files; style = style_of for_editor }) text ends status
+Answers edition files text (show steps shown input) ends status =
+    ShowsRun edition files text steps (page_rows shown) input ends status
+Answers edition files text (format is_check) ends status = (ends.input_after ≡ ends.input) × Formats (record {
+  edition = edition;
+  source = text;
+  is_check = is_check;
+  out = ends.out;
+  out_after = ends.out_after;
+  line = ends.line;
+  line_after = ends.line_after;
+  status = status;
+})
 
 -- what was asked for is done, for texts that the shelf holds under the names of the files
 abbrev pub Does : Holdings → Asked → RunEnds → ℕ → Type 0
@@ -157,8 +200,8 @@ Does shelf migrate ends status =
 Does shelf (ask source question) ends status = NamesFile (shelf.lacks source.file) source.file ends status
     ⊎ NamesLib shelf source.libs ends status
     ⊎ ((r : Reads shelf source) × Answers source.edition (files_read r) (whole r) question ends status)
-Does shelf contradiction ends status =
-    HasNotRun ends × Reported contradiction_line WRONG_COMMAND ends.line ends.line_after status
+Does shelf (contradiction clash) ends status =
+    HasNotRun ends × Reported (clash_line clash) WRONG_COMMAND ends.line ends.line_after status
 
 abbrev pub IsHelp : ErrorKind → Type 0
 IsHelp k = (k ≡ kind.DisplayHelp) ⊎ (k ≡ kind.DisplayVersion)

@@ -5,8 +5,8 @@ ghost use Rattle.bcommand.specs.CommandLine.{bare_line, command_line};
 ghost use Rattle.bcommand.specs.Rows.{command_in, line_in, rule_in};
 
 use crate::texts::{
-    ABOUT, CHECK_HELP, COMPILE_HELP, GO_HELP, HELP, LIST_HELP, MAP_HELP, MIGRATE_HELP, RUN_HELP,
-    TRACE_HELP, VERSION,
+    ABOUT, CHECK_HELP, COMPILE_HELP, COUNT_HELP, FORMAT_HELP, GO_HELP, HELP, LIST_HELP, MAP_HELP,
+    MIGRATE_HELP, RUN_HELP, SHOW_HELP, TRACE_HELP, VERSION,
 };
 use clap::{Arg, ArgAction, Command, value_parser};
 use std::alloc::{AllocError, Global};
@@ -61,7 +61,7 @@ const STEPS: ArgumentRow = ArgumentRow {
 const TRACE_STEPS: ArgumentRow = ArgumentRow {
     id: "steps",
     kind: Kind::Number(MOST_STEPS),
-    help: "At most N steps, 1 to 4000000000; 1000 if not given",
+    help: "At most N steps, 1 to 4000000000; 1000, or 10000000 with --last, if not given",
 };
 
 const MOMENT: ArgumentRow = ArgumentRow {
@@ -74,6 +74,30 @@ const FROM: ArgumentRow = ArgumentRow {
     id: "from",
     kind: Kind::Number(MOST_STEPS),
     help: "Shows steps from N on, 1 to 4000000000; 1 if not given",
+};
+
+const LAST: ArgumentRow = ArgumentRow {
+    id: "last",
+    kind: Kind::Number(MOST_STEPS),
+    help: "Shows the last N of the steps, 1 to 4000000000",
+};
+
+const SHOWN_STEPS: ArgumentRow = ArgumentRow {
+    id: "steps",
+    kind: Kind::Number(MOST_STEPS),
+    help: "At most N steps, 1 to 4000000000; 2000 that are shown if not given",
+};
+
+const INPUT: ArgumentRow = ArgumentRow {
+    id: "input",
+    kind: Kind::Text("TEXT"),
+    help: "The input of the program, in place of standard input",
+};
+
+const CHECK: ArgumentRow = ArgumentRow {
+    id: "check",
+    kind: Kind::Flag,
+    help: "Writes nothing, and ends with 2 where something would change",
 };
 
 const FUNCTION: ArgumentRow = ArgumentRow {
@@ -124,7 +148,7 @@ const NAME: ArgumentRow = ArgumentRow {
     help: "The definition to list; all if not given",
 };
 
-const COMMANDS: [CommandRow; 8] = [
+const COMMANDS: [CommandRow; 11] = [
     CommandRow {
         name: "compile",
         about: "Compiles the source on standard input to code text on standard output",
@@ -179,7 +203,28 @@ const COMMANDS: [CommandRow; 8] = [
         about: "Runs the source in FILE and shows each step",
         usage: None,
         help: TRACE_HELP,
-        arguments: &[EDITION, FILE, WITH, TRACE_STEPS, FROM, FUNCTION],
+        arguments: &[EDITION, FILE, WITH, TRACE_STEPS, FROM, LAST, FUNCTION],
+    },
+    CommandRow {
+        name: "count",
+        about: "Runs the source in FILE and counts the steps of each line",
+        usage: None,
+        help: COUNT_HELP,
+        arguments: &[EDITION, FILE, WITH, STEPS, NO_LIMIT, JSON],
+    },
+    CommandRow {
+        name: "show",
+        about: "Runs the source in FILE and writes a page that shows the run",
+        usage: Some("b show [OPTIONS] <FILE> > run.html"),
+        help: SHOW_HELP,
+        arguments: &[EDITION, FILE, WITH, SHOWN_STEPS, FROM, LAST, INPUT],
+    },
+    CommandRow {
+        name: "format",
+        about: "Lays out the source in FILE in one style",
+        usage: None,
+        help: FORMAT_HELP,
+        arguments: &[EDITION, FILE, CHECK],
     },
 ];
 

@@ -36,8 +36,22 @@ returns-in-Check-clause-answers g c =
 
 pub returns-in-Trace-clause-answers : goal.returns-in-Trace-clause-answers
 returns-in-Trace-clause-answers g c =
-    answered c.args.edition (files_shown c.args.files) c.args.text.now c.args.question (questions.Trace c.in-Trace.walk) _ _ c.in-Trace.is c.trace.ensures.traces
+    answered _ _ _ c.args.question (questions.Trace c.in-Trace.walk) _ _ c.in-Trace.is
+    (rw (← c.traced_rows.ensures) c.trace.ensures.traces)
 
 pub returns-in-Locate-clause-answers : goal.returns-in-Locate-clause-answers
 returns-in-Locate-clause-answers g c =
-    answered c.args.edition (files_shown c.args.files) c.args.text.now c.args.question (questions.Locate c.in-Locate.steps) _ _ c.in-Locate.is c.locate.ensures.locates
+    answered _ _ _ c.args.question (questions.Locate c.in-Locate.steps) _ _ c.in-Locate.is c.locate.ensures.locates
+
+pub returns-in-Count-clause-answers : goal.returns-in-Count-clause-answers
+returns-in-Count-clause-answers g c =
+    answered _ _ _ c.args.question (questions.Count c.in-Count.steps c.in-Count.for_editor) _ _ c.in-Count.is
+    (rw (← c.style_of.ensures) c.count.ensures.counts)
+
+pub returns-in-Show-clause-answers : goal.returns-in-Show-clause-answers
+returns-in-Show-clause-answers g c =
+    answered _ _ _ c.args.question (questions.Show c.in-Show.display) _ _ c.in-Show.is c.show_run.ensures.shows
+
+pub returns-in-Format-clause-answers : goal.returns-in-Format-clause-answers
+returns-in-Format-clause-answers g c =
+    answered _ _ _ c.args.question (questions.Format c.in-Format.is_check) _ _ c.in-Format.is (refl, c.format.ensures.formats)
