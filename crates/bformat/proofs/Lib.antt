@@ -1,0 +1,2 @@
+pub mod Upcoming
+pub mod Squeezing

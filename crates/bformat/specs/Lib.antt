@@ -1,0 +1,2 @@
+pub mod Squeezed
+pub mod Formats
