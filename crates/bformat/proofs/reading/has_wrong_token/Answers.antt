@@ -10,7 +10,8 @@ loop-init c =
     (ap (λ (m : Unread). m.is_over) c.new.ensures))
 
 pub loop-preserved : goal.loop-preserved
-loop-preserved c = ?
+loop-preserved c =
+    seeks_on c.args.edition c.args.source.now c.loop.lexer c.next.new.self c.in-Ok.placed c.loop.invariant c.in-Ok.ensures.gives (sym c.is_last.ensures ∙ c.if-is_last.false)
 
 pub returns-then-is_last : goal.returns-then-is_last
 returns-then-is_last c =
