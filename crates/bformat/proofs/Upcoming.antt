@@ -134,7 +134,7 @@ pub seeks_on : (edition : Edition) (source : List ℕ) (old new : Lexer) (p : Pl
     → SeeksWrong edition source new
 seeks_on edition source old new p h gives e =
     let more = gives_more edition old new p h.reads gives e in
-    record { reads = more.0; same = sym (ap (list_any is_wrong) more.1 ∙ fine_before p.token _ e) ∙ h.same }
+    record { reads = more.0; same = sym (ap (list_any is_wrong) more.1 ∙ fine_before p.token (upcoming edition new more.0) e) ∙ h.same }
 
 pub found_wrong : (edition : Edition) (source : List ℕ) (old new : Lexer) (p : Placed) → SeeksWrong edition source old → LexGives old (Ok p) new → is_last p.token ≡ true
     → is_wrong p.token ≡ has_wrong_token edition source

@@ -41,7 +41,7 @@ pub record Format : Type 0 where
   pub line_after : Outgoing
   pub status : ℕ
 
--- what is said of a source that is left as it is, which no source is known to be
+-- what is said of a source that is left as it is
 left_line : LEFT.now ≡ codes "error: the source can't be laid out\n"
 left_line = refl
 
