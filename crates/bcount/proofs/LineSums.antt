@@ -5,6 +5,7 @@ use Rattle.std.specs.List.{All, flat_map, range_with_len, sum_by}
 use Rattle.std.specs.Option.{option_or}
 use Rattle.std.proofs.lemmas.Bool.{cases_eq}
 use Rattle.std.proofs.lemmas.List.{get_or-set_other, get_or-set_same, length-set, map-append, take_more}
+use Rattle.std.proofs.lemmas.List.Elements.{All-push, All-same}
 use Rattle.std.proofs.lemmas.List.Folds.{find-append}
 use Rattle.std.proofs.lemmas.List.FromFn.{get_or-map-range_with_len, length-map-range_with_len}
 use Rattle.std.proofs.lemmas.List.Sums.{sum_by_push}
@@ -75,8 +76,19 @@ module _ (counted : List Counted) (c : Counted) where
       (ap (λ x. with_count x c.count) there ∙ sym (on_line c.line (same_number c.line c.line refl)) ∙ ap (line_count (counted ++ c ∷ [])) (sym at))
       (λ k other. off_line k (other_number c.line k (λ e. other (sym e ∙ sym at))))
 
-pub next_line : (counted : List Counted) (i : ℕ) (c : Counted) (last : ℕ) (lines new : List LineCount) → i < length counted → c ≡ get_or counted i c → IsOnLines last c → lines ≡ map (line_count (take i counted)) (range_with_len 1 last)
+pub next_line : (counted : List Counted) (i : ℕ) (c d : Counted) (last : ℕ) (lines new : List LineCount) → i < length counted → c ≡ get_or counted i d → IsOnLines last c → lines ≡ map (line_count (take i counted)) (range_with_len 1 last)
     → new ≡ set lines (c.line - 1) (with_count (get_or lines (c.line - 1) no_code) c.count) → new ≡ map (line_count (take (i + 1) counted)) (range_with_len 1 last)
-next_line counted i c last lines new lt is on before set_is =
+next_line counted i c d last lines new lt is on before set_is =
     one_more (take i counted) c last lines new on before set_is
-    ∙ ap (λ cs. map (line_count cs) (range_with_len 1 last)) (sym (take_more counted i c lt ∙ ap (λ x. take i counted ++ x ∷ []) (sym is)))
+    ∙ ap (λ cs. map (line_count cs) (range_with_len 1 last)) (sym (take_more counted i d lt ∙ ap (λ x. take i counted ++ x ∷ []) (sym is)))
+
+-- an instruction was counted
+pub count_more : (old counted new : List Counted) (x : Counted) (counts : List ℕ) (place d : ℕ) → place < length counts → x.count ≡ get_or counts place d → map (λ c. c.count) counted ≡ map (λ c. c.count) old ++ take place counts → new ≡ counted ++ x ∷ []
+    → map (λ c. c.count) new ≡ map (λ c. c.count) old ++ take (place + 1) counts
+count_more old counted new x counts place d lt is before pushed =
+    let f : Counted → ℕ = λ c. c.count in
+    ap (map f) pushed ∙ map-append f counted (x ∷ []) ∙ (λ i. before i ++ is i ∷ [])
+    ∙ append_assoc (map f old) (take place counts) (get_or counts place d ∷ []) ∙ ap (λ t. map f old ++ t) (sym (take_more counts place d lt))
+
+pub line_more : (last : ℕ) (counted new : List Counted) (x : Counted) → new ≡ counted ++ x ∷ [] → 0 < x.line → x.line ≤ last → All (IsOnLines last) counted → All (IsOnLines last) new
+line_more last counted new x is low high h = All-same (IsOnLines last) new (counted ++ x ∷ []) is (All-push (IsOnLines last) counted x h (low, high))

@@ -133,19 +133,6 @@ module _ (es : List Entry) (first now : Paused) (made : ℕ) (i j m : Incoming) 
   before_it : (r : Outcome) (g : HasHalted (λ left before. step now.image (machine_at now left before)) j m untold untold r) (more : List ℕ) → CanFollow m more → state_outcome (steps_from first (t.goes.taken ++ more) made) ≡ outcome.Limit
   before_it r g more can = ap state_outcome (there es first now made i j m tallies t more (subst (λ (x : Incoming). CanFollow x more) g.input can))
 
-  pub made_over : (new : List (List ℕ)) (r : Outcome) → (r ≡ outcome.Device → ⊥) → new ≡ noted now.call.function.strings now.call.place es tallies → TurnGives now.image (machine_at now) (machine_at after) j m untold untold (Err r) → CountsSteps es first n i m r (made + 1) new
-  made_over new (outcome.Exit status) other is g = (
-    (t.kept, run_over first.image made (machine_at first) (machine_at now) (machine_at after) n m (outgoing_of t.kept) (outcome.Exit status) (omega (arith, lt)) (runs_on now.call now.below now.store) t.goes (halted_gives es first now made i j m tallies t after new n (outcome.Exit status) lt within is g)),
-    over_by new (outcome.Exit status) is g (λ more can. (made, refl, before_it (outcome.Exit status) g more can, last_outcome es first now made i j m tallies t after new n (outcome.Exit status) lt within is g more can)),
-  )
-  made_over new (outcome.Trap kind) other is g = (
-    (t.kept, run_over first.image made (machine_at first) (machine_at now) (machine_at after) n m (outgoing_of t.kept) (outcome.Trap kind) (omega (arith, lt)) (runs_on now.call now.below now.store) t.goes (halted_gives es first now made i j m tallies t after new n (outcome.Trap kind) lt within is g)),
-    over_by new (outcome.Trap kind) is g (λ more can. (made, refl, before_it (outcome.Trap kind) g more can, last_outcome es first now made i j m tallies t after new n (outcome.Trap kind) lt within is g more can)),
-  )
-  made_over new outcome.Limit other is g = absurd g
-  made_over new outcome.Device other is g = absurd (other refl)
-  made_over new outcome.Memory other is g = ⊎_elim (λ f. f.2.moves.no_failure) (λ w. ap (λ (x : Incoming). x.failures) w.unread) g ∙ t.goes.no_failure
-
   pub read_failed : (new : List (List ℕ)) → TurnGives now.image (machine_at now) (machine_at after) j m untold untold (Err outcome.Device) → CountsSteps es first n i m outcome.Device made new
   read_failed new g =
       ⊎_elim
@@ -156,6 +143,19 @@ module _ (es : List Entry) (first now : Paused) (made : ℕ) (i j m : Incoming) 
               (inl (record { fails = h.fails; silent = refl; reads = h.reads })),
         )))
       (λ x. absurd (not_grown 0 0 refl refl x.refuses.counted.0)) g
+
+  pub made_over : (new : List (List ℕ)) (r : Outcome) → new ≡ noted now.call.function.strings now.call.place es tallies → TurnGives now.image (machine_at now) (machine_at after) j m untold untold (Err r) → CountsSteps es first n i m r (made + 1) new
+  made_over new (outcome.Exit status) is g = (
+    (t.kept, run_over first.image made (machine_at first) (machine_at now) (machine_at after) n m (outgoing_of t.kept) (outcome.Exit status) (omega (arith, lt)) (runs_on now.call now.below now.store) t.goes (halted_gives es first now made i j m tallies t after new n (outcome.Exit status) lt within is g)),
+    over_by new (outcome.Exit status) is g (λ more can. (made, refl, before_it (outcome.Exit status) g more can, last_outcome es first now made i j m tallies t after new n (outcome.Exit status) lt within is g more can)),
+  )
+  made_over new (outcome.Trap kind) is g = (
+    (t.kept, run_over first.image made (machine_at first) (machine_at now) (machine_at after) n m (outgoing_of t.kept) (outcome.Trap kind) (omega (arith, lt)) (runs_on now.call now.below now.store) t.goes (halted_gives es first now made i j m tallies t after new n (outcome.Trap kind) lt within is g)),
+    over_by new (outcome.Trap kind) is g (λ more can. (made, refl, before_it (outcome.Trap kind) g more can, last_outcome es first now made i j m tallies t after new n (outcome.Trap kind) lt within is g more can)),
+  )
+  made_over new outcome.Limit is g = absurd g
+  made_over new outcome.Device is g = read_failed new g
+  made_over new outcome.Memory is g = ⊎_elim (λ f. f.2.moves.no_failure) (λ w. ap (λ (x : Incoming). x.failures) w.unread) g ∙ t.goes.no_failure
 
 -- all steps were made
 pub made_all : (es : List Entry) (first now : Paused) (made : ℕ) (i j : Incoming) (tallies : List (List ℕ)) → IsMade es first made now i j tallies → CountsSteps es first made i j outcome.Limit made tallies

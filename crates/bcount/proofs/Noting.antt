@@ -1,9 +1,9 @@
 -- The counts of instructions, as steps are made.
-use Rattle.std.proofs.Common.{◌≡◌, ◌≢◌, ◌∙◌, ℕ, zero, suc, ◌+◌, ◌<◌, ◌≤◌, ◌⊎◌, inl, inr, ⊎_elim, Bool, true, false, cond, List, [], ◌∷◌, None, Some, Option, ap, arith, get_or, length, map, min, refl, set, subst, sym, if◌then◌else◌}
+use Rattle.std.proofs.Common.{◌≡◌, ◌≢◌, ◌∙◌, ℕ, zero, suc, ◌+◌, ◌<◌, ◌≤◌, ◌⊎◌, inl, inr, ⊎_elim, Bool, true, false, cond, List, [], ◌∷◌, ◌++◌, None, Some, Option, ap, arith, get_or, length, map, min, refl, set, subst, sym, take, if◌then◌else◌}
 use Rattle.std.specs.Prelude.{◌==◌, ◌&&◌, replicate}
 use Rattle.std.specs.List.{AllPairs, count_by, range_with_len, sum_by}
 use Rattle.std.proofs.lemmas.Bool.{cases_eq}
-use Rattle.std.proofs.lemmas.List.{get_or-set_other, get_or-set_same, length-set, map-id}
+use Rattle.std.proofs.lemmas.List.{get_or-set_other, get_or-set_same, length-set, map-append, map-id, map_more}
 use Rattle.std.proofs.lemmas.List.FromFn.{fill_by_all, get_or-map-range_with_len, length-map-range_with_len, length-range_with_len, sum_by-map-range_with_len_more}
 use Rattle.std.proofs.lemmas.List.Sums.{sum_by-le}
 use Rattle.bword.specs.ByteEnds.{most}
@@ -107,3 +107,8 @@ noted_at strings place (suc i) (e ∷ es) (x ∷ xs) c long ascend lies is =
     let lt = lies.0 in
     let other : (e.strings == strings) ≡ false = other_number e.strings strings (λ same. (let rises = ascend 0 (suc i) e (omega arith) lt in let is = lies.1 e in omega (arith, rises, is, same))) in
     (λ j. (ap (λ b. if b then bumped place x else x) (sym other)) j ∷ noted_at strings place i es xs c (omega (arith, long)) (λ k l d less within. ascend (suc k) (suc l) d (omega (arith, less)) (omega (arith, within))) (omega (arith, lt), λ d. lies.1 d) is j)
+
+-- the counts of one function more
+pub one_blank : (es : List Entry) (i : ℕ) (e : Entry) (cs new : List (List ℕ)) (c : List ℕ) → i < length es → e ≡ get_or es i e → cs ≡ map blank (take i es) → c ≡ blank e → new ≡ cs ++ c ∷ [] → new ≡ map blank (take (i + 1) es)
+one_blank es i e cs new c lt is before blanks pushed =
+    pushed ∙ (λ j. before j ++ (blanks ∙ ap blank is) j ∷ []) ∙ sym (map_more blank es i e lt)

@@ -73,6 +73,14 @@ parted es p n i j outcome.Limit made tallies a b h = h
 parted es p n i j outcome.Device made tallies a b h = absurd (a refl)
 parted es p n i j outcome.Memory made tallies a b h = absurd (b refl)
 
+-- no read failed in it
+pub unfailed : (p : Paused) (n : ℕ) (i j : Incoming) (r : Outcome) → (r ≡ outcome.Device → ⊥) → (r ≡ outcome.Memory → ⊥) → StepsGive p n i j r → j.failures ≡ i.failures
+unfailed p n i j (outcome.Exit status) a b h = h.1.no_failure
+unfailed p n i j (outcome.Trap kind) a b h = h.1.no_failure
+unfailed p n i j outcome.Limit a b h = h.1.no_failure
+unfailed p n i j outcome.Device a b h = absurd (a refl)
+unfailed p n i j outcome.Memory a b h = absurd (b refl)
+
 module _ (asked : Asked) (source : List ℕ) (ends : RunEnds) (status : ℕ) (mid : Outgoing) (ds : List Definition) (image : Image) (p : Paused) (begins : IsUnstarted image p) where
   pub counted_whole : (es : List Entry) (result : Outcome) (made : ℕ) (tallies : List (List ℕ)) (text : List ℕ) (told : ℕ) → HasProgram asked.edition source ends.line mid ds image → map placed_entry es ≡ functions_of ds
       → StepsGive p asked.steps ends.input ends.input_after result × AreCounts (map placed_entry es) (steps_from p) asked.steps ends.input ends.input_after result made tallies
