@@ -101,7 +101,7 @@ fn map_of<'a>(given: &ArgMatches<'a>) -> Question<'a>
     }
 }
 
-fn trace_of<'a>(given: &'a ArgMatches<'a>) -> Job<'a>
+fn trace_of<'m, 'a: 'm>(given: &'m ArgMatches<'a>) -> Job<'m>
     ensures { asked_of result ≡ trace_asked (source_in (rows_of (found_of given.now))) (option_number (codes "steps") (rows_of (found_of given.now))) (rows_in (rows_of (found_of given.now))) (function_in (rows_of (found_of given.now))) }
 {
     let Some(rows) = shown_rows(number_of(given, "from"), number_of(given, "last")) else {
@@ -115,7 +115,7 @@ fn trace_of<'a>(given: &'a ArgMatches<'a>) -> Job<'a>
     Job::Ask(source_of(given), Question::Trace(walk))
 }
 
-fn show_of<'a>(given: &'a ArgMatches<'a>) -> Job<'a>
+fn show_of<'m, 'a: 'm>(given: &'m ArgMatches<'a>) -> Job<'m>
     ensures { asked_of result ≡ show_asked (source_in (rows_of (found_of given.now))) (option_number (codes "steps") (rows_of (found_of given.now))) (rows_in (rows_of (found_of given.now))) (input_in (rows_of (found_of given.now))) }
 {
     let Some(rows) = shown_rows(number_of(given, "from"), number_of(given, "last")) else {
@@ -129,7 +129,7 @@ fn show_of<'a>(given: &'a ArgMatches<'a>) -> Job<'a>
     Job::Ask(source_of(given), Question::Show(display))
 }
 
-fn count_of<'a>(given: &'a ArgMatches<'a>) -> Job<'a>
+fn count_of<'m, 'a: 'm>(given: &'m ArgMatches<'a>) -> Job<'m>
     ensures { asked_of result ≡ count_asked (source_in (rows_of (found_of given.now))) (is_set_in (codes "json") (rows_of (found_of given.now))) (steps_in (rows_of (found_of given.now))) }
 {
     match steps_of(number_of(given, "steps"), is_set(given, "no-limit")) {
