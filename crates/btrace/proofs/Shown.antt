@@ -1,11 +1,10 @@
 -- Steps that are made and shown, one after another.
-use Rattle.std.proofs.Common.{◌≡◌, ◌∙◌, ℕ, ◌+◌, ◌<◌, Bool, true, false, cond, List, [], ◌∷◌, ◌++◌, Ok, Err, Result, ap, append-nil, append_assoc, arith, drop, length, refl, subst, sym, if◌then◌else◌, ⊎_elim, map, inl}
+use Rattle.std.proofs.Common.{◌≡◌, ◌∙◌, ℕ, ◌+◌, ◌<◌, Bool, true, false, cond, List, [], ◌∷◌, ◌++◌, Ok, Err, Result, ap, append-nil, append_assoc, arith, refl, subst, sym, if◌then◌else◌, ⊎_elim, map, inl}
 use Rattle.std.specs.List.{All}
 use Rattle.std.proofs.lemmas.List.{map-append, map-id}
-use Rattle.std.proofs.lemmas.List.Concat.{flat_map-append}
 use Rattle.std.proofs.lemmas.List.Elements.{All-nil, All-append, All-cons}
 use Rattle.std.proofs.lemmas.List.FromFn.{filter_of_map_range_with_len_more}
-use Rattle.bword.specs.ByteEnds.{CanFollow, Incoming, Kept, Outgoing, Took, Writes, outgoing_of}
+use Rattle.bword.specs.ByteEnds.{CanFollow, Incoming, Kept, Outgoing, Took, outgoing_of}
 use Rattle.bword.proofs.Putting.{Writes-append}
 use Rattle.bword.proofs.Taking.{Took-append}
 use Rattle.blang.specs.declared.run.Outcome.{Outcome}
@@ -331,11 +330,11 @@ module _ (legend : Legend) (which : Which) (first now : Paused) (made : ℕ) (i 
   over_gives new n outcome.Device lt t a own =
       ⊎_elim
       (λ f. (
-        let h = read_failed now first.image t.image_is f in (
-          t.kept,
-          run_over first.image made (machine_at first) (machine_at now) (machine_at new) n m (outgoing_of t.kept) outcome.Device (omega (arith, lt)) (runs_on now.call now.below now.store) t.goes
-              (inl (record { fails = h.fails; silent = refl; reads = h.reads })),
-        )))
+      let h = read_failed now first.image t.image_is f in (
+        t.kept,
+        run_over first.image made (machine_at first) (machine_at now) (machine_at new) n m (outgoing_of t.kept) outcome.Device (omega (arith, lt)) (runs_on now.call now.below now.store) t.goes
+            (inl (record { fails = h.fails; silent = refl; reads = h.reads })),
+      )))
       (λ x. absurd (not_grown 0 0 refl refl x.refuses.counted.0)) a.1
   over_gives new n outcome.Memory lt t a own = absurd (own refl)
 

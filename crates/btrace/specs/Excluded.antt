@@ -107,7 +107,8 @@ module _ (file : File) where
   alone = record { first = file; rest = [] }
 
   -- no trace of a program in one file is this text under the heading, with this status
-  abbrev pub NoTraceOf : List Definition → (steps : ℕ) → Rows → (name : Option (List ℕ)) → (status : ℕ) → List ℕ → Type 0
+  abbrev pub NoTraceOf : List Definition → (steps : ℕ) → Rows → (name : Option (List ℕ)) → (status : ℕ) → List ℕ
+      → Type 0
   NoTraceOf ds steps shown name status text =
       (edition : Edition) (source : List ℕ) (ends : RunEnds) → IsSourceOf edition source ds
       → ends.out.written ≡ Some [] → ends.out_after.written ≡ Some (HEADING.now ++ text)
@@ -127,7 +128,8 @@ module _ (file : File) where
   NoBeginning ds steps from text =
       (edition : Edition) (source : List ℕ) (ends : RunEnds) (status : ℕ) → IsSourceOf edition source ds
       → (Grew ends.input.failures ends.input_after.failures → ⊥) → ends.out.written ≡ Some []
-      → ends.out_after.written ≡ Some (HEADING.now ++ text) → Traces edition source steps (rows.From from) alone None ends status → ⊥
+      → ends.out_after.written ≡ Some (HEADING.now ++ text)
+      → Traces edition source steps (rows.From from) alone None ends status → ⊥
 
   -- Where a read failed before the end was seen, and no write failed, no trace is this text.
   abbrev pub NoTraceOfRead : List Definition → (steps from : ℕ) → List ℕ → Type 0
@@ -161,8 +163,8 @@ module _ (file : File) where
     -- what a step has written left out
     pub written_left_out : (rest : List ℕ)
         → NoTrace writing 4 4 None LIMIT (codes "       4  main         3     1  k 1          4 97\nat     i" ++ rest)
-    -- the word that a step has stored left out, another one in its place, the word before the step, one more, and one of
-    -- a step that stores none
+    -- the word that a step has stored left out, another one in its place, the word before the step, one more, and one
+    -- of a step that stores none
     pub word_left_out : (rest : List ℕ)
         → NoTrace storing 3 3 None LIMIT (codes "       3  main         2     1  w            3 5\nat     i" ++ rest)
     pub other_word : (rest : List ℕ)
@@ -178,7 +180,8 @@ module _ (file : File) where
         → NoTrace nothing 1 1 None LIMIT (codes "       1  main         0     1  c 0         \n        " ++ rest)
     -- the limit and a trap told at other places, and the nearest caller left out
     pub step_left_out : (rest : List ℕ) → NoTrace nothing 1 2 None LIMIT (codes "at     in main     place    0" ++ rest)
-    pub trap_elsewhere : (rest : List ℕ) → NoTrace trapping 2 3 None TRAP (codes "at     in main     place    2" ++ rest)
+    pub trap_elsewhere : (rest : List ℕ)
+        → NoTrace trapping 2 3 None TRAP (codes "at     in main     place    2" ++ rest)
     pub caller_left_out : (rest : List ℕ)
         → NoTrace calling 6 7 None LIMIT (codes "at     in f        place    0  line    1\ncalled in main" ++ rest)
     -- other words than those of the first six parameters of the call, none of them, no mark of the seventh, or words of
@@ -228,11 +231,13 @@ module _ (file : File) where
         → NoPlace ds steps TRAP (report_text (report.Trap kind))
     -- another place, that of the frame, and another function
     pub place_before : (rest : List ℕ) → NoPlace nothing 1 LIMIT (codes "limit\nat     in main     place    0" ++ rest)
-    pub place_of_frame : (rest : List ℕ) → NoPlace nothing 1 LIMIT (codes "limit\nat     in main     place    8" ++ rest)
+    pub place_of_frame : (rest : List ℕ)
+        → NoPlace nothing 1 LIMIT (codes "limit\nat     in main     place    8" ++ rest)
     pub caller_in_place : (rest : List ℕ) → NoPlace calling 3 LIMIT (codes "limit\nat     in main" ++ rest)
     -- another status than that of the machine after just so many steps
-    pub other_status : (ds : List Definition) (steps : ℕ) (result : Outcome) (status : ℕ) → ComesAlways ds 0 outcome.Limit
-        → ComesAlways ds steps result → (status ≡ status_of result → ⊥) → status < REFUSED → (edition : Edition)
+    pub other_status : (ds : List Definition) (steps : ℕ) (result : Outcome) (status : ℕ)
+        → ComesAlways ds 0 outcome.Limit → ComesAlways ds steps result → (status ≡ status_of result → ⊥)
+        → status < REFUSED → (edition : Edition)
         → (source : List ℕ) (ends : RunEnds) → IsSourceOf edition source ds
         → Locates edition source alone steps ends status → ⊥
     -- want of memory told where a read failed

@@ -1,5 +1,5 @@
 -- Promise: what comes of a source whose steps are written.
-use Rattle.std.specs.Prelude.{◌≡◌, ◌⊎◌, ℕ, ◌+◌, ◌-◌, ◌≤◌, ◌==◌, ◌&&◌, Bool, true, false, List, [], ◌∷◌, ◌++◌}
+use Rattle.std.specs.Prelude.{◌≡◌, ℕ, ◌+◌, ◌-◌, ◌≤◌, ◌==◌, ◌&&◌, Bool, true, false, List, [], ◌∷◌, ◌++◌}
 use Rattle.std.specs.Prelude.{None, Result, Ok, Err, codes, filter, map, nat_le, option_map, refl}
 use Rattle.std.specs.Prelude.{All, Option, Some, if◌then◌else◌}
 use Rattle.std.specs.List.{flat_map, range_with_len}
@@ -181,7 +181,8 @@ AddsLast legend number call old new = (line : ℕ) × (new ≡ old ++ step_row l
 abbrev pub AddsIf : Bool → Legend → (number : ℕ) → Call → (addresses store bytes : List ℕ)
     → Result (Unit {0}) Outcome → List ℕ → List ℕ → Type 0
 AddsIf false legend number call addresses store bytes result old new = new ≡ old
-AddsIf true legend number call addresses store bytes (Ok u) old new = AddsStep legend number call addresses store bytes old new
+AddsIf true legend number call addresses store bytes (Ok u) old new =
+    AddsStep legend number call addresses store bytes old new
 AddsIf true legend number call addresses store bytes (Err r) old new = AddsLast legend number call old new
 
 -- a step was made, or the run was over with it; what it wrote is kept by itself, and is in what was added for it
@@ -217,8 +218,8 @@ pub data Traces (edition : Edition) (source : List ℕ) (steps : ℕ) (shown : R
       (output : Kept) (told : ℕ) → HasProgram edition source ends.line mid ds image
       → which_of (functions_of ds) shown name ≡ Some which
       → RunGives (machine ds) steps ends.input ends.input_after nothing_written (outgoing_of output) result
-      → ShowsRows (legend_in ds files) (image_of ds).functions which (machine ds) steps ends.input ends.input_after result
-      HEADING.now text
+      → ShowsRows (legend_in ds files) (image_of ds).functions which (machine ds) steps ends.input ends.input_after
+      result HEADING.now text
       → Reported text DONE ends.out ends.out_after told → TellsEnd told result mid ends.line_after status
       → Traces edition source steps shown files name ends status
   not_begun : (mid : Outgoing) (ds : List Definition) (image : Image) (which : Which) (result : Outcome)

@@ -20,8 +20,8 @@ use std::alloc::{AllocError, Global};
 /// Compiles a source, runs its program for at most so many steps, and tells where the run ended.
 ///
 /// The output, the line and the status are those of `go_edition`. After the line of a trap or of the limit, a second
-/// line tells the function, the place in it, the line of the source, and how many steps were made. If `main` had no room for its frame, the run
-/// never began, and there is no second line.
+/// line tells the function, the place in it, the line of the source, and how many steps were made. If `main` had no
+/// room for its frame, the run never began, and there is no second line.
 pub fn locate<I: ByteIn, O: ByteOut, D: ByteOut>(
     alloc: Global,
     source: &[u8],

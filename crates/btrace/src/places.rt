@@ -61,7 +61,11 @@ fn push_place<S: Store + Drop>(
 }
 
 /// Adds the function of a call, the place in it, and the line of the source.
-pub fn push_site(text: &mut Text, legend: &Legend<'_, '_, '_>, call: Active) -> Result<(), AllocError>
+pub fn push_site(
+    text: &mut Text,
+    legend: &Legend<'_, '_, '_>,
+    call: Active,
+) -> Result<(), AllocError>
     ensures { OnOk result ((line : ℕ) × (text.new ≡ text.old ++ site_text (legend_of legend.now) call.strings call.place line)) }
 {
     let entry = legend.tables.entry(call.strings);

@@ -183,7 +183,13 @@ fn trace_steps<S: Store + Drop, I: ByteIn>(
             },
         }
     }
-    push_end(&mut trail.row, legend, &stepper, stepper.top(), Outcome::Limit)?;
+    push_end(
+        &mut trail.row,
+        legend,
+        &stepper,
+        stepper.top(),
+        Outcome::Limit,
+    )?;
     Ok(Outcome::Limit)
 }
 

@@ -38,7 +38,6 @@ pub returns-in-Err-trace_steps-clause-traces : goal.returns-in-Err-trace_steps-c
 returns-in-Err-trace_steps-clause-traces g c =
     no_memory c.in-Ok.program.definitions.items c.in-Ok.program.image c.in-Ok.ensures.gives refl (rw c.in-Err-trace_steps.is at c.trace_steps.ensures.unfailed) refl
 
-
 pub returns-then-told-ne-DONE-clause-traces : goal.returns-then-told-ne-DONE-clause-traces
 returns-then-told-ne-DONE-clause-traces g c =
     let files = files_shown c.args.wanted.files in
