@@ -1,11 +1,10 @@
 -- Tokens that their type finds equal are the same.
-use Rattle.std.proofs.Common.{◌≡◌, Bool, true, false, ℕ, nat_eq, Option, Some, None, ap, arith, refl, sym}
+use Rattle.std.proofs.Common.{◌≡◌, Bool, true, false, ℕ, nat_eq, Some, None, ap, arith, refl, sym}
 use Rattle.std.proofs.lemmas.Bool.Decides.{nat_tests}
 use Rattle.std.specs.Prelude.{not}
 use Rattle.std.specs.Cmp.Lexicographic.{bytes_decides}
 use mathlib.Core.Bool.{true≢false}
 use denote.Enum.Bare.{same_true}
-use Rattle.bword.specs.declared.operators.BinOp.{BinOp}
 use Rattle.bword.specs.contracts.operators.BinOp as bin_op
 use Rattle.blang.specs.Cut.{string_token}
 use Rattle.blang.specs.contracts.token.Keyword as keywords

@@ -5,7 +5,7 @@ use Rattle.std.specs.List.{list_any}
 use Rattle.bword.specs.declared.edition.Edition.{Edition}
 use Rattle.bword.specs.ByteEnds.{Incoming, CanFollow}
 use Rattle.bword.proofs.Remaining.{rest_after}
-use Rattle.blang.specs.Cut.{is_last, placed, token_first, tokens_from}
+use Rattle.blang.specs.Cut.{is_last, token_first, tokens_from}
 use Rattle.blang.specs.declared.token.Placed.{Placed}
 use Rattle.blang.specs.declared.token.Token.{Token}
 use Rattle.blang.specs.declared.token.Token.TheVariants as token
@@ -14,7 +14,6 @@ use Rattle.blex.specs.Lexers.{GivesAt, Lexer, LexGives, OpenGives, progress_afte
 use Rattle.blex.specs.Lexers as lexers
 use Rattle.blex.specs.Lexing.{PassesToken}
 use Rattle.blex.specs.Sources.{CanCome, Source}
-use Rattle.blex.specs.declared.lexer.Progress.{Progress}
 use Rattle.blex.specs.declared.lexer.Progress.TheVariants as progress
 use Rattle.bformat.specs.Formats.{has_wrong_token, is_wrong, tokens_of}
 
@@ -152,7 +151,7 @@ pub compares_from : (edition : Edition) (source text : List ℕ) (left right : L
 compares_from edition source text left right h k = record { one = h.0; other = k.0; same = λ e. sym k.1 ∙ e ∙ h.1 }
 
 module _ (edition : Edition) (source text : List ℕ) (left right left_after right_after : Lexer) (p q : Placed) (h : Compares edition source text left right)
-  (one : LexGives left (Ok p) left_after) (other : LexGives right (Ok q) right_after) (same : p.token ≡ q.token) where
+    (one : LexGives left (Ok p) left_after) (other : LexGives right (Ok q) right_after) (same : p.token ≡ q.token) where
   pub compares_on : is_last p.token ≡ false → Compares edition source text left_after right_after
   compares_on e =
       let this = gives_more edition left left_after p h.one one e in

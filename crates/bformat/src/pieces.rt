@@ -113,7 +113,10 @@ fn operator_length(text: &[u8]) -> usize {
 fn binary_length(text: &[u8]) -> usize {
     match text {
         [b'=' | b'!', b'=', ..] | [b'<', b'<' | b'=', ..] | [b'>', b'>' | b'=', ..] => 2,
-        [b'|' | b'&' | b'<' | b'>' | b'-' | b'+' | b'%' | b'*' | b'/', ..] => 1,
+        [
+            b'|' | b'&' | b'<' | b'>' | b'-' | b'+' | b'%' | b'*' | b'/',
+            ..
+        ] => 1,
         _ => 0,
     }
 }
