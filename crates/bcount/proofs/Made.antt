@@ -6,7 +6,7 @@ use Rattle.bword.proofs.Taking.{Took-append}
 use Rattle.blang.specs.declared.run.Outcome.{Outcome}
 use Rattle.blang.specs.declared.run.Outcome.TheVariants as outcome
 use Rattle.blang.specs.Machine.{Image, State, step, steps}
-use Rattle.blang.specs.Reports.{Shows, state_outcome}
+use Rattle.blang.specs.Reports.{state_outcome}
 use Rattle.bmach.specs.Stepping.{Paused, machine_at}
 use Rattle.bmach.specs.Steps.{world_with}
 use Rattle.bmach.specs.Turns.{FailsAtRead, HasHalted, MovesOn, Shown, TurnGives}
@@ -18,7 +18,7 @@ use Rattle.btools.specs.Programs.{nothing_written, untold}
 use Rattle.btools.specs.declared.tables.Entry.{Entry}
 use Rattle.std.proofs.lemmas.List.{length-map}
 use Rattle.bcount.specs.Counts.{AreCounts, EndsAfter}
-use Rattle.bcount.specs.Steps.{CountsSteps, StepsGive, steps_from}
+use Rattle.bcount.specs.Steps.{CountsSteps, steps_from}
 use Rattle.bcount.specs.Tallies.{blank, counts_of, noted}
 use Rattle.bcount.proofs.Noting.{noted_more, noted_none}
 
@@ -137,11 +137,11 @@ module _ (es : List Entry) (first now : Paused) (made : ℕ) (i j m : Incoming) 
   read_failed new g =
       ⊎_elim
       (λ f. (
-        let h = subst (λ (x : Image). FailsAtRead (λ left before. step x (machine_at now left before)) j m untold untold) t.image_is f in (
-          t.kept,
-          run_over first.image made (machine_at first) (machine_at now) (machine_at after) n m (outgoing_of t.kept) outcome.Device (omega (arith, lt)) (runs_on now.call now.below now.store) t.goes
-              (inl (record { fails = h.fails; silent = refl; reads = h.reads })),
-        )))
+      let h = subst (λ (x : Image). FailsAtRead (λ left before. step x (machine_at now left before)) j m untold untold) t.image_is f in (
+        t.kept,
+        run_over first.image made (machine_at first) (machine_at now) (machine_at after) n m (outgoing_of t.kept) outcome.Device (omega (arith, lt)) (runs_on now.call now.below now.store) t.goes
+            (inl (record { fails = h.fails; silent = refl; reads = h.reads })),
+      )))
       (λ x. absurd (not_grown 0 0 refl refl x.refuses.counted.0)) g
 
   pub made_over : (new : List (List ℕ)) (r : Outcome) → new ≡ noted now.call.function.strings now.call.place es tallies → TurnGives now.image (machine_at now) (machine_at after) j m untold untold (Err r) → CountsSteps es first n i m r (made + 1) new

@@ -1,5 +1,5 @@
 -- What is counted of a program that was loaded is what its definitions do.
-use Rattle.std.proofs.Common.{◌≡◌, ◌∙◌, ℕ, ◌+◌, List, ◌++◌, ap, length, map, refl, subst, sym}
+use Rattle.std.proofs.Common.{◌≡◌, ◌∙◌, ℕ, List, ◌++◌, ap, length, map, refl, subst, sym}
 use Rattle.std.specs.List.{count_by, range_with_len}
 use Rattle.bword.specs.ByteEnds.{Incoming, Outgoing, outgoing_of}
 use Rattle.blang.specs.declared.code.Definition.{Definition}

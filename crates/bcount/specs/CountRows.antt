@@ -1,7 +1,7 @@
 -- Closed facts: counts and their rows, on small values.
-use Rattle.std.specs.Prelude.{◌≡◌, ℕ, true, false, List, [], ◌∷◌, ◌++◌, Some, None, codes, map, refl}
+use Rattle.std.specs.Prelude.{◌≡◌, ℕ, true, false, List, [], ◌∷◌, Some, None, codes, map, refl}
 use Rattle.std.specs.Fmt.{digits}
-use Rattle.bsources.specs.Files.{Files, Line}
+use Rattle.bsources.specs.Files.{Line}
 use Rattle.bcount.specs.declared.lines.Counted.{Counted}
 use Rattle.bcount.specs.declared.lines.LineCount.{LineCount}
 use Rattle.bcount.specs.declared.table.Style.TheVariants as style

@@ -1,5 +1,5 @@
 -- Inner words: the counts of lines as they are written.
-use Rattle.std.specs.Prelude.{◌≡◌, ℕ, ◌+◌, ◌==◌, Bool, List, [], ◌∷◌, ◌++◌, Option, Some, None, codes, decimal, length, map}
+use Rattle.std.specs.Prelude.{◌≡◌, ℕ, ◌==◌, Bool, List, [], ◌++◌, Option, Some, None, codes, decimal, length, map}
 use Rattle.std.specs.Prelude.{refl, replicate, if◌then◌else◌}
 use Rattle.std.specs.List.{flat_map, range_with_len}
 use Rattle.bsources.specs.Files.{Files, Line, beyond_first, own_line}

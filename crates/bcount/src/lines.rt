@@ -78,11 +78,7 @@ fn on_lines(line: u64, last: u64) -> u64
 }
 
 /// What the code of each line did, from the first to the last line.
-pub fn lines_of(
-    alloc: Global,
-    counted: &[Counted],
-    last: u64,
-) -> Result<Vec<LineCount>, AllocError>
+pub fn lines_of(alloc: Global, counted: &[Counted], last: u64) -> Result<Vec<LineCount>, AllocError>
     requires { All (IsOnLines last) counted.now }
     ensures { IfOk result (λ v. v.items ≡ map (line_count counted.now) (range_with_len 1 last)) }
 {

@@ -1,4 +1,4 @@
-use Rattle.std.proofs.Common.{◌≡◌, ◌∙◌, ◌+◌, ◌≤◌, ℕ, Global, Vec, ap, arith, map, refl, subst, sym}
+use Rattle.std.proofs.Common.{◌≡◌, ◌∙◌, ◌+◌, ◌≤◌, ℕ, Global, Vec, ap, arith, refl, subst, sym}
 use Rattle.std.proofs.lemmas.List.{length-map}
 use Rattle.bword.specs.ByteEnds.{most}
 use Rattle.blang.specs.declared.run.Outcome.TheVariants as outcome
@@ -31,8 +31,7 @@ loop-made-preserved g c =
     let before = tallies_of c.loop-made.tallies in
     let m = g.I.ByteIn.incoming c.step.new.input in
     let within : made + 1 ≤ most = omega (arith, c.loop-made-test.true, c.ranges.steps) in
-    let is = c.note.ensures ∙ ap (λ (a : Active). noted a.strings a.place es before) c.top-call.ensures in
-    (
+    let is = c.note.ensures ∙ ap (λ (a : Active). noted a.strings a.place es before) c.top-call.ensures in (
       made_one es c.args.stepper now made i j m before c.loop-made.invariant.0 c.step.new.self (tallies_of c.note.new.self) within (rw c.in-Ok.is at c.step.ensures.gives) c.step.ensures.image is,
       c.step.ensures.input ∙ c.loop-made.invariant.1,
     )

@@ -1,4 +1,4 @@
-use Rattle.std.proofs.Common.{◌∙◌, ℕ, Global, List, Vec, [], ◌∷◌, ap, map, replicate}
+use Rattle.std.proofs.Common.{◌∙◌, ℕ, Global, Vec, [], ◌∷◌, ap, map, replicate}
 use Rattle.std.proofs.lemmas.List.{map-append, take_all}
 use Rattle.bcount.specs.Tallies.{blank}
 use Rattle.bcount.proofs.Noting.{one_blank}

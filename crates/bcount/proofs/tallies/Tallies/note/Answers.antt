@@ -1,4 +1,4 @@
-use Rattle.std.proofs.Common.{◌∙◌, ◌<◌, ℕ, Global, List, Vec, [], ap, arith, length, map, sym}
+use Rattle.std.proofs.Common.{◌∙◌, ◌<◌, ℕ, Global, Vec, [], ap, arith, length, map, sym}
 use Rattle.std.proofs.lemmas.List.{get_or-map, length-map, map-set}
 use Rattle.bcount.specs.Tallies.{bumped}
 use Rattle.bcount.proofs.Noting.{noted_at, noted_nowhere}
