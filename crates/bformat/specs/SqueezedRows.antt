@@ -1,7 +1,8 @@
 -- Closed facts: which blanks of a source are left out, and which tokens are wrong.
 use Rattle.std.specs.Prelude.{◌≡◌, [], ◌∷◌, codes, map, refl, true, false}
 use Rattle.bword.specs.declared.edition.Edition.TheVariants as editions
-use Rattle.blang.specs.Cut.{cut, fixed_of, greatest, keyword_of, longest, number_in, operator_of, other_of, tokens_from, whole, word_token}
+use Rattle.blang.specs.Cut.{cut, fixed_of, greatest, keyword_of, longest, number_in, operator_of, other_of, tokens_from}
+use Rattle.blang.specs.Cut.{whole, word_token}
 use Rattle.bformat.specs.Formats.{has_wrong_token}
 use Rattle.bformat.specs.Squeezed.{squeezed}
 
