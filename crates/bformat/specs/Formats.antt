@@ -24,7 +24,7 @@ is_wrong _ = false
 abbrev pub has_wrong_token : Edition → List ℕ → Bool
 has_wrong_token edition source = list_any is_wrong (tokens_of edition source)
 
--- The text has the tokens of the source, in order; and outside of quotes and comments it differs only in blanks, so that
+-- The text has the tokens of the source, in order; outside of quotes and comments it differs only in blanks, so that
 -- each comment and each constant stands in its place, to the byte.
 pub record IsLayout (edition : Edition) (source text : List ℕ) : Type 0 where
   pub tokens : tokens_of edition text ≡ tokens_of edition source

@@ -19,7 +19,8 @@ in_comments : map squeezed (codes "a /* b  c */ d e" ∷ codes "/*/ a */ b c" �
 in_comments = refl
 
 -- the slash of `=/` opens no comment, and one after another operator that ends in `=` does
-after_signs : map squeezed (codes "a =/*b c" ∷ codes "a ==/* b */ c" ∷ codes "a <=/* b */ c" ∷ codes "a //* b */ c" ∷ [])
+after_signs : map squeezed (
+    codes "a =/*b c" ∷ codes "a ==/* b */ c" ∷ codes "a <=/* b */ c" ∷ codes "a //* b */ c" ∷ [])
     ≡ codes "a=/*bc" ∷ codes "a==/* b */c" ∷ codes "a<=/* b */c" ∷ codes "a//* b */c" ∷ []
 after_signs = refl
 
