@@ -25,7 +25,7 @@ use brun::{go_edition, migrate, run_text};
 use bshow::show;
 use bsources::{JoinedIn, SourceFiles};
 use btools::tell;
-use btrace::{Rows, Wanted, locate, trace};
+use btrace::{Wanted, locate, trace};
 use bword::{ByteIn, ByteOut, Edition, MemIn};
 use clap::error::ErrorKind;
 use clap::{ArgMatches, Error};
