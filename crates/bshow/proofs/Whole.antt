@@ -20,7 +20,7 @@ use Rattle.bmach.proofs.Beginning.{run_from}
 use Rattle.bmach.proofs.Resolving.{run-resolved, stored-resolved}
 use Rattle.bmach.proofs.Running.{same_run}
 use Rattle.brun.proofs.RunSteps.{outcome-resolved, run_loaded, run_of_loaded, world-resolved}
-use Rattle.btools.specs.declared.frames.Frame.{Frame}
+use Rattle.btools.specs.declared.names.Frame.{Frame}
 use Rattle.btools.specs.Programs.{HasProgram, nothing_written}
 use Rattle.btools.specs.Functions.{Placed, functions_of}
 use Rattle.bshow.specs.Facts.{call_text, calls_text, program_text}

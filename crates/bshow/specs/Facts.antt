@@ -12,8 +12,8 @@ use Rattle.blang.specs.Machine.{Call}
 use Rattle.bmach.specs.Stops.{active_of}
 use Rattle.bmach.specs.declared.machine.Active.{Active}
 use Rattle.bsources.specs.Files.{File, Files}
-use Rattle.btools.specs.declared.frames.Frame.{Frame}
-use Rattle.btools.specs.declared.frames.FrameWord.{FrameWord}
+use Rattle.btools.specs.declared.names.Frame.{Frame}
+use Rattle.btools.specs.declared.names.FrameWord.{FrameWord}
 use Rattle.btrace.specs.RowTexts.{signed_text}
 use Rattle.bshow.specs.Escapes.{escaped}
 

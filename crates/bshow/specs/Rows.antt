@@ -6,7 +6,7 @@ use Rattle.blang.specs.declared.code.Instr.{Instr}
 use Rattle.blang.specs.declared.code.Instr.TheVariants as instr
 use Rattle.blang.specs.Machine.{Call, Running, State}
 use Rattle.btools.specs.Functions.{Placed, function_with}
-use Rattle.btrace.specs.RowTexts.{code_of, instr_in, name_of, signed_text}
+use Rattle.btrace.specs.RowTexts.{instr_in, instr_text, name_in, signed_text}
 use Rattle.bshow.specs.Escapes.{escaped}
 use Rattle.bshow.specs.declared.rows.TheConstants.{GETCHAR}
 
@@ -29,6 +29,12 @@ others_text words = flat_map other_text words
 abbrev pub words_cell : List ℕ → List ℕ
 words_cell [] = codes "<td>[]"
 words_cell (w ∷ ws) = codes "<td>[" ++ signed_text w ++ others_text ws ++ codes "]"
+
+abbrev pub name_of : List Placed → Call → List ℕ
+name_of fs call = name_in (function_with fs call.function.strings)
+
+abbrev pub code_of : List Placed → Call → List ℕ
+code_of fs call = instr_text (instr_in (function_with fs call.function.strings) call.place)
 
 -- the call before a step: its number, the function, place, line and code, the operands, the topmost last, how many calls
 -- are below, and the address of the frame

@@ -15,7 +15,7 @@ use Rattle.blang.specs.Reports.{HasNotRun, Reported, RunEnds, RunGives, state_ou
 use Rattle.bmach.specs.Stepping.{BeginsNot, Paused, machine_at}
 use Rattle.bmach.specs.Stored.{stored}
 use Rattle.bsources.specs.Files.{Files, files_shown}
-use Rattle.btools.specs.declared.frames.Frame.{Frame}
+use Rattle.btools.specs.declared.names.Frame.{Frame}
 use Rattle.btools.specs.Programs.{HasProgram, NoProgram, nothing_written}
 use Rattle.btools.specs.Functions.{Placed, functions_of}
 use Rattle.bshow.specs.Facts.{calls_text, no_run_text, program_text, run_text, sentence, unbegun_sentence}

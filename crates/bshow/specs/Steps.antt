@@ -12,7 +12,7 @@ use Rattle.blang.specs.Machine.{Call}
 use Rattle.blang.specs.Reports.{Reported}
 use Rattle.bmach.specs.Stepping.{Paused}
 use Rattle.bmach.specs.Stored.{stored_next}
-use Rattle.btools.specs.declared.frames.Frame.{Frame}
+use Rattle.btools.specs.declared.names.Frame.{Frame}
 use Rattle.btools.specs.Programs.{nothing_written}
 use Rattle.btools.specs.Functions.{Placed}
 use Rattle.bshow.specs.Facts.{calls_text, no_run_text, program_text, run_text, sentence, unbegun_sentence}
