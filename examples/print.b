@@ -19,10 +19,15 @@ print(form, a, b, c, d, e) {
 
 item(kind, value) {
     switch kind {
-        case 'd': return(printn(value, 10));
-        case 'o': return(printn(value, 8));
-        case 'c': return(putchar(value));
-        case 's': string(value); return;
+        case 'd':
+            return(printn(value, 10));
+        case 'o':
+            return(printn(value, 8));
+        case 'c':
+            return(putchar(value));
+        case 's':
+            string(value);
+            return;
     }
     putchar('?');
 }

@@ -3,27 +3,34 @@ _b() {
     local words=''
     COMPREPLY=()
     if [ "$COMP_CWORD" -eq 1 ]; then
-        words='compile run go migrate list map check trace --help --version'
+        words='compile run go migrate list map check trace count show format --help --version'
         mapfile -t COMPREPLY < <(compgen -W "$words" -- "${COMP_WORDS[COMP_CWORD]}")
         return
     fi
     case ${COMP_WORDS[COMP_CWORD - 1]} in
     --edition) words='1 2' ;;
-    --steps | --from | --function) return ;;
+    --steps | --from | --last | --function | --input) return ;;
+    --with)
+        mapfile -t COMPREPLY < <(compgen -f -- "${COMP_WORDS[COMP_CWORD]}")
+        return
+        ;;
     esac
     if [ -n "$words" ]; then
         mapfile -t COMPREPLY < <(compgen -W "$words" -- "${COMP_WORDS[COMP_CWORD]}")
         return
     fi
     case ${COMP_WORDS[1]} in
-    compile) words='--edition --help' ;;
+    compile) words='--edition --with --help' ;;
     run) words='--steps --no-limit --help' ;;
-    go) words='--edition --steps --no-limit --where --help' ;;
+    go) words='--edition --steps --no-limit --where --with --help' ;;
     migrate) words='--help' ;;
-    list) words='--edition --help' ;;
-    map) words='--edition --svg --steps --help' ;;
-    check) words='--edition --json --help' ;;
-    trace) words='--edition --steps --from --function --help' ;;
+    list) words='--edition --with --help' ;;
+    map) words='--edition --with --svg --steps --help' ;;
+    check) words='--edition --with --json --help' ;;
+    trace) words='--edition --with --steps --from --last --function --help' ;;
+    count) words='--edition --with --steps --no-limit --json --help' ;;
+    show) words='--edition --with --steps --from --last --input --help' ;;
+    format) words='--edition --check --help' ;;
     esac
     case ${COMP_WORDS[COMP_CWORD]} in
     -*) mapfile -t COMPREPLY < <(compgen -W "$words" -- "${COMP_WORDS[COMP_CWORD]}") ;;

@@ -12,8 +12,10 @@ use Rattle.bword.specs.declared.edition.Edition.{Edition}
 use Rattle.blang.specs.Code.{code_of}
 use Rattle.blang.specs.Compiles.{Compilation, CompilesTo}
 use Rattle.blang.specs.Cut.{line_number_after, tokens_from}
+use Rattle.bsources.specs.Files.{Files, Line, line_shown, own_line}
+use Rattle.bsources.specs.declared.files.FileLine.{FileLine}
 use Rattle.blang.specs.Layout.{load_fault}
-use Rattle.bcheck.specs.Checks.{AreFindings, EachOutcome, FindingParts, IsReason, Reason, Second, column_after, file_text, finding_column, finding_line, finding_text, findings_text, is_on_line, json_text, outcome_of, second_text, severity_of, severity_word, shown_text}
+use Rattle.bcheck.specs.Checks.{AreFindings, EachOutcome, FindingParts, IsReason, Reason, Second, column_after, file_text, finding_at, finding_column, finding_line, finding_text, findings_text, is_on_line, json_text, outcome_of, second_text, severity_of, severity_word, shown_text, is_of_several, spot_words}
 use Rattle.bcheck.specs.Findings.{AddsFinding, IsExcerpt, IsSecond, ReasonAt}
 use Rattle.bcheck.specs.Pieces.{piece_text, spot_text}
 use Rattle.bcheck.specs.declared.excerpt.Excerpt.{Excerpt}
@@ -41,37 +43,42 @@ editor_pieces : (o a f b l c d e w g k h s i m n q : List ℕ)
     → ((o ++ (a ++ (f ++ (b ++ (l ++ (c ++ (d ++ (e ++ (w ++ (g ++ (k ++ (h ++ (s ++ (i ++ m)))))))))))))) ++ n) ++ q ≡ o ++ (a ++ f ++ b ++ l ++ c ++ d ++ e ++ w ++ g ++ (k ++ h ++ s ++ i ++ (m ++ n)) ++ q)
 editor_pieces o a f b l c d e w g k h s i m n q = simp append_assoc refl
 
+pub three_more : (o a m r : List ℕ) → ((o ++ a) ++ m) ++ r ≡ o ++ (a ++ (m ++ r))
+three_more o a m r = simp append_assoc refl
+
 -- the second place
-abbrev pub second_of : (source : List ℕ) (s : Option Spot) → IsSecond source s → Option (Second source)
-second_of source None i = None
-second_of source (Some s) i = Some (record { before = i.0; after = i.1; split = i.2 })
+abbrev pub second_of : (files : Files) (source : List ℕ) (s : Option Spot) → IsSecond files source s → Option (Second source)
+second_of files source None i = None
+second_of files source (Some s) i = Some (record { before = i.0; after = i.1; split = i.2 })
 
-pub second_same : (source : List ℕ) (s : Option Spot) (i : IsSecond source s) → spot_text s ≡ second_text (second_of source s i)
-second_same source None i = refl
-second_same source (Some s) i = rw (i.3, i.4) refl
+pub second_same : (files : Files) (source : List ℕ) (s : Option Spot) (i : IsSecond files source s) → spot_text s ≡ second_text files (second_of files source s i)
+second_same files source None i = refl
+second_same files source (Some s) i =
+    ap (λ told. spot_words told (line_shown s.at) s.column) i.4 ∙ ap (λ l. spot_words (is_of_several files) l s.column) i.3
+    ∙ ap (λ n. spot_words (is_of_several files) (own_line files (line_number_after 1 i.0)) n) i.5
 
-text_finding : {source : List ℕ} (p : FindingParts source) (s : Severity) (file f w t m old new : List ℕ) (line column blanks : ℕ) → f ≡ file → w ≡ severity_word s → t ≡ p.sentence → m ≡ p.fix → line ≡ finding_line p → column ≡ finding_column p → blanks ≡ length p.left
+text_finding : {source : List ℕ} (p : FindingParts source) (s : Severity) (files : Files) (f w t m old new : List ℕ) (line column blanks : ℕ) → f ≡ (finding_at files p).file → w ≡ severity_word s → t ≡ p.sentence → m ≡ p.fix → line ≡ (finding_at files p).line → column ≡ finding_column p → blanks ≡ length p.left
     → new ≡ old ++ (file_text f ++ (codes ":" ++ (decimal line ++ (codes ":" ++ (decimal column ++ (codes ": " ++ (w ++ (codes ": " ++ (t ++ (codes "\n    " ++ (flat_map shown_text p.left ++ (flat_map shown_text p.right ++ (codes "\n    " ++ (replicate blanks 32 ++ (replicate p.marks 94 ++ (codes "\n  fix: " ++ (m ++ codes "\n")))))))))))))))))
-    → new ≡ old ++ finding_text form.Text s file p
-text_finding p s file f w t m old new line column blanks ef ew et em el ec eb e =
-    (rw (ef, ew, et, em, el, ec, eb) at e) ∙ ap (λ x. old ++ x) (people_pieces (file_text file) (codes ":") (decimal (finding_line p)) (codes ":") (decimal (finding_column p)) (codes ": ") (severity_word s) (codes ": ") p.sentence (codes "\n    ") (flat_map shown_text p.left) (flat_map shown_text p.right) (codes "\n    ") (replicate (length p.left) 32) (replicate p.marks 94) (codes "\n  fix: ") p.fix (codes "\n"))
+    → new ≡ old ++ finding_text form.Text s files p
+text_finding p s files f w t m old new line column blanks ef ew et em el ec eb e =
+    (rw (ef, ew, et, em, el, ec, eb) at e) ∙ ap (λ x. old ++ x) (people_pieces (file_text (finding_at files p).file) (codes ":") (decimal (finding_at files p).line) (codes ":") (decimal (finding_column p)) (codes ": ") (severity_word s) (codes ": ") p.sentence (codes "\n    ") (flat_map shown_text p.left) (flat_map shown_text p.right) (codes "\n    ") (replicate (length p.left) 32) (replicate p.marks 94) (codes "\n  fix: ") p.fix (codes "\n"))
 
-json_finding : {source : List ℕ} (p : FindingParts source) (s : Severity) (file f w k t m n old first both new : List ℕ) (line column : ℕ) → f ≡ file → w ≡ severity_word s → k ≡ p.code → t ≡ p.sentence → m ≡ p.fix → n ≡ second_text p.second → line ≡ finding_line p → column ≡ finding_column p
+json_finding : {source : List ℕ} (p : FindingParts source) (s : Severity) (files : Files) (f w k t m n old first both new : List ℕ) (line column : ℕ) → f ≡ (finding_at files p).file → w ≡ severity_word s → k ≡ p.code → t ≡ p.sentence → m ≡ p.fix → n ≡ second_text files p.second → line ≡ (finding_at files p).line → column ≡ finding_column p
     → first ≡ old ++ (codes "{\"file\":" ++ (json_text f ++ (codes ",\"line\":" ++ (decimal line ++ (codes ",\"column\":" ++ (decimal column ++ (codes ",\"severity\":\"" ++ (w ++ (codes "\",\"code\":" ++ (json_text k ++ (codes ",\"message\":" ++ (json_text t ++ (codes ",\"fix\":" ++ (json_text m ++ []))))))))))))))
     → both ≡ first ++ n → new ≡ both ++ codes "}\n"
-    → new ≡ old ++ finding_text form.Json s file p
-json_finding p s file f w k t m n old first both new line column ef ew ek et em en el ec e0 e1 e2 =
+    → new ≡ old ++ finding_text form.Json s files p
+json_finding p s files f w k t m n old first both new line column ef ew ek et em en el ec e0 e1 e2 =
     let none = append-nil (json_text p.fix) in
     let e = (rw (ef, ew, ek, et, em, el, ec, none) at e0) in
-    e2 ∙ ap (λ x. x ++ codes "}\n") (e1 ∙ ap (λ x. first ++ x) en ∙ ap (λ x. x ++ second_text p.second) e) ∙ editor_pieces old (codes "{\"file\":") (json_text file) (codes ",\"line\":") (decimal (finding_line p)) (codes ",\"column\":") (decimal (finding_column p)) (codes ",\"severity\":\"") (severity_word s) (codes "\",\"code\":") (json_text p.code) (codes ",\"message\":") (json_text p.sentence) (codes ",\"fix\":") (json_text p.fix) (second_text p.second) (codes "}\n")
+    e2 ∙ ap (λ x. x ++ codes "}\n") (e1 ∙ ap (λ x. first ++ x) en ∙ ap (λ x. x ++ second_text files p.second) e) ∙ editor_pieces old (codes "{\"file\":") (json_text (finding_at files p).file) (codes ",\"line\":") (decimal (finding_at files p).line) (codes ",\"column\":") (decimal (finding_column p)) (codes ",\"severity\":\"") (severity_word s) (codes "\",\"code\":") (json_text p.code) (codes ",\"message\":") (json_text p.sentence) (codes ",\"fix\":") (json_text p.fix) (second_text files p.second) (codes "}\n")
 
 less : (a b : ℕ) → a < b → IsTrue (nat_lt a b)
 less a b h = grind (arith, nat_tests)
 
 -- the finding of an excerpt
 module _ (source : List ℕ) (start : ℕ) (e : Excerpt) (x : IsExcerpt source start e) (code sentence fix : List ℕ) (are : IsTrue (list_all is_on_line (code ∷ sentence ∷ fix ∷ []))) (second : Option (Second source)) where
-  abbrev finding_at : FindingParts source
-  finding_at = record {
+  abbrev this_finding : FindingParts source
+  this_finding = record {
     before = x.before;
     left = e.left.now;
     right = e.right.now;
@@ -88,43 +95,48 @@ module _ (source : List ℕ) (start : ℕ) (e : Excerpt) (x : IsExcerpt source s
     second = second;
   }
 
-  on_its_line : e.line ≡ finding_line finding_at
+  on_its_line : e.line ≡ finding_line this_finding
   on_its_line = x.line ∙ ap (line_number_after 1) (sym x.first)
 
-  at_its_column : e.column ≡ finding_column finding_at
+  at_its_column : e.column ≡ finding_column this_finding
   at_its_column = x.column ∙ ap (column_after 1) (sym x.first)
 
-  pub adds_text : (s : Severity) (file f w t m old new : List ℕ) (blanks : ℕ) → f ≡ file → w ≡ severity_word s → t ≡ sentence → m ≡ fix → blanks ≡ length e.left.now
-      → new ≡ old ++ (file_text f ++ (codes ":" ++ (decimal e.line ++ (codes ":" ++ (decimal e.column ++ (codes ": " ++ (w ++ (codes ": " ++ (t ++ (codes "\n    " ++ (flat_map shown_text e.left.now ++ (flat_map shown_text e.right.now ++ (codes "\n    " ++ (replicate blanks 32 ++ (replicate e.marks 94 ++ (codes "\n  fix: " ++ (m ++ codes "\n")))))))))))))))))
-      → AddsFinding form.Text s file source start code old new
-  adds_text s file f w t m old new blanks ef ew et em eb is =
-      (finding_at, refl, x.first, x.rest, text_finding finding_at s file f w t m old new e.line e.column blanks ef ew et em on_its_line at_its_column eb is)
+  in_its_file : (files : Files) (at : Line) → at ≡ own_line files e.line → at ≡ own_line files (finding_line this_finding)
+  in_its_file files at is = is ∙ ap (own_line files) on_its_line
 
-  pub adds_json : (s : Severity) (file f w k t m n old first both new : List ℕ) → f ≡ file → w ≡ severity_word s → k ≡ code → t ≡ sentence → m ≡ fix → n ≡ second_text second
-      → first ≡ old ++ (codes "{\"file\":" ++ (json_text f ++ (codes ",\"line\":" ++ (decimal e.line ++ (codes ",\"column\":" ++ (decimal e.column ++ (codes ",\"severity\":\"" ++ (w ++ (codes "\",\"code\":" ++ (json_text k ++ (codes ",\"message\":" ++ (json_text t ++ (codes ",\"fix\":" ++ (json_text m ++ []))))))))))))))
+  pub adds_text : (s : Severity) (files : Files) (at : FileLine) (f w t m old new : List ℕ) (blanks : ℕ) → line_shown at ≡ own_line files e.line → f ≡ at.file.now → w ≡ severity_word s → t ≡ sentence → m ≡ fix → blanks ≡ length e.left.now
+      → new ≡ old ++ (file_text f ++ (codes ":" ++ (decimal at.line ++ (codes ":" ++ (decimal e.column ++ (codes ": " ++ (w ++ (codes ": " ++ (t ++ (codes "\n    " ++ (flat_map shown_text e.left.now ++ (flat_map shown_text e.right.now ++ (codes "\n    " ++ (replicate blanks 32 ++ (replicate e.marks 94 ++ (codes "\n  fix: " ++ (m ++ codes "\n")))))))))))))))))
+      → AddsFinding form.Text s files source start code old new
+  adds_text s files at f w t m old new blanks is ef ew et em eb e1 =
+      let here = in_its_file files (line_shown at) is in
+      (this_finding, refl, x.first, x.rest, text_finding this_finding s files f w t m old new at.line e.column blanks (ef ∙ ap (λ (l : Line). l.file) here) ew et em (ap (λ (l : Line). l.line) here) at_its_column eb e1)
+
+  pub adds_json : (s : Severity) (files : Files) (at : FileLine) (f w k t m n old first both new : List ℕ) → line_shown at ≡ own_line files e.line → f ≡ at.file.now → w ≡ severity_word s → k ≡ code → t ≡ sentence → m ≡ fix → n ≡ second_text files second
+      → first ≡ old ++ (codes "{\"file\":" ++ (json_text f ++ (codes ",\"line\":" ++ (decimal at.line ++ (codes ",\"column\":" ++ (decimal e.column ++ (codes ",\"severity\":\"" ++ (w ++ (codes "\",\"code\":" ++ (json_text k ++ (codes ",\"message\":" ++ (json_text t ++ (codes ",\"fix\":" ++ (json_text m ++ []))))))))))))))
       → both ≡ first ++ n → new ≡ both ++ codes "}\n"
-      → AddsFinding form.Json s file source start code old new
-  adds_json s file f w k t m n old first both new ef ew ek et em en e0 e1 e2 =
-      (finding_at, refl, x.first, x.rest, json_finding finding_at s file f w k t m n old first both new e.line e.column ef ew ek et em en on_its_line at_its_column e0 e1 e2)
+      → AddsFinding form.Json s files source start code old new
+  adds_json s files at f w k t m n old first both new is ef ew ek et em en e0 e1 e2 =
+      let here = in_its_file files (line_shown at) is in
+      (this_finding, refl, x.first, x.rest, json_finding this_finding s files f w k t m n old first both new at.line e.column (ef ∙ ap (λ (l : Line). l.file) here) ew ek et em en (ap (λ (l : Line). l.line) here) at_its_column e0 e1 e2)
 
 -- the finding is one of whatever the source comes to
 abbrev pub Reasoned : Edition → (source : List ℕ) → FindingParts source → Type 0
 Reasoned edition source p = EachOutcome edition source (λ o. Reason o.edition o.stop o.fault p.code (p.before ++ p.left) (p.right ++ p.after))
 
 -- the text of so many findings
-abbrev pub FindingsSoFar : Form → Edition → (status : ℕ) → (file source : List ℕ) → (count : ℕ) → (text : List ℕ) → Type 0
-FindingsSoFar form edition status file source count text =
-    (findings : List (FindingParts source)) × (length findings ≡ count) × All (Reasoned edition source) findings × (text ≡ findings_text form status file findings)
+abbrev pub FindingsSoFar : Form → Edition → (status : ℕ) → Files → (source : List ℕ) → (count : ℕ) → (text : List ℕ) → Type 0
+FindingsSoFar form edition status files source count text =
+    (findings : List (FindingParts source)) × (length findings ≡ count) × All (Reasoned edition source) findings × (text ≡ findings_text form status files findings)
 
 -- one finding more
-module _ (form f : Form) (edition : Edition) (status : ℕ) (s : Severity) (file source : List ℕ) (start : ℕ) (code old new said : List ℕ) (count : ℕ) where
+module _ (form f : Form) (edition : Edition) (status : ℕ) (s : Severity) (files : Files) (source : List ℕ) (start : ℕ) (code old new said : List ℕ) (count : ℕ) where
   pub finding_more : form ≡ f → s ≡ severity_of status → said ≡ new → EachOutcome edition source (ReasonAt code start)
-      → FindingsSoFar form edition status file source count old → AddsFinding f s file source start code old new → FindingsSoFar form edition status file source (count + 1) said
+      → FindingsSoFar form edition status files source count old → AddsFinding f s files source start code old new → FindingsSoFar form edition status files source (count + 1) said
   finding_more same also is reason a more =
       let severity = severity_of status in
-      let text = finding_text form severity file in
-      let b : AddsFinding form severity file source start code old said =
-      subst (λ x. AddsFinding x severity file source start code old said) (sym same) (subst (λ y. AddsFinding f y file source start code old said) also (subst (λ t. AddsFinding f s file source start code old t) (sym is) more)) in
+      let text = finding_text form severity files in
+      let b : AddsFinding form severity files source start code old said =
+      subst (λ x. AddsFinding x severity files source start code old said) (sym same) (subst (λ y. AddsFinding f y files source start code old said) also (subst (λ t. AddsFinding f s files source start code old t) (sym is) more)) in
       let reasoned : Reasoned edition source b.0 =
       λ r g. subst (λ c. Reason edition r.stop (load_fault (map code_of g.definitions)) c (b.0.before ++ b.0.left) (b.0.right ++ b.0.after)) (sym b.1)
       (subst (λ x. Reason edition r.stop (load_fault (map code_of g.definitions)) code x (b.0.right ++ b.0.after)) (sym b.2)
@@ -139,6 +151,6 @@ reasons_at : (edition : Edition) (source : List ℕ) (r : Compilation) (g : Comp
 reasons_at edition source r g ps h = All-weaker (Reasoned edition source) (IsReason (outcome_of edition source r.stop (load_fault (map code_of g.definitions)))) (λ p is. is r g) ps h
 
 -- all of them, of which there is one where the source has a fault
-pub all_findings : (form : Form) (edition : Edition) (status : ℕ) (file source said : List ℕ) (count all : ℕ) → (status ≢ DONE → all ≡ 1) → count ≡ all → FindingsSoFar form edition status file source count said
-    → EachOutcome edition source (λ o. AreFindings form o status file said)
-all_findings form edition status file source said count all one is a = λ r g. (a.0, (λ fault. a.1 ∙ is ∙ one fault), reasons_at edition source r g a.0 a.2, a.3)
+pub all_findings : (form : Form) (edition : Edition) (status : ℕ) (files : Files) (source said : List ℕ) (count all : ℕ) → (status ≢ DONE → all ≡ 1) → count ≡ all → FindingsSoFar form edition status files source count said
+    → EachOutcome edition source (λ o. AreFindings form o status files said)
+all_findings form edition status files source said count all one is a = λ r g. (a.0, (λ fault. a.1 ∙ is ∙ one fault), reasons_at edition source r g a.0 a.2, a.3)

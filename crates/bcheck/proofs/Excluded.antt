@@ -24,22 +24,23 @@ use Rattle.blang.specs.declared.token.Diagnostic.{Diagnostic}
 use Rattle.bgrammar.specs.SourceRows.{ComesIn}
 use Rattle.bgrammar.proofs.SourceRows.{edition_rows}
 use Rattle.bcheck.specs.Checks as checks
-use Rattle.bcheck.specs.Checks.{IsOver, Reason, StandsOn, code_keyword, column_after, diagnostic_code, json_text}
+use Rattle.bsources.specs.Files.{File, Files, Line, own_line, own_line_among}
+use Rattle.bcheck.specs.Checks.{IsOver, Reason, StandsOn, code_keyword, column_after, diagnostic_code, file_text, finding_at, json_text}
 use Rattle.bcheck.specs.Checks.{AreFindings, Check, Checks, FindingParts, Outcome, TellsFirst, finding_column, fix_and_second, finding_head, finding_line, finding_start, finding_text, outcome_of, findings_text, severity_of, shown_in_form, told_first}
-use Rattle.bcheck.specs.Excluded.{BeginsWith, ComesTo, Excluded, IsTold, Never, NeverOf, finding_lines, is_printed, newlines}
+use Rattle.bcheck.specs.Excluded.{BeginsWith, ComesTo, Excluded, IsTold, Never, NeverOf, file_at, file_of, finding_lines, has_no_colon, is_printed, newlines}
 use Rattle.bcheck.specs.declared.finding.Severity.{Severity}
 use Rattle.bcheck.specs.declared.finding.Severity.TheVariants as severity
 use Rattle.bcheck.specs.declared.form.Form.{Form}
 use Rattle.bcheck.specs.declared.form.Form.TheVariants as form
-use Rattle.bcheck.proofs.FindingTexts.{both_printed, findings_printed, first_byte, head_placed, lines_of_all, same_places, newlines_in, no_cons, other_severity_after, starts_of, text_placed}
+use Rattle.bcheck.proofs.FindingTexts.{both_printed, findings_printed, first_byte, head_placed, lines_of_all, same_heads, same_places, newlines_in, no_cons, other_severity_after, starts_of, text_placed}
 
 -- a check of a source that comes to this tells it
 abbrev comes_to : (c : Check) (line : List ℕ) (status : ℕ) → ComesTo c line status → Outcome
 comes_to c line status to = outcome_of c.edition c.source to.outcome.stop (load_fault (map code_of to.goes.definitions))
 
-abbrev tells : (c : Check) (line : List ℕ) (status : ℕ) (to : ComesTo c line status) → Checks c → TellsFirst c.form (comes_to c line status to) c.file (shown_in_form c.form line) status c.out c.out_after c.status
+abbrev tells : (c : Check) (line : List ℕ) (status : ℕ) (to : ComesTo c line status) → Checks c → TellsFirst c.form (comes_to c line status to) c.files (shown_in_form c.form line) status c.out c.out_after c.status
 tells c line status to h =
-    subst (λ (p : List ℕ × ℕ). TellsFirst c.form (comes_to c line status to) c.file (shown_in_form c.form p.0) p.1 c.out c.out_after c.status) to.told (h to.outcome to.goes)
+    subst (λ (p : List ℕ × ℕ). TellsFirst c.form (comes_to c line status to) c.files (shown_in_form c.form p.0) p.1 c.out c.out_after c.status) to.told (h to.outcome to.goes)
 
 appended : (a b : Option (List ℕ)) (text x y : List ℕ) → a ≡ Some x → b ≡ Some y → Appends a b text → y ≡ x ++ text
 appended None b text x y e f h = cc
@@ -47,9 +48,9 @@ appended (Some a) None text x y e f h = cc
 appended (Some a) (Some b) text x y e f h = let p : a ≡ x = cc in let q : b ≡ y = cc in sym q ∙ h ∙ ap (λ l. l ++ text) p
 
 -- What was told: the line and then findings, with the status of the source.
-record WasTold (form : Form) (o : Outcome) (file first : List ℕ) (status result : ℕ) (text : List ℕ) : Type 0 where
+record WasTold (form : Form) (o : Outcome) (files : Files) (first : List ℕ) (status result : ℕ) (text : List ℕ) : Type 0 where
   more : List ℕ
-  are : AreFindings form o status file more
+  are : AreFindings form o status files more
   text_is : text ≡ first ++ more
   status_is : result ≡ status
 
@@ -57,39 +58,41 @@ not_refused : (fault : EndFault) (result : ℕ) → result ≡ status_of fault �
 not_refused end_fault.Device result e less = let is : result ≡ 133 = e in let below : result < 133 = less in absurd (omega (arith, is, below))
 not_refused end_fault.Memory result e less = let is : result ≡ 134 = e in let below : result < 133 = less in absurd (omega (arith, is, below))
 
-was_told : (form : Form) (o : Outcome) (file first : List ℕ) (status result : ℕ) (text before : List ℕ) (old new : Outgoing) → old.written ≡ Some before → new.written ≡ Some (before ++ text) → result < DEVICE
-    → TellsFirst form o file first status old new result → WasTold form o file first status result text
-was_told form outcome file first status result text before old new o n less (checks.told more are (inl w)) = record {
+was_told : (form : Form) (o : Outcome) (files : Files) (first : List ℕ) (status result : ℕ) (text before : List ℕ) (old new : Outgoing) → old.written ≡ Some before → new.written ≡ Some (before ++ text) → result < DEVICE
+    → TellsFirst form o files first status old new result → WasTold form o files first status result text
+was_told form outcome files first status result text before old new o n less (checks.told more are (inl w)) = record {
   more = more;
   are = are;
   text_is = append_cancel_left before _ _ (appended old.written new.written (first ++ more) before (before ++ text) o n w.0.appended);
   status_is = w.1;
 }
-was_told form outcome file first status result text before old new o n less (checks.told more are (inr r)) = absurd (not_refused r.fault result r.status less)
-was_told form outcome file first status result text before old new o n less (checks.no_memory same is) = absurd (not_refused end_fault.Memory result is less)
+was_told form outcome files first status result text before old new o n less (checks.told more are (inr r)) = absurd (not_refused r.fault result r.status less)
+was_told form outcome files first status result text before old new o n less (checks.no_memory same is) = absurd (not_refused end_fault.Memory result is less)
 
-told_in : (c : Check) (line : List ℕ) (status : ℕ) (text : List ℕ) (to : ComesTo c line status) → IsTold c text → Checks c → WasTold c.form (comes_to c line status to) c.file (shown_in_form c.form line) status c.status text
-told_in c line status text to t h = was_told c.form (comes_to c line status to) c.file (shown_in_form c.form line) status c.status text t.before c.out c.out_after t.old t.new t.whole (tells c line status to h)
+told_in : (c : Check) (line : List ℕ) (status : ℕ) (text : List ℕ) (to : ComesTo c line status) → IsTold c text → Checks c → WasTold c.form (comes_to c line status to) c.files (shown_in_form c.form line) status c.status text
+told_in c line status text to t h = was_told c.form (comes_to c line status to) c.files (shown_in_form c.form line) status c.status text t.before c.out c.out_after t.old t.new t.whole (tells c line status to h)
 
 begins : (text a b : List ℕ) → text ≡ a ++ b → StartsWith text a
 begins text a b e = subst (λ t. StartsWith t a) (sym e) (take-append_seam a b)
 
 -- findings begin as one does, unless there is none
-find_start : {source : List ℕ} (form : Form) (s : Severity) (file : List ℕ) (p : FindingParts source) (ps : List (FindingParts source)) → (rest : List ℕ) × (flat_map (finding_text form s file) (p ∷ ps) ≡ finding_start form file ++ rest)
-find_start form s file p ps =
-    let text = text_placed form s file p in
-    let later = flat_map (finding_text form s file) ps in
-    let head = starts_of form s file (finding_line p) (finding_column p) (text.0 ++ later) in (
+find_start : {source : List ℕ} (form : Form) (s : Severity) (files : Files) (p : FindingParts source) (ps : List (FindingParts source)) → (rest : List ℕ) × (flat_map (finding_text form s files) (p ∷ ps) ≡ finding_start form (finding_at files p).file ++ rest)
+find_start form s files p ps =
+    let text = text_placed form s files p in
+    let at = finding_at files p in
+    let later = flat_map (finding_text form s files) ps in
+    let head = starts_of form s at.file at.line (finding_column p) (text.0 ++ later) in (
       head.0,
-      ap (λ t. t ++ later) text.1 ∙ append_assoc (finding_head form s file (finding_line p) (finding_column p)) text.0 later ∙ head.1,
+      ap (λ t. t ++ later) text.1 ∙ append_assoc (finding_head form s at.file at.line (finding_column p)) text.0 later ∙ head.1,
     )
 
-after_line : {source : List ℕ} (form : Form) (status : ℕ) (file first text more : List ℕ) (ps : List (FindingParts source)) → (ps ≡ [] → ⊥) → text ≡ first ++ more → more ≡ findings_text form status file ps
-    → StartsWith text (first ++ finding_start form file)
-after_line form status file first text more [] some e is = absurd (some refl)
-after_line form status file first text more (p ∷ ps) some e is =
-    let f = find_start form (severity_of status) file p ps in
-    begins text (first ++ finding_start form file) f.0 (e ∙ ap (λ t. first ++ t) (is ∙ f.1) ∙ sym (append_assoc first (finding_start form file) f.0))
+after_line : {source : List ℕ} (form : Form) (status : ℕ) (files : Files) (first text more : List ℕ) (ps : List (FindingParts source)) → (ps ≡ [] → ⊥) → text ≡ first ++ more → more ≡ findings_text form status files ps
+    → (n : ℕ) × StartsWith text (first ++ finding_start form (own_line files n).file)
+after_line form status files first text more [] some e is = absurd (some refl)
+after_line form status files first text more (p ∷ ps) some e is =
+    let f = find_start form (severity_of status) files p ps in
+    let start = finding_start form (finding_at files p).file in
+    (finding_line p, begins text (first ++ start) f.0 (e ∙ ap (λ t. first ++ t) (is ∙ f.1) ∙ sym (append_assoc first start f.0)))
 
 none_of_one : {source : List ℕ} (ps : List (FindingParts source)) → length ps ≡ 1 → ps ≡ [] → ⊥
 none_of_one [] one e = let no : ◌≡◌ {A = ℕ} 0 1 = one in absurd (omega (arith, no))
@@ -98,10 +101,11 @@ none_of_one (p ∷ ps) one e = cc
 no_line : Never (λ c line status text. StartsWith text (shown_in_form c.form line) → ⊥)
 no_line c line status text to t wrong h = let w = told_in c line status text to t h in wrong (begins text (shown_in_form c.form line) w.more w.text_is)
 
-no_finding : Never (λ c line status text. (status ≢ DONE) × (StartsWith text (shown_in_form c.form line ++ finding_start c.form c.file) → ⊥))
+no_finding : Never (λ c line status text. (status ≢ DONE) × ((n : ℕ) → StartsWith text (shown_in_form c.form line ++ finding_start c.form (file_at c n)) → ⊥))
 no_finding c line status text to t wrong h =
     let w = told_in c line status text to t h in
-    wrong.1 (after_line c.form status c.file (shown_in_form c.form line) text w.more w.are.0 (none_of_one w.are.0 (w.are.1 wrong.0)) w.text_is w.are.3)
+    let begun = after_line c.form status c.files (shown_in_form c.form line) text w.more w.are.0 (none_of_one w.are.0 (w.are.1 wrong.0)) w.text_is w.are.3 in
+    wrong.1 begun.0 begun.1
 
 -- what has no fault has no line
 done_line : (stop : Option Diagnostic) (f : Option LoadFault) (line : List ℕ) → told_first stop f ≡ (line, DONE) → line ≡ []
@@ -120,77 +124,129 @@ shown_none form.Json line e = refl
 nothing_shown : (c : Check) (line : List ℕ) (status : ℕ) → ComesTo c line status → status ≡ DONE → shown_in_form c.form line ≡ []
 nothing_shown c line status to e = shown_none c.form line (done_line to.outcome.stop (load_fault (map code_of to.goes.definitions)) line (to.told ∙ ap (λ n. (line, n)) e))
 
-findings_begin : {source : List ℕ} (form : Form) (status : ℕ) (file text more : List ℕ) (ps : List (FindingParts source)) → (text ≡ [] → ⊥) → text ≡ more → more ≡ findings_text form status file ps → StartsWith text (finding_start form file)
-findings_begin form status file text more [] some e is = absurd (some (e ∙ is))
-findings_begin form status file text more (p ∷ ps) some e is =
-    let f = find_start form (severity_of status) file p ps in
-    begins text (finding_start form file) f.0 (e ∙ is ∙ f.1)
+findings_begin : {source : List ℕ} (form : Form) (status : ℕ) (files : Files) (text more : List ℕ) (ps : List (FindingParts source)) → (text ≡ [] → ⊥) → text ≡ more → more ≡ findings_text form status files ps
+    → (n : ℕ) × StartsWith text (finding_start form (own_line files n).file)
+findings_begin form status files text more [] some e is = absurd (some (e ∙ is))
+findings_begin form status files text more (p ∷ ps) some e is =
+    let f = find_start form (severity_of status) files p ps in
+    (finding_line p, begins text (finding_start form (finding_at files p).file) f.0 (e ∙ is ∙ f.1))
 
-no_fault : Never (λ c line status text. (status ≡ DONE) × (text ≢ []) × (StartsWith text (finding_start c.form c.file) → ⊥))
+no_fault : Never (λ c line status text. (status ≡ DONE) × (text ≢ []) × ((n : ℕ) → StartsWith text (finding_start c.form (file_at c n)) → ⊥))
 no_fault c line status text to t wrong h =
     let w = told_in c line status text to t h in
-    wrong.2 (findings_begin c.form status c.file text w.more w.are.0 wrong.1 (w.text_is ∙ ap (λ x. x ++ w.more) (nothing_shown c line status to wrong.0)) w.are.3)
+    let begun = findings_begin c.form status c.files text w.more w.are.0 wrong.1 (w.text_is ∙ ap (λ x. x ++ w.more) (nothing_shown c line status to wrong.0)) w.are.3 in
+    wrong.2 begun.0 begun.1
+
+-- each line of one file is its own
+alone_among : (file : File) (rest : List File) (n : ℕ) → rest ≡ [] → own_line_among file rest n ≡ record { file = file.name; line = n }
+alone_among file [] n e = refl
+alone_among file (next ∷ rest) n e = cc
+
+alone : (files : Files) → files.rest ≡ [] → (n : ℕ) → own_line files n ≡ record { file = files.first.name; line = n }
+alone files e n = alone_among files.first files.rest n e
 
 other_severity : Never (λ c line status text.
-    (before : List (FindingParts c.source)) × (s : Severity) × (row column : ℕ) × (rest : List ℕ) × (s ≢ severity_of status)
-    × (text ≡ shown_in_form c.form line ++ (findings_text c.form status c.file before ++ (finding_head c.form s c.file row column ++ rest))))
+    (before : List (FindingParts c.source)) × (s : Severity) × (row column : ℕ) × (rest : List ℕ) × (s ≢ severity_of status) × (c.files.rest ≡ [])
+    × (text ≡ shown_in_form c.form line ++ (findings_text c.form status c.files before ++ (finding_head c.form s (file_of c) row column ++ rest))))
 other_severity c line status text to t wrong h =
     let w = told_in c line status text to t h in
-    other_severity_after c.form wrong.1 (severity_of status) c.file wrong.0 w.are.0 wrong.2 wrong.3 wrong.4 wrong.5
-    (append_cancel_left (shown_in_form c.form line) _ _ (sym wrong.6 ∙ w.text_is ∙ ap (λ x. shown_in_form c.form line ++ x) w.are.3))
+    other_severity_after c.form wrong.1 (severity_of status) c.files (file_of c) (λ n. ap (λ (l : Line). l.file) (alone c.files wrong.6 n)) wrong.0 w.are.0 wrong.2 wrong.3 wrong.4 wrong.5
+    (append_cancel_left (shown_in_form c.form line) _ _ (sym wrong.7 ∙ w.text_is ∙ ap (λ x. shown_in_form c.form line ++ x) w.are.3))
 
--- the first finding of a fault: it is one of what the source comes to, and these are its numbers
+-- the first finding of a fault: it is one of what the source comes to, and the text begins with it
+record Begun (c : Check) (d : Diagnostic) (s : Severity) (file : List ℕ) (row column : ℕ) (rest : List ℕ) : Type 0 where
+  parts : FindingParts c.source
+  after : List ℕ
+  same : finding_head c.form s file row column ++ rest
+      ≡ finding_head c.form severity.Error (finding_at c.files parts).file (finding_at c.files parts).line (finding_column parts) ++ ((text_placed c.form severity.Error c.files parts).0 ++ after)
+  code : parts.code ≡ diagnostic_code d
+  stands : StandsOn c.edition d.line (parts.before ++ parts.left) (parts.right ++ parts.after)
+
+begun_in : (c : Check) (o : Outcome) (s : Severity) (d : Diagnostic) (file : List ℕ) (row column : ℕ) (rest more : List ℕ) (ps : List (FindingParts c.source)) → o ≡ outcome_of c.edition c.source (Some d) o.fault → (ps ≡ [] → ⊥)
+    → All (λ p. Reason o.edition o.stop o.fault p.code (p.before ++ p.left) (p.right ++ p.after)) ps → more ≡ flat_map (finding_text c.form severity.Error c.files) ps → more ≡ finding_head c.form s file row column ++ rest → Begun c d s file row column rest
+begun_in c o s d file row column rest more [] is some all e f = absurd (some refl)
+begun_in c o s d file row column rest more (p ∷ ps) is some all e f =
+    let text = text_placed c.form severity.Error c.files p in
+    let at = finding_at c.files p in
+    let later = flat_map (finding_text c.form severity.Error c.files) ps in
+    let reason : Reason c.edition (Some d) o.fault p.code (p.before ++ p.left) (p.right ++ p.after) =
+    subst (λ (x : Outcome). Reason x.edition x.stop x.fault p.code (p.before ++ p.left) (p.right ++ p.after)) is (all 0 p (omega arith)) in
+    record {
+      parts = p;
+      after = later;
+      same = sym f ∙ e ∙ ap (λ x. x ++ later) text.1 ∙ append_assoc (finding_head c.form severity.Error at.file at.line (finding_column p)) text.0 later;
+      code = reason.0;
+      stands = reason.1;
+    }
+
+-- the same of a source of one file, with the numbers of the finding
 record First (c : Check) (d : Diagnostic) (row column : ℕ) (rest : List ℕ) : Type 0 where
   parts : FindingParts c.source
   after : List ℕ
   row_is : decimal row ≡ decimal (finding_line parts)
   column_is : decimal column ≡ decimal (finding_column parts)
-  rest_is : rest ≡ (text_placed c.form severity.Error c.file parts).0 ++ after
+  rest_is : rest ≡ (text_placed c.form severity.Error c.files parts).0 ++ after
   code : parts.code ≡ diagnostic_code d
   stands : StandsOn c.edition d.line (parts.before ++ parts.left) (parts.right ++ parts.after)
 
-first_in : (c : Check) (o : Outcome) (s : Severity) (d : Diagnostic) (row column : ℕ) (rest more : List ℕ) (ps : List (FindingParts c.source)) → o ≡ outcome_of c.edition c.source (Some d) o.fault → (ps ≡ [] → ⊥)
-    → All (λ p. Reason o.edition o.stop o.fault p.code (p.before ++ p.left) (p.right ++ p.after)) ps → more ≡ flat_map (finding_text c.form severity.Error c.file) ps → more ≡ finding_head c.form s c.file row column ++ rest → First c d row column rest
-first_in c o s d row column rest more [] is some all e f = absurd (some refl)
-first_in c o s d row column rest more (p ∷ ps) is some all e f =
-    let text = text_placed c.form severity.Error c.file p in
-    let later = flat_map (finding_text c.form severity.Error c.file) ps in
-    let same : finding_head c.form s c.file row column ++ rest ≡ finding_head c.form severity.Error c.file (finding_line p) (finding_column p) ++ (text.0 ++ later) =
-    sym f ∙ e ∙ ap (λ x. x ++ later) text.1 ∙ append_assoc (finding_head c.form severity.Error c.file (finding_line p) (finding_column p)) text.0 later in
-    let places = same_places c.form s severity.Error row column (finding_line p) (finding_column p) rest (text.0 ++ later)
-    (append_cancel_left (finding_start c.form c.file) _ _ (sym (head_placed c.form s c.file row column rest) ∙ same ∙ head_placed c.form severity.Error c.file (finding_line p) (finding_column p) (text.0 ++ later))) in
-    let reason : Reason c.edition (Some d) o.fault p.code (p.before ++ p.left) (p.right ++ p.after) =
-    subst (λ (x : Outcome). Reason x.edition x.stop x.fault p.code (p.before ++ p.left) (p.right ++ p.after)) is (all 0 p (omega arith)) in
-    record { parts = p; after = later; row_is = places.0; column_is = places.1; rest_is = places.2; code = reason.0; stands = reason.1 }
+first_in : (c : Check) (d : Diagnostic) (s : Severity) (row column : ℕ) (rest : List ℕ) → c.files.rest ≡ [] → Begun c d s (file_of c) row column rest → First c d row column rest
+first_in c d s row column rest one b =
+    let following = (text_placed c.form severity.Error c.files b.parts).0 ++ b.after in
+    let line = finding_line b.parts in
+    let same : finding_head c.form s (file_of c) row column ++ rest ≡ finding_head c.form severity.Error (file_of c) line (finding_column b.parts) ++ following =
+    b.same ∙ ap (λ (l : Line). finding_head c.form severity.Error l.file l.line (finding_column b.parts) ++ following) (alone c.files one line) in
+    let places = same_places c.form s severity.Error row column line (finding_column b.parts) rest following
+    (append_cancel_left (finding_start c.form (file_of c)) _ _ (sym (head_placed c.form s (file_of c) row column rest) ∙ same ∙ head_placed c.form severity.Error (file_of c) line (finding_column b.parts) following)) in
+    record { parts = b.parts; after = b.after; row_is = places.0; column_is = places.1; rest_is = places.2; code = b.code; stands = b.stands }
 
 status_one : (stop : Option Diagnostic) (f : Option LoadFault) (d : Diagnostic) (line : List ℕ) (status : ℕ) → stop ≡ Some d → told_first stop f ≡ (line, status) → 1 ≡ status
 status_one (Some x) f d line status e told = ap (λ (p : List ℕ × ℕ). p.1) told
 status_one None f d line status e told = cc
 
-first_told : (c : Check) (line : List ℕ) (status : ℕ) (text : List ℕ) (to : ComesTo c line status) (d : Diagnostic) → to.outcome.stop ≡ Some d → IsTold c text → (row column : ℕ) (rest : List ℕ) → BeginsWith c line text row column rest → Checks c
-    → First c d row column rest
-first_told c line status text to d stop t row column rest b h =
+begun_told : (c : Check) (line : List ℕ) (status : ℕ) (text : List ℕ) (to : ComesTo c line status) (d : Diagnostic) → to.outcome.stop ≡ Some d → IsTold c text → (file : List ℕ) (row column : ℕ) (rest : List ℕ) (b : BeginsWith c line text file row column rest) → Checks c
+    → Begun c d b.severity file row column rest
+begun_told c line status text to d stop t file row column rest b h =
     let w = told_in c line status text to t h in
     let one : 1 ≡ status = status_one to.outcome.stop (load_fault (map code_of to.goes.definitions)) d line status stop to.told in
-    let more : w.more ≡ finding_head c.form b.severity c.file row column ++ rest = append_cancel_left (shown_in_form c.form line) _ _ (sym w.text_is ∙ b.is) in
-    let texts : w.more ≡ findings_text c.form 1 c.file w.are.0 = w.are.3 ∙ ap (λ n. findings_text c.form n c.file w.are.0) (sym one) in
-    first_in c (comes_to c line status to) b.severity d row column rest w.more w.are.0 (ap (λ s. outcome_of c.edition c.source s (load_fault (map code_of to.goes.definitions))) stop)
+    let more : w.more ≡ finding_head c.form b.severity file row column ++ rest = append_cancel_left (shown_in_form c.form line) _ _ (sym w.text_is ∙ b.is) in
+    let texts : w.more ≡ findings_text c.form 1 c.files w.are.0 = w.are.3 ∙ ap (λ n. findings_text c.form n c.files w.are.0) (sym one) in
+    begun_in c (comes_to c line status to) b.severity d file row column rest w.more w.are.0 (ap (λ s. outcome_of c.edition c.source s (load_fault (map code_of to.goes.definitions))) stop)
     (none_of_one w.are.0 (w.are.1 (λ done. let no : ◌≡◌ {A = ℕ} 1 0 = one ∙ done in absurd (omega (arith, no))))) w.are.2 texts more
+
+first_told : (c : Check) (line : List ℕ) (status : ℕ) (text : List ℕ) (to : ComesTo c line status) (d : Diagnostic) → to.outcome.stop ≡ Some d → IsTold c text → c.files.rest ≡ [] → (row column : ℕ) (rest : List ℕ) → BeginsWith c line text (file_of c) row column rest → Checks c
+    → First c d row column rest
+first_told c line status text to d stop t one row column rest b h =
+    first_in c d b.severity row column rest one (begun_told c line status text to d stop t (file_of c) row column rest b h)
+
+up_to : (edition : Edition) (line : ℕ) (before rest : List ℕ) → StandsOn edition line before rest → line_number_after 1 before ≤ line
+up_to edition line before rest h = ⊎_elim (λ on. omega (arith, on)) (λ over. let less = over.0 in omega (arith, less)) h
+
+other_file : (c : Check) (line : List ℕ) (status : ℕ) (text : List ℕ) (to : ComesTo c line status) (d : Diagnostic) → to.outcome.stop ≡ Some d → IsTold c text → c.form ≡ form.Text → (file : List ℕ) (row column : ℕ) (rest : List ℕ)
+    → BeginsWith c line text file row column rest → IsTrue (has_no_colon (file_text file)) → ((n : ℕ) → IsTrue (has_no_colon (file_text (file_at c n))))
+    → ((n : ℕ) → n ≤ d.line → file_text file ≡ file_text (file_at c n) → decimal row ≢ decimal (own_line c.files n).line) → Checks c → ⊥
+other_file c line status text to d stop t is file row column rest b free all wrong h =
+    let f = begun_told c line status text to d stop t file row column rest b h in
+    let at = finding_at c.files f.parts in
+    let following = (text_placed c.form severity.Error c.files f.parts).0 ++ f.after in
+    let same : finding_head form.Text b.severity file row column ++ rest ≡ finding_head form.Text severity.Error at.file at.line (finding_column f.parts) ++ following =
+    sym (ap (λ x. finding_head x b.severity file row column ++ rest) is) ∙ f.same ∙ ap (λ x. finding_head x severity.Error at.file at.line (finding_column f.parts) ++ following) is in
+    let heads = same_heads b.severity severity.Error file at.file row column at.line (finding_column f.parts) rest following free (all (finding_line f.parts)) same in
+    wrong (finding_line f.parts) (up_to c.edition d.line (f.parts.before ++ f.parts.left) (f.parts.right ++ f.parts.after) f.stands) heads.0 heads.1
 
 other_line : NeverOf (λ c d row column rest. (decimal row ≢ decimal d.line)
     × ((before after : List ℕ) → c.source ≡ before ++ after → line_number_after 1 before < d.line → IsOver c.edition after → ⊥))
-other_line c line status text to d stop t row column rest b wrong h =
-    let f = first_told c line status text to d stop t row column rest b h in
+other_line c line status text to d stop t one row column rest b wrong h =
+    let f = first_told c line status text to d stop t one row column rest b h in
     ⊎_elim (λ on. wrong.0 (f.row_is ∙ ap decimal on)) (λ over. wrong.1 (f.parts.before ++ f.parts.left) (f.parts.right ++ f.parts.after) f.parts.split over.0 over.1) f.stands
 
 later_line : NeverOf (λ c d row column rest. (n : ℕ) → n ≤ d.line → decimal row ≢ decimal n)
-later_line c line status text to d stop t row column rest b wrong h =
-    let f = first_told c line status text to d stop t row column rest b h in
+later_line c line status text to d stop t one row column rest b wrong h =
+    let f = first_told c line status text to d stop t one row column rest b h in
     ⊎_elim (λ on. wrong (finding_line f.parts) (omega (arith, on)) f.row_is) (λ over. wrong (finding_line f.parts) (omega (arith, over.0)) f.row_is) f.stands
 
 no_place : NeverOf (λ c d row column rest. (before after : List ℕ) → c.source ≡ before ++ after → decimal row ≡ decimal (line_number_after 1 before) → decimal column ≢ decimal (column_after 1 before))
-no_place c line status text to d stop t row column rest b wrong h =
-    let f = first_told c line status text to d stop t row column rest b h in
+no_place c line status text to d stop t one row column rest b wrong h =
+    let f = first_told c line status text to d stop t one row column rest b h in
     wrong (f.parts.before ++ f.parts.left) (f.parts.right ++ f.parts.after) f.parts.split f.row_is f.column_is
 
 -- the letters of a code in JSON
@@ -210,24 +266,24 @@ letters_in letters.TooLarge keyword after a b more e = ap (λ t. take 2 (drop 1 
 words_after : (k h s i m q a : List ℕ) → ((k ++ h ++ s ++ i ++ m) ++ q) ++ a ≡ k ++ (h ++ (s ++ (i ++ (m ++ (q ++ a)))))
 words_after k h s i m q a = simp append_assoc refl
 
-json_words : {source : List ℕ} (p : FindingParts source) (file after : List ℕ) → (more : List ℕ) × ((text_placed form.Json severity.Error file p).0 ++ after ≡ json_text p.code ++ more)
+json_words : {source : List ℕ} (p : FindingParts source) (files : Files) (after : List ℕ) → (more : List ℕ) × ((text_placed form.Json severity.Error files p).0 ++ after ≡ json_text p.code ++ more)
 unfolding text_placed
-json_words p file after = (_, words_after (json_text p.code) (codes ",\"message\":") (json_text p.sentence) (codes ",\"fix\":") (fix_and_second p) (codes "}\n") after)
+json_words p files after = (_, words_after (json_text p.code) (codes ",\"message\":") (json_text p.sentence) (codes ",\"fix\":") (fix_and_second files p) (codes "}\n") after)
 
 other_letters : NeverOf (λ c d row column rest. (c.form ≡ form.Json) × (first : ℕ) × (second : ℕ) × (more : List ℕ)
     × (rest ≡ 34 ∷ first ∷ second ∷ more) × (first ∷ second ∷ [] ≢ letters_text d.letters))
-other_letters c line status text to d stop t row column rest b wrong h =
-    let f = first_told c line status text to d stop t row column rest b h in
-    let words = json_words f.parts c.file f.after in
-    let here : rest ≡ json_text f.parts.code ++ words.0 = f.rest_is ∙ ap (λ x. (text_placed x severity.Error c.file f.parts).0 ++ f.after) wrong.0 ∙ words.1 in
+other_letters c line status text to d stop t one row column rest b wrong h =
+    let f = first_told c line status text to d stop t one row column rest b h in
+    let words = json_words f.parts c.files f.after in
+    let here : rest ≡ json_text f.parts.code ++ words.0 = f.rest_is ∙ ap (λ x. (text_placed x severity.Error c.files f.parts).0 ++ f.after) wrong.0 ∙ words.1 in
     let code : 34 ∷ wrong.1 ∷ wrong.2 ∷ wrong.3 ≡ json_text (letters_text d.letters ++ code_keyword d.letters d.about) ++ words.0 = sym wrong.4 ∙ here ∙ ap (λ x. json_text x ++ words.0) f.code in
     wrong.5 (letters_in d.letters (code_keyword d.letters d.about) words.0 wrong.1 wrong.2 wrong.3 code)
 
-lines_told : (c : Check) (o : Outcome) (line : List ℕ) (status : ℕ) (text : List ℕ) (w : WasTold c.form o c.file (shown_in_form c.form line) status c.status text)
+lines_told : (c : Check) (o : Outcome) (line : List ℕ) (status : ℕ) (text : List ℕ) (w : WasTold c.form o c.files (shown_in_form c.form line) status c.status text)
     → newlines text ≡ newlines (shown_in_form c.form line) + length w.are.0 * finding_lines c.form
 lines_told c o line status text w =
     ap newlines w.text_is ∙ newlines_in (shown_in_form c.form line) w.more
-    ∙ ap (λ n. newlines (shown_in_form c.form line) + n) (ap newlines w.are.3 ∙ lines_of_all c.form (severity_of status) c.file w.are.0)
+    ∙ ap (λ n. newlines (shown_in_form c.form line) + n) (ap newlines w.are.3 ∙ lines_of_all c.form (severity_of status) c.files w.are.0)
 
 other_lines : Never (λ c line status text. (status ≢ DONE) × (newlines text ≢ newlines (shown_in_form c.form line) + finding_lines c.form))
 other_lines c line status text to t wrong h =
@@ -241,10 +297,10 @@ odd_lines c line status text to t wrong h =
     let none : newlines (shown_in_form c.form line) ≡ 0 = ap newlines (nothing_shown c line status to wrong.0) in
     wrong.1 (length w.are.0) (lines_told c (comes_to c line status to) line status text w ∙ ap (λ n. n + length w.are.0 * finding_lines c.form) none ∙ zero-add (length w.are.0 * finding_lines c.form))
 
-other_bytes : Never (λ c line status text. IsTrue (is_printed (shown_in_form c.form line)) × IsTrue (is_printed (finding_start c.form c.file)) × (is_printed text ≡ false))
+other_bytes : Never (λ c line status text. IsTrue (is_printed (shown_in_form c.form line)) × ((n : ℕ) → IsTrue (is_printed (finding_start c.form (file_at c n)))) × (is_printed text ≡ false))
 other_bytes c line status text to t wrong h =
     let w = told_in c line status text to t h in
-    let all = both_printed (shown_in_form c.form line) w.more wrong.0 (subst (λ x. IsTrue (is_printed x)) (sym w.are.3) (findings_printed c.form (severity_of status) c.file wrong.1 w.are.0)) in
+    let all = both_printed (shown_in_form c.form line) w.more wrong.0 (subst (λ x. IsTrue (is_printed x)) (sym w.are.3) (findings_printed c.files c.form (severity_of status) wrong.1 w.are.0)) in
     let is : IsTrue (is_printed text) = subst (λ x. IsTrue (is_printed x)) (sym w.text_is) all in
     cc
 
@@ -256,12 +312,12 @@ clash : (result status : ℕ) → result ≡ status → status < 133 → 132 < r
 clash result status is less more = absurd (omega (arith, is, less, more))
 
 -- 133 wants a write that failed, and 134 one that was refused memory, where something was written
-module _ (form : Form) (o : Outcome) (file first : List ℕ) (status result : ℕ) (old new : Outgoing) (less : status < 133) where
+module _ (form : Form) (o : Outcome) (files : Files) (first : List ℕ) (status result : ℕ) (old new : Outgoing) (less : status < 133) where
   device_kind : (text : List ℕ) (fault : EndFault) → Refuses old text fault new → result ≡ status_of fault → result ≡ 133 → (Grew old.failures new.failures → ⊥) → ⊥
   device_kind text end_fault.Device refused s is none = none refused.counted.0
   device_kind text end_fault.Memory refused s is none = let no : 134 ≡ 133 = sym s ∙ is in absurd (omega (arith, no))
 
-  device : result ≡ 133 → (Grew old.failures new.failures → ⊥) → TellsFirst form o file first status old new result → ⊥
+  device : result ≡ 133 → (Grew old.failures new.failures → ⊥) → TellsFirst form o files first status old new result → ⊥
   device is none (checks.told more are (inl w)) = clash result status w.1 less (omega (arith, is))
   device is none (checks.told more are (inr r)) = device_kind (first ++ more) r.fault r.refuses r.status is none
   device is none (checks.no_memory same s) = let no : 134 ≡ 133 = sym s ∙ is in absurd (omega (arith, no))
@@ -270,7 +326,7 @@ module _ (form : Form) (o : Outcome) (file first : List ℕ) (status result : �
   memory_kind text end_fault.Device refused s is none = let no : 133 ≡ 134 = sym s ∙ is in absurd (omega (arith, no))
   memory_kind text end_fault.Memory refused s is none = none refused.counted.0
 
-  memory : result ≡ 134 → (Grew old.refusals new.refusals → ⊥) → (new ≡ old → ⊥) → TellsFirst form o file first status old new result → ⊥
+  memory : result ≡ 134 → (Grew old.refusals new.refusals → ⊥) → (new ≡ old → ⊥) → TellsFirst form o files first status old new result → ⊥
   memory is none some (checks.told more are (inl w)) = clash result status w.1 less (omega (arith, is))
   memory is none some (checks.told more are (inr r)) = memory_kind (first ++ more) r.fault r.refuses r.status is none
   memory is none some (checks.no_memory same s) = some same
@@ -279,7 +335,7 @@ module _ (form : Form) (o : Outcome) (file first : List ℕ) (status result : �
   above_kind end_fault.Device s is = let here : result ≡ 133 = s in absurd (omega (arith, here, is))
   above_kind end_fault.Memory s is = let here : result ≡ 134 = s in absurd (omega (arith, here, is))
 
-  above : 134 < result → TellsFirst form o file first status old new result → ⊥
+  above : 134 < result → TellsFirst form o files first status old new result → ⊥
   above is (checks.told more are (inl w)) = clash result status w.1 less (omega (arith, is))
   above is (checks.told more are (inr r)) = above_kind r.fault r.status is
   above is (checks.no_memory same s) = above_kind end_fault.Memory s is
@@ -320,6 +376,7 @@ excluded = record {
   no_finding = no_finding;
   no_fault = no_fault;
   other_severity = other_severity;
+  other_file = other_file;
   other_line = other_line;
   later_line = later_line;
   no_place = no_place;
@@ -327,9 +384,9 @@ excluded = record {
   other_lines = other_lines;
   odd_lines = odd_lines;
   other_bytes = other_bytes;
-  no_failure = λ c line status to is none h. device c.form (comes_to c line status to) c.file (shown_in_form c.form line) status c.status c.out c.out_after (comes_small c line status to) is none (tells c line status to h);
-  no_refusal = λ c line status to is none some h. memory c.form (comes_to c line status to) c.file (shown_in_form c.form line) status c.status c.out c.out_after (comes_small c line status to) is none some (tells c line status to h);
-  no_such_status = λ c line status to is h. above c.form (comes_to c line status to) c.file (shown_in_form c.form line) status c.status c.out c.out_after (comes_small c line status to) is (tells c line status to h);
+  no_failure = λ c line status to is none h. device c.form (comes_to c line status to) c.files (shown_in_form c.form line) status c.status c.out c.out_after (comes_small c line status to) is none (tells c line status to h);
+  no_refusal = λ c line status to is none some h. memory c.form (comes_to c line status to) c.files (shown_in_form c.form line) status c.status c.out c.out_after (comes_small c line status to) is none some (tells c line status to h);
+  no_such_status = λ c line status to is h. above c.form (comes_to c line status to) c.files (shown_in_form c.form line) status c.status c.out c.out_after (comes_small c line status to) is (tells c line status to h);
   first_edition = λ c text s e f t start h. let no = known_line c editions.Two _ _ _ text _ 115 117 e s f edition_rows.break_outside t start h in absurd (omega (arith, no));
   second_edition = λ c text s e f t start h. let no = known_line c editions.One _ _ _ text _ 117 115 e s f edition_rows.mention_break t start h in absurd (omega (arith, no));
 }

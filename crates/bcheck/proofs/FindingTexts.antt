@@ -1,6 +1,6 @@
 -- The texts of findings: where each ends, how many lines it has, and of which bytes it consists.
 use Rattle.std.proofs.Common.{◌≡◌, ◌≢◌, ◌∙◌, ◌<◌, ◌+◌, ◌*◌, ◌/◌, ◌%◌, ◌==◌, ℕ, zero, suc, List, [], ◌∷◌, ◌++◌, Bool, true, false, IsTrue, if◌then◌else◌, ap, append-nil, append_assoc, arith, codes, decimal, length, nat_le, Option, Some, None, refl, replicate, subst, sym}
-use Rattle.std.specs.Prelude.{◌&&◌, ◌||◌}
+use Rattle.std.specs.Prelude.{◌&&◌, ◌||◌, not}
 use Rattle.std.specs.Fmt.{digits, digits_onto, digit_glyph}
 use Rattle.std.specs.Int.{is_in_range}
 use Rattle.std.specs.List.{flat_map, list_all}
@@ -10,8 +10,9 @@ use Rattle.std.proofs.Math.Nat.{add_comm, mod-lt, suc-mul, zero-add, zero-mul}
 use Rattle.std.proofs.lemmas.List.Folds.{list_all-append}
 use Rattle.std.proofs.lemmas.List.Sums.{sum_by-append}
 use Rattle.blang.specs.Cut.{line_number_after}
-use Rattle.bcheck.specs.Checks.{FindingParts, Second, column_after, fix_and_second, second_text, file_byte, file_text, finding_column, finding_head, finding_line, finding_mark, finding_shown, finding_start, finding_text, finding_words, is_on_line, shown_text, json_byte, json_text, severity_word}
-use Rattle.bcheck.specs.Excluded.{finding_lines, is_printed, newlines}
+use Rattle.bsources.specs.Files.{Files, Line, own_line}
+use Rattle.bcheck.specs.Checks.{FindingParts, Second, column_after, fix_and_second, second_text, file_byte, file_member, file_text, finding_at, finding_column, is_of_several, spot_words, finding_head, finding_line, finding_mark, finding_shown, finding_start, finding_text, finding_words, is_on_line, shown_text, json_byte, json_text, severity_word}
+use Rattle.bcheck.specs.Excluded.{finding_lines, has_no_colon, is_printed, newlines}
 use Rattle.bcheck.proofs.OnLine.{both_on_line, of_three, replicate_on_line, shown_on_line}
 use Rattle.bcheck.specs.declared.finding.Severity.{Severity}
 use Rattle.bcheck.specs.declared.finding.Severity.TheVariants as severity
@@ -170,10 +171,25 @@ same_places form.Json s t l c m d u v e =
     let rest = word_rest s t (codes "\",\"code\":" ++ u) (codes "\",\"code\":" ++ v) (append_cancel_left (codes ",\"severity\":\"") _ _ word.1) in
     (line.0, word.0, append_cancel_left (codes "\",\"code\":") u v rest)
 
+-- the names of two files without colons, and lines of them, that two findings for people begin alike with
+pub same_heads : (s t : Severity) (f g : List ℕ) (l c m d : ℕ) (u v : List ℕ) → IsTrue (has_no_colon (file_text f)) → IsTrue (has_no_colon (file_text g))
+    → finding_head form.Text s f l c ++ u ≡ finding_head form.Text t g m d ++ v → (file_text f ≡ file_text g) × (decimal l ≡ decimal m)
+same_heads s t f g l c m d u v hf hg e =
+    let these = placed form.Text s l c u in
+    let those = placed form.Text t m d v in
+    let here : file_text f ++ 58 ∷ these ≡ file_text g ++ 58 ∷ those =
+    sym (append_assoc (file_text f) (codes ":") these) ∙ sym (head_placed form.Text s f l c u) ∙ e ∙ head_placed form.Text t g m d v ∙ append_assoc (file_text g) (codes ":") those in
+    let begun = same_to (λ b. not (b == 58)) (file_text f) (file_text g) these those 58 58 hf hg refl refl here in
+    (begun.0, (same_places form.Text s t l c m d u v (append_cancel_left (codes ":") _ _ begun.1)).0)
+
 -- each finding begins so
-unfoldable pub text_placed : {source : List ℕ} → (form : Form) (s : Severity) (file : List ℕ) (p : FindingParts source) → (rest : List ℕ) × (finding_text form s file p ≡ finding_head form s file (finding_line p) (finding_column p) ++ rest)
-text_placed form.Text s file p = (finding_words form.Text p ++ codes "\n", append_assoc (finding_head form.Text s file (finding_line p) (finding_column p)) (finding_words form.Text p) (codes "\n"))
-text_placed form.Json s file p = (finding_words form.Json p ++ codes "}\n", append_assoc (finding_head form.Json s file (finding_line p) (finding_column p)) (finding_words form.Json p) (codes "}\n"))
+unfoldable pub text_placed : {source : List ℕ} → (form : Form) (s : Severity) (files : Files) (p : FindingParts source) → (rest : List ℕ) × (finding_text form s files p ≡ finding_head form s (finding_at files p).file (finding_at files p).line (finding_column p) ++ rest)
+text_placed form.Text s files p =
+    let at = finding_at files p in
+    (finding_words form.Text files p ++ codes "\n", append_assoc (finding_head form.Text s at.file at.line (finding_column p)) (finding_words form.Text files p) (codes "\n"))
+text_placed form.Json s files p =
+    let at = finding_at files p in
+    (finding_words form.Json files p ++ codes "}\n", append_assoc (finding_head form.Json s at.file at.line (finding_column p)) (finding_words form.Json files p) (codes "}\n"))
 
 -- newlines
 pub newlines_in : (a b : List ℕ) → newlines (a ++ b) ≡ newlines a + newlines b
@@ -196,13 +212,13 @@ line_more line rest h =
     omega (arith, here, both_in, one)
 
 -- texts of one line, one after another
-record Line (text : List ℕ) : Type 0 where
+record OneLine (text : List ℕ) : Type 0 where
   line : IsTrue (is_one_line text)
 
-more : (a b : List ℕ) → IsTrue (is_one_line a) → Line b → Line (a ++ b)
+more : (a b : List ℕ) → IsTrue (is_one_line a) → OneLine b → OneLine (a ++ b)
 more a b g h = record { line = all_more (nat_le 32) a b g h.line }
 
-last_line : (a : List ℕ) → IsTrue (is_one_line a) → Line a
+last_line : (a : List ℕ) → IsTrue (is_one_line a) → OneLine a
 last_line a h = record { line = h }
 
 parts_of : {source : List ℕ} → (p : FindingParts source) → IsTrue (is_on_line p.code) × IsTrue (is_on_line p.sentence) × IsTrue (is_on_line (finding_shown p)) × IsTrue (is_on_line (finding_mark p)) × IsTrue (is_on_line p.fix)
@@ -215,9 +231,13 @@ parts_of p =
       words.2,
     )
 
--- the four lines of a finding for people, after the name of the file, and the one for editors
-abbrev sentence_line : {source : List ℕ} → Severity → FindingParts source → List ℕ
-sentence_line s p = codes ":" ++ (decimal (finding_line p) ++ (codes ":" ++ (decimal (finding_column p) ++ (codes ": " ++ (severity_word s ++ (codes ": " ++ p.sentence))))))
+-- the four lines of a finding for people, and the one for editors
+abbrev sentence_line : {source : List ℕ} → Severity → Files → FindingParts source → List ℕ
+sentence_line s files p =
+    codes ":" ++ (decimal (finding_at files p).line ++ (codes ":" ++ (decimal (finding_column p) ++ (codes ": " ++ (severity_word s ++ (codes ": " ++ p.sentence))))))
+
+abbrev opening_line : {source : List ℕ} → Severity → Files → FindingParts source → List ℕ
+opening_line s files p = file_text (finding_at files p).file ++ sentence_line s files p
 
 abbrev shown_line : {source : List ℕ} → FindingParts source → List ℕ
 shown_line p = codes "    " ++ (finding_shown p)
@@ -228,14 +248,18 @@ mark_line p = codes "    " ++ (finding_mark p)
 abbrev fix_line : {source : List ℕ} → FindingParts source → List ℕ
 fix_line p = codes "  fix: " ++ p.fix
 
-abbrev object_line : {source : List ℕ} → Severity → (file : List ℕ) → FindingParts source → List ℕ
-object_line s file p =
-    codes "{\"file\":" ++ (json_text file ++ (codes ",\"line\":" ++ (decimal (finding_line p) ++ (codes ",\"column\":" ++ (decimal (finding_column p) ++ (codes ",\"severity\":\"" ++ (severity_word s ++ (codes "\",\"code\":" ++ (json_text p.code ++ (codes ",\"message\":" ++ (json_text p.sentence ++ (codes ",\"fix\":" ++ (fix_and_second p ++ codes "}")))))))))))))
+abbrev object_line : {source : List ℕ} → Severity → Files → FindingParts source → List ℕ
+object_line s files p =
+    codes "{\"file\":" ++ (json_text (finding_at files p).file ++ (codes ",\"line\":" ++ (decimal (finding_at files p).line ++ (codes ",\"column\":" ++ (decimal (finding_column p) ++ (codes ",\"severity\":\"" ++ (severity_word s ++ (codes "\",\"code\":" ++ (json_text p.code ++ (codes ",\"message\":" ++ (json_text p.sentence ++ (codes ",\"fix\":" ++ (fix_and_second files p ++ codes "}")))))))))))))
 
-sentence_one : {source : List ℕ} → (s : Severity) (p : FindingParts source) → IsTrue (is_one_line (sentence_line s p))
-sentence_one s p =
-    (more (codes ":") _ refl (more (decimal (finding_line p)) _ (digits_line (finding_line p)) (more (codes ":") _ refl (more (decimal (finding_column p)) _ (digits_line (finding_column p))
+sentence_one : {source : List ℕ} → (s : Severity) (files : Files) (p : FindingParts source) → IsTrue (is_one_line (sentence_line s files p))
+sentence_one s files p =
+    (more (codes ":") _ refl (more (decimal (finding_at files p).line) _ (digits_line (finding_at files p).line) (more (codes ":") _ refl (more (decimal (finding_column p)) _ (digits_line (finding_column p))
     (more (codes ": ") _ refl (more (severity_word s) _ (word_line s) (more (codes ": ") _ refl (last_line p.sentence (words_line p.sentence (parts_of p).1))))))))).line
+
+opening_one : {source : List ℕ} → (s : Severity) (files : Files) (p : FindingParts source) → IsTrue (is_one_line (opening_line s files p))
+opening_one s files p =
+    all_more (nat_le 32) (file_text (finding_at files p).file) (sentence_line s files p) (file_one (finding_at files p).file) (sentence_one s files p)
 
 shown_one : {source : List ℕ} → (p : FindingParts source) → IsTrue (is_one_line (shown_line p))
 shown_one p = all_more (nat_le 32) (codes "    ") (finding_shown p) refl (words_line (finding_shown p) (parts_of p).2)
@@ -246,21 +270,29 @@ mark_one p = all_more (nat_le 32) (codes "    ") (finding_mark p) refl (words_li
 fix_one : {source : List ℕ} → (p : FindingParts source) → IsTrue (is_one_line (fix_line p))
 fix_one p = all_more (nat_le 32) (codes "  fix: ") p.fix refl (words_line p.fix (parts_of p).4)
 
-second_one : {source : List ℕ} → (s : Option (Second source)) → IsTrue (is_one_line (second_text s))
-second_one None = refl
-second_one (Some s) =
-    (more (codes ",\"related\":{\"line\":") _ refl (more (decimal (line_number_after 1 s.before)) _ (digits_line (line_number_after 1 s.before))
-    (more (codes ",\"column\":") _ refl (more (decimal (column_after 1 s.before)) _ (digits_line (column_after 1 s.before)) (last_line (codes "}") refl))))).line
+member_one : (is_told : Bool) (file : List ℕ) → IsTrue (is_one_line (file_member is_told file))
+member_one false file = refl
+member_one true file = (more (codes "\"file\":") _ refl (more (json_text file) _ (json_one file) (last_line (codes ",") refl))).line
 
-fix_json_one : {source : List ℕ} → (p : FindingParts source) → IsTrue (is_one_line (fix_and_second p))
-fix_json_one p = all_more (nat_le 32) (json_text p.fix) (second_text p.second) (json_one p.fix) (second_one p.second)
+spot_one : (is_told : Bool) (at : Line) (column : ℕ) → IsTrue (is_one_line (spot_words is_told at column))
+spot_one is_told at column =
+    (more (codes ",\"related\":{") _ refl (more (file_member is_told at.file) _ (member_one is_told at.file) (more (codes "\"line\":") _ refl (more (decimal at.line) _ (digits_line at.line)
+    (more (codes ",\"column\":") _ refl (more (decimal column) _ (digits_line column) (last_line (codes "}") refl))))))).line
 
-object_one : {source : List ℕ} → (s : Severity) (file : List ℕ) (p : FindingParts source) → IsTrue (is_one_line (object_line s file p))
-object_one s file p =
-    (more (codes "{\"file\":") _ refl (more (json_text file) _ (json_one file) (more (codes ",\"line\":") _ refl (more (decimal (finding_line p)) _ (digits_line (finding_line p))
+second_one : {source : List ℕ} → (files : Files) (s : Option (Second source)) → IsTrue (is_one_line (second_text files s))
+second_one files None = refl
+second_one files (Some s) = spot_one (is_of_several files) (own_line files (line_number_after 1 s.before)) (column_after 1 s.before)
+
+fix_json_one : {source : List ℕ} → (files : Files) (p : FindingParts source) → IsTrue (is_one_line (fix_and_second files p))
+fix_json_one files p = all_more (nat_le 32) (json_text p.fix) (second_text files p.second) (json_one p.fix) (second_one files p.second)
+
+object_one : {source : List ℕ} → (s : Severity) (files : Files) (p : FindingParts source) → IsTrue (is_one_line (object_line s files p))
+object_one s files p =
+    let at = finding_at files p in
+    (more (codes "{\"file\":") _ refl (more (json_text at.file) _ (json_one at.file) (more (codes ",\"line\":") _ refl (more (decimal at.line) _ (digits_line at.line)
     (more (codes ",\"column\":") _ refl (more (decimal (finding_column p)) _ (digits_line (finding_column p)) (more (codes ",\"severity\":\"") _ refl (more (severity_word s) _ (word_line s)
     (more (codes "\",\"code\":") _ refl (more (json_text p.code) _ (json_one p.code) (more (codes ",\"message\":") _ refl (more (json_text p.sentence) _ (json_one p.sentence)
-    (more (codes ",\"fix\":") _ refl (more (fix_and_second p) _ (fix_json_one p) (last_line (codes "}") refl))))))))))))))).line
+    (more (codes ",\"fix\":") _ refl (more (fix_and_second files p) _ (fix_json_one files p) (last_line (codes "}") refl))))))))))))))).line
 
 in_object : (a f b l c d e w g k h s i m q r x : List ℕ)
     → a ++ f ++ b ++ l ++ c ++ d ++ e ++ w ++ g ++ (k ++ h ++ s ++ i ++ m) ++ (q ++ r) ++ x ≡ a ++ (f ++ (b ++ (l ++ (c ++ (d ++ (e ++ (w ++ (g ++ (k ++ (h ++ (s ++ (i ++ (m ++ q))))))))))))) ++ (r ++ x)
@@ -270,13 +302,14 @@ after_start : (f l c d e w g k h s i m q : List ℕ)
     → f ++ l ++ c ++ d ++ e ++ w ++ g ++ (k ++ h ++ s ++ i ++ m) ++ q ≡ f ++ (l ++ (c ++ (d ++ (e ++ (w ++ (g ++ (k ++ (h ++ (s ++ (i ++ (m ++ q)))))))))))
 after_start f l c d e w g k h s i m q = simp append_assoc refl
 
-people_is : {source : List ℕ} → (s : Severity) (file : List ℕ) (p : FindingParts source) (rest : List ℕ)
-    → finding_text form.Text s file p ++ rest ≡ file_text file ++ (sentence_line s p ++ 10 ∷ (shown_line p ++ 10 ∷ (mark_line p ++ 10 ∷ (fix_line p ++ 10 ∷ rest))))
-people_is s file p rest = simp append_assoc refl
+people_is : {source : List ℕ} → (s : Severity) (files : Files) (p : FindingParts source) (rest : List ℕ)
+    → finding_text form.Text s files p ++ rest ≡ opening_line s files p ++ 10 ∷ (shown_line p ++ 10 ∷ (mark_line p ++ 10 ∷ (fix_line p ++ 10 ∷ rest)))
+people_is s files p rest = simp append_assoc refl
 
-object_is : {source : List ℕ} → (s : Severity) (file : List ℕ) (p : FindingParts source) (rest : List ℕ) → finding_text form.Json s file p ++ rest ≡ object_line s file p ++ 10 ∷ rest
-object_is s file p rest =
-    in_object (codes "{\"file\":") (json_text file) (codes ",\"line\":") (decimal (finding_line p)) (codes ",\"column\":") (decimal (finding_column p)) (codes ",\"severity\":\"") (severity_word s) (codes "\",\"code\":") (json_text p.code) (codes ",\"message\":") (json_text p.sentence) (codes ",\"fix\":") (fix_and_second p) (codes "}") (codes "\n") rest
+object_is : {source : List ℕ} → (s : Severity) (files : Files) (p : FindingParts source) (rest : List ℕ) → finding_text form.Json s files p ++ rest ≡ object_line s files p ++ 10 ∷ rest
+object_is s files p rest =
+    let at = finding_at files p in
+    in_object (codes "{\"file\":") (json_text at.file) (codes ",\"line\":") (decimal at.line) (codes ",\"column\":") (decimal (finding_column p)) (codes ",\"severity\":\"") (severity_word s) (codes "\",\"code\":") (json_text p.code) (codes ",\"message\":") (json_text p.sentence) (codes ",\"fix\":") (fix_and_second files p) (codes "}") (codes "\n") rest
 
 tails : (xs ys : List ℕ) → 10 ∷ xs ≡ 10 ∷ ys → xs ≡ ys
 tails xs ys e = cc
@@ -286,15 +319,14 @@ following : (a b u v : List ℕ) → IsTrue (is_one_line a) → IsTrue (is_one_l
 following a b u v g h e = tails u v (same_to (nat_le 32) a b u v 10 10 g h refl refl e).1
 
 -- after a finding that both begin with, both go on alike
-pub one_of : {source : List ℕ} → (form : Form) (s : Severity) (file : List ℕ) (p q : FindingParts source) (a b : List ℕ) → finding_text form s file p ++ a ≡ finding_text form s file q ++ b → a ≡ b
-one_of form.Text s file p q a b e =
-    let here = append_cancel_left (file_text file) _ _ (sym (people_is s file p a) ∙ e ∙ people_is s file q b) in
-    let l1 = following (sentence_line s p) (sentence_line s q) _ _ (sentence_one s p) (sentence_one s q) here in
+pub one_of : {source : List ℕ} → (form : Form) (s : Severity) (files : Files) (p q : FindingParts source) (a b : List ℕ) → finding_text form s files p ++ a ≡ finding_text form s files q ++ b → a ≡ b
+one_of form.Text s files p q a b e =
+    let l1 = following (opening_line s files p) (opening_line s files q) _ _ (opening_one s files p) (opening_one s files q) (sym (people_is s files p a) ∙ e ∙ people_is s files q b) in
     let l2 = following (shown_line p) (shown_line q) _ _ (shown_one p) (shown_one q) l1 in
     let l3 = following (mark_line p) (mark_line q) _ _ (mark_one p) (mark_one q) l2 in
     following (fix_line p) (fix_line q) a b (fix_one p) (fix_one q) l3
-one_of form.Json s file p q a b e =
-    following (object_line s file p) (object_line s file q) a b (object_one s file p) (object_one s file q) (sym (object_is s file p a) ∙ e ∙ object_is s file q b)
+one_of form.Json s files p q a b e =
+    following (object_line s files p) (object_line s files q) a b (object_one s files p) (object_one s files q) (sym (object_is s files p a) ∙ e ∙ object_is s files q b)
 
 pub starts_of : (form : Form) (s : Severity) (file : List ℕ) (line column : ℕ) (rest : List ℕ) → (following : List ℕ) × (finding_head form s file line column ++ rest ≡ finding_start form file ++ following)
 starts_of form s file line column rest = (placed form s line column rest, head_placed form s file line column rest)
@@ -313,49 +345,49 @@ no_start form.Text s file line column rest e =
     no_byte (file_text file) following (is ∙ e)
 no_start form.Json s file line column rest e = no_cons _ _ e
 
--- after findings of one severity none of another begins
-pub other_severity_after : {source : List ℕ} → (form : Form) (s t : Severity) (file : List ℕ) (ps qs : List (FindingParts source)) (line column : ℕ) (rest : List ℕ) → s ≢ t
-    → flat_map (finding_text form t file) ps ++ (finding_head form s file line column ++ rest) ≡ flat_map (finding_text form t file) qs → ⊥
-other_severity_after form s t file [] [] line column rest other e = no_start form s file line column rest e
-other_severity_after form s t file [] (q ∷ qs) line column rest other e =
-    let text = text_placed form t file q in
-    let later = flat_map (finding_text form t file) qs in
-    let here : finding_head form s file line column ++ rest ≡ finding_head form t file (finding_line q) (finding_column q) ++ (text.0 ++ later) =
-    e ∙ ap (λ x. x ++ later) text.1 ∙ append_assoc (finding_head form t file (finding_line q) (finding_column q)) text.0 later in
-    other (same_severity form s t line column (finding_line q) (finding_column q) rest (text.0 ++ later)
-    (append_cancel_left (finding_start form file) _ _ (sym (head_placed form s file line column rest) ∙ here ∙ head_placed form t file (finding_line q) (finding_column q) (text.0 ++ later))))
-other_severity_after form s t file (p ∷ ps) [] line column rest other e =
-    let text = text_placed form t file p in
-    let later = flat_map (finding_text form t file) ps ++ (finding_head form s file line column ++ rest) in
-    no_start form t file (finding_line p) (finding_column p) (text.0 ++ later)
-    (sym (append_assoc (finding_text form t file p) (flat_map (finding_text form t file) ps) (finding_head form s file line column ++ rest) ∙ ap (λ x. x ++ later) text.1 ∙ append_assoc (finding_head form t file (finding_line p) (finding_column p)) text.0 later) ∙ e)
-other_severity_after form s t file (p ∷ ps) (q ∷ qs) line column rest other e =
-    let text = finding_text form t file in
-    other_severity_after form s t file ps qs line column rest other
-    (one_of form t file p q _ _ (sym (append_assoc (text p) (flat_map text ps) (finding_head form s file line column ++ rest)) ∙ e))
+-- after findings of one severity none of another begins, where all are of one file
+pub other_severity_after : {source : List ℕ} → (form : Form) (s t : Severity) (files : Files) (file : List ℕ) → ((n : ℕ) → (own_line files n).file ≡ file) → (ps qs : List (FindingParts source)) (line column : ℕ) (rest : List ℕ) → s ≢ t
+    → flat_map (finding_text form t files) ps ++ (finding_head form s file line column ++ rest) ≡ flat_map (finding_text form t files) qs → ⊥
+other_severity_after form s t files file one [] [] line column rest other e = no_start form s file line column rest e
+other_severity_after form s t files file one [] (q ∷ qs) line column rest other e =
+    let text = text_placed form t files q in
+    let at = finding_at files q in
+    let later = flat_map (finding_text form t files) qs in
+    let here : finding_head form s file line column ++ rest ≡ finding_head form t file at.line (finding_column q) ++ (text.0 ++ later) =
+    e ∙ ap (λ x. x ++ later) text.1 ∙ append_assoc (finding_head form t at.file at.line (finding_column q)) text.0 later ∙ ap (λ f. finding_head form t f at.line (finding_column q) ++ (text.0 ++ later)) (one (finding_line q)) in
+    other (same_severity form s t line column at.line (finding_column q) rest (text.0 ++ later)
+    (append_cancel_left (finding_start form file) _ _ (sym (head_placed form s file line column rest) ∙ here ∙ head_placed form t file at.line (finding_column q) (text.0 ++ later))))
+other_severity_after form s t files file one (p ∷ ps) [] line column rest other e =
+    let text = text_placed form t files p in
+    let at = finding_at files p in
+    let later = flat_map (finding_text form t files) ps ++ (finding_head form s file line column ++ rest) in
+    no_start form t at.file at.line (finding_column p) (text.0 ++ later)
+    (sym (append_assoc (finding_text form t files p) (flat_map (finding_text form t files) ps) (finding_head form s file line column ++ rest) ∙ ap (λ x. x ++ later) text.1 ∙ append_assoc (finding_head form t at.file at.line (finding_column p)) text.0 later) ∙ e)
+other_severity_after form s t files file one (p ∷ ps) (q ∷ qs) line column rest other e =
+    let text = finding_text form t files in
+    other_severity_after form s t files file one ps qs line column rest other
+    (one_of form t files p q _ _ (sym (append_assoc (text p) (flat_map text ps) (finding_head form s file line column ++ rest)) ∙ e))
 
 -- the lines of findings
-pub lines_of : {source : List ℕ} → (form : Form) (s : Severity) (file : List ℕ) (p : FindingParts source) → newlines (finding_text form s file p) ≡ finding_lines form
-lines_of form.Text s file p =
-    let is : newlines (finding_text form.Text s file p) ≡ newlines (file_text file ++ (sentence_line s p ++ 10 ∷ (shown_line p ++ 10 ∷ (mark_line p ++ 10 ∷ (fix_line p ++ 10 ∷ []))))) =
-    ap newlines (sym (append-nil (finding_text form.Text s file p)) ∙ people_is s file p []) in
-    let l0 = newlines_in (file_text file) (sentence_line s p ++ 10 ∷ (shown_line p ++ 10 ∷ (mark_line p ++ 10 ∷ (fix_line p ++ 10 ∷ [])))) in
-    let l1 = line_more (sentence_line s p) (shown_line p ++ 10 ∷ (mark_line p ++ 10 ∷ (fix_line p ++ 10 ∷ []))) (sentence_one s p) in
+pub lines_of : {source : List ℕ} → (form : Form) (s : Severity) (files : Files) (p : FindingParts source) → newlines (finding_text form s files p) ≡ finding_lines form
+lines_of form.Text s files p =
+    let is : newlines (finding_text form.Text s files p) ≡ newlines (opening_line s files p ++ 10 ∷ (shown_line p ++ 10 ∷ (mark_line p ++ 10 ∷ (fix_line p ++ 10 ∷ [])))) =
+    ap newlines (sym (append-nil (finding_text form.Text s files p)) ∙ people_is s files p []) in
+    let l1 = line_more (opening_line s files p) (shown_line p ++ 10 ∷ (mark_line p ++ 10 ∷ (fix_line p ++ 10 ∷ []))) (opening_one s files p) in
     let l2 = line_more (shown_line p) (mark_line p ++ 10 ∷ (fix_line p ++ 10 ∷ [])) (shown_one p) in
     let l3 = line_more (mark_line p) (fix_line p ++ 10 ∷ []) (mark_one p) in
     let l4 : newlines (fix_line p ++ 10 ∷ []) ≡ 1 = line_more (fix_line p) [] (fix_one p) in
-    let none = no_newlines (file_text file) (file_one file) in
-    omega (arith, is, l0, l1, l2, l3, l4, none)
-lines_of form.Json s file p =
-    let is : newlines (finding_text form.Json s file p) ≡ newlines (object_line s file p ++ 10 ∷ []) = ap newlines (sym (append-nil (finding_text form.Json s file p)) ∙ object_is s file p []) in
-    is ∙ line_more (object_line s file p) [] (object_one s file p)
+    omega (arith, is, l1, l2, l3, l4)
+lines_of form.Json s files p =
+    let is : newlines (finding_text form.Json s files p) ≡ newlines (object_line s files p ++ 10 ∷ []) = ap newlines (sym (append-nil (finding_text form.Json s files p)) ∙ object_is s files p []) in
+    is ∙ line_more (object_line s files p) [] (object_one s files p)
 
-pub lines_of_all : {source : List ℕ} → (form : Form) (s : Severity) (file : List ℕ) (ps : List (FindingParts source)) → newlines (flat_map (finding_text form s file) ps) ≡ length ps * finding_lines form
-lines_of_all form s file [] = sym (zero-mul (finding_lines form))
-lines_of_all form s file (p ∷ ps) =
-    newlines_in (finding_text form s file p) (flat_map (finding_text form s file) ps)
-    ∙ ap (λ n. n + newlines (flat_map (finding_text form s file) ps)) (lines_of form s file p)
-    ∙ ap (λ n. finding_lines form + n) (lines_of_all form s file ps)
+pub lines_of_all : {source : List ℕ} → (form : Form) (s : Severity) (files : Files) (ps : List (FindingParts source)) → newlines (flat_map (finding_text form s files) ps) ≡ length ps * finding_lines form
+lines_of_all form s files [] = sym (zero-mul (finding_lines form))
+lines_of_all form s files (p ∷ ps) =
+    newlines_in (finding_text form s files p) (flat_map (finding_text form s files) ps)
+    ∙ ap (λ n. n + newlines (flat_map (finding_text form s files) ps)) (lines_of form s files p)
+    ∙ ap (λ n. finding_lines form + n) (lines_of_all form s files ps)
     ∙ sym (suc-mul (length ps) (finding_lines form) ∙ add_comm (length ps * finding_lines form) (finding_lines form))
 
 -- bytes that can be printed, and newlines
@@ -389,31 +421,52 @@ add a b g h = record { printed = both_printed a b g h.printed }
 last_words : (a : List ℕ) → IsTrue (is_printed a) → Printed a
 last_words a h = record { printed = h }
 
-second_printed : {source : List ℕ} → (s : Option (Second source)) → IsTrue (is_printed (second_text s))
-second_printed None = refl
-second_printed (Some s) =
-    (add (codes ",\"related\":{\"line\":") _ refl (add (decimal (line_number_after 1 s.before)) _ (digits_printed (line_number_after 1 s.before))
-    (add (codes ",\"column\":") _ refl (add (decimal (column_after 1 s.before)) _ (digits_printed (column_after 1 s.before)) (last_words (codes "}") refl))))).printed
+-- what is printed in the middle of what is printed
+middle : (a b c : List ℕ) → IsTrue (is_printed (a ++ b ++ c)) → IsTrue (is_printed b)
+middle a b c h =
+    let two : IsTrue (is_printed (a ++ b)) = first (is_printed (a ++ b)) (is_printed c) (subst IsTrue (list_all-append (λ b. (b == 10) || is_in_range 32 126 b) (a ++ b) c) h) in
+    second (is_printed a) (is_printed b) (subst IsTrue (list_all-append (λ b. (b == 10) || is_in_range 32 126 b) a b) two)
 
-fix_json_printed : {source : List ℕ} → (p : FindingParts source) → IsTrue (is_on_line p.fix) → IsTrue (is_printed (fix_and_second p))
-fix_json_printed p h = both_printed (json_text p.fix) (second_text p.second) (json_printed p.fix h) (second_printed p.second)
+member_printed : (is_told : Bool) (file : List ℕ) → IsTrue (is_printed (json_text file)) → IsTrue (is_printed (file_member is_told file))
+member_printed false file h = refl
+member_printed true file h = (add (codes "\"file\":") _ refl (add (json_text file) _ h (last_words (codes ",") refl))).printed
 
-text_printed : {source : List ℕ} → (form : Form) (s : Severity) (file : List ℕ) (p : FindingParts source) → IsTrue (is_printed (finding_start form file)) → IsTrue (is_printed (finding_text form s file p))
-text_printed form.Text s file p h =
-    let parts = parts_of p in
-    let text : finding_text form.Text s file p ≡ finding_start form.Text file ++ (decimal (finding_line p) ++ (codes ":" ++ (decimal (finding_column p) ++ (codes ": " ++ (severity_word s ++ (codes ": " ++ (p.sentence ++ (codes "\n    " ++ (finding_shown p ++ (codes "\n    " ++ (finding_mark p ++ (codes "\n  fix: " ++ (p.fix ++ codes "\n"))))))))))))) = simp append_assoc refl in
-    subst (λ t. IsTrue (is_printed t)) (sym text)
-    (add (finding_start form.Text file) _ h (add (decimal (finding_line p)) _ (digits_printed (finding_line p)) (add (codes ":") _ refl (add (decimal (finding_column p)) _ (digits_printed (finding_column p)) (add (codes ": ") _ refl
-    (add (severity_word s) _ (word_printed s) (add (codes ": ") _ refl (add p.sentence _ (words_printed p.sentence parts.1) (add (codes "\n    ") _ refl (add (finding_shown p) _ (words_printed (finding_shown p) parts.2) (add (codes "\n    ") _ refl
-    (add (finding_mark p) _ (words_printed (finding_mark p) parts.3) (add (codes "\n  fix: ") _ refl (add p.fix _ (words_printed p.fix parts.4) (last_words (codes "\n") refl))))))))))))))).printed
-text_printed form.Json s file p h =
-    let parts = parts_of p in
-    let text = after_start (finding_start form.Json file) (decimal (finding_line p)) (codes ",\"column\":") (decimal (finding_column p)) (codes ",\"severity\":\"") (severity_word s) (codes "\",\"code\":") (json_text p.code) (codes ",\"message\":") (json_text p.sentence) (codes ",\"fix\":") (fix_and_second p) (codes "}\n") in
-    subst (λ t. IsTrue (is_printed t)) (sym text)
-    (add (finding_start form.Json file) _ h (add (decimal (finding_line p)) _ (digits_printed (finding_line p)) (add (codes ",\"column\":") _ refl (add (decimal (finding_column p)) _ (digits_printed (finding_column p)) (add (codes ",\"severity\":\"") _ refl
-    (add (severity_word s) _ (word_printed s) (add (codes "\",\"code\":") _ refl (add (json_text p.code) _ (json_printed p.code parts.0) (add (codes ",\"message\":") _ refl
-    (add (json_text p.sentence) _ (json_printed p.sentence parts.1) (add (codes ",\"fix\":") _ refl (add (fix_and_second p) _ (fix_json_printed p parts.4) (last_words (codes "}\n") refl))))))))))))).printed
+spot_printed : (is_told : Bool) (at : Line) (column : ℕ) → IsTrue (is_printed (json_text at.file)) → IsTrue (is_printed (spot_words is_told at column))
+spot_printed is_told at column h =
+    (add (codes ",\"related\":{") _ refl (add (file_member is_told at.file) _ (member_printed is_told at.file h) (add (codes "\"line\":") _ refl (add (decimal at.line) _ (digits_printed at.line)
+    (add (codes ",\"column\":") _ refl (add (decimal column) _ (digits_printed column) (last_words (codes "}") refl))))))).printed
 
-pub findings_printed : {source : List ℕ} → (form : Form) (s : Severity) (file : List ℕ) → IsTrue (is_printed (finding_start form file)) → (ps : List (FindingParts source)) → IsTrue (is_printed (flat_map (finding_text form s file) ps))
-findings_printed form s file h [] = refl
-findings_printed form s file h (p ∷ ps) = both_printed (finding_text form s file p) (flat_map (finding_text form s file) ps) (text_printed form s file p h) (findings_printed form s file h ps)
+module _ (files : Files) where
+  -- the name of each file, in JSON and as a finding begins
+  abbrev InJson : Type 0
+  InJson = (n : ℕ) → IsTrue (is_printed (json_text (own_line files n).file))
+
+  second_printed : {source : List ℕ} → (s : Option (Second source)) → InJson → IsTrue (is_printed (second_text files s))
+  second_printed None h = refl
+  second_printed (Some s) h = spot_printed (is_of_several files) (own_line files (line_number_after 1 s.before)) (column_after 1 s.before) (h (line_number_after 1 s.before))
+
+  fix_json_printed : {source : List ℕ} → (p : FindingParts source) → IsTrue (is_on_line p.fix) → InJson → IsTrue (is_printed (fix_and_second files p))
+  fix_json_printed p h named = both_printed (json_text p.fix) (second_text files p.second) (json_printed p.fix h) (second_printed p.second named)
+
+  text_printed : {source : List ℕ} → (form : Form) (s : Severity) (p : FindingParts source) → ((n : ℕ) → IsTrue (is_printed (finding_start form (own_line files n).file))) → IsTrue (is_printed (finding_text form s files p))
+  text_printed form.Text s p h =
+      let parts = parts_of p in
+      let at = finding_at files p in
+      let text : finding_text form.Text s files p ≡ finding_start form.Text at.file ++ (decimal at.line ++ (codes ":" ++ (decimal (finding_column p) ++ (codes ": " ++ (severity_word s ++ (codes ": " ++ (p.sentence ++ (codes "\n    " ++ (finding_shown p ++ (codes "\n    " ++ (finding_mark p ++ (codes "\n  fix: " ++ (p.fix ++ codes "\n"))))))))))))) = simp append_assoc refl in
+      subst (λ t. IsTrue (is_printed t)) (sym text)
+      (add (finding_start form.Text at.file) _ (h (finding_line p)) (add (decimal at.line) _ (digits_printed at.line) (add (codes ":") _ refl (add (decimal (finding_column p)) _ (digits_printed (finding_column p)) (add (codes ": ") _ refl
+      (add (severity_word s) _ (word_printed s) (add (codes ": ") _ refl (add p.sentence _ (words_printed p.sentence parts.1) (add (codes "\n    ") _ refl (add (finding_shown p) _ (words_printed (finding_shown p) parts.2) (add (codes "\n    ") _ refl
+      (add (finding_mark p) _ (words_printed (finding_mark p) parts.3) (add (codes "\n  fix: ") _ refl (add p.fix _ (words_printed p.fix parts.4) (last_words (codes "\n") refl))))))))))))))).printed
+  text_printed form.Json s p h =
+      let parts = parts_of p in
+      let at = finding_at files p in
+      let named : InJson = λ n. middle (codes "{\"file\":") (json_text (own_line files n).file) (codes ",\"line\":") (h n) in
+      let text = after_start (finding_start form.Json at.file) (decimal at.line) (codes ",\"column\":") (decimal (finding_column p)) (codes ",\"severity\":\"") (severity_word s) (codes "\",\"code\":") (json_text p.code) (codes ",\"message\":") (json_text p.sentence) (codes ",\"fix\":") (fix_and_second files p) (codes "}\n") in
+      subst (λ t. IsTrue (is_printed t)) (sym text)
+      (add (finding_start form.Json at.file) _ (h (finding_line p)) (add (decimal at.line) _ (digits_printed at.line) (add (codes ",\"column\":") _ refl (add (decimal (finding_column p)) _ (digits_printed (finding_column p)) (add (codes ",\"severity\":\"") _ refl
+      (add (severity_word s) _ (word_printed s) (add (codes "\",\"code\":") _ refl (add (json_text p.code) _ (json_printed p.code parts.0) (add (codes ",\"message\":") _ refl
+      (add (json_text p.sentence) _ (json_printed p.sentence parts.1) (add (codes ",\"fix\":") _ refl (add (fix_and_second files p) _ (fix_json_printed p parts.4 named) (last_words (codes "}\n") refl))))))))))))).printed
+
+  pub findings_printed : {source : List ℕ} → (form : Form) (s : Severity) → ((n : ℕ) → IsTrue (is_printed (finding_start form (own_line files n).file))) → (ps : List (FindingParts source)) → IsTrue (is_printed (flat_map (finding_text form s files) ps))
+  findings_printed form s h [] = refl
+  findings_printed form s h (p ∷ ps) = both_printed (finding_text form s files p) (flat_map (finding_text form s files) ps) (text_printed form s p h) (findings_printed form s h ps)

@@ -1,8 +1,12 @@
 -- Lines and columns along a text, and what stands where a source comes to a fault.
 use Rattle.std.proofs.Common.{◌≡◌, ◌∙◌, ◌+◌, ◌<◌, ℕ, zero, suc, List, [], ◌∷◌, ◌++◌, Bool, true, false, Some, Ok, ap, arith, get_or, length, refl, subst, sym, take}
+use Rattle.std.proofs.Math.Nat.{min-le_right}
+use Rattle.std.specs.Prelude.{nat_lt, not, ◌==◌, ◌≤◌, map, min}
+use Rattle.bsources.specs.Files.{file_shown}
+use Rattle.bsources.specs.declared.files.SourceFile.{SourceFile}
 use Rattle.std.proofs.lemmas.Bool.Decides.{nat_tests}
 use Rattle.bword.specs.declared.edition.Edition.{Edition}
-use Rattle.bword.specs.ByteEnds.{Incoming}
+use Rattle.bword.specs.ByteEnds.{Incoming, Outgoing, incoming_of}
 use Rattle.bword.proofs.Remaining.{rest_after}
 use Rattle.bword.proofs.Taking.{Took-append}
 use Rattle.blang.specs.Compiles.{Compilation, CompilesTo}
@@ -16,11 +20,12 @@ use Rattle.blex.specs.Lexers as lexers
 use Rattle.blex.specs.declared.lexeme.Lexeme.TheVariants as lexeme
 use Rattle.blex.specs.declared.lexeme.Seen.{Seen}
 use Rattle.blex.proofs.CallLaws.{calls_give_first}
-use Rattle.bparse.specs.Compilers.{Compiler, CompilerGives, SameCompiler}
+use Rattle.bparse.specs.Compiles.{CodeGives}
+use Rattle.bparse.specs.Compilers.{Compiler, CompilerGives}
 use Rattle.bparse.specs.declared.step.Step.TheVariants as step
 use Rattle.bcheck.specs.Checks.{IsOver, column_after, next_column}
-use Rattle.bcheck.specs.Findings.{Reads, TellsEach, TellsFault}
-use Rattle.bcheck.specs.declared.finding.Finding.{Finding}
+use Rattle.bcheck.specs.Findings.{IsMilestone}
+use Rattle.bcheck.specs.declared.places.Milestone.{Milestone}
 
 line_next : (line : ℕ) (bs : List ℕ) (i : ℕ) → i < length bs → line_number_after line (take (suc i) bs) ≡ next_line (line_number_after line (take i bs)) (get_or bs i 0)
 line_next line [] i h = absurd (omega (arith, h))
@@ -61,8 +66,13 @@ over_here edition end lender old new seen characters rest e left live gives is =
     let one = first_of p (tokens_from edition 1 rest) (all.told rest left live) in
     (seen.line, one.0, one.1 ∙ ap (λ l. placed (token_of_lexeme l characters) seen.line ∷ one.0) is)
 
+-- a compiler of this source that has read it from its beginning
+abbrev Reads : Edition → List ℕ → Compiler → Type 0
+Reads edition source c =
+    (c.first.edition ≡ edition) × (c.first.source ≡ incoming_of (record { left = source; is_over = false }))
+
 -- the diagnostic with which a compiler of a source stops is the one that the source comes to
-pub stopped : (edition : Edition) (source : List ℕ) (old new : Compiler) (fault : Diagnostic) → Reads edition source old → CompilerGives old (step.Fault fault) new
+stopped : (edition : Edition) (source : List ℕ) (old new : Compiler) (fault : Diagnostic) → Reads edition source old → CompilerGives old (step.Fault fault) new
     → (r : Compilation) → CompilesTo [] (tokens_from edition 1 source) r → r.stop ≡ Some fault
 stopped edition source old new fault reads gives r g =
     let since = gives.0.since in
@@ -76,14 +86,29 @@ stopped edition source old new fault reads gives r g =
     never : (b : Bool) → b ≡ true → b ≡ false → ⊥
     never b p q = cc
 
-same_fault : (o : Compilation) (d e : Diagnostic) → o.stop ≡ Some d → o.stop ≡ Some e → d ≡ e
-same_fault o d e p q = cc
+-- the same of all calls of a compiler
+pub stop_is : (edition : Edition) (source : List ℕ) (o p : Outgoing) (j : Incoming) (fault : Diagnostic) → CodeGives edition (incoming_of (record { left = source; is_over = false })) o (step.Fault fault) j p
+    → (r : Compilation) → CompilesTo [] (tokens_from edition 1 source) r → r.stop ≡ Some fault
+stop_is edition source o p j fault h =
+    let l = h.gives in
+    stopped edition source l.old h.last fault (ap (λ x. x.edition) l.keeps_old.first ∙ h.edition_is, ap (λ x. x.source) l.keeps_old.first ∙ h.source) l.gives
 
-pub keeps_reading : (edition : Edition) (source : List ℕ) (old new : Compiler) → SameCompiler old new → Reads edition source old → Reads edition source new
-keeps_reading edition source old new k h = (ap (λ x. x.edition) k.first ∙ h.0, ap (λ x. x.source) k.first ∙ h.1)
+-- the source begins with a milestone
+pub at_first : (source : List ℕ) (m : Milestone) → m.start ≡ 0 → m.line ≡ 1 → m.column ≡ 1 → IsMilestone source m
+at_first source m start line column = record {
+  within = omega (arith, start);
+  line = line ∙ ap (λ n. line_number_after 1 (take n source)) (sym start);
+  column = column ∙ ap (λ n. column_after 1 (take n source)) (sym start);
+  some = omega (arith, column);
+}
 
--- what is told of the diagnostic with which a compiler stops is told of each that the source comes to
-pub tells_each : (edition : Edition) (source : List ℕ) (old new : Compiler) (fault also : Diagnostic) (f : Finding) → Reads edition source old → CompilerGives old (step.Fault fault) new
-    → also ≡ fault → TellsFault edition source also f → TellsEach edition source f
-tells_each edition source old new fault also f reads gives e tells =
-    λ r g d stop. subst (λ x. TellsFault edition source x f) (e ∙ same_fault r fault d (stopped edition source old new fault reads gives r g) stop) tells
+positive : (m n : ℕ) → not (suc m == 0) ≡ nat_lt 0 (suc n)
+positive m n = grind (arith, nat_tests)
+
+-- whether there are several files, by their list
+pub several_is : (rest : List SourceFile) (empty : Bool) → empty ≡ (length rest == 0) → not empty ≡ nat_lt 0 (length (map file_shown rest))
+several_is [] empty e = ap not e
+several_is (x ∷ xs) empty e = ap not e ∙ positive (length xs) (length (map file_shown xs))
+
+pub below_min : (i n a b : ℕ) → i < n → n ≡ min a b → i < b
+below_min i n a b h e = let less : n ≤ b = subst (λ m. m ≤ b) (sym e) (min-le_right a b) in omega (arith, h, less)

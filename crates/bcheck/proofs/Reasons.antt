@@ -1,5 +1,5 @@
 -- Why an error is told: it is one of what the source comes to.
-use Rattle.std.proofs.Common.{◌≡◌, ◌∙◌, ◌<◌, ◌++◌, ℕ, List, [], ◌∷◌, Option, Some, None, Result, Ok, Err, IfOk, ap, arith, codes, drop, get_or, length, map, refl, subst, sym, take}
+use Rattle.std.proofs.Common.{◌≡◌, ◌<◌, ℕ, List, [], ◌∷◌, Option, Some, None, Result, Ok, Err, IfOk, ap, arith, codes, drop, get_or, length, map, refl, subst, sym, take}
 use Rattle.std.specs.List.{All}
 use Rattle.std.specs.Prelude.{unwrap_or}
 use Rattle.std.proofs.lemmas.List.Elements.{All-cons, All-get_or, All-nil}
@@ -7,13 +7,14 @@ use Rattle.blang.specs.Code.{code_of}
 use Rattle.blang.specs.Compiles.{Compilation, CompilesTo}
 use Rattle.blang.specs.Cut.{tokens_from}
 use Rattle.blang.specs.Layout.{load_fault}
+use Rattle.bword.specs.ByteEnds.{Kept}
 use Rattle.bword.specs.declared.edition.Edition.{Edition}
 use Rattle.blang.specs.declared.run.LoadFault.{LoadFault}
 use Rattle.blang.specs.declared.run.LoadFault.TheVariants as fault
 use Rattle.blang.specs.declared.token.Diagnostic.{Diagnostic}
 use Rattle.btools.specs.Programs.{load_line}
 use Rattle.bcheck.specs.Checks.{EachOutcome, Judged, Reason, told_first, told_of, verdict_line, status_told}
-use Rattle.bcheck.specs.Findings.{IsReasoned, ReasonAt, TellsEach, matter_code}
+use Rattle.bcheck.specs.Findings.{IsReasoned, IsStopOf, ReasonAt, TellsFault, matter_code}
 use Rattle.bcheck.specs.declared.finding.Finding.{Finding}
 use Rattle.bcheck.specs.declared.verdict.Verdict.{Verdict}
 use Rattle.bcheck.specs.declared.verdict.Verdict.TheVariants as verdict
@@ -85,10 +86,14 @@ module _ (edition : Edition) (source : List ℕ) where
   abbrev found : (r : Compilation) (g : CompilesTo [] (tokens_from edition 1 source) r) → Option LoadFault
   found r g = load_fault (map code_of g.definitions)
 
-  pub faulty_reason : (v : Verdict) (f : Finding) → status_told v ≡ 1 → Judged edition source v → TellsEach edition source f → IsReasoned edition source f
-  faulty_reason v f one j tells =
-      λ r g. of_fault edition (take f.place.start source) (drop f.place.start source) (matter_code f.matter) (verdict_line v) r.stop (found r g) (λ d stop. tells r g d stop)
-      (subst (λ n. ◌≡◌ {A = List ℕ × ℕ} (verdict_line v, n) (told_first r.stop (found r g))) one (j r g))
+  same_fault : (o : Compilation) (d e : Diagnostic) → o.stop ≡ Some d → o.stop ≡ Some e → d ≡ e
+  same_fault o d e p q = cc
+
+  pub faulty_reason : (v : Verdict) (line : Kept) (d : Diagnostic) (f : Finding) → v ≡ verdict.Faulty line d → Judged edition source v → IsStopOf edition source v → TellsFault edition source d f → IsReasoned edition source f
+  faulty_reason v line d f is j stop tells =
+      λ r g. of_fault edition (take f.place.start source) (drop f.place.start source) (matter_code f.matter) (verdict_line v) r.stop (found r g)
+      (λ e stopped. subst (λ x. TellsFault edition source x f) (same_fault r d e ((subst (λ x. IsStopOf edition source x) is stop) r g) stopped) tells)
+      (subst (λ n. ◌≡◌ {A = List ℕ × ℕ} (verdict_line v, n) (told_first r.stop (found r g))) (ap status_told is) (j r g))
 
   pub clean_reasons : Judged edition source verdict.Clean → (fs : List Finding) → All (IsReasoned edition source) fs
   clean_reasons j fs = λ k d lt r g.
@@ -104,9 +109,8 @@ module _ (edition : Edition) (source : List ℕ) where
   other_reason v start other j = λ r g. of_other edition (take start source) (drop start source) v other r.stop (found r g) (j r g)
 
   -- one finding, and one among several
-  pub alone : (fs old : List Finding) (f : Finding) → fs ≡ old ++ f ∷ [] → old ≡ [] → IsReasoned edition source f → All (IsReasoned edition source) fs
-  alone fs old f e none is =
-      subst (λ x. All (IsReasoned edition source) x) (sym (e ∙ ap (λ x. x ++ f ∷ []) none)) (All-cons (IsReasoned edition source) f [] is (All-nil (IsReasoned edition source)))
+  pub one_reasoned : (fs : List Finding) (f : Finding) → fs ≡ f ∷ [] → IsReasoned edition source f → All (IsReasoned edition source) fs
+  one_reasoned fs f e is = subst (λ x. All (IsReasoned edition source) x) (sym e) (All-cons (IsReasoned edition source) f [] is (All-nil (IsReasoned edition source)))
 
   pub item_reason : (fs xs : List Finding) (i : ℕ) (f : Finding) (code : List ℕ) → xs ≡ fs → i < length xs → f ≡ get_or xs i f → All (IsReasoned edition source) fs → code ≡ matter_code f.matter
       → EachOutcome edition source (ReasonAt code f.place.start)

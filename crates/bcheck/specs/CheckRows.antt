@@ -1,5 +1,5 @@
 -- Closed facts: what is told of a source, each at its limits and one past them.
-use Rattle.std.specs.Prelude.{◌≡◌, [], ◌∷◌, ◌++◌, codes, map, None, Some, refl, true, false}
+use Rattle.std.specs.Prelude.{◌≡◌, ℕ, List, [], ◌∷◌, ◌++◌, codes, map, None, Some, refl, true, false}
 use Rattle.std.specs.Fmt.{digits}
 use Rattle.blang.specs.declared.token.About.TheVariants as about
 use Rattle.blang.specs.declared.token.Letters.TheVariants as letters
@@ -8,6 +8,7 @@ use Rattle.bcheck.specs.Checks.{FindingParts, finding_text, findings_text, is_on
 use Rattle.bcheck.specs.Checks.{second_text}
 use Rattle.bcheck.specs.Checks.{column_after, diagnostic_code, severity_of, severity_word, shown_in_form, told_first}
 use Rattle.blang.specs.Cut.{line_number_after}
+use Rattle.bsources.specs.Files.{Files}
 use Rattle.bcheck.specs.declared.finding.Severity.TheVariants as severity
 use Rattle.bcheck.specs.declared.form.Form.TheVariants as form
 
@@ -88,29 +89,56 @@ undefined = record {
   second = None;
 }
 
-error_for_people : finding_text form.Text severity.Error (codes "x.b") undefined
+-- one file of this name; and one that has fewer lines, with another one after it
+abbrev alone : List ℕ → Files
+alone name = record { first = record { name = name; lines = 5 }; rest = [] }
+
+abbrev followed : (lines : ℕ) → Files
+followed lines =
+    record { first = record { name = codes "x.b"; lines = lines }; rest = record { name = codes "l\n.b"; lines = 2 } ∷ [] }
+
+error_for_people : finding_text form.Text severity.Error (alone (codes "x.b")) undefined
     ≡ codes "x.b:3:6: error: no n\n     i = n; } g;\n         ^\n  fix: auto n;\n"
 unfolding digits
 error_for_people = refl
 
-file_on_one_line : finding_text form.Text severity.Error (codes "x\n1:1: error: y") undefined
+file_on_one_line : finding_text form.Text severity.Error (alone (codes "x\n1:1: error: y")) undefined
     ≡ codes "x\\u000a1:1: error: y:3:6: error: no n\n     i = n; } g;\n         ^\n  fix: auto n;\n"
 unfolding digits
 file_on_one_line = refl
 
-warning_for_editors : finding_text form.Json severity.Warning (codes "a\"b") undefined
+-- the last line of the first file, and the first one of the next
+on_last_line : finding_text form.Text severity.Error (followed 3) undefined
+    ≡ codes "x.b:3:6: error: no n\n     i = n; } g;\n         ^\n  fix: auto n;\n"
+unfolding digits
+on_last_line = refl
+
+in_next_file : finding_text form.Text severity.Error (followed 2) undefined
+    ≡ codes "l\\u000a.b:1:6: error: no n\n     i = n; } g;\n         ^\n  fix: auto n;\n"
+unfolding digits
+in_next_file = refl
+
+warning_for_editors : finding_text form.Json severity.Warning (alone (codes "a\"b")) undefined
     ≡ codes "{\"file\":\"a\\\"b\",\"line\":3,\"column\":6,\"severity\":\"warning\","
     ++ codes "\"code\":\"un\",\"message\":\"no n\",\"fix\":\"auto n;\"}\n"
 unfolding digits
 warning_for_editors = refl
 
 -- the second place is where n is defined, and where `g` begins
-second_texts : map (second_text {source = codes "n 5;\nf() ;"})
+second_texts : map (second_text {source = codes "n 5;\nf() ;"} (alone (codes "x.b")))
     (None ∷ Some (record { before = []; after = codes "n 5;\nf() ;"; split = refl })
     ∷ Some (record { before = codes "n 5;\nf"; after = codes "() ;"; split = refl }) ∷ [])
     ≡ ([] ∷ codes ",\"related\":{\"line\":1,\"column\":1}" ∷ codes ",\"related\":{\"line\":2,\"column\":2}" ∷ [])
 unfolding digits
 second_texts = refl
 
-no_findings : findings_text {source = []} form.Text 0 (codes "x.b") [] ≡ []
+second_texts_of_several : map (second_text {source = codes "n 5;\nf() ;"} (followed 1))
+    (None ∷ Some (record { before = []; after = codes "n 5;\nf() ;"; split = refl })
+    ∷ Some (record { before = codes "n 5;\nf"; after = codes "() ;"; split = refl }) ∷ [])
+    ≡ ([] ∷ codes ",\"related\":{\"file\":\"x.b\",\"line\":1,\"column\":1}"
+    ∷ codes ",\"related\":{\"file\":\"l\\u000a.b\",\"line\":1,\"column\":2}" ∷ [])
+unfolding digits
+second_texts_of_several = refl
+
+no_findings : findings_text {source = []} form.Text 0 (alone (codes "x.b")) [] ≡ []
 no_findings = refl

@@ -23,6 +23,7 @@ use Rattle.blang.specs.declared.run.LoadFault.TheVariants as fault
 use Rattle.blang.specs.declared.status.TheConstants.{DONE, FAULT, REFUSED, MEMORY}
 use Rattle.btools.specs.Programs.{load_line}
 use Rattle.blang.specs.Reports.{Reported}
+use Rattle.bsources.specs.Files.{Files, Line, own_line}
 use Rattle.bcheck.specs.declared.finding.Severity.{Severity}
 use Rattle.bcheck.specs.declared.finding.Severity.TheVariants as severity
 use Rattle.bcheck.specs.declared.form.Form.{Form}
@@ -43,12 +44,12 @@ told_first None None = ([], DONE)
 
 abbrev pub verdict_line : Verdict → List ℕ
 verdict_line verdict.Clean = []
-verdict_line (verdict.Faulty line) = line.bytes
+verdict_line (verdict.Faulty line d) = line.bytes
 verdict_line (verdict.Unloaded f) = unwrap_or (load_line f) []
 
 abbrev pub status_told : Verdict → ℕ
 status_told verdict.Clean = DONE
-status_told (verdict.Faulty line) = FAULT
+status_told (verdict.Faulty line d) = FAULT
 status_told (verdict.Unloaded f) = REFUSED
 
 -- a source in an edition, and its outcome: a diagnostic, and the first fault of loading its code
@@ -147,12 +148,16 @@ pub record FindingParts (source : List ℕ) : Type 0 where
   pub on_lines : IsTrue (list_all is_on_line (code ∷ sentence ∷ fix ∷ []))
   pub second : Option (Second source)
 
--- the line and the column of its place, from 1
+-- the line in the source and the column of its place, from 1
 abbrev pub finding_line : {source : List ℕ} → FindingParts source → ℕ
 finding_line p = line_number_after 1 (p.before ++ p.left)
 
 abbrev pub finding_column : {source : List ℕ} → FindingParts source → ℕ
 finding_column p = column_after 1 (p.before ++ p.left)
+
+-- the file in which it stands, and the line there
+abbrev pub finding_at : {source : List ℕ} → Files → FindingParts source → Line
+finding_at files p = own_line files (finding_line p)
 
 -- the piece of its line, and the marks below its place
 abbrev pub finding_shown : {source : List ℕ} → FindingParts source → List ℕ
@@ -161,32 +166,40 @@ finding_shown p = flat_map shown_text p.left ++ flat_map shown_text p.right
 abbrev pub finding_mark : {source : List ℕ} → FindingParts source → List ℕ
 finding_mark p = replicate (length p.left) 32 ++ replicate p.marks 94
 
--- the line and the column of a second place, for editors
-abbrev pub spot_words : (line column : ℕ) → List ℕ
-spot_words line column =
-    codes ",\"related\":{\"line\":" ++ (decimal line ++ (codes ",\"column\":" ++ (decimal column ++ codes "}")))
+-- the file of a second place, which editors are told where the source has several files
+abbrev pub is_of_several : Files → Bool
+is_of_several files = nat_lt 0 (length files.rest)
 
-abbrev pub second_text : {source : List ℕ} → Option (Second source) → List ℕ
-second_text None = []
-second_text (Some s) =
-    spot_words (line_number_after 1 s.before) (column_after 1 s.before)
+abbrev pub file_member : (is_told : Bool) → (file : List ℕ) → List ℕ
+file_member is_told file = if is_told then codes "\"file\":" ++ (json_text file ++ codes ",") else []
+
+-- then its line in that file, and its column
+abbrev pub spot_words : (is_told : Bool) → Line → (column : ℕ) → List ℕ
+spot_words is_told at column =
+    codes ",\"related\":{" ++ (file_member is_told at.file ++ (codes "\"line\":" ++ (decimal at.line
+    ++ (codes ",\"column\":" ++ (decimal column ++ codes "}")))))
+
+abbrev pub second_text : {source : List ℕ} → Files → Option (Second source) → List ℕ
+second_text files None = []
+second_text files (Some s) =
+    spot_words (is_of_several files) (own_line files (line_number_after 1 s.before)) (column_after 1 s.before)
 
 -- the fix, and the second place, if there is one
-abbrev pub fix_and_second : {source : List ℕ} → FindingParts source → List ℕ
-fix_and_second p = json_text p.fix ++ second_text p.second
+abbrev pub fix_and_second : {source : List ℕ} → Files → FindingParts source → List ℕ
+fix_and_second files p = json_text p.fix ++ second_text files p.second
 
-abbrev pub finding_words : {source : List ℕ} → Form → FindingParts source → List ℕ
-finding_words form.Text p =
+abbrev pub finding_words : {source : List ℕ} → Form → Files → FindingParts source → List ℕ
+finding_words form.Text files p =
     p.sentence ++ codes "\n    " ++ finding_shown p ++ codes "\n    " ++ finding_mark p ++ codes "\n  fix: " ++ p.fix
-finding_words form.Json p =
-    json_text p.code ++ codes ",\"message\":" ++ json_text p.sentence ++ codes ",\"fix\":" ++ fix_and_second p
+finding_words form.Json files p =
+    json_text p.code ++ codes ",\"message\":" ++ json_text p.sentence ++ codes ",\"fix\":" ++ fix_and_second files p
 
--- A finding begins with the name of the file: for people on one line, for editors as the first member of an object.
+-- A finding begins with the name of its file: for people on one line, for editors as the first member of an object.
 abbrev pub finding_start : Form → (file : List ℕ) → List ℕ
 finding_start form.Text file = file_text file ++ codes ":"
 finding_start form.Json file = codes "{\"file\":" ++ json_text file ++ codes ",\"line\":"
 
--- Then come a line, a column and the severity.
+-- Then come a line of that file, a column and the severity.
 abbrev pub finding_head : Form → Severity → (file : List ℕ) → (line column : ℕ) → List ℕ
 finding_head form.Text s file line column =
     finding_start form.Text file ++ decimal line ++ codes ":" ++ decimal column ++ codes ": " ++ severity_word s
@@ -196,16 +209,17 @@ finding_head form.Json s file line column =
     ++ codes ",\"severity\":\"" ++ severity_word s ++ codes "\",\"code\":"
 
 -- Its words follow, and the end of the line.
-abbrev pub finding_text : {source : List ℕ} → Form → Severity → (file : List ℕ) → FindingParts source → List ℕ
-finding_text form.Text s file p =
-    finding_head form.Text s file (finding_line p) (finding_column p) ++ finding_words form.Text p ++ codes "\n"
-finding_text form.Json s file p =
-    finding_head form.Json s file (finding_line p) (finding_column p) ++ finding_words form.Json p ++ codes "}\n"
+abbrev pub finding_text : {source : List ℕ} → Form → Severity → Files → FindingParts source → List ℕ
+finding_text form.Text s files p =
+    finding_head form.Text s (finding_at files p).file (finding_at files p).line (finding_column p)
+    ++ finding_words form.Text files p ++ codes "\n"
+finding_text form.Json s files p =
+    finding_head form.Json s (finding_at files p).file (finding_at files p).line (finding_column p)
+    ++ finding_words form.Json files p ++ codes "}\n"
 
 -- the text of these findings of a source with this status
-abbrev pub findings_text : {source : List ℕ} → Form → (status : ℕ) → (file : List ℕ) → List (FindingParts source)
-    → List ℕ
-findings_text form status file findings = flat_map (finding_text form (severity_of status) file) findings
+abbrev pub findings_text : {source : List ℕ} → Form → (status : ℕ) → Files → List (FindingParts source) → List ℕ
+findings_text form status files findings = flat_map (finding_text form (severity_of status) files) findings
 
 -- the keyword that a diagnostic is about, where its code has it
 abbrev pub code_keyword : Letters → About → List ℕ
@@ -240,23 +254,23 @@ abbrev pub IsReason : (o : Outcome) → FindingParts o.source → Type 0
 IsReason o p = Reason o.edition o.stop o.fault p.code (p.before ++ p.left) (p.right ++ p.after)
 
 -- The text of some findings of a source with this status, or of none: where it isn't 0 there is one.
-abbrev pub AreFindings : Form → Outcome → (status : ℕ) → (file text : List ℕ) → Type 0
-AreFindings form o status file text =
+abbrev pub AreFindings : Form → Outcome → (status : ℕ) → Files → (text : List ℕ) → Type 0
+AreFindings form o status files text =
     (findings : List (FindingParts o.source)) × (status ≢ DONE → length findings ≡ 1) × All (IsReason o) findings
-    × (text ≡ findings_text form status file findings)
+    × (text ≡ findings_text form status files findings)
 
 -- A text and then findings were told with this status; or memory was refused, and nothing was written.
-pub data TellsFirst (form : Form) (o : Outcome) (file first : List ℕ) (status : ℕ) (old new : Outgoing) (result : ℕ)
-    : Type 0 where
-  told : (more : List ℕ) → AreFindings form o status file more → Reported (first ++ more) status old new result
-      → TellsFirst form o file first status old new result
-  no_memory : new ≡ old → result ≡ MEMORY → TellsFirst form o file first status old new result
+pub data TellsFirst (form : Form) (o : Outcome) (files : Files) (first : List ℕ) (status : ℕ) (old new : Outgoing)
+    (result : ℕ) : Type 0 where
+  told : (more : List ℕ) → AreFindings form o status files more → Reported (first ++ more) status old new result
+      → TellsFirst form o files first status old new result
+  no_memory : new ≡ old → result ≡ MEMORY → TellsFirst form o files first status old new result
 
--- the name of a file, its source, the output, before and after, and the status
+-- the files of a source, the source, the output, before and after, and the status
 pub record Check : Type 0 where
   pub edition : Edition
   pub form : Form
-  pub file : List ℕ
+  pub files : Files
   pub source : List ℕ
   pub out : Outgoing
   pub out_after : Outgoing
@@ -270,7 +284,7 @@ shown_in_form form.Json line = []
 -- A line, in this form, and then findings were told with this status.
 abbrev pub TellsOutcome : Check → Outcome → (List ℕ × ℕ) → Type 0
 TellsOutcome c o (line, status) =
-    TellsFirst c.form o c.file (shown_in_form c.form line) status c.out c.out_after c.status
+    TellsFirst c.form o c.files (shown_in_form c.form line) status c.out c.out_after c.status
 
 -- What is written is the line of the source and then findings, and the status is the source's.
 abbrev pub Checks : Check → Type 0

@@ -1,5 +1,5 @@
 -- Promise: what the contract of a check excludes, whatever its source, its file and its output are.
-use Rattle.std.specs.Prelude.{◌≡◌, ◌≢◌, ℕ, ◌+◌, ◌*◌, ◌<◌, ◌≤◌, ◌==◌, Bool, ◌||◌, false, IsTrue}
+use Rattle.std.specs.Prelude.{◌≡◌, ◌≢◌, ℕ, ◌+◌, ◌*◌, ◌<◌, ◌≤◌, ◌==◌, Bool, ◌||◌, false, not, IsTrue}
 use Rattle.std.specs.Prelude.{List, [], ◌∷◌, ◌++◌, Some, codes, decimal, map}
 use Rattle.std.specs.Int.{is_in_range}
 use Rattle.std.specs.Io.{StartsWith}
@@ -12,7 +12,9 @@ use Rattle.blang.specs.Cut.{line_number_after, tokens_from}
 use Rattle.blang.specs.declared.token.Diagnostic.{Diagnostic}
 use Rattle.blang.specs.Layout.{load_fault}
 use Rattle.blang.specs.declared.status.TheConstants.{DONE, DEVICE, MEMORY}
-use Rattle.bcheck.specs.Checks.{Check, Checks, FindingParts, IsOver, column_after, finding_head, finding_start}
+use Rattle.bsources.specs.Files.{own_line}
+use Rattle.bcheck.specs.Checks.{Check, Checks, FindingParts, IsOver, column_after, file_text, finding_head}
+use Rattle.bcheck.specs.Checks.{finding_start}
 use Rattle.bcheck.specs.Checks.{findings_text}
 use Rattle.bcheck.specs.Checks.{severity_of, shown_in_form, told_first}
 use Rattle.bcheck.specs.declared.finding.Severity.{Severity}
@@ -37,16 +39,28 @@ abbrev pub Never : ((c : Check) → (line : List ℕ) → (status : ℕ) → (te
 Never Wrong = (c : Check) (line : List ℕ) (status : ℕ) (text : List ℕ) → ComesTo c line status → IsTold c text
     → Wrong c line status text → Checks c → ⊥
 
--- The text begins with a finding of these numbers, and this comes after them.
-pub record BeginsWith (c : Check) (line text : List ℕ) (row column : ℕ) (rest : List ℕ) : Type 0 where
-  pub severity : Severity
-  pub is : text ≡ shown_in_form c.form line ++ (finding_head c.form severity c.file row column ++ rest)
+-- the name of the file of a line of the source
+abbrev pub file_at : Check → (line : ℕ) → List ℕ
+file_at c line = (own_line c.files line).file
 
--- No check keeps its promise that tells such a finding first of a source that comes to this diagnostic.
+-- the name of the first file of a source, which is its only one
+abbrev pub file_of : Check → List ℕ
+file_of c = c.files.first.name
+
+-- The text begins with a finding of this file and of these numbers, and this comes after them.
+pub record BeginsWith (c : Check) (line text file : List ℕ) (row column : ℕ) (rest : List ℕ) : Type 0 where
+  pub severity : Severity
+  pub is : text ≡ shown_in_form c.form line ++ (finding_head c.form severity file row column ++ rest)
+
+-- No check of a source of one file keeps its promise that tells such a finding first, where it comes to this diagnostic.
 abbrev pub NeverOf : ((c : Check) → (d : Diagnostic) → (row column : ℕ) → (rest : List ℕ) → Type 0) → Type 0
 NeverOf Wrong = (c : Check) (line : List ℕ) (status : ℕ) (text : List ℕ) (to : ComesTo c line status) (d : Diagnostic)
-    → to.outcome.stop ≡ Some d → IsTold c text → (row column : ℕ) (rest : List ℕ)
-    → BeginsWith c line text row column rest → Wrong c d row column rest → Checks c → ⊥
+    → to.outcome.stop ≡ Some d → IsTold c text → c.files.rest ≡ [] → (row column : ℕ) (rest : List ℕ)
+    → BeginsWith c line text (file_of c) row column rest → Wrong c d row column rest → Checks c → ⊥
+
+-- no byte is a colon
+abbrev pub has_no_colon : List ℕ → Bool
+has_no_colon text = list_all (λ b. not (b == 58)) text
 
 abbrev pub newlines : List ℕ → ℕ
 newlines text = count_by (λ b. b == 10) text
@@ -67,15 +81,25 @@ pub record Excluded : Type 0 where
   pub no_line : Never (λ c line status text. StartsWith text (shown_in_form c.form line) → ⊥)
   -- of a fault no finding after the line, or one without its file, or for an editor one after a line
   pub no_finding : Never (λ c line status text.
-      (status ≢ DONE) × (StartsWith text (shown_in_form c.form line ++ finding_start c.form c.file) → ⊥))
+      (status ≢ DONE)
+      × ((n : ℕ) → StartsWith text (shown_in_form c.form line ++ finding_start c.form (file_at c n)) → ⊥))
   -- a line where there is no fault
   pub no_fault : Never (λ c line status text.
-      (status ≡ DONE) × (text ≢ []) × (StartsWith text (finding_start c.form c.file) → ⊥))
+      (status ≡ DONE) × (text ≢ []) × ((n : ℕ) → StartsWith text (finding_start c.form (file_at c n)) → ⊥))
   -- an error told as a warning, or a warning as an error, be it the first finding or after others
   pub other_severity : Never (λ c line status text.
       (before : List (FindingParts c.source)) × (s : Severity) × (row column : ℕ) × (rest : List ℕ)
-      × (s ≢ severity_of status) × (text ≡ shown_in_form c.form line ++ (findings_text c.form status c.file before
-      ++ (finding_head c.form s c.file row column ++ rest))))
+      × (s ≢ severity_of status) × (c.files.rest ≡ [])
+      × (text ≡ shown_in_form c.form line ++ (findings_text c.form status c.files before
+      ++ (finding_head c.form s (file_of c) row column ++ rest))))
+  -- of a fault, for people, a finding of another file than the one of each line up to its own, or on another line of it,
+  -- where colons are in no name
+  pub other_file : (c : Check) (line : List ℕ) (status : ℕ) (text : List ℕ) (to : ComesTo c line status) (d : Diagnostic)
+      → to.outcome.stop ≡ Some d → IsTold c text → c.form ≡ form.Text → (file : List ℕ) (row column : ℕ) (rest : List ℕ)
+      → BeginsWith c line text file row column rest → IsTrue (has_no_colon (file_text file))
+      → ((n : ℕ) → IsTrue (has_no_colon (file_text (file_at c n))))
+      → ((n : ℕ) → n ≤ d.line → file_text file ≡ file_text (file_at c n) → decimal row ≢ decimal (own_line c.files n).line)
+      → Checks c → ⊥
   -- of a fault a finding on another line, where a token comes after each place before its own line; or on a later one
   pub other_line : NeverOf (λ c d row column rest. (decimal row ≢ decimal d.line)
       × ((before after : List ℕ) → c.source ≡ before ++ after → line_number_after 1 before < d.line
@@ -95,7 +119,7 @@ pub record Excluded : Type 0 where
       (status ≡ DONE) × ((count : ℕ) → newlines text ≢ count * finding_lines c.form))
   -- a byte that can't be printed, where the line and the name of the file have none
   pub other_bytes : Never (λ c line status text.
-      IsTrue (is_printed (shown_in_form c.form line)) × IsTrue (is_printed (finding_start c.form c.file))
+      IsTrue (is_printed (shown_in_form c.form line)) × ((n : ℕ) → IsTrue (is_printed (finding_start c.form (file_at c n))))
       × (is_printed text ≡ false))
   -- 133 where no write failed; 134 after something written where no write was refused memory; another status above
   pub no_failure : (c : Check) (line : List ℕ) (status : ℕ) → ComesTo c line status → c.status ≡ DEVICE

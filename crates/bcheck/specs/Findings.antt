@@ -1,26 +1,32 @@
 -- Promise: what is known of a finding before it is told.
 use Rattle.std.specs.Prelude.{◌≡◌, ℕ, ◌<◌, IsTrue, false, List, [], ◌++◌, codes, drop, length, take}
-use Rattle.std.specs.Prelude.{Option, Some, IfSome}
+use Rattle.std.specs.Prelude.{Option, Some, IfSome, ◌≤◌}
 use Rattle.bword.specs.declared.edition.Edition.{Edition}
-use Rattle.bword.specs.ByteEnds.{incoming_of}
+use Rattle.bword.specs.ByteEnds.{Unread, incoming_of, outgoing_of}
 use Rattle.blang.specs.Compiles.{Compilation, CompilesTo}
 use Rattle.blang.specs.Cut.{line_number_after, tokens_from}
 use Rattle.blang.specs.declared.token.Diagnostic.{Diagnostic}
-use Rattle.bparse.specs.Compilers.{Compiler}
+use Rattle.bparse.specs.Compiles.{CodeGives}
+use Rattle.bsources.specs.Files.{Files, line_shown, own_line}
 use Rattle.bcheck.specs.Checks.{EachOutcome, FindingParts, Outcome, Reason, StandsOn, column_after, diagnostic_code}
-use Rattle.bcheck.specs.Checks.{finding_text, is_in_line}
+use Rattle.bcheck.specs.Checks.{finding_text, is_in_line, is_of_several}
 use Rattle.bcheck.specs.declared.advice.Matter.{Matter}
 use Rattle.bcheck.specs.declared.advice.Matter.TheVariants as matter
 use Rattle.bcheck.specs.declared.warnings.Warning.{Warning}
 use Rattle.bcheck.specs.declared.warnings.Warning.TheVariants as warning
+use Rattle.bcheck.specs.declared.compiled.Compiled.{Compiled}
 use Rattle.bcheck.specs.declared.excerpt.Excerpt.{Excerpt}
 use Rattle.bcheck.specs.declared.finding.Finding.{Finding}
 use Rattle.bcheck.specs.declared.finding.Spot.{Spot}
 use Rattle.bcheck.specs.declared.finding.Severity.{Severity}
 use Rattle.bcheck.specs.declared.form.Form.{Form}
+use Rattle.bcheck.specs.declared.places.Milestone.{Milestone}
+use Rattle.bcheck.specs.declared.verdict.Verdict.{Verdict}
+use Rattle.bcheck.specs.declared.verdict.Verdict.TheVariants as verdict
 
 -- by which code each warning is known
 abbrev pub warning_code : Warning → List ℕ
+warning_code warning.CommentGoesOn = codes "*/"
 warning_code warning.AndAnd = codes "and"
 warning_code warning.OperatorAssigns = codes "op"
 warning_code warning.ConditionAssigns = codes "if"
@@ -73,10 +79,17 @@ matter_code matter.DataTooLarge = codes "load 2"
 matter_code (matter.NotDefined undefined) = codes "load 3"
 matter_code (matter.Warning warning) = warning_code warning
 
--- a compiler of this source that has read it from its beginning
-abbrev pub Reads : Edition → List ℕ → Compiler → Type 0
-Reads edition source c =
-    (c.first.edition ≡ edition) × (c.first.source ≡ incoming_of (record { left = source; is_over = false }))
+-- what was compiled is this source: all of it, or up to its first fault
+abbrev pub IsCompiled : Edition → List ℕ → Compiled → Type 0
+IsCompiled edition source c =
+    (following : Unread) × CodeGives edition (incoming_of (record { left = source; is_over = false }))
+    (outgoing_of (record { bytes = []; refusals = 0 })) c.last (incoming_of following) (outgoing_of c.code)
+
+-- the diagnostic of a verdict is the one that the source comes to
+abbrev pub IsStopOf : Edition → List ℕ → Verdict → Type 0
+IsStopOf edition source (verdict.Faulty line d) =
+    (r : Compilation) → CompilesTo [] (tokens_from edition 1 source) r → r.stop ≡ Some d
+IsStopOf edition source v = Unit {0}
 
 -- the matter is that of the diagnostic, and the place is one for it
 abbrev pub TellsFault : Edition → List ℕ → Diagnostic → Finding → Type 0
@@ -84,18 +97,19 @@ TellsFault edition source d f =
     (matter_code f.matter ≡ diagnostic_code d)
     × StandsOn edition d.line (take f.place.start source) (drop f.place.start source)
 
--- the same for each diagnostic that the source comes to
-abbrev pub TellsEach : Edition → List ℕ → Finding → Type 0
-TellsEach edition source f =
-    (r : Compilation) → CompilesTo [] (tokens_from edition 1 source) r → (d : Diagnostic) → r.stop ≡ Some d
-    → TellsFault edition source d f
-
 -- an error of this code at this place is one of what the source comes to
 abbrev pub ReasonAt : (code : List ℕ) → (start : ℕ) → Outcome → Type 0
 ReasonAt code start o = Reason o.edition o.stop o.fault code (take start o.source) (drop start o.source)
 
 abbrev pub IsReasoned : Edition → List ℕ → Finding → Type 0
 IsReasoned edition source f = EachOutcome edition source (ReasonAt (matter_code f.matter) f.place.start)
+
+-- the line and the column of a milestone are those of its place in the source
+pub record IsMilestone (source : List ℕ) (m : Milestone) : Type 0 where
+  pub within : m.start ≤ length source
+  pub line : m.line ≡ line_number_after 1 (take m.start source)
+  pub column : m.column ≡ column_after 1 (take m.start source)
+  pub some : 0 < m.column
 
 -- What is shown of a place, and the numbers of its line and its column.
 pub record IsExcerpt (source : List ℕ) (start : ℕ) (e : Excerpt) : Type 0 where
@@ -109,17 +123,18 @@ pub record IsExcerpt (source : List ℕ) (start : ℕ) (e : Excerpt) : Type 0 wh
   pub in_line : IsTrue (is_in_line e.right.now)
   pub marked : 0 < e.marks
 
--- the line and the column are those of a place of the source
-abbrev pub IsSpot : (source : List ℕ) → Spot → Type 0
-IsSpot source s =
-    (before : List ℕ) × (after : List ℕ) × (source ≡ before ++ after) × (s.line ≡ line_number_after 1 before)
+-- the line of its file and the column are those of a place of the source
+abbrev pub IsSpot : Files → (source : List ℕ) → Spot → Type 0
+IsSpot files source s =
+    (before : List ℕ) × (after : List ℕ) × (source ≡ before ++ after)
+    × (line_shown s.at ≡ own_line files (line_number_after 1 before)) × (s.is_of_several ≡ is_of_several files)
     × (s.column ≡ column_after 1 before)
 
-abbrev pub IsSecond : (source : List ℕ) → Option Spot → Type 0
-IsSecond source s = IfSome s (IsSpot source)
+abbrev pub IsSecond : Files → (source : List ℕ) → Option Spot → Type 0
+IsSecond files source s = IfSome s (IsSpot files source)
 
 -- the text has a finding of this code at this place more
-abbrev pub AddsFinding : Form → Severity → (file source : List ℕ) → (start : ℕ) → (code old new : List ℕ) → Type 0
-AddsFinding form s file source start code old new =
+abbrev pub AddsFinding : Form → Severity → Files → (source : List ℕ) → (start : ℕ) → (code old new : List ℕ) → Type 0
+AddsFinding form s files source start code old new =
     (p : FindingParts source) × (p.code ≡ code) × (p.before ++ p.left ≡ take start source)
-    × (p.right ++ p.after ≡ drop start source) × (new ≡ old ++ finding_text form s file p)
+    × (p.right ++ p.after ≡ drop start source) × (new ≡ old ++ finding_text form s files p)

@@ -1,6 +1,7 @@
 -- Inner words: the text of each piece.
 use Rattle.std.specs.Prelude.{ℕ, List, [], Option, Some, None, decimal, replicate}
 use Rattle.std.specs.List.{flat_map}
+use Rattle.bsources.specs.Files.{line_shown}
 use Rattle.bcheck.specs.Checks.{file_text, json_text, shown_text, spot_words}
 use Rattle.bcheck.specs.declared.finding.Spot.{Spot}
 use Rattle.bcheck.specs.declared.pieces.Piece.{Piece}
@@ -9,7 +10,7 @@ use Rattle.bcheck.specs.declared.pieces.Piece.TheVariants as piece
 -- the line and the column of a second place, as an editor is told them
 abbrev pub spot_text : Option Spot → List ℕ
 spot_text None = []
-spot_text (Some s) = spot_words s.line s.column
+spot_text (Some s) = spot_words s.is_of_several (line_shown s.at) s.column
 
 abbrev pub piece_text : Piece → List ℕ
 piece_text (piece.Words words) = words.now

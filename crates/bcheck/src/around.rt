@@ -1,7 +1,7 @@
 //! What is around a token with which no program goes on.
+use crate::compiled::Extent;
 use crate::kinds::{closes_bracket, is_word, opens_bracket};
-use crate::passes::Extent;
-use crate::spans::{Span, lexeme_at};
+use crate::spans::{Spans, lexeme_at};
 use blang::Keyword;
 use blex::Lexeme;
 
@@ -32,7 +32,7 @@ pub(crate) struct Around {
 }
 
 /// What is around a token of a definition.
-pub(crate) fn look_around(spans: &[Span], extent: Extent, token: usize) -> Around {
+pub(crate) fn look_around(spans: &Spans, extent: Extent, token: usize) -> Around {
     let mut found = Around {
         token,
         part: part_of(spans, extent, token),
@@ -75,7 +75,7 @@ pub(crate) fn look_around(spans: &[Span], extent: Extent, token: usize) -> Aroun
 }
 
 /// Whether a statement begins after this token, if it isn't in brackets.
-pub(crate) fn ends_statement(spans: &[Span], token: usize) -> bool {
+pub(crate) fn ends_statement(spans: &Spans, token: usize) -> bool {
     match lexeme_at(spans, token) {
         Lexeme::Semicolon | Lexeme::OpenBrace | Lexeme::CloseBrace => true,
         Lexeme::Colon => is_heading(spans, token),
@@ -84,7 +84,7 @@ pub(crate) fn ends_statement(spans: &[Span], token: usize) -> bool {
 }
 
 /// Whether a label, a case or a default ends with this colon.
-pub(crate) fn is_heading(spans: &[Span], colon: usize) -> bool {
+pub(crate) fn is_heading(spans: &Spans, colon: usize) -> bool {
     let before = lexeme_at(spans, colon.wrapping_sub(2));
     matches!(
         before,
@@ -95,7 +95,7 @@ pub(crate) fn is_heading(spans: &[Span], colon: usize) -> bool {
     ) || lexeme_at(spans, colon.wrapping_sub(1)) == Lexeme::Keyword(Keyword::Default)
 }
 
-fn part_of(spans: &[Span], extent: Extent, token: usize) -> Part {
+fn part_of(spans: &Spans, extent: Extent, token: usize) -> Part {
     if token == extent.first {
         return Part::Start;
     }
@@ -121,7 +121,7 @@ impl Around {
     }
 
     /// Whether the bracket that is open is this one.
-    pub(crate) fn is_in(&self, spans: &[Span], opener: Lexeme) -> bool {
+    pub(crate) fn is_in(&self, spans: &Spans, opener: Lexeme) -> bool {
         match self.opener {
             Some(token) => lexeme_at(spans, token) == opener,
             None => false,
@@ -129,15 +129,15 @@ impl Around {
     }
 
     /// Whether the bracket that is open is the parenthesis after this name.
-    pub(crate) fn is_call_of(&self, spans: &[Span], word: &str) -> bool {
+    pub(crate) fn is_call_of(&self, spans: &Spans, word: &str) -> bool {
         self.is_in(spans, Lexeme::OpenParen) && is_word(&lexeme_at(spans, self.head()), word)
     }
 }
 
 /// The opening bracket that a closing one is the end of.
-pub(crate) fn opener_of(spans: &[Span], closer: usize) -> Option<usize> {
+pub(crate) fn opener_of(spans: &Spans, closer: usize) -> Option<usize> {
     let mut depth: u64 = 0;
-    for back in 0..closer {
+    for back in 0..closer.saturating_sub(spans.first) {
         let at = closer.saturating_sub(back).saturating_sub(1);
         let lexeme = lexeme_at(spans, at);
         if closes_bracket(&lexeme) {
@@ -153,7 +153,7 @@ pub(crate) fn opener_of(spans: &[Span], closer: usize) -> Option<usize> {
 }
 
 /// Whether a statement may begin with this token, by the one before it.
-pub(crate) fn may_begin(spans: &[Span], token: usize) -> bool {
+pub(crate) fn may_begin(spans: &Spans, token: usize) -> bool {
     let before = token.wrapping_sub(1);
     matches!(
         lexeme_at(spans, before),

@@ -1,6 +1,6 @@
 //! Which brackets belong together.
 use crate::kinds::{closes_bracket, opens_bracket};
-use crate::spans::{Span, lexeme_at};
+use crate::spans::{Spans, lexeme_at};
 use blex::Lexeme;
 use std::alloc::{AllocError, Global};
 
@@ -11,17 +11,19 @@ struct Bracket {
     commas: u64,
 }
 
-/// For each token of a source that compiles what it is as a bracket.
+/// For each token of a definition what it is as a bracket.
 #[derive(Drop)]
 pub(crate) struct Brackets {
+    first: usize,
     all: Vec<Bracket>,
 }
 
 impl Brackets {
-    pub(crate) fn new(alloc: Global, spans: &[Span]) -> Result<Self, AllocError> {
+    pub(crate) fn new(alloc: Global, spans: &Spans) -> Result<Self, AllocError> {
+        let first = spans.first;
         let mut all = Vec::new(alloc);
         let mut open: Vec<usize> = Vec::new(alloc);
-        for token in 0..spans.len() {
+        for token in first..spans.end() {
             all.push(Bracket {
                 mate: token,
                 commas: 0,
@@ -31,26 +33,30 @@ impl Brackets {
                 open.push(token)?;
             } else if closes_bracket(&lexeme) {
                 if let Some(opener) = open.pop() {
-                    join(&mut all, opener, token);
+                    join(&mut all, first, opener, token);
                 }
             } else if lexeme == Lexeme::Comma {
-                count_comma(&mut all, open.last());
+                count_comma(&mut all, first, open.last());
             }
         }
-        Ok(Brackets { all })
+        Ok(Brackets { first, all })
     }
 
     /// The other one of two brackets that belong together; of another token the token itself.
     pub(crate) fn mate(&self, token: usize) -> usize {
-        match self.all.get(token) {
+        match self.get(token) {
             Some(bracket) => bracket.mate,
             None => token,
         }
     }
 
+    fn get(&self, token: usize) -> Option<&Bracket> {
+        self.all.get(token.checked_sub(self.first)?)
+    }
+
     /// How many things are in the parentheses that this token opens.
     pub(crate) fn items(&self, opener: usize) -> u64 {
-        match self.all.get(opener) {
+        match self.get(opener) {
             Some(bracket) if bracket.mate > opener.saturating_add(1) => bracket
                 .commas
                 .saturating_add(1),
@@ -59,18 +65,18 @@ impl Brackets {
     }
 }
 
-fn join(all: &mut Vec<Bracket>, opener: usize, closer: usize) {
-    if let Some(bracket) = all.get_mut(opener) {
+fn join(all: &mut Vec<Bracket>, first: usize, opener: usize, closer: usize) {
+    if let Some(bracket) = all.get_mut(opener.wrapping_sub(first)) {
         bracket.mate = closer;
     }
-    if let Some(bracket) = all.get_mut(closer) {
+    if let Some(bracket) = all.get_mut(closer.wrapping_sub(first)) {
         bracket.mate = opener;
     }
 }
 
-fn count_comma(all: &mut Vec<Bracket>, opener: Option<&usize>) {
+fn count_comma(all: &mut Vec<Bracket>, first: usize, opener: Option<&usize>) {
     if let Some(opener) = opener {
-        if let Some(bracket) = all.get_mut(*opener) {
+        if let Some(bracket) = all.get_mut(opener.wrapping_sub(first)) {
             bracket.commas = bracket.commas.saturating_add(1);
         }
     }

@@ -1,11 +1,13 @@
 //! Checking a source.
-ghost use Rattle.std.specs.Prelude.{◌≡◌, List, ℕ};
+ghost use Rattle.std.specs.Prelude.{◌≡◌};
 ghost use Rattle.bcheck.specs.Checks.{AreFindings, Checks, Outcome, TellsFirst, verdict_line, shown_in_form};
 ghost use Rattle.bcheck.specs.Excluded.{Excluded};
+ghost use Rattle.bsources.specs.Files.{Files, files_shown};
 ghost use Rattle.bcheck.specs.declared.form.Form.{Form};
 
 use crate::explain::explain;
 use crate::form::{Form, Request};
+use crate::spans::Source;
 use crate::verdict::{Verdict, judge};
 use blang::status::{self, Status};
 use btools::tell;
@@ -22,7 +24,7 @@ pub fn check<O: ByteOut>(alloc: Global, source: &[u8], asked: Request<'_>, out: 
     ensures checks { Checks (record {
       edition = asked.entry.edition;
       form = asked.entry.form;
-      file = asked.entry.file.now;
+      files = files_shown asked.entry.files;
       source = source.now;
       out = O.outgoing out.old;
       out_after = O.outgoing out.new;
@@ -30,13 +32,18 @@ pub fn check<O: ByteOut>(alloc: Global, source: &[u8], asked: Request<'_>, out: 
     }) }
     ensures out_lender { O.lender out.new ≡ O.lender out.old }
 {
-    let Some(verdict) = judge(alloc, source, asked.edition) else {
+    let text = Source {
+        text: source,
+        edition: asked.edition,
+    };
+    let Ok(judgement) = judge(alloc, text) else {
         return status::MEMORY;
     };
-    let Ok(more) = explain(alloc, source, asked, &verdict) else {
+    let Ok(more) = explain(alloc, text, asked, &judgement) else {
         return status::MEMORY;
     };
-    let first = shown(asked.form, &verdict);
+    let verdict = &judgement.verdict;
+    let first = shown(asked.form, verdict);
     tell_both(alloc, first, more.as_slice(), verdict.status(), out)
 }
 
@@ -58,8 +65,8 @@ fn tell_both<O: ByteOut>(
     status: Status,
     out: &mut O,
 ) -> Status
-    ensures tells { (form : Form) (o : Outcome) (file : List ℕ) → AreFindings form o status file more.now
-        → TellsFirst form o file first.now status (O.outgoing out.old) (O.outgoing out.new) result }
+    ensures tells { (form : Form) (o : Outcome) (files : Files) → AreFindings form o status files more.now
+        → TellsFirst form o files first.now status (O.outgoing out.old) (O.outgoing out.new) result }
     ensures out_lender { O.lender out.new ≡ O.lender out.old }
 {
     let mut text = MemOut::new(alloc);

@@ -3,14 +3,14 @@ use crate::brackets::Brackets;
 use crate::effects::has_effect;
 use crate::kinds::Kind;
 use crate::patterns::Found;
-use crate::spans::{Span, lexeme_at};
+use crate::spans::{Spans, lexeme_at};
 use crate::warnings::Warning;
 use blang::Keyword;
 use blex::Lexeme;
 use bword::BinOp;
 
 /// What is found of the condition after an `if` or a `while`.
-pub(crate) fn condition(spans: &[Span], brackets: &Brackets, keyword: usize) -> Option<Found> {
+pub(crate) fn condition(spans: &Spans, brackets: &Brackets, keyword: usize) -> Option<Found> {
     let opener = keyword.wrapping_add(1);
     let end = brackets.mate(opener);
     let mut token = opener.saturating_add(1);
@@ -31,7 +31,7 @@ pub(crate) fn condition(spans: &[Span], brackets: &Brackets, keyword: usize) -> 
 }
 
 // What is found of a token of a condition that is in no more brackets, after an assignment perhaps.
-fn found_in(spans: &[Span], token: usize, assigned: Option<usize>) -> Option<Warning> {
+fn found_in(spans: &Spans, token: usize, assigned: Option<usize>) -> Option<Warning> {
     match lexeme_at(spans, token) {
         Lexeme::Assign(None) if is_closed_after(spans, token) => Some(Warning::ConditionAssigns),
         Lexeme::Assign(Some(BinOp::Eq)) => Some(Warning::ConditionAssigns),
@@ -43,7 +43,7 @@ fn found_in(spans: &[Span], token: usize, assigned: Option<usize>) -> Option<War
 }
 
 // Whether an operator is `==` or `!=`, or another comparison of what a call gives.
-fn compares_call(spans: &[Span], token: usize, op: BinOp) -> bool {
+fn compares_call(spans: &Spans, token: usize, op: BinOp) -> bool {
     match op {
         BinOp::Eq | BinOp::Ne => true,
         BinOp::Lt | BinOp::Le | BinOp::Gt | BinOp::Ge => {
@@ -54,12 +54,12 @@ fn compares_call(spans: &[Span], token: usize, op: BinOp) -> bool {
 }
 
 // Whether a parenthesis closes after the token after this one.
-fn is_closed_after(spans: &[Span], token: usize) -> bool {
+fn is_closed_after(spans: &Spans, token: usize) -> bool {
     lexeme_at(spans, token.wrapping_add(2)) == Lexeme::CloseParen
 }
 
 // A `;` after a condition, where nothing else is done.
-fn empty(spans: &[Span], keyword: usize, opener: usize, end: usize) -> Option<Found> {
+fn empty(spans: &Spans, keyword: usize, opener: usize, end: usize) -> Option<Found> {
     let body = end.saturating_add(1);
     if lexeme_at(spans, body) != Lexeme::Semicolon {
         return None;

@@ -1,8 +1,9 @@
 //! The definitions of a source that compiles.
 use crate::brackets::Brackets;
+use crate::compiled::Extent;
+use crate::finding::Place;
 use crate::kinds::is_ended;
-use crate::passes::Extent;
-use crate::spans::{Span, lexeme_at};
+use crate::spans::{Scanner, Source, Spans, lexeme_at, name_at, place_of};
 use blang::Keyword;
 use blex::Lexeme;
 use bnames::{NameTable, Probes};
@@ -24,30 +25,33 @@ pub(crate) enum What {
     Simple,
 }
 
-/// A definition, with its tokens.
+/// A definition, and where it begins.
 #[derive(Clone, Copy)]
 pub(crate) struct Definition {
-    pub extent: Extent,
+    pub place: Place,
     pub what: What,
 }
 
 impl Definition {
-    pub(crate) fn new(
-        spans: &[Span],
-        brackets: &Brackets,
-        extent: Extent,
-        is_function: bool,
-    ) -> Self {
-        let what = if is_function {
+    fn new(spans: &Spans, brackets: &Brackets, extent: Extent) -> Self {
+        let what = if is_function(spans, extent) {
             function(spans, brackets, extent)
         } else {
             external(spans, brackets, extent)
         };
-        Definition { extent, what }
+        Definition {
+            place: place_of(spans, extent.first),
+            what,
+        }
     }
 }
 
-fn function(spans: &[Span], brackets: &Brackets, extent: Extent) -> What {
+/// Whether a definition is a function.
+pub(crate) fn is_function(spans: &Spans, extent: Extent) -> bool {
+    lexeme_at(spans, extent.first.saturating_add(1)) == Lexeme::OpenParen
+}
+
+fn function(spans: &Spans, brackets: &Brackets, extent: Extent) -> What {
     let header = extent.first.saturating_add(1);
     let end = brackets.mate(header);
     let (mut returns, mut spreads) = (false, false);
@@ -70,12 +74,12 @@ fn function(spans: &[Span], brackets: &Brackets, extent: Extent) -> What {
 }
 
 // Whether no operand is before an operator.
-fn is_prefix(spans: &[Span], operator: usize) -> bool {
+fn is_prefix(spans: &Spans, operator: usize) -> bool {
     !is_ended(&lexeme_at(spans, operator.wrapping_sub(1)))
 }
 
 // Whether a name is one of the parameters, which are at most 128.
-fn is_among(spans: &[Span], first: usize, end: usize, name: Lexeme) -> bool {
+fn is_among(spans: &Spans, first: usize, end: usize, name: Lexeme) -> bool {
     for token in first..end {
         if lexeme_at(spans, token) == name {
             return true;
@@ -84,7 +88,7 @@ fn is_among(spans: &[Span], first: usize, end: usize, name: Lexeme) -> bool {
     false
 }
 
-fn external(spans: &[Span], brackets: &Brackets, extent: Extent) -> What {
+fn external(spans: &Spans, brackets: &Brackets, extent: Extent) -> What {
     let opener = extent.first.saturating_add(1);
     if lexeme_at(spans, opener) != Lexeme::OpenBracket {
         return What::Simple;
@@ -105,31 +109,47 @@ fn external(spans: &[Span], brackets: &Brackets, extent: Extent) -> What {
 /// The definitions of a source, and their places among them by their names.
 #[derive(Drop)]
 pub(crate) struct Defined {
-    pub all: Vec<Definition>,
+    all: Vec<Definition>,
     names: NameTable,
 }
 
 impl Defined {
-    pub(crate) fn new(alloc: Global) -> Self {
-        Defined {
+    /// Those of a source that compiles, whose last tokens these places come after.
+    pub(crate) fn read(
+        alloc: Global,
+        source: Source<'_>,
+        ends: &[usize],
+    ) -> Result<Self, AllocError> {
+        let mut defined = Defined {
             all: Vec::new(alloc),
             names: NameTable::new(alloc),
+        };
+        let mut scanner = Scanner::new(source);
+        let mut spans = Spans::new(alloc);
+        let mut first = 0;
+        for end in ends {
+            let extent = Extent { first, end: *end };
+            spans.refill(&mut scanner, extent)?;
+            let brackets = Brackets::new(alloc, &spans)?;
+            defined.push(&spans, extent, &brackets)?;
+            first = *end;
         }
+        Ok(defined)
     }
 
-    /// Adds one.
-    pub(crate) fn push(
+    fn push(
         &mut self,
-        spans: &[Span],
-        definition: Definition,
+        spans: &Spans,
+        extent: Extent,
+        brackets: &Brackets,
     ) -> Result<(), AllocError> {
-        if let Lexeme::Name(name) = lexeme_at(spans, definition.extent.first) {
+        if let Some(name) = name_at(spans, extent.first) {
             let place = u32::try_from(self.all.len()).unwrap_or(u32::MAX);
             let Ok(_) = self.names.insert(name, place) else {
                 return Err(AllocError);
             };
         }
-        self.all.push(definition)?;
+        self.all.push(Definition::new(spans, brackets, extent))?;
         Ok(())
     }
 

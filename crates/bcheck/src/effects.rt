@@ -3,14 +3,14 @@ use crate::around::ends_statement;
 use crate::brackets::Brackets;
 use crate::kinds::{Kind, is_ended, is_operand};
 use crate::patterns::Found;
-use crate::spans::{Span, lexeme_at};
+use crate::spans::{Spans, lexeme_at};
 use crate::warnings::Warning;
 use blang::Keyword;
 use blex::Lexeme;
 use bword::BinOp;
 
 /// What is found of a statement that begins with this token, if it is an expression.
-pub(crate) fn statement(spans: &[Span], brackets: &Brackets, first: usize) -> Option<Found> {
+pub(crate) fn statement(spans: &Spans, brackets: &Brackets, first: usize) -> Option<Found> {
     let is_label = lexeme_at(spans, first.wrapping_add(1)) == Lexeme::Colon;
     if !begins_expression(&lexeme_at(spans, first))
         || is_label
@@ -40,7 +40,7 @@ fn begins_expression(lexeme: &Lexeme) -> bool {
 }
 
 // Whether a statement begins with this token.
-fn begins_statement(spans: &[Span], brackets: &Brackets, token: usize) -> bool {
+fn begins_statement(spans: &Spans, brackets: &Brackets, token: usize) -> bool {
     let before = token.wrapping_sub(1);
     let keyword = brackets.mate(before).wrapping_sub(1);
     match lexeme_at(spans, before) {
@@ -54,9 +54,9 @@ fn begins_statement(spans: &[Span], brackets: &Brackets, token: usize) -> bool {
 }
 
 // The `;` of a statement.
-fn end_of(spans: &[Span], brackets: &Brackets, first: usize) -> usize {
+fn end_of(spans: &Spans, brackets: &Brackets, first: usize) -> usize {
     let mut token = first;
-    for _ in first..spans.len() {
+    for _ in first..spans.end() {
         if lexeme_at(spans, token) == Lexeme::Semicolon {
             return token;
         }
@@ -66,7 +66,7 @@ fn end_of(spans: &[Span], brackets: &Brackets, first: usize) -> usize {
 }
 
 // The comparison in no brackets, of a statement that neither assigns there nor has a `?`.
-fn compared_in(spans: &[Span], brackets: &Brackets, first: usize, end: usize) -> Option<usize> {
+fn compared_in(spans: &Spans, brackets: &Brackets, first: usize, end: usize) -> Option<usize> {
     let mut token = first;
     let mut compared = None;
     for _ in first..end {
@@ -86,7 +86,7 @@ fn compared_in(spans: &[Span], brackets: &Brackets, first: usize, end: usize) ->
 }
 
 /// Whether something is assigned, counted or called by these tokens.
-pub(crate) fn has_effect(spans: &[Span], first: usize, end: usize) -> bool {
+pub(crate) fn has_effect(spans: &Spans, first: usize, end: usize) -> bool {
     for token in first..end {
         let is_call = lexeme_at(spans, token) == Lexeme::OpenParen
             && token > first

@@ -1,10 +1,11 @@
 //! The piece of the source that is shown of a place.
+ghost use Rattle.std.specs.List.{All};
 ghost use Rattle.std.specs.Prelude.{◌<◌, ◌≤◌, IsTrue, length, take};
 ghost use Rattle.bcheck.specs.Checks.{is_in_line};
-ghost use Rattle.bcheck.specs.Findings.{IsExcerpt};
+ghost use Rattle.bcheck.specs.Findings.{IsExcerpt, IsMilestone};
 
 use crate::finding::Place;
-use crate::places::{end_of, parts};
+use crate::places::{Milestone, parts, position};
 
 /// The most bytes of a line of the source that are shown.
 const SHOWN_BYTES: usize = 76;
@@ -23,11 +24,16 @@ pub(crate) struct Excerpt<'a> {
 }
 
 /// What is shown of a place of the source.
-pub(crate) fn excerpt_at<'a>(source: &'a [u8], place: &Place) -> Excerpt<'a>
+pub(crate) fn excerpt_at<'a>(
+    source: &'a [u8],
+    milestones: &[Milestone],
+    place: &Place,
+) -> Excerpt<'a>
+    requires { All (IsMilestone source.now) milestones.now }
     ensures { IsExcerpt source.now place.now.start result }
 {
     let (before, rest) = parts(source, place.start);
-    let (line, column) = end_of(before);
+    let (line, column) = position(source, milestones, place.start);
     let len = place.len.max(1);
     let left_len = left_length(column, len).min(before.len());
     let room = SHOWN_BYTES.saturating_sub(left_len);

@@ -1,53 +1,62 @@
 //! What is said of a source after the line of the compiler.
 ghost use Rattle.std.specs.List.{All};
-ghost use Rattle.std.specs.Prelude.{◌≡◌, ◌≢◌, IfOk, codes, length, vec_items};
+ghost use Rattle.std.specs.Prelude.{◌≡◌, ◌≢◌, IfOk, IfSome, None, length, vec_items};
 ghost use Rattle.blang.specs.declared.status.TheConstants.{DONE};
+ghost use Rattle.bsources.specs.Files.{files_shown};
 ghost use Rattle.bcheck.specs.Checks.{AreFindings, EachOutcome, Judged, status_told};
-ghost use Rattle.bcheck.specs.Findings.{IsReasoned, TellsEach, TellsFault, matter_code};
+ghost use Rattle.bcheck.specs.Findings.{IsReasoned, IsStopOf, TellsFault};
 ghost use Rattle.bcheck.specs.declared.verdict.Verdict.TheVariants as verdict;
 
+use crate::across::comments_across;
 use crate::advice::Matter;
 use crate::brackets::Brackets;
-use crate::defined::{Defined, Definition, What};
+use crate::compiled::{Compiled, Extent};
+use crate::defined::Defined;
 use crate::excerpt::excerpt_at;
-use crate::faults::{self, token_named};
 use crate::finding::{Finding, Told};
 use crate::form::{Form, Request};
-use crate::mention::first_mention;
-use crate::outside::outside;
-use crate::passes::{Fault, Pass};
-use crate::patterns::{Compiled, Found, find};
-use crate::places::{place_on, spot_of};
-use crate::spans::{Span, place_of, spans};
-use crate::verdict::Verdict;
+use crate::patterns::{Tokens, add_comments, find};
+use crate::places::{milestones, place_on, spot_of};
+use crate::spans::{Scanner, Source, Spans, place_of};
+use crate::unknown::undefined_name;
+use crate::verdict::{Judgement, Verdict};
 use crate::words::Words;
-use crate::{json, text, unknown};
-use blang::LoadFault;
-use bparse::Step;
+use crate::{faults, json, text};
+use blang::{Diagnostic, LoadFault};
+use bsources::SourceFiles;
 use btools::Text;
-use bword::{Edition, Name};
 use std::alloc::{AllocError, Global};
 
 /// What is said of a source with this verdict.
 pub(crate) fn explain(
     alloc: Global,
-    source: &[u8],
+    source: Source<'_>,
     asked: Request<'_>,
-    verdict: &Verdict,
+    judgement: &Judgement,
 ) -> Result<Text, AllocError>
-    requires { Judged asked.edition source.now verdict.now }
-    ensures { IfOk result (λ said. EachOutcome asked.entry.edition source.now
-        (λ o. AreFindings asked.entry.form o (status_told verdict.now) asked.entry.file.now said)) }
+    requires judged { Judged source.edition source.text.now judgement.now.verdict }
+    requires stop { IsStopOf source.edition source.text.now judgement.now.verdict }
+    ensures { IfOk result (λ said. EachOutcome source.entry.edition source.entry.text.now
+        (λ o. AreFindings asked.entry.form o (status_told judgement.now.verdict) (files_shown asked.entry.files) said)) }
 {
     let mut said = Text::new(alloc);
-    let findings = findings(alloc, source, asked, verdict)?;
-    let (file, severity) = (asked.file, verdict.severity());
+    let findings = findings(alloc, source, &asked.files, judgement)?;
+    let milestones = milestones(alloc, source.text)?;
+    let severity = judgement.verdict.severity();
     for finding in findings.as_slice() {
-        let words = Words::new(alloc, finding)?;
+        let excerpt = excerpt_at(source.text, milestones.as_slice(), &finding.place);
+        let at = asked.files.own_line(excerpt.line);
+        let second = spot_of(
+            source.text,
+            &asked.files,
+            milestones.as_slice(),
+            &finding.related,
+        );
+        let words = Words::new(alloc, finding, at.file, &second)?;
         let told = Told {
-            file,
-            excerpt: excerpt_at(source, &finding.place),
-            second: spot_of(source, &finding.related),
+            at,
+            excerpt,
+            second,
             severity,
             words: &words,
         };
@@ -61,61 +70,69 @@ pub(crate) fn explain(
 
 fn findings(
     alloc: Global,
-    source: &[u8],
-    asked: Request<'_>,
-    verdict: &Verdict,
+    source: Source<'_>,
+    files: &SourceFiles<'_>,
+    judgement: &Judgement,
 ) -> Result<Vec<Finding>, AllocError>
-    requires { Judged asked.edition source.now verdict.now }
-    ensures one { IfOk result (λ found. status_told verdict.now ≢ DONE → length (vec_items found) ≡ 1) }
-    ensures reasons { IfOk result (λ found. All (IsReasoned asked.entry.edition source.now) (vec_items found)) }
+    requires judged { Judged source.edition source.text.now judgement.now.verdict }
+    requires stop { IsStopOf source.edition source.text.now judgement.now.verdict }
+    ensures one { IfOk result (λ found. status_told judgement.now.verdict ≢ DONE → length (vec_items found) ≡ 1) }
+    ensures reasons { IfOk result (λ found. All (IsReasoned source.entry.edition source.entry.text.now) (vec_items found)) }
 {
-    let spans = spans(alloc, source, asked.edition)?;
-    let error = match verdict {
-        Verdict::Clean => return warnings(alloc, source, asked, &spans),
-        Verdict::Faulty(_) => fault_of(alloc, source, asked, &spans)?,
-        Verdict::Unloaded(fault) => unloaded(alloc, source, asked, &spans, fault)?,
-    };
-    let mut findings = Vec::new(alloc);
-    findings.push(error)?;
-    Ok(findings)
+    match error_of(alloc, source, judgement)? {
+        Some(error) => {
+            let mut findings = Vec::new(alloc);
+            findings.push(Finding {
+                matter: error.matter,
+                name: error.name,
+                other: error.other,
+                place: error.place,
+                related: error.related,
+            })?;
+            Ok(findings)
+        }
+        None => warnings(alloc, source, files, judgement.compiled.ends.as_slice()),
+    }
 }
 
-// What is said of the fault that a source has.
-#[inline(never)]
-fn fault_of(
+// What is said of the error that a source has, if it has one.
+fn error_of(
     alloc: Global,
-    source: &[u8],
-    asked: Request<'_>,
-    spans: &[Span],
-) -> Result<Finding, AllocError>
-    ensures { IfOk result (TellsEach asked.entry.edition source.now) }
+    source: Source<'_>,
+    judgement: &Judgement,
+) -> Result<Option<Finding>, AllocError>
+    requires judged { Judged source.edition source.text.now judgement.now.verdict }
+    requires stop { IsStopOf source.edition source.text.now judgement.now.verdict }
+    ensures none { IfOk result (λ error. error ≡ None → judgement.now.verdict ≡ verdict.Clean) }
+    ensures reason { IfOk result (λ error. IfSome error (IsReasoned source.entry.edition source.entry.text.now)) }
 {
-    let mut pass = Pass::new(alloc, source, asked.edition);
-    'definitions: loop {
-        match pass.next() {
-            Step::Written => {}
-            Step::Fault(diagnostic) => {
-                return fault_at(alloc, source, asked.edition, spans, &pass.fault(diagnostic));
-            }
-            // Memory was refused: the source has a fault, and no read of memory fails.
-            _ => return Err(AllocError),
+    let compiled = &judgement.compiled;
+    match &judgement.verdict {
+        Verdict::Clean => Ok(None),
+        Verdict::Faulty(_, diagnostic) => {
+            let error = fault_of(alloc, source, compiled, diagnostic)?;
+            Ok(Some(error))
+        }
+        Verdict::Unloaded(fault) => {
+            let refused = unloaded(alloc, source, compiled, fault)?;
+            Ok(Some(refused))
         }
     }
 }
 
-// What is said of this fault, on its line.
-fn fault_at(
+// What is said of the fault that a source has, on its line.
+fn fault_of(
     alloc: Global,
-    source: &[u8],
-    edition: Edition,
-    spans: &[Span],
-    fault: &Fault,
+    source: Source<'_>,
+    compiled: &Compiled,
+    diagnostic: &Diagnostic,
 ) -> Result<Finding, AllocError>
-    ensures { IfOk result (TellsFault edition source.now fault.now.diagnostic) }
+    ensures { IfOk result (TellsFault source.entry.edition source.entry.text.now diagnostic.now) }
 {
-    let found = faults::finding(alloc, source, spans, fault);
+    let found = faults::finding(alloc, source, compiled, *diagnostic)?;
     // Each diagnostic has a line of the source.
-    let Some(place) = place_on(source, edition, &found.place, fault.diagnostic.line) else {
+    let (text, edition, line) = (source.text, source.edition, diagnostic.line);
+    let Some(place) = place_on(text, edition, &found.place, line) else {
         return Err(AllocError);
     };
     Ok(Finding {
@@ -130,93 +147,52 @@ fn fault_at(
 // What is said of code that doesn't load.
 fn unloaded(
     alloc: Global,
-    source: &[u8],
-    asked: Request<'_>,
-    spans: &[Span],
+    source: Source<'_>,
+    compiled: &Compiled,
     fault: &LoadFault,
 ) -> Result<Finding, AllocError>
-    requires { Judged asked.edition source.now (verdict.Unloaded fault.now) }
-    ensures { IfOk result (IsReasoned asked.entry.edition source.now) }
+    requires { Judged source.edition source.text.now (verdict.Unloaded fault.now) }
+    ensures { IfOk result (IsReasoned source.entry.edition source.entry.text.now) }
 {
     if let LoadFault::Undefined(name) = fault {
-        return undefined(alloc, source, asked, spans, *name);
+        return undefined_name(alloc, source, compiled, *name);
     }
-    Ok(Finding {
-        matter: Matter::DataTooLarge,
-        name: None,
-        other: None,
-        place: place_of(spans, 0),
-        related: None,
-    })
-}
-
-// What is said of a name that nothing defines.
-fn undefined(
-    alloc: Global,
-    source: &[u8],
-    asked: Request<'_>,
-    spans: &[Span],
-    name: Name,
-) -> Result<Finding, AllocError>
-    ensures { IfOk result (λ finding. matter_code finding.matter ≡ codes "load 3") }
-{
-    let mention = first_mention(alloc, source, asked.edition, name)?;
-    let (first, token) = match mention {
-        Some(mention) => (
-            mention.extent.first,
-            token_named(spans, mention.extent, name, mention.line),
-        ),
-        None => (0, 0),
-    };
-    Ok(unknown::undefined_name(spans, first, token, name))
+    let first = Extent { first: 0, end: 1 };
+    let place = place_of(&Spans::between(alloc, source, first)?, 0);
+    Ok(Finding::new(Matter::DataTooLarge, place))
 }
 
 // What compiles and is probably a mistake.
 fn warnings(
     alloc: Global,
-    source: &[u8],
-    asked: Request<'_>,
-    spans: &[Span],
+    source: Source<'_>,
+    files: &SourceFiles<'_>,
+    ends: &[usize],
 ) -> Result<Vec<Finding>, AllocError> {
-    let brackets = Brackets::new(alloc, spans)?;
-    let defined = definitions_of(alloc, source, asked, spans, &brackets)?;
-    let compiled = Compiled {
-        source,
-        spans,
-        brackets: &brackets,
-        defined: &defined,
-    };
+    let defined = Defined::read(alloc, source, ends)?;
+    let comments = comments_across(alloc, source, files)?;
     let mut findings = Vec::new(alloc);
-    for definition in defined.all.as_slice() {
-        Found::add(outside(&compiled, definition), spans, &mut findings)?;
-        if let What::Function { .. } = definition.what {
-            find(alloc, &compiled, definition.extent, &mut findings)?;
-        }
+    let mut scanner = Scanner::new(source);
+    let mut spans = Spans::new(alloc);
+    let (mut first, mut last) = (0, 0);
+    for index in 0..ends.len() {
+        let extent = Extent {
+            first,
+            end: ends[index],
+        };
+        first = extent.end;
+        spans.refill(&mut scanner, extent)?;
+        add_comments(comments.as_slice(), last, scanner.end, &mut findings)?;
+        last = scanner.end;
+        let brackets = Brackets::new(alloc, &spans)?;
+        let tokens = Tokens {
+            source: source.text,
+            spans: &spans,
+            brackets: &brackets,
+            defined: &defined,
+        };
+        find(alloc, &tokens, extent, &mut findings)?;
     }
+    add_comments(comments.as_slice(), last, usize::MAX, &mut findings)?;
     Ok(findings)
-}
-
-// The definitions of a source that compiles.
-#[inline(never)]
-fn definitions_of(
-    alloc: Global,
-    source: &[u8],
-    asked: Request<'_>,
-    spans: &[Span],
-    brackets: &Brackets,
-) -> Result<Defined, AllocError> {
-    let mut defined = Defined::new(alloc);
-    let mut pass = Pass::new(alloc, source, asked.edition);
-    for _ in 0..source.len() {
-        match pass.next() {
-            Step::Written => {}
-            Step::Memory => return Err(AllocError),
-            _ => break,
-        }
-        defined.push(
-            spans,
-            Definition::new(spans, brackets, pass.extent, pass.is_function()),
-        )?;
-    }
-    Ok(defined)
 }

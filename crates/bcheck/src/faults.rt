@@ -1,40 +1,84 @@
 //! What is said of a diagnostic.
-ghost use Rattle.std.specs.Prelude.{◌≡◌, codes};
+ghost use Rattle.std.specs.Prelude.{◌≡◌, IfOk, codes};
 ghost use Rattle.bcheck.specs.Checks.{diagnostic_code};
 ghost use Rattle.bcheck.specs.Findings.{matter_code};
 
 use crate::advice::Matter;
 use crate::around::{Around, look_around};
 use crate::bytes::{Constant, byte_of, constant_at};
+use crate::compiled::{Compiled, Extent};
 use crate::finding::{Finding, Place};
 use crate::limits::limit_of;
-use crate::passes::{Extent, Fault};
-use crate::spans::{Span, is_next_line, lexeme_at, place_of};
+use crate::spans::{Scanner, Source, Spans, is_next_line, lexeme_at, place_of};
 use crate::syntax::{self, Mark, Syntax};
 use crate::unknown::{Lvalue, Unknown, unknown_name, without_address};
 use bcode::read_code;
-use blang::{About, Letters, MAX_NESTING};
+use blang::{About, Diagnostic, Letters, MAX_NESTING};
 use blex::Lexeme;
 use bword::Name;
-use std::alloc::Global;
+use std::alloc::{AllocError, Global};
 
-/// What is said of a fault.
-pub(crate) fn finding(alloc: Global, source: &[u8], spans: &[Span], fault: &Fault) -> Finding
+/// A fault, and the tokens of its definition as far as they were read.
+#[derive(Clone, Copy)]
+struct Fault {
+    diagnostic: Diagnostic,
+    extent: Extent,
+    /// The place of the token that the definition was at when the fault was seen.
+    seen_at: usize,
+}
+
+/// What is said of the fault of a source.
+pub(crate) fn finding(
+    alloc: Global,
+    source: Source<'_>,
+    compiled: &Compiled,
+    diagnostic: Diagnostic,
+) -> Result<Finding, AllocError>
+    ensures { IfOk result (λ f. matter_code f.matter ≡ diagnostic_code diagnostic) }
+{
+    let extent = compiled.extent(compiled.ends.len());
+    let looked_at = Extent {
+        first: extent.first.saturating_sub(2),
+        end: extent.end.saturating_add(3),
+    };
+    let spans = Spans::between(alloc, source, looked_at)?;
+    let fault = Fault {
+        diagnostic,
+        extent,
+        seen_at: compiled.seen_at,
+    };
+    Ok(match (diagnostic.letters, diagnostic.about) {
+        (Letters::Redeclared, About::Name(name)) => again(source, compiled, &spans, &fault, name),
+        _ => finding_of(alloc, source, &spans, &fault),
+    })
+}
+
+// What is said of a fault, but for a name that is there already.
+fn finding_of(alloc: Global, source: Source<'_>, spans: &Spans, fault: &Fault) -> Finding
     ensures { matter_code result.matter ≡ diagnostic_code fault.now.diagnostic }
 {
     let diagnostic = &fault.diagnostic;
     let token = token_of(spans, fault);
     let place = place_of(spans, token);
     match (diagnostic.letters, diagnostic.about) {
-        (Letters::Character, _) => character(source, place),
-        (Letters::Constant, _) => constant(source, place),
+        (Letters::Character, _) => character(source.text, place),
+        (Letters::Constant, _) => constant(source.text, place),
         (Letters::Syntax, About::Nothing | About::Name(_)) => syntax_at(
-            alloc, source, spans, fault, token,
+            alloc,
+            source.text,
+            spans,
+            fault,
+            token,
         ),
-        (Letters::NotLvalue, _) => without_address(spans, token, diagnostic.line),
-        (Letters::Undefined, About::Name(name)) => unknown_name(spans, fault.extent, token, name),
-        (Letters::Redeclared, About::Name(name)) => again(spans, fault.extent, token, name),
-        _ => Finding::new(matter_of(source, spans, fault), place),
+        (Letters::NotLvalue, _) => without_address(source, spans, token, diagnostic.line),
+        (Letters::Undefined, About::Name(name)) => unknown_name(
+            source,
+            spans,
+            fault.extent,
+            token,
+            name,
+        ),
+        _ => Finding::new(matter_of(source.text, spans, fault), place),
     }
 }
 
@@ -52,22 +96,22 @@ fn constant(source: &[u8], place: Place) -> Finding
     Finding::new(Matter::Constant(constant), within)
 }
 
-// What is said of a name that is there already, with its first place in the definition or in the source.
-fn again(spans: &[Span], extent: Extent, token: usize, name: Name) -> Finding
+// What is said of a name that is there already, with its first place in the definition, or its definition.
+fn again(
+    source: Source<'_>,
+    compiled: &Compiled,
+    spans: &Spans,
+    fault: &Fault,
+    name: Name,
+) -> Finding
     ensures { matter_code result.matter ≡ codes "rd" }
 {
-    let from = if token == extent.first {
-        0
+    let token = token_of(spans, fault);
+    let related = if token == fault.extent.first {
+        definition_of(source, compiled, name)
     } else {
-        extent.first.saturating_add(1)
+        first_place(spans, fault.extent.first.saturating_add(1), token, name)
     };
-    let mut related = None;
-    for first in from..token {
-        if lexeme_at(spans, first) == Lexeme::Name(name) {
-            related = Some(place_of(spans, first));
-            break;
-        }
-    }
     Finding {
         matter: Matter::NameAgain,
         name: Some(name),
@@ -77,8 +121,33 @@ fn again(spans: &[Span], extent: Extent, token: usize, name: Name) -> Finding
     }
 }
 
+// Where one of the definitions that were written begins with this name.
+fn definition_of(source: Source<'_>, compiled: &Compiled, name: Name) -> Option<Place> {
+    let mut scanner = Scanner::new(source);
+    let mut token = 0;
+    for end in compiled.ends.as_slice() {
+        let span = scanner.next()?;
+        if span.lexeme == Lexeme::Name(name) {
+            return Some(span.place);
+        }
+        scanner.pass(end.saturating_sub(token).saturating_sub(1));
+        token = *end;
+    }
+    None
+}
+
+// The first place of a name between two tokens.
+fn first_place(spans: &Spans, from: usize, end: usize, name: Name) -> Option<Place> {
+    for token in from..end {
+        if lexeme_at(spans, token) == Lexeme::Name(name) {
+            return Some(place_of(spans, token));
+        }
+    }
+    None
+}
+
 // The place of the token at fault among the tokens.
-fn token_of(spans: &[Span], fault: &Fault) -> usize {
+fn token_of(spans: &Spans, fault: &Fault) -> usize {
     match (fault.diagnostic.letters, fault.diagnostic.about) {
         (Letters::Syntax, About::Nothing)
         | (Letters::OpenComment | Letters::Character | Letters::LongName | Letters::Constant, _) =>
@@ -92,7 +161,7 @@ fn token_of(spans: &[Span], fault: &Fault) -> usize {
 }
 
 /// The first token of this name on a line of a definition, after the definition's own name.
-pub(crate) fn token_named(spans: &[Span], extent: Extent, name: Name, line: u64) -> usize {
+pub(crate) fn token_named(spans: &Spans, extent: Extent, name: Name, line: u64) -> usize {
     for token in extent.first.saturating_add(1)..extent.end {
         if let Some(span) = spans.get(token) {
             if span.lexeme == Lexeme::Name(name) && span.place.line == line {
@@ -104,7 +173,7 @@ pub(crate) fn token_named(spans: &[Span], extent: Extent, name: Name, line: u64)
 }
 
 // What is said of the diagnostics that need no token.
-fn matter_of(source: &[u8], spans: &[Span], fault: &Fault) -> Matter
+fn matter_of(source: &[u8], spans: &Spans, fault: &Fault) -> Matter
     ensures { matter_code result ≡ diagnostic_code fault.now.diagnostic }
 {
     match (fault.diagnostic.letters, fault.diagnostic.about) {
@@ -128,7 +197,7 @@ fn matter_of(source: &[u8], spans: &[Span], fault: &Fault) -> Matter
 }
 
 // What is said of a token with which no program goes on.
-fn syntax_at(alloc: Global, source: &[u8], spans: &[Span], fault: &Fault, token: usize) -> Finding
+fn syntax_at(alloc: Global, source: &[u8], spans: &Spans, fault: &Fault, token: usize) -> Finding
     ensures { matter_code result.matter ≡ codes "sx" }
 {
     if fault.extent.first == 0 && read_code(alloc, source).is_ok() {
@@ -146,7 +215,7 @@ fn syntax_at(alloc: Global, source: &[u8], spans: &[Span], fault: &Fault, token:
 }
 
 // The place that is marked, if it is on this line, and else the token itself.
-fn marked(spans: &[Span], around: &Around, mark: Mark, line: u64) -> Place {
+fn marked(spans: &Spans, around: &Around, mark: Mark, line: u64) -> Place {
     let token = match mark {
         Mark::Here => around.token,
         Mark::Before => around.token.wrapping_sub(1),
@@ -164,7 +233,7 @@ fn marked(spans: &[Span], around: &Around, mark: Mark, line: u64) -> Place {
 // The second place.
 fn related(
     source: &[u8],
-    spans: &[Span],
+    spans: &Spans,
     extent: Extent,
     around: &Around,
     syntax: Syntax,
@@ -187,7 +256,7 @@ struct Brace {
 }
 
 // The brace that is open before a token: the first whose `}` is farther left than its line, or the innermost one.
-fn open_brace(source: &[u8], spans: &[Span], extent: Extent, end: usize) -> Option<usize> {
+fn open_brace(source: &[u8], spans: &Spans, extent: Extent, end: usize) -> Option<usize> {
     let mut braces = [Brace {
         token: 0,
         column: 0,

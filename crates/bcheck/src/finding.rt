@@ -5,6 +5,7 @@ ghost use Rattle.bcheck.specs.Checks.{severity_word};
 use crate::advice::Matter;
 use crate::excerpt::Excerpt;
 use crate::words::Words;
+use bsources::FileLine;
 use bword::Name;
 
 /// A piece of the source.
@@ -46,17 +47,19 @@ impl Finding {
 
 /// The line and the column of a second place.
 #[derive(Clone, Copy)]
-pub(crate) struct Spot {
-    pub line: u64,
+pub(crate) struct Spot<'a> {
+    pub at: FileLine<'a>,
+    /// Whether the source has several files.
+    pub is_of_several: bool,
     pub column: usize,
 }
 
 /// What is told of a finding.
 #[derive(Clone, Copy)]
 pub(crate) struct Told<'a> {
-    pub file: &'a str,
+    pub at: FileLine<'a>,
     pub excerpt: Excerpt<'a>,
-    pub second: Option<Spot>,
+    pub second: Option<Spot<'a>>,
     pub severity: Severity,
     pub words: &'a Words,
 }

@@ -3,7 +3,7 @@ use crate::around::{ends_statement, may_begin};
 use crate::brackets::Brackets;
 use crate::kinds::is_ended;
 use crate::locals::Locals;
-use crate::spans::{Span, is_joined, lexeme_at, name_at};
+use crate::spans::{Spans, is_joined, lexeme_at, name_at};
 use blang::Keyword;
 use blex::Lexeme;
 use bword::BinOp;
@@ -33,7 +33,7 @@ impl Flow {
     /// Goes on past a token of a statement, and answers whether it is an automatic that nothing has set before.
     pub(crate) fn step(
         &mut self,
-        spans: &[Span],
+        spans: &Spans,
         brackets: &Brackets,
         locals: &mut Locals,
         token: usize,
@@ -62,7 +62,7 @@ impl Flow {
     // What a mention of a local does, and whether nothing has set it before.
     fn meets(
         &mut self,
-        spans: &[Span],
+        spans: &Spans,
         locals: &mut Locals,
         token: usize,
         place: Option<usize>,
@@ -100,18 +100,18 @@ impl Flow {
 }
 
 // Whether a name is a label here.
-fn is_label(spans: &[Span], token: usize) -> bool {
+fn is_label(spans: &Spans, token: usize) -> bool {
     lexeme_at(spans, token.wrapping_add(1)) == Lexeme::Colon && may_begin(spans, token)
 }
 
 // Whether the address of a name is taken.
-fn is_address(spans: &[Span], token: usize) -> bool {
+fn is_address(spans: &Spans, token: usize) -> bool {
     lexeme_at(spans, token.wrapping_sub(1)) == Lexeme::Operator(BinOp::And)
         && !is_ended(&lexeme_at(spans, token.wrapping_sub(2)))
 }
 
 // Whether a value is assigned to a name itself. `x=-1` is told of in another way.
-fn is_target(spans: &[Span], token: usize) -> bool {
+fn is_target(spans: &Spans, token: usize) -> bool {
     let next = token.wrapping_add(1);
     let assigns = match lexeme_at(spans, next) {
         Lexeme::Assign(None) => true,
@@ -122,9 +122,9 @@ fn is_target(spans: &[Span], token: usize) -> bool {
 }
 
 /// The token after the statement that begins with this one.
-fn statement_end(spans: &[Span], brackets: &Brackets, first: usize) -> usize {
+fn statement_end(spans: &Spans, brackets: &Brackets, first: usize) -> usize {
     let mut token = first;
-    for _ in first..spans.len() {
+    for _ in first..spans.end() {
         let last = brackets.mate(token).max(token);
         let next = last.saturating_add(1);
         let ends = ends_statement(spans, last) && lexeme_at(spans, last) != Lexeme::Colon;
@@ -133,5 +133,5 @@ fn statement_end(spans: &[Span], brackets: &Brackets, first: usize) -> usize {
         }
         token = next;
     }
-    spans.len()
+    spans.end()
 }

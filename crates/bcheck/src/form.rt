@@ -1,4 +1,5 @@
 //! What a check is asked for.
+use bsources::SourceFiles;
 use bword::Edition;
 
 /// How findings are written.
@@ -11,10 +12,10 @@ pub enum Form {
     Json,
 }
 
-/// The edition of the source, the name of its file, and how findings are written.
+/// The edition of the source, its files, and how findings are written.
 #[derive(Clone, Copy)]
 pub struct Request<'a> {
     pub edition: Edition,
-    pub file: &'a str,
+    pub files: SourceFiles<'a>,
     pub form: Form,
 }

@@ -1,8 +1,9 @@
 //! Findings for editors: an object a line.
 ghost use Rattle.std.specs.List.{list_all};
-ghost use Rattle.std.specs.Prelude.{ℕ, ◌∷◌, List, [], IsTrue, OnOk};
+ghost use Rattle.std.specs.Prelude.{ℕ, ◌≡◌, ◌∷◌, List, [], IsTrue, OnOk};
 ghost use Rattle.bcheck.specs.Checks.{is_on_line};
 ghost use Rattle.bcheck.specs.Findings.{AddsFinding, IsExcerpt, IsSecond};
+ghost use Rattle.bsources.specs.Files.{Files, line_shown, own_line};
 ghost use Rattle.bcheck.specs.declared.form.Form.TheVariants as form;
 
 use crate::finding::Told;
@@ -14,18 +15,19 @@ use std::alloc::AllocError;
 pub(crate) fn write(text: &mut Text, told: &Told<'_>) -> Result<(), AllocError>
     requires { IsTrue (list_all is_on_line
         (told.now.words.now.code.now ∷ told.now.words.now.sentence ∷ told.now.words.now.fix ∷ [])) }
-    ensures { (source : List ℕ) (start : ℕ) → IsExcerpt source start told.now.excerpt
-        → IsSecond source told.now.second → OnOk result (AddsFinding form.Json told.now.severity told.now.file.now
-        source start told.now.words.now.code.now text.old text.new) }
+    ensures { (files : Files) (source : List ℕ) (start : ℕ) → IsExcerpt source start told.now.excerpt
+        → line_shown told.now.at ≡ own_line files told.now.excerpt.line → IsSecond files source told.now.second
+        → OnOk result (AddsFinding form.Json told.now.severity files source start told.now.words.now.code.now
+        text.old text.new) }
 {
     let excerpt = &told.excerpt;
     push_all(
         text,
         &[
             Piece::Words(b"{\"file\":"),
-            Piece::Quoted(told.file.as_bytes()),
+            Piece::Quoted(told.at.file.as_bytes()),
             Piece::Words(b",\"line\":"),
-            Piece::Number(excerpt.line),
+            Piece::Number(told.at.line),
             Piece::Words(b",\"column\":"),
             Piece::Number(excerpt.column as u64),
             Piece::Words(b",\"severity\":\""),

@@ -1,11 +1,13 @@
 //! Checking a source for a reader: what is wrong with it, where, and how to fix it.
 #![tactic(auto)]
 
+mod across;
 mod advice;
 mod around;
 mod brackets;
 mod bytes;
 mod checking;
+mod compiled;
 mod conditions;
 mod defined;
 mod effects;
@@ -22,7 +24,6 @@ mod locals;
 mod mention;
 mod near;
 mod outside;
-mod passes;
 mod patterns;
 mod pieces;
 mod places;

@@ -3,8 +3,8 @@ ghost use Rattle.std.specs.List.{list_all};
 ghost use Rattle.std.specs.Prelude.{◌∷◌, [], IsTrue};
 ghost use Rattle.bcheck.specs.Checks.{is_on_line};
 
-use crate::passes::Extent;
-use crate::spans::{Span, lexeme_at};
+use crate::compiled::Extent;
+use crate::spans::{Spans, lexeme_at};
 use blang::{Keyword, MAX_STRING_WORDS, MAX_VALUES, MAX_WORDS};
 use blex::Lexeme;
 
@@ -43,7 +43,7 @@ struct Sizes {
 }
 
 /// The limit that a definition is past.
-pub(crate) fn limit_of(source: &[u8], spans: &[Span], extent: Extent) -> Limit {
+pub(crate) fn limit_of(source: &[u8], spans: &Spans, extent: Extent) -> Limit {
     let is_function = lexeme_at(spans, extent.first.wrapping_add(1)) == Lexeme::OpenParen;
     let sizes = sizes_of(source, spans, extent);
     if sizes.strings > MAX_STRING_WORDS {
@@ -59,7 +59,7 @@ pub(crate) fn limit_of(source: &[u8], spans: &[Span], extent: Extent) -> Limit {
     }
 }
 
-fn sizes_of(source: &[u8], spans: &[Span], extent: Extent) -> Sizes {
+fn sizes_of(source: &[u8], spans: &Spans, extent: Extent) -> Sizes {
     let mut sizes = Sizes {
         strings: 0,
         values: 1,
@@ -88,7 +88,7 @@ fn sizes_of(source: &[u8], spans: &[Span], extent: Extent) -> Sizes {
 }
 
 // How many words a string has.
-fn words_of(source: &[u8], spans: &[Span], token: usize) -> usize {
+fn words_of(source: &[u8], spans: &Spans, token: usize) -> usize {
     let Some(span) = spans.get(token) else {
         return 0;
     };

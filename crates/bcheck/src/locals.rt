@@ -1,6 +1,6 @@
 //! The names that a function declares.
-use crate::passes::Extent;
-use crate::spans::{Span, lexeme_at, name_at};
+use crate::compiled::Extent;
+use crate::spans::{Spans, lexeme_at, name_at};
 use blang::Keyword;
 use blex::Lexeme;
 use bword::Name;
@@ -37,7 +37,7 @@ pub(crate) struct Locals {
 
 impl Locals {
     /// Those of a function.
-    pub(crate) fn new(alloc: Global, spans: &[Span], function: Extent) -> Result<Self, AllocError> {
+    pub(crate) fn new(alloc: Global, spans: &Spans, function: Extent) -> Result<Self, AllocError> {
         let mut locals = Locals {
             all: Vec::new(alloc),
             defaults: 0,
@@ -55,7 +55,7 @@ impl Locals {
     }
 
     // Adds the name that this token is, if it declares one, and else counts it.
-    fn meet(&mut self, spans: &[Span], token: usize, role: Option<Role>) -> Result<(), AllocError> {
+    fn meet(&mut self, spans: &Spans, token: usize, role: Option<Role>) -> Result<(), AllocError> {
         let Some(name) = name_at(spans, token) else {
             return Ok(());
         };
@@ -70,7 +70,7 @@ impl Locals {
 
     fn declare(
         &mut self,
-        spans: &[Span],
+        spans: &Spans,
         token: usize,
         name: Name,
         role: Role,

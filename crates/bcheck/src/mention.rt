@@ -1,83 +1,49 @@
 //! Where a name is mentioned first that nothing defines.
-use crate::passes::{Extent, Pass};
+use crate::compiled::Extent;
+use crate::faults::token_named;
+use crate::spans::{Spans, lexeme_at, place_of};
 use bcode::read_code;
-use blang::{Definition, Instr, Ival, View, status};
-use bparse::{Step, compile_edition};
-use btools::Sink;
-use bword::{Edition, MemIn, MemOut, Name};
+use blang::{Definition, Instr, Ival, Keyword, View};
+use blex::Lexeme;
+use bword::Name;
 use std::alloc::{AllocError, Global};
 
-/// The line of a mention, and the tokens of the definition that it stands in.
-#[derive(Clone, Copy)]
-pub(crate) struct Mention {
-    pub line: u64,
-    pub extent: Extent,
-}
-
-/// The first mention of an external in the code of a source that compiles, if there is one.
+/// The first definition of a code text that mentions an external, by its place among the definitions.
+#[inline(never)]
 pub(crate) fn first_mention(
     alloc: Global,
-    source: &[u8],
-    edition: Edition,
+    code: &[u8],
     name: Name,
-) -> Result<Option<Mention>, AllocError> {
-    let code = code_of(alloc, source, edition)?;
-    match read_code(alloc, code.bytes()) {
-        Ok(definitions) => mention_in(alloc, source, edition, definitions.as_slice(), name),
-        Err(_) => Err(AllocError),
-    }
+) -> Result<Option<usize>, AllocError> {
+    let Ok(definitions) = read_code(alloc, code) else {
+        return Err(AllocError);
+    };
+    let mut all = definitions.as_slice().iter();
+    Ok(all.position(|definition| mentions(definition, name)))
 }
 
-// The first mention in these definitions of a source.
-#[inline(never)]
-fn mention_in(
-    alloc: Global,
-    source: &[u8],
-    edition: Edition,
-    definitions: &[Definition],
-    name: Name,
-) -> Result<Option<Mention>, AllocError> {
-    let mut pass = Pass::new(alloc, source, edition);
-    for definition in definitions {
-        match pass.next() {
-            Step::Written => {}
-            Step::Memory => return Err(AllocError),
-            _ => break,
-        }
-        if let Some(place) = first_use(definition, name) {
-            return Ok(Some(Mention {
-                line: pass.line_of(place),
-                extent: pass.extent,
-            }));
-        }
-    }
-    Ok(None)
-}
-
-// The code of a source that compiles.
-#[inline(never)]
-fn code_of(alloc: Global, source: &[u8], edition: Edition) -> Result<MemOut, AllocError> {
-    let mut code = MemOut::new(alloc);
-    match compile_edition(
-        alloc,
-        &mut MemIn::new(source),
-        &mut code,
-        &mut Sink,
-        edition,
-    ) {
-        status::DONE => Ok(code),
-        _ => Err(AllocError),
-    }
-}
-
-// The place of the first instruction or initial value that mentions the external.
-fn first_use(definition: &Definition, name: Name) -> Option<usize> {
+// Whether an instruction or an initial value mentions the external.
+fn mentions(definition: &Definition, name: Name) -> bool {
     match definition.view() {
-        View::Function { code, .. } => code
-            .iter()
-            .position(|instr| *instr == Instr::External(name)),
+        View::Function { code, .. } => code.iter().any(|instr| *instr == Instr::External(name)),
         View::Simple { values, .. } | View::Vector { values, .. } => {
-            values.iter().position(|value| *value == Ival::Name(name))
+            values.iter().any(|value| *value == Ival::Name(name))
         }
     }
+}
+
+/// The token of this name in a definition that mentions it: the first one of the line that uses it first.
+pub(crate) fn token_of_mention(spans: &Spans, extent: Extent, name: Name) -> usize {
+    let mut is_declared = false;
+    for token in extent.first.saturating_add(1)..extent.end {
+        let lexeme = lexeme_at(spans, token);
+        if lexeme == Lexeme::Keyword(Keyword::Extrn) {
+            is_declared = true;
+        } else if lexeme == Lexeme::Semicolon {
+            is_declared = false;
+        } else if !is_declared && lexeme == Lexeme::Name(name) {
+            return token_named(spans, extent, name, place_of(spans, token).line);
+        }
+    }
+    extent.first
 }

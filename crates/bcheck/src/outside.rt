@@ -1,26 +1,22 @@
 //! Definitions that are probably mistakes.
-use crate::defined::{Definition, What};
+use crate::defined::What;
 use crate::near::is_near;
-use crate::patterns::{Compiled, Found};
-use crate::spans::lexeme_at;
+use crate::patterns::{Found, Tokens};
+use crate::spans::name_at;
 use crate::warnings::Warning;
-use blex::Lexeme;
 use bword::Name;
 
-/// What is found of the name of a definition.
-pub(crate) fn outside(compiled: &Compiled<'_>, definition: &Definition) -> Option<Found> {
-    let token = definition.extent.first;
-    let Lexeme::Name(name) = lexeme_at(compiled.spans, token) else {
-        return None;
-    };
-    match (definition.what, name.as_str()) {
+/// What is found of the name of a definition, which is its first token.
+pub(crate) fn outside(tokens: &Tokens<'_>, token: usize) -> Option<Found> {
+    let name = name_at(tokens.spans, token)?;
+    match (tokens.defined.find(&name)?.what, name.as_str()) {
         (What::Simple, "break" | "default") => Some(Found {
             token,
             warning: Warning::WordOutside,
             name: Some(name),
             related: None,
         }),
-        (What::Function { .. }, _) if is_for_main(compiled, &name) => Found::new(
+        (What::Function { .. }, _) if is_for_main(tokens, &name) => Found::new(
             token,
             Warning::NearMain,
         ),
@@ -29,9 +25,9 @@ pub(crate) fn outside(compiled: &Compiled<'_>, definition: &Definition) -> Optio
 }
 
 // Whether a name is like `main`, which no function has.
-fn is_for_main(compiled: &Compiled<'_>, name: &Name) -> bool {
+fn is_for_main(tokens: &Tokens<'_>, name: &Name) -> bool {
     match Name::new("main") {
-        Some(main) => is_near(name, &main) && compiled.defined.find(&main).is_none(),
+        Some(main) => is_near(name, &main) && tokens.defined.find(&main).is_none(),
         None => false,
     }
 }

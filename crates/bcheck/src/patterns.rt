@@ -2,30 +2,31 @@
 use crate::advice::Matter;
 use crate::around::may_begin;
 use crate::brackets::Brackets;
+use crate::compiled::Extent;
 use crate::conditions::condition;
-use crate::defined::{Defined, What};
+use crate::defined::{Defined, What, is_function};
 use crate::effects::statement;
 use crate::finding::{Finding, Place};
 use crate::flow::Flow;
 use crate::kinds::Kind;
 use crate::locals::{Locals, Role};
 use crate::near::library_arguments;
-use crate::passes::Extent;
-use crate::spans::{Span, is_joined, lexeme_at, name_at, place_of};
+use crate::outside::outside;
+use crate::spans::{Spans, is_joined, lexeme_at, name_at, place_of};
 use crate::warnings::Warning;
 use blang::Keyword;
 use blex::Lexeme;
 use bword::{BinOp, Name};
 use std::alloc::{AllocError, Global};
 
-/// The most warnings that are told of a source.
+/// The most warnings that are told of a source, which is as many as a person reads.
 const MOST_WARNINGS: usize = 100;
 
-/// A source that compiles.
+/// The tokens of a definition of a source that compiles, with all that it defines.
 #[derive(Clone, Copy)]
-pub(crate) struct Compiled<'a> {
+pub(crate) struct Tokens<'a> {
     pub source: &'a [u8],
-    pub spans: &'a [Span],
+    pub spans: &'a Spans,
     pub brackets: &'a Brackets,
     pub defined: &'a Defined,
 }
@@ -61,13 +62,12 @@ impl Found {
     /// Adds what is found, if something is.
     pub(crate) fn add(
         found: Option<Self>,
-        spans: &[Span],
+        spans: &Spans,
         findings: &mut Vec<Finding>,
     ) -> Result<(), AllocError> {
         let Some(found) = found else {
             return Ok(());
         };
-        // What is shown of a finding is found from the beginning of the source.
         if findings.len() >= MOST_WARNINGS {
             return Ok(());
         }
@@ -82,18 +82,62 @@ impl Found {
     }
 }
 
-/// Adds what is found in one of the functions of a source.
+/// Adds those of the comments that go on into another file which begin between two places.
+pub(crate) fn add_comments(
+    comments: &[Place],
+    from: usize,
+    end: usize,
+    findings: &mut Vec<Finding>,
+) -> Result<(), AllocError> {
+    for place in comments {
+        if from <= place.start && place.start < end {
+            add_comment(*place, findings)?;
+        }
+    }
+    Ok(())
+}
+
+fn add_comment(place: Place, findings: &mut Vec<Finding>) -> Result<(), AllocError> {
+    if findings.len() >= MOST_WARNINGS {
+        return Ok(());
+    }
+    findings.push(Finding {
+        matter: Matter::Warning(Warning::CommentGoesOn),
+        name: None,
+        other: None,
+        place,
+        related: None,
+    })?;
+    Ok(())
+}
+
+/// Adds what is found in a definition.
 pub(crate) fn find(
     alloc: Global,
-    compiled: &Compiled<'_>,
+    tokens: &Tokens<'_>,
+    definition: Extent,
+    findings: &mut Vec<Finding>,
+) -> Result<(), AllocError> {
+    let spans = tokens.spans;
+    Found::add(outside(tokens, definition.first), spans, findings)?;
+    if is_function(spans, definition) {
+        find_in(alloc, tokens, definition, findings)?;
+    }
+    Ok(())
+}
+
+// Adds what is found in a function.
+fn find_in(
+    alloc: Global,
+    tokens: &Tokens<'_>,
     function: Extent,
     findings: &mut Vec<Finding>,
 ) -> Result<(), AllocError> {
-    let spans = compiled.spans;
+    let spans = tokens.spans;
     let mut locals = Locals::new(alloc, spans, function)?;
     let mut flow = Flow::new();
     let mut declares = None;
-    let body = compiled
+    let body = tokens
         .brackets
         .mate(function.first.saturating_add(1))
         .saturating_add(1);
@@ -103,12 +147,12 @@ pub(crate) fn find(
             declares = Some(lexeme);
         }
         let found = match declares {
-            Some(Lexeme::Keyword(Keyword::Auto)) => declared(compiled, &locals, token),
+            Some(Lexeme::Keyword(Keyword::Auto)) => declared(tokens, &locals, token),
             Some(_) => None,
-            None => found_at(compiled, &locals, token),
+            None => found_at(tokens, &locals, token),
         };
         Found::add(found, spans, findings)?;
-        if declares.is_none() && flow.step(spans, compiled.brackets, &mut locals, token) {
+        if declares.is_none() && flow.step(spans, tokens.brackets, &mut locals, token) {
             Found::add(unset(spans, token), spans, findings)?;
         }
         if lexeme == Lexeme::Semicolon {
@@ -118,7 +162,7 @@ pub(crate) fn find(
     Ok(())
 }
 
-fn unset(spans: &[Span], token: usize) -> Option<Found> {
+fn unset(spans: &Spans, token: usize) -> Option<Found> {
     let warning = match lexeme_at(spans, token.wrapping_add(1)) {
         Lexeme::OpenBracket => Warning::UnsetVector,
         _ => Warning::Unset,
@@ -127,19 +171,19 @@ fn unset(spans: &[Span], token: usize) -> Option<Found> {
 }
 
 // What is found of a name that `auto` declares.
-fn declared(compiled: &Compiled<'_>, locals: &Locals, token: usize) -> Option<Found> {
-    let Lexeme::Name(name) = lexeme_at(compiled.spans, token) else {
+fn declared(tokens: &Tokens<'_>, locals: &Locals, token: usize) -> Option<Found> {
+    let Lexeme::Name(name) = lexeme_at(tokens.spans, token) else {
         return None;
     };
     if locals.find(&name)?.uses == 0 {
         return Found::of_name(token, Warning::NeverUsed, name);
     }
-    if let Some(definition) = compiled.defined.find(&name) {
+    if let Some(definition) = tokens.defined.find(&name) {
         return Some(Found {
             token,
             warning: Warning::HidesExternal,
             name: Some(name),
-            related: Some(place_of(compiled.spans, definition.extent.first)),
+            related: Some(definition.place),
         });
     }
     if library_arguments(&name).is_some() {
@@ -197,34 +241,34 @@ const ROWS: [Row; 15] = [
 ];
 
 // What is found of a token that declares nothing.
-fn found_at(compiled: &Compiled<'_>, locals: &Locals, token: usize) -> Option<Found> {
-    let (spans, brackets) = (compiled.spans, compiled.brackets);
-    if let Some(warning) = by_row(compiled, token) {
+fn found_at(tokens: &Tokens<'_>, locals: &Locals, token: usize) -> Option<Found> {
+    let (spans, brackets) = (tokens.spans, tokens.brackets);
+    if let Some(warning) = by_row(tokens, token) {
         return Found::new(token, warning);
     }
     if let Some(name) = name_at(spans, token) {
-        if let Some(found) = named(compiled, locals, token, name) {
+        if let Some(found) = named(tokens, locals, token, name) {
             return Some(found);
         }
     }
     match lexeme_at(spans, token) {
         Lexeme::Keyword(Keyword::If | Keyword::While) => condition(spans, brackets, token),
-        Lexeme::String | Lexeme::Character(_) => backslash(compiled, token),
+        Lexeme::String | Lexeme::Character(_) => backslash(tokens, token),
         _ => statement(spans, brackets, token),
     }
 }
 
-fn by_row(compiled: &Compiled<'_>, token: usize) -> Option<Warning> {
-    let tokens = window(compiled.spans, token);
+fn by_row(tokens: &Tokens<'_>, token: usize) -> Option<Warning> {
+    let window = window(tokens.spans, token);
     for row in &ROWS {
-        if Kind::fit(&row.0, &tokens) && holds(row.1, compiled, token) {
+        if Kind::fit(&row.0, &window) && holds(row.1, tokens, token) {
             return row.2;
         }
     }
     None
 }
 
-fn window(spans: &[Span], token: usize) -> [Lexeme; 5] {
+fn window(spans: &Spans, token: usize) -> [Lexeme; 5] {
     [
         lexeme_at(spans, token.wrapping_sub(2)),
         lexeme_at(spans, token.wrapping_sub(1)),
@@ -234,18 +278,18 @@ fn window(spans: &[Span], token: usize) -> [Lexeme; 5] {
     ]
 }
 
-fn holds(condition: If, compiled: &Compiled<'_>, token: usize) -> bool {
+fn holds(condition: If, tokens: &Tokens<'_>, token: usize) -> bool {
     match condition {
         If::Always => true,
-        If::Joined => is_joined(compiled.spans, token),
-        If::Short => is_short(text_of(compiled, token)),
+        If::Joined => is_joined(tokens.spans, token),
+        If::Short => is_short(text_of(tokens, token)),
     }
 }
 
 // The bytes of a token.
-fn text_of<'a>(compiled: &Compiled<'a>, token: usize) -> &'a [u8] {
-    match compiled.spans.get(token) {
-        Some(span) => compiled
+fn text_of<'a>(tokens: &Tokens<'a>, token: usize) -> &'a [u8] {
+    match tokens.spans.get(token) {
+        Some(span) => tokens
             .source
             .get(span.place.start..span.end())
             .unwrap_or(&[]),
@@ -259,8 +303,8 @@ fn is_short(text: &[u8]) -> bool {
 }
 
 // A backslash before what is an escape in C.
-fn backslash(compiled: &Compiled<'_>, token: usize) -> Option<Found> {
-    let text = text_of(compiled, token);
+fn backslash(tokens: &Tokens<'_>, token: usize) -> Option<Found> {
+    let text = text_of(tokens, token);
     for index in 1..text.len().saturating_sub(2) {
         let next = text.get(index.saturating_add(1));
         if text.get(index) == Some(&b'\\')
@@ -273,47 +317,42 @@ fn backslash(compiled: &Compiled<'_>, token: usize) -> Option<Found> {
 }
 
 // What is found of a name.
-fn named(compiled: &Compiled<'_>, locals: &Locals, token: usize, name: Name) -> Option<Found> {
+fn named(tokens: &Tokens<'_>, locals: &Locals, token: usize, name: Name) -> Option<Found> {
     let next = token.wrapping_add(1);
-    match lexeme_at(compiled.spans, next) {
-        Lexeme::OpenBracket => past_vector(compiled, locals, token, name),
-        Lexeme::OpenParen => called(compiled, locals, token, name),
-        Lexeme::Colon if name.as_str() == "default" => default_label(compiled, locals, token),
+    match lexeme_at(tokens.spans, next) {
+        Lexeme::OpenBracket => past_vector(tokens, locals, token, name),
+        Lexeme::OpenParen => called(tokens, locals, token, name),
+        Lexeme::Colon if name.as_str() == "default" => default_label(tokens, locals, token),
         _ => None,
     }
 }
 
 // A label `default` that nothing else names, where the other edition has a keyword.
-fn default_label(compiled: &Compiled<'_>, locals: &Locals, token: usize) -> Option<Found> {
-    if locals.defaults == 1 && may_begin(compiled.spans, token) {
+fn default_label(tokens: &Tokens<'_>, locals: &Locals, token: usize) -> Option<Found> {
+    if locals.defaults == 1 && may_begin(tokens.spans, token) {
         return Found::new(token, Warning::DefaultLabel);
     }
     None
 }
 
 // A constant index past the vector of this name.
-fn past_vector(
-    compiled: &Compiled<'_>,
-    locals: &Locals,
-    token: usize,
-    name: Name,
-) -> Option<Found> {
+fn past_vector(tokens: &Tokens<'_>, locals: &Locals, token: usize, name: Name) -> Option<Found> {
     let place = token.wrapping_add(2);
-    let Lexeme::Number(index) = lexeme_at(compiled.spans, place) else {
+    let Lexeme::Number(index) = lexeme_at(tokens.spans, place) else {
         return None;
     };
-    let is_whole = lexeme_at(compiled.spans, token.wrapping_add(3)) == Lexeme::CloseBracket;
-    if is_whole && u64::from(index) > last_of(compiled, locals, &name)? {
+    let is_whole = lexeme_at(tokens.spans, token.wrapping_add(3)) == Lexeme::CloseBracket;
+    if is_whole && u64::from(index) > last_of(tokens, locals, &name)? {
         return Found::of_name(place, Warning::PastVector, name);
     }
     None
 }
 
 // The last index of the vector of this name.
-fn last_of(compiled: &Compiled<'_>, locals: &Locals, name: &Name) -> Option<u64> {
+fn last_of(tokens: &Tokens<'_>, locals: &Locals, name: &Name) -> Option<u64> {
     match locals.find(name)?.role {
         Role::Vector(last) => Some(u64::from(last)),
-        Role::External => match compiled.defined.find(name)?.what {
+        Role::External => match tokens.defined.find(name)?.what {
             What::Vector(last) => Some(last),
             _ => None,
         },
@@ -322,15 +361,15 @@ fn last_of(compiled: &Compiled<'_>, locals: &Locals, name: &Name) -> Option<u64>
 }
 
 // What is found of a call.
-fn called(compiled: &Compiled<'_>, locals: &Locals, token: usize, name: Name) -> Option<Found> {
+fn called(tokens: &Tokens<'_>, locals: &Locals, token: usize, name: Name) -> Option<Found> {
     if let Some(local) = locals.find(&name) {
         if local.role != Role::External {
             return None;
         }
     }
-    let given = compiled.brackets.items(token.wrapping_add(1));
-    let warning = match compiled.defined.find(&name) {
-        Some(definition) => by_definition(compiled.spans, token, given, definition.what)?,
+    let given = tokens.brackets.items(token.wrapping_add(1));
+    let warning = match tokens.defined.find(&name) {
+        Some(definition) => by_definition(tokens.spans, token, given, definition.what)?,
         None if given == library_arguments(&name)? => return None,
         None if name.as_str() == "exit" && given == 0 => return None,
         None => Warning::LibraryArguments,
@@ -339,7 +378,7 @@ fn called(compiled: &Compiled<'_>, locals: &Locals, token: usize, name: Name) ->
 }
 
 // What is found of a call of what the source defines.
-fn by_definition(spans: &[Span], token: usize, given: u64, what: What) -> Option<Warning> {
+fn by_definition(spans: &Spans, token: usize, given: u64, what: What) -> Option<Warning> {
     let What::Function {
         parameters,
         returns,
@@ -360,7 +399,7 @@ fn by_definition(spans: &[Span], token: usize, given: u64, what: What) -> Option
 }
 
 // Whether a call that begins with this token is a part of an expression, and no statement.
-fn is_value(spans: &[Span], token: usize) -> bool {
+fn is_value(spans: &Spans, token: usize) -> bool {
     !matches!(
         lexeme_at(spans, token.wrapping_sub(1)),
         Lexeme::Semicolon

@@ -1,8 +1,7 @@
 //! The pieces that the text of a finding consists of.
 ghost use Rattle.std.specs.List.{flat_map};
-ghost use Rattle.std.specs.Prelude.{◌≡◌, ◌<◌, ◌++◌, OnOk, replicate};
-ghost use Rattle.bcheck.specs.Checks.{escaped, file_byte, file_text, json_byte, json_text, shown_byte, shown_text};
-ghost use Rattle.bcheck.specs.Checks.{spot_words};
+ghost use Rattle.std.specs.Prelude.{◌≡◌, ◌<◌, ◌++◌, OnOk, Some, replicate, true};
+ghost use Rattle.bcheck.specs.Checks.{escaped, file_byte, file_member, file_text, json_byte, json_text, shown_byte, shown_text};
 ghost use Rattle.bcheck.specs.Pieces.{piece_text, spot_text};
 
 use crate::finding::Spot;
@@ -39,26 +38,52 @@ pub(crate) fn push_all(text: &mut Text, pieces: &[Piece<'_>]) -> Result<(), Allo
 }
 
 /// Adds the line and the column of a second place, for an editor, if there is one.
-pub(crate) fn push_second(text: &mut Text, second: Option<Spot>) -> Result<(), AllocError>
-    ensures { OnOk result (text.new ≡ text.old ++ spot_text second) }
+pub(crate) fn push_second(text: &mut Text, second: Option<Spot<'_>>) -> Result<(), AllocError>
+    ensures { OnOk result (text.new ≡ text.old ++ spot_text second.entry) }
 {
     match second {
-        Some(spot) => push_spot(text, spot.line, spot.column as u64),
+        Some(spot) => push_spot(text, &spot),
         None => Ok(()),
     }
 }
 
-fn push_spot(text: &mut Text, line: u64, column: u64) -> Result<(), AllocError>
-    ensures { OnOk result (text.new ≡ text.old ++ spot_words line column) }
+fn push_spot(text: &mut Text, spot: &Spot<'_>) -> Result<(), AllocError>
+    ensures { OnOk result (text.new ≡ text.old ++ spot_text (Some spot.now)) }
+{
+    text.push(b",\"related\":{")?;
+    push_file_of(text, spot)?;
+    push_all(
+        text,
+        &[
+            Piece::Words(b"\"line\":"),
+            Piece::Number(spot.at.line),
+            Piece::Words(b",\"column\":"),
+            Piece::Number(spot.column as u64),
+            Piece::Words(b"}"),
+        ],
+    )
+}
+
+fn push_file_of(text: &mut Text, spot: &Spot<'_>) -> Result<(), AllocError>
+    ensures { OnOk result (text.new ≡ text.old ++ file_member spot.now.is_of_several spot.now.at.file.now) }
+{
+    if spot.is_of_several {
+        push_file_member(text, spot.at.file.as_bytes())
+    } else {
+        Ok(())
+    }
+}
+
+// Adds the member of an object that names a file.
+fn push_file_member(text: &mut Text, file: &[u8]) -> Result<(), AllocError>
+    ensures { OnOk result (text.new ≡ text.old ++ file_member true file.now) }
 {
     push_all(
         text,
         &[
-            Piece::Words(b",\"related\":{\"line\":"),
-            Piece::Number(line),
-            Piece::Words(b",\"column\":"),
-            Piece::Number(column),
-            Piece::Words(b"}"),
+            Piece::Words(b"\"file\":"),
+            Piece::Quoted(file),
+            Piece::Words(b","),
         ],
     )
 }

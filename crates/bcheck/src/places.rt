@@ -1,12 +1,16 @@
 //! Where a place stands in the source.
-ghost use Rattle.std.specs.Prelude.{◌≡◌, ◌<◌, IfSome, IsTrue, drop, take};
+ghost use Rattle.std.specs.List.{All};
+ghost use Rattle.std.specs.Prelude.{ℕ, List, OnOk, ◌≡◌, ◌<◌, ◌≤◌, IfOk, IfSome, IsTrue, drop, take, vec_items};
 ghost use Rattle.blang.specs.Cut.{line_number_after, next_line};
 ghost use Rattle.bcheck.specs.Checks.{IsOver, StandsOn, column_after, next_column};
-ghost use Rattle.bcheck.specs.Findings.{IsSecond};
+ghost use Rattle.bcheck.specs.Findings.{IsMilestone, IsSecond};
+ghost use Rattle.bsources.specs.Files.{files_shown};
 
 use crate::finding::{Place, Spot};
 use blex::{Lexeme, Lexer};
+use bsources::SourceFiles;
 use bword::{Edition, MemIn};
+use std::alloc::{AllocError, Global};
 
 /// The bytes before a place of the source, and those from it on.
 pub(crate) fn parts(source: &[u8], start: usize) -> (&[u8], &[u8])
@@ -20,31 +24,103 @@ pub(crate) fn parts(source: &[u8], start: usize) -> (&[u8], &[u8])
     }
 }
 
+/// How many bytes are from one milestone to the next.
+const MILESTONE_BYTES: usize = 4096;
+
+/// The line and the column of a place of the source, from 1.
+#[derive(Clone, Copy)]
+pub(crate) struct Milestone {
+    pub start: usize,
+    pub line: u64,
+    pub column: usize,
+}
+
+/// The lines and columns of some places of a source, so that those of others are found without going through it again.
+pub(crate) fn milestones(alloc: Global, source: &[u8]) -> Result<Vec<Milestone>, AllocError>
+    ensures { IfOk result (λ all. All (IsMilestone source.now) (vec_items all)) }
+{
+    let mut all = Vec::new(alloc);
+    let mut line: u64 = 1;
+    let mut column: usize = 1;
+    for start in 0..source.len() {
+        let here = Milestone {
+            start,
+            line,
+            column,
+        };
+        push_milestone(&mut all, here)?;
+        line = next_line(line, source[start]);
+        column = next_column(column, source[start]);
+    }
+    Ok(all)
+}
+
+// Adds a milestone, if one is wanted at its place.
+fn push_milestone(all: &mut Vec<Milestone>, here: Milestone) -> Result<(), AllocError>
+    ensures { (source : List ℕ) → All (IsMilestone source) (vec_items all.old) → IsMilestone source here
+        → OnOk result (All (IsMilestone source) (vec_items all.new)) }
+{
+    if here.start % MILESTONE_BYTES != 0 {
+        return Ok(());
+    }
+    all.push(here)?;
+    Ok(())
+}
+
+/// The line and the column of a place of the source, from 1.
+pub(crate) fn position(source: &[u8], milestones: &[Milestone], start: usize) -> (u64, usize)
+    requires { All (IsMilestone source.now) milestones.now }
+    ensures line { result.0 ≡ line_number_after 1 (take start source.now) }
+    ensures column { result.1 ≡ column_after 1 (take start source.now) }
+    ensures some { 0 < result.1 }
+{
+    let from = last_before(source, milestones, start);
+    let (mut line, mut column) = (from.line, from.column);
+    for index in from.start..start.min(source.len()) {
+        line = next_line(line, source[index]);
+        column = next_column(column, source[index]);
+    }
+    (line, column)
+}
+
+// The last milestone before a place of the source.
+fn last_before(source: &[u8], milestones: &[Milestone], start: usize) -> Milestone
+    requires { All (IsMilestone source.now) milestones.now }
+    ensures is { IsMilestone source.now result }
+    ensures before { result.start ≤ start }
+{
+    match milestones
+        .get(start / MILESTONE_BYTES)
+        .or(milestones.last())
+    {
+        Some(milestone) if milestone.start <= start => *milestone,
+        _ => Milestone {
+            start: 0,
+            line: 1,
+            column: 1,
+        },
+    }
+}
+
 /// The line and the column of a place, if there is one.
-pub(crate) fn spot_of(source: &[u8], place: &Option<Place>) -> Option<Spot>
-    ensures { IsSecond source.now result }
+pub(crate) fn spot_of<'a>(
+    source: &[u8],
+    files: &SourceFiles<'a>,
+    milestones: &[Milestone],
+    place: &Option<Place>,
+) -> Option<Spot<'a>>
+    requires { All (IsMilestone source.now) milestones.now }
+    ensures { IsSecond (files_shown files.now) source.now result }
 {
     let Some(place) = place else {
         return None;
     };
-    let (before, _) = parts(source, place.start);
-    let (line, column) = end_of(before);
-    Some(Spot { line, column })
-}
-
-/// The line and the column of the place after a text, from 1.
-pub(crate) fn end_of(text: &[u8]) -> (u64, usize)
-    ensures line { result.0 ≡ line_number_after 1 text.now }
-    ensures column { result.1 ≡ column_after 1 text.now }
-    ensures some { 0 < result.1 }
-{
-    let mut line: u64 = 1;
-    let mut column: usize = 1;
-    for byte in text {
-        line = next_line(line, *byte);
-        column = next_column(column, *byte);
-    }
-    (line, column)
+    let (line, column) = position(source, milestones, place.start);
+    Some(Spot {
+        at: files.own_line(line),
+        is_of_several: !files.rest.is_empty(),
+        column,
+    })
 }
 
 // The line after a byte.
@@ -75,7 +151,7 @@ pub(crate) fn place_on(source: &[u8], edition: Edition, place: &Place, line: u64
     ensures { IfSome result (λ p. StandsOn edition line (take p.start source.now) (drop p.start source.now)) }
 {
     let (before, rest) = parts(source, place.start);
-    let (here, _) = end_of(before);
+    let here = line_after(before);
     if here == line {
         return Some(*place);
     }
@@ -90,6 +166,17 @@ pub(crate) fn place_on(source: &[u8], edition: Edition, place: &Place, line: u64
         start,
         len: 1,
     })
+}
+
+// The number of the line after a text.
+fn line_after(text: &[u8]) -> u64
+    ensures { result ≡ line_number_after 1 text.now }
+{
+    let mut line: u64 = 1;
+    for byte in text {
+        line = next_line(line, *byte);
+    }
+    line
 }
 
 // Whether no token comes any more.

@@ -1,4 +1,5 @@
 //! The tokens of a source, and where each stands.
+use crate::compiled::Extent;
 use crate::finding::Place;
 use blang::{Keyword, Letters};
 use blex::{Lexeme, Lexer};
@@ -19,40 +20,125 @@ impl Span {
     }
 }
 
-/// The tokens of a source up to the last one, as the lexer gives them. The last one has no bytes.
-pub(crate) fn spans(
-    alloc: Global,
-    source: &[u8],
-    edition: Edition,
-) -> Result<Vec<Span>, AllocError> {
-    let mut lexer = Lexer::with_edition(MemIn::new(source), edition);
-    let mut spans = Vec::new(alloc);
-    let mut end: usize = 0;
-    for _ in 0..=source.len() {
-        let Ok(seen) = lexer.next_lexeme() else {
-            break;
+/// A source in its edition.
+#[derive(Clone, Copy)]
+pub(crate) struct Source<'a> {
+    pub text: &'a [u8],
+    pub edition: Edition,
+}
+
+/// The tokens of a source in turn, with their places.
+#[derive(Drop)]
+pub(crate) struct Scanner<'a> {
+    text: &'a [u8],
+    lexer: Lexer<MemIn<'a>>,
+    /// The place after the last token.
+    pub end: usize,
+}
+
+impl<'a> Scanner<'a> {
+    pub(crate) fn new(source: Source<'a>) -> Self {
+        Scanner {
+            text: source.text,
+            lexer: Lexer::with_edition(MemIn::new(source.text), source.edition),
+            end: 0,
+        }
+    }
+
+    /// The next token, up to the last one, which has no bytes if it is the end of the source.
+    pub(crate) fn next(&mut self) -> Option<Span> {
+        let Ok(seen) = self.lexer.next_lexeme() else {
+            return None;
         };
-        let start = next_start(source, end);
+        let start = next_start(self.text, self.end);
         let place = Place {
             line: seen.line,
             start,
-            len: length(seen.lexeme, source.get(start..).unwrap_or(&[])),
+            len: length(seen.lexeme, self.text.get(start..).unwrap_or(&[])),
         };
         let span = Span {
             lexeme: seen.lexeme,
             place,
         };
-        spans.push(span)?;
-        end = span.end();
-        if let Lexeme::Bad(_) | Lexeme::End = seen.lexeme {
-            break;
+        self.end = span.end();
+        Some(span)
+    }
+
+    /// Passes so many tokens.
+    pub(crate) fn pass(&mut self, count: usize) {
+        for _ in 0..count {
+            self.next();
         }
     }
-    Ok(spans)
+}
+
+/// Tokens that stand one after another, each by its place among all tokens of the source.
+#[derive(Drop)]
+pub(crate) struct Spans {
+    /// The place of the first one.
+    pub first: usize,
+    all: Vec<Span>,
+}
+
+impl Spans {
+    /// No tokens.
+    pub(crate) fn new(alloc: Global) -> Self {
+        Spans {
+            first: 0,
+            all: Vec::new(alloc),
+        }
+    }
+
+    /// The tokens of a source from this place to that one, or to the last one.
+    pub(crate) fn between(
+        alloc: Global,
+        source: Source<'_>,
+        extent: Extent,
+    ) -> Result<Self, AllocError> {
+        let mut scanner = Scanner::new(source);
+        scanner.pass(extent.first);
+        let mut spans = Spans::new(alloc);
+        spans.refill(&mut scanner, extent)?;
+        Ok(spans)
+    }
+
+    /// Takes the next tokens in the place of those that were there.
+    pub(crate) fn refill(
+        &mut self,
+        scanner: &mut Scanner<'_>,
+        extent: Extent,
+    ) -> Result<(), AllocError> {
+        self.first = extent.first;
+        self.all.clear();
+        for _ in extent.first..extent.end {
+            let Some(span) = scanner.next() else {
+                break;
+            };
+            self.all.push(span)?;
+            if is_last(&span.lexeme) {
+                break;
+            }
+        }
+        Ok(())
+    }
+
+    pub(crate) fn get(&self, token: usize) -> Option<&Span> {
+        self.all.get(token.checked_sub(self.first)?)
+    }
+
+    /// The place after the last one.
+    pub(crate) fn end(&self) -> usize {
+        self.first.saturating_add(self.all.len())
+    }
+}
+
+/// Whether no token comes after this one.
+pub(crate) fn is_last(lexeme: &Lexeme) -> bool {
+    matches!(lexeme, Lexeme::Bad(_) | Lexeme::End)
 }
 
 /// The token at a place among the tokens, or the end of the source.
-pub(crate) fn lexeme_at(spans: &[Span], token: usize) -> Lexeme {
+pub(crate) fn lexeme_at(spans: &Spans, token: usize) -> Lexeme {
     match spans.get(token) {
         Some(span) => span.lexeme,
         None => Lexeme::End,
@@ -60,7 +146,7 @@ pub(crate) fn lexeme_at(spans: &[Span], token: usize) -> Lexeme {
 }
 
 /// The name at a place among the tokens, if one is there.
-pub(crate) fn name_at(spans: &[Span], token: usize) -> Option<Name> {
+pub(crate) fn name_at(spans: &Spans, token: usize) -> Option<Name> {
     match lexeme_at(spans, token) {
         Lexeme::Name(name) => Some(name),
         _ => None,
@@ -68,7 +154,7 @@ pub(crate) fn name_at(spans: &[Span], token: usize) -> Option<Name> {
 }
 
 /// Whether the next token stands directly after this one.
-pub(crate) fn is_joined(spans: &[Span], token: usize) -> bool {
+pub(crate) fn is_joined(spans: &Spans, token: usize) -> bool {
     match (spans.get(token), spans.get(token.wrapping_add(1))) {
         (Some(span), Some(next)) => span.end() == next.place.start,
         _ => false,
@@ -76,7 +162,7 @@ pub(crate) fn is_joined(spans: &[Span], token: usize) -> bool {
 }
 
 /// Whether the next token stands on another line.
-pub(crate) fn is_next_line(spans: &[Span], token: usize) -> bool {
+pub(crate) fn is_next_line(spans: &Spans, token: usize) -> bool {
     match (spans.get(token), spans.get(token.wrapping_add(1))) {
         (Some(span), Some(next)) => span.place.line != next.place.line,
         _ => false,
@@ -84,7 +170,7 @@ pub(crate) fn is_next_line(spans: &[Span], token: usize) -> bool {
 }
 
 /// Where a token stands. The end of the source stands after the token before it.
-pub(crate) fn place_of(spans: &[Span], token: usize) -> Place {
+pub(crate) fn place_of(spans: &Spans, token: usize) -> Place {
     match (spans.get(token), spans.get(token.wrapping_sub(1))) {
         (Some(span), Some(before)) if span.lexeme == Lexeme::End => Place {
             line: before.place.line,
@@ -101,26 +187,42 @@ pub(crate) fn place_of(spans: &[Span], token: usize) -> Place {
 }
 
 // Where the next token begins, after blanks and comments; a comment without an end is one.
-fn next_start(source: &[u8], from: usize) -> usize {
-    let mut opened: Option<usize> = None;
-    let mut is_second = false;
-    for index in from..source.len() {
-        let pair = (source[index], source.get(index.saturating_add(1)).copied());
-        if is_second {
-            is_second = false;
-        } else if opened.is_some() {
-            if pair == (b'*', Some(b'/')) {
-                opened = None;
-                is_second = true;
-            }
-        } else if pair == (b'/', Some(b'*')) {
-            opened = Some(index);
-            is_second = true;
-        } else if !matches!(pair.0, b' ' | b'\t' | b'\n') {
+fn next_start(text: &[u8], from: usize) -> usize {
+    let mut start = after_blanks(text, from);
+    for _ in from..text.len() {
+        let Some(end) = comment_end(text, start) else {
+            break;
+        };
+        start = after_blanks(text, end);
+    }
+    start
+}
+
+/// The place after the blanks at this place.
+pub(crate) fn after_blanks(text: &[u8], from: usize) -> usize {
+    for index in from..text.len() {
+        if !matches!(text[index], b' ' | b'\t' | b'\n') {
             return index;
         }
     }
-    opened.unwrap_or(source.len())
+    text.len()
+}
+
+/// The place after the comment that begins at this place, if one begins there and ends.
+pub(crate) fn comment_end(text: &[u8], start: usize) -> Option<usize> {
+    if pair_at(text, start) != Some((b'/', b'*')) {
+        return None;
+    }
+    for index in start.saturating_add(2)..text.len() {
+        if text[index] == b'*' && pair_at(text, index) == Some((b'*', b'/')) {
+            return Some(index.saturating_add(2));
+        }
+    }
+    None
+}
+
+fn pair_at(text: &[u8], index: usize) -> Option<(u8, u8)> {
+    Some((*text.get(index)?, *text.get(index.checked_add(1)?)?))
 }
 
 // How many bytes a token has that stands at the beginning of a text.

@@ -5,7 +5,7 @@ ghost use Rattle.bcheck.specs.Checks.{is_on_line};
 
 use crate::around::{Around, Part, opener_of};
 use crate::kinds::Kind;
-use crate::spans::{Span, is_joined, is_next_line, lexeme_at};
+use crate::spans::{Spans, is_joined, is_next_line, lexeme_at};
 use blang::Keyword;
 use blex::Lexeme;
 use bword::BinOp;
@@ -353,7 +353,7 @@ const REST: [Row; 12] = [
 ];
 
 /// What is said of a token with which no program goes on, and which token is marked: the first row that fits tells it.
-pub(crate) fn found(source: &[u8], spans: &[Span], around: &Around) -> (Syntax, Mark) {
+pub(crate) fn found(source: &[u8], spans: &Spans, around: &Around) -> (Syntax, Mark) {
     let place = Tried {
         source,
         spans,
@@ -371,7 +371,7 @@ pub(crate) fn found(source: &[u8], spans: &[Span], around: &Around) -> (Syntax, 
 #[derive(Clone, Copy)]
 struct Tried<'a> {
     source: &'a [u8],
-    spans: &'a [Span],
+    spans: &'a Spans,
     around: &'a Around,
     tokens: [Lexeme; 5],
 }
@@ -413,7 +413,7 @@ fn first_of(tried: &Tried<'_>, rows: &[Row]) -> Option<(Syntax, Mark)> {
     None
 }
 
-fn window(spans: &[Span], around: &Around) -> [Lexeme; 5] {
+fn window(spans: &Spans, around: &Around) -> [Lexeme; 5] {
     [
         lexeme_at(spans, around.first),
         lexeme_at(spans, around.token.wrapping_sub(2)),
@@ -437,7 +437,7 @@ fn is_part(asked: Option<Part>, part: Part) -> bool {
 }
 
 // Whether this is so of a token.
-fn holds(condition: If, source: &[u8], spans: &[Span], around: &Around) -> bool {
+fn holds(condition: If, source: &[u8], spans: &Spans, around: &Around) -> bool {
     let before = around.token.wrapping_sub(1);
     match condition {
         If::Always => true,
@@ -456,14 +456,14 @@ fn holds(condition: If, source: &[u8], spans: &[Span], around: &Around) -> bool 
 }
 
 // Whether the condition of an `if` ends with this token.
-fn is_after_if(spans: &[Span], closer: usize) -> bool {
+fn is_after_if(spans: &Spans, closer: usize) -> bool {
     match opener_of(spans, closer) {
         Some(opener) => IF.fits(&lexeme_at(spans, opener.wrapping_sub(1))),
         None => false,
     }
 }
 
-fn is_line_start(source: &[u8], spans: &[Span], token: usize) -> bool {
+fn is_line_start(source: &[u8], spans: &Spans, token: usize) -> bool {
     match spans.get(token) {
         Some(span) => matches!(
             source.get(span.place.start.wrapping_sub(1)),
@@ -474,7 +474,7 @@ fn is_line_start(source: &[u8], spans: &[Span], token: usize) -> bool {
 }
 
 // Whether the last character of a string is a backslash.
-fn ends_with_backslash(source: &[u8], spans: &[Span], token: usize) -> bool {
+fn ends_with_backslash(source: &[u8], spans: &Spans, token: usize) -> bool {
     match spans.get(token) {
         Some(span) => source.get(span.end().wrapping_sub(2)) == Some(&b'\\'),
         None => false,

@@ -1,19 +1,22 @@
 //! What is said of names that mean nothing where they are, and of operands without an address.
 ghost use Rattle.std.specs.List.{list_all};
-ghost use Rattle.std.specs.Prelude.{◌≡◌, ◌∷◌, [], IsTrue, codes};
+ghost use Rattle.std.specs.Prelude.{◌≡◌, ◌∷◌, [], IfOk, IsTrue, codes};
 ghost use Rattle.bcheck.specs.Checks.{is_on_line};
 ghost use Rattle.bcheck.specs.Findings.{matter_code};
 
 use crate::advice::Matter;
 use crate::around::opener_of;
-use crate::finding::{Finding, Place};
+use crate::compiled::{Compiled, Extent};
+use crate::defined::is_function;
+use crate::finding::Finding;
 use crate::kinds::{Kind, is_ended, is_word};
+use crate::mention::{first_mention, token_of_mention};
 use crate::near::{Definitions, find_definitions, library_arguments, near};
-use crate::passes::Extent;
-use crate::spans::{Span, lexeme_at, place_of};
+use crate::spans::{Source, Spans, lexeme_at, place_of};
 use blang::Keyword;
 use blex::Lexeme;
 use bword::{BinOp, Name};
+use std::alloc::{AllocError, Global};
 
 /// A name of a function that is neither declared nor a label.
 #[derive(Clone, Copy)]
@@ -53,14 +56,48 @@ impl Unknown {
     }
 }
 
-/// A name that nothing defines.
+/// A name that nothing defines. Of one that a file of the folder `lib` defines it is which file.
 #[derive(Clone, Copy)]
 pub(crate) enum Undefined {
     Near,
     Type,
-    Printf,
+    InInput,
+    InNumbers,
+    InPrint,
+    InStrings,
+    InVectors,
     Other,
 }
+
+/// What the files of the folder `lib` define.
+const IN_LIBRARY: [(&str, Undefined); 26] = [
+    ("abs", Undefined::InNumbers),
+    ("assert", Undefined::InPrint),
+    ("compare", Undefined::InStrings),
+    ("concat", Undefined::InStrings),
+    ("copy", Undefined::InStrings),
+    ("flush", Undefined::InPrint),
+    ("getline", Undefined::InInput),
+    ("getstr", Undefined::InInput),
+    ("getvec", Undefined::InVectors),
+    ("givevec", Undefined::InVectors),
+    ("index", Undefined::InStrings),
+    ("length", Undefined::InStrings),
+    ("max", Undefined::InNumbers),
+    ("min", Undefined::InNumbers),
+    ("number", Undefined::InNumbers),
+    ("printf", Undefined::InPrint),
+    ("putnumb", Undefined::InPrint),
+    ("putoct", Undefined::InPrint),
+    ("putstr", Undefined::InPrint),
+    ("rand", Undefined::InNumbers),
+    ("randseed", Undefined::InNumbers),
+    ("rlsevec", Undefined::InVectors),
+    ("sort", Undefined::InVectors),
+    ("sortby", Undefined::InVectors),
+    ("vecleft", Undefined::InVectors),
+    ("vecnext", Undefined::InVectors),
+];
 
 impl Undefined {
     /// One sentence on it, and how to fix it.
@@ -71,7 +108,11 @@ impl Undefined {
         match self {
             Undefined::Near => ("nothing defines @: did you mean #?", "write #, or define @"),
             Undefined::Type => ("there are no types: the name before @ is defined", "@; defines @"),
-            Undefined::Printf => ("nothing defines @", "printn(n, 10) and putchar(c), or print of examples/print.b"),
+            Undefined::InInput => ("nothing defines @", "lib/input.b has it: b go FILE --with lib/input.b"),
+            Undefined::InNumbers => ("nothing defines @", "lib/numbers.b has it: b go FILE --with lib/numbers.b"),
+            Undefined::InPrint => ("nothing defines @", "lib/print.b has it: b go FILE --with lib/print.b"),
+            Undefined::InStrings => ("nothing defines @", "lib/strings.b has it: b go FILE --with lib/strings.b"),
+            Undefined::InVectors => ("nothing defines @", "lib/vectors.b has it: b go FILE --with lib/vectors.b"),
             Undefined::Other => ("nothing defines @", "define it, or take one of the six library calls"),
         }
     }
@@ -106,16 +147,23 @@ impl Lvalue {
 }
 
 /// What is said of a name of a function that is neither declared nor a label.
-pub(crate) fn unknown_name(spans: &[Span], extent: Extent, token: usize, name: Name) -> Finding
+pub(crate) fn unknown_name(
+    source: Source<'_>,
+    spans: &Spans,
+    extent: Extent,
+    token: usize,
+    name: Name,
+) -> Finding
     ensures { matter_code result.matter ≡ codes "un" }
 {
-    let defined = find_definitions(spans, &name);
+    let defined = find_definitions(source, &name);
     let other = like(spans, extent, &name, &defined);
     let is_label = lexeme_at(spans, token.wrapping_sub(1)) == Lexeme::Keyword(Keyword::Goto);
     let what = match name.as_str() {
         "break" | "default" => Unknown::OtherEdition,
         "continue" => Unknown::Continue,
-        _ if defined.same.is_some() => kind_of(spans, &defined),
+        _ if defined.is_function => Unknown::Function,
+        _ if defined.same.is_some() => Unknown::External,
         _ if library_arguments(&name).is_some() => Unknown::Library,
         _ if other.is_some() => Unknown::Near,
         _ if is_label => Unknown::NoLabel,
@@ -126,52 +174,49 @@ pub(crate) fn unknown_name(spans: &[Span], extent: Extent, token: usize, name: N
         name: Some(name),
         other,
         place: place_of(spans, token),
-        related: place_at(spans, defined.same),
-    }
-}
-
-// Whether the definition of the name is a function.
-fn kind_of(spans: &[Span], defined: &Definitions) -> Unknown {
-    match defined.same {
-        Some(token) if lexeme_at(spans, token.wrapping_add(1)) == Lexeme::OpenParen =>
-            Unknown::Function,
-        _ => Unknown::External,
+        related: defined.same,
     }
 }
 
 // A name like this one, of the function, of a definition or of the library.
-fn like(spans: &[Span], extent: Extent, name: &Name, defined: &Definitions) -> Option<Name> {
-    match near(spans, extent.first, extent.end, name) {
-        Some(other) => Some(other),
-        None => match lexeme_at(spans, defined.near?) {
-            Lexeme::Name(other) => Some(other),
-            _ => None,
-        },
-    }
+fn like(spans: &Spans, extent: Extent, name: &Name, defined: &Definitions) -> Option<Name> {
+    near(spans, extent.first, extent.end, name).or(defined.near)
 }
 
-fn place_at(spans: &[Span], token: Option<usize>) -> Option<Place> {
-    match token {
-        Some(token) => Some(place_of(spans, token)),
-        None => None,
-    }
+/// What is said of a name that nothing defines, where it is mentioned first.
+pub(crate) fn undefined_name(
+    alloc: Global,
+    source: Source<'_>,
+    compiled: &Compiled,
+    name: Name,
+) -> Result<Finding, AllocError>
+    ensures { IfOk result (λ finding. matter_code finding.matter ≡ codes "load 3") }
+{
+    let mention = first_mention(alloc, compiled.code.bytes(), name)?;
+    let extent = compiled.extent(mention.unwrap_or(0));
+    let spans = Spans::between(alloc, source, extent)?;
+    let token = token_of_mention(&spans, extent, name);
+    Ok(undefined_at(source, &spans, extent, token, name))
 }
 
-/// What is said of a name that nothing defines, which is first mentioned by a token of this definition.
-pub(crate) fn undefined_name(spans: &[Span], first: usize, token: usize, name: Name) -> Finding
+// What is said of a name that nothing defines, of which this token of a definition is the first mention.
+fn undefined_at(
+    source: Source<'_>,
+    spans: &Spans,
+    extent: Extent,
+    token: usize,
+    name: Name,
+) -> Finding
     ensures { matter_code result.matter ≡ codes "load 3" }
 {
-    let defined = find_definitions(spans, &name);
+    let defined = find_definitions(source, &name);
     let other = like(spans, Extent { first: 0, end: 0 }, &name, &defined);
-    let is_external = lexeme_at(spans, first.wrapping_add(1)) != Lexeme::OpenParen;
-    let what = if is_external && Kind::Type.fits(&lexeme_at(spans, first)) {
-        Undefined::Type
-    } else if name.as_str() == "printf" {
-        Undefined::Printf
-    } else if other.is_some() {
-        Undefined::Near
-    } else {
-        Undefined::Other
+    let is_typed = Kind::Type.fits(&lexeme_at(spans, extent.first));
+    let what = match in_library(&name) {
+        _ if is_typed && !is_function(spans, extent) => Undefined::Type,
+        Some(file) => file,
+        None if other.is_some() => Undefined::Near,
+        None => Undefined::Other,
     };
     Finding {
         matter: Matter::NotDefined(what),
@@ -182,8 +227,23 @@ pub(crate) fn undefined_name(spans: &[Span], first: usize, token: usize, name: N
     }
 }
 
+// Of a name that a file of the folder `lib` defines, which file.
+fn in_library(name: &Name) -> Option<Undefined> {
+    for (word, file) in &IN_LIBRARY {
+        if name.as_str() == *word {
+            return Some(*file);
+        }
+    }
+    None
+}
+
 /// What is said of the operand that the operator at this place wants the address of, on this line.
-pub(crate) fn without_address(spans: &[Span], operator: usize, line: u64) -> Finding
+pub(crate) fn without_address(
+    source: Source<'_>,
+    spans: &Spans,
+    operator: usize,
+    line: u64,
+) -> Finding
     ensures { matter_code result.matter ≡ codes "lv" }
 {
     let operand = operand_of(spans, operator);
@@ -197,7 +257,7 @@ pub(crate) fn without_address(spans: &[Span], operator: usize, line: u64) -> Fin
     if place.line != line {
         return Finding::new(Matter::NotLvalue(Lvalue::Other), place_of(spans, operator));
     }
-    let defined = find_definitions(spans, &name);
+    let defined = find_definitions(source, &name);
     let what = match defined.same {
         Some(_) => Lvalue::External,
         None => Lvalue::Label,
@@ -207,12 +267,12 @@ pub(crate) fn without_address(spans: &[Span], operator: usize, line: u64) -> Fin
         name: Some(name),
         other: None,
         place,
-        related: place_at(spans, defined.same),
+        related: defined.same,
     }
 }
 
 // The name after a prefix operator, or the last token before another one.
-fn operand_of(spans: &[Span], operator: usize) -> usize {
+fn operand_of(spans: &Spans, operator: usize) -> usize {
     let before = operator.wrapping_sub(1);
     let op = lexeme_at(spans, operator);
     let is_counted = matches!(op, Lexeme::Increment | Lexeme::Decrement);
@@ -226,7 +286,7 @@ fn operand_of(spans: &[Span], operator: usize) -> usize {
 }
 
 // What an operand is whose last token is this one.
-fn ended_by(spans: &[Span], last: usize) -> Lvalue {
+fn ended_by(spans: &Spans, last: usize) -> Lvalue {
     if lexeme_at(spans, last) != Lexeme::CloseParen {
         return Lvalue::Other;
     }

@@ -7,6 +7,7 @@ ghost use Rattle.bcheck.specs.Findings.{warning_code};
 /// What is probably a mistake.
 #[derive(Clone, Copy)]
 pub(crate) enum Warning {
+    CommentGoesOn,
     AndAnd,
     OperatorAssigns,
     ConditionAssigns,
@@ -46,6 +47,7 @@ impl Warning {
         ensures code { result.0.now ≡ warning_code self }
     {
         match self {
+            Warning::CommentGoesOn => ("*/", "this comment goes on into another file", "write */ where it ends"),
             Warning::AndAnd => ("and", "&& is the operator & and then an address", "a & b, or a ? b : 0"),
             Warning::OperatorAssigns =>
                 ("op", "this operator changes what stands before it", "a blank after the = sets it: x = -1;"),

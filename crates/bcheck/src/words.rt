@@ -5,7 +5,9 @@ ghost use Rattle.std.specs.List.{list_all};
 ghost use Rattle.bcheck.specs.Checks.{is_on_line};
 ghost use Rattle.bcheck.specs.Findings.{matter_code};
 
-use crate::finding::{Finding, Place};
+use crate::finding::{Finding, Spot};
+use crate::pieces::{Piece, push_all};
+use bsources::FileLine;
 use btools::Text;
 use bword::Name;
 use std::alloc::{AllocError, Global};
@@ -19,15 +21,26 @@ pub(crate) struct Words {
 }
 
 impl Words {
-    /// What is said of a finding.
-    pub(crate) fn new(alloc: Global, finding: &Finding) -> Result<Self, AllocError>
+    /// What is said of a finding in a file, where its second place is there or in another one.
+    pub(crate) fn new(
+        alloc: Global,
+        finding: &Finding,
+        file: &str,
+        second: &Option<Spot<'_>>,
+    ) -> Result<Self, AllocError>
         ensures code { IfOk result (λ words. words.code.now ≡ matter_code finding.now.matter) }
         ensures on_lines { IfOk result (λ words.
             IsTrue (list_all is_on_line (words.code.now ∷ words.sentence ∷ words.fix ∷ []))) }
     {
         let (code, sentence, fix) = finding.matter.advice();
-        let sentence = filled(alloc, sentence, finding)?;
-        let fix = filled(alloc, fix, finding)?;
+        let given = Given {
+            name: finding.name,
+            other: finding.other,
+            file,
+            second: *second,
+        };
+        let sentence = filled(alloc, sentence, &given)?;
+        let fix = filled(alloc, fix, &given)?;
         Ok(Words {
             code,
             sentence,
@@ -36,27 +49,36 @@ impl Words {
     }
 }
 
+/// What a sentence speaks of.
+#[derive(Clone, Copy)]
+struct Given<'a> {
+    name: Option<Name>,
+    other: Option<Name>,
+    file: &'a str,
+    second: Option<Spot<'a>>,
+}
+
 // A sentence with the names and the line in the places of `@`, `#` and `%`.
-fn filled(alloc: Global, sentence: &str, finding: &Finding) -> Result<Text, AllocError>
+fn filled(alloc: Global, sentence: &str, given: &Given<'_>) -> Result<Text, AllocError>
     requires { IsTrue (is_on_line sentence.now) }
     ensures { IfOk result (λ text. IsTrue (is_on_line text)) }
 {
     let mut text = Text::new(alloc);
     let bytes = sentence.as_bytes();
     for byte in bytes {
-        push_filled(&mut text, *byte, finding)?;
+        push_filled(&mut text, *byte, given)?;
     }
     Ok(text)
 }
 
-fn push_filled(text: &mut Text, byte: u8, finding: &Finding) -> Result<(), AllocError>
+fn push_filled(text: &mut Text, byte: u8, given: &Given<'_>) -> Result<(), AllocError>
     requires { IsTrue (is_in_range 32 126 byte) }
     ensures { IsTrue (is_on_line text.old) → OnOk result (IsTrue (is_on_line text.new)) }
 {
     match byte {
-        b'@' => push_name(text, byte, &finding.name),
-        b'#' => push_name(text, byte, &finding.other),
-        b'%' => push_line(text, byte, &finding.related),
+        b'@' => push_name(text, byte, &given.name),
+        b'#' => push_name(text, byte, &given.other),
+        b'%' => push_line(text, byte, given),
         _ => push_byte(text, byte),
     }
 }
@@ -79,13 +101,44 @@ fn push_name(text: &mut Text, byte: u8, name: &Option<Name>) -> Result<(), Alloc
     }
 }
 
-// Adds the line of a place, or the byte where there is none.
-fn push_line(text: &mut Text, byte: u8, place: &Option<Place>) -> Result<(), AllocError>
+// Adds the line of the second place, or the byte where there is none.
+fn push_line(text: &mut Text, byte: u8, given: &Given<'_>) -> Result<(), AllocError>
     requires { IsTrue (is_in_range 32 126 byte) }
     ensures { IsTrue (is_on_line text.old) → OnOk result (IsTrue (is_on_line text.new)) }
 {
-    match place {
-        Some(place) => text.push_number(place.line),
+    match given.second {
+        Some(second) => push_line_at(text, given.file, second.at),
         None => push_byte(text, byte),
     }
+}
+
+// Adds a line, of this file or of another one.
+fn push_line_at(text: &mut Text, file: &str, at: FileLine<'_>) -> Result<(), AllocError>
+    ensures { IsTrue (is_on_line text.old) → OnOk result (IsTrue (is_on_line text.new)) }
+{
+    if at.file == file {
+        push_own_line(text, at.line)
+    } else {
+        push_line_of(text, at)
+    }
+}
+
+fn push_own_line(text: &mut Text, line: u64) -> Result<(), AllocError>
+    ensures { IsTrue (is_on_line text.old) → OnOk result (IsTrue (is_on_line text.new)) }
+{
+    text.push_number(line)
+}
+
+// Adds a line of another file.
+fn push_line_of(text: &mut Text, at: FileLine<'_>) -> Result<(), AllocError>
+    ensures { IsTrue (is_on_line text.old) → OnOk result (IsTrue (is_on_line text.new)) }
+{
+    push_all(
+        text,
+        &[
+            Piece::Number(at.line),
+            Piece::Words(b" of "),
+            Piece::Shown(at.file.as_bytes()),
+        ],
+    )
 }

@@ -1,16 +1,24 @@
 -- What is answered where memory was refused, and what is done for a job.
-use Rattle.std.proofs.Common.{subst, ◌≡◌, ◌⊎◌, ℕ, List, false, sym, inl, inr}
+use Rattle.std.proofs.Common.{ap, ◌∙◌, subst, ◌≡◌, ◌⊎◌, ℕ, List, [], ◌∷◌, map, length, refl, false, sym, inl, inr}
 use Rattle.clap.specs.declared.error.kind.ErrorKind.{ErrorKind}
 use Rattle.clap.specs.declared.error.kind.ErrorKind.TheVariants as kind
 use Rattle.blang.specs.declared.status.TheConstants.{DEVICE, MEMORY}
 use Rattle.bword.specs.ByteEnds.{Unread, incoming_of}
 use Rattle.blang.specs.Headline.{GoesOff, Headline}
 use Rattle.blang.specs.Reports.{HasNotRun, RunEnds}
-use Rattle.bcommand.specs.CommandLine.{Source, asked_of, go, question_of}
+use Rattle.bword.specs.declared.edition.Edition.{Edition}
+use Rattle.brun.specs.OneRun.{unread}
+use Rattle.std.specs.Borrow.{Bor}
+use Rattle.blang.specs.Compiles.{CompileHeadline, Compiles}
+use Rattle.bcommand.specs.CommandLine.{Question, Source, ask, compile, asked_of, go, question_of}
 use Rattle.bcommand.specs.declared.job.Job.{Job}
 use Rattle.bcommand.specs.declared.job.Question.{Question as Questioned}
 use Rattle.clap.specs.Words.{Text}
-use Rattle.bcli.specs.Serves.{Answers, Does, HasNoFile, IsHelp, NamesFile, SaysNothing, RefusesWords}
+use Rattle.bsources.specs.Files.{Files, Followed, file_shown}
+use Rattle.bcli.specs.declared.sources.LibFault.{LibFault}
+use Rattle.bcli.specs.declared.sources.Whole.{Whole}
+use Rattle.bcli.specs.Reading.{HasReadLibs, HasReadSource, LibIsUnread}
+use Rattle.bcli.specs.Serves.{CompilesJoined, NamesLib, compiling, files_read, whole, Answers, Does, HasNoFile, IsHelp, NamesFile, SaysNothing, RefusesWords}
 use Rattle.bcli.specs.declared.shelf.FileFault.{FileFault}
 use Rattle.bcli.specs.declared.shelf.FileFault.TheVariants as file_fault
 use Rattle.bcli.specs.Shelves.{Holdings}
@@ -28,8 +36,8 @@ memory_alone k ends status is (inr (inr silent)) = silent
 pub done : (shelf : Holdings) (job same : Job) (ends : RunEnds) (status : ℕ) → job ≡ same → Does shelf (asked_of same) ends status → Does shelf (asked_of job) ends status
 done shelf job same ends status is does = subst (λ (j : Job). Does shelf (asked_of j) ends status) (sym is) does
 
-pub answered : (source : Source) (text : List ℕ) (question same : Questioned) (ends : RunEnds) (status : ℕ) → question ≡ same → Answers source text (question_of same) ends status → Answers source text (question_of question) ends status
-answered source text question same ends status is answers = subst (λ (q : Questioned). Answers source text (question_of q) ends status) (sym is) answers
+pub answered : (edition : Edition) (files : Files) (text : List ℕ) (question same : Questioned) (ends : RunEnds) (status : ℕ) → question ≡ same → Answers edition files text (question_of same) ends status → Answers edition files text (question_of question) ends status
+answered edition files text question same ends status is answers = subst (λ (q : Questioned). Answers edition files text (question_of q) ends status) (sym is) answers
 
 -- the text that is given is the one that was read
 pub held : (shelf : Holdings) (file : Text) (given read : List ℕ) → given ≡ read → shelf.holds file read → shelf.holds file given
@@ -44,15 +52,63 @@ pub named_for : (reason other : Type 0) (file : Text) (ends : RunEnds) (status :
 named_for reason other file ends status why (inl named) = inl (why named.0, named.1, named.2)
 named_for reason other file ends status why (inr silent) = inr silent
 
--- the source in a file, over an end in memory
-pub gone : (shelf : Holdings) (source : Source) (steps : ℕ) (given read : List ℕ) (first following : Unread) (ends : RunEnds) (status : ℕ)
-    → given ≡ read → shelf.holds source.file read → first ≡ record { left = given; is_over = false } → GoesOff source.edition steps (incoming_of first) (incoming_of following) ends status
+-- a source over an end in memory
+pub gone : (shelf : Holdings) (source : Source) (steps : ℕ) (it : Whole) (given : List ℕ) (first following : Unread) (ends : RunEnds) (status : ℕ)
+    → HasReadSource shelf source it → given ≡ it.text.items → first ≡ record { left = given; is_over = false } → GoesOff source.edition steps (incoming_of first) (incoming_of following) ends status
     → Headline source.edition steps (incoming_of first) (incoming_of following) ends status → Does shelf (go source steps) ends status
-gone shelf source steps given read first following ends status same holds is goes headline =
-    inr (
-      given,
+gone shelf source steps it given first following ends status h same is goes headline =
+    let all : first ≡ unread (whole h.reads) = is ∙ ap (λ (t : List ℕ). record { left = t; is_over = false }) (same ∙ h.text) in
+    inr (inr (
+      h.reads,
       following,
-      held shelf source.file given read same holds,
-      subst (λ (u : Unread). GoesOff source.edition steps (incoming_of u) (incoming_of following) ends status) is goes,
-      subst (λ (u : Unread). Headline source.edition steps (incoming_of u) (incoming_of following) ends status) is headline,
-    )
+      subst (λ (u : Unread). GoesOff source.edition steps (incoming_of u) (incoming_of following) ends status) all goes,
+      subst (λ (u : Unread). Headline source.edition steps (incoming_of u) (incoming_of following) ends status) all headline,
+    ))
+
+-- an answer of a source that was read
+pub asked_of_source : (shelf : Holdings) (source : Source) (it : Whole) (files : Files) (given : List ℕ) (question : Question) (ends : RunEnds) (status : ℕ)
+    → HasReadSource shelf source it → given ≡ it.text.items → files.first ≡ file_shown it.first → files.rest ≡ it.libs.files
+    → Answers source.edition files given question ends status → Does shelf (ask source question) ends status
+asked_of_source shelf source it files given question ends status h same first rest answers =
+    let files_are : files ≡ files_read h.reads = cong₂ (first ∙ h.first) (rest ∙ ap (λ (f : Followed). f.files) h.libs) in
+    inr (inr (
+      h.reads,
+      subst (λ (t : List ℕ). Answers source.edition (files_read h.reads) t question ends status) (same ∙ h.text)
+          (subst (λ (f : Files). Answers source.edition f given question ends status) files_are answers),
+    ))
+  where
+    cong₂ : {f g : Files} → f.first ≡ g.first → f.rest ≡ g.rest → f ≡ g
+    cong₂ {f} {g} p q = rw (p, q) refl
+
+-- a file that follows the first one wasn't read
+pub lib_named : (shelf : Holdings) (names : List Text) (it : LibFault) (ends : RunEnds) (status : ℕ) → LibIsUnread shelf names it
+    → NamesFile (it.fault ≡ file_fault.Device) it.name.now ends status → NamesLib shelf names ends status
+lib_named shelf names it ends status h told = (it.name.now, h.among, named_for _ _ _ _ _ h.reason told)
+
+-- the source on the input was compiled, and no file follows
+pub compiled_alone : (shelf : Holdings) (edition : Edition) (libs : List Text) (ends : RunEnds) (status : ℕ) → libs ≡ []
+    → Compiles (compiling edition ends.input ends.input_after ends status) → CompileHeadline (compiling edition ends.input ends.input_after ends status)
+    → Does shelf (compile edition libs) ends status
+compiled_alone shelf edition [] ends status none compiles headline = (compiles, headline)
+compiled_alone shelf edition (lib ∷ libs) ends status none compiles headline = cc
+
+-- the same, and files follow
+pub compiled_with : (shelf : Holdings) (edition : Edition) (libs : List Text) (rest : List ℕ) (it : Followed) (ends : RunEnds) (status : ℕ) → (libs ≡ [] → ⊥)
+    → HasReadLibs shelf libs it → rest ≡ it.text → CompilesJoined edition rest ends status → Does shelf (compile edition libs) ends status
+compiled_with shelf edition [] rest it ends status some read is compiles = absurd (some refl)
+compiled_with shelf edition (lib ∷ libs) rest it ends status some read is compiles =
+    inr (read.0, subst (λ (t : List ℕ). CompilesJoined edition t ends status) (is ∙ ap (λ (f : Followed). f.text) read.1) compiles)
+
+pub not_compiled : (shelf : Holdings) (edition : Edition) (libs : List Text) (ends : RunEnds) (status : ℕ) → (libs ≡ [] → ⊥)
+    → NamesLib shelf libs ends status → Does shelf (compile edition libs) ends status
+not_compiled shelf edition [] ends status some told = absurd (some refl)
+not_compiled shelf edition (lib ∷ libs) ends status some told = inl told
+
+-- a list of which each element is shown otherwise
+pub shown_none : (libs : List (Bor Text)) → length libs ≡ 0 → map (λ lib. lib.now) libs ≡ []
+shown_none [] e = refl
+shown_none (lib ∷ libs) e = cc
+
+pub shown_some : (libs : List (Bor Text)) → (length libs ≡ 0 → ⊥) → map (λ lib. lib.now) libs ≡ [] → ⊥
+shown_some [] some e = some refl
+shown_some (lib ∷ libs) some e = cc

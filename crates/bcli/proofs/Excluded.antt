@@ -1,6 +1,6 @@
 -- Answers that the contracts of `serve` and `refuse_words` exclude, whatever is proved of the body that gives them.
-use Rattle.std.proofs.Common.{◌≡◌, ◌∙◌, ◌⊎◌, ℕ, List, [], ◌∷◌, Some, ap, refl, sym, subst, arith, inl, inr}
-use Rattle.std.specs.Prelude.{codes}
+use Rattle.std.proofs.Common.{◌≡◌, ◌∙◌, ◌⊎◌, ℕ, List, [], ◌∷◌, ◌++◌, Some, ap, refl, sym, subst, arith, inl, inr, map, append-nil}
+use Rattle.std.specs.Prelude.{All, Contains, codes}
 use Rattle.std.specs.Io.KnownBytes.{Appends}
 use Rattle.clap.specs.Words.{IsAmong, Text, fault_of, subcommand_of}
 use Rattle.clap.specs.declared.error.kind.ErrorKind.{ErrorKind}
@@ -19,8 +19,9 @@ use Rattle.brun.proofs.OneRun.{one_run}
 use Rattle.bcommand.specs.CommandLine.{Question, ask, asked, command_line, go, run}
 use Rattle.bcli.specs.declared.shelf.MemFile.{MemFile}
 use Rattle.bcli.specs.Shelves.{Holdings, holding}
-use Rattle.bcli.specs.Serves.{Answers, Does, HasNoFile, IsHelp, NamesFile, RefusesWords, SaysNothing, Serves, did, refused, no_memory}
-use Rattle.bcli.specs.Excluded.{AreWrong, Excluded, FileIsRead, alone}
+use Rattle.bsources.specs.Files.{Files, NamedText, following}
+use Rattle.bcli.specs.Serves.{NamesLib, Reads, files_read, whole, Answers, Does, HasNoFile, IsHelp, NamesFile, RefusesWords, SaysNothing, Serves, did, refused, no_memory}
+use Rattle.bcli.specs.Excluded.{AreWrong, Excluded, FileIsRead, alone, files_alone}
 
 fault_is_told : (f : EndFault) → 0 ≡ status_of f → ⊥
 fault_is_told end_fault.Device e = omega (arith, e)
@@ -103,13 +104,13 @@ no_silent_complaint k ends other first same (inr (inl complains)) = by_report co
     by_report (inr stopped) = fault_is_no_complaint stopped.fault stopped.status
 no_silent_complaint k ends other first same (inr (inr silent)) = silent_complaint ends silent
 
-unread_done : (file : List ℕ) (ends : RunEnds) → NamesFile (Unit {0}) file ends 0 → ⊥
-unread_done file ends (inl named) = not_done _ 133 ends.line ends.line_after (λ e. omega (arith, e)) named.2
-unread_done file ends (inr silent) = silent_done ends silent
+named_done : {reason : Type 0} (file : List ℕ) (ends : RunEnds) → NamesFile reason file ends 0 → ⊥
+named_done file ends (inl named) = not_done _ 133 ends.line ends.line_after (λ e. omega (arith, e)) named.2
+named_done file ends (inr silent) = silent_done ends silent
 
-unread_run : (file : List ℕ) (ends : RunEnds) (status : ℕ) → NamesFile (Unit {0}) file ends status → HasNotRun ends
-unread_run file ends status (inl named) = named.1
-unread_run file ends status (inr silent) = silent.unread
+named_run : {reason : Type 0} (file : List ℕ) (ends : RunEnds) (status : ℕ) → NamesFile reason file ends status → HasNotRun ends
+named_run file ends status (inl named) = named.1
+named_run file ends status (inr silent) = silent.unread
 
 no_file_done : (ends : RunEnds) → HasNoFile (Unit {0}) ends 0 → ⊥
 no_file_done ends (inl device) = omega (arith, device.1.status_is)
@@ -153,6 +154,34 @@ module _ (shelf : Holdings) where
   complaint_silent words ends wrong first same (refused k among answers) = no_silent_complaint k ends (wrong.no_help k among) first same answers
   complaint_silent words ends wrong first same (no_memory silent) = silent_complaint ends silent
 
+  lib_done : (libs : List Text) (ends : RunEnds) → NamesLib shelf libs ends 0 → ⊥
+  lib_done libs ends told = named_done told.0 ends told.2
+
+  lib_run : (libs : List Text) (ends : RunEnds) (status : ℕ) → NamesLib shelf libs ends status → HasNotRun ends
+  lib_run libs ends status told = named_run told.0 ends status told.2
+
+  -- the bytes of one file that follows
+  one_follows : (lib b : List ℕ) → ((t : List ℕ) → shelf.holds lib t → t ≡ b) → (texts : List NamedText) → map (λ (it : NamedText). it.name) texts ≡ lib ∷ []
+      → All (λ it. shelf.holds it.name it.text) texts → following (map (λ (it : NamedText). it.text) texts) ≡ 10 ∷ b
+  one_follows lib b only [] e h = cc
+  one_follows lib b only (it ∷ []) e h =
+      let named : it.name ≡ lib = cc in
+      let text : it.text ≡ b = only it.text (subst (λ (n : List ℕ). shelf.holds n it.text) named (h 0 it (omega arith))) in
+      ap (λ t. 10 ∷ t) (append-nil it.text ∙ text)
+  one_follows lib b only (it ∷ next ∷ texts) e h = cc
+
+  joined_alone : (file lib a b : List ℕ) (edition : Edition) (steps : ℕ) (ends : RunEnds) (status : ℕ)
+      → ((t : List ℕ) → shelf.holds file t → t ≡ a) → ((t : List ℕ) → shelf.holds lib t → t ≡ b)
+      → Does shelf (go (record { file = file; libs = lib ∷ []; edition = edition }) steps) ends status
+      → ((following : Unread) × GoesOff edition steps (unread (a ++ 10 ∷ b)) (incoming_of following) ends status) ⊎ HasNotRun ends
+  joined_alone file lib a b edition steps ends status first second (inl (inl device)) = inr device.1.unread
+  joined_alone file lib a b edition steps ends status first second (inl (inr memory)) = inr memory.unread
+  joined_alone file lib a b edition steps ends status first second (inr (inl told)) = inr (lib_run (lib ∷ []) ends status told)
+  joined_alone file lib a b edition steps ends status first second (inr (inr goes)) =
+      let r = goes.0 in
+      let both : whole r ≡ a ++ 10 ∷ b = rw (first r.text r.held, one_follows lib b second r.libs.texts r.libs.names_are r.libs.held) refl in
+      inl (goes.1, subst (λ t. GoesOff edition steps (unread t) (incoming_of goes.1) ends status) both goes.2)
+
   pub excluded : Excluded shelf
   excluded = record {
     asked_alone = asked_alone;
@@ -162,11 +191,14 @@ module _ (shelf : Holdings) where
     help_beside = help_beside;
     help_silent = help_silent;
     complaint_silent = complaint_silent;
-    unread_done = unread_done;
-    unread_run = unread_run;
+    unread_done = λ file ends told. named_done file ends told;
+    unread_run = λ file ends status told. named_run file ends status told;
     no_file_done = no_file_done;
-    both_done = λ ends does. not_done _ 135 ends.line ends.line_after (λ e. omega (arith, e)) does.1;
-    both_run = λ ends status does. does.0;
+    lib_done = lib_done;
+    lib_run = lib_run;
+    joined_alone = joined_alone;
+    both_done = λ clash ends does. not_done _ 135 ends.line ends.line_after (λ e. omega (arith, e)) does.1;
+    both_run = λ clash ends status does. does.0;
     unread_words_done = λ old new told. not_done _ 135 old new (λ e. omega (arith, e)) told;
   }
 
@@ -186,20 +218,42 @@ module _ (file : MemFile) where
   run_alone steps ends status (inl none) = inr (no_file ends status none)
   run_alone steps ends status (inr runs) = inl (subst (λ t. RunsText steps t ends status) runs.1.1 runs.2)
 
+  -- no file follows
+  none_follow : (texts : List NamedText) → map (λ (it : NamedText). it.name) texts ≡ [] → texts ≡ []
+  none_follow [] e = refl
+  none_follow (it ∷ texts) e = cc
+
+  no_lib : (names : List Text) (ends : RunEnds) (status : ℕ) → names ≡ [] → NamesLib (holding file) names ends status → ⊥
+  no_lib names ends status e told = nothing (subst (λ (ns : List Text). Contains ns told.0) e told.1)
+    where
+      nothing : Contains [] told.0 → ⊥
+      nothing h = omega (arith, h.1)
+
+  whole_alone : (edition : Edition) (r : Reads (holding file) (alone file edition)) → whole r ≡ file.text.now
+  whole_alone edition r = rw (none_follow r.libs.texts r.libs.names_are, append-nil r.text) r.held.1
+
+  files_of_alone : (edition : Edition) (r : Reads (holding file) (alone file edition)) → files_read r ≡ files_alone file
+  files_of_alone edition r = rw (none_follow r.libs.texts r.libs.names_are, r.held.1) refl
+
   go_alone : (edition : Edition) (steps : ℕ) (ends : RunEnds) (status : ℕ) → Does (holding file) (go (alone file edition) steps) ends status → ((following : Unread) × GoesOff edition steps (unread file.text.now) (incoming_of following) ends status) ⊎ SaysNothing ends status 134
   go_alone edition steps ends status (inl none) = inr (no_file ends status none)
-  go_alone edition steps ends status (inr goes) =
-      inl (goes.1, subst (λ t. GoesOff edition steps (unread t) (incoming_of goes.1) ends status) goes.2.1 goes.3)
+  go_alone edition steps ends status (inr (inl told)) = absurd (no_lib [] ends status refl told)
+  go_alone edition steps ends status (inr (inr goes)) =
+      inl (goes.1, subst (λ t. GoesOff edition steps (unread t) (incoming_of goes.1) ends status) (whole_alone edition goes.0) goes.2)
 
-  ask_alone : (edition : Edition) (question : Question) (ends : RunEnds) (status : ℕ) → Does (holding file) (ask (alone file edition) question) ends status → Answers (alone file edition) file.text.now question ends status ⊎ SaysNothing ends status 134
+  ask_alone : (edition : Edition) (question : Question) (ends : RunEnds) (status : ℕ) → Does (holding file) (ask (alone file edition) question) ends status → Answers edition (files_alone file) file.text.now question ends status ⊎ SaysNothing ends status 134
   ask_alone edition question ends status (inl told) = inr (named ends status told)
-  ask_alone edition question ends status (inr answers) = inl (subst (λ t. Answers (alone file edition) t question ends status) answers.1.1 answers.2)
+  ask_alone edition question ends status (inr (inl told)) = absurd (no_lib [] ends status refl told)
+  ask_alone edition question ends status (inr (inr answers)) =
+      inl (subst (λ (f : Files). Answers edition f file.text.now question ends status) (files_of_alone edition answers.0)
+      (subst (λ t. Answers edition (files_read answers.0) t question ends status) (whole_alone edition answers.0) answers.1))
 
   one_go : (input : Unread) (out line : Kept) (status : ℕ) → file.text.now ≡ codes "main(){putchar('a');}" → Does (holding file) (go (alone file editions.One) 100) (one_run_ends input out line) status → (status ≡ 134) ⊎ ((status ≡ 0) × (out.bytes ≡ codes "a") × (line.bytes ≡ []))
   one_go input out line status one (inl none) = inl (no_file _ status none).status_is
-  one_go input out line status one (inr goes) =
+  one_go input out line status one (inr (inl told)) = absurd (no_lib [] _ status refl told)
+  one_go input out line status one (inr (inr goes)) =
       one_run goes.1 input out line status
-      (subst (λ t. Headline editions.One 100 (unread t) (incoming_of goes.1) (one_run_ends input out line) status) (goes.2.1 ∙ one) goes.4)
+      (subst (λ t. Headline editions.One 100 (unread t) (incoming_of goes.1) (one_run_ends input out line) status) (whole_alone editions.One goes.0 ∙ one) goes.3)
 
   pub file_is_read : FileIsRead file
   file_is_read = record {

@@ -1,5 +1,5 @@
 -- Promise: what no answer to a command line is, and what each one is.
-use Rattle.std.specs.Prelude.{◌≡◌, ◌⊎◌, ℕ, List, [], ◌∷◌, codes}
+use Rattle.std.specs.Prelude.{◌≡◌, ◌⊎◌, ℕ, List, [], ◌∷◌, ◌++◌, codes}
 use Rattle.clap.specs.Words.{IsAmong, Text, fault_of, subcommand_of}
 use Rattle.clap.specs.declared.error.kind.ErrorKind.{ErrorKind}
 use Rattle.clap.specs.declared.error.kind.ErrorKind.TheVariants as kind
@@ -12,8 +12,10 @@ use Rattle.blang.specs.Reports.{HasNotRun, Reported, RunEnds}
 use Rattle.brun.specs.OneRun.{nothing_written, one_run_ends, unread}
 use Rattle.brun.specs.Runs.{RunsText}
 use Rattle.bcommand.specs.CommandLine.{Question, Source, ask, asked, command_line, contradiction, go, run}
+use Rattle.bsources.specs.Files.{Files, file_of}
+use Rattle.bcommand.specs.declared.job.Clash.{Clash}
 use Rattle.bcli.specs.declared.shelf.MemFile.{MemFile}
-use Rattle.bcli.specs.Serves.{Answers, Does, HasNoFile, IsHelp, NamesFile, SaysNothing, Serves, unread_line}
+use Rattle.bcli.specs.Serves.{Answers, Does, HasNoFile, IsHelp, NamesFile, NamesLib, SaysNothing, Serves, unread_line}
 use Rattle.bcli.specs.Shelves.{Holdings, holding}
 
 -- The words have a fault, and don't ask for help.
@@ -48,15 +50,29 @@ pub record Excluded (shelf : Holdings) : Type 0 where
   pub unread_run : (file : List ℕ) (ends : RunEnds) (status : ℕ) → NamesFile (Unit {0}) file ends status
       → HasNotRun ends
   pub no_file_done : (ends : RunEnds) → HasNoFile (Unit {0}) ends DONE → ⊥
-  -- a limit of steps and none that end well, or that run
-  pub both_done : (ends : RunEnds) → Does shelf contradiction ends DONE → ⊥
-  pub both_run : (ends : RunEnds) (status : ℕ) → Does shelf contradiction ends status → HasNotRun ends
+  -- a file after the first one that can't be read, after which all went well, or the program read or wrote
+  pub lib_done : (libs : List Text) (ends : RunEnds) → NamesLib shelf libs ends DONE → ⊥
+  pub lib_run : (libs : List Text) (ends : RunEnds) (status : ℕ) → NamesLib shelf libs ends status → HasNotRun ends
+  -- a source of two files that is run as other bytes than the one's, a newline and the other's
+  pub joined_alone : (file lib a b : List ℕ) (edition : Edition) (steps : ℕ) (ends : RunEnds) (status : ℕ)
+      → ((t : List ℕ) → shelf.holds file t → t ≡ a) → ((t : List ℕ) → shelf.holds lib t → t ≡ b)
+      → Does shelf (go (record { file = file; libs = lib ∷ []; edition = edition }) steps) ends status
+      → ((following : Unread) × GoesOff edition steps (unread (a ++ 10 ∷ b)) (incoming_of following) ends status)
+      ⊎ HasNotRun ends
+  -- two options that contradict each other, and end well or run
+  pub both_done : (clash : Clash) (ends : RunEnds) → Does shelf (contradiction clash) ends DONE → ⊥
+  pub both_run : (clash : Clash) (ends : RunEnds) (status : ℕ) → Does shelf (contradiction clash) ends status
+      → HasNotRun ends
   -- words that can't be read and end well
   pub unread_words_done : (old new : Outgoing) → Reported unread_line WRONG_COMMAND old new DONE → ⊥
 
 -- the source in a file
 abbrev pub alone : MemFile → Edition → Source
-alone file edition = record { file = file.name.now; edition = edition }
+alone file edition = record { file = file.name.now; libs = []; edition = edition }
+
+-- its name and its lines
+abbrev pub files_alone : MemFile → Files
+files_alone file = record { first = file_of file.name.now file.text.now; rest = [] }
 
 -- of a file in memory
 pub record FileIsRead (file : MemFile) : Type 0 where
@@ -74,7 +90,7 @@ pub record FileIsRead (file : MemFile) : Type 0 where
   -- what is asked is answered of another source
   pub ask_alone : (edition : Edition) (question : Question) (ends : RunEnds) (status : ℕ)
       → Does (holding file) (ask (alone file edition) question) ends status
-      → Answers (alone file edition) file.text.now question ends status ⊎ SaysNothing ends status MEMORY
+      → Answers edition (files_alone file) file.text.now question ends status ⊎ SaysNothing ends status MEMORY
   -- another output than `a`, or another status than 0
   pub one_go : (input : Unread) (out line : Kept) (status : ℕ) → file.text.now ≡ codes "main(){putchar('a');}"
       → Does (holding file) (go (alone file editions.One) 100) (one_run_ends input out line) status

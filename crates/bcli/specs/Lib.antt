@@ -1,3 +1,4 @@
 pub mod Excluded
+pub mod Reading
 pub mod Serves
 pub mod Shelves

@@ -1,17 +1,20 @@
 -- Promise: the answer to a command line.
-use Rattle.std.specs.Prelude.{◌≡◌, ◌≢◌, ℕ, Bool, List, [], ◌++◌, codes, if◌then◌else◌, ◌⊎◌}
+use Rattle.std.specs.Prelude.{◌≡◌, ◌≢◌, ℕ, Bool, List, [], ◌∷◌, ◌++◌, All, Contains, codes, if◌then◌else◌, ◌⊎◌}
+use Rattle.std.specs.Prelude.{Option, Some, None, map as map_each}
 use Rattle.clap.specs.Words.{IsAmong, Text, fault_of, subcommand_of}
 use Rattle.clap.specs.declared.error.kind.ErrorKind.{ErrorKind}
 use Rattle.clap.specs.declared.error.kind.ErrorKind.TheVariants as kind
-use Rattle.bword.specs.ByteEnds.{Unread, incoming_of}
+use Rattle.bword.specs.ByteEnds.{Incoming, Unread, incoming_of}
 use Rattle.bword.specs.declared.edition.Edition.{Edition}
 use Rattle.blang.specs.Compiles.{CompileHeadline, Compiles, Run}
 use Rattle.blang.specs.declared.status.TheConstants.{DONE, DEVICE, MEMORY, WRONG_COMMAND}
 use Rattle.blang.specs.Headline.{GoesOff, Headline}
-use Rattle.brun.specs.Migrates.{Migrates}
+use Rattle.brun.specs.Migrates.{Migrates, rewriting}
 use Rattle.brun.specs.OneRun.{unread}
 use Rattle.blang.specs.Reports.{Reported, RunEnds, HasNotRun}
 use Rattle.brun.specs.Runs.{RunsText}
+use Rattle.bsources.specs.Files.{Files, NamedText, file_of, followed, joined}
+use Rattle.bsources.specs.JoinedEnds.{Joined, joined_in, joined_new}
 use Rattle.bcheck.specs.Checks.{Checks}
 use Rattle.bcheck.specs.declared.form.Form.{Form}
 use Rattle.bcheck.specs.declared.form.Form.TheVariants as forms
@@ -21,19 +24,25 @@ use Rattle.btools.specs.Programs.{ToldEnds}
 use Rattle.bdraw.specs.Draws.{Draws}
 use Rattle.btrace.specs.Locates.{Locates}
 use Rattle.btrace.specs.Traces.{Traces}
-use Rattle.bcommand.specs.CommandLine.{Asked, Question, Source, asked, command_line}
+use Rattle.btrace.specs.declared.trail.Rows.{Rows as Traced}
+use Rattle.btrace.specs.declared.trail.Rows.TheVariants as traced
+use Rattle.bcount.specs.Counts.{Counts}
+use Rattle.bcount.specs.declared.table.Style.{Style}
+use Rattle.bcount.specs.declared.table.Style.TheVariants as styles
+use Rattle.bshow.specs.Shows.{Shows}
+use Rattle.bshow.specs.declared.showing.Rows.{Rows as Paged}
+use Rattle.bshow.specs.declared.showing.Rows.TheVariants as paged
+use Rattle.bformat.specs.Formats.{Formats}
+use Rattle.bcommand.specs.CommandLine.{Asked, Question, Source, asked, clash_line, command_line}
 use Rattle.bcommand.specs.CommandLine.{compile, run, go, migrate, ask, contradiction}
-use Rattle.bcommand.specs.CommandLine.{list, map, draw, check, trace, locate}
+use Rattle.bcommand.specs.CommandLine.{list, map, draw, check, trace, locate, count, show, format}
+use Rattle.bcommand.specs.declared.job.Rows.{Rows}
+use Rattle.bcommand.specs.declared.job.Rows.TheVariants as which
 use Rattle.bcli.specs.Shelves.{Holdings}
 
 -- the message for words that aren't UTF-8
 abbrev pub unread_line : List ℕ
 unread_line = codes "error: a word of the command line is not UTF-8\n\nFor more information, try '--help'.\n"
-
--- the message for a limit of steps and none
-abbrev pub contradiction_line : List ℕ
-contradiction_line =
-    codes "error: the argument '--steps <N>' cannot be used with '--no-limit'\n\nFor more information, try '--help'.\n"
 
 -- Nothing was read or written, and this is the status.
 pub record SaysNothing (ends : RunEnds) (status answer : ℕ) : Type 0 where
@@ -60,16 +69,39 @@ abbrev pub telling_ends : RunEnds → ToldEnds
 telling_ends ends =
     record { out = ends.out; out_after = ends.out_after; line = ends.line; line_after = ends.line_after }
 
+-- which steps are shown
+abbrev pub traced_rows : Rows → Traced
+traced_rows (which.From number) = traced.From number
+traced_rows (which.Last count) = traced.Last count
+
+abbrev pub page_rows : Rows → Paged
+page_rows (which.From number) = paged.From number
+page_rows (which.Last count) = paged.Last count
+
+-- how counts are told
+abbrev pub style_of : (for_editor : Bool) → Style
+style_of for_editor = if for_editor then styles.Json else styles.Table
+
+-- a page of a run whose input is given, or that reads the program's own
+abbrev pub ShowsRun : Edition → Files → (text : List ℕ) → (steps : ℕ) → Paged → (input : Option Text) → RunEnds → ℕ
+    → Type 0
+ShowsRun edition files text steps rows None ends status =
+    Shows edition text (record { steps = steps; which = rows; files = files; given = [] }) ends status
+ShowsRun edition files text steps rows (Some given) ends status =
+    (ends.input_after ≡ ends.input) × (after : Unread)
+    × Shows edition text (record { steps = steps; which = rows; files = files; given = given })
+    (record ends { input = incoming_of (unread given); input_after = incoming_of after }) status
+
 -- how findings are told
 abbrev pub form_of : (for_editor : Bool) → Form
 form_of for_editor = if for_editor then forms.Json else forms.Text
 
--- the compiler over the streams of the program
-abbrev pub compiling : Edition → RunEnds → ℕ → Run
-compiling edition ends status = record {
+-- the compiler over a source and the streams of the program
+abbrev pub compiling : Edition → (source source_after : Incoming) → RunEnds → ℕ → Run
+compiling edition source source_after ends status = record {
   edition = edition;
-  source = ends.input;
-  source_after = ends.input_after;
+  source = source;
+  source_after = source_after;
   code = ends.out;
   code_after = ends.out_after;
   line = ends.line;
@@ -77,47 +109,99 @@ compiling edition ends status = record {
   status = status;
 }
 
--- what is asked of a source of this text is answered
-abbrev pub Answers : Source → (text : List ℕ) → Question → RunEnds → ℕ → Type 0
-Answers source text (list name) ends status =
-    (ends.input_after ≡ ends.input) × Lists source.edition text name (telling_ends ends) status
-Answers source text map ends status =
-    (ends.input_after ≡ ends.input) × Maps source.edition text (telling_ends ends) status
-Answers source text (draw steps) ends status = Draws source.edition text steps ends status
-Answers source text (check for_editor) ends status =
+-- The files that follow the first one of a source were read.
+pub record ReadsLibs (shelf : Holdings) (names : List Text) : Type 0 where
+  pub texts : List NamedText
+  pub names_are : map_each (λ it. it.name) texts ≡ names
+  pub held : All (λ it. shelf.holds it.name it.text) texts
+
+-- A source was read: its first file, and those that follow it.
+pub record Reads (shelf : Holdings) (source : Source) : Type 0 where
+  pub text : List ℕ
+  pub held : shelf.holds source.file text
+  pub libs : ReadsLibs shelf source.libs
+
+-- the bytes of the source: those of its files, a newline between them
+abbrev pub whole : {shelf : Holdings} {source : Source} → Reads shelf source → List ℕ
+whole r = joined r.text (map_each (λ it. it.text) r.libs.texts)
+
+abbrev pub files_read : {shelf : Holdings} {source : Source} → Reads shelf source → Files
+files_read {shelf} {source} r =
+    record { first = file_of source.file r.text; rest = (followed r.libs.texts).files }
+
+-- One of these files could not be opened or read, and its name was told; or memory was refused.
+abbrev pub NamesLib : Holdings → List Text → RunEnds → ℕ → Type 0
+NamesLib shelf names ends status = (lib : Text) × Contains names lib × NamesFile (shelf.lacks lib) lib ends status
+
+-- A source was compiled over the input and these bytes after it.
+pub record CompilesJoined (edition : Edition) (rest : List ℕ) (ends : RunEnds) (status : ℕ) : Type 0 where
+  pub source : Joined
+  pub source_after : Joined
+  pub begins : source ≡ joined_new ends.input source.ready source.lender rest
+  pub ended : source_after.first ≡ ends.input_after
+  pub compiles : Compiles (compiling edition (joined_in source) (joined_in source_after) ends status)
+  pub headline : CompileHeadline (compiling edition (joined_in source) (joined_in source_after) ends status)
+
+-- a source was compiled over the input, and these files after it
+abbrev pub CompilesInput : Holdings → Edition → List Text → RunEnds → ℕ → Type 0
+CompilesInput shelf edition [] ends status =
+    Compiles (compiling edition ends.input ends.input_after ends status)
+    × CompileHeadline (compiling edition ends.input ends.input_after ends status)
+CompilesInput shelf edition (lib ∷ libs) ends status = NamesLib shelf (lib ∷ libs) ends status
+    ⊎ ((r : ReadsLibs shelf (lib ∷ libs)) × CompilesJoined edition (followed r.texts).text ends status)
+
+-- what is asked of a source of these files and of this text is answered
+abbrev pub Answers : Edition → Files → (text : List ℕ) → Question → RunEnds → ℕ → Type 0
+Answers edition files text (list name) ends status =
+    (ends.input_after ≡ ends.input) × Lists edition text name (telling_ends ends) status
+Answers edition files text map ends status =
+    (ends.input_after ≡ ends.input) × Maps edition text (telling_ends ends) status
+Answers edition files text (draw steps) ends status = Draws edition text steps ends status
+Answers edition files text (check for_editor) ends status =
     (ends.input_after ≡ ends.input) × (ends.line_after ≡ ends.line) × Checks (record {
-      edition = source.edition;
+      edition = edition;
       form = form_of for_editor;
-      file = source.file;
+      files = files;
       source = text;
       out = ends.out;
       out_after = ends.out_after;
       status = status;
     })
-Answers source text (trace steps from function) ends status =
-    Traces source.edition text steps from function ends status
-Answers source text (locate steps) ends status = Locates source.edition text steps ends status
+Answers edition files text (trace steps shown function) ends status =
+    Traces edition text steps (traced_rows shown) files function ends status
+Answers edition files text (locate steps) ends status = Locates edition text files steps ends status
+Answers edition files text (count steps for_editor) ends status =
+    Counts (record { edition = edition; steps = steps; files = files; style = style_of for_editor }) text ends status
+Answers edition files text (show steps shown input) ends status =
+    ShowsRun edition files text steps (page_rows shown) input ends status
+Answers edition files text (format is_check) ends status = (ends.input_after ≡ ends.input) × Formats (record {
+  edition = edition;
+  source = text;
+  is_check = is_check;
+  out = ends.out;
+  out_after = ends.out_after;
+  line = ends.line;
+  line_after = ends.line_after;
+  status = status;
+})
 
--- what was asked for is done, for a text that the shelf holds under the name of the file
+-- what was asked for is done, for texts that the shelf holds under the names of the files
 abbrev pub Does : Holdings → Asked → RunEnds → ℕ → Type 0
-Does shelf (compile edition) ends status =
-    Compiles (compiling edition ends status) × CompileHeadline (compiling edition ends status)
+Does shelf (compile edition libs) ends status = CompilesInput shelf edition libs ends status
 Does shelf (run file steps) ends status = HasNoFile (shelf.lacks file) ends status
     ⊎ ((text : List ℕ) × shelf.holds file text × RunsText steps text ends status)
 Does shelf (go source steps) ends status = HasNoFile (shelf.lacks source.file) ends status
-    ⊎ ((text : List ℕ) × (following : Unread) × shelf.holds source.file text
-    × GoesOff source.edition steps (unread text) (incoming_of following) ends status
-    × Headline source.edition steps (unread text) (incoming_of following) ends status)
-Does shelf migrate ends status = Migrates (record {
-  input = ends.input;
-  input_after = ends.input_after;
-  out = ends.out;
-  out_after = ends.out_after;
-}) ends.line ends.line_after status
+    ⊎ NamesLib shelf source.libs ends status
+    ⊎ ((r : Reads shelf source) × (following : Unread)
+    × GoesOff source.edition steps (unread (whole r)) (incoming_of following) ends status
+    × Headline source.edition steps (unread (whole r)) (incoming_of following) ends status)
+Does shelf migrate ends status =
+    Migrates (rewriting ends.input ends.input_after ends.out ends.out_after) ends.line ends.line_after status
 Does shelf (ask source question) ends status = NamesFile (shelf.lacks source.file) source.file ends status
-    ⊎ ((text : List ℕ) × shelf.holds source.file text × Answers source text question ends status)
-Does shelf contradiction ends status =
-    HasNotRun ends × Reported contradiction_line WRONG_COMMAND ends.line ends.line_after status
+    ⊎ NamesLib shelf source.libs ends status
+    ⊎ ((r : Reads shelf source) × Answers source.edition (files_read r) (whole r) question ends status)
+Does shelf (contradiction clash) ends status =
+    HasNotRun ends × Reported (clash_line clash) WRONG_COMMAND ends.line ends.line_after status
 
 abbrev pub IsHelp : ErrorKind → Type 0
 IsHelp k = (k ≡ kind.DisplayHelp) ⊎ (k ≡ kind.DisplayVersion)

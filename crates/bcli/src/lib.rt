@@ -4,6 +4,7 @@
 mod in_order;
 mod serving;
 mod shelf;
+mod sources;
 
 pub use in_order::{Streams, serve_in_order};
 pub use serving::{files_are_read, refuse_words, serve, serve_with, wrong_answers_are_excluded};

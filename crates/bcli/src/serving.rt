@@ -1,27 +1,34 @@
 //! Serving a command line.
-ghost use Rattle.std.specs.Prelude.{◌≡◌, ◌≢◌, ◌⊎◌, [], IfOk, map as map_each, string_bytes};
-ghost use Rattle.clap.specs.Words.{kind_of};
+ghost use Rattle.std.specs.Prelude.{◌≡◌, ◌≢◌, ◌⊎◌, [], IfOk, map as map_each, option_map, string_bytes};
+ghost use Rattle.clap.specs.Words.{kind_of, subcommand_rows_of};
 ghost use Rattle.bword.specs.ByteEnds.{Incoming, Outgoing};
 ghost use Rattle.blang.specs.declared.status.TheConstants.{DEVICE, MEMORY, WRONG_COMMAND};
 ghost use Rattle.blang.specs.Reports.{Reported, run_ends};
-ghost use Rattle.bcommand.specs.CommandLine.{ask, asked_of, go, question_of, run, source_shown};
+ghost use Rattle.bcommand.specs.CommandLine.{ask, asked, asked_of, compile, go, question_of, run, source_shown};
 ghost use Rattle.bcli.specs.Excluded.{Excluded, FileIsRead};
-ghost use Rattle.bcli.specs.Serves.{Answers, Does, NamesFile, RefusesWords, Serves, form_of, no_file_line, unread_line};
+ghost use Rattle.bshow.specs.Shows.{asked_of as page_of};
+ghost use Rattle.bsources.specs.Files.{files_shown};
+ghost use Rattle.bcli.specs.Serves.{Answers, CompilesJoined, Does, NamesFile, RefusesWords, Serves, ShowsRun, form_of, page_rows, style_of, traced_rows, no_file_line, unread_line};
 ghost use Rattle.bcli.specs.Shelves.{anything};
 
 use crate::shelf::{FileFault, MemFile, Shelf, SystemFiles};
+use crate::sources::{Unread, read_libs, read_source};
 use bcheck::{Form, Request, check};
-use bcommand::{CONTRADICTION, Job, Question, Source, UNREAD, parse};
+use bcommand::{Display, Job, Question, Rows, Source, UNREAD, clash_text, job_of, parse};
+use bcount::{Counting, Style, count};
 use bdraw::draw;
+use bformat::format;
 use blang::status::{self, Status};
 use blist::{list, map};
 use bparse::compile_edition;
 use brun::{go_edition, migrate, run_text};
+use bshow::show;
+use bsources::{JoinedIn, SourceFiles};
 use btools::tell;
 use btrace::{Wanted, locate, trace};
-use bword::{ByteIn, ByteOut, MemIn};
-use clap::Error;
+use bword::{ByteIn, ByteOut, Edition, MemIn};
 use clap::error::ErrorKind;
+use clap::{ArgMatches, Error};
 use std::alloc::{AllocError, Global};
 use std::rt::Files;
 
@@ -68,9 +75,28 @@ pub fn serve_with<S: Shelf, I: ByteIn, O: ByteOut, D: ByteOut>(
     ensures diag_lender { D.lender diag.new ≡ D.lender diag.old }
 {
     match parse(alloc, words) {
-        Ok(job) => perform(alloc, shelf, job, input, out, diag),
+        Ok(found) => perform_found(alloc, shelf, &found, input, out, diag),
         Err(error) => refuse(alloc, error, out, diag),
     }
+}
+
+// Does what is asked for by what was found in the words.
+fn perform_found<S: Shelf, I: ByteIn, O: ByteOut, D: ByteOut>(
+    alloc: Global,
+    shelf: &S,
+    found: &ArgMatches<'_>,
+    input: &mut I,
+    out: &mut O,
+    diag: &mut D,
+) -> Status
+    ensures does { Does (S.holdings shelf.now) (asked (subcommand_rows_of found.now)) (run_ends
+        (I.incoming input.old) (I.incoming input.new) (O.outgoing out.old) (O.outgoing out.new)
+        (D.outgoing diag.old) (D.outgoing diag.new)) result }
+    ensures input_lender { I.lender input.new ≡ I.lender input.old }
+    ensures out_lender { O.lender out.new ≡ O.lender out.old }
+    ensures diag_lender { D.lender diag.new ≡ D.lender diag.old }
+{
+    perform(alloc, shelf, job_of(found), input, out, diag)
 }
 
 // Does what is asked for.
@@ -90,13 +116,63 @@ fn perform<S: Shelf, I: ByteIn, O: ByteOut, D: ByteOut>(
     ensures diag_lender { D.lender diag.new ≡ D.lender diag.old }
 {
     match job {
-        Job::Compile(edition) => compile_edition(alloc, input, out, diag, edition),
+        Job::Compile(edition, libs) => {
+            compile_input(alloc, shelf, edition, libs, input, out, diag)
+        }
         Job::Run(file, steps) => run_file(alloc, shelf, file, steps, input, out, diag),
         Job::Go(source, steps) => go_file(alloc, shelf, source, steps, input, out, diag),
         Job::Migrate => migrate(alloc, input, out, diag),
         Job::Ask(source, question) => ask_file(alloc, shelf, source, question, input, out, diag),
-        Job::Contradiction => refuse_with(CONTRADICTION, diag),
+        Job::Contradiction(clash) => refuse_with(clash_text(clash), diag),
     }
+}
+
+// Compiles the input, and files after it.
+fn compile_input<S: Shelf, I: ByteIn, O: ByteOut, D: ByteOut>(
+    alloc: Global,
+    shelf: &S,
+    edition: Edition,
+    libs: &[&str],
+    input: &mut I,
+    out: &mut O,
+    diag: &mut D,
+) -> Status
+    ensures does { Does (S.holdings shelf.now) (compile edition (map_each (λ lib. lib.now) libs.now)) (run_ends
+        (I.incoming input.old) (I.incoming input.new) (O.outgoing out.old) (O.outgoing out.new)
+        (D.outgoing diag.old) (D.outgoing diag.new)) result }
+    ensures input_lender { I.lender input.new ≡ I.lender input.old }
+    ensures out_lender { O.lender out.new ≡ O.lender out.old }
+    ensures diag_lender { D.lender diag.new ≡ D.lender diag.old }
+{
+    if libs.is_empty() {
+        return compile_edition(alloc, input, out, diag, edition);
+    }
+    match read_libs(alloc, shelf, libs) {
+        Ok(libs) => compile_joined(alloc, libs.text(), edition, input, out, diag),
+        Err(lib) => name_file(alloc, lib.name, lib.fault, diag),
+    }
+}
+
+// Compiles the input, and bytes after it.
+fn compile_joined<I: ByteIn, O: ByteOut, D: ByteOut>(
+    alloc: Global,
+    rest: &[u8],
+    edition: Edition,
+    input: &mut I,
+    out: &mut O,
+    diag: &mut D,
+) -> Status
+    ensures compiles { CompilesJoined edition rest.now (run_ends
+        (I.incoming input.old) (I.incoming input.new) (O.outgoing out.old) (O.outgoing out.new)
+        (D.outgoing diag.old) (D.outgoing diag.new)) result }
+    ensures input_lender { I.lender input.new ≡ I.lender input.old }
+    ensures out_lender { O.lender out.new ≡ O.lender out.old }
+    ensures diag_lender { D.lender diag.new ≡ D.lender diag.old }
+{
+    let mut source = JoinedIn::new(input, rest);
+    let status = compile_edition(alloc, &mut source, out, diag, edition);
+    let _ = source.into_first();
+    status
 }
 
 // Runs the code text in a file.
@@ -139,17 +215,18 @@ fn go_file<S: Shelf, I: ByteIn, O: ByteOut, D: ByteOut>(
     ensures out_lender { O.lender out.new ≡ O.lender out.old }
     ensures diag_lender { D.lender diag.new ≡ D.lender diag.old }
 {
-    match shelf.read(alloc, source.file) {
-        Ok(text) => go_edition(
+    match read_source(alloc, shelf, source) {
+        Ok(whole) => go_edition(
             alloc,
-            &mut MemIn::new(text.as_slice()),
+            &mut MemIn::new(whole.text.as_slice()),
             input,
             out,
             diag,
             steps,
             source.edition,
         ),
-        Err(fault) => status_of(fault),
+        Err(Unread::File(fault)) => status_of(fault),
+        Err(Unread::Lib(lib)) => name_file(alloc, lib.name, lib.fault, diag),
     }
 }
 
@@ -170,30 +247,46 @@ fn ask_file<S: Shelf, I: ByteIn, O: ByteOut, D: ByteOut>(
     ensures out_lender { O.lender out.new ≡ O.lender out.old }
     ensures diag_lender { D.lender diag.new ≡ D.lender diag.old }
 {
-    match shelf.read(alloc, source.file) {
-        Ok(text) => answer(alloc, source, text.as_slice(), question, input, out, diag),
-        Err(fault) => name_file(alloc, source.file, fault, diag),
+    match read_source(alloc, shelf, source) {
+        Ok(whole) => {
+            let files = SourceFiles {
+                first: whole.first,
+                rest: whole.libs.files(),
+            };
+            answer(
+                alloc,
+                source.edition,
+                files,
+                whole.text.as_slice(),
+                question,
+                input,
+                out,
+                diag,
+            )
+        }
+        Err(Unread::File(fault)) => name_file(alloc, source.file, fault, diag),
+        Err(Unread::Lib(lib)) => name_file(alloc, lib.name, lib.fault, diag),
     }
 }
 
-// Answers what is asked of a source of this text.
+// Answers what is asked of a source of these files and of this text.
 fn answer<I: ByteIn, O: ByteOut, D: ByteOut>(
     alloc: Global,
-    source: Source<'_>,
+    edition: Edition,
+    files: SourceFiles<'_>,
     text: &[u8],
     question: Question<'_>,
     input: &mut I,
     out: &mut O,
     diag: &mut D,
 ) -> Status
-    ensures answers { Answers (source_shown source.entry) text.now (question_of question.entry) (run_ends
+    ensures answers { Answers edition (files_shown files.entry) text.now (question_of question.entry) (run_ends
         (I.incoming input.old) (I.incoming input.new) (O.outgoing out.old) (O.outgoing out.new)
         (D.outgoing diag.old) (D.outgoing diag.new)) result }
     ensures input_lender { I.lender input.new ≡ I.lender input.old }
     ensures out_lender { O.lender out.new ≡ O.lender out.old }
     ensures diag_lender { D.lender diag.new ≡ D.lender diag.old }
 {
-    let edition = source.edition;
     match question {
         Question::List(name) => list(alloc, text, edition, name, out, diag),
         Question::Map => map(alloc, text, edition, out, diag),
@@ -201,7 +294,7 @@ fn answer<I: ByteIn, O: ByteOut, D: ByteOut>(
         Question::Check(for_editor) => {
             let request = Request {
                 edition,
-                file: source.file,
+                files,
                 form: form_of(for_editor),
             };
             check(alloc, text, request, out)
@@ -209,12 +302,96 @@ fn answer<I: ByteIn, O: ByteOut, D: ByteOut>(
         Question::Trace(walk) => {
             let wanted = Wanted {
                 steps: walk.steps,
-                from: walk.from,
+                rows: traced_rows(walk.rows),
                 function: walk.function,
+                files,
             };
             trace(alloc, text, edition, wanted, input, out, diag)
         }
-        Question::Locate(steps) => locate(alloc, text, edition, steps, input, out, diag),
+        Question::Locate(steps) => locate(alloc, text, edition, files, steps, input, out, diag),
+        Question::Count(steps, for_editor) => {
+            let counting = Counting {
+                edition,
+                steps,
+                files,
+                style: style_of(for_editor),
+            };
+            count(alloc, text, counting, input, out, diag)
+        }
+        Question::Show(display) => {
+            show_run(alloc, edition, files, text, display, input, out, diag)
+        }
+        Question::Format(is_check) => format(alloc, text, edition, is_check, out, diag),
+    }
+}
+
+// Writes the page of a run, whose input is given or that of the program.
+fn show_run<I: ByteIn, O: ByteOut, D: ByteOut>(
+    alloc: Global,
+    edition: Edition,
+    files: SourceFiles<'_>,
+    text: &[u8],
+    display: Display<'_>,
+    input: &mut I,
+    out: &mut O,
+    diag: &mut D,
+) -> Status
+    ensures shows { ShowsRun edition (files_shown files.entry) text.now display.entry.steps (page_rows display.entry.rows) (option_map (λ t. t.now) display.entry.input) (run_ends
+        (I.incoming input.old) (I.incoming input.new) (O.outgoing out.old) (O.outgoing out.new)
+        (D.outgoing diag.old) (D.outgoing diag.new)) result }
+    ensures input_lender { I.lender input.new ≡ I.lender input.old }
+    ensures out_lender { O.lender out.new ≡ O.lender out.old }
+    ensures diag_lender { D.lender diag.new ≡ D.lender diag.old }
+{
+    match display.input {
+        Some(given) => {
+            let wanted = page_of(files, display, given.as_bytes());
+            let mut given = MemIn::new(given.as_bytes());
+            show(alloc, text, edition, wanted, &mut given, out, diag)
+        }
+        None => {
+            let wanted = page_of(files, display, b"");
+            show(alloc, text, edition, wanted, input, out, diag)
+        }
+    }
+}
+
+fn page_of<'a>(files: SourceFiles<'a>, display: Display<'_>, given: &'a [u8]) -> bshow::Wanted<'a>
+    ensures { page_of result ≡ record { steps = display.entry.steps; which = page_rows display.entry.rows; files = files_shown files.entry; given = given.now } }
+{
+    bshow::Wanted {
+        steps: display.steps,
+        rows: page_rows(display.rows),
+        files,
+        given,
+    }
+}
+
+fn traced_rows(rows: Rows) -> btrace::Rows
+    ensures { result ≡ traced_rows rows }
+{
+    match rows {
+        Rows::From(number) => btrace::Rows::From(number),
+        Rows::Last(count) => btrace::Rows::Last(count),
+    }
+}
+
+fn page_rows(rows: Rows) -> bshow::Rows
+    ensures { result ≡ page_rows rows }
+{
+    match rows {
+        Rows::From(number) => bshow::Rows::From(number),
+        Rows::Last(count) => bshow::Rows::Last(count),
+    }
+}
+
+fn style_of(for_editor: bool) -> Style
+    ensures { result ≡ style_of for_editor }
+{
+    if for_editor {
+        Style::Json
+    } else {
+        Style::Table
     }
 }
 

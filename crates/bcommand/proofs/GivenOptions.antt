@@ -1,5 +1,5 @@
 -- What a number and a flag read as.
-use Rattle.std.proofs.Common.{◌≡◌, ℕ, ◌&&◌, ◌^◌, Bool, true, false, List, [], ◌∷◌, length, Option, Some, None, refl, sym, ap, lt-ltb, ltb-true, nat_lt}
+use Rattle.std.proofs.Common.{◌≡◌, ℕ, ◌&&◌, ◌^◌, Bool, true, false, List, [], ◌∷◌, length, Option, Some, None, map, refl, sym, ap, lt-ltb, ltb-true, nat_lt}
 use Rattle.std.specs.Prelude.{Result, Ok, Err, codes, option_and_then, option_map, unwrap_or}
 use Rattle.std.specs.Borrow.{Bor}
 use Rattle.std.specs.Char.{digit_value}
@@ -69,3 +69,9 @@ pub text_or : (given : Option (Bor Text)) (text other : Bor Text) (found : Optio
     → text ≡ unwrap_or given other → option_map (λ s. s.now) given ≡ found → text.now ≡ unwrap_or found []
 text_or None text other found empty is shows = rw (is, ← shows) empty
 text_or (Some s) text other found empty is shows = rw (is, ← shows) refl
+
+-- the texts of an option that may be given often, or none
+pub texts_or : (given : Option (Bor (List (Bor Text)))) (texts other : Bor (List (Bor Text))) (found : Option (List Text)) → other.now ≡ []
+    → texts ≡ unwrap_or given other → option_map (λ s. map (λ t. t.now) s.now) given ≡ found → map (λ t. t.now) texts.now ≡ unwrap_or found []
+texts_or None texts other found empty is shows = rw (is, ← shows, empty) refl
+texts_or (Some s) texts other found empty is shows = rw (is, ← shows) refl

@@ -1,17 +1,18 @@
 -- Promise: the command line, and what its words ask for. How words are cut into options, and which have a fault, are
 -- definitions of `clap`, which reads them.
-use Rattle.std.specs.Prelude.{ℕ, ◌==◌, ◌&&◌, ◌^◌, Bool, true, false, List, [], length, codes, nat_lt}
-use Rattle.std.specs.Prelude.{Option, Some, None, if◌then◌else◌, option_and_then, option_map, unwrap_or}
+use Rattle.std.specs.Prelude.{ℕ, ◌+◌, ◌==◌, ◌&&◌, ◌^◌, Bool, true, false, List, [], length, codes, min, nat_lt}
+use Rattle.std.specs.Prelude.{Option, Some, None, if◌then◌else◌, map as map_each, option_and_then, option_map, unwrap_or}
 use Rattle.std.specs.Char.{digit_value}
 use Rattle.std.specs.List.{list_all}
 use Rattle.std.specs.Option.{option_map_or}
 use Rattle.std.specs.Str.{bytes_eq}
 use Rattle.std.specs.Str.Parse.{digits_value, without_leading_plus}
-use Rattle.clap.specs.Words.{App, Row, Rule, Text, first_of, one_of}
+use Rattle.clap.specs.Words.{App, Row, Rule, Text, all_of, first_of, one_of}
 use Rattle.clap.specs.Words.{new_app, new_rule, with_rule, with_subcommand}
 use Rattle.clap.specs.Simple.{on_top}
-use Rattle.clap.specs.declared.builder.action.ArgAction.TheVariants.{Set, SetTrue}
+use Rattle.clap.specs.declared.builder.action.ArgAction.TheVariants.{Append, Set, SetTrue}
 use Rattle.clap.specs.declared.builder.value_parser.ValueParser.TheVariants as parser
+use Rattle.bword.specs.ByteEnds.{most}
 use Rattle.bword.specs.declared.edition.Edition.{Edition}
 use Rattle.bword.specs.declared.edition.Edition.TheVariants as editions
 use Rattle.bcommand.specs.declared.job.Job.{Job}
@@ -20,6 +21,11 @@ use Rattle.bcommand.specs.declared.job.Question.{Question as Questioned}
 use Rattle.bcommand.specs.declared.job.Question.TheVariants as questioned
 use Rattle.bcommand.specs.declared.job.Source.{Source as Given}
 use Rattle.bcommand.specs.declared.job.Walk.{Walk}
+use Rattle.bcommand.specs.declared.job.Clash.{Clash}
+use Rattle.bcommand.specs.declared.job.Clash.TheVariants as clash
+use Rattle.bcommand.specs.declared.job.Display.{Display}
+use Rattle.bcommand.specs.declared.job.Rows.{Rows}
+use Rattle.bcommand.specs.declared.job.Rows.TheVariants as which
 
 -- a flag
 abbrev pub flag_rule : Text → Rule
@@ -34,9 +40,13 @@ number_rule name most = record (new_rule name) {
   parser = Some (parser.Unsigned 1 most);
 }
 
--- an option whose value is a name
-abbrev pub named_rule : Text → Rule
-named_rule name = record (new_rule name) { long = Some name; action = Some Set; value_names = 1 }
+-- an option whose value is a text
+abbrev pub text_rule : Text → Rule
+text_rule name = record (new_rule name) { long = Some name; action = Some Set; value_names = 1 }
+
+-- the same, which may be given often
+abbrev pub repeated_rule : Text → Rule
+repeated_rule name = record (new_rule name) { long = Some name; action = Some Append; value_names = 1 }
 
 -- an argument without an option, and whether it has to be there
 abbrev pub argument_rule : Text → Bool → Rule
@@ -57,6 +67,15 @@ no_limit_rule = flag_rule (codes "no-limit")
 abbrev pub where_rule : Rule
 where_rule = flag_rule (codes "where")
 
+abbrev pub last_rule : Rule
+last_rule = number_rule (codes "last") 4000000000
+
+abbrev pub input_rule : Rule
+input_rule = text_rule (codes "input")
+
+abbrev pub check_rule : Rule
+check_rule = flag_rule (codes "check")
+
 abbrev pub json_rule : Rule
 json_rule = flag_rule (codes "json")
 
@@ -64,7 +83,10 @@ abbrev pub svg_rule : Rule
 svg_rule = flag_rule (codes "svg")
 
 abbrev pub function_rule : Rule
-function_rule = named_rule (codes "function")
+function_rule = text_rule (codes "function")
+
+abbrev pub with_lib_rule : Rule
+with_lib_rule = repeated_rule (codes "with")
 
 abbrev pub file_rule : Rule
 file_rule = argument_rule (codes "FILE") true
@@ -77,20 +99,21 @@ abbrev pub with_run_options : App → App
 with_run_options command = with_rule (with_rule (with_rule command steps_rule) no_limit_rule) file_rule
 
 abbrev pub compile_command : App
-compile_command = with_rule (new_app (codes "compile")) edition_rule
+compile_command = with_rule (with_rule (new_app (codes "compile")) edition_rule) with_lib_rule
 
 abbrev pub run_command : App
 run_command = with_run_options (new_app (codes "run"))
 
 abbrev pub go_command : App
-go_command = with_rule (with_run_options (with_rule (new_app (codes "go")) edition_rule)) where_rule
+go_command =
+    with_rule (with_rule (with_run_options (with_rule (new_app (codes "go")) edition_rule)) where_rule) with_lib_rule
 
 abbrev pub migrate_command : App
 migrate_command = new_app (codes "migrate")
 
 -- a command that tells of a source
 abbrev pub telling : App → App
-telling command = with_rule (with_rule command edition_rule) file_rule
+telling command = with_rule (with_rule (with_rule command edition_rule) file_rule) with_lib_rule
 
 abbrev pub list_command : App
 list_command = with_rule (telling (new_app (codes "list"))) name_rule
@@ -101,9 +124,21 @@ map_command = with_rule (with_rule (telling (new_app (codes "map"))) svg_rule) s
 abbrev pub check_command : App
 check_command = with_rule (telling (new_app (codes "check"))) json_rule
 
+-- a command with the options of which steps are shown
+abbrev pub with_rows : App → App
+with_rows command = with_rule (with_rule (with_rule command steps_rule) from_rule) last_rule
+
 abbrev pub trace_command : App
-trace_command =
-    with_rule (with_rule (with_rule (telling (new_app (codes "trace"))) steps_rule) from_rule) function_rule
+trace_command = with_rule (with_rows (telling (new_app (codes "trace")))) function_rule
+
+abbrev pub count_command : App
+count_command = with_rule (with_rule (with_rule (telling (new_app (codes "count"))) steps_rule) no_limit_rule) json_rule
+
+abbrev pub show_command : App
+show_command = with_rule (with_rows (telling (new_app (codes "show")))) input_rule
+
+abbrev pub format_command : App
+format_command = with_rule (with_rule (with_rule (new_app (codes "format")) edition_rule) file_rule) check_rule
 
 -- the command line without its commands, one of which there has to be
 abbrev pub bare_line : App
@@ -111,9 +146,11 @@ bare_line = on_top (λ s. record s { has_version = true; subcommand_required = t
 
 -- `b compile`, `b run`, `b go`, `b migrate`, `b list`, `b map`, `b check` and `b trace`, one of which there has to be
 abbrev pub command_line : App
-command_line = with_subcommand (with_subcommand (with_subcommand (with_subcommand (with_subcommand (with_subcommand
-    (with_subcommand (with_subcommand bare_line compile_command.top) run_command.top) go_command.top)
-    migrate_command.top) list_command.top) map_command.top) check_command.top) trace_command.top
+command_line =
+    with_subcommand (with_subcommand (with_subcommand (with_subcommand (with_subcommand (with_subcommand
+    (with_subcommand (with_subcommand (with_subcommand (with_subcommand (with_subcommand bare_line
+    compile_command.top) run_command.top) go_command.top) migrate_command.top) list_command.top) map_command.top)
+    check_command.top) trace_command.top) count_command.top) show_command.top) format_command.top
 
 -- the digits of a number that a u64 holds
 abbrev pub is_number : Text → Bool
@@ -149,15 +186,31 @@ steps_asked None false = Some 10000000
 abbrev pub steps_in : List Row → Option ℕ
 steps_in rows = steps_asked (option_number (codes "steps") rows) (is_set_in (codes "no-limit") rows)
 
--- the steps of a trace, and the first one that is shown
-abbrev pub trace_steps_in : List Row → ℕ
-trace_steps_in rows = unwrap_or (option_number (codes "steps") rows) 1000
+-- Which steps are shown: those from a number on, or the last ones. None where both are asked for.
+abbrev pub rows_asked : (from last : Option ℕ) → Option Rows
+rows_asked (Some from) (Some last) = None
+rows_asked None (Some last) = Some (which.Last last)
+rows_asked (Some from) None = Some (which.From from)
+rows_asked None None = Some (which.From 1)
 
-abbrev pub from_in : List Row → ℕ
-from_in rows = unwrap_or (option_number (codes "from") rows) 1
+abbrev pub rows_in : List Row → Option Rows
+rows_in found = rows_asked (option_number (codes "from") found) (option_number (codes "last") found)
+
+-- the steps of a trace with these rows, if it isn't said how many; and those of a page
+abbrev pub trace_steps : Rows → ℕ
+trace_steps (which.From from) = 1000
+trace_steps (which.Last last) = 10000000
+
+abbrev pub shown_steps : Rows → ℕ
+shown_steps (which.From from) = min (1999 + from) most
+shown_steps (which.Last last) = 10000000
 
 abbrev pub file_in : List Row → Text
 file_in rows = unwrap_or (first_of (codes "FILE") rows) []
+
+-- the files that come after the first one
+abbrev pub libs_in : List Row → List Text
+libs_in rows = unwrap_or (all_of (codes "with") rows) []
 
 abbrev pub name_in : List Row → Option Text
 name_in rows = first_of (codes "NAME") rows
@@ -165,45 +218,54 @@ name_in rows = first_of (codes "NAME") rows
 abbrev pub function_in : List Row → Option Text
 function_in rows = first_of (codes "function") rows
 
--- a source: the name of its file, and its edition
+abbrev pub input_in : List Row → Option Text
+input_in rows = first_of (codes "input") rows
+
+-- a source: the name of its file, those of the files that come after it, and its edition
 pub record Source : Type 0 where
   pub file : Text
+  pub libs : List Text
   pub edition : Edition
 
 abbrev pub source_in : List Row → Source
-source_in rows = record { file = file_in rows; edition = edition_in rows }
+source_in rows = record { file = file_in rows; libs = libs_in rows; edition = edition_in rows }
 
 -- What is asked of a source: its code, or that of its definitions of a name; its layout; a picture of its memory, after
 -- so many steps if there is a number; its faults, for an editor or for people; the steps of its program among so many,
--- those from a number on, or of a function; or a run of so many steps, and where it is over.
+-- which of them are shown, and of which function; a run of so many steps, and where it is over; how many steps each line
+-- takes in such a run, for an editor or for people; a page of a run, with this input if there is one; the source in one
+-- style, or whether it is in that.
 pub data Question : Type 0 where
   list : (name : Option Text) → Question
   map : Question
   draw : (steps : Option ℕ) → Question
   check : (for_editor : Bool) → Question
-  trace : (steps from : ℕ) (function : Option Text) → Question
+  trace : (steps : ℕ) (shown : Rows) (function : Option Text) → Question
   locate : (steps : ℕ) → Question
+  count : (steps : ℕ) (for_editor : Bool) → Question
+  show : (steps : ℕ) (shown : Rows) (input : Option Text) → Question
+  format : (is_check : Bool) → Question
 
--- What is asked for: that a source is compiled, that the code text in a file is run for so many steps, that a source is
--- compiled and run for so many, that a code text is migrated, something of a source; or a limit of steps and none,
--- which contradict each other.
+-- What is asked for: that a source is compiled, with the files that come after it, that the code text in a file is run for so many steps, that a source is
+-- compiled and run for so many, that a code text is migrated, something of a source; or two
+-- options that contradict each other.
 pub data Asked : Type 0 where
-  compile : (edition : Edition) → Asked
+  compile : (edition : Edition) (libs : List Text) → Asked
   run : (file : Text) (steps : ℕ) → Asked
   go : Source → (steps : ℕ) → Asked
   migrate : Asked
   ask : Source → Question → Asked
-  contradiction : Asked
+  contradiction : Clash → Asked
 
 abbrev pub run_asked : Text → Option ℕ → Asked
 run_asked file (Some steps) = run file steps
-run_asked file None = contradiction
+run_asked file None = contradiction clash.Limits
 
 -- where the run was over is asked for by a flag
 abbrev pub go_asked : Source → (is_located : Bool) → Option ℕ → Asked
 go_asked source false (Some steps) = go source steps
 go_asked source true (Some steps) = ask source (locate steps)
-go_asked source is_located None = contradiction
+go_asked source is_located None = contradiction clash.Limits
 
 -- a picture is asked for by its flag, or by a number of steps
 abbrev pub map_asked : Bool → Option ℕ → Question
@@ -211,8 +273,18 @@ map_asked false None = map
 map_asked false (Some steps) = draw (Some steps)
 map_asked true steps = draw steps
 
-abbrev pub walk_in : List Row → Question
-walk_in rows = trace (trace_steps_in rows) (from_in rows) (function_in rows)
+abbrev pub trace_asked : Source → (steps : Option ℕ) → Option Rows → (function : Option Text) → Asked
+trace_asked source steps (Some shown) function =
+    ask source (trace (unwrap_or steps (trace_steps shown)) shown function)
+trace_asked source steps None function = contradiction clash.Rows
+
+abbrev pub show_asked : Source → (steps : Option ℕ) → Option Rows → (input : Option Text) → Asked
+show_asked source steps (Some shown) input = ask source (show (unwrap_or steps (shown_steps shown)) shown input)
+show_asked source steps None input = contradiction clash.Rows
+
+abbrev pub count_asked : Source → (for_editor : Bool) → Option ℕ → Asked
+count_asked source for_editor (Some steps) = ask source (count steps for_editor)
+count_asked source for_editor None = contradiction clash.Limits
 
 -- what a command asks for, by its name and what was found of its options
 abbrev pub asked_by : Text → List Row → Asked
@@ -224,18 +296,28 @@ asked_by name rows = if bytes_eq name (codes "run") then run_asked (file_in rows
     else (if bytes_eq name (codes "map")
     then ask (source_in rows) (map_asked (is_set_in (codes "svg") rows) (option_number (codes "steps") rows))
     else (if bytes_eq name (codes "check") then ask (source_in rows) (check (is_set_in (codes "json") rows))
-    else (if bytes_eq name (codes "trace") then ask (source_in rows) (walk_in rows)
-    else compile (edition_in rows)))))))
+    else (if bytes_eq name (codes "trace")
+    then trace_asked (source_in rows) (option_number (codes "steps") rows) (rows_in rows) (function_in rows)
+    else (if bytes_eq name (codes "count")
+    then count_asked (source_in rows) (is_set_in (codes "json") rows) (steps_in rows)
+    else (if bytes_eq name (codes "show")
+    then show_asked (source_in rows) (option_number (codes "steps") rows) (rows_in rows) (input_in rows)
+    else (if bytes_eq name (codes "format") then ask (source_in rows) (format (is_set_in (codes "check") rows))
+    else compile (edition_in rows) (libs_in rows))))))))))
 
 abbrev pub asked : Option (Text × List Row) → Asked
-asked None = compile editions.One
+asked None = compile editions.One []
 asked (Some command) = asked_by command.0 command.1
 
 abbrev pub source_shown : Given → Source
-source_shown source = record { file = source.file.now; edition = source.edition }
+source_shown source =
+    record { file = source.file.now; libs = map_each (λ lib. lib.now) source.libs.now; edition = source.edition }
 
 abbrev pub walk_shown : Walk → Question
-walk_shown walk = trace walk.steps walk.from (option_map (λ n. n.now) walk.function)
+walk_shown walk = trace walk.steps walk.rows (option_map (λ n. n.now) walk.function)
+
+abbrev pub display_shown : Display → Question
+display_shown it = show it.steps it.rows (option_map (λ n. n.now) it.input)
 
 -- what a question of a job is
 abbrev pub question_of : Questioned → Question
@@ -245,12 +327,22 @@ question_of (questioned.Draw steps) = draw steps
 question_of (questioned.Check for_editor) = check for_editor
 question_of (questioned.Trace walk) = walk_shown walk
 question_of (questioned.Locate steps) = locate steps
+question_of (questioned.Count steps for_editor) = count steps for_editor
+question_of (questioned.Show it) = display_shown it
+question_of (questioned.Format is_check) = format is_check
 
 -- what a job is of what can be asked for
 abbrev pub asked_of : Job → Asked
-asked_of (job.Compile edition) = compile edition
+asked_of (job.Compile edition libs) = compile edition (map_each (λ lib. lib.now) libs.now)
 asked_of (job.Run file steps) = run file.now steps
 asked_of (job.Go source steps) = go (source_shown source) steps
 asked_of job.Migrate = migrate
 asked_of (job.Ask source question) = ask (source_shown source) (question_of question)
-asked_of job.Contradiction = contradiction
+asked_of (job.Contradiction it) = contradiction it
+
+-- the message for two options that contradict each other
+abbrev pub clash_line : Clash → Text
+clash_line clash.Limits =
+    codes "error: the argument '--steps <N>' cannot be used with '--no-limit'\n\nFor more information, try '--help'.\n"
+clash_line clash.Rows =
+    codes "error: the argument '--from <N>' cannot be used with '--last <N>'\n\nFor more information, try '--help'.\n"

@@ -7,7 +7,9 @@ use Rattle.bword.specs.declared.edition.Edition.TheVariants as editions
 use Rattle.bword.specs.declared.edition.Edition.{Edition}
 use Rattle.bcommand.specs.CommandLine.{Asked, Source, asked, command_line}
 use Rattle.bcommand.specs.CommandLine.{compile, run, go, migrate, ask, contradiction}
-use Rattle.bcommand.specs.CommandLine.{list, map, draw, check, trace, locate}
+use Rattle.bcommand.specs.CommandLine.{list, map, draw, check, trace, locate, count, show, format}
+use Rattle.bcommand.specs.declared.job.Clash.TheVariants as clash
+use Rattle.bcommand.specs.declared.job.Rows.TheVariants as which
 
 pub is_simple_line : is_simple command_line ≡ true
 is_simple_line = refl
@@ -21,17 +23,21 @@ Asks words what = (fault_of command_line words ≡ []) × (asked (subcommand_of 
 
 -- the source in the file x
 abbrev x : Edition → Source
-x edition = record { file = codes "x"; edition = edition }
+x edition = record { file = codes "x"; libs = []; edition = edition }
 
-compiles : Asks (codes "b" ∷ codes "compile" ∷ []) (compile editions.One)
+-- the same, and after it these files
+abbrev x_with : List Text → Source
+x_with libs = record { file = codes "x"; libs = libs; edition = editions.One }
+
+compiles : Asks (codes "b" ∷ codes "compile" ∷ []) (compile editions.One [])
 unfolding clap_on_literals
 compiles = (refl, refl)
 
-compiles_the_second : Asks (codes "b" ∷ codes "compile" ∷ codes "--edition" ∷ codes "2" ∷ []) (compile editions.Two)
+compiles_the_second : Asks (codes "b" ∷ codes "compile" ∷ codes "--edition" ∷ codes "2" ∷ []) (compile editions.Two [])
 unfolding clap_on_literals
 compiles_the_second = (refl, refl)
 
-compiles_the_first : Asks (codes "b" ∷ codes "compile" ∷ codes "--edition=1" ∷ []) (compile editions.One)
+compiles_the_first : Asks (codes "b" ∷ codes "compile" ∷ codes "--edition=1" ∷ []) (compile editions.One [])
 unfolding clap_on_literals
 compiles_the_first = (refl, refl)
 
@@ -59,7 +65,7 @@ unfolding clap_on_literals
 locates = (refl, refl)
 
 locates_within_limits : Asks (codes "b" ∷ codes "go" ∷ codes "--where" ∷ codes "--no-limit" ∷ codes "--steps=5"
-    ∷ codes "x" ∷ []) contradiction
+    ∷ codes "x" ∷ []) (contradiction clash.Limits)
 unfolding clap_on_literals
 locates_within_limits = (refl, refl)
 
@@ -68,7 +74,7 @@ no_place_of_code : fault_of command_line (codes "b" ∷ codes "run" ∷ codes "-
 unfolding clap_on_literals
 no_place_of_code = refl
 
-contradicts : Asks (codes "b" ∷ codes "go" ∷ codes "--no-limit" ∷ codes "--steps=5" ∷ codes "x" ∷ []) contradiction
+contradicts : Asks (codes "b" ∷ codes "go" ∷ codes "--no-limit" ∷ codes "--steps=5" ∷ codes "x" ∷ []) (contradiction clash.Limits)
 unfolding clap_on_literals
 contradicts = (refl, refl)
 
@@ -133,12 +139,12 @@ checks_no_file : fault_of command_line (codes "b" ∷ codes "check" ∷ []) ≡ 
 unfolding clap_on_literals
 checks_no_file = refl
 
-traces : Asks (codes "b" ∷ codes "trace" ∷ codes "x" ∷ []) (ask (x editions.One) (trace 1000 1 None))
+traces : Asks (codes "b" ∷ codes "trace" ∷ codes "x" ∷ []) (ask (x editions.One) (trace 1000 (which.From 1) None))
 unfolding clap_on_literals
 traces = (refl, refl)
 
 traces_some : Asks (codes "b" ∷ codes "trace" ∷ codes "--edition=2" ∷ codes "--steps" ∷ codes "50" ∷ codes "--from=7"
-    ∷ codes "--function" ∷ codes "f" ∷ codes "x" ∷ []) (ask (x editions.Two) (trace 50 7 (Some (codes "f"))))
+    ∷ codes "--function" ∷ codes "f" ∷ codes "x" ∷ []) (ask (x editions.Two) (trace 50 (which.From 7) (Some (codes "f"))))
 unfolding clap_on_literals
 traces_some = (refl, refl)
 
@@ -150,6 +156,98 @@ traces_within_limits : fault_of command_line (codes "b" ∷ codes "trace" ∷ co
     ≡ kind.UnknownArgument ∷ []
 unfolding clap_on_literals
 traces_within_limits = refl
+
+compiles_two : Asks (codes "b" ∷ codes "compile" ∷ codes "--with" ∷ codes "l" ∷ [])
+    (compile editions.One (codes "l" ∷ []))
+unfolding clap_on_literals
+compiles_two = (refl, refl)
+
+goes_with : Asks (codes "b" ∷ codes "go" ∷ codes "--with" ∷ codes "l" ∷ codes "x" ∷ codes "--with=m" ∷ [])
+    (go (x_with (codes "l" ∷ codes "m" ∷ [])) 10000000)
+unfolding clap_on_literals
+goes_with = (refl, refl)
+
+checks_with : Asks (codes "b" ∷ codes "check" ∷ codes "x" ∷ codes "--with" ∷ codes "x" ∷ [])
+    (ask (x_with (codes "x" ∷ [])) (check false))
+unfolding clap_on_literals
+checks_with = (refl, refl)
+
+with_nothing : fault_of command_line (codes "b" ∷ codes "go" ∷ codes "x" ∷ codes "--with" ∷ [])
+    ≡ kind.InvalidValue ∷ []
+unfolding clap_on_literals
+with_nothing = refl
+
+code_with : fault_of command_line (codes "b" ∷ codes "run" ∷ codes "x" ∷ codes "--with" ∷ codes "l" ∷ [])
+    ≡ kind.UnknownArgument ∷ []
+unfolding clap_on_literals
+code_with = refl
+
+traces_last : Asks (codes "b" ∷ codes "trace" ∷ codes "--last=5" ∷ codes "x" ∷ [])
+    (ask (x editions.One) (trace 10000000 (which.Last 5) None))
+unfolding clap_on_literals
+traces_last = (refl, refl)
+
+traces_last_of_some : Asks (codes "b" ∷ codes "trace" ∷ codes "--last=5" ∷ codes "--steps=9" ∷ codes "x" ∷ [])
+    (ask (x editions.One) (trace 9 (which.Last 5) None))
+unfolding clap_on_literals
+traces_last_of_some = (refl, refl)
+
+traces_from_and_last : Asks (codes "b" ∷ codes "trace" ∷ codes "--last=5" ∷ codes "--from=9" ∷ codes "x" ∷ [])
+    (contradiction clash.Rows)
+unfolding clap_on_literals
+traces_from_and_last = (refl, refl)
+
+no_last : fault_of command_line (codes "b" ∷ codes "trace" ∷ codes "--last=0" ∷ codes "x" ∷ [])
+    ≡ kind.ValueValidation ∷ []
+unfolding clap_on_literals
+no_last = refl
+
+counts : Asks (codes "b" ∷ codes "count" ∷ codes "x" ∷ []) (ask (x editions.One) (count 10000000 false))
+unfolding clap_on_literals
+counts = (refl, refl)
+
+counts_for_editors : Asks (codes "b" ∷ codes "count" ∷ codes "--json" ∷ codes "--no-limit" ∷ codes "--edition=2"
+    ∷ codes "x" ∷ []) (ask (x editions.Two) (count 18446744073709551615 true))
+unfolding clap_on_literals
+counts_for_editors = (refl, refl)
+
+counts_within_limits : Asks (codes "b" ∷ codes "count" ∷ codes "--no-limit" ∷ codes "--steps=5" ∷ codes "x" ∷ [])
+    (contradiction clash.Limits)
+unfolding clap_on_literals
+counts_within_limits = (refl, refl)
+
+shows : Asks (codes "b" ∷ codes "show" ∷ codes "x" ∷ []) (ask (x editions.One) (show 2000 (which.From 1) None))
+unfolding clap_on_literals
+shows = (refl, refl)
+
+shows_from : Asks (codes "b" ∷ codes "show" ∷ codes "--from=7" ∷ codes "--input=hi" ∷ codes "x" ∷ [])
+    (ask (x editions.One) (show 2006 (which.From 7) (Some (codes "hi"))))
+unfolding clap_on_literals
+shows_from = (refl, refl)
+
+shows_last : Asks (codes "b" ∷ codes "show" ∷ codes "x" ∷ codes "--last" ∷ codes "3" ∷ [])
+    (ask (x editions.One) (show 10000000 (which.Last 3) None))
+unfolding clap_on_literals
+shows_last = (refl, refl)
+
+shows_from_and_last : Asks (codes "b" ∷ codes "show" ∷ codes "--last=5" ∷ codes "--from=9" ∷ codes "x" ∷ [])
+    (contradiction clash.Rows)
+unfolding clap_on_literals
+shows_from_and_last = (refl, refl)
+
+formats : Asks (codes "b" ∷ codes "format" ∷ codes "x" ∷ []) (ask (x editions.One) (format false))
+unfolding clap_on_literals
+formats = (refl, refl)
+
+compares_formats : Asks (codes "b" ∷ codes "format" ∷ codes "--check" ∷ codes "--edition=2" ∷ codes "x" ∷ [])
+    (ask (x editions.Two) (format true))
+unfolding clap_on_literals
+compares_formats = (refl, refl)
+
+formats_alone : fault_of command_line (codes "b" ∷ codes "format" ∷ codes "x" ∷ codes "--with=l" ∷ [])
+    ≡ kind.UnknownArgument ∷ []
+unfolding clap_on_literals
+formats_alone = refl
 
 no_command : fault_of command_line (codes "b" ∷ []) ≡ kind.MissingSubcommand ∷ []
 unfolding clap_on_literals

@@ -1,16 +1,17 @@
 -- Inner words: what the rows of the table of commands say to `clap`.
 use Rattle.std.specs.Prelude.{List, fold}
 use Rattle.clap.specs.Words.{App, Rule, Text, new_app, with_rule, with_subcommand}
-use Rattle.bcommand.specs.CommandLine.{argument_rule, bare_line, flag_rule, named_rule, number_rule}
+use Rattle.bcommand.specs.CommandLine.{argument_rule, bare_line, flag_rule, number_rule, repeated_rule, text_rule}
 use Rattle.bcommand.specs.declared.commands.ArgumentRow.{ArgumentRow}
 use Rattle.bcommand.specs.declared.commands.CommandRow.{CommandRow}
 use Rattle.bcommand.specs.declared.commands.Kind.{Kind}
-use Rattle.bcommand.specs.declared.commands.Kind.TheVariants.{Flag, Number, Named, Positional}
+use Rattle.bcommand.specs.declared.commands.Kind.TheVariants.{Flag, Number, Text as Texted, Repeated, Positional}
 
 abbrev pub rule_by : Kind → Text → Rule
 rule_by Flag id = flag_rule id
 rule_by (Number most) id = number_rule id most
-rule_by Named id = named_rule id
+rule_by (Texted name) id = text_rule id
+rule_by (Repeated name) id = repeated_rule id
 rule_by (Positional is_required) id = argument_rule id is_required
 
 abbrev pub rule_in : ArgumentRow → Rule

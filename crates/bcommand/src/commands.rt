@@ -5,8 +5,8 @@ ghost use Rattle.bcommand.specs.CommandLine.{bare_line, command_line};
 ghost use Rattle.bcommand.specs.Rows.{command_in, line_in, rule_in};
 
 use crate::texts::{
-    ABOUT, CHECK_HELP, COMPILE_HELP, GO_HELP, HELP, LIST_HELP, MAP_HELP, MIGRATE_HELP, RUN_HELP,
-    TRACE_HELP, VERSION,
+    ABOUT, CHECK_HELP, COMPILE_HELP, COUNT_HELP, FORMAT_HELP, GO_HELP, HELP, LIST_HELP, MAP_HELP,
+    MIGRATE_HELP, RUN_HELP, SHOW_HELP, TRACE_HELP, VERSION,
 };
 use clap::{Arg, ArgAction, Command, value_parser};
 use std::alloc::{AllocError, Global};
@@ -35,8 +35,10 @@ pub(crate) enum Kind {
     Flag,
     /// An option with a number from 1 to this one.
     Number(u32),
-    /// An option with a name.
-    Named,
+    /// An option with a text, and how its help calls the text.
+    Text(&'static str),
+    /// The same, which may be given often.
+    Repeated(&'static str),
     /// An argument, and whether it has to be there.
     Positional(bool),
 }
@@ -59,7 +61,7 @@ const STEPS: ArgumentRow = ArgumentRow {
 const TRACE_STEPS: ArgumentRow = ArgumentRow {
     id: "steps",
     kind: Kind::Number(MOST_STEPS),
-    help: "At most N steps, 1 to 4000000000; 1000 if not given",
+    help: "At most N steps, 1 to 4000000000; 1000, or 10000000 with --last, if not given",
 };
 
 const MOMENT: ArgumentRow = ArgumentRow {
@@ -74,9 +76,33 @@ const FROM: ArgumentRow = ArgumentRow {
     help: "Shows steps from N on, 1 to 4000000000; 1 if not given",
 };
 
+const LAST: ArgumentRow = ArgumentRow {
+    id: "last",
+    kind: Kind::Number(MOST_STEPS),
+    help: "Shows the last N of the steps, 1 to 4000000000",
+};
+
+const SHOWN_STEPS: ArgumentRow = ArgumentRow {
+    id: "steps",
+    kind: Kind::Number(MOST_STEPS),
+    help: "At most N steps, 1 to 4000000000; 2000 that are shown if not given",
+};
+
+const INPUT: ArgumentRow = ArgumentRow {
+    id: "input",
+    kind: Kind::Text("TEXT"),
+    help: "The input of the program, in place of standard input",
+};
+
+const CHECK: ArgumentRow = ArgumentRow {
+    id: "check",
+    kind: Kind::Flag,
+    help: "Writes nothing, and ends with 2 where something would change",
+};
+
 const FUNCTION: ArgumentRow = ArgumentRow {
     id: "function",
-    kind: Kind::Named,
+    kind: Kind::Text("NAME"),
     help: "Shows the steps of this function; of all if not given",
 };
 
@@ -104,6 +130,12 @@ const SVG: ArgumentRow = ArgumentRow {
     help: "Draws a picture, an SVG file",
 };
 
+const WITH: ArgumentRow = ArgumentRow {
+    id: "with",
+    kind: Kind::Repeated("LIB"),
+    help: "Puts the source in LIB after FILE; as often as wanted",
+};
+
 const FILE: ArgumentRow = ArgumentRow {
     id: "FILE",
     kind: Kind::Positional(true),
@@ -116,13 +148,13 @@ const NAME: ArgumentRow = ArgumentRow {
     help: "The definition to list; all if not given",
 };
 
-const COMMANDS: [CommandRow; 8] = [
+const COMMANDS: [CommandRow; 11] = [
     CommandRow {
         name: "compile",
         about: "Compiles the source on standard input to code text on standard output",
         usage: Some("b compile [OPTIONS] < FILE"),
         help: COMPILE_HELP,
-        arguments: &[EDITION],
+        arguments: &[EDITION, WITH],
     },
     CommandRow {
         name: "run",
@@ -136,7 +168,7 @@ const COMMANDS: [CommandRow; 8] = [
         about: "Compiles the source in FILE and runs it",
         usage: None,
         help: GO_HELP,
-        arguments: &[EDITION, STEPS, NO_LIMIT, FILE, WHERE],
+        arguments: &[EDITION, STEPS, NO_LIMIT, FILE, WHERE, WITH],
     },
     CommandRow {
         name: "migrate",
@@ -150,28 +182,49 @@ const COMMANDS: [CommandRow; 8] = [
         about: "Lists the code of the source in FILE, with the lines it comes from",
         usage: None,
         help: LIST_HELP,
-        arguments: &[EDITION, FILE, NAME],
+        arguments: &[EDITION, FILE, WITH, NAME],
     },
     CommandRow {
         name: "map",
         about: "Shows where each name of the source in FILE lies in memory",
         usage: None,
         help: MAP_HELP,
-        arguments: &[EDITION, FILE, SVG, MOMENT],
+        arguments: &[EDITION, FILE, WITH, SVG, MOMENT],
     },
     CommandRow {
         name: "check",
         about: "Tells what is wrong in the source in FILE, where, and how to fix it",
         usage: None,
         help: CHECK_HELP,
-        arguments: &[EDITION, FILE, JSON],
+        arguments: &[EDITION, FILE, WITH, JSON],
     },
     CommandRow {
         name: "trace",
         about: "Runs the source in FILE and shows each step",
         usage: None,
         help: TRACE_HELP,
-        arguments: &[EDITION, FILE, TRACE_STEPS, FROM, FUNCTION],
+        arguments: &[EDITION, FILE, WITH, TRACE_STEPS, FROM, LAST, FUNCTION],
+    },
+    CommandRow {
+        name: "count",
+        about: "Runs the source in FILE and counts the steps of each line",
+        usage: None,
+        help: COUNT_HELP,
+        arguments: &[EDITION, FILE, WITH, STEPS, NO_LIMIT, JSON],
+    },
+    CommandRow {
+        name: "show",
+        about: "Runs the source in FILE and writes a page that shows the run",
+        usage: Some("b show [OPTIONS] <FILE> > run.html"),
+        help: SHOW_HELP,
+        arguments: &[EDITION, FILE, WITH, SHOWN_STEPS, FROM, LAST, INPUT],
+    },
+    CommandRow {
+        name: "format",
+        about: "Lays out the source in FILE in one style",
+        usage: None,
+        help: FORMAT_HELP,
+        arguments: &[EDITION, FILE, CHECK],
     },
 ];
 
@@ -243,7 +296,8 @@ fn argument_of<'a>(alloc: Global, row: ArgumentRow) -> Arg<'a>
             .value_name("N")
             .action(ArgAction::Set)
             .value_parser(value_parser!(u64).range(1..=i64::from(most))),
-        Kind::Named => arg.long(row.id).value_name("NAME").action(ArgAction::Set),
+        Kind::Text(name) => arg.long(row.id).value_name(name).action(ArgAction::Set),
+        Kind::Repeated(name) => arg.long(row.id).value_name(name).action(ArgAction::Append),
         Kind::Positional(is_required) => arg.required(is_required).action(ArgAction::Set),
     }
 }

@@ -4,15 +4,25 @@ use bword::Edition;
 /// What the words of a command line ask for.
 #[derive(Clone, Copy)]
 pub enum Job<'a> {
-    Compile(Edition),
+    /// Compiles standard input, and these files after it.
+    Compile(Edition, &'a [&'a str]),
     /// A run of the code text in a file, of so many steps at most.
     Run(&'a str, u64),
     /// A run of a source, of so many steps at most.
     Go(Source<'a>, u64),
     Migrate,
     Ask(Source<'a>, Question<'a>),
-    /// Both a limit of steps and no limit, which contradict each other.
-    Contradiction,
+    /// Two options that contradict each other.
+    Contradiction(Clash),
+}
+
+/// Options that contradict each other.
+#[derive(Clone, Copy)]
+pub enum Clash {
+    /// A limit of steps, and no limit.
+    Limits,
+    /// The steps from a number on, and the last ones.
+    Rows,
 }
 
 /// What is asked of a source.
@@ -29,20 +39,43 @@ pub enum Question<'a> {
     Trace(Walk<'a>),
     /// Where a run of so many steps at most is over.
     Locate(u64),
+    /// The steps of each of its lines in a run of so many at most, and whether an editor reads them.
+    Count(u64, bool),
+    Show(Display<'a>),
+    /// The same source in one style, or only whether it is in that.
+    Format(bool),
 }
 
-/// A run step by step, and the steps that are shown: those from a number on, all of them or those of a function.
+/// Which steps of a run are shown: those from a number on, or so many of the last ones.
+#[derive(Clone, Copy)]
+pub enum Rows {
+    From(u64),
+    Last(u64),
+}
+
+/// A run step by step, and the steps that are shown: all of them, or those of a function.
 #[derive(Clone, Copy)]
 pub struct Walk<'a> {
     /// The most steps that are made.
     pub steps: u64,
-    pub from: u64,
+    pub rows: Rows,
     pub function: Option<&'a str>,
 }
 
-/// A source in a file.
+/// A run on a page.
+#[derive(Clone, Copy)]
+pub struct Display<'a> {
+    /// The most steps that are made.
+    pub steps: u64,
+    pub rows: Rows,
+    /// The input of the program, if it isn't standard input.
+    pub input: Option<&'a str>,
+}
+
+/// A source in a file, and in those that come after it.
 #[derive(Clone, Copy)]
 pub struct Source<'a> {
     pub file: &'a str,
+    pub libs: &'a [&'a str],
     pub edition: Edition,
 }

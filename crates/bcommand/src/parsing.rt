@@ -1,10 +1,10 @@
 //! The words of a command line, read.
 ghost use Rattle.std.specs.Prelude.{◌≡◌, [], IfOk, IfErr, codes, map, option_map, string_bytes};
 ghost use Rattle.clap.specs.Words.{HasKind, fault_of, first_of, found_of, rows_of, subcommand_of, subcommand_rows_of};
-ghost use Rattle.bcommand.specs.CommandLine.{asked, asked_of, command_line, edition_in, file_in, go_asked, is_set_in, map_asked, option_number, question_of, run_asked, source_in, source_shown, steps_asked, steps_in, walk_in, walk_shown};
+ghost use Rattle.bcommand.specs.CommandLine.{asked, asked_of, command_line, edition_in, file_in, go_asked, is_set_in, libs_in, map_asked, option_number, question_of, run_asked, source_in, source_shown, steps_asked, steps_in, count_asked, function_in, input_in, rows_asked, rows_in, show_asked, shown_steps, trace_asked, trace_steps};
 
 use crate::commands::command;
-use crate::job::{Job, Question, Source, Walk};
+use crate::job::{Clash, Display, Job, Question, Rows, Source, Walk};
 use bword::Edition;
 use clap::{ArgMatches, Error};
 use std::alloc::Global;
@@ -15,20 +15,13 @@ const DEFAULT_STEPS: u64 = 10_000_000;
 /// The steps of a trace if the command doesn't say how many.
 const DEFAULT_TRACE_STEPS: u64 = 1_000;
 
-/// What the words of a command line ask for; the first one is the program's own name.
+/// The steps on a page if the command doesn't say how many.
+const DEFAULT_SHOWN_STEPS: u64 = 2_000;
+
+/// What is found in the words of a command line; the first one is the program's own name.
 ///
 /// A request for help is an error, too.
-pub fn parse<'a>(alloc: Global, words: &'a [String]) -> Result<Job<'a>, Error>
-    ensures ok { IfOk result (λ job. (fault_of command_line (map string_bytes words.entry.now) ≡ [])
-        × (asked_of job ≡ asked (subcommand_of command_line (map string_bytes words.entry.now)))) }
-    ensures err { IfErr result (HasKind (fault_of command_line (map string_bytes words.entry.now))) }
-{
-    let matches = matches_of(alloc, words)?;
-    Ok(job_of(&matches))
-}
-
-// What is found in the words, if they are a command line.
-fn matches_of<'a>(alloc: Global, words: &'a [String]) -> Result<ArgMatches<'a>, Error>
+pub fn parse<'a>(alloc: Global, words: &'a [String]) -> Result<ArgMatches<'a>, Error>
     ensures ok { IfOk result (λ m. (fault_of command_line (map string_bytes words.entry.now) ≡ [])
         × (subcommand_rows_of m ≡ subcommand_of command_line (map string_bytes words.entry.now))) }
     ensures err { IfErr result (HasKind (fault_of command_line (map string_bytes words.entry.now))) }
@@ -36,11 +29,12 @@ fn matches_of<'a>(alloc: Global, words: &'a [String]) -> Result<ArgMatches<'a>, 
     command(alloc)?.try_get_matches_from(words)
 }
 
-fn job_of<'a>(matches: &ArgMatches<'a>) -> Job<'a>
+/// What is asked for by what was found.
+pub fn job_of<'m, 'a: 'm>(matches: &'m ArgMatches<'a>) -> Job<'m>
     ensures { asked_of result ≡ asked (subcommand_rows_of matches.now) }
 {
     let Some((name, given)) = matches.subcommand() else {
-        return Job::Compile(Edition::One);
+        return Job::Compile(Edition::One, &[]);
     };
     match name {
         "run" => run_of(given),
@@ -49,21 +43,24 @@ fn job_of<'a>(matches: &ArgMatches<'a>) -> Job<'a>
         "list" => Job::Ask(source_of(given), Question::List(text_of(given, "NAME"))),
         "map" => Job::Ask(source_of(given), map_of(given)),
         "check" => Job::Ask(source_of(given), Question::Check(is_set(given, "json"))),
-        "trace" => Job::Ask(source_of(given), Question::Trace(walk_of(given))),
-        _ => Job::Compile(edition_of(given)),
+        "trace" => trace_of(given),
+        "count" => count_of(given),
+        "show" => show_of(given),
+        "format" => Job::Ask(source_of(given), Question::Format(is_set(given, "check"))),
+        _ => Job::Compile(edition_of(given), libs_of(given)),
     }
 }
 
-fn run_of<'a>(given: &ArgMatches<'a>) -> Job<'a>
+fn run_of<'m, 'a: 'm>(given: &'m ArgMatches<'a>) -> Job<'m>
     ensures { asked_of result ≡ run_asked (file_in (rows_of (found_of given.now))) (steps_in (rows_of (found_of given.now))) }
 {
     match steps_of(number_of(given, "steps"), is_set(given, "no-limit")) {
         Some(steps) => Job::Run(file_of(given), steps),
-        None => Job::Contradiction,
+        None => Job::Contradiction(Clash::Limits),
     }
 }
 
-fn go_of<'a>(given: &ArgMatches<'a>) -> Job<'a>
+fn go_of<'m, 'a: 'm>(given: &'m ArgMatches<'a>) -> Job<'m>
     ensures { asked_of result ≡ go_asked (source_in (rows_of (found_of given.now))) (is_set_in (codes "where") (rows_of (found_of given.now))) (steps_in (rows_of (found_of given.now))) }
 {
     let source = source_of(given);
@@ -71,15 +68,16 @@ fn go_of<'a>(given: &ArgMatches<'a>) -> Job<'a>
     match (steps, is_set(given, "where")) {
         (Some(steps), true) => Job::Ask(source, Question::Locate(steps)),
         (Some(steps), false) => Job::Go(source, steps),
-        (None, _) => Job::Contradiction,
+        (None, _) => Job::Contradiction(Clash::Limits),
     }
 }
 
-fn source_of<'a>(given: &ArgMatches<'a>) -> Source<'a>
+fn source_of<'m, 'a: 'm>(given: &'m ArgMatches<'a>) -> Source<'m>
     ensures { source_shown result ≡ source_in (rows_of (found_of given.now)) }
 {
     Source {
         file: file_of(given),
+        libs: libs_of(given),
         edition: edition_of(given),
     }
 }
@@ -103,13 +101,75 @@ fn map_of<'a>(given: &ArgMatches<'a>) -> Question<'a>
     }
 }
 
-fn walk_of<'a>(given: &ArgMatches<'a>) -> Walk<'a>
-    ensures { walk_shown result ≡ walk_in (rows_of (found_of given.now)) }
+fn trace_of<'m, 'a: 'm>(given: &'m ArgMatches<'a>) -> Job<'m>
+    ensures { asked_of result ≡ trace_asked (source_in (rows_of (found_of given.now))) (option_number (codes "steps") (rows_of (found_of given.now))) (rows_in (rows_of (found_of given.now))) (function_in (rows_of (found_of given.now))) }
 {
-    Walk {
-        steps: number_of(given, "steps").unwrap_or(DEFAULT_TRACE_STEPS),
-        from: number_of(given, "from").unwrap_or(1),
+    let Some(rows) = shown_rows(number_of(given, "from"), number_of(given, "last")) else {
+        return Job::Contradiction(Clash::Rows);
+    };
+    let walk = Walk {
+        steps: number_of(given, "steps").unwrap_or(trace_steps(rows)),
+        rows,
         function: text_of(given, "function"),
+    };
+    Job::Ask(source_of(given), Question::Trace(walk))
+}
+
+fn show_of<'m, 'a: 'm>(given: &'m ArgMatches<'a>) -> Job<'m>
+    ensures { asked_of result ≡ show_asked (source_in (rows_of (found_of given.now))) (option_number (codes "steps") (rows_of (found_of given.now))) (rows_in (rows_of (found_of given.now))) (input_in (rows_of (found_of given.now))) }
+{
+    let Some(rows) = shown_rows(number_of(given, "from"), number_of(given, "last")) else {
+        return Job::Contradiction(Clash::Rows);
+    };
+    let display = Display {
+        steps: number_of(given, "steps").unwrap_or(shown_steps(rows)),
+        rows,
+        input: text_of(given, "input"),
+    };
+    Job::Ask(source_of(given), Question::Show(display))
+}
+
+fn count_of<'m, 'a: 'm>(given: &'m ArgMatches<'a>) -> Job<'m>
+    ensures { asked_of result ≡ count_asked (source_in (rows_of (found_of given.now))) (is_set_in (codes "json") (rows_of (found_of given.now))) (steps_in (rows_of (found_of given.now))) }
+{
+    match steps_of(number_of(given, "steps"), is_set(given, "no-limit")) {
+        Some(steps) => Job::Ask(
+            source_of(given),
+            Question::Count(steps, is_set(given, "json")),
+        ),
+        None => Job::Contradiction(Clash::Limits),
+    }
+}
+
+// None where there are steps from a number on and last ones.
+fn shown_rows(from: Option<u64>, last: Option<u64>) -> Option<Rows>
+    ensures { result ≡ rows_asked from last }
+{
+    match (from, last) {
+        (Some(_), Some(_)) => None,
+        (None, Some(last)) => Some(Rows::Last(last)),
+        (Some(from), None) => Some(Rows::From(from)),
+        (None, None) => Some(Rows::From(1)),
+    }
+}
+
+// The steps of a trace with these rows if the command doesn't say how many.
+fn trace_steps(rows: Rows) -> u64
+    ensures { result ≡ trace_steps rows }
+{
+    match rows {
+        Rows::From(_) => DEFAULT_TRACE_STEPS,
+        Rows::Last(_) => DEFAULT_STEPS,
+    }
+}
+
+// The same for a page.
+fn shown_steps(rows: Rows) -> u64
+    ensures { result ≡ shown_steps rows }
+{
+    match rows {
+        Rows::From(from) => (DEFAULT_SHOWN_STEPS - 1).saturating_add(from),
+        Rows::Last(_) => DEFAULT_STEPS,
     }
 }
 
@@ -129,6 +189,12 @@ fn file_of<'a>(given: &ArgMatches<'a>) -> &'a str
     ensures { result.now ≡ file_in (rows_of (found_of given.now)) }
 {
     text_of(given, "FILE").unwrap_or("")
+}
+
+fn libs_of<'m, 'a: 'm>(given: &'m ArgMatches<'a>) -> &'m [&'m str]
+    ensures { map (λ t. t.now) result.now ≡ libs_in (rows_of (found_of given.now)) }
+{
+    given.get_strs("with").unwrap_or(&[])
 }
 
 fn text_of<'a>(given: &ArgMatches<'a>, id: &str) -> Option<&'a str>

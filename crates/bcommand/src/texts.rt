@@ -1,5 +1,10 @@
 //! The texts of help, and the messages for a command line that can't be read.
 
+ghost use Rattle.std.specs.Prelude.{◌≡◌};
+ghost use Rattle.bcommand.specs.CommandLine.{clash_line};
+
+use crate::job::Clash;
+
 /// The version of this program, and the line of the kit that it is proved with.
 pub(crate) const VERSION: &str = "1.0.0, proved with rattle-kit-13b logic dac8208d650f15bf";
 
@@ -10,12 +15,27 @@ error: a word of the command line is not UTF-8
 For more information, try '--help'.
 ";
 
-/// The message for `--steps` beside `--no-limit`.
-pub const CONTRADICTION: &str = "\
+const LIMITS: &str = "\
 error: the argument '--steps <N>' cannot be used with '--no-limit'
 
 For more information, try '--help'.
 ";
+
+const ROWS: &str = "\
+error: the argument '--from <N>' cannot be used with '--last <N>'
+
+For more information, try '--help'.
+";
+
+/// The message for options that contradict each other.
+pub fn clash_text(clash: Clash) -> &'static str
+    ensures { result.now ≡ clash_line clash }
+{
+    match clash {
+        Clash::Limits => LIMITS,
+        Clash::Rows => ROWS,
+    }
+}
 
 pub(crate) const ABOUT: &str =
     "The compiler for the language B of 1972, and the machine that runs its code.";
@@ -25,6 +45,7 @@ Examples:
   b go hello.b                        compiles a source and runs it
   b go --edition 2 menu.b             the same with a source of edition 2
   b go --where hello.b                tells where a trap came
+  b go --with lib/print.b sum.b       puts a second source after the first one
   b compile < hello.b > hello.code    writes its code text into a file
   b run hello.code                    runs the code text
   b migrate < hello.code > new.code   writes it as a code text of edition 2
@@ -32,7 +53,10 @@ Examples:
   b map hello.b                       shows where its names lie in memory
   b map --svg hello.b > hello.svg     draws it as a picture
   b trace hello.b                     shows each step of its run
+  b show hello.b > run.html           writes a page that shows its run
+  b count hello.b                     counts the steps of each line
   b check hello.b                     tells what is wrong, where, how to fix it
+  b format hello.b > new.b            lays it out in one style
   b go --help                         tells more about a command
 
 There are two editions of the language. In edition 2, break leaves the nearest
@@ -41,6 +65,11 @@ In edition 1 these two words are names like others. A source is of edition 1
 unless --edition 2 comes after the name of the command. Use 1 for old sources
 and 2 for new ones. b run and b migrate have no --edition: a code text begins
 with the line B 2 if it is of edition 2.
+
+--with LIB puts the source in LIB after FILE, as often as wanted, and a newline
+before each. The source is then all of these bytes, and its lines are counted
+from the first one of FILE on. check, trace, count, show and go --where tell a
+line of LIB by its own number and the name of LIB.
 
 The status is 0 if a source compiles. After a run it is the exit status of the
 program. These are the other statuses, with their line on standard error:
@@ -74,19 +103,21 @@ program. These are the other statuses, with their line on standard error:
          2   there are too many data or labels
          3   a name isn't defined
          4   there is no function main
-  133  a read or a write failed, or FILE can't be read. There is no line; but
-       list, map, check, trace and go --where name the FILE
+  133  a read or a write failed, or a file can't be read. There is no line where
+       run or go can't read FILE; else the line names the file
   134  out of memory. There is no line
   135  a wrong command line. The lines tell what is wrong with it";
 
 pub(crate) const COMPILE_HELP: &str = "\
 The code of a definition is written when the compiler has read all of it. If
 the source has a fault, the code of the definitions before it is written, and
-the last line, E, is missing.
+the last line, E, is missing. --with LIB compiles the source in LIB after that
+on standard input; all LIBs are read first.
 
 Examples:
   b compile < hello.b > hello.code
   b compile --edition 2 < menu.b > menu.code
+  b compile --with lib/print.b < sum.b > sum.code
 
 Statuses: 0 compiled, 1 a fault of the source, 133 a failed read or write,
 134 out of memory, 135 a wrong command line. b --help explains the letters.";
@@ -107,11 +138,13 @@ pub(crate) const LIST_HELP: &str = "\
 The first column has the place of an instruction in its function, or @ and an
 address of memory. The next ones have the number of the source line, the line of
 the code text, the source line, and the name of an automatic or a label. NAME is
-the name of a definition in the source.
+the name of a definition in the source. With --with LIB the lines are counted
+from the first one of FILE on.
 
 Examples:
   b list hello.b
   b list --edition 2 menu.b main
+  b list --with lib/print.b sum.b printf
 
 Statuses: 0 listed, 1 a fault of the source, 132 code that doesn't load,
 133 a failed read or write, 134 out of memory, 135 a wrong command line, or no
@@ -129,6 +162,7 @@ Examples:
   b map hello.b
   b map --svg --edition 2 menu.b > menu.svg
   b map --svg --steps 40 hello.b > hello.svg
+  b map --with lib/print.b sum.b
 
 Statuses: 0 shown, 1 a fault of the source, 132 code that doesn't load,
 133 a failed read or write, 134 out of memory, 135 a wrong command line.
@@ -142,12 +176,17 @@ what it wrote. Words are shown as signed numbers. After a trap, or at the limit
 of steps, the trace shows the place and the calls that led there, each with at
 most six parameters.
 
+--last N shows the last N steps of a run, however long it is, or the last N of a
+function. A line of a LIB is shown by its own number and the name of LIB.
+
 The program reads standard input. Its output is in the trace alone. The trace is
 kept in memory, and written when the run is over.
 
 Examples:
   b trace --edition 2 menu.b
   b trace --from 100 --steps 200 --function main hello.b
+  b trace --last 20 hello.b
+  b trace --with lib/print.b sum.b
 
 Statuses: 0 to 127 the program's own, 1 also a fault of the source, 130 a trap,
 131 the limit of steps, 132 code that doesn't load, 133 a failed read or write,
@@ -160,11 +199,13 @@ writes it. Then come the place and a sentence, the source line with a mark, and
 the fix. A warning tells of code that compiles and is probably a mistake. It
 looks the same, without that first line. --json writes each fault or warning as
 one object on one line, and nothing else. A source without a function main has
-no fault here.
+no fault here. A place in a LIB is told by the name of LIB and its own line; the
+first line has the line in the whole, as b go has it.
 
 Examples:
   b check hello.b
   b check --json --edition 2 menu.b
+  b check --with lib/print.b sum.b
 
 Statuses: 0 no fault, 1 a fault of the source, 132 code that doesn't load,
 133 a failed read or write, 134 out of memory, 135 a wrong command line.
@@ -188,13 +229,68 @@ pub(crate) const GO_HELP: &str = "\
 The program reads standard input and writes standard output. A step is one
 instruction. If the line is limit, give more steps by --steps N or --no-limit.
 With --where, a second line tells where a trap or the limit came: the function,
-the place in it as b list shows it, and the number of the source line.
+the place in it as b list shows it, the number of the source line, and how many
+steps were made. b trace --last N shows the steps before it.
 
 Examples:
   b go --steps 1000 hello.b
   b go --edition 2 menu.b
   b go --where hello.b
+  b go --with lib/print.b --with lib/input.b sum.b
 
 Statuses: 0 to 127 the program's own, 1 also a fault of the source, 130 a trap,
 131 the limit of steps, 132 code that doesn't load, 133 a failed read or write,
 134 out of memory, 135 a wrong command line. b --help explains the letters.";
+
+pub(crate) const COUNT_HELP: &str = "\
+Beside each line of the source stand how often its first instruction was made
+and how many steps its code took. The three lines that took most are marked. The
+numbers of steps add up to the steps of the run. --json writes one object on
+each line.
+
+The program reads standard input, and its output is dropped. After a trap or at
+the limit of steps the counts are those of the steps before it.
+
+Examples:
+  b count hello.b
+  b count --no-limit --edition 2 menu.b < numbers
+  b count --json --with lib/print.b sum.b
+
+Statuses: 0 to 127 the program's own, 1 also a fault of the source, 130 a trap,
+131 the limit of steps, 132 code that doesn't load, 133 a failed read or write,
+134 out of memory, 135 a wrong command line. b --help explains the letters.";
+
+pub(crate) const SHOW_HELP: &str = "\
+The page is one file that needs no network. It shows the source with the running
+line marked, the operands, the active calls, the words of memory that the
+program uses, and its output, at each step. Keys and a slider go from step to
+step. If the run is longer than what is shown, the page says so.
+
+The program reads standard input, or TEXT with --input TEXT. Its output is on
+the page. The status is 0 where the page was written, whatever came of the run.
+
+Examples:
+  b show hello.b > run.html
+  b show --input 'a text' --edition 2 menu.b > run.html
+  b show --last 500 hello.b > run.html
+
+Statuses: 0 written, 1 a fault of the source, 132 code that doesn't load,
+133 a failed read or write, 134 out of memory, 135 a wrong command line.
+b --help explains the letters.";
+
+pub(crate) const FORMAT_HELP: &str = "\
+The tokens and the comments stay as they are, and in their order. Blanks and
+line ends are set by one style: 4 blanks a level, one statement a line, and at
+most one empty line. The code of the source stays the same to the byte. To lay
+out a source that is laid out changes nothing.
+
+--check writes nothing, and ends with 2 where something would change. A source
+with a wrong token is told, and nothing is written.
+
+Examples:
+  b format hello.b > new.b
+  b format --check --edition 2 menu.b
+
+Statuses: 0 written, or nothing would change, 1 a wrong token, 2 something would
+change, 133 a failed read or write, 134 out of memory, 135 a wrong command line.
+b --help explains the letters.";

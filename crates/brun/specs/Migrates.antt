@@ -52,6 +52,11 @@ pub record Rewriting : Type 0 where
   pub out : Outgoing
   pub out_after : Outgoing
 
+-- the same, in order
+abbrev pub rewriting : (input input_after : Incoming) (out out_after : Outgoing) → Rewriting
+rewriting input input_after out out_after =
+    record { input = input; input_after = input_after; out = out; out_after = out_after }
+
 -- No read failed.
 abbrev pub HasRead : Rewriting → Type 0
 HasRead w = w.input_after.failures ≡ w.input.failures
@@ -157,12 +162,7 @@ RewritingGives w (Err (stop.Fault code_fault.Memory)) =
 -- the same from when a reader was made, after what was written then
 abbrev pub DefinitionsGive : CodeReader → Outgoing → Result (Unit {0}) CodeStop → CodeReader → Outgoing → Type 0
 DefinitionsGive old opened result new following = (out : Outgoing) → Writes out (opening editions.Two) opened
-    → RewritingGives (record {
-      input = old.first.source;
-      input_after = new.ahead.end;
-      out = out;
-      out_after = following;
-    }) result
+    → RewritingGives (rewriting old.first.source new.ahead.end out following) result
 
 -- What a text comes to, its line and its status. A line is told of a text that is none of the first edition, alone.
 pub data Migrates (w : Rewriting) (line line_after : Outgoing) (status : ℕ) : Type 0 where

@@ -2,7 +2,7 @@
 ghost use Rattle.std.specs.Prelude.{◌≡◌, []};
 ghost use Rattle.bword.specs.declared.edition.Edition.TheVariants as editions;
 ghost use Rattle.bcode.specs.Readers.{SameReader, HasTaken};
-ghost use Rattle.brun.specs.Migrates.{Migrates, RewritingGives, DefinitionsGive};
+ghost use Rattle.brun.specs.Migrates.{Migrates, RewritingGives, DefinitionsGive, rewriting};
 ghost use Rattle.brun.specs.Unmigrated.{Unmigrated};
 
 use crate::text::refuse;
@@ -21,12 +21,8 @@ pub fn migrate<I: ByteIn, O: ByteOut, D: ByteOut>(
     out: &mut O,
     diag: &mut D,
 ) -> Status
-    ensures migrates { Migrates (record {
-      input = I.incoming input.old;
-      input_after = I.incoming input.new;
-      out = O.outgoing out.old;
-      out_after = O.outgoing out.new;
-    }) (D.outgoing diag.old) (D.outgoing diag.new) result }
+    ensures migrates { Migrates (rewriting (I.incoming input.old) (I.incoming input.new) (O.outgoing out.old) (O.outgoing out.new))
+        (D.outgoing diag.old) (D.outgoing diag.new) result }
     ensures input_lender { I.lender input.new ≡ I.lender input.old }
     ensures out_lender { O.lender out.new ≡ O.lender out.old }
     ensures diag_lender { D.lender diag.new ≡ D.lender diag.old }
@@ -44,12 +40,7 @@ fn migrate_code<I: ByteIn, O: ByteOut>(
     input: &mut I,
     out: &mut O,
 ) -> Result<(), CodeStop>
-    ensures gives { RewritingGives (record {
-      input = I.incoming input.old;
-      input_after = I.incoming input.new;
-      out = O.outgoing out.old;
-      out_after = O.outgoing out.new;
-    }) result }
+    ensures gives { RewritingGives (rewriting (I.incoming input.old) (I.incoming input.new) (O.outgoing out.old) (O.outgoing out.new)) result }
     ensures input_lender { I.lender input.new ≡ I.lender input.old }
     ensures out_lender { O.lender out.new ≡ O.lender out.old }
 {

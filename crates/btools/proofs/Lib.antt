@@ -1,3 +1,6 @@
 pub mod AddedTexts
 pub mod Excluded
 pub mod Loading
+pub mod Finding
+pub mod Functions
+pub mod Searching

@@ -9,13 +9,14 @@ use Rattle.blang.specs.declared.code.Definition.{Definition}
 use Rattle.bcode.specs.declared.fault.CodeFault.{CodeFault}
 use Rattle.bcode.specs.declared.fault.CodeFault.TheVariants as code_fault
 use Rattle.blang.specs.Compiles.{Compiles}
-use Rattle.blang.specs.declared.status.TheConstants.{MEMORY, REFUSED}
+use Rattle.blang.specs.declared.status.TheConstants.{DONE, MEMORY, REFUSED}
 use Rattle.blang.specs.Layout.{address_in, load_fault}
 use Rattle.bmach.specs.Loading.{IsFault}
 use Rattle.blang.specs.Machine.{Image}
-use Rattle.blang.specs.Reports.{Reported}
+use Rattle.blang.specs.Reports.{Finishes, Reported}
 use Rattle.bmach.specs.Resolved.{IsLoadedFrom}
 use Rattle.blang.specs.declared.run.LoadFault.{LoadFault}
+use Rattle.blang.specs.declared.run.Outcome.{Outcome}
 use Rattle.blang.specs.declared.run.LoadFault.TheVariants as fault
 use Rattle.btools.specs.declared.program.Program.{Program}
 
@@ -125,3 +126,9 @@ LoadGives code line (Ok p) line_after =
     × IsLoadedFrom p.definitions.items p.image
     × (line_after ≡ line)
 LoadGives code line (Err status) line_after = IsNotLoaded code line line_after status
+
+-- What is told of a run was written, and then the run has its line and status; or it was cut off.
+abbrev pub TellsEnd : (told : ℕ) → Outcome → Outgoing → Outgoing → ℕ → Type 0
+TellsEnd told result line line_after status =
+    ((told ≡ DONE) × Finishes result line line_after status)
+    ⊎ ((told ≡ DONE → ⊥) × (line_after ≡ line) × (status ≡ told))

@@ -4,13 +4,17 @@
 mod characters;
 mod names;
 mod program;
+mod quoting;
 mod sink;
+mod tables;
 mod telling;
 mod text;
 
 pub use characters::{hexadecimal_digit, push_byte, push_characters};
 pub use names::{Frame, FrameWord, Names};
 pub use program::{Program, lines_in, load_line, read_program, wrong_programs_are_excluded};
+pub use quoting::{push_file, push_quoted};
 pub use sink::Sink;
+pub use tables::{Entry, Tables};
 pub use telling::tell;
 pub use text::Text;

@@ -37,6 +37,13 @@ impl Text {
         self.bytes.as_slice()
     }
 
+    /// Takes all bytes away, and keeps the memory for others.
+    pub fn clear(&mut self)
+        ensures { self.new ≡ [] }
+    {
+        self.bytes.clear();
+    }
+
     /// Adds these bytes.
     pub fn push(&mut self, bytes: &[u8]) -> Result<(), AllocError>
         ensures { OnOk result (self.new ≡ self.old ++ bytes.now) }

@@ -1,8 +1,7 @@
-mod Finding
-mod Searching
-mod Functions
 mod PlaceParts
 mod RowParts
+mod Kept
+mod Telling
 mod Shown
 mod Unresolved
 mod Located

@@ -16,7 +16,8 @@ use Rattle.bmach.proofs.Resolving.{run-resolved}
 use Rattle.bmach.proofs.Running.{same_run}
 use Rattle.brun.proofs.RunSteps.{outcome-resolved, run_loaded, run_of_loaded}
 use Rattle.btools.specs.Programs.{HasProgram}
-use Rattle.btrace.specs.Programs.{Placed, functions_of}
+use Rattle.bsources.specs.Files.{Files}
+use Rattle.btrace.specs.RowTexts.{Legend, legend_in}
 use Rattle.btrace.specs.Locates.{Locates, TellsSite, located, located_status, unlocated}
 use Rattle.btrace.specs.Traces.{steps_from}
 use Rattle.btrace.proofs.Unresolved.{running_from}
@@ -41,29 +42,30 @@ module _ (I : Image) (f g : ℕ → State) (e : (n : ℕ) → g n ≡ state_reso
         active_is = ap active_of r.3 ∙ s.active_is;
       }
 
-  pub ends_at_same : (n : ℕ) (r : Outcome) → EndsAt g n r active → EndsAt f n r active
-  ends_at_same n (outcome.Exit status) h = tt
-  ends_at_same n (outcome.Trap kind) h = (
+  pub ends_at_same : (made n : ℕ) (r : Outcome) → EndsAt g n r active made → EndsAt f n r active made
+  ends_at_same made n (outcome.Exit status) h = tt
+  ends_at_same made n (outcome.Trap kind) h = (
     h.0,
     h.1,
     stands_same h.0 h.2,
     sym (outcome-resolved I (f (h.0 + 1))) ∙ ap state_outcome (sym (e (h.0 + 1))) ∙ h.3,
+    h.4,
   )
-  ends_at_same n outcome.Limit h = stands_same n h
-  ends_at_same n outcome.Device h = tt
-  ends_at_same n outcome.Memory h = tt
+  ends_at_same made n outcome.Limit h = (stands_same n h.0, h.1)
+  ends_at_same made n outcome.Device h = tt
+  ends_at_same made n outcome.Memory h = tt
 
-stops_run : (ds : List Definition) (image : Image) (p : Paused) → IsLoadedFrom ds image → IsUnstarted image p → (n : ℕ) (i j : Incoming) (r : Outcome) (active : Active) → IsOverAt (steps_from p) n i j r active → IsOverAt (machine ds) n i j r active
-stops_run ds image p loaded begins n i j r active s =
+stops_run : (ds : List Definition) (image : Image) (p : Paused) → IsLoadedFrom ds image → IsUnstarted image p → (n : ℕ) (i j : Incoming) (r : Outcome) (active : Active) (made : ℕ) → IsOverAt (steps_from p) n i j r active made → IsOverAt (machine ds) n i j r active made
+stops_run ds image p loaded begins n i j r active made s =
     let e : (input : List ℕ) (k : ℕ) → steps_from p input k ≡ state_resolved (image_of ds) (machine ds input k) =
     λ input k. sym (run_from image p begins input k) ∙ run_loaded ds image loaded input k ∙ run-resolved (image_of ds) input k in
     record {
       taken = s.taken;
       took = s.took;
-      ends = λ more can. ends_at_same (image_of ds) (machine ds (s.taken ++ more)) (steps_from p (s.taken ++ more)) (e (s.taken ++ more)) active n r (s.ends more can);
+      ends = λ more can. ends_at_same (image_of ds) (machine ds (s.taken ++ more)) (steps_from p (s.taken ++ more)) (e (s.taken ++ more)) active made n r (s.ends more can);
     }
 
-module _ (edition : Edition) (source : List ℕ) (n : ℕ) (ends : RunEnds) (status : ℕ) (mid : Outgoing) (ds : List Definition) (image : Image) (p : Paused) (result : Outcome) where
+module _ (edition : Edition) (source : List ℕ) (files : Files) (n : ℕ) (ends : RunEnds) (status : ℕ) (mid : Outgoing) (ds : List Definition) (image : Image) (p : Paused) (result : Outcome) where
   runs_whole : HasProgram edition source ends.line mid ds image → IsUnstarted image p → RunGives (steps_from p) n ends.input ends.input_after ends.out ends.out_after result
       → RunGives (machine ds) n ends.input ends.input_after ends.out ends.out_after result
   runs_whole is begins gives =
@@ -71,15 +73,15 @@ module _ (edition : Edition) (source : List ℕ) (n : ℕ) (ends : RunEnds) (sta
       (same_run (run image) (steps_from p) n ends.input ends.input_after ends.out ends.out_after result (run_from image p begins) gives)
 
   -- a run whose place was told
-  pub located_whole : (told : Outgoing) (fs : List Placed) (answer : ℕ) (active : Active) → HasProgram edition source ends.line mid ds image → fs ≡ functions_of ds → IsUnstarted image p
+  pub located_whole : (told : Outgoing) (legend : Legend) (answer : ℕ) (active : Active) (made : ℕ) → HasProgram edition source ends.line mid ds image → legend ≡ legend_in ds files → IsUnstarted image p
       → RunGives (steps_from p) n ends.input ends.input_after ends.out ends.out_after result → Finishes result mid told answer → located_status result ≡ Some answer
-      → IsOverAt (steps_from p) n ends.input ends.input_after result active → TellsSite fs active.strings active.place answer told ends.line_after status → Locates edition source n ends status
-  located_whole told fs answer active is functions begins gives finishes at stops tells =
-      located mid told ds image result answer active is (runs_whole is begins gives) finishes at
-      (stops_run ds image p is.loaded begins n ends.input ends.input_after result active stops)
-      (subst (λ (x : List Placed). TellsSite x active.strings active.place answer told ends.line_after status) functions tells)
+      → IsOverAt (steps_from p) n ends.input ends.input_after result active made → TellsSite legend active.strings active.place made answer told ends.line_after status → Locates edition source files n ends status
+  located_whole told legend answer active made is functions begins gives finishes at stops tells =
+      located mid told ds image result answer active made is (runs_whole is begins gives) finishes at
+      (stops_run ds image p is.loaded begins n ends.input ends.input_after result active made stops)
+      (subst (λ (x : Legend). TellsSite x active.strings active.place made answer told ends.line_after status) functions tells)
 
   -- a run that has no place
   pub unlocated_whole : HasProgram edition source ends.line mid ds image → IsUnstarted image p → RunGives (steps_from p) n ends.input ends.input_after ends.out ends.out_after result
-      → Finishes result mid ends.line_after status → (located_status result ≡ Some status → ⊥) → Locates edition source n ends status
+      → Finishes result mid ends.line_after status → (located_status result ≡ Some status → ⊥) → Locates edition source files n ends status
   unlocated_whole is begins gives finishes unplaced = unlocated mid ds image result is (runs_whole is begins gives) finishes unplaced

@@ -10,8 +10,7 @@ use Rattle.std.proofs.lemmas.List.FromFn.{length-map-range_with_len, map-range_w
 use Rattle.blang.specs.Machine.{Call}
 use Rattle.bmach.specs.Stops.{active_of}
 use Rattle.bmach.specs.declared.machine.Active.{Active}
-use Rattle.btrace.specs.Programs.{Placed}
-use Rattle.btrace.specs.RowTexts.{Place, first_words, has_more, parameter_at, place_text, places_text, signed_text, words_text}
+use Rattle.btrace.specs.RowTexts.{Legend, Place, first_words, has_more, parameter_at, place_text, places_text, signed_text, words_text}
 use Rattle.btrace.specs.Traces.{AddsPlaces, waits_at}
 
 -- the words of the first parameters, where so many are shown
@@ -38,30 +37,30 @@ one_word start text t1 t2 store call index word is before e1 e2 =
     ∙ flat_map_more f start words word ∙ ap (λ w. start ++ flat_map f (words ++ w ∷ [])) is
     ∙ ap (λ ws. start ++ flat_map f ws) (sym (map-range_with_len_more (parameter_at store call) 0 index index (omega arith)))
 
-pub first_place : (fs : List Placed) (store : List ℕ) (call : Active) (line : ℕ) (old t1 t2 : List ℕ) → t1 ≡ old ++ codes "at     " → t2 ≡ t1 ++ place_text fs store (record { call = call; line = line }) → AddsPlaces fs store call [] old t2
-first_place fs store call line old t1 t2 e1 e2 =
-    let shown = place_text fs store (record { call = call; line = line }) in (
-      places_text fs store (record { call = call; line = line }) [],
+pub first_place : (legend : Legend) (store : List ℕ) (call : Active) (line : ℕ) (old t1 t2 : List ℕ) → t1 ≡ old ++ codes "at     " → t2 ≡ t1 ++ place_text legend store (record { call = call; line = line }) → AddsPlaces legend store call [] old t2
+first_place legend store call line old t1 t2 e1 e2 =
+    let shown = place_text legend store (record { call = call; line = line }) in (
+      places_text legend store (record { call = call; line = line }) [],
       record { line = line; callers = []; text_is = refl; callers_are = refl },
       e2 ∙ ap (λ x. x ++ shown) e1 ∙ append_assoc old (codes "at     ") shown ∙ ap (λ x. old ++ x) (sym (append-nil (codes "at     " ++ shown))),
     )
 
-one_caller : (fs : List Placed) (store : List ℕ) (call : Active) (below : List Call) (c : Call) (p : Place) (old text t1 t2 : List ℕ) → p.call ≡ waits_at c
-    → AddsPlaces fs store call below old text → t1 ≡ text ++ codes "called " → t2 ≡ t1 ++ place_text fs store p → AddsPlaces fs store call (below ++ c ∷ []) old t2
-one_caller fs store call below c p old text t1 t2 is before e1 e2 =
-    let f : Place → List ℕ = λ q. codes "called " ++ place_text fs store q in
+one_caller : (legend : Legend) (store : List ℕ) (call : Active) (below : List Call) (c : Call) (p : Place) (old text t1 t2 : List ℕ) → p.call ≡ waits_at c
+    → AddsPlaces legend store call below old text → t1 ≡ text ++ codes "called " → t2 ≡ t1 ++ place_text legend store p → AddsPlaces legend store call (below ++ c ∷ []) old t2
+one_caller legend store call below c p old text t1 t2 is before e1 e2 =
+    let f : Place → List ℕ = λ q. codes "called " ++ place_text legend store q in
     let site : Place → Active = λ q. q.call in
     let at : Place = record { call = call; line = before.1.line } in
-    let first = codes "at     " ++ place_text fs store at in
+    let first = codes "at     " ++ place_text legend store at in
     let callers = before.1.callers in (
-      places_text fs store at (callers ++ p ∷ []),
+      places_text legend store at (callers ++ p ∷ []),
       record {
         line = before.1.line;
         callers = callers ++ p ∷ [];
         text_is = refl;
         callers_are = map-append site callers (p ∷ []) ∙ (λ i. before.1.callers_are i ++ is i ∷ []) ∙ sym (map-append waits_at below (c ∷ []));
       },
-      e2 ∙ ap (λ x. x ++ place_text fs store p) e1 ∙ append_assoc text (codes "called ") (place_text fs store p) ∙ ap (λ x. x ++ f p) (before.2 ∙ ap (λ x. old ++ x) before.1.text_is)
+      e2 ∙ ap (λ x. x ++ place_text legend store p) e1 ∙ append_assoc text (codes "called ") (place_text legend store p) ∙ ap (λ x. x ++ f p) (before.2 ∙ ap (λ x. old ++ x) before.1.text_is)
           ∙ append_assoc old (first ++ flat_map f callers) (f p)
           ∙ ap (λ x. old ++ x) (append_assoc first (flat_map f callers) (f p) ∙ ap (λ x. first ++ x) (ap (λ x. flat_map f callers ++ x) (sym (append-nil (f p))) ∙ sym (flat_map-append f callers (p ∷ [])))),
     )
@@ -75,13 +74,13 @@ next_caller (c ∷ below) (suc number) active is =
     let next = next_caller below number active is in
     (next.0, ap (λ rest. c ∷ rest) next.1, next.2)
 
-pub one_more : (fs : List Placed) (store : List ℕ) (call : Active) (below : List Call) (number : ℕ) (active : Active) (p : Place) (old text t1 t2 : List ℕ) → Some active ≡ option_map active_of (slice_get below number) → p.call ≡ record active { place = active.place - 1 }
-    → AddsPlaces fs store call (take number below) old text → t1 ≡ text ++ codes "called " → t2 ≡ t1 ++ place_text fs store p → AddsPlaces fs store call (take (number + 1) below) old t2
-one_more fs store call below number active p old text t1 t2 is waits before e1 e2 =
+pub one_more : (legend : Legend) (store : List ℕ) (call : Active) (below : List Call) (number : ℕ) (active : Active) (p : Place) (old text t1 t2 : List ℕ) → Some active ≡ option_map active_of (slice_get below number) → p.call ≡ record active { place = active.place - 1 }
+    → AddsPlaces legend store call (take number below) old text → t1 ≡ text ++ codes "called " → t2 ≡ t1 ++ place_text legend store p → AddsPlaces legend store call (take (number + 1) below) old t2
+one_more legend store call below number active p old text t1 t2 is waits before e1 e2 =
     let next = next_caller below number active is in
     let told : take (number + 1) below ≡ take number below ++ next.0 ∷ [] = ap (λ n. take n below) (add-one number) ∙ next.1 in
-    subst (λ (calls : List Call). AddsPlaces fs store call calls old t2) (sym told)
-    (one_caller fs store call (take number below) next.0 p old text t1 t2 (waits ∙ ap (λ (a : Active). record a { place = a.place - 1 }) next.2) before e1 e2)
+    subst (λ (calls : List Call). AddsPlaces legend store call calls old t2) (sym told)
+    (one_caller legend store call (take number below) next.0 p old text t1 t2 (waits ∙ ap (λ (a : Active). record a { place = a.place - 1 }) next.2) before e1 e2)
 
 pub some_caller : (below : List Call) (number : ℕ) → number < length below → None ≡ option_map active_of (slice_get below number) → ⊥
 some_caller [] number within is = omega arith

@@ -1,11 +1,10 @@
 -- Steps that are made and shown, one after another.
-use Rattle.std.proofs.Common.{◌≡◌, ◌∙◌, ℕ, ◌+◌, ◌<◌, Bool, true, false, cond, List, [], ◌∷◌, ◌++◌, Ok, Err, ap, append-nil, append_assoc, arith, drop, length, refl, subst, sym, if◌then◌else◌, ⊎_elim}
-use Rattle.std.proofs.Math.Seq.{drop-append_seam}
+use Rattle.std.proofs.Common.{◌≡◌, ◌∙◌, ℕ, ◌+◌, ◌<◌, Bool, true, false, cond, List, [], ◌∷◌, ◌++◌, Ok, Err, Result, ap, append-nil, append_assoc, arith, refl, subst, sym, if◌then◌else◌, ⊎_elim, map, inl}
+use Rattle.std.specs.List.{All}
 use Rattle.std.proofs.lemmas.List.{map-append, map-id}
-use Rattle.std.proofs.lemmas.List.Concat.{flat_map-append}
 use Rattle.std.proofs.lemmas.List.Elements.{All-nil, All-append, All-cons}
 use Rattle.std.proofs.lemmas.List.FromFn.{filter_of_map_range_with_len_more}
-use Rattle.bword.specs.ByteEnds.{CanFollow, Incoming, Kept, Outgoing, Took, Writes, outgoing_of}
+use Rattle.bword.specs.ByteEnds.{CanFollow, Incoming, Kept, Outgoing, Took, outgoing_of}
 use Rattle.bword.proofs.Putting.{Writes-append}
 use Rattle.bword.proofs.Taking.{Took-append}
 use Rattle.blang.specs.declared.run.Outcome.{Outcome}
@@ -17,61 +16,75 @@ use Rattle.bmach.specs.Steps.{world_with}
 use Rattle.bmach.specs.Stepping.{Paused, machine_at}
 use Rattle.bmach.specs.Stops.{active_of}
 use Rattle.bmach.specs.Stored.{stored, stored_next}
-use Rattle.bmach.specs.Turns.{FailsAtRead, KeepsBelow, LeavesWords, MovesOn, HasHalted, TurnGives}
+use Rattle.bmach.specs.Turns.{FailsAtRead, KeepsBelow, LeavesWords, MovesOn, HasHalted, Shown, TurnGives}
 use Rattle.bmach.proofs.Running.{at_limit, following, one_more, run_over}
 use Rattle.bmach.proofs.Turning.{follows, goes_on, runs_on, took_nothing}
 use Rattle.btools.proofs.Excluded.{not_grown}
-use Rattle.btrace.specs.Programs.{Placed}
-use Rattle.btrace.specs.RowTexts.{step_row, stored_text, written_row}
+use Rattle.btools.specs.Programs.{nothing_written}
+use Rattle.btrace.specs.RowTexts.{Legend, step_row, stored_text, written_row}
+use Rattle.btrace.specs.Trails.{chosen, trail_text}
+use Rattle.btrace.specs.declared.trail.Trail.{Trail}
+use Rattle.btrace.proofs.Kept.{All-chosen, Holds, held, map-chosen, with_row}
 use Rattle.btrace.specs.Traces as traces
-use Rattle.btrace.specs.Traces.{AddsEnd, AddsIf, AddsLast, AddsPlaces, AddsStep, AreShown, EndsAs, IsTried, TellsPlace, TraceRow, ShowsStep, StepsGive, TakesByte, Tries, is_shown, is_wanted, rows_text, shown_of, steps_from, store_after, stored_after}
+use Rattle.btrace.specs.Traces.{AddsEnd, AddsIf, AddsLast, AddsPlaces, AddsStep, AreShown, EndsAs, IsTried, TellsPlace, TraceRow, ShowsStep, StepsGive, TakesByte, TracesStep, Tries, is_shown, is_wanted, rows_text, steps_from, store_after, stored_after, wanted_of}
 use Rattle.btrace.specs.declared.tracing.Which.{Which}
 
--- So many steps were made from a state on, and the rows of those that are to be shown added to a text.
-pub record IsTraced (fs : List Placed) (which : Which) (first : Paused) (made : ℕ) (now : Paused) (i j : Incoming) (o q : Kept) (old new : List ℕ) : Type 0 where
-  pub image_is : now.image ≡ first.image
-  pub goes : MovesOn (λ left before. steps first.image made (machine_at first left before)) (machine_at now) i j (outgoing_of o) (outgoing_of q)
-  pub rows : List TraceRow
-  pub text_is : new ≡ old ++ rows_text rows
-  pub shown : (more : List ℕ) → CanFollow j more → AreShown fs first.image.functions which (steps_from first (goes.taken ++ more)) made rows
+-- Each step that may be shown has a row, in order.
+pub record AllShown (legend : Legend) (functions : List Loaded) (which : Which) (states : ℕ → State) (made : ℕ) (rows : List TraceRow) : Type 0 where
+  pub all : map (λ r. r.made) rows ≡ wanted_of which states made
+  pub each : All (λ r. ShowsStep legend functions states r.made r.text) rows
 
-pub traced_none : (fs : List Placed) (which : Which) (first : Paused) (i : Incoming) (o : Kept) (text : List ℕ) → IsTraced fs which first 0 first i i o o text text
-traced_none fs which first i o text = record {
+-- those that are shown have theirs
+pub are_shown : (legend : Legend) (functions : List Loaded) (which : Which) (states : ℕ → State) (made : ℕ) (rows : List TraceRow) → AllShown legend functions which states made rows → AreShown legend functions which states made (chosen which.rows rows)
+are_shown legend functions which states made rows h = record {
+  all = map-chosen (λ (r : TraceRow). r.made) which.rows rows ∙ ap (chosen which.rows) h.all;
+  each = All-chosen (λ (r : TraceRow). ShowsStep legend functions states r.made r.text) which.rows rows h.each;
+}
+
+-- So many steps were made from a state on, and these are the rows of those that may be shown.
+pub record IsTraced (legend : Legend) (which : Which) (first : Paused) (made : ℕ) (now : Paused) (i j : Incoming) (rows : List TraceRow) : Type 0 where
+  pub image_is : now.image ≡ first.image
+  pub kept : Kept
+  pub goes : MovesOn (λ left before. steps first.image made (machine_at first left before)) (machine_at now) i j nothing_written (outgoing_of kept)
+  pub shown : (more : List ℕ) → CanFollow j more → AllShown legend first.image.functions which (steps_from first (goes.taken ++ more)) made rows
+
+pub traced_none : (legend : Legend) (which : Which) (first : Paused) (i : Incoming) → IsTraced legend which first 0 first i i []
+traced_none legend which first i = record {
   image_is = refl;
-  goes = goes_on (following first.image 0 (machine_at first)) (machine_at first) i (outgoing_of o) (λ left before. refl);
-  rows = [];
-  text_is = sym (append-nil text);
+  kept = record { bytes = []; refusals = 0 };
+  goes = goes_on (following first.image 0 (machine_at first)) (machine_at first) i nothing_written (λ left before. refl);
   shown = λ more can. record { all = refl; each = All-nil _ };
 }
 
--- the steps that are shown, with one step more
-shown_more : (which : Which) (states : ℕ → State) (made : ℕ) → shown_of which states (made + 1) ≡ shown_of which states made ++ cond (is_shown which states made) (made ∷ []) []
-shown_more which states made = simp map-id at (filter_of_map_range_with_len_more (is_shown which states) (λ (n : ℕ). n) 0 made made (omega arith))
+-- the steps that may be shown, with one step more
+wanted_more : (which : Which) (states : ℕ → State) (made : ℕ) → wanted_of which states (made + 1) ≡ wanted_of which states made ++ cond (is_shown which states made) (made ∷ []) []
+wanted_more which states made = simp map-id at (filter_of_map_range_with_len_more (is_shown which states) (λ (n : ℕ). n) 0 made made (omega arith))
 
-turned : (first now new : Paused) {j m : Incoming} {p q : Outgoing} → now.image ≡ first.image → MovesOn (λ left before. step now.image (machine_at now left before)) (machine_at new) j m p q
-    → MovesOn (λ left before. step first.image (machine_at now left before)) (machine_at new) j m p q
-turned first now new {j} {m} {p} {q} same g = subst (λ (x : Image). MovesOn (λ left before. step x (machine_at now left before)) (machine_at new) j m p q) same g
-
--- the rows with one more, of a step that is shown
-with_row : (rows : List TraceRow) (made : ℕ) (row old text text' : List ℕ) → text ≡ old ++ rows_text rows → text' ≡ text ++ row → text' ≡ old ++ rows_text (rows ++ record { made = made; text = row } ∷ [])
-with_row rows made row old text text' before e =
-    e ∙ ap (λ x. x ++ row) before ∙ append_assoc old (rows_text rows) row
-    ∙ ap (λ x. old ++ x) (ap (λ x. rows_text rows ++ x) (sym (append-nil row)) ∙ sym (flat_map-append (λ (r : TraceRow). r.text) rows (record { made = made; text = row } ∷ [])))
+-- what a step does to streams of its own it does to those of the run
+rebased : (old new : Shown) {j m : Incoming} (w p : Kept) → (g : MovesOn old new j m nothing_written (outgoing_of w)) → MovesOn old new j m (outgoing_of p) (outgoing_of (record { bytes = p.bytes ++ g.output; refusals = p.refusals }))
+rebased old new w p g = record {
+  taken = g.taken;
+  took = g.took;
+  no_failure = g.no_failure;
+  output = g.output;
+  written = record { appended = refl; failures = refl; refusals = refl };
+  comes = g.comes;
+}
 
 -- the rows of one step more, by whether it is shown
-module _ (fs : List Placed) (functions : List Loaded) (which : Which) (states : ℕ → State) (made : ℕ) (rows : List TraceRow) (b : Bool) (is : is_shown which states made ≡ b) (before : AreShown fs functions which states made rows) where
-  shown_not : b ≡ false → AreShown fs functions which states (made + 1) rows
+module _ (legend : Legend) (functions : List Loaded) (which : Which) (states : ℕ → State) (made : ℕ) (rows : List TraceRow) (b : Bool) (is : is_shown which states made ≡ b) (before : AllShown legend functions which states made rows) where
+  shown_not : b ≡ false → AllShown legend functions which states (made + 1) rows
   shown_not hidden = record {
-    all = before.all ∙ sym (append-nil (shown_of which states made)) ∙ sym (shown_more which states made ∙ ap (λ x. shown_of which states made ++ cond x (made ∷ []) []) (is ∙ hidden));
+    all = before.all ∙ sym (append-nil (wanted_of which states made)) ∙ sym (wanted_more which states made ∙ ap (λ x. wanted_of which states made ++ cond x (made ∷ []) []) (is ∙ hidden));
     each = before.each;
   }
 
-  shown_so : b ≡ true → (row : List ℕ) → ShowsStep fs functions states made row → AreShown fs functions which states (made + 1) (rows ++ record { made = made; text = row } ∷ [])
+  shown_so : b ≡ true → (row : List ℕ) → ShowsStep legend functions states made row → AllShown legend functions which states (made + 1) (rows ++ record { made = made; text = row } ∷ [])
   shown_so seen row s =
-      let P : TraceRow → Type 0 = λ r. ShowsStep fs functions states r.made r.text in
+      let P : TraceRow → Type 0 = λ r. ShowsStep legend functions states r.made r.text in
       record {
         all = map-append (λ (r : TraceRow). r.made) rows (record { made = made; text = row } ∷ []) ∙ ap (λ ns. ns ++ made ∷ []) before.all
-            ∙ sym (shown_more which states made ∙ ap (λ x. shown_of which states made ++ cond x (made ∷ []) []) (is ∙ seen));
+            ∙ sym (wanted_more which states made ∙ ap (λ x. wanted_of which states made ++ cond x (made ∷ []) []) (is ∙ seen));
         each = All-append P rows (record { made = made; text = row } ∷ []) before.each (All-cons P (record { made = made; text = row }) [] s (All-nil P));
       }
 
@@ -87,25 +100,25 @@ none_stored functions (Running c below w) (machine.Stuck w') over = refl
 none_stored functions (machine.Halted e w) t over = refl
 none_stored functions (machine.Stuck w) t over = refl
 
--- what was written since
-since : (a b : Kept) (out : List ℕ) → Writes (outgoing_of a) out (outgoing_of b) → drop (length a.bytes) b.bytes ≡ out
-since a b out w = ap (drop (length a.bytes)) w.appended ∙ drop-append_seam a.bytes out
+turned : (first now new : Paused) {j m : Incoming} {p q : Outgoing} → now.image ≡ first.image → MovesOn (λ left before. step now.image (machine_at now left before)) (machine_at new) j m p q
+    → MovesOn (λ left before. step first.image (machine_at now left before)) (machine_at new) j m p q
+turned first now new {j} {m} {p} {q} same g = subst (λ (x : Image). MovesOn (λ left before. step x (machine_at now left before)) (machine_at new) j m p q) same g
 
-module _ (fs : List Placed) (which : Which) (first now : Paused) (made : ℕ) (i j m : Incoming) (o p : Kept) (old text text' : List ℕ) (b : Bool) (is : b ≡ is_wanted which (made + 1) now.call.function.strings) where
+module _ (legend : Legend) (which : Which) (first now : Paused) (made : ℕ) (i j m : Incoming) (rows : List TraceRow) (row : List ℕ) (b : Bool) (is : b ≡ is_wanted which (made + 1) now.call.function.strings) where
   -- where the machine is
-  abbrev there : (t : IsTraced fs which first made now i j o p old text) (more : List ℕ) → CanFollow j more → steps_from first (t.goes.taken ++ more) made ≡ machine_at now more t.goes.output
+  abbrev there : (t : IsTraced legend which first made now i j rows) (more : List ℕ) → CanFollow j more → steps_from first (t.goes.taken ++ more) made ≡ machine_at now more t.goes.output
   there t more can = t.goes.comes more [] can
 
-  after_it : (t : IsTraced fs which first made now i j o p old text) (more : List ℕ) → CanFollow j more → steps_from first (t.goes.taken ++ more) (made + 1) ≡ step first.image (machine_at now more t.goes.output)
+  after_it : (t : IsTraced legend which first made now i j rows) (more : List ℕ) → CanFollow j more → steps_from first (t.goes.taken ++ more) (made + 1) ≡ step first.image (machine_at now more t.goes.output)
   after_it t more can = one_more first.image made _ _ (there t more can)
 
-  decided : (t : IsTraced fs which first made now i j o p old text) (more : List ℕ) → CanFollow j more → is_shown which (steps_from first (t.goes.taken ++ more)) made ≡ b
+  decided : (t : IsTraced legend which first made now i j rows) (more : List ℕ) → CanFollow j more → is_shown which (steps_from first (t.goes.taken ++ more)) made ≡ b
   decided t more can = ap (traces.is_step which (made + 1)) (there t more can) ∙ sym is
 
-  abbrev tries : (t : IsTraced fs which first made now i j o p old text) (more : List ℕ) → CanFollow j more → Tries (steps_from first (t.goes.taken ++ more)) made
+  abbrev tries : (t : IsTraced legend which first made now i j rows) (more : List ℕ) → CanFollow j more → Tries (steps_from first (t.goes.taken ++ more)) made
   tries t more can = record { call = now.call; below = now.below; world = world_with now.store more t.goes.output; state_is = there t more can }
 
-  module _ (new : Paused) (q : Kept) (t : IsTraced fs which first made now i j o p old text) (g : MovesOn (λ left before. step first.image (machine_at now left before)) (machine_at new) j m (outgoing_of p) (outgoing_of q)) where
+  module _ (new : Paused) (w : Kept) (t : IsTraced legend which first made now i j rows) (g : MovesOn (λ left before. step first.image (machine_at now left before)) (machine_at new) j m nothing_written (outgoing_of w)) where
     -- the input that there was
     abbrev input : List ℕ → List ℕ
     input more = (t.goes.taken ++ g.taken) ++ more
@@ -115,9 +128,9 @@ module _ (fs : List Placed) (which : Which) (first now : Paused) (made : ℕ) (i
         ap (λ xs. steps_from first xs (made + 1)) (append_assoc t.goes.taken g.taken more)
         ∙ after_it t (g.taken ++ more) (follows g.took can) ∙ g.comes more t.goes.output can
 
-    before_it : (more : List ℕ) → CanFollow m more → AreShown fs first.image.functions which (steps_from first (input more)) made t.rows
+    before_it : (more : List ℕ) → CanFollow m more → AllShown legend first.image.functions which (steps_from first (input more)) made rows
     before_it more can =
-        subst (λ (xs : List ℕ). AreShown fs first.image.functions which (steps_from first xs) made t.rows) (sym (append_assoc t.goes.taken g.taken more)) (t.shown (g.taken ++ more) (follows g.took can))
+        subst (λ (xs : List ℕ). AllShown legend first.image.functions which (steps_from first xs) made rows) (sym (append_assoc t.goes.taken g.taken more)) (t.shown (g.taken ++ more) (follows g.took can))
 
     decided_it : (more : List ℕ) → CanFollow m more → is_shown which (steps_from first (input more)) made ≡ b
     decided_it more can =
@@ -133,10 +146,9 @@ module _ (fs : List Placed) (which : Which) (first now : Paused) (made : ℕ) (i
         ∙ ap (λ s. stored first.image.functions s (machine_at new more (t.goes.output ++ g.output))) (sym (here more can))
         ∙ ap (stored first.image.functions (steps_from first (input more) made)) (sym (went more can))
 
-    row_shown : (more : List ℕ) → CanFollow m more → (a : AddsStep fs (made + 1) now.call (next_stored now) new.store (drop (length p.bytes) q.bytes) text text')
-        → ShowsStep fs first.image.functions (steps_from first (input more)) made (step_row fs (made + 1) now.call a.line ++ stored_text new.store (next_stored now) ++ written_row (drop (length p.bytes) q.bytes))
+    row_shown : (more : List ℕ) → CanFollow m more → AddsStep legend (made + 1) now.call (next_stored now) new.store w.bytes [] row → ShowsStep legend first.image.functions (steps_from first (input more)) made row
     row_shown more can a =
-        let w = went more can in record {
+        let after = went more can in record {
           tries = record {
             call = now.call;
             below = now.below;
@@ -144,45 +156,45 @@ module _ (fs : List Placed) (which : Which) (first now : Paused) (made : ℕ) (i
             state_is = here more can;
           };
           line = a.line;
-          bytes = drop (length p.bytes) q.bytes;
-          wrote = ap (λ s. (state_world s).output) w ∙ ap (λ x. t.goes.output ++ x) (sym (since p q g.output g.written));
-          text_is = ap (λ ws. step_row fs (made + 1) now.call a.line ++ stored_text ws (next_stored now) ++ written_row (drop (length p.bytes) q.bytes)) (sym (ap (λ s. (state_world s).store) w))
-              ∙ ap (λ xs. step_row fs (made + 1) now.call a.line ++ stored_text (store_after (steps_from first (input more)) (made + 1)) xs ++ written_row (drop (length p.bytes) q.bytes)) (stored_it more can);
+          bytes = w.bytes;
+          wrote = ap (λ s. (state_world s).output) after ∙ ap (λ x. t.goes.output ++ x) (sym g.written.appended);
+          text_is = a.text_is ∙ ap (λ ws. step_row legend (made + 1) now.call a.line ++ stored_text ws (next_stored now) ++ written_row w.bytes) (sym (ap (λ s. (state_world s).store) after))
+              ∙ ap (λ xs. step_row legend (made + 1) now.call a.line ++ stored_text (store_after (steps_from first (input more)) (made + 1)) xs ++ written_row w.bytes) (stored_it more can);
         }
 
-    abbrev goes_further : MovesOn (λ left before. steps first.image (made + 1) (machine_at first left before)) (machine_at new) i m (outgoing_of o) (outgoing_of q)
-    goes_further = record {
-      taken = t.goes.taken ++ g.taken;
-      took = Took-append t.goes.took g.took;
-      no_failure = g.no_failure ∙ t.goes.no_failure;
-      output = t.goes.output ++ g.output;
-      written = Writes-append t.goes.written g.written;
-      comes = λ more before can.
-          ap (λ left. steps first.image (made + 1) (machine_at first left before)) (append_assoc t.goes.taken g.taken more)
-          ∙ one_more first.image made _ _ (t.goes.comes (g.taken ++ more) before (follows g.took can))
-          ∙ g.comes more (before ++ t.goes.output) can
-          ∙ ap (machine_at new more) (append_assoc before t.goes.output g.output);
-    }
+    abbrev goes_further : MovesOn (λ left before. steps first.image (made + 1) (machine_at first left before)) (machine_at new) i m nothing_written (outgoing_of (record { bytes = t.kept.bytes ++ g.output; refusals = t.kept.refusals }))
+    goes_further =
+        let h = rebased (λ left before. step first.image (machine_at now left before)) (machine_at new) w t.kept g in
+        record {
+          taken = t.goes.taken ++ h.taken;
+          took = Took-append t.goes.took h.took;
+          no_failure = h.no_failure ∙ t.goes.no_failure;
+          output = t.goes.output ++ h.output;
+          written = Writes-append t.goes.written h.written;
+          comes = λ more before can.
+              ap (λ left. steps first.image (made + 1) (machine_at first left before)) (append_assoc t.goes.taken h.taken more)
+              ∙ one_more first.image made _ _ (t.goes.comes (h.taken ++ more) before (follows h.took can))
+              ∙ h.comes more (before ++ t.goes.output) can
+              ∙ ap (machine_at new more) (append_assoc before t.goes.output h.output);
+        }
 
-    traced_by : (c : Bool) → b ≡ c → new.image ≡ first.image → AddsIf c fs (made + 1) now.call (next_stored now) new.store p.bytes q.bytes (Ok tt) text text' → IsTraced fs which first (made + 1) new i m o q old text'
+    traced_by : (c : Bool) → b ≡ c → new.image ≡ first.image → AddsIf c legend (made + 1) now.call (next_stored now) new.store w.bytes (Ok tt) [] row → IsTraced legend which first (made + 1) new i m (with_row c rows made row)
+    unfolding rebased
     traced_by false hidden same none = record {
       image_is = same;
+      kept = record { bytes = t.kept.bytes ++ g.output; refusals = t.kept.refusals };
       goes = goes_further;
-      rows = t.rows;
-      text_is = none ∙ t.text_is;
-      shown = λ more can. shown_not fs first.image.functions which (steps_from first (input more)) made t.rows b (decided_it more can) (before_it more can) hidden;
+      shown = λ more can. shown_not legend first.image.functions which (steps_from first (input more)) made rows b (decided_it more can) (before_it more can) hidden;
     }
     traced_by true seen same a = record {
       image_is = same;
+      kept = record { bytes = t.kept.bytes ++ g.output; refusals = t.kept.refusals };
       goes = goes_further;
-      rows = t.rows ++ record { made = made; text = step_row fs (made + 1) now.call a.line ++ stored_text new.store (next_stored now) ++ written_row (drop (length p.bytes) q.bytes) } ∷ [];
-      text_is = with_row t.rows made _ old text text' t.text_is a.text_is;
-      shown = λ more can. shown_so fs first.image.functions which (steps_from first (input more)) made t.rows b (decided_it more can) (before_it more can) seen _ (row_shown more can a);
+      shown = λ more can. shown_so legend first.image.functions which (steps_from first (input more)) made rows b (decided_it more can) (before_it more can) seen row (row_shown more can a);
     }
 
-  pub traced_one : (new : Paused) (q : Kept) → IsTraced fs which first made now i j o p old text → TurnGives now.image (machine_at now) (machine_at new) j m (outgoing_of p) (outgoing_of q) (Ok tt) → new.image ≡ now.image
-      → AddsIf b fs (made + 1) now.call (next_stored now) new.store p.bytes q.bytes (Ok tt) text text' → IsTraced fs which first (made + 1) new i m o q old text'
-  traced_one new q t g same row = traced_by new q t (turned first now new t.image_is g) b refl (same ∙ t.image_is) row
+  pub traced_one : (new : Paused) → IsTraced legend which first made now i j rows → TracesStep legend b made now new j m (Ok tt) [] row → new.image ≡ now.image → IsTraced legend which first (made + 1) new i m (with_row b rows made row)
+  traced_one new t a same = traced_by new a.0 t (turned first now new t.image_is a.1) b refl (same ∙ t.image_is) a.2
 
 halted : (now new : Paused) (first : Image) {j m : Incoming} {p q : Outgoing} (r : Outcome) → now.image ≡ first → HasHalted (λ left before. step now.image (machine_at now left before)) j m p q r → HasHalted (λ left before. step first (machine_at now left before)) j m p q r
 halted now new first {j} {m} {p} {q} r same g = subst (λ (x : Image). HasHalted (λ left before. step x (machine_at now left before)) j m p q r) same g
@@ -198,16 +210,9 @@ unfailed_step now new j m p q outcome.Limit other g = absurd g
 unfailed_step now new j m p q outcome.Device other g = absurd (other refl)
 unfailed_step now new j m p q outcome.Memory other g = ⊎_elim (λ f. f.2.moves.no_failure) (λ w. ap (λ (x : Incoming). x.failures) w.unread) g
 
-module _ (fs : List Placed) (which : Which) (first now : Paused) (made : ℕ) (i j m : Incoming) (o p : Kept) (old text text' : List ℕ) (b : Bool) (is : b ≡ is_wanted which (made + 1) now.call.function.strings) where
-  -- the run was over in the next step
-  pub over_gives : (new : Paused) (q : Kept) (n : ℕ) (r : Outcome) → made < n → IsTraced fs which first made now i j o p old text → TurnGives now.image (machine_at now) (machine_at new) j m (outgoing_of p) (outgoing_of q) (Err r)
-      → StepsGive first n i m (outgoing_of o) (outgoing_of q) r
-  over_gives new q n r lt t g =
-      run_over first.image made (machine_at first) (machine_at now) (machine_at new) n m (outgoing_of q) r (omega (arith, lt)) (runs_on now.call now.below now.store) t.goes
-      (subst (λ (x : Image). TurnGives x (machine_at now) (machine_at new) j m (outgoing_of p) (outgoing_of q) (Err r)) t.image_is g)
-
+module _ (legend : Legend) (which : Which) (first now : Paused) (made : ℕ) (i j m : Incoming) (rows : List TraceRow) (row : List ℕ) (b : Bool) (is : b ≡ is_wanted which (made + 1) now.call.function.strings) where
   -- by a step that was made
-  module _ (new : Paused) (q : Kept) (n : ℕ) (r : Outcome) (lt : made < n) (t : IsTraced fs which first made now i j o p old text) (g : HasHalted (λ left before. step first.image (machine_at now left before)) j m (outgoing_of p) (outgoing_of q) r) (own : r ≡ outcome.Limit → ⊥) (read : r ≡ outcome.Device → ⊥) (ending : List ℕ) where
+  module _ (w : Kept) (n : ℕ) (r : Outcome) (lt : made < n) (t : IsTraced legend which first made now i j rows) (g : HasHalted (λ left before. step first.image (machine_at now left before)) j m nothing_written (outgoing_of w) r) (own : r ≡ outcome.Limit → ⊥) (read : r ≡ outcome.Device → ⊥) (ending : List ℕ) where
     abbrev can_before : (more : List ℕ) → CanFollow m more → CanFollow j more
     can_before more can = subst (λ (x : Incoming). CanFollow x more) g.input can
 
@@ -216,52 +221,45 @@ module _ (fs : List Placed) (which : Which) (first now : Paused) (made : ℕ) (i
 
     last_shows : (more : List ℕ) → CanFollow m more → Shows r more t.goes.output (steps_from first (t.goes.taken ++ more) (made + 1))
     last_shows more can =
-        subst (Shows r more t.goes.output) (sym (after_it fs which first now made i j m o p old text text' b is t more (can_before more can))) (g.shows more t.goes.output)
+        subst (Shows r more t.goes.output) (sym (after_it legend which first now made i j m rows row b is t more (can_before more can))) (g.shows more t.goes.output)
 
     abbrev states : List ℕ → ℕ → State
     states more = steps_from first (t.goes.taken ++ more)
 
-    last_row : (more : List ℕ) → CanFollow m more → (a : AddsLast fs (made + 1) now.call text text')
-        → ShowsStep fs first.image.functions (steps_from first (t.goes.taken ++ more)) made (step_row fs (made + 1) now.call a.0)
+    last_row : (more : List ℕ) → CanFollow m more → AddsLast legend (made + 1) now.call [] row → ShowsStep legend first.image.functions (steps_from first (t.goes.taken ++ more)) made row
     last_row more can a =
-        let row = step_row fs (made + 1) now.call a.0 in record {
-          tries = tries fs which first now made i j m o p old text text' b is t more (can_before more can);
+        let last = step_row legend (made + 1) now.call a.0 in record {
+          tries = tries legend which first now made i j m rows row b is t more (can_before more can);
           line = a.0;
           bytes = [];
           wrote = (last_shows more can).written ∙ sym (append-nil t.goes.output);
-          text_is = sym (append-nil row) ∙ sym (append-nil (row ++ []))
-              ∙ ap (λ xs. (row ++ stored_text (store_after (states more) (made + 1)) xs) ++ []) (sym (none_stored first.image.functions (states more made) (states more (made + 1)) (λ e. own (sym (last_shows more can).outcome ∙ e))));
+          text_is = a.1 ∙ sym (append-nil last) ∙ sym (append-nil (last ++ []))
+              ∙ ap (λ xs. (last ++ stored_text (store_after (states more) (made + 1)) xs) ++ []) (sym (none_stored first.image.functions (states more made) (states more (made + 1)) (λ e. own (sym (last_shows more can).outcome ∙ e))));
         }
 
-    over_by : (c : Bool) → b ≡ c → AddsIf c fs (made + 1) now.call (next_stored now) new.store p.bytes q.bytes (Err r) text text' → (text'' : List ℕ) → text'' ≡ text' ++ ending
-        → ((more : List ℕ) → CanFollow m more → EndsAs fs which (steps_from first (t.goes.taken ++ more)) (made + 1) n r ending) → traces.ShowsRows fs first.image.functions which (steps_from first) n i m r old text''
-    over_by false hidden none text'' end ends = record {
+    all_after : (new : Paused) (c : Bool) → b ≡ c → AddsIf c legend (made + 1) now.call (next_stored now) new.store w.bytes (Err r) [] row → (more : List ℕ) → CanFollow m more
+        → AllShown legend first.image.functions which (steps_from first (t.goes.taken ++ more)) (made + 1) (with_row c rows made row)
+    all_after new false hidden none more can = shown_not legend first.image.functions which (steps_from first (t.goes.taken ++ more)) made rows b (decided legend which first now made i j m rows row b is t more (can_before more can)) (t.shown more (can_before more can)) hidden
+    all_after new true seen a more can = shown_so legend first.image.functions which (steps_from first (t.goes.taken ++ more)) made rows b (decided legend which first now made i j m rows row b is t more (can_before more can)) (t.shown more (can_before more can)) seen row (last_row more can a)
+
+    over_by : (new : Paused) → AddsIf b legend (made + 1) now.call (next_stored now) new.store w.bytes (Err r) [] row → (heading : List ℕ) (u v : Trail) → Holds which.rows heading (with_row b rows made row) u
+        → v.text ≡ u.text → v.last.items ≡ u.last.items → v.row ≡ ending → ((more : List ℕ) → CanFollow m more → EndsAs legend which (steps_from first (t.goes.taken ++ more)) (made + 1) n r ending)
+        → traces.ShowsRows legend first.image.functions which (steps_from first) n i m r heading (trail_text v)
+    over_by new a heading u v holds text last end ends = record {
       made = made + 1;
       within = omega (arith, lt);
-      rows = t.rows;
+      rows = chosen which.rows (with_row b rows made row);
       ending = ending;
-      text_is = end ∙ ap (λ x. x ++ ending) (none ∙ t.text_is);
+      text_is = held which.rows heading (with_row b rows made row) u v holds text last ∙ ap (λ x. heading ++ rows_text (chosen which.rows (with_row b rows made row)) ++ x) end;
       taken = t.goes.taken;
       took = took_before;
-      shown = λ more can. shown_not fs first.image.functions which (steps_from first (t.goes.taken ++ more)) made t.rows b (decided fs which first now made i j m o p old text text' b is t more (can_before more can)) (t.shown more (can_before more can)) hidden;
-      ends = ends;
-      reads = λ e. absurd (read e);
-    }
-    over_by true seen a text'' end ends = record {
-      made = made + 1;
-      within = omega (arith, lt);
-      rows = t.rows ++ record { made = made; text = step_row fs (made + 1) now.call a.0 } ∷ [];
-      ending = ending;
-      text_is = end ∙ ap (λ x. x ++ ending) (with_row t.rows made _ old text text' t.text_is a.1);
-      taken = t.goes.taken;
-      took = took_before;
-      shown = λ more can. shown_so fs first.image.functions which (steps_from first (t.goes.taken ++ more)) made t.rows b (decided fs which first now made i j m o p old text text' b is t more (can_before more can)) (t.shown more (can_before more can)) seen _ (last_row more can a);
+      shown = λ more can. are_shown legend first.image.functions which (steps_from first (t.goes.taken ++ more)) (made + 1) (with_row b rows made row) (all_after new b refl a more can);
       ends = ends;
       reads = λ e. absurd (read e);
     }
 
   -- by a step whose read failed
-  module _ (new : Paused) (q : Kept) (n : ℕ) (lt : made < n) (t : IsTraced fs which first made now i j o p old text) (f : FailsAtRead (λ left before. step first.image (machine_at now left before)) j m (outgoing_of p) (outgoing_of q)) where
+  module _ (w : Kept) (n : ℕ) (lt : made < n) (t : IsTraced legend which first made now i j rows) (f : FailsAtRead (λ left before. step first.image (machine_at now left before)) j m nothing_written (outgoing_of w)) where
     abbrev states_of : List ℕ → ℕ → State
     states_of more = steps_from first (t.goes.taken ++ more)
 
@@ -273,98 +271,122 @@ module _ (fs : List Placed) (which : Which) (first now : Paused) (made : ℕ) (i
 
     -- whether it is to be shown
     told : (more : List ℕ) → CanFollow m more → is_shown which (states_of more) made ≡ b
-    told more can = decided fs which first now made i j m o p old text text' b is t more (can_come more can)
-
-    abbrev Failed : List ℕ → Type 0
-    Failed ending = (more : List ℕ) → CanFollow m more → IsTried fs which (states_of more) made ending
+    told more can = decided legend which first now made i j m rows row b is t more (can_come more can)
 
     tried : (more : List ℕ) → CanFollow m more → Tries (states_of more) made
-    tried more can = tries fs which first now made i j m o p old text text' b is t more (can_come more can)
+    tried more can = tries legend which first now made i j m rows row b is t more (can_come more can)
 
-    failed_by : (c : Bool) → b ≡ c → AddsIf c fs (made + 1) now.call (next_stored now) new.store p.bytes q.bytes (Err outcome.Device) text text' → (ending : List ℕ) × (text' ≡ text ++ ending) × Failed ending
+    failed_by : (new : Paused) (c : Bool) → b ≡ c → AddsIf c legend (made + 1) now.call (next_stored now) new.store w.bytes (Err outcome.Device) [] row → (more : List ℕ) → CanFollow m more → IsTried legend which (states_of more) made row
     unfolding tried
-    failed_by false hidden none = (
-      [],
-      none ∙ sym (append-nil text),
-      λ more can. (tried more can, 0, sym (ap (λ (x : Bool). if x then step_row fs (made + 1) now.call 0 else []) (told more can ∙ hidden))),
-    )
-    failed_by true seen a = (
-      step_row fs (made + 1) now.call a.0,
-      a.1,
-      λ more can. (tried more can, a.0, sym (ap (λ (x : Bool). if x then step_row fs (made + 1) now.call a.0 else []) (told more can ∙ seen))),
-    )
+    failed_by new false hidden none more can = (tried more can, 0, none ∙ sym (ap (λ (x : Bool). if x then step_row legend (made + 1) now.call 0 else []) (told more can ∙ hidden)))
+    failed_by new true seen a more can = (tried more can, a.0, a.1 ∙ sym (ap (λ (x : Bool). if x then step_row legend (made + 1) now.call a.0 else []) (told more can ∙ seen)))
 
     takes_byte : (byte : ℕ) (more : List ℕ) → CanFollow m (byte ∷ more) → TakesByte (states_of (byte ∷ more)) made byte more
     takes_byte byte more can =
         let before = can_come (byte ∷ more) can in (
-          ap (λ s. (state_world s).input) (there fs which first now made i j m o p old text text' b is t (byte ∷ more) before),
-          ap (λ s. (state_world s).input) (after_it fs which first now made i j m o p old text text' b is t (byte ∷ more) before) ∙ f.reads byte more t.goes.output,
+          ap (λ s. (state_world s).input) (there legend which first now made i j m rows row b is t (byte ∷ more) before),
+          ap (λ s. (state_world s).input) (after_it legend which first now made i j m rows row b is t (byte ∷ more) before) ∙ f.reads byte more t.goes.output,
         )
 
-    over_failed : (text'' : List ℕ) → AddsIf b fs (made + 1) now.call (next_stored now) new.store p.bytes q.bytes (Err outcome.Device) text text' → text'' ≡ text'
-        → traces.ShowsRows fs first.image.functions which (steps_from first) n i m outcome.Device old text''
-    over_failed text'' a end =
-        let last = failed_by b refl a in
-        record {
-          made = made;
-          within = omega (arith, lt);
-          rows = t.rows;
-          ending = last.0;
-          text_is = end ∙ last.1 ∙ ap (λ x. x ++ last.0) t.text_is;
-          taken = t.goes.taken;
-          took = took_so;
-          shown = λ more can. t.shown more (can_come more can);
-          ends = last.2;
-          reads = λ e byte more can. takes_byte byte more can;
-        }
+    over_failed : (new : Paused) → AddsIf b legend (made + 1) now.call (next_stored now) new.store w.bytes (Err outcome.Device) [] row → (heading : List ℕ) (u v : Trail) → Holds which.rows heading rows u → v.text ≡ u.text → v.last.items ≡ u.last.items → v.row ≡ row
+        → traces.ShowsRows legend first.image.functions which (steps_from first) n i m outcome.Device heading (trail_text v)
+    over_failed new a heading u v holds text last end = record {
+      made = made;
+      within = omega (arith, lt);
+      rows = chosen which.rows rows;
+      ending = row;
+      text_is = held which.rows heading rows u v holds text last ∙ ap (λ x. heading ++ rows_text (chosen which.rows rows) ++ x) end;
+      taken = t.goes.taken;
+      took = took_so;
+      shown = λ more can. are_shown legend first.image.functions which (states_of more) made rows (t.shown more (can_come more can));
+      ends = failed_by new b refl a;
+      reads = λ e byte more can. takes_byte byte more can;
+    }
 
   -- the words where it is over
-  words_left : (new : Paused) (t : IsTraced fs which first made now i j o p old text) → ((left before : List ℕ) → (state_world (step now.image (machine_at now left before))).store ≡ new.store)
+  words_left : (new : Paused) (t : IsTraced legend which first made now i j rows) → ((left before : List ℕ) → (state_world (step now.image (machine_at now left before))).store ≡ new.store)
       → (more : List ℕ) → CanFollow j more → new.store ≡ store_after (steps_from first (t.goes.taken ++ more)) (made + 1)
   words_left new t words more can =
-      sym (ap (λ s. (state_world s).store) (after_it fs which first now made i j m o p old text text' b is t more can)
+      sym (ap (λ s. (state_world s).store) (after_it legend which first now made i j m rows row b is t more can)
       ∙ ap (λ (x : Image). (state_world (step x (machine_at now more t.goes.output))).store) (sym t.image_is) ∙ words more t.goes.output)
 
-  pub over_shows : (new : Paused) (q : Kept) (n : ℕ) (r : Outcome) → made < n → IsTraced fs which first made now i j o p old text → TurnGives now.image (machine_at now) (machine_at new) j m (outgoing_of p) (outgoing_of q) (Err r)
-      → LeavesWords (λ left before. step now.image (machine_at now left before)) (Err r) new.store → AddsIf b fs (made + 1) now.call (next_stored now) new.store p.bytes q.bytes (Err r) text text' → KeepsBelow (Err r) now.below new.below
-      → (text'' : List ℕ) → AddsEnd fs new.store (active_of now.call) new.below r text' text'' → traces.ShowsRows fs first.image.functions which (steps_from first) n i m r old text''
-  over_shows new q n (outcome.Exit status) lt t g words a kept text'' end =
-      let h = halted now new first.image (outcome.Exit status) t.image_is g in
-      over_by new q n (outcome.Exit status) lt t h (λ e. cc) (λ e. cc) [] b refl a text'' (end ∙ sym (append-nil text')) (λ more can. ((last_shows new q n (outcome.Exit status) lt t h (λ e. cc) (λ e. cc) [] more can).outcome, refl))
-  over_shows new q n (outcome.Trap kind) lt t g words a kept text'' end =
-      let h = halted now new first.image (outcome.Trap kind) t.image_is g in
-      let told = subst (λ (below : List machine.Call). TellsPlace fs new.store (active_of now.call) below end.0) kept end.1 in
-      over_by new q n (outcome.Trap kind) lt t h (λ e. cc) (λ e. cc) end.0 b refl a text'' end.2
+  -- what a run that was over by itself does to its streams
+  halted_gives : (new : Paused) (w : Kept) (n : ℕ) (r : Outcome) → made < n → (t : IsTraced legend which first made now i j rows) → HasHalted (λ left before. step first.image (machine_at now left before)) j m nothing_written (outgoing_of w) r
+      → HasHalted (λ left before. step first.image (machine_at now left before)) j m (outgoing_of t.kept) (outgoing_of t.kept) r
+  halted_gives new w n r lt t h = record { input = h.input; output = refl; shows = h.shows }
+
+  pub over_gives : (new : Paused) (n : ℕ) (r : Outcome) → made < n → IsTraced legend which first made now i j rows → TracesStep legend b made now new j m (Err r) [] row → (r ≡ outcome.Memory → ⊥) → (output : Kept) × StepsGive first n i m nothing_written (outgoing_of output) r
+  over_gives new n (outcome.Exit status) lt t a own = (
+    t.kept,
+    run_over first.image made (machine_at first) (machine_at now) (machine_at new) n m (outgoing_of t.kept) (outcome.Exit status) (omega (arith, lt)) (runs_on now.call now.below now.store) t.goes
+        (halted_gives new a.0 n (outcome.Exit status) lt t (halted now new first.image (outcome.Exit status) t.image_is a.1)),
+  )
+  over_gives new n (outcome.Trap kind) lt t a own = (
+    t.kept,
+    run_over first.image made (machine_at first) (machine_at now) (machine_at new) n m (outgoing_of t.kept) (outcome.Trap kind) (omega (arith, lt)) (runs_on now.call now.below now.store) t.goes
+        (halted_gives new a.0 n (outcome.Trap kind) lt t (halted now new first.image (outcome.Trap kind) t.image_is a.1)),
+  )
+  over_gives new n outcome.Limit lt t a own = absurd a.1
+  over_gives new n outcome.Device lt t a own =
+      ⊎_elim
+      (λ f. (
+      let h = read_failed now first.image t.image_is f in (
+        t.kept,
+        run_over first.image made (machine_at first) (machine_at now) (machine_at new) n m (outgoing_of t.kept) outcome.Device (omega (arith, lt)) (runs_on now.call now.below now.store) t.goes
+            (inl (record { fails = h.fails; silent = refl; reads = h.reads })),
+      )))
+      (λ x. absurd (not_grown 0 0 refl refl x.refuses.counted.0)) a.1
+  over_gives new n outcome.Memory lt t a own = absurd (own refl)
+
+  pub over_shows : (new : Paused) (n : ℕ) (r : Outcome) → made < n → IsTraced legend which first made now i j rows → TracesStep legend b made now new j m (Err r) [] row
+      → LeavesWords (λ left before. step now.image (machine_at now left before)) (Err r) new.store → KeepsBelow (Err r) now.below new.below → (r ≡ outcome.Device → ⊥) → (heading : List ℕ) (u v : Trail)
+      → Holds which.rows heading (with_row b rows made row) u → v.text ≡ u.text → v.last.items ≡ u.last.items → AddsEnd legend new.store (active_of now.call) new.below r [] v.row → traces.ShowsRows legend first.image.functions which (steps_from first) n i m r heading (trail_text v)
+  over_shows new n (outcome.Exit status) lt t a words kept read heading u v holds text last end =
+      let h = halted now new first.image (outcome.Exit status) t.image_is a.1 in
+      over_by a.0 n (outcome.Exit status) lt t h (λ e. cc) (λ e. cc) [] new a.2 heading u v holds text last end (λ more can. ((last_shows a.0 n (outcome.Exit status) lt t h (λ e. cc) (λ e. cc) [] more can).outcome, refl))
+  over_shows new n (outcome.Trap kind) lt t a words kept read heading u v holds text last end =
+      let h = halted now new first.image (outcome.Trap kind) t.image_is a.1 in
+      let told = subst (λ (below : List machine.Call). TellsPlace legend new.store (active_of now.call) below end.0) kept end.1 in
+      over_by a.0 n (outcome.Trap kind) lt t h (λ e. cc) (λ e. cc) end.0 new a.2 heading u v holds text last end.2
       (λ more can.
-      let before = can_before new q n (outcome.Trap kind) lt t h (λ e. cc) (λ e. cc) end.0 more can in (
-        (last_shows new q n (outcome.Trap kind) lt t h (λ e. cc) (λ e. cc) end.0 more can).outcome,
-        (made, refl, (tries fs which first now made i j m o p old text text' b is t more before, subst (λ (store : List ℕ). TellsPlace fs store (active_of now.call) now.below end.0) (words_left new t words more before) told)),
+      let before = can_before a.0 n (outcome.Trap kind) lt t h (λ e. cc) (λ e. cc) end.0 more can in (
+        (last_shows a.0 n (outcome.Trap kind) lt t h (λ e. cc) (λ e. cc) end.0 more can).outcome,
+        (made, refl, (tries legend which first now made i j m rows row b is t more before, subst (λ (store : List ℕ). TellsPlace legend store (active_of now.call) now.below end.0) (words_left new t words more before) told)),
       ))
-  over_shows new q n outcome.Limit lt t g words a kept text'' end = absurd g
-  over_shows new q n outcome.Device lt t g words a kept text'' end =
-      ⊎_elim (λ f. over_failed new q n lt t (read_failed now first.image t.image_is f) text'' a end)
-      (λ w. absurd (not_grown 0 0 refl refl w.refuses.counted.0)) g
-  over_shows new q n outcome.Memory lt t g words a kept text'' end = absurd end
+  over_shows new n outcome.Limit lt t a words kept read heading u v holds text last end = absurd a.1
+  over_shows new n outcome.Device lt t a words kept read heading u v holds text last end = absurd (read refl)
+  over_shows new n outcome.Memory lt t a words kept read heading u v holds text last end = absurd end
+
+  pub read_shows : (new : Paused) (n : ℕ) → made < n → IsTraced legend which first made now i j rows → TracesStep legend b made now new j m (Err outcome.Device) [] row → (heading : List ℕ) (u v : Trail)
+      → Holds which.rows heading rows u → v.text ≡ u.text → v.last.items ≡ u.last.items → v.row ≡ row → traces.ShowsRows legend first.image.functions which (steps_from first) n i m outcome.Device heading (trail_text v)
+  read_shows new n lt t a heading u v holds text last end =
+      ⊎_elim (λ f. over_failed a.0 n lt t (read_failed now first.image t.image_is f) new a.2 heading u v holds text last end)
+      (λ x. absurd (not_grown 0 0 refl refl x.refuses.counted.0)) a.1
 
 -- all steps were made
-pub all_give : (fs : List Placed) (which : Which) (first now : Paused) (made : ℕ) (i j : Incoming) (o p : Kept) (old text : List ℕ) → IsTraced fs which first made now i j o p old text → StepsGive first made i j (outgoing_of o) (outgoing_of p) outcome.Limit
-all_give fs which first now made i j o p old text t = at_limit first.image made (machine_at first) now.call now.below now.store t.goes
+pub all_give : (legend : Legend) (which : Which) (first now : Paused) (made : ℕ) (i j : Incoming) (rows : List TraceRow) → IsTraced legend which first made now i j rows → (output : Kept) × StepsGive first made i j nothing_written (outgoing_of output) outcome.Limit
+all_give legend which first now made i j rows t = (t.kept, at_limit first.image made (machine_at first) now.call now.below now.store t.goes)
 
-pub all_show : (fs : List Placed) (which : Which) (first now : Paused) (made : ℕ) (i j : Incoming) (o p : Kept) (old text text' : List ℕ) → IsTraced fs which first made now i j o p old text → AddsPlaces fs now.store (active_of now.call) now.below text text'
-    → traces.ShowsRows fs first.image.functions which (steps_from first) made i j outcome.Limit old text'
-all_show fs which first now made i j o p old text text' t end = record {
+pub all_show : (legend : Legend) (which : Which) (first now : Paused) (made : ℕ) (i j : Incoming) (rows : List TraceRow) → IsTraced legend which first made now i j rows → (heading : List ℕ) (u v : Trail) → Holds which.rows heading rows u → v.text ≡ u.text → v.last.items ≡ u.last.items
+    → AddsPlaces legend now.store (active_of now.call) now.below [] v.row → traces.ShowsRows legend first.image.functions which (steps_from first) made i j outcome.Limit heading (trail_text v)
+all_show legend which first now made i j rows t heading u v holds text last end = record {
   made = made;
   within = omega arith;
-  rows = t.rows;
+  rows = chosen which.rows rows;
   ending = end.0;
-  text_is = end.2 ∙ ap (λ x. x ++ end.0) t.text_is;
+  text_is = held which.rows heading rows u v holds text last ∙ ap (λ x. heading ++ rows_text (chosen which.rows rows) ++ x) end.2;
   taken = t.goes.taken;
   took = t.goes.took;
-  shown = t.shown;
+  shown = λ more can. are_shown legend first.image.functions which (steps_from first (t.goes.taken ++ more)) made rows (t.shown more can);
   ends = λ more can.
       let there = t.goes.comes more [] can in (
         refl,
-        (record { call = now.call; below = now.below; world = world_with now.store more t.goes.output; state_is = there }, subst (λ (store : List ℕ). TellsPlace fs store (active_of now.call) now.below end.0) (sym (ap (λ s. (state_world s).store) there)) end.1),
+        (record { call = now.call; below = now.below; world = world_with now.store more t.goes.output; state_is = there }, subst (λ (store : List ℕ). TellsPlace legend store (active_of now.call) now.below end.0) (sym (ap (λ s. (state_world s).store) there)) end.1),
       );
   reads = λ e. cc;
 }
+
+-- a step that isn't shown adds nothing
+pub unshown : (b : Bool) (legend : Legend) (made : ℕ) (now new : Paused) (j m : Incoming) (r : Result (Unit {0}) Outcome) (row : List ℕ) → TracesStep legend b made now new j m r [] row → b ≡ false → row ≡ []
+unshown false legend made now new j m r row a is = a.2
+unshown true legend made now new j m r row a is = cc

@@ -1,5 +1,5 @@
-pub mod Programs
 pub mod RowTexts
+pub mod Trails
 pub mod Traces
 pub mod Locates
 pub mod Excluded

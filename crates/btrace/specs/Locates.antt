@@ -1,5 +1,5 @@
 -- Promise: what comes of a source that is run and where its run was over is told.
-use Rattle.std.specs.Prelude.{◌≡◌, ◌⊎◌, ℕ, List, ◌++◌, Option, Some, None, codes}
+use Rattle.std.specs.Prelude.{◌≡◌, ◌⊎◌, ℕ, List, ◌++◌, Option, Some, None, codes, decimal}
 use Rattle.bword.specs.declared.edition.Edition.{Edition}
 use Rattle.bword.specs.ByteEnds.{Outgoing}
 use Rattle.blang.specs.declared.code.Definition.{Definition}
@@ -12,8 +12,8 @@ use Rattle.bmach.specs.Stepping.{BeginsNot}
 use Rattle.bmach.specs.Stops.{IsOverAt}
 use Rattle.bmach.specs.declared.machine.Active.{Active}
 use Rattle.btools.specs.Programs.{HasProgram, NoProgram}
-use Rattle.btrace.specs.Programs.{Placed, functions_of}
-use Rattle.btrace.specs.RowTexts.{site_text}
+use Rattle.bsources.specs.Files.{Files}
+use Rattle.btrace.specs.RowTexts.{Legend, legend_in, site_text}
 
 -- the status of an outcome that is at a place of the program
 abbrev pub located_status : Outcome → Option ℕ
@@ -21,35 +21,39 @@ located_status (outcome.Trap kind) = Some TRAP
 located_status outcome.Limit = Some LIMIT
 located_status result = None
 
-abbrev pub site_line : List Placed → (strings place line : ℕ) → List ℕ
-site_line fs strings place line = codes "at     " ++ site_text fs strings place line ++ codes "\n"
+-- a place, and the number of the step with which the run came there
+abbrev pub site_line : Legend → (strings place line number : ℕ) → List ℕ
+site_line legend strings place line number =
+    codes "at     " ++ site_text legend strings place line ++ codes "  step " ++ decimal number ++ codes "\n"
 
--- A line with this place was written, or memory was refused for it.
-abbrev pub TellsSite : List Placed → (strings place answer : ℕ) → (old new : Outgoing) → (status : ℕ) → Type 0
-TellsSite fs strings place answer old new status =
-    ((line : ℕ) × Reported (site_line fs strings place line) answer old new status) ⊎ ((new ≡ old) × (status ≡ MEMORY))
+-- A line with this place and this step was written, or memory was refused for it.
+abbrev pub TellsSite : Legend → (strings place number answer : ℕ) → (old new : Outgoing) → (status : ℕ) → Type 0
+TellsSite legend strings place number answer old new status =
+    ((line : ℕ) × Reported (site_line legend strings place line number) answer old new status)
+    ⊎ ((new ≡ old) × (status ≡ MEMORY))
 
 -- The program of the source was run for so many steps at most, as the machine runs it, and has its line and status; and
--- if that is the line of a trap or of the limit, where it was over was told after it. Or the program did not begin, or
--- there is none, and why was told; or memory was refused.
-pub data Locates (edition : Edition) (source : List ℕ) (steps : ℕ) (ends : RunEnds) (status : ℕ) : Type 0 where
+-- if that is the line of a trap or of the limit, where it was over was told after it, and with which step. Or the
+-- program did not begin, or there is none, and why was told; or memory was refused.
+pub data Locates (edition : Edition) (source : List ℕ) (files : Files) (steps : ℕ) (ends : RunEnds) (status : ℕ)
+    : Type 0 where
   located : (mid told : Outgoing) (ds : List Definition) (image : Image) (result : Outcome) (answer : ℕ)
-      (active : Active)
+      (active : Active) (made : ℕ)
       → HasProgram edition source ends.line mid ds image
       → RunGives (machine ds) steps ends.input ends.input_after ends.out ends.out_after result
       → Finishes result mid told answer → located_status result ≡ Some answer
-      → IsOverAt (machine ds) steps ends.input ends.input_after result active
-      → TellsSite (functions_of ds) active.strings active.place answer told ends.line_after status
-      → Locates edition source steps ends status
+      → IsOverAt (machine ds) steps ends.input ends.input_after result active made
+      → TellsSite (legend_in ds files) active.strings active.place made answer told ends.line_after status
+      → Locates edition source files steps ends status
   unlocated : (mid : Outgoing) (ds : List Definition) (image : Image) (result : Outcome)
       → HasProgram edition source ends.line mid ds image
       → RunGives (machine ds) steps ends.input ends.input_after ends.out ends.out_after result
       → Finishes result mid ends.line_after status → (located_status result ≡ Some status → ⊥)
-      → Locates edition source steps ends status
+      → Locates edition source files steps ends status
   not_begun : (mid : Outgoing) (ds : List Definition) (image : Image) (result : Outcome)
       → HasProgram edition source ends.line mid ds image → BeginsNot image result
-      → Finishes result mid ends.line_after status → HasNotRun ends → Locates edition source steps ends status
+      → Finishes result mid ends.line_after status → HasNotRun ends → Locates edition source files steps ends status
   stopped : NoProgram edition source ends.line ends.line_after status → HasNotRun ends
-      → Locates edition source steps ends status
+      → Locates edition source files steps ends status
   no_memory : (ds : List Definition) (image : Image) → HasProgram edition source ends.line ends.line_after ds image
-      → HasNotRun ends → status ≡ MEMORY → Locates edition source steps ends status
+      → HasNotRun ends → status ≡ MEMORY → Locates edition source files steps ends status

@@ -3,11 +3,15 @@ use Rattle.std.specs.Prelude.{◌≡◌, ℕ, true, false, [], ◌∷◌, ◌++�
 use Rattle.std.specs.Fmt.{digits}
 use Rattle.blang.specs.declared.run.Outcome.TheVariants as outcome
 use Rattle.blang.specs.declared.run.Trap.TheVariants as trap
-use Rattle.btrace.specs.Locates.{located_status}
+use Rattle.btrace.specs.Locates.{located_status, site_line}
 use Rattle.bmach.specs.declared.machine.Active.{Active}
 use Rattle.btrace.specs.RowTexts.{first_words, has_more, instr_text, margin, operands_text, signed_text, stored_text}
 use Rattle.btrace.specs.RowTexts.{word_row, words_text, written_byte, written_row}
+use Rattle.bsources.specs.Files.{Files}
+use Rattle.btrace.specs.RowTexts.{line_text}
 use Rattle.btrace.specs.Traces.{is_wanted, which_of}
+use Rattle.btrace.specs.Trails.{chosen}
+use Rattle.btrace.specs.declared.trail.Rows.TheVariants as rows
 
 -- a word is shown as a signed number
 signed_zero : signed_text 0 ≡ codes "0"
@@ -107,22 +111,41 @@ no_instruction : instr_text None ≡ []
 no_instruction = refl
 
 -- the first step that is shown, the one before it, and one of another function
-from_wanted : is_wanted (record { from = 3; function = None }) 3 8 ≡ true
+from_wanted : is_wanted (record { rows = rows.From 3; function = None }) 3 8 ≡ true
 from_wanted = refl
 
-before_wanted : is_wanted (record { from = 3; function = None }) 2 8 ≡ false
+before_wanted : is_wanted (record { rows = rows.From 3; function = None }) 2 8 ≡ false
 before_wanted = refl
 
-function_wanted : is_wanted (record { from = 3; function = Some 8 }) 3 8 ≡ true
+function_wanted : is_wanted (record { rows = rows.From 3; function = Some 8 }) 3 8 ≡ true
 function_wanted = refl
 
-other_wanted : is_wanted (record { from = 3; function = Some 8 }) 3 9 ≡ false
+first_wanted : is_wanted (record { rows = rows.Last 2; function = None }) 1 8 ≡ true
+first_wanted = refl
+
+-- the last ones, where there are more, as many, fewer, and where none is asked for
+more_than_last : chosen {A = ℕ} (rows.Last 2) (4 ∷ 5 ∷ 6 ∷ []) ≡ 5 ∷ 6 ∷ []
+more_than_last = refl
+
+as_many_as_last : chosen {A = ℕ} (rows.Last 2) (5 ∷ 6 ∷ []) ≡ 5 ∷ 6 ∷ []
+as_many_as_last = refl
+
+fewer_than_last : chosen {A = ℕ} (rows.Last 2) (6 ∷ []) ≡ 6 ∷ []
+fewer_than_last = refl
+
+no_last : chosen {A = ℕ} (rows.Last 0) (6 ∷ []) ≡ []
+no_last = refl
+
+all_from : chosen {A = ℕ} (rows.From 2) (4 ∷ 5 ∷ 6 ∷ []) ≡ 4 ∷ 5 ∷ 6 ∷ []
+all_from = refl
+
+other_wanted : is_wanted (record { rows = rows.From 3; function = Some 8 }) 3 9 ≡ false
 other_wanted = refl
 
-unknown_name : which_of [] 1 (Some (codes "f")) ≡ None
+unknown_name : which_of [] (rows.From 1) (Some (codes "f")) ≡ None
 unknown_name = refl
 
-no_name : which_of [] 1 None ≡ Some (record { from = 1; function = None })
+no_name : which_of [] (rows.Last 2) None ≡ Some (record { rows = rows.Last 2; function = None })
 no_name = refl
 
 -- the outcomes that have a place
@@ -134,3 +157,24 @@ limit_located = refl
 
 exit_located : located_status (outcome.Exit 0) ≡ None
 exit_located = refl
+
+-- the last line of a file of two, and the first one of the file after it
+abbrev two_files : Files
+two_files = record {
+  first = record { name = codes "p.b"; lines = 2 };
+  rest = record { name = codes "l.b"; lines = 5 } ∷ [];
+}
+
+line_of_first : line_text 4 two_files 2 ≡ codes "   2"
+unfolding digits
+line_of_first = refl
+
+line_of_next : line_text 4 two_files 3 ≡ codes "   1 of l.b"
+unfolding digits
+line_of_next = refl
+
+-- a place in the second file, and the step after it
+site_with_step : site_line (record { functions = []; files = two_files }) 9 15 7 450016
+    ≡ codes "at     in          place   15  line    5 of l.b  step 450016\n"
+unfolding digits
+site_with_step = refl

@@ -7,13 +7,36 @@ use Rattle.std.specs.List.{flat_map, range_with_len}
 use Rattle.blang.specs.Layout.{printed, store_words}
 use Rattle.blang.specs.Machine.{Call}
 use Rattle.blang.specs.Text.{instr_line}
+use Rattle.blang.specs.declared.code.Definition.{Definition}
 use Rattle.blang.specs.declared.code.Instr.{Instr}
 use Rattle.bmach.specs.declared.machine.Active.{Active}
 use Rattle.btools.specs.Characters.{is_printable, shown_byte}
 use Rattle.btools.specs.Columns.{left, right, without_newline}
-use Rattle.btrace.specs.Programs.{Placed, function_with}
+use Rattle.bsources.specs.Files.{Files, Line, beyond_first, files_shown}
+use Rattle.btools.specs.Functions.{Placed, entries_of, function_with, functions_of}
+use Rattle.btools.specs.Quoting.{file_text}
+use Rattle.btrace.specs.declared.legend as told
 use Rattle.btrace.specs.declared.places.TheConstants.{SHOWN_PARAMETERS}
 use Rattle.btrace.specs.declared.rows.TheConstants.{MARGIN, SHOWN_OPERANDS}
+
+-- what is told of a program: its functions, and the files of its source
+pub record Legend : Type 0 where
+  pub functions : List Placed
+  pub files : Files
+
+abbrev pub legend_of : told.Legend.Legend → Legend
+legend_of l = record { functions = entries_of l.tables.now; files = files_shown l.files }
+
+abbrev pub legend_in : List Definition → Files → Legend
+legend_in ds files = record { functions = functions_of ds; files = files }
+
+-- the number of a line, at the right of a column; after the first file it is its number in its own one
+abbrev pub line_of : (width line : ℕ) → Option Line → List ℕ
+line_of width line None = right width (decimal line)
+line_of width line (Some at) = right width (decimal at.line) ++ codes " of " ++ file_text at.file
+
+abbrev pub line_text : (width : ℕ) → Files → (line : ℕ) → List ℕ
+line_text width files line = line_of width line (beyond_first files line)
 
 -- the name of a function
 abbrev pub name_in : Option Placed → List ℕ
@@ -31,11 +54,11 @@ instr_text (Some i) = without_newline (instr_line i)
 instr_text None = []
 
 -- the name of the function of a call, and its next instruction
-abbrev pub name_of : List Placed → Call → List ℕ
-name_of fs call = name_in (function_with fs call.function.strings)
+abbrev pub name_of : Legend → Call → List ℕ
+name_of l call = name_in (function_with l.functions call.function.strings)
 
-abbrev pub code_of : List Placed → Call → List ℕ
-code_of fs call = instr_text (instr_in (function_with fs call.function.strings) call.place)
+abbrev pub code_of : Legend → Call → List ℕ
+code_of l call = instr_text (instr_in (function_with l.functions call.function.strings) call.place)
 
 operands_shown : SHOWN_OPERANDS ≡ 5
 operands_shown = refl
@@ -54,10 +77,10 @@ operands_text words =
     ++ flat_map (λ w. codes " " ++ signed_text w) (drop (length words - SHOWN_OPERANDS) words)
 
 -- the number of a step, the call before it, and a line of the source
-abbrev pub step_row : List Placed → (number : ℕ) → Call → (line : ℕ) → List ℕ
-step_row fs number call line =
-    right 8 (decimal number) ++ codes "  " ++ left 8 (name_of fs call) ++ right 6 (decimal call.place)
-    ++ right 6 (decimal line) ++ codes "  " ++ left 12 (code_of fs call) ++ operands_text (reverse call.operands)
+abbrev pub step_row : Legend → (number : ℕ) → Call → (line : ℕ) → List ℕ
+step_row l number call line =
+    right 8 (decimal number) ++ codes "  " ++ left 8 (name_of l call) ++ right 6 (decimal call.place)
+    ++ line_text 6 l.files line ++ codes "  " ++ left 12 (code_of l call) ++ operands_text (reverse call.operands)
     ++ codes "\n"
 
 -- the columns before what a step has stored or written
@@ -115,17 +138,17 @@ words_text words are_more =
     ++ (if are_more then codes " .." else [])
 
 -- a function, a place in it, and a line of the source
-abbrev pub site_text : List Placed → (strings place line : ℕ) → List ℕ
-site_text fs strings place line =
-    codes "in " ++ left 8 (name_in (function_with fs strings)) ++ codes " place " ++ right 4 (decimal place)
-    ++ codes "  line " ++ right 4 (decimal line)
+abbrev pub site_text : Legend → (strings place line : ℕ) → List ℕ
+site_text l strings place line =
+    codes "in " ++ left 8 (name_in (function_with l.functions strings)) ++ codes " place " ++ right 4 (decimal place)
+    ++ codes "  line " ++ line_text 4 l.files line
 
-abbrev pub place_text : List Placed → (store : List ℕ) → Place → List ℕ
-place_text fs store p =
-    site_text fs p.call.strings p.call.place p.line ++ words_text (first_words store p.call) (has_more p.call)
+abbrev pub place_text : Legend → (store : List ℕ) → Place → List ℕ
+place_text l store p =
+    site_text l p.call.strings p.call.place p.line ++ words_text (first_words store p.call) (has_more p.call)
     ++ codes "\n"
 
 -- where a run was over, and the calls that led there
-abbrev pub places_text : List Placed → (store : List ℕ) → Place → List Place → List ℕ
-places_text fs store first callers =
-    codes "at     " ++ place_text fs store first ++ flat_map (λ p. codes "called " ++ place_text fs store p) callers
+abbrev pub places_text : Legend → (store : List ℕ) → Place → List Place → List ℕ
+places_text l store first callers =
+    codes "at     " ++ place_text l store first ++ flat_map (λ p. codes "called " ++ place_text l store p) callers

@@ -1,11 +1,14 @@
 //! The steps of a program, written for people, and where its run was over.
 #![tactic(auto)]
 
+mod legend;
 mod locating;
 mod places;
 mod rows;
-mod tables;
 mod tracing;
+mod trail;
 
 pub use locating::{locate, wrong_places_are_excluded};
+pub use rows::{instr_at, name_of, push_signed};
 pub use tracing::{Wanted, trace, wrong_traces_are_excluded};
+pub use trail::Rows;

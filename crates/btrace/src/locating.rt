@@ -1,35 +1,38 @@
 //! Telling where a run was over.
 ghost use Rattle.std.specs.Prelude.{◌≡◌, ℕ, IfOk};
 ghost use Rattle.btrace.specs.Excluded.{LocatesExcluded};
+ghost use Rattle.bsources.specs.Files.{File, files_shown};
+ghost use Rattle.btrace.specs.RowTexts.{legend_of};
 ghost use Rattle.btrace.specs.Locates.{Locates, TellsSite, located_status, site_line};
-ghost use Rattle.btrace.specs.Programs.{entries_of};
 
+use crate::legend::Legend;
 use crate::places::push_site;
-use crate::tables::Tables;
 use blang::Outcome;
 use blang::status::{self, Status};
-use bmach::{Active, Stepper};
+use bmach::{Stepper, Stop};
 use bpages::PagedStore;
 use brun::finish;
-use btools::{Text, read_program, tell};
+use bsources::SourceFiles;
+use btools::{Tables, Text, read_program, tell};
 use bword::{ByteIn, ByteOut, Edition};
 use std::alloc::{AllocError, Global};
 
 /// Compiles a source, runs its program for at most so many steps, and tells where the run ended.
 ///
 /// The output, the line and the status are those of `go_edition`. After the line of a trap or of the limit, a second
-/// line tells the function, the place in it, and the line of the source. If `main` had no room for its frame, the run
-/// never began, and there is no second line.
+/// line tells the function, the place in it, the line of the source, and how many steps were made. If `main` had no
+/// room for its frame, the run never began, and there is no second line.
 pub fn locate<I: ByteIn, O: ByteOut, D: ByteOut>(
     alloc: Global,
     source: &[u8],
     edition: Edition,
+    files: SourceFiles<'_>,
     steps: u64,
     input: &mut I,
     out: &mut O,
     diag: &mut D,
 ) -> Status
-    ensures locates { Locates edition source.now steps (record {
+    ensures locates { Locates edition source.now (files_shown files.entry) steps (record {
       input = I.incoming input.old;
       input_after = I.incoming input.new;
       out = O.outgoing out.old;
@@ -45,20 +48,25 @@ pub fn locate<I: ByteIn, O: ByteOut, D: ByteOut>(
         Ok(program) => program,
         Err(status) => return status,
     };
+    let image = &program.image;
     let Ok(tables) = Tables::new(alloc, &program) else {
         return status::MEMORY;
     };
     let Ok(store) = PagedStore::new(alloc) else {
         return status::MEMORY;
     };
-    let stepper = match Stepper::begin(alloc, &program.image, store) {
+    let stepper = match Stepper::begin(alloc, image, store) {
         Ok(stepper) => stepper,
         Err(outcome) => return finish(outcome, diag),
     };
     let stop = stepper.run(input, out, steps);
+    let legend = Legend {
+        tables: &tables,
+        files,
+    };
     let told = finish(stop.outcome, diag);
     match located_status(stop.outcome) {
-        Some(status) if status == told => tell_site(alloc, &tables, stop.call, told, diag),
+        Some(status) if status == told => tell_site(alloc, &legend, stop, told, diag),
         _ => told,
     }
 }
@@ -76,31 +84,34 @@ fn located_status(outcome: Outcome) -> Option<Status>
 
 fn tell_site<D: ByteOut>(
     alloc: Global,
-    tables: &Tables<'_>,
-    call: Active,
+    legend: &Legend<'_, '_, '_>,
+    stop: Stop,
     status: Status,
     diag: &mut D,
 ) -> Status
-    ensures tells { TellsSite (entries_of tables.now) call.strings call.place status (D.outgoing diag.old) (D.outgoing diag.new) result }
+    ensures tells { TellsSite (legend_of legend.now) stop.call.strings stop.call.place stop.steps status (D.outgoing diag.old) (D.outgoing diag.new) result }
     ensures same { D.lender diag.new ≡ D.lender diag.old }
 {
-    match site_line(alloc, tables, call) {
+    match site_line(alloc, legend, stop) {
         Ok(text) => tell(text.as_slice(), status, diag),
         Err(_) => status::MEMORY,
     }
 }
 
-fn site_line(alloc: Global, tables: &Tables<'_>, call: Active) -> Result<Text, AllocError>
-    ensures { IfOk result (λ text. (line : ℕ) × (text ≡ site_line (entries_of tables.now) call.strings call.place line)) }
+fn site_line(alloc: Global, legend: &Legend<'_, '_, '_>, stop: Stop) -> Result<Text, AllocError>
+    ensures { IfOk result (λ text. (line : ℕ)
+        × (text ≡ site_line (legend_of legend.now) stop.call.strings stop.call.place line stop.steps)) }
 {
     let mut text = Text::new(alloc);
     text.push(b"at     ")?;
-    push_site(&mut text, tables, call)?;
+    push_site(&mut text, legend, stop.call)?;
+    text.push(b"  step ")?;
+    text.push_number(stop.steps)?;
     text.push(b"\n")?;
     Ok(text)
 }
 
 /// No run is answered by its trap or its limit without the place, by another place, or by the status of other steps.
 pub fn wrong_places_are_excluded()
-    ensures { LocatesExcluded }
+    ensures { (file : File) → LocatesExcluded file }
 {}

@@ -1,11 +1,10 @@
 //! The places where a run was.
 ghost use Rattle.std.specs.Prelude.{◌≡◌, ◌-◌, ℕ, [], ◌++◌, OnOk, if◌then◌else◌};
-ghost use Rattle.btrace.specs.Programs.{entries_of};
-ghost use Rattle.btrace.specs.RowTexts.{first_words, has_more, place_text, site_text, words_text};
+ghost use Rattle.btrace.specs.RowTexts.{first_words, has_more, legend_of, place_text, site_text, words_text};
 ghost use Rattle.btrace.specs.Traces.{AddsPlaces};
 
+use crate::legend::{Legend, push_line};
 use crate::rows::{frame_address, name_of, push_signed};
-use crate::tables::Tables;
 use bmach::{Active, Stepper};
 use btools::Text;
 use bword::Store;
@@ -17,18 +16,18 @@ const SHOWN_PARAMETERS: u16 = 6;
 /// Adds the place where a run ended: the call that ran, and the calls that led there.
 pub fn push_places<S: Store + Drop>(
     text: &mut Text,
-    tables: &Tables<'_>,
+    legend: &Legend<'_, '_, '_>,
     stepper: &Stepper<'_, S>,
     call: Active,
 ) -> Result<(), AllocError>
-    ensures { OnOk result (AddsPlaces (entries_of tables.now) stepper.now.store call stepper.now.below text.old text.new) }
+    ensures { OnOk result (AddsPlaces (legend_of legend.now) stepper.now.store call stepper.now.below text.old text.new) }
 {
     text.push(b"at     ")?;
-    push_place(text, tables, stepper, call)?;
+    push_place(text, legend, stepper, call)?;
     for number in 0..stepper.callers() {
         if let Some(caller) = stepper.caller(number) {
             text.push(b"called ")?;
-            push_place(text, tables, stepper, at_its_call(caller))?;
+            push_place(text, legend, stepper, at_its_call(caller))?;
         }
     }
     Ok(())
@@ -49,30 +48,34 @@ fn at_its_call(call: Active) -> Active
 // The place of a call and the words of its parameters.
 fn push_place<S: Store + Drop>(
     text: &mut Text,
-    tables: &Tables<'_>,
+    legend: &Legend<'_, '_, '_>,
     stepper: &Stepper<'_, S>,
     call: Active,
 ) -> Result<(), AllocError>
     ensures { OnOk result ((line : ℕ) ×
-        (text.new ≡ text.old ++ place_text (entries_of tables.now) stepper.now.store (record { call = call; line = line }))) }
+        (text.new ≡ text.old ++ place_text (legend_of legend.now) stepper.now.store (record { call = call; line = line }))) }
 {
-    push_site(text, tables, call)?;
+    push_site(text, legend, call)?;
     push_words(text, stepper, call)?;
     text.push(b"\n")
 }
 
 /// Adds the function of a call, the place in it, and the line of the source.
-pub fn push_site(text: &mut Text, tables: &Tables<'_>, call: Active) -> Result<(), AllocError>
-    ensures { OnOk result ((line : ℕ) × (text.new ≡ text.old ++ site_text (entries_of tables.now) call.strings call.place line)) }
+pub fn push_site(
+    text: &mut Text,
+    legend: &Legend<'_, '_, '_>,
+    call: Active,
+) -> Result<(), AllocError>
+    ensures { OnOk result ((line : ℕ) × (text.new ≡ text.old ++ site_text (legend_of legend.now) call.strings call.place line)) }
 {
-    let entry = tables.entry(call.strings);
-    let line = tables.line(entry, call.place);
+    let entry = legend.tables.entry(call.strings);
+    let line = legend.tables.line(entry, call.place);
     text.push(b"in ")?;
     text.push_left(8, name_of(entry))?;
     text.push(b" place ")?;
     text.push_right_number(4, call.place as u64)?;
     text.push(b"  line ")?;
-    text.push_right_number(4, line)
+    push_line(text, 4, legend, line)
 }
 
 // The words of the first parameters of a call.

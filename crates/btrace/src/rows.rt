@@ -2,15 +2,15 @@
 ghost use Rattle.std.specs.Prelude.{◌≡◌, ◌≤◌, ℕ, List, [], ◌+◌, ◌-◌, ◌%◌, ◌^◌, ◌<◌, ◌++◌, OnOk, option_map};
 ghost use Rattle.std.specs.List.{flat_map, range_with_len};
 ghost use Rattle.btools.specs.Columns.{left};
-ghost use Rattle.btrace.specs.Programs.{entries_of, placed_entry};
-ghost use Rattle.btrace.specs.RowTexts.{hexadecimal, instr_in, instr_text, margin, name_in, operands_text, signed_text, step_row};
+ghost use Rattle.btools.specs.Functions.{placed_entry};
+ghost use Rattle.btrace.specs.RowTexts.{hexadecimal, instr_in, instr_text, legend_of, margin, name_in, operands_text, signed_text, step_row};
 ghost use Rattle.btrace.specs.RowTexts.{stored_text, word_row, written_byte, written_row};
 
-use crate::tables::{Entry, Tables};
+use crate::legend::{Legend, push_line};
 use bcode::{Page, push_instr_line};
 use blang::Instr;
 use bmach::{Active, Stepper};
-use btools::{Text, hexadecimal_digit, push_byte};
+use btools::{Entry, Text, hexadecimal_digit, push_byte};
 use bword::Store;
 use std::alloc::AllocError;
 use std::ops::Range;
@@ -24,21 +24,21 @@ const SHOWN_OPERANDS: usize = 5;
 /// Adds the row of a step, before it is made.
 pub fn push_step<S: Store + Drop>(
     text: &mut Text,
-    tables: &Tables<'_>,
+    legend: &Legend<'_, '_, '_>,
     stepper: &Stepper<'_, S>,
     made: u64,
 ) -> Result<(), AllocError>
     requires { made + 1 < 2 ^ 64 }
-    ensures { OnOk result ((line : ℕ) × (text.new ≡ text.old ++ step_row (entries_of tables.now) (made + 1) stepper.now.call line)) }
+    ensures { OnOk result ((line : ℕ) × (text.new ≡ text.old ++ step_row (legend_of legend.now) (made + 1) stepper.now.call line)) }
 {
     let call = stepper.top();
-    let entry = tables.entry(call.strings);
-    let line = tables.line(entry, call.place);
+    let entry = legend.tables.entry(call.strings);
+    let line = legend.tables.line(entry, call.place);
     text.push_right_number(8, made + 1)?;
     text.push(b"  ")?;
     text.push_left(8, name_of(entry))?;
     text.push_right_number(6, call.place as u64)?;
-    text.push_right_number(6, line)?;
+    push_line(text, 6, legend, line)?;
     text.push(b"  ")?;
     push_instr(text, instr_at(entry, call.place))?;
     push_operands(text, stepper.operands())?;
@@ -55,7 +55,8 @@ pub fn name_of<'a>(entry: Option<Entry<'a>>) -> &'a [u8]
     }
 }
 
-fn instr_at(entry: Option<Entry<'_>>, place: usize) -> Option<Instr>
+/// The instruction at a place of a function.
+pub fn instr_at(entry: Option<Entry<'_>>, place: usize) -> Option<Instr>
     ensures { result ≡ instr_in (option_map placed_entry entry.entry) place }
 {
     match entry {

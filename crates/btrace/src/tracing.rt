@@ -1,24 +1,28 @@
 //! Tracing a program.
-ghost use Rattle.std.specs.Prelude.{◌≡◌, ◌+◌, ◌^◌, ◌<◌, ◌≤◌, ◌++◌, IfOk, OnErr, OnOk, drop, map, option_map};
-ghost use Rattle.blang.specs.Layout.{data_end, shape_of};
+ghost use Rattle.std.specs.Prelude.{◌≡◌, ◌+◌, ◌^◌, ◌<◌, ◌≤◌, [], IfOk, OnErr, OnOk, option_map};
 ghost use Rattle.blang.specs.Machine.{step};
 ghost use Rattle.bmach.specs.Stepping.{machine_at};
-ghost use Rattle.bmach.specs.Stored.{stored_next};
-ghost use Rattle.bmach.specs.Turns.{KeepsBelow, LeavesWords, TurnGives};
+ghost use Rattle.bmach.specs.Turns.{KeepsBelow, LeavesWords};
 ghost use Rattle.bword.specs.ByteEnds.{Kept, outgoing_of};
 ghost use Rattle.btrace.specs.Excluded.{TracesExcluded};
-ghost use Rattle.btrace.specs.Programs.{entries_of, functions_of};
-ghost use Rattle.btrace.specs.Traces.{AddsEnd, AddsIf, ShowsRows, StepsGive, Traces, is_wanted, steps_from, which_of};
+ghost use Rattle.bsources.specs.Files.{File, files_shown};
+ghost use Rattle.btools.specs.Functions.{entries_of};
+ghost use Rattle.btools.specs.Programs.{nothing_written};
+ghost use Rattle.btrace.specs.RowTexts.{legend_of};
+ghost use Rattle.btrace.specs.Traces.{AddsEnd, ShowsRows, StepsGive, Traces, TracesStep, is_wanted, steps_from, which_of};
+ghost use Rattle.btrace.specs.Trails.{trail_text};
 
+use crate::legend::Legend;
 use crate::places::push_places;
 use crate::rows::{push_step, push_stored, push_written};
-use crate::tables::Tables;
+use crate::trail::{Rows, Trail};
 use blang::Outcome;
 use blang::status::{self, Status};
 use bmach::{Active, Stepper};
 use bpages::PagedStore;
 use brun::finish;
-use btools::{Text, read_program, tell};
+use bsources::SourceFiles;
+use btools::{Tables, Text, read_program, tell};
 use bword::{ByteIn, ByteOut, Edition, MemOut, Store};
 use std::alloc::{AllocError, Global};
 
@@ -33,27 +37,29 @@ const UNNAMED: &[u8] = b"error: the source has no function of this NAME\n";
 pub struct Wanted<'a> {
     /// The most steps that are made.
     pub steps: u64,
-    /// The number of the first one that is shown, from 1.
-    pub from: u64,
+    /// Which of them have a row.
+    pub rows: Rows,
     /// The name of the function whose steps are shown; all, if there is none.
     pub function: Option<&'a str>,
+    /// The files of the source.
+    pub files: SourceFiles<'a>,
 }
 
 /// Which steps are shown.
 #[derive(Clone, Copy)]
 struct Which {
-    from: u64,
+    rows: Rows,
     /// The address of the first string word of the function whose steps are shown.
     function: Option<u32>,
 }
 
 impl Which {
-    // Whether a step is shown that comes after so many.
+    // Whether a step may be shown that comes after so many.
     fn shows(self, made: u64, call: Active) -> bool
         requires { made + 1 < 2 ^ 64 }
         ensures { result ≡ is_wanted self (made + 1) call.strings }
     {
-        self.from <= made + 1
+        self.rows.first() <= made + 1
             && match self.function {
                 None => true,
                 Some(strings) => call.strings == strings,
@@ -74,7 +80,7 @@ pub fn trace<I: ByteIn, O: ByteOut, D: ByteOut>(
     out: &mut O,
     diag: &mut D,
 ) -> Status
-    ensures traces { Traces edition source.now wanted.entry.steps wanted.entry.from (option_map (λ n. n.now) wanted.entry.function) (record {
+    ensures traces { Traces edition source.now wanted.entry.steps wanted.entry.rows (files_shown wanted.entry.files) (option_map (λ n. n.now) wanted.entry.function) (record {
       input = I.incoming input.old;
       input_after = I.incoming input.new;
       out = O.outgoing out.old;
@@ -90,6 +96,7 @@ pub fn trace<I: ByteIn, O: ByteOut, D: ByteOut>(
         Ok(program) => program,
         Err(status) => return status,
     };
+    let image = &program.image;
     let Ok(tables) = Tables::new(alloc, &program) else {
         return status::MEMORY;
     };
@@ -99,110 +106,106 @@ pub fn trace<I: ByteIn, O: ByteOut, D: ByteOut>(
     let Ok(store) = PagedStore::new(alloc) else {
         return status::MEMORY;
     };
-    let stepper = match Stepper::begin(alloc, &program.image, store) {
+    let stepper = match Stepper::begin(alloc, image, store) {
         Ok(stepper) => stepper,
         Err(outcome) => return finish(outcome, diag),
     };
-    let Ok(mut text) = heading(alloc) else {
+    let Ok(mut trail) = Trail::new(alloc, HEADING) else {
         return status::MEMORY;
     };
-    let mut written = MemOut::new(alloc);
+    let legend = Legend {
+        tables: &tables,
+        files: wanted.files,
+    };
     let steps = wanted.steps;
-    let outcome = match trace_steps(
-        stepper,
-        &tables,
-        which,
-        steps,
-        &mut text,
-        input,
-        &mut written,
-    ) {
+    let outcome = match trace_steps(alloc, stepper, &legend, which, steps, &mut trail, input) {
         Ok(outcome) => outcome,
         Err(_) => return status::MEMORY,
     };
-    let told = tell(text.as_slice(), status::DONE, out);
+    let told = trail.tell(out);
     if told != status::DONE {
         return told;
     }
     finish(outcome, diag)
 }
 
-fn heading(alloc: Global) -> Result<Text, AllocError>
-    ensures { IfOk result (λ text. text ≡ HEADING.now) }
-{
-    let mut text = Text::new(alloc);
-    text.push(HEADING)?;
-    Ok(text)
-}
-
 fn which_of(tables: &Tables<'_>, wanted: Wanted<'_>) -> Option<Which>
-    ensures { result ≡ which_of (entries_of tables.now) wanted.entry.from (option_map (λ n. n.now) wanted.entry.function) }
+    ensures { result ≡ which_of (entries_of tables.now) wanted.entry.rows (option_map (λ n. n.now) wanted.entry.function) }
 {
-    let from = wanted.from;
+    let rows = wanted.rows;
     match wanted.function {
         None => Some(Which {
-            from,
+            rows,
             function: None,
         }),
         Some(name) => match tables.named(name) {
             None => None,
             Some(entry) => Some(Which {
-                from,
+                rows,
                 function: Some(entry.strings),
             }),
         },
     }
 }
 
-// Makes so many steps, or fewer where the run is over before, and adds the rows of those that are shown.
+// Makes so many steps, or fewer where the run is over before, and keeps the rows of those that are shown.
 fn trace_steps<S: Store + Drop, I: ByteIn>(
+    alloc: Global,
     mut stepper: Stepper<'_, S>,
-    tables: &Tables<'_>,
+    legend: &Legend<'_, '_, '_>,
     which: Which,
     steps: u64,
-    text: &mut Text,
+    trail: &mut Trail,
     input: &mut I,
-    written: &mut MemOut,
 ) -> Result<Outcome, AllocError>
-    ensures gives { IfOk result (StepsGive stepper.entry steps
-        (I.incoming input.old) (I.incoming input.new) (outgoing_of written.old) (outgoing_of written.new)) }
-    ensures shows { IfOk result (λ outcome. ShowsRows (entries_of tables.now) stepper.entry.image.functions which (steps_from stepper.entry) steps
-        (I.incoming input.old) (I.incoming input.new) outcome text.old text.new) }
+    requires last { trail.old.last.items ≡ [] }
+    requires row { trail.old.row ≡ [] }
+    ensures gives { IfOk result (λ outcome. (output : Kept) × StepsGive stepper.entry steps
+        (I.incoming input.old) (I.incoming input.new) nothing_written (outgoing_of output) outcome) }
+    ensures shows { IfOk result (λ outcome. ShowsRows (legend_of legend.now) stepper.entry.image.functions which (steps_from stepper.entry) steps
+        (I.incoming input.old) (I.incoming input.new) outcome trail.old.text (trail_text trail.new)) }
     ensures unfailed { OnErr result ((I.incoming input.new).failures ≡ (I.incoming input.old).failures) }
     ensures same { I.lender input.new ≡ I.lender input.old }
 {
     for made in 0..steps {
         let call = stepper.top();
         let is_shown = which.shows(made, call);
-        match trace_step(&mut stepper, tables, is_shown, made, text, input, written)? {
-            Ok(()) => {}
-            Err(Outcome::Device) => return Ok(Outcome::Device),
-            Err(outcome) => {
-                push_end(text, tables, &stepper, call, outcome)?;
-                return Ok(outcome);
-            }
+        let row = &mut trail.row;
+        match trace_step(alloc, &mut stepper, legend, is_shown, made, row, input)? {
+            Ok(()) => trail.keep_if(is_shown, alloc, which.rows)?,
+            Err(outcome) => match outcome {
+                Outcome::Device => return Ok(Outcome::Device),
+                _ => {
+                    trail.keep_if(is_shown, alloc, which.rows)?;
+                    push_end(&mut trail.row, legend, &stepper, call, outcome)?;
+                    return Ok(outcome);
+                }
+            },
         }
     }
-    push_end(text, tables, &stepper, stepper.top(), Outcome::Limit)?;
+    push_end(
+        &mut trail.row,
+        legend,
+        &stepper,
+        stepper.top(),
+        Outcome::Limit,
+    )?;
     Ok(Outcome::Limit)
 }
 
 // Makes a step, and adds its row if that is to be shown.
 fn trace_step<S: Store + Drop, I: ByteIn>(
+    alloc: Global,
     stepper: &mut Stepper<'_, S>,
-    tables: &Tables<'_>,
+    legend: &Legend<'_, '_, '_>,
     is_shown: bool,
     made: u64,
-    text: &mut Text,
+    row: &mut Text,
     input: &mut I,
-    written: &mut MemOut,
 ) -> Result<Result<(), Outcome>, AllocError>
     requires { made + 1 < 2 ^ 64 }
-    ensures gives { IfOk result (TurnGives stepper.old.image (machine_at stepper.old) (machine_at stepper.new)
-        (I.incoming input.old) (I.incoming input.new) (outgoing_of written.old) (outgoing_of written.new)) }
-    ensures shows { IfOk result (λ r. AddsIf is_shown (entries_of tables.now) (made + 1) stepper.old.call
-        (stored_next stepper.old.image.functions stepper.old.call stepper.old.below) stepper.new.store
-        written.old.bytes written.new.bytes r text.old text.new) }
+    ensures shows { IfOk result (λ r. TracesStep (legend_of legend.now) is_shown made stepper.old stepper.new
+        (I.incoming input.old) (I.incoming input.new) r row.old row.new) }
     ensures unfailed { OnErr result ((I.incoming input.new).failures ≡ (I.incoming input.old).failures) }
     ensures words { IfOk result (λ r. LeavesWords (λ left before. step stepper.old.image (machine_at stepper.old left before)) r
         stepper.new.store) }
@@ -210,42 +213,34 @@ fn trace_step<S: Store + Drop, I: ByteIn>(
     ensures image { stepper.new.image ≡ stepper.old.image }
     ensures same { I.lender input.new ≡ I.lender input.old }
 {
+    let mut written = MemOut::new(alloc);
     if !is_shown {
-        return Ok(stepper.step(input, written));
+        return Ok(stepper.step(input, &mut written));
     }
-    push_step(text, tables, stepper, made)?;
+    push_step(row, legend, stepper, made)?;
     let stored = stepper.stored();
-    let before = written.bytes().len();
-    match stepper.step(input, written) {
+    match stepper.step(input, &mut written) {
         Ok(()) => {
-            push_stored(text, stepper, stored)?;
-            push_written(text, since(written, before))?;
+            push_stored(row, stepper, stored)?;
+            push_written(row, written.bytes())?;
             Ok(Ok(()))
         }
         Err(outcome) => Ok(Err(outcome)),
     }
 }
 
-// What was written after so many bytes.
-fn since(written: &MemOut, before: usize) -> &[u8]
-    ensures { result.now ≡ drop before written.now.bytes }
-{
-    let bytes = written.bytes();
-    &bytes[before.min(bytes.len())..]
-}
-
 // Adds where a run ended, if it was by a trap or at the limit. A run that was refused memory has no trace.
 fn push_end<S: Store + Drop>(
     text: &mut Text,
-    tables: &Tables<'_>,
+    legend: &Legend<'_, '_, '_>,
     stepper: &Stepper<'_, S>,
     call: Active,
     outcome: Outcome,
 ) -> Result<(), AllocError>
-    ensures { OnOk result (AddsEnd (entries_of tables.now) stepper.now.store call stepper.now.below outcome text.old text.new) }
+    ensures { OnOk result (AddsEnd (legend_of legend.now) stepper.now.store call stepper.now.below outcome text.old text.new) }
 {
     match outcome {
-        Outcome::Trap(_) | Outcome::Limit => push_places(text, tables, stepper, call),
+        Outcome::Trap(_) | Outcome::Limit => push_places(text, legend, stepper, call),
         Outcome::Exit(_) | Outcome::Device => Ok(()),
         Outcome::Memory => Err(AllocError),
     }
@@ -254,5 +249,5 @@ fn push_end<S: Store + Drop>(
 /// No trace has a row too few, too many or at another step, or a row or a place that shows another state, or the status
 /// of other steps.
 pub fn wrong_traces_are_excluded()
-    ensures { TracesExcluded }
+    ensures { (file : File) → TracesExcluded file }
 {}

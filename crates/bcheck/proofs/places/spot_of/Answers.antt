@@ -1,7 +1,7 @@
 use Rattle.std.proofs.Common.{◌∙◌, ap, drop, sym, take}
 use Rattle.std.proofs.lemmas.List.{take-append-drop}
-use Rattle.blang.specs.Cut.{line_number_after}
-use Rattle.bcheck.specs.Checks.{column_after}
+use Rattle.bsources.specs.Files.{files_shown, own_line}
+use Rattle.bcheck.proofs.PlaceSteps.{several_is}
 use Rattle.bcheck.proofs.places.spot_of.Goals as goal
 
 pub returns : goal.returns
@@ -11,6 +11,7 @@ returns c =
       take start source,
       drop start source,
       sym (take-append-drop start source),
-      c.end_of-line.ensures.line ∙ ap (line_number_after 1) c.parts.ensures.before,
-      c.end_of-line.ensures.column ∙ ap (column_after 1) c.parts.ensures.before,
+      c.own_line.ensures ∙ ap (own_line (files_shown c.args.files.now)) c.position-line.ensures.line,
+      several_is c.args.files.now.rest.now c.is_empty.result c.is_empty.ensures,
+      c.position-line.ensures.column,
     )

@@ -1,11 +1,17 @@
-use Rattle.std.proofs.Common.{inl, inr}
-use Rattle.bcli.proofs.Answered.{held, named_for}
+use Rattle.std.proofs.Common.{inl, inr, refl}
+use Rattle.bcommand.specs.CommandLine.{source_shown}
+use Rattle.bcli.proofs.Answered.{asked_of_source, lib_named, named_for}
 use Rattle.bcli.proofs.serving.ask_file.Goals as goal
 
 pub returns-in-Ok-clause-does : goal.returns-in-Ok-clause-does
 returns-in-Ok-clause-does g c =
-    inr (c.as_slice.result.now, held (g.S.Shelf.holdings c.args.shelf.now) c.args.source.file.now _ _ c.as_slice.ensures.value c.in-Ok.ensures.text, c.answer.ensures.answers)
+    asked_of_source (g.S.Shelf.holdings c.args.shelf.now) (source_shown c.args.source) c.in-Ok.whole _ _ _ _ _ c.in-Ok.ensures.ok c.as_slice.ensures.value refl c.files.ensures c.answer.ensures.answers
 
-pub returns-in-Err-clause-does : goal.returns-in-Err-clause-does
-returns-in-Err-clause-does g c =
-    inl (named_for _ _ _ _ _ c.in-Err.ensures.fault (c.name_file.ensures.names (g.I.ByteIn.incoming c.args.input.now) (g.O.ByteOut.outgoing c.args.out.now)))
+pub returns-in-Err-File-clause-does : goal.returns-in-Err-File-clause-does
+returns-in-Err-File-clause-does g c =
+    inl (named_for _ _ _ _ _ (rw c.in-Err-File.field-0-is at c.in-Err-File.ensures.err) (c.name_file.ensures.names (g.I.ByteIn.incoming c.args.input.now) (g.O.ByteOut.outgoing c.args.out.now)))
+
+pub returns-in-Err-Lib-clause-does : goal.returns-in-Err-Lib-clause-does
+returns-in-Err-Lib-clause-does g c =
+    inr (inl (lib_named (g.S.Shelf.holdings c.args.shelf.now) _ c.in-Err-Lib.lib _ _ (rw c.in-Err-Lib.field-0-is at c.in-Err-Lib.ensures.err)
+    (c.name_file.ensures.names (g.I.ByteIn.incoming c.args.input.now) (g.O.ByteOut.outgoing c.args.out.now))))

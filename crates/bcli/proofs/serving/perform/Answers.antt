@@ -4,7 +4,7 @@ use Rattle.bcli.proofs.serving.perform.Goals as goal
 
 pub returns-in-Compile-clause-does : goal.returns-in-Compile-clause-does
 returns-in-Compile-clause-does g c =
-    done _ c.args.job (jobs.Compile c.in-Compile.edition) _ _ c.in-Compile.is (c.compile_edition.ensures.compiles, c.compile_edition.ensures.headline)
+    done _ c.args.job (jobs.Compile c.in-Compile.edition c.in-Compile.libs) _ _ c.in-Compile.is c.compile_input.ensures.does
 
 pub returns-in-Go-clause-does : goal.returns-in-Go-clause-does
 returns-in-Go-clause-does g c =

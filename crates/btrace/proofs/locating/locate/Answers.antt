@@ -1,7 +1,8 @@
 use Rattle.std.proofs.Common.{◌∙◌, Some, ap, refl, sym}
-use Rattle.btrace.specs.Programs.{entries_of}
+use Rattle.bsources.specs.Files.{files_shown}
+use Rattle.btools.specs.Functions.{entries_of}
 use Rattle.btrace.specs.Locates.{no_memory, not_begun, stopped}
-use Rattle.btrace.proofs.Functions.{data_fit}
+use Rattle.btools.proofs.Functions.{data_fit}
 use Rattle.btrace.proofs.Located.{located_whole, no_other, not_none, unlocated_whole}
 use Rattle.btrace.proofs.locating.locate.Goals as goal
 use Rattle.btrace.proofs.locating.locate.Goals.{in_default-located_status-2, in_default-located_status}
@@ -30,17 +31,17 @@ returns-clause-locates g c =
     elim c.match-located_status.branch [
       | in_default-located_status-2 w ↦
           rw w.result-is
-          (unlocated_whole c.args.edition c.args.source.now c.args.steps _ c.finish-told.result mid c.in-Ok.program.definitions.items c.in-Ok.program.image c.in-Ok-begin.stepper outcome c.in-Ok.ensures.gives c.in-Ok-begin.ensures c.run-stop.ensures.gives c.finish-told.ensures.gives
+          (unlocated_whole c.args.edition c.args.source.now _ c.args.steps _ c.finish-told.result mid c.in-Ok.program.definitions.items c.in-Ok.program.image c.in-Ok-begin.stepper outcome c.in-Ok.ensures.gives c.in-Ok-begin.ensures c.run-stop.ensures.gives c.finish-told.ensures.gives
           (no_other _ _ _ (sym c.located_status.ensures ∙ w.in-Some.is) w.if-status-told.false))
       | in_default-located_status w ↦
           rw w.result-is
-          (unlocated_whole c.args.edition c.args.source.now c.args.steps _ c.finish-told.result mid c.in-Ok.program.definitions.items c.in-Ok.program.image c.in-Ok-begin.stepper outcome c.in-Ok.ensures.gives c.in-Ok-begin.ensures c.run-stop.ensures.gives c.finish-told.ensures.gives
+          (unlocated_whole c.args.edition c.args.source.now _ c.args.steps _ c.finish-told.result mid c.in-Ok.program.definitions.items c.in-Ok.program.image c.in-Ok-begin.stepper outcome c.in-Ok.ensures.gives c.in-Ok-begin.ensures c.run-stop.ensures.gives c.finish-told.ensures.gives
           (not_none _ _ (sym c.located_status.ensures ∙ w.in_default-located_status.is)))
     ]
 
 pub returns-in-Some-clause-locates : goal.returns-in-Some-clause-locates
 returns-in-Some-clause-locates g c =
-    located_whole c.args.edition c.args.source.now c.args.steps _ c.tell_site.result (g.D.ByteOut.outgoing c.read_program.new.diag) c.in-Ok.program.definitions.items c.in-Ok.program.image c.in-Ok-begin.stepper c.run-stop.result.outcome
-    (g.D.ByteOut.outgoing c.finish-told.new.diag) (entries_of c.in-Ok-new.tables) c.finish-told.result c.run-stop.result.call
-    c.in-Ok.ensures.gives c.in-Ok-new.ensures c.in-Ok-begin.ensures c.run-stop.ensures.gives c.finish-told.ensures.gives
+    located_whole c.args.edition c.args.source.now (files_shown c.args.files) c.args.steps _ c.tell_site.result (g.D.ByteOut.outgoing c.read_program.new.diag) c.in-Ok.program.definitions.items c.in-Ok.program.image c.in-Ok-begin.stepper c.run-stop.result.outcome
+    (g.D.ByteOut.outgoing c.finish-told.new.diag) (record { functions = entries_of c.in-Ok-new.tables; files = files_shown c.args.files }) c.finish-told.result c.run-stop.result.call c.run-stop.result.steps
+    c.in-Ok.ensures.gives (λ i. record { functions = c.in-Ok-new.ensures i; files = files_shown c.args.files }) c.in-Ok-begin.ensures c.run-stop.ensures.gives c.finish-told.ensures.gives
     (sym c.located_status.ensures ∙ c.in-Some.is ∙ ap Some c.if-status-told.true) c.run-stop.ensures.stops c.tell_site.ensures.tells

@@ -5,20 +5,20 @@ use Rattle.std.proofs.lemmas.Result.{on_ok_weaker}
 use Rattle.btools.specs.Columns.{left, right}
 use Rattle.btools.proofs.AddedTexts.{piece}
 use Rattle.bmach.specs.declared.machine.Active.{Active}
-use Rattle.btrace.specs.Programs.{entries_of, function_with, placed_entry}
-use Rattle.btrace.specs.RowTexts.{instr_in, instr_text, name_in, operands_text}
+use Rattle.btools.specs.Functions.{function_with, placed_entry}
+use Rattle.btrace.specs.RowTexts.{instr_in, instr_text, legend_of, line_text, name_in, operands_text}
 use Rattle.btrace.proofs.rows.push_step.Goals as goal
 
 pub returns : goal.returns
 returns g c =
-    let fs = entries_of c.args.tables.now in
+    let fs = (legend_of c.args.legend.now).functions in
     let call = c.args.stepper.now.call in
     let entry : option_map placed_entry c.entry-entry.result ≡ function_with fs call.function.strings = c.entry-entry.ensures ∙ ap (λ (a : Active). function_with fs a.strings) c.top-call.ensures in
     let name = c.name_of.ensures ∙ ap name_in entry in
     let operands : c.operands.result.now ≡ reverse call.operands = sym (reverse-reverse c.operands.result.now) ∙ ap reverse c.operands.ensures in
     on_ok_weaker c.push-3.result (λ end. (
       c.line-line.result,
-      piece _ _ _ _ _ (piece _ _ _ _ _ (piece _ _ _ _ _ (piece _ _ _ _ _ (piece _ _ _ _ _ (piece _ _ _ _ _ (piece _ _ _ _ _ (piece _ _ _ _ _ c.in_ok-push_right_number.ensures c.in_ok-push.ensures) c.in_ok-push_left.ensures) c.in_ok-push_right_number-2.ensures) c.in_ok-push_right_number-3.ensures) c.in_ok-push-2.ensures) c.in_ok-push_instr.ensures) c.in_ok-push_operands.ensures) end
-          ∙ (λ i. c.args.text.now ++ (right 8 (decimal (c.args.made + 1)) ++ codes "  " ++ left 8 (name i) ++ right 6 (decimal (c.top-call.ensures i).place) ++ right 6 (decimal c.line-line.result) ++ codes "  "
+      piece _ _ _ _ _ (piece _ _ _ _ _ (piece _ _ _ _ _ (piece _ _ _ _ _ (piece _ _ _ _ _ (piece _ _ _ _ _ (piece _ _ _ _ _ (piece _ _ _ _ _ c.in_ok-push_right_number.ensures c.in_ok-push.ensures) c.in_ok-push_left.ensures) c.in_ok-push_right_number-2.ensures) c.in_ok-push_line.ensures) c.in_ok-push-2.ensures) c.in_ok-push_instr.ensures) c.in_ok-push_operands.ensures) end
+          ∙ (λ i. c.args.text.now ++ (right 8 (decimal (c.args.made + 1)) ++ codes "  " ++ left 8 (name i) ++ right 6 (decimal (c.top-call.ensures i).place) ++ line_text 6 (legend_of c.args.legend.now).files c.line-line.result ++ codes "  "
           ++ left 12 (instr_text ((c.instr_at.ensures ∙ (λ j. instr_in (entry j) (c.top-call.ensures j).place)) i)) ++ operands_text (operands i) ++ codes "\n")),
     )) c.push-3.ensures

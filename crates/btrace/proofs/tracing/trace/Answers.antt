@@ -1,9 +1,10 @@
-use Rattle.std.proofs.Common.{◌≡◌, ◌∙◌, ℕ, List, [], None, Some, ap, inl, inr, refl, subst, sym}
+use Rattle.std.proofs.Common.{◌≡◌, ◌∙◌, List, None, Some, inl, inr, refl, subst, sym}
 use Rattle.std.specs.Prelude.{option_map}
-use Rattle.bword.specs.ByteEnds.{outgoing_of}
-use Rattle.btrace.specs.Programs.{Placed, entries_of}
-use Rattle.btrace.specs.Traces.{ShowsRows, no_memory, not_begun, steps_from, stopped, unnamed, which_of}
-use Rattle.btrace.proofs.Functions.{data_fit}
+use Rattle.bsources.specs.Files.{files_shown}
+use Rattle.btools.specs.Functions.{Placed, entries_of}
+use Rattle.btrace.specs.Traces.{no_memory, not_begun, stopped, unnamed, which_of}
+use Rattle.btrace.specs.Trails.{trail_text}
+use Rattle.btools.proofs.Functions.{data_fit}
 use Rattle.btrace.proofs.Unresolved.{traced_whole}
 use Rattle.btrace.proofs.tracing.trace.Goals as goal
 
@@ -19,18 +20,18 @@ returns-in_default-clause-traces g c = no_memory c.in-Ok.program.definitions.ite
 pub returns-in_default-which_of-clause-traces : goal.returns-in_default-which_of-clause-traces
 returns-in_default-which_of-clause-traces g c =
     unnamed (g.D.ByteOut.outgoing c.read_program.new.diag) c.in-Ok.program.definitions.items c.in-Ok.program.image c.in-Ok.ensures.gives
-    (subst (λ (fs : List Placed). which_of fs c.args.wanted.from (option_map (λ n. n.now) c.args.wanted.function) ≡ None) c.in-Ok-new.ensures (sym c.which_of.ensures ∙ c.in_default-which_of.is)) c.tell.ensures.told (record { unread = refl; silent = refl })
+    (subst (λ (fs : List Placed). which_of fs c.args.wanted.rows (option_map (λ n. n.now) c.args.wanted.function) ≡ None) c.in-Ok-new.ensures (sym c.which_of.ensures ∙ c.in_default-which_of.is)) c.tell.ensures.told (record { unread = refl; silent = refl })
 
 pub returns-in_default-new-clause-traces : goal.returns-in_default-new-clause-traces
 returns-in_default-new-clause-traces g c = no_memory c.in-Ok.program.definitions.items c.in-Ok.program.image c.in-Ok.ensures.gives refl refl refl
 
-pub returns-in_default-heading-clause-traces : goal.returns-in_default-heading-clause-traces
-returns-in_default-heading-clause-traces g c = no_memory c.in-Ok.program.definitions.items c.in-Ok.program.image c.in-Ok.ensures.gives refl refl refl
+pub returns-in_default-new-2-clause-traces : goal.returns-in_default-new-2-clause-traces
+returns-in_default-new-2-clause-traces g c = no_memory c.in-Ok.program.definitions.items c.in-Ok.program.image c.in-Ok.ensures.gives refl refl refl
 
 pub returns-in-Err-begin-clause-traces : goal.returns-in-Err-begin-clause-traces
 returns-in-Err-begin-clause-traces g c =
     not_begun (g.D.ByteOut.outgoing c.read_program.new.diag) c.in-Ok.program.definitions.items c.in-Ok.program.image c.in-Some.which c.in-Err-begin.outcome c.in-Ok.ensures.gives
-    (subst (λ (fs : List Placed). which_of fs c.args.wanted.from (option_map (λ n. n.now) c.args.wanted.function) ≡ Some c.in-Some.which) c.in-Ok-new.ensures (sym c.which_of.ensures ∙ c.in-Some.is)) c.in-Err-begin.ensures
+    (subst (λ (fs : List Placed). which_of fs c.args.wanted.rows (option_map (λ n. n.now) c.args.wanted.function) ≡ Some c.in-Some.which) c.in-Ok-new.ensures (sym c.which_of.ensures ∙ c.in-Some.is)) c.in-Err-begin.ensures
     c.finish.ensures.gives (record { unread = refl; silent = refl })
 
 pub returns-in-Err-trace_steps-clause-traces : goal.returns-in-Err-trace_steps-clause-traces
@@ -39,18 +40,18 @@ returns-in-Err-trace_steps-clause-traces g c =
 
 pub returns-then-told-ne-DONE-clause-traces : goal.returns-then-told-ne-DONE-clause-traces
 returns-then-told-ne-DONE-clause-traces g c =
-    let gives = c.in-Ok-trace_steps.ensures.gives in
+    let files = files_shown c.args.wanted.files in
     let named = (sym c.which_of.ensures) ∙ c.in-Some.is in
-    traced_whole c.args.edition c.args.source.now c.args.wanted.steps c.args.wanted.from _ _ c.tell-told.result (g.D.ByteOut.outgoing c.read_program.new.diag) c.in-Ok.program.definitions.items c.in-Ok.program.image (entries_of c.in-Ok-new.tables) c.in-Some.which
-    c.in-Ok-begin.stepper c.in-Ok-trace_steps.outcome [] c.trace_steps.new.text c.as_slice.result.now c.new-written.result c.trace_steps.new.written c.tell-told.result c.in-Ok.ensures.gives c.in-Ok-new.ensures named c.in-Ok-begin.ensures
-    (ap outgoing_of c.new-written.ensures) gives refl (subst (λ (t : List ℕ). ShowsRows (entries_of c.in-Ok-new.tables) c.in-Ok-begin.stepper.image.functions c.in-Some.which (steps_from c.in-Ok-begin.stepper) c.args.wanted.steps (g.I.ByteIn.incoming c.args.input.now) (g.I.ByteIn.incoming c.trace_steps.new.input) c.in-Ok-trace_steps.outcome t c.trace_steps.new.text) c.in-Ok-heading.ensures c.in-Ok-trace_steps.ensures.shows)
-    c.as_slice.ensures c.tell-told.ensures.told (inr (c.if-told-ne-DONE.true, refl, refl))
+    traced_whole c.args.edition c.args.source.now c.args.wanted.steps c.args.wanted.rows files _ _ c.tell-told.result (g.D.ByteOut.outgoing c.read_program.new.diag) c.in-Ok.program.definitions.items c.in-Ok.program.image
+    (record { functions = entries_of c.in-Ok-new.tables; files = files }) c.in-Some.which c.in-Ok-begin.stepper c.in-Ok-trace_steps.outcome c.in-Ok-new-3.trail.text (trail_text c.trace_steps.new.trail) c.tell-told.result c.in-Ok.ensures.gives
+    (λ i. record { functions = c.in-Ok-new.ensures i; files = files }) named c.in-Ok-begin.ensures c.in-Ok-trace_steps.ensures.gives c.in-Ok-new-3.ensures.text c.in-Ok-trace_steps.ensures.shows
+    c.tell-told.ensures.told (inr (c.if-told-ne-DONE.true, refl, refl))
 
 pub returns-clause-traces : goal.returns-clause-traces
 returns-clause-traces g c =
-    let gives = c.in-Ok-trace_steps.ensures.gives in
+    let files = files_shown c.args.wanted.files in
     let named = (sym c.which_of.ensures) ∙ c.in-Some.is in
-    traced_whole c.args.edition c.args.source.now c.args.wanted.steps c.args.wanted.from _ _ c.finish-2.result (g.D.ByteOut.outgoing c.read_program.new.diag) c.in-Ok.program.definitions.items c.in-Ok.program.image (entries_of c.in-Ok-new.tables) c.in-Some.which
-    c.in-Ok-begin.stepper c.in-Ok-trace_steps.outcome [] c.trace_steps.new.text c.as_slice.result.now c.new-written.result c.trace_steps.new.written c.tell-told.result c.in-Ok.ensures.gives c.in-Ok-new.ensures named c.in-Ok-begin.ensures
-    (ap outgoing_of c.new-written.ensures) gives refl (subst (λ (t : List ℕ). ShowsRows (entries_of c.in-Ok-new.tables) c.in-Ok-begin.stepper.image.functions c.in-Some.which (steps_from c.in-Ok-begin.stepper) c.args.wanted.steps (g.I.ByteIn.incoming c.args.input.now) (g.I.ByteIn.incoming c.trace_steps.new.input) c.in-Ok-trace_steps.outcome t c.trace_steps.new.text) c.in-Ok-heading.ensures c.in-Ok-trace_steps.ensures.shows)
-    c.as_slice.ensures c.tell-told.ensures.told (inl (c.if-told-ne-DONE.false, c.finish-2.ensures.gives))
+    traced_whole c.args.edition c.args.source.now c.args.wanted.steps c.args.wanted.rows files _ _ c.finish-2.result (g.D.ByteOut.outgoing c.read_program.new.diag) c.in-Ok.program.definitions.items c.in-Ok.program.image
+    (record { functions = entries_of c.in-Ok-new.tables; files = files }) c.in-Some.which c.in-Ok-begin.stepper c.in-Ok-trace_steps.outcome c.in-Ok-new-3.trail.text (trail_text c.trace_steps.new.trail) c.tell-told.result c.in-Ok.ensures.gives
+    (λ i. record { functions = c.in-Ok-new.ensures i; files = files }) named c.in-Ok-begin.ensures c.in-Ok-trace_steps.ensures.gives c.in-Ok-new-3.ensures.text c.in-Ok-trace_steps.ensures.shows
+    c.tell-told.ensures.told (inl (c.if-told-ne-DONE.false, c.finish-2.ensures.gives))

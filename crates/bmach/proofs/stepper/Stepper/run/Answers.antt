@@ -20,5 +20,5 @@ returns-clause-stops g c =
     let functions : image.functions ≡ map loaded_of c.deref.result.now =
     sym (ap (λ i. i.functions) c.image.view_is) ∙ ap (map loaded_of) (sym c.deref.ensures.value) in
     let stop = c.run_steps.result in
-    subst (λ (p : Paused). IsOverAt (λ left n. steps p.image n (machine_at p left [])) c.args.steps (g.I.ByteIn.incoming c.args.input.now) (g.I.ByteIn.incoming c.run_steps.new.input) stop.outcome stop.call) c.self.view_is
+    subst (λ (p : Paused). IsOverAt (λ left n. steps p.image n (machine_at p left [])) c.args.steps (g.I.ByteIn.incoming c.args.input.now) (g.I.ByteIn.incoming c.run_steps.new.input) stop.outcome stop.call stop.steps) c.self.view_is
     (c.run_steps.ensures.stops image functions)

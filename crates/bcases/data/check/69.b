@@ -1,0 +1,5 @@
+main() {
+    auto line 40;
+    while(getline(line, 80))
+        putchar(char(line, 0));
+}

@@ -1,0 +1,4 @@
+main() {
+    extrn randseed;
+    randseed = 5;
+}

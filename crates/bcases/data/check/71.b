@@ -1,0 +1,2 @@
+concats(s) s;
+main() concat("ab", "c");

@@ -1,0 +1,5 @@
+main() {
+    auto say;
+    say = 1;
+    return(say);
+}

@@ -1,0 +1,2 @@
+/* say(c) writes c */
+say(c) putchar(c);

@@ -1,0 +1,1 @@
+say(c) putchar(c);

@@ -1,0 +1,2 @@
+say(c) ;
+main() say('x');

@@ -1,0 +1,2 @@
+main() f(7);
+f(a) printn(a / 0, 10);

@@ -1,0 +1,2 @@
+say(c) putchar('n');
+main() say('x');

@@ -1,0 +1,1 @@
+twice(c) { say(c); say(c); }

@@ -1,0 +1,1 @@
+/* a comment that is open at the end of its file

@@ -1,0 +1,13 @@
+use Rattle.std.proofs.Common.{◌<◌, get_or, length, subst, sym}
+use Rattle.bcheck.proofs.PlaceSteps.{below_min, column_more, column_some, line_more}
+use Rattle.bcheck.proofs.places.position.Goals as goal
+
+pub loop-index-preserved : goal.loop-index-preserved
+loop-index-preserved c =
+    let l = c.loop-index in
+    let source = c.args.source.now in
+    let within = below_min l.index c.min-index-end.result c.args.start (length source) c.loop-index-test.true c.min-index-end.ensures in (
+      line_more 1 _ _ source l.index within l.invariant.0 c.next_line-line.ensures,
+      column_more 1 _ _ source l.index within l.invariant.1 c.next_column-column.ensures,
+      subst (λ n. 0 < n) (sym c.next_column-column.ensures) (column_some l.column (get_or source l.index 0)),
+    )

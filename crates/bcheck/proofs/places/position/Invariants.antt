@@ -1,0 +1,8 @@
+use Rattle.std.proofs.Common.{◌≡◌, ◌<◌, take}
+use Rattle.blang.specs.Cut.{line_number_after}
+use Rattle.bcheck.specs.Checks.{column_after}
+use Rattle.bcheck.proofs.places.position.Given as goal
+
+abbrev pub invariant-loop-index : goal.invariant-loop-index
+invariant-loop-index l =
+    (l.line ≡ line_number_after 1 (take l.index l.source)) × (l.column ≡ column_after 1 (take l.index l.source)) × (0 < l.column)

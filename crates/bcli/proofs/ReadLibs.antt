@@ -1,0 +1,37 @@
+-- What was read of the files of a source.
+use Rattle.std.proofs.Common.{subst, ◌≡◌, ◌<◌, ◌+◌, ℕ, suc, List, [], ◌∷◌, ◌++◌, map, take, length, refl, sym, ap, ◌∙◌, add-one}
+use Rattle.std.specs.Prelude.{All, Contains, slice_index_or}
+use Rattle.std.specs.Borrow.{Bor}
+use Rattle.std.proofs.Math.Seq.{take-suc}
+use Rattle.std.proofs.lemmas.List.{map-append}
+use Rattle.std.proofs.lemmas.List.Elements.{All-nil, All-push}
+use Rattle.clap.specs.Words.{Text}
+use Rattle.bsources.specs.Files.{Followed, NamedText, followed}
+use Rattle.bcli.specs.Serves.{ReadsLibs}
+use Rattle.bcli.specs.Reading.{HasReadLibs}
+use Rattle.bcli.specs.Shelves.{Holdings}
+
+abbrev pub shown : List (Bor Text) → List Text
+shown names = map (λ n. n.now) names
+
+pub reads_none : (shelf : Holdings) (libs : Followed) → libs ≡ followed [] → HasReadLibs shelf [] libs
+reads_none shelf libs is = (record { texts = []; names_are = refl; held = All-nil _ }, is)
+
+-- one more file was read
+reads_more : (shelf : Holdings) (names : List Text) (name text : List ℕ) (r : ReadsLibs shelf names) → shelf.holds name text
+    → ReadsLibs shelf (names ++ name ∷ [])
+reads_more shelf names name text r holds = record {
+  texts = r.texts ++ record { name = name; text = text } ∷ [];
+  names_are = map-append (λ (it : NamedText). it.name) r.texts (record { name = name; text = text } ∷ []) ∙ ap (λ ns. ns ++ name ∷ []) r.names_are;
+  held = All-push (λ x. shelf.holds x.name x.text) r.texts (record { name = name; text = text }) r.held holds;
+}
+
+pub reads_next : (shelf : Holdings) (names : List (Bor Text)) (i : ℕ) (d : Bor Text) (text : List ℕ) (libs more : Followed) → i < length names
+    → HasReadLibs shelf (shown (take i names)) libs → shelf.holds (slice_index_or names i d).now text
+    → ((texts : List NamedText) → libs ≡ followed texts → more ≡ followed (texts ++ record { name = (slice_index_or names i d).now; text = text } ∷ []))
+    → HasReadLibs shelf (shown (take (i + 1) names)) more
+reads_next shelf names i d text libs more lt h holds push =
+    let one = (slice_index_or names i d).now in
+    let next : shown (take i names) ++ one ∷ [] ≡ shown (take (i + 1) names) =
+    sym (rw add-one (ap shown (take-suc names i d lt) ∙ map-append (λ (n : Bor Text). n.now) (take i names) (slice_index_or names i d ∷ []))) in
+    subst (λ (ns : List Text). HasReadLibs shelf ns more) next (reads_more shelf (shown (take i names)) one text h.0 holds, push h.0.texts h.1)

@@ -1,0 +1,19 @@
+use Rattle.std.proofs.Common.{◌≡◌, arith, length}
+use Rattle.std.proofs.Math.Seq.{take-length}
+use Rattle.bcli.proofs.Answered.{held}
+use Rattle.bcli.proofs.ReadLibs.{reads_next, reads_none}
+use Rattle.bcli.proofs.sources.read_libs.Goals as goal
+
+pub loop-name-init : goal.loop-name-init
+loop-name-init g c = reads_none _ _ c.new-libs.ensures
+
+pub loop-name-preserved : goal.loop-name-preserved
+loop-name-preserved g c =
+    reads_next (g.S.Shelf.holdings c.args.shelf.now) c.args.names.now c.loop-name.name-index _ c.as_slice.result.now c.loop-name.libs _
+    c.loop-name-test.true c.loop-name.invariant
+    (held (g.S.Shelf.holdings c.args.shelf.now) _ _ _ c.as_slice.ensures.value c.in-Ok.ensures.text) c.in-Ok-push.ensures
+
+pub returns-clause-ok : goal.returns-clause-ok
+returns-clause-ok g c =
+    let all : c.loop-name.name-index ≡ length c.args.names.now = omega arith in
+    rw (all, take-length c.args.names.now) at c.loop-name.invariant

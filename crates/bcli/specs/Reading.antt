@@ -1,0 +1,31 @@
+-- Inner words: what was read of the files of a source, and why they could not be.
+use Rattle.std.specs.Prelude.{◌≡◌, List, Contains}
+use Rattle.clap.specs.Words.{Text}
+use Rattle.bsources.specs.Files.{Followed, file_of, file_shown, followed}
+use Rattle.bcommand.specs.CommandLine.{Source}
+use Rattle.bcli.specs.declared.shelf.FileFault.TheVariants as file_fault
+use Rattle.bcli.specs.declared.sources.LibFault.{LibFault}
+use Rattle.bcli.specs.declared.sources.Unread.{Unread}
+use Rattle.bcli.specs.declared.sources.Unread.TheVariants as unread
+use Rattle.bcli.specs.declared.sources.Whole.{Whole}
+use Rattle.bcli.specs.Serves.{Reads, ReadsLibs, whole}
+use Rattle.bcli.specs.Shelves.{Holdings}
+
+abbrev pub HasReadLibs : Holdings → List Text → Followed → Type 0
+HasReadLibs shelf names libs = (r : ReadsLibs shelf names) × (libs ≡ followed r.texts)
+
+-- a source was read, and this is its text, and these are its files
+pub record HasReadSource (shelf : Holdings) (source : Source) (it : Whole) : Type 0 where
+  pub reads : Reads shelf source
+  pub text : it.text.items ≡ whole reads
+  pub first : file_shown it.first ≡ file_of source.file reads.text
+  pub libs : it.libs ≡ followed reads.libs.texts
+
+-- a file could not be read, or there was no memory for it
+pub record LibIsUnread (shelf : Holdings) (names : List Text) (it : LibFault) : Type 0 where
+  pub among : Contains names it.name.now
+  pub reason : it.fault ≡ file_fault.Device → shelf.lacks it.name.now
+
+abbrev pub IsUnread : Holdings → Source → Unread → Type 0
+IsUnread shelf source (unread.File fault) = fault ≡ file_fault.Device → shelf.lacks source.file
+IsUnread shelf source (unread.Lib it) = LibIsUnread shelf source.libs it

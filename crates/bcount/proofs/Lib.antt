@@ -1,0 +1,6 @@
+mod Noting
+mod Made
+mod LineSums
+mod Rows
+mod Whole
+mod Excluded

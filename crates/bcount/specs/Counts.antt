@@ -1,0 +1,106 @@
+-- Promise: what comes of a source whose steps are counted.
+use Rattle.std.specs.Prelude.{◌≡◌, ℕ, ◌+◌, ◌≤◌, ◌<◌, ◌==◌, List, ◌++◌, Option, Some, find, map, min, option_map}
+use Rattle.std.specs.Prelude.{unwrap_or, if◌then◌else◌}
+use Rattle.std.specs.List.{All, flat_map, range_with_len, sum_by}
+use Rattle.bsources.specs.Files.{Files, files_shown}
+use Rattle.bword.specs.declared.edition.Edition.{Edition}
+use Rattle.bword.specs.ByteEnds.{CanFollow, Incoming, Kept, Outgoing, Took, most, outgoing_of}
+use Rattle.blang.specs.declared.code.Definition.{Definition}
+use Rattle.blang.specs.declared.run.Outcome.{Outcome}
+use Rattle.blang.specs.declared.run.Outcome.TheVariants as outcome
+use Rattle.blang.specs.declared.status.TheConstants.{DEVICE, DONE, MEMORY}
+use Rattle.blang.specs.Machine.{Image, State, States, machine}
+use Rattle.blang.specs.Reports.{Finishes, HasNotRun, Reported, RunEnds, RunGives, state_outcome}
+use Rattle.bmach.specs.Stepping.{BeginsNot}
+use Rattle.btools.specs.Functions.{Placed, functions_of}
+use Rattle.btools.specs.Programs.{HasProgram, NoProgram, TellsEnd, nothing_written}
+use Rattle.bcount.specs.Tables.{IsTable}
+use Rattle.bcount.specs.Tallies.{counts_of}
+use Rattle.bcount.specs.declared.counting.Counting.{Counting}
+use Rattle.bcount.specs.declared.lines.Counted.{Counted}
+use Rattle.bcount.specs.declared.lines.LineCount.{LineCount}
+use Rattle.bcount.specs.declared.table.Style.{Style}
+
+-- what is asked for
+pub record Asked : Type 0 where
+  pub edition : Edition
+  pub steps : ℕ
+  pub files : Files
+  pub style : Style
+
+abbrev pub asked_of : Counting → Asked
+asked_of c = record { edition = c.edition; steps = c.steps; files = files_shown c.files; style = c.style }
+
+-- an instruction is on one of so many lines
+abbrev pub IsOnLines : (last : ℕ) → Counted → Type 0
+IsOnLines last c = (0 < c.line) × (c.line ≤ last)
+
+-- how often the first instruction of a line was made, if it has one
+abbrev pub times_on : List Counted → (line : ℕ) → Option ℕ
+times_on counted line = option_map (λ c. c.count) (find (λ c. c.line == line) counted)
+
+-- how many steps all of its instructions took
+abbrev pub steps_on : List Counted → (line : ℕ) → ℕ
+steps_on counted line = min (sum_by (λ c. if c.line == line then c.count else 0) counted) most
+
+abbrev pub line_count : List Counted → (line : ℕ) → LineCount
+line_count counted line = record { times = times_on counted line; steps = steps_on counted line }
+
+-- what the code of a line did, with an instruction more
+abbrev pub with_count : LineCount → (count : ℕ) → LineCount
+with_count c count = record { times = Some (unwrap_or c.times count); steps = min (c.steps + count) most }
+
+-- A text shows these counts of the instructions of a program: each instruction is on a line, and each line is shown.
+pub record IsTableOf (asked : Asked) (tallies : List (List ℕ)) (made : ℕ) (text : List ℕ) : Type 0 where
+  pub counted : List Counted
+  pub last : ℕ
+  pub counts_are : map (λ c. c.count) counted ≡ flat_map (λ counts. counts) tallies
+  pub on_lines : All (IsOnLines last) counted
+  pub table : IsTable asked.style asked.files (map (line_count counted) (range_with_len 1 last)) made text
+
+-- With the last of these steps the run had this outcome, and before it went on.
+abbrev pub IsLast : (ℕ → State) → (made : ℕ) → Outcome → Type 0
+IsLast states made result =
+    (last : ℕ) × (last + 1 ≡ made) × (state_outcome (states last) ≡ outcome.Limit)
+    × (state_outcome (states made) ≡ result)
+
+-- After so many steps the run was over, or all were made.
+abbrev pub EndsAfter : (ℕ → State) → (made steps : ℕ) → Outcome → Type 0
+EndsAfter states made steps (outcome.Exit status) = IsLast states made (outcome.Exit status)
+EndsAfter states made steps (outcome.Trap kind) = IsLast states made (outcome.Trap kind)
+EndsAfter states made steps outcome.Limit = (made ≡ steps) × (state_outcome (states made) ≡ outcome.Limit)
+EndsAfter states made steps outcome.Device = ⊥
+EndsAfter states made steps outcome.Memory = ⊥
+
+-- Each count is the number of states, among those before the steps that were made, in which the machine is about to make
+-- this instruction. Its input is what was taken and what may follow.
+pub record AreCounts (functions : List Placed) (states : States) (steps : ℕ) (i j : Incoming) (result : Outcome) (made : ℕ)
+    (tallies : List (List ℕ)) : Type 0 where
+  pub within : made ≤ steps
+  pub taken : List ℕ
+  pub took : Took i taken j
+  pub counts : (more : List ℕ) → CanFollow j more → tallies ≡ map (counts_of (states (taken ++ more)) made) functions
+  pub ends : (more : List ℕ) → CanFollow j more → EndsAfter (states (taken ++ more)) made steps result
+
+-- The program of the source was run for so many steps at most, as the machine runs it, and its counts written; or a read
+-- of it failed, and nothing was written; or it did not begin, or there is none, and why was told; or memory was refused,
+-- which is told only where no read failed.
+pub data Counts (asked : Asked) (source : List ℕ) (ends : RunEnds) (status : ℕ) : Type 0 where
+  counted : (mid : Outgoing) (ds : List Definition) (image : Image) (result : Outcome) (output : Kept) (made : ℕ)
+      (tallies : List (List ℕ)) (text : List ℕ) (told : ℕ) → HasProgram asked.edition source ends.line mid ds image
+      → RunGives (machine ds) asked.steps ends.input ends.input_after nothing_written (outgoing_of output) result
+      → AreCounts (functions_of ds) (machine ds) asked.steps ends.input ends.input_after result made tallies
+      → IsTableOf asked tallies made text → Reported text DONE ends.out ends.out_after told
+      → TellsEnd told result mid ends.line_after status → Counts asked source ends status
+  unread : (ds : List Definition) (image : Image) (output : Kept)
+      → HasProgram asked.edition source ends.line ends.line_after ds image
+      → RunGives (machine ds) asked.steps ends.input ends.input_after nothing_written (outgoing_of output) outcome.Device
+      → ends.out_after ≡ ends.out → status ≡ DEVICE → Counts asked source ends status
+  not_begun : (mid : Outgoing) (ds : List Definition) (image : Image) (result : Outcome)
+      → HasProgram asked.edition source ends.line mid ds image → BeginsNot image result
+      → Finishes result mid ends.line_after status → HasNotRun ends → Counts asked source ends status
+  stopped : NoProgram asked.edition source ends.line ends.line_after status → HasNotRun ends
+      → Counts asked source ends status
+  no_memory : (ds : List Definition) (image : Image)
+      → HasProgram asked.edition source ends.line ends.line_after ds image → ends.out_after ≡ ends.out
+      → ends.input_after.failures ≡ ends.input.failures → status ≡ MEMORY → Counts asked source ends status

@@ -1,0 +1,36 @@
+-- Promise: what the contract of `count` excludes.
+use Rattle.std.specs.Prelude.{◌≡◌, ℕ, List, [], ◌∷◌, codes}
+use Rattle.bword.specs.ByteEnds.{Incoming}
+use Rattle.blang.specs.declared.code.Definition.{Definition}
+use Rattle.blang.specs.declared.code.Definition.TheVariants as definition
+use Rattle.blang.specs.declared.code.Instr.TheVariants as instr
+use Rattle.blang.specs.declared.run.Outcome.{Outcome}
+use Rattle.blang.specs.declared.run.Outcome.TheVariants as outcome
+use Rattle.blang.specs.Machine.{machine}
+use Rattle.btools.specs.Functions.{functions_of}
+use Rattle.bcount.specs.Counts.{AreCounts}
+
+-- the code of `main(){}`, which halts with its second step
+abbrev pub nothing : List Definition
+nothing = definition.Function (record {
+  name = codes "main";
+  parameters = 0;
+  frame = 0;
+  targets = [];
+  strings = [];
+  code = instr.Constant 0 ∷ instr.Return ∷ [];
+}) ∷ []
+
+-- whatever it reads, the counts of its first steps are these alone
+abbrev pub CountsOnly : (steps : ℕ) → Outcome → List (List ℕ) → Type 0
+CountsOnly steps result tallies =
+    (i j : Incoming) (made : ℕ) (other : List (List ℕ))
+    → AreCounts (functions_of nothing) (machine nothing) steps i j result made other → other ≡ tallies
+
+pub record CountsExcluded : Type 0 where
+  -- a step before the first one
+  pub no_step : CountsOnly 0 outcome.Limit ((0 ∷ 0 ∷ []) ∷ [])
+  -- the instruction after the step, the step twice, or none
+  pub one_step : CountsOnly 1 outcome.Limit ((1 ∷ 0 ∷ []) ∷ [])
+  -- the step that halts left out, as one that was made after the halt
+  pub last_step : CountsOnly 2 (outcome.Exit 0) ((1 ∷ 1 ∷ []) ∷ [])

@@ -1,0 +1,42 @@
+-- Inner words: the counts of the instructions of a program.
+use Rattle.std.specs.Prelude.{ℕ, ◌+◌, ◌==◌, ◌&&◌, Bool, false, List, [], ◌∷◌, get_or, length, map, min, replicate}
+use Rattle.std.specs.Prelude.{set, if◌then◌else◌}
+use Rattle.std.specs.List.{count_by, range_with_len}
+use Rattle.bword.specs.ByteEnds.{most}
+use Rattle.blang.specs.Machine.{State, Running, Halted, Stuck}
+use Rattle.btools.specs.Functions.{Placed, placed_entry}
+use Rattle.btools.specs.declared.tables.Entry.{Entry}
+use Rattle.bcount.specs.declared.tallies.Tallies.{Tallies}
+
+-- the counts of each function
+abbrev pub tallies_of : Tallies → List (List ℕ)
+tallies_of t = map (λ counts. counts.items) t.counts.items
+
+-- no instruction of a function was made
+abbrev pub blank : Entry → List ℕ
+blank e = replicate (length (placed_entry e).function.code) 0
+
+-- the instruction at a place was made once more
+abbrev pub bumped : (place : ℕ) → List ℕ → List ℕ
+bumped place counts = set counts place (min (get_or counts place 0 + 1) most)
+
+-- a step was made at a place of the function that has its string words there
+abbrev pub noted : (strings place : ℕ) → List Entry → List (List ℕ) → List (List ℕ)
+noted strings place [] counts = counts
+noted strings place (e ∷ es) [] = []
+noted strings place (e ∷ es) (c ∷ cs) =
+    (if e.strings == strings then bumped place c else c) ∷ noted strings place es cs
+
+-- whether a machine is about to make the step at a place of this function
+abbrev pub is_at : (strings place : ℕ) → State → Bool
+is_at strings place (Running call below w) = (strings == call.function.strings) && (place == call.place)
+is_at strings place (Halted e w) = false
+is_at strings place (Stuck w) = false
+
+-- how many of the first steps were made there
+abbrev pub times : (ℕ → State) → (made strings place : ℕ) → ℕ
+times states made strings place = count_by (λ n. is_at strings place (states n)) (range_with_len 0 made)
+
+-- the same of each place of a function
+abbrev pub counts_of : (ℕ → State) → (made : ℕ) → Placed → List ℕ
+counts_of states made f = map (times states made f.strings) (range_with_len 0 (length f.function.code))

@@ -1,0 +1,10 @@
+//! How often each line of a program was made.
+#![tactic(auto)]
+
+mod counting;
+mod lines;
+mod table;
+mod tallies;
+
+pub use counting::{Counting, count, wrong_counts_are_excluded};
+pub use table::Style;

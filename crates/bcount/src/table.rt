@@ -1,0 +1,231 @@
+//! The counts as they are written.
+ghost use Rattle.std.specs.Prelude.{◌≡◌, ◌<◌, ◌+◌, ◌++◌, IfOk, OnOk, get_or, length, option_map};
+ghost use Rattle.bsources.specs.Files.{files_shown, line_shown};
+ghost use Rattle.bcount.specs.Tables.{AddsRow, Extends, IsTable, cells_text, file_row, heading_of, no_code, object_text, total_of};
+
+use crate::lines::LineCount;
+use bsources::{FileLine, SourceFiles};
+use btools::{Text, push_file, push_quoted};
+use std::alloc::{AllocError, Global};
+
+/// How counts are written.
+#[derive(Clone, Copy)]
+pub enum Style {
+    /// For people: a row for each line of the source.
+    Table,
+    /// For programs: an object a line, for each line of the source that has code.
+    Json,
+}
+
+/// What is written.
+#[derive(Clone, Copy)]
+pub struct Table<'a> {
+    pub source: &'a [u8],
+    pub files: SourceFiles<'a>,
+    pub style: Style,
+    /// What the code of each line did.
+    pub lines: &'a [LineCount],
+    /// How many steps were made.
+    pub made: u64,
+}
+
+/// The columns of a table.
+const HEADING: &[u8] = b"    line         times         steps  source\n";
+
+/// How many lines a source has. A newline ends a line, and an empty source has one.
+pub fn lines_in(source: &[u8]) -> u64
+    ensures { 0 < result }
+{
+    let newlines = source.iter().filter(|byte| **byte == b'\n').count() as u64;
+    if source.last().copied() == Some(b'\n') {
+        newlines.max(1)
+    } else {
+        newlines.saturating_add(1)
+    }
+}
+
+/// The text of the counts.
+pub fn table_text(alloc: Global, table: &Table<'_>) -> Result<Text, AllocError>
+    ensures { IfOk result (IsTable table.now.style (files_shown table.now.files) table.now.lines.now table.now.made) }
+{
+    let mut text = Text::new(alloc);
+    push_heading(&mut text, table.style)?;
+    let marks = Marks::new(table.lines);
+    let mut rest = table.source;
+    for index in 0..table.lines.len() {
+        let (source, after) = first_line(rest);
+        rest = after;
+        push_row(&mut text, table, index, marks.has(index), source)?;
+    }
+    push_total(&mut text, table.style, table.made)?;
+    Ok(text)
+}
+
+// The costliest lines, by their indices.
+#[derive(Clone, Copy)]
+struct Marks {
+    first: usize,
+    second: usize,
+    third: usize,
+}
+
+impl Marks {
+    fn new(lines: &[LineCount]) -> Self {
+        let none = lines.len();
+        let mut marks = Marks {
+            first: none,
+            second: none,
+            third: none,
+        };
+        marks.first = marks.costliest(lines);
+        marks.second = marks.costliest(lines);
+        marks.third = marks.costliest(lines);
+        marks
+    }
+
+    fn has(self, index: usize) -> bool {
+        index == self.first || index == self.second || index == self.third
+    }
+
+    // The line that took most steps of those that aren't marked.
+    fn costliest(self, lines: &[LineCount]) -> usize {
+        let mut found = lines.len();
+        let mut most = 0;
+        for index in 0..lines.len() {
+            if lines[index].steps > most && !self.has(index) {
+                most = lines[index].steps;
+                found = index;
+            }
+        }
+        found
+    }
+}
+
+// The bytes of the first line, and those after it.
+fn first_line(source: &[u8]) -> (&[u8], &[u8]) {
+    match source.iter().position(|byte| *byte == b'\n') {
+        Some(end) => (&source[..end], &source[end + 1..]),
+        None => (source, b""),
+    }
+}
+
+fn push_heading(text: &mut Text, style: Style) -> Result<(), AllocError>
+    ensures { OnOk result (text.new ≡ text.old ++ heading_of style) }
+{
+    match style {
+        Style::Table => text.push(HEADING),
+        Style::Json => text.push(b""),
+    }
+}
+
+// The row of a line, with what stands there in the source.
+fn push_row(
+    text: &mut Text,
+    table: &Table<'_>,
+    index: usize,
+    is_marked: bool,
+    source: &[u8],
+) -> Result<(), AllocError>
+    requires { index < length table.now.lines.now }
+    ensures { OnOk result (AddsRow table.now.style (files_shown table.now.files) (index + 1)
+        (get_or table.now.lines.now index no_code) text.old text.new) }
+{
+    let count = table.lines[index];
+    let line = index as u64 + 1;
+    let at = table.files.own_line(line);
+    match table.style {
+        Style::Json => push_object(text, at, count),
+        Style::Table => {
+            push_file_row(text, table.files.beyond_first(line))?;
+            push_cells(text, is_marked, at.line, count)?;
+            push_source(text, source.trim_ascii_end())?;
+            text.push(b"\n")
+        }
+    }
+}
+
+// The name of a file after the first one, before its first line.
+fn push_file_row(text: &mut Text, beyond: Option<FileLine<'_>>) -> Result<(), AllocError>
+    ensures { OnOk result (text.new ≡ text.old ++ file_row (option_map line_shown beyond.entry)) }
+{
+    match beyond {
+        Some(at) if at.line == 1 => {
+            push_file(text, at.file.as_bytes())?;
+            text.push(b"\n")
+        }
+        _ => text.push(b""),
+    }
+}
+
+// The mark of a line, its number and its counts.
+fn push_cells(
+    text: &mut Text,
+    is_marked: bool,
+    line: u64,
+    count: LineCount,
+) -> Result<(), AllocError>
+    ensures { OnOk result (text.new ≡ text.old ++ cells_text is_marked line count) }
+{
+    text.push(if is_marked { b">" } else { b" " })?;
+    text.push_right_number(7, line)?;
+    match count.times {
+        None => text.push_blanks(28),
+        Some(times) => {
+            text.push_right_number(14, times)?;
+            text.push_right_number(14, count.steps)
+        }
+    }
+}
+
+// A line of the source after two blanks; what can't be printed is shown as `?`, and a tab as a blank.
+fn push_source(text: &mut Text, source: &[u8]) -> Result<(), AllocError>
+    ensures { OnOk result (Extends text.old text.new) }
+{
+    text.push(b"  ")?;
+    for byte in source {
+        push_byte(text, *byte)?;
+    }
+    Ok(())
+}
+
+fn push_byte(text: &mut Text, byte: u8) -> Result<(), AllocError>
+    ensures { OnOk result (Extends text.old text.new) }
+{
+    let shown = match byte {
+        b'\t' => b' ',
+        32..=126 => byte,
+        _ => b'?',
+    };
+    text.push(&[shown])
+}
+
+// The object of a line that has code.
+fn push_object(text: &mut Text, at: FileLine<'_>, count: LineCount) -> Result<(), AllocError>
+    ensures { OnOk result (text.new ≡ text.old ++ object_text (line_shown at.entry) count) }
+{
+    let Some(times) = count.times else {
+        return text.push(b"");
+    };
+    text.push(b"{\"file\":")?;
+    push_quoted(text, at.file.as_bytes())?;
+    text.push(b",\"line\":")?;
+    text.push_number(at.line)?;
+    text.push(b",\"times\":")?;
+    text.push_number(times)?;
+    text.push(b",\"steps\":")?;
+    text.push_number(count.steps)?;
+    text.push(b"}\n")
+}
+
+fn push_total(text: &mut Text, style: Style, made: u64) -> Result<(), AllocError>
+    ensures { OnOk result (text.new ≡ text.old ++ total_of style made) }
+{
+    match style {
+        Style::Table => {
+            text.push(b"   total")?;
+            text.push_right_number(28, made)?;
+            text.push(b"\n")
+        }
+        Style::Json => text.push(b""),
+    }
+}

@@ -1,0 +1,3 @@
+pub mod Upcoming
+pub mod Squeezing
+pub mod SameTokens

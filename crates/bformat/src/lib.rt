@@ -1,0 +1,14 @@
+//! Laying a source out in the one style of the house.
+#![tactic(auto)]
+
+mod formatting;
+mod gaps;
+mod kind;
+mod layout;
+mod levels;
+mod pieces;
+mod place;
+mod reading;
+mod structure;
+
+pub use formatting::{CHANGES, format};

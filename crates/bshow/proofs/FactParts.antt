@@ -1,0 +1,88 @@
+-- The parts of the facts of a page, one after another.
+use Rattle.std.proofs.Common.{◌≡◌, ◌∙◌, ℕ, zero, suc, ◌+◌, ◌<◌, ◌≤◌, Bool, true, false, ◌||◌, List, [], ◌∷◌, ◌++◌, None, Option, Some, ap, append-nil, append_assoc, arith, get_or, length, map, nat_lt, refl, sym, take}
+use Rattle.std.specs.Prelude.{option_map, slice_get, zip}
+use Rattle.std.specs.List.{flat_map, range_with_len}
+use Rattle.std.proofs.lemmas.List.{length-map, map-append, take-map, take_more}
+use Rattle.std.proofs.lemmas.Bool.Decides.{nat_tests}
+use Rattle.std.proofs.lemmas.List.Concat.{flat_map-append}
+use Rattle.std.proofs.lemmas.List.Sums.{sum_by-take-le}
+use Rattle.blang.specs.Machine.{Call}
+use Rattle.blang.specs.declared.code.Definition.{Definition}
+use Rattle.blang.specs.Layout.{data_end, first_some, label_count, load_fault, shape_of, size_of, some_if, spot_after, spots, store_words}
+use Rattle.bmach.proofs.Spots.{data_end-push, length-spots_after, spots_after-push, zip-push}
+use Rattle.bmach.specs.Stops.{active_of}
+use Rattle.bmach.specs.declared.machine.Active.{Active}
+use Rattle.btools.proofs.AddedTexts.{each_more}
+use Rattle.bshow.specs.Shows.{rows_text}
+use Rattle.bshow.specs.Facts.{active_text, all_addresses, call_text, definition_text, spot_text}
+
+-- the texts of definitions, with one more
+abbrev pub texts_of : List Definition → List ℕ
+texts_of ds = flat_map spot_text (zip (spots (map shape_of ds)) ds)
+
+texts-push : (ds : List Definition) (d : Definition) → texts_of (ds ++ d ∷ []) ≡ texts_of ds ++ definition_text (data_end (map shape_of ds)) d
+texts-push ds d =
+    let shapes = map shape_of ds in
+    let s = spot_after shapes (shape_of d) in
+    ap (λ es. flat_map spot_text (zip (spots es) (ds ++ d ∷ []))) (map-append shape_of ds (d ∷ []))
+    ∙ ap (λ ss. flat_map spot_text (zip ss (ds ++ d ∷ []))) (spots_after-push [] shapes (shape_of d))
+    ∙ ap (flat_map spot_text) (zip-push (spots shapes) ds s d (length-spots_after [] shapes ∙ length-map ds shape_of))
+    ∙ flat_map-append spot_text (zip (spots shapes) ds) ((s, d) ∷ [])
+    ∙ ap (λ x. texts_of ds ++ x) (append-nil (definition_text (data_end (map shape_of ds)) d))
+
+pub one_definition : (ds : List Definition) (i : ℕ) (d : Definition) → i < length ds → d ≡ get_or ds i d → (head text new : List ℕ) (address : ℕ) → address ≡ data_end (map shape_of (take i ds))
+    → text ≡ head ++ texts_of (take i ds) → new ≡ text ++ definition_text address d → new ≡ head ++ texts_of (take (i + 1) ds)
+one_definition ds i d lt is head text new address here before one =
+    one ∙ (λ j. before j ++ definition_text (here j) d)
+    ∙ append_assoc head (texts_of (take i ds)) (definition_text (data_end (map shape_of (take i ds))) d)
+    ∙ ap (λ x. head ++ x) (sym (ap texts_of (take_more ds i d lt ∙ ap (λ x. take i ds ++ x ∷ []) (sym is)) ∙ texts-push (take i ds) d))
+
+-- the words of definitions that load, and where they lie
+ends_after : (ds : List Definition) (d : Definition) → data_end (map shape_of (ds ++ d ∷ [])) ≡ data_end (map shape_of ds) + size_of (shape_of d)
+ends_after ds d = ap data_end (map-append shape_of ds (d ∷ [])) ∙ data_end-push (map shape_of ds) (shape_of d)
+
+pub ends_within : (ds : List Definition) (i : ℕ) → data_end (map shape_of (take i ds)) ≤ data_end (map shape_of ds)
+ends_within ds i = omega (arith, ap data_end (sym (take-map shape_of i ds)), sum_by-take-le size_of (map shape_of ds) i)
+
+pub next_end : (ds : List Definition) (i : ℕ) (d : Definition) → i < length ds → d ≡ get_or ds i d → (address size : ℕ) → address ≡ data_end (map shape_of (take i ds)) → size ≡ size_of (shape_of d) → address + size ≡ data_end (map shape_of (take (i + 1) ds))
+next_end ds i d lt is address size here long =
+    let taken : take (i + 1) ds ≡ take i ds ++ d ∷ [] = take_more ds i d lt ∙ ap (λ x. take i ds ++ x ∷ []) (sym is) in
+    let e : data_end (map shape_of (take (i + 1) ds)) ≡ data_end (map shape_of (take i ds)) + size_of (shape_of d) = ap (λ xs. data_end (map shape_of xs)) taken ∙ ends_after (take i ds) d in
+    omega (arith, e)
+
+second_none : {A : Type 0} (a : Option A) (b : Bool) (x : A) (rest : List (Option A)) → first_some (a ∷ (some_if b x ∷ rest)) ≡ None → b ≡ false
+second_none (Some y) b x rest h = cc
+second_none None true x rest h = cc
+second_none None false x rest h = refl
+
+not_more : (end labels : ℕ) → (nat_lt 65536 end || nat_lt 65535 labels) ≡ false → end ≤ 65536
+not_more end labels h = grind (arith, nat_tests)
+
+pub data_fit : (ds : List Definition) → load_fault ds ≡ None → data_end (map shape_of ds) ≤ 65536
+data_fit ds h = not_more (data_end (map shape_of ds)) (label_count (map shape_of ds)) (second_none _ _ _ _ h)
+
+-- a caller that isn't there, and one that is
+pub some_caller : (below : List Call) (number : ℕ) → number < length below → None ≡ option_map active_of (slice_get below number) → ⊥
+some_caller [] number within is = omega arith
+some_caller (c ∷ below) zero within is = cc
+some_caller (c ∷ below) (suc number) within is = some_caller below number (omega arith) is
+
+active_at : (below : List Call) (number : ℕ) (a : Active) → Some a ≡ option_map active_of (slice_get below number) → (c : Call) × (c ≡ get_or below number c) × (a ≡ active_of c)
+active_at [] number a e = cc
+active_at (c ∷ below) zero a e = (c, refl, cc)
+active_at (c ∷ below) (suc n) a e = active_at below n a e
+
+pub call_more : (below : List Call) (number : ℕ) (a : Active) (head text new : List ℕ) → number < length below → Some a ≡ option_map active_of (slice_get below number)
+    → text ≡ head ++ flat_map call_text (take number below) → new ≡ text ++ active_text a → new ≡ head ++ flat_map call_text (take (number + 1) below)
+call_more below number a head text new lt e before one =
+    let at = active_at below number a e in
+    each_more call_text head text new below number at.0 lt at.1 before (one ∙ ap (λ x. text ++ active_text x) at.2)
+
+-- the numbers below that of all words
+pub all_are : (n : ℕ) → n ≡ store_words → range_with_len 0 n ≡ all_addresses
+unfolding all_addresses
+all_are n e = ap (range_with_len 0) e
+
+-- one row more
+pub one_row : (start text new row : List ℕ) (rest : List (List ℕ)) → text ++ rows_text (row ∷ rest) ≡ start → new ≡ text ++ row → new ++ rows_text rest ≡ start
+one_row start text new row rest before one = ap (λ t. t ++ rows_text rest) one ∙ append_assoc text row (rows_text rest) ∙ before

@@ -1,0 +1,6 @@
+pub mod Ranges
+pub mod FactParts
+pub mod Kept
+pub mod Told
+pub mod Whole
+pub mod Escaping

@@ -1,0 +1,43 @@
+use Rattle.std.proofs.Common.{◌≡◌, ◌∙◌, ◌-◌, ◌<◌, ◌≤◌, ◌∷◌, ◌++◌, [], ⊎_elim, ap, arith, refl, sym}
+use Rattle.std.specs.Prelude.{slice_index}
+use Rattle.std.specs.List.{range_with_len}
+use Rattle.std.proofs.lemmas.Bool.{cases_lt}
+use Rattle.std.proofs.lemmas.List.{map-append}
+use Rattle.bshow.specs.Rows.{words_in}
+use Rattle.bshow.proofs.Ranges.{one_further}
+use Rattle.bshow.proofs.rows.words_in.Goals as goal
+
+pub loop-address-init : goal.loop-address-init
+loop-address-init g c =
+    let start = c.args.addresses.start in
+    let none : 0 ≡ start - start = omega arith in
+    (c.new-words.ensures.items ∙ ap (λ n. words_in c.args.stepper.now.store (range_with_len start n)) none, λ h. refl)
+
+pub loop-address-preserved : goal.loop-address-preserved
+loop-address-preserved g c =
+    let start = c.args.addresses.start in
+    let address = c.loop-address.address in
+    let from : start ≤ address = c.loop-address.auto.address in
+    let store = c.args.stepper.now.store in (
+      c.in_ok-push.ensures.items ∙ (λ j. c.loop-address.invariant.0 j ++ c.word.ensures j ∷ [])
+          ∙ sym (map-append (slice_index store) (range_with_len start (address - start)) (address ∷ []))
+          ∙ ap (words_in store) (sym (one_further start address from)),
+      λ h. absurd (omega (arith, h, from, c.loop-address-test.true)),
+    )
+
+pub returns : goal.returns
+returns g c =
+    let start = c.args.addresses.start in
+    let end = c.args.addresses.end in
+    let address = c.loop-address.address in
+    let all : address - start ≡ end - start =
+    ⊎_elim
+    (λ (lt : start < end).
+    let within : address ≤ end = c.loop-address.auto.address-end (omega (arith, lt)) in
+    let same : address ≡ end = omega (arith, within, c.loop-address-test.false) in
+    ap (λ n. n - start) same)
+    (λ (le : end ≤ start).
+    let same : address ≡ start = c.loop-address.invariant.1 le in
+    omega (arith, same, le))
+    (cases_lt start end) in
+    c.loop-address.invariant.0 ∙ ap (λ n. words_in c.args.stepper.now.store (range_with_len start n)) all

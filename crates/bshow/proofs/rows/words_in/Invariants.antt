@@ -1,0 +1,9 @@
+use Rattle.std.proofs.Common.{◌≡◌, ◌-◌, ◌≤◌}
+use Rattle.std.specs.List.{range_with_len}
+use Rattle.bshow.specs.Rows.{words_in}
+use Rattle.bshow.proofs.rows.words_in.Given as goal
+
+abbrev pub invariant-loop-address : goal.invariant-loop-address
+invariant-loop-address g l =
+    (l.words.items ≡ words_in l.stepper.store (range_with_len l.fn.addresses.start (l.address - l.fn.addresses.start)))
+    × (l.fn.addresses.end ≤ l.fn.addresses.start → l.address ≡ l.fn.addresses.start)

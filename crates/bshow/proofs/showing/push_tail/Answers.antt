@@ -1,0 +1,6 @@
+use Rattle.bshow.specs.Shows.{tail}
+use Rattle.bshow.proofs.showing.push_tail.Goals as goal
+
+pub returns : goal.returns
+unfolding tail
+returns c = c.push.ensures

@@ -1,0 +1,34 @@
+use Rattle.std.proofs.Common.{refl}
+use Rattle.btools.specs.Functions.{entries_of}
+use Rattle.bshow.specs.Shows.{asked_of, no_memory, stopped}
+use Rattle.bshow.proofs.FactParts.{data_fit}
+use Rattle.bshow.proofs.Whole.{run_whole, unbegun_whole}
+use Rattle.bshow.proofs.showing.show.Goals as goal
+
+pub new-requires : goal.new-requires
+new-requires g c = data_fit c.in-Ok.program.definitions.items c.in-Ok.ensures.gives.loads
+
+pub show_unbegun-requires : goal.show_unbegun-requires
+show_unbegun-requires g c = data_fit c.in-Ok.program.definitions.items c.in-Ok.ensures.gives.loads
+
+pub show_run-requires : goal.show_run-requires
+show_run-requires g c = data_fit c.in-Ok.program.definitions.items c.in-Ok.ensures.gives.loads
+
+pub returns-in-Err-clause-shows : goal.returns-in-Err-clause-shows
+returns-in-Err-clause-shows g c = stopped c.in-Err.ensures.gives (record { unread = refl; silent = refl })
+
+pub returns-in_default-clause-shows : goal.returns-in_default-clause-shows
+returns-in_default-clause-shows g c = no_memory c.in-Ok.program.definitions.items c.in-Ok.program.image c.in-Ok.ensures.gives refl refl refl
+
+pub returns-in_default-new-clause-shows : goal.returns-in_default-new-clause-shows
+returns-in_default-new-clause-shows g c = no_memory c.in-Ok.program.definitions.items c.in-Ok.program.image c.in-Ok.ensures.gives refl refl refl
+
+pub returns-in-Err-begin-clause-shows : goal.returns-in-Err-begin-clause-shows
+returns-in-Err-begin-clause-shows g c =
+    unbegun_whole c.args.edition c.args.source.now (asked_of c.args.wanted) _ c.show_unbegun.result c.in-Ok.program.definitions.items c.in-Ok.program.image c.in-Ok.program.names.frames.items c.in-Err-begin.outcome
+    c.in-Ok.ensures.gives c.in-Err-begin.ensures refl c.show_unbegun.ensures.shows
+
+pub returns-clause-shows : goal.returns-clause-shows
+returns-clause-shows g c =
+    run_whole c.args.edition c.args.source.now (asked_of c.args.wanted) _ c.show_run.result c.in-Ok.program.definitions.items c.in-Ok.program.image c.in-Ok.program.names.frames.items (entries_of c.in-Ok-new.tables) c.in-Ok-begin.stepper
+    c.in-Ok.ensures.gives c.in-Ok-new.ensures c.in-Ok-begin.ensures c.show_run.ensures.shows

@@ -1,0 +1,6 @@
+pub mod Escapes
+pub mod Rows
+pub mod Facts
+pub mod Shows
+pub mod Steps
+pub mod RowFacts

@@ -1,0 +1,12 @@
+//! A run of a program, as one page to step through.
+#![tactic(auto)]
+
+mod ending;
+mod escapes;
+mod facts;
+mod page;
+mod rows;
+mod showing;
+
+pub use escapes::escaped_texts_stay_in_place;
+pub use showing::{Rows, Wanted, show};

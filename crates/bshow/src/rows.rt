@@ -1,0 +1,160 @@
+//! The rows of a page: the machine before a step, and what the step did.
+ghost use Rattle.std.specs.Prelude.{◌≡◌, ◌≤◌, ◌<◌, ◌+◌, ◌-◌, ◌^◌, ◌++◌, ℕ, IfOk, OnOk, length, reverse, slice_index};
+ghost use Rattle.std.specs.List.{range_with_len};
+ghost use Rattle.btools.specs.Functions.{entries_of};
+ghost use Rattle.btrace.specs.RowTexts.{instr_text};
+ghost use Rattle.bshow.specs.Rows.{call_cells, calls_getchar, done_cells, number_cell, other_text, others_text, text_cell, words_cell, words_in};
+
+use crate::escapes::push_escaped;
+use bcode::{Page, push_instr_line};
+use blang::Instr;
+use bmach::Stepper;
+use btools::Text;
+use btools::Tables;
+use btrace::{instr_at, name_of, push_signed};
+use bword::Store;
+use std::alloc::{AllocError, Global};
+use std::ops::Range;
+
+/// The value of the function `getchar`.
+const GETCHAR: u16 = 3;
+
+/// Adds the cells that tell the machine before a step.
+pub fn push_call<S: Store + Drop>(
+    text: &mut Text,
+    tables: &Tables<'_>,
+    stepper: &Stepper<'_, S>,
+    made: u64,
+) -> Result<(), AllocError>
+    requires { made + 1 < 2 ^ 64 }
+    ensures { OnOk result ((line : ℕ) × (text.new ≡ text.old
+        ++ call_cells (entries_of tables.now) (made + 1) stepper.now.call (length stepper.now.below) line)) }
+{
+    let call = stepper.top();
+    let entry = tables.entry(call.strings);
+    let line = tables.line(entry, call.place);
+    text.push(b"<tr>")?;
+    push_number_cell(text, made + 1)?;
+    push_text_cell(text, name_of(entry))?;
+    push_number_cell(text, call.place as u64)?;
+    push_number_cell(text, line)?;
+    push_code_cell(text, instr_at(entry, call.place))?;
+    push_words_cell(text, stepper.operands())?;
+    push_number_cell(text, stepper.callers() as u64)?;
+    push_number_cell(text, u64::from(call.start))
+}
+
+fn push_number_cell(text: &mut Text, number: u64) -> Result<(), AllocError>
+    ensures { OnOk result (text.new ≡ text.old ++ number_cell number) }
+{
+    text.push(b"<td>")?;
+    text.push_number(number)
+}
+
+fn push_text_cell(text: &mut Text, bytes: &[u8]) -> Result<(), AllocError>
+    ensures { OnOk result (text.new ≡ text.old ++ text_cell bytes.now) }
+{
+    text.push(b"<td>")?;
+    push_escaped(text, bytes)
+}
+
+// An instruction as the code text has it.
+fn push_code_cell(text: &mut Text, instr: Option<Instr>) -> Result<(), AllocError>
+    ensures { OnOk result (text.new ≡ text.old ++ text_cell (instr_text instr)) }
+{
+    let mut page = Page::new();
+    if let Some(instr) = instr {
+        push_instr_line(&mut page, &instr);
+    }
+    let line = page.as_slice();
+    push_text_cell(text, &line[..line.len().saturating_sub(1)])
+}
+
+// Words as an array of signed numbers.
+fn push_words_cell(text: &mut Text, words: &[u16]) -> Result<(), AllocError>
+    ensures { OnOk result (text.new ≡ text.old ++ words_cell words.now) }
+{
+    match words.split_first() {
+        None => text.push(b"<td>[]"),
+        Some((first, others)) => {
+            text.push(b"<td>[")?;
+            push_signed(text, *first)?;
+            push_others(text, others)?;
+            text.push(b"]")
+        }
+    }
+}
+
+fn push_others(text: &mut Text, words: &[u16]) -> Result<(), AllocError>
+    ensures { OnOk result (text.new ≡ text.old ++ others_text words.now) }
+{
+    for word in words {
+        push_other(text, *word)?;
+    }
+    Ok(())
+}
+
+fn push_other(text: &mut Text, word: u16) -> Result<(), AllocError>
+    ensures { OnOk result (text.new ≡ text.old ++ other_text word) }
+{
+    text.push(b",")?;
+    push_signed(text, word)
+}
+
+/// The words at these addresses.
+pub fn words_in<S: Store + Drop>(
+    alloc: Global,
+    stepper: &Stepper<'_, S>,
+    addresses: Range<u32>,
+) -> Result<Vec<u16>, AllocError>
+    requires { addresses.end ≤ 65536 }
+    ensures { IfOk result (λ words. words.items ≡ words_in stepper.now.store (range_with_len addresses.start (addresses.end - addresses.start))) }
+{
+    let mut words = Vec::new(alloc);
+    for address in addresses.start..addresses.end {
+        words.push(stepper.word(address as u16))?;
+    }
+    Ok(words)
+}
+
+/// Adds the cells that tell what a step did, and ends the row.
+pub fn push_done(
+    text: &mut Text,
+    address: u32,
+    before: &[u16],
+    stored: &[u16],
+    read: &[u8],
+    written: &[u8],
+) -> Result<(), AllocError>
+    ensures { OnOk result (text.new ≡ text.old ++ done_cells address before.now stored.now read.now written.now) }
+{
+    push_number_cell(text, u64::from(address))?;
+    push_words_cell(text, before)?;
+    push_words_cell(text, stored)?;
+    push_text_cell(text, read)?;
+    push_text_cell(text, written)?;
+    text.push(b"</tr>\n")
+}
+
+/// Whether the next step calls `getchar`.
+pub fn calls_getchar<S: Store + Drop>(tables: &Tables<'_>, stepper: &Stepper<'_, S>) -> bool
+    ensures { result ≡ calls_getchar (entries_of tables.now) stepper.now.call }
+{
+    let call = stepper.top();
+    match instr_at(tables.entry(call.strings), call.place) {
+        Some(Instr::Call(arguments)) => operand(stepper, arguments) == GETCHAR,
+        _ => false,
+    }
+}
+
+/// The operand that has so many above it, or 0 where there is none.
+pub fn operand<S: Store + Drop>(stepper: &Stepper<'_, S>, above: u16) -> u16
+    ensures { result ≡ slice_index stepper.now.call.operands above }
+{
+    let operands = stepper.operands();
+    let above = above as usize;
+    if above >= operands.len() {
+        return 0;
+    }
+    operands[operands.len() - 1 - above]
+}

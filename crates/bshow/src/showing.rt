@@ -1,0 +1,545 @@
+//! Showing the run of a program.
+ghost use Rattle.std.specs.Prelude.{◌≡◌, ◌+◌, ◌<◌, ◌≤◌, ◌%◌, ◌^◌, ◌++◌, ◌∷◌, [], IfOk, OnErr, OnOk, drop, length, map, if◌then◌else◌};
+ghost use Rattle.blang.specs.Layout.{data_end, shape_of};
+ghost use Rattle.blang.specs.Machine.{step};
+ghost use Rattle.bmach.specs.Stepping.{machine_at};
+ghost use Rattle.bmach.specs.Turns.{LeavesWords, TurnGives};
+ghost use Rattle.bword.specs.ByteEnds.{outgoing_of};
+ghost use Rattle.btools.specs.Programs.{nothing_written};
+ghost use Rattle.btools.specs.Functions.{entries_of};
+ghost use Rattle.bshow.specs.Shows.{Shows, StepsGive, asked_of, head, record_of, rows_text, tail};
+ghost use Rattle.bshow.specs.Steps.{ShowsRun, ShowsUnbegun, broken_status, AddsDone, AddsNext, IsEmpty, IsPage, KeepsStep, TellsRun, TellsUnless, has_row, heard_if, kept_texts, retells, retold};
+ghost use Rattle.bshow.specs.Steps.{unbegun_page};
+
+use crate::ending::{push_sentence, push_unbegun};
+use crate::facts::{push_calls, push_program, push_run};
+use crate::page::{BETWEEN, HEAD, SCRIPT, TAIL};
+use crate::rows::{calls_getchar, operand, push_call, push_done, words_in};
+use blang::status::{self, Status};
+use blang::{Outcome, Trap};
+use bmach::Stepper;
+use bpages::PagedStore;
+use bsources::SourceFiles;
+use btools::{Program, Text, read_program, tell};
+use btools::Tables;
+use bword::{ByteIn, ByteOut, Edition, MemOut, Store};
+use std::alloc::{AllocError, Global};
+use std::collections::VecDeque;
+
+/// Which of the steps that are made have a row.
+#[derive(Clone, Copy)]
+pub enum Rows {
+    /// Those from a number on, from 1.
+    From(u64),
+    /// So many of the last ones.
+    Last(u64),
+}
+
+/// What is shown of a run.
+#[derive(Clone, Copy)]
+pub struct Wanted<'a> {
+    /// The most steps that are made.
+    pub steps: u64,
+    pub rows: Rows,
+    /// The files of the source, and how many lines each has.
+    pub files: SourceFiles<'a>,
+    /// The input, where it is known before the run; else empty.
+    pub given: &'a [u8],
+}
+
+/// What is kept of a run for its page.
+#[derive(Drop)]
+struct Recorder {
+    rows: VecDeque<Text>,
+    /// What `getchar` gave.
+    heard: Text,
+    written: MemOut,
+    /// The calls below the running one, before the step after so many.
+    calls: Text,
+    calls_at: u64,
+}
+
+/// What came of a run, with so many steps.
+#[derive(Clone, Copy)]
+struct Ended {
+    outcome: Outcome,
+    made: u64,
+}
+
+/// What is told of a run without a step.
+const NO_RUN: &[u8] =
+    b",\"calls_at\":0,\"calls\":[0],\"words\":[0],\"heard\":\"\",\"output\":\"\"}";
+
+impl Rows {
+    // Whether the step after so many is to have a row.
+    fn has_row(self, made: u64) -> bool
+        requires { made + 1 < 2 ^ 64 }
+        ensures { result ≡ has_row self made }
+    {
+        match self {
+            Rows::From(number) => number <= made + 1,
+            Rows::Last(_) => true,
+        }
+    }
+
+    // Whether the calls are told anew, which were told before the step after `at`.
+    fn retells(self, made: u64, at: u64) -> bool
+        requires { made + 1 < 2 ^ 64 }
+        ensures { result ≡ retells self made at }
+    {
+        match self {
+            Rows::From(number) => number == made + 1,
+            Rows::Last(count) => count <= made.saturating_sub(at),
+        }
+    }
+}
+
+/// Compiles a source, runs its program for at most so many steps, and writes a page that shows the run.
+///
+/// The status is 0 where the page was written, whatever came of the run, which the page tells. For a source that has no
+/// program the line and the status are those of `go_edition`. If a read failed, there is no page, and the status is 133.
+/// If memory was refused, there is no page, either.
+pub fn show<I: ByteIn, O: ByteOut, D: ByteOut>(
+    alloc: Global,
+    source: &[u8],
+    edition: Edition,
+    wanted: Wanted<'_>,
+    input: &mut I,
+    out: &mut O,
+    diag: &mut D,
+) -> Status
+    ensures shows { Shows edition source.now (asked_of wanted.entry) (record {
+      input = I.incoming input.old;
+      input_after = I.incoming input.new;
+      out = O.outgoing out.old;
+      out_after = O.outgoing out.new;
+      line = D.outgoing diag.old;
+      line_after = D.outgoing diag.new;
+    }) result }
+    ensures input_lender { I.lender input.new ≡ I.lender input.old }
+    ensures out_lender { O.lender out.new ≡ O.lender out.old }
+    ensures diag_lender { D.lender diag.new ≡ D.lender diag.old }
+{
+    let program = match read_program(alloc, source, edition, diag) {
+        Ok(program) => program,
+        Err(status) => return status,
+    };
+    let Ok(tables) = Tables::new(alloc, &program) else {
+        return status::MEMORY;
+    };
+    let Ok(store) = PagedStore::new(alloc) else {
+        return status::MEMORY;
+    };
+    let stepper = match Stepper::begin(alloc, &program.image, store) {
+        Ok(stepper) => stepper,
+        Err(outcome) => return show_unbegun(alloc, &program, wanted, source, outcome, out),
+    };
+    show_run(
+        alloc, &program, wanted, source, &tables, stepper, input, out,
+    )
+}
+
+// Shows that a run had no first step.
+fn show_unbegun<O: ByteOut>(
+    alloc: Global,
+    program: &Program,
+    wanted: Wanted<'_>,
+    source: &[u8],
+    outcome: Outcome,
+    out: &mut O,
+) -> Status
+    requires { data_end (map shape_of program.now.definitions.items) ≤ 65536 }
+    ensures shows { ShowsUnbegun (asked_of wanted.entry) source.now program.now.definitions.items
+        program.now.names.frames.items outcome (O.outgoing out.old) (O.outgoing out.new) result }
+    ensures same { O.lender out.new ≡ O.lender out.old }
+{
+    let Outcome::Trap(trap) = outcome else {
+        return status::MEMORY;
+    };
+    let Ok(page) = unbegun_page(alloc, program, wanted, source, trap) else {
+        return status::MEMORY;
+    };
+    tell(page.as_slice(), status::DONE, out)
+}
+
+// Makes the steps of a run, and shows it.
+fn show_run<S: Store + Drop, I: ByteIn, O: ByteOut>(
+    alloc: Global,
+    program: &Program,
+    wanted: Wanted<'_>,
+    source: &[u8],
+    tables: &Tables<'_>,
+    mut stepper: Stepper<'_, S>,
+    input: &mut I,
+    out: &mut O,
+) -> Status
+    requires { data_end (map shape_of program.now.definitions.items) ≤ 65536 }
+    ensures shows { ShowsRun (asked_of wanted.entry) source.now program.now.definitions.items program.now.names.frames.items
+        (entries_of tables.now) stepper.entry (I.incoming input.old) (I.incoming input.new) (O.outgoing out.old)
+        (O.outgoing out.new) result }
+    ensures input_lender { I.lender input.new ≡ I.lender input.old }
+    ensures out_lender { O.lender out.new ≡ O.lender out.old }
+{
+    let Ok(mut kept) = Recorder::new(alloc, &stepper) else {
+        return status::MEMORY;
+    };
+    let ended = match run_steps(
+        alloc,
+        &mut stepper,
+        tables,
+        wanted.rows,
+        wanted.steps,
+        &mut kept,
+        input,
+    ) {
+        Ok(ended) => ended,
+        Err(_) => return status::MEMORY,
+    };
+    if let Some(status) = broken_status(ended.outcome) {
+        return status;
+    }
+    let Ok(page) = page_of(
+        alloc, program, wanted, source, tables, &stepper, &kept, ended,
+    ) else {
+        return status::MEMORY;
+    };
+    tell(page.as_slice(), status::DONE, out)
+}
+
+// The status of a run that was broken off, which has no page.
+fn broken_status(outcome: Outcome) -> Option<Status>
+    ensures { result ≡ broken_status outcome }
+{
+    match outcome {
+        Outcome::Device => Some(status::DEVICE),
+        Outcome::Memory => Some(status::MEMORY),
+        Outcome::Exit(_) | Outcome::Trap(_) | Outcome::Limit => None,
+    }
+}
+
+// The page of a run that had no first step.
+fn unbegun_page(
+    alloc: Global,
+    program: &Program,
+    wanted: Wanted<'_>,
+    source: &[u8],
+    trap: Trap,
+) -> Result<Text, AllocError>
+    requires { data_end (map shape_of program.now.definitions.items) ≤ 65536 }
+    ensures { IfOk result (λ page. page ≡ unbegun_page (asked_of wanted.entry) source.now program.now.definitions.items
+        program.now.names.frames.items trap) }
+{
+    let mut page = Text::new(alloc);
+    push_head(&mut page)?;
+    page.push(BETWEEN)?;
+    push_unbegun(&mut page, trap)?;
+    page.push(SCRIPT)?;
+    push_program(&mut page, program, wanted.files, source, wanted.given)?;
+    page.push(NO_RUN)?;
+    push_tail(&mut page)?;
+    Ok(page)
+}
+
+// The page of a run.
+fn page_of<S: Store + Drop>(
+    alloc: Global,
+    program: &Program,
+    wanted: Wanted<'_>,
+    source: &[u8],
+    tables: &Tables<'_>,
+    stepper: &Stepper<'_, S>,
+    kept: &Recorder,
+    ended: Ended,
+) -> Result<Text, AllocError>
+    requires { data_end (map shape_of program.now.definitions.items) ≤ 65536 }
+    ensures { IfOk result (λ page. IsPage (asked_of wanted.entry) source.now program.now.definitions.items
+        program.now.names.frames.items (entries_of tables.now) (record_of kept.now) stepper.now ended page) }
+{
+    let mut page = Text::new(alloc);
+    push_head(&mut page)?;
+    push_rows(&mut page, &kept.rows)?;
+    push_next(&mut page, tables, stepper, ended)?;
+    page.push(BETWEEN)?;
+    push_sentence(&mut page, ended.outcome, ended.made)?;
+    page.push(SCRIPT)?;
+    push_program(&mut page, program, wanted.files, source, wanted.given)?;
+    push_run(
+        &mut page,
+        stepper,
+        kept.calls.as_slice(),
+        kept.calls_at,
+        kept.heard.as_slice(),
+        kept.written.bytes(),
+    )?;
+    push_tail(&mut page)?;
+    Ok(page)
+}
+
+fn push_head(page: &mut Text) -> Result<(), AllocError>
+    ensures { OnOk result (page.new ≡ page.old ++ head) }
+{
+    page.push(HEAD)
+}
+
+fn push_tail(page: &mut Text) -> Result<(), AllocError>
+    ensures { OnOk result (page.new ≡ page.old ++ tail) }
+{
+    page.push(TAIL)
+}
+
+#[tactic(auto, using(crate::proofs::FactParts::one_row))]
+fn push_rows(page: &mut Text, rows: &VecDeque<Text>) -> Result<(), AllocError>
+    ensures { OnOk result (page.new ≡ page.old ++ rows_text rows.now.items) }
+{
+    for row in rows {
+        page.push(row.as_slice())?;
+    }
+    Ok(())
+}
+
+// Where the run goes on, the row of the step that comes next tells the call before it.
+fn push_next<S: Store + Drop>(
+    page: &mut Text,
+    tables: &Tables<'_>,
+    stepper: &Stepper<'_, S>,
+    ended: Ended,
+) -> Result<(), AllocError>
+    ensures { OnOk result (AddsNext (entries_of tables.now) stepper.now ended page.old page.new) }
+{
+    if let Outcome::Limit = ended.outcome {
+        if ended.made == u64::MAX {
+            return Err(AllocError);
+        }
+        push_call(page, tables, stepper, ended.made)?;
+        page.push(b"</tr>\n")
+    } else {
+        page.push(b"")
+    }
+}
+
+impl Recorder {
+    // Nothing is kept yet but the calls before the first step.
+    fn new<S: Store + Drop>(alloc: Global, stepper: &Stepper<'_, S>) -> Result<Self, AllocError>
+        ensures { IfOk result (λ kept. IsEmpty stepper.now kept) }
+    {
+        let mut calls = Text::new(alloc);
+        push_calls(&mut calls, stepper)?;
+        Ok(Recorder {
+            rows: VecDeque::new(alloc),
+            heard: Text::new(alloc),
+            written: MemOut::new(alloc),
+            calls,
+            calls_at: 0,
+        })
+    }
+}
+
+// Makes so many steps, or fewer where the run is over before.
+fn run_steps<S: Store + Drop, I: ByteIn>(
+    alloc: Global,
+    stepper: &mut Stepper<'_, S>,
+    tables: &Tables<'_>,
+    which: Rows,
+    steps: u64,
+    kept: &mut Recorder,
+    input: &mut I,
+) -> Result<Ended, AllocError>
+    requires { IsEmpty stepper.old kept.old }
+    ensures gives { IfOk result (λ e. StepsGive stepper.old steps (I.incoming input.old) (I.incoming input.new)
+        nothing_written (outgoing_of kept.new.written) e.outcome) }
+    ensures tells { IfOk result (λ e. TellsUnless e.outcome (TellsRun (entries_of tables.now) which stepper.old stepper.new steps
+        (I.incoming input.old) (I.incoming input.new) (record_of kept.new) e)) }
+    ensures unfailed { OnErr result ((I.incoming input.new).failures ≡ (I.incoming input.old).failures) }
+    ensures same { I.lender input.new ≡ I.lender input.old }
+{
+    for made in 0..steps {
+        kept.retell(alloc, stepper, which, made)?;
+        match run_step(alloc, stepper, tables, which, made, kept, input)? {
+            Ok(()) => {}
+            Err(outcome) => {
+                return Ok(Ended {
+                    outcome,
+                    made: made + 1,
+                });
+            }
+        }
+    }
+    Ok(Ended {
+        outcome: Outcome::Limit,
+        made: steps,
+    })
+}
+
+impl Recorder {
+    // Tells the calls below the running one anew, if that is due before the step after so many.
+    fn retell<S: Store + Drop>(
+        &mut self,
+        alloc: Global,
+        stepper: &Stepper<'_, S>,
+        which: Rows,
+        made: u64,
+    ) -> Result<(), AllocError>
+        requires { made + 1 < 2 ^ 64 }
+        ensures told { OnOk result (record_of self.new ≡ retold (retells which made self.old.calls_at) (record_of self.old)
+            stepper.now.below made) }
+        ensures written { self.new.written ≡ self.old.written }
+    {
+        if !which.retells(made, self.calls_at) {
+            return Ok(());
+        }
+        let mut calls = Text::new(alloc);
+        push_calls(&mut calls, stepper)?;
+        self.calls = calls;
+        self.calls_at = made;
+        Ok(())
+    }
+}
+
+// Makes a step, and keeps its row if it is to have one.
+fn run_step<S: Store + Drop, I: ByteIn>(
+    alloc: Global,
+    stepper: &mut Stepper<'_, S>,
+    tables: &Tables<'_>,
+    which: Rows,
+    made: u64,
+    kept: &mut Recorder,
+    input: &mut I,
+) -> Result<Result<(), Outcome>, AllocError>
+    requires { made + 1 < 2 ^ 64 }
+    ensures gives { IfOk result (TurnGives stepper.old.image (machine_at stepper.old) (machine_at stepper.new)
+        (I.incoming input.old) (I.incoming input.new) (outgoing_of kept.old.written) (outgoing_of kept.new.written)) }
+    ensures keeps { IfOk result (λ r. KeepsStep (has_row which made) (entries_of tables.now) which made stepper.old stepper.new
+        r (record_of kept.old) (record_of kept.new)) }
+    ensures unfailed { OnErr result ((I.incoming input.new).failures ≡ (I.incoming input.old).failures) }
+    ensures words { IfOk result (λ r. LeavesWords (λ left before. step stepper.old.image (machine_at stepper.old left before)) r
+        stepper.new.store) }
+    ensures image { stepper.new.image ≡ stepper.old.image }
+    ensures same { I.lender input.new ≡ I.lender input.old }
+{
+    if !which.has_row(made) {
+        return make_step(stepper, tables, &mut kept.heard, &mut kept.written, input);
+    }
+    let mut row = Text::new(alloc);
+    push_call(&mut row, tables, stepper, made)?;
+    match row_step(
+        alloc,
+        &mut row,
+        stepper,
+        tables,
+        &mut kept.heard,
+        &mut kept.written,
+        input,
+    )? {
+        Err(Outcome::Device) => Ok(Err(Outcome::Device)),
+        result => {
+            keep(&mut kept.rows, row, which)?;
+            Ok(result)
+        }
+    }
+}
+
+// Adds a row to those that are kept.
+fn keep(rows: &mut VecDeque<Text>, row: Text, which: Rows) -> Result<(), AllocError>
+    ensures { OnOk result (rows.new.items ≡ kept_texts which rows.old.items row) }
+{
+    rows.push_back(row)?;
+    if let Rows::Last(count) = which {
+        if count < rows.len() as u64 {
+            rows.pop_front();
+        }
+    }
+    Ok(())
+}
+
+// Makes a step, and adds what it did to its row.
+fn row_step<S: Store + Drop, I: ByteIn>(
+    alloc: Global,
+    row: &mut Text,
+    stepper: &mut Stepper<'_, S>,
+    tables: &Tables<'_>,
+    heard: &mut Text,
+    written: &mut MemOut,
+    input: &mut I,
+) -> Result<Result<(), Outcome>, AllocError>
+    ensures gives { IfOk result (TurnGives stepper.old.image (machine_at stepper.old) (machine_at stepper.new)
+        (I.incoming input.old) (I.incoming input.new) (outgoing_of written.old) (outgoing_of written.new)) }
+    ensures heard { IfOk result (λ r. heard.new ≡ heard.old ++ heard_if (entries_of tables.now) stepper.old stepper.new r) }
+    ensures row { IfOk result (λ r. AddsDone (entries_of tables.now) stepper.old stepper.new r
+        (drop (length written.old.bytes) written.new.bytes) row.old row.new) }
+    ensures unfailed { OnErr result ((I.incoming input.new).failures ≡ (I.incoming input.old).failures) }
+    ensures words { IfOk result (λ r. LeavesWords (λ left before. step stepper.old.image (machine_at stepper.old left before)) r
+        stepper.new.store) }
+    ensures image { stepper.new.image ≡ stepper.old.image }
+    ensures same { I.lender input.new ≡ I.lender input.old }
+{
+    let stored = stepper.stored();
+    let start = stored.start;
+    let end = stored.end;
+    let before = words_in(alloc, stepper, start..end)?;
+    let heard_before = heard.as_slice().len();
+    let written_before = written.bytes().len();
+    match make_step(stepper, tables, heard, written, input)? {
+        Ok(()) => {
+            let after = words_in(alloc, stepper, start..end)?;
+            let read = since(heard.as_slice(), heard_before);
+            push_done(
+                row,
+                start,
+                before.as_slice(),
+                after.as_slice(),
+                read,
+                since(written.bytes(), written_before),
+            )?;
+            Ok(Ok(()))
+        }
+        Err(Outcome::Device) => Ok(Err(Outcome::Device)),
+        Err(outcome) => {
+            push_done(row, 0, &[], &[], &[], &[])?;
+            Ok(Err(outcome))
+        }
+    }
+}
+
+// What comes after so many bytes.
+fn since(bytes: &[u8], before: usize) -> &[u8]
+    ensures { result.now ≡ drop before bytes.now }
+{
+    &bytes[before.min(bytes.len())..]
+}
+
+// Makes a step, and keeps what it read.
+fn make_step<S: Store + Drop, I: ByteIn>(
+    stepper: &mut Stepper<'_, S>,
+    tables: &Tables<'_>,
+    heard: &mut Text,
+    written: &mut MemOut,
+    input: &mut I,
+) -> Result<Result<(), Outcome>, AllocError>
+    ensures gives { IfOk result (TurnGives stepper.old.image (machine_at stepper.old) (machine_at stepper.new)
+        (I.incoming input.old) (I.incoming input.new) (outgoing_of written.old) (outgoing_of written.new)) }
+    ensures heard { IfOk result (λ r. heard.new ≡ heard.old ++ heard_if (entries_of tables.now) stepper.old stepper.new r) }
+    ensures unfailed { OnErr result ((I.incoming input.new).failures ≡ (I.incoming input.old).failures) }
+    ensures words { IfOk result (λ r. LeavesWords (λ left before. step stepper.old.image (machine_at stepper.old left before)) r
+        stepper.new.store) }
+    ensures image { stepper.new.image ≡ stepper.old.image }
+    ensures same { I.lender input.new ≡ I.lender input.old }
+{
+    let hears = calls_getchar(tables, stepper);
+    match stepper.step(input, written) {
+        Ok(()) => {
+            push_heard(heard, hears, operand(stepper, 0))?;
+            Ok(Ok(()))
+        }
+        Err(outcome) => Ok(Err(outcome)),
+    }
+}
+
+fn push_heard(heard: &mut Text, hears: bool, word: u16) -> Result<(), AllocError>
+    ensures { OnOk result (heard.new ≡ heard.old ++ (if hears then word % 256 ∷ [] else [])) }
+{
+    if hears {
+        heard.push(&[(word % 256) as u8])
+    } else {
+        heard.push(b"")
+    }
+}

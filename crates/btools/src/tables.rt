@@ -1,0 +1,119 @@
+//! What is known of the functions of a program.
+ghost use Rattle.std.specs.Prelude.{◌<◌};
+ghost use Rattle.std.specs.List.{AllPairs};
+
+use crate::program::{Program, lines_in};
+use blang::{Definition, FunctionParts};
+use bmach::{FIRST_ADDRESS, size_of};
+use std::alloc::{AllocError, Global};
+
+/// A function of a program.
+#[derive(Clone, Copy)]
+pub struct Entry<'a> {
+    /// The address of its first string word.
+    pub strings: u32,
+    pub parts: &'a FunctionParts,
+    /// Where its lines begin among those of the program.
+    start: usize,
+}
+
+/// The functions of a program, in order.
+#[derive(Drop)]
+pub struct Tables<'a> {
+    entries: Vec<Entry<'a>>,
+    lines: &'a [u64],
+    ghost in_order: { AllPairs (λ e f. e.strings < f.strings) entries.items },
+}
+
+impl<'a> Tables<'a> {
+    ghost use Rattle.std.specs.Prelude.{◌≡◌, ◌≤◌, IfOk, map, option_map};
+    ghost use Rattle.blang.specs.Layout.{data_end, shape_of};
+    ghost use Rattle.btools.specs.Functions.{LiesAt, entries_of, function_with, function_named, functions_of, placed_entry};
+
+    pub fn new(alloc: Global, program: &'a Program) -> Result<Self, AllocError>
+        requires { data_end (map shape_of program.now.definitions.items) ≤ 65536 }
+        ensures { IfOk result (λ t. entries_of t ≡ functions_of program.now.definitions.items) }
+    {
+        let mut entries = Vec::new(alloc);
+        let mut address = u32::from(FIRST_ADDRESS);
+        let mut start: usize = 0;
+        for definition in &program.definitions {
+            if let Definition::Function(function) = definition {
+                let parts = function.parts();
+                let strings = address + 1;
+                entries.push(Entry {
+                    strings,
+                    parts,
+                    start,
+                })?;
+            }
+            address += u32::from(size_of(definition));
+            start = start.saturating_add(lines_in(definition));
+        }
+        let lines = program.names.lines.as_slice();
+        Ok(Tables { entries, lines })
+    }
+
+    /// The functions, in order.
+    pub fn entries(&self) -> &[Entry<'a>]
+        ensures { result.now ≡ self.now.entries.items }
+    {
+        self.entries.as_slice()
+    }
+
+    /// The number of the function whose string words begin there, from 0.
+    pub fn position(&self, strings: u32) -> Option<usize>
+        ensures { LiesAt self.now.entries.items strings result }
+    {
+        let mut low = 0;
+        let mut size = self.entries.len();
+        while size > 0 {
+            let half = size / 2;
+            let place = low + half;
+            let entry = self.entries[place];
+            if entry.strings == strings {
+                return Some(place);
+            }
+            if entry.strings < strings {
+                low = place + 1;
+                size -= half + 1;
+            } else {
+                size = half;
+            }
+        }
+        None
+    }
+
+    /// The function whose string words begin there.
+    pub fn entry(&self, strings: u32) -> Option<Entry<'a>>
+        ensures { option_map placed_entry result ≡ function_with (entries_of self.now) strings }
+    {
+        match self.position(strings) {
+            Some(place) => Some(self.entries[place]),
+            None => None,
+        }
+    }
+
+    /// The function of a name.
+    pub fn named(&self, name: &str) -> Option<Entry<'a>>
+        ensures { option_map placed_entry result ≡ function_named (entries_of self.now) name.now }
+    {
+        for entry in &self.entries {
+            if entry.parts.name.as_str() == name {
+                return Some(*entry);
+            }
+        }
+        None
+    }
+
+    /// The line of an instruction of a function, or 0 where none is known.
+    pub fn line(&self, entry: Option<Entry<'a>>, place: usize) -> u64 {
+        match entry {
+            Some(entry) => {
+                let index = entry.start.saturating_add(place);
+                self.lines.get(index).copied().unwrap_or(0)
+            }
+            None => 0,
+        }
+    }
+}
