@@ -1,5 +1,5 @@
 -- Closed facts: which blanks of a source are left out, and which tokens are wrong.
-use Rattle.std.specs.Prelude.{◌≡◌, ℕ, List, [], ◌∷◌, ◌++◌, codes, map, not, refl, true, false}
+use Rattle.std.specs.Prelude.{◌≡◌, ℕ, List, [], ◌∷◌, codes, map, not, refl, true, false}
 use Rattle.std.specs.List.{flat_map}
 use Rattle.bword.specs.declared.edition.Edition.TheVariants as editions
 use Rattle.blang.specs.Cut.{cut, fixed_of, greatest, is_text, keyword_of, longest, number_in, operator_of, other_of}
