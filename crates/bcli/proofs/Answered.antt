@@ -21,7 +21,7 @@ use Rattle.bcli.specs.Reading.{HasReadLibs, HasReadSource, LibIsUnread}
 use Rattle.bshow.specs.Shows.{Shows}
 use Rattle.bshow.specs.Shows.{Asked as PageAsked}
 use Rattle.bshow.specs.declared.showing.Rows.{Rows as Paged}
-use Rattle.std.specs.Prelude.{None, Option, Some, option_map}
+use Rattle.std.specs.Prelude.{◌==◌, None, Option, Some, option_map}
 use Rattle.bcli.specs.Serves.{ShowsRun, CompilesJoined, NamesLib, compiling, files_read, whole, Answers, Does, HasNoFile, IsHelp, NamesFile, SaysNothing, RefusesWords}
 use Rattle.bcli.specs.declared.shelf.FileFault.{FileFault}
 use Rattle.bcli.specs.declared.shelf.FileFault.TheVariants as file_fault
@@ -113,8 +113,8 @@ pub shown_none : (libs : List (Bor Text)) → length libs ≡ 0 → map (λ lib.
 shown_none [] e = refl
 shown_none (lib ∷ libs) e = cc
 
-pub shown_some : (libs : List (Bor Text)) → (length libs ≡ 0 → ⊥) → map (λ lib. lib.now) libs ≡ [] → ⊥
-shown_some [] some e = some refl
+pub shown_some : (libs : List (Bor Text)) → (length libs == 0) ≡ false → map (λ lib. lib.now) libs ≡ [] → ⊥
+shown_some [] some e = cc
 shown_some (lib ∷ libs) some e = cc
 
 -- what is asked of a page
