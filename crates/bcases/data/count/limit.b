@@ -1,1 +1,0 @@
-main() while(1) ;
