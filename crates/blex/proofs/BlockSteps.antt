@@ -26,7 +26,7 @@ and-true_both false b e = cc
 pub PassesRun-none : (p : ℕ → Bool) (s : Source) → PassesRun p s s
 PassesRun-none p s = record { run = []; passes = Passes-refl s; all = refl }
 
-take_shown : (ready block : List ℕ) (n : ℕ) → StartsWith ready block → n ≤ length block → take n ready ≡ take n block
+pub take_shown : (ready block : List ℕ) (n : ℕ) → StartsWith ready block → n ≤ length block → take n ready ≡ take n block
 take_shown ready block n h l = rw (← h) (sym (take-take n (length block) ready l))
 
 -- bytes of the block were taken, with none ahead before it
