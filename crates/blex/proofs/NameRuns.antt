@@ -1,7 +1,6 @@
 -- Bytes of a name that are taken from those that an end shows.
-use Rattle.std.proofs.Common.{◌≡◌, Result, Ok, Err, ℕ, zero, suc, ◌+◌, ◌-◌, ◌*◌, ◌%◌, ◌^◌, ◌<◌, ◌≤◌, min, Bool, true, false, not, ◌==◌, cond, List, [], ◌∷◌, ◌++◌, length, take, get_or, Option, Some, None, refl, sym, ap, ◌∙◌, arith, append-nil, length-append}
+use Rattle.std.proofs.Common.{◌≡◌, ℕ, suc, ◌+◌, ◌*◌, ◌%◌, ◌^◌, ◌<◌, ◌≤◌, min, Bool, true, false, not, ◌==◌, cond, List, [], ◌∷◌, ◌++◌, length, take, get_or, Option, Some, None, refl, sym, ap, ◌∙◌, arith}
 use Rattle.std.proofs.lemmas.Bool.Decides.{nat_tests}
-use Rattle.std.proofs.lemmas.Grind.{common_steps}
 use Rattle.std.proofs.lemmas.List.{length-take, take_more}
 use Rattle.std.specs.Prelude.{nat_lt, option_to_list, position}
 use Rattle.std.proofs.lemmas.List.Folds.{list_all_more}
@@ -14,7 +13,7 @@ use Rattle.bword.specs.declared.edition.Edition.{Edition}
 use Rattle.blex.specs.Runs.{PassesRun, EndsName, TakesName, number_through, is_space}
 use Rattle.blex.specs.Lexing.{EndsRun}
 use Rattle.blex.specs.declared.spelling.Spelling.{Spelling}
-use Rattle.blex.specs.Sources.{Source, GoesAfter}
+use Rattle.blex.specs.Sources.{Source}
 use Rattle.blang.specs.Cut.{is_blank, line_number_after, next_line}
 use Rattle.blex.proofs.BlockSteps.{and-true_both, take_shown, block_taken, block_passes}
 
