@@ -35,12 +35,12 @@ pub record EndsName (bytes : List ℕ) (old : ℕ) (place : Option ℕ) (new : �
 
 -- The source has passed bytes that go on with a name, maybe none, which stand after the spelling. After the last of
 -- them the name ends, where that is told.
-pub record TakesName (old : Source) (spelling : Spelling) (is_over : Bool) (new : Source) (following : Spelling) : Type 0
+pub record TakesName (old : Source) (word : Spelling) (is_over : Bool) (new : Source) (following : Spelling) : Type 0
   where
     pub run : List ℕ
     pub passes : GoesAfter old run new
     pub bytes : list_all is_name_byte run ≡ true
-    pub number : following.number ≡ number_through spelling.number run
-    pub short : following.len ≤ 8 → following.len ≡ spelling.len + length run
-    pub long : 8 < following.len → 8 < spelling.len + length run
+    pub number : following.number ≡ number_through word.number run
+    pub short : following.len ≤ 8 → following.len ≡ word.len + length run
+    pub long : 8 < following.len → 8 < word.len + length run
     pub ends : is_over ≡ true → (xs : List ℕ) → CanCome new xs → EndsRun is_name_byte xs
