@@ -4,11 +4,17 @@ use Rattle.std.specs.Fmt.{digits}
 use Rattle.std.specs.List.{All}
 use Rattle.std.proofs.lemmas.List.Elements.{All-head, All-tail}
 use Rattle.bsources.specs.Files.{Files}
-use Rattle.bword.specs.ByteEnds.{Incoming}
+use Rattle.bword.specs.ByteEnds.{Incoming, Outgoing, outgoing_of}
+use Rattle.blang.specs.declared.code.Definition.{Definition}
+use Rattle.blang.specs.declared.run.Outcome.{Outcome}
 use Rattle.blang.specs.declared.run.Outcome.TheVariants as outcome
+use Rattle.blang.specs.declared.status.TheConstants.{DEVICE}
+use Rattle.blang.specs.Reports.{RunEnds, RunGives}
 use Rattle.blang.specs.Machine.{machine}
-use Rattle.btools.specs.Functions.{functions_of}
-use Rattle.bcount.specs.Counts.{AreCounts, IsOnLines, line_counts}
+use Rattle.btools.specs.Functions.{Placed, functions_of}
+use Rattle.btools.specs.Programs.{nothing_written}
+use Rattle.bcount.specs.Counts as count
+use Rattle.bcount.specs.Counts.{AreCounts, Asked, Counts, IsOnLines, line_counts}
 use Rattle.bcount.specs.Excluded.{CountsExcluded, CountsOnly, ShowsBoth, nothing}
 use Rattle.bcount.specs.SourceLines.{last_line, newlines_in}
 use Rattle.bcount.specs.Tables.{table_text}
@@ -94,6 +100,23 @@ of_two_lines text h =
     let on = on_lines 2 h.counted h.counts_are h.on_lines in
     ap newlines_in (h.text_is ∙ ap (λ cs. table_text styles.Table alone (codes "main()\n{}\n") (line_counts cs 2) 2) on.is) ∙ four_rows on.one on.two on.one_on on.two_on
 
+-- a run that has counts read without a failure
+reads_whole : (fs : List Placed) (ds : List Definition) (n : ℕ) (i j : Incoming) (o p : Outgoing) (made : ℕ) (tallies : List (List ℕ)) → (j.failures ≡ i.failures → ⊥) → (result : Outcome) → RunGives (machine ds) n i j o p result
+    → AreCounts fs (machine ds) n i j result made tallies → ⊥
+reads_whole fs ds n i j o p made tallies failed (outcome.Exit status) h a = failed h.no_failure
+reads_whole fs ds n i j o p made tallies failed (outcome.Trap kind) h a = failed h.no_failure
+reads_whole fs ds n i j o p made tallies failed outcome.Limit h a = failed h.no_failure
+reads_whole fs ds n i j o p made tallies failed outcome.Device h a = a.ends [] (λ e. refl)
+reads_whole fs ds n i j o p made tallies failed outcome.Memory h a = a.ends [] (λ e. refl)
+
+read_lost : (asked : Asked) (source : List ℕ) (ends : RunEnds) (status : ℕ) → (ends.input_after.failures ≡ ends.input.failures → ⊥) → Counts asked source ends status → (status ≡ DEVICE) × (ends.out_after ≡ ends.out)
+read_lost asked source ends status failed (count.counted mid ds image result output made tallies text told program gives counts table reported tells) =
+    absurd (reads_whole (functions_of ds) ds asked.steps ends.input ends.input_after nothing_written (outgoing_of output) made tallies failed result gives counts)
+read_lost asked source ends status failed (count.unread ds image output program gives same answer) = (answer, same)
+read_lost asked source ends status failed (count.not_begun mid ds image result program never told quiet) = absurd (failed (ap (λ (i : Incoming). i.failures) quiet.unread))
+read_lost asked source ends status failed (count.stopped none quiet) = absurd (failed (ap (λ (i : Incoming). i.failures) quiet.unread))
+read_lost asked source ends status failed (count.no_memory ds image program same unfailed answer) = absurd (failed unfailed)
+
 pub excluded : CountsExcluded
 excluded = record {
   no_step = at_limit 0 ((0 ∷ 0 ∷ []) ∷ []) (λ input. refl);
@@ -102,4 +125,5 @@ excluded = record {
   other_table = λ text h. of_one_line styles.Table (codes "main(){}") text refl h ∙ one_table;
   other_object = λ text h. of_one_line styles.Json (codes "main(){}\n") text refl h ∙ one_object;
   other_rows = of_two_lines;
+  read_failed = read_lost;
 }

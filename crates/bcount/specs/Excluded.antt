@@ -7,9 +7,11 @@ use Rattle.blang.specs.declared.code.Definition.TheVariants as definition
 use Rattle.blang.specs.declared.code.Instr.TheVariants as instr
 use Rattle.blang.specs.declared.run.Outcome.{Outcome}
 use Rattle.blang.specs.declared.run.Outcome.TheVariants as outcome
+use Rattle.blang.specs.declared.status.TheConstants.{DEVICE}
 use Rattle.blang.specs.Machine.{machine}
+use Rattle.blang.specs.Reports.{RunEnds}
 use Rattle.btools.specs.Functions.{functions_of}
-use Rattle.bcount.specs.Counts.{AreCounts, IsTableOf}
+use Rattle.bcount.specs.Counts.{AreCounts, Asked, Counts, IsTableOf}
 use Rattle.bcount.specs.SourceLines.{newlines_in}
 use Rattle.bcount.specs.declared.table.Style.{Style}
 use Rattle.bcount.specs.declared.table.Style.TheVariants as style
@@ -57,3 +59,7 @@ pub record CountsExcluded : Type 0 where
       → text ≡ codes "{\"file\":\"p.b\",\"line\":1,\"times\":1,\"steps\":2}\n"
   -- of a source of two lines: a row left out or one more, whichever line an instruction is on
   pub other_rows : (text : List ℕ) → ShowsBoth style.Table (codes "main()\n{}\n") text → newlines_in text ≡ 4
+  -- where a read failed: another status than 133, or something that is written
+  pub read_failed : (asked : Asked) (source : List ℕ) (ends : RunEnds) (status : ℕ)
+      → (ends.input_after.failures ≡ ends.input.failures → ⊥) → Counts asked source ends status
+      → (status ≡ DEVICE) × (ends.out_after ≡ ends.out)
