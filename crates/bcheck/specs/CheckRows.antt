@@ -124,6 +124,12 @@ warning_for_editors : finding_text form.Json severity.Warning (alone (codes "a\"
 unfolding digits
 warning_for_editors = refl
 
+in_next_file_for_editors : finding_text form.Json severity.Warning (followed 2) undefined
+    ≡ codes "{\"file\":\"l\\u000a.b\",\"line\":1,\"column\":6,\"severity\":\"warning\","
+    ++ codes "\"code\":\"un\",\"message\":\"no n\",\"fix\":\"auto n;\"}\n"
+unfolding digits
+in_next_file_for_editors = refl
+
 -- the second place is where n is defined, and where `g` begins
 second_texts : map (second_text {source = codes "n 5;\nf() ;"} (alone (codes "x.b")))
     (None ∷ Some (record { before = []; after = codes "n 5;\nf() ;"; split = refl })
