@@ -1,5 +1,5 @@
 -- Promise: the page of a run.
-use Rattle.std.specs.Prelude.{◌≡◌, ℕ, ◌+◌, ◌-◌, ◌<◌, ◌≤◌, List, [], ◌++◌, All, codes, length, map}
+use Rattle.std.specs.Prelude.{◌≡◌, ℕ, ◌+◌, ◌-◌, ◌<◌, ◌≤◌, List, [], ◌++◌, All, codes, length, map, slice_index}
 use Rattle.std.specs.List.{flat_map, range_with_len}
 use Rattle.bword.specs.declared.edition.Edition.{Edition}
 use Rattle.bword.specs.ByteEnds.{CanFollow, Incoming, Kept, Outgoing, Took, outgoing_of}
@@ -9,7 +9,7 @@ use Rattle.blang.specs.declared.run.Outcome.TheVariants as outcome
 use Rattle.blang.specs.declared.run.Trap.{Trap}
 use Rattle.blang.specs.declared.status.TheConstants.{DEVICE, DONE, MEMORY}
 use Rattle.blang.specs.Layout.{World}
-use Rattle.blang.specs.Machine.{Call, Halted, Image, Loaded, Running, State, States, Stuck, image_of, machine, state_world}
+use Rattle.blang.specs.Machine.{Call, Image, Loaded, Running, State, States, image_of, machine, state_world}
 use Rattle.blang.specs.Machine as runs
 use Rattle.blang.specs.Reports.{HasNotRun, Reported, RunEnds, RunGives, state_outcome}
 use Rattle.bmach.specs.Stepping.{BeginsNot, Paused, machine_at}
@@ -53,7 +53,8 @@ stored_after functions states made = stored functions (states made) (states (mad
 abbrev pub heard_after : List Placed → (ℕ → State) → (made : ℕ) → List ℕ
 heard_after fs states made = heard_by fs (states made) (states (made + 1))
 
--- A row shows a step: the call before it; each word that it stored, before and after it; what it read; what it wrote.
+-- A row shows a step: the call before it; each word that it stored, before and after it, and the address of the first
+-- one, after which the others lie; what it read; what it wrote.
 pub record ShowsStep (fs : List Placed) (functions : List Loaded) (states : ℕ → State) (made : ℕ) (row : List ℕ)
     : Type 0 where
   pub tries : Tries states made
@@ -64,7 +65,8 @@ pub record ShowsStep (fs : List Placed) (functions : List Loaded) (states : ℕ 
   pub bytes : List ℕ
   pub wrote : (state_world (states (made + 1))).output ≡ tries.world.output ++ bytes
   pub row_is : row ≡ call_cells fs (made + 1) tries.call (length tries.below) line
-      ++ done_cells address (words_in (store_after states made) (stored_after functions states made))
+      ++ done_cells (slice_index (stored_after functions states made) 0)
+      (words_in (store_after states made) (stored_after functions states made))
       (words_in (store_after states (made + 1)) (stored_after functions states made)) (heard_after fs states made) bytes
 
 -- the row of a step, and how many steps were made before it
@@ -80,16 +82,14 @@ pub record AreShown (fs : List Placed) (functions : List Loaded) (which : Rows) 
   pub all : map (λ r. r.made) kept ≡ shown_of which made
   pub each : All (λ r. ShowsStep fs functions states r.made r.row) kept
 
-abbrev pub below_of : State → List Call
-below_of (Running call below w) = below
-below_of (Halted e w) = []
-below_of (Stuck w) = []
-
--- The calls below the running one are told as they were before the step after so many, which is one that is shown.
+-- The calls below the running one are told as they were before the step after so many: before one that has a row, where
+-- any has one, and before the next one, where the machine is to make it.
 pub record TellsCalls (which : Rows) (states : ℕ → State) (made at : ℕ) (calls : List ℕ) : Type 0 where
+  pub tries : Tries states at
   pub within : at ≤ made
   pub among : first_of which made < made → first_of which made ≤ at
-  pub calls_are : calls ≡ calls_text (below_of (states at))
+  pub next : Tries states made → at ≡ made
+  pub calls_are : calls ≡ calls_text tries.below
 
 -- what is kept of a run: its rows, what it read and wrote, and the calls before the step after so many
 pub record Record : Type 0 where
@@ -107,12 +107,19 @@ pub record TellsSteps (fs : List Placed) (functions : List Loaded) (which : Rows
   pub heard : r.heard ≡ flat_map (heard_after fs states) (range_with_len 0 made)
   pub output : r.output ≡ (state_world (states made)).output
 
--- After so many steps the run is over, or all were made, and the row of the next one tells the call before it.
+-- The run is over by the last of so many steps, and was not before.
+pub record IsOverAfter (states : ℕ → State) (made : ℕ) (result : Outcome) : Type 0 where
+  pub last : ℕ
+  pub made_is : made ≡ last + 1
+  pub tries : Tries states last
+  pub outcome_is : state_outcome (states made) ≡ result
+
+-- The run is over by the last of so many steps; or all were made, and the row of the next one tells the call before it.
 abbrev pub EndsAs : List Placed → (ℕ → State) → (made steps : ℕ) → Outcome → (next : List ℕ) → Type 0
 EndsAs fs states made steps (outcome.Exit status) next =
-    (state_outcome (states made) ≡ outcome.Exit status) × (next ≡ [])
+    IsOverAfter states made (outcome.Exit status) × (next ≡ [])
 EndsAs fs states made steps (outcome.Trap kind) next =
-    (state_outcome (states made) ≡ outcome.Trap kind) × (next ≡ [])
+    IsOverAfter states made (outcome.Trap kind) × (next ≡ [])
 EndsAs fs states made steps outcome.Limit next =
     (made ≡ steps) × ((t : Tries states made) × (line : ℕ)
     × (next ≡ call_cells fs (made + 1) t.call (length t.below) line ++ codes "</tr>\n"))

@@ -1,5 +1,6 @@
 //! Showing the run of a program.
-ghost use Rattle.std.specs.Prelude.{◌≡◌, ◌+◌, ◌<◌, ◌≤◌, ◌%◌, ◌^◌, ◌++◌, ◌∷◌, [], IfOk, OnErr, OnOk, drop, length, map, if◌then◌else◌};
+ghost use Rattle.std.specs.Prelude.{◌≡◌, ◌+◌, ◌-◌, ◌<◌, ◌≤◌, ◌%◌, ◌^◌, ◌++◌, ◌∷◌, [], true, IfOk, OnErr, OnOk, drop, length, map, slice_index, if◌then◌else◌};
+ghost use Rattle.std.specs.List.{range_with_len};
 ghost use Rattle.blang.specs.Layout.{data_end, shape_of};
 ghost use Rattle.blang.specs.Machine.{step};
 ghost use Rattle.bmach.specs.Stepping.{machine_at};
@@ -10,6 +11,7 @@ ghost use Rattle.btools.specs.Functions.{entries_of};
 ghost use Rattle.bshow.specs.Shows.{Shows, StepsGive, asked_of, head, record_of, rows_text, tail};
 ghost use Rattle.bshow.specs.Steps.{ShowsRun, ShowsUnbegun, broken_status, AddsDone, AddsNext, IsEmpty, IsPage, KeepsStep, TellsRun, TellsUnless, has_row, heard_if, kept_texts, retells, retold};
 ghost use Rattle.bshow.specs.Steps.{unbegun_page};
+ghost use Rattle.bshow.specs.Excluded.{NoPages, RowsExcluded};
 
 use crate::ending::{push_sentence, push_unbegun};
 use crate::facts::{push_calls, push_program, push_run};
@@ -20,11 +22,11 @@ use blang::{Outcome, Trap};
 use bmach::Stepper;
 use bpages::PagedStore;
 use bsources::SourceFiles;
-use btools::{Program, Text, read_program, tell};
-use btools::Tables;
+use btools::{Program, Tables, Text, read_program, tell};
 use bword::{ByteIn, ByteOut, Edition, MemOut, Store};
 use std::alloc::{AllocError, Global};
 use std::collections::VecDeque;
+use std::ops::Range;
 
 /// Which of the steps that are made have a row.
 #[derive(Clone, Copy)]
@@ -138,6 +140,12 @@ pub fn show<I: ByteIn, O: ByteOut, D: ByteOut>(
         alloc, &program, wanted, source, &tables, stepper, input, out,
     )
 }
+
+/// No page shows another step, call or end of a run, and none has another status.
+pub fn wrong_pages_are_excluded()
+    ensures rows { RowsExcluded }
+    ensures pages { NoPages }
+{}
 
 // Shows that a run had no first step.
 fn show_unbegun<O: ByteOut>(
@@ -364,6 +372,7 @@ fn run_steps<S: Store + Drop, I: ByteIn>(
             }
         }
     }
+    kept.tell_calls(alloc, stepper, steps)?;
     Ok(Ended {
         outcome: Outcome::Limit,
         made: steps,
@@ -387,6 +396,19 @@ impl Recorder {
         if !which.retells(made, self.calls_at) {
             return Ok(());
         }
+        self.tell_calls(alloc, stepper, made)
+    }
+
+    // Tells the calls below the running one as they are before the step after so many.
+    fn tell_calls<S: Store + Drop>(
+        &mut self,
+        alloc: Global,
+        stepper: &Stepper<'_, S>,
+        made: u64,
+    ) -> Result<(), AllocError>
+        ensures told { OnOk result (record_of self.new ≡ retold true (record_of self.old) stepper.now.below made) }
+        ensures written { self.new.written ≡ self.old.written }
+    {
         let mut calls = Text::new(alloc);
         push_calls(&mut calls, stepper)?;
         self.calls = calls;
@@ -484,7 +506,7 @@ fn row_step<S: Store + Drop, I: ByteIn>(
             let read = since(heard.as_slice(), heard_before);
             push_done(
                 row,
-                start,
+                first_of(start..end),
                 before.as_slice(),
                 after.as_slice(),
                 read,
@@ -497,6 +519,17 @@ fn row_step<S: Store + Drop, I: ByteIn>(
             push_done(row, 0, &[], &[], &[], &[])?;
             Ok(Err(outcome))
         }
+    }
+}
+
+// The first of these addresses, or 0 where there is none.
+fn first_of(addresses: Range<u32>) -> u32
+    ensures { result ≡ slice_index (range_with_len addresses.start (addresses.end - addresses.start)) 0 }
+{
+    if addresses.start < addresses.end {
+        addresses.start
+    } else {
+        0
     }
 }
 

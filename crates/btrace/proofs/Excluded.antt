@@ -29,7 +29,7 @@ use Rattle.blang.specs.Text.{IsCodeText}
 use Rattle.bcode.proofs.FaultLaws.{unique_code}
 use Rattle.bmach.specs.Resolved.{IsLoadedFrom}
 use Rattle.bmach.specs.Stepping.{BeginsNot, HasEnd}
-use Rattle.bmach.specs.Stops.{EndsAt, active_of}
+use Rattle.bmach.specs.Stops.{EndsAt, RunsCall, active_of}
 use Rattle.bmach.specs.declared.machine.Active.{Active}
 use Rattle.bmach.proofs.Resolving.{run-resolved}
 use Rattle.bmach.proofs.Running.{device_failed, memory_unfailed}
@@ -1265,6 +1265,52 @@ module _ (file : File) where
       let l = limit_site calling 3 text (call (record { parameters = 0; frame = 0; targets = []; code = calling_f; strings = 9; first_label = 1 }) 9 0 []) (λ input. refl) s in
       ap (at 16) (l.1 ∙ ap (λ p. codes "limit\n" ++ (codes "at     " ++ (p ++ (right 4 (decimal l.0) ++ step_end 3)))) calling_place)
 
+  -- what stands after the line, at the limit of `nothing` and after the trap of `trapping`
+  one_step : drop 7 (skip_digits (step_end 1)) ≡ codes "1\n"
+  unfolding digits
+  one_step = refl
+
+  two_steps : drop 7 (skip_digits (step_end 2)) ≡ codes "2\n"
+  unfolding digits
+  two_steps = refl
+
+  trap_is : (result : Outcome) → located_status result ≡ Some 130 → (kind : Trap) × (result ≡ outcome.Trap kind)
+  trap_is (outcome.Exit n) e = cc
+  trap_is (outcome.Trap kind) e = (kind, refl)
+  trap_is outcome.Limit e = let bad : 131 ≡ 130 = some_same 131 130 e in absurd (omega (arith, bad))
+  trap_is outcome.Device e = cc
+  trap_is outcome.Memory e = cc
+
+  -- a machine that has halted runs no call
+  over_at_two : (input : List ℕ) (last : ℕ) (active : Active) → last < 3 → RunsCall (machine trapping input last) active → last + 1 ≤ 2
+  over_at_two input zero active less h = omega arith
+  over_at_two input (suc zero) active less h = omega arith
+  over_at_two input (suc (suc zero)) active less h = let is = h.state_is in cc
+  over_at_two input (suc (suc (suc n))) active less h = absurd (omega (arith, less))
+
+  trapping_stops : (text : List ℕ) → Stops trapping 3 text 130
+      → (line : ℕ) × (text ≡ codes "trap fn\n" ++ (codes "at     " ++ (codes "in main     place    1  line " ++ (right 4 (decimal line) ++ step_end 2))))
+  trapping_stops text s =
+      let fs = functions_of trapping in
+      let t = trap_is s.result s.located in
+      let ends = subst (λ x. EndsAt (machine trapping s.input) 3 x s.active s.made) t.1 s.stops in
+      let last = trapped_last s.input ends.0 (ends.0 + 1) t.0 refl (over_at_two s.input ends.0 s.active ends.1 ends.2) ends.3 in
+      let r = subst (λ n. RunsCall (machine trapping s.input n) s.active) last ends.2 in
+      let kind : outcome.Trap trap.NotAFunction ≡ outcome.Trap t.0 = subst (λ n. state_outcome (machine trapping s.input (n + 1)) ≡ outcome.Trap t.0) last ends.3 in
+      let call_is : r.call ≡ trapping_main = some_same r.call trapping_main (sym (ap call_of r.state_is)) in
+      let strings : s.active.strings ≡ 8 = ap (λ (a : Active). a.strings) (sym r.active_is) ∙ ap (λ (x : Call). x.function.strings) call_is in
+      let place : s.active.place ≡ 1 = ap (λ (a : Active). a.place) (sym r.active_is) ∙ ap (λ (x : Call). x.place) call_is in
+      let made : s.made ≡ 2 = ends.4 ∙ ap (λ n. n + 1) last in
+      let number = right 4 (decimal s.line) in (
+        s.line,
+        s.text_is ∙ ap (λ x. line_in x ++ site_line (leg fs) s.active.strings s.active.place s.line s.made) (t.1 ∙ sym kind)
+            ∙ ap (λ t. codes "trap fn\n" ++ t) (site_parts (codes "at     ") (place_head fs s.active.strings s.active.place) number (codes "  step ") (decimal s.made) (codes "\n"))
+            ∙ ap (λ n. codes "trap fn\n" ++ (codes "at     " ++ (place_head fs s.active.strings s.active.place ++ (number ++ step_end n)))) made
+            ∙ ap (λ n. codes "trap fn\n" ++ (codes "at     " ++ (place_head fs n s.active.place ++ (number ++ step_end 2)))) strings
+            ∙ ap (λ n. codes "trap fn\n" ++ (codes "at     " ++ (place_head fs 8 n ++ (number ++ step_end 2)))) place
+            ∙ ap (λ p. codes "trap fn\n" ++ (codes "at     " ++ (p ++ (number ++ step_end 2)))) trapping_place,
+      )
+
   pub places_excluded : LocatesExcluded file
   places_excluded = record {
     limit_alone = λ ds steps starts edition source ends is before following h.
@@ -1283,6 +1329,19 @@ module _ (file : File) where
     caller_in_place = λ rest edition source ends is before following h.
         let bad : 109 ≡ 102 = calling_stops edition source ends (codes "limit\nat     in main" ++ rest) is before following (λ e. cc) h in
         omega (arith, bad);
+    other_step = λ text other edition source ends is before following h.
+        let whole = codes "limit\nat     in main     place    1  line    1  step " ++ text in
+        let s = stops_so edition source nothing is 1 ends LIMIT (omega arith) (λ input. refl) whole before following (λ e. cc) h in
+        let l = limit_site nothing 1 whole (call (loaded closing 8) 8 1 (0 ∷ [])) (λ input. refl) s in
+        let placed = l.1 ∙ ap (λ p. codes "limit\n" ++ (codes "at     " ++ (p ++ (right 4 (decimal l.0) ++ step_end 1)))) nothing_place in
+        let shown = append_cancel_left (codes "limit\nat     in main     place    1  line ") (codes "   1  step " ++ text) (right 4 (decimal l.0) ++ step_end 1) placed in
+        other (ap (drop 7) (ap after_number shown ∙ number_skipped 4 l.0 (step_end 1)) ∙ one_step);
+    other_step_of_trap = λ text other edition source ends is before following h.
+        let whole = codes "trap fn\nat     in main     place    1  line    1  step " ++ text in
+        let s = stops_so edition source trapping is 3 ends TRAP (omega arith) (λ input. refl) whole before following (λ e. cc) h in
+        let l = trapping_stops whole s in
+        let shown = append_cancel_left (codes "trap fn\nat     in main     place    1  line ") (codes "   1  step " ++ text) (right 4 (decimal l.0) ++ step_end 2) l.1 in
+        other (ap (drop 7) (ap after_number shown ∙ number_skipped 4 l.0 (step_end 2)) ∙ two_steps);
     other_status = λ ds steps result status starts comes wrong less edition source ends is h.
         wrong (came_to edition source ds is steps ends status less starts result comes h);
     read_failed = λ edition source steps ends failed h. place_read edition source steps ends failed h;
