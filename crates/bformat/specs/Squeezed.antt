@@ -1,4 +1,5 @@
--- Promise: a source without what is blank outside of its quotes and comments, but for one blank between two words.
+-- Promise: a source without what is blank outside of its quotes and comments, but for one blank between two words, and
+-- between a slash and a star.
 use Rattle.std.specs.Prelude.{ℕ, ◌==◌, ◌&&◌, ◌||◌, Bool, true, false, List, [], ◌∷◌, ◌++◌, if◌then◌else◌}
 use Rattle.std.specs.Char.{is_ascii_digit}
 use Rattle.bword.specs.Words.{is_name_byte, is_name_start}
@@ -41,7 +42,9 @@ next_place place.Gap b = place_after_word b
 next_place place.Equals b =
     if b == 47 then place.Code else (if is_sign b then place.Sign b else place_after_first b)
 next_place (place.Sign sign) b = if ends_operator sign b then place.Code else place_after_first b
-next_place place.Slash b = if b == 42 then place.Comment else place_after_first b
+next_place place.Slash b =
+    if is_blank b then place.SlashGap else (if b == 42 then place.Comment else place_after_first b)
+next_place place.SlashGap b = if is_blank b then place.SlashGap else place_after_first b
 next_place place.Comment b = if b == 42 then place.Star else place.Comment
 next_place place.Star b = if b == 47 then place.Code else (if b == 42 then place.Star else place.Comment)
 next_place (place.Quotes quote) b =
@@ -56,18 +59,20 @@ is_inside (place.Quotes quote) = true
 is_inside (place.Escape quote) = true
 is_inside _ = false
 
--- a word begins with this byte right after another one, or after blanks after one
-abbrev pub is_second_word : Place → ℕ → Bool
-is_second_word place.Number b = is_name_start b
-is_second_word place.Gap b = is_name_byte b
-is_second_word _ b = false
+-- a piece begins with this byte that needs a blank before it: a word right after a number or after a blank after a word,
+-- or a star after a blank after a slash
+abbrev pub is_parted : Place → ℕ → Bool
+is_parted place.Number b = is_name_start b
+is_parted place.Gap b = is_name_byte b
+is_parted place.SlashGap b = b == 42
+is_parted _ b = false
 
 -- what is kept of a byte at this place
 abbrev pub kept_byte : Place → ℕ → List ℕ
 kept_byte p b =
     if is_inside p then b ∷ [] else
     if is_blank b then [] else
-    if is_second_word p b then 32 ∷ b ∷ [] else b ∷ []
+    if is_parted p b then 32 ∷ b ∷ [] else b ∷ []
 
 abbrev pub squeezed_from : Place → List ℕ → List ℕ
 squeezed_from p [] = []

@@ -8,7 +8,7 @@ use Rattle.bformat.specs.Formats.{has_wrong_token}
 use Rattle.bformat.specs.Squeezed.{squeezed}
 
 outside : map squeezed (codes "a  =\t1 ;\n" ∷ codes "a / *b c" ∷ codes "  " ∷ [])
-    ≡ codes "a=1;" ∷ codes "a/*b c" ∷ [] ∷ []
+    ≡ codes "a=1;" ∷ codes "a/ *b c" ∷ [] ∷ []
 outside = refl
 
 in_quotes : map squeezed (codes "f( \" x \", ' ' )" ∷ codes "'*'' \"*\" \" c" ∷ codes "\" /* \" c \" */\"" ∷ [])
@@ -32,6 +32,12 @@ after_signs : map squeezed (
     codes "a =/* b c" ∷ codes "a ==/* b */ c" ∷ codes "a <=/* b */ c" ∷ codes "a //* b */ c" ∷ [])
     ≡ codes "a=/*b c" ∷ codes "a==/* b */c" ∷ codes "a<=/* b */c" ∷ codes "a//* b */c" ∷ []
 after_signs = refl
+
+-- a slash and a star that begin no comment stay apart, so that a comment among them keeps its place
+beside_comments : map squeezed (
+    codes "/*q*/ / *q* /" ∷ codes "/ *q* / /*q*/" ∷ codes "a /\n/ *b" ∷ codes "a =/ *b" ∷ [])
+    ≡ codes "/*q*// *q*/" ∷ codes "/ *q*//*q*/" ∷ codes "a// *b" ∷ codes "a=/*b" ∷ []
+beside_comments = refl
 
 -- three bytes of operators, and then what may be a comment
 abbrev operators_first : List (List ℕ)

@@ -1,10 +1,11 @@
-//! A source without what is blank outside of its quotes and comments, but for one blank between two words.
+//! A source without what is blank outside of its quotes and comments, but for one blank between two words, and between a
+//! slash and a star.
 ghost use Rattle.std.specs.Prelude.{◌≡◌, ◌++◌, IfOk, OnOk};
 ghost use Rattle.blang.specs.Cut.{is_blank};
 ghost use Rattle.bformat.specs.Squeezed.{
   ends_operator,
   is_inside,
-  is_second_word,
+  is_parted,
   is_sign,
   kept_byte,
   next_place,
@@ -34,6 +35,8 @@ pub(crate) enum Place {
     Sign(u8),
     /// After a slash.
     Slash,
+    /// After blanks after a slash.
+    SlashGap,
     Comment,
     /// In a comment, after a star.
     Star,
@@ -63,7 +66,7 @@ fn push_kept(text: &mut Text, place: Place, byte: u8) -> Result<(), AllocError>
         text.push(&[byte])
     } else if is_blank(byte) {
         text.push(b"")
-    } else if place.is_second_word(byte) {
+    } else if place.is_parted(byte) {
         text.push(&[b' ', byte])
     } else {
         text.push(&[byte])
@@ -86,12 +89,13 @@ impl Place {
         )
     }
 
-    fn is_second_word(self, byte: u8) -> bool
-        ensures { result ≡ is_second_word self byte }
+    fn is_parted(self, byte: u8) -> bool
+        ensures { result ≡ is_parted self byte }
     {
         match self {
             Place::Number => is_name_start(byte),
             Place::Gap => is_name_byte(byte),
+            Place::SlashGap => byte == b'*',
             _ => false,
         }
     }
@@ -107,7 +111,9 @@ impl Place {
             Place::Equals if is_sign(byte) => Place::Sign(byte),
             Place::Sign(sign) if ends_operator(sign, byte) => Place::Code,
             Place::Slash if byte == b'*' => Place::Comment,
-            Place::Code | Place::Equals | Place::Sign(_) | Place::Slash => after_first(byte),
+            Place::Slash | Place::SlashGap if is_blank(byte) => Place::SlashGap,
+            Place::Code | Place::Equals | Place::Sign(_) | Place::Slash | Place::SlashGap =>
+                after_first(byte),
             Place::Comment if byte == b'*' => Place::Star,
             Place::Comment => Place::Comment,
             Place::Star if byte == b'/' => Place::Code,
