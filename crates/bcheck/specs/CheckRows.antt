@@ -10,7 +10,7 @@ use Rattle.bcheck.specs.Checks.{column_after, diagnostic_code, severity_of, seve
 use Rattle.blang.specs.Cut.{line_number_after}
 use Rattle.bsources.specs.Files.{Files}
 use Rattle.bcheck.specs.declared.finding.Severity.TheVariants as severity
-use Rattle.bcheck.specs.declared.form.Form.TheVariants as form
+use Rattle.bcheck.specs.declared.form.FindingForm.TheVariants as form
 
 -- a diagnostic comes before a fault of loading
 diagnostic_told : told_first (Some (record { letters = letters.Undefined; about = about.Name (codes "n"); line = 3 }))

@@ -20,7 +20,7 @@ use Rattle.bcli.specs.declared.sources.Whole.{Whole}
 use Rattle.bcli.specs.Reading.{HasReadLibs, HasReadSource, LibIsUnread}
 use Rattle.bshow.specs.Shows.{Shows}
 use Rattle.bshow.specs.Shows.{Asked as PageAsked}
-use Rattle.bshow.specs.declared.showing.Rows.{Rows as Paged}
+use Rattle.bshow.specs.declared.showing.PageRows.{PageRows as Paged}
 use Rattle.std.specs.Prelude.{◌==◌, None, Option, Some, option_map}
 use Rattle.bcli.specs.Serves.{ShowsRun, CompilesJoined, NamesLib, compiling, files_read, whole, Answers, Does, HasNoFile, IsHelp, NamesFile, SaysNothing, RefusesWords}
 use Rattle.bcli.specs.declared.shelf.FileFault.{FileFault}

@@ -26,8 +26,8 @@ use Rattle.bshow.specs.Facts.{calls_text}
 use Rattle.bshow.specs.Rows.{call_cells, code_of, done_cells, name_of, number_cell, text_cell, words_cell, words_in}
 use Rattle.bshow.specs.Shows as pages
 use Rattle.bshow.specs.Shows.{AreShown, Asked, EndsAs, IsPageOf, Shows, ShowsStep, StepRow, TellsCalls, Tries, heard_after, page_text, shown_of, store_after, stored_after}
-use Rattle.bshow.specs.declared.showing.Rows.{Rows}
-use Rattle.bshow.specs.declared.showing.Rows.TheVariants as rows
+use Rattle.bshow.specs.declared.showing.PageRows.{PageRows}
+use Rattle.bshow.specs.declared.showing.PageRows.TheVariants as rows
 
 -- the call that a machine runs, if it does, those below it, and what it has written
 abbrev call_of : State → Option Call
@@ -120,7 +120,7 @@ module _ (fs : List Placed) (functions : List Loaded) (states : ℕ → State) w
       let others : map (λ x. x.made) rs ≡ ns = cc in
       (r.row, map (λ x. x.row) rs, refl, one_row r.made p r.row (subst (λ k. IsAt k p) same at.0) (All-head P r rs each), rows_are rs ns ps others (All-tail P r rs each) at.1)
 
-  shown_rows : (which : Rows) (made : ℕ) (texts : List (List ℕ)) (numbers : List ℕ) (ps : List RowParts) → AreShown fs functions which states made texts → shown_of which made ≡ numbers → AreAt numbers ps → AreRows ps texts
+  shown_rows : (which : PageRows) (made : ℕ) (texts : List (List ℕ)) (numbers : List ℕ) (ps : List RowParts) → AreShown fs functions which states made texts → shown_of which made ≡ numbers → AreAt numbers ps → AreRows ps texts
   shown_rows which made texts numbers ps h e at = subst (AreRows ps) (sym h.texts_are) (rows_are h.kept numbers ps (h.all ∙ e) h.each at)
 
 abbrev At : List Definition → (input : List ℕ) → (made : ℕ) → RowParts → Type 0
@@ -185,7 +185,7 @@ in_second states made zero result own first over is tries ends = absurd (own (sy
 in_second states made (suc zero) result own first over is tries ends = omega (arith, is)
 in_second states made (suc (suc n)) result own first over is tries ends = absurd (not_trying states (suc (suc n)) (over n) tries)
 
-calls_of_next : (which : Rows) (input : List ℕ) (at : ℕ) (text : List ℕ) → TellsCalls which (machine calling input) 4 at text → (at ≡ 4) × (text ≡ codes "[[8,9],0]")
+calls_of_next : (which : PageRows) (input : List ℕ) (at : ℕ) (text : List ℕ) → TellsCalls which (machine calling input) 4 at text → (at ≡ 4) × (text ≡ codes "[[8,9],0]")
 unfolding digits
 calls_of_next which input at text h =
     let states = machine calling input in

@@ -24,19 +24,19 @@ use Rattle.bshow.specs.Rows.{call_cells, done_cells, heard_by, heard_in, words_i
 use Rattle.bshow.specs.Shows.{AreShown, Record, ShowsStep, StepsGive, TellsSteps, Tries, first_of, heard_after, shown_of, record_of, steps_from, store_after, stored_after}
 use Rattle.bshow.specs.Steps.{IsRow, KeepsStep, KeepsRow, TellsRun, TellsUnless, has_row, kept_texts, next_stored, retells, retold}
 use Rattle.bshow.specs.declared.showing.Recorder.{Recorder}
-use Rattle.bshow.specs.declared.showing.Rows.{Rows}
+use Rattle.bshow.specs.declared.showing.PageRows.{PageRows}
 use Rattle.bshow.proofs.Kept.{IsAmong, none_shown, one_shown, told_before, told_now}
 use Rattle.bshow.proofs.Ranges as ranges
 
 -- what is told of so many steps, but their output
-pub record TellsOf (fs : List Placed) (functions : List Loaded) (which : Rows) (states : ℕ → State) (made : ℕ) (r : Record) : Type 0 where
+pub record TellsOf (fs : List Placed) (functions : List Loaded) (which : PageRows) (states : ℕ → State) (made : ℕ) (r : Record) : Type 0 where
   pub shown : AreShown fs functions which states made r.texts
   pub tries : Tries states r.calls_at
   pub calls_are : r.calls ≡ calls_text tries.below
   pub heard : r.heard ≡ flat_map (heard_after fs states) (range_with_len 0 made)
 
 -- So many steps were made from a state on, and told.
-pub record IsTold (fs : List Placed) (which : Rows) (first : Paused) (made : ℕ) (now : Paused) (i j : Incoming) (o q : Kept) (r : Record) : Type 0 where
+pub record IsTold (fs : List Placed) (which : PageRows) (first : Paused) (made : ℕ) (now : Paused) (i j : Incoming) (o q : Kept) (r : Record) : Type 0 where
   pub image_is : now.image ≡ first.image
   pub goes : MovesOn (λ left before. steps first.image made (machine_at first left before)) (machine_at now) i j (outgoing_of o) (outgoing_of q)
   pub within : r.calls_at ≤ made
@@ -49,16 +49,16 @@ abbrev tries_at : (states : ℕ → State) {a b : ℕ} → a ≡ b → Tries sta
 tries_at states e t = record { call = t.call; below = t.below; world = t.world; state_is = ap states e ∙ t.state_is }
 
 -- before the first step
-none_of : (fs : List Placed) (functions : List Loaded) (which : Rows) (states : ℕ → State) → shown_of which 0 ≡ [] → AreShown fs functions which states 0 []
+none_of : (fs : List Placed) (functions : List Loaded) (which : PageRows) (states : ℕ → State) → shown_of which 0 ≡ [] → AreShown fs functions which states 0 []
 none_of fs functions which states none = record { kept = []; texts_are = refl; all = sym none; each = All-nil _ }
 
-none_first : (which : Rows) → shown_of which 0 ≡ []
+none_first : (which : PageRows) → shown_of which 0 ≡ []
 none_first which = ap (range_with_len (first_of which 0)) (zero_less (first_of which 0))
   where
     zero_less : (n : ℕ) → 0 - n ≡ 0
     zero_less n = omega arith
 
-pub told_none : (fs : List Placed) (which : Rows) (first : Paused) (i : Incoming) (o : Kept) (r : Record) → r.texts ≡ [] → r.heard ≡ [] → r.calls ≡ calls_text first.below → r.calls_at ≡ 0 → r.output ≡ o.bytes
+pub told_none : (fs : List Placed) (which : PageRows) (first : Paused) (i : Incoming) (o : Kept) (r : Record) → r.texts ≡ [] → r.heard ≡ [] → r.calls ≡ calls_text first.below → r.calls_at ≡ 0 → r.output ≡ o.bytes
     → IsTold fs which first 0 first i i o o r
 told_none fs which first i o r texts heard calls at output =
     let begun = goes_on (following first.image 0 (machine_at first)) (machine_at first) i (outgoing_of o) (λ left before. refl) in
@@ -82,7 +82,7 @@ told_none fs which first i o r texts heard calls at output =
     }
 
 -- the calls are told anew
-anew : (fs : List Placed) (which : Rows) (first : Paused) (made : ℕ) (now : Paused) (i j : Incoming) (o q : Kept) (r : Record) → IsTold fs which first made now i j o q r → IsTold fs which first made now i j o q (retold true r now.below made)
+anew : (fs : List Placed) (which : PageRows) (first : Paused) (made : ℕ) (now : Paused) (i j : Incoming) (o q : Kept) (r : Record) → IsTold fs which first made now i j o q r → IsTold fs which first made now i j o q (retold true r now.below made)
 anew fs which first made now i j o q r t = record {
   image_is = t.image_is;
   goes = t.goes;
@@ -98,13 +98,13 @@ anew fs which first made now i j o q r t = record {
 }
 
 -- the same, or not
-pub told_anew : (fs : List Placed) (which : Rows) (first : Paused) (made : ℕ) (now : Paused) (i j : Incoming) (o q : Kept) (r : Record) → IsTold fs which first made now i j o q r
+pub told_anew : (fs : List Placed) (which : PageRows) (first : Paused) (made : ℕ) (now : Paused) (i j : Incoming) (o q : Kept) (r : Record) → IsTold fs which first made now i j o q r
     → (b : Bool) → retells which made r.calls_at ≡ b → IsTold fs which first made now i j o q (retold b r now.below made) × IsAmong which (made + 1) (retold b r now.below made).calls_at
 told_anew fs which first made now i j o q r t true h = (anew fs which first made now i j o q r t, told_now which made)
 told_anew fs which first made now i j o q r t false h = (t, told_before which made r.calls_at h t.within t.among)
 
 -- before a step, the calls told anew or not
-pub ready_told : (fs : List Placed) (which : Rows) (first : Paused) (made : ℕ) (now : Paused) (i j : Incoming) (o : Kept) (k k' : Recorder) → IsTold fs which first made now i j o k.written (record_of k)
+pub ready_told : (fs : List Placed) (which : PageRows) (first : Paused) (made : ℕ) (now : Paused) (i j : Incoming) (o : Kept) (k k' : Recorder) → IsTold fs which first made now i j o k.written (record_of k)
     → record_of k' ≡ retold (retells which made k.calls_at) (record_of k) now.below made → k'.written ≡ k.written → IsTold fs which first made now i j o k'.written (record_of k') × IsAmong which (made + 1) k'.calls_at
 ready_told fs which first made now i j o k k' t is same =
     let again = told_anew fs which first made now i j o k.written (record_of k) t (retells which made k.calls_at) refl in (
@@ -113,7 +113,7 @@ ready_told fs which first made now i j o k k' t is same =
     )
 
 -- after all steps, with the calls told anew
-pub last_told : (fs : List Placed) (which : Rows) (first : Paused) (made : ℕ) (now : Paused) (i j : Incoming) (o : Kept) (k k' : Recorder) → IsTold fs which first made now i j o k.written (record_of k)
+pub last_told : (fs : List Placed) (which : PageRows) (first : Paused) (made : ℕ) (now : Paused) (i j : Incoming) (o : Kept) (k k' : Recorder) → IsTold fs which first made now i j o k.written (record_of k)
     → record_of k' ≡ retold true (record_of k) now.below made → k'.written ≡ k.written → IsTold fs which first made now i j o k'.written (record_of k') × (k'.calls_at ≡ made)
 last_told fs which first made now i j o k k' t is same = (
   subst (λ (w : Kept). IsTold fs which first made now i j o w (record_of k')) (sym same)
@@ -153,17 +153,17 @@ heard_more fs states made old new heard before one is =
     ranges.text_more (heard_after fs states) [] old new made before (one ∙ ap (λ x. old ++ x) is)
 
 -- the rows with that of a step, if it is to have one
-rows_more : (fs : List Placed) (functions : List Loaded) (which : Rows) (states : ℕ → State) (made : ℕ) (old new : List (List ℕ)) → AreShown fs functions which states made old → has_row which made ≡ false → new ≡ old → AreShown fs functions which states (made + 1) new
+rows_more : (fs : List Placed) (functions : List Loaded) (which : PageRows) (states : ℕ → State) (made : ℕ) (old new : List (List ℕ)) → AreShown fs functions which states made old → has_row which made ≡ false → new ≡ old → AreShown fs functions which states (made + 1) new
 rows_more fs functions which states made old new a none same =
     subst (AreShown fs functions which states (made + 1)) (sym same)
     (record { kept = a.kept; texts_are = a.texts_are; all = a.all ∙ sym (none_shown which made none); each = a.each })
 
-row_more : (fs : List Placed) (functions : List Loaded) (which : Rows) (states : ℕ → State) (made : ℕ) (old new : List (List ℕ)) → AreShown fs functions which states made old → has_row which made ≡ true → (row : List ℕ) → ShowsStep fs functions states made row → new ≡ kept_texts which old row
+row_more : (fs : List Placed) (functions : List Loaded) (which : PageRows) (states : ℕ → State) (made : ℕ) (old new : List (List ℕ)) → AreShown fs functions which states made old → has_row which made ≡ true → (row : List ℕ) → ShowsStep fs functions states made row → new ≡ kept_texts which old row
     → AreShown fs functions which states (made + 1) new
 row_more fs functions which states made old new a some row shows is =
     subst (AreShown fs functions which states (made + 1)) (sym is) (one_shown fs functions states made row shows which some old a)
 
-module _ (fs : List Placed) (which : Rows) (first now : Paused) (made : ℕ) (i j m : Incoming) (o p : Kept) (r : Record) (t : IsTold fs which first made now i j o p r) (ready : IsAmong which (made + 1) r.calls_at) where
+module _ (fs : List Placed) (which : PageRows) (first now : Paused) (made : ℕ) (i j m : Incoming) (o p : Kept) (r : Record) (t : IsTold fs which first made now i j o p r) (ready : IsAmong which (made + 1) r.calls_at) where
   -- where the machine is
   abbrev there : (more : List ℕ) → CanFollow j more → steps_from first (t.goes.taken ++ more) made ≡ machine_at now more t.goes.output
   there more can = t.goes.comes more [] can
@@ -423,10 +423,10 @@ module _ (fs : List Placed) (which : Rows) (first now : Paused) (made : ℕ) (i 
   over_unless new q r' n outcome.Memory lt g words k output empty = tt
 
 -- all steps were made
-pub all_give : (fs : List Placed) (which : Rows) (first now : Paused) (made : ℕ) (i j : Incoming) (o p : Kept) (r : Record) → IsTold fs which first made now i j o p r → StepsGive first made i j (outgoing_of o) (outgoing_of p) outcome.Limit
+pub all_give : (fs : List Placed) (which : PageRows) (first now : Paused) (made : ℕ) (i j : Incoming) (o p : Kept) (r : Record) → IsTold fs which first made now i j o p r → StepsGive first made i j (outgoing_of o) (outgoing_of p) outcome.Limit
 all_give fs which first now made i j o p r t = at_limit first.image made (machine_at first) now.call now.below now.store t.goes
 
-pub all_told : (fs : List Placed) (which : Rows) (first now : Paused) (made : ℕ) (i j : Incoming) (o p : Kept) (r : Record) → IsTold fs which first made now i j o p r → r.calls_at ≡ made → o.bytes ≡ [] → TellsRun fs which first now made i j r (record { outcome = outcome.Limit; made = made })
+pub all_told : (fs : List Placed) (which : PageRows) (first now : Paused) (made : ℕ) (i j : Incoming) (o p : Kept) (r : Record) → IsTold fs which first made now i j o p r → r.calls_at ≡ made → o.bytes ≡ [] → TellsRun fs which first now made i j r (record { outcome = outcome.Limit; made = made })
 all_told fs which first now made i j o p r t at empty = record {
   within = omega arith;
   taken = t.goes.taken;

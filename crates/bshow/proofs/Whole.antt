@@ -29,7 +29,7 @@ use Rattle.bshow.specs.Rows.{call_cells, done_cells, heard_by, words_in}
 use Rattle.bshow.specs.Shows.{AreShown, Asked, EndsAs, IsOverAfter, IsPageOf, IsWritten, Record, Shows, ShowsStep, StepRow, StepsGive, TellsSteps, Tries, heard_after, shown, no_memory, not_begun, steps_from, store_after, stored_after, unread}
 use Rattle.bshow.specs.Steps.{IsPage, ShowsRun, ShowsUnbegun, TellsRun, TellsUnless, broken, broken_status, refused, told}
 use Rattle.bshow.specs.declared.showing.Ended.{Ended}
-use Rattle.bshow.specs.declared.showing.Rows.{Rows}
+use Rattle.bshow.specs.declared.showing.PageRows.{PageRows}
 
 running_from : (I : Image) (s : State) (call : Call) (below : List Call) (w : World) → state_resolved I s ≡ Running call below w → (c : Call) × (b : List Call) × (s ≡ Running c b w) × (call_resolved I c ≡ call) × (map (call_resolved I) b ≡ below)
 running_from I (Running c b v) call below w h =
@@ -49,7 +49,7 @@ below_same : (I : Image) (b : List Call) → calls_text (map (call_resolved I) b
 below_same I b = ap (λ x. codes "[" ++ x ++ codes "0]") (flat_map-map call_text (call_resolved I) b)
 
 -- The states of one machine are those of the other, resolved.
-module _ (fs : List Placed) (which : Rows) (I : Image) (f g : ℕ → State) (e : (n : ℕ) → g n ≡ state_resolved I (f n)) where
+module _ (fs : List Placed) (which : PageRows) (I : Image) (f g : ℕ → State) (e : (n : ℕ) → g n ≡ state_resolved I (f n)) where
   world_same : (n : ℕ) → state_world (g n) ≡ state_world (f n)
   world_same n = ap state_world (e n) ∙ world-resolved I (f n)
 

@@ -18,8 +18,8 @@ use Rattle.btools.specs.Functions.{functions_of}
 use Rattle.btools.specs.Programs.{load_line}
 use Rattle.btrace.specs.Excluded.{calling, nothing, passing, reading, storing, trapping, writing}
 use Rattle.bshow.specs.Shows.{AreShown, Asked, EndsAs, Shows, TellsCalls, page_text}
-use Rattle.bshow.specs.declared.showing.Rows.{Rows}
-use Rattle.bshow.specs.declared.showing.Rows.TheVariants as rows
+use Rattle.bshow.specs.declared.showing.PageRows.{PageRows}
+use Rattle.bshow.specs.declared.showing.PageRows.TheVariants as rows
 
 -- a row, up to the number of its line and after it
 pub record RowParts : Type 0 where
@@ -39,7 +39,7 @@ AreRows (p ∷ ps) texts =
     (text : List ℕ) × (others : List (List ℕ)) × (texts ≡ text ∷ others) × IsRowOf p text × AreRows ps others
 
 -- Of so many steps of a program these rows are shown, and no others, where its input begins so.
-abbrev pub OnlyRows : List Definition → Rows → (made : ℕ) → (begins : List ℕ) → List RowParts → Type 0
+abbrev pub OnlyRows : List Definition → PageRows → (made : ℕ) → (begins : List ℕ) → List RowParts → Type 0
 OnlyRows ds which made begins parts =
     (more : List ℕ) (texts : List (List ℕ))
     → AreShown (functions_of ds) (image_of ds).functions which (machine ds (begins ++ more)) made texts
@@ -96,7 +96,7 @@ pub record RowsExcluded : Type 0 where
   -- the step of a trap left out, or anything told of it that it didn't do
   pub trapped : OnlyRows trapping (rows.Last 1) 2 [] (trapped_row ∷ [])
   -- other calls than those before the next step, or those of a step that has no row or is none
-  pub calls : (which : Rows) (input : List ℕ) (at : ℕ) (text : List ℕ)
+  pub calls : (which : PageRows) (input : List ℕ) (at : ℕ) (text : List ℕ)
       → TellsCalls which (machine calling input) 4 at text → (at ≡ 4) × (text ≡ codes "[[8,9],0]")
   pub calls_of_trap : (input : List ℕ) (at : ℕ) (text : List ℕ)
       → TellsCalls (rows.Last 1) (machine trapping input) 2 at text → (at ≡ 1) × (text ≡ codes "[0]")

@@ -21,7 +21,7 @@ use Rattle.bshow.specs.OwnTexts.{own_texts}
 use Rattle.bshow.specs.Rows.{call_cells, done_cells, is_getchar, words_cell}
 use Rattle.bshow.specs.Shows.{shown_of}
 use Rattle.bshow.specs.Steps.{broken_status}
-use Rattle.bshow.specs.declared.showing.Rows.TheVariants as rows
+use Rattle.bshow.specs.declared.showing.PageRows.TheVariants as rows
 
 -- what ends a string, a tag or a comment, and what is no printable character of ASCII
 marks_escaped : escaped (codes "\"\\<>&") ≡ codes "\\u0022\\u005c\\u003c\\u003e\\u0026"

@@ -22,17 +22,17 @@ use Rattle.bshow.specs.Facts.{calls_text, no_run_text, program_text, run_text, s
 use Rattle.bshow.specs.Rows.{call_cells, done_cells, heard_by, words_in}
 use Rattle.bshow.specs.declared.page.TheConstants.{BETWEEN, HEAD, SCRIPT, TAIL}
 use Rattle.bshow.specs.declared.showing.Recorder.{Recorder}
-use Rattle.bshow.specs.declared.showing.Rows.{Rows}
-use Rattle.bshow.specs.declared.showing.Wanted.{Wanted}
-use Rattle.bshow.specs.declared.showing.Rows.TheVariants as rows
+use Rattle.bshow.specs.declared.showing.PageRows.{PageRows}
+use Rattle.bshow.specs.declared.showing.PageRequest.{PageRequest}
+use Rattle.bshow.specs.declared.showing.PageRows.TheVariants as rows
 
 -- how many of so many steps come before the first one that has a row
-abbrev pub first_of : Rows → (made : ℕ) → ℕ
+abbrev pub first_of : PageRows → (made : ℕ) → ℕ
 first_of (rows.From number) made = number - 1
 first_of (rows.Last count) made = made - count
 
 -- the steps that have a row, each by the number of those before it
-abbrev pub shown_of : Rows → (made : ℕ) → List ℕ
+abbrev pub shown_of : PageRows → (made : ℕ) → List ℕ
 shown_of which made = range_with_len (first_of which made) (made - first_of which made)
 
 -- a machine that is to make a step: its call, those below it, and its world
@@ -75,7 +75,7 @@ pub record StepRow : Type 0 where
   pub row : List ℕ
 
 -- Each step that is to be shown has a row, in order, and nothing else has one.
-pub record AreShown (fs : List Placed) (functions : List Loaded) (which : Rows) (states : ℕ → State) (made : ℕ)
+pub record AreShown (fs : List Placed) (functions : List Loaded) (which : PageRows) (states : ℕ → State) (made : ℕ)
     (texts : List (List ℕ)) : Type 0 where
   pub kept : List StepRow
   pub texts_are : texts ≡ map (λ r. r.row) kept
@@ -84,7 +84,7 @@ pub record AreShown (fs : List Placed) (functions : List Loaded) (which : Rows) 
 
 -- The calls below the running one are told as they were before the step after so many: before one that has a row, where
 -- any has one, and before the next one, where the machine is to make it.
-pub record TellsCalls (which : Rows) (states : ℕ → State) (made at : ℕ) (calls : List ℕ) : Type 0 where
+pub record TellsCalls (which : PageRows) (states : ℕ → State) (made at : ℕ) (calls : List ℕ) : Type 0 where
   pub tries : Tries states at
   pub within : at ≤ made
   pub among : first_of which made < made → first_of which made ≤ at
@@ -100,7 +100,7 @@ pub record Record : Type 0 where
   pub calls_at : ℕ
 
 -- It tells so many steps of a machine.
-pub record TellsSteps (fs : List Placed) (functions : List Loaded) (which : Rows) (states : ℕ → State) (made : ℕ)
+pub record TellsSteps (fs : List Placed) (functions : List Loaded) (which : PageRows) (states : ℕ → State) (made : ℕ)
     (r : Record) : Type 0 where
   pub shown : AreShown fs functions which states made r.texts
   pub calls : TellsCalls which states made r.calls_at r.calls
@@ -140,7 +140,7 @@ rows_text texts = flat_map (λ t. t) texts
 
 -- This is the page of so many steps of a machine with this text about its program. Its input is what was taken and what
 -- may follow.
-pub record IsPageOf (fs : List Placed) (functions : List Loaded) (which : Rows) (states : States) (steps : ℕ)
+pub record IsPageOf (fs : List Placed) (functions : List Loaded) (which : PageRows) (states : States) (steps : ℕ)
     (i j : Incoming) (result : Outcome) (program page : List ℕ) : Type 0 where
   pub made : ℕ
   pub within : made ≤ steps
@@ -167,7 +167,7 @@ StepsGive first n i j o p result = RunGives (steps_from first) n i j o p result
 -- what is asked for
 pub record Asked : Type 0 where
   pub steps : ℕ
-  pub which : Rows
+  pub which : PageRows
   pub files : Files
   pub given : List ℕ
 
@@ -201,7 +201,7 @@ pub data Shows (edition : Edition) (source : List ℕ) (asked : Asked) (ends : R
       → Shows edition source asked ends status
 
 -- what is asked for, by the type of the code
-abbrev pub asked_of : Wanted → Asked
+abbrev pub asked_of : PageRequest → Asked
 asked_of w = record { steps = w.steps; which = w.rows; files = files_shown w.files; given = w.given.now }
 
 abbrev pub record_of : Recorder → Record

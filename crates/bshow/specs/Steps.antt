@@ -21,21 +21,21 @@ use Rattle.bshow.specs.Shows.{Asked, EndsAs, Record, StepsGive, TellsSteps, page
 use Rattle.bshow.specs.Shows.{store_after}
 use Rattle.bshow.specs.declared.showing.Ended.{Ended}
 use Rattle.bshow.specs.declared.showing.Recorder.{Recorder}
-use Rattle.bshow.specs.declared.showing.Rows.{Rows}
-use Rattle.bshow.specs.declared.showing.Rows.TheVariants as rows
+use Rattle.bshow.specs.declared.showing.PageRows.{PageRows}
+use Rattle.bshow.specs.declared.showing.PageRows.TheVariants as rows
 
 -- the texts with a row more
-abbrev pub kept_texts : Rows → List (List ℕ) → (row : List ℕ) → List (List ℕ)
+abbrev pub kept_texts : PageRows → List (List ℕ) → (row : List ℕ) → List (List ℕ)
 kept_texts (rows.From number) texts row = texts ++ row ∷ []
 kept_texts (rows.Last count) texts row =
     if nat_lt count (length (texts ++ row ∷ [])) then drop 1 (texts ++ row ∷ []) else texts ++ row ∷ []
 
 -- whether the step after so many is to have a row, and whether the calls are told anew before it
-abbrev pub has_row : Rows → (made : ℕ) → Bool
+abbrev pub has_row : PageRows → (made : ℕ) → Bool
 has_row (rows.From number) made = nat_le number (made + 1)
 has_row (rows.Last count) made = true
 
-abbrev pub retells : Rows → (made at : ℕ) → Bool
+abbrev pub retells : PageRows → (made at : ℕ) → Bool
 retells (rows.From number) made at = number == made + 1
 retells (rows.Last count) made at = nat_le count (made - at)
 
@@ -71,7 +71,7 @@ IsRow fs made old new r bytes row =
     (line : ℕ) × AddsDone fs old new r bytes (call_cells fs (made + 1) old.call (length old.below) line) row
 
 -- what is kept of the rows after a step
-abbrev pub KeepsRow : Bool → List Placed → Rows → (made : ℕ) → (old new : Paused) → Result (Unit {0}) Outcome
+abbrev pub KeepsRow : Bool → List Placed → PageRows → (made : ℕ) → (old new : Paused) → Result (Unit {0}) Outcome
     → (before following : Record) → Type 0
 KeepsRow false fs which made old new r before following = following.texts ≡ before.texts
 KeepsRow true fs which made old new (Err outcome.Device) before following = Unit {0}
@@ -79,7 +79,7 @@ KeepsRow true fs which made old new r before following =
     (row : List ℕ) × IsRow fs made old new r (drop (length before.output) following.output) row
     × (following.texts ≡ kept_texts which before.texts row)
 
-pub record KeepsStep (b : Bool) (fs : List Placed) (which : Rows) (made : ℕ) (old new : Paused)
+pub record KeepsStep (b : Bool) (fs : List Placed) (which : PageRows) (made : ℕ) (old new : Paused)
     (r : Result (Unit {0}) Outcome) (before following : Record) : Type 0 where
   pub heard : following.heard ≡ before.heard ++ heard_if fs old new r
   pub calls : following.calls ≡ before.calls
@@ -105,7 +105,7 @@ AddsNext fs last e before following =
     (next : List ℕ) × IsNext fs last e.outcome e.made next × (following ≡ before ++ next)
 
 -- Where no read failed, what is kept tells the run from a state to another one.
-pub record TellsRun (fs : List Placed) (which : Rows) (first last : Paused) (steps : ℕ) (i j : Incoming) (r : Record)
+pub record TellsRun (fs : List Placed) (which : PageRows) (first last : Paused) (steps : ℕ) (i j : Incoming) (r : Record)
     (e : Ended) : Type 0 where
   pub within : e.made ≤ steps
   pub taken : List ℕ

@@ -10,4 +10,4 @@ mod showing;
 
 pub use escapes::escaped_texts_stay_in_place;
 pub use facts::own_texts_read_back;
-pub use showing::{Rows, Wanted, show, wrong_pages_are_excluded};
+pub use showing::{PageRequest, PageRows, show, wrong_pages_are_excluded};

@@ -30,7 +30,7 @@ use std::ops::Range;
 
 /// Which of the steps that are made have a row.
 #[derive(Clone, Copy)]
-pub enum Rows {
+pub enum PageRows {
     /// Those from a number on, from 1.
     From(u64),
     /// So many of the last ones.
@@ -39,10 +39,10 @@ pub enum Rows {
 
 /// What is shown of a run.
 #[derive(Clone, Copy)]
-pub struct Wanted<'a> {
+pub struct PageRequest<'a> {
     /// The most steps that are made.
     pub steps: u64,
-    pub rows: Rows,
+    pub rows: PageRows,
     /// The files of the source, and how many lines each has.
     pub files: SourceFiles<'a>,
     /// The input, where it is known before the run; else empty.
@@ -72,15 +72,15 @@ struct Ended {
 const NO_RUN: &[u8] =
     b",\"calls_at\":0,\"calls\":[0],\"words\":[0],\"heard\":\"\",\"output\":\"\"}";
 
-impl Rows {
+impl PageRows {
     // Whether the step after so many is to have a row.
     fn has_row(self, made: u64) -> bool
         requires { made + 1 < 2 ^ 64 }
         ensures { result ≡ has_row self made }
     {
         match self {
-            Rows::From(number) => number <= made + 1,
-            Rows::Last(_) => true,
+            PageRows::From(number) => number <= made + 1,
+            PageRows::Last(_) => true,
         }
     }
 
@@ -90,8 +90,8 @@ impl Rows {
         ensures { result ≡ retells self made at }
     {
         match self {
-            Rows::From(number) => number == made + 1,
-            Rows::Last(count) => count <= made.saturating_sub(at),
+            PageRows::From(number) => number == made + 1,
+            PageRows::Last(count) => count <= made.saturating_sub(at),
         }
     }
 }
@@ -105,7 +105,7 @@ pub fn show<I: ByteIn, O: ByteOut, D: ByteOut>(
     alloc: Global,
     source: &[u8],
     edition: Edition,
-    wanted: Wanted<'_>,
+    wanted: PageRequest<'_>,
     input: &mut I,
     out: &mut O,
     diag: &mut D,
@@ -151,7 +151,7 @@ pub fn wrong_pages_are_excluded()
 fn show_unbegun<O: ByteOut>(
     alloc: Global,
     program: &Program,
-    wanted: Wanted<'_>,
+    wanted: PageRequest<'_>,
     source: &[u8],
     outcome: Outcome,
     out: &mut O,
@@ -174,7 +174,7 @@ fn show_unbegun<O: ByteOut>(
 fn show_run<S: Store + Drop, I: ByteIn, O: ByteOut>(
     alloc: Global,
     program: &Program,
-    wanted: Wanted<'_>,
+    wanted: PageRequest<'_>,
     source: &[u8],
     tables: &Tables<'_>,
     mut stepper: Stepper<'_, S>,
@@ -229,7 +229,7 @@ fn broken_status(outcome: Outcome) -> Option<Status>
 fn unbegun_page(
     alloc: Global,
     program: &Program,
-    wanted: Wanted<'_>,
+    wanted: PageRequest<'_>,
     source: &[u8],
     trap: Trap,
 ) -> Result<Text, AllocError>
@@ -252,7 +252,7 @@ fn unbegun_page(
 fn page_of<S: Store + Drop>(
     alloc: Global,
     program: &Program,
-    wanted: Wanted<'_>,
+    wanted: PageRequest<'_>,
     source: &[u8],
     tables: &Tables<'_>,
     stepper: &Stepper<'_, S>,
@@ -347,7 +347,7 @@ fn run_steps<S: Store + Drop, I: ByteIn>(
     alloc: Global,
     stepper: &mut Stepper<'_, S>,
     tables: &Tables<'_>,
-    which: Rows,
+    which: PageRows,
     steps: u64,
     kept: &mut Recorder,
     input: &mut I,
@@ -385,7 +385,7 @@ impl Recorder {
         &mut self,
         alloc: Global,
         stepper: &Stepper<'_, S>,
-        which: Rows,
+        which: PageRows,
         made: u64,
     ) -> Result<(), AllocError>
         requires { made + 1 < 2 ^ 64 }
@@ -422,7 +422,7 @@ fn run_step<S: Store + Drop, I: ByteIn>(
     alloc: Global,
     stepper: &mut Stepper<'_, S>,
     tables: &Tables<'_>,
-    which: Rows,
+    which: PageRows,
     made: u64,
     kept: &mut Recorder,
     input: &mut I,
@@ -461,11 +461,11 @@ fn run_step<S: Store + Drop, I: ByteIn>(
 }
 
 // Adds a row to those that are kept.
-fn keep(rows: &mut VecDeque<Text>, row: Text, which: Rows) -> Result<(), AllocError>
+fn keep(rows: &mut VecDeque<Text>, row: Text, which: PageRows) -> Result<(), AllocError>
     ensures { OnOk result (rows.new.items ≡ kept_texts which rows.old.items row) }
 {
     rows.push_back(row)?;
-    if let Rows::Last(count) = which {
+    if let PageRows::Last(count) = which {
         if count < rows.len() as u64 {
             rows.pop_front();
         }

@@ -51,8 +51,8 @@ use Rattle.btrace.specs.declared.tracing.TheConstants.{HEADING}
 use Rattle.btrace.specs.declared.tracing.Which.{Which}
 use Rattle.btrace.proofs.ReadTexts.{all_above, above_append, at, after_line, after_number, line_skipped, number_above, number_skipped, skip_digits, words_above}
 use Rattle.bsources.specs.Files.{File, Files}
-use Rattle.btrace.specs.declared.trail.Rows.{Rows}
-use Rattle.btrace.specs.declared.trail.Rows.TheVariants as wanted
+use Rattle.btrace.specs.declared.trail.TraceRows.{TraceRows}
+use Rattle.btrace.specs.declared.trail.TraceRows.TheVariants as wanted
 
 module _ (file : File) where
   -- the functions of a program of one file
@@ -156,7 +156,7 @@ module _ (file : File) where
   came ds steps i j o p line line_after status less outcome.Memory h f = let bad : status ≡ 134 = f.1 in absurd (omega arith)
 
   -- what was written of a run, and its status
-  record Told (ds : List Definition) (steps : ℕ) (from : Rows) (name : Option (List ℕ)) (i j : Incoming) (text : List ℕ) (status : ℕ) : Type 0 where
+  record Told (ds : List Definition) (steps : ℕ) (from : TraceRows) (name : Option (List ℕ)) (i j : Incoming) (text : List ℕ) (status : ℕ) : Type 0 where
     which : Which
     named : which_of (functions_of ds) from name ≡ Some which
     result : Outcome
@@ -165,7 +165,7 @@ module _ (file : File) where
     comes : state_outcome (machine ds input steps) ≡ result
     shows : ShowsRows (leg (functions_of ds)) (machine_functions ds) which (machine ds) steps i j result HEADING.now text
 
-  module _ (edition : Edition) (source : List ℕ) (ds : List Definition) (is : IsSourceOf edition source ds) (steps : ℕ) (from : Rows) (name : Option (List ℕ)) (ends : RunEnds) (status : ℕ) (less : status < 132) where
+  module _ (edition : Edition) (source : List ℕ) (ds : List Definition) (is : IsSourceOf edition source ds) (steps : ℕ) (from : TraceRows) (name : Option (List ℕ)) (ends : RunEnds) (status : ℕ) (less : status < 132) where
     -- a text was written, and it is the trace of a run
     traced_so : (mid : Outgoing) (other : List Definition) (image : Image) (which : Which) (result : Outcome) (text : List ℕ) (o p : Outgoing) (answer : ℕ) → HasProgram edition source ends.line mid other image
         → which_of (functions_of other) from name ≡ Some which → RunGives (machine other) steps ends.input ends.input_after o p result
@@ -219,7 +219,7 @@ module _ (file : File) where
     each : All (λ r. ShowsStep (leg (functions_of ds)) (machine_functions ds) (machine ds input) r.made r.text) rows
     place : IsWhere (leg (functions_of ds)) (machine ds input) steps (store_after (machine ds input) steps) ending
 
-  at_limit : (ds : List Definition) (steps : ℕ) (from : Rows) (name : Option (List ℕ)) (which : Which) (i j : Incoming) (text : List ℕ) (status : ℕ) → which_of (functions_of ds) from name ≡ Some which → ComesAlways ds steps outcome.Limit
+  at_limit : (ds : List Definition) (steps : ℕ) (from : TraceRows) (name : Option (List ℕ)) (which : Which) (i j : Incoming) (text : List ℕ) (status : ℕ) → which_of (functions_of ds) from name ≡ Some which → ComesAlways ds steps outcome.Limit
       → Told ds steps from name i j (HEADING.now ++ text) status → AtLimit ds steps which text
   at_limit ds steps from name which i j text status named comes t =
       let fs = functions_of ds in
@@ -258,7 +258,7 @@ module _ (file : File) where
   came_unfailed ds steps i j output fs which old new unread outcome.Memory h s = absurd (s.ends [] (λ e. refl))
 
   -- What was written under the heading is a beginning of the trace of a run to its limit.
-  module _ (edition : Edition) (source : List ℕ) (ds : List Definition) (is : IsSourceOf edition source ds) (steps : ℕ) (from : Rows) (which : Which) (named : which_of (functions_of ds) from None ≡ Some which) (comes : ComesAlways ds steps outcome.Limit)
+  module _ (edition : Edition) (source : List ℕ) (ds : List Definition) (is : IsSourceOf edition source ds) (steps : ℕ) (from : TraceRows) (which : Which) (named : which_of (functions_of ds) from None ≡ Some which) (comes : ComesAlways ds steps outcome.Limit)
       (ends : RunEnds) (status : ℕ) (unread : Grew ends.input.failures ends.input_after.failures → ⊥) (text : List ℕ) (before : ends.out.written ≡ Some []) (following : ends.out_after.written ≡ Some (HEADING.now ++ text)) where
     silent_out : ends.out_after ≡ ends.out → ⊥
     silent_out same = no_nothing ends.out_after.written (HEADING.now ++ text) (ap (λ (o : Outgoing). o.written) same ∙ before) following (λ e. cc)
@@ -652,7 +652,7 @@ module _ (file : File) where
 
   -- Small programs that are traced, each at its limit.
   module _ (edition : Edition) (source : List ℕ) (ends : RunEnds) (text : List ℕ) (before : ends.out.written ≡ Some []) (following : ends.out_after.written ≡ Some (HEADING.now ++ text)) where
-    limit_of : (ds : List Definition) (steps : ℕ) (from : Rows) (name : Option (List ℕ)) (which : Which) → IsSourceOf edition source ds → which_of (functions_of ds) from name ≡ Some which → ComesAlways ds steps outcome.Limit
+    limit_of : (ds : List Definition) (steps : ℕ) (from : TraceRows) (name : Option (List ℕ)) (which : Which) → IsSourceOf edition source ds → which_of (functions_of ds) from name ≡ Some which → ComesAlways ds steps outcome.Limit
         → Traces edition source steps from one_file name ends LIMIT → AtLimit ds steps which text
     limit_of ds steps from name which is named comes h =
         at_limit ds steps from name which ends.input ends.input_after text LIMIT named comes
@@ -773,7 +773,7 @@ module _ (file : File) where
   read_result ds steps i j o p fs which old new outcome.Device failed h s = refl
   read_result ds steps i j o p fs which old new outcome.Memory failed h s = absurd (s.ends [] (λ e. refl))
 
-  module _ (edition : Edition) (source : List ℕ) (ds : List Definition) (is : IsSourceOf edition source ds) (steps : ℕ) (from : Rows) (which : Which) (named : which_of (functions_of ds) from None ≡ Some which)
+  module _ (edition : Edition) (source : List ℕ) (ds : List Definition) (is : IsSourceOf edition source ds) (steps : ℕ) (from : TraceRows) (which : Which) (named : which_of (functions_of ds) from None ≡ Some which)
       (ends : RunEnds) (status : ℕ) (failed : ends.input_after.failures ≡ ends.input.failures → ⊥) (unended : ends.input_after.is_over ≡ false) (whole : Grew ends.out.failures ends.out_after.failures → ⊥) (room : Grew ends.out.refusals ends.out_after.refusals → ⊥)
       (text : List ℕ) (before : ends.out.written ≡ Some []) (following : ends.out_after.written ≡ Some (HEADING.now ++ text)) where
     read_shows : (result : Outcome) → result ≡ outcome.Device → ShowsRows (leg (functions_of ds)) (machine_functions ds) which (machine ds) steps ends.input ends.input_after result HEADING.now (HEADING.now ++ text) → AtRead ds steps which text
@@ -922,7 +922,7 @@ module _ (file : File) where
       by_kind end_fault.Device h e = let bad : 134 ≡ 133 = e in omega (arith, bad)
       by_kind end_fault.Memory h e = refused h.counted.0
 
-  read_told : (edition : Edition) (source : List ℕ) (steps : ℕ) (from : Rows) (name : Option (List ℕ)) (ends : RunEnds) → (ends.input_after.failures ≡ ends.input.failures → ⊥) → (Grew ends.out.refusals ends.out_after.refusals → ⊥) → Traces edition source steps from one_file name ends MEMORY → ⊥
+  read_told : (edition : Edition) (source : List ℕ) (steps : ℕ) (from : TraceRows) (name : Option (List ℕ)) (ends : RunEnds) → (ends.input_after.failures ≡ ends.input.failures → ⊥) → (Grew ends.out.refusals ends.out_after.refusals → ⊥) → Traces edition source steps from one_file name ends MEMORY → ⊥
   read_told edition source steps from name ends failed refused (traces.traced mid ds image which result t output answer program named gives shows reported tells) =
       elim tells [
         | inl d ↦ read_whole ds steps ends.input ends.input_after _ _ mid ends.line_after result failed gives d.1

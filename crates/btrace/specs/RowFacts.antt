@@ -11,7 +11,7 @@ use Rattle.bsources.specs.Files.{Files}
 use Rattle.btrace.specs.RowTexts.{line_text}
 use Rattle.btrace.specs.Traces.{is_wanted, which_of}
 use Rattle.btrace.specs.Trails.{chosen}
-use Rattle.btrace.specs.declared.trail.Rows.TheVariants as rows
+use Rattle.btrace.specs.declared.trail.TraceRows.TheVariants as rows
 
 -- a word is shown as a signed number
 signed_zero : signed_text 0 ≡ codes "0"

@@ -16,7 +16,7 @@ ghost use Rattle.btrace.specs.Trails.{trail_text};
 use crate::legend::Legend;
 use crate::places::push_places;
 use crate::rows::{push_step, push_stored, push_written};
-use crate::trail::{Rows, Trail};
+use crate::trail::{TraceRows, Trail};
 use blang::Outcome;
 use blang::status::{self, Status};
 use bmach::{Active, Stepper};
@@ -35,11 +35,11 @@ const UNNAMED: &[u8] = b"error: the source has no function of this NAME\n";
 
 /// Which steps are made, and which of them are shown.
 #[derive(Clone, Copy)]
-pub struct Wanted<'a> {
+pub struct TraceRequest<'a> {
     /// The most steps that are made.
     pub steps: u64,
     /// Which of them have a row.
-    pub rows: Rows,
+    pub rows: TraceRows,
     /// The name of the function whose steps are shown; all, if there is none.
     pub function: Option<&'a str>,
     /// The files of the source.
@@ -49,7 +49,7 @@ pub struct Wanted<'a> {
 /// Which steps are shown.
 #[derive(Clone, Copy)]
 struct Which {
-    rows: Rows,
+    rows: TraceRows,
     /// The address of the first string word of the function whose steps are shown.
     function: Option<u32>,
 }
@@ -76,7 +76,7 @@ pub fn trace<I: ByteIn, O: ByteOut, D: ByteOut>(
     alloc: Global,
     source: &[u8],
     edition: Edition,
-    wanted: Wanted<'_>,
+    wanted: TraceRequest<'_>,
     input: &mut I,
     out: &mut O,
     diag: &mut D,
@@ -125,7 +125,7 @@ pub fn trace<I: ByteIn, O: ByteOut, D: ByteOut>(
     finish(outcome, diag)
 }
 
-fn which_of(tables: &Tables<'_>, wanted: Wanted<'_>) -> Option<Which>
+fn which_of(tables: &Tables<'_>, wanted: TraceRequest<'_>) -> Option<Which>
     ensures { result ≡ which_of (entries_of tables.now) wanted.entry.rows (option_map (λ n. n.now) wanted.entry.function) }
 {
     let rows = wanted.rows;
