@@ -59,8 +59,8 @@ is_inside (place.Quotes quote) = true
 is_inside (place.Escape quote) = true
 is_inside _ = false
 
--- a piece begins with this byte that needs a blank before it: a word right after a number or after a blank after a word,
--- or a star after a blank after a slash
+-- A piece begins with this byte that needs a blank before it: a word right after a number, or after a blank after a
+-- word; or a star after a blank after a slash.
 abbrev pub is_parted : Place → ℕ → Bool
 is_parted place.Number b = is_name_start b
 is_parted place.Gap b = is_name_byte b

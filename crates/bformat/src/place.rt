@@ -1,5 +1,5 @@
-//! A source without what is blank outside of its quotes and comments, but for one blank between two words, and between a
-//! slash and a star.
+//! A source without what is blank outside of its quotes and comments, but for one blank between two words, and between
+//! a slash and a star.
 ghost use Rattle.std.specs.Prelude.{◌≡◌, ◌++◌, IfOk, OnOk};
 ghost use Rattle.blang.specs.Cut.{is_blank};
 ghost use Rattle.bformat.specs.Squeezed.{
