@@ -1,5 +1,7 @@
 # Completes the words of b. Written by tools/manual.
 complete -c b -n __fish_use_subcommand -f
+complete -c b -l help -d 'Print help'
+complete -c b -n __fish_use_subcommand -l version -d 'Print version'
 complete -c b -n __fish_use_subcommand -a compile -d 'Compiles the source on standard input to code text on standard output'
 complete -c b -n __fish_use_subcommand -a run -d 'Runs the code text in FILE'
 complete -c b -n __fish_use_subcommand -a go -d 'Compiles the source in FILE and runs it'

@@ -22,8 +22,8 @@ use Rattle.bcheck.specs.declared.excerpt.Excerpt.{Excerpt}
 use Rattle.bcheck.specs.declared.pieces.Piece.{Piece}
 use Rattle.bcheck.specs.declared.finding.Severity.{Severity}
 use Rattle.bcheck.specs.declared.finding.Spot.{Spot}
-use Rattle.bcheck.specs.declared.form.Form.{Form}
-use Rattle.bcheck.specs.declared.form.Form.TheVariants as form
+use Rattle.bcheck.specs.declared.form.FindingForm.{FindingForm}
+use Rattle.bcheck.specs.declared.form.FindingForm.TheVariants as form
 
 pub on_ok : {E : Type 0} (r : Result (Unit {0}) E) (P Q : Type 0) → (P → Q) → OnOk r P → OnOk r Q
 on_ok (Ok u) P Q f h = f h
@@ -124,12 +124,12 @@ abbrev pub Reasoned : Edition → (source : List ℕ) → FindingParts source �
 Reasoned edition source p = EachOutcome edition source (λ o. Reason o.edition o.stop o.fault p.code (p.before ++ p.left) (p.right ++ p.after))
 
 -- the text of so many findings
-abbrev pub FindingsSoFar : Form → Edition → (status : ℕ) → Files → (source : List ℕ) → (count : ℕ) → (text : List ℕ) → Type 0
+abbrev pub FindingsSoFar : FindingForm → Edition → (status : ℕ) → Files → (source : List ℕ) → (count : ℕ) → (text : List ℕ) → Type 0
 FindingsSoFar form edition status files source count text =
     (findings : List (FindingParts source)) × (length findings ≡ count) × All (Reasoned edition source) findings × (text ≡ findings_text form status files findings)
 
 -- one finding more
-module _ (form f : Form) (edition : Edition) (status : ℕ) (s : Severity) (files : Files) (source : List ℕ) (start : ℕ) (code old new said : List ℕ) (count : ℕ) where
+module _ (form f : FindingForm) (edition : Edition) (status : ℕ) (s : Severity) (files : Files) (source : List ℕ) (start : ℕ) (code old new said : List ℕ) (count : ℕ) where
   pub finding_more : form ≡ f → s ≡ severity_of status → said ≡ new → EachOutcome edition source (ReasonAt code start)
       → FindingsSoFar form edition status files source count old → AddsFinding f s files source start code old new → FindingsSoFar form edition status files source (count + 1) said
   finding_more same also is reason a more =
@@ -151,6 +151,6 @@ reasons_at : (edition : Edition) (source : List ℕ) (r : Compilation) (g : Comp
 reasons_at edition source r g ps h = All-weaker (Reasoned edition source) (IsReason (outcome_of edition source r.stop (load_fault (map code_of g.definitions)))) (λ p is. is r g) ps h
 
 -- all of them, of which there is one where the source has a fault
-pub all_findings : (form : Form) (edition : Edition) (status : ℕ) (files : Files) (source said : List ℕ) (count all : ℕ) → (status ≢ DONE → all ≡ 1) → count ≡ all → FindingsSoFar form edition status files source count said
+pub all_findings : (form : FindingForm) (edition : Edition) (status : ℕ) (files : Files) (source said : List ℕ) (count all : ℕ) → (status ≢ DONE → all ≡ 1) → count ≡ all → FindingsSoFar form edition status files source count said
     → EachOutcome edition source (λ o. AreFindings form o status files said)
 all_findings form edition status files source said count all one is a = λ r g. (a.0, (λ fault. a.1 ∙ is ∙ one fault), reasons_at edition source r g a.0 a.2, a.3)

@@ -24,7 +24,7 @@ use Rattle.bcheck.proofs.PlaceSteps.{stop_is}
 use Rattle.bcheck.specs.Checks.{AreFindings, Judged, EachOutcome, Outcome, outcome_of, TellsFirst, told, shown_in_form, verdict_line, status_told, told_first}
 use Rattle.btools.specs.Programs.{load_line}
 use Rattle.blang.specs.Reports.{Reported}
-use Rattle.bcheck.specs.declared.form.Form.{Form}
+use Rattle.bcheck.specs.declared.form.FindingForm.{FindingForm}
 use Rattle.bcheck.specs.declared.verdict.Verdict.{Verdict}
 use Rattle.bcheck.specs.declared.verdict.Verdict.TheVariants as verdict
 
@@ -39,7 +39,7 @@ both_kept : (a b c : Kept) (first more : List ℕ) → a ≡ nothing_kept → Wr
 both_kept a b c first more e v w = w.appended ∙ ap (λ t. t ++ more) (v.appended ∙ ap (λ (k : Kept). k.bytes ++ first) e)
 
 -- a text that is told is one that begins with the first
-pub tells_both : (form : Form) (o : Outcome) (files : Files) (a b c : Kept) (first more text : List ℕ) (status : ℕ) (old new : Outgoing) (result : ℕ) → a ≡ nothing_kept
+pub tells_both : (form : FindingForm) (o : Outcome) (files : Files) (a b c : Kept) (first more text : List ℕ) (status : ℕ) (old new : Outgoing) (result : ℕ) → a ≡ nothing_kept
     → Writes (outgoing_of a) first (outgoing_of b) → Writes (outgoing_of b) more (outgoing_of c) → text ≡ c.bytes
     → Reported text status old new result → AreFindings form o status files more → TellsFirst form o files first status old new result
 tells_both form o files a b c first more text status old new result e v w is t are =
@@ -118,7 +118,7 @@ told_fault (fault.Undefined name) items ds a b e h = told_as (Some (fault.Undefi
 told_fault fault.NoMain items ds a b e h = absurd (a refl)
 told_fault fault.Memory items ds a b e h = absurd (b refl)
 
-pub checked : (form : Form) (files : Files) (v : Verdict) (edition : Edition) (source first more : List ℕ) (status : ℕ) (old new : Outgoing) (result : ℕ)
+pub checked : (form : FindingForm) (files : Files) (v : Verdict) (edition : Edition) (source first more : List ℕ) (status : ℕ) (old new : Outgoing) (result : ℕ)
     → Judged edition source v → first ≡ shown_in_form form (verdict_line v) → status ≡ status_told v
     → EachOutcome edition source (λ o. AreFindings form o (status_told v) files more)
     → ((o : Outcome) → AreFindings form o status files more → TellsFirst form o files first status old new result)

@@ -30,8 +30,8 @@ use Rattle.bcheck.specs.Checks.{AreFindings, Check, Checks, FindingParts, Outcom
 use Rattle.bcheck.specs.Excluded.{BeginsWith, ComesTo, Excluded, IsTold, Never, NeverOf, file_at, file_of, finding_lines, has_no_colon, is_printed, newlines}
 use Rattle.bcheck.specs.declared.finding.Severity.{Severity}
 use Rattle.bcheck.specs.declared.finding.Severity.TheVariants as severity
-use Rattle.bcheck.specs.declared.form.Form.{Form}
-use Rattle.bcheck.specs.declared.form.Form.TheVariants as form
+use Rattle.bcheck.specs.declared.form.FindingForm.{FindingForm}
+use Rattle.bcheck.specs.declared.form.FindingForm.TheVariants as form
 use Rattle.bcheck.proofs.FindingTexts.{both_printed, findings_printed, first_byte, head_placed, lines_of_all, same_heads, same_places, newlines_in, no_cons, other_severity_after, starts_of, text_placed}
 
 -- a check of a source that comes to this tells it
@@ -48,7 +48,7 @@ appended (Some a) None text x y e f h = cc
 appended (Some a) (Some b) text x y e f h = let p : a ≡ x = cc in let q : b ≡ y = cc in sym q ∙ h ∙ ap (λ l. l ++ text) p
 
 -- What was told: the line and then findings, with the status of the source.
-record WasTold (form : Form) (o : Outcome) (files : Files) (first : List ℕ) (status result : ℕ) (text : List ℕ) : Type 0 where
+record WasTold (form : FindingForm) (o : Outcome) (files : Files) (first : List ℕ) (status result : ℕ) (text : List ℕ) : Type 0 where
   more : List ℕ
   are : AreFindings form o status files more
   text_is : text ≡ first ++ more
@@ -58,7 +58,7 @@ not_refused : (fault : EndFault) (result : ℕ) → result ≡ status_of fault �
 not_refused end_fault.Device result e less = let is : result ≡ 133 = e in let below : result < 133 = less in absurd (omega (arith, is, below))
 not_refused end_fault.Memory result e less = let is : result ≡ 134 = e in let below : result < 133 = less in absurd (omega (arith, is, below))
 
-was_told : (form : Form) (o : Outcome) (files : Files) (first : List ℕ) (status result : ℕ) (text before : List ℕ) (old new : Outgoing) → old.written ≡ Some before → new.written ≡ Some (before ++ text) → result < DEVICE
+was_told : (form : FindingForm) (o : Outcome) (files : Files) (first : List ℕ) (status result : ℕ) (text before : List ℕ) (old new : Outgoing) → old.written ≡ Some before → new.written ≡ Some (before ++ text) → result < DEVICE
     → TellsFirst form o files first status old new result → WasTold form o files first status result text
 was_told form outcome files first status result text before old new o n less (checks.told more are (inl w)) = record {
   more = more;
@@ -76,7 +76,7 @@ begins : (text a b : List ℕ) → text ≡ a ++ b → StartsWith text a
 begins text a b e = subst (λ t. StartsWith t a) (sym e) (take-append_seam a b)
 
 -- findings begin as one does, unless there is none
-find_start : {source : List ℕ} (form : Form) (s : Severity) (files : Files) (p : FindingParts source) (ps : List (FindingParts source)) → (rest : List ℕ) × (flat_map (finding_text form s files) (p ∷ ps) ≡ finding_start form (finding_at files p).file ++ rest)
+find_start : {source : List ℕ} (form : FindingForm) (s : Severity) (files : Files) (p : FindingParts source) (ps : List (FindingParts source)) → (rest : List ℕ) × (flat_map (finding_text form s files) (p ∷ ps) ≡ finding_start form (finding_at files p).file ++ rest)
 find_start form s files p ps =
     let text = text_placed form s files p in
     let at = finding_at files p in
@@ -86,7 +86,7 @@ find_start form s files p ps =
       ap (λ t. t ++ later) text.1 ∙ append_assoc (finding_head form s at.file at.line (finding_column p)) text.0 later ∙ head.1,
     )
 
-after_line : {source : List ℕ} (form : Form) (status : ℕ) (files : Files) (first text more : List ℕ) (ps : List (FindingParts source)) → (ps ≡ [] → ⊥) → text ≡ first ++ more → more ≡ findings_text form status files ps
+after_line : {source : List ℕ} (form : FindingForm) (status : ℕ) (files : Files) (first text more : List ℕ) (ps : List (FindingParts source)) → (ps ≡ [] → ⊥) → text ≡ first ++ more → more ≡ findings_text form status files ps
     → (n : ℕ) × StartsWith text (first ++ finding_start form (own_line files n).file)
 after_line form status files first text more [] some e is = absurd (some refl)
 after_line form status files first text more (p ∷ ps) some e is =
@@ -117,14 +117,14 @@ done_line None (Some fault.TooLarge) line e = let no : ◌≡◌ {A = ℕ} 132 0
 done_line None (Some (fault.Undefined name)) line e = let no : ◌≡◌ {A = ℕ} 132 0 = ap (λ (p : List ℕ × ℕ). p.1) e in absurd (omega (arith, no))
 done_line None (Some fault.Memory) line e = let no : ◌≡◌ {A = ℕ} 132 0 = ap (λ (p : List ℕ × ℕ). p.1) e in absurd (omega (arith, no))
 
-shown_none : (form : Form) (line : List ℕ) → line ≡ [] → shown_in_form form line ≡ []
+shown_none : (form : FindingForm) (line : List ℕ) → line ≡ [] → shown_in_form form line ≡ []
 shown_none form.Text line e = e
 shown_none form.Json line e = refl
 
 nothing_shown : (c : Check) (line : List ℕ) (status : ℕ) → ComesTo c line status → status ≡ DONE → shown_in_form c.form line ≡ []
 nothing_shown c line status to e = shown_none c.form line (done_line to.outcome.stop (load_fault (map code_of to.goes.definitions)) line (to.told ∙ ap (λ n. (line, n)) e))
 
-findings_begin : {source : List ℕ} (form : Form) (status : ℕ) (files : Files) (text more : List ℕ) (ps : List (FindingParts source)) → (text ≡ [] → ⊥) → text ≡ more → more ≡ findings_text form status files ps
+findings_begin : {source : List ℕ} (form : FindingForm) (status : ℕ) (files : Files) (text more : List ℕ) (ps : List (FindingParts source)) → (text ≡ [] → ⊥) → text ≡ more → more ≡ findings_text form status files ps
     → (n : ℕ) × StartsWith text (finding_start form (own_line files n).file)
 findings_begin form status files text more [] some e is = absurd (some (e ∙ is))
 findings_begin form status files text more (p ∷ ps) some e is =
@@ -312,7 +312,7 @@ clash : (result status : ℕ) → result ≡ status → status < 133 → 132 < r
 clash result status is less more = absurd (omega (arith, is, less, more))
 
 -- 133 wants a write that failed, and 134 one that was refused memory, where something was written
-module _ (form : Form) (o : Outcome) (files : Files) (first : List ℕ) (status result : ℕ) (old new : Outgoing) (less : status < 133) where
+module _ (form : FindingForm) (o : Outcome) (files : Files) (first : List ℕ) (status result : ℕ) (old new : Outgoing) (less : status < 133) where
   device_kind : (text : List ℕ) (fault : EndFault) → Refuses old text fault new → result ≡ status_of fault → result ≡ 133 → (Grew old.failures new.failures → ⊥) → ⊥
   device_kind text end_fault.Device refused s is none = none refused.counted.0
   device_kind text end_fault.Memory refused s is none = let no : 134 ≡ 133 = sym s ∙ is in absurd (omega (arith, no))

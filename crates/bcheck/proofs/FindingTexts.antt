@@ -16,8 +16,8 @@ use Rattle.bcheck.specs.Excluded.{finding_lines, has_no_colon, is_printed, newli
 use Rattle.bcheck.proofs.OnLine.{both_on_line, of_three, replicate_on_line, shown_on_line}
 use Rattle.bcheck.specs.declared.finding.Severity.{Severity}
 use Rattle.bcheck.specs.declared.finding.Severity.TheVariants as severity
-use Rattle.bcheck.specs.declared.form.Form.{Form}
-use Rattle.bcheck.specs.declared.form.Form.TheVariants as form
+use Rattle.bcheck.specs.declared.form.FindingForm.{FindingForm}
+use Rattle.bcheck.specs.declared.form.FindingForm.TheVariants as form
 
 both : (a b : Bool) → IsTrue a → IsTrue b → IsTrue (a && b)
 both a b g h = rw (g, h) refl
@@ -122,12 +122,12 @@ word_line severity.Error = refl
 word_line severity.Warning = refl
 
 -- the severity that a text tells after a line and a column is one alone
-abbrev pub placed : Form → Severity → (line column : ℕ) → List ℕ → List ℕ
+abbrev pub placed : FindingForm → Severity → (line column : ℕ) → List ℕ → List ℕ
 placed form.Text s line column rest = decimal line ++ (codes ":" ++ (decimal column ++ (codes ": " ++ (severity_word s ++ (codes ": " ++ rest)))))
 placed form.Json s line column rest =
     decimal line ++ (codes ",\"column\":" ++ (decimal column ++ (codes ",\"severity\":\"" ++ (severity_word s ++ (codes "\",\"code\":" ++ rest)))))
 
-pub head_placed : (form : Form) (s : Severity) (file : List ℕ) (line column : ℕ) (rest : List ℕ) → finding_head form s file line column ++ rest ≡ finding_start form file ++ placed form s line column rest
+pub head_placed : (form : FindingForm) (s : Severity) (file : List ℕ) (line column : ℕ) (rest : List ℕ) → finding_head form s file line column ++ rest ≡ finding_start form file ++ placed form s line column rest
 head_placed form.Text s file line column rest = simp append_assoc refl
 head_placed form.Json s file line column rest = simp append_assoc refl
 
@@ -141,7 +141,7 @@ same_word severity.Warning severity.Warning u v e = refl
 same_word severity.Error severity.Warning u v e = let no : 101 ≡ 119 = ap first_byte e in absurd (omega (arith, no))
 same_word severity.Warning severity.Error u v e = let no : 119 ≡ 101 = ap first_byte e in absurd (omega (arith, no))
 
-pub same_severity : (form : Form) (s t : Severity) (l c m d : ℕ) (u v : List ℕ) → placed form s l c u ≡ placed form t m d v → s ≡ t
+pub same_severity : (form : FindingForm) (s t : Severity) (l c m d : ℕ) (u v : List ℕ) → placed form s l c u ≡ placed form t m d v → s ≡ t
 same_severity form.Text s t l c m d u v e =
     let following = (same_to (is_in_range 48 57) (decimal l) (decimal m) _ _ 58 58 (decimal_is l) (decimal_is m) refl refl e).1 in
     let column : decimal c ++ (codes ": " ++ (severity_word s ++ (codes ": " ++ u))) ≡ decimal d ++ (codes ": " ++ (severity_word t ++ (codes ": " ++ v))) = append_cancel_left (codes ":") _ _ following in
@@ -157,7 +157,7 @@ word_rest : (s t : Severity) (u v : List ℕ) → severity_word s ++ u ≡ sever
 word_rest s t u v e = append_cancel_left (severity_word s) u v (e ∙ ap (λ x. severity_word x ++ v) (sym (same_word s t u v e)))
 
 -- and so are the line, the column and what comes after them
-pub same_places : (form : Form) (s t : Severity) (l c m d : ℕ) (u v : List ℕ) → placed form s l c u ≡ placed form t m d v → (decimal l ≡ decimal m) × (decimal c ≡ decimal d) × (u ≡ v)
+pub same_places : (form : FindingForm) (s t : Severity) (l c m d : ℕ) (u v : List ℕ) → placed form s l c u ≡ placed form t m d v → (decimal l ≡ decimal m) × (decimal c ≡ decimal d) × (u ≡ v)
 same_places form.Text s t l c m d u v e =
     let line = same_to (is_in_range 48 57) (decimal l) (decimal m) _ _ 58 58 (decimal_is l) (decimal_is m) refl refl e in
     let column : decimal c ++ (codes ": " ++ (severity_word s ++ (codes ": " ++ u))) ≡ decimal d ++ (codes ": " ++ (severity_word t ++ (codes ": " ++ v))) = append_cancel_left (codes ":") _ _ line.1 in
@@ -183,7 +183,7 @@ same_heads s t f g l c m d u v hf hg e =
     (begun.0, (same_places form.Text s t l c m d u v (append_cancel_left (codes ":") _ _ begun.1)).0)
 
 -- each finding begins so
-unfoldable pub text_placed : {source : List ℕ} → (form : Form) (s : Severity) (files : Files) (p : FindingParts source) → (rest : List ℕ) × (finding_text form s files p ≡ finding_head form s (finding_at files p).file (finding_at files p).line (finding_column p) ++ rest)
+unfoldable pub text_placed : {source : List ℕ} → (form : FindingForm) (s : Severity) (files : Files) (p : FindingParts source) → (rest : List ℕ) × (finding_text form s files p ≡ finding_head form s (finding_at files p).file (finding_at files p).line (finding_column p) ++ rest)
 text_placed form.Text s files p =
     let at = finding_at files p in
     (finding_words form.Text files p ++ codes "\n", append_assoc (finding_head form.Text s at.file at.line (finding_column p)) (finding_words form.Text files p) (codes "\n"))
@@ -319,7 +319,7 @@ following : (a b u v : List ℕ) → IsTrue (is_one_line a) → IsTrue (is_one_l
 following a b u v g h e = tails u v (same_to (nat_le 32) a b u v 10 10 g h refl refl e).1
 
 -- after a finding that both begin with, both go on alike
-pub one_of : {source : List ℕ} → (form : Form) (s : Severity) (files : Files) (p q : FindingParts source) (a b : List ℕ) → finding_text form s files p ++ a ≡ finding_text form s files q ++ b → a ≡ b
+pub one_of : {source : List ℕ} → (form : FindingForm) (s : Severity) (files : Files) (p q : FindingParts source) (a b : List ℕ) → finding_text form s files p ++ a ≡ finding_text form s files q ++ b → a ≡ b
 one_of form.Text s files p q a b e =
     let l1 = following (opening_line s files p) (opening_line s files q) _ _ (opening_one s files p) (opening_one s files q) (sym (people_is s files p a) ∙ e ∙ people_is s files q b) in
     let l2 = following (shown_line p) (shown_line q) _ _ (shown_one p) (shown_one q) l1 in
@@ -328,7 +328,7 @@ one_of form.Text s files p q a b e =
 one_of form.Json s files p q a b e =
     following (object_line s files p) (object_line s files q) a b (object_one s files p) (object_one s files q) (sym (object_is s files p a) ∙ e ∙ object_is s files q b)
 
-pub starts_of : (form : Form) (s : Severity) (file : List ℕ) (line column : ℕ) (rest : List ℕ) → (following : List ℕ) × (finding_head form s file line column ++ rest ≡ finding_start form file ++ following)
+pub starts_of : (form : FindingForm) (s : Severity) (file : List ℕ) (line column : ℕ) (rest : List ℕ) → (following : List ℕ) × (finding_head form s file line column ++ rest ≡ finding_start form file ++ following)
 starts_of form s file line column rest = (placed form s line column rest, head_placed form s file line column rest)
 
 pub no_cons : (x : ℕ) (xs : List ℕ) → x ∷ xs ≡ [] → ⊥
@@ -338,7 +338,7 @@ no_byte : (a b : List ℕ) → a ++ 58 ∷ b ≡ [] → ⊥
 no_byte [] b e = no_cons 58 b e
 no_byte (x ∷ a) b e = no_cons x (a ++ 58 ∷ b) e
 
-no_start : (form : Form) (s : Severity) (file : List ℕ) (line column : ℕ) (rest : List ℕ) → finding_head form s file line column ++ rest ≡ [] → ⊥
+no_start : (form : FindingForm) (s : Severity) (file : List ℕ) (line column : ℕ) (rest : List ℕ) → finding_head form s file line column ++ rest ≡ [] → ⊥
 no_start form.Text s file line column rest e =
     let following = decimal line ++ (codes ":" ++ (decimal column ++ (codes ": " ++ (severity_word s ++ (codes ": " ++ rest))))) in
     let is : file_text file ++ 58 ∷ following ≡ finding_head form.Text s file line column ++ rest = simp append_assoc refl in
@@ -346,7 +346,7 @@ no_start form.Text s file line column rest e =
 no_start form.Json s file line column rest e = no_cons _ _ e
 
 -- after findings of one severity none of another begins, where all are of one file
-pub other_severity_after : {source : List ℕ} → (form : Form) (s t : Severity) (files : Files) (file : List ℕ) → ((n : ℕ) → (own_line files n).file ≡ file) → (ps qs : List (FindingParts source)) (line column : ℕ) (rest : List ℕ) → s ≢ t
+pub other_severity_after : {source : List ℕ} → (form : FindingForm) (s t : Severity) (files : Files) (file : List ℕ) → ((n : ℕ) → (own_line files n).file ≡ file) → (ps qs : List (FindingParts source)) (line column : ℕ) (rest : List ℕ) → s ≢ t
     → flat_map (finding_text form t files) ps ++ (finding_head form s file line column ++ rest) ≡ flat_map (finding_text form t files) qs → ⊥
 other_severity_after form s t files file one [] [] line column rest other e = no_start form s file line column rest e
 other_severity_after form s t files file one [] (q ∷ qs) line column rest other e =
@@ -369,7 +369,7 @@ other_severity_after form s t files file one (p ∷ ps) (q ∷ qs) line column r
     (one_of form t files p q _ _ (sym (append_assoc (text p) (flat_map text ps) (finding_head form s file line column ++ rest)) ∙ e))
 
 -- the lines of findings
-pub lines_of : {source : List ℕ} → (form : Form) (s : Severity) (files : Files) (p : FindingParts source) → newlines (finding_text form s files p) ≡ finding_lines form
+pub lines_of : {source : List ℕ} → (form : FindingForm) (s : Severity) (files : Files) (p : FindingParts source) → newlines (finding_text form s files p) ≡ finding_lines form
 lines_of form.Text s files p =
     let is : newlines (finding_text form.Text s files p) ≡ newlines (opening_line s files p ++ 10 ∷ (shown_line p ++ 10 ∷ (mark_line p ++ 10 ∷ (fix_line p ++ 10 ∷ [])))) =
     ap newlines (sym (append-nil (finding_text form.Text s files p)) ∙ people_is s files p []) in
@@ -382,7 +382,7 @@ lines_of form.Json s files p =
     let is : newlines (finding_text form.Json s files p) ≡ newlines (object_line s files p ++ 10 ∷ []) = ap newlines (sym (append-nil (finding_text form.Json s files p)) ∙ object_is s files p []) in
     is ∙ line_more (object_line s files p) [] (object_one s files p)
 
-pub lines_of_all : {source : List ℕ} → (form : Form) (s : Severity) (files : Files) (ps : List (FindingParts source)) → newlines (flat_map (finding_text form s files) ps) ≡ length ps * finding_lines form
+pub lines_of_all : {source : List ℕ} → (form : FindingForm) (s : Severity) (files : Files) (ps : List (FindingParts source)) → newlines (flat_map (finding_text form s files) ps) ≡ length ps * finding_lines form
 lines_of_all form s files [] = sym (zero-mul (finding_lines form))
 lines_of_all form s files (p ∷ ps) =
     newlines_in (finding_text form s files p) (flat_map (finding_text form s files) ps)
@@ -448,7 +448,7 @@ module _ (files : Files) where
   fix_json_printed : {source : List ℕ} → (p : FindingParts source) → IsTrue (is_on_line p.fix) → InJson → IsTrue (is_printed (fix_and_second files p))
   fix_json_printed p h named = both_printed (json_text p.fix) (second_text files p.second) (json_printed p.fix h) (second_printed p.second named)
 
-  text_printed : {source : List ℕ} → (form : Form) (s : Severity) (p : FindingParts source) → ((n : ℕ) → IsTrue (is_printed (finding_start form (own_line files n).file))) → IsTrue (is_printed (finding_text form s files p))
+  text_printed : {source : List ℕ} → (form : FindingForm) (s : Severity) (p : FindingParts source) → ((n : ℕ) → IsTrue (is_printed (finding_start form (own_line files n).file))) → IsTrue (is_printed (finding_text form s files p))
   text_printed form.Text s p h =
       let parts = parts_of p in
       let at = finding_at files p in
@@ -467,6 +467,6 @@ module _ (files : Files) where
       (add (severity_word s) _ (word_printed s) (add (codes "\",\"code\":") _ refl (add (json_text p.code) _ (json_printed p.code parts.0) (add (codes ",\"message\":") _ refl
       (add (json_text p.sentence) _ (json_printed p.sentence parts.1) (add (codes ",\"fix\":") _ refl (add (fix_and_second files p) _ (fix_json_printed p parts.4 named) (last_words (codes "}\n") refl))))))))))))).printed
 
-  pub findings_printed : {source : List ℕ} → (form : Form) (s : Severity) → ((n : ℕ) → IsTrue (is_printed (finding_start form (own_line files n).file))) → (ps : List (FindingParts source)) → IsTrue (is_printed (flat_map (finding_text form s files) ps))
+  pub findings_printed : {source : List ℕ} → (form : FindingForm) (s : Severity) → ((n : ℕ) → IsTrue (is_printed (finding_start form (own_line files n).file))) → (ps : List (FindingParts source)) → IsTrue (is_printed (flat_map (finding_text form s files) ps))
   findings_printed form s h [] = refl
   findings_printed form s h (p ∷ ps) = both_printed (finding_text form s files p) (flat_map (finding_text form s files) ps) (text_printed form s p h) (findings_printed form s h ps)

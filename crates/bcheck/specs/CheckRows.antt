@@ -10,7 +10,7 @@ use Rattle.bcheck.specs.Checks.{column_after, diagnostic_code, severity_of, seve
 use Rattle.blang.specs.Cut.{line_number_after}
 use Rattle.bsources.specs.Files.{Files}
 use Rattle.bcheck.specs.declared.finding.Severity.TheVariants as severity
-use Rattle.bcheck.specs.declared.form.Form.TheVariants as form
+use Rattle.bcheck.specs.declared.form.FindingForm.TheVariants as form
 
 -- a diagnostic comes before a fault of loading
 diagnostic_told : told_first (Some (record { letters = letters.Undefined; about = about.Name (codes "n"); line = 3 }))
@@ -123,6 +123,12 @@ warning_for_editors : finding_text form.Json severity.Warning (alone (codes "a\"
     ++ codes "\"code\":\"un\",\"message\":\"no n\",\"fix\":\"auto n;\"}\n"
 unfolding digits
 warning_for_editors = refl
+
+in_next_file_for_editors : finding_text form.Json severity.Warning (followed 2) undefined
+    ≡ codes "{\"file\":\"l\\u000a.b\",\"line\":1,\"column\":6,\"severity\":\"warning\","
+    ++ codes "\"code\":\"un\",\"message\":\"no n\",\"fix\":\"auto n;\"}\n"
+unfolding digits
+in_next_file_for_editors = refl
 
 -- the second place is where n is defined, and where `g` begins
 second_texts : map (second_text {source = codes "n 5;\nf() ;"} (alone (codes "x.b")))

@@ -26,8 +26,8 @@ use Rattle.blang.specs.Reports.{Reported}
 use Rattle.bsources.specs.Files.{Files, Line, own_line}
 use Rattle.bcheck.specs.declared.finding.Severity.{Severity}
 use Rattle.bcheck.specs.declared.finding.Severity.TheVariants as severity
-use Rattle.bcheck.specs.declared.form.Form.{Form}
-use Rattle.bcheck.specs.declared.form.Form.TheVariants as form
+use Rattle.bcheck.specs.declared.form.FindingForm.{FindingForm}
+use Rattle.bcheck.specs.declared.form.FindingForm.TheVariants as form
 use Rattle.bcheck.specs.declared.verdict.Verdict.{Verdict}
 use Rattle.bcheck.specs.declared.verdict.Verdict.TheVariants as verdict
 
@@ -188,19 +188,19 @@ second_text files (Some s) =
 abbrev pub fix_and_second : {source : List ℕ} → Files → FindingParts source → List ℕ
 fix_and_second files p = json_text p.fix ++ second_text files p.second
 
-abbrev pub finding_words : {source : List ℕ} → Form → Files → FindingParts source → List ℕ
+abbrev pub finding_words : {source : List ℕ} → FindingForm → Files → FindingParts source → List ℕ
 finding_words form.Text files p =
     p.sentence ++ codes "\n    " ++ finding_shown p ++ codes "\n    " ++ finding_mark p ++ codes "\n  fix: " ++ p.fix
 finding_words form.Json files p =
     json_text p.code ++ codes ",\"message\":" ++ json_text p.sentence ++ codes ",\"fix\":" ++ fix_and_second files p
 
 -- A finding begins with the name of its file: for people on one line, for editors as the first member of an object.
-abbrev pub finding_start : Form → (file : List ℕ) → List ℕ
+abbrev pub finding_start : FindingForm → (file : List ℕ) → List ℕ
 finding_start form.Text file = file_text file ++ codes ":"
 finding_start form.Json file = codes "{\"file\":" ++ json_text file ++ codes ",\"line\":"
 
 -- Then come a line of that file, a column and the severity.
-abbrev pub finding_head : Form → Severity → (file : List ℕ) → (line column : ℕ) → List ℕ
+abbrev pub finding_head : FindingForm → Severity → (file : List ℕ) → (line column : ℕ) → List ℕ
 finding_head form.Text s file line column =
     finding_start form.Text file ++ decimal line ++ codes ":" ++ decimal column ++ codes ": " ++ severity_word s
     ++ codes ": "
@@ -209,7 +209,7 @@ finding_head form.Json s file line column =
     ++ codes ",\"severity\":\"" ++ severity_word s ++ codes "\",\"code\":"
 
 -- Its words follow, and the end of the line.
-abbrev pub finding_text : {source : List ℕ} → Form → Severity → Files → FindingParts source → List ℕ
+abbrev pub finding_text : {source : List ℕ} → FindingForm → Severity → Files → FindingParts source → List ℕ
 finding_text form.Text s files p =
     finding_head form.Text s (finding_at files p).file (finding_at files p).line (finding_column p)
     ++ finding_words form.Text files p ++ codes "\n"
@@ -218,7 +218,7 @@ finding_text form.Json s files p =
     ++ finding_words form.Json files p ++ codes "}\n"
 
 -- the text of these findings of a source with this status
-abbrev pub findings_text : {source : List ℕ} → Form → (status : ℕ) → Files → List (FindingParts source) → List ℕ
+abbrev pub findings_text : {source : List ℕ} → FindingForm → (status : ℕ) → Files → List (FindingParts source) → List ℕ
 findings_text form status files findings = flat_map (finding_text form (severity_of status) files) findings
 
 -- the keyword that a diagnostic is about, where its code has it
@@ -254,13 +254,13 @@ abbrev pub IsReason : (o : Outcome) → FindingParts o.source → Type 0
 IsReason o p = Reason o.edition o.stop o.fault p.code (p.before ++ p.left) (p.right ++ p.after)
 
 -- The text of some findings of a source with this status, or of none: where it isn't 0 there is one.
-abbrev pub AreFindings : Form → Outcome → (status : ℕ) → Files → (text : List ℕ) → Type 0
+abbrev pub AreFindings : FindingForm → Outcome → (status : ℕ) → Files → (text : List ℕ) → Type 0
 AreFindings form o status files text =
     (findings : List (FindingParts o.source)) × (status ≢ DONE → length findings ≡ 1) × All (IsReason o) findings
     × (text ≡ findings_text form status files findings)
 
 -- A text and then findings were told with this status; or memory was refused, and nothing was written.
-pub data TellsFirst (form : Form) (o : Outcome) (files : Files) (first : List ℕ) (status : ℕ) (old new : Outgoing)
+pub data TellsFirst (form : FindingForm) (o : Outcome) (files : Files) (first : List ℕ) (status : ℕ) (old new : Outgoing)
     (result : ℕ) : Type 0 where
   told : (more : List ℕ) → AreFindings form o status files more → Reported (first ++ more) status old new result
       → TellsFirst form o files first status old new result
@@ -269,7 +269,7 @@ pub data TellsFirst (form : Form) (o : Outcome) (files : Files) (first : List �
 -- the files of a source, the source, the output, before and after, and the status
 pub record Check : Type 0 where
   pub edition : Edition
-  pub form : Form
+  pub form : FindingForm
   pub files : Files
   pub source : List ℕ
   pub out : Outgoing
@@ -277,7 +277,7 @@ pub record Check : Type 0 where
   pub status : ℕ
 
 -- For people the line of the compiler, or of the code that doesn't load, comes first; for editors it is an object's.
-abbrev pub shown_in_form : Form → List ℕ → List ℕ
+abbrev pub shown_in_form : FindingForm → List ℕ → List ℕ
 shown_in_form form.Text line = line
 shown_in_form form.Json line = []
 

@@ -18,8 +18,8 @@ use Rattle.bcheck.specs.Checks.{finding_start}
 use Rattle.bcheck.specs.Checks.{findings_text}
 use Rattle.bcheck.specs.Checks.{severity_of, shown_in_form, told_first}
 use Rattle.bcheck.specs.declared.finding.Severity.{Severity}
-use Rattle.bcheck.specs.declared.form.Form.{Form}
-use Rattle.bcheck.specs.declared.form.Form.TheVariants as form
+use Rattle.bcheck.specs.declared.form.FindingForm.{FindingForm}
+use Rattle.bcheck.specs.declared.form.FindingForm.TheVariants as form
 
 -- The source comes to this line and this status.
 pub record ComesTo (c : Check) (line : List ℕ) (status : ℕ) : Type 0 where
@@ -66,7 +66,7 @@ abbrev pub newlines : List ℕ → ℕ
 newlines text = count_by (λ b. b == 10) text
 
 -- how many newlines the text of a finding has
-abbrev pub finding_lines : Form → ℕ
+abbrev pub finding_lines : FindingForm → ℕ
 finding_lines form.Text = 4
 finding_lines form.Json = 1
 

@@ -19,7 +19,7 @@ use Rattle.bcheck.specs.declared.excerpt.Excerpt.{Excerpt}
 use Rattle.bcheck.specs.declared.finding.Finding.{Finding}
 use Rattle.bcheck.specs.declared.finding.Spot.{Spot}
 use Rattle.bcheck.specs.declared.finding.Severity.{Severity}
-use Rattle.bcheck.specs.declared.form.Form.{Form}
+use Rattle.bcheck.specs.declared.form.FindingForm.{FindingForm}
 use Rattle.bcheck.specs.declared.places.Milestone.{Milestone}
 use Rattle.bcheck.specs.declared.verdict.Verdict.{Verdict}
 use Rattle.bcheck.specs.declared.verdict.Verdict.TheVariants as verdict
@@ -134,7 +134,7 @@ abbrev pub IsSecond : Files → (source : List ℕ) → Option Spot → Type 0
 IsSecond files source s = IfSome s (IsSpot files source)
 
 -- the text has a finding of this code at this place more
-abbrev pub AddsFinding : Form → Severity → Files → (source : List ℕ) → (start : ℕ) → (code old new : List ℕ) → Type 0
+abbrev pub AddsFinding : FindingForm → Severity → Files → (source : List ℕ) → (start : ℕ) → (code old new : List ℕ) → Type 0
 AddsFinding form s files source start code old new =
     (p : FindingParts source) × (p.code ≡ code) × (p.before ++ p.left ≡ take start source)
     × (p.right ++ p.after ≡ drop start source) × (new ≡ old ++ finding_text form s files p)

@@ -3,10 +3,10 @@ ghost use Rattle.std.specs.Prelude.{◌≡◌};
 ghost use Rattle.bcheck.specs.Checks.{AreFindings, Checks, Outcome, TellsFirst, verdict_line, shown_in_form};
 ghost use Rattle.bcheck.specs.Excluded.{Excluded};
 ghost use Rattle.bsources.specs.Files.{Files, files_shown};
-ghost use Rattle.bcheck.specs.declared.form.Form.{Form};
+ghost use Rattle.bcheck.specs.declared.form.FindingForm.{FindingForm};
 
 use crate::explain::explain;
-use crate::form::{Form, Request};
+use crate::form::{FindingForm, Request};
 use crate::spans::Source;
 use crate::verdict::{Verdict, judge};
 use blang::status::{self, Status};
@@ -48,12 +48,12 @@ pub fn check<O: ByteOut>(alloc: Global, source: &[u8], asked: Request<'_>, out: 
 }
 
 // What comes first in this form.
-fn shown<'a>(form: Form, verdict: &'a Verdict) -> &'a [u8]
+fn shown<'a>(form: FindingForm, verdict: &'a Verdict) -> &'a [u8]
     ensures { result.now ≡ shown_in_form form (verdict_line verdict.now) }
 {
     match form {
-        Form::Text => verdict.first(),
-        Form::Json => b"",
+        FindingForm::Text => verdict.first(),
+        FindingForm::Json => b"",
     }
 }
 
@@ -65,7 +65,7 @@ fn tell_both<O: ByteOut>(
     status: Status,
     out: &mut O,
 ) -> Status
-    ensures tells { (form : Form) (o : Outcome) (files : Files) → AreFindings form o status files more.now
+    ensures tells { (form : FindingForm) (o : Outcome) (files : Files) → AreFindings form o status files more.now
         → TellsFirst form o files first.now status (O.outgoing out.old) (O.outgoing out.new) result }
     ensures out_lender { O.lender out.new ≡ O.lender out.old }
 {

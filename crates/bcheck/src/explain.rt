@@ -14,7 +14,7 @@ use crate::compiled::{Compiled, Extent};
 use crate::defined::Defined;
 use crate::excerpt::excerpt_at;
 use crate::finding::{Finding, Told};
-use crate::form::{Form, Request};
+use crate::form::{FindingForm, Request};
 use crate::patterns::{Tokens, add_comments, find};
 use crate::places::{milestones, place_on, spot_of};
 use crate::spans::{Scanner, Source, Spans, place_of};
@@ -61,8 +61,8 @@ pub(crate) fn explain(
             words: &words,
         };
         match asked.form {
-            Form::Text => text::write(&mut said, &told)?,
-            Form::Json => json::write(&mut said, &told)?,
+            FindingForm::Text => text::write(&mut said, &told)?,
+            FindingForm::Json => json::write(&mut said, &told)?,
         }
     }
     Ok(said)

@@ -4,7 +4,7 @@ use bword::Edition;
 
 /// How findings are written.
 #[derive(Clone, Copy)]
-pub enum Form {
+pub enum FindingForm {
     /// For people: the line of compiling, or of code that doesn't load; then of each finding its place and a sentence,
     /// the line of the source with a mark, and a fix.
     Text,
@@ -17,5 +17,5 @@ pub enum Form {
 pub struct Request<'a> {
     pub edition: Edition,
     pub files: SourceFiles<'a>,
-    pub form: Form,
+    pub form: FindingForm,
 }

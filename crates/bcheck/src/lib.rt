@@ -36,4 +36,4 @@ mod warnings;
 mod words;
 
 pub use checking::{check, wrong_checks_are_excluded};
-pub use form::{Form, Request};
+pub use form::{FindingForm, Request};

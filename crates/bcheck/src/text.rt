@@ -4,7 +4,7 @@ ghost use Rattle.std.specs.Prelude.{ℕ, ◌≡◌, ◌∷◌, List, [], IsTrue,
 ghost use Rattle.bcheck.specs.Checks.{is_on_line};
 ghost use Rattle.bcheck.specs.Findings.{AddsFinding, IsExcerpt};
 ghost use Rattle.bsources.specs.Files.{Files, line_shown, own_line};
-ghost use Rattle.bcheck.specs.declared.form.Form.TheVariants as form;
+ghost use Rattle.bcheck.specs.declared.form.FindingForm.TheVariants as form;
 
 use crate::finding::Told;
 use crate::pieces::{Piece, push_all};

@@ -21,7 +21,7 @@ use Rattle.bcli.specs.declared.sources.Unread.TheVariants as read_faults
 use Rattle.bcli.specs.Reading.{HasReadLibs, HasReadSource, IsUnread, LibIsUnread}
 use Rattle.bshow.specs.Shows.{Shows}
 use Rattle.bshow.specs.Shows.{Asked as PageAsked}
-use Rattle.bshow.specs.declared.showing.Rows.{Rows as Paged}
+use Rattle.bshow.specs.declared.showing.PageRows.{PageRows as Paged}
 use Rattle.std.specs.Prelude.{◌==◌, None, Option, Some, option_map}
 use Rattle.bcli.specs.Serves.{ShowsRun, CompilesJoined, NamesLib, NamesLibOf, compiling, files_read, whole, Answers, Does, HasNoFile, IsHelp, NamesFile, SaysNothing, RefusesWords}
 use Rattle.bcli.specs.declared.shelf.FileFault.{FileFault}

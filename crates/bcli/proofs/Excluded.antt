@@ -297,6 +297,9 @@ module _ (file : MemFile) where
   not_device : (ends : RunEnds) → SaysNothing ends 133 134 → ⊥
   not_device ends silent = omega (arith, silent.status_is)
 
+  lib_named : (ends : RunEnds) → NamesLib (holding file) (file.name.now ∷ []) ends 133 → ⊥
+  lib_named ends told = lib_missing (holding file) (file.name.now ∷ []) ends (only_there (holding file) file.name.now (λ missing. missing refl)) told
+
   run_alone : (steps : ℕ) (ends : RunEnds) (status : ℕ) → Does (holding file) (run file.name.now steps) ends status → RunsText steps file.text.now ends status ⊎ SaysNothing ends status 134
   run_alone steps ends status (inl none) = inr (no_file ends status none)
   run_alone steps ends status (inr runs) = inl (subst (λ t. RunsText steps t ends status) runs.1.1 runs.2)
@@ -343,6 +346,7 @@ module _ (file : MemFile) where
   file_is_read = record {
     no_file = λ ends none. not_device ends (no_file ends 133 none);
     named = λ ends told. not_device ends (named ends 133 told);
+    lib_named = lib_named;
     run_alone = run_alone;
     go_alone = go_alone;
     ask_alone = ask_alone;

@@ -128,6 +128,7 @@ pub record FileIsRead (file : MemFile) : Type 0 where
   -- it is said to be missing
   pub no_file : (ends : RunEnds) → HasNoFile (Holdings.lacks (holding file) file.name.now) ends DEVICE → ⊥
   pub named : (ends : RunEnds) → NamesFile (Holdings.lacks (holding file) file.name.now) file.name.now ends DEVICE → ⊥
+  pub lib_named : (ends : RunEnds) → NamesLib (holding file) (file.name.now ∷ []) ends DEVICE → ⊥
   -- another code text is run
   pub run_alone : (steps : ℕ) (ends : RunEnds) (status : ℕ) → Does (holding file) (run file.name.now steps) ends status
       → RunsText steps file.text.now ends status ⊎ SaysNothing ends status MEMORY

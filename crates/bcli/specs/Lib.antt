@@ -1,4 +1,5 @@
 pub mod Excluded
 pub mod Reading
 pub mod Serves
+pub mod ServeRows
 pub mod Shelves

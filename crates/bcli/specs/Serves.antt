@@ -16,22 +16,22 @@ use Rattle.brun.specs.Runs.{RunsText}
 use Rattle.bsources.specs.Files.{Files, NamedText, file_of, followed, joined}
 use Rattle.bsources.specs.JoinedEnds.{IsJoined, Joined, joined_in, joined_new, lender_joined}
 use Rattle.bcheck.specs.Checks.{Checks}
-use Rattle.bcheck.specs.declared.form.Form.{Form}
-use Rattle.bcheck.specs.declared.form.Form.TheVariants as forms
+use Rattle.bcheck.specs.declared.form.FindingForm.{FindingForm}
+use Rattle.bcheck.specs.declared.form.FindingForm.TheVariants as forms
 use Rattle.blist.specs.Listings.{Lists}
 use Rattle.blist.specs.Maps.{Maps}
 use Rattle.btools.specs.Programs.{ToldEnds}
 use Rattle.bdraw.specs.Draws.{Draws}
 use Rattle.btrace.specs.Locates.{Locates}
 use Rattle.btrace.specs.Traces.{Traces}
-use Rattle.btrace.specs.declared.trail.Rows.{Rows as Traced}
-use Rattle.btrace.specs.declared.trail.Rows.TheVariants as traced
+use Rattle.btrace.specs.declared.trail.TraceRows.{TraceRows as Traced}
+use Rattle.btrace.specs.declared.trail.TraceRows.TheVariants as traced
 use Rattle.bcount.specs.Counts.{Counts}
 use Rattle.bcount.specs.declared.table.Style.{Style}
 use Rattle.bcount.specs.declared.table.Style.TheVariants as styles
 use Rattle.bshow.specs.Shows.{Shows}
-use Rattle.bshow.specs.declared.showing.Rows.{Rows as Paged}
-use Rattle.bshow.specs.declared.showing.Rows.TheVariants as paged
+use Rattle.bshow.specs.declared.showing.PageRows.{PageRows as Paged}
+use Rattle.bshow.specs.declared.showing.PageRows.TheVariants as paged
 use Rattle.bformat.specs.Formats.{Formats}
 use Rattle.bcommand.specs.CommandLine.{Asked, Question, Source, asked, clash_line, command_line}
 use Rattle.bcommand.specs.CommandLine.{compile, run, go, migrate, ask, contradiction}
@@ -93,7 +93,7 @@ ShowsRun edition files text steps rows (Some given) ends status =
     (record ends { input = unread given; input_after = incoming_of after }) status
 
 -- how findings are told
-abbrev pub form_of : (for_editor : Bool) → Form
+abbrev pub form_of : (for_editor : Bool) → FindingForm
 form_of for_editor = if for_editor then forms.Json else forms.Text
 
 -- the compiler over a source and the streams of the program

@@ -13,7 +13,7 @@ ghost use Rattle.bcli.specs.Shelves.{anything};
 
 use crate::shelf::{FileFault, MemFile, Shelf, SystemFiles};
 use crate::sources::{Unread, read_libs, read_source};
-use bcheck::{Form, Request, check};
+use bcheck::{FindingForm, Request, check};
 use bcommand::{Display, Job, Question, Rows, Source, UNREAD, clash_text, job_of, parse};
 use bcount::{Counting, Style, count};
 use bdraw::draw;
@@ -25,7 +25,7 @@ use brun::{go_edition, migrate, run_text};
 use bshow::show;
 use bsources::{JoinedIn, SourceFiles};
 use btools::tell;
-use btrace::{Wanted, locate, trace};
+use btrace::{TraceRequest, locate, trace};
 use bword::{ByteIn, ByteOut, Edition, MemIn};
 use clap::error::ErrorKind;
 use clap::{ArgMatches, Error};
@@ -300,7 +300,7 @@ fn answer<I: ByteIn, O: ByteOut, D: ByteOut>(
             check(alloc, text, request, out)
         }
         Question::Trace(walk) => {
-            let wanted = Wanted {
+            let wanted = TraceRequest {
                 steps: walk.steps,
                 rows: traced_rows(walk.rows),
                 function: walk.function,
@@ -356,10 +356,14 @@ fn show_run<I: ByteIn, O: ByteOut, D: ByteOut>(
     }
 }
 
-fn page_of<'a>(files: SourceFiles<'a>, display: Display<'_>, given: &'a [u8]) -> bshow::Wanted<'a>
+fn page_of<'a>(
+    files: SourceFiles<'a>,
+    display: Display<'_>,
+    given: &'a [u8],
+) -> bshow::PageRequest<'a>
     ensures { page_of result ≡ record { steps = display.entry.steps; which = page_rows display.entry.rows; files = files_shown files.entry; given = given.now } }
 {
-    bshow::Wanted {
+    bshow::PageRequest {
         steps: display.steps,
         rows: page_rows(display.rows),
         files,
@@ -367,21 +371,21 @@ fn page_of<'a>(files: SourceFiles<'a>, display: Display<'_>, given: &'a [u8]) ->
     }
 }
 
-fn traced_rows(rows: Rows) -> btrace::Rows
+fn traced_rows(rows: Rows) -> btrace::TraceRows
     ensures { result ≡ traced_rows rows }
 {
     match rows {
-        Rows::From(number) => btrace::Rows::From(number),
-        Rows::Last(count) => btrace::Rows::Last(count),
+        Rows::From(number) => btrace::TraceRows::From(number),
+        Rows::Last(count) => btrace::TraceRows::Last(count),
     }
 }
 
-fn page_rows(rows: Rows) -> bshow::Rows
+fn page_rows(rows: Rows) -> bshow::PageRows
     ensures { result ≡ page_rows rows }
 {
     match rows {
-        Rows::From(number) => bshow::Rows::From(number),
-        Rows::Last(count) => bshow::Rows::Last(count),
+        Rows::From(number) => bshow::PageRows::From(number),
+        Rows::Last(count) => bshow::PageRows::Last(count),
     }
 }
 
@@ -395,10 +399,14 @@ fn style_of(for_editor: bool) -> Style
     }
 }
 
-fn form_of(for_editor: bool) -> Form
+fn form_of(for_editor: bool) -> FindingForm
     ensures { result ≡ form_of for_editor }
 {
-    if for_editor { Form::Json } else { Form::Text }
+    if for_editor {
+        FindingForm::Json
+    } else {
+        FindingForm::Text
+    }
 }
 
 // Names a file that can't be opened or read, unless there was no memory for it.

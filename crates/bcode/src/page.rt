@@ -234,6 +234,7 @@ fn push_case_line(page: &mut Page, value: u16, target: u16)
 }
 
 /// The line of an instruction.
+#[inline(always)]
 pub fn push_instr_line(page: &mut Page, instr: &Instr)
     requires { length page.old + LINE_LEN ≤ PAGE_LEN }
     ensures { page.new ≡ page.old ++ instr_line instr.now }

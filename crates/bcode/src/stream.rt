@@ -93,7 +93,7 @@ impl<I: ByteIn> Stream<I> {
     {
         let ahead = self.input.ahead();
         let Some((header, rest)) = header(ahead) else {
-            return self.fetch_header();
+            return Ok(self.fetch_header()?);
         };
         let count = ahead.len() - rest.len();
         self.input.take(count);
@@ -108,7 +108,7 @@ impl<I: ByteIn> Stream<I> {
     {
         let ahead = self.input.ahead();
         let Some((value, rest)) = ival(ahead, strings) else {
-            return self.fetch_ival(strings);
+            return Ok(self.fetch_ival(strings)?);
         };
         let count = ahead.len() - rest.len();
         self.input.take(count);
@@ -123,7 +123,7 @@ impl<I: ByteIn> Stream<I> {
     {
         let ahead = self.input.ahead();
         let Some((instr, rest)) = instr(ahead, sizes) else {
-            return self.fetch_instr(sizes);
+            return Ok(self.fetch_instr(sizes)?);
         };
         let count = ahead.len() - rest.len();
         self.input.take(count);
@@ -140,7 +140,7 @@ impl<I: ByteIn> Stream<I> {
     {
         let ahead = self.input.ahead();
         let Some((n, rest)) = number_line(ahead, letter, below) else {
-            return self.fetch_number(letter, below);
+            return Ok(self.fetch_number(letter, below)?);
         };
         let count = ahead.len() - rest.len();
         self.input.take(count);
@@ -150,6 +150,7 @@ impl<I: ByteIn> Stream<I> {
 }
 
 // A line that isn't whole among the bytes ahead, or that is none of a code text, is taken byte by byte.
+// The fast calls hand the answers of these on by `?`, so that the place where these write has no other use.
 impl<I: ByteIn> Stream<I> {
     #[cold]
     #[inline(never)]

@@ -1,3 +1,4 @@
 pub mod CommandLine
 pub mod CommandRows
+pub mod OptionRows
 pub mod Rows

@@ -6,7 +6,7 @@ ghost use Rattle.bcommand.specs.CommandLine.{clash_line};
 use crate::job::Clash;
 
 /// The version of this program, and the line of the kit that it is proved with.
-pub(crate) const VERSION: &str = "1.0.0, proved with rattle-kit-13b logic dac8208d650f15bf";
+pub(crate) const VERSION: &str = "1.0.0, proved with rattle-kit-13f logic dac8208d650f15bf";
 
 /// The message for a command line with a word that isn't UTF-8.
 pub const UNREAD: &str = "\

@@ -1,11 +1,27 @@
 -- What no counts are.
-use Rattle.std.proofs.Common.{◌≡◌, ◌∙◌, ℕ, zero, suc, List, [], ◌∷◌, ◌++◌, ap, arith, map, refl}
-use Rattle.bword.specs.ByteEnds.{Incoming}
+use Rattle.std.proofs.Common.{◌≡◌, ◌∙◌, ℕ, zero, suc, ◌<◌, ◌≤◌, List, [], ◌∷◌, ◌++◌, ap, arith, codes, map, refl, subst}
+use Rattle.std.specs.Fmt.{digits}
+use Rattle.std.specs.List.{All}
+use Rattle.std.proofs.lemmas.List.Elements.{All-head, All-tail}
+use Rattle.bsources.specs.Files.{Files}
+use Rattle.bword.specs.ByteEnds.{Incoming, Outgoing, outgoing_of}
+use Rattle.blang.specs.declared.code.Definition.{Definition}
+use Rattle.blang.specs.declared.run.Outcome.{Outcome}
 use Rattle.blang.specs.declared.run.Outcome.TheVariants as outcome
+use Rattle.blang.specs.declared.status.TheConstants.{DEVICE}
+use Rattle.blang.specs.Reports.{RunEnds, RunGives}
 use Rattle.blang.specs.Machine.{machine}
-use Rattle.btools.specs.Functions.{functions_of}
-use Rattle.bcount.specs.Counts.{AreCounts}
-use Rattle.bcount.specs.Excluded.{CountsExcluded, CountsOnly, nothing}
+use Rattle.btools.specs.Functions.{Placed, functions_of}
+use Rattle.btools.specs.Programs.{nothing_written}
+use Rattle.bcount.specs.Counts as count
+use Rattle.bcount.specs.Counts.{AreCounts, Asked, Counts, IsOnLines, line_counts}
+use Rattle.bcount.specs.Excluded.{CountsExcluded, CountsOnly, ShowsBoth, nothing}
+use Rattle.bcount.specs.SourceLines.{last_line, newlines_in}
+use Rattle.bcount.specs.Tables.{table_text}
+use Rattle.bcount.specs.declared.lines.Counted.{Counted}
+use Rattle.bcount.specs.declared.table.Style.{Style}
+use Rattle.bcount.specs.declared.table.Style.TheVariants as styles
+use Rattle.bcount.specs.declared.table.TheConstants.{HEADING}
 use Rattle.bcount.specs.Tallies.{counts_of}
 
 at_limit : (steps : ℕ) (tallies : List (List ℕ)) → ((input : List ℕ) → map (counts_of (machine nothing input) steps) (functions_of nothing) ≡ tallies) → CountsOnly steps outcome.Limit tallies
@@ -18,9 +34,96 @@ at_end (suc zero) i j other h = let e = (h.ends [] (λ e. refl)).3 in cc
 at_end (suc (suc zero)) i j other h = h.counts [] (λ e. refl)
 at_end (suc (suc (suc made))) i j other h = let le = h.within in absurd (omega (arith, le))
 
+-- the two instructions, where they are on these lines
+abbrev both : (one two : ℕ) → List Counted
+both one two = record { line = one; count = 1 } ∷ record { line = two; count = 1 } ∷ []
+
+record On (last : ℕ) (counted : List Counted) : Type 0 where
+  one : ℕ
+  two : ℕ
+  is : counted ≡ both one two
+  one_on : (0 < one) × (one ≤ last)
+  two_on : (0 < two) × (two ≤ last)
+
+on_lines : (last : ℕ) (counted : List Counted) → map (λ c. c.count) counted ≡ 1 ∷ 1 ∷ [] → All (IsOnLines last) counted → On last counted
+on_lines last [] e h = cc
+on_lines last (c ∷ []) e h = cc
+on_lines last (c ∷ d ∷ []) e h =
+    let first : c.count ≡ 1 = cc in
+    let second : d.count ≡ 1 = cc in
+    record {
+      one = c.line;
+      two = d.line;
+      is = (λ i. record { line = c.line; count = first i } ∷ record { line = d.line; count = second i } ∷ []);
+      one_on = All-head (IsOnLines last) c (d ∷ []) h;
+      two_on = All-head (IsOnLines last) d [] (All-tail (IsOnLines last) c (d ∷ []) h);
+    }
+on_lines last (c ∷ d ∷ x ∷ xs) e h = cc
+
+abbrev alone : Files
+alone = record { first = record { name = codes "p.b"; lines = 1 }; rest = [] }
+
+only_one : (n : ℕ) → (0 < n) × (n ≤ 1) → n ≡ 1
+only_one n h = omega (arith, h.0, h.1)
+
+-- what is shown of a source of one line
+of_one_line : (style : Style) (source text : List ℕ) → last_line source ≡ 1 → ShowsBoth style source text → text ≡ table_text style alone source (line_counts (both 1 1) 1) 2
+of_one_line style source text last h =
+    let on = on_lines 1 h.counted h.counts_are (subst (λ n. All (IsOnLines n) h.counted) last h.on_lines) in
+    h.text_is ∙ (λ i. table_text style alone source (line_counts (on.is i) (last i)) 2)
+    ∙ (λ i. table_text style alone source (line_counts (both (only_one on.one on.one_on i) (only_one on.two on.two_on i)) 1) 2)
+
+one_table : table_text styles.Table alone (codes "main(){}") (line_counts (both 1 1) 1) 2 ≡ HEADING.now ++ codes ">      1             1             2  main(){}\n" ++ codes "   total                           2\n"
+unfolding digits
+one_table = refl
+
+one_object : table_text styles.Json alone (codes "main(){}\n") (line_counts (both 1 1) 1) 2 ≡ codes "{\"file\":\"p.b\",\"line\":1,\"times\":1,\"steps\":2}\n"
+unfolding digits
+one_object = refl
+
+abbrev rows_on : (one two : ℕ) → ℕ
+rows_on one two = newlines_in (table_text styles.Table alone (codes "main()\n{}\n") (line_counts (both one two) 2) 2)
+
+four_rows : (one two : ℕ) → (0 < one) × (one ≤ 2) → (0 < two) × (two ≤ 2) → rows_on one two ≡ 4
+unfolding digits
+four_rows zero two h g = let bad = h.0 in absurd (omega (arith, bad))
+four_rows (suc (suc (suc n))) two h g = let bad = h.1 in absurd (omega (arith, bad))
+four_rows (suc n) zero h g = let bad = g.0 in absurd (omega (arith, bad))
+four_rows (suc n) (suc (suc (suc m))) h g = let bad = g.1 in absurd (omega (arith, bad))
+four_rows (suc zero) (suc zero) h g = refl
+four_rows (suc zero) (suc (suc zero)) h g = refl
+four_rows (suc (suc zero)) (suc zero) h g = refl
+four_rows (suc (suc zero)) (suc (suc zero)) h g = refl
+
+of_two_lines : (text : List ℕ) → ShowsBoth styles.Table (codes "main()\n{}\n") text → newlines_in text ≡ 4
+of_two_lines text h =
+    let on = on_lines 2 h.counted h.counts_are h.on_lines in
+    ap newlines_in (h.text_is ∙ ap (λ cs. table_text styles.Table alone (codes "main()\n{}\n") (line_counts cs 2) 2) on.is) ∙ four_rows on.one on.two on.one_on on.two_on
+
+-- a run that has counts read without a failure
+reads_whole : (fs : List Placed) (ds : List Definition) (n : ℕ) (i j : Incoming) (o p : Outgoing) (made : ℕ) (tallies : List (List ℕ)) → (j.failures ≡ i.failures → ⊥) → (result : Outcome) → RunGives (machine ds) n i j o p result
+    → AreCounts fs (machine ds) n i j result made tallies → ⊥
+reads_whole fs ds n i j o p made tallies failed (outcome.Exit status) h a = failed h.no_failure
+reads_whole fs ds n i j o p made tallies failed (outcome.Trap kind) h a = failed h.no_failure
+reads_whole fs ds n i j o p made tallies failed outcome.Limit h a = failed h.no_failure
+reads_whole fs ds n i j o p made tallies failed outcome.Device h a = a.ends [] (λ e. refl)
+reads_whole fs ds n i j o p made tallies failed outcome.Memory h a = a.ends [] (λ e. refl)
+
+read_lost : (asked : Asked) (source : List ℕ) (ends : RunEnds) (status : ℕ) → (ends.input_after.failures ≡ ends.input.failures → ⊥) → Counts asked source ends status → (status ≡ DEVICE) × (ends.out_after ≡ ends.out)
+read_lost asked source ends status failed (count.counted mid ds image result output made tallies text told program gives counts table reported tells) =
+    absurd (reads_whole (functions_of ds) ds asked.steps ends.input ends.input_after nothing_written (outgoing_of output) made tallies failed result gives counts)
+read_lost asked source ends status failed (count.unread ds image output program gives same answer) = (answer, same)
+read_lost asked source ends status failed (count.not_begun mid ds image result program never told quiet) = absurd (failed (ap (λ (i : Incoming). i.failures) quiet.unread))
+read_lost asked source ends status failed (count.stopped none quiet) = absurd (failed (ap (λ (i : Incoming). i.failures) quiet.unread))
+read_lost asked source ends status failed (count.no_memory ds image program same unfailed answer) = absurd (failed unfailed)
+
 pub excluded : CountsExcluded
 excluded = record {
   no_step = at_limit 0 ((0 ∷ 0 ∷ []) ∷ []) (λ input. refl);
   one_step = at_limit 1 ((1 ∷ 0 ∷ []) ∷ []) (λ input. refl);
   last_step = λ i j made other h. at_end made i j other h;
+  other_table = λ text h. of_one_line styles.Table (codes "main(){}") text refl h ∙ one_table;
+  other_object = λ text h. of_one_line styles.Json (codes "main(){}\n") text refl h ∙ one_object;
+  other_rows = of_two_lines;
+  read_failed = read_lost;
 }

@@ -2,5 +2,7 @@ mod Noting
 mod Made
 mod LineSums
 mod Rows
+mod Costs
+mod Splits
 mod Whole
 mod Excluded

@@ -13,7 +13,7 @@ use Rattle.btools.proofs.Finding.{other_number, same_number}
 use Rattle.bcount.specs.declared.lines.Counted.{Counted}
 use Rattle.bcount.specs.declared.lines.LineCount.{LineCount}
 use Rattle.bcount.specs.Counts.{IsOnLines, line_count, steps_on, times_on, with_count}
-use Rattle.bcount.specs.Tables.{no_code}
+use Rattle.bcount.specs.Marks.{no_code}
 
 -- a list that was set at one index is made by another function
 pub set_one : {A : Type 0} (f g : ℕ → A) (first n i : ℕ) (x : A) → i < n → x ≡ g (first + i) → ((k : ℕ) → (k ≡ first + i → ⊥) → g k ≡ f k) → set (map f (range_with_len first n)) i x ≡ map g (range_with_len first n)

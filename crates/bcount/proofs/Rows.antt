@@ -1,68 +1,56 @@
 -- Rows, one after another.
-use Rattle.std.proofs.Common.{◌≡◌, ◌∙◌, ℕ, ◌+◌, ◌<◌, Bool, Option, List, [], ◌∷◌, ◌++◌, ap, append-nil, append_assoc, arith, codes, false, get_or, length, map, refl, sym, take}
-use Rattle.std.specs.List.{flat_map, list_all, range_with_len}
-use Rattle.std.proofs.lemmas.Bool.{and_from}
-use Rattle.std.proofs.lemmas.List.{map-append, map-id, take_all, take_more}
-use Rattle.std.proofs.lemmas.List.Folds.{list_all-append}
+use Rattle.std.proofs.Common.{◌≡◌, ◌∙◌, ℕ, suc, ◌+◌, ◌<◌, Bool, length, Option, List, [], ◌∷◌, ◌++◌, ap, append-nil, append_assoc, arith, codes, get_or, map, sym, take}
+use Rattle.std.specs.List.{flat_map, range_with_len}
+use Rattle.std.proofs.Math.Numerals.{add-one}
+use Rattle.std.proofs.lemmas.List.{map-append, map-id, take_more}
 use Rattle.std.proofs.lemmas.List.Concat.{flat_map-append}
 use Rattle.std.proofs.lemmas.List.FromFn.{map-range_with_len_more}
 use Rattle.bsources.specs.Files.{Files, Line, beyond_first, own_line}
-use Rattle.btools.specs.Characters.{IsPrintable, is_printable}
+use Rattle.btools.proofs.AddedTexts.{piece}
 use Rattle.bcount.specs.declared.lines.LineCount.{LineCount}
 use Rattle.bcount.specs.declared.table.Style.{Style}
 use Rattle.bcount.specs.declared.table.Style.TheVariants as styles
-use Rattle.btools.proofs.AddedTexts.{piece}
-use Rattle.bcount.specs.Tables.{AddsRow, Extends, IsTable, Row, cells_text, file_row, heading_of, object_text, row_text, total_of}
+use Rattle.bcount.specs.SourceLines.{beside_text, source_lines}
+use Rattle.bcount.specs.Tables.{cells_text, file_row, object_text, row_text}
 
-printable_more : (a b : List ℕ) → IsPrintable a → IsPrintable b → IsPrintable (a ++ b)
-printable_more a b p q = list_all-append is_printable a b ∙ and_from (list_all is_printable a) (list_all is_printable b) p q
+-- the row of one number more
+pub one_row : (f : ℕ → List ℕ) (heading text new : List ℕ) (n : ℕ) → text ≡ heading ++ flat_map f (range_with_len 0 n) → new ≡ text ++ f n → new ≡ heading ++ flat_map f (range_with_len 0 (n + 1))
+one_row f heading text new n before row =
+    let numbers : range_with_len 0 (n + 1) ≡ range_with_len 0 n ++ n ∷ [] = simp map-id at (map-range_with_len_more (λ (k : ℕ). k) 0 n n (omega arith)) in
+    row ∙ ap (λ t. t ++ f n) before ∙ append_assoc heading (flat_map f (range_with_len 0 n)) (f n)
+    ∙ ap (λ t. heading ++ (flat_map f (range_with_len 0 n) ++ t)) (sym (append-nil (f n)))
+    ∙ ap (λ t. heading ++ t) (sym (ap (flat_map f) numbers ∙ flat_map-append f (range_with_len 0 n) (n ∷ [])))
 
--- more of a text that can be printed
-pub extends_more : (t0 t1 t2 : List ℕ) → Extends t0 t1 → Extends t1 t2 → Extends t0 t2
-extends_more t0 t1 t2 a b = (a.0 ++ b.0, printable_more a.0 b.0 a.1 b.1, b.2 ∙ ap (λ t. t ++ b.0) a.2 ∙ append_assoc t0 a.0 b.0)
+-- what is left of a source, where so many of its lines went by
+abbrev pub IsRest : (source : List ℕ) → (index : ℕ) → (rest : List ℕ) → Type 0
+IsRest source index rest = (k : ℕ) → get_or (source_lines source) (index + k) [] ≡ get_or (source_lines rest) k []
 
--- so many rows were added after a heading
-pub record HasRows (style : Style) (files : Files) (heading : List ℕ) (lines : List LineCount) (n : ℕ) (text : List ℕ) : Type 0 where
-  pub rows : List Row
-  pub numbers : map (λ r. r.line) rows ≡ range_with_len 1 n
-  pub counts : map (λ r. r.count) rows ≡ take n lines
-  pub text_is : text ≡ heading ++ flat_map (row_text style files) rows
+pub rest_first : (source rest : List ℕ) (index : ℕ) → IsRest source index rest → get_or (source_lines source) index [] ≡ get_or (source_lines rest) 0 []
+rest_first source rest index h = ap (λ n. get_or (source_lines source) n []) (let none : index ≡ index + 0 = omega arith in none) ∙ h 0
 
-pub no_rows : (style : Style) (files : Files) (heading : List ℕ) (lines : List LineCount) (text : List ℕ) → text ≡ heading → HasRows style files heading lines 0 text
-no_rows style files heading lines text is = record { rows = []; numbers = refl; counts = refl; text_is = is ∙ sym (append-nil heading) }
-
-pub one_row : (style : Style) (files : Files) (heading : List ℕ) (lines : List LineCount) (n : ℕ) (d : LineCount) (text new : List ℕ) → n < length lines → HasRows style files heading lines n text → AddsRow style files (n + 1) (get_or lines n d) text new → HasRows style files heading lines (n + 1) new
-one_row style files heading lines n d text new lt h a =
-    let f = row_text style files in
-    record {
-      rows = h.rows ++ a.0 ∷ [];
-      numbers = map-append (λ (r : Row). r.line) h.rows (a.0 ∷ []) ∙ (λ i. h.numbers i ++ a.1 i ∷ []) ∙ sym (simp map-id at (map-range_with_len_more (λ (k : ℕ). k) 1 n (n + 1) (omega arith)));
-      counts = map-append (λ (r : Row). r.count) h.rows (a.0 ∷ []) ∙ (λ i. h.counts i ++ a.2 i ∷ []) ∙ sym (take_more lines n d lt);
-      text_is = a.3 ∙ ap (λ t. t ++ f a.0) h.text_is ∙ append_assoc heading (flat_map f h.rows) (f a.0)
-          ∙ ap (λ t. heading ++ t) (ap (λ t. flat_map f h.rows ++ t) (sym (append-nil (f a.0))) ∙ sym (flat_map-append f h.rows (a.0 ∷ [])));
-    }
+pub rest_next : (source rest after : List ℕ) (index : ℕ) → IsRest source index rest → ((k : ℕ) → get_or (source_lines rest) (suc k) [] ≡ get_or (source_lines after) k []) → IsRest source (index + 1) after
+rest_next source rest after index h next k =
+    ap (λ n. get_or (source_lines source) n []) (let moved : index + 1 + k ≡ index + (k + 1) = omega arith in moved) ∙ h (k + 1)
+    ∙ ap (λ n. get_or (source_lines rest) n []) (add-one k) ∙ next k
 
 -- the row of a line as an object
-pub object_row : (style : Style) (files : Files) (line : ℕ) (count got : LineCount) (at : Line) (old new : List ℕ) → style ≡ styles.Json → at ≡ own_line files line → got ≡ count → new ≡ old ++ object_text at got → AddsRow style files line count old new
-object_row style files line count got at old new json there same is =
-    let r : Row = record { line = line; count = count; is_marked = false; beside = []; beside_is_printable = refl } in
-    (r, refl, refl, is ∙ (λ i. old ++ object_text (there i) (same i)) ∙ ap (λ s. old ++ row_text s files r) (sym json))
+pub object_row : (style : Style) (files : Files) (line : ℕ) (count got : LineCount) (marked : Bool) (bytes : List ℕ) (at : Line) (old new : List ℕ) → style ≡ styles.Json → at ≡ own_line files line → got ≡ count → new ≡ old ++ object_text at got
+    → new ≡ old ++ row_text style files line count marked bytes
+object_row style files line count got marked bytes at old new json there same is =
+    is ∙ (λ i. old ++ object_text (there i) (same i)) ∙ ap (λ s. old ++ row_text s files line count marked bytes) (sym json)
 
 -- the row of a line of a table
-pub table_row : (style : Style) (files : Files) (line : ℕ) (count got : LineCount) (marked : Bool) (number : ℕ) (beyond : Option Line) (old t1 t2 t3 new : List ℕ) → style ≡ styles.Table → beyond ≡ beyond_first files line → number ≡ (own_line files line).line → got ≡ count
-    → t1 ≡ old ++ file_row beyond → t2 ≡ t1 ++ cells_text marked number got → Extends t2 t3 → new ≡ t3 ++ codes "\n" → AddsRow style files line count old new
-table_row style files line count got marked number beyond old t1 t2 t3 new table first own same file cells beside end =
-    let r : Row = record { line = line; count = count; is_marked = marked; beside = beside.0; beside_is_printable = beside.1 } in
+pub table_row : (style : Style) (files : Files) (line : ℕ) (count got : LineCount) (marked : Bool) (bytes : List ℕ) (number : ℕ) (beyond : Option Line) (old t1 t2 t3 new : List ℕ) → style ≡ styles.Table → beyond ≡ beyond_first files line
+    → number ≡ (own_line files line).line → got ≡ count → t1 ≡ old ++ file_row beyond → t2 ≡ t1 ++ cells_text marked number got → t3 ≡ t2 ++ beside_text bytes → new ≡ t3 ++ codes "\n"
+    → new ≡ old ++ row_text style files line count marked bytes
+table_row style files line count got marked bytes number beyond old t1 t2 t3 new table first own same file cells beside end =
     let one : t2 ≡ old ++ (file_row beyond ++ cells_text marked number got) = piece old t1 t2 (file_row beyond) (cells_text marked number got) file cells in
-    let two : t3 ≡ old ++ ((file_row beyond ++ cells_text marked number got) ++ beside.0) = piece old t2 t3 _ beside.0 one beside.2 in
-    let all : new ≡ old ++ (((file_row beyond ++ cells_text marked number got) ++ beside.0) ++ codes "\n") = piece old t3 new _ (codes "\n") two end in
-    (r, refl, refl, all ∙ (λ i. old ++ (((file_row (first i) ++ cells_text marked (own i) (same i)) ++ beside.0) ++ codes "\n")) ∙ ap (λ s. old ++ row_text s files r) (sym table))
+    let two : t3 ≡ old ++ ((file_row beyond ++ cells_text marked number got) ++ beside_text bytes) = piece old t2 t3 _ (beside_text bytes) one beside in
+    let all : new ≡ old ++ (((file_row beyond ++ cells_text marked number got) ++ beside_text bytes) ++ codes "\n") = piece old t3 new _ (codes "\n") two end in
+    all ∙ (λ i. old ++ (((file_row (first i) ++ cells_text marked (own i) (same i)) ++ beside_text bytes) ++ codes "\n")) ∙ ap (λ s. old ++ row_text s files line count marked bytes) (sym table)
 
--- all rows and what is after them
-pub all_rows : (style : Style) (files : Files) (lines : List LineCount) (n made : ℕ) (text new : List ℕ) → n ≡ length lines → HasRows style files (heading_of style) lines n text → new ≡ text ++ total_of style made → IsTable style files lines made new
-all_rows style files lines n made text new all h is = record {
-  rows = h.rows;
-  numbers = h.numbers ∙ ap (range_with_len 1) all;
-  counts = h.counts ∙ take_all n lines (omega (arith, all));
-  text_is = is ∙ ap (λ t. t ++ total_of style made) h.text_is;
-}
+-- one byte more beside a line
+pub byte_beside : (f : ℕ → ℕ) (old text new bytes : List ℕ) (i b : ℕ) → i < length bytes → b ≡ get_or bytes i 0 → text ≡ old ++ (codes "  " ++ map f (take i bytes)) → new ≡ text ++ f b ∷ [] → new ≡ old ++ (codes "  " ++ map f (take (i + 1) bytes))
+byte_beside f old text new bytes i b lt is before one =
+    one ∙ ap (λ t. t ++ f b ∷ []) before ∙ append_assoc old (codes "  " ++ map f (take i bytes)) (f b ∷ [])
+    ∙ ap (λ t. old ++ (codes "  " ++ t)) (sym (map-append f (take i bytes) (b ∷ [])) ∙ ap (map f) (ap (λ x. take i bytes ++ x ∷ []) is ∙ sym (take_more bytes i 0 lt)))

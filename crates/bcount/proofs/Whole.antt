@@ -84,7 +84,7 @@ unfailed p n i j outcome.Memory a b h = absurd (b refl)
 module _ (asked : Asked) (source : List ℕ) (ends : RunEnds) (status : ℕ) (mid : Outgoing) (ds : List Definition) (image : Image) (p : Paused) (begins : IsUnstarted image p) where
   pub counted_whole : (es : List Entry) (result : Outcome) (made : ℕ) (tallies : List (List ℕ)) (text : List ℕ) (told : ℕ) → HasProgram asked.edition source ends.line mid ds image → map placed_entry es ≡ functions_of ds
       → StepsGive p asked.steps ends.input ends.input_after result × AreCounts (map placed_entry es) (steps_from p) asked.steps ends.input ends.input_after result made tallies
-      → IsTableOf asked tallies made text → Reported text DONE ends.out ends.out_after told → TellsEnd told result mid ends.line_after status → Counts asked source ends status
+      → IsTableOf asked source tallies made text → Reported text DONE ends.out ends.out_after told → TellsEnd told result mid ends.line_after status → Counts asked source ends status
   counted_whole es result made tallies text told is functions h table tells end =
       counted mid ds image result h.0.0 made tallies text told is (gives_run ds image p is.loaded begins asked.steps ends.input ends.input_after result h.0)
       (subst (λ (fs : List Placed). AreCounts fs (machine ds) asked.steps ends.input ends.input_after result made tallies) functions (counts_run (map placed_entry es) ds image p is.loaded begins asked.steps ends.input ends.input_after result made tallies h.1))

@@ -1,12 +1,15 @@
 -- Closed facts: counts and their rows, on small values.
-use Rattle.std.specs.Prelude.{◌≡◌, ℕ, true, false, List, [], ◌∷◌, Some, None, codes, map, refl}
+use Rattle.std.specs.Prelude.{◌≡◌, ℕ, true, false, List, [], ◌∷◌, ◌++◌, Some, None, codes, map, refl}
 use Rattle.std.specs.Fmt.{digits}
-use Rattle.bsources.specs.Files.{Line}
+use Rattle.std.specs.List.{range_with_len}
+use Rattle.bsources.specs.Files.{Files, Line}
 use Rattle.bcount.specs.declared.lines.Counted.{Counted}
 use Rattle.bcount.specs.declared.lines.LineCount.{LineCount}
 use Rattle.bcount.specs.declared.table.Style.TheVariants as style
-use Rattle.bcount.specs.Counts.{steps_on, times_on}
-use Rattle.bcount.specs.Tables.{cells_text, file_row, object_text, total_of}
+use Rattle.bcount.specs.Counts.{line_counts, steps_on, times_on}
+use Rattle.bcount.specs.Marks.{is_marked, no_code}
+use Rattle.bcount.specs.SourceLines.{beside_text, last_line, source_lines}
+use Rattle.bcount.specs.Tables.{cells_text, file_row, object_text, table_text, total_of}
 use Rattle.bcount.specs.Tallies.{bumped}
 
 -- the instruction at a place is counted, and none where there is none
@@ -36,7 +39,7 @@ cells_marked : cells_text true 3 did ≡ codes ">      3             7          
 unfolding digits
 cells_marked = refl
 
-cells_without_code : cells_text false 10 (record { times = None; steps = 0 }) ≡ codes "      10                            "
+cells_without_code : cells_text false 10 no_code ≡ codes "      10                            "
 unfolding digits
 cells_without_code = refl
 
@@ -53,7 +56,7 @@ object_of_line : object_text (at_line 3) did ≡ codes "{\"file\":\"l\\\".b\",\"
 unfolding digits
 object_of_line = refl
 
-object_without_code : object_text (at_line 3) (record { times = None; steps = 0 }) ≡ []
+object_without_code : object_text (at_line 3) no_code ≡ []
 object_without_code = refl
 
 total : total_of style.Table 78 ≡ codes "   total                          78\n"
@@ -62,3 +65,60 @@ total = refl
 
 no_total : total_of style.Json 78 ≡ []
 no_total = refl
+
+-- the number of the last line: without a newline, with one at the end, with one before it, and with newlines alone
+last_lines : map last_line ([] ∷ codes "a" ∷ codes "a\n" ∷ codes "a\nb" ∷ codes "\n" ∷ codes "\n\n" ∷ [])
+    ≡ 1 ∷ 1 ∷ 1 ∷ 2 ∷ 1 ∷ 2 ∷ []
+last_lines = refl
+
+lines_in_order : source_lines (codes "a\n\nbc\n") ≡ codes "a" ∷ [] ∷ codes "bc" ∷ [] ∷ []
+lines_in_order = refl
+
+-- a tab, a byte that can't be printed, and the white space at the end of a line
+shown_beside : beside_text (9 ∷ codes "x " ++ 127 ∷ 31 ∷ codes "~ " ++ 9 ∷ 13 ∷ []) ≡ codes "   x ??~"
+shown_beside = refl
+
+none_beside : beside_text (codes "  ") ≡ codes "  "
+none_beside = refl
+
+-- The three costliest lines are marked: of those that took as many steps the upper ones, and none that took none.
+abbrev took : ℕ → LineCount
+took steps = record { times = Some 1; steps = steps }
+
+costliest_marked : map (is_marked (map took (5 ∷ 0 ∷ 7 ∷ 5 ∷ 5 ∷ []))) (range_with_len 0 6)
+    ≡ true ∷ false ∷ true ∷ true ∷ false ∷ false ∷ []
+costliest_marked = refl
+
+last_marked : map (is_marked (map took (1 ∷ 2 ∷ 3 ∷ 4 ∷ []))) (range_with_len 0 4)
+    ≡ false ∷ true ∷ true ∷ true ∷ []
+last_marked = refl
+
+fewer_marked : map (is_marked (map took (0 ∷ 1 ∷ 0 ∷ []))) (range_with_len 0 3) ≡ false ∷ true ∷ false ∷ []
+fewer_marked = refl
+
+-- a whole table of two files, and the same as objects
+abbrev two_files : Files
+two_files = record {
+  first = record { name = codes "p.b"; lines = 2 };
+  rest = record { name = codes "l.b"; lines = 2 } ∷ [];
+}
+
+abbrev in_two : List LineCount
+in_two = line_counts (record { line = 1; count = 2 } ∷ record { line = 1; count = 1 } ∷ record { line = 3; count = 1 }
+    ∷ []) 3
+
+whole_table : table_text style.Table two_files (codes "main(){f();}\n\nf(){}\n") in_two 4
+    ≡ codes "    line         times         steps  source\n"
+    ++ codes ">      1             2             3  main(){f();}\n"
+    ++ codes "       2                              \n"
+    ++ codes "l.b\n"
+    ++ codes ">      1             1             1  f(){}\n"
+    ++ codes "   total                           4\n"
+unfolding digits
+whole_table = refl
+
+whole_objects : table_text style.Json two_files (codes "main(){f();}\n\nf(){}\n") in_two 4
+    ≡ codes "{\"file\":\"p.b\",\"line\":1,\"times\":2,\"steps\":3}\n"
+    ++ codes "{\"file\":\"l.b\",\"line\":1,\"times\":1,\"steps\":1}\n"
+unfolding digits
+whole_objects = refl

@@ -14,7 +14,8 @@ use Rattle.blang.specs.Reports.{Finishes, HasNotRun, Reported, RunEnds, RunGives
 use Rattle.bmach.specs.Stepping.{BeginsNot}
 use Rattle.btools.specs.Functions.{Placed, functions_of}
 use Rattle.btools.specs.Programs.{HasProgram, NoProgram, TellsEnd, nothing_written}
-use Rattle.bcount.specs.Tables.{IsTable}
+use Rattle.bcount.specs.SourceLines.{last_line}
+use Rattle.bcount.specs.Tables.{table_text}
 use Rattle.bcount.specs.Tallies.{counts_of}
 use Rattle.bcount.specs.declared.counting.Counting.{Counting}
 use Rattle.bcount.specs.declared.lines.Counted.{Counted}
@@ -50,13 +51,18 @@ line_count counted line = record { times = times_on counted line; steps = steps_
 abbrev pub with_count : LineCount → (count : ℕ) → LineCount
 with_count c count = record { times = Some (unwrap_or c.times count); steps = min (c.steps + count) most }
 
--- A text shows these counts of the instructions of a program: each instruction is on a line, and each line is shown.
-pub record IsTableOf (asked : Asked) (tallies : List (List ℕ)) (made : ℕ) (text : List ℕ) : Type 0 where
-  pub counted : List Counted
-  pub last : ℕ
-  pub counts_are : map (λ c. c.count) counted ≡ flat_map (λ counts. counts) tallies
-  pub on_lines : All (IsOnLines last) counted
-  pub table : IsTable asked.style asked.files (map (line_count counted) (range_with_len 1 last)) made text
+-- the counts of the first lines
+abbrev pub line_counts : List Counted → (last : ℕ) → List LineCount
+line_counts counted last = map (line_count counted) (range_with_len 1 last)
+
+-- A text shows these counts of the instructions of a program: each instruction is on a line of the source, and each
+-- line has its row.
+pub record IsTableOf (asked : Asked) (source : List ℕ) (tallies : List (List ℕ)) (made : ℕ) (text : List ℕ) : Type 0
+  where
+    pub counted : List Counted
+    pub counts_are : map (λ c. c.count) counted ≡ flat_map (λ counts. counts) tallies
+    pub on_lines : All (IsOnLines (last_line source)) counted
+    pub text_is : text ≡ table_text asked.style asked.files source (line_counts counted (last_line source)) made
 
 -- With the last of these steps the run had this outcome, and before it went on.
 abbrev pub IsLast : (ℕ → State) → (made : ℕ) → Outcome → Type 0
@@ -90,7 +96,7 @@ pub data Counts (asked : Asked) (source : List ℕ) (ends : RunEnds) (status : �
       (tallies : List (List ℕ)) (text : List ℕ) (told : ℕ) → HasProgram asked.edition source ends.line mid ds image
       → RunGives (machine ds) asked.steps ends.input ends.input_after nothing_written (outgoing_of output) result
       → AreCounts (functions_of ds) (machine ds) asked.steps ends.input ends.input_after result made tallies
-      → IsTableOf asked tallies made text → Reported text DONE ends.out ends.out_after told
+      → IsTableOf asked source tallies made text → Reported text DONE ends.out ends.out_after told
       → TellsEnd told result mid ends.line_after status → Counts asked source ends status
   unread : (ds : List Definition) (image : Image) (output : Kept)
       → HasProgram asked.edition source ends.line ends.line_after ds image

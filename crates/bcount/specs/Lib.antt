@@ -1,4 +1,6 @@
 pub mod Tallies
+pub mod Marks
+pub mod SourceLines
 pub mod Tables
 pub mod Counts
 pub mod Steps

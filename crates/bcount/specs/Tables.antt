@@ -1,19 +1,16 @@
 -- Inner words: the counts of lines as they are written.
-use Rattle.std.specs.Prelude.{◌≡◌, ℕ, ◌==◌, Bool, List, [], ◌++◌, Option, Some, None, codes, decimal, length, map}
-use Rattle.std.specs.Prelude.{refl, replicate, if◌then◌else◌}
+use Rattle.std.specs.Prelude.{◌≡◌, ℕ, ◌+◌, ◌==◌, Bool, List, [], ◌++◌, Option, Some, None, codes, decimal, get_or}
+use Rattle.std.specs.Prelude.{length, refl, replicate, if◌then◌else◌}
 use Rattle.std.specs.List.{flat_map, range_with_len}
 use Rattle.bsources.specs.Files.{Files, Line, beyond_first, own_line}
-use Rattle.btools.specs.Characters.{IsPrintable}
 use Rattle.btools.specs.Columns.{right}
 use Rattle.btools.specs.Quoting.{file_text, json_text}
+use Rattle.bcount.specs.Marks.{is_marked, no_code}
+use Rattle.bcount.specs.SourceLines.{beside_text, source_lines}
 use Rattle.bcount.specs.declared.lines.LineCount.{LineCount}
 use Rattle.bcount.specs.declared.table.Style.{Style}
 use Rattle.bcount.specs.declared.table.Style.TheVariants as style
 use Rattle.bcount.specs.declared.table.TheConstants.{HEADING}
-
--- a line without code
-abbrev pub no_code : LineCount
-no_code = record { times = None; steps = 0 }
 
 -- the columns of a table
 table_heading : HEADING.now ≡ codes "    line         times         steps  source\n"
@@ -48,36 +45,25 @@ counts_object at (Some times) steps =
 abbrev pub object_text : Line → LineCount → List ℕ
 object_text at c = counts_object at c.times c.steps
 
--- a line of the source, what its code did, whether it is marked, and what stands beside it
-pub record Row : Type 0 where
-  pub line : ℕ
-  pub count : LineCount
-  pub is_marked : Bool
-  pub beside : List ℕ
-  pub beside_is_printable : IsPrintable beside
-
-abbrev pub row_text : Style → Files → Row → List ℕ
-row_text style.Json files r = object_text (own_line files r.line) r.count
-row_text style.Table files r =
-    file_row (beyond_first files r.line) ++ cells_text r.is_marked (own_line files r.line).line r.count ++ r.beside
+-- the row of a line: what its code did, whether it is marked, and its bytes
+abbrev pub row_text : Style → Files → (line : ℕ) → LineCount → Bool → (bytes : List ℕ) → List ℕ
+row_text style.Json files line c marked bytes = object_text (own_line files line) c
+row_text style.Table files line c marked bytes =
+    file_row (beyond_first files line) ++ cells_text marked (own_line files line).line c ++ beside_text bytes
     ++ codes "\n"
+
+-- the row of the line that comes after so many
+abbrev pub row_after : Style → Files → (source : List ℕ) → List LineCount → (index : ℕ) → List ℕ
+row_after style files source lines index =
+    row_text style files (index + 1) (get_or lines index no_code) (is_marked lines index)
+    (get_or (source_lines source) index [])
 
 abbrev pub total_of : Style → (made : ℕ) → List ℕ
 total_of style.Table made = codes "   total" ++ right 28 (decimal made) ++ codes "\n"
 total_of style.Json made = []
 
--- A row of each line, in order, and how many steps were made.
-pub record IsTable (style : Style) (files : Files) (lines : List LineCount) (made : ℕ) (text : List ℕ) : Type 0 where
-  pub rows : List Row
-  pub numbers : map (λ r. r.line) rows ≡ range_with_len 1 (length lines)
-  pub counts : map (λ r. r.count) rows ≡ lines
-  pub text_is : text ≡ heading_of style ++ flat_map (row_text style files) rows ++ total_of style made
-
--- the row of a line was added
-abbrev pub AddsRow : Style → Files → (line : ℕ) → LineCount → (old new : List ℕ) → Type 0
-AddsRow style files line c old new =
-    (r : Row) × (r.line ≡ line) × (r.count ≡ c) × (new ≡ old ++ row_text style files r)
-
--- a text that can be printed, so one without a newline, was added
-abbrev pub Extends : (old new : List ℕ) → Type 0
-Extends old new = (text : List ℕ) × IsPrintable text × (new ≡ old ++ text)
+-- a row of each line, in order, and how many steps were made
+abbrev pub table_text : Style → Files → (source : List ℕ) → List LineCount → (made : ℕ) → List ℕ
+table_text style files source lines made =
+    heading_of style ++ flat_map (row_after style files source lines) (range_with_len 0 (length lines))
+    ++ total_of style made

@@ -7,7 +7,8 @@ ghost use Rattle.bcount.specs.Steps.{CountsSteps};
 ghost use Rattle.bcount.specs.Tallies.{blank, tallies_of};
 
 use crate::lines::{counted_of, lines_of};
-use crate::table::{Style, Table, lines_in, table_text};
+use crate::source::last_line;
+use crate::table::{Style, Table, table_text};
 use crate::tallies::Tallies;
 use blang::Outcome;
 use blang::status::{self, Status};
@@ -136,9 +137,9 @@ fn text_of(
     tallies: &Tallies,
     made: u64,
 ) -> Result<Text, AllocError>
-    ensures { IfOk result (λ text. IsTableOf (asked_of counting.entry) (tallies_of tallies.now) made text) }
+    ensures { IfOk result (λ text. IsTableOf (asked_of counting.entry) source.now (tallies_of tallies.now) made text) }
 {
-    let last = lines_in(source);
+    let last = last_line(source);
     let counted = counted_of(alloc, tables, tallies, last)?;
     let lines = lines_of(alloc, counted.as_slice(), last)?;
     let table = Table {

@@ -3,6 +3,8 @@
 
 mod counting;
 mod lines;
+mod marks;
+mod source;
 mod table;
 mod tallies;
 

@@ -1,8 +1,8 @@
 //! What the code of each line did.
 ghost use Rattle.std.specs.Prelude.{◌≡◌, ◌≤◌, ◌<◌, ◌-◌, ◌++◌, IfOk, OnOk, get_or, length, map, replicate, set};
-ghost use Rattle.std.specs.List.{All, flat_map, range_with_len};
-ghost use Rattle.bcount.specs.Counts.{IsOnLines, line_count, with_count};
-ghost use Rattle.bcount.specs.Tables.{no_code};
+ghost use Rattle.std.specs.List.{All, flat_map};
+ghost use Rattle.bcount.specs.Counts.{IsOnLines, line_counts, with_count};
+ghost use Rattle.bcount.specs.Marks.{no_code};
 ghost use Rattle.bcount.specs.Tallies.{tallies_of};
 
 use crate::tallies::Tallies;
@@ -80,7 +80,7 @@ fn on_lines(line: u64, last: u64) -> u64
 /// What the code of each line did, from the first to the last line.
 pub fn lines_of(alloc: Global, counted: &[Counted], last: u64) -> Result<Vec<LineCount>, AllocError>
     requires { All (IsOnLines last) counted.now }
-    ensures { IfOk result (λ v. v.items ≡ map (line_count counted.now) (range_with_len 1 last)) }
+    ensures { IfOk result (λ v. v.items ≡ line_counts counted.now last) }
 {
     let mut lines = blank_lines(alloc, last)?;
     for instruction in counted {

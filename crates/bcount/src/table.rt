@@ -1,9 +1,13 @@
 //! The counts as they are written.
 ghost use Rattle.std.specs.Prelude.{◌≡◌, ◌<◌, ◌+◌, ◌++◌, IfOk, OnOk, get_or, length, option_map};
 ghost use Rattle.bsources.specs.Files.{files_shown, line_shown};
-ghost use Rattle.bcount.specs.Tables.{AddsRow, Extends, IsTable, cells_text, file_row, heading_of, no_code, object_text, total_of};
+ghost use Rattle.bcount.specs.Marks.{no_code};
+ghost use Rattle.bcount.specs.SourceLines.{beside_text, plain_byte};
+ghost use Rattle.bcount.specs.Tables.{cells_text, file_row, heading_of, object_text, row_text, table_text, total_of};
 
 use crate::lines::LineCount;
+use crate::marks::{is_marked, marks_of};
+use crate::source::split_line;
 use bsources::{FileLine, SourceFiles};
 use btools::{Text, push_file, push_quoted};
 use std::alloc::{AllocError, Global};
@@ -32,81 +36,23 @@ pub struct Table<'a> {
 /// The columns of a table.
 const HEADING: &[u8] = b"    line         times         steps  source\n";
 
-/// How many lines a source has. A newline ends a line, and an empty source has one.
-pub fn lines_in(source: &[u8]) -> u64
-    ensures { 0 < result }
-{
-    let newlines = source.iter().filter(|byte| **byte == b'\n').count() as u64;
-    if source.last().copied() == Some(b'\n') {
-        newlines.max(1)
-    } else {
-        newlines.saturating_add(1)
-    }
-}
-
 /// The text of the counts.
 pub fn table_text(alloc: Global, table: &Table<'_>) -> Result<Text, AllocError>
-    ensures { IfOk result (IsTable table.now.style (files_shown table.now.files) table.now.lines.now table.now.made) }
+    ensures { IfOk result (λ text. text ≡ table_text table.now.style (files_shown table.now.files) table.now.source.now
+        table.now.lines.now table.now.made) }
 {
     let mut text = Text::new(alloc);
     push_heading(&mut text, table.style)?;
-    let marks = Marks::new(table.lines);
+    let marks = marks_of(alloc, table.lines)?;
     let mut rest = table.source;
     for index in 0..table.lines.len() {
-        let (source, after) = first_line(rest);
+        let (line, after) = split_line(rest);
         rest = after;
-        push_row(&mut text, table, index, marks.has(index), source)?;
+        let is_marked = is_marked(marks.as_slice(), index);
+        push_row(&mut text, table, index, is_marked, line)?;
     }
     push_total(&mut text, table.style, table.made)?;
     Ok(text)
-}
-
-// The costliest lines, by their indices.
-#[derive(Clone, Copy)]
-struct Marks {
-    first: usize,
-    second: usize,
-    third: usize,
-}
-
-impl Marks {
-    fn new(lines: &[LineCount]) -> Self {
-        let none = lines.len();
-        let mut marks = Marks {
-            first: none,
-            second: none,
-            third: none,
-        };
-        marks.first = marks.costliest(lines);
-        marks.second = marks.costliest(lines);
-        marks.third = marks.costliest(lines);
-        marks
-    }
-
-    fn has(self, index: usize) -> bool {
-        index == self.first || index == self.second || index == self.third
-    }
-
-    // The line that took most steps of those that aren't marked.
-    fn costliest(self, lines: &[LineCount]) -> usize {
-        let mut found = lines.len();
-        let mut most = 0;
-        for index in 0..lines.len() {
-            if lines[index].steps > most && !self.has(index) {
-                most = lines[index].steps;
-                found = index;
-            }
-        }
-        found
-    }
-}
-
-// The bytes of the first line, and those after it.
-fn first_line(source: &[u8]) -> (&[u8], &[u8]) {
-    match source.iter().position(|byte| *byte == b'\n') {
-        Some(end) => (&source[..end], &source[end + 1..]),
-        None => (source, b""),
-    }
 }
 
 fn push_heading(text: &mut Text, style: Style) -> Result<(), AllocError>
@@ -127,8 +73,8 @@ fn push_row(
     source: &[u8],
 ) -> Result<(), AllocError>
     requires { index < length table.now.lines.now }
-    ensures { OnOk result (AddsRow table.now.style (files_shown table.now.files) (index + 1)
-        (get_or table.now.lines.now index no_code) text.old text.new) }
+    ensures { OnOk result (text.new ≡ text.old ++ row_text table.now.style (files_shown table.now.files) (index + 1)
+        (get_or table.now.lines.now index no_code) is_marked source.now) }
 {
     let count = table.lines[index];
     let line = index as u64 + 1;
@@ -138,7 +84,7 @@ fn push_row(
         Style::Table => {
             push_file_row(text, table.files.beyond_first(line))?;
             push_cells(text, is_marked, at.line, count)?;
-            push_source(text, source.trim_ascii_end())?;
+            push_beside(text, source)?;
             text.push(b"\n")
         }
     }
@@ -177,26 +123,26 @@ fn push_cells(
     }
 }
 
-// A line of the source after two blanks; what can't be printed is shown as `?`, and a tab as a blank.
-fn push_source(text: &mut Text, source: &[u8]) -> Result<(), AllocError>
-    ensures { OnOk result (Extends text.old text.new) }
+// A line of the source after two blanks, without the white space at its end.
+fn push_beside(text: &mut Text, source: &[u8]) -> Result<(), AllocError>
+    ensures { OnOk result (text.new ≡ text.old ++ beside_text source.now) }
 {
     text.push(b"  ")?;
-    for byte in source {
-        push_byte(text, *byte)?;
+    for byte in source.trim_ascii_end() {
+        text.push(&[plain_byte(*byte)])?;
     }
     Ok(())
 }
 
-fn push_byte(text: &mut Text, byte: u8) -> Result<(), AllocError>
-    ensures { OnOk result (Extends text.old text.new) }
+// What can't be printed is shown as `?`, and a tab as a blank.
+fn plain_byte(byte: u8) -> u8
+    ensures { result ≡ plain_byte byte }
 {
-    let shown = match byte {
+    match byte {
         b'\t' => b' ',
         32..=126 => byte,
         _ => b'?',
-    };
-    text.push(&[shown])
+    }
 }
 
 // The object of a line that has code.

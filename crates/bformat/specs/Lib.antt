@@ -1,3 +1,4 @@
 pub mod Squeezed
 pub mod Formats
 pub mod SqueezedRows
+pub mod FormatRows

@@ -1,21 +1,38 @@
-//! A source without the blanks that stand outside of its quotes and comments.
+//! A source without what is blank outside of its quotes and comments, but for one blank between two words.
 ghost use Rattle.std.specs.Prelude.{◌≡◌, ◌++◌, IfOk, OnOk};
 ghost use Rattle.blang.specs.Cut.{is_blank};
-ghost use Rattle.bformat.specs.Squeezed.{is_code, kept_byte, next_place, place_after_code, squeezed};
+ghost use Rattle.bformat.specs.Squeezed.{
+  ends_operator,
+  is_inside,
+  is_second_word,
+  is_sign,
+  kept_byte,
+  next_place,
+  place_after_first,
+  place_after_word,
+  squeezed,
+};
 
 use btools::Text;
+use bword::{is_name_byte, is_name_start};
 use std::alloc::{AllocError, Global};
 
 /// Where a byte of a source stands.
 #[derive(Clone, Copy)]
 pub(crate) enum Place {
-    /// Outside of quotes and comments.
+    /// Outside of quotes and comments, where a piece begins.
     Code,
-    /// There, after a byte with which an operator may begin whose second byte is `=`.
-    Sign,
-    /// There, after an `=` with which an operator begins.
+    /// In a name or a keyword, or right after it.
+    Name,
+    /// In a number, or right after it.
+    Number,
+    /// After blanks after one of these.
+    Gap,
+    /// After an `=` with which an operator begins.
     Equals,
-    /// There, after a slash.
+    /// After another byte, or a second one, that may begin an operator of two bytes.
+    Sign(u8),
+    /// After a slash.
     Slash,
     Comment,
     /// In a comment, after a star.
@@ -26,7 +43,7 @@ pub(crate) enum Place {
     Escape(u8),
 }
 
-/// The source without the blanks that stand outside of its quotes and comments.
+/// The source with only those blanks.
 pub(crate) fn squeezed(alloc: Global, source: &[u8]) -> Result<Text, AllocError>
     ensures { IfOk result (λ text. text ≡ squeezed source.now) }
 {
@@ -42,8 +59,12 @@ pub(crate) fn squeezed(alloc: Global, source: &[u8]) -> Result<Text, AllocError>
 fn push_kept(text: &mut Text, place: Place, byte: u8) -> Result<(), AllocError>
     ensures { OnOk result (text.new ≡ text.old ++ kept_byte place byte) }
 {
-    if place.is_code() && is_blank(byte) {
+    if place.is_inside() {
+        text.push(&[byte])
+    } else if is_blank(byte) {
         text.push(b"")
+    } else if place.is_second_word(byte) {
+        text.push(&[b' ', byte])
     } else {
         text.push(&[byte])
     }
@@ -56,13 +77,23 @@ fn is_blank(byte: u8) -> bool
 }
 
 impl Place {
-    fn is_code(self) -> bool
-        ensures { result ≡ is_code self }
+    fn is_inside(self) -> bool
+        ensures { result ≡ is_inside self }
     {
         matches!(
             self,
-            Place::Code | Place::Sign | Place::Equals | Place::Slash
+            Place::Comment | Place::Star | Place::Quotes(_) | Place::Escape(_)
         )
+    }
+
+    fn is_second_word(self, byte: u8) -> bool
+        ensures { result ≡ is_second_word self byte }
+    {
+        match self {
+            Place::Number => is_name_start(byte),
+            Place::Gap => is_name_byte(byte),
+            _ => false,
+        }
     }
 
     // Where the byte stands that comes after this one.
@@ -70,11 +101,13 @@ impl Place {
         ensures { result ≡ next_place self byte }
     {
         match self {
-            Place::Code if byte == b'=' => Place::Equals,
+            Place::Name if is_name_byte(byte) => Place::Name,
+            Place::Name | Place::Number | Place::Gap => after_word(byte),
             Place::Equals if byte == b'/' => Place::Code,
+            Place::Equals if is_sign(byte) => Place::Sign(byte),
+            Place::Sign(sign) if ends_operator(sign, byte) => Place::Code,
             Place::Slash if byte == b'*' => Place::Comment,
-            Place::Slash if byte == b'=' => Place::Equals,
-            Place::Code | Place::Sign | Place::Equals | Place::Slash => after_code(byte),
+            Place::Code | Place::Equals | Place::Sign(_) | Place::Slash => after_first(byte),
             Place::Comment if byte == b'*' => Place::Star,
             Place::Comment => Place::Comment,
             Place::Star if byte == b'/' => Place::Code,
@@ -88,14 +121,40 @@ impl Place {
     }
 }
 
-// The same after a byte that no operator before it takes in.
-fn after_code(byte: u8) -> Place
-    ensures { result ≡ place_after_code byte }
+fn is_sign(byte: u8) -> bool
+    ensures { result ≡ is_sign byte }
+{
+    byte == b'!' || byte == b'<' || byte == b'=' || byte == b'>'
+}
+
+fn ends_operator(sign: u8, byte: u8) -> bool
+    ensures { result ≡ ends_operator sign byte }
+{
+    byte == b'=' || byte == sign && (byte == b'<' || byte == b'>')
+}
+
+// The same where the byte may be a blank after a word.
+fn after_word(byte: u8) -> Place
+    ensures { result ≡ place_after_word byte }
+{
+    if is_blank(byte) {
+        Place::Gap
+    } else {
+        after_first(byte)
+    }
+}
+
+// The same after a byte with which a piece begins.
+fn after_first(byte: u8) -> Place
+    ensures { result ≡ place_after_first byte }
 {
     match byte {
         b'/' => Place::Slash,
+        b'=' => Place::Equals,
+        b'!' | b'<' | b'>' => Place::Sign(byte),
         b'"' | b'\'' => Place::Quotes(byte),
-        b'!' | b'<' | b'=' | b'>' => Place::Sign,
+        _ if byte.is_ascii_digit() => Place::Number,
+        _ if is_name_byte(byte) => Place::Name,
         _ => Place::Code,
     }
 }

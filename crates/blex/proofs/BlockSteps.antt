@@ -1,7 +1,6 @@
 -- Runs that are taken from the bytes that an end shows.
-use Rattle.std.proofs.Common.{◌≡◌, ℕ, zero, suc, ◌+◌, ◌<◌, ◌≤◌, min, Bool, true, false, not, ◌&&◌, ◌==◌, List, [], ◌∷◌, ◌++◌, length, take, get_or, Option, Some, None, refl, sym, ap, ◌∙◌, arith, append_assoc, append-nil, add-one, if◌then◌else◌}
+use Rattle.std.proofs.Common.{◌≡◌, ℕ, zero, suc, ◌+◌, ◌<◌, ◌≤◌, min, Bool, true, false, not, ◌&&◌, ◌==◌, List, [], ◌∷◌, ◌++◌, length, take, get_or, Option, Some, None, refl, sym, ap, ◌∙◌, arith, append_assoc, append-nil, if◌then◌else◌}
 use Rattle.std.proofs.lemmas.Bool.Decides.{nat_tests}
-use Rattle.std.proofs.lemmas.Grind.{common_steps}
 use Rattle.std.proofs.lemmas.List.Folds.{list_all_more}
 use Rattle.std.specs.Prelude.{option_to_list}
 use Rattle.std.specs.List.{list_all, count_by}
@@ -26,7 +25,7 @@ and-true_both false b e = cc
 pub PassesRun-none : (p : ℕ → Bool) (s : Source) → PassesRun p s s
 PassesRun-none p s = record { run = []; passes = Passes-refl s; all = refl }
 
-take_shown : (ready block : List ℕ) (n : ℕ) → StartsWith ready block → n ≤ length block → take n ready ≡ take n block
+pub take_shown : (ready block : List ℕ) (n : ℕ) → StartsWith ready block → n ≤ length block → take n ready ≡ take n block
 take_shown ready block n h l = rw (← h) (sym (take-take n (length block) ready l))
 
 -- bytes of the block were taken, with none ahead before it

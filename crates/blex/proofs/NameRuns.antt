@@ -1,21 +1,21 @@
 -- Bytes of a name that are taken from those that an end shows.
-use Rattle.std.proofs.Common.{◌≡◌, Result, Ok, Err, ℕ, zero, suc, ◌+◌, ◌-◌, ◌<◌, ◌≤◌, min, Bool, true, false, not, ◌==◌, cond, List, [], ◌∷◌, ◌++◌, length, take, Option, Some, None, refl, sym, ap, ◌∙◌, arith, append-nil, length-append}
+use Rattle.std.proofs.Common.{◌≡◌, ℕ, suc, ◌+◌, ◌*◌, ◌%◌, ◌^◌, ◌<◌, ◌≤◌, min, Bool, true, false, not, ◌==◌, cond, List, [], ◌∷◌, ◌++◌, length, take, get_or, Option, Some, None, refl, sym, ap, ◌∙◌, arith}
 use Rattle.std.proofs.lemmas.Bool.Decides.{nat_tests}
-use Rattle.std.proofs.lemmas.Grind.{common_steps}
-use Rattle.std.proofs.lemmas.List.{length-take, take-take, take_min}
+use Rattle.std.proofs.lemmas.List.{length-take, take_more}
 use Rattle.std.specs.Prelude.{nat_lt, option_to_list, position}
+use Rattle.std.proofs.lemmas.List.Folds.{list_all_more}
 use Rattle.std.specs.Io.{StartsWith}
 use Rattle.std.specs.List.{list_all, prefix_len}
 use Rattle.std.specs.Option.{unwrap_or}
-use Rattle.std.specs.Result.{IsOk, OnOk}
-use Rattle.bword.specs.ByteEnds.{Incoming, TakesReady}
+use Rattle.bword.specs.ByteEnds.{most, Incoming, TakesReady}
 use Rattle.bword.specs.Words.{is_name_byte}
 use Rattle.bword.specs.declared.edition.Edition.{Edition}
-use Rattle.blex.specs.Runs.{PassesRun, TakesName, is_space}
-use Rattle.blex.specs.Sources.{Source, GoesAfter}
+use Rattle.blex.specs.Runs.{PassesRun, EndsName, TakesName, number_through, is_space}
+use Rattle.blex.specs.Lexing.{EndsRun}
+use Rattle.blex.specs.declared.spelling.Spelling.{Spelling}
+use Rattle.blex.specs.Sources.{Source}
 use Rattle.blang.specs.Cut.{is_blank, line_number_after, next_line}
-use Rattle.blex.proofs.BlockSteps.{and-true_both, block_taken, block_passes}
-use Rattle.blex.proofs.Passing.{Passes-refl}
+use Rattle.blex.proofs.BlockSteps.{and-true_both, take_shown, block_taken, block_passes}
 
 -- as many bytes as come before the first that doesn't pass
 run_len : (ℕ → Bool) → List ℕ → ℕ
@@ -66,50 +66,87 @@ space_stays b e = grind (arith, nat_tests)
 pub space_blank : (b : ℕ) → is_space b ≡ true → is_blank b ≡ true
 space_blank b e = grind (arith, nat_tests)
 
--- what there is room for is put after
-pub has_room : {T E : Type 0} (r : Result T E) {P : Type 0} (text run : List ℕ) (n k : ℕ) → (length text + length (take k run) ≤ 8 → IsOk r) → OnOk r P
-    → length text ≤ 8 → k ≡ min n (8 - length text) → P
-has_room (Ok v) text run n k can ok h e = ok
-has_room (Err x) text run n k can ok h e =
-    let never = can (omega (arith, h, e, length-take k run)) in cc
+pub number_through-append : (n : ℕ) (xs ys : List ℕ) → number_through n (xs ++ ys) ≡ number_through (number_through n xs) ys
+number_through-append n [] ys = refl
+number_through-append n (x ∷ xs) ys = number_through-append ((n * 256 + x) % 2 ^ 64) xs ys
 
-pub TakesName-none : (s : Source) (text : List ℕ) → length text ≤ 8 → TakesName s text false s text
-TakesName-none s text h = record {
-  run = [];
-  passes = Passes-refl s;
-  bytes = refl;
-  kept = grind (arith, common_steps);
-  long = let l = ap length (append-nil text) in grind (arith, nat_tests);
-}
+-- a name goes on with the bytes before a place, which the number took
+pub record GoesOnTo (bytes : List ℕ) (old at new : ℕ) : Type 0 where
+  pub within : at ≤ length bytes
+  pub all : list_all is_name_byte (take at bytes) ≡ true
+  pub number : new ≡ number_through old (take at bytes)
 
--- a text after another, as far as there is room
-kept_is : (m : ℕ) (text run : List ℕ) (k : ℕ) → length text ≤ m → k ≡ min (length run) (m - length text) → text ++ take k run ≡ take m (text ++ run)
-kept_is m [] run k h e =
-    let least : k ≡ min m (length run) = omega (arith, e) in
-    ap (λ n. take n run) least ∙ take_min m run
-kept_is zero (t ∷ ts) run k h e = absurd (omega (arith, h))
-kept_is (suc m) (t ∷ ts) run k h e = ap (λ l. t ∷ l) (kept_is m ts run k (omega (arith, h)) (omega (arith, e)))
+pub goes_on_none : (bytes : List ℕ) (n : ℕ) → GoesOnTo bytes n 0 n
+goes_on_none bytes n = record { within = omega arith; all = refl; number = refl }
 
-long_is : (text run : List ℕ) (k : ℕ) → length text ≤ 8 → k ≡ min (length run) (8 - length text) → nat_lt k (length run) ≡ nat_lt 8 (length (text ++ run))
-long_is text run k h e = let l = length-append text run in grind (arith, nat_tests)
-
-pub TakesName-block : {edition : Edition} (line : ℕ) (lender lender' : List ℕ) (old new : Incoming) (first second : Option ℕ) (ready block text text' : List ℕ) (r : Option ℕ) (n k : ℕ)
-    → first ≡ None → second ≡ None → StartsWith ready block → TakesReady old (take n ready) new → lender' ≡ lender
-    → r ≡ position (λ b. not (is_name_byte b)) block → n ≡ unwrap_or r (length block) → length text ≤ 8 → k ≡ min n (8 - length text) → text' ≡ text ++ take k block
-    → TakesName (record { ahead = option_to_list first ++ option_to_list second; line = line; end = old; lender = lender; edition = edition }) text (nat_lt k n)
-    (record { ahead = option_to_list first ++ option_to_list second; line = line; end = new; lender = lender'; edition = edition }) text'
-TakesName-block {edition} line lender lender' old new first second ready block text text' r n k f s shows takes same found whole fits kept following =
-    let h = run_end is_name_byte block r n found whole in
-    let size : length (take n block) ≡ n = let l = h.1 in omega (arith, l, length-take n block) in
-    let k_is : k ≡ min (length (take n block)) (8 - length text) = kept ∙ ap (λ m. min m (8 - length text)) (sym size) in
-    let short : k ≤ n = omega (arith, kept) in
+pub goes_on_more : {bytes : List ℕ} {old at n m : ℕ} (byte : ℕ) → GoesOnTo bytes old at n → at < length bytes → byte ≡ get_or bytes at 0 → is_name_byte byte ≡ true → m ≡ (n * 256 + byte) % 2 ^ 64
+    → GoesOnTo bytes old (at + 1) m
+goes_on_more {bytes} {old} {at} {n} {m} byte h l e f g =
+    let here : is_name_byte (get_or bytes at 0) ≡ true = rw e at f in
     record {
-      run = take n block;
-      passes = block_taken line line lender lender' old new first second ready block n f s shows h.1 takes same (sym (run_line is_name_byte name_stays line (take n block) h.0));
-      bytes = h.0;
-      kept = following ∙ ap (λ l. text ++ l) (sym (take-take k n block short)) ∙ kept_is 8 text (take n block) k fits k_is;
-      long = ap (nat_lt k) (sym size) ∙ long_is text (take n block) k fits k_is;
+      within = omega (arith, l);
+      all = list_all_more is_name_byte bytes at 0 l ∙ rw (h.all, here) refl;
+      number = g ∙ ap (λ k. (k * 256 + byte) % 2 ^ 64) h.number
+          ∙ ap (λ b. (number_through old (take at bytes) * 256 + b) % 2 ^ 64) e
+          ∙ sym (number_through-append old (take at bytes) (get_or bytes at 0 ∷ []))
+          ∙ ap (number_through old) (sym (take_more bytes at 0 l));
     }
+
+pub goes_on_stops : {bytes : List ℕ} {old at n : ℕ} (byte : ℕ) → GoesOnTo bytes old at n → at < length bytes → byte ≡ get_or bytes at 0 → is_name_byte byte ≡ false → EndsName bytes old (Some at) n
+goes_on_stops {bytes} {old} {at} {n} byte h l e f = record { all = h.all; other = (l, rw e at f); number = h.number }
+
+pub goes_on_over : {bytes : List ℕ} {old at n : ℕ} → GoesOnTo bytes old at n → length bytes ≤ at → EndsName bytes old None n
+goes_on_over {bytes} {old} {at} {n} h l =
+    let m = h.within in
+    let whole : at ≡ length bytes = omega (arith, l, m) in
+    record { all = rw whole at h.all; other = tt; number = rw whole at h.number }
+
+other_next : (byte : ℕ) (more xs : List ℕ) → is_name_byte byte ≡ false → xs ≡ byte ∷ more → EndsRun is_name_byte xs
+other_next byte more [] e g = tt
+other_next byte more (x ∷ xs) e g = let here : x ≡ byte = cc in rw here e
+
+module _ (edition : Edition) (line : ℕ) (lender lender' : List ℕ) (old new : Incoming) (first second : Option ℕ) (ready block : List ℕ) (f : first ≡ None) (s : second ≡ None)
+    (shows : StartsWith ready block) (same : lender' ≡ lender) (v w : Spelling) where
+  abbrev pub source : Option ℕ → Incoming → List ℕ → Source
+  source o end lent = record { ahead = option_to_list o ++ option_to_list second; line = line; end = end; lender = lent; edition = edition }
+
+  -- the name goes on with all bytes of the block
+  pub name_goes_on : EndsName block v.number None w.number → TakesReady old (take (length block) ready) new
+      → w.len ≡ min (v.len + length block) most → TakesName (source first old lender) v false (source first new lender') w
+  name_goes_on h takes len = record {
+    run = take (length block) block;
+    passes = block_taken line line lender lender' old new first second ready block (length block) f s shows (omega arith) takes same (sym (run_line is_name_byte name_stays line (take (length block) block) h.all));
+    bytes = h.all;
+    number = h.number;
+    short = λ l. let size = length-take (length block) block in omega (arith, len, size, l);
+    long = λ l. let size = length-take (length block) block in omega (arith, len, size, l);
+    ends = λ e. cc;
+  }
+
+  -- the name ends in the block
+  pub name_stops : (n byte : ℕ) → EndsName block v.number (Some n) w.number → byte ≡ get_or block n 0 → TakesReady old (take (n + 1) ready) new
+      → w.len ≡ min (v.len + n) most → TakesName (source first old lender) v true (source (Some byte) new lender') w
+  name_stops n byte h is_byte takes len =
+      let within = h.other.0 in
+      let other : is_name_byte byte ≡ false = rw is_byte h.other.1 in
+      record {
+        run = take n block;
+        passes = record {
+          taken = take (n + 1) block;
+          took = rw (take_shown ready block (n + 1) shows (omega (arith, within))) at takes.took;
+          split = rw (f, s) (take_more block n 0 within ∙ ap (λ b. take n block ++ b ∷ []) (sym is_byte));
+          line = sym (run_line is_name_byte name_stays line (take n block) h.all);
+          failures = takes.failures;
+          lender = same;
+          edition = refl;
+          near = λ l. rw s (omega arith);
+        };
+        bytes = h.all;
+        number = h.number;
+        short = λ l. let size = length-take n block in omega (arith, len, size, within, l);
+        long = λ l. let size = length-take n block in omega (arith, len, size, within, l);
+        ends = λ _ xs m. other_next byte m.more xs other (m.split ∙ ap (λ l. (byte ∷ l) ++ m.more) (ap option_to_list s));
+      }
 
 pub spaces_block : {edition : Edition} (line : ℕ) (lender lender' : List ℕ) (old new : Incoming) (first second : Option ℕ) (ready block : List ℕ) (r : Option ℕ) (n : ℕ)
     → first ≡ None → second ≡ None → StartsWith ready block → TakesReady old (take n ready) new → lender' ≡ lender

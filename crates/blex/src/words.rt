@@ -1,14 +1,15 @@
 //! Keywords and names.
-ghost use Rattle.std.specs.Prelude.{◌≡◌, IfOk, OnErr, IsTrue, true, Some, None, if◌then◌else◌};
-ghost use Rattle.bword.specs.Words.{is_name, is_name_start, is_name_byte};
+ghost use Rattle.std.specs.Prelude.{◌≡◌, IfOk, OnOk, OnErr, true, Some, None, if◌then◌else◌};
+ghost use Rattle.bword.specs.Words.{is_name_start, is_name_byte};
 ghost use Rattle.blang.specs.Cut.{word_token, keyword_of, is_text};
+ghost use Rattle.blex.specs.Runs.{TakesName};
 ghost use Rattle.blex.specs.Sources.{SourceFails};
 ghost use Rattle.blex.specs.Lexing.{PassesLexeme, TakesIf};
 ghost use Rattle.blex.specs.Lexemes.{IsLexemeOf};
 
 use crate::lexeme::Lexeme;
 use crate::source::Source;
-use arrayvec::ArrayVec;
+use crate::spelling::Spelling;
 use blang::{Keyword, Letters};
 use bword::{ByteIn, Device, Edition, NAME_LEN, Name, is_name_byte};
 
@@ -19,20 +20,28 @@ pub(crate) fn word<I: ByteIn>(source: &mut Source<I>, first: u8) -> Result<Lexem
     ensures ok { IfOk result (λ lexeme. PassesLexeme first source.old lexeme source.new) }
     ensures err { OnErr result (SourceFails source.old source.new) }
 {
-    let mut text = ArrayVec::<u8, NAME_LEN>::new();
-    text.push(first);
-    let mut is_long = source.take_name_bytes(&mut text);
-    while let Some(byte) = name_byte(source)? {
-        if text.is_full() {
-            is_long = true;
-        } else {
-            text.push(byte);
-        }
+    let mut spelling = Spelling::new(first);
+    if !source.take_name_bytes(&mut spelling) {
+        take_rest(source, &mut spelling)?;
     }
-    if is_long {
+    if spelling.len > NAME_LEN as u64 {
         return Ok(Lexeme::Bad(Letters::LongName));
     }
-    Ok(keyword_or_name(source.edition(), &text))
+    let name = Name::from_number(spelling.number, spelling.len as u8);
+    Ok(keyword_or_name(source.edition(), name))
+}
+
+// Takes the bytes that go on with a name, one by one.
+#[cold]
+#[inline(never)]
+fn take_rest<I: ByteIn>(source: &mut Source<I>, spelling: &mut Spelling) -> Result<(), Device>
+    ensures ok { OnOk result (TakesName source.old spelling.old true source.new spelling.new) }
+    ensures err { OnErr result (SourceFails source.old source.new) }
+{
+    while let Some(byte) = name_byte(source)? {
+        spelling.push(byte);
+    }
+    Ok(())
 }
 
 // The next byte, if a name goes on with it.
@@ -53,13 +62,12 @@ fn name_byte<I: ByteIn>(source: &mut Source<I>) -> Result<Option<u8>, Device>
 // The keyword or the name that this is.
 #[tactic(auto, unfolding(blang::specs::Cut::word_token))]
 #[inline(always)]
-fn keyword_or_name(edition: Edition, text: &[u8]) -> Lexeme
-    requires { IsTrue (is_name text.now) }
-    ensures { IsLexemeOf result (word_token edition text.now) }
+fn keyword_or_name(edition: Edition, name: Name) -> Lexeme
+    ensures { IsLexemeOf result (word_token edition name) }
 {
-    match keyword(edition, text) {
+    match keyword(edition, name.as_bytes()) {
         Some(keyword) => Lexeme::Keyword(keyword),
-        None => Lexeme::Name(Name::from_bytes(text).unwrap()),
+        None => Lexeme::Name(name),
     }
 }
 

@@ -3,6 +3,7 @@ pub mod Resolved
 pub mod Operations
 pub mod Images
 pub mod Loading
+pub mod Slots
 pub mod Parts
 pub mod Taken
 pub mod Split

@@ -164,10 +164,20 @@ fn put_at(entries: &mut Vec<Entry>, place: usize, entry: Entry) -> Result<(), No
     ensures ok { OnOk result (entries.new.items ≡ insert entries.old.items place entry) }
     ensures err { OnErr result (entries.new.items ≡ entries.old.items) }
 {
-    match entries.insert(place, entry) {
-        Ok(()) => Ok(()),
-        Err(_) => Err(NoMemory),
+    if entries.push(entry).is_err() {
+        return Err(NoMemory);
     }
+    last_to(entries.as_mut_slice(), place);
+    Ok(())
+}
+
+// Moves the last entry to a place, and those from there on up: at once, where `insert` moves one after another.
+fn last_to(entries: &mut [Entry], place: usize)
+    requires { place < length entries.old }
+    ensures { (front : List Entry) (last : Entry) → entries.old ≡ front ++ last ∷ []
+        → entries.new ≡ insert front place last }
+{
+    entries[place..].rotate_right(1);
 }
 
 // Puts an entry at a place of a piece, and takes the upper half of the entries off.

@@ -10,8 +10,8 @@ use Rattle.blang.specs.Machine.{Loaded, State}
 use Rattle.btools.specs.Functions.{Placed}
 use Rattle.bshow.specs.Shows.{AreShown, ShowsStep, StepRow, first_of, shown_of}
 use Rattle.bshow.specs.Steps.{has_row, kept_texts, retells}
-use Rattle.bshow.specs.declared.showing.Rows.{Rows}
-use Rattle.bshow.specs.declared.showing.Rows.TheVariants as rows
+use Rattle.bshow.specs.declared.showing.PageRows.{PageRows}
+use Rattle.bshow.specs.declared.showing.PageRows.TheVariants as rows
 use Rattle.bshow.proofs.Ranges.{one_from_zero, one_further, one_more}
 
 empty_range : (a n : ℕ) → n ≡ 0 → range_with_len a n ≡ []
@@ -27,7 +27,7 @@ tail_of a (suc n) k e =
     tail_range a n ∙ ap (range_with_len (a + 1)) same
 
 -- the step after so many has none
-pub none_shown : (which : Rows) (made : ℕ) → has_row which made ≡ false → shown_of which (made + 1) ≡ shown_of which made
+pub none_shown : (which : PageRows) (made : ℕ) → has_row which made ≡ false → shown_of which (made + 1) ≡ shown_of which made
 none_shown (rows.From number) made h =
     let lt : made + 1 < number = grind (arith, nat_tests) in
     empty_range (number - 1) (made + 1 - (number - 1)) (omega (arith, lt)) ∙ sym (empty_range (number - 1) (made - (number - 1)) (omega (arith, lt)))
@@ -113,18 +113,18 @@ module _ (fs : List Placed) (functions : List Loaded) (states : ℕ → State) (
       let le : length (texts ++ row ∷ []) ≤ count = grind (arith, nat_tests) in
       all_last count texts h (omega (arith, le, many count texts h))
 
-  pub one_shown : (which : Rows) → has_row which made ≡ true → (texts : List (List ℕ)) → AreShown fs functions which states made texts → AreShown fs functions which states (made + 1) (kept_texts which texts row)
+  pub one_shown : (which : PageRows) → has_row which made ≡ true → (texts : List (List ℕ)) → AreShown fs functions which states made texts → AreShown fs functions which states (made + 1) (kept_texts which texts row)
   one_shown (rows.From number) h texts a = from_one number (grind (arith, nat_tests)) texts a
   one_shown (rows.Last count) h texts a = last_one count texts a (nat_lt count (length (texts ++ row ∷ []))) refl
 
 -- where the calls were told is among the steps that are shown
-abbrev pub IsAmong : Rows → (made at : ℕ) → Type 0
+abbrev pub IsAmong : PageRows → (made at : ℕ) → Type 0
 IsAmong which made at = first_of which made < made → first_of which made ≤ at
 
-pub told_now : (which : Rows) (made : ℕ) → IsAmong which (made + 1) made
+pub told_now : (which : PageRows) (made : ℕ) → IsAmong which (made + 1) made
 told_now which made lt = omega (arith, lt)
 
-pub told_before : (which : Rows) (made at : ℕ) → retells which made at ≡ false → at ≤ made → IsAmong which made at → IsAmong which (made + 1) at
+pub told_before : (which : PageRows) (made at : ℕ) → retells which made at ≡ false → at ≤ made → IsAmong which made at → IsAmong which (made + 1) at
 told_before (rows.From number) made at h le among lt =
     by_number number h lt among
   where

@@ -4,3 +4,5 @@ pub mod Kept
 pub mod Told
 pub mod Whole
 pub mod Escaping
+pub mod OwnTexts
+pub mod Excluded

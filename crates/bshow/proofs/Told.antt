@@ -1,6 +1,7 @@
 -- Steps that are made and told, one after another.
 use Rattle.std.proofs.Common.{◌≡◌, ◌∙◌, ℕ, ◌+◌, ◌-◌, ◌<◌, ◌≤◌, Bool, true, false, List, [], ◌∷◌, ◌++◌, Ok, Err, Some, ap, append-nil, append_assoc, arith, drop, length, refl, subst, sym}
 use Rattle.std.specs.List.{flat_map, range_with_len}
+use Rattle.std.specs.Prelude.{slice_index}
 use Rattle.std.proofs.Math.Seq.{drop-append_seam}
 use Rattle.std.proofs.lemmas.List.Elements.{All-nil}
 use Rattle.bword.specs.ByteEnds.{CanFollow, Incoming, Kept, Outgoing, Took, Writes, outgoing_of}
@@ -20,21 +21,22 @@ use Rattle.bmach.proofs.Turning.{follows, goes_on, runs_on}
 use Rattle.btools.specs.Functions.{Placed}
 use Rattle.bshow.specs.Facts.{calls_text}
 use Rattle.bshow.specs.Rows.{call_cells, done_cells, heard_by, heard_in, words_in}
-use Rattle.bshow.specs.Shows.{AreShown, Record, ShowsStep, StepsGive, TellsSteps, below_of, first_of, heard_after, shown_of, record_of, steps_from, store_after, stored_after}
+use Rattle.bshow.specs.Shows.{AreShown, Record, ShowsStep, StepsGive, TellsSteps, Tries, first_of, heard_after, shown_of, record_of, steps_from, store_after, stored_after}
 use Rattle.bshow.specs.Steps.{IsRow, KeepsStep, KeepsRow, TellsRun, TellsUnless, has_row, kept_texts, next_stored, retells, retold}
 use Rattle.bshow.specs.declared.showing.Recorder.{Recorder}
-use Rattle.bshow.specs.declared.showing.Rows.{Rows}
+use Rattle.bshow.specs.declared.showing.PageRows.{PageRows}
 use Rattle.bshow.proofs.Kept.{IsAmong, none_shown, one_shown, told_before, told_now}
 use Rattle.bshow.proofs.Ranges as ranges
 
 -- what is told of so many steps, but their output
-pub record TellsOf (fs : List Placed) (functions : List Loaded) (which : Rows) (states : ℕ → State) (made : ℕ) (r : Record) : Type 0 where
+pub record TellsOf (fs : List Placed) (functions : List Loaded) (which : PageRows) (states : ℕ → State) (made : ℕ) (r : Record) : Type 0 where
   pub shown : AreShown fs functions which states made r.texts
-  pub calls_are : r.calls ≡ calls_text (below_of (states r.calls_at))
+  pub tries : Tries states r.calls_at
+  pub calls_are : r.calls ≡ calls_text tries.below
   pub heard : r.heard ≡ flat_map (heard_after fs states) (range_with_len 0 made)
 
 -- So many steps were made from a state on, and told.
-pub record IsTold (fs : List Placed) (which : Rows) (first : Paused) (made : ℕ) (now : Paused) (i j : Incoming) (o q : Kept) (r : Record) : Type 0 where
+pub record IsTold (fs : List Placed) (which : PageRows) (first : Paused) (made : ℕ) (now : Paused) (i j : Incoming) (o q : Kept) (r : Record) : Type 0 where
   pub image_is : now.image ≡ first.image
   pub goes : MovesOn (λ left before. steps first.image made (machine_at first left before)) (machine_at now) i j (outgoing_of o) (outgoing_of q)
   pub within : r.calls_at ≤ made
@@ -42,17 +44,21 @@ pub record IsTold (fs : List Placed) (which : Rows) (first : Paused) (made : ℕ
   pub tells : (more : List ℕ) → CanFollow j more → TellsOf fs first.image.functions which (steps_from first (goes.taken ++ more)) made r
   pub output : r.output ≡ q.bytes
 
+-- the same state by another number
+abbrev tries_at : (states : ℕ → State) {a b : ℕ} → a ≡ b → Tries states b → Tries states a
+tries_at states e t = record { call = t.call; below = t.below; world = t.world; state_is = ap states e ∙ t.state_is }
+
 -- before the first step
-none_of : (fs : List Placed) (functions : List Loaded) (which : Rows) (states : ℕ → State) → shown_of which 0 ≡ [] → AreShown fs functions which states 0 []
+none_of : (fs : List Placed) (functions : List Loaded) (which : PageRows) (states : ℕ → State) → shown_of which 0 ≡ [] → AreShown fs functions which states 0 []
 none_of fs functions which states none = record { kept = []; texts_are = refl; all = sym none; each = All-nil _ }
 
-none_first : (which : Rows) → shown_of which 0 ≡ []
+none_first : (which : PageRows) → shown_of which 0 ≡ []
 none_first which = ap (range_with_len (first_of which 0)) (zero_less (first_of which 0))
   where
     zero_less : (n : ℕ) → 0 - n ≡ 0
     zero_less n = omega arith
 
-pub told_none : (fs : List Placed) (which : Rows) (first : Paused) (i : Incoming) (o : Kept) (r : Record) → r.texts ≡ [] → r.heard ≡ [] → r.calls ≡ calls_text first.below → r.calls_at ≡ 0 → r.output ≡ o.bytes
+pub told_none : (fs : List Placed) (which : PageRows) (first : Paused) (i : Incoming) (o : Kept) (r : Record) → r.texts ≡ [] → r.heard ≡ [] → r.calls ≡ calls_text first.below → r.calls_at ≡ 0 → r.output ≡ o.bytes
     → IsTold fs which first 0 first i i o o r
 told_none fs which first i o r texts heard calls at output =
     let begun = goes_on (following first.image 0 (machine_at first)) (machine_at first) i (outgoing_of o) (λ left before. refl) in
@@ -63,40 +69,57 @@ told_none fs which first i o r texts heard calls at output =
       among = λ lt. omega (arith, lt);
       tells = λ more can. record {
         shown = subst (AreShown fs first.image.functions which (steps_from first (begun.taken ++ more)) 0) (sym texts) (none_of fs first.image.functions which (steps_from first (begun.taken ++ more)) (none_first which));
-        calls_are = calls ∙ ap (λ n. calls_text (below_of (steps_from first (begun.taken ++ more) n))) (sym at);
+        tries = record {
+          call = first.call;
+          below = first.below;
+          world = world_with first.store more begun.output;
+          state_is = ap (steps_from first (begun.taken ++ more)) at ∙ begun.comes more [] can;
+        };
+        calls_are = calls;
         heard = heard;
       };
       output = output;
     }
 
--- the calls are told anew, or not
-pub told_anew : (fs : List Placed) (which : Rows) (first : Paused) (made : ℕ) (now : Paused) (i j : Incoming) (o q : Kept) (r : Record) → IsTold fs which first made now i j o q r
+-- the calls are told anew
+anew : (fs : List Placed) (which : PageRows) (first : Paused) (made : ℕ) (now : Paused) (i j : Incoming) (o q : Kept) (r : Record) → IsTold fs which first made now i j o q r → IsTold fs which first made now i j o q (retold true r now.below made)
+anew fs which first made now i j o q r t = record {
+  image_is = t.image_is;
+  goes = t.goes;
+  within = omega arith;
+  among = λ lt. omega (arith, lt);
+  tells = λ more can. record {
+    shown = (t.tells more can).shown;
+    tries = record { call = now.call; below = now.below; world = world_with now.store more t.goes.output; state_is = t.goes.comes more [] can };
+    calls_are = refl;
+    heard = (t.tells more can).heard;
+  };
+  output = t.output;
+}
+
+-- the same, or not
+pub told_anew : (fs : List Placed) (which : PageRows) (first : Paused) (made : ℕ) (now : Paused) (i j : Incoming) (o q : Kept) (r : Record) → IsTold fs which first made now i j o q r
     → (b : Bool) → retells which made r.calls_at ≡ b → IsTold fs which first made now i j o q (retold b r now.below made) × IsAmong which (made + 1) (retold b r now.below made).calls_at
-told_anew fs which first made now i j o q r t true h = (
-  record {
-    image_is = t.image_is;
-    goes = t.goes;
-    within = omega arith;
-    among = λ lt. omega (arith, lt);
-    tells = λ more can. record {
-      shown = (t.tells more can).shown;
-      calls_are = ap (λ s. calls_text (below_of s)) (sym (t.goes.comes more [] can));
-      heard = (t.tells more can).heard;
-    };
-    output = t.output;
-  },
-  told_now which made,
-)
+told_anew fs which first made now i j o q r t true h = (anew fs which first made now i j o q r t, told_now which made)
 told_anew fs which first made now i j o q r t false h = (t, told_before which made r.calls_at h t.within t.among)
 
 -- before a step, the calls told anew or not
-pub ready_told : (fs : List Placed) (which : Rows) (first : Paused) (made : ℕ) (now : Paused) (i j : Incoming) (o : Kept) (k k' : Recorder) → IsTold fs which first made now i j o k.written (record_of k)
+pub ready_told : (fs : List Placed) (which : PageRows) (first : Paused) (made : ℕ) (now : Paused) (i j : Incoming) (o : Kept) (k k' : Recorder) → IsTold fs which first made now i j o k.written (record_of k)
     → record_of k' ≡ retold (retells which made k.calls_at) (record_of k) now.below made → k'.written ≡ k.written → IsTold fs which first made now i j o k'.written (record_of k') × IsAmong which (made + 1) k'.calls_at
 ready_told fs which first made now i j o k k' t is same =
     let again = told_anew fs which first made now i j o k.written (record_of k) t (retells which made k.calls_at) refl in (
       subst (λ (w : Kept). IsTold fs which first made now i j o w (record_of k')) (sym same) (subst (λ (r : Record). IsTold fs which first made now i j o k.written r) (sym is) again.0),
       subst (λ (r : Record). IsAmong which (made + 1) r.calls_at) (sym is) again.1,
     )
+
+-- after all steps, with the calls told anew
+pub last_told : (fs : List Placed) (which : PageRows) (first : Paused) (made : ℕ) (now : Paused) (i j : Incoming) (o : Kept) (k k' : Recorder) → IsTold fs which first made now i j o k.written (record_of k)
+    → record_of k' ≡ retold true (record_of k) now.below made → k'.written ≡ k.written → IsTold fs which first made now i j o k'.written (record_of k') × (k'.calls_at ≡ made)
+last_told fs which first made now i j o k k' t is same = (
+  subst (λ (w : Kept). IsTold fs which first made now i j o w (record_of k')) (sym same)
+      (subst (λ (r : Record). IsTold fs which first made now i j o k.written r) (sym is) (anew fs which first made now i j o k.written (record_of k) t)),
+  ap (λ (r : Record). r.calls_at) is,
+)
 
 turned : (first now new : Paused) {j m : Incoming} {p q : Outgoing} → now.image ≡ first.image → MovesOn (λ left before. step now.image (machine_at now left before)) (machine_at new) j m p q
     → MovesOn (λ left before. step first.image (machine_at now left before)) (machine_at new) j m p q
@@ -130,17 +153,17 @@ heard_more fs states made old new heard before one is =
     ranges.text_more (heard_after fs states) [] old new made before (one ∙ ap (λ x. old ++ x) is)
 
 -- the rows with that of a step, if it is to have one
-rows_more : (fs : List Placed) (functions : List Loaded) (which : Rows) (states : ℕ → State) (made : ℕ) (old new : List (List ℕ)) → AreShown fs functions which states made old → has_row which made ≡ false → new ≡ old → AreShown fs functions which states (made + 1) new
+rows_more : (fs : List Placed) (functions : List Loaded) (which : PageRows) (states : ℕ → State) (made : ℕ) (old new : List (List ℕ)) → AreShown fs functions which states made old → has_row which made ≡ false → new ≡ old → AreShown fs functions which states (made + 1) new
 rows_more fs functions which states made old new a none same =
     subst (AreShown fs functions which states (made + 1)) (sym same)
     (record { kept = a.kept; texts_are = a.texts_are; all = a.all ∙ sym (none_shown which made none); each = a.each })
 
-row_more : (fs : List Placed) (functions : List Loaded) (which : Rows) (states : ℕ → State) (made : ℕ) (old new : List (List ℕ)) → AreShown fs functions which states made old → has_row which made ≡ true → (row : List ℕ) → ShowsStep fs functions states made row → new ≡ kept_texts which old row
+row_more : (fs : List Placed) (functions : List Loaded) (which : PageRows) (states : ℕ → State) (made : ℕ) (old new : List (List ℕ)) → AreShown fs functions which states made old → has_row which made ≡ true → (row : List ℕ) → ShowsStep fs functions states made row → new ≡ kept_texts which old row
     → AreShown fs functions which states (made + 1) new
 row_more fs functions which states made old new a some row shows is =
     subst (AreShown fs functions which states (made + 1)) (sym is) (one_shown fs functions states made row shows which some old a)
 
-module _ (fs : List Placed) (which : Rows) (first now : Paused) (made : ℕ) (i j m : Incoming) (o p : Kept) (r : Record) (t : IsTold fs which first made now i j o p r) (ready : IsAmong which (made + 1) r.calls_at) where
+module _ (fs : List Placed) (which : PageRows) (first now : Paused) (made : ℕ) (i j m : Incoming) (o p : Kept) (r : Record) (t : IsTold fs which first made now i j o p r) (ready : IsAmong which (made + 1) r.calls_at) where
   -- where the machine is
   abbrev there : (more : List ℕ) → CanFollow j more → steps_from first (t.goes.taken ++ more) made ≡ machine_at now more t.goes.output
   there more can = t.goes.comes more [] can
@@ -202,7 +225,7 @@ module _ (fs : List Placed) (which : Rows) (first now : Paused) (made : ℕ) (i 
           stored_from = sym addresses;
           bytes = bytes;
           wrote = ap (λ s. (state_world s).output) (went more can) ∙ ap (λ y. t.goes.output ++ y) (sym wrote_it);
-          row_is = x.1.3 ∙ (λ n. cells ++ done_cells x.1.0 (words_in (store_before more can n) (addresses n)) (words_in (store_then more can n) (addresses n)) (heard_it more can n) bytes);
+          row_is = x.1.3 ∙ (λ n. cells ++ done_cells (slice_index (stored_it more can n) 0) (words_in (store_before more can n) (addresses n)) (words_in (store_then more can n) (addresses n)) (heard_it more can n) bytes);
         }
 
     abbrev goes_further : MovesOn (λ left before. steps first.image (made + 1) (machine_at first left before)) (machine_at new) i m (outgoing_of o) (outgoing_of q)
@@ -231,7 +254,8 @@ module _ (fs : List Placed) (which : Rows) (first now : Paused) (made : ℕ) (i 
       among = λ lt. let a = ready lt in let at = k.calls_at in omega (arith, a, at);
       tells = λ more can. record {
         shown = shown_by b b_is k.row more can;
-        calls_are = k.calls ∙ (before_it more can).calls_are ∙ ap (λ n. calls_text (below_of (steps_from first (input more) n))) (sym k.calls_at);
+        tries = tries_at (steps_from first (input more)) k.calls_at (before_it more can).tries;
+        calls_are = k.calls ∙ (before_it more can).calls_are;
         heard = heard_more fs (steps_from first (input more)) made r.heard r'.heard (heard_in fs now.call new.call) (before_it more can).heard k.heard (heard_it more can);
       };
       output = output;
@@ -292,7 +316,7 @@ module _ (fs : List Placed) (which : Rows) (first now : Paused) (made : ℕ) (i 
           stored_from = none;
           bytes = [];
           wrote = (last_shows more can).written ∙ sym (append-nil t.goes.output);
-          row_is = is ∙ (λ n. cells ++ done_cells 0 (words_in (store_after states made) (sym none n)) (words_in (store_after states (made + 1)) (sym none n)) (sym quiet n) []);
+          row_is = is ∙ (λ n. cells ++ done_cells (slice_index (sym none n) 0) (words_in (store_after states made) (sym none n)) (words_in (store_after states (made + 1)) (sym none n)) (sym quiet n) []);
         }
 
     abbrev OverRow : Bool → Type 0
@@ -310,9 +334,11 @@ module _ (fs : List Placed) (which : Rows) (first now : Paused) (made : ℕ) (i 
         record {
           shown = over_shown (has_row which made) refl row more can;
           calls = record {
+            tries = tries_at states at before.tries;
             within = let w = t.within in omega (arith, w, at);
             among = λ lt. let a = ready lt in omega (arith, a, at);
-            calls_are = calls ∙ before.calls_are ∙ ap (λ n. calls_text (below_of (states n))) (sym at);
+            next = λ u. absurd (over_it more can (ap state_outcome u.state_is));
+            calls_are = calls ∙ before.calls_are;
           };
           heard = heard_more fs states made r.heard r'.heard [] before.heard heard (sym (none_heard fs (states made) (states (made + 1)) (over_it more can)));
           output = output ∙ bytes_same (ap (λ (x : Outgoing). x.written) g.output) ∙ t.goes.written.appended ∙ ap (λ x. x ++ t.goes.output) empty ∙ sym (last_shows more can).written;
@@ -320,6 +346,15 @@ module _ (fs : List Placed) (which : Rows) (first now : Paused) (made : ℕ) (i 
       where
         bytes_same : Some q.bytes ≡ Some p.bytes → q.bytes ≡ p.bytes
         bytes_same h = cc
+
+  -- the machine before the last step
+  abbrev tries_last : (more : List ℕ) → CanFollow j more → Tries (steps_from first (t.goes.taken ++ more)) made
+  tries_last more can = record {
+    call = now.call;
+    below = now.below;
+    world = world_with now.store more t.goes.output;
+    state_is = there more can;
+  }
 
   left_words : (new : Paused) → ((left before : List ℕ) → (state_world (step now.image (machine_at now left before))).store ≡ new.store)
       → (more : List ℕ) → CanFollow j more → new.store ≡ store_after (steps_from first (t.goes.taken ++ more)) (made + 1)
@@ -338,7 +373,15 @@ module _ (fs : List Placed) (which : Rows) (first now : Paused) (made : ℕ) (i 
         took = took_before new q r' (outcome.Exit status) h (λ x. cc) k.heard k.calls k.calls_at output;
         tells = over_tells new q r' (outcome.Exit status) h (λ x. cc) k.heard k.calls k.calls_at output (exit_row (has_row which made) k.row) empty;
         leaves = λ more can. left_words new words more (can_before new q r' (outcome.Exit status) h (λ x. cc) k.heard k.calls k.calls_at output more can);
-        ends = λ more can next is. ((last_shows new q r' (outcome.Exit status) h (λ x. cc) k.heard k.calls k.calls_at output more can).outcome, is);
+        ends = λ more can next is. (
+          record {
+            last = made;
+            made_is = refl;
+            tries = tries_last more (can_before new q r' (outcome.Exit status) h (λ x. cc) k.heard k.calls k.calls_at output more can);
+            outcome_is = (last_shows new q r' (outcome.Exit status) h (λ x. cc) k.heard k.calls k.calls_at output more can).outcome;
+          },
+          is,
+        );
       }
     where
       exit_row : (c : Bool) → KeepsRow c fs which made now new (Err (outcome.Exit status)) r r' → OverRow new q r' (outcome.Exit status) (halted now first.image (outcome.Exit status) t.image_is g) (λ x. cc) k.heard k.calls k.calls_at output c
@@ -352,7 +395,15 @@ module _ (fs : List Placed) (which : Rows) (first now : Paused) (made : ℕ) (i 
         took = took_before new q r' (outcome.Trap kind) h (λ x. cc) k.heard k.calls k.calls_at output;
         tells = over_tells new q r' (outcome.Trap kind) h (λ x. cc) k.heard k.calls k.calls_at output (trap_row (has_row which made) k.row) empty;
         leaves = λ more can. left_words new words more (can_before new q r' (outcome.Trap kind) h (λ x. cc) k.heard k.calls k.calls_at output more can);
-        ends = λ more can next is. ((last_shows new q r' (outcome.Trap kind) h (λ x. cc) k.heard k.calls k.calls_at output more can).outcome, is);
+        ends = λ more can next is. (
+          record {
+            last = made;
+            made_is = refl;
+            tries = tries_last more (can_before new q r' (outcome.Trap kind) h (λ x. cc) k.heard k.calls k.calls_at output more can);
+            outcome_is = (last_shows new q r' (outcome.Trap kind) h (λ x. cc) k.heard k.calls k.calls_at output more can).outcome;
+          },
+          is,
+        );
       }
     where
       trap_row : (c : Bool) → KeepsRow c fs which made now new (Err (outcome.Trap kind)) r r' → OverRow new q r' (outcome.Trap kind) (halted now first.image (outcome.Trap kind) t.image_is g) (λ x. cc) k.heard k.calls k.calls_at output c
@@ -372,17 +423,23 @@ module _ (fs : List Placed) (which : Rows) (first now : Paused) (made : ℕ) (i 
   over_unless new q r' n outcome.Memory lt g words k output empty = tt
 
 -- all steps were made
-pub all_give : (fs : List Placed) (which : Rows) (first now : Paused) (made : ℕ) (i j : Incoming) (o p : Kept) (r : Record) → IsTold fs which first made now i j o p r → StepsGive first made i j (outgoing_of o) (outgoing_of p) outcome.Limit
+pub all_give : (fs : List Placed) (which : PageRows) (first now : Paused) (made : ℕ) (i j : Incoming) (o p : Kept) (r : Record) → IsTold fs which first made now i j o p r → StepsGive first made i j (outgoing_of o) (outgoing_of p) outcome.Limit
 all_give fs which first now made i j o p r t = at_limit first.image made (machine_at first) now.call now.below now.store t.goes
 
-pub all_told : (fs : List Placed) (which : Rows) (first now : Paused) (made : ℕ) (i j : Incoming) (o p : Kept) (r : Record) → IsTold fs which first made now i j o p r → o.bytes ≡ [] → TellsRun fs which first now made i j r (record { outcome = outcome.Limit; made = made })
-all_told fs which first now made i j o p r t empty = record {
+pub all_told : (fs : List Placed) (which : PageRows) (first now : Paused) (made : ℕ) (i j : Incoming) (o p : Kept) (r : Record) → IsTold fs which first made now i j o p r → r.calls_at ≡ made → o.bytes ≡ [] → TellsRun fs which first now made i j r (record { outcome = outcome.Limit; made = made })
+all_told fs which first now made i j o p r t at empty = record {
   within = omega arith;
   taken = t.goes.taken;
   took = t.goes.took;
   tells = λ more can. record {
     shown = (t.tells more can).shown;
-    calls = record { within = t.within; among = t.among; calls_are = (t.tells more can).calls_are };
+    calls = record {
+      tries = (t.tells more can).tries;
+      within = t.within;
+      among = t.among;
+      next = λ u. at;
+      calls_are = (t.tells more can).calls_are;
+    };
     heard = (t.tells more can).heard;
     output = t.output ∙ t.goes.written.appended ∙ ap (λ x. x ++ t.goes.output) empty ∙ sym (ap (λ s. (state_world s).output) (t.goes.comes more [] can));
   };

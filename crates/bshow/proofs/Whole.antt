@@ -1,5 +1,6 @@
 -- What is told of a program that was loaded is what its definitions do.
 use Rattle.std.proofs.Common.{◌≡◌, ◌∙◌, ℕ, ◌+◌, List, ◌++◌, None, Some, ⊎_elim, ap, codes, length, map, refl, subst, sym}
+use Rattle.std.specs.Prelude.{slice_index}
 use Rattle.std.specs.List.{flat_map, range_with_len}
 use Rattle.std.proofs.lemmas.List.{length-map}
 use Rattle.std.proofs.lemmas.List.Folds.{flat_map-map}
@@ -25,10 +26,10 @@ use Rattle.btools.specs.Programs.{HasProgram, nothing_written}
 use Rattle.btools.specs.Functions.{Placed, functions_of}
 use Rattle.bshow.specs.Facts.{call_text, calls_text, program_text}
 use Rattle.bshow.specs.Rows.{call_cells, done_cells, heard_by, words_in}
-use Rattle.bshow.specs.Shows.{AreShown, Asked, EndsAs, IsPageOf, IsWritten, Record, Shows, ShowsStep, StepRow, StepsGive, TellsSteps, Tries, below_of, heard_after, shown, no_memory, not_begun, steps_from, store_after, stored_after, unread}
+use Rattle.bshow.specs.Shows.{AreShown, Asked, EndsAs, IsOverAfter, IsPageOf, IsWritten, Record, Shows, ShowsStep, StepRow, StepsGive, TellsSteps, Tries, heard_after, shown, no_memory, not_begun, steps_from, store_after, stored_after, unread}
 use Rattle.bshow.specs.Steps.{IsPage, ShowsRun, ShowsUnbegun, TellsRun, TellsUnless, broken, broken_status, refused, told}
 use Rattle.bshow.specs.declared.showing.Ended.{Ended}
-use Rattle.bshow.specs.declared.showing.Rows.{Rows}
+use Rattle.bshow.specs.declared.showing.PageRows.{PageRows}
 
 running_from : (I : Image) (s : State) (call : Call) (below : List Call) (w : World) → state_resolved I s ≡ Running call below w → (c : Call) × (b : List Call) × (s ≡ Running c b w) × (call_resolved I c ≡ call) × (map (call_resolved I) b ≡ below)
 running_from I (Running c b v) call below w h =
@@ -44,23 +45,33 @@ heard_same fs I (Running c b v) (Stuck v') = refl
 heard_same fs I (Halted e v) t = refl
 heard_same fs I (Stuck v) t = refl
 
-below_same : (I : Image) (s : State) → calls_text (below_of (state_resolved I s)) ≡ calls_text (below_of s)
-below_same I (Running c b v) = ap (λ x. codes "[" ++ x ++ codes "0]") (flat_map-map call_text (call_resolved I) b)
-below_same I (Halted e v) = refl
-below_same I (Stuck v) = refl
+below_same : (I : Image) (b : List Call) → calls_text (map (call_resolved I) b) ≡ calls_text b
+below_same I b = ap (λ x. codes "[" ++ x ++ codes "0]") (flat_map-map call_text (call_resolved I) b)
 
 -- The states of one machine are those of the other, resolved.
-module _ (fs : List Placed) (which : Rows) (I : Image) (f g : ℕ → State) (e : (n : ℕ) → g n ≡ state_resolved I (f n)) where
+module _ (fs : List Placed) (which : PageRows) (I : Image) (f g : ℕ → State) (e : (n : ℕ) → g n ≡ state_resolved I (f n)) where
   world_same : (n : ℕ) → state_world (g n) ≡ state_world (f n)
   world_same n = ap state_world (e n) ∙ world-resolved I (f n)
 
   pub outcome_same : (n : ℕ) → state_outcome (g n) ≡ state_outcome (f n)
   outcome_same n = ap state_outcome (e n) ∙ outcome-resolved I (f n)
 
-  tries_same : (made : ℕ) (t : Tries g made) → (u : Tries f made) × (call_resolved I u.call ≡ t.call) × (u.world ≡ t.world) × (length u.below ≡ length t.below)
+  tries_same : (made : ℕ) (t : Tries g made) → (u : Tries f made) × (call_resolved I u.call ≡ t.call) × (u.world ≡ t.world) × (map (call_resolved I) u.below ≡ t.below)
   tries_same made t =
       let r = running_from I (f made) t.call t.below t.world (sym (e made) ∙ t.state_is) in
-      (record { call = r.0; below = r.1; world = t.world; state_is = r.2 }, r.3, refl, sym (length-map r.1 (call_resolved I)) ∙ ap length r.4)
+      (record { call = r.0; below = r.1; world = t.world; state_is = r.2 }, r.3, refl, r.4)
+
+  -- the other way
+  tries_resolved : (made : ℕ) → Tries f made → Tries g made
+  tries_resolved made u = record {
+    call = call_resolved I u.call;
+    below = map (call_resolved I) u.below;
+    world = u.world;
+    state_is = e made ∙ ap (state_resolved I) u.state_is;
+  }
+
+  depth_same : (below below' : List Call) → map (call_resolved I) below ≡ below' → length below' ≡ length below
+  depth_same below below' h = sym (ap length h) ∙ length-map below (call_resolved I)
 
   stored_same : (made : ℕ) → stored_after (resolved I).functions g made ≡ stored_after I.functions f made
   stored_same made =
@@ -74,7 +85,7 @@ module _ (fs : List Placed) (which : Rows) (I : Image) (f g : ℕ → State) (e 
   step_shown : (made : ℕ) (row : List ℕ) → ShowsStep fs (resolved I).functions g made row → ShowsStep fs I.functions f made row
   step_shown made row s =
       let t = tries_same made s.tries in
-      let after : List ℕ → List ℕ → List ℕ → List ℕ → List ℕ = λ old new addresses heard. done_cells s.address (words_in old addresses) (words_in new addresses) heard s.bytes in
+      let after : List ℕ → List ℕ → List ℕ → List ℕ → List ℕ = λ old new addresses heard. done_cells (slice_index addresses 0) (words_in old addresses) (words_in new addresses) heard s.bytes in
       record {
         tries = t.0;
         line = s.line;
@@ -85,7 +96,7 @@ module _ (fs : List Placed) (which : Rows) (I : Image) (f g : ℕ → State) (e 
         wrote = ap (λ (w : World). w.output) (sym (world_same (made + 1))) ∙ s.wrote ∙ ap (λ (w : World). w.output ++ s.bytes) (sym t.2);
         row_is = s.row_is
             ∙ ap (λ c. call_cells fs (made + 1) c (length s.tries.below) s.line ++ after (store_after g made) (store_after g (made + 1)) (stored_after (resolved I).functions g made) (heard_after fs g made)) (sym t.1)
-            ∙ (λ i. call_cells fs (made + 1) t.0.call (sym t.3 i) s.line ++ after (world_same made i).store (world_same (made + 1) i).store (stored_same made i) (heard_after_same made i));
+            ∙ (λ i. call_cells fs (made + 1) t.0.call (depth_same t.0.below s.tries.below t.3 i) s.line ++ after (world_same made i).store (world_same (made + 1) i).store (stored_same made i) (heard_after_same made i));
       }
 
   pub are_shown : (made : ℕ) (texts : List (List ℕ)) → AreShown fs (resolved I).functions which g made texts → AreShown fs I.functions which f made texts
@@ -99,11 +110,15 @@ module _ (fs : List Placed) (which : Rows) (I : Image) (f g : ℕ → State) (e 
   pub tells_same : (made : ℕ) (r : Record) → TellsSteps fs (resolved I).functions which g made r → TellsSteps fs I.functions which f made r
   tells_same made r h = record {
     shown = are_shown made r.texts h.shown;
-    calls = record {
-      within = h.calls.within;
-      among = h.calls.among;
-      calls_are = h.calls.calls_are ∙ ap (λ s. calls_text (below_of s)) (e r.calls_at) ∙ below_same I (f r.calls_at);
-    };
+    calls =
+        let t = tries_same r.calls_at h.calls.tries in
+        record {
+          tries = t.0;
+          within = h.calls.within;
+          among = h.calls.among;
+          next = λ u. h.calls.next (tries_resolved made u);
+          calls_are = h.calls.calls_are ∙ sym (ap calls_text t.3) ∙ below_same I t.0.below;
+        };
     heard = h.heard ∙ (λ i. flat_map (λ n. heard_after_same n i) (range_with_len 0 made));
     output = h.output ∙ ap (λ (w : World). w.output) (world_same made);
   }
@@ -111,9 +126,17 @@ module _ (fs : List Placed) (which : Rows) (I : Image) (f g : ℕ → State) (e 
   pub leaves_same : (made : ℕ) (store : List ℕ) → store ≡ store_after g made → store ≡ store_after f made
   leaves_same made store h = h ∙ ap (λ (w : World). w.store) (world_same made)
 
+  over_same : (made : ℕ) (r : Outcome) → IsOverAfter g made r → IsOverAfter f made r
+  over_same made r h = record {
+    last = h.last;
+    made_is = h.made_is;
+    tries = (tries_same h.last h.tries).0;
+    outcome_is = sym (outcome_same made) ∙ h.outcome_is;
+  }
+
   pub ends_same : (made n : ℕ) (r : Outcome) (next : List ℕ) → EndsAs fs g made n r next → EndsAs fs f made n r next
-  ends_same made n (outcome.Exit status) next h = (sym (outcome_same made) ∙ h.0, h.1)
-  ends_same made n (outcome.Trap kind) next h = (sym (outcome_same made) ∙ h.0, h.1)
+  ends_same made n (outcome.Exit status) next h = (over_same made (outcome.Exit status) h.0, h.1)
+  ends_same made n (outcome.Trap kind) next h = (over_same made (outcome.Trap kind) h.0, h.1)
   ends_same made n outcome.Limit next h =
       let t = tries_same made h.1.0 in (
         h.0,
@@ -121,7 +144,7 @@ module _ (fs : List Placed) (which : Rows) (I : Image) (f g : ℕ → State) (e 
           t.0,
           h.1.1,
           h.1.2 ∙ ap (λ c. call_cells fs (made + 1) c (length h.1.0.below) h.1.1 ++ codes "</tr>\n") (sym t.1)
-              ∙ ap (λ k. call_cells fs (made + 1) t.0.call k h.1.1 ++ codes "</tr>\n") (sym t.3),
+              ∙ ap (λ k. call_cells fs (made + 1) t.0.call k h.1.1 ++ codes "</tr>\n") (depth_same t.0.below h.1.0.below t.3),
         ),
       )
   ends_same made n outcome.Device next h = h

@@ -17,12 +17,12 @@ use Rattle.btools.specs.declared.names.FrameWord.{FrameWord}
 use Rattle.btrace.specs.RowTexts.{signed_text}
 use Rattle.bshow.specs.Escapes.{escaped}
 
--- The first file of the source, and how many lines it has.
+-- the files of the source in their order, and how many lines each has
 abbrev pub file_text : File → List ℕ
 file_text f = codes "[\"" ++ escaped f.name ++ codes "\"," ++ decimal f.lines ++ codes "],"
 
 abbrev pub files_text : Files → List ℕ
-files_text files = codes "[" ++ file_text files.first ++ codes "0]"
+files_text files = codes "[" ++ file_text files.first ++ flat_map file_text files.rest ++ codes "0]"
 
 -- a definition: where it lies, and its name; of a function also its parameters and the words of its frame
 abbrev pub definition_name : Definition → List ℕ

@@ -1,18 +1,27 @@
--- Closed facts: what stands in the rows of a page, and which steps have one, on small values.
-use Rattle.std.specs.Prelude.{◌≡◌, true, false, List, [], ◌∷◌, Some, codes, refl}
+-- Closed facts: what stands in the rows and facts of a page, and which steps have a row, on small values.
+use Rattle.std.specs.Prelude.{◌≡◌, ℕ, true, false, List, [], ◌∷◌, ◌++◌, Some, codes, map, refl, take}
+use Rattle.std.specs.List.{list_all}
 use Rattle.std.specs.Fmt.{digits}
+use Rattle.blang.specs.declared.code.Definition.{Definition}
+use Rattle.blang.specs.declared.code.Definition.TheVariants as definition
 use Rattle.blang.specs.declared.code.Instr.TheVariants as instr
 use Rattle.blang.specs.declared.run.Library.TheVariants.{Getchar}
 use Rattle.blang.specs.declared.run.Outcome.TheVariants as outcome
+use Rattle.blang.specs.declared.run.Report.TheVariants as report
+use Rattle.blang.specs.declared.run.Trap.{Trap}
 use Rattle.blang.specs.declared.run.Trap.TheVariants as trap
 use Rattle.blang.specs.Layout.{OfLibrary, callee_of}
-use Rattle.blang.specs.Machine.{Loaded}
-use Rattle.bshow.specs.Escapes.{escaped, unescaped}
-use Rattle.bshow.specs.Facts.{sentence, some_word}
-use Rattle.bshow.specs.Rows.{is_getchar, words_cell}
+use Rattle.blang.specs.Machine.{Call, Loaded}
+use Rattle.blang.specs.Reports.{report_text}
+use Rattle.bsources.specs.Files.{File, Files, file_of}
+use Rattle.bshow.specs.Escapes.{escaped, is_safe, unescaped}
+use Rattle.bshow.specs.Facts.{calls_text, definitions_text, files_text, no_run_text, sentence, some_word, trap_words}
+use Rattle.bshow.specs.Facts.{unbegun_sentence}
+use Rattle.bshow.specs.OwnTexts.{own_texts}
+use Rattle.bshow.specs.Rows.{call_cells, done_cells, is_getchar, words_cell}
 use Rattle.bshow.specs.Shows.{shown_of}
 use Rattle.bshow.specs.Steps.{broken_status}
-use Rattle.bshow.specs.declared.showing.Rows.TheVariants as rows
+use Rattle.bshow.specs.declared.showing.PageRows.TheVariants as rows
 
 -- what ends a string, a tag or a comment, and what is no printable character of ASCII
 marks_escaped : escaped (codes "\"\\<>&") ≡ codes "\\u0022\\u005c\\u003c\\u003e\\u0026"
@@ -26,6 +35,42 @@ plain_left = refl
 
 escapes_read : unescaped (codes "a\\u003c\\u00ff b") ≡ 97 ∷ 60 ∷ 255 ∷ 32 ∷ 98 ∷ []
 escapes_read = refl
+
+-- what ends a string, or begins a tag or an entity; the first and the last that end nothing
+none_safe : map is_safe (34 ∷ 38 ∷ 60 ∷ 62 ∷ 31 ∷ 127 ∷ 10 ∷ 0 ∷ 255 ∷ [])
+    ≡ false ∷ false ∷ false ∷ false ∷ false ∷ false ∷ false ∷ false ∷ false ∷ []
+none_safe = refl
+
+some_safe : map is_safe (32 ∷ 92 ∷ 126 ∷ 33 ∷ []) ≡ true ∷ true ∷ true ∷ true ∷ []
+some_safe = refl
+
+tag_escaped : list_all is_safe (escaped (codes "</script><!--")) ≡ true
+tag_escaped = refl
+
+-- the files of a source, each by its own name, and their texts: that of a file with a newline at its end, of one
+-- without any byte, and of the last one
+abbrev program : File
+program = file_of (codes "p.b") (codes "a\nb\n")
+
+abbrev empty : File
+empty = file_of (codes "<e>.b") []
+
+abbrev library : File
+library = file_of (codes "l.b") (codes "c")
+
+abbrev three_files : Files
+three_files = record { first = program; rest = empty ∷ library ∷ [] }
+
+one_file : files_text (record { first = program; rest = [] }) ≡ codes "[[\"p.b\",3],0]"
+unfolding digits
+one_file = refl
+
+other_files : files_text three_files ≡ codes "[[\"p.b\",3],[\"\\u003ce\\u003e.b\",1],[\"l.b\",1],0]"
+unfolding digits
+other_files = refl
+
+their_texts : own_texts program (empty ∷ library ∷ []) (codes "a\nb\n\n\nc") ≡ codes "a\nb\n" ∷ [] ∷ codes "c" ∷ []
+their_texts = refl
 
 -- words and numbers
 no_words : words_cell [] ≡ codes "<td>[]"
@@ -45,6 +90,63 @@ zero_left_out = refl
 word_told : some_word 9 65535 ≡ codes "9,-1,"
 unfolding digits
 word_told = refl
+
+-- a call, and what a step did
+abbrev a_call : (strings start : ℕ) → Call
+a_call strings start = record {
+  function = record {
+    parameters = 0;
+    frame = 0;
+    targets = [];
+    code = [];
+    strings = strings;
+    first_label = 0;
+  };
+  start = start;
+  place = 7;
+  operands = 3 ∷ 65535 ∷ [];
+}
+
+call_told : call_cells [] 8 (a_call 9 10) 2 65 ≡ codes "<tr><td>8<td><td>7<td>65<td><td>[-1,3]<td>2<td>10"
+unfolding digits
+call_told = refl
+
+done_told : done_cells 10 (0 ∷ 2 ∷ []) (7 ∷ 65535 ∷ []) (codes "<") (codes "\n")
+    ≡ codes "<td>10<td>[0,2]<td>[7,-1]<td>\\u003c<td>\\u000a</tr>\n"
+unfolding digits
+done_told = refl
+
+nothing_done : done_cells 0 [] [] [] [] ≡ codes "<td>0<td>[]<td>[]<td><td></tr>\n"
+unfolding digits
+nothing_done = refl
+
+-- the calls below another one, and where a function and a word lie
+no_calls : calls_text [] ≡ codes "[0]"
+no_calls = refl
+
+calls_told : calls_text (a_call 9 10 ∷ a_call 8 12 ∷ []) ≡ codes "[[9,10],[8,12],0]"
+unfolding digits
+calls_told = refl
+
+abbrev two_definitions : List Definition
+two_definitions =
+    definition.Simple (record { name = codes "x"; values = []; strings = [] })
+    ∷ definition.Function (record {
+      name = codes "main";
+      parameters = 0;
+      frame = 5;
+      targets = [];
+      strings = [];
+      code = [];
+    })
+    ∷ []
+
+definitions_told : definitions_text two_definitions ≡ codes "[[7,\"x\"],[8,\"main\",0,5],9]"
+unfolding digits
+definitions_told = refl
+
+no_run_told : no_run_text ≡ codes ",\"calls_at\":0,\"calls\":[0],\"words\":[0],\"heard\":\"\",\"output\":\"\"}"
+no_run_told = refl
 
 -- the value of `getchar`, and the operand that is called
 getchar_is : (functions : List Loaded) → callee_of functions 3 ≡ OfLibrary Getchar
@@ -85,9 +187,23 @@ last_none : shown_of (rows.Last 0) 5 ≡ []
 last_none = refl
 
 -- the sentences, and the outcomes without a page
-trap_told : sentence (outcome.Trap trap.ZeroDivisor) 3 ≡ codes "The run was stopped by trap dz, a division by 0, in step 3."
+trap_told : sentence (outcome.Trap trap.ZeroDivisor) 3
+    ≡ codes "The run was stopped by trap dz, a division by 0, in step 3."
 unfolding digits
 trap_told = refl
+
+-- the words of each trap begin as the line that tells it
+abbrev traps : List Trap
+traps =
+    trap.ZeroDivisor ∷ trap.NotAFunction ∷ trap.NotALabel ∷ trap.NoRoom ∷ trap.TooDeep ∷ trap.BadBase ∷ trap.Stuck ∷ []
+
+traps_told : map (λ kind. take 7 (trap_words kind) ++ codes "\n") traps
+    ≡ map (λ kind. report_text (report.Trap kind)) traps
+traps_told = refl
+
+unbegun_told : unbegun_sentence trap.NoRoom
+    ≡ codes "The run never began: it was stopped by trap st, a frame without room in memory."
+unbegun_told = refl
 
 limit_told : sentence outcome.Limit 12 ≡ codes "The run goes on after step 12."
 unfolding digits

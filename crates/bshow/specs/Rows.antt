@@ -36,8 +36,8 @@ name_of fs call = name_in (function_with fs call.function.strings)
 abbrev pub code_of : List Placed → Call → List ℕ
 code_of fs call = instr_text (instr_in (function_with fs call.function.strings) call.place)
 
--- the call before a step: its number, the function, place, line and code, the operands, the topmost last, how many calls
--- are below, and the address of the frame
+-- the call before a step: its number, the function, place, line and code, the operands, the topmost last, how many
+-- calls are below, and the address of the frame
 abbrev pub call_cells : List Placed → (number : ℕ) → Call → (below line : ℕ) → List ℕ
 call_cells fs number call below line =
     codes "<tr>" ++ number_cell number ++ text_cell (name_of fs call) ++ number_cell call.place ++ number_cell line

@@ -1,5 +1,5 @@
 -- Promise: the page of a run.
-use Rattle.std.specs.Prelude.{◌≡◌, ℕ, ◌+◌, ◌-◌, ◌<◌, ◌≤◌, List, [], ◌++◌, All, codes, length, map}
+use Rattle.std.specs.Prelude.{◌≡◌, ℕ, ◌+◌, ◌-◌, ◌<◌, ◌≤◌, List, [], ◌++◌, All, codes, length, map, slice_index}
 use Rattle.std.specs.List.{flat_map, range_with_len}
 use Rattle.bword.specs.declared.edition.Edition.{Edition}
 use Rattle.bword.specs.ByteEnds.{CanFollow, Incoming, Kept, Outgoing, Took, outgoing_of}
@@ -9,7 +9,7 @@ use Rattle.blang.specs.declared.run.Outcome.TheVariants as outcome
 use Rattle.blang.specs.declared.run.Trap.{Trap}
 use Rattle.blang.specs.declared.status.TheConstants.{DEVICE, DONE, MEMORY}
 use Rattle.blang.specs.Layout.{World}
-use Rattle.blang.specs.Machine.{Call, Halted, Image, Loaded, Running, State, States, Stuck, image_of, machine, state_world}
+use Rattle.blang.specs.Machine.{Call, Image, Loaded, Running, State, States, image_of, machine, state_world}
 use Rattle.blang.specs.Machine as runs
 use Rattle.blang.specs.Reports.{HasNotRun, Reported, RunEnds, RunGives, state_outcome}
 use Rattle.bmach.specs.Stepping.{BeginsNot, Paused, machine_at}
@@ -22,17 +22,17 @@ use Rattle.bshow.specs.Facts.{calls_text, no_run_text, program_text, run_text, s
 use Rattle.bshow.specs.Rows.{call_cells, done_cells, heard_by, words_in}
 use Rattle.bshow.specs.declared.page.TheConstants.{BETWEEN, HEAD, SCRIPT, TAIL}
 use Rattle.bshow.specs.declared.showing.Recorder.{Recorder}
-use Rattle.bshow.specs.declared.showing.Rows.{Rows}
-use Rattle.bshow.specs.declared.showing.Wanted.{Wanted}
-use Rattle.bshow.specs.declared.showing.Rows.TheVariants as rows
+use Rattle.bshow.specs.declared.showing.PageRows.{PageRows}
+use Rattle.bshow.specs.declared.showing.PageRequest.{PageRequest}
+use Rattle.bshow.specs.declared.showing.PageRows.TheVariants as rows
 
 -- how many of so many steps come before the first one that has a row
-abbrev pub first_of : Rows → (made : ℕ) → ℕ
+abbrev pub first_of : PageRows → (made : ℕ) → ℕ
 first_of (rows.From number) made = number - 1
 first_of (rows.Last count) made = made - count
 
 -- the steps that have a row, each by the number of those before it
-abbrev pub shown_of : Rows → (made : ℕ) → List ℕ
+abbrev pub shown_of : PageRows → (made : ℕ) → List ℕ
 shown_of which made = range_with_len (first_of which made) (made - first_of which made)
 
 -- a machine that is to make a step: its call, those below it, and its world
@@ -53,7 +53,8 @@ stored_after functions states made = stored functions (states made) (states (mad
 abbrev pub heard_after : List Placed → (ℕ → State) → (made : ℕ) → List ℕ
 heard_after fs states made = heard_by fs (states made) (states (made + 1))
 
--- A row shows a step: the call before it; each word that it stored, before and after it; what it read; what it wrote.
+-- A row shows a step: the call before it; each word that it stored, before and after it, and the address of the first
+-- one, after which the others lie; what it read; what it wrote.
 pub record ShowsStep (fs : List Placed) (functions : List Loaded) (states : ℕ → State) (made : ℕ) (row : List ℕ)
     : Type 0 where
   pub tries : Tries states made
@@ -64,7 +65,8 @@ pub record ShowsStep (fs : List Placed) (functions : List Loaded) (states : ℕ 
   pub bytes : List ℕ
   pub wrote : (state_world (states (made + 1))).output ≡ tries.world.output ++ bytes
   pub row_is : row ≡ call_cells fs (made + 1) tries.call (length tries.below) line
-      ++ done_cells address (words_in (store_after states made) (stored_after functions states made))
+      ++ done_cells (slice_index (stored_after functions states made) 0)
+      (words_in (store_after states made) (stored_after functions states made))
       (words_in (store_after states (made + 1)) (stored_after functions states made)) (heard_after fs states made) bytes
 
 -- the row of a step, and how many steps were made before it
@@ -73,23 +75,21 @@ pub record StepRow : Type 0 where
   pub row : List ℕ
 
 -- Each step that is to be shown has a row, in order, and nothing else has one.
-pub record AreShown (fs : List Placed) (functions : List Loaded) (which : Rows) (states : ℕ → State) (made : ℕ)
+pub record AreShown (fs : List Placed) (functions : List Loaded) (which : PageRows) (states : ℕ → State) (made : ℕ)
     (texts : List (List ℕ)) : Type 0 where
   pub kept : List StepRow
   pub texts_are : texts ≡ map (λ r. r.row) kept
   pub all : map (λ r. r.made) kept ≡ shown_of which made
   pub each : All (λ r. ShowsStep fs functions states r.made r.row) kept
 
-abbrev pub below_of : State → List Call
-below_of (Running call below w) = below
-below_of (Halted e w) = []
-below_of (Stuck w) = []
-
--- The calls below the running one are told as they were before the step after so many, which is one that is shown.
-pub record TellsCalls (which : Rows) (states : ℕ → State) (made at : ℕ) (calls : List ℕ) : Type 0 where
+-- The calls below the running one are told as they were before the step after so many: before one that has a row, where
+-- any has one, and before the next one, where the machine is to make it.
+pub record TellsCalls (which : PageRows) (states : ℕ → State) (made at : ℕ) (calls : List ℕ) : Type 0 where
+  pub tries : Tries states at
   pub within : at ≤ made
   pub among : first_of which made < made → first_of which made ≤ at
-  pub calls_are : calls ≡ calls_text (below_of (states at))
+  pub next : Tries states made → at ≡ made
+  pub calls_are : calls ≡ calls_text tries.below
 
 -- what is kept of a run: its rows, what it read and wrote, and the calls before the step after so many
 pub record Record : Type 0 where
@@ -100,19 +100,26 @@ pub record Record : Type 0 where
   pub calls_at : ℕ
 
 -- It tells so many steps of a machine.
-pub record TellsSteps (fs : List Placed) (functions : List Loaded) (which : Rows) (states : ℕ → State) (made : ℕ)
+pub record TellsSteps (fs : List Placed) (functions : List Loaded) (which : PageRows) (states : ℕ → State) (made : ℕ)
     (r : Record) : Type 0 where
   pub shown : AreShown fs functions which states made r.texts
   pub calls : TellsCalls which states made r.calls_at r.calls
   pub heard : r.heard ≡ flat_map (heard_after fs states) (range_with_len 0 made)
   pub output : r.output ≡ (state_world (states made)).output
 
--- After so many steps the run is over, or all were made, and the row of the next one tells the call before it.
+-- The run is over by the last of so many steps, and was not before.
+pub record IsOverAfter (states : ℕ → State) (made : ℕ) (result : Outcome) : Type 0 where
+  pub last : ℕ
+  pub made_is : made ≡ last + 1
+  pub tries : Tries states last
+  pub outcome_is : state_outcome (states made) ≡ result
+
+-- The run is over by the last of so many steps; or all were made, and the row of the next one tells the call before it.
 abbrev pub EndsAs : List Placed → (ℕ → State) → (made steps : ℕ) → Outcome → (next : List ℕ) → Type 0
 EndsAs fs states made steps (outcome.Exit status) next =
-    (state_outcome (states made) ≡ outcome.Exit status) × (next ≡ [])
+    IsOverAfter states made (outcome.Exit status) × (next ≡ [])
 EndsAs fs states made steps (outcome.Trap kind) next =
-    (state_outcome (states made) ≡ outcome.Trap kind) × (next ≡ [])
+    IsOverAfter states made (outcome.Trap kind) × (next ≡ [])
 EndsAs fs states made steps outcome.Limit next =
     (made ≡ steps) × ((t : Tries states made) × (line : ℕ)
     × (next ≡ call_cells fs (made + 1) t.call (length t.below) line ++ codes "</tr>\n"))
@@ -133,7 +140,7 @@ rows_text texts = flat_map (λ t. t) texts
 
 -- This is the page of so many steps of a machine with this text about its program. Its input is what was taken and what
 -- may follow.
-pub record IsPageOf (fs : List Placed) (functions : List Loaded) (which : Rows) (states : States) (steps : ℕ)
+pub record IsPageOf (fs : List Placed) (functions : List Loaded) (which : PageRows) (states : States) (steps : ℕ)
     (i j : Incoming) (result : Outcome) (program page : List ℕ) : Type 0 where
   pub made : ℕ
   pub within : made ≤ steps
@@ -160,7 +167,7 @@ StepsGive first n i j o p result = RunGives (steps_from first) n i j o p result
 -- what is asked for
 pub record Asked : Type 0 where
   pub steps : ℕ
-  pub which : Rows
+  pub which : PageRows
   pub files : Files
   pub given : List ℕ
 
@@ -194,7 +201,7 @@ pub data Shows (edition : Edition) (source : List ℕ) (asked : Asked) (ends : R
       → Shows edition source asked ends status
 
 -- what is asked for, by the type of the code
-abbrev pub asked_of : Wanted → Asked
+abbrev pub asked_of : PageRequest → Asked
 asked_of w = record { steps = w.steps; which = w.rows; files = files_shown w.files; given = w.given.now }
 
 abbrev pub record_of : Recorder → Record

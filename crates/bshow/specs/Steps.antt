@@ -1,6 +1,6 @@
 -- Inner words: what is kept of one step, and of all of them.
-use Rattle.std.specs.Prelude.{◌≡◌, ◌⊎◌, ℕ, ◌+◌, ◌-◌, ◌≤◌, ◌==◌, Bool, true, false, List, [], ◌∷◌, ◌++◌, Result, Ok, Err, Option, Some, None, codes}
-use Rattle.std.specs.Prelude.{drop, length, nat_le, nat_lt, if◌then◌else◌}
+use Rattle.std.specs.Prelude.{◌≡◌, ◌⊎◌, ℕ, ◌+◌, ◌-◌, ◌≤◌, ◌==◌, Bool, true, false, List, [], ◌∷◌, ◌++◌}
+use Rattle.std.specs.Prelude.{Result, Ok, Err, Option, Some, None, codes, drop, length, nat_le, nat_lt, slice_index, if◌then◌else◌}
 use Rattle.std.specs.List.{range_with_len}
 use Rattle.bword.specs.ByteEnds.{CanFollow, Incoming, Kept, Outgoing, Took, outgoing_of}
 use Rattle.blang.specs.declared.code.Definition.{Definition}
@@ -17,24 +17,25 @@ use Rattle.btools.specs.Programs.{nothing_written}
 use Rattle.btools.specs.Functions.{Placed}
 use Rattle.bshow.specs.Facts.{calls_text, no_run_text, program_text, run_text, sentence, unbegun_sentence}
 use Rattle.bshow.specs.Rows.{call_cells, done_cells, heard_in, words_in}
-use Rattle.bshow.specs.Shows.{Asked, EndsAs, Record, StepsGive, TellsSteps, page_text, rows_text, steps_from, store_after}
+use Rattle.bshow.specs.Shows.{Asked, EndsAs, Record, StepsGive, TellsSteps, page_text, rows_text, steps_from}
+use Rattle.bshow.specs.Shows.{store_after}
 use Rattle.bshow.specs.declared.showing.Ended.{Ended}
 use Rattle.bshow.specs.declared.showing.Recorder.{Recorder}
-use Rattle.bshow.specs.declared.showing.Rows.{Rows}
-use Rattle.bshow.specs.declared.showing.Rows.TheVariants as rows
+use Rattle.bshow.specs.declared.showing.PageRows.{PageRows}
+use Rattle.bshow.specs.declared.showing.PageRows.TheVariants as rows
 
 -- the texts with a row more
-abbrev pub kept_texts : Rows → List (List ℕ) → (row : List ℕ) → List (List ℕ)
+abbrev pub kept_texts : PageRows → List (List ℕ) → (row : List ℕ) → List (List ℕ)
 kept_texts (rows.From number) texts row = texts ++ row ∷ []
 kept_texts (rows.Last count) texts row =
     if nat_lt count (length (texts ++ row ∷ [])) then drop 1 (texts ++ row ∷ []) else texts ++ row ∷ []
 
 -- whether the step after so many is to have a row, and whether the calls are told anew before it
-abbrev pub has_row : Rows → (made : ℕ) → Bool
+abbrev pub has_row : PageRows → (made : ℕ) → Bool
 has_row (rows.From number) made = nat_le number (made + 1)
 has_row (rows.Last count) made = true
 
-abbrev pub retells : Rows → (made at : ℕ) → Bool
+abbrev pub retells : PageRows → (made at : ℕ) → Bool
 retells (rows.From number) made at = number == made + 1
 retells (rows.Last count) made at = nat_le count (made - at)
 
@@ -57,7 +58,8 @@ abbrev pub AddsDone : List Placed → (old new : Paused) → Result (Unit {0}) O
     → Type 0
 AddsDone fs old new (Ok u) bytes before following =
     (address : ℕ) × (count : ℕ) × (range_with_len address count ≡ next_stored old)
-    × (following ≡ before ++ done_cells address (words_in old.store (range_with_len address count))
+    × (following ≡ before
+    ++ done_cells (slice_index (next_stored old) 0) (words_in old.store (range_with_len address count))
     (words_in new.store (range_with_len address count)) (heard_in fs old.call new.call) bytes)
 AddsDone fs old new (Err outcome.Device) bytes before following = Unit {0}
 AddsDone fs old new (Err r) bytes before following = following ≡ before ++ done_cells 0 [] [] [] []
@@ -69,7 +71,7 @@ IsRow fs made old new r bytes row =
     (line : ℕ) × AddsDone fs old new r bytes (call_cells fs (made + 1) old.call (length old.below) line) row
 
 -- what is kept of the rows after a step
-abbrev pub KeepsRow : Bool → List Placed → Rows → (made : ℕ) → (old new : Paused) → Result (Unit {0}) Outcome
+abbrev pub KeepsRow : Bool → List Placed → PageRows → (made : ℕ) → (old new : Paused) → Result (Unit {0}) Outcome
     → (before following : Record) → Type 0
 KeepsRow false fs which made old new r before following = following.texts ≡ before.texts
 KeepsRow true fs which made old new (Err outcome.Device) before following = Unit {0}
@@ -77,7 +79,7 @@ KeepsRow true fs which made old new r before following =
     (row : List ℕ) × IsRow fs made old new r (drop (length before.output) following.output) row
     × (following.texts ≡ kept_texts which before.texts row)
 
-pub record KeepsStep (b : Bool) (fs : List Placed) (which : Rows) (made : ℕ) (old new : Paused)
+pub record KeepsStep (b : Bool) (fs : List Placed) (which : PageRows) (made : ℕ) (old new : Paused)
     (r : Result (Unit {0}) Outcome) (before following : Record) : Type 0 where
   pub heard : following.heard ≡ before.heard ++ heard_if fs old new r
   pub calls : following.calls ≡ before.calls
@@ -99,10 +101,11 @@ IsNext fs last outcome.Limit made next =
 IsNext fs last r made next = next ≡ []
 
 abbrev pub AddsNext : List Placed → Paused → Ended → (before following : List ℕ) → Type 0
-AddsNext fs last e before following = (next : List ℕ) × IsNext fs last e.outcome e.made next × (following ≡ before ++ next)
+AddsNext fs last e before following =
+    (next : List ℕ) × IsNext fs last e.outcome e.made next × (following ≡ before ++ next)
 
 -- Where no read failed, what is kept tells the run from a state to another one.
-pub record TellsRun (fs : List Placed) (which : Rows) (first last : Paused) (steps : ℕ) (i j : Incoming) (r : Record)
+pub record TellsRun (fs : List Placed) (which : PageRows) (first last : Paused) (steps : ℕ) (i j : Incoming) (r : Record)
     (e : Ended) : Type 0 where
   pub within : e.made ≤ steps
   pub taken : List ℕ
@@ -138,8 +141,8 @@ broken_status outcome.Memory = Some MEMORY
 broken_status r = None
 
 -- what comes of a run that had no first step
-abbrev pub ShowsUnbegun : Asked → (source : List ℕ) → List Definition → List Frame → Outcome → (out out_after : Outgoing)
-    → (status : ℕ) → Type 0
+abbrev pub ShowsUnbegun : Asked → (source : List ℕ) → List Definition → List Frame → Outcome
+    → (out out_after : Outgoing) → (status : ℕ) → Type 0
 ShowsUnbegun asked source ds frames (outcome.Trap kind) out out_after status =
     Reported (unbegun_page asked source ds frames kind) DONE out out_after status
     ⊎ ((status ≡ MEMORY) × (out_after ≡ out))

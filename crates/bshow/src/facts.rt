@@ -3,6 +3,7 @@ ghost use Rattle.std.specs.Prelude.{◌≡◌, ◌≤◌, ◌++◌, OnOk, map};
 ghost use Rattle.blang.specs.Layout.{data_end, shape_of};
 ghost use Rattle.bsources.specs.Files.{file_shown, files_shown};
 ghost use Rattle.bshow.specs.Facts.{calls_text, definition_text, definitions_text, file_text, files_text, frame_numbers, frame_text, frame_word_text};
+ghost use Rattle.bshow.specs.OwnTexts.{FilesReadBack};
 ghost use Rattle.bshow.specs.Facts.{active_text, frames_text, memory_text, program_text, run_text, some_word};
 
 use crate::escapes::push_escaped;
@@ -45,12 +46,20 @@ fn push_files(text: &mut Text, files: SourceFiles<'_>) -> Result<(), AllocError>
     ensures { OnOk result (text.new ≡ text.old ++ files_text (files_shown files.entry)) }
 {
     text.push(b"[")?;
-    push_file(text, files.first)?;
+    push_file(text, &files.first)?;
+    for file in files.rest {
+        push_file(text, file)?;
+    }
     text.push(b"0]")
 }
 
-fn push_file(text: &mut Text, file: SourceFile<'_>) -> Result<(), AllocError>
-    ensures { OnOk result (text.new ≡ text.old ++ file_text (file_shown file.entry)) }
+/// The files that a page names, and the lines that each has, give back the text of each from the source.
+pub fn own_texts_read_back()
+    ensures { FilesReadBack }
+{}
+
+fn push_file(text: &mut Text, file: &SourceFile<'_>) -> Result<(), AllocError>
+    ensures { OnOk result (text.new ≡ text.old ++ file_text (file_shown file.now)) }
 {
     text.push(b"[\"")?;
     push_escaped(text, file.name.as_bytes())?;

@@ -9,4 +9,5 @@ mod rows;
 mod showing;
 
 pub use escapes::escaped_texts_stay_in_place;
-pub use showing::{Rows, Wanted, show};
+pub use facts::own_texts_read_back;
+pub use showing::{PageRequest, PageRows, show, wrong_pages_are_excluded};

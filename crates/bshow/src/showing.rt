@@ -1,5 +1,6 @@
 //! Showing the run of a program.
-ghost use Rattle.std.specs.Prelude.{◌≡◌, ◌+◌, ◌<◌, ◌≤◌, ◌%◌, ◌^◌, ◌++◌, ◌∷◌, [], IfOk, OnErr, OnOk, drop, length, map, if◌then◌else◌};
+ghost use Rattle.std.specs.Prelude.{◌≡◌, ◌+◌, ◌-◌, ◌<◌, ◌≤◌, ◌%◌, ◌^◌, ◌++◌, ◌∷◌, [], true, IfOk, OnErr, OnOk, drop, length, map, slice_index, if◌then◌else◌};
+ghost use Rattle.std.specs.List.{range_with_len};
 ghost use Rattle.blang.specs.Layout.{data_end, shape_of};
 ghost use Rattle.blang.specs.Machine.{step};
 ghost use Rattle.bmach.specs.Stepping.{machine_at};
@@ -10,6 +11,7 @@ ghost use Rattle.btools.specs.Functions.{entries_of};
 ghost use Rattle.bshow.specs.Shows.{Shows, StepsGive, asked_of, head, record_of, rows_text, tail};
 ghost use Rattle.bshow.specs.Steps.{ShowsRun, ShowsUnbegun, broken_status, AddsDone, AddsNext, IsEmpty, IsPage, KeepsStep, TellsRun, TellsUnless, has_row, heard_if, kept_texts, retells, retold};
 ghost use Rattle.bshow.specs.Steps.{unbegun_page};
+ghost use Rattle.bshow.specs.Excluded.{NoPages, RowsExcluded};
 
 use crate::ending::{push_sentence, push_unbegun};
 use crate::facts::{push_calls, push_program, push_run};
@@ -20,15 +22,15 @@ use blang::{Outcome, Trap};
 use bmach::Stepper;
 use bpages::PagedStore;
 use bsources::SourceFiles;
-use btools::{Program, Text, read_program, tell};
-use btools::Tables;
+use btools::{Program, Tables, Text, read_program, tell};
 use bword::{ByteIn, ByteOut, Edition, MemOut, Store};
 use std::alloc::{AllocError, Global};
 use std::collections::VecDeque;
+use std::ops::Range;
 
 /// Which of the steps that are made have a row.
 #[derive(Clone, Copy)]
-pub enum Rows {
+pub enum PageRows {
     /// Those from a number on, from 1.
     From(u64),
     /// So many of the last ones.
@@ -37,10 +39,10 @@ pub enum Rows {
 
 /// What is shown of a run.
 #[derive(Clone, Copy)]
-pub struct Wanted<'a> {
+pub struct PageRequest<'a> {
     /// The most steps that are made.
     pub steps: u64,
-    pub rows: Rows,
+    pub rows: PageRows,
     /// The files of the source, and how many lines each has.
     pub files: SourceFiles<'a>,
     /// The input, where it is known before the run; else empty.
@@ -70,15 +72,15 @@ struct Ended {
 const NO_RUN: &[u8] =
     b",\"calls_at\":0,\"calls\":[0],\"words\":[0],\"heard\":\"\",\"output\":\"\"}";
 
-impl Rows {
+impl PageRows {
     // Whether the step after so many is to have a row.
     fn has_row(self, made: u64) -> bool
         requires { made + 1 < 2 ^ 64 }
         ensures { result ≡ has_row self made }
     {
         match self {
-            Rows::From(number) => number <= made + 1,
-            Rows::Last(_) => true,
+            PageRows::From(number) => number <= made + 1,
+            PageRows::Last(_) => true,
         }
     }
 
@@ -88,8 +90,8 @@ impl Rows {
         ensures { result ≡ retells self made at }
     {
         match self {
-            Rows::From(number) => number == made + 1,
-            Rows::Last(count) => count <= made.saturating_sub(at),
+            PageRows::From(number) => number == made + 1,
+            PageRows::Last(count) => count <= made.saturating_sub(at),
         }
     }
 }
@@ -103,7 +105,7 @@ pub fn show<I: ByteIn, O: ByteOut, D: ByteOut>(
     alloc: Global,
     source: &[u8],
     edition: Edition,
-    wanted: Wanted<'_>,
+    wanted: PageRequest<'_>,
     input: &mut I,
     out: &mut O,
     diag: &mut D,
@@ -139,11 +141,17 @@ pub fn show<I: ByteIn, O: ByteOut, D: ByteOut>(
     )
 }
 
+/// No page shows another step, call or end of a run, and none has another status.
+pub fn wrong_pages_are_excluded()
+    ensures rows { RowsExcluded }
+    ensures pages { NoPages }
+{}
+
 // Shows that a run had no first step.
 fn show_unbegun<O: ByteOut>(
     alloc: Global,
     program: &Program,
-    wanted: Wanted<'_>,
+    wanted: PageRequest<'_>,
     source: &[u8],
     outcome: Outcome,
     out: &mut O,
@@ -166,7 +174,7 @@ fn show_unbegun<O: ByteOut>(
 fn show_run<S: Store + Drop, I: ByteIn, O: ByteOut>(
     alloc: Global,
     program: &Program,
-    wanted: Wanted<'_>,
+    wanted: PageRequest<'_>,
     source: &[u8],
     tables: &Tables<'_>,
     mut stepper: Stepper<'_, S>,
@@ -221,7 +229,7 @@ fn broken_status(outcome: Outcome) -> Option<Status>
 fn unbegun_page(
     alloc: Global,
     program: &Program,
-    wanted: Wanted<'_>,
+    wanted: PageRequest<'_>,
     source: &[u8],
     trap: Trap,
 ) -> Result<Text, AllocError>
@@ -244,7 +252,7 @@ fn unbegun_page(
 fn page_of<S: Store + Drop>(
     alloc: Global,
     program: &Program,
-    wanted: Wanted<'_>,
+    wanted: PageRequest<'_>,
     source: &[u8],
     tables: &Tables<'_>,
     stepper: &Stepper<'_, S>,
@@ -339,7 +347,7 @@ fn run_steps<S: Store + Drop, I: ByteIn>(
     alloc: Global,
     stepper: &mut Stepper<'_, S>,
     tables: &Tables<'_>,
-    which: Rows,
+    which: PageRows,
     steps: u64,
     kept: &mut Recorder,
     input: &mut I,
@@ -364,6 +372,7 @@ fn run_steps<S: Store + Drop, I: ByteIn>(
             }
         }
     }
+    kept.tell_calls(alloc, stepper, steps)?;
     Ok(Ended {
         outcome: Outcome::Limit,
         made: steps,
@@ -376,7 +385,7 @@ impl Recorder {
         &mut self,
         alloc: Global,
         stepper: &Stepper<'_, S>,
-        which: Rows,
+        which: PageRows,
         made: u64,
     ) -> Result<(), AllocError>
         requires { made + 1 < 2 ^ 64 }
@@ -387,6 +396,19 @@ impl Recorder {
         if !which.retells(made, self.calls_at) {
             return Ok(());
         }
+        self.tell_calls(alloc, stepper, made)
+    }
+
+    // Tells the calls below the running one as they are before the step after so many.
+    fn tell_calls<S: Store + Drop>(
+        &mut self,
+        alloc: Global,
+        stepper: &Stepper<'_, S>,
+        made: u64,
+    ) -> Result<(), AllocError>
+        ensures told { OnOk result (record_of self.new ≡ retold true (record_of self.old) stepper.now.below made) }
+        ensures written { self.new.written ≡ self.old.written }
+    {
         let mut calls = Text::new(alloc);
         push_calls(&mut calls, stepper)?;
         self.calls = calls;
@@ -400,7 +422,7 @@ fn run_step<S: Store + Drop, I: ByteIn>(
     alloc: Global,
     stepper: &mut Stepper<'_, S>,
     tables: &Tables<'_>,
-    which: Rows,
+    which: PageRows,
     made: u64,
     kept: &mut Recorder,
     input: &mut I,
@@ -439,11 +461,11 @@ fn run_step<S: Store + Drop, I: ByteIn>(
 }
 
 // Adds a row to those that are kept.
-fn keep(rows: &mut VecDeque<Text>, row: Text, which: Rows) -> Result<(), AllocError>
+fn keep(rows: &mut VecDeque<Text>, row: Text, which: PageRows) -> Result<(), AllocError>
     ensures { OnOk result (rows.new.items ≡ kept_texts which rows.old.items row) }
 {
     rows.push_back(row)?;
-    if let Rows::Last(count) = which {
+    if let PageRows::Last(count) = which {
         if count < rows.len() as u64 {
             rows.pop_front();
         }
@@ -484,7 +506,7 @@ fn row_step<S: Store + Drop, I: ByteIn>(
             let read = since(heard.as_slice(), heard_before);
             push_done(
                 row,
-                start,
+                first_of(start..end),
                 before.as_slice(),
                 after.as_slice(),
                 read,
@@ -497,6 +519,17 @@ fn row_step<S: Store + Drop, I: ByteIn>(
             push_done(row, 0, &[], &[], &[], &[])?;
             Ok(Err(outcome))
         }
+    }
+}
+
+// The first of these addresses, or 0 where there is none.
+fn first_of(addresses: Range<u32>) -> u32
+    ensures { result ≡ slice_index (range_with_len addresses.start (addresses.end - addresses.start)) 0 }
+{
+    if addresses.start < addresses.end {
+        addresses.start
+    } else {
+        0
     }
 }
 

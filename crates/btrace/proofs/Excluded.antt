@@ -29,7 +29,7 @@ use Rattle.blang.specs.Text.{IsCodeText}
 use Rattle.bcode.proofs.FaultLaws.{unique_code}
 use Rattle.bmach.specs.Resolved.{IsLoadedFrom}
 use Rattle.bmach.specs.Stepping.{BeginsNot, HasEnd}
-use Rattle.bmach.specs.Stops.{EndsAt, active_of}
+use Rattle.bmach.specs.Stops.{EndsAt, RunsCall, active_of}
 use Rattle.bmach.specs.declared.machine.Active.{Active}
 use Rattle.bmach.proofs.Resolving.{run-resolved}
 use Rattle.bmach.proofs.Running.{device_failed, memory_unfailed}
@@ -51,8 +51,8 @@ use Rattle.btrace.specs.declared.tracing.TheConstants.{HEADING}
 use Rattle.btrace.specs.declared.tracing.Which.{Which}
 use Rattle.btrace.proofs.ReadTexts.{all_above, above_append, at, after_line, after_number, line_skipped, number_above, number_skipped, skip_digits, words_above}
 use Rattle.bsources.specs.Files.{File, Files}
-use Rattle.btrace.specs.declared.trail.Rows.{Rows}
-use Rattle.btrace.specs.declared.trail.Rows.TheVariants as wanted
+use Rattle.btrace.specs.declared.trail.TraceRows.{TraceRows}
+use Rattle.btrace.specs.declared.trail.TraceRows.TheVariants as wanted
 
 module _ (file : File) where
   -- the functions of a program of one file
@@ -156,7 +156,7 @@ module _ (file : File) where
   came ds steps i j o p line line_after status less outcome.Memory h f = let bad : status ≡ 134 = f.1 in absurd (omega arith)
 
   -- what was written of a run, and its status
-  record Told (ds : List Definition) (steps : ℕ) (from : Rows) (name : Option (List ℕ)) (i j : Incoming) (text : List ℕ) (status : ℕ) : Type 0 where
+  record Told (ds : List Definition) (steps : ℕ) (from : TraceRows) (name : Option (List ℕ)) (i j : Incoming) (text : List ℕ) (status : ℕ) : Type 0 where
     which : Which
     named : which_of (functions_of ds) from name ≡ Some which
     result : Outcome
@@ -165,7 +165,7 @@ module _ (file : File) where
     comes : state_outcome (machine ds input steps) ≡ result
     shows : ShowsRows (leg (functions_of ds)) (machine_functions ds) which (machine ds) steps i j result HEADING.now text
 
-  module _ (edition : Edition) (source : List ℕ) (ds : List Definition) (is : IsSourceOf edition source ds) (steps : ℕ) (from : Rows) (name : Option (List ℕ)) (ends : RunEnds) (status : ℕ) (less : status < 132) where
+  module _ (edition : Edition) (source : List ℕ) (ds : List Definition) (is : IsSourceOf edition source ds) (steps : ℕ) (from : TraceRows) (name : Option (List ℕ)) (ends : RunEnds) (status : ℕ) (less : status < 132) where
     -- a text was written, and it is the trace of a run
     traced_so : (mid : Outgoing) (other : List Definition) (image : Image) (which : Which) (result : Outcome) (text : List ℕ) (o p : Outgoing) (answer : ℕ) → HasProgram edition source ends.line mid other image
         → which_of (functions_of other) from name ≡ Some which → RunGives (machine other) steps ends.input ends.input_after o p result
@@ -219,7 +219,7 @@ module _ (file : File) where
     each : All (λ r. ShowsStep (leg (functions_of ds)) (machine_functions ds) (machine ds input) r.made r.text) rows
     place : IsWhere (leg (functions_of ds)) (machine ds input) steps (store_after (machine ds input) steps) ending
 
-  at_limit : (ds : List Definition) (steps : ℕ) (from : Rows) (name : Option (List ℕ)) (which : Which) (i j : Incoming) (text : List ℕ) (status : ℕ) → which_of (functions_of ds) from name ≡ Some which → ComesAlways ds steps outcome.Limit
+  at_limit : (ds : List Definition) (steps : ℕ) (from : TraceRows) (name : Option (List ℕ)) (which : Which) (i j : Incoming) (text : List ℕ) (status : ℕ) → which_of (functions_of ds) from name ≡ Some which → ComesAlways ds steps outcome.Limit
       → Told ds steps from name i j (HEADING.now ++ text) status → AtLimit ds steps which text
   at_limit ds steps from name which i j text status named comes t =
       let fs = functions_of ds in
@@ -258,7 +258,7 @@ module _ (file : File) where
   came_unfailed ds steps i j output fs which old new unread outcome.Memory h s = absurd (s.ends [] (λ e. refl))
 
   -- What was written under the heading is a beginning of the trace of a run to its limit.
-  module _ (edition : Edition) (source : List ℕ) (ds : List Definition) (is : IsSourceOf edition source ds) (steps : ℕ) (from : Rows) (which : Which) (named : which_of (functions_of ds) from None ≡ Some which) (comes : ComesAlways ds steps outcome.Limit)
+  module _ (edition : Edition) (source : List ℕ) (ds : List Definition) (is : IsSourceOf edition source ds) (steps : ℕ) (from : TraceRows) (which : Which) (named : which_of (functions_of ds) from None ≡ Some which) (comes : ComesAlways ds steps outcome.Limit)
       (ends : RunEnds) (status : ℕ) (unread : Grew ends.input.failures ends.input_after.failures → ⊥) (text : List ℕ) (before : ends.out.written ≡ Some []) (following : ends.out_after.written ≡ Some (HEADING.now ++ text)) where
     silent_out : ends.out_after ≡ ends.out → ⊥
     silent_out same = no_nothing ends.out_after.written (HEADING.now ++ text) (ap (λ (o : Outgoing). o.written) same ∙ before) following (λ e. cc)
@@ -652,7 +652,7 @@ module _ (file : File) where
 
   -- Small programs that are traced, each at its limit.
   module _ (edition : Edition) (source : List ℕ) (ends : RunEnds) (text : List ℕ) (before : ends.out.written ≡ Some []) (following : ends.out_after.written ≡ Some (HEADING.now ++ text)) where
-    limit_of : (ds : List Definition) (steps : ℕ) (from : Rows) (name : Option (List ℕ)) (which : Which) → IsSourceOf edition source ds → which_of (functions_of ds) from name ≡ Some which → ComesAlways ds steps outcome.Limit
+    limit_of : (ds : List Definition) (steps : ℕ) (from : TraceRows) (name : Option (List ℕ)) (which : Which) → IsSourceOf edition source ds → which_of (functions_of ds) from name ≡ Some which → ComesAlways ds steps outcome.Limit
         → Traces edition source steps from one_file name ends LIMIT → AtLimit ds steps which text
     limit_of ds steps from name which is named comes h =
         at_limit ds steps from name which ends.input ends.input_after text LIMIT named comes
@@ -773,7 +773,7 @@ module _ (file : File) where
   read_result ds steps i j o p fs which old new outcome.Device failed h s = refl
   read_result ds steps i j o p fs which old new outcome.Memory failed h s = absurd (s.ends [] (λ e. refl))
 
-  module _ (edition : Edition) (source : List ℕ) (ds : List Definition) (is : IsSourceOf edition source ds) (steps : ℕ) (from : Rows) (which : Which) (named : which_of (functions_of ds) from None ≡ Some which)
+  module _ (edition : Edition) (source : List ℕ) (ds : List Definition) (is : IsSourceOf edition source ds) (steps : ℕ) (from : TraceRows) (which : Which) (named : which_of (functions_of ds) from None ≡ Some which)
       (ends : RunEnds) (status : ℕ) (failed : ends.input_after.failures ≡ ends.input.failures → ⊥) (unended : ends.input_after.is_over ≡ false) (whole : Grew ends.out.failures ends.out_after.failures → ⊥) (room : Grew ends.out.refusals ends.out_after.refusals → ⊥)
       (text : List ℕ) (before : ends.out.written ≡ Some []) (following : ends.out_after.written ≡ Some (HEADING.now ++ text)) where
     read_shows : (result : Outcome) → result ≡ outcome.Device → ShowsRows (leg (functions_of ds)) (machine_functions ds) which (machine ds) steps ends.input ends.input_after result HEADING.now (HEADING.now ++ text) → AtRead ds steps which text
@@ -922,7 +922,7 @@ module _ (file : File) where
       by_kind end_fault.Device h e = let bad : 134 ≡ 133 = e in omega (arith, bad)
       by_kind end_fault.Memory h e = refused h.counted.0
 
-  read_told : (edition : Edition) (source : List ℕ) (steps : ℕ) (from : Rows) (name : Option (List ℕ)) (ends : RunEnds) → (ends.input_after.failures ≡ ends.input.failures → ⊥) → (Grew ends.out.refusals ends.out_after.refusals → ⊥) → Traces edition source steps from one_file name ends MEMORY → ⊥
+  read_told : (edition : Edition) (source : List ℕ) (steps : ℕ) (from : TraceRows) (name : Option (List ℕ)) (ends : RunEnds) → (ends.input_after.failures ≡ ends.input.failures → ⊥) → (Grew ends.out.refusals ends.out_after.refusals → ⊥) → Traces edition source steps from one_file name ends MEMORY → ⊥
   read_told edition source steps from name ends failed refused (traces.traced mid ds image which result t output answer program named gives shows reported tells) =
       elim tells [
         | inl d ↦ read_whole ds steps ends.input ends.input_after _ _ mid ends.line_after result failed gives d.1
@@ -1265,6 +1265,52 @@ module _ (file : File) where
       let l = limit_site calling 3 text (call (record { parameters = 0; frame = 0; targets = []; code = calling_f; strings = 9; first_label = 1 }) 9 0 []) (λ input. refl) s in
       ap (at 16) (l.1 ∙ ap (λ p. codes "limit\n" ++ (codes "at     " ++ (p ++ (right 4 (decimal l.0) ++ step_end 3)))) calling_place)
 
+  -- what stands after the line, at the limit of `nothing` and after the trap of `trapping`
+  one_step : drop 7 (skip_digits (step_end 1)) ≡ codes "1\n"
+  unfolding digits
+  one_step = refl
+
+  two_steps : drop 7 (skip_digits (step_end 2)) ≡ codes "2\n"
+  unfolding digits
+  two_steps = refl
+
+  trap_is : (result : Outcome) → located_status result ≡ Some 130 → (kind : Trap) × (result ≡ outcome.Trap kind)
+  trap_is (outcome.Exit n) e = cc
+  trap_is (outcome.Trap kind) e = (kind, refl)
+  trap_is outcome.Limit e = let bad : 131 ≡ 130 = some_same 131 130 e in absurd (omega (arith, bad))
+  trap_is outcome.Device e = cc
+  trap_is outcome.Memory e = cc
+
+  -- a machine that has halted runs no call
+  over_at_two : (input : List ℕ) (last : ℕ) (active : Active) → last < 3 → RunsCall (machine trapping input last) active → last + 1 ≤ 2
+  over_at_two input zero active less h = omega arith
+  over_at_two input (suc zero) active less h = omega arith
+  over_at_two input (suc (suc zero)) active less h = let is = h.state_is in cc
+  over_at_two input (suc (suc (suc n))) active less h = absurd (omega (arith, less))
+
+  trapping_stops : (text : List ℕ) → Stops trapping 3 text 130
+      → (line : ℕ) × (text ≡ codes "trap fn\n" ++ (codes "at     " ++ (codes "in main     place    1  line " ++ (right 4 (decimal line) ++ step_end 2))))
+  trapping_stops text s =
+      let fs = functions_of trapping in
+      let t = trap_is s.result s.located in
+      let ends = subst (λ x. EndsAt (machine trapping s.input) 3 x s.active s.made) t.1 s.stops in
+      let last = trapped_last s.input ends.0 (ends.0 + 1) t.0 refl (over_at_two s.input ends.0 s.active ends.1 ends.2) ends.3 in
+      let r = subst (λ n. RunsCall (machine trapping s.input n) s.active) last ends.2 in
+      let kind : outcome.Trap trap.NotAFunction ≡ outcome.Trap t.0 = subst (λ n. state_outcome (machine trapping s.input (n + 1)) ≡ outcome.Trap t.0) last ends.3 in
+      let call_is : r.call ≡ trapping_main = some_same r.call trapping_main (sym (ap call_of r.state_is)) in
+      let strings : s.active.strings ≡ 8 = ap (λ (a : Active). a.strings) (sym r.active_is) ∙ ap (λ (x : Call). x.function.strings) call_is in
+      let place : s.active.place ≡ 1 = ap (λ (a : Active). a.place) (sym r.active_is) ∙ ap (λ (x : Call). x.place) call_is in
+      let made : s.made ≡ 2 = ends.4 ∙ ap (λ n. n + 1) last in
+      let number = right 4 (decimal s.line) in (
+        s.line,
+        s.text_is ∙ ap (λ x. line_in x ++ site_line (leg fs) s.active.strings s.active.place s.line s.made) (t.1 ∙ sym kind)
+            ∙ ap (λ t. codes "trap fn\n" ++ t) (site_parts (codes "at     ") (place_head fs s.active.strings s.active.place) number (codes "  step ") (decimal s.made) (codes "\n"))
+            ∙ ap (λ n. codes "trap fn\n" ++ (codes "at     " ++ (place_head fs s.active.strings s.active.place ++ (number ++ step_end n)))) made
+            ∙ ap (λ n. codes "trap fn\n" ++ (codes "at     " ++ (place_head fs n s.active.place ++ (number ++ step_end 2)))) strings
+            ∙ ap (λ n. codes "trap fn\n" ++ (codes "at     " ++ (place_head fs 8 n ++ (number ++ step_end 2)))) place
+            ∙ ap (λ p. codes "trap fn\n" ++ (codes "at     " ++ (p ++ (number ++ step_end 2)))) trapping_place,
+      )
+
   pub places_excluded : LocatesExcluded file
   places_excluded = record {
     limit_alone = λ ds steps starts edition source ends is before following h.
@@ -1283,6 +1329,19 @@ module _ (file : File) where
     caller_in_place = λ rest edition source ends is before following h.
         let bad : 109 ≡ 102 = calling_stops edition source ends (codes "limit\nat     in main" ++ rest) is before following (λ e. cc) h in
         omega (arith, bad);
+    other_step = λ text other edition source ends is before following h.
+        let whole = codes "limit\nat     in main     place    1  line    1  step " ++ text in
+        let s = stops_so edition source nothing is 1 ends LIMIT (omega arith) (λ input. refl) whole before following (λ e. cc) h in
+        let l = limit_site nothing 1 whole (call (loaded closing 8) 8 1 (0 ∷ [])) (λ input. refl) s in
+        let placed = l.1 ∙ ap (λ p. codes "limit\n" ++ (codes "at     " ++ (p ++ (right 4 (decimal l.0) ++ step_end 1)))) nothing_place in
+        let shown = append_cancel_left (codes "limit\nat     in main     place    1  line ") (codes "   1  step " ++ text) (right 4 (decimal l.0) ++ step_end 1) placed in
+        other (ap (drop 7) (ap after_number shown ∙ number_skipped 4 l.0 (step_end 1)) ∙ one_step);
+    other_step_of_trap = λ text other edition source ends is before following h.
+        let whole = codes "trap fn\nat     in main     place    1  line    1  step " ++ text in
+        let s = stops_so edition source trapping is 3 ends TRAP (omega arith) (λ input. refl) whole before following (λ e. cc) h in
+        let l = trapping_stops whole s in
+        let shown = append_cancel_left (codes "trap fn\nat     in main     place    1  line ") (codes "   1  step " ++ text) (right 4 (decimal l.0) ++ step_end 2) l.1 in
+        other (ap (drop 7) (ap after_number shown ∙ number_skipped 4 l.0 (step_end 2)) ∙ two_steps);
     other_status = λ ds steps result status starts comes wrong less edition source ends is h.
         wrong (came_to edition source ds is steps ends status less starts result comes h);
     read_failed = λ edition source steps ends failed h. place_read edition source steps ends failed h;

@@ -25,7 +25,7 @@ use Rattle.btrace.specs.RowTexts.{Legend, legend_in, places_text, step_row, stor
 use Rattle.btrace.specs.Traces.{AreShown, EndsAs, IsTried, IsWhere, TraceRow, ShowsRows, ShowsStep, StepsGive, TakesByte, TellsPlace, Traces, Tries, is_shown, is_step, shown_of, steps_from, store_after, stored_after, traced, waits_at, wanted_of, which_of}
 use Rattle.btools.specs.Programs.{TellsEnd}
 use Rattle.btrace.specs.Trails.{chosen}
-use Rattle.btrace.specs.declared.trail.Rows.{Rows}
+use Rattle.btrace.specs.declared.trail.TraceRows.{TraceRows}
 use Rattle.btrace.specs.declared.tracing.TheConstants.{HEADING}
 use Rattle.btrace.specs.declared.tracing.Which.{Which}
 
@@ -143,7 +143,7 @@ shows_run legend which ds image p loaded begins n i j r old new s =
     }
 
 -- the trace of a program that has begun
-pub traced_whole : (edition : Edition) (source : List ℕ) (n : ℕ) (shown : Rows) (files : Files) (name : Option (List ℕ)) (ends : RunEnds) (status : ℕ) (mid : Outgoing) (ds : List Definition) (image : Image) (legend : Legend) (which : Which) (p : Paused) (result : Outcome) (heading text : List ℕ) (told : ℕ)
+pub traced_whole : (edition : Edition) (source : List ℕ) (n : ℕ) (shown : TraceRows) (files : Files) (name : Option (List ℕ)) (ends : RunEnds) (status : ℕ) (mid : Outgoing) (ds : List Definition) (image : Image) (legend : Legend) (which : Which) (p : Paused) (result : Outcome) (heading text : List ℕ) (told : ℕ)
     → HasProgram edition source ends.line mid ds image → legend ≡ legend_in ds files → which_of legend.functions shown name ≡ Some which → IsUnstarted image p → (output : Kept) × StepsGive p n ends.input ends.input_after nothing_written (outgoing_of output) result
     → heading ≡ HEADING.now → ShowsRows legend p.image.functions which (steps_from p) n ends.input ends.input_after result heading text → Reported text DONE ends.out ends.out_after told
     → TellsEnd told result mid ends.line_after status → Traces edition source n shown files name ends status

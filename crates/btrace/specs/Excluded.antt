@@ -20,8 +20,8 @@ use Rattle.bsources.specs.Files.{File, Files}
 use Rattle.btrace.specs.Locates.{Locates}
 use Rattle.btrace.specs.Traces.{Traces}
 use Rattle.btrace.specs.declared.tracing.TheConstants.{HEADING}
-use Rattle.btrace.specs.declared.trail.Rows.{Rows}
-use Rattle.btrace.specs.declared.trail.Rows.TheVariants as rows
+use Rattle.btrace.specs.declared.trail.TraceRows.{TraceRows}
+use Rattle.btrace.specs.declared.trail.TraceRows.TheVariants as rows
 
 -- The source has no fault, and its code is that of these definitions.
 pub record IsSourceOf (edition : Edition) (source : List ℕ) (ds : List Definition) : Type 0 where
@@ -107,7 +107,7 @@ module _ (file : File) where
   alone = record { first = file; rest = [] }
 
   -- no trace of a program in one file is this text under the heading, with this status
-  abbrev pub NoTraceOf : List Definition → (steps : ℕ) → Rows → (name : Option (List ℕ)) → (status : ℕ) → List ℕ
+  abbrev pub NoTraceOf : List Definition → (steps : ℕ) → TraceRows → (name : Option (List ℕ)) → (status : ℕ) → List ℕ
       → Type 0
   NoTraceOf ds steps shown name status text =
       (edition : Edition) (source : List ℕ) (ends : RunEnds) → IsSourceOf edition source ds
@@ -193,11 +193,11 @@ module _ (file : File) where
     pub words_of_none : (rest : List ℕ)
         → NoTrace calling 6 7 None LIMIT (codes "at     in f        place    0  line    1  " ++ rest)
     -- another status than that of the machine after just so many steps, as the limit for a trap
-    pub other_status : (ds : List Definition) (steps : ℕ) (shown : Rows) (name : Option (List ℕ)) (result : Outcome)
+    pub other_status : (ds : List Definition) (steps : ℕ) (shown : TraceRows) (name : Option (List ℕ)) (result : Outcome)
         (status : ℕ) → ComesAlways ds steps result → (status ≡ status_of result → ⊥) → status < REFUSED
         → (text : List ℕ) → NoTraceOf ds steps shown name status text
     -- the status of a run whose trace was not written
-    pub unwritten : (ds : List Definition) (steps : ℕ) (shown : Rows) (name : Option (List ℕ))
+    pub unwritten : (ds : List Definition) (steps : ℕ) (shown : TraceRows) (name : Option (List ℕ))
         (status : ℕ) → status < REFUSED → ComesAlways ds 0 outcome.Limit → (edition : Edition)
         → (source before : List ℕ) (ends : RunEnds) → IsSourceOf edition source ds → ends.out.written ≡ Some before
         → ends.out_after.written ≡ Some before → Traces edition source steps shown alone name ends status → ⊥
@@ -211,7 +211,7 @@ module _ (file : File) where
     pub row_of_read_lost : NoTraceOfRead reading 4 3 []
     pub row_after_read : (text : List ℕ) → (text ≡ [] → ⊥) → NoTraceOfRead reading 4 4 text
     -- want of memory told where a read failed and no write was refused memory
-    pub read_failed : (edition : Edition) (source : List ℕ) (steps : ℕ) (shown : Rows)
+    pub read_failed : (edition : Edition) (source : List ℕ) (steps : ℕ) (shown : TraceRows)
         (name : Option (List ℕ)) (ends : RunEnds) → (ends.input_after.failures ≡ ends.input.failures → ⊥)
         → (Grew ends.out.refusals ends.out_after.refusals → ⊥)
         → Traces edition source steps shown alone name ends MEMORY → ⊥
@@ -234,6 +234,12 @@ module _ (file : File) where
     pub place_of_frame : (rest : List ℕ)
         → NoPlace nothing 1 LIMIT (codes "limit\nat     in main     place    8" ++ rest)
     pub caller_in_place : (rest : List ℕ) → NoPlace calling 3 LIMIT (codes "limit\nat     in main" ++ rest)
+    -- another number of the step than 1 at the limit, than 2 for a trap in the second of three steps; or none, or more
+    -- after it
+    pub other_step : (text : List ℕ) → (text ≡ codes "1\n" → ⊥)
+        → NoPlace nothing 1 LIMIT (codes "limit\nat     in main     place    1  line    1  step " ++ text)
+    pub other_step_of_trap : (text : List ℕ) → (text ≡ codes "2\n" → ⊥)
+        → NoPlace trapping 3 TRAP (codes "trap fn\nat     in main     place    1  line    1  step " ++ text)
     -- another status than that of the machine after just so many steps
     pub other_status : (ds : List Definition) (steps : ℕ) (result : Outcome) (status : ℕ)
         → ComesAlways ds 0 outcome.Limit → ComesAlways ds steps result → (status ≡ status_of result → ⊥)

@@ -11,7 +11,7 @@ use Rattle.bsources.specs.Files.{Files}
 use Rattle.btrace.specs.RowTexts.{line_text}
 use Rattle.btrace.specs.Traces.{is_wanted, which_of}
 use Rattle.btrace.specs.Trails.{chosen}
-use Rattle.btrace.specs.declared.trail.Rows.TheVariants as rows
+use Rattle.btrace.specs.declared.trail.TraceRows.TheVariants as rows
 
 -- a word is shown as a signed number
 signed_zero : signed_text 0 ≡ codes "0"
@@ -178,3 +178,14 @@ site_with_step : site_line (record { functions = []; files = two_files }) 9 15 7
     ≡ codes "at     in          place   15  line    5 of l.b  step 450016\n"
 unfolding digits
 site_with_step = refl
+
+-- no step, and the greatest number of steps
+site_without_step : site_line (record { functions = []; files = two_files }) 9 0 1 0
+    ≡ codes "at     in          place    0  line    1  step 0\n"
+unfolding digits
+site_without_step = refl
+
+site_with_most_steps : site_line (record { functions = []; files = two_files }) 9 0 1 18446744073709551615
+    ≡ codes "at     in          place    0  line    1  step 18446744073709551615\n"
+unfolding digits
+site_with_most_steps = refl

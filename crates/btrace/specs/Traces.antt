@@ -28,7 +28,7 @@ use Rattle.btrace.specs.RowTexts.{Legend, Place, legend_in, places_text, step_ro
 use Rattle.btrace.specs.Trails.{chosen, first_of}
 use Rattle.btrace.specs.declared.tracing.TheConstants.{HEADING, UNNAMED}
 use Rattle.btrace.specs.declared.tracing.Which.{Which}
-use Rattle.btrace.specs.declared.trail.Rows.{Rows}
+use Rattle.btrace.specs.declared.trail.TraceRows.{TraceRows}
 
 -- the columns of a trace
 trace_heading : HEADING.now ≡ codes "    step  function place  line  code         operands, signed\n"
@@ -40,7 +40,7 @@ unnamed_line = refl
 
 -- which steps are shown: those of the function of a name, from a number on or the last ones; none where no function
 -- has the name
-abbrev pub which_of : List Placed → Rows → (name : Option (List ℕ)) → Option Which
+abbrev pub which_of : List Placed → TraceRows → (name : Option (List ℕ)) → Option Which
 which_of fs rows None = Some (record { rows = rows; function = None })
 which_of fs rows (Some name) =
     option_map (λ f. record { rows = rows; function = Some f.strings }) (function_named fs name)
@@ -212,7 +212,7 @@ StepsGive first n i j o p result = RunGives (steps_from first) n i j o p result
 -- The program of the source was run for so many steps at most, as the machine runs it, and its trace written; or it
 -- did not begin; or no function has the name, and that was told; or there is no program, and why was told; or memory
 -- was refused, which is told only where no read failed.
-pub data Traces (edition : Edition) (source : List ℕ) (steps : ℕ) (shown : Rows) (files : Files)
+pub data Traces (edition : Edition) (source : List ℕ) (steps : ℕ) (shown : TraceRows) (files : Files)
     (name : Option (List ℕ)) (ends : RunEnds) (status : ℕ) : Type 0 where
   traced : (mid : Outgoing) (ds : List Definition) (image : Image) (which : Which) (result : Outcome) (text : List ℕ)
       (output : Kept) (told : ℕ) → HasProgram edition source ends.line mid ds image

@@ -10,5 +10,5 @@ mod trail;
 
 pub use locating::{locate, wrong_places_are_excluded};
 pub use rows::{instr_at, name_of, push_signed};
-pub use tracing::{Wanted, trace, wrong_traces_are_excluded};
-pub use trail::Rows;
+pub use tracing::{TraceRequest, trace, wrong_traces_are_excluded};
+pub use trail::TraceRows;

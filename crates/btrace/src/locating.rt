@@ -1,5 +1,6 @@
 //! Telling where a run was over.
 ghost use Rattle.std.specs.Prelude.{◌≡◌, ℕ, IfOk};
+ghost use Rattle.blang.specs.Reports.{run_ends};
 ghost use Rattle.btrace.specs.Excluded.{LocatesExcluded};
 ghost use Rattle.bsources.specs.Files.{File, files_shown};
 ghost use Rattle.btrace.specs.RowTexts.{legend_of};
@@ -32,14 +33,9 @@ pub fn locate<I: ByteIn, O: ByteOut, D: ByteOut>(
     out: &mut O,
     diag: &mut D,
 ) -> Status
-    ensures locates { Locates edition source.now (files_shown files.entry) steps (record {
-      input = I.incoming input.old;
-      input_after = I.incoming input.new;
-      out = O.outgoing out.old;
-      out_after = O.outgoing out.new;
-      line = D.outgoing diag.old;
-      line_after = D.outgoing diag.new;
-    }) result }
+    ensures locates { Locates edition source.now (files_shown files.entry) steps (run_ends
+        (I.incoming input.old) (I.incoming input.new) (O.outgoing out.old) (O.outgoing out.new)
+        (D.outgoing diag.old) (D.outgoing diag.new)) result }
     ensures input_lender { I.lender input.new ≡ I.lender input.old }
     ensures out_lender { O.lender out.new ≡ O.lender out.old }
     ensures diag_lender { D.lender diag.new ≡ D.lender diag.old }

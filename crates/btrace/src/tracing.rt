@@ -1,6 +1,7 @@
 //! Tracing a program.
 ghost use Rattle.std.specs.Prelude.{◌≡◌, ◌+◌, ◌^◌, ◌<◌, ◌≤◌, [], IfOk, OnErr, OnOk, option_map};
 ghost use Rattle.blang.specs.Machine.{step};
+ghost use Rattle.blang.specs.Reports.{run_ends};
 ghost use Rattle.bmach.specs.Stepping.{machine_at};
 ghost use Rattle.bmach.specs.Turns.{KeepsBelow, LeavesWords};
 ghost use Rattle.bword.specs.ByteEnds.{Kept, outgoing_of};
@@ -15,7 +16,7 @@ ghost use Rattle.btrace.specs.Trails.{trail_text};
 use crate::legend::Legend;
 use crate::places::push_places;
 use crate::rows::{push_step, push_stored, push_written};
-use crate::trail::{Rows, Trail};
+use crate::trail::{TraceRows, Trail};
 use blang::Outcome;
 use blang::status::{self, Status};
 use bmach::{Active, Stepper};
@@ -34,11 +35,11 @@ const UNNAMED: &[u8] = b"error: the source has no function of this NAME\n";
 
 /// Which steps are made, and which of them are shown.
 #[derive(Clone, Copy)]
-pub struct Wanted<'a> {
+pub struct TraceRequest<'a> {
     /// The most steps that are made.
     pub steps: u64,
     /// Which of them have a row.
-    pub rows: Rows,
+    pub rows: TraceRows,
     /// The name of the function whose steps are shown; all, if there is none.
     pub function: Option<&'a str>,
     /// The files of the source.
@@ -48,7 +49,7 @@ pub struct Wanted<'a> {
 /// Which steps are shown.
 #[derive(Clone, Copy)]
 struct Which {
-    rows: Rows,
+    rows: TraceRows,
     /// The address of the first string word of the function whose steps are shown.
     function: Option<u32>,
 }
@@ -75,19 +76,14 @@ pub fn trace<I: ByteIn, O: ByteOut, D: ByteOut>(
     alloc: Global,
     source: &[u8],
     edition: Edition,
-    wanted: Wanted<'_>,
+    wanted: TraceRequest<'_>,
     input: &mut I,
     out: &mut O,
     diag: &mut D,
 ) -> Status
-    ensures traces { Traces edition source.now wanted.entry.steps wanted.entry.rows (files_shown wanted.entry.files) (option_map (λ n. n.now) wanted.entry.function) (record {
-      input = I.incoming input.old;
-      input_after = I.incoming input.new;
-      out = O.outgoing out.old;
-      out_after = O.outgoing out.new;
-      line = D.outgoing diag.old;
-      line_after = D.outgoing diag.new;
-    }) result }
+    ensures traces { Traces edition source.now wanted.entry.steps wanted.entry.rows (files_shown wanted.entry.files) (option_map (λ n. n.now) wanted.entry.function) (run_ends
+        (I.incoming input.old) (I.incoming input.new) (O.outgoing out.old) (O.outgoing out.new)
+        (D.outgoing diag.old) (D.outgoing diag.new)) result }
     ensures input_lender { I.lender input.new ≡ I.lender input.old }
     ensures out_lender { O.lender out.new ≡ O.lender out.old }
     ensures diag_lender { D.lender diag.new ≡ D.lender diag.old }
@@ -129,7 +125,7 @@ pub fn trace<I: ByteIn, O: ByteOut, D: ByteOut>(
     finish(outcome, diag)
 }
 
-fn which_of(tables: &Tables<'_>, wanted: Wanted<'_>) -> Option<Which>
+fn which_of(tables: &Tables<'_>, wanted: TraceRequest<'_>) -> Option<Which>
     ensures { result ≡ which_of (entries_of tables.now) wanted.entry.rows (option_map (λ n. n.now) wanted.entry.function) }
 {
     let rows = wanted.rows;

@@ -13,21 +13,21 @@ use std::mem;
 
 /// Which of the steps have a row.
 #[derive(Clone, Copy)]
-pub enum Rows {
+pub enum TraceRows {
     /// Those from a number on; the first step has the number 1.
     From(u64),
     /// So many of the last ones.
     Last(u64),
 }
 
-impl Rows {
+impl TraceRows {
     /// The number of the first step that may have a row.
     pub fn first(self) -> u64
         ensures { result ≡ first_of self }
     {
         match self {
-            Rows::From(number) => number,
-            Rows::Last(_) => 1,
+            TraceRows::From(number) => number,
+            TraceRows::Last(_) => 1,
         }
     }
 }
@@ -60,15 +60,15 @@ impl Trail {
     }
 
     /// Keeps the row of a step that was made, and lets go of the oldest one if there are too many.
-    pub fn keep(&mut self, alloc: Global, rows: Rows) -> Result<(), AllocError>
+    pub fn keep(&mut self, alloc: Global, rows: TraceRows) -> Result<(), AllocError>
         ensures { OnOk result (Keeps rows self.old self.new) }
     {
         match rows {
-            Rows::From(_) => {
+            TraceRows::From(_) => {
                 self.text.push(self.row.as_slice())?;
                 self.row.clear();
             }
-            Rows::Last(count) => {
+            TraceRows::Last(count) => {
                 let row = mem::replace(&mut self.row, Text::new(alloc));
                 self.last.push_back(row)?;
                 if self.last.len() as u64 > count {
@@ -80,7 +80,12 @@ impl Trail {
     }
 
     /// The same of a row that is shown, and nothing of another one.
-    pub fn keep_if(&mut self, is_shown: bool, alloc: Global, rows: Rows) -> Result<(), AllocError>
+    pub fn keep_if(
+        &mut self,
+        is_shown: bool,
+        alloc: Global,
+        rows: TraceRows,
+    ) -> Result<(), AllocError>
         ensures { OnOk result (KeepsIf is_shown rows self.old self.new) }
     {
         if is_shown {

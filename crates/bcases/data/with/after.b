@@ -1,1 +1,1 @@
-f() { extrn x, y, z; x = y[1] ? -2 : g(3, *z); }
+h() { extrn x, y, z; x = y[1] ? -2 : g(3, *z); }

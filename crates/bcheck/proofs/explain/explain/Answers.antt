@@ -1,7 +1,7 @@
 use Rattle.std.proofs.Common.{◌≡◌, ap, arith, length, vec_items}
 use Rattle.bsources.specs.Files.{files_shown}
 use Rattle.bcheck.specs.Checks.{status_told}
-use Rattle.bcheck.specs.declared.form.Form.TheVariants as form
+use Rattle.bcheck.specs.declared.form.FindingForm.TheVariants as form
 use Rattle.bcheck.proofs.AddedFindings.{all_findings, finding_more}
 use Rattle.bcheck.proofs.Reasons.{item_reason}
 use Rattle.bcheck.proofs.explain.explain.Goals as goal

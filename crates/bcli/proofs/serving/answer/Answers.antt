@@ -1,7 +1,7 @@
 use Rattle.std.proofs.Common.{refl, subst}
 use Rattle.bsources.specs.Files.{files_shown}
 use Rattle.bcheck.specs.Checks.{Checks}
-use Rattle.bcheck.specs.declared.form.Form.{Form}
+use Rattle.bcheck.specs.declared.form.FindingForm.{FindingForm}
 use Rattle.bcommand.specs.declared.job.Question.TheVariants as questions
 use Rattle.bcli.proofs.Answered.{answered}
 use Rattle.bcli.proofs.serving.answer.Goals as goal
@@ -23,7 +23,7 @@ returns-in-Check-clause-answers g c =
     answered c.args.edition (files_shown c.args.files) c.args.text.now c.args.question (questions.Check c.in-Check.for_editor) _ _ c.in-Check.is (
       refl,
       refl,
-      subst (λ (f : Form). Checks (record {
+      subst (λ (f : FindingForm). Checks (record {
         edition = c.args.edition;
         form = f;
         files = files_shown c.args.files;

@@ -1,22 +1,22 @@
-use Rattle.std.proofs.Common.{◌∙◌, List, ap, map, subst}
-use Rattle.std.specs.List.{range_with_len}
+use Rattle.std.proofs.Common.{◌∙◌, List, ap, subst}
 use Rattle.std.proofs.lemmas.Result.{IfOk-weaker}
+use Rattle.std.specs.List.{All}
 use Rattle.bsources.specs.Files.{files_shown}
-use Rattle.bcount.specs.declared.lines.Counted.{Counted}
 use Rattle.bcount.specs.declared.lines.LineCount.{LineCount}
-use Rattle.bcount.specs.Counts.{line_count}
-use Rattle.bcount.specs.Tables.{IsTable}
+use Rattle.bcount.specs.Counts.{IsOnLines, line_counts}
+use Rattle.bcount.specs.Tables.{table_text}
 use Rattle.bcount.proofs.counting.text_of.Goals as goal
 
 pub returns : goal.returns
 returns c =
-    let last = c.lines_in-last.result in
+    let source = c.args.source.now in
     let asked = c.args.counting in
+    let counted = c.in_ok-counted.counted.items in
+    let last = c.last_line-last.ensures.value in
+    let lines = c.as_slice-2.ensures.value ∙ c.in_ok-lines.ensures ∙ (λ i. line_counts (c.as_slice.ensures.value i) (last i)) in
     IfOk-weaker c.table_text.result _ _ (λ text is. record {
-      counted = c.in_ok-counted.counted.items;
-      last = last;
+      counted = counted;
       counts_are = c.in_ok-counted.ensures.counts;
-      on_lines = c.in_ok-counted.ensures.lines;
-      table = subst (λ (lines : List LineCount). IsTable asked.style (files_shown asked.files) lines c.args.made text)
-          (c.as_slice-2.ensures.value ∙ c.in_ok-lines.ensures ∙ ap (λ (counted : List Counted). map (line_count counted) (range_with_len 1 last)) c.as_slice.ensures.value) is;
+      on_lines = subst (λ n. All (IsOnLines n) counted) last c.in_ok-counted.ensures.lines;
+      text_is = is ∙ ap (λ (ls : List LineCount). table_text asked.style (files_shown asked.files) source ls c.args.made) lines;
     }) c.table_text.ensures

@@ -1,21 +1,43 @@
-use Rattle.std.proofs.Common.{◌≡◌, ◌∙◌, ◌++◌, List, ℕ, ap, arith, length}
+use Rattle.std.proofs.Common.{◌≡◌, ◌∙◌, ◌+◌, ◌++◌, ◌==◌, List, ℕ, [], ap, append-nil, arith, get_or, length, sym}
+use Rattle.std.specs.List.{flat_map, list_any, range_with_len}
 use Rattle.bsources.specs.Files.{files_shown}
-use Rattle.bcount.specs.Tables.{heading_of, no_code}
-use Rattle.bcount.proofs.Rows.{all_rows, no_rows, one_row}
+use Rattle.bcount.specs.Marks.{no_code}
+use Rattle.bcount.specs.SourceLines.{source_lines}
+use Rattle.bcount.specs.Tables.{heading_of, row_after, row_text, total_of}
+use Rattle.bcount.specs.declared.marks.Mark.{Mark}
+use Rattle.bcount.proofs.Rows.{one_row, rest_first, rest_next}
 use Rattle.bcount.proofs.table.table_text.Goals as goal
 
 pub loop-index-init : goal.loop-index-init
 loop-index-init c =
     let t = c.args.table.now in
-    no_rows t.style (files_shown t.files) (heading_of t.style) t.lines.now c.push_heading.new.text (c.in_ok-push_heading.ensures ∙ ap (λ (old : List ℕ). old ++ heading_of t.style) c.new-text.ensures)
+    let heading = heading_of t.style in
+    record {
+      rows = c.in_ok-push_heading.ensures ∙ ap (λ (old : List ℕ). old ++ heading) c.new-text.ensures ∙ sym (append-nil heading);
+      rest = λ k. ap (λ n. get_or (source_lines t.source.now) n []) (let all : 0 + k ≡ k = omega arith in all);
+    }
 
 pub loop-index-preserved : goal.loop-index-preserved
 loop-index-preserved c =
     let t = c.args.table.now in
-    one_row t.style (files_shown t.files) (heading_of t.style) t.lines.now c.loop-index.index no_code c.loop-index.text c.push_row.new.text c.loop-index-test.true c.loop-index.invariant c.in_ok-push_row.ensures
+    let files = files_shown t.files in
+    let lines = t.lines.now in
+    let source = t.source.now in
+    let index = c.loop-index.index in
+    let rest = c.loop-index.rest.now in
+    let marked = c.is_marked-is_marked.ensures ∙ ap (λ (ms : List Mark). list_any (λ m. m.index == index) ms) (c.as_slice.ensures.value ∙ c.in_ok-marks.ensures) in
+    let bytes = c.split_line.ensures.line ∙ sym (rest_first source rest index c.loop-index.invariant.rest) in
+    record {
+      rows = one_row (row_after t.style files source lines) (heading_of t.style) c.loop-index.text c.push_row.new.text index c.loop-index.invariant.rows
+          (c.in_ok-push_row.ensures ∙ (λ i. c.loop-index.text ++ row_text t.style files (index + 1) (get_or lines index no_code) (marked i) (bytes i)));
+      rest = rest_next source rest c.split_line.result.1.now index c.loop-index.invariant.rest c.split_line.ensures.after;
+    }
 
 pub returns : goal.returns
 returns c =
     let t = c.args.table.now in
-    let all : c.loop-index.index ≡ length t.lines.now = omega (arith, c.loop-index-test.false, c.loop-index.auto.index-end) in
-    all_rows t.style (files_shown t.files) t.lines.now c.loop-index.index t.made c.loop-index.text c.push_total.new.text all c.loop-index.invariant c.in_ok-push_total.ensures
+    let files = files_shown t.files in
+    let lines = t.lines.now in
+    let all : c.loop-index.index ≡ length lines = omega (arith, c.loop-index-test.false, c.loop-index.auto.index-end) in
+    c.in_ok-push_total.ensures ∙ ap (λ (t0 : List ℕ). t0 ++ total_of t.style t.made) c.loop-index.invariant.rows
+    ∙ ap (λ n. heading_of t.style ++ flat_map (row_after t.style files t.source.now lines) (range_with_len 0 n) ++ total_of t.style t.made) all

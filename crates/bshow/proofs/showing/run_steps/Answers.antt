@@ -1,10 +1,10 @@
-use Rattle.std.proofs.Common.{◌≡◌, ◌∙◌, ℕ, ap, arith, refl, subst}
+use Rattle.std.proofs.Common.{◌≡◌, ◌∙◌, ℕ, ap, arith, refl, subst, sym, true}
 use Rattle.bword.specs.ByteEnds.{Kept, Outgoing, outgoing_of}
 use Rattle.blang.specs.declared.run.Outcome.TheVariants as outcome
 use Rattle.btools.specs.Functions.{entries_of}
 use Rattle.bshow.specs.Shows.{StepsGive, record_of}
-use Rattle.bshow.specs.Steps.{TellsRun}
-use Rattle.bshow.proofs.Told.{all_give, all_told, over_gives, over_unless, ready_told, told_none, told_one}
+use Rattle.bshow.specs.Steps.{TellsRun, retold}
+use Rattle.bshow.proofs.Told.{all_give, all_told, last_told, over_gives, over_unless, ready_told, told_none, told_one}
 use Rattle.bshow.proofs.showing.run_steps.Goals as goal
 
 pub loop-made-init : goal.loop-made-init
@@ -49,13 +49,17 @@ returns-in-Err-clause-tells g c =
 pub returns-clause-gives : goal.returns-clause-gives
 returns-clause-gives g c =
     let all : c.loop-made.made ≡ c.args.steps = omega (arith, c.loop-made-test.false, c.loop-made.auto.made-end) in
-    subst (λ (o : Outgoing). StepsGive c.args.stepper.now c.args.steps (g.I.ByteIn.incoming c.args.input.now) (g.I.ByteIn.incoming c.loop-made.input) o (outgoing_of c.loop-made.kept.written) outcome.Limit) (ap outgoing_of c.requires.output)
-    (subst (λ (n : ℕ). StepsGive c.args.stepper.now n (g.I.ByteIn.incoming c.args.input.now) (g.I.ByteIn.incoming c.loop-made.input) (outgoing_of c.args.kept.now.written) (outgoing_of c.loop-made.kept.written) outcome.Limit) all
-    (all_give (entries_of c.args.tables.now) c.args.which c.args.stepper.now c.loop-made.stepper c.loop-made.made (g.I.ByteIn.incoming c.args.input.now) (g.I.ByteIn.incoming c.loop-made.input) c.args.kept.now.written c.loop-made.kept.written (record_of c.loop-made.kept) c.loop-made.invariant.0))
+    let last = last_told (entries_of c.args.tables.now) c.args.which c.args.stepper.now c.loop-made.made c.loop-made.stepper (g.I.ByteIn.incoming c.args.input.now) (g.I.ByteIn.incoming c.loop-made.input) c.args.kept.now.written
+    c.loop-made.kept c.tell_calls.new.self c.loop-made.invariant.0 (c.in_ok-tell_calls.ensures.told ∙ ap (retold true (record_of c.loop-made.kept) c.loop-made.stepper.below) (sym all)) c.tell_calls.ensures.written in
+    subst (λ (o : Outgoing). StepsGive c.args.stepper.now c.args.steps (g.I.ByteIn.incoming c.args.input.now) (g.I.ByteIn.incoming c.loop-made.input) o (outgoing_of c.tell_calls.new.self.written) outcome.Limit) (ap outgoing_of c.requires.output)
+    (subst (λ (n : ℕ). StepsGive c.args.stepper.now n (g.I.ByteIn.incoming c.args.input.now) (g.I.ByteIn.incoming c.loop-made.input) (outgoing_of c.args.kept.now.written) (outgoing_of c.tell_calls.new.self.written) outcome.Limit) all
+    (all_give (entries_of c.args.tables.now) c.args.which c.args.stepper.now c.loop-made.stepper c.loop-made.made (g.I.ByteIn.incoming c.args.input.now) (g.I.ByteIn.incoming c.loop-made.input) c.args.kept.now.written c.tell_calls.new.self.written (record_of c.tell_calls.new.self) last.0))
 
 pub returns-clause-tells : goal.returns-clause-tells
 returns-clause-tells g c =
     let all : c.loop-made.made ≡ c.args.steps = omega (arith, c.loop-made-test.false, c.loop-made.auto.made-end) in
-    subst (λ (n : ℕ). TellsRun (entries_of c.args.tables.now) c.args.which c.args.stepper.now c.loop-made.stepper n (g.I.ByteIn.incoming c.args.input.now) (g.I.ByteIn.incoming c.loop-made.input) (record_of c.loop-made.kept) (record { outcome = outcome.Limit; made = n })) all
-    (all_told (entries_of c.args.tables.now) c.args.which c.args.stepper.now c.loop-made.stepper c.loop-made.made (g.I.ByteIn.incoming c.args.input.now) (g.I.ByteIn.incoming c.loop-made.input) c.args.kept.now.written c.loop-made.kept.written (record_of c.loop-made.kept) c.loop-made.invariant.0
+    let last = last_told (entries_of c.args.tables.now) c.args.which c.args.stepper.now c.loop-made.made c.loop-made.stepper (g.I.ByteIn.incoming c.args.input.now) (g.I.ByteIn.incoming c.loop-made.input) c.args.kept.now.written
+    c.loop-made.kept c.tell_calls.new.self c.loop-made.invariant.0 (c.in_ok-tell_calls.ensures.told ∙ ap (retold true (record_of c.loop-made.kept) c.loop-made.stepper.below) (sym all)) c.tell_calls.ensures.written in
+    subst (λ (n : ℕ). TellsRun (entries_of c.args.tables.now) c.args.which c.args.stepper.now c.loop-made.stepper n (g.I.ByteIn.incoming c.args.input.now) (g.I.ByteIn.incoming c.loop-made.input) (record_of c.tell_calls.new.self) (record { outcome = outcome.Limit; made = n })) all
+    (all_told (entries_of c.args.tables.now) c.args.which c.args.stepper.now c.loop-made.stepper c.loop-made.made (g.I.ByteIn.incoming c.args.input.now) (g.I.ByteIn.incoming c.loop-made.input) c.args.kept.now.written c.tell_calls.new.self.written (record_of c.tell_calls.new.self) last.0 last.1
     (ap (λ (k : Kept). k.bytes) c.requires.output))

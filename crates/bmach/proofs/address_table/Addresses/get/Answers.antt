@@ -14,7 +14,7 @@ returns-in_err-address c =
 
 pub overflow_cast-result : goal.overflow_cast-result
 overflow_cast-result c =
-    let fits = IfSome-lookup_from_All (λ v. v < 65536) (is_at (slice_cmp nat_cmp c.args.name.now)) c.self.inside.names c.self.invariant in
+    let fits = IfSome-lookup_from_All (λ v. v < 65536) (is_at (slice_cmp nat_cmp c.args.name.now)) c.self.inside.names c.self.invariant.0 in
     let address = subst (λ o. IfSome o (λ v. v < 65536)) (sym c.in_ok-address.ensures.value) fits in
     omega (arith, address)
 
