@@ -1,6 +1,6 @@
 -- Closed facts: where lines lie, at the edges of files.
 use Rattle.std.specs.Prelude.{◌≡◌, ℕ, List, [], ◌∷◌, map, Some, None, codes, refl}
-use Rattle.bsources.specs.Files.{File, Files, Line, beyond_first, file_of, joined, lines_in, own_line}
+use Rattle.bsources.specs.Files.{File, Files, Line, beyond_first, file_of, followed, joined, lines_in, own_line}
 
 -- a file p.b, and after it files l.b, m.b .. with these texts
 abbrev after_p : List (List ℕ × List ℕ) → List File
@@ -27,6 +27,19 @@ two = refl
 three : joined (codes "a\n") (codes "c\n" ∷ codes "" ∷ []) ≡ codes "a\n\nc\n\n"
 three = refl
 
+-- nothing, nothing first, nothing after it, and nothing on both sides
+no_bytes : joined [] [] ≡ []
+no_bytes = refl
+
+nothing_comes_first : joined [] (codes "c" ∷ []) ≡ codes "\nc"
+nothing_comes_first = refl
+
+nothing_follows : joined (codes "a") ([] ∷ []) ≡ codes "a\n"
+nothing_follows = refl
+
+newline_alone : joined [] ([] ∷ []) ≡ codes "\n"
+newline_alone = refl
+
 lines_of_nothing : lines_in (codes "") ≡ 1
 lines_of_nothing = refl
 
@@ -35,6 +48,9 @@ lines_of_two = refl
 
 lines_of_two_ended : lines_in (codes "a\n") ≡ 2
 lines_of_two_ended = refl
+
+lines_of_newlines : lines_in (codes "\n\n") ≡ 3
+lines_of_newlines = refl
 
 -- one file: all lines are its own, those after its last one too
 alone_last : own_line (in_files (codes "a\nb") []) 2 ≡ in_p 2
@@ -45,6 +61,9 @@ alone_past = refl
 
 alone_never_beyond : beyond_first (in_files (codes "a\nb") []) 9 ≡ None
 alone_never_beyond = refl
+
+alone_first : own_line (in_files (codes "a\nb") []) 1 ≡ in_p 1
+alone_first = refl
 
 -- a\nb, and l.b after it: a\nb\nc\nd
 abbrev unended : Files
@@ -101,6 +120,30 @@ nothing_between_next = refl
 nothing_between_beyond : beyond_first nothing_between 3 ≡ Some (in_m 1)
 nothing_between_beyond = refl
 
+-- p.b, l.b and m.b of two lines each: each line of the whole, and one past the last
+abbrev two_each : Files
+two_each = in_files (codes "a\nb") ((codes "l.b", codes "c\nd") ∷ (codes "m.b", codes "e\nf") ∷ [])
+
+abbrev each_line : List ℕ
+each_line = 1 ∷ 2 ∷ 3 ∷ 4 ∷ 5 ∷ 6 ∷ 7 ∷ []
+
+lines_in_turn : map (own_line two_each) each_line
+    ≡ in_p 1 ∷ in_p 2 ∷ in_l 1 ∷ in_l 2 ∷ in_m 1 ∷ in_m 2 ∷ in_m 3 ∷ []
+lines_in_turn = refl
+
+lines_beyond : map (beyond_first two_each) each_line
+    ≡ None ∷ None ∷ Some (in_l 1) ∷ Some (in_l 2) ∷ Some (in_m 1) ∷ Some (in_m 2) ∷ Some (in_m 3) ∷ []
+lines_beyond = refl
+
 -- no line has the number 0, which would be one of the first file
 no_line : own_line unended 0 ≡ in_p 0
 no_line = refl
+
+-- no file follows; l.b and m.b follow, and each has a newline before it
+none_follow : followed [] ≡ record { text = []; files = [] }
+none_follow = refl
+
+two_follow : followed
+    (record { name = codes "l.b"; text = codes "c\nd" } ∷ record { name = codes "m.b"; text = [] } ∷ [])
+    ≡ record { text = codes "\nc\nd\n"; files = after_p ((codes "l.b", codes "c\nd") ∷ (codes "m.b", []) ∷ []) }
+two_follow = refl
