@@ -37,3 +37,4 @@ mod words;
 
 pub use checking::{check, wrong_checks_are_excluded};
 pub use form::{Form, Request};
+pub use verdict::fault_of;

@@ -17,8 +17,9 @@ use Rattle.clap.specs.Words.{Text}
 use Rattle.bsources.specs.Files.{Files, Followed, file_shown}
 use Rattle.bcli.specs.declared.sources.LibFault.{LibFault}
 use Rattle.bcli.specs.declared.sources.Whole.{Whole}
-use Rattle.bcli.specs.Reading.{HasReadLibs, HasReadSource, LibIsUnread}
-use Rattle.bcli.specs.Serves.{CompilesJoined, NamesLib, compiling, files_read, whole, Answers, Does, HasNoFile, IsHelp, NamesFile, SaysNothing, RefusesWords}
+use Rattle.bcli.specs.declared.sources.Unread.TheVariants as read_faults
+use Rattle.bcli.specs.Reading.{HasReadLibs, HasReadSource, IsUnread, LibIsUnread}
+use Rattle.bcli.specs.Serves.{CompilesJoined, NamesLib, NamesLibOf, compiling, files_read, whole, Answers, Does, HasNoFile, IsHelp, NamesFile, SaysNothing, RefusesWords}
 use Rattle.bcli.specs.declared.shelf.FileFault.{FileFault}
 use Rattle.bcli.specs.declared.shelf.FileFault.TheVariants as file_fault
 use Rattle.bcli.specs.Shelves.{Holdings}
@@ -83,7 +84,19 @@ asked_of_source shelf source it files given question ends status h same first re
 -- a file that follows the first one wasn't read
 pub lib_named : (shelf : Holdings) (names : List Text) (it : LibFault) (ends : RunEnds) (status : ℕ) → LibIsUnread shelf names it
     → NamesFile (it.fault ≡ file_fault.Device) it.name.now ends status → NamesLib shelf names ends status
-lib_named shelf names it ends status h told = (it.name.now, h.among, named_for _ _ _ _ _ h.reason told)
+lib_named shelf names it ends status h told = record {
+  before = h.before;
+  lib = it.name.now;
+  after = h.after;
+  in_turn = h.in_turn;
+  reads = h.reads;
+  named = named_for _ _ _ _ _ h.reason told;
+}
+
+-- the same of a source, whose first one was read
+pub lib_named_of : (shelf : Holdings) (source : Source) (it : LibFault) (ends : RunEnds) (status : ℕ) → IsUnread shelf source (read_faults.Lib it)
+    → NamesFile (it.fault ≡ file_fault.Device) it.name.now ends status → NamesLibOf shelf source ends status
+lib_named_of shelf source it ends status h told = (h.0, h.1, lib_named shelf source.libs it ends status h.2 told)
 
 -- the source on the input was compiled, and no file follows
 pub compiled_alone : (shelf : Holdings) (edition : Edition) (libs : List Text) (ends : RunEnds) (status : ℕ) → libs ≡ []

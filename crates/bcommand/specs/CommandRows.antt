@@ -172,6 +172,36 @@ checks_with : Asks (codes "b" ∷ codes "check" ∷ codes "x" ∷ codes "--with"
 unfolding clap_on_literals
 checks_with = (refl, refl)
 
+locates_with : Asks (codes "b" ∷ codes "go" ∷ codes "--where" ∷ codes "x" ∷ codes "--with" ∷ codes "l" ∷ [])
+    (ask (x_with (codes "l" ∷ [])) (locate 10000000))
+unfolding clap_on_literals
+locates_with = (refl, refl)
+
+lists_with : Asks (codes "b" ∷ codes "list" ∷ codes "x" ∷ codes "--with" ∷ codes "l" ∷ [])
+    (ask (x_with (codes "l" ∷ [])) (list None))
+unfolding clap_on_literals
+lists_with = (refl, refl)
+
+maps_with : Asks (codes "b" ∷ codes "map" ∷ codes "--with" ∷ codes "l" ∷ codes "x" ∷ [])
+    (ask (x_with (codes "l" ∷ [])) map)
+unfolding clap_on_literals
+maps_with = (refl, refl)
+
+traces_with : Asks (codes "b" ∷ codes "trace" ∷ codes "--with=l" ∷ codes "x" ∷ [])
+    (ask (x_with (codes "l" ∷ [])) (trace 1000 (which.From 1) None))
+unfolding clap_on_literals
+traces_with = (refl, refl)
+
+counts_with : Asks (codes "b" ∷ codes "count" ∷ codes "x" ∷ codes "--with" ∷ codes "l" ∷ [])
+    (ask (x_with (codes "l" ∷ [])) (count 10000000 false))
+unfolding clap_on_literals
+counts_with = (refl, refl)
+
+shows_with : Asks (codes "b" ∷ codes "show" ∷ codes "x" ∷ codes "--with=l" ∷ [])
+    (ask (x_with (codes "l" ∷ [])) (show 2000 (which.From 1) None))
+unfolding clap_on_literals
+shows_with = (refl, refl)
+
 with_nothing : fault_of command_line (codes "b" ∷ codes "go" ∷ codes "x" ∷ codes "--with" ∷ [])
     ≡ kind.InvalidValue ∷ []
 unfolding clap_on_literals
