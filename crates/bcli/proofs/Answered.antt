@@ -1,5 +1,5 @@
 -- What is answered where memory was refused, and what is done for a job.
-use Rattle.std.proofs.Common.{ap, ◌∙◌, subst, ◌≡◌, ◌⊎◌, ℕ, List, [], ◌∷◌, map, length, refl, false, sym, inl, inr}
+use Rattle.std.proofs.Common.{ap, ◌∙◌, subst, ◌≡◌, ◌⊎◌, ℕ, List, [], ◌∷◌, map, length, refl, true, false, sym, inl, inr}
 use Rattle.clap.specs.declared.error.kind.ErrorKind.{ErrorKind}
 use Rattle.clap.specs.declared.error.kind.ErrorKind.TheVariants as kind
 use Rattle.blang.specs.declared.status.TheConstants.{DEVICE, MEMORY}
@@ -9,6 +9,7 @@ use Rattle.blang.specs.Reports.{HasNotRun, RunEnds}
 use Rattle.bword.specs.declared.edition.Edition.{Edition}
 use Rattle.brun.specs.OneRun.{unread}
 use Rattle.std.specs.Borrow.{Bor}
+use Rattle.std.specs.Prelude.{Bool, MatchBool}
 use Rattle.blang.specs.Compiles.{CompileHeadline, Compiles}
 use Rattle.bcommand.specs.CommandLine.{Question, Source, ask, compile, asked_of, go, question_of}
 use Rattle.bcommand.specs.declared.job.Job.{Job}
@@ -19,7 +20,7 @@ use Rattle.bcli.specs.declared.sources.LibFault.{LibFault}
 use Rattle.bcli.specs.declared.sources.Whole.{Whole}
 use Rattle.bcli.specs.declared.sources.Unread.TheVariants as read_faults
 use Rattle.bcli.specs.Reading.{HasReadLibs, HasReadSource, IsUnread, LibIsUnread}
-use Rattle.bcli.specs.Serves.{CompilesJoined, NamesLib, NamesLibOf, compiling, files_read, whole, Answers, Does, HasNoFile, IsHelp, NamesFile, SaysNothing, RefusesWords}
+use Rattle.bcli.specs.Serves.{CompilesJoined, NamesLib, NamesLibOf, compiling, files_read, whole, Answers, AnswersPlaced, Does, HasNoFile, IsHelp, NamesFile, SaysNothing, RefusesWords}
 use Rattle.bcli.specs.declared.shelf.FileFault.{FileFault}
 use Rattle.bcli.specs.declared.shelf.FileFault.TheVariants as file_fault
 use Rattle.bcli.specs.Shelves.{Holdings}
@@ -69,13 +70,13 @@ gone shelf source steps it given first following ends status h same is goes head
 -- an answer of a source that was read
 pub asked_of_source : (shelf : Holdings) (source : Source) (it : Whole) (files : Files) (given : List ℕ) (question : Question) (ends : RunEnds) (status : ℕ)
     → HasReadSource shelf source it → given ≡ it.text.items → files.first ≡ file_shown it.first → files.rest ≡ it.libs.files
-    → Answers source.edition files given question ends status → Does shelf (ask source question) ends status
+    → AnswersPlaced source.edition files given question ends status → Does shelf (ask source question) ends status
 asked_of_source shelf source it files given question ends status h same first rest answers =
     let files_are : files ≡ files_read h.reads = cong₂ (first ∙ h.first) (rest ∙ ap (λ (f : Followed). f.files) h.libs) in
     inr (inr (
       h.reads,
-      subst (λ (t : List ℕ). Answers source.edition (files_read h.reads) t question ends status) (same ∙ h.text)
-          (subst (λ (f : Files). Answers source.edition f given question ends status) files_are answers),
+      subst (λ (t : List ℕ). AnswersPlaced source.edition (files_read h.reads) t question ends status) (same ∙ h.text)
+          (subst (λ (f : Files). AnswersPlaced source.edition f given question ends status) files_are answers),
     ))
   where
     cong₂ : {f g : Files} → f.first ≡ g.first → f.rest ≡ g.rest → f ≡ g
@@ -125,3 +126,10 @@ shown_none (lib ∷ libs) e = cc
 pub shown_some : (libs : List (Bor Text)) → (length libs ≡ 0 → ⊥) → map (λ lib. lib.now) libs ≡ [] → ⊥
 shown_some [] some e = some refl
 shown_some (lib ∷ libs) some e = cc
+
+-- a choice by a test whose answer is known
+pub chosen : (P Q : Type 0) (test known : Bool) → known ≡ test → known ≡ true → P → MatchBool test P Q
+chosen P Q test known same is p = let e : test ≡ true = sym same ∙ is in rw e p
+
+pub not_chosen : (P Q : Type 0) (test known : Bool) → known ≡ test → known ≡ false → Q → MatchBool test P Q
+not_chosen P Q test known same is q = let e : test ≡ false = sym same ∙ is in rw e q
