@@ -1,16 +1,18 @@
 -- What was read of the files of a source.
-use Rattle.std.proofs.Common.{subst, ◌≡◌, ◌<◌, ◌+◌, ℕ, suc, List, [], ◌∷◌, ◌++◌, map, take, drop, drop-cons, length, refl, sym, ap, ◌∙◌, add-one}
+use Rattle.std.proofs.Common.{subst, ◌≡◌, ◌<◌, ◌+◌, ℕ, suc, List, [], ◌∷◌, ◌++◌, map, take, drop, length, refl, sym, ap, ◌∙◌, add-one}
 use Rattle.std.specs.Prelude.{All, slice_index_or}
 use Rattle.std.specs.Borrow.{Bor}
-use Rattle.std.proofs.Math.Seq.{take-suc}
-use Rattle.std.proofs.lemmas.List.{map-append, take-append-drop}
+use Rattle.std.proofs.Math.Seq.{split_at, take-suc}
+use Rattle.std.proofs.lemmas.List.{map-append}
 use Rattle.std.proofs.lemmas.List.Elements.{All-nil, All-push}
 use Rattle.clap.specs.Words.{Text}
-use Rattle.bsources.specs.Files.{Followed, NamedText, followed}
+use Rattle.bsources.specs.Files.{Followed, NamedText, file_of, file_shown, followed}
+use Rattle.bcommand.specs.CommandLine.{Source}
 use Rattle.bcli.specs.Serves.{ReadsLibs}
 use Rattle.bcli.specs.declared.shelf.FileFault.TheVariants as file_fault
 use Rattle.bcli.specs.declared.sources.LibFault.{LibFault}
-use Rattle.bcli.specs.Reading.{HasReadLibs, LibIsUnread}
+use Rattle.bcli.specs.declared.sources.Whole.{Whole}
+use Rattle.bcli.specs.Reading.{HasReadLibs, HasReadSource, LibIsUnread}
 use Rattle.bcli.specs.Shelves.{Holdings}
 
 abbrev pub shown : List (Bor Text) → List Text
@@ -32,6 +34,7 @@ pub reads_next : (shelf : Holdings) (names : List (Bor Text)) (i : ℕ) (d : Bor
     → HasReadLibs shelf (shown (take i names)) libs → shelf.holds (slice_index_or names i d).now text
     → ((texts : List NamedText) → libs ≡ followed texts → more ≡ followed (texts ++ record { name = (slice_index_or names i d).now; text = text } ∷ []))
     → HasReadLibs shelf (shown (take (i + 1) names)) more
+unfolding reads_more
 reads_next shelf names i d text libs more lt h holds push =
     let one = (slice_index_or names i d).now in
     let next : shown (take i names) ++ one ∷ [] ≡ shown (take (i + 1) names) =
@@ -45,8 +48,18 @@ pub unread_in_turn : (shelf : Holdings) (names : List (Bor Text)) (i : ℕ) (d :
 unread_in_turn shelf names i d libs it lt h is why = record {
   before = shown (take i names);
   after = shown (drop (suc i) names);
-  in_turn = sym (ap shown (take-append-drop i names)) ∙ map-append (λ (n : Bor Text). n.now) (take i names) (drop i names)
-      ∙ ap (λ ns. shown (take i names) ++ shown ns) (drop-cons i names d lt) ∙ ap (λ n. shown (take i names) ++ n ∷ shown (drop (suc i) names)) (sym is);
+  in_turn = ap shown (split_at names i d lt) ∙ map-append (λ (n : Bor Text). n.now) (take i names) (slice_index_or names i d ∷ drop (suc i) names)
+      ∙ ap (λ n. shown (take i names) ++ n ∷ shown (drop (suc i) names)) (sym is);
   reads = h.0;
   reason = why;
+}
+
+-- a source was read: its first file, and those that follow it, whose bytes come after
+pub source_read : (shelf : Holdings) (source : Source) (it : Whole) (text more same : List ℕ) → shelf.holds source.file text → HasReadLibs shelf source.libs it.libs
+    → it.text.items ≡ text ++ more → more ≡ it.libs.text → file_shown it.first ≡ file_of source.file same → same ≡ text → HasReadSource shelf source it
+source_read shelf source it text more same holds libs items rest first is = record {
+  reads = record { text = text; held = holds; libs = libs.0 };
+  text = items ∙ ap (λ t. text ++ t) (rest ∙ ap (λ (f : Followed). f.text) libs.1);
+  first = first ∙ ap (λ t. file_of source.file t) is;
+  libs = libs.1;
 }

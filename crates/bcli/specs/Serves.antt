@@ -73,11 +73,11 @@ telling_ends ends =
 -- which steps are shown
 abbrev pub traced_rows : Rows → Traced
 traced_rows (which.From number) = traced.From number
-traced_rows (which.Last count) = traced.Last count
+traced_rows (which.Last most) = traced.Last most
 
 abbrev pub page_rows : Rows → Paged
 page_rows (which.From number) = paged.From number
-page_rows (which.Last count) = paged.Last count
+page_rows (which.Last most) = paged.Last most
 
 -- how counts are told
 abbrev pub style_of : (for_editor : Bool) → Style
@@ -91,7 +91,7 @@ ShowsRun edition files text steps rows None ends status =
 ShowsRun edition files text steps rows (Some given) ends status =
     (ends.input_after ≡ ends.input) × (after : Unread)
     × Shows edition text (record { steps = steps; which = rows; files = files; given = given })
-    (record ends { input = incoming_of (unread given); input_after = incoming_of after }) status
+    (record ends { input = unread given; input_after = incoming_of after }) status
 
 -- how findings are told
 abbrev pub form_of : (for_editor : Bool) → Form
