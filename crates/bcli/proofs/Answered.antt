@@ -3,7 +3,7 @@ use Rattle.std.proofs.Common.{ap, ◌∙◌, subst, ◌≡◌, ◌⊎◌, ℕ, L
 use Rattle.clap.specs.declared.error.kind.ErrorKind.{ErrorKind}
 use Rattle.clap.specs.declared.error.kind.ErrorKind.TheVariants as kind
 use Rattle.blang.specs.declared.status.TheConstants.{DEVICE, MEMORY}
-use Rattle.bword.specs.ByteEnds.{Unread, incoming_of}
+use Rattle.bword.specs.ByteEnds.{Incoming, Unread, incoming_of}
 use Rattle.blang.specs.Headline.{GoesOff, Headline}
 use Rattle.blang.specs.Reports.{HasNotRun, RunEnds}
 use Rattle.bword.specs.declared.edition.Edition.{Edition}
@@ -20,7 +20,11 @@ use Rattle.bcli.specs.declared.sources.LibFault.{LibFault}
 use Rattle.bcli.specs.declared.sources.Whole.{Whole}
 use Rattle.bcli.specs.declared.sources.Unread.TheVariants as read_faults
 use Rattle.bcli.specs.Reading.{HasReadLibs, HasReadSource, IsUnread, LibIsUnread}
-use Rattle.bcli.specs.Serves.{CompilesJoined, NamesLib, NamesLibOf, compiling, files_read, whole, Answers, AnswersPlaced, Does, HasNoFile, IsHelp, NamesFile, SaysNothing, RefusesWords}
+use Rattle.bshow.specs.Shows.{Shows}
+use Rattle.bshow.specs.Shows.{Asked as PageAsked}
+use Rattle.bshow.specs.declared.showing.Rows.{Rows as Paged}
+use Rattle.std.specs.Prelude.{None, Option, Some, option_map}
+use Rattle.bcli.specs.Serves.{ShowsRun, CompilesJoined, NamesLib, NamesLibOf, compiling, files_read, whole, Answers, AnswersPlaced, Does, HasNoFile, IsHelp, NamesFile, SaysNothing, RefusesWords}
 use Rattle.bcli.specs.declared.shelf.FileFault.{FileFault}
 use Rattle.bcli.specs.declared.shelf.FileFault.TheVariants as file_fault
 use Rattle.bcli.specs.Shelves.{Holdings}
@@ -59,12 +63,12 @@ pub gone : (shelf : Holdings) (source : Source) (steps : ℕ) (it : Whole) (give
     → HasReadSource shelf source it → given ≡ it.text.items → first ≡ record { left = given; is_over = false } → GoesOff source.edition steps (incoming_of first) (incoming_of following) ends status
     → Headline source.edition steps (incoming_of first) (incoming_of following) ends status → Does shelf (go source steps) ends status
 gone shelf source steps it given first following ends status h same is goes headline =
-    let all : first ≡ unread (whole h.reads) = is ∙ ap (λ (t : List ℕ). record { left = t; is_over = false }) (same ∙ h.text) in
+    let all : incoming_of first ≡ unread (whole h.reads) = ap incoming_of is ∙ ap unread (same ∙ h.text) in
     inr (inr (
       h.reads,
       following,
-      subst (λ (u : Unread). GoesOff source.edition steps (incoming_of u) (incoming_of following) ends status) all goes,
-      subst (λ (u : Unread). Headline source.edition steps (incoming_of u) (incoming_of following) ends status) all headline,
+      subst (λ (i : Incoming). GoesOff source.edition steps i (incoming_of following) ends status) all goes,
+      subst (λ (i : Incoming). Headline source.edition steps i (incoming_of following) ends status) all headline,
     ))
 
 -- an answer of a source that was read
@@ -133,3 +137,31 @@ chosen P Q test known same is p = let e : test ≡ true = sym same ∙ is in rw 
 
 pub not_chosen : (P Q : Type 0) (test known : Bool) → known ≡ test → known ≡ false → Q → MatchBool test P Q
 not_chosen P Q test known same is q = let e : test ≡ false = sym same ∙ is in rw e q
+
+-- what is asked of a page
+abbrev page_asked : ℕ → Paged → Files → List ℕ → PageAsked
+page_asked steps rows files given = record { steps = steps; which = rows; files = files; given = given }
+
+-- a page of a run that reads the program's input
+pub shown_alone : (edition : Edition) (files : Files) (text : List ℕ) (steps : ℕ) (rows : Paged) (input : Option (Bor Text)) (asked : PageAsked) (ends : RunEnds) (status : ℕ)
+    → input ≡ None → asked ≡ page_asked steps rows files [] → Shows edition text asked ends status
+    → ShowsRun edition files text steps rows (option_map (λ t. t.now) input) ends status
+shown_alone edition files text steps rows None asked ends status none is shows = subst (λ (q : PageAsked). Shows edition text q ends status) is shows
+shown_alone edition files text steps rows (Some given) asked ends status none is shows = cc
+
+-- a page of a run whose input is given
+pub shown_given : (edition : Edition) (files : Files) (text : List ℕ) (steps : ℕ) (rows : Paged) (input : Option (Bor Text)) (given : Bor Text) (asked : PageAsked) (first after : Unread) (told read : List ℕ) (ends : RunEnds) (status : ℕ)
+    → input ≡ Some given → told ≡ given.now → read ≡ given.now → asked ≡ page_asked steps rows files told → first ≡ record { left = read; is_over = false }
+    → ends.input_after ≡ ends.input → Shows edition text asked (record ends { input = incoming_of first; input_after = incoming_of after }) status
+    → ShowsRun edition files text steps rows (option_map (λ t. t.now) input) ends status
+shown_given edition files text steps rows None given asked first after told read ends status some t r a f still shows = cc
+shown_given edition files text steps rows (Some other) given asked first after told read ends status some t r a f still shows =
+    let same : given ≡ other = cc in
+    let bytes : given.now ≡ other.now = ap (λ (b : Bor Text). b.now) same in
+    let asked_is : asked ≡ page_asked steps rows files other.now = a ∙ ap (page_asked steps rows files) (t ∙ bytes) in
+    let first_is : incoming_of first ≡ unread other.now = ap incoming_of f ∙ ap unread (r ∙ bytes) in (
+      still,
+      after,
+      subst (λ (i : Incoming). Shows edition text (page_asked steps rows files other.now) (record ends { input = i; input_after = incoming_of after }) status) first_is
+          (subst (λ (q : PageAsked). Shows edition text q (record ends { input = incoming_of first; input_after = incoming_of after }) status) asked_is shows),
+    )

@@ -14,4 +14,4 @@ returns-in-Err-File-clause-does g c =
 pub returns-in-Err-Lib-clause-does : goal.returns-in-Err-Lib-clause-does
 returns-in-Err-Lib-clause-does g c =
     inr (inl (lib_named_of (g.S.Shelf.holdings c.args.shelf.now) (source_shown c.args.source) c.in-Err-Lib.lib _ _ (rw c.in-Err-Lib.field-0-is at c.in-Err-Lib.ensures.err)
-    (c.name_file.ensures.names (g.I.ByteIn.incoming c.args.input.now) (g.O.ByteOut.outgoing c.args.out.now))))
+    (c.name_file-in-Err-Lib.ensures.names (g.I.ByteIn.incoming c.args.input.now) (g.O.ByteOut.outgoing c.args.out.now))))
