@@ -23,7 +23,7 @@ use Rattle.bcli.specs.Reading.{HasReadLibs, HasReadSource, IsUnread, LibIsUnread
 use Rattle.bshow.specs.Shows.{Shows}
 use Rattle.bshow.specs.Shows.{Asked as PageAsked}
 use Rattle.bshow.specs.declared.showing.Rows.{Rows as Paged}
-use Rattle.std.specs.Prelude.{None, Option, Some, option_map}
+use Rattle.std.specs.Prelude.{◌==◌, None, Option, Some, option_map}
 use Rattle.bcli.specs.Serves.{ShowsRun, CompilesJoined, NamesLib, NamesLibOf, compiling, files_read, whole, Answers, AnswersPlaced, Does, HasNoFile, IsHelp, NamesFile, SaysNothing, RefusesWords}
 use Rattle.bcli.specs.declared.shelf.FileFault.{FileFault}
 use Rattle.bcli.specs.declared.shelf.FileFault.TheVariants as file_fault
@@ -123,12 +123,8 @@ not_compiled shelf edition [] ends status some told = absurd (some refl)
 not_compiled shelf edition (lib ∷ libs) ends status some told = inl told
 
 -- a list of which each element is shown otherwise
-pub shown_none : (libs : List (Bor Text)) → length libs ≡ 0 → map (λ lib. lib.now) libs ≡ []
-shown_none [] e = refl
-shown_none (lib ∷ libs) e = cc
-
-pub shown_some : (libs : List (Bor Text)) → (length libs ≡ 0 → ⊥) → map (λ lib. lib.now) libs ≡ [] → ⊥
-shown_some [] some e = some refl
+pub shown_some : (libs : List (Bor Text)) → (length libs == 0) ≡ false → map (λ lib. lib.now) libs ≡ [] → ⊥
+shown_some [] some e = cc
 shown_some (lib ∷ libs) some e = cc
 
 -- a choice by a test whose answer is known
