@@ -1,6 +1,6 @@
 -- Answers that the contracts of `serve` and `refuse_words` exclude, whatever is proved of the body that gives them.
 use Rattle.std.proofs.Common.{◌≡◌, ◌∙◌, ◌⊎◌, ℕ, List, [], ◌∷◌, ◌++◌, Some, ap, refl, sym, subst, arith, inl, inr, map, append-nil}
-use Rattle.std.specs.Prelude.{◌&&◌, ◌==◌, All, false, true, codes}
+use Rattle.std.specs.Prelude.{All, false, codes}
 use Rattle.std.specs.Io.KnownBytes.{Appends}
 use Rattle.clap.specs.Words.{IsAmong, Text, fault_of, subcommand_of}
 use Rattle.clap.specs.declared.error.kind.ErrorKind.{ErrorKind}
@@ -18,7 +18,7 @@ use Rattle.brun.specs.Runs.{RunsText}
 use Rattle.brun.proofs.OneRun.{one_run}
 use Rattle.bcommand.specs.CommandLine.{Question, ask, asked, command_line, compile, go, run}
 use Rattle.bcli.specs.declared.shelf.MemFile.{MemFile}
-use Rattle.bcli.specs.FaultPlaces.{is_placed, tells_run}
+use Rattle.bcli.specs.FaultPlaces.{is_placed}
 use Rattle.bcli.specs.Shelves.{Holdings, holding}
 use Rattle.std.proofs.lemmas.List.Elements.{All-cons, All-head, All-nil, All-tail}
 use Rattle.blang.specs.Compiles.{CompileAnswers, Compilation, CompilesTo, HasOutcome, Tells}
@@ -328,7 +328,7 @@ module _ (file : MemFile) where
 
   -- nothing more is told of one file
   not_placed : (question : Question) (status : ℕ) → is_placed (files_alone file) question status ≡ false
-  not_placed question status = elim (tells_run question) as (λ b. (b && false && (status == 1)) ≡ false) [ true ↦ refl | false ↦ refl ]
+  not_placed question status = refl
 
   placed_alone : (edition : Edition) (question : Question) (ends : RunEnds) (status : ℕ) → AnswersPlaced edition (files_alone file) file.text.now question ends status
       → Answers edition (files_alone file) file.text.now question ends status

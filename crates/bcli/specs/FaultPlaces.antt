@@ -1,5 +1,6 @@
 -- Promise: where the fault of a source in several files lies, if a run is told of.
-use Rattle.std.specs.Prelude.{◌≡◌, ◌⊎◌, ◌&&◌, ◌==◌, ℕ, Bool, true, false, List, ◌++◌, Option, Some, None, codes, decimal}
+use Rattle.std.specs.Prelude.{◌≡◌, ◌⊎◌, ◌&&◌, ◌==◌, ℕ, Bool, true, false, List, ◌++◌, codes, decimal}
+use Rattle.std.specs.Prelude.{Option, Some, None}
 use Rattle.bword.specs.ByteEnds.{Outgoing}
 use Rattle.bword.specs.declared.edition.Edition.{Edition}
 use Rattle.blang.specs.Reports.{Reported}
@@ -20,7 +21,7 @@ tells_run question = false
 
 -- whether the file of a fault is told after its line
 abbrev pub is_placed : Files → Question → (status : ℕ) → Bool
-is_placed files question status = tells_run question && is_of_several files && (status == FAULT)
+is_placed files question status = is_of_several files && (status == FAULT) && tells_run question
 
 -- the place of a fault, if it isn't in the first file
 abbrev pub place_beyond : Files → Option Diagnostic → Option Line

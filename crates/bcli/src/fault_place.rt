@@ -2,7 +2,7 @@
 ghost use Rattle.std.specs.Prelude.{◌≡◌, IfOk};
 ghost use Rattle.bcommand.specs.CommandLine.{question_of};
 ghost use Rattle.bsources.specs.Files.{files_shown, line_shown};
-ghost use Rattle.bcli.specs.FaultPlaces.{TellsFaultPlace, is_placed, place_line};
+ghost use Rattle.bcli.specs.FaultPlaces.{TellsFaultPlace, is_placed, place_line, tells_run};
 
 use bcheck::fault_of;
 use bcommand::Question;
@@ -16,12 +16,27 @@ use std::alloc::{AllocError, Global};
 pub(crate) fn is_placed(files: SourceFiles<'_>, question: Question<'_>, status: Status) -> bool
     ensures { result ≡ is_placed (files_shown files.entry) (question_of question.entry) status }
 {
-    let tells_run = match question {
+    if files.rest.is_empty() {
+        return false;
+    }
+    if status != status::FAULT {
+        return false;
+    }
+    tells_run(question)
+}
+
+fn tells_run(question: Question<'_>) -> bool
+    ensures { result ≡ tells_run (question_of question.entry) }
+{
+    match question {
         Question::Trace(_) | Question::Locate(_) | Question::Count(_, _) | Question::Show(_) =>
             true,
-        _ => false,
-    };
-    tells_run && !files.rest.is_empty() && status == status::FAULT
+        Question::List(_)
+        | Question::Map
+        | Question::Draw(_)
+        | Question::Check(_)
+        | Question::Format(_) => false,
+    }
 }
 
 /// Tells the file of a source's fault and the line there, if it isn't in the first file.
