@@ -21,7 +21,7 @@ use Rattle.bsources.specs.Files.{Files}
 use Rattle.bcheck.specs.Findings.{IsCompiled, IsStopOf}
 use Rattle.bcheck.specs.declared.compiled.Compiled.{Compiled}
 use Rattle.bcheck.proofs.PlaceSteps.{stop_is}
-use Rattle.bcheck.specs.Checks.{AreFindings, IsFaultOf, Judged, EachOutcome, Outcome, outcome_of, TellsFirst, told, shown_in_form, verdict_line, status_told, told_first}
+use Rattle.bcheck.specs.Checks.{AreFindings, Judged, EachOutcome, Outcome, outcome_of, TellsFirst, told, shown_in_form, verdict_line, status_told, told_first}
 use Rattle.btools.specs.Programs.{load_line}
 use Rattle.blang.specs.Reports.{Reported}
 use Rattle.bcheck.specs.declared.form.Form.{Form}
@@ -92,18 +92,6 @@ pub clean_judged : (edition : Edition) (source : List ℕ) (c : Compiled) (last 
 clean_judged edition source c last v h is finished told_of =
     let gives = answers (sym is ∙ finished) h.1 in
     clean_text edition source h.0 c.code nothing_kept v (compiles_between (outgoing_of nothing_kept) (outgoing_of nothing_kept) gives (λ first last l. done first last _ _ l refl)) told_of
-
-finished_text : (edition : Edition) (source : List ℕ) (following : Unread) (code line : Kept)
-    → Compiling edition (all_unread source) following (outgoing_of nothing_kept) (outgoing_of code) nothing_kept line 0 → IsFaultOf edition source None
-finished_text edition source following code line h =
-    subst (λ s. IsFaultOf edition s None) (sym h.took.bytes)
-    (λ r g. (h.compiled refl following.left (follows source following h.taken h.took) r g).clean)
-
--- a source all of which was compiled has no fault
-pub finished_clean : (edition : Edition) (source : List ℕ) (c : Compiled) (last : Step) → IsCompiled edition source c → last ≡ c.last → last ≡ step.Finished → IsFaultOf edition source None
-finished_clean edition source c last h is finished =
-    let gives = answers (sym is ∙ finished) h.1 in
-    finished_text edition source h.0 c.code nothing_kept (compiles_between (outgoing_of nothing_kept) (outgoing_of nothing_kept) gives (λ first last l. done first last _ _ l refl))
 
 -- and the diagnostic of a source is the one with which compiling stopped
 pub stop_judged : (edition : Edition) (source : List ℕ) (c : Compiled) (last : Step) (line : Kept) (d : Diagnostic) → IsCompiled edition source c → last ≡ c.last → last ≡ step.Fault d → IsStopOf edition source (verdict.Faulty line d)

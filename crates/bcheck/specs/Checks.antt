@@ -72,11 +72,6 @@ abbrev pub Judged : Edition → List ℕ → Verdict → Type 0
 Judged edition source v =
     EachOutcome edition source (λ o. (verdict_line v, status_told v) ≡ told_first o.stop o.fault)
 
--- the diagnostic of a source in an edition, or None where it has no fault
-abbrev pub IsFaultOf : Edition → List ℕ → Option Diagnostic → Type 0
-IsFaultOf edition source stop =
-    (r : Compilation) → CompilesTo [] (tokens_from edition 1 source) r → r.stop ≡ stop
-
 -- what is found of a source that compiles and whose code loads is a warning, and of any other an error
 abbrev pub severity_of : (status : ℕ) → Severity
 severity_of status = if status == DONE then severity.Warning else severity.Error
@@ -280,18 +275,6 @@ pub record Check : Type 0 where
   pub out : Outgoing
   pub out_after : Outgoing
   pub status : ℕ
-
--- the same, in order
-abbrev pub check_of : Edition → Form → Files → (source : List ℕ) → (out out_after : Outgoing) → (status : ℕ) → Check
-check_of edition form files source out out_after status = record {
-  edition = edition;
-  form = form;
-  files = files;
-  source = source;
-  out = out;
-  out_after = out_after;
-  status = status;
-}
 
 -- For people the line of the compiler, or of the code that doesn't load, comes first; for editors it is an object's.
 abbrev pub shown_in_form : Form → List ℕ → List ℕ

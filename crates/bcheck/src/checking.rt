@@ -1,6 +1,6 @@
 //! Checking a source.
 ghost use Rattle.std.specs.Prelude.{◌≡◌};
-ghost use Rattle.bcheck.specs.Checks.{AreFindings, Checks, Outcome, TellsFirst, check_of, verdict_line, shown_in_form};
+ghost use Rattle.bcheck.specs.Checks.{AreFindings, Checks, Outcome, TellsFirst, verdict_line, shown_in_form};
 ghost use Rattle.bcheck.specs.Excluded.{Excluded};
 ghost use Rattle.bsources.specs.Files.{Files, files_shown};
 ghost use Rattle.bcheck.specs.declared.form.Form.{Form};
@@ -21,8 +21,15 @@ use std::alloc::Global;
 /// The status is 0 if the source compiles and its code loads, a missing `main` aside; 1 for a fault of the source; and
 /// 132 for code that doesn't load. All is written by one call of the stream, and nothing if memory runs out.
 pub fn check<O: ByteOut>(alloc: Global, source: &[u8], asked: Request<'_>, out: &mut O) -> Status
-    ensures checks { Checks (check_of asked.entry.edition asked.entry.form (files_shown asked.entry.files) source.now
-        (O.outgoing out.old) (O.outgoing out.new) result) }
+    ensures checks { Checks (record {
+      edition = asked.entry.edition;
+      form = asked.entry.form;
+      files = files_shown asked.entry.files;
+      source = source.now;
+      out = O.outgoing out.old;
+      out_after = O.outgoing out.new;
+      status = result;
+    }) }
     ensures out_lender { O.lender out.new ≡ O.lender out.old }
 {
     let text = Source {

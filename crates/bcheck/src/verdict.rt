@@ -5,7 +5,7 @@ ghost use Rattle.blang.specs.declared.code.Definition.{Definition};
 ghost use Rattle.blang.specs.Layout.{load_fault};
 ghost use Rattle.blang.specs.declared.status.TheConstants.{FAULT};
 ghost use Rattle.blang.specs.declared.token.Diagnostic.{Diagnostic};
-ghost use Rattle.bcheck.specs.Checks.{IsFaultOf, Judged, severity_of, verdict_line, status_told, told_first};
+ghost use Rattle.bcheck.specs.Checks.{Judged, severity_of, verdict_line, status_told, told_first};
 ghost use Rattle.bcheck.specs.Findings.{IsCompiled, IsStopOf};
 ghost use Rattle.bcheck.specs.declared.verdict.Verdict.TheVariants as verdict;
 
@@ -18,7 +18,7 @@ use blang::{Diagnostic, LoadFault};
 use bmach::load;
 use bparse::{Step, compile_edition};
 use btools::{Sink, load_line};
-use bword::{Edition, MemIn, MemOut};
+use bword::{MemIn, MemOut};
 use std::alloc::{AllocError, Global};
 
 /// What is said of a source.
@@ -70,22 +70,6 @@ impl Verdict {
             Verdict::Clean => Severity::Warning,
             Verdict::Faulty(_, _) | Verdict::Unloaded(_) => Severity::Error,
         }
-    }
-}
-
-/// The fault of a source, if it has one.
-pub fn fault_of(
-    alloc: Global,
-    text: &[u8],
-    edition: Edition,
-) -> Result<Option<Diagnostic>, AllocError>
-    ensures { IfOk result (IsFaultOf edition text.now) }
-{
-    let compiled = compile(alloc, Source { text, edition })?;
-    match compiled.last {
-        Step::Finished => Ok(None),
-        Step::Fault(diagnostic) => Ok(Some(diagnostic)),
-        _ => Err(AllocError),
     }
 }
 

@@ -6,7 +6,8 @@ use Rattle.bword.specs.declared.edition.Edition.{Edition}
 use Rattle.blang.specs.Reports.{Reported}
 use Rattle.blang.specs.declared.status.TheConstants.{FAULT, MEMORY}
 use Rattle.blang.specs.declared.token.Diagnostic.{Diagnostic}
-use Rattle.bcheck.specs.Checks.{IsFaultOf, is_of_several}
+use Rattle.bcheck.specs.Checks.{is_of_several}
+use Rattle.bcheck.specs.SourceFaults.{IsFaultOf}
 use Rattle.bcommand.specs.CommandLine.{Question, count, locate, show, trace}
 use Rattle.bsources.specs.Files.{Files, Line, beyond_first}
 use Rattle.btools.specs.Quoting.{file_text}

@@ -15,7 +15,7 @@ use Rattle.blang.specs.Reports.{Reported, RunEnds, HasNotRun}
 use Rattle.brun.specs.Runs.{RunsText}
 use Rattle.bsources.specs.Files.{Files, NamedText, file_of, followed, joined}
 use Rattle.bsources.specs.JoinedEnds.{IsJoined, Joined, joined_in, joined_new, lender_joined}
-use Rattle.bcheck.specs.Checks.{Checks, check_of}
+use Rattle.bcheck.specs.Checks.{Checks}
 use Rattle.bcheck.specs.declared.form.Form.{Form}
 use Rattle.bcheck.specs.declared.form.Form.TheVariants as forms
 use Rattle.blist.specs.Listings.{Lists}
@@ -173,7 +173,15 @@ Answers edition files text map ends status =
 Answers edition files text (draw steps) ends status = Draws edition text steps ends status
 Answers edition files text (check for_editor) ends status =
     (ends.input_after ≡ ends.input) × (ends.line_after ≡ ends.line)
-    × Checks (check_of edition (form_of for_editor) files text ends.out ends.out_after status)
+    × Checks (record {
+      edition = edition;
+      form = form_of for_editor;
+      files = files;
+      source = text;
+      out = ends.out;
+      out_after = ends.out_after;
+      status = status;
+    })
 Answers edition files text (trace steps shown function) ends status =
     Traces edition text steps (traced_rows shown) files function ends status
 Answers edition files text (locate steps) ends status = Locates edition text files steps ends status

@@ -1,6 +1,6 @@
 use Rattle.std.proofs.Common.{refl, subst}
 use Rattle.bsources.specs.Files.{files_shown}
-use Rattle.bcheck.specs.Checks.{Checks, check_of}
+use Rattle.bcheck.specs.Checks.{Checks}
 use Rattle.bcheck.specs.declared.form.Form.{Form}
 use Rattle.bcommand.specs.declared.job.Question.TheVariants as questions
 use Rattle.bcli.proofs.Answered.{answered}
@@ -23,8 +23,15 @@ returns-in-Check-clause-answers g c =
     answered c.args.edition (files_shown c.args.files) c.args.text.now c.args.question (questions.Check c.in-Check.for_editor) _ _ c.in-Check.is (
       refl,
       refl,
-      subst (λ (f : Form). Checks (check_of c.args.edition f (files_shown c.args.files) c.args.text.now (g.O.ByteOut.outgoing c.args.out.now) (g.O.ByteOut.outgoing c.check.new.out) c.check.result))
-          c.form_of.ensures c.check.ensures.checks,
+      subst (λ (f : Form). Checks (record {
+        edition = c.args.edition;
+        form = f;
+        files = files_shown c.args.files;
+        source = c.args.text.now;
+        out = g.O.ByteOut.outgoing c.args.out.now;
+        out_after = g.O.ByteOut.outgoing c.check.new.out;
+        status = c.check.result;
+      })) c.form_of.ensures c.check.ensures.checks,
     )
 
 pub returns-in-Trace-clause-answers : goal.returns-in-Trace-clause-answers
