@@ -19,6 +19,7 @@ pub fn fault_of(
     let judgement = judge(alloc, Source { text, edition })?;
     match &judgement.verdict {
         Verdict::Faulty(_, fault) => Ok(Some(*fault)),
-        Verdict::Clean | Verdict::Unloaded(_) => Ok(None),
+        Verdict::Clean => Ok(None),
+        Verdict::Unloaded(_) => Ok(None),
     }
 }

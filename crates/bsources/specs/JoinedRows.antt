@@ -93,5 +93,5 @@ given_twice : IsJoined (record at_rest { given = 3 }) → ⊥
 given_twice so = omega (arith, so.within)
 
 -- a call was refused, and few bytes could come
-refused_early : (j : Joined) → IsJoined j → j.limit < most → 0 < j.refused → ⊥
+pub refused_early : (j : Joined) → IsJoined j → j.limit < most → 0 < j.refused → ⊥
 refused_early j so few some = let within = so.within in let all = so.counted some in omega arith
