@@ -1,6 +1,6 @@
 -- Answers that the contracts of `serve` and `refuse_words` exclude, whatever is proved of the body that gives them.
 use Rattle.std.proofs.Common.{◌≡◌, ◌∙◌, ◌⊎◌, ℕ, zero, suc, List, [], ◌∷◌, ◌++◌, Some, ap, refl, sym, subst, arith, inl, inr, map, append-nil}
-use Rattle.std.specs.Prelude.{All, Contains, codes}
+use Rattle.std.specs.Prelude.{All, Contains, false, codes}
 use Rattle.std.specs.Io.KnownBytes.{Appends}
 use Rattle.clap.specs.Words.{IsAmong, Text, fault_of, subcommand_of}
 use Rattle.clap.specs.declared.error.kind.ErrorKind.{ErrorKind}
@@ -16,12 +16,17 @@ use Rattle.blang.specs.Reports.{HasNotRun, Reported, RunEnds}
 use Rattle.brun.specs.OneRun.{nothing_written, one_run_ends, unread}
 use Rattle.brun.specs.Runs.{RunsText}
 use Rattle.brun.proofs.OneRun.{one_run}
-use Rattle.bcommand.specs.CommandLine.{Question, ask, asked, command_line, go, run}
+use Rattle.bcommand.specs.CommandLine.{Question, ask, asked, command_line, compile, go, run}
 use Rattle.bcli.specs.declared.shelf.MemFile.{MemFile}
+use Rattle.bcli.specs.FaultPlaces.{is_placed}
 use Rattle.bcli.specs.Shelves.{Holdings, holding}
-use Rattle.bsources.specs.Files.{Files, NamedText, following}
-use Rattle.bcli.specs.Serves.{NamesLib, Reads, files_read, whole, Answers, Does, HasNoFile, IsHelp, NamesFile, RefusesWords, SaysNothing, Serves, did, refused, no_memory}
-use Rattle.bcli.specs.Excluded.{AreWrong, Excluded, FileIsRead, alone, files_alone}
+use Rattle.std.proofs.lemmas.List.Elements.{All-cons, All-head, All-nil, All-tail}
+use Rattle.blang.specs.Compiles.{CompileAnswers, Compilation, CompilesTo, HasOutcome, Tells}
+use Rattle.blang.specs.Cut.{tokens_from}
+use Rattle.bsources.specs.Files.{Files, NamedText, file_in, file_of, following}
+use Rattle.bcli.proofs.Joined.{failed_joined, joined_answers}
+use Rattle.bcli.specs.Serves.{CompilesJoined, NamesLib, Reads, ReadsLibs, compiling, files_read, whole, Answers, AnswersPlaced, Does, HasNoFile, IsHelp, NamesFile, RefusesWords, SaysNothing, Serves, did, refused, no_memory}
+use Rattle.bcli.specs.Excluded.{AreWrong, Excluded, FileIsRead, HoldsOne, NothingFails, alone, files_alone, with_lib}
 
 fault_is_told : (f : EndFault) → 0 ≡ status_of f → ⊥
 fault_is_told end_fault.Device e = omega (arith, e)
@@ -155,10 +160,10 @@ module _ (shelf : Holdings) where
   complaint_silent words ends wrong first same (no_memory silent) = silent_complaint ends silent
 
   lib_done : (libs : List Text) (ends : RunEnds) → NamesLib shelf libs ends 0 → ⊥
-  lib_done libs ends told = named_done told.0 ends told.2
+  lib_done libs ends told = named_done told.lib ends told.named
 
   lib_run : (libs : List Text) (ends : RunEnds) (status : ℕ) → NamesLib shelf libs ends status → HasNotRun ends
-  lib_run libs ends status told = named_run told.0 ends status told.2
+  lib_run libs ends status told = named_run told.lib ends status told.named
 
   -- the bytes of one file that follows
   one_follows : (lib b : List ℕ) → ((t : List ℕ) → shelf.holds lib t → t ≡ b) → (texts : List NamedText) → map (λ (it : NamedText). it.name) texts ≡ lib ∷ []
@@ -170,17 +175,90 @@ module _ (shelf : Holdings) where
       ap (λ t. 10 ∷ t) (append-nil it.text ∙ text)
   one_follows lib b only (it ∷ next ∷ texts) e h = cc
 
-  joined_alone : (file lib a b : List ℕ) (edition : Edition) (steps : ℕ) (ends : RunEnds) (status : ℕ)
-      → ((t : List ℕ) → shelf.holds file t → t ≡ a) → ((t : List ℕ) → shelf.holds lib t → t ≡ b)
-      → Does shelf (go (record { file = file; libs = lib ∷ []; edition = edition }) steps) ends status
-      → ((following : Unread) × GoesOff edition steps (unread (a ++ 10 ∷ b)) (incoming_of following) ends status) ⊎ HasNotRun ends
-  joined_alone file lib a b edition steps ends status first second (inl (inl device)) = inr device.1.unread
-  joined_alone file lib a b edition steps ends status first second (inl (inr memory)) = inr memory.unread
-  joined_alone file lib a b edition steps ends status first second (inr (inl told)) = inr (lib_run (lib ∷ []) ends status told)
+  one_file : (lib b : List ℕ) → ((t : List ℕ) → shelf.holds lib t → t ≡ b) → (texts : List NamedText) → map (λ (it : NamedText). it.name) texts ≡ lib ∷ []
+      → All (λ it. shelf.holds it.name it.text) texts → map file_in texts ≡ file_of lib b ∷ []
+  one_file lib b only [] e h = cc
+  one_file lib b only (it ∷ []) e h =
+      let named : it.name ≡ lib = cc in
+      let text : it.text ≡ b = only it.text (subst (λ (n : List ℕ). shelf.holds n it.text) named (h 0 it (omega arith))) in
+      rw (named, text) refl
+  one_file lib b only (it ∷ next ∷ texts) e h = cc
+
+  -- a file that follows is among those that do
+  of_one : (P : Text → Type 0) (names before after : List Text) (lib : Text) → names ≡ before ++ lib ∷ after → All P names → P lib
+  of_one P names [] after lib e h = All-head P lib after (subst (All P) e h)
+  of_one P names (x ∷ xs) after lib e h = of_one P (xs ++ lib ∷ after) xs after lib refl (All-tail P x (xs ++ lib ∷ after) (subst (All P) e h))
+
+  lib_silent : (libs : List Text) (ends : RunEnds) (status : ℕ) → All (λ lib. shelf.lacks lib → ⊥) libs → NamesLib shelf libs ends status → SaysNothing ends status 134
+  lib_silent libs ends status there told = by told.named
+    where
+      by : NamesFile (shelf.lacks told.lib) told.lib ends status → SaysNothing ends status 134
+      by (inl named) = absurd (of_one (λ lib. shelf.lacks lib → ⊥) libs told.before told.after told.lib told.in_turn there named.0)
+      by (inr silent) = silent
+
+  lib_missing : (libs : List Text) (ends : RunEnds) → All (λ lib. shelf.lacks lib → ⊥) libs → NamesLib shelf libs ends 133 → ⊥
+  lib_missing libs ends there told = omega (arith, (lib_silent libs ends 133 there told).status_is)
+
+  no_text : (lib : Text) → ((t : List ℕ) → shelf.holds lib t → ⊥) → (names : List Text) (texts : List NamedText) → map (λ (it : NamedText). it.name) texts ≡ lib ∷ names
+      → All (λ it. shelf.holds it.name it.text) texts → ⊥
+  no_text lib none names [] e h = cc
+  no_text lib none names (it ∷ texts) e h =
+      let named : it.name ≡ lib = cc in
+      none it.text (subst (λ (n : List ℕ). shelf.holds n it.text) named (h 0 it (omega arith)))
+
+  lib_later : (lib : Text) (libs : List Text) (ends : RunEnds) (status : ℕ) → ((t : List ℕ) → shelf.holds lib t → ⊥) → NamesLib shelf (lib ∷ libs) ends status
+      → NamesFile (shelf.lacks lib) lib ends status
+  lib_later lib libs ends status none told = by told.before told.reads told.in_turn
+    where
+      by : (before : List Text) → ReadsLibs shelf before → lib ∷ libs ≡ before ++ told.lib ∷ told.after → NamesFile (shelf.lacks lib) lib ends status
+      by [] reads e = let same : told.lib ≡ lib = cc in subst (λ (l : Text). NamesFile (shelf.lacks l) l ends status) same told.named
+      by (x ∷ xs) reads e =
+          let same : x ≡ lib = cc in
+          absurd (no_text lib none xs reads.texts (reads.names_are ∙ ap (λ (y : Text). y ∷ xs) same) reads.held)
+
+  -- the files of a source of two, and their bytes
+  two_are : (file lib a b : List ℕ) (edition : Edition) → HoldsOne shelf file a → HoldsOne shelf lib b → (r : Reads shelf (with_lib file lib edition)) → whole r ≡ a ++ 10 ∷ b
+  two_are file lib a b edition first second r =
+      rw (first.alone r.text r.held, one_follows lib b second.alone r.libs.texts r.libs.names_are r.libs.held) refl
+
+  only_there : (lib : Text) → (shelf.lacks lib → ⊥) → All (λ l. shelf.lacks l → ⊥) (lib ∷ [])
+  only_there lib there = All-cons (λ l. shelf.lacks l → ⊥) lib [] there (All-nil _)
+
+  joined_alone : (file lib a b : List ℕ) (edition : Edition) (steps : ℕ) (ends : RunEnds) (status : ℕ) → HoldsOne shelf file a → HoldsOne shelf lib b
+      → Does shelf (go (with_lib file lib edition) steps) ends status
+      → ((following : Unread) × GoesOff edition steps (unread (a ++ 10 ∷ b)) (incoming_of following) ends status) ⊎ SaysNothing ends status 134
+  joined_alone file lib a b edition steps ends status first second (inl (inl device)) = absurd (first.there device.0)
+  joined_alone file lib a b edition steps ends status first second (inl (inr memory)) = inr memory
+  joined_alone file lib a b edition steps ends status first second (inr (inl told)) = inr (lib_silent (lib ∷ []) ends status (only_there lib second.there) told.2)
   joined_alone file lib a b edition steps ends status first second (inr (inr goes)) =
-      let r = goes.0 in
-      let both : whole r ≡ a ++ 10 ∷ b = rw (first r.text r.held, one_follows lib b second r.libs.texts r.libs.names_are r.libs.held) refl in
-      inl (goes.1, subst (λ t. GoesOff edition steps (unread t) (incoming_of goes.1) ends status) both goes.2)
+      inl (goes.1, subst (λ t. GoesOff edition steps (unread t) (incoming_of goes.1) ends status) (two_are file lib a b edition first second goes.0) goes.2)
+
+  -- the files that were read of a source of two
+  files_of_two : (file lib a b : List ℕ) (edition : Edition) → HoldsOne shelf file a → HoldsOne shelf lib b → (r : Reads shelf (with_lib file lib edition))
+      → files_read r ≡ record { first = file_of file a; rest = file_of lib b ∷ [] }
+  files_of_two file lib a b edition first second r =
+      rw (first.alone r.text r.held, one_file lib b second.alone r.libs.texts r.libs.names_are r.libs.held) refl
+
+  asked_joined : (file lib a b : List ℕ) (edition : Edition) (question : Question) (ends : RunEnds) (status : ℕ) → HoldsOne shelf file a → HoldsOne shelf lib b
+      → Does shelf (ask (with_lib file lib edition) question) ends status
+      → AnswersPlaced edition (record { first = file_of file a; rest = file_of lib b ∷ [] }) (a ++ 10 ∷ b) question ends status ⊎ SaysNothing ends status 134
+  asked_joined file lib a b edition question ends status first second (inl (inl told)) = absurd (first.there told.0)
+  asked_joined file lib a b edition question ends status first second (inl (inr memory)) = inr memory
+  asked_joined file lib a b edition question ends status first second (inr (inl told)) = inr (lib_silent (lib ∷ []) ends status (only_there lib second.there) told.2)
+  asked_joined file lib a b edition question ends status first second (inr (inr answers)) =
+      inl (subst (λ (f : Files). AnswersPlaced edition f (a ++ 10 ∷ b) question ends status) (files_of_two file lib a b edition first second answers.0)
+      (subst (λ t. AnswersPlaced edition (files_read answers.0) t question ends status) (two_are file lib a b edition first second answers.0) answers.1))
+
+  compiled_joined : (lib b input : List ℕ) (edition : Edition) (ends : RunEnds) (status : ℕ) → HoldsOne shelf lib b → Tells ends.input input → NothingFails edition (10 ∷ b) ends status
+      → Does shelf (compile edition (lib ∷ [])) ends status
+      → HasOutcome edition (input ++ 10 ∷ b)
+      × ((r : Compilation) → CompilesTo [] (tokens_from edition 1 (input ++ 10 ∷ b)) r → CompileAnswers (compiling edition ends.input ends.input_after ends status) r)
+  compiled_joined lib b input edition ends status held told fine (inl named) =
+      absurd (fine.undisturbed.not_refused (lib_silent (lib ∷ []) ends status (only_there lib held.there) named).status_is)
+  compiled_joined lib b input edition ends status held told fine (inr compiles) =
+      let r = compiles.0 in
+      let same = one_follows lib b held.alone r.texts r.names_are r.held in
+      joined_answers edition (10 ∷ b) ends status (subst (λ (t : List ℕ). CompilesJoined edition t ends status) same compiles.1) input told fine
 
   pub excluded : Excluded shelf
   excluded = record {
@@ -196,7 +274,13 @@ module _ (shelf : Holdings) where
     no_file_done = no_file_done;
     lib_done = lib_done;
     lib_run = lib_run;
+    lib_missing = lib_missing;
+    lib_later = lib_later;
+    file_later = λ source ends status none told. none told.0 told.1;
     joined_alone = joined_alone;
+    asked_joined = asked_joined;
+    compiled_joined = compiled_joined;
+    failed_joined = λ edition rest ends it counted none. failed_joined edition rest ends 133 it counted none refl;
     both_done = λ clash ends does. not_done _ 135 ends.line ends.line_after (λ e. omega (arith, e)) does.1;
     both_run = λ clash ends status does. does.0;
     unread_words_done = λ old new told. not_done _ 135 old new (λ e. omega (arith, e)) told;
@@ -235,10 +319,11 @@ module _ (file : MemFile) where
   none_follow (it ∷ texts) e = cc
 
   no_lib : (names : List Text) (ends : RunEnds) (status : ℕ) → names ≡ [] → NamesLib (holding file) names ends status → ⊥
-  no_lib names ends status e told = nothing (subst (λ (ns : List Text). Contains ns told.0) e told.1)
+  no_lib names ends status e told = nothing told.before (sym e ∙ told.in_turn)
     where
-      nothing : Contains [] told.0 → ⊥
-      nothing h = omega (arith, h.1)
+      nothing : (before : List Text) → [] ≡ before ++ told.lib ∷ told.after → ⊥
+      nothing [] h = cc
+      nothing (x ∷ xs) h = cc
 
   whole_alone : (edition : Edition) (r : Reads (holding file) (alone file edition)) → whole r ≡ file.text.now
   whole_alone edition r = rw (none_follow r.libs.texts r.libs.names_are, append-nil r.text) r.held.1
@@ -248,20 +333,33 @@ module _ (file : MemFile) where
 
   go_alone : (edition : Edition) (steps : ℕ) (ends : RunEnds) (status : ℕ) → Does (holding file) (go (alone file edition) steps) ends status → ((following : Unread) × GoesOff edition steps (unread file.text.now) (incoming_of following) ends status) ⊎ SaysNothing ends status 134
   go_alone edition steps ends status (inl none) = inr (no_file ends status none)
-  go_alone edition steps ends status (inr (inl told)) = absurd (no_lib [] ends status refl told)
+  go_alone edition steps ends status (inr (inl told)) = absurd (no_lib [] ends status refl told.2)
   go_alone edition steps ends status (inr (inr goes)) =
       inl (goes.1, subst (λ t. GoesOff edition steps (unread t) (incoming_of goes.1) ends status) (whole_alone edition goes.0) goes.2)
 
+  -- nothing more is told of one file
+  not_placed : (question : Question) (status : ℕ) → is_placed (files_alone file) question status ≡ false
+  not_placed question status = refl
+
+  placed_alone : (edition : Edition) (question : Question) (ends : RunEnds) (status : ℕ) → AnswersPlaced edition (files_alone file) file.text.now question ends status
+      → Answers edition (files_alone file) file.text.now question ends status
+  placed_alone edition question ends status it =
+      let none = not_placed question it.told in
+      let same : (ends.line_after ≡ it.mid) × (status ≡ it.told) = rw none at it.place in
+      subst (λ n. Answers edition (files_alone file) file.text.now question ends n) (sym same.1)
+      (subst (λ (line : Outgoing). Answers edition (files_alone file) file.text.now question (record ends { line_after = line }) it.told) (sym same.0) it.answers)
+
   ask_alone : (edition : Edition) (question : Question) (ends : RunEnds) (status : ℕ) → Does (holding file) (ask (alone file edition) question) ends status → Answers edition (files_alone file) file.text.now question ends status ⊎ SaysNothing ends status 134
   ask_alone edition question ends status (inl told) = inr (named ends status told)
-  ask_alone edition question ends status (inr (inl told)) = absurd (no_lib [] ends status refl told)
+  ask_alone edition question ends status (inr (inl told)) = absurd (no_lib [] ends status refl told.2)
   ask_alone edition question ends status (inr (inr answers)) =
-      inl (subst (λ (f : Files). Answers edition f file.text.now question ends status) (files_of_alone edition answers.0)
-      (subst (λ t. Answers edition (files_read answers.0) t question ends status) (whole_alone edition answers.0) answers.1))
+      inl (placed_alone edition question ends status
+      (subst (λ (f : Files). AnswersPlaced edition f file.text.now question ends status) (files_of_alone edition answers.0)
+      (subst (λ t. AnswersPlaced edition (files_read answers.0) t question ends status) (whole_alone edition answers.0) answers.1)))
 
   one_go : (input : Unread) (out line : Kept) (status : ℕ) → file.text.now ≡ codes "main(){putchar('a');}" → Does (holding file) (go (alone file editions.One) 100) (one_run_ends input out line) status → (status ≡ 134) ⊎ ((status ≡ 0) × (out.bytes ≡ codes "a") × (line.bytes ≡ []))
   one_go input out line status one (inl none) = inl (no_file _ status none).status_is
-  one_go input out line status one (inr (inl told)) = absurd (no_lib [] _ status refl told)
+  one_go input out line status one (inr (inl told)) = absurd (no_lib [] _ status refl told.2)
   one_go input out line status one (inr (inr goes)) =
       one_run goes.1 input out line status
       (subst (λ t. Headline editions.One 100 (unread t) (incoming_of goes.1) (one_run_ends input out line) status) (whole_alone editions.One goes.0 ∙ one) goes.3)

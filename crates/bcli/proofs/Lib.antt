@@ -1,3 +1,4 @@
 mod Answered
 mod Excluded
+mod Joined
 mod ReadLibs

@@ -1,16 +1,18 @@
 -- What was read of the files of a source.
-use Rattle.std.proofs.Common.{subst, ◌≡◌, ◌<◌, ◌+◌, ℕ, suc, List, [], ◌∷◌, ◌++◌, map, take, length, refl, sym, ap, ◌∙◌, add-one}
-use Rattle.std.specs.Prelude.{All, Contains, slice_index_or}
+use Rattle.std.proofs.Common.{subst, ◌≡◌, ◌<◌, ◌+◌, ℕ, suc, List, [], ◌∷◌, ◌++◌, map, take, drop, length, refl, sym, ap, ◌∙◌, add-one}
+use Rattle.std.specs.Prelude.{All, slice_index_or}
 use Rattle.std.specs.Borrow.{Bor}
-use Rattle.std.proofs.Math.Seq.{take-suc}
+use Rattle.std.proofs.Math.Seq.{split_at, take-suc}
 use Rattle.std.proofs.lemmas.List.{map-append}
 use Rattle.std.proofs.lemmas.List.Elements.{All-nil, All-push}
 use Rattle.clap.specs.Words.{Text}
 use Rattle.bsources.specs.Files.{Followed, NamedText, file_of, file_shown, followed}
 use Rattle.bcommand.specs.CommandLine.{Source}
 use Rattle.bcli.specs.Serves.{ReadsLibs}
-use Rattle.bcli.specs.Reading.{HasReadLibs, HasReadSource}
+use Rattle.bcli.specs.declared.shelf.FileFault.TheVariants as file_fault
+use Rattle.bcli.specs.declared.sources.LibFault.{LibFault}
 use Rattle.bcli.specs.declared.sources.Whole.{Whole}
+use Rattle.bcli.specs.Reading.{HasReadLibs, HasReadSource, LibIsUnread}
 use Rattle.bcli.specs.Shelves.{Holdings}
 
 abbrev pub shown : List (Bor Text) → List Text
@@ -38,6 +40,19 @@ reads_next shelf names i d text libs more lt h holds push =
     let next : shown (take i names) ++ one ∷ [] ≡ shown (take (i + 1) names) =
     sym (rw add-one (ap shown (take-suc names i d lt) ∙ map-append (λ (n : Bor Text). n.now) (take i names) (slice_index_or names i d ∷ []))) in
     subst (λ (ns : List Text). HasReadLibs shelf ns more) next (reads_more shelf (shown (take i names)) one text h.0 holds, push h.0.texts h.1)
+
+-- the files before one were read, and that one could not be
+pub unread_in_turn : (shelf : Holdings) (names : List (Bor Text)) (i : ℕ) (d : Bor Text) (libs : Followed) (it : LibFault) → i < length names
+    → HasReadLibs shelf (shown (take i names)) libs → it.name.now ≡ (slice_index_or names i d).now
+    → (it.fault ≡ file_fault.Device → shelf.lacks it.name.now) → LibIsUnread shelf (shown names) it
+unread_in_turn shelf names i d libs it lt h is why = record {
+  before = shown (take i names);
+  after = shown (drop (suc i) names);
+  in_turn = ap shown (split_at names i d lt) ∙ map-append (λ (n : Bor Text). n.now) (take i names) (slice_index_or names i d ∷ drop (suc i) names)
+      ∙ ap (λ n. shown (take i names) ++ n ∷ shown (drop (suc i) names)) (sym is);
+  reads = h.0;
+  reason = why;
+}
 
 -- a source was read: its first file, and those that follow it, whose bytes come after
 pub source_read : (shelf : Holdings) (source : Source) (it : Whole) (text more same : List ℕ) → shelf.holds source.file text → HasReadLibs shelf source.libs it.libs

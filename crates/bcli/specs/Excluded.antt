@@ -1,27 +1,51 @@
 -- Promise: what no answer to a command line is, and what each one is.
-use Rattle.std.specs.Prelude.{◌≡◌, ◌⊎◌, ℕ, List, [], ◌∷◌, ◌++◌, codes}
+use Rattle.std.specs.Prelude.{◌≡◌, ◌⊎◌, ℕ, ◌+◌, ◌<◌, ◌≤◌, List, [], ◌∷◌, ◌++◌, All, length, codes}
 use Rattle.clap.specs.Words.{IsAmong, Text, fault_of, subcommand_of}
 use Rattle.clap.specs.declared.error.kind.ErrorKind.{ErrorKind}
 use Rattle.clap.specs.declared.error.kind.ErrorKind.TheVariants as kind
-use Rattle.bword.specs.ByteEnds.{Kept, Outgoing, Unread, incoming_of, outgoing_of}
+use Rattle.bword.specs.ByteEnds.{Grew, Kept, Outgoing, Unread, incoming_of, most, outgoing_of}
 use Rattle.bword.specs.declared.edition.Edition.{Edition}
 use Rattle.bword.specs.declared.edition.Edition.TheVariants as editions
+use Rattle.bword.specs.declared.ends.EndFault.TheVariants as end_fault
+use Rattle.blang.specs.Compiles.{CompileAnswers, CompilesTo, Compilation, EndRefused, HasOutcome, IsUndisturbed, Tells}
+use Rattle.blang.specs.Cut.{tokens_from}
 use Rattle.blang.specs.declared.status.TheConstants.{DONE, DEVICE, MEMORY, WRONG_COMMAND}
 use Rattle.blang.specs.Headline.{GoesOff}
 use Rattle.blang.specs.Reports.{HasNotRun, Reported, RunEnds}
 use Rattle.brun.specs.OneRun.{nothing_written, one_run_ends, unread}
 use Rattle.brun.specs.Runs.{RunsText}
-use Rattle.bcommand.specs.CommandLine.{Question, Source, ask, asked, command_line, contradiction, go, run}
+use Rattle.bcommand.specs.CommandLine.{Question, Source, ask, asked, command_line, compile, contradiction, go, run}
 use Rattle.bsources.specs.Files.{Files, file_of}
+use Rattle.bsources.specs.JoinedEnds.{joined_in}
 use Rattle.bcommand.specs.declared.job.Clash.{Clash}
 use Rattle.bcli.specs.declared.shelf.MemFile.{MemFile}
-use Rattle.bcli.specs.Serves.{Answers, Does, HasNoFile, IsHelp, NamesFile, NamesLib, SaysNothing, Serves, unread_line}
+use Rattle.bcli.specs.Serves.{Answers, AnswersPlaced, CompilesJoined, Does, HasNoFile, IsHelp, NamesFile, NamesLib, NamesLibOf}
+use Rattle.bcli.specs.Serves.{SaysNothing, Serves, compiling, unread_line}
 use Rattle.bcli.specs.Shelves.{Holdings, holding}
 
 -- The words have a fault, and don't ask for help.
 pub record AreWrong (words : List Text) : Type 0 where
   pub fault : fault_of command_line words ≡ [] → ⊥
   pub no_help : (k : ErrorKind) → IsAmong k (fault_of command_line words) → IsHelp k → ⊥
+
+-- Under the name of a file just this text is read.
+pub record HoldsOne (shelf : Holdings) (file text : List ℕ) : Type 0 where
+  pub alone : (other : List ℕ) → shelf.holds file other → other ≡ text
+  pub there : shelf.lacks file → ⊥
+
+-- a source in two files
+abbrev pub with_lib : (file lib : Text) → Edition → Source
+with_lib file lib edition = record { file = file; libs = lib ∷ []; edition = edition }
+
+-- The input and the bytes after it are fewer than a u64 counts, and so are the calls that failed.
+pub record AreCounted (rest : List ℕ) (ends : RunEnds) : Type 0 where
+  pub bytes : ends.input.bound + length rest < most
+  pub failures : (ends.input.failures ≤ most) × (ends.input_after.failures ≤ most)
+
+-- No read and no write failed, and memory did not run out.
+pub record NothingFails (edition : Edition) (rest : List ℕ) (ends : RunEnds) (status : ℕ) : Type 0 where
+  pub counted : AreCounted rest ends
+  pub undisturbed : IsUndisturbed (compiling edition ends.input ends.input_after ends status)
 
 -- of the files on a shelf
 pub record Excluded (shelf : Holdings) : Type 0 where
@@ -53,12 +77,37 @@ pub record Excluded (shelf : Holdings) : Type 0 where
   -- a file after the first one that can't be read, after which all went well, or the program read or wrote
   pub lib_done : (libs : List Text) (ends : RunEnds) → NamesLib shelf libs ends DONE → ⊥
   pub lib_run : (libs : List Text) (ends : RunEnds) (status : ℕ) → NamesLib shelf libs ends status → HasNotRun ends
-  -- a source of two files that is run as other bytes than the one's, a newline and the other's
+  -- one that can be read is said to be missing
+  pub lib_missing : (libs : List Text) (ends : RunEnds) → All (λ lib. shelf.lacks lib → ⊥) libs
+      → NamesLib shelf libs ends DEVICE → ⊥
+  -- one after another that can't be read is told, and one after a first file that can't be
+  pub lib_later : (lib : Text) (libs : List Text) (ends : RunEnds) (status : ℕ)
+      → ((text : List ℕ) → shelf.holds lib text → ⊥) → NamesLib shelf (lib ∷ libs) ends status
+      → NamesFile (shelf.lacks lib) lib ends status
+  pub file_later : (source : Source) (ends : RunEnds) (status : ℕ)
+      → ((text : List ℕ) → shelf.holds source.file text → ⊥) → NamesLibOf shelf source ends status → ⊥
+  -- a source of two files that is run, or of which is told, as other bytes than the one's, a newline and the other's
   pub joined_alone : (file lib a b : List ℕ) (edition : Edition) (steps : ℕ) (ends : RunEnds) (status : ℕ)
-      → ((t : List ℕ) → shelf.holds file t → t ≡ a) → ((t : List ℕ) → shelf.holds lib t → t ≡ b)
-      → Does shelf (go (record { file = file; libs = lib ∷ []; edition = edition }) steps) ends status
+      → HoldsOne shelf file a → HoldsOne shelf lib b → Does shelf (go (with_lib file lib edition) steps) ends status
       → ((following : Unread) × GoesOff edition steps (unread (a ++ 10 ∷ b)) (incoming_of following) ends status)
-      ⊎ HasNotRun ends
+      ⊎ SaysNothing ends status MEMORY
+  pub asked_joined : (file lib a b : List ℕ) (edition : Edition) (question : Question) (ends : RunEnds) (status : ℕ)
+      → HoldsOne shelf file a → HoldsOne shelf lib b → Does shelf (ask (with_lib file lib edition) question) ends status
+      → AnswersPlaced edition (record { first = file_of file a; rest = file_of lib b ∷ [] }) (a ++ 10 ∷ b) question ends
+      status ⊎ SaysNothing ends status MEMORY
+  -- the input and a file that are compiled as other bytes, or that get 133 or 134 where nothing failed
+  pub compiled_joined : (lib b input : List ℕ) (edition : Edition) (ends : RunEnds) (status : ℕ) → HoldsOne shelf lib b
+      → Tells ends.input input → NothingFails edition (10 ∷ b) ends status
+      → Does shelf (compile edition (lib ∷ [])) ends status
+      → HasOutcome edition (input ++ 10 ∷ b)
+      × ((r : Compilation) → CompilesTo [] (tokens_from edition 1 (input ++ 10 ∷ b)) r
+      → CompileAnswers (compiling edition ends.input ends.input_after ends status) r)
+  -- 133 for bytes that follow the input, though no read failed and no write was refused
+  pub failed_joined : (edition : Edition) (rest : List ℕ) (ends : RunEnds)
+      → (it : CompilesJoined edition rest ends DEVICE) → AreCounted rest ends
+      → (Grew ends.input.failures ends.input_after.failures → ⊥)
+      → EndRefused (compiling edition (joined_in it.source) (joined_in it.source_after) ends DEVICE) it.compiles.taken
+      end_fault.Device
   -- two options that contradict each other, and end well or run
   pub both_done : (clash : Clash) (ends : RunEnds) → Does shelf (contradiction clash) ends DONE → ⊥
   pub both_run : (clash : Clash) (ends : RunEnds) (status : ℕ) → Does shelf (contradiction clash) ends status

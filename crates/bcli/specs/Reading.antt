@@ -1,5 +1,5 @@
 -- Inner words: what was read of the files of a source, and why they could not be.
-use Rattle.std.specs.Prelude.{◌≡◌, List, Contains}
+use Rattle.std.specs.Prelude.{◌≡◌, ℕ, List, ◌∷◌, ◌++◌}
 use Rattle.clap.specs.Words.{Text}
 use Rattle.bsources.specs.Files.{Followed, file_of, file_shown, followed}
 use Rattle.bcommand.specs.CommandLine.{Source}
@@ -21,11 +21,15 @@ pub record HasReadSource (shelf : Holdings) (source : Source) (it : Whole) : Typ
   pub first : file_shown it.first ≡ file_of source.file reads.text
   pub libs : it.libs ≡ followed reads.libs.texts
 
--- a file could not be read, or there was no memory for it
+-- Of these files those before one were read. That one could not be, or there was no memory for it.
 pub record LibIsUnread (shelf : Holdings) (names : List Text) (it : LibFault) : Type 0 where
-  pub among : Contains names it.name.now
+  pub before : List Text
+  pub after : List Text
+  pub in_turn : names ≡ before ++ it.name.now ∷ after
+  pub reads : ReadsLibs shelf before
   pub reason : it.fault ≡ file_fault.Device → shelf.lacks it.name.now
 
 abbrev pub IsUnread : Holdings → Source → Unread → Type 0
 IsUnread shelf source (unread.File fault) = fault ≡ file_fault.Device → shelf.lacks source.file
-IsUnread shelf source (unread.Lib it) = LibIsUnread shelf source.libs it
+IsUnread shelf source (unread.Lib it) =
+    (text : List ℕ) × shelf.holds source.file text × LibIsUnread shelf source.libs it

@@ -1,10 +1,10 @@
 -- Promise: the answer to a command line.
-use Rattle.std.specs.Prelude.{◌≡◌, ◌≢◌, ℕ, Bool, List, [], ◌∷◌, ◌++◌, All, Contains, codes, if◌then◌else◌, ◌⊎◌}
-use Rattle.std.specs.Prelude.{Option, Some, None, map as map_each}
+use Rattle.std.specs.Prelude.{◌≡◌, ◌≢◌, ℕ, Bool, List, [], ◌∷◌, ◌++◌, All, codes, if◌then◌else◌, ◌⊎◌}
+use Rattle.std.specs.Prelude.{MatchBool, Option, Some, None, map as map_each}
 use Rattle.clap.specs.Words.{IsAmong, Text, fault_of, subcommand_of}
 use Rattle.clap.specs.declared.error.kind.ErrorKind.{ErrorKind}
 use Rattle.clap.specs.declared.error.kind.ErrorKind.TheVariants as kind
-use Rattle.bword.specs.ByteEnds.{Incoming, Unread, incoming_of}
+use Rattle.bword.specs.ByteEnds.{Incoming, Outgoing, Unread, incoming_of}
 use Rattle.bword.specs.declared.edition.Edition.{Edition}
 use Rattle.blang.specs.Compiles.{CompileHeadline, Compiles, Run}
 use Rattle.blang.specs.declared.status.TheConstants.{DONE, DEVICE, MEMORY, WRONG_COMMAND}
@@ -14,7 +14,7 @@ use Rattle.brun.specs.OneRun.{unread}
 use Rattle.blang.specs.Reports.{Reported, RunEnds, HasNotRun}
 use Rattle.brun.specs.Runs.{RunsText}
 use Rattle.bsources.specs.Files.{Files, NamedText, file_of, followed, joined}
-use Rattle.bsources.specs.JoinedEnds.{Joined, joined_in, joined_new}
+use Rattle.bsources.specs.JoinedEnds.{IsJoined, Joined, joined_in, joined_new, lender_joined}
 use Rattle.bcheck.specs.Checks.{Checks}
 use Rattle.bcheck.specs.declared.form.FindingForm.{FindingForm}
 use Rattle.bcheck.specs.declared.form.FindingForm.TheVariants as forms
@@ -38,6 +38,7 @@ use Rattle.bcommand.specs.CommandLine.{compile, run, go, migrate, ask, contradic
 use Rattle.bcommand.specs.CommandLine.{list, map, draw, check, trace, locate, count, show, format}
 use Rattle.bcommand.specs.declared.job.Rows.{Rows}
 use Rattle.bcommand.specs.declared.job.Rows.TheVariants as which
+use Rattle.bcli.specs.FaultPlaces.{TellsFaultPlace, is_placed}
 use Rattle.bcli.specs.Shelves.{Holdings}
 
 -- the message for words that aren't UTF-8
@@ -129,15 +130,28 @@ abbrev pub files_read : {shelf : Holdings} {source : Source} → Reads shelf sou
 files_read {shelf} {source} r =
     record { first = file_of source.file r.text; rest = (followed r.libs.texts).files }
 
--- One of these files could not be opened or read, and its name was told; or memory was refused.
-abbrev pub NamesLib : Holdings → List Text → RunEnds → ℕ → Type 0
-NamesLib shelf names ends status = (lib : Text) × Contains names lib × NamesFile (shelf.lacks lib) lib ends status
+-- Of these files those before one were read. That one could not be opened or read, and its name was told; or memory was
+-- refused.
+pub record NamesLib (shelf : Holdings) (names : List Text) (ends : RunEnds) (status : ℕ) : Type 0 where
+  pub before : List Text
+  pub lib : Text
+  pub after : List Text
+  pub in_turn : names ≡ before ++ lib ∷ after
+  pub reads : ReadsLibs shelf before
+  pub named : NamesFile (shelf.lacks lib) lib ends status
 
--- A source was compiled over the input and these bytes after it.
+-- the first file of a source was read, and then one could not be
+abbrev pub NamesLibOf : Holdings → Source → RunEnds → ℕ → Type 0
+NamesLibOf shelf source ends status =
+    (text : List ℕ) × shelf.holds source.file text × NamesLib shelf source.libs ends status
+
+-- A source was compiled over an end over the input and these bytes after it, of which this stands after all calls.
 pub record CompilesJoined (edition : Edition) (rest : List ℕ) (ends : RunEnds) (status : ℕ) : Type 0 where
   pub source : Joined
   pub source_after : Joined
   pub begins : source ≡ joined_new ends.input source.ready source.lender rest
+  pub same : lender_joined source_after ≡ lender_joined source
+  pub stands : IsJoined source_after
   pub ended : source_after.first ≡ ends.input_after
   pub compiles : Compiles (compiling edition (joined_in source) (joined_in source_after) ends status)
   pub headline : CompileHeadline (compiling edition (joined_in source) (joined_in source_after) ends status)
@@ -158,7 +172,8 @@ Answers edition files text map ends status =
     (ends.input_after ≡ ends.input) × Maps edition text (telling_ends ends) status
 Answers edition files text (draw steps) ends status = Draws edition text steps ends status
 Answers edition files text (check for_editor) ends status =
-    (ends.input_after ≡ ends.input) × (ends.line_after ≡ ends.line) × Checks (record {
+    (ends.input_after ≡ ends.input) × (ends.line_after ≡ ends.line)
+    × Checks (record {
       edition = edition;
       form = form_of for_editor;
       files = files;
@@ -185,21 +200,31 @@ Answers edition files text (format is_check) ends status = (ends.input_after ≡
   status = status;
 })
 
+-- What is asked of a source is answered with the status `told`, and then the file of its fault is told, where it is.
+pub record AnswersPlaced (edition : Edition) (files : Files) (text : List ℕ) (question : Question) (ends : RunEnds)
+    (status : ℕ) : Type 0 where
+  pub mid : Outgoing
+  pub told : ℕ
+  pub answers : Answers edition files text question (record ends { line_after = mid }) told
+  pub place : MatchBool (is_placed files question told)
+      (TellsFaultPlace edition files text mid ends.line_after status)
+      ((ends.line_after ≡ mid) × (status ≡ told))
+
 -- what was asked for is done, for texts that the shelf holds under the names of the files
 abbrev pub Does : Holdings → Asked → RunEnds → ℕ → Type 0
 Does shelf (compile edition libs) ends status = CompilesInput shelf edition libs ends status
 Does shelf (run file steps) ends status = HasNoFile (shelf.lacks file) ends status
     ⊎ ((text : List ℕ) × shelf.holds file text × RunsText steps text ends status)
 Does shelf (go source steps) ends status = HasNoFile (shelf.lacks source.file) ends status
-    ⊎ NamesLib shelf source.libs ends status
+    ⊎ NamesLibOf shelf source ends status
     ⊎ ((r : Reads shelf source) × (following : Unread)
     × GoesOff source.edition steps (unread (whole r)) (incoming_of following) ends status
     × Headline source.edition steps (unread (whole r)) (incoming_of following) ends status)
 Does shelf migrate ends status =
     Migrates (rewriting ends.input ends.input_after ends.out ends.out_after) ends.line ends.line_after status
 Does shelf (ask source question) ends status = NamesFile (shelf.lacks source.file) source.file ends status
-    ⊎ NamesLib shelf source.libs ends status
-    ⊎ ((r : Reads shelf source) × Answers source.edition (files_read r) (whole r) question ends status)
+    ⊎ NamesLibOf shelf source ends status
+    ⊎ ((r : Reads shelf source) × AnswersPlaced source.edition (files_read r) (whole r) question ends status)
 Does shelf (contradiction clash) ends status =
     HasNotRun ends × Reported (clash_line clash) WRONG_COMMAND ends.line ends.line_after status
 

@@ -1,7 +1,8 @@
 -- Closed facts: what is seen of an end over another end and bytes that follow it.
-use Rattle.std.specs.Prelude.{◌≡◌, ℕ, ◌-◌, Bool, true, false, List, [], Some, None, codes, refl}
+use Rattle.std.specs.Prelude.{◌≡◌, ℕ, ◌-◌, ◌<◌, Bool, true, false, List, [], ◌∷◌, Some, None, codes, refl}
+use Rattle.std.proofs.Common.{arith}
 use Rattle.bword.specs.ByteEnds.{Incoming, Grew, incoming_of, most}
-use Rattle.bsources.specs.JoinedEnds.{Joined, joined_in, joined_new, ready_joined}
+use Rattle.bsources.specs.JoinedEnds.{IsJoined, Joined, joined_in, joined_new, lender_joined, ready_joined}
 
 -- an end over memory with these bytes
 abbrev end_of : List ℕ → Bool → Incoming
@@ -75,3 +76,22 @@ bytes_are_counted = (refl, refl, refl)
 
 no_more_are_ready : (ready_joined almost_most ≡ codes "a") × (ready_joined at_most ≡ [])
 no_more_are_ready = (refl, refl)
+
+-- three bytes could come, as all calls tell
+limit_of_three : (at_first.limit ≡ 3) × (lender_joined at_end ≡ 3 ∷ [])
+limit_of_three = (refl, refl)
+
+-- The rest comes before the end of the first was answered, or the end of all before the rest was given. More bytes were
+-- given than could come.
+rest_early : IsJoined (record at_rest { first = end_of [] false }) → ⊥
+rest_early so = cc (so.past refl).1
+
+over_early : IsJoined (record at_rest { is_over = true }) → ⊥
+over_early so = cc (so.over refl).1
+
+given_twice : IsJoined (record at_rest { given = 3 }) → ⊥
+given_twice so = omega (arith, so.within)
+
+-- a call was refused, and few bytes could come
+pub refused_early : (j : Joined) → IsJoined j → j.limit < most → 0 < j.refused → ⊥
+refused_early j so few some = let within = so.within in let all = so.counted some in omega arith

@@ -2,10 +2,12 @@
 ghost use Rattle.std.specs.Prelude.{◌≡◌, IsTrue, OnErr};
 ghost use Rattle.std.specs.Io.{StartsWith};
 ghost use Rattle.bword.specs.ByteEnds.{GivesReady, NextGives};
-ghost use Rattle.bsources.specs.JoinedEnds.{FailsIn, bounded_joined, joined_in, joined_new, ready_joined};
+ghost use Rattle.bsources.specs.JoinedEnds.{FailsIn, IsJoined, bounded_joined, joined_in, joined_new};
+ghost use Rattle.bsources.specs.JoinedEnds.{lender_joined, ready_joined};
 
 use bword::{ByteIn, Device};
 use std::marker::Model;
+use std::snapshot::Snapshot;
 
 /// A stream that gives the bytes of another one, and then those of a slice.
 ///
@@ -13,6 +15,9 @@ use std::marker::Model;
 /// fails. After the end no call fails.
 #[derive(Drop)]
 pub struct JoinedIn<'a, I: ByteIn> {
+    // What it was made of, for contracts alone: these take no room.
+    first_made: Snapshot<I>,
+    rest_made: Snapshot<&'a [u8]>,
     first: I,
     rest: &'a [u8],
     is_past_first: bool,
@@ -22,26 +27,19 @@ pub struct JoinedIn<'a, I: ByteIn> {
 }
 
 impl<'a, I: ByteIn> Model for JoinedIn<'a, I> {
-    ghost use Rattle.std.specs.Prelude.{◌≡◌, [], true};
-    ghost use Rattle.std.specs.Io.KnownBytes.{IsAtEnd};
+    ghost use Rattle.std.specs.Prelude.{◌+◌, length};
     ghost use Rattle.bword.specs.ByteEnds.{Incoming};
-    ghost use Rattle.bsources.specs.JoinedEnds.{Joined};
+    ghost use Rattle.bsources.specs.JoinedEnds.{IsJoined, Joined, joined_of};
 
     ghost Value = { Joined };
 
-    ghost view = { λ j. record {
-      first = I.incoming j.first;
-      ready = I.ready j.first;
-      lender = I.lender j.first;
-      rest = j.rest.now;
-      is_past_first = j.is_past_first;
-      is_over = j.is_over;
-      given = j.given;
-      refused = j.refused;
-    } };
+    ghost view = { λ j. joined_of (I.incoming j.first) (I.ready j.first) (I.lender j.first) j.rest.now
+        j.is_past_first j.is_over j.given j.refused
+        (Incoming.bound (I.incoming j.first_made.value) + length j.rest_made.value.now) };
 
-    ghost invariant = { λ j. (j.is_past_first ≡ true → IsAtEnd (Incoming.left (I.incoming j.first)))
-        × (j.is_over ≡ true → (j.is_past_first ≡ true) × (j.rest.now ≡ [])) };
+    ghost invariant = { λ j. IsJoined (joined_of (I.incoming j.first) (I.ready j.first) (I.lender j.first) j.rest.now
+        j.is_past_first j.is_over j.given j.refused
+        (Incoming.bound (I.incoming j.first_made.value) + length j.rest_made.value.now)) };
 }
 
 impl<'a, I: ByteIn> JoinedIn<'a, I> {
@@ -50,6 +48,8 @@ impl<'a, I: ByteIn> JoinedIn<'a, I> {
         ensures { result ≡ joined_new (I.incoming first) (I.ready first) (I.lender first) rest.now }
     {
         JoinedIn {
+            first_made: Snapshot::of(&first),
+            rest_made: Snapshot::of(&rest),
             first,
             rest,
             is_past_first: false,
@@ -61,9 +61,13 @@ impl<'a, I: ByteIn> JoinedIn<'a, I> {
 
     /// The other stream, as it was left.
     pub fn into_first(self) -> I
-        ensures { (I.incoming result ≡ self.entry.first) × (I.lender result ≡ self.entry.lender) }
+        ensures first { I.incoming result ≡ self.entry.first }
+        ensures lender { I.lender result ≡ self.entry.lender }
+        ensures stands { IsJoined self.entry }
     {
         let JoinedIn {
+            first_made: _,
+            rest_made: _,
             first,
             rest: _,
             is_past_first: _,
@@ -78,13 +82,13 @@ impl<'a, I: ByteIn> JoinedIn<'a, I> {
 impl<I: ByteIn> ByteIn for JoinedIn<'_, I> {
     ghost incoming = { joined_in };
 
-    ghost lender = { λ j. j.lender };
+    ghost lender = { lender_joined };
 
     ghost ready = { ready_joined };
 
     fn next(&mut self) -> Result<Option<u8>, Device>
         ensures gives { NextGives (joined_in self.old) result (joined_in self.new) }
-        ensures same { self.new.lender ≡ self.old.lender }
+        ensures same { lender_joined self.new ≡ lender_joined self.old }
         ensures ready { GivesReady (ready_joined self.old) result (ready_joined self.new) }
         ensures failed { OnErr result (FailsIn self.old self.new) }
         ensures ended { IsTrue self.old.is_over → (result ≡ Ok None) × (self.new ≡ self.old) }

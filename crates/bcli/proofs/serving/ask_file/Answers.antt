@@ -1,6 +1,6 @@
 use Rattle.std.proofs.Common.{inl, inr, refl}
 use Rattle.bcommand.specs.CommandLine.{source_shown}
-use Rattle.bcli.proofs.Answered.{asked_of_source, lib_named, named_for}
+use Rattle.bcli.proofs.Answered.{asked_of_source, lib_named_of, named_for}
 use Rattle.bcli.proofs.serving.ask_file.Goals as goal
 
 pub returns-in-Ok-clause-does : goal.returns-in-Ok-clause-does
@@ -13,5 +13,5 @@ returns-in-Err-File-clause-does g c =
 
 pub returns-in-Err-Lib-clause-does : goal.returns-in-Err-Lib-clause-does
 returns-in-Err-Lib-clause-does g c =
-    inr (inl (lib_named (g.S.Shelf.holdings c.args.shelf.now) _ c.in-Err-Lib.lib _ _ (rw c.in-Err-Lib.field-0-is at c.in-Err-Lib.ensures.err)
+    inr (inl (lib_named_of (g.S.Shelf.holdings c.args.shelf.now) (source_shown c.args.source) c.in-Err-Lib.lib _ _ (rw c.in-Err-Lib.field-0-is at c.in-Err-Lib.ensures.err)
     (c.name_file-in-Err-Lib.ensures.names (g.I.ByteIn.incoming c.args.input.now) (g.O.ByteOut.outgoing c.args.out.now))))
