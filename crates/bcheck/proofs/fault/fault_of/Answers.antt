@@ -9,6 +9,6 @@ pub returns-in-Clean : goal.returns-in-Clean
 returns-in-Clean c =
     without_fault c.args.edition c.args.text.now c.in_ok-judgement.judgement.verdict (is_clean _ c.in-Clean.is) c.in_ok-judgement.ensures.judged
 
-pub returns-in_default : goal.returns-in_default
-returns-in_default c =
-    without_fault c.args.edition c.args.text.now c.in_ok-judgement.judgement.verdict ? c.in_ok-judgement.ensures.judged
+pub returns : goal.returns
+returns c =
+    without_fault c.args.edition c.args.text.now c.in_ok-judgement.judgement.verdict (is_unloaded _ _ c.in-Unloaded.is) c.in_ok-judgement.ensures.judged
