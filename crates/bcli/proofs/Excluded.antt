@@ -1,6 +1,6 @@
 -- Answers that the contracts of `serve` and `refuse_words` exclude, whatever is proved of the body that gives them.
-use Rattle.std.proofs.Common.{◌≡◌, ◌∙◌, ◌⊎◌, ℕ, zero, suc, List, [], ◌∷◌, ◌++◌, Some, ap, refl, sym, subst, arith, inl, inr, map, append-nil}
-use Rattle.std.specs.Prelude.{All, Contains, false, codes}
+use Rattle.std.proofs.Common.{◌≡◌, ◌∙◌, ◌⊎◌, ℕ, List, [], ◌∷◌, ◌++◌, Some, ap, refl, sym, subst, arith, inl, inr, map, append-nil}
+use Rattle.std.specs.Prelude.{All, false, codes}
 use Rattle.std.specs.Io.KnownBytes.{Appends}
 use Rattle.clap.specs.Words.{IsAmong, Text, fault_of, subcommand_of}
 use Rattle.clap.specs.declared.error.kind.ErrorKind.{ErrorKind}
@@ -299,15 +299,7 @@ module _ (file : MemFile) where
   not_device ends silent = omega (arith, silent.status_is)
 
   lib_named : (ends : RunEnds) → NamesLib (holding file) (file.name.now ∷ []) ends 133 → ⊥
-  lib_named ends (lib, among, told) = is_held told
-    where
-      only : Contains (file.name.now ∷ []) lib → lib ≡ file.name.now
-      only (zero, low, is) = sym is
-      only (suc k, low, is) = absurd (omega (arith, low))
-
-      is_held : NamesFile (Holdings.lacks (holding file) lib) lib ends 133 → ⊥
-      is_held (inl missing) = missing.0 (only among)
-      is_held (inr silent) = not_device ends silent
+  lib_named ends told = lib_missing (holding file) (file.name.now ∷ []) ends (only_there (holding file) file.name.now (λ missing. missing refl)) told
 
   run_alone : (steps : ℕ) (ends : RunEnds) (status : ℕ) → Does (holding file) (run file.name.now steps) ends status → RunsText steps file.text.now ends status ⊎ SaysNothing ends status 134
   run_alone steps ends status (inl none) = inr (no_file ends status none)

@@ -92,7 +92,8 @@ pub record Excluded (shelf : Holdings) : Type 0 where
       → ((following : Unread) × GoesOff edition steps (unread (a ++ 10 ∷ b)) (incoming_of following) ends status)
       ⊎ SaysNothing ends status MEMORY
   pub asked_joined : (file lib a b : List ℕ) (edition : Edition) (question : Question) (ends : RunEnds) (status : ℕ)
-      → HoldsOne shelf file a → HoldsOne shelf lib b → Does shelf (ask (with_lib file lib edition) question) ends status
+      → HoldsOne shelf file a → HoldsOne shelf lib b
+      → Does shelf (ask (with_lib file lib edition) question) ends status
       → AnswersPlaced edition (record { first = file_of file a; rest = file_of lib b ∷ [] }) (a ++ 10 ∷ b) question ends
       status ⊎ SaysNothing ends status MEMORY
   -- the input and a file that are compiled as other bytes, or that get 133 or 134 where nothing failed

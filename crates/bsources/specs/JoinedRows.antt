@@ -77,8 +77,8 @@ bytes_are_counted = (refl, refl, refl)
 no_more_are_ready : (ready_joined almost_most ≡ codes "a") × (ready_joined at_most ≡ [])
 no_more_are_ready = (refl, refl)
 
--- three bytes could come, as all calls tell
-limit_of_three : (at_first.limit ≡ 3) × (lender_joined at_end ≡ 3 ∷ [])
+-- three bytes could come, of which one follows, as all calls tell
+limit_of_three : (at_first.limit ≡ 3) × (lender_joined at_end ≡ 3 ∷ 1 ∷ [])
 limit_of_three = (refl, refl)
 
 -- The rest comes before the end of the first was answered, or the end of all before the rest was given. More bytes were
@@ -88,6 +88,13 @@ rest_early so = cc (so.past refl).1
 
 over_early : IsJoined (record at_rest { is_over = true }) → ⊥
 over_early so = cc (so.over refl).1
+
+-- the rest lost before the end of the first, and more of it than followed
+rest_lost : IsJoined (record at_first { rest = [] }) → ⊥
+rest_lost so = cc (so.untouched refl)
+
+rest_longer : IsJoined (record at_rest { rest = codes "bc"; given = 1 }) → ⊥
+rest_longer so = omega (arith, so.part)
 
 given_twice : IsJoined (record at_rest { given = 3 }) → ⊥
 given_twice so = omega (arith, so.within)

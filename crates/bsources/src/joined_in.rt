@@ -27,7 +27,7 @@ pub struct JoinedIn<'a, I: ByteIn> {
 }
 
 impl<'a, I: ByteIn> Model for JoinedIn<'a, I> {
-    ghost use Rattle.std.specs.Prelude.{◌+◌, length};
+    ghost use Rattle.std.specs.Prelude.{length};
     ghost use Rattle.bword.specs.ByteEnds.{Incoming};
     ghost use Rattle.bsources.specs.JoinedEnds.{IsJoined, Joined, joined_of};
 
@@ -35,11 +35,11 @@ impl<'a, I: ByteIn> Model for JoinedIn<'a, I> {
 
     ghost view = { λ j. joined_of (I.incoming j.first) (I.ready j.first) (I.lender j.first) j.rest.now
         j.is_past_first j.is_over j.given j.refused
-        (Incoming.bound (I.incoming j.first_made.value) + length j.rest_made.value.now) };
+        (Incoming.bound (I.incoming j.first_made.value)) (length j.rest_made.value.now) };
 
     ghost invariant = { λ j. IsJoined (joined_of (I.incoming j.first) (I.ready j.first) (I.lender j.first) j.rest.now
         j.is_past_first j.is_over j.given j.refused
-        (Incoming.bound (I.incoming j.first_made.value) + length j.rest_made.value.now)) };
+        (Incoming.bound (I.incoming j.first_made.value)) (length j.rest_made.value.now)) };
 }
 
 impl<'a, I: ByteIn> JoinedIn<'a, I> {

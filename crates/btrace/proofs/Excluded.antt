@@ -1013,10 +1013,10 @@ module _ (file : File) where
         let more = ap (drop 19) (after_row_line (codes "       3  main         2") _ _ start _ f refl) in
         differ 44 48 51 _ _ more refl refl (λ e. omega (arith, e));
     word_before = λ rest edition source ends is before following h.
-        let start = codes "     1  w            3 5\n                                           @3 = 0" ++ rest in
+        let start = codes "     1  w            3 5\n                                           @3 = 3" ++ rest in
         let f = storing_traced edition source ends (codes "       3  main         2" ++ start) before following is h in
         let more = ap (drop 19) (after_row_line (codes "       3  main         2") _ _ start _ f refl) in
-        differ 48 48 53 _ _ more refl refl (λ e. omega (arith, e));
+        differ 48 51 53 _ _ more refl refl (λ e. omega (arith, e));
     word_more = λ rest edition source ends is before following h.
         let start = codes "     1  w            3 5\n                                           @3 = 5\n        " ++ rest in
         let f = storing_traced edition source ends (codes "       3  main         2" ++ start) before following is h in

@@ -172,7 +172,7 @@ module _ (file : File) where
         (codes "       3  main         2     1  w            3 5\n                                           @0" ++ rest)
     pub word_before : (rest : List ℕ)
         → NoTrace storing 3 3 None LIMIT
-        (codes "       3  main         2     1  w            3 5\n                                           @3 = 0" ++ rest)
+        (codes "       3  main         2     1  w            3 5\n                                           @3 = 3" ++ rest)
     pub word_more : (rest : List ℕ)
         → NoTrace storing 3 3 None LIMIT
         (codes "       3  main         2     1  w            3 5\n                                           @3 = 5\n        " ++ rest)
