@@ -336,8 +336,7 @@ module _ (file : MemFile) where
   placed_alone : (edition : Edition) (question : Question) (ends : RunEnds) (status : ℕ) → AnswersPlaced edition (files_alone file) file.text.now question ends status
       → Answers edition (files_alone file) file.text.now question ends status
   placed_alone edition question ends status it =
-      let none = not_placed question it.told in
-      let same : (ends.line_after ≡ it.mid) × (status ≡ it.told) = rw none at it.place in
+      let same : (ends.line_after ≡ it.mid) × (status ≡ it.told) = it.place in
       subst (λ n. Answers edition (files_alone file) file.text.now question ends n) (sym same.1)
       (subst (λ (line : Outgoing). Answers edition (files_alone file) file.text.now question (record ends { line_after = line }) it.told) (sym same.0) it.answers)
 

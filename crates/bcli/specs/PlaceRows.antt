@@ -1,5 +1,6 @@
 -- Closed facts: where the fault of a source in several files is told to be.
 use Rattle.std.specs.Prelude.{◌≡◌, ℕ, true, false, List, [], ◌∷◌, map, Some, None, codes, refl}
+use Rattle.std.specs.Fmt.{digits}
 use Rattle.blang.specs.declared.token.About.TheVariants as about
 use Rattle.blang.specs.declared.token.Diagnostic.{Diagnostic}
 use Rattle.blang.specs.declared.token.Letters.TheVariants as letters
@@ -40,4 +41,5 @@ no_fault : place_beyond two None ≡ None
 no_fault = refl
 
 line_of_a_place : place_line (record { file = codes "l.b"; line = 12 }) ≡ codes "at     line 12 of l.b\n"
+unfolding digits
 line_of_a_place = refl

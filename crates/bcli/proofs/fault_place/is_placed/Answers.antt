@@ -11,7 +11,7 @@ pub returns-then-status-ne-FAULT : goal.returns-then-status-ne-FAULT
 returns-then-status-ne-FAULT c =
     not_of_another c.args.files.rest.now c.is_empty.result (tells_run (question_of c.args.question)) c.args.status c.is_empty.ensures c.if-is_empty.false c.if-status-ne-FAULT.true
 
-pub returns-else-status-ne-FAULT : goal.returns-else-status-ne-FAULT
-returns-else-status-ne-FAULT c =
+pub returns : goal.returns
+returns c =
     of_a_fault c.args.files.rest.now c.is_empty.result c.tells_run.result (tells_run (question_of c.args.question)) c.args.status c.is_empty.ensures c.if-is_empty.false c.if-status-ne-FAULT.false
     c.tells_run.ensures
