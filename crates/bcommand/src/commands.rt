@@ -61,7 +61,7 @@ const STEPS: ArgumentRow = ArgumentRow {
 const TRACE_STEPS: ArgumentRow = ArgumentRow {
     id: "steps",
     kind: Kind::Number(MOST_STEPS),
-    help: "At most N steps, 1 to 4000000000; 1000, or 10000000 with --last, if not given",
+    help: "At most N steps, 1 to 4000000000; 1000 if not given",
 };
 
 const MOMENT: ArgumentRow = ArgumentRow {
@@ -85,7 +85,7 @@ const LAST: ArgumentRow = ArgumentRow {
 const SHOWN_STEPS: ArgumentRow = ArgumentRow {
     id: "steps",
     kind: Kind::Number(MOST_STEPS),
-    help: "At most N steps, 1 to 4000000000; 2000 that are shown if not given",
+    help: "At most N steps, 1 to 4000000000; 2000 shown if not given",
 };
 
 const INPUT: ArgumentRow = ArgumentRow {
@@ -97,7 +97,7 @@ const INPUT: ArgumentRow = ArgumentRow {
 const CHECK: ArgumentRow = ArgumentRow {
     id: "check",
     kind: Kind::Flag,
-    help: "Writes nothing, and ends with 2 where something would change",
+    help: "Writes nothing, and ends with 2 where it would change",
 };
 
 const FUNCTION: ArgumentRow = ArgumentRow {

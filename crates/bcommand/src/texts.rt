@@ -177,7 +177,8 @@ of steps, the trace shows the place and the calls that led there, each with at
 most six parameters.
 
 --last N shows the last N steps of a run, however long it is, or the last N of a
-function. A line of a LIB is shown by its own number and the name of LIB.
+function. With it, --steps is 10000000 if not given. A line of a LIB is shown by
+its own number and the name of LIB.
 
 The program reads standard input. Its output is in the trace alone. The trace is
 kept in memory, and written when the run is over.
