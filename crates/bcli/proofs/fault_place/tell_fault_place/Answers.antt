@@ -1,9 +1,9 @@
-use Rattle.std.proofs.Common.{rules, ◌≡◌, IfOk, ℕ, ◌+◌, ◌-◌, ◌*◌, ◌<◌, ◌≤◌, length, ◌/◌, ◌%◌, Bool, true, false, nat_eq, nat_lt, List, [], ◌∷◌, ◌++◌, slice_index_or, slice_set, bit_and, bit_or, Fits, w8, w32, w64, Bor, MutBor}
-use Rattle.bcommand.specs.CommandLine.{question_of}
-use Rattle.bsources.specs.Files.{files_shown, line_shown}
-use Rattle.bcli.specs.FaultPlaces.{TellsFaultPlace, is_placed, place_line, tells_run}
+use Rattle.bsources.specs.Files.{files_shown}
+use Rattle.bcli.proofs.FaultTold.{placed_told}
 use Rattle.bcli.proofs.fault_place.tell_fault_place.Goals as goal
 
--- src/fault_place.rt:43:1
 pub returns-in-Ok-place_line-clause-tells : goal.returns-in-Ok-place_line-clause-tells
-returns-in-Ok-place_line-clause-tells g c = ?
+returns-in-Ok-place_line-clause-tells g c =
+    placed_told c.args.edition (files_shown c.args.files) c.args.text.now c.in-Ok.fault c.in-Some.fault c.beyond_first.result c.in-Some-beyond_first.at
+    c.in-Ok-place_line.text c.as_slice.result.now _ _ _ c.in-Ok.ensures c.in-Some.is c.in-Some-beyond_first.is c.beyond_first.ensures c.in-Ok-place_line.ensures
+    c.as_slice.ensures c.tell.ensures.told
