@@ -15,7 +15,8 @@ use Rattle.blang.specs.Cut.{line_number_after, tokens_from}
 use Rattle.bsources.specs.Files.{Files, Line, line_shown, own_line}
 use Rattle.bsources.specs.declared.files.FileLine.{FileLine}
 use Rattle.blang.specs.Layout.{load_fault}
-use Rattle.bcheck.specs.Checks.{AreFindings, EachOutcome, FindingParts, IsReason, Reason, Second, column_after, file_text, finding_at, finding_column, finding_line, finding_text, findings_text, is_on_line, json_text, outcome_of, second_text, severity_of, severity_word, shown_text, is_of_several, spot_words}
+use Rattle.bcheck.specs.Checks.{AreFindings, EachOutcome, FindingParts, IsReason, Reason, Second, column_after, finding_at, finding_column, finding_line, finding_text, findings_text, is_on_line, outcome_of, second_text, severity_of, severity_word, shown_text, is_of_several, spot_words}
+use Rattle.btools.specs.Quoting.{file_text, json_text}
 use Rattle.bcheck.specs.Findings.{AddsFinding, IsExcerpt, IsSecond, ReasonAt}
 use Rattle.bcheck.specs.Pieces.{piece_text, spot_text}
 use Rattle.bcheck.specs.declared.excerpt.Excerpt.{Excerpt}

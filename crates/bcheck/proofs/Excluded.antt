@@ -25,7 +25,8 @@ use Rattle.bgrammar.specs.SourceRows.{ComesIn}
 use Rattle.bgrammar.proofs.SourceRows.{edition_rows}
 use Rattle.bcheck.specs.Checks as checks
 use Rattle.bsources.specs.Files.{File, Files, Line, own_line, own_line_among}
-use Rattle.bcheck.specs.Checks.{IsOver, Reason, StandsOn, code_keyword, column_after, diagnostic_code, file_text, finding_at, json_text}
+use Rattle.bcheck.specs.Checks.{IsOver, Reason, StandsOn, code_keyword, column_after, diagnostic_code, finding_at}
+use Rattle.btools.specs.Quoting.{file_text, json_text}
 use Rattle.bcheck.specs.Checks.{AreFindings, Check, Checks, FindingParts, Outcome, TellsFirst, finding_column, fix_and_second, finding_head, finding_line, finding_start, finding_text, outcome_of, findings_text, severity_of, shown_in_form, told_first}
 use Rattle.bcheck.specs.Excluded.{BeginsWith, ComesTo, Excluded, IsTold, Never, NeverOf, file_at, file_of, finding_lines, has_no_colon, is_printed, newlines}
 use Rattle.bcheck.specs.declared.finding.Severity.{Severity}

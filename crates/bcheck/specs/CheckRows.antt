@@ -4,8 +4,7 @@ use Rattle.std.specs.Fmt.{digits}
 use Rattle.blang.specs.declared.token.About.TheVariants as about
 use Rattle.blang.specs.declared.token.Letters.TheVariants as letters
 use Rattle.blang.specs.declared.run.LoadFault.TheVariants as fault
-use Rattle.bcheck.specs.Checks.{FindingParts, finding_text, findings_text, is_on_line, json_byte, json_text, file_byte}
-use Rattle.bcheck.specs.Checks.{second_text}
+use Rattle.bcheck.specs.Checks.{FindingParts, finding_text, findings_text, is_on_line, second_text}
 use Rattle.bcheck.specs.Checks.{column_after, diagnostic_code, severity_of, severity_word, shown_in_form, told_first}
 use Rattle.blang.specs.Cut.{line_number_after}
 use Rattle.bsources.specs.Files.{Files}
@@ -46,21 +45,6 @@ columns = refl
 severities : map (λ status. severity_word (severity_of status)) (0 ∷ 1 ∷ 132 ∷ [])
     ≡ (codes "warning" ∷ codes "error" ∷ codes "error" ∷ [])
 severities = refl
-
--- the last control character and the blank, the bytes beside the quote and the backslash, the last of ASCII, and others
-json_bytes : map json_byte (0 ∷ 10 ∷ 31 ∷ 32 ∷ 33 ∷ 34 ∷ 35 ∷ 91 ∷ 92 ∷ 93 ∷ 126 ∷ 127 ∷ 128 ∷ 255 ∷ [])
-    ≡ (codes "\\u0000" ∷ codes "\\u000a" ∷ codes "\\u001f" ∷ codes " " ∷ codes "!" ∷ codes "\\\"" ∷ codes "#"
-    ∷ codes "[" ∷ codes "\\\\" ∷ codes "]" ∷ codes "~" ∷ (127 ∷ []) ∷ (128 ∷ []) ∷ (255 ∷ []) ∷ [])
-json_bytes = refl
-
--- the control characters of a file's name, with the bytes beside them, and those of other alphabets
-file_bytes : map file_byte (0 ∷ 10 ∷ 31 ∷ 32 ∷ 126 ∷ 127 ∷ 128 ∷ 255 ∷ [])
-    ≡ (codes "\\u0000" ∷ codes "\\u000a" ∷ codes "\\u001f" ∷ codes " " ∷ codes "~" ∷ codes "\\u007f" ∷ (128 ∷ [])
-    ∷ (255 ∷ []) ∷ [])
-file_bytes = refl
-
-json_texts : map json_text ([] ∷ codes "a\"b" ∷ []) ≡ (codes "\"\"" ∷ codes "\"a\\\"b\"" ∷ [])
-json_texts = refl
 
 on_lines : map (λ b. is_on_line (b ∷ [])) (0 ∷ 9 ∷ 10 ∷ 31 ∷ 32 ∷ 126 ∷ 127 ∷ 128 ∷ [])
     ≡ (false ∷ false ∷ false ∷ false ∷ true ∷ true ∷ false ∷ false ∷ [])

@@ -1,8 +1,7 @@
 -- Promise: what is written of a source that is checked.
-use Rattle.std.specs.Prelude.{◌≡◌, ◌≢◌, ℕ, ◌/◌, ◌%◌, ◌+◌, ◌<◌, ◌==◌, ◌||◌, nat_lt, not, Bool, IsTrue, if◌then◌else◌}
+use Rattle.std.specs.Prelude.{◌≡◌, ◌≢◌, ℕ, ◌+◌, ◌<◌, ◌==◌, nat_lt, not, Bool, IsTrue, if◌then◌else◌}
 use Rattle.std.specs.Prelude.{List, [], ◌∷◌, ◌++◌, ◌⊎◌, codes, decimal, length, map, min, replicate, Option, Some, None}
 use Rattle.std.specs.Prelude.{unwrap_or}
-use Rattle.std.specs.Char.{digit_char}
 use Rattle.std.specs.Int.{is_in_range}
 use Rattle.std.specs.List.{All, flat_map, list_all}
 use Rattle.bword.specs.declared.edition.Edition.{Edition}
@@ -22,6 +21,7 @@ use Rattle.blang.specs.declared.run.LoadFault.{LoadFault}
 use Rattle.blang.specs.declared.run.LoadFault.TheVariants as fault
 use Rattle.blang.specs.declared.status.TheConstants.{DONE, FAULT, REFUSED, MEMORY}
 use Rattle.btools.specs.Programs.{load_line}
+use Rattle.btools.specs.Quoting.{file_text, json_text}
 use Rattle.blang.specs.Reports.{Reported}
 use Rattle.bsources.specs.Files.{Files, Line, own_line}
 use Rattle.bcheck.specs.declared.finding.Severity.{Severity}
@@ -79,26 +79,6 @@ severity_of status = if status == DONE then severity.Warning else severity.Error
 abbrev pub severity_word : Severity → List ℕ
 severity_word severity.Error = codes "error"
 severity_word severity.Warning = codes "warning"
-
--- a byte in hexadecimal digits, as JSON has it
-abbrev pub escaped : ℕ → List ℕ
-escaped b = codes "\\u00" ++ digit_char (b / 16) ∷ digit_char (b % 16) ∷ []
-
--- a byte of a text in JSON, where 34 is the quote, 92 the backslash, and the control characters are below 32
-abbrev pub json_byte : ℕ → List ℕ
-json_byte b =
-    if b == 34 then codes "\\\"" else (if b == 92 then codes "\\\\" else
-    (if nat_lt b 32 then escaped b else b ∷ []))
-
-abbrev pub json_text : List ℕ → List ℕ
-json_text text = codes "\"" ++ flat_map json_byte text ++ codes "\""
-
--- a byte of the name of a file for people: a control character is escaped, so that no name has two lines
-abbrev pub file_byte : ℕ → List ℕ
-file_byte b = if nat_lt b 32 || (b == 127) then escaped b else b ∷ []
-
-abbrev pub file_text : List ℕ → List ℕ
-file_text name = flat_map file_byte name
 
 -- a text on one line: blanks, and letters, digits and signs of ASCII
 abbrev pub is_on_line : List ℕ → Bool

@@ -13,7 +13,8 @@ use Rattle.blang.specs.declared.token.Diagnostic.{Diagnostic}
 use Rattle.blang.specs.Layout.{load_fault}
 use Rattle.blang.specs.declared.status.TheConstants.{DONE, DEVICE, MEMORY}
 use Rattle.bsources.specs.Files.{own_line}
-use Rattle.bcheck.specs.Checks.{Check, Checks, FindingParts, IsOver, column_after, file_text, finding_head}
+use Rattle.bcheck.specs.Checks.{Check, Checks, FindingParts, IsOver, column_after, finding_head}
+use Rattle.btools.specs.Quoting.{file_text}
 use Rattle.bcheck.specs.Checks.{finding_start}
 use Rattle.bcheck.specs.Checks.{findings_text}
 use Rattle.bcheck.specs.Checks.{severity_of, shown_in_form, told_first}

@@ -3,3 +3,4 @@ pub mod Checks
 pub mod Excluded
 pub mod Findings
 pub mod Pieces
+pub mod SourceFaults

@@ -2,7 +2,8 @@
 use Rattle.std.specs.Prelude.{ℕ, List, [], Option, Some, None, decimal, replicate}
 use Rattle.std.specs.List.{flat_map}
 use Rattle.bsources.specs.Files.{line_shown}
-use Rattle.bcheck.specs.Checks.{file_text, json_text, shown_text, spot_words}
+use Rattle.bcheck.specs.Checks.{shown_text, spot_words}
+use Rattle.btools.specs.Quoting.{file_text, json_text}
 use Rattle.bcheck.specs.declared.finding.Spot.{Spot}
 use Rattle.bcheck.specs.declared.pieces.Piece.{Piece}
 use Rattle.bcheck.specs.declared.pieces.Piece.TheVariants as piece

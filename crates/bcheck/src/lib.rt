@@ -13,6 +13,7 @@ mod defined;
 mod effects;
 mod excerpt;
 mod explain;
+mod fault;
 mod faults;
 mod finding;
 mod flow;
@@ -36,4 +37,5 @@ mod warnings;
 mod words;
 
 pub use checking::{check, wrong_checks_are_excluded};
+pub use fault::fault_of;
 pub use form::{FindingForm, Request};

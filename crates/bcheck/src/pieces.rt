@@ -1,11 +1,11 @@
 //! The pieces that the text of a finding consists of.
 ghost use Rattle.std.specs.List.{flat_map};
 ghost use Rattle.std.specs.Prelude.{◌≡◌, ◌<◌, ◌++◌, OnOk, Some, replicate, true};
-ghost use Rattle.bcheck.specs.Checks.{escaped, file_byte, file_member, file_text, json_byte, json_text, shown_byte, shown_text};
+ghost use Rattle.bcheck.specs.Checks.{file_member, shown_byte, shown_text};
 ghost use Rattle.bcheck.specs.Pieces.{piece_text, spot_text};
 
 use crate::finding::Spot;
-use btools::{Text, hexadecimal_digit};
+use btools::{Text, push_file, push_quoted};
 use std::alloc::AllocError;
 
 /// A piece of a text.
@@ -100,59 +100,6 @@ fn push(text: &mut Text, piece: Piece<'_>) -> Result<(), AllocError>
         Piece::Blanks(count) => text.push_blanks(count),
         Piece::Marks(count) => push_marks(text, count),
     }
-}
-
-fn push_quoted(text: &mut Text, words: &[u8]) -> Result<(), AllocError>
-    ensures { OnOk result (text.new ≡ text.old ++ json_text words.now) }
-{
-    text.push(b"\"")?;
-    for byte in words {
-        push_json(text, *byte)?;
-    }
-    text.push(b"\"")
-}
-
-// Adds a byte of a string of JSON.
-fn push_json(text: &mut Text, byte: u8) -> Result<(), AllocError>
-    ensures { OnOk result (text.new ≡ text.old ++ json_byte byte) }
-{
-    match byte {
-        b'"' => text.push(b"\\\""),
-        b'\\' => text.push(b"\\\\"),
-        0..=31 => push_escaped(text, byte),
-        _ => text.push(&[byte]),
-    }
-}
-
-fn push_file(text: &mut Text, name: &[u8]) -> Result<(), AllocError>
-    ensures { OnOk result (text.new ≡ text.old ++ file_text name.now) }
-{
-    for byte in name {
-        push_file_byte(text, *byte)?;
-    }
-    Ok(())
-}
-
-fn push_file_byte(text: &mut Text, byte: u8) -> Result<(), AllocError>
-    ensures { OnOk result (text.new ≡ text.old ++ file_byte byte) }
-{
-    match byte {
-        0..=31 | 127 => push_escaped(text, byte),
-        _ => text.push(&[byte]),
-    }
-}
-
-fn push_escaped(text: &mut Text, byte: u8) -> Result<(), AllocError>
-    ensures { OnOk result (text.new ≡ text.old ++ escaped byte) }
-{
-    text.push(&[
-        b'\\',
-        b'u',
-        b'0',
-        b'0',
-        hexadecimal_digit(byte / 16),
-        hexadecimal_digit(byte % 16),
-    ])
 }
 
 fn push_shown(text: &mut Text, bytes: &[u8]) -> Result<(), AllocError>

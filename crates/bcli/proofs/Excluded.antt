@@ -1,6 +1,6 @@
 -- Answers that the contracts of `serve` and `refuse_words` exclude, whatever is proved of the body that gives them.
 use Rattle.std.proofs.Common.{◌≡◌, ◌∙◌, ◌⊎◌, ℕ, List, [], ◌∷◌, ◌++◌, Some, ap, refl, sym, subst, arith, inl, inr, map, append-nil}
-use Rattle.std.specs.Prelude.{All, codes}
+use Rattle.std.specs.Prelude.{All, false, codes}
 use Rattle.std.specs.Io.KnownBytes.{Appends}
 use Rattle.clap.specs.Words.{IsAmong, Text, fault_of, subcommand_of}
 use Rattle.clap.specs.declared.error.kind.ErrorKind.{ErrorKind}
@@ -18,13 +18,14 @@ use Rattle.brun.specs.Runs.{RunsText}
 use Rattle.brun.proofs.OneRun.{one_run}
 use Rattle.bcommand.specs.CommandLine.{Question, ask, asked, command_line, compile, go, run}
 use Rattle.bcli.specs.declared.shelf.MemFile.{MemFile}
+use Rattle.bcli.specs.FaultPlaces.{is_placed}
 use Rattle.bcli.specs.Shelves.{Holdings, holding}
 use Rattle.std.proofs.lemmas.List.Elements.{All-cons, All-head, All-nil, All-tail}
 use Rattle.blang.specs.Compiles.{CompileAnswers, Compilation, CompilesTo, HasOutcome, Tells}
 use Rattle.blang.specs.Cut.{tokens_from}
 use Rattle.bsources.specs.Files.{Files, NamedText, file_in, file_of, following}
 use Rattle.bcli.proofs.Joined.{failed_joined, joined_answers}
-use Rattle.bcli.specs.Serves.{CompilesJoined, NamesLib, Reads, ReadsLibs, compiling, files_read, whole, Answers, Does, HasNoFile, IsHelp, NamesFile, RefusesWords, SaysNothing, Serves, did, refused, no_memory}
+use Rattle.bcli.specs.Serves.{CompilesJoined, NamesLib, Reads, ReadsLibs, compiling, files_read, whole, Answers, AnswersPlaced, Does, HasNoFile, IsHelp, NamesFile, RefusesWords, SaysNothing, Serves, did, refused, no_memory}
 use Rattle.bcli.specs.Excluded.{AreWrong, Excluded, FileIsRead, HoldsOne, NothingFails, alone, files_alone, with_lib}
 
 fault_is_told : (f : EndFault) → 0 ≡ status_of f → ⊥
@@ -240,13 +241,13 @@ module _ (shelf : Holdings) where
 
   asked_joined : (file lib a b : List ℕ) (edition : Edition) (question : Question) (ends : RunEnds) (status : ℕ) → HoldsOne shelf file a → HoldsOne shelf lib b
       → Does shelf (ask (with_lib file lib edition) question) ends status
-      → Answers edition (record { first = file_of file a; rest = file_of lib b ∷ [] }) (a ++ 10 ∷ b) question ends status ⊎ SaysNothing ends status 134
+      → AnswersPlaced edition (record { first = file_of file a; rest = file_of lib b ∷ [] }) (a ++ 10 ∷ b) question ends status ⊎ SaysNothing ends status 134
   asked_joined file lib a b edition question ends status first second (inl (inl told)) = absurd (first.there told.0)
   asked_joined file lib a b edition question ends status first second (inl (inr memory)) = inr memory
   asked_joined file lib a b edition question ends status first second (inr (inl told)) = inr (lib_silent (lib ∷ []) ends status (only_there lib second.there) told.2)
   asked_joined file lib a b edition question ends status first second (inr (inr answers)) =
-      inl (subst (λ (f : Files). Answers edition f (a ++ 10 ∷ b) question ends status) (files_of_two file lib a b edition first second answers.0)
-      (subst (λ t. Answers edition (files_read answers.0) t question ends status) (two_are file lib a b edition first second answers.0) answers.1))
+      inl (subst (λ (f : Files). AnswersPlaced edition f (a ++ 10 ∷ b) question ends status) (files_of_two file lib a b edition first second answers.0)
+      (subst (λ t. AnswersPlaced edition (files_read answers.0) t question ends status) (two_are file lib a b edition first second answers.0) answers.1))
 
   compiled_joined : (lib b input : List ℕ) (edition : Edition) (ends : RunEnds) (status : ℕ) → HoldsOne shelf lib b → Tells ends.input input → NothingFails edition (10 ∷ b) ends status
       → Does shelf (compile edition (lib ∷ [])) ends status
@@ -328,12 +329,24 @@ module _ (file : MemFile) where
   go_alone edition steps ends status (inr (inr goes)) =
       inl (goes.1, subst (λ t. GoesOff edition steps (unread t) (incoming_of goes.1) ends status) (whole_alone edition goes.0) goes.2)
 
+  -- nothing more is told of one file
+  not_placed : (question : Question) (status : ℕ) → is_placed (files_alone file) question status ≡ false
+  not_placed question status = refl
+
+  placed_alone : (edition : Edition) (question : Question) (ends : RunEnds) (status : ℕ) → AnswersPlaced edition (files_alone file) file.text.now question ends status
+      → Answers edition (files_alone file) file.text.now question ends status
+  placed_alone edition question ends status it =
+      let same : (ends.line_after ≡ it.mid) × (status ≡ it.told) = it.place in
+      subst (λ n. Answers edition (files_alone file) file.text.now question ends n) (sym same.1)
+      (subst (λ (line : Outgoing). Answers edition (files_alone file) file.text.now question (record ends { line_after = line }) it.told) (sym same.0) it.answers)
+
   ask_alone : (edition : Edition) (question : Question) (ends : RunEnds) (status : ℕ) → Does (holding file) (ask (alone file edition) question) ends status → Answers edition (files_alone file) file.text.now question ends status ⊎ SaysNothing ends status 134
   ask_alone edition question ends status (inl told) = inr (named ends status told)
   ask_alone edition question ends status (inr (inl told)) = absurd (no_lib [] ends status refl told.2)
   ask_alone edition question ends status (inr (inr answers)) =
-      inl (subst (λ (f : Files). Answers edition f file.text.now question ends status) (files_of_alone edition answers.0)
-      (subst (λ t. Answers edition (files_read answers.0) t question ends status) (whole_alone edition answers.0) answers.1))
+      inl (placed_alone edition question ends status
+      (subst (λ (f : Files). AnswersPlaced edition f file.text.now question ends status) (files_of_alone edition answers.0)
+      (subst (λ t. AnswersPlaced edition (files_read answers.0) t question ends status) (whole_alone edition answers.0) answers.1)))
 
   one_go : (input : Unread) (out line : Kept) (status : ℕ) → file.text.now ≡ codes "main(){putchar('a');}" → Does (holding file) (go (alone file editions.One) 100) (one_run_ends input out line) status → (status ≡ 134) ⊎ ((status ≡ 0) × (out.bytes ≡ codes "a") × (line.bytes ≡ []))
   one_go input out line status one (inl none) = inl (no_file _ status none).status_is

@@ -2,3 +2,4 @@ mod Answered
 mod Excluded
 mod Joined
 mod ReadLibs
+mod FaultTold

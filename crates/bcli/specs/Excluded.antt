@@ -19,7 +19,7 @@ use Rattle.bsources.specs.Files.{Files, file_of}
 use Rattle.bsources.specs.JoinedEnds.{joined_in}
 use Rattle.bcommand.specs.declared.job.Clash.{Clash}
 use Rattle.bcli.specs.declared.shelf.MemFile.{MemFile}
-use Rattle.bcli.specs.Serves.{Answers, CompilesJoined, Does, HasNoFile, IsHelp, NamesFile, NamesLib, NamesLibOf}
+use Rattle.bcli.specs.Serves.{Answers, AnswersPlaced, CompilesJoined, Does, HasNoFile, IsHelp, NamesFile, NamesLib, NamesLibOf}
 use Rattle.bcli.specs.Serves.{SaysNothing, Serves, compiling, unread_line}
 use Rattle.bcli.specs.Shelves.{Holdings, holding}
 
@@ -94,7 +94,7 @@ pub record Excluded (shelf : Holdings) : Type 0 where
   pub asked_joined : (file lib a b : List ℕ) (edition : Edition) (question : Question) (ends : RunEnds) (status : ℕ)
       → HoldsOne shelf file a → HoldsOne shelf lib b
       → Does shelf (ask (with_lib file lib edition) question) ends status
-      → Answers edition (record { first = file_of file a; rest = file_of lib b ∷ [] }) (a ++ 10 ∷ b) question ends
+      → AnswersPlaced edition (record { first = file_of file a; rest = file_of lib b ∷ [] }) (a ++ 10 ∷ b) question ends
       status ⊎ SaysNothing ends status MEMORY
   -- the input and a file that are compiled as other bytes, or that get 133 or 134 where nothing failed
   pub compiled_joined : (lib b input : List ℕ) (edition : Edition) (ends : RunEnds) (status : ℕ) → HoldsOne shelf lib b

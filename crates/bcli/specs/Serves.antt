@@ -1,10 +1,10 @@
 -- Promise: the answer to a command line.
 use Rattle.std.specs.Prelude.{◌≡◌, ◌≢◌, ℕ, Bool, List, [], ◌∷◌, ◌++◌, All, codes, if◌then◌else◌, ◌⊎◌}
-use Rattle.std.specs.Prelude.{Option, Some, None, map as map_each}
+use Rattle.std.specs.Prelude.{MatchBool, Option, Some, None, map as map_each}
 use Rattle.clap.specs.Words.{IsAmong, Text, fault_of, subcommand_of}
 use Rattle.clap.specs.declared.error.kind.ErrorKind.{ErrorKind}
 use Rattle.clap.specs.declared.error.kind.ErrorKind.TheVariants as kind
-use Rattle.bword.specs.ByteEnds.{Incoming, Unread, incoming_of}
+use Rattle.bword.specs.ByteEnds.{Incoming, Outgoing, Unread, incoming_of}
 use Rattle.bword.specs.declared.edition.Edition.{Edition}
 use Rattle.blang.specs.Compiles.{CompileHeadline, Compiles, Run}
 use Rattle.blang.specs.declared.status.TheConstants.{DONE, DEVICE, MEMORY, WRONG_COMMAND}
@@ -38,6 +38,7 @@ use Rattle.bcommand.specs.CommandLine.{compile, run, go, migrate, ask, contradic
 use Rattle.bcommand.specs.CommandLine.{list, map, draw, check, trace, locate, count, show, format}
 use Rattle.bcommand.specs.declared.job.Rows.{Rows}
 use Rattle.bcommand.specs.declared.job.Rows.TheVariants as which
+use Rattle.bcli.specs.FaultPlaces.{TellsFaultPlace, is_placed}
 use Rattle.bcli.specs.Shelves.{Holdings}
 
 -- the message for words that aren't UTF-8
@@ -199,6 +200,16 @@ Answers edition files text (format is_check) ends status = (ends.input_after ≡
   status = status;
 })
 
+-- What is asked of a source is answered with the status `told`, and then the file of its fault is told, where it is.
+pub record AnswersPlaced (edition : Edition) (files : Files) (text : List ℕ) (question : Question) (ends : RunEnds)
+    (status : ℕ) : Type 0 where
+  pub mid : Outgoing
+  pub told : ℕ
+  pub answers : Answers edition files text question (record ends { line_after = mid }) told
+  pub place : MatchBool (is_placed files question told)
+      (TellsFaultPlace edition files text mid ends.line_after status)
+      ((ends.line_after ≡ mid) × (status ≡ told))
+
 -- what was asked for is done, for texts that the shelf holds under the names of the files
 abbrev pub Does : Holdings → Asked → RunEnds → ℕ → Type 0
 Does shelf (compile edition libs) ends status = CompilesInput shelf edition libs ends status
@@ -213,7 +224,7 @@ Does shelf migrate ends status =
     Migrates (rewriting ends.input ends.input_after ends.out ends.out_after) ends.line ends.line_after status
 Does shelf (ask source question) ends status = NamesFile (shelf.lacks source.file) source.file ends status
     ⊎ NamesLibOf shelf source ends status
-    ⊎ ((r : Reads shelf source) × Answers source.edition (files_read r) (whole r) question ends status)
+    ⊎ ((r : Reads shelf source) × AnswersPlaced source.edition (files_read r) (whole r) question ends status)
 Does shelf (contradiction clash) ends status =
     HasNotRun ends × Reported (clash_line clash) WRONG_COMMAND ends.line ends.line_after status
 

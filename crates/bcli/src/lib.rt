@@ -1,6 +1,7 @@
 //! Serving the command line of the program `b`.
 #![tactic(auto)]
 
+mod fault_place;
 mod in_order;
 mod serving;
 mod shelf;

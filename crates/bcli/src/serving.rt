@@ -8,9 +8,10 @@ ghost use Rattle.bcommand.specs.CommandLine.{ask, asked, asked_of, compile, go, 
 ghost use Rattle.bcli.specs.Excluded.{Excluded, FileIsRead};
 ghost use Rattle.bshow.specs.Shows.{asked_of as page_of};
 ghost use Rattle.bsources.specs.Files.{files_shown};
-ghost use Rattle.bcli.specs.Serves.{Answers, CompilesJoined, Does, NamesFile, RefusesWords, Serves, ShowsRun, form_of, page_rows, style_of, traced_rows, no_file_line, unread_line};
+ghost use Rattle.bcli.specs.Serves.{Answers, AnswersPlaced, CompilesJoined, Does, NamesFile, RefusesWords, Serves, ShowsRun, form_of, page_rows, style_of, traced_rows, no_file_line, unread_line};
 ghost use Rattle.bcli.specs.Shelves.{anything};
 
+use crate::fault_place::{is_placed, tell_fault_place};
 use crate::shelf::{FileFault, MemFile, Shelf, SystemFiles};
 use crate::sources::{Unread, read_libs, read_source};
 use bcheck::{FindingForm, Request, check};
@@ -253,7 +254,7 @@ fn ask_file<S: Shelf, I: ByteIn, O: ByteOut, D: ByteOut>(
                 first: whole.first,
                 rest: whole.libs.files(),
             };
-            answer(
+            answer_placed(
                 alloc,
                 source.edition,
                 files,
@@ -267,6 +268,32 @@ fn ask_file<S: Shelf, I: ByteIn, O: ByteOut, D: ByteOut>(
         Err(Unread::File(fault)) => name_file(alloc, source.file, fault, diag),
         Err(Unread::Lib(lib)) => name_file(alloc, lib.name, lib.fault, diag),
     }
+}
+
+// Answers what is asked of a source of these files and of this text, and tells the file of its fault where a run would
+// be told of.
+fn answer_placed<I: ByteIn, O: ByteOut, D: ByteOut>(
+    alloc: Global,
+    edition: Edition,
+    files: SourceFiles<'_>,
+    text: &[u8],
+    question: Question<'_>,
+    input: &mut I,
+    out: &mut O,
+    diag: &mut D,
+) -> Status
+    ensures answers { AnswersPlaced edition (files_shown files.entry) text.now (question_of question.entry) (run_ends
+        (I.incoming input.old) (I.incoming input.new) (O.outgoing out.old) (O.outgoing out.new)
+        (D.outgoing diag.old) (D.outgoing diag.new)) result }
+    ensures input_lender { I.lender input.new ≡ I.lender input.old }
+    ensures out_lender { O.lender out.new ≡ O.lender out.old }
+    ensures diag_lender { D.lender diag.new ≡ D.lender diag.old }
+{
+    let told = answer(alloc, edition, files, text, question, input, out, diag);
+    if is_placed(files, question, told) {
+        return tell_fault_place(alloc, edition, files, text, diag);
+    }
+    told
 }
 
 // Answers what is asked of a source of these files and of this text.

@@ -26,6 +26,8 @@ use Rattle.bcommand.specs.declared.job.Clash.TheVariants as clash
 use Rattle.bcommand.specs.declared.job.Display.{Display}
 use Rattle.bcommand.specs.declared.job.Rows.{Rows}
 use Rattle.bcommand.specs.declared.job.Rows.TheVariants as which
+use Rattle.bcommand.specs.declared.commands.TheConstants.{MOST_STEPS}
+use Rattle.bcommand.specs.declared.parsing.TheConstants.{DEFAULT_STEPS, DEFAULT_TRACE_STEPS}
 
 -- a flag
 abbrev pub flag_rule : Text → Rule
@@ -56,10 +58,10 @@ abbrev pub edition_rule : Rule
 edition_rule = number_rule (codes "edition") 2
 
 abbrev pub steps_rule : Rule
-steps_rule = number_rule (codes "steps") 4000000000
+steps_rule = number_rule (codes "steps") MOST_STEPS
 
 abbrev pub from_rule : Rule
-from_rule = number_rule (codes "from") 4000000000
+from_rule = number_rule (codes "from") MOST_STEPS
 
 abbrev pub no_limit_rule : Rule
 no_limit_rule = flag_rule (codes "no-limit")
@@ -68,7 +70,7 @@ abbrev pub where_rule : Rule
 where_rule = flag_rule (codes "where")
 
 abbrev pub last_rule : Rule
-last_rule = number_rule (codes "last") 4000000000
+last_rule = number_rule (codes "last") MOST_STEPS
 
 abbrev pub input_rule : Rule
 input_rule = text_rule (codes "input")
@@ -144,7 +146,7 @@ format_command = with_rule (with_rule (with_rule (new_app (codes "format")) edit
 abbrev pub bare_line : App
 bare_line = on_top (λ s. record s { has_version = true; subcommand_required = true }) (new_app (codes "b"))
 
--- `b compile`, `b run`, `b go`, `b migrate`, `b list`, `b map`, `b check` and `b trace`, one of which there has to be
+-- with its commands
 abbrev pub command_line : App
 command_line =
     with_subcommand (with_subcommand (with_subcommand (with_subcommand (with_subcommand (with_subcommand
@@ -180,8 +182,8 @@ is_set_in id rows = option_map_or (λ t. bytes_eq t (codes "true")) (one_of id r
 abbrev pub steps_asked : Option ℕ → Bool → Option ℕ
 steps_asked (Some n) true = None
 steps_asked (Some n) false = Some n
-steps_asked None true = Some 18446744073709551615
-steps_asked None false = Some 10000000
+steps_asked None true = Some most
+steps_asked None false = Some DEFAULT_STEPS
 
 abbrev pub steps_in : List Row → Option ℕ
 steps_in rows = steps_asked (option_number (codes "steps") rows) (is_set_in (codes "no-limit") rows)
@@ -198,12 +200,12 @@ rows_in found = rows_asked (option_number (codes "from") found) (option_number (
 
 -- the steps of a trace with these rows, if it isn't said how many; and those of a page
 abbrev pub trace_steps : Rows → ℕ
-trace_steps (which.From from) = 1000
-trace_steps (which.Last last) = 10000000
+trace_steps (which.From from) = DEFAULT_TRACE_STEPS
+trace_steps (which.Last last) = DEFAULT_STEPS
 
 abbrev pub shown_steps : Rows → ℕ
 shown_steps (which.From from) = min (1999 + from) most
-shown_steps (which.Last last) = 10000000
+shown_steps (which.Last last) = DEFAULT_STEPS
 
 abbrev pub file_in : List Row → Text
 file_in rows = unwrap_or (first_of (codes "FILE") rows) []
@@ -232,9 +234,9 @@ source_in rows = record { file = file_in rows; libs = libs_in rows; edition = ed
 
 -- What is asked of a source: its code, or that of its definitions of a name; its layout; a picture of its memory, after
 -- so many steps if there is a number; its faults, for an editor or for people; the steps of its program among so many,
--- which of them are shown, and of which function; a run of so many steps, and where it is over; how many steps each line
--- takes in such a run, for an editor or for people; a page of a run, with this input if there is one; the source in one
--- style, or whether it is in that.
+-- which of them are shown, and of which function; a run of so many steps, and where it is over; how many steps each
+-- line takes in such a run, for an editor or for people; a page of a run, with this input if there is one; the source
+-- in one style, or whether it is in that.
 pub data Question : Type 0 where
   list : (name : Option Text) → Question
   map : Question
@@ -246,9 +248,9 @@ pub data Question : Type 0 where
   show : (steps : ℕ) (shown : Rows) (input : Option Text) → Question
   format : (is_check : Bool) → Question
 
--- What is asked for: that a source is compiled, with the files that come after it, that the code text in a file is run for so many steps, that a source is
--- compiled and run for so many, that a code text is migrated, something of a source; or two
--- options that contradict each other.
+-- What is asked for: that a source is compiled, with the files that come after it; that the code text in a file is run
+-- for so many steps; that a source is compiled and run for so many; that a code text is migrated; something of a
+-- source; or two options that contradict each other.
 pub data Asked : Type 0 where
   compile : (edition : Edition) (libs : List Text) → Asked
   run : (file : Text) (steps : ℕ) → Asked
@@ -286,22 +288,36 @@ abbrev pub count_asked : Source → (for_editor : Bool) → Option ℕ → Asked
 count_asked source for_editor (Some steps) = ask source (count steps for_editor)
 count_asked source for_editor None = contradiction clash.Limits
 
+-- what these commands ask for, by what was found of their options
+abbrev pub run_in : List Row → Asked
+run_in rows = run_asked (file_in rows) (steps_in rows)
+
+abbrev pub go_in : List Row → Asked
+go_in rows = go_asked (source_in rows) (is_set_in (codes "where") rows) (steps_in rows)
+
+abbrev pub map_in : List Row → Question
+map_in rows = map_asked (is_set_in (codes "svg") rows) (option_number (codes "steps") rows)
+
+abbrev pub trace_in : List Row → Asked
+trace_in rows = trace_asked (source_in rows) (option_number (codes "steps") rows) (rows_in rows) (function_in rows)
+
+abbrev pub count_in : List Row → Asked
+count_in rows = count_asked (source_in rows) (is_set_in (codes "json") rows) (steps_in rows)
+
+abbrev pub show_in : List Row → Asked
+show_in rows = show_asked (source_in rows) (option_number (codes "steps") rows) (rows_in rows) (input_in rows)
+
 -- what a command asks for, by its name and what was found of its options
 abbrev pub asked_by : Text → List Row → Asked
-asked_by name rows = if bytes_eq name (codes "run") then run_asked (file_in rows) (steps_in rows)
-    else (if bytes_eq name (codes "go")
-    then go_asked (source_in rows) (is_set_in (codes "where") rows) (steps_in rows)
+asked_by name rows = if bytes_eq name (codes "run") then run_in rows
+    else (if bytes_eq name (codes "go") then go_in rows
     else (if bytes_eq name (codes "migrate") then migrate
     else (if bytes_eq name (codes "list") then ask (source_in rows) (list (name_in rows))
-    else (if bytes_eq name (codes "map")
-    then ask (source_in rows) (map_asked (is_set_in (codes "svg") rows) (option_number (codes "steps") rows))
+    else (if bytes_eq name (codes "map") then ask (source_in rows) (map_in rows)
     else (if bytes_eq name (codes "check") then ask (source_in rows) (check (is_set_in (codes "json") rows))
-    else (if bytes_eq name (codes "trace")
-    then trace_asked (source_in rows) (option_number (codes "steps") rows) (rows_in rows) (function_in rows)
-    else (if bytes_eq name (codes "count")
-    then count_asked (source_in rows) (is_set_in (codes "json") rows) (steps_in rows)
-    else (if bytes_eq name (codes "show")
-    then show_asked (source_in rows) (option_number (codes "steps") rows) (rows_in rows) (input_in rows)
+    else (if bytes_eq name (codes "trace") then trace_in rows
+    else (if bytes_eq name (codes "count") then count_in rows
+    else (if bytes_eq name (codes "show") then show_in rows
     else (if bytes_eq name (codes "format") then ask (source_in rows) (format (is_set_in (codes "check") rows))
     else compile (edition_in rows) (libs_in rows))))))))))
 

@@ -1,7 +1,8 @@
 //! The words of a command line, read.
-ghost use Rattle.std.specs.Prelude.{◌≡◌, [], IfOk, IfErr, codes, map, option_map, string_bytes};
+ghost use Rattle.std.specs.Prelude.{◌≡◌, [], IfOk, IfErr, map, option_map, string_bytes};
 ghost use Rattle.clap.specs.Words.{HasKind, fault_of, first_of, found_of, rows_of, subcommand_of, subcommand_rows_of};
-ghost use Rattle.bcommand.specs.CommandLine.{asked, asked_of, command_line, edition_in, file_in, go_asked, is_set_in, libs_in, map_asked, option_number, question_of, run_asked, source_in, source_shown, steps_asked, steps_in, count_asked, function_in, input_in, rows_asked, rows_in, show_asked, shown_steps, trace_asked, trace_steps};
+ghost use Rattle.bcommand.specs.CommandLine.{asked, asked_of, command_line, edition_in, file_in, is_set_in, libs_in, option_number, question_of, source_in, source_shown, steps_in};
+ghost use Rattle.bcommand.specs.CommandLine.{count_in, go_in, map_in, rows_asked, run_in, show_in, shown_steps, trace_in, trace_steps};
 
 use crate::commands::command;
 use crate::job::{Clash, Display, Job, Question, Rows, Source, Walk};
@@ -52,19 +53,19 @@ pub fn job_of<'m, 'a: 'm>(matches: &'m ArgMatches<'a>) -> Job<'m>
 }
 
 fn run_of<'m, 'a: 'm>(given: &'m ArgMatches<'a>) -> Job<'m>
-    ensures { asked_of result ≡ run_asked (file_in (rows_of (found_of given.now))) (steps_in (rows_of (found_of given.now))) }
+    ensures { asked_of result ≡ run_in (rows_of (found_of given.now)) }
 {
-    match steps_of(number_of(given, "steps"), is_set(given, "no-limit")) {
+    match steps_of(given) {
         Some(steps) => Job::Run(file_of(given), steps),
         None => Job::Contradiction(Clash::Limits),
     }
 }
 
 fn go_of<'m, 'a: 'm>(given: &'m ArgMatches<'a>) -> Job<'m>
-    ensures { asked_of result ≡ go_asked (source_in (rows_of (found_of given.now))) (is_set_in (codes "where") (rows_of (found_of given.now))) (steps_in (rows_of (found_of given.now))) }
+    ensures { asked_of result ≡ go_in (rows_of (found_of given.now)) }
 {
     let source = source_of(given);
-    let steps = steps_of(number_of(given, "steps"), is_set(given, "no-limit"));
+    let steps = steps_of(given);
     match (steps, is_set(given, "where")) {
         (Some(steps), true) => Job::Ask(source, Question::Locate(steps)),
         (Some(steps), false) => Job::Go(source, steps),
@@ -93,7 +94,7 @@ fn edition_of(given: &ArgMatches<'_>) -> Edition
 
 // A number of steps asks for a picture, too.
 fn map_of<'a>(given: &ArgMatches<'a>) -> Question<'a>
-    ensures { question_of result ≡ map_asked (is_set_in (codes "svg") (rows_of (found_of given.now))) (option_number (codes "steps") (rows_of (found_of given.now))) }
+    ensures { question_of result ≡ map_in (rows_of (found_of given.now)) }
 {
     match (is_set(given, "svg"), number_of(given, "steps")) {
         (false, None) => Question::Map,
@@ -102,7 +103,7 @@ fn map_of<'a>(given: &ArgMatches<'a>) -> Question<'a>
 }
 
 fn trace_of<'m, 'a: 'm>(given: &'m ArgMatches<'a>) -> Job<'m>
-    ensures { asked_of result ≡ trace_asked (source_in (rows_of (found_of given.now))) (option_number (codes "steps") (rows_of (found_of given.now))) (rows_in (rows_of (found_of given.now))) (function_in (rows_of (found_of given.now))) }
+    ensures { asked_of result ≡ trace_in (rows_of (found_of given.now)) }
 {
     let Some(rows) = shown_rows(number_of(given, "from"), number_of(given, "last")) else {
         return Job::Contradiction(Clash::Rows);
@@ -116,7 +117,7 @@ fn trace_of<'m, 'a: 'm>(given: &'m ArgMatches<'a>) -> Job<'m>
 }
 
 fn show_of<'m, 'a: 'm>(given: &'m ArgMatches<'a>) -> Job<'m>
-    ensures { asked_of result ≡ show_asked (source_in (rows_of (found_of given.now))) (option_number (codes "steps") (rows_of (found_of given.now))) (rows_in (rows_of (found_of given.now))) (input_in (rows_of (found_of given.now))) }
+    ensures { asked_of result ≡ show_in (rows_of (found_of given.now)) }
 {
     let Some(rows) = shown_rows(number_of(given, "from"), number_of(given, "last")) else {
         return Job::Contradiction(Clash::Rows);
@@ -130,9 +131,9 @@ fn show_of<'m, 'a: 'm>(given: &'m ArgMatches<'a>) -> Job<'m>
 }
 
 fn count_of<'m, 'a: 'm>(given: &'m ArgMatches<'a>) -> Job<'m>
-    ensures { asked_of result ≡ count_asked (source_in (rows_of (found_of given.now))) (is_set_in (codes "json") (rows_of (found_of given.now))) (steps_in (rows_of (found_of given.now))) }
+    ensures { asked_of result ≡ count_in (rows_of (found_of given.now)) }
 {
-    match steps_of(number_of(given, "steps"), is_set(given, "no-limit")) {
+    match steps_of(given) {
         Some(steps) => Job::Ask(
             source_of(given),
             Question::Count(steps, is_set(given, "json")),
@@ -173,11 +174,11 @@ fn shown_steps(rows: Rows) -> u64
     }
 }
 
-// None where there is a limit of steps and none.
-fn steps_of(asked: Option<u64>, is_without_limit: bool) -> Option<u64>
-    ensures { result ≡ steps_asked asked is_without_limit }
+// The steps of a run; none where there is a limit and none.
+fn steps_of(given: &ArgMatches<'_>) -> Option<u64>
+    ensures { result ≡ steps_in (rows_of (found_of given.now)) }
 {
-    match (asked, is_without_limit) {
+    match (number_of(given, "steps"), is_set(given, "no-limit")) {
         (Some(_), true) => None,
         (Some(steps), false) => Some(steps),
         (None, true) => Some(u64::MAX),

@@ -1,0 +1,2 @@
+main()
+    assert(7 % 2 == 0, "half of an odd number");

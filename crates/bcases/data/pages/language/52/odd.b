@@ -1,0 +1,3 @@
+odd(n) {
+    return(m % 2);
+}

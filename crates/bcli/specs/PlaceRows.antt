@@ -1,0 +1,45 @@
+-- Closed facts: where the fault of a source in several files is told to be.
+use Rattle.std.specs.Prelude.{◌≡◌, ℕ, true, false, List, [], ◌∷◌, map, Some, None, codes, refl}
+use Rattle.std.specs.Fmt.{digits}
+use Rattle.blang.specs.declared.token.About.TheVariants as about
+use Rattle.blang.specs.declared.token.Diagnostic.{Diagnostic}
+use Rattle.blang.specs.declared.token.Letters.TheVariants as letters
+use Rattle.bcommand.specs.CommandLine.{Question, check, count, draw, format, list, locate, map as mapped, show, trace}
+use Rattle.bcommand.specs.declared.job.Rows.TheVariants as which
+use Rattle.bsources.specs.Files.{Files, file_of}
+use Rattle.bcli.specs.FaultPlaces.{is_placed, place_beyond, place_line}
+
+-- p.b of two lines, and after it l.b
+abbrev two : Files
+two = record { first = file_of (codes "p.b") (codes "a\nb"); rest = file_of (codes "l.b") (codes "c") ∷ [] }
+
+abbrev alone : Files
+alone = record { first = file_of (codes "p.b") (codes "a\nb"); rest = [] }
+
+-- the place of a fault with status 1 is told for a run of several files, and else for nothing
+placed_rows : map (λ question. is_placed two question 1)
+    (trace 9 (which.From 1) None ∷ locate 9 ∷ count 9 false ∷ show 9 (which.From 1) None ∷ list None ∷ mapped
+    ∷ draw None ∷ check false ∷ format false ∷ [])
+    ≡ true ∷ true ∷ true ∷ true ∷ false ∷ false ∷ false ∷ false ∷ false ∷ []
+placed_rows = refl
+
+not_placed : map (λ status. is_placed two (locate 9) status) (0 ∷ 1 ∷ 2 ∷ 132 ∷ []) ≡ false ∷ true ∷ false ∷ false ∷ []
+not_placed = refl
+
+alone_is_not : is_placed alone (locate 9) 1 ≡ false
+alone_is_not = refl
+
+-- a fault at a line
+abbrev fault_at : ℕ → Diagnostic
+fault_at line = record { letters = letters.Syntax; about = about.Nothing; line = line }
+
+places : map (λ line. place_beyond two (Some (fault_at line))) (1 ∷ 2 ∷ 3 ∷ 4 ∷ [])
+    ≡ None ∷ None ∷ Some (record { file = codes "l.b"; line = 1 }) ∷ Some (record { file = codes "l.b"; line = 2 }) ∷ []
+places = refl
+
+no_fault : place_beyond two None ≡ None
+no_fault = refl
+
+line_of_a_place : place_line (record { file = codes "l.b"; line = 12 }) ≡ codes "at     line 12 of l.b\n"
+unfolding digits
+line_of_a_place = refl
