@@ -12,7 +12,7 @@ use Rattle.bword.specs.declared.edition.Edition.TheVariants as editions
 use Rattle.bword.specs.declared.ends.EndFault.{EndFault}
 use Rattle.bword.specs.declared.ends.EndFault.TheVariants as end_fault
 use Rattle.blang.specs.Code.{code_of}
-use Rattle.blang.specs.Compiles.{CompilesTo, fault_text, letters_text, line_of, status_of}
+use Rattle.blang.specs.Compiles.{Compilation, CompilesTo, fault_text, letters_text, line_of, status_of}
 use Rattle.blang.specs.Cut.{line_number_after, tokens_from}
 use Rattle.blang.specs.declared.token.Letters.{Letters}
 use Rattle.blang.specs.declared.token.Letters.TheVariants as letters
@@ -22,6 +22,7 @@ use Rattle.blang.specs.Layout.{load_fault}
 use Rattle.blang.specs.declared.status.TheConstants.{DEVICE, DONE, FAULT}
 use Rattle.blang.specs.declared.token.Diagnostic.{Diagnostic}
 use Rattle.bgrammar.specs.SourceRows.{ComesIn}
+use Rattle.bgrammar.proofs.GoesLaws.{each_source_comes, outcomes_are_equal}
 use Rattle.bgrammar.proofs.SourceRows.{edition_rows}
 use Rattle.bcheck.specs.Checks as checks
 use Rattle.bsources.specs.Files.{File, Files, Line, own_line, own_line_among}
@@ -29,6 +30,7 @@ use Rattle.bcheck.specs.Checks.{IsOver, Reason, StandsOn, code_keyword, column_a
 use Rattle.btools.specs.Quoting.{file_text, json_text}
 use Rattle.bcheck.specs.Checks.{AreFindings, Check, Checks, FindingParts, Outcome, TellsFirst, finding_column, fix_and_second, finding_head, finding_line, finding_start, finding_text, outcome_of, findings_text, severity_of, shown_in_form, told_first}
 use Rattle.bcheck.specs.Excluded.{BeginsWith, ComesTo, Excluded, IsTold, Never, NeverOf, file_at, file_of, finding_lines, has_no_colon, is_printed, newlines}
+use Rattle.bcheck.specs.SourceFaults.{IsFaultOf}
 use Rattle.bcheck.specs.declared.finding.Severity.{Severity}
 use Rattle.bcheck.specs.declared.finding.Severity.TheVariants as severity
 use Rattle.bcheck.specs.declared.form.FindingForm.{FindingForm}
@@ -370,6 +372,15 @@ known_line c edition source code line text wrong a b e s f comes t start h = at_
         let other : take (suc (length wrong)) (a ∷ (line ++ w.more)) ≡ b ∷ wrong = subst (λ x. StartsWith x (b ∷ wrong)) begun start in
         ap first_byte other
 
+one_fault : (edition : Edition) (source : List ℕ) → (fault : Option Diagnostic) × IsFaultOf edition source fault
+    × ((other : Option Diagnostic) → IsFaultOf edition source other → other ≡ fault)
+one_fault edition source =
+    let some = each_source_comes [] edition 1 source in (
+      some.0.stop,
+      λ r g. ap (λ (x : Compilation). x.stop) (outcomes_are_equal [] (tokens_from edition 1 source) r some.0 g some.1),
+      λ other is. sym (is some.0 some.1),
+    )
+
 pub excluded : Excluded
 excluded = record {
   other_status = other_status;
@@ -390,4 +401,5 @@ excluded = record {
   no_such_status = λ c line status to is h. above c.form (comes_to c line status to) c.files (shown_in_form c.form line) status c.status c.out c.out_after (comes_small c line status to) is (tells c line status to h);
   first_edition = λ c text s e f t start h. let no = known_line c editions.Two _ _ _ text _ 115 117 e s f edition_rows.break_outside t start h in absurd (omega (arith, no));
   second_edition = λ c text s e f t start h. let no = known_line c editions.One _ _ _ text _ 117 115 e s f edition_rows.mention_break t start h in absurd (omega (arith, no));
+  one_fault = one_fault;
 }

@@ -1,10 +1,11 @@
 -- Promise: what the contract of a check excludes, whatever its source, its file and its output are.
 use Rattle.std.specs.Prelude.{◌≡◌, ◌≢◌, ℕ, ◌+◌, ◌*◌, ◌<◌, ◌≤◌, ◌==◌, Bool, ◌||◌, false, not, IsTrue}
-use Rattle.std.specs.Prelude.{List, [], ◌∷◌, ◌++◌, Some, codes, decimal, map}
+use Rattle.std.specs.Prelude.{List, [], ◌∷◌, ◌++◌, Some, codes, decimal, map, Option}
 use Rattle.std.specs.Int.{is_in_range}
 use Rattle.std.specs.Io.{StartsWith}
 use Rattle.std.specs.List.{count_by, list_all}
 use Rattle.bword.specs.ByteEnds.{Grew}
+use Rattle.bword.specs.declared.edition.Edition.{Edition}
 use Rattle.bword.specs.declared.edition.Edition.TheVariants as editions
 use Rattle.blang.specs.Code.{code_of}
 use Rattle.blang.specs.Compiles.{Compilation, CompilesTo, letters_text}
@@ -18,6 +19,7 @@ use Rattle.btools.specs.Quoting.{file_text}
 use Rattle.bcheck.specs.Checks.{finding_start}
 use Rattle.bcheck.specs.Checks.{findings_text}
 use Rattle.bcheck.specs.Checks.{severity_of, shown_in_form, told_first}
+use Rattle.bcheck.specs.SourceFaults.{IsFaultOf}
 use Rattle.bcheck.specs.declared.finding.Severity.{Severity}
 use Rattle.bcheck.specs.declared.form.FindingForm.{FindingForm}
 use Rattle.bcheck.specs.declared.form.FindingForm.TheVariants as form
@@ -134,3 +136,6 @@ pub record Excluded : Type 0 where
       → c.form ≡ form.Text → IsTold c text → StartsWith text (codes "un break 1\n") → Checks c → ⊥
   pub second_edition : (c : Check) (text : List ℕ) → c.source ≡ codes "f() break;" → c.edition ≡ editions.One
       → c.form ≡ form.Text → IsTold c text → StartsWith text (codes "sx break 1\n") → Checks c → ⊥
+  -- of a source another fault than its own, or one where it has none, or none where it has one
+  pub one_fault : (edition : Edition) (source : List ℕ) → (fault : Option Diagnostic) × IsFaultOf edition source fault
+      × ((other : Option Diagnostic) → IsFaultOf edition source other → other ≡ fault)
