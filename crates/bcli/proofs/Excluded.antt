@@ -24,6 +24,7 @@ use Rattle.std.proofs.lemmas.List.Elements.{All-cons, All-head, All-nil, All-tai
 use Rattle.blang.specs.Compiles.{CompileAnswers, Compilation, CompilesTo, HasOutcome, Tells}
 use Rattle.blang.specs.Cut.{tokens_from}
 use Rattle.bsources.specs.Files.{Files, NamedText, file_in, file_of, following}
+use Rattle.bcli.proofs.FaultLies.{no_place, place_located, place_told}
 use Rattle.bcli.proofs.Joined.{failed_joined, joined_answers}
 use Rattle.bcli.specs.Serves.{CompilesJoined, NamesLib, Reads, ReadsLibs, compiling, files_read, whole, Answers, AnswersPlaced, Does, HasNoFile, IsHelp, NamesFile, RefusesWords, SaysNothing, Serves, did, refused, no_memory}
 use Rattle.bcli.specs.Excluded.{AreWrong, Excluded, FileIsRead, HoldsOne, NothingFails, alone, files_alone, with_lib}
@@ -279,6 +280,9 @@ module _ (shelf : Holdings) where
     file_later = λ source ends status none told. none told.0 told.1;
     joined_alone = joined_alone;
     asked_joined = asked_joined;
+    place_told = place_told;
+    place_located = place_located;
+    no_place = no_place;
     compiled_joined = compiled_joined;
     failed_joined = λ edition rest ends it counted none. failed_joined edition rest ends 133 it counted none refl;
     both_done = λ clash ends does. not_done _ 135 ends.line ends.line_after (λ e. omega (arith, e)) does.1;

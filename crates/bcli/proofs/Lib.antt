@@ -2,4 +2,5 @@ mod Answered
 mod Excluded
 mod Joined
 mod ReadLibs
+mod FaultLies
 mod FaultTold

@@ -1,24 +1,28 @@
 -- Promise: what no answer to a command line is, and what each one is.
-use Rattle.std.specs.Prelude.{◌≡◌, ◌⊎◌, ℕ, ◌+◌, ◌<◌, ◌≤◌, List, [], ◌∷◌, ◌++◌, All, length, codes}
+use Rattle.std.specs.Prelude.{◌≡◌, ◌⊎◌, ℕ, ◌+◌, ◌<◌, ◌≤◌, List, [], ◌∷◌, ◌++◌, All, length, codes, true}
+use Rattle.std.specs.Prelude.{Option, Some, None}
 use Rattle.clap.specs.Words.{IsAmong, Text, fault_of, subcommand_of}
 use Rattle.clap.specs.declared.error.kind.ErrorKind.{ErrorKind}
 use Rattle.clap.specs.declared.error.kind.ErrorKind.TheVariants as kind
-use Rattle.bword.specs.ByteEnds.{Grew, Kept, Outgoing, Unread, incoming_of, most, outgoing_of}
+use Rattle.bword.specs.ByteEnds.{Grew, Kept, Outgoing, Unread, Writes, incoming_of, most, outgoing_of}
 use Rattle.bword.specs.declared.edition.Edition.{Edition}
 use Rattle.bword.specs.declared.edition.Edition.TheVariants as editions
 use Rattle.bword.specs.declared.ends.EndFault.TheVariants as end_fault
 use Rattle.blang.specs.Compiles.{CompileAnswers, CompilesTo, Compilation, EndRefused, HasOutcome, IsUndisturbed, Tells}
+use Rattle.blang.specs.Compiles.{fault_text}
 use Rattle.blang.specs.Cut.{tokens_from}
-use Rattle.blang.specs.declared.status.TheConstants.{DONE, DEVICE, MEMORY, WRONG_COMMAND}
+use Rattle.blang.specs.declared.status.TheConstants.{DONE, DEVICE, FAULT, MEMORY, WRONG_COMMAND}
 use Rattle.blang.specs.Headline.{GoesOff}
 use Rattle.blang.specs.Reports.{HasNotRun, Reported, RunEnds}
 use Rattle.brun.specs.OneRun.{nothing_written, one_run_ends, unread}
 use Rattle.brun.specs.Runs.{RunsText}
 use Rattle.bcommand.specs.CommandLine.{Question, Source, ask, asked, command_line, compile, contradiction, go, run}
-use Rattle.bsources.specs.Files.{Files, file_of}
+use Rattle.bcommand.specs.CommandLine.{locate}
+use Rattle.bsources.specs.Files.{Files, Line, file_of}
 use Rattle.bsources.specs.JoinedEnds.{joined_in}
 use Rattle.bcommand.specs.declared.job.Clash.{Clash}
 use Rattle.bcli.specs.declared.shelf.MemFile.{MemFile}
+use Rattle.bcli.specs.FaultPlaces.{place_beyond, place_line, tells_run}
 use Rattle.bcli.specs.Serves.{Answers, AnswersPlaced, CompilesJoined, Does, HasNoFile, IsHelp, NamesFile, NamesLib, NamesLibOf}
 use Rattle.bcli.specs.Serves.{SaysNothing, Serves, compiling, unread_line}
 use Rattle.bcli.specs.Shelves.{Holdings, holding}
@@ -46,6 +50,19 @@ pub record AreCounted (rest : List ℕ) (ends : RunEnds) : Type 0 where
 pub record NothingFails (edition : Edition) (rest : List ℕ) (ends : RunEnds) (status : ℕ) : Type 0 where
   pub counted : AreCounted rest ends
   pub undisturbed : IsUndisturbed (compiling edition ends.input ends.input_after ends status)
+
+-- The source comes to a fault or to none, and its place is this one, where it isn't in the first file.
+pub record LiesAt (edition : Edition) (files : Files) (text : List ℕ) (place : Option Line) : Type 0 where
+  pub outcome : Compilation
+  pub goes : CompilesTo [] (tokens_from edition 1 text) outcome
+  pub place_is : place_beyond files outcome.stop ≡ place
+
+-- What is asked of a source was answered with the status of a fault, and this line was written after it.
+pub record Answered (edition : Edition) (files : Files) (text : List ℕ) (question : Question) (ends : RunEnds)
+    (line : List ℕ) : Type 0 where
+  pub mid : Outgoing
+  pub answers : Answers edition files text question (record ends { line_after = mid }) FAULT
+  pub more : Writes mid line ends.line_after
 
 -- of the files on a shelf
 pub record Excluded (shelf : Holdings) : Type 0 where
@@ -96,6 +113,19 @@ pub record Excluded (shelf : Holdings) : Type 0 where
       → Does shelf (ask (with_lib file lib edition) question) ends status
       → AnswersPlaced edition (record { first = file_of file a; rest = file_of lib b ∷ [] }) (a ++ 10 ∷ b) question ends
       status ⊎ SaysNothing ends status MEMORY
+  -- a fault in a file after the first one, of whose place a command that tells of a run writes no line, or another one
+  pub place_told : (edition : Edition) (files : Files) (text : List ℕ) (question : Question) (ends : RunEnds) (at : Line)
+      → LiesAt edition files text (Some at) → tells_run question ≡ true
+      → AnswersPlaced edition files text question ends FAULT
+      → Answered edition files text question ends (place_line at)
+  -- other lines than those two by `go --where`
+  pub place_located : (edition : Edition) (files : Files) (text : List ℕ) (steps : ℕ) (ends : RunEnds) (at : Line)
+      → (it : LiesAt edition files text (Some at)) → AnswersPlaced edition files text (locate steps) ends FAULT
+      → Writes ends.line (fault_text it.outcome.stop ++ place_line at) ends.line_after
+  -- a place that is told of a source without a fault, or with one in its first file
+  pub no_place : (edition : Edition) (files : Files) (text : List ℕ) (question : Question) (ends : RunEnds) (status : ℕ)
+      → LiesAt edition files text None → AnswersPlaced edition files text question ends status
+      → Answers edition files text question ends status ⊎ (status ≡ MEMORY)
   -- the input and a file that are compiled as other bytes, or that get 133 or 134 where nothing failed
   pub compiled_joined : (lib b input : List ℕ) (edition : Edition) (ends : RunEnds) (status : ℕ) → HoldsOne shelf lib b
       → Tells ends.input input → NothingFails edition (10 ∷ b) ends status

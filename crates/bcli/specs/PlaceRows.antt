@@ -16,6 +16,12 @@ two = record { first = file_of (codes "p.b") (codes "a\nb"); rest = file_of (cod
 abbrev alone : Files
 alone = record { first = file_of (codes "p.b") (codes "a\nb"); rest = [] }
 
+abbrev three : Files
+three = record {
+  first = file_of (codes "p.b") (codes "a\nb");
+  rest = file_of (codes "l.b") (codes "c") ∷ file_of (codes "m.b") (codes "d") ∷ [];
+}
+
 -- the place of a fault with status 1 is told for a run of several files, and else for nothing
 placed_rows : map (λ question. is_placed two question 1)
     (trace 9 (which.From 1) None ∷ locate 9 ∷ count 9 false ∷ show 9 (which.From 1) None ∷ list None ∷ mapped
@@ -23,11 +29,19 @@ placed_rows : map (λ question. is_placed two question 1)
     ≡ true ∷ true ∷ true ∷ true ∷ false ∷ false ∷ false ∷ false ∷ false ∷ []
 placed_rows = refl
 
-not_placed : map (λ status. is_placed two (locate 9) status) (0 ∷ 1 ∷ 2 ∷ 132 ∷ []) ≡ false ∷ true ∷ false ∷ false ∷ []
+-- the same with each other word of these commands
+placed_with_others : map (λ question. is_placed two question 1)
+    (trace 0 (which.Last 9) (Some (codes "f")) ∷ locate 0 ∷ count 0 true ∷ show 0 (which.Last 9) (Some (codes "i"))
+    ∷ list (Some (codes "f")) ∷ draw (Some 9) ∷ check true ∷ format true ∷ [])
+    ≡ true ∷ true ∷ true ∷ true ∷ false ∷ false ∷ false ∷ false ∷ []
+placed_with_others = refl
+
+not_placed : map (λ status. is_placed two (locate 9) status) (0 ∷ 1 ∷ 2 ∷ 132 ∷ 133 ∷ 134 ∷ [])
+    ≡ false ∷ true ∷ false ∷ false ∷ false ∷ false ∷ []
 not_placed = refl
 
-alone_is_not : is_placed alone (locate 9) 1 ≡ false
-alone_is_not = refl
+of_several : map (λ files. is_placed files (locate 9) 1) (alone ∷ two ∷ three ∷ []) ≡ false ∷ true ∷ true ∷ []
+of_several = refl
 
 -- a fault at a line
 abbrev fault_at : ℕ → Diagnostic
@@ -37,9 +51,22 @@ places : map (λ line. place_beyond two (Some (fault_at line))) (1 ∷ 2 ∷ 3 �
     ≡ None ∷ None ∷ Some (record { file = codes "l.b"; line = 1 }) ∷ Some (record { file = codes "l.b"; line = 2 }) ∷ []
 places = refl
 
+places_of_three : map (λ line. place_beyond three (Some (fault_at line))) (2 ∷ 3 ∷ 4 ∷ 5 ∷ [])
+    ≡ None ∷ Some (record { file = codes "l.b"; line = 1 }) ∷ Some (record { file = codes "m.b"; line = 1 })
+    ∷ Some (record { file = codes "m.b"; line = 2 }) ∷ []
+places_of_three = refl
+
+alone_has_none : place_beyond alone (Some (fault_at 9)) ≡ None
+alone_has_none = refl
+
 no_fault : place_beyond two None ≡ None
 no_fault = refl
 
 line_of_a_place : place_line (record { file = codes "l.b"; line = 12 }) ≡ codes "at     line 12 of l.b\n"
 unfolding digits
 line_of_a_place = refl
+
+-- a newline in the name of a file
+odd_name : place_line (record { file = codes "l\n.b"; line = 1 }) ≡ codes "at     line 1 of l\\u000a.b\n"
+unfolding digits
+odd_name = refl
