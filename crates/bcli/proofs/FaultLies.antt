@@ -40,7 +40,7 @@ written text old new (inr stopped) = absurd (not_fault stopped.fault stopped.sta
 several_among : (first : File) (rest : List File) (line : ℕ) (at : Line) → beyond_first_among first rest line ≡ Some at
     → is_of_several (record { first = first; rest = rest }) ≡ true
 several_among first [] line at e = cc
-several_among first (next ∷ rest) line at e = refl
+several_among first (next ∷ rest) line at e = grind (arith, nat_tests)
 
 several : (files : Files) (stop : Option Diagnostic) (at : Line) → place_beyond files stop ≡ Some at → is_of_several files ≡ true
 several files None at e = cc
