@@ -100,7 +100,6 @@ module _ (edition : Edition) (files : Files) (text : List ℕ) where
       by true is (inr memory) = inr memory.1
       by false is place = inl (same place)
 
-
 module _ (edition : Edition) (text : List ℕ) (r : Compilation) (goes : CompilesTo [] (tokens_from edition 1 text) r) (d : Diagnostic) (stop : r.stop ≡ Some d) where
   module _ (line after : Outgoing) (code : List ℕ) (status : ℕ) (w : WasCompiled edition text line after code status) where
     rest : Rest (incoming_of w.following) w.compiles.taken text
