@@ -6,3 +6,8 @@ mod Costs
 mod Splits
 mod Whole
 mod Excluded
+mod OwnCalls
+mod Addresses
+mod Totals
+mod AllLines
+mod Together

@@ -23,7 +23,7 @@ times_le : (states : ℕ → State) (made strings place : ℕ) → times states 
 times_le states made strings place =
     omega (arith, sum_by-le (λ (n : ℕ). cond (is_at strings place (states n)) 1 0) 1 (range_with_len 0 made) (λ k d lt. one_at_most (is_at strings place (states (get_or (range_with_len 0 made) k d)))), length-range_with_len 0 made)
 
-times_more : (states : ℕ → State) (made strings place : ℕ) → times states (made + 1) strings place ≡ times states made strings place + cond (is_at strings place (states made)) 1 0
+pub times_more : (states : ℕ → State) (made strings place : ℕ) → times states (made + 1) strings place ≡ times states made strings place + cond (is_at strings place (states made)) 1 0
 times_more states made strings place = simp map-id at (sum_by-map-range_with_len_more (λ (n : ℕ). cond (is_at strings place (states n)) 1 0) (λ (n : ℕ). n) 0 made made (omega arith))
 
 at_most : (n : ℕ) → n + 1 ≤ most → min (n + 1) most ≡ n + 1

@@ -11,6 +11,7 @@ use Rattle.bcount.specs.Marks.{is_marked, no_code}
 use Rattle.bcount.specs.SourceLines.{beside_text, last_line, source_lines}
 use Rattle.bcount.specs.Tables.{cells_text, file_row, object_text, table_text, total_of}
 use Rattle.bcount.specs.Tallies.{bumped}
+use Rattle.bcount.specs.Together.{all_steps}
 
 -- the instruction at a place is counted, and none where there is none
 first_bumped : bumped 0 (4 ∷ 5 ∷ []) ≡ 5 ∷ 5 ∷ []
@@ -31,6 +32,9 @@ times_of_lines = refl
 
 steps_of_lines : map (steps_on counted) (1 ∷ 2 ∷ 3 ∷ []) ≡ 0 ∷ 0 ∷ 12 ∷ []
 steps_of_lines = refl
+
+steps_of_all_lines : all_steps (line_counts counted 3) ≡ 12
+steps_of_all_lines = refl
 
 abbrev did : LineCount
 did = record { times = Some 7; steps = 12 }

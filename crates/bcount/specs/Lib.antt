@@ -5,4 +5,5 @@ pub mod Tables
 pub mod Counts
 pub mod Steps
 pub mod Excluded
+pub mod Together
 pub mod CountRows

@@ -5,6 +5,7 @@ ghost use Rattle.bcount.specs.Counts.{Counts, IsTableOf, asked_of};
 ghost use Rattle.bcount.specs.Excluded.{CountsExcluded};
 ghost use Rattle.bcount.specs.Steps.{CountsSteps};
 ghost use Rattle.bcount.specs.Tallies.{blank, tallies_of};
+ghost use Rattle.bcount.specs.Together.{StepsAddUp};
 
 use crate::lines::{counted_of, lines_of};
 use crate::source::last_line;
@@ -155,4 +156,9 @@ fn text_of(
 /// No count has a step too few or too many, or one of another instruction.
 pub fn wrong_counts_are_excluded()
     ensures { CountsExcluded }
+{}
+
+/// Each step is counted on one line: the steps of all lines together are those that were made.
+pub fn steps_of_all_lines_add_up()
+    ensures { StepsAddUp }
 {}

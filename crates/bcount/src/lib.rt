@@ -8,5 +8,5 @@ mod source;
 mod table;
 mod tallies;
 
-pub use counting::{Counting, count, wrong_counts_are_excluded};
+pub use counting::{Counting, count, steps_of_all_lines_add_up, wrong_counts_are_excluded};
 pub use table::Style;

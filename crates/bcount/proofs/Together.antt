@@ -1,0 +1,111 @@
+-- The steps of all lines together are those that were made.
+use Rattle.std.proofs.Common.{◌≡◌, ◌≢◌, ◌∙◌, ⊎_elim, ℕ, ◌+◌, ◌<◌, ◌≤◌, List, [], ◌++◌, ap, arith, length, map, refl, subst, sym}
+use Rattle.std.specs.List.{flat_map, sum_by}
+use Rattle.std.proofs.lemmas.Option.{slice_get_cases}
+use Rattle.bword.specs.declared.edition.Edition.{Edition}
+use Rattle.bword.specs.ByteEnds.{Outgoing}
+use Rattle.blang.specs.Code.{code_of}
+use Rattle.blang.specs.Layout.{Ending, Exited, Trapped, World, first_world, load_fault}
+use Rattle.blang.specs.Machine.{Call, Halted, Image, Running, State, Stuck, act_if, image_of, machine, machine_started}
+use Rattle.blang.specs.Reports.{state_outcome}
+use Rattle.blang.specs.Text.{IsCodeText}
+use Rattle.blang.specs.Trees as trees
+use Rattle.blang.specs.declared.code.Definition.{Definition}
+use Rattle.blang.specs.declared.run.Outcome.{Outcome}
+use Rattle.blang.specs.declared.run.Outcome.TheVariants as outcome
+use Rattle.bcode.proofs.FaultLaws.{unique_code}
+use Rattle.bgrammar.proofs.GoesLaws.{each_source_comes}
+use Rattle.bgrammar.proofs.ReadingBack.{reads_back}
+use Rattle.bmach.proofs.Running.{one_more}
+use Rattle.bmean.proofs.LawProofs.{code_agrees}
+use Rattle.brun.proofs.MeantSteps.{halted_later}
+use Rattle.btools.specs.Functions.{functions_of}
+use Rattle.btools.specs.Programs.{HasProgram}
+use Rattle.bcount.specs.Counts.{EndsAfter}
+use Rattle.bcount.specs.SourceLines.{last_line}
+use Rattle.bcount.specs.Tallies.{counts_of}
+use Rattle.bcount.specs.Together.{StepsAddUp}
+use Rattle.bcount.specs.declared.lines.Counted.{Counted}
+use Rattle.bcount.proofs.Addresses.{ascend, is_placed}
+use Rattle.bcount.proofs.AllLines.{lines_together}
+use Rattle.bcount.proofs.OwnCalls.{AreOurs, ours_at}
+use Rattle.bcount.proofs.Totals.{all_hits, counts_together, one_hit, sum_of_map, totals}
+
+not_at_limit : (e : Ending) (w : World) → state_outcome (Halted e w) ≡ outcome.Limit → ⊥
+not_at_limit (Exited status) w e = cc
+not_at_limit (Trapped kind) w e = cc
+
+-- The machine of a source that has a program is never stuck.
+module _ (edition : Edition) (source : List ℕ) (line line_after : Outgoing) (ds : List Definition) (image : Image) (is : HasProgram edition source line line_after ds image) where
+  -- its code is that of definitions of the language
+  record HasTrees : Type 0 where
+    definitions : List trees.Definition
+    code_is : map code_of definitions ≡ ds
+
+  compiled : HasTrees
+  compiled =
+      let h = is.compiled.compiles in
+      let some = each_source_comes [] edition 1 (h.taken ++ []) in
+      let c = h.compiled refl [] (λ e. refl) some.0 some.1 in
+      let text = sym c.code.appended ∙ is.compiled.code_is in
+      let back = subst (λ t. IsCodeText t (map code_of some.1.definitions)) text (edition, reads_back edition 1 (h.taken ++ []) some.0 some.1 c.clean) in
+      record { definitions = some.1.definitions; code_is = unique_code is.code (map code_of some.1.definitions) ds back is.is_text }
+
+  pub never_stuck : (input : List ℕ) (n : ℕ) (w : World) → machine ds input n ≢ Stuck w
+  never_stuck input n w e =
+      let loads = ap load_fault compiled.code_is ∙ is.loads in
+      (code_agrees compiled.definitions loads input).never_stuck n w (ap (λ cs. machine cs input n) compiled.code_is ∙ e)
+
+-- A machine that is never stuck is at an instruction of the program before each step.
+module _ (ds : List Definition) (input : List ℕ) (unstuck : (n : ℕ) (w : World) → machine ds input n ≢ Stuck w) where
+  abbrev states : ℕ → State
+  states n = machine ds input n
+
+  runs_before : (m n : ℕ) → n ≤ m → state_outcome (states m) ≡ outcome.Limit → state_outcome (states n) ≡ outcome.Limit
+  runs_before m n le limit = by (states n) refl
+    where
+      by : (s : State) → states n ≡ s → state_outcome s ≡ outcome.Limit
+      by (Running call below w) e = refl
+      by (Halted ending w) e = absurd (not_at_limit ending w (sym (ap state_outcome (halted_later (image_of ds) input n m ending w le e)) ∙ limit))
+      by (Stuck w) e = absurd (unstuck n w e)
+
+  within_code : (n : ℕ) (call : Call) (below : List Call) (w : World) → states n ≡ Running call below w → call.place < length call.function.code
+  within_code n call below w e =
+      let image = image_of ds in
+      let next = one_more image n (machine_started image image.main (first_world image input)) (Running call below w) e in
+      ⊎_elim (λ some. some.1) (λ past. absurd (unstuck (n + 1) w (next ∙ ap (act_if image call below w) past.1))) (slice_get_cases call.function.code call.place).1
+
+  one_place : (n : ℕ) → state_outcome (states n) ≡ outcome.Limit → all_hits (states n) (functions_of ds) ≡ 1
+  one_place n limit = by (states n) refl
+    where
+      by : (s : State) → states n ≡ s → all_hits s (functions_of ds) ≡ 1
+      by (Running call below w) e =
+          let ours = subst (AreOurs (image_of ds).functions) e (ours_at ds input n) in
+          let placed = is_placed ds call.function ours.0 in
+          let within = within_code n call below w e in
+          one_hit call below w (functions_of ds) (ascend ds) placed.0 placed.1 (λ d. ((placed.2 d).0, subst (λ code. call.place < length code) (sym (placed.2 d).1) within))
+      by (Halted ending w) e = absurd (not_at_limit ending w (sym (ap state_outcome e) ∙ limit))
+      by (Stuck w) e = absurd (unstuck n w e)
+
+  runs_until : (made steps : ℕ) (result : Outcome) → EndsAfter states made steps result → (n : ℕ) → n < made → state_outcome (states n) ≡ outcome.Limit
+  runs_until made steps (outcome.Exit status) h n lt = let last = h.1 in runs_before h.0 n (omega (arith, last, lt)) h.2
+  runs_until made steps (outcome.Trap kind) h n lt = let last = h.1 in runs_before h.0 n (omega (arith, last, lt)) h.2
+  runs_until made steps outcome.Limit h n lt = runs_before made n (omega (arith, lt)) h.1
+  runs_until made steps outcome.Device h n lt = absurd h
+  runs_until made steps outcome.Memory h n lt = absurd h
+
+  pub all_counted : (made steps : ℕ) (result : Outcome) → EndsAfter states made steps result → sum_by (λ x. x) (flat_map (λ xs. xs) (map (counts_of states made) (functions_of ds))) ≡ made
+  all_counted made steps result h =
+      counts_together states (functions_of ds) made ∙ totals states (functions_of ds) made (λ n lt. one_place n (runs_until made steps result h n lt))
+
+pub steps_add_up : StepsAddUp
+steps_add_up asked source made text h =
+    let input = h.counts.taken ++ [] in
+    let unstuck = never_stuck asked.edition source h.line h.line_after h.ds h.image h.program in
+    let counted = h.table.counted in
+    let within = h.counts.within in
+    let fits = h.fits in
+    let sum = sym (sum_of_map (λ x. x) (λ (c : Counted). c.count) counted)
+    ∙ ap (sum_by (λ x. x)) (h.table.counts_are ∙ ap (flat_map (λ xs. xs)) (h.counts.counts [] (λ e. refl)))
+    ∙ all_counted h.ds input (unstuck input) made asked.steps h.result (h.counts.ends [] (λ e. refl)) in
+    lines_together (last_line source) made counted h.table.on_lines sum (omega (arith, within, fits))
