@@ -1,5 +1,5 @@
 -- What is answered where memory was refused, and what is done for a job.
-use Rattle.std.proofs.Common.{ap, ◌∙◌, subst, ◌≡◌, ◌⊎◌, ℕ, List, [], ◌∷◌, map, length, refl, true, false, sym, inl, inr, arith}
+use Rattle.std.proofs.Common.{ap, ◌∙◌, subst, ◌≡◌, ◌⊎◌, ℕ, List, [], ◌∷◌, map, length, refl, true, false, sym, inl, inr}
 use Rattle.clap.specs.declared.error.kind.ErrorKind.{ErrorKind}
 use Rattle.clap.specs.declared.error.kind.ErrorKind.TheVariants as kind
 use Rattle.blang.specs.declared.status.TheConstants.{DEVICE, MEMORY}
@@ -23,10 +23,7 @@ use Rattle.bcli.specs.Reading.{HasReadLibs, HasReadSource, IsUnread, LibIsUnread
 use Rattle.bshow.specs.Shows.{Shows}
 use Rattle.bshow.specs.Shows.{Asked as PageAsked}
 use Rattle.bshow.specs.declared.showing.PageRows.{PageRows as Paged}
-use Rattle.std.proofs.lemmas.Bool.Decides.{nat_tests}
-use Rattle.std.specs.Prelude.{◌==◌, ◌&&◌, ◌≢◌, nat_lt, None, Option, Some, option_map}
-use Rattle.bsources.specs.declared.files.SourceFile.{SourceFile}
-use Rattle.bcheck.proofs.PlaceSteps.{several_is}
+use Rattle.std.specs.Prelude.{◌==◌, None, Option, Some, option_map}
 use Rattle.bcli.specs.Serves.{ShowsRun, CompilesJoined, NamesLib, NamesLibOf, compiling, files_read, whole, Answers, AnswersPlaced, Does, HasNoFile, IsHelp, NamesFile, SaysNothing, RefusesWords}
 use Rattle.bcli.specs.declared.shelf.FileFault.{FileFault}
 use Rattle.bcli.specs.declared.shelf.FileFault.TheVariants as file_fault
@@ -77,8 +74,9 @@ gone shelf source steps it given first following ends status h same is goes head
 -- an answer of a source that was read
 pub asked_of_source : (shelf : Holdings) (source : Source) (it : Whole) (files : Files) (given : List ℕ) (question : Question) (ends : RunEnds) (status : ℕ)
     → HasReadSource shelf source it → given ≡ it.text.items → files.first ≡ file_shown it.first → files.rest ≡ it.libs.files
-    → AnswersPlaced source.edition files given question ends status → Does shelf (ask source question) ends status
-asked_of_source shelf source it files given question ends status h same first rest answers =
+    → AnswersPlaced source.edition files given question ends status ⊎ SaysNothing ends status MEMORY → Does shelf (ask source question) ends status
+asked_of_source shelf source it files given question ends status h same first rest (inr nothing) = inl (inr nothing)
+asked_of_source shelf source it files given question ends status h same first rest (inl answers) =
     let files_are : files ≡ files_read h.reads = cong₂ (first ∙ h.first) (rest ∙ ap (λ (f : Followed). f.files) h.libs) in
     inr (inr (
       h.reads,
@@ -164,21 +162,3 @@ shown_given edition files text steps rows (Some other) given asked first after t
       subst (λ (i : Incoming). Shows edition text (page_asked steps rows files other.now) (record ends { input = i; input_after = incoming_of after }) status) first_is
           (subst (λ (q : PageAsked). Shows edition text q (record ends { input = incoming_of first; input_after = incoming_of after }) status) asked_is shows),
     )
-
--- whether the file of a fault is told, by the list of files and the status
-pub not_of_one : (rest : List SourceFile) (empty tells : Bool) (status : ℕ) → empty ≡ (length rest == 0) → empty ≡ true
-    → false ≡ (nat_lt 0 (length (map file_shown rest)) && (status == 1) && tells)
-not_of_one rest empty tells status e is = let several = several_is rest empty e in rw (← several, is) refl
-
-pub not_of_another : (rest : List SourceFile) (empty tells : Bool) (status : ℕ) → empty ≡ (length rest == 0) → empty ≡ false → status ≢ 1
-    → false ≡ (nat_lt 0 (length (map file_shown rest)) && (status == 1) && tells)
-not_of_another rest empty tells status e is other =
-    let several = several_is rest empty e in
-    let no : (status == 1) ≡ false = grind (arith, nat_tests) in
-    rw (← several, is, no) refl
-
-pub of_a_fault : (rest : List SourceFile) (empty told tells : Bool) (status : ℕ) → empty ≡ (length rest == 0) → empty ≡ false → status ≡ 1 → told ≡ tells
-    → told ≡ (nat_lt 0 (length (map file_shown rest)) && (status == 1) && tells)
-of_a_fault rest empty told tells status e is fault same =
-    let several = several_is rest empty e in
-    rw (← several, is, fault) same

@@ -1,6 +1,6 @@
 -- Answers that the contracts of `serve` and `refuse_words` exclude, whatever is proved of the body that gives them.
 use Rattle.std.proofs.Common.{◌≡◌, ◌∙◌, ◌⊎◌, ℕ, List, [], ◌∷◌, ◌++◌, Some, ap, refl, sym, subst, arith, inl, inr, map, append-nil}
-use Rattle.std.specs.Prelude.{All, false, codes}
+use Rattle.std.specs.Prelude.{All, codes}
 use Rattle.std.specs.Io.KnownBytes.{Appends}
 use Rattle.clap.specs.Words.{IsAmong, Text, fault_of, subcommand_of}
 use Rattle.clap.specs.declared.error.kind.ErrorKind.{ErrorKind}
@@ -18,12 +18,12 @@ use Rattle.brun.specs.Runs.{RunsText}
 use Rattle.brun.proofs.OneRun.{one_run}
 use Rattle.bcommand.specs.CommandLine.{Question, ask, asked, command_line, compile, go, run}
 use Rattle.bcli.specs.declared.shelf.MemFile.{MemFile}
-use Rattle.bcli.specs.FaultPlaces.{is_placed}
 use Rattle.bcli.specs.Shelves.{Holdings, holding}
 use Rattle.std.proofs.lemmas.List.Elements.{All-cons, All-head, All-nil, All-tail}
 use Rattle.blang.specs.Compiles.{CompileAnswers, Compilation, CompilesTo, HasOutcome, Tells}
 use Rattle.blang.specs.Cut.{tokens_from}
 use Rattle.bsources.specs.Files.{Files, NamedText, file_in, file_of, following}
+use Rattle.bcli.proofs.FaultTold.{answered_alone}
 use Rattle.bcli.proofs.FaultLies.{no_place, place_located, place_told}
 use Rattle.bcli.proofs.Joined.{failed_joined, joined_answers}
 use Rattle.bcli.specs.Serves.{CompilesJoined, NamesLib, Reads, ReadsLibs, compiling, files_read, whole, Answers, AnswersPlaced, Does, HasNoFile, IsHelp, NamesFile, RefusesWords, SaysNothing, Serves, did, refused, no_memory}
@@ -333,24 +333,14 @@ module _ (file : MemFile) where
   go_alone edition steps ends status (inr (inr goes)) =
       inl (goes.1, subst (λ t. GoesOff edition steps (unread t) (incoming_of goes.1) ends status) (whole_alone edition goes.0) goes.2)
 
-  -- nothing more is told of one file
-  not_placed : (question : Question) (status : ℕ) → is_placed (files_alone file) question status ≡ false
-  not_placed question status = refl
-
-  placed_alone : (edition : Edition) (question : Question) (ends : RunEnds) (status : ℕ) → AnswersPlaced edition (files_alone file) file.text.now question ends status
-      → Answers edition (files_alone file) file.text.now question ends status
-  placed_alone edition question ends status it =
-      let same : (ends.line_after ≡ it.mid) × (status ≡ it.told) = it.place in
-      subst (λ n. Answers edition (files_alone file) file.text.now question ends n) (sym same.1)
-      (subst (λ (line : Outgoing). Answers edition (files_alone file) file.text.now question (record ends { line_after = line }) it.told) (sym same.0) it.answers)
-
   ask_alone : (edition : Edition) (question : Question) (ends : RunEnds) (status : ℕ) → Does (holding file) (ask (alone file edition) question) ends status → Answers edition (files_alone file) file.text.now question ends status ⊎ SaysNothing ends status 134
   ask_alone edition question ends status (inl told) = inr (named ends status told)
   ask_alone edition question ends status (inr (inl told)) = absurd (no_lib [] ends status refl told.2)
   ask_alone edition question ends status (inr (inr answers)) =
-      inl (placed_alone edition question ends status
-      (subst (λ (f : Files). AnswersPlaced edition f file.text.now question ends status) (files_of_alone edition answers.0)
-      (subst (λ t. AnswersPlaced edition (files_read answers.0) t question ends status) (whole_alone edition answers.0) answers.1)))
+      let it : AnswersPlaced edition (files_alone file) file.text.now question ends status =
+      subst (λ (f : Files). AnswersPlaced edition f file.text.now question ends status) (files_of_alone edition answers.0)
+      (subst (λ t. AnswersPlaced edition (files_read answers.0) t question ends status) (whole_alone edition answers.0) answers.1) in
+      inl (answered_alone edition (files_alone file) file.text.now question ends status it it.place_is)
 
   one_go : (input : Unread) (out line : Kept) (status : ℕ) → file.text.now ≡ codes "main(){putchar('a');}" → Does (holding file) (go (alone file editions.One) 100) (one_run_ends input out line) status → (status ≡ 134) ⊎ ((status ≡ 0) × (out.bytes ≡ codes "a") × (line.bytes ≡ []))
   one_go input out line status one (inl none) = inl (no_file _ status none).status_is

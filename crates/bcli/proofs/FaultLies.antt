@@ -1,6 +1,6 @@
 -- What is told of a source whose fault lies in a file after the first one, and of one without such a fault.
-use Rattle.std.proofs.Common.{◌≡◌, ◌≢◌, ◌∙◌, ◌⊎◌, ℕ, List, [], ◌∷◌, ◌++◌, true, false, Option, Some, None, ap, arith, refl, subst, sym, inl, inr}
-use Rattle.std.specs.Prelude.{Bool, MatchBool, ◌==◌, ◌&&◌}
+use Rattle.std.proofs.Common.{◌≡◌, ◌∙◌, ℕ, List, [], ◌∷◌, ◌++◌, true, false, Option, Some, None, ap, arith, refl, subst, sym, inl, inr}
+use Rattle.std.specs.Prelude.{Bool, MatchBool, ◌==◌, if◌then◌else◌, option_map}
 use Rattle.std.proofs.lemmas.Bool.Decides.{nat_tests}
 use Rattle.bword.specs.ByteEnds.{Outgoing, Writes, incoming_of}
 use Rattle.bword.specs.declared.edition.Edition.{Edition}
@@ -23,7 +23,8 @@ use Rattle.bcheck.specs.Checks.{is_of_several}
 use Rattle.bcheck.specs.SourceFaults.{IsFaultOf}
 use Rattle.bcommand.specs.CommandLine.{Question, locate}
 use Rattle.bsources.specs.Files.{File, Files, Line, beyond_first_among}
-use Rattle.bcli.specs.FaultPlaces.{TellsFaultPlace, TellsPlace, is_placed, place_beyond, place_line, tells_run}
+use Rattle.bcli.specs.FaultPlaces.{IsPlaceText, TellsMore, if_fault, is_placed, place_beyond, place_line, tells_run}
+use Rattle.bcli.proofs.FaultTold.{answered_alone}
 use Rattle.bcli.specs.Excluded.{Answered, LiesAt}
 use Rattle.bcli.specs.Serves.{Answers, AnswersPlaced}
 
@@ -35,6 +36,18 @@ not_fault end_fault.Memory e = omega (arith, e)
 written : (text : List ℕ) (old new : Outgoing) → Reported text 1 old new 1 → Writes old text new
 written text old new (inl w) = w.0
 written text old new (inr stopped) = absurd (not_fault stopped.fault stopped.status)
+
+more_told : (place : Option (List ℕ)) (line : List ℕ) (told : ℕ) (mid after : Outgoing) → place ≡ Some line → TellsMore (if_fault place told) told mid after 1
+    → (told ≡ 1) × Writes mid line after
+more_told place line told mid after some tells = by (told == 1) refl tells
+  where
+    by : (test : Bool) → (told == 1) ≡ test → TellsMore (if test then place else None) told mid after 1 → (told ≡ 1) × Writes mid line after
+    by true is more =
+        let one : told ≡ 1 = grind (arith, nat_tests, is) in
+        (one, written line mid after (subst (λ n. Reported line n mid after 1) one (subst (λ p. TellsMore p told mid after 1) some more)))
+    by false is more =
+        let yes : (told == 1) ≡ true = subst (λ n. (n == 1) ≡ true) more.1 refl in
+        cc
 
 -- a place beyond the first file is one in a source of several
 several_among : (first : File) (rest : List File) (line : ℕ) (at : Line) → beyond_first_among first rest line ≡ Some at
@@ -51,54 +64,39 @@ module _ (edition : Edition) (files : Files) (text : List ℕ) where
       → place_beyond files stop ≡ place
   place_of place lies stop is = sym (ap (place_beyond files) (is lies.outcome lies.goes)) ∙ lies.place_is
 
-  told_place : (at : Line) → LiesAt edition files text (Some at) → (mid after : Outgoing) → TellsFaultPlace edition files text mid after 1
-      → Writes mid (place_line at) after
-  told_place at lies mid after (inl (stop, is, tells)) =
-      written (place_line at) mid after (subst (λ o. TellsPlace o mid after 1) (place_of (Some at) lies stop is) tells)
-  told_place at lies mid after (inr memory) = absurd (omega (arith, memory.1))
+  some_text : (question : Question) (place : Option (List ℕ)) (at : Line) → LiesAt edition files text (Some at) → tells_run question ≡ true
+      → IsPlaceText edition files text question place → place ≡ Some (place_line at)
+  some_text question place at lies tells is =
+      let many = several files lies.outcome.stop at lies.place_is in
+      let placed : is_placed files question ≡ true = rw (many, tells) refl in
+      let found = subst (λ (test : Bool). MatchBool test (Found place) (place ≡ None)) placed is in
+      found.2 ∙ ap (option_map place_line) (place_of (Some at) lies found.0 found.1)
+    where
+      Found : Option (List ℕ) → Type 0
+      Found line = (stop : Option Diagnostic) × IsFaultOf edition text stop × (line ≡ option_map place_line (place_beyond files stop))
 
-  placed_is : (question : Question) (told : ℕ) → is_placed files question told ≡ true → told ≡ 1
-  placed_is question told is = grind (arith, nat_tests, is)
+  no_text : (question : Question) (place : Option (List ℕ)) → LiesAt edition files text None → IsPlaceText edition files text question place → place ≡ None
+  no_text question place lies is = by (is_placed files question) is
+    where
+      by : (test : Bool) → MatchBool test ((stop : Option Diagnostic) × IsFaultOf edition text stop × (place ≡ option_map place_line (place_beyond files stop))) (place ≡ None)
+          → place ≡ None
+      by true found = found.2 ∙ ap (option_map place_line) (place_of None lies found.0 found.1)
+      by false none = none
 
   pub place_told : (question : Question) (ends : RunEnds) (at : Line) → LiesAt edition files text (Some at) → tells_run question ≡ true
       → AnswersPlaced edition files text question ends 1 → Answered edition files text question ends (place_line at)
-  place_told question ends at lies tells it = by (is_placed files question it.told) refl it.place
-    where
-      by : (test : Bool) → is_placed files question it.told ≡ test
-          → MatchBool test (TellsFaultPlace edition files text it.mid ends.line_after 1) ((ends.line_after ≡ it.mid) × (1 ≡ it.told))
-          → Answered edition files text question ends (place_line at)
-      by true is place = record {
+  place_told question ends at lies tells it =
+      let more = more_told it.place (place_line at) it.told it.mid ends.line_after (some_text question it.place at lies tells it.place_is) it.tells in
+      record {
         mid = it.mid;
-        answers = subst (λ n. Answers edition files text question (record ends { line_after = it.mid }) n) (placed_is question it.told is) it.answers;
-        more = told_place at lies it.mid ends.line_after place;
+        answers = subst (λ n. Answers edition files text question (record ends { line_after = it.mid }) n) more.0 it.answers;
+        more = more.1;
       }
-      by false is place =
-          let many = several files lies.outcome.stop at lies.place_is in
-          let one : it.told ≡ 1 = sym place.1 in
-          let yes : is_placed files question it.told ≡ true = rw (many, one, tells) refl in
-          cc
 
   pub no_place : (question : Question) (ends : RunEnds) (status : ℕ) → LiesAt edition files text None
-      → AnswersPlaced edition files text question ends status → Answers edition files text question ends status ⊎ (status ≡ 134)
-  no_place question ends status lies it = by (is_placed files question it.told) refl it.place
-    where
-      same : (ends.line_after ≡ it.mid) × (status ≡ it.told) → Answers edition files text question ends status
-      same e =
-          subst (λ n. Answers edition files text question ends n) (sym e.1)
-          (subst (λ (line : Outgoing). Answers edition files text question (record ends { line_after = line }) it.told) (sym e.0) it.answers)
-
-      nowhere : (stop : Option Diagnostic) → IsFaultOf edition text stop → TellsPlace (place_beyond files stop) it.mid ends.line_after status
-          → (ends.line_after ≡ it.mid) × (status ≡ 1)
-      nowhere stop is tells = subst (λ o. TellsPlace o it.mid ends.line_after status) (place_of None lies stop is) tells
-
-      by : (test : Bool) → is_placed files question it.told ≡ test
-          → MatchBool test (TellsFaultPlace edition files text it.mid ends.line_after status) ((ends.line_after ≡ it.mid) × (status ≡ it.told))
-          → Answers edition files text question ends status ⊎ (status ≡ 134)
-      by true is (inl (stop, fault, tells)) =
-          let e = nowhere stop fault tells in
-          inl (same (e.0, e.1 ∙ sym (placed_is question it.told is)))
-      by true is (inr memory) = inr memory.1
-      by false is place = inl (same place)
+      → AnswersPlaced edition files text question ends status → Answers edition files text question ends status
+  no_place question ends status lies it =
+      answered_alone edition files text question ends status it (no_text question it.place lies it.place_is)
 
 module _ (edition : Edition) (text : List ℕ) (r : Compilation) (goes : CompilesTo [] (tokens_from edition 1 text) r) (d : Diagnostic) (stop : r.stop ≡ Some d) where
   module _ (line after : Outgoing) (code : List ℕ) (status : ℕ) (w : WasCompiled edition text line after code status) where

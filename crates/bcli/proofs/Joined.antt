@@ -1,5 +1,5 @@
 -- What comes of an end over the input and bytes that follow it.
-use Rattle.std.proofs.Common.{◌≡◌, ◌∙◌, ◌+◌, ◌<◌, ◌⊎◌, ℕ, suc, zero, true, false, List, [], ◌++◌, length, ap, arith, inl, inr, refl}
+use Rattle.std.proofs.Common.{◌≡◌, ◌∙◌, ◌+◌, ◌<◌, ◌⊎◌, ℕ, suc, zero, false, List, [], ◌++◌, length, ap, arith, inl, inr, refl}
 use Rattle.std.specs.Prelude.{min, option_map}
 use Rattle.bword.specs.ByteEnds.{Grew, Incoming, most}
 use Rattle.bword.specs.declared.edition.Edition.{Edition}

@@ -125,7 +125,7 @@ pub record Excluded (shelf : Holdings) : Type 0 where
   -- a place that is told of a source without a fault, or with one in its first file
   pub no_place : (edition : Edition) (files : Files) (text : List ℕ) (question : Question) (ends : RunEnds) (status : ℕ)
       → LiesAt edition files text None → AnswersPlaced edition files text question ends status
-      → Answers edition files text question ends status ⊎ (status ≡ MEMORY)
+      → Answers edition files text question ends status
   -- the input and a file that are compiled as other bytes, or that get 133 or 134 where nothing failed
   pub compiled_joined : (lib b input : List ℕ) (edition : Edition) (ends : RunEnds) (status : ℕ) → HoldsOne shelf lib b
       → Tells ends.input input → NothingFails edition (10 ∷ b) ends status

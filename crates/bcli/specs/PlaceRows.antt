@@ -1,13 +1,13 @@
 -- Closed facts: where the fault of a source in several files is told to be.
-use Rattle.std.specs.Prelude.{◌≡◌, ℕ, true, false, List, [], ◌∷◌, map, Some, None, codes, refl}
+use Rattle.std.specs.Prelude.{◌≡◌, ℕ, true, false, [], ◌∷◌, map, Some, None, codes, refl}
 use Rattle.std.specs.Fmt.{digits}
 use Rattle.blang.specs.declared.token.About.TheVariants as about
 use Rattle.blang.specs.declared.token.Diagnostic.{Diagnostic}
 use Rattle.blang.specs.declared.token.Letters.TheVariants as letters
-use Rattle.bcommand.specs.CommandLine.{Question, check, count, draw, format, list, locate, map as mapped, show, trace}
+use Rattle.bcommand.specs.CommandLine.{check, count, draw, format, list, locate, map as mapped, show, trace}
 use Rattle.bcommand.specs.declared.job.Rows.TheVariants as which
 use Rattle.bsources.specs.Files.{Files, file_of}
-use Rattle.bcli.specs.FaultPlaces.{is_placed, place_beyond, place_line}
+use Rattle.bcli.specs.FaultPlaces.{if_fault, is_placed, place_beyond, place_line}
 
 -- p.b of two lines, and after it l.b
 abbrev two : Files
@@ -22,25 +22,29 @@ three = record {
   rest = file_of (codes "l.b") (codes "c") ∷ file_of (codes "m.b") (codes "d") ∷ [];
 }
 
--- the place of a fault with status 1 is told for a run of several files, and else for nothing
-placed_rows : map (λ question. is_placed two question 1)
+-- the place of a fault is told for a run of several files, and else for nothing
+placed_rows : map (is_placed two)
     (trace 9 (which.From 1) None ∷ locate 9 ∷ count 9 false ∷ show 9 (which.From 1) None ∷ list None ∷ mapped
     ∷ draw None ∷ check false ∷ format false ∷ [])
     ≡ true ∷ true ∷ true ∷ true ∷ false ∷ false ∷ false ∷ false ∷ false ∷ []
 placed_rows = refl
 
 -- the same with each other word of these commands
-placed_with_others : map (λ question. is_placed two question 1)
+placed_with_others : map (is_placed two)
     (trace 0 (which.Last 9) (Some (codes "f")) ∷ locate 0 ∷ count 0 true ∷ show 0 (which.Last 9) (Some (codes "i"))
     ∷ list (Some (codes "f")) ∷ draw (Some 9) ∷ check true ∷ format true ∷ [])
     ≡ true ∷ true ∷ true ∷ true ∷ false ∷ false ∷ false ∷ false ∷ []
 placed_with_others = refl
 
-not_placed : map (λ status. is_placed two (locate 9) status) (0 ∷ 1 ∷ 2 ∷ 132 ∷ 133 ∷ 134 ∷ [])
-    ≡ false ∷ true ∷ false ∷ false ∷ false ∷ false ∷ []
-not_placed = refl
+-- beside no status but that of a fault
+if_faults : map (if_fault (Some (codes "at"))) (0 ∷ 1 ∷ 2 ∷ 132 ∷ 133 ∷ 134 ∷ [])
+    ≡ None ∷ Some (codes "at") ∷ None ∷ None ∷ None ∷ None ∷ []
+if_faults = refl
 
-of_several : map (λ files. is_placed files (locate 9) 1) (alone ∷ two ∷ three ∷ []) ≡ false ∷ true ∷ true ∷ []
+if_none : map (if_fault None) (0 ∷ 1 ∷ []) ≡ None ∷ None ∷ []
+if_none = refl
+
+of_several : map (λ files. is_placed files (locate 9)) (alone ∷ two ∷ three ∷ []) ≡ false ∷ true ∷ true ∷ []
 of_several = refl
 
 -- a fault at a line

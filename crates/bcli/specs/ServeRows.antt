@@ -1,11 +1,11 @@
 -- Closed facts: how an option changes what is asked, and what is read of the files of a source.
-use Rattle.std.specs.Prelude.{◌≡◌, ℕ, true, false, List, [], ◌∷◌, ◌++◌, codes, map, refl}
+use Rattle.std.specs.Prelude.{◌≡◌, true, false, List, [], ◌∷◌, codes, map, refl}
 use Rattle.bcheck.specs.declared.form.FindingForm.TheVariants as forms
 use Rattle.bcount.specs.declared.table.Style.TheVariants as styles
 use Rattle.btrace.specs.declared.trail.TraceRows.TheVariants as traced
 use Rattle.bshow.specs.declared.showing.PageRows.TheVariants as paged
 use Rattle.bcommand.specs.declared.job.Rows.TheVariants as which
-use Rattle.bsources.specs.Files.{Followed, NamedText, followed}
+use Rattle.bsources.specs.Files.{NamedText, followed}
 use Rattle.bcli.specs.Serves.{form_of, no_file_line, page_rows, style_of, traced_rows}
 
 -- findings and counts for an editor, and for people

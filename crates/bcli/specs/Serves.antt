@@ -1,6 +1,6 @@
 -- Promise: the answer to a command line.
 use Rattle.std.specs.Prelude.{◌≡◌, ◌≢◌, ℕ, Bool, List, [], ◌∷◌, ◌++◌, All, codes, if◌then◌else◌, ◌⊎◌}
-use Rattle.std.specs.Prelude.{MatchBool, Option, Some, None, map as map_each}
+use Rattle.std.specs.Prelude.{Option, Some, None, map as map_each}
 use Rattle.clap.specs.Words.{IsAmong, Text, fault_of, subcommand_of}
 use Rattle.clap.specs.declared.error.kind.ErrorKind.{ErrorKind}
 use Rattle.clap.specs.declared.error.kind.ErrorKind.TheVariants as kind
@@ -38,7 +38,7 @@ use Rattle.bcommand.specs.CommandLine.{compile, run, go, migrate, ask, contradic
 use Rattle.bcommand.specs.CommandLine.{list, map, draw, check, trace, locate, count, show, format}
 use Rattle.bcommand.specs.declared.job.Rows.{Rows}
 use Rattle.bcommand.specs.declared.job.Rows.TheVariants as which
-use Rattle.bcli.specs.FaultPlaces.{TellsFaultPlace, is_placed}
+use Rattle.bcli.specs.FaultPlaces.{IsPlaceText, TellsMore, if_fault}
 use Rattle.bcli.specs.Shelves.{Holdings}
 
 -- the message for words that aren't UTF-8
@@ -205,10 +205,10 @@ pub record AnswersPlaced (edition : Edition) (files : Files) (text : List ℕ) (
     (status : ℕ) : Type 0 where
   pub mid : Outgoing
   pub told : ℕ
+  pub place : Option (List ℕ)
+  pub place_is : IsPlaceText edition files text question place
   pub answers : Answers edition files text question (record ends { line_after = mid }) told
-  pub place : MatchBool (is_placed files question told)
-      (TellsFaultPlace edition files text mid ends.line_after status)
-      ((ends.line_after ≡ mid) × (status ≡ told))
+  pub tells : TellsMore (if_fault place told) told mid ends.line_after status
 
 -- what was asked for is done, for texts that the shelf holds under the names of the files
 abbrev pub Does : Holdings → Asked → RunEnds → ℕ → Type 0

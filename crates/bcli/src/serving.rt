@@ -8,10 +8,10 @@ ghost use Rattle.bcommand.specs.CommandLine.{ask, asked, asked_of, compile, go, 
 ghost use Rattle.bcli.specs.Excluded.{Excluded, FileIsRead};
 ghost use Rattle.bshow.specs.Shows.{asked_of as page_of};
 ghost use Rattle.bsources.specs.Files.{files_shown};
-ghost use Rattle.bcli.specs.Serves.{Answers, AnswersPlaced, CompilesJoined, Does, NamesFile, RefusesWords, Serves, ShowsRun, form_of, page_rows, style_of, traced_rows, no_file_line, unread_line};
+ghost use Rattle.bcli.specs.Serves.{Answers, AnswersPlaced, CompilesJoined, Does, NamesFile, RefusesWords, SaysNothing, Serves, ShowsRun, form_of, page_rows, style_of, traced_rows, no_file_line, unread_line};
 ghost use Rattle.bcli.specs.Shelves.{anything};
 
-use crate::fault_place::{is_placed, tell_fault_place};
+use crate::fault_place::place_text;
 use crate::shelf::{FileFault, MemFile, Shelf, SystemFiles};
 use crate::sources::{Unread, read_libs, read_source};
 use bcheck::{FindingForm, Request, check};
@@ -270,8 +270,8 @@ fn ask_file<S: Shelf, I: ByteIn, O: ByteOut, D: ByteOut>(
     }
 }
 
-// Answers what is asked of a source of these files and of this text, and tells the file of its fault where a run would
-// be told of.
+// Answers what is asked of a source of these files and of this text, and then tells the file of its fault. Memory for
+// that is taken before anything is done.
 fn answer_placed<I: ByteIn, O: ByteOut, D: ByteOut>(
     alloc: Global,
     edition: Edition,
@@ -284,16 +284,24 @@ fn answer_placed<I: ByteIn, O: ByteOut, D: ByteOut>(
 ) -> Status
     ensures answers { AnswersPlaced edition (files_shown files.entry) text.now (question_of question.entry) (run_ends
         (I.incoming input.old) (I.incoming input.new) (O.outgoing out.old) (O.outgoing out.new)
-        (D.outgoing diag.old) (D.outgoing diag.new)) result }
+        (D.outgoing diag.old) (D.outgoing diag.new)) result ⊎ SaysNothing (run_ends
+        (I.incoming input.old) (I.incoming input.new) (O.outgoing out.old) (O.outgoing out.new)
+        (D.outgoing diag.old) (D.outgoing diag.new)) result MEMORY }
     ensures input_lender { I.lender input.new ≡ I.lender input.old }
     ensures out_lender { O.lender out.new ≡ O.lender out.old }
     ensures diag_lender { D.lender diag.new ≡ D.lender diag.old }
 {
+    let Ok(place) = place_text(alloc, edition, files, text, question) else {
+        return status::MEMORY;
+    };
     let told = answer(alloc, edition, files, text, question, input, out, diag);
-    if is_placed(files, question, told) {
-        return tell_fault_place(alloc, edition, files, text, diag);
+    if told != status::FAULT {
+        return told;
     }
-    told
+    match place {
+        Some(line) => tell(line.as_slice(), status::FAULT, diag),
+        None => told,
+    }
 }
 
 // Answers what is asked of a source of these files and of this text.
