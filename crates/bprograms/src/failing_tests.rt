@@ -465,6 +465,25 @@ fn each_write_of_a_command_fails(rt: HostRuntime) -> Result<(), Fail> {
     Ok(())
 }
 
+// Commands that tell the place of a fault in a second file, on a line of its own.
+const PLACED: &str = "\
+b trace x.b --with y.b
+b count x.b --with y.b
+b show x.b --with y.b
+b go --where x.b --with y.b";
+
+#[test]
+fn each_write_of_a_place_fails(rt: HostRuntime) -> Result<(), Fail> {
+    fs::write(&rt, "x.b", READING.as_bytes())?;
+    fs::write(&rt, "y.b", b")")?;
+    for words in PLACED.lines() {
+        is_cut_off(&rt, words, 1)?;
+    }
+    fs::remove_file(&rt, "y.b")?;
+    fs::remove_file(&rt, "x.b")?;
+    Ok(())
+}
+
 // There is room for so many bytes of what is said.
 #[test]
 fn each_write_of_a_check_fails(rt: HostRuntime) -> Result<(), Fail> {
