@@ -1,5 +1,5 @@
 -- The fault of a source, by the verdict on it.
-use Rattle.std.proofs.Common.{◌≡◌, ◌≢◌, ℕ, List, [], map, refl, ap, subst, arith}
+use Rattle.std.proofs.Common.{◌≡◌, ◌≢◌, ℕ, List, map, refl, ap, subst, arith}
 use Rattle.std.specs.Prelude.{Option, Some, None}
 use Rattle.bword.specs.declared.edition.Edition.{Edition}
 use Rattle.bword.specs.ByteEnds.{Kept}

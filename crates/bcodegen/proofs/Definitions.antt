@@ -23,7 +23,6 @@ use Rattle.blang.specs.Walk.{walk_value}
 use Rattle.bgrammar.proofs.Fitting.{simple_strings, vector_strings, function_strings, formed_in}
 use Rattle.bgrammar.proofs.ScanSteps.{scanned-Err}
 use Rattle.bemit.specs.Drafts.{led, Made, Draft, Faulty, Going, no_made, fresh, within_room, with_made, stringed, offset_of, valued, worded, closed, numbered, draft_resolved, fault_in, started}
-use Rattle.blang.specs.declared.limits.TheConstants.{MAX_WORDS}
 use Rattle.bemit.specs.Drafts as drafts
 use Rattle.bemit.specs.Effects.{ival_done, values_done, definition_done, code_with}
 use Rattle.bcodegen.specs.Laws.{pass_over, OnePass}

@@ -1,5 +1,5 @@
 -- Closed facts: a table of names, one entry further.
-use Rattle.std.specs.Prelude.{◌≡◌, ℕ, List, [], ◌∷◌, ◌++◌, map, codes, replicate, Result, Option, Some, None, Ok, Err, refl}
+use Rattle.std.specs.Prelude.{◌≡◌, ℕ, List, [], ◌∷◌, ◌++◌, map, codes, replicate, Result, Some, None, Ok, Err, refl}
 use Rattle.std.specs.Prelude.{true, false}
 use Rattle.blang.specs.declared.token.Letters.TheVariants as letters
 use Rattle.blang.specs.declared.token.Diagnostic.{Diagnostic}

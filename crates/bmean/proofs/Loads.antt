@@ -1,18 +1,17 @@
 -- The code of a program lies as the program does.
-use Rattle.std.proofs.Common.{◌≡◌, List, [], ◌∷◌, ◌++◌, length, Option, Some, None, Bool, true, false, cond, refl, sym, ap, ◌∙◌, subst, map}
+use Rattle.std.proofs.Common.{◌≡◌, List, [], ◌∷◌, ◌++◌, Option, Some, None, Bool, true, false, cond, refl, ap, ◌∙◌, map}
 use Rattle.std.specs.Prelude.{zip, find, filter_map, not, nat_lt, ◌||◌}
 use Rattle.std.specs.List.{cons_option, flat_map, list_any}
 use Rattle.std.specs.Option.{option_map, option_and_then}
 use Rattle.blang.specs.declared.code.Definition as coded
 use Rattle.blang.specs.Trees.{Definition}
-use Rattle.blang.specs.Code.{code_of, fragment}
+use Rattle.blang.specs.Code.{code_of}
 use Rattle.blang.specs.declared.run.LoadFault.{LoadFault}
 use Rattle.blang.specs.declared.run.LoadFault.TheVariants as fault
 use Rattle.blang.specs.Layout.{store_words, Shape, shape_of, is_main, defined_names, names_in, Spot, spot_after, spots_after, spots, data_end, first_words, addresses, first_some, some_if, duplicate_after, label_count, address_in, first_undefined, load_fault}
 use Rattle.blang.specs.Machine.{Loaded, Image, loaded_at, image_of}
-use Rattle.blang.specs.Value.{SourceFunction, scope_of}
+use Rattle.blang.specs.Value.{SourceFunction}
 use Rattle.blang.specs.Meaning.{function_at, program_of}
-use Rattle.bmean.proofs.Stands.{whole_code}
 use Rattle.bmean.proofs.Values.{loaded_code, image_code}
 
 -- definitions lie as their code does

@@ -6,8 +6,8 @@ use Rattle.std.proofs.lemmas.Bool.Decides.{nat_tests}
 use Rattle.blang.specs.declared.token.Diagnostic.{Diagnostic}
 use Rattle.blang.specs.declared.token.Letters.TheVariants as letters
 use Rattle.blang.specs.declared.code.Definition as coded
-use Rattle.blang.specs.Trees.{Identifier, Stmt, Definition, Simple, Vector, Function}
-use Rattle.blang.specs.Scan.{Entry, NameKind, Automatic, kind_of, with_declaration, with_entry, fault, name_fault, Scope, no_scope, scanned, scan_event, with_names, automatic_words, function_events, function_scope, scope_fault, inner_fault, scan, identifier_of}
+use Rattle.blang.specs.Trees.{Identifier, Definition, Simple, Vector, Function}
+use Rattle.blang.specs.Scan.{Entry, NameKind, Automatic, kind_of, with_declaration, fault, name_fault, Scope, no_scope, scanned, with_names, automatic_words, function_scope, scope_fault, inner_fault, scan}
 use Rattle.blang.specs.declared.limits.TheConstants.{MAX_NAMES}
 use Rattle.blang.specs.Walk.{Event, AutoHere}
 use Rattle.bgrammar.specs.Events.{statement_events}

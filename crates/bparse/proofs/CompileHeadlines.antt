@@ -1,5 +1,5 @@
 -- Where nothing fails, what is said of compiling is what its source comes to.
-use Rattle.std.proofs.Common.{◌≡◌, ℕ, List, [], ◌++◌, refl, sym, ap, ◌∙◌, subst, ◌⊎◌, inl, inr}
+use Rattle.std.proofs.Common.{◌≡◌, ℕ, List, [], ◌++◌, sym, ap, ◌∙◌, subst, ◌⊎◌, inl, inr}
 use Rattle.bword.specs.ByteEnds.{Grew, Writes}
 use Rattle.bword.specs.declared.ends.EndFault.TheVariants as end_fault
 use Rattle.blang.specs.Cut.{tokens_from}

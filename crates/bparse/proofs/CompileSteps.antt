@@ -1,5 +1,5 @@
 -- What compiling a whole source comes to, by its last call.
-use Rattle.std.proofs.Common.{◌≡◌, ℕ, ◌+◌, ◌<◌, ◌≤◌, Bool, true, false, List, [], ◌∷◌, ◌++◌, length, map, take, drop, suc, Option, Some, None, Result, Ok, Err, refl, sym, ap, ◌∙◌, subst, append_assoc, length-append, arith, ◌⊎◌, inl, inr, if◌then◌else◌}
+use Rattle.std.proofs.Common.{◌≡◌, ℕ, ◌<◌, Bool, true, false, List, [], ◌∷◌, ◌++◌, length, map, take, drop, suc, Option, Some, None, refl, sym, ap, ◌∙◌, subst, length-append, arith, ◌⊎◌, inl, inr, if◌then◌else◌}
 use Rattle.std.proofs.Math.Seq.{drop-append_seam}
 use Rattle.bword.specs.declared.edition.Edition.{Edition}
 use Rattle.std.proofs.lemmas.List.{take-append-le, length-map}
@@ -7,7 +7,7 @@ use Rattle.bword.specs.ByteEnds.{Incoming, Outgoing, Took, Grew, Writes, Refuses
 use Rattle.bword.specs.declared.ends.EndFault.{EndFault}
 use Rattle.bword.specs.declared.ends.EndFault.TheVariants as end_fault
 use Rattle.blex.proofs.Passing.{Took-none, Took-append}
-use Rattle.bword.proofs.Putting.{Writes-append, Refuses-following}
+use Rattle.bword.proofs.Putting.{Refuses-following}
 use Rattle.blang.specs.Text.{joined, opening}
 use Rattle.blang.specs.declared.token.Diagnostic.{Diagnostic}
 use Rattle.blang.specs.Compiles.{Compilation, ending, next_text, code_text, line_of, compiled_text, TakenUpTo, Whatever, ReadsNoFurther, Run, HasWritten, SourceFailed, OpeningRefused, CodeRefused, LineRefused, NamesRefused, EndRefused, Compiles, status_of}

@@ -1,17 +1,17 @@
 -- What the steps of the compiler make of what was read.
-use Rattle.std.proofs.Common.{◌≡◌, ℕ, ◌+◌, ◌<◌, ◌≤◌, Bool, true, false, List, [], ◌∷◌, ◌++◌, length, take, Option, Some, None, Result, Ok, Err, IsErrAnd, refl, sym, ap, ◌∙◌, subst, append_assoc, arith, inl, inr, if◌then◌else◌}
+use Rattle.std.proofs.Common.{◌≡◌, ℕ, ◌<◌, Bool, true, false, List, [], ◌∷◌, ◌++◌, Some, None, Result, Ok, Err, IsErrAnd, refl, sym, ap, ◌∙◌, subst, append_assoc, arith, inl, inr, if◌then◌else◌}
 use Rattle.bword.specs.declared.edition.Edition.{Edition}
 use Rattle.blang.specs.Text.{end_text}
-use Rattle.bword.specs.ByteEnds.{Incoming, Outgoing, Grew, Writes, Refuses}
+use Rattle.bword.specs.ByteEnds.{Outgoing, Writes, Refuses}
 use Rattle.bword.specs.declared.ends.EndFault.{EndFault}
 use Rattle.bword.specs.declared.ends.EndFault.TheVariants as fault
 use Rattle.bword.proofs.Putting.{Writes-none}
-use Rattle.blang.specs.Cut.{is_last, placed, token_first, tokens_from}
+use Rattle.blang.specs.Cut.{is_last, placed}
 use Rattle.blang.specs.declared.token.Token.TheVariants as token
 use Rattle.blang.specs.declared.token.Placed.{Placed}
 use Rattle.blang.specs.declared.token.Diagnostic.{Diagnostic}
 use Rattle.bgrammar.specs.Compiled.{AreNames}
-use Rattle.blang.specs.Compiles.{Defined, Compilation, CompilesTo, ending, next_text, compiled_text}
+use Rattle.blang.specs.Compiles.{Defined, Compilation, CompilesTo, next_text, compiled_text}
 use Rattle.blang.specs.Code.{fault_of}
 use Rattle.blang.specs.Trees.{Definition}
 use Rattle.bgrammar.specs.DefinitionReader.{definition}
@@ -27,7 +27,7 @@ use Rattle.bword.specs.ByteEnds.{CanFollow}
 use Rattle.bread.proofs.TokenSteps.{Reads-append, LooksAt-append, CanFollow-append}
 use Rattle.bread.proofs.Moving.{single_here}
 use Rattle.blex.proofs.Passing.{Grew-after}
-use Rattle.bparse.specs.Steps.{Point, point, SourceComesTo, HasCode, Writing, Stopping, Breaking, ReadFails, OutRefuses, NamesRefuse, PointGives, StandsAt, refused_step}
+use Rattle.bparse.specs.Steps.{Point, point, HasCode, Writing, Stopping, OutRefuses, PointGives, StandsAt, refused_step}
 use Rattle.bparse.specs.declared.step.Step.{Step}
 use Rattle.bparse.specs.declared.step.Step.TheVariants as step
 

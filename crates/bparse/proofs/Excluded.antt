@@ -7,12 +7,12 @@ use Rattle.blang.specs.Cut.{whole, word_token, keyword_of, number_in, with_quote
 use Rattle.blang.specs.declared.token.Diagnostic.{Diagnostic}
 use Rattle.blang.specs.Compiles.{Run, Compiles, Compilation, CompilesTo, TakenUpTo, Whatever, IsCompiled, IsFaulty, TextCutOff, LineCutOff, NamesRefused, EndRefused, SourceFailed, code_text, fault_text, line_of}
 use Rattle.bgrammar.specs.SourceRows.{Comes}
-use Rattle.bgrammar.proofs.SourceRows.{worked_rows, function_rows, outcome_at, outcome_sound}
+use Rattle.bgrammar.proofs.SourceRows.{worked_rows, function_rows, outcome_sound}
 use Rattle.bgrammar.proofs.GoesLaws.{tokens_from-ended, each_source_comes}
-use Rattle.bparse.specs.Excluded.{Observed, NoneFailed, NoneRefused, AllTaken, NoReadFailed, Excluded}
+use Rattle.bparse.specs.Excluded.{Observed, NoneFailed, NoneRefused, NoReadFailed, Excluded}
 use Rattle.bparse.proofs.ReadingLaws.{held_at_fault}
 use Rattle.bparse.proofs.Remaining.{rest_of, all_written}
-use Rattle.bparse.proofs.TakenLaws.{plain, is_word, no_words, more_begun, all_begun}
+use Rattle.bparse.proofs.TakenLaws.{plain, no_words, more_begun, all_begun}
 use Rattle.bword.proofs.Remaining.{Rest}
 use Rattle.std.specs.Io.KnownBytes.{Appends}
 use Rattle.std.specs.Fmt.{digits}

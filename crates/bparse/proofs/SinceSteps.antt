@@ -1,9 +1,8 @@
 -- What a call of the compiler comes to, counted from when the compiler was made.
-use Rattle.std.proofs.Common.{◌≡◌, ◌≢◌, ℕ, ◌+◌, ◌<◌, ◌≤◌, Bool, true, false, List, [], ◌∷◌, ◌++◌, length, map, Option, Some, None, Result, Ok, Err, refl, sym, ap, ◌∙◌, subst, append_assoc, append-nil, arith, ◌⊎◌, inl, inr, if◌then◌else◌}
-use Rattle.bword.specs.declared.edition.Edition.{Edition}
+use Rattle.std.proofs.Common.{◌≡◌, ℕ, ◌≤◌, Bool, true, false, List, [], ◌∷◌, ◌++◌, length, map, Option, Some, None, Result, Ok, Err, refl, sym, ap, ◌∙◌, subst, append_assoc, append-nil, arith, ◌⊎◌, inl, inr, if◌then◌else◌}
 use Rattle.std.proofs.lemmas.List.{map-append}
 use Rattle.std.proofs.lemmas.Grind.{flat_map-append}
-use Rattle.bword.specs.ByteEnds.{Incoming, Outgoing, Took, Grew, Writes, Refuses}
+use Rattle.bword.specs.ByteEnds.{Incoming, Outgoing, Took, Grew, Writes}
 use Rattle.bword.specs.declared.ends.EndFault.{EndFault}
 use Rattle.bword.specs.declared.ends.EndFault.TheVariants as end_fault
 use Rattle.bword.proofs.Putting.{Writes-none, Writes-append}
@@ -245,12 +244,12 @@ module _ (first : CompilerStart) (a b : Point) (lender lender' : List ℕ) (begu
 
 -- what is so after all definitions that can have been written is what the call does
 all_given : (answer : Step) (old new : Compiler) → MoreCanBeWritten old → ((before : List Definition) (since : HasWrittenSince old before) → GivesAfter since answer new) → CompilerGives old answer new
-all_given step.Written old new o h = (o, h)
-all_given step.Finished old new o h = (o, h)
-all_given (step.Fault fault) old new o h = (o, h)
-all_given step.Device old new o h = (o, h)
-all_given step.Memory old new o h = (o, h)
-all_given step.Closed old new o h = absurd (h o.before o.since)
+all_given step.Written _ new o h = (o, h)
+all_given step.Finished _ new o h = (o, h)
+all_given (step.Fault fault) _ new o h = (o, h)
+all_given step.Device _ new o h = (o, h)
+all_given step.Memory _ new o h = (o, h)
+all_given step.Closed _ new o h = absurd (h o.before o.since)
 
 -- where the call found the compiler open
 module _ (first : CompilerStart) (a b : Point) (lender lender' : List ℕ) (begun closed : Bool) (open_now : closed ≡ false)
@@ -282,7 +281,7 @@ module _ (first : CompilerStart) (a b : Point) (lender lender' : List ℕ) (begu
 
   pub written_now : (old : Compiler) → compiler_at first a lender begun closed ≡ old → (u : Unit {0}) → GivesNext start a (Ok u) b
       → CompilerGives old step.Written (compiler_at first b lender' true closed)
-  written_now old e u g =
+  written_now _ e u g =
       subst (λ x. CompilerGives x step.Written (compiler_at first b lender' true closed)) e
       (subst (λ x. CompilerGives (compiler_at first a lender begun x) step.Written (compiler_at first b lender' true x)) (sym open_now) (wrote_open u g))
 
@@ -296,7 +295,7 @@ module _ (first : CompilerStart) (a b : Point) (lender lender' : List ℕ) (begu
 
   pub stopped_now : (old : Compiler) → compiler_at first a lender begun closed ≡ old → (answer : Step) → GivesNext start a (Err answer) b
       → CompilerGives old answer (compiler_at first b lender' true true)
-  stopped_now old e answer g =
+  stopped_now _ e answer g =
       subst (λ x. CompilerGives x answer (compiler_at first b lender' true true)) e
       (subst (λ x. CompilerGives (compiler_at first a lender begun x) answer (compiler_at first b lender' true true)) (sym open_now)
       (all_given answer (compiler_at first a lender begun false) (compiler_at first b lender' true true) opened_now (stopped_after answer g)))

@@ -1,17 +1,16 @@
 -- How far a call has read, by the tokens of the source.
-use Rattle.std.proofs.Common.{◌≡◌, ℕ, suc, ◌+◌, List, [], ◌∷◌, ◌++◌, length, map, Some, refl, sym, ap, ◌∙◌, subst, append_assoc, append-nil, length-append, arith, inl, inr}
+use Rattle.std.proofs.Common.{◌≡◌, ℕ, suc, List, [], ◌∷◌, ◌++◌, length, map, refl, sym, ap, ◌∙◌, append_assoc, append-nil, length-append, arith, inl, inr}
 use Rattle.std.proofs.lemmas.List.{map-append}
 use Rattle.bword.specs.ByteEnds.{CanFollow, Took}
 use Rattle.blang.specs.Cut.{token_first, tokens_from}
 use Rattle.blang.specs.declared.token.Token.{Token}
-use Rattle.blang.specs.declared.token.Token.TheVariants as token
 use Rattle.blang.specs.declared.token.Placed.{Placed}
 use Rattle.blang.specs.Compiles.{TakenUpTo}
 use Rattle.blang.specs.Trees.{Definition, Simple, bare, kept}
-use Rattle.blang.specs.Walk.{spell_definition, spell_all}
+use Rattle.blang.specs.Walk.{spell_definition}
 use Rattle.blang.specs.WellFormed.{IsFormed}
 use Rattle.bgrammar.specs.DefinitionReader.{definition}
-use Rattle.bgrammar.specs.Reading.{Got, Stop, after}
+use Rattle.bgrammar.specs.Reading.{after}
 use Rattle.bgrammar.specs.Unread.{kept_read}
 use Rattle.bgrammar.proofs.GoesReads.{got_taken, stop_taken}
 use Rattle.bgrammar.proofs.KeptLemmas.{map_bare-kept}

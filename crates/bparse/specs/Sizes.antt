@@ -1,5 +1,5 @@
 -- Inner words: definitions whose counts fit the words of a view.
-use Rattle.std.specs.Prelude.{ℕ, ◌≤◌, length}
+use Rattle.std.specs.Prelude.{◌≤◌, length}
 use Rattle.blang.specs.Trees.{Definition, Simple, Vector, Function}
 use Rattle.blang.specs.Code.{vector_words}
 

@@ -31,12 +31,12 @@ use Rattle.bemit.specs.declared.form.Form.TheVariants.{Place, Lone, Joined}
 use Rattle.bread.specs.declared.halt.Halt.{Halt}
 use Rattle.bread.specs.declared.halt.Halt.TheVariants as halt
 use Rattle.bread.specs.Marks.{is_comma}
-use Rattle.bread.specs.Tokens.{Tokens, IsLoaded, IsSingle, Runs, TokensFail, KeepsAhead, Advances, LooksOn, work}
+use Rattle.bread.specs.Tokens.{Tokens, IsLoaded, IsSingle, Runs, TokensFail, Advances, work}
 use Rattle.bread.specs.declared.operators.Prefix.{Prefix}
 use Rattle.bread.specs.declared.operators.Prefix.TheVariants as prefixes
 use Rattle.bread.specs.Parsers.{assigned_at, op_within, prefix_meant, prefix_form, called_at, Halts, ExpressionTaken, Follows, Continues, TookWord, TookArguments, TakesCurrent}
 use Rattle.bread.proofs.TokenSteps.{Moves-breaks}
-use Rattle.bread.proofs.Moving.{run_here, run_past, run_same, run_as, run_then, run_bind, halt_after, halt_bind, halt_as, bind_twice, halt_then, halt_device}
+use Rattle.bread.proofs.Moving.{run_here, run_past, run_as, run_then, run_bind, halt_after, halt_bind, halt_as, bind_twice, halt_then, halt_device}
 use Rattle.bread.proofs.Chains.{climb, rank_positive, within_some, within_none, chain_climbs, climb_none, climb_some}
 
 -- what a loop has read and made so far

@@ -1,5 +1,5 @@
 -- Inner words: what is kept of a definition beside its code.
-use Rattle.std.specs.Prelude.{◌≡◌, ℕ, min, length}
+use Rattle.std.specs.Prelude.{◌≡◌, min, length}
 use Rattle.blang.specs.Trees.{Definition, Simple, Vector, Function}
 use Rattle.blang.specs.Code.{vector_words}
 use Rattle.blang.specs.Scan.{identifier_of}

@@ -1,5 +1,5 @@
 -- Answers that the contract of `go_edition` excludes, whatever is proved of the body that gives them.
-use Rattle.std.proofs.Common.{drop, ◌≡◌, ℕ, zero, suc, ◌+◌, false, ◌<◌, ◌≤◌, List, [], ◌∷◌, ◌++◌, length, map, codes, Option, Some, None, refl, sym, ap, ◌∙◌, subst, arith, ◌⊎◌, inl, inr, ⊎_elim}
+use Rattle.std.proofs.Common.{drop, ◌≡◌, ℕ, zero, suc, false, ◌<◌, ◌≤◌, List, [], ◌∷◌, ◌++◌, length, map, codes, Option, Some, None, refl, sym, ap, ◌∙◌, subst, arith, ◌⊎◌, inl, inr, ⊎_elim}
 use Rattle.std.proofs.Math.Seq.{drop-nil}
 use Rattle.bword.specs.declared.edition.Edition.{Edition}
 use Rattle.bword.specs.declared.edition.Edition.TheVariants as editions

@@ -8,7 +8,6 @@ use Rattle.blang.specs.Reports.{ComesTo, RunGives, IsOwnStatus, state_outcome}
 use Rattle.blang.specs.Layout.{World, Ending, first_world}
 use Rattle.blang.specs.declared.run.Outcome.{Outcome}
 use Rattle.blang.specs.declared.run.Outcome.TheVariants as outcome
-use Rattle.blang.specs.declared.run.Trap.{Trap}
 use Rattle.blang.specs.declared.run.Trap.TheVariants as trap
 use Rattle.blang.specs.Meaning.{Loads, meant}
 use Rattle.bmean.proofs.LawProofs.{code_agrees}

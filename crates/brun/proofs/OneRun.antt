@@ -1,16 +1,13 @@
 -- What the headlines alone say of one program and one source, over streams in memory.
-use Rattle.std.proofs.Common.{◌≡◌, ℕ, ◌+◌, ◌≤◌, List, [], ◌∷◌, ◌++◌, length, map, take, codes, Bool, true, false, Option, Some, None, refl, sym, ap, ◌∙◌, subst, arith, append-nil, length-append, ◌⊎◌, inl, inr}
+use Rattle.std.proofs.Common.{◌≡◌, ℕ, List, [], ◌∷◌, ◌++◌, length, take, codes, Bool, true, false, Option, Some, None, refl, sym, ap, ◌∙◌, subst, arith, length-append, ◌⊎◌, inl, inr}
 use Rattle.std.specs.Prelude.{decimal, ◌==◌}
 use Rattle.std.specs.Fmt.{digits}
 use Rattle.std.proofs.lemmas.Bool.{eqb-true}
-use Rattle.std.specs.Io.KnownBytes.{Appends}
 use Rattle.bword.specs.declared.edition.Edition.TheVariants as editions
-use Rattle.bword.specs.ByteEnds.{Unread, Kept, Grew, incoming_of, outgoing_of}
+use Rattle.bword.specs.ByteEnds.{Grew, incoming_of}
 use Rattle.blang.specs.Cut.{whole, word_token, keyword_of, number_in, with_quoted_byte, escape_of, operator_of, other_of, fixed_of, tokens_from, cut, longest, greatest}
 use Rattle.blang.specs.declared.token.Token.TheVariants as token
-use Rattle.blang.specs.declared.token.Placed.{Placed}
 use Rattle.blang.specs.declared.token.Diagnostic.{Diagnostic}
-use Rattle.blang.specs.Trees.{Definition}
 use Rattle.blang.specs.WellFormed.{Parted}
 use Rattle.blang.specs.Compiles as compiled
 use Rattle.blang.specs.Compiles.{CompilesTo, Tells, IsUndisturbed, CompileAnswers, compilation_of, fault_text, fault_status, line_of, letters_text, about_text}
@@ -18,7 +15,7 @@ use Rattle.blang.specs.Layout.{Exited}
 use Rattle.blang.specs.Machine as runs_at
 use Rattle.blang.specs.Meaning.{Loads}
 use Rattle.blang.specs.Cut.{placed}
-use Rattle.blang.specs.Headline.{NothingFailed, GoAnswers, RunAnswers}
+use Rattle.blang.specs.Headline.{NothingFailed, RunAnswers}
 use Rattle.bgrammar.proofs.Parting.{parted_end}
 use Rattle.bgrammar.proofs.Outcomes.{parted_after, parted_once}
 use Rattle.bgrammar.proofs.SourceRows.{worked_rows}

@@ -1,5 +1,5 @@
 -- How a source comes to be a program, or why it doesn't.
-use Rattle.std.proofs.Common.{◌≡◌, ℕ, List, [], None, Result, Ok, Err, false, refl, sym, subst, inl, inr}
+use Rattle.std.proofs.Common.{◌≡◌, ℕ, List, [], Result, Ok, Err, false, refl, sym, subst, inl, inr}
 use Rattle.std.specs.Prelude.{MatchResult}
 use Rattle.bword.specs.declared.edition.Edition.{Edition}
 use Rattle.bword.specs.ByteEnds.{Outgoing, Kept, Unread, incoming_of, outgoing_of}
@@ -10,8 +10,6 @@ use Rattle.bcode.specs.declared.fault.CodeFault.{CodeFault}
 use Rattle.bcode.specs.declared.fault.CodeFault.TheVariants as code_fault
 use Rattle.blang.specs.Layout.{load_fault}
 use Rattle.bmach.specs.Loading.{IsFault}
-use Rattle.blang.specs.Machine.{Image}
-use Rattle.bmach.specs.Resolved.{IsLoadedFrom}
 use Rattle.blang.specs.declared.run.LoadFault.{LoadFault}
 use Rattle.blang.specs.declared.run.LoadFault.TheVariants as fault
 use Rattle.blang.specs.Compiles.{Compiles}

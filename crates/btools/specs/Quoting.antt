@@ -1,4 +1,4 @@
--- Inner words: texts in JSON, and names of files.
+-- Inner words: texts in JSON, and names of files, as the tools for a reader write them.
 use Rattle.std.specs.Prelude.{ℕ, ◌/◌, ◌%◌, ◌==◌, ◌||◌, nat_lt, if◌then◌else◌, List, [], ◌∷◌, ◌++◌, codes}
 use Rattle.std.specs.Char.{digit_char}
 use Rattle.std.specs.List.{flat_map}

@@ -1,5 +1,5 @@
 -- What an end over memory answers, as it never fails.
-use Rattle.std.proofs.Common.{◌≡◌, ℕ, Option, Some, None, Result, Ok, Err, sym, ap, ◌∙◌, arith, ⊎_elim}
+use Rattle.std.proofs.Common.{◌≡◌, ℕ, Option, Some, None, Result, Ok, Err, sym, ap, ◌∙◌, arith}
 use Rattle.std.specs.Prelude.{slice_get}
 use Rattle.bword.specs.declared.ends.Device.{Device}
 use Rattle.bword.specs.ByteEnds.{Unread, NextGives, incoming_of}

@@ -1,6 +1,6 @@
 -- Closed facts: when a count of failures or refusals has grown.
-use Rattle.std.specs.Prelude.{◌≡◌, ℕ, ◌<◌, ◌≤◌}
-use Rattle.std.proofs.Common.{◌⊎◌, inl, inr, ⊎_elim, refl, arith}
+use Rattle.std.specs.Prelude.{ℕ, ◌<◌, ◌≤◌}
+use Rattle.std.proofs.Common.{refl, arith}
 use Rattle.bword.specs.ByteEnds.{most, Grew}
 
 by_one : Grew 0 1

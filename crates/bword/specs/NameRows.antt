@@ -1,5 +1,5 @@
 -- Closed facts: which texts are names.
-use Rattle.std.specs.Prelude.{◌≡◌, ℕ, Bool, true, false, List, [], ◌∷◌, ◌++◌, map, length, replicate, filter, codes}
+use Rattle.std.specs.Prelude.{◌≡◌, ℕ, Bool, true, false, List, [], ◌∷◌, map, replicate, filter, codes}
 use Rattle.std.specs.Prelude.{refl}
 use Rattle.std.specs.List.{range_with_len}
 use Rattle.bword.specs.Words.{is_name, is_name_start, is_name_byte, same_name}

@@ -1,4 +1,4 @@
-use Rattle.std.proofs.Common.{◌≡◌, ◌+◌, ◌<◌, ◌≤◌, ◌++◌, length, drop, get_or, arith, sym, ap, ◌∙◌, length-append}
+use Rattle.std.proofs.Common.{◌≡◌, ◌+◌, ◌<◌, ◌≤◌, length, drop, get_or, arith, sym, ap, ◌∙◌, length-append}
 use Rattle.bemit.specs.Drafts.{tests}
 use Rattle.blang.specs.declared.limits.TheConstants.{MAX_INSTRUCTIONS}
 use Rattle.bemit.specs.Buffers.{Buffer}

@@ -1,12 +1,9 @@
 use Rattle.std.proofs.Common.{◌≡◌, ℕ, List, length, map, true, false, Option, sym, ap, ◌∙◌, subst, arith}
 use Rattle.std.specs.Prelude.{flat_map, fold}
 use Rattle.std.proofs.lemmas.Result.{err_from_is_err_and}
-use Rattle.blang.specs.declared.code.Definition.{Definition}
-use Rattle.blang.specs.Layout.{shape_of, addresses, address_in, names_in, load_fault, data_end, first_undefined}
+use Rattle.blang.specs.Layout.{shape_of, addresses, address_in, names_in, data_end, first_undefined}
 use Rattle.bmach.specs.Loading.{Part, IsFault, first_part, fits_store, known_in, undefined_fault, with_definition}
-use Rattle.bmach.specs.Images.{image_in}
 use Rattle.bmach.specs.Parts.{part_of}
-use Rattle.bmach.specs.Resolved.{IsLoadedFrom}
 use Rattle.bmach.proofs.Fitting.{bounds_if_fits}
 use Rattle.bmach.proofs.Faults.{no_main, some_main}
 use Rattle.bmach.proofs.Whole.{loaded_all, length-words}

@@ -1,13 +1,13 @@
 use Rattle.std.specs.Map.{keys_of}
 use Rattle.bparse.proofs.NamesSteps.{added}
-use Rattle.std.proofs.Common.{◌≡◌, ◌∙◌, sym, subst, ap, refl, Some, None}
+use Rattle.std.proofs.Common.{◌∙◌, sym, subst}
 use Rattle.bparse.specs.Steps.{point, refused_step}
 use Rattle.bparse.specs.declared.step.Step.TheVariants as step
 use Rattle.bparse.proofs.CompilerSteps.{gives_stop, read_fails, breaks_after, fault_stops, end_stops, end_breaks, wrote, fault_after, no_memory, write_breaks}
 use Rattle.bword.specs.ByteEnds.{Writes, Refuses}
 use Rattle.bgrammar.specs.DefinitionReader.{definition}
 use Rattle.bread.specs.Parsers.{Halts}
-use Rattle.bparse.proofs.MadeSteps.{drafted, end_of, not_end, tree_formed, fault_some, fault_none, viewed}
+use Rattle.bparse.proofs.MadeSteps.{drafted, end_of, not_end, fault_some, fault_none, viewed}
 use Rattle.blang.specs.Text.{definition_text}
 use Rattle.bparse.proofs.compiler.compile_definition.Goals as goal
 

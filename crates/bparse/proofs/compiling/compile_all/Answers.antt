@@ -1,5 +1,4 @@
 use Rattle.std.proofs.Common.{subst}
-use Rattle.bread.specs.Tokens.{work}
 use Rattle.bparse.specs.Compilers.{CompilerGives}
 use Rattle.bparse.proofs.CompileSteps.{keeps_none, keeps_more, written_last}
 use Rattle.bparse.proofs.compiling.compile_all.Goals as goal

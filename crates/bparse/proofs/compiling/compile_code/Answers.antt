@@ -1,4 +1,4 @@
-use Rattle.std.proofs.Common.{rules, ap, sym}
+use Rattle.std.proofs.Common.{rules, ap}
 use Rattle.bparse.proofs.compiling.compile_code.Goals as goal
 
 pub returns-clause-gives : goal.returns-clause-gives

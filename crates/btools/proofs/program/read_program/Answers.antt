@@ -1,4 +1,4 @@
-use Rattle.std.proofs.Common.{ℕ, List, subst}
+use Rattle.std.proofs.Common.{ℕ, subst}
 use Rattle.btools.specs.Programs.{WasCompiled, faulty}
 use Rattle.btools.proofs.Loading.{compiled, loaded}
 use Rattle.btools.proofs.program.read_program.Goals as goal

@@ -1,6 +1,6 @@
 use Rattle.std.proofs.Common.{◌≡◌, ◌<◌, ◌∷◌, None, not, length, ap, ◌∙◌, sym, subst, ltb-true}
 use Rattle.bemit.specs.Drafts.{most_switches}
-use Rattle.bemit.specs.Switches.{switch_number, AreNumbered}
+use Rattle.bemit.specs.Switches.{AreNumbered}
 use Rattle.bemit.proofs.SwitchLemmas.{numbered-begin}
 use Rattle.bemit.proofs.DraftLemmas.{no_fault, begun-is}
 use Rattle.bemit.proofs.draft.Draft.begin_switch.Goals as goal
