@@ -30,7 +30,7 @@ use Rattle.bcheck.specs.Checks.{IsOver, Reason, StandsOn, code_keyword, column_a
 use Rattle.btools.specs.Quoting.{file_text, json_text}
 use Rattle.bcheck.specs.Checks.{AreFindings, Check, Checks, FindingParts, Outcome, TellsFirst, finding_column, fix_and_second, finding_head, finding_line, finding_start, finding_text, outcome_of, findings_text, severity_of, shown_in_form, told_first}
 use Rattle.bcheck.specs.Excluded.{BeginsWith, ComesTo, Excluded, IsTold, Never, NeverOf, file_at, file_of, finding_lines, has_no_colon, is_printed, newlines}
-use Rattle.bcheck.specs.SourceFaults.{IsFaultOf}
+use Rattle.bcheck.specs.SourceFaults.{IsSourceFault}
 use Rattle.bcheck.specs.declared.finding.Severity.{Severity}
 use Rattle.bcheck.specs.declared.finding.Severity.TheVariants as severity
 use Rattle.bcheck.specs.declared.form.FindingForm.{FindingForm}
@@ -372,8 +372,8 @@ known_line c edition source code line text wrong a b e s f comes t start h = at_
         let other : take (suc (length wrong)) (a ∷ (line ++ w.more)) ≡ b ∷ wrong = subst (λ x. StartsWith x (b ∷ wrong)) begun start in
         ap first_byte other
 
-one_fault : (edition : Edition) (source : List ℕ) → (fault : Option Diagnostic) × IsFaultOf edition source fault
-    × ((other : Option Diagnostic) → IsFaultOf edition source other → other ≡ fault)
+one_fault : (edition : Edition) (source : List ℕ) → (fault : Option Diagnostic) × IsSourceFault edition source fault
+    × ((other : Option Diagnostic) → IsSourceFault edition source other → other ≡ fault)
 one_fault edition source =
     let some = each_source_comes [] edition 1 source in (
       some.0.stop,

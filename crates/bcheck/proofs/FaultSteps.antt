@@ -10,7 +10,7 @@ use Rattle.blang.specs.declared.status.TheConstants.{FAULT}
 use Rattle.blang.specs.declared.token.Diagnostic.{Diagnostic}
 use Rattle.bcheck.specs.Checks.{Judged, status_told, told_first, verdict_line}
 use Rattle.bcheck.specs.Findings.{IsStopOf}
-use Rattle.bcheck.specs.SourceFaults.{IsFaultOf}
+use Rattle.bcheck.specs.SourceFaults.{IsSourceFault}
 use Rattle.bcheck.specs.declared.verdict.Verdict.{Verdict}
 use Rattle.bcheck.specs.declared.verdict.Verdict.TheVariants as verdict
 
@@ -18,11 +18,11 @@ no_stop : (stop : Option Diagnostic) (f : Option LoadFault) (line : List ℕ) (s
 no_stop None f line status other is = refl
 no_stop (Some d) f line status other is = absurd (other (ap (λ (p : List ℕ × ℕ). p.1) is))
 
-pub without_fault : (edition : Edition) (source : List ℕ) (v : Verdict) → status_told v ≢ FAULT → Judged edition source v → IsFaultOf edition source None
+pub without_fault : (edition : Edition) (source : List ℕ) (v : Verdict) → status_told v ≢ FAULT → Judged edition source v → IsSourceFault edition source None
 without_fault edition source v other judged =
     λ r g. no_stop r.stop (load_fault (map code_of g.definitions)) (verdict_line v) (status_told v) other (judged r g)
 
-pub with_fault : (edition : Edition) (source : List ℕ) (v : Verdict) (line : Kept) (d : Diagnostic) → v ≡ verdict.Faulty line d → IsStopOf edition source v → IsFaultOf edition source (Some d)
+pub with_fault : (edition : Edition) (source : List ℕ) (v : Verdict) (line : Kept) (d : Diagnostic) → v ≡ verdict.Faulty line d → IsStopOf edition source v → IsSourceFault edition source (Some d)
 with_fault edition source v line d is stop = subst (λ (x : Verdict). IsStopOf edition source x) is stop
 
 pub is_clean : (v : Verdict) → v ≡ verdict.Clean → status_told v ≢ FAULT

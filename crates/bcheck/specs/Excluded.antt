@@ -19,7 +19,7 @@ use Rattle.btools.specs.Quoting.{file_text}
 use Rattle.bcheck.specs.Checks.{finding_start}
 use Rattle.bcheck.specs.Checks.{findings_text}
 use Rattle.bcheck.specs.Checks.{severity_of, shown_in_form, told_first}
-use Rattle.bcheck.specs.SourceFaults.{IsFaultOf}
+use Rattle.bcheck.specs.SourceFaults.{IsSourceFault}
 use Rattle.bcheck.specs.declared.finding.Severity.{Severity}
 use Rattle.bcheck.specs.declared.form.FindingForm.{FindingForm}
 use Rattle.bcheck.specs.declared.form.FindingForm.TheVariants as form
@@ -137,5 +137,5 @@ pub record Excluded : Type 0 where
   pub second_edition : (c : Check) (text : List ℕ) → c.source ≡ codes "f() break;" → c.edition ≡ editions.One
       → c.form ≡ form.Text → IsTold c text → StartsWith text (codes "sx break 1\n") → Checks c → ⊥
   -- of a source another fault than its own, or one where it has none, or none where it has one
-  pub one_fault : (edition : Edition) (source : List ℕ) → (fault : Option Diagnostic) × IsFaultOf edition source fault
-      × ((other : Option Diagnostic) → IsFaultOf edition source other → other ≡ fault)
+  pub one_fault : (edition : Edition) (source : List ℕ) → (fault : Option Diagnostic) × IsSourceFault edition source fault
+      × ((other : Option Diagnostic) → IsSourceFault edition source other → other ≡ fault)

@@ -1,6 +1,6 @@
 //! The fault of a source, for a caller that tells it otherwise.
 ghost use Rattle.std.specs.Prelude.{IfOk};
-ghost use Rattle.bcheck.specs.SourceFaults.{IsFaultOf};
+ghost use Rattle.bcheck.specs.SourceFaults.{IsSourceFault};
 
 use crate::spans::Source;
 use crate::verdict::{Verdict, judge};
@@ -14,7 +14,7 @@ pub fn fault_of(
     text: &[u8],
     edition: Edition,
 ) -> Result<Option<Diagnostic>, AllocError>
-    ensures { IfOk result (IsFaultOf edition text.now) }
+    ensures { IfOk result (IsSourceFault edition text.now) }
 {
     let judgement = judge(alloc, Source { text, edition })?;
     match &judgement.verdict {

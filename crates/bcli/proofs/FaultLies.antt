@@ -20,12 +20,12 @@ use Rattle.btools.specs.Programs.{HasProgram, NoProgram, WasCompiled}
 use Rattle.btrace.specs.Locates as locates
 use Rattle.btrace.specs.Locates.{Locates}
 use Rattle.bcheck.specs.Checks.{is_of_several}
-use Rattle.bcheck.specs.SourceFaults.{IsFaultOf}
+use Rattle.bcheck.specs.SourceFaults.{IsSourceFault}
 use Rattle.bcommand.specs.CommandLine.{Question, locate}
 use Rattle.bsources.specs.Files.{File, Files, Line, beyond_first_among}
 use Rattle.bcli.specs.FaultPlaces.{IsPlaceText, TellsMore, if_fault, is_placed, place_beyond, place_line, tells_run}
 use Rattle.bcli.proofs.FaultTold.{answered_alone}
-use Rattle.bcli.specs.Excluded.{Answered, LiesAt}
+use Rattle.bcli.specs.Excluded.{Answered, FaultLiesAt}
 use Rattle.bcli.specs.Serves.{Answers, AnswersPlaced}
 
 -- no write that was refused ends with 1
@@ -60,11 +60,11 @@ several files None at e = cc
 several files (Some d) at e = several_among files.first files.rest d.line at e
 
 module _ (edition : Edition) (files : Files) (text : List ℕ) where
-  place_of : (place : Option Line) → LiesAt edition files text place → (stop : Option Diagnostic) → IsFaultOf edition text stop
+  place_of : (place : Option Line) → FaultLiesAt edition files text place → (stop : Option Diagnostic) → IsSourceFault edition text stop
       → place_beyond files stop ≡ place
   place_of place lies stop is = sym (ap (place_beyond files) (is lies.outcome lies.goes)) ∙ lies.place_is
 
-  some_text : (question : Question) (place : Option (List ℕ)) (at : Line) → LiesAt edition files text (Some at) → tells_run question ≡ true
+  some_text : (question : Question) (place : Option (List ℕ)) (at : Line) → FaultLiesAt edition files text (Some at) → tells_run question ≡ true
       → IsPlaceText edition files text question place → place ≡ Some (place_line at)
   some_text question place at lies tells is =
       let many = several files lies.outcome.stop at lies.place_is in
@@ -73,17 +73,17 @@ module _ (edition : Edition) (files : Files) (text : List ℕ) where
       found.2 ∙ ap (option_map place_line) (place_of (Some at) lies found.0 found.1)
     where
       Found : Option (List ℕ) → Type 0
-      Found line = (stop : Option Diagnostic) × IsFaultOf edition text stop × (line ≡ option_map place_line (place_beyond files stop))
+      Found line = (stop : Option Diagnostic) × IsSourceFault edition text stop × (line ≡ option_map place_line (place_beyond files stop))
 
-  no_text : (question : Question) (place : Option (List ℕ)) → LiesAt edition files text None → IsPlaceText edition files text question place → place ≡ None
+  no_text : (question : Question) (place : Option (List ℕ)) → FaultLiesAt edition files text None → IsPlaceText edition files text question place → place ≡ None
   no_text question place lies is = by (is_placed files question) is
     where
-      by : (test : Bool) → MatchBool test ((stop : Option Diagnostic) × IsFaultOf edition text stop × (place ≡ option_map place_line (place_beyond files stop))) (place ≡ None)
+      by : (test : Bool) → MatchBool test ((stop : Option Diagnostic) × IsSourceFault edition text stop × (place ≡ option_map place_line (place_beyond files stop))) (place ≡ None)
           → place ≡ None
       by true found = found.2 ∙ ap (option_map place_line) (place_of None lies found.0 found.1)
       by false none = none
 
-  pub place_told : (question : Question) (ends : RunEnds) (at : Line) → LiesAt edition files text (Some at) → tells_run question ≡ true
+  pub place_told : (question : Question) (ends : RunEnds) (at : Line) → FaultLiesAt edition files text (Some at) → tells_run question ≡ true
       → AnswersPlaced edition files text question ends 1 → Answered edition files text question ends (place_line at)
   place_told question ends at lies tells it =
       let more = more_told it.place (place_line at) it.told it.mid ends.line_after (some_text question it.place at lies tells it.place_is) it.tells in
@@ -93,7 +93,7 @@ module _ (edition : Edition) (files : Files) (text : List ℕ) where
         more = more.1;
       }
 
-  pub no_place : (question : Question) (ends : RunEnds) (status : ℕ) → LiesAt edition files text None
+  pub no_place : (question : Question) (ends : RunEnds) (status : ℕ) → FaultLiesAt edition files text None
       → AnswersPlaced edition files text question ends status → Answers edition files text question ends status
   no_place question ends status lies it =
       answered_alone edition files text question ends status it (no_text question it.place lies it.place_is)
@@ -135,7 +135,7 @@ module _ (edition : Edition) (text : List ℕ) (r : Compilation) (goes : Compile
   located_told files steps ends (locates.no_memory ds image has still is) = absurd (omega (arith, is))
 
 module _ (edition : Edition) (files : Files) (text : List ℕ) (steps : ℕ) (ends : RunEnds) (at : Line) where
-  pub place_located : (lies : LiesAt edition files text (Some at)) → AnswersPlaced edition files text (locate steps) ends 1
+  pub place_located : (lies : FaultLiesAt edition files text (Some at)) → AnswersPlaced edition files text (locate steps) ends 1
       → Writes ends.line (fault_text lies.outcome.stop ++ place_line at) ends.line_after
   place_located lies it =
       let answered = place_told edition files text (locate steps) ends at lies refl it in

@@ -7,7 +7,7 @@ use Rattle.bword.specs.declared.edition.Edition.{Edition}
 use Rattle.blang.specs.Reports.{Reported, RunEnds}
 use Rattle.blang.specs.declared.status.TheConstants.{FAULT}
 use Rattle.blang.specs.declared.token.Diagnostic.{Diagnostic}
-use Rattle.bcheck.specs.SourceFaults.{IsFaultOf}
+use Rattle.bcheck.specs.SourceFaults.{IsSourceFault}
 use Rattle.bcommand.specs.CommandLine.{Question}
 use Rattle.bsources.specs.Files.{Files, beyond_first, line_shown}
 use Rattle.bsources.specs.declared.files.FileLine.{FileLine}
@@ -16,7 +16,7 @@ use Rattle.bcli.specs.Serves.{Answers, AnswersPlaced}
 use Rattle.bcli.proofs.Answered.{chosen}
 
 pub placed_text : (edition : Edition) (files : Files) (text : List ℕ) (question : Question) (placed : Bool) (fault : Option Diagnostic) (d : Diagnostic) (found : Option FileLine)
-    (at : FileLine) (line : List ℕ) → placed ≡ is_placed files question → placed ≡ true → IsFaultOf edition text fault → fault ≡ Some d → found ≡ Some at
+    (at : FileLine) (line : List ℕ) → placed ≡ is_placed files question → placed ≡ true → IsSourceFault edition text fault → fault ≡ Some d → found ≡ Some at
     → option_map line_shown found ≡ beyond_first files d.line → line ≡ place_line (line_shown at) → IsPlaceText edition files text question (Some line)
 placed_text edition files text question placed fault d found at line same is_so is faulty some beyond line_is =
     let place : place_beyond files fault ≡ Some (line_shown at) = ap (place_beyond files) faulty ∙ (sym beyond ∙ ap (option_map line_shown) some) in

@@ -52,7 +52,7 @@ pub record NothingFails (edition : Edition) (rest : List ℕ) (ends : RunEnds) (
   pub undisturbed : IsUndisturbed (compiling edition ends.input ends.input_after ends status)
 
 -- The source comes to a fault or to none, and its place is this one, where it isn't in the first file.
-pub record LiesAt (edition : Edition) (files : Files) (text : List ℕ) (place : Option Line) : Type 0 where
+pub record FaultLiesAt (edition : Edition) (files : Files) (text : List ℕ) (place : Option Line) : Type 0 where
   pub outcome : Compilation
   pub goes : CompilesTo [] (tokens_from edition 1 text) outcome
   pub place_is : place_beyond files outcome.stop ≡ place
@@ -115,16 +115,16 @@ pub record Excluded (shelf : Holdings) : Type 0 where
       status ⊎ SaysNothing ends status MEMORY
   -- a fault in a file after the first one, of whose place a command that tells of a run writes no line, or another one
   pub place_told : (edition : Edition) (files : Files) (text : List ℕ) (question : Question) (ends : RunEnds) (at : Line)
-      → LiesAt edition files text (Some at) → tells_run question ≡ true
+      → FaultLiesAt edition files text (Some at) → tells_run question ≡ true
       → AnswersPlaced edition files text question ends FAULT
       → Answered edition files text question ends (place_line at)
   -- other lines than those two by `go --where`
   pub place_located : (edition : Edition) (files : Files) (text : List ℕ) (steps : ℕ) (ends : RunEnds) (at : Line)
-      → (it : LiesAt edition files text (Some at)) → AnswersPlaced edition files text (locate steps) ends FAULT
+      → (it : FaultLiesAt edition files text (Some at)) → AnswersPlaced edition files text (locate steps) ends FAULT
       → Writes ends.line (fault_text it.outcome.stop ++ place_line at) ends.line_after
   -- a place that is told of a source without a fault, or with one in its first file
   pub no_place : (edition : Edition) (files : Files) (text : List ℕ) (question : Question) (ends : RunEnds) (status : ℕ)
-      → LiesAt edition files text None → AnswersPlaced edition files text question ends status
+      → FaultLiesAt edition files text None → AnswersPlaced edition files text question ends status
       → Answers edition files text question ends status
   -- the input and a file that are compiled as other bytes, or that get 133 or 134 where nothing failed
   pub compiled_joined : (lib b input : List ℕ) (edition : Edition) (ends : RunEnds) (status : ℕ) → HoldsOne shelf lib b

@@ -7,7 +7,7 @@ use Rattle.blang.specs.Reports.{Reported}
 use Rattle.blang.specs.declared.status.TheConstants.{FAULT}
 use Rattle.blang.specs.declared.token.Diagnostic.{Diagnostic}
 use Rattle.bcheck.specs.Checks.{is_of_several}
-use Rattle.bcheck.specs.SourceFaults.{IsFaultOf}
+use Rattle.bcheck.specs.SourceFaults.{IsSourceFault}
 use Rattle.bcommand.specs.CommandLine.{Question, count, locate, show, trace}
 use Rattle.bsources.specs.Files.{Files, Line, beyond_first}
 use Rattle.btools.specs.Quoting.{file_text}
@@ -36,7 +36,7 @@ place_line at = codes "at     line " ++ decimal at.line ++ codes " of " ++ file_
 abbrev pub IsPlaceText : Edition → Files → (text : List ℕ) → Question → Option (List ℕ) → Type 0
 IsPlaceText edition files text question place =
     MatchBool (is_placed files question)
-    ((stop : Option Diagnostic) × IsFaultOf edition text stop × (place ≡ option_map place_line (place_beyond files stop)))
+    ((stop : Option Diagnostic) × IsSourceFault edition text stop × (place ≡ option_map place_line (place_beyond files stop)))
     (place ≡ None)
 
 -- this line where the answer has the status of a fault, and else none

@@ -18,7 +18,8 @@ use Rattle.btools.specs.Programs.{nothing_written, untold}
 use Rattle.btools.specs.declared.tables.Entry.{Entry}
 use Rattle.std.proofs.lemmas.List.{length-map}
 use Rattle.bcount.specs.Counts.{AreCounts, EndsAfter}
-use Rattle.bcount.specs.Steps.{CountsSteps, steps_from}
+use Rattle.bcount.specs.Steps.{CountsSteps}
+use Rattle.btools.specs.Programs.{steps_from}
 use Rattle.bcount.specs.Tallies.{blank, counts_of, noted}
 use Rattle.bcount.proofs.Noting.{noted_more, noted_none}
 

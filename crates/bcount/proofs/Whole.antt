@@ -18,7 +18,8 @@ use Rattle.btools.specs.Functions.{Placed, functions_of, placed_entry}
 use Rattle.btools.specs.Programs.{HasProgram, TellsEnd, nothing_written}
 use Rattle.btools.specs.declared.tables.Entry.{Entry}
 use Rattle.bcount.specs.Counts.{AreCounts, Asked, Counts, EndsAfter, IsTableOf, counted, unread}
-use Rattle.bcount.specs.Steps.{CountsSteps, StepsGive, steps_from}
+use Rattle.bcount.specs.Steps.{CountsSteps, StepsGive}
+use Rattle.btools.specs.Programs.{steps_from}
 use Rattle.bcount.specs.Tallies.{counts_of, is_at, times}
 
 at_same : (I : Image) (strings place : ℕ) (s : State) → is_at strings place (state_resolved I s) ≡ is_at strings place s

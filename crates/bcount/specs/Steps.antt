@@ -8,13 +8,9 @@ use Rattle.blang.specs.Machine as runs
 use Rattle.blang.specs.Reports.{RunGives}
 use Rattle.bmach.specs.Stepping.{Paused, machine_at}
 use Rattle.btools.specs.Functions.{placed_entry}
-use Rattle.btools.specs.Programs.{nothing_written}
+use Rattle.btools.specs.Programs.{nothing_written, steps_from}
 use Rattle.btools.specs.declared.tables.Entry.{Entry}
 use Rattle.bcount.specs.Counts.{AreCounts}
-
--- the machine from this state on, by its input and the number of its steps
-abbrev pub steps_from : Paused → States
-steps_from p input n = runs.steps p.image n (machine_at p input [])
 
 -- what comes of so many steps from a state on
 abbrev pub StepsGive : Paused → (steps : ℕ) → (i j : Incoming) → Outcome → Type 0

@@ -8,7 +8,8 @@ use Rattle.std.proofs.lemmas.List.Elements.{All-head, All-tail}
 use Rattle.std.proofs.lemmas.List.Folds.{list_all-append}
 use Rattle.std.proofs.lemmas.Str.{digit_value-digit_char}
 use Rattle.btools.specs.Characters.{is_printable}
-use Rattle.bshow.specs.Escapes.{StaysInPlace, coded, escape, escaped, is_mark, is_safe, unescaped, unescaped_after}
+use Rattle.btools.specs.Quoting.{coded}
+use Rattle.bshow.specs.Escapes.{StaysInPlace, escape, escaped, is_mark, is_safe, unescaped, unescaped_after}
 
 abbrev choose : Bool → Bool → ℕ → List ℕ
 choose m p b = if m then coded b else (if p then b ∷ [] else coded b)

@@ -25,7 +25,8 @@ use Rattle.bshow.specs.Excluded.{AreRows, IsRowOf, NoPages, RowParts, RowsExclud
 use Rattle.bshow.specs.Facts.{calls_text}
 use Rattle.bshow.specs.Rows.{call_cells, code_of, done_cells, name_of, number_cell, text_cell, words_cell, words_in}
 use Rattle.bshow.specs.Shows as pages
-use Rattle.bshow.specs.Shows.{AreShown, Asked, EndsAs, IsPageOf, Shows, ShowsStep, StepRow, TellsCalls, Tries, heard_after, page_text, shown_of, store_after, stored_after}
+use Rattle.bshow.specs.Shows.{AreShown, Asked, EndsAs, IsPageOf, Shows, ShowsStep, StepRow, TellsCalls, heard_after, page_text, shown_of}
+use Rattle.btrace.specs.Traces.{Tries, store_after, stored_after}
 use Rattle.bshow.specs.declared.showing.PageRows.{PageRows}
 use Rattle.bshow.specs.declared.showing.PageRows.TheVariants as rows
 

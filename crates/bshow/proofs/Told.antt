@@ -21,7 +21,9 @@ use Rattle.bmach.proofs.Turning.{follows, goes_on, runs_on}
 use Rattle.btools.specs.Functions.{Placed}
 use Rattle.bshow.specs.Facts.{calls_text}
 use Rattle.bshow.specs.Rows.{call_cells, done_cells, heard_by, heard_in, words_in}
-use Rattle.bshow.specs.Shows.{AreShown, Record, ShowsStep, StepsGive, TellsSteps, Tries, first_of, heard_after, shown_of, record_of, steps_from, store_after, stored_after}
+use Rattle.bshow.specs.Shows.{AreShown, Record, ShowsStep, TellsSteps, first_of, heard_after, shown_of, record_of}
+use Rattle.btrace.specs.Traces.{StepsGive, Tries, store_after, stored_after}
+use Rattle.btools.specs.Programs.{steps_from}
 use Rattle.bshow.specs.Steps.{IsRow, KeepsStep, KeepsRow, TellsRun, TellsUnless, has_row, kept_texts, next_stored, retells, retold}
 use Rattle.bshow.specs.declared.showing.Recorder.{Recorder}
 use Rattle.bshow.specs.declared.showing.PageRows.{PageRows}

@@ -26,7 +26,9 @@ use Rattle.btools.specs.Programs.{HasProgram, nothing_written}
 use Rattle.btools.specs.Functions.{Placed, functions_of}
 use Rattle.bshow.specs.Facts.{call_text, calls_text, program_text}
 use Rattle.bshow.specs.Rows.{call_cells, done_cells, heard_by, words_in}
-use Rattle.bshow.specs.Shows.{AreShown, Asked, EndsAs, IsOverAfter, IsPageOf, IsWritten, Record, Shows, ShowsStep, StepRow, StepsGive, TellsSteps, Tries, heard_after, shown, no_memory, not_begun, steps_from, store_after, stored_after, unread}
+use Rattle.bshow.specs.Shows.{AreShown, Asked, EndsAs, IsOverAfter, IsPageOf, IsWritten, Record, Shows, ShowsStep, StepRow, TellsSteps, heard_after, shown, no_memory, not_begun, unread}
+use Rattle.btrace.specs.Traces.{StepsGive, Tries, store_after, stored_after}
+use Rattle.btools.specs.Programs.{steps_from}
 use Rattle.bshow.specs.Steps.{IsPage, ShowsRun, ShowsUnbegun, TellsRun, TellsUnless, broken, broken_status, refused, told}
 use Rattle.bshow.specs.declared.showing.Ended.{Ended}
 use Rattle.bshow.specs.declared.showing.PageRows.{PageRows}

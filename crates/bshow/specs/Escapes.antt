@@ -1,17 +1,14 @@
 -- Promise: a text within a page, which ends no string of JSON and is no mark of HTML, and how it reads back.
-use Rattle.std.specs.Prelude.{◌≡◌, ℕ, ◌+◌, ◌*◌, ◌/◌, ◌%◌, ◌<◌, ◌==◌, ◌&&◌, ◌||◌, Bool, not, IsTrue, List, [], ◌∷◌, ◌++◌}
+use Rattle.std.specs.Prelude.{◌≡◌, ℕ, ◌+◌, ◌*◌, ◌<◌, ◌==◌, ◌&&◌, ◌||◌, Bool, not, IsTrue, List, [], ◌∷◌, ◌++◌}
 use Rattle.std.specs.Prelude.{All, codes, length, nat_lt, slice_index, if◌then◌else◌}
-use Rattle.std.specs.Char.{digit_char, digit_value}
+use Rattle.std.specs.Char.{digit_value}
 use Rattle.std.specs.List.{flat_map, list_all}
 use Rattle.btools.specs.Characters.{is_printable}
+use Rattle.btools.specs.Quoting.{coded}
 
 -- the bytes " & < > \
 abbrev pub is_mark : ℕ → Bool
 is_mark b = (b == 34) || (b == 38) || (b == 60) || (b == 62) || (b == 92)
-
--- the escape of JSON for the character with this number
-abbrev pub coded : ℕ → List ℕ
-coded b = codes "\\u00" ++ digit_char (b / 16) ∷ digit_char (b % 16) ∷ []
 
 -- A printable byte of ASCII that is no mark stands for itself.
 abbrev pub escape : ℕ → List ℕ

@@ -18,6 +18,7 @@ use Rattle.bsources.specs.Files.{Files, files_shown}
 use Rattle.btools.specs.declared.names.Frame.{Frame}
 use Rattle.btools.specs.Programs.{HasProgram, NoProgram, nothing_written}
 use Rattle.btools.specs.Functions.{Placed, functions_of}
+use Rattle.btrace.specs.Traces.{Tries, store_after, stored_after}
 use Rattle.bshow.specs.Facts.{calls_text, no_run_text, program_text, run_text, sentence, unbegun_sentence}
 use Rattle.bshow.specs.Rows.{call_cells, done_cells, heard_by, words_in}
 use Rattle.bshow.specs.declared.page.TheConstants.{BETWEEN, HEAD, SCRIPT, TAIL}
@@ -34,20 +35,6 @@ first_of (rows.Last count) made = made - count
 -- the steps that have a row, each by the number of those before it
 abbrev pub shown_of : PageRows → (made : ℕ) → List ℕ
 shown_of which made = range_with_len (first_of which made) (made - first_of which made)
-
--- a machine that is to make a step: its call, those below it, and its world
-pub record Tries (states : ℕ → State) (made : ℕ) : Type 0 where
-  pub call : Call
-  pub below : List Call
-  pub world : World
-  pub state_is : states made ≡ Running call below world
-
--- the words after so many steps, and the addresses at which the step after them stores words
-abbrev pub store_after : (ℕ → State) → (made : ℕ) → List ℕ
-store_after states made = (state_world (states made)).store
-
-abbrev pub stored_after : List Loaded → (ℕ → State) → (made : ℕ) → List ℕ
-stored_after functions states made = stored functions (states made) (states (made + 1))
 
 -- what the step after so many read by `getchar`
 abbrev pub heard_after : List Placed → (ℕ → State) → (made : ℕ) → List ℕ
@@ -155,14 +142,6 @@ pub record IsPageOf (fs : List Placed) (functions : List Loaded) (which : PageRo
       → TellsSteps fs functions which (states (taken ++ more)) made kept
   pub leaves : (more : List ℕ) → CanFollow j more → store ≡ store_after (states (taken ++ more)) made
   pub ends : (more : List ℕ) → CanFollow j more → EndsAs fs (states (taken ++ more)) made steps result next
-
--- the machine from this state on, by its input and the number of its steps
-abbrev pub steps_from : Paused → States
-steps_from p input n = runs.steps p.image n (machine_at p input [])
-
--- what comes of so many steps from a state on
-abbrev pub StepsGive : Paused → ℕ → (i j : Incoming) (o p : Outgoing) → Outcome → Type 0
-StepsGive first n i j o p result = RunGives (steps_from first) n i j o p result
 
 -- what is asked for
 pub record Asked : Type 0 where

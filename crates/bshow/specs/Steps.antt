@@ -17,8 +17,10 @@ use Rattle.btools.specs.Programs.{nothing_written}
 use Rattle.btools.specs.Functions.{Placed}
 use Rattle.bshow.specs.Facts.{calls_text, no_run_text, program_text, run_text, sentence, unbegun_sentence}
 use Rattle.bshow.specs.Rows.{call_cells, done_cells, heard_in, words_in}
-use Rattle.bshow.specs.Shows.{Asked, EndsAs, Record, StepsGive, TellsSteps, page_text, rows_text, steps_from}
-use Rattle.bshow.specs.Shows.{store_after}
+use Rattle.bshow.specs.Shows.{Asked, EndsAs, Record, TellsSteps, page_text, rows_text}
+use Rattle.btrace.specs.Traces.{StepsGive}
+use Rattle.btools.specs.Programs.{steps_from}
+use Rattle.btrace.specs.Traces.{store_after}
 use Rattle.bshow.specs.declared.showing.Ended.{Ended}
 use Rattle.bshow.specs.declared.showing.Recorder.{Recorder}
 use Rattle.bshow.specs.declared.showing.PageRows.{PageRows}

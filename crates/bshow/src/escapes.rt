@@ -1,6 +1,7 @@
 //! Texts within a page.
 ghost use Rattle.std.specs.Prelude.{◌≡◌, ◌++◌, OnOk};
-ghost use Rattle.bshow.specs.Escapes.{StaysInPlace, coded, escape, escaped};
+ghost use Rattle.btools.specs.Quoting.{coded};
+ghost use Rattle.bshow.specs.Escapes.{StaysInPlace, escape, escaped};
 
 use btools::{Text, hexadecimal_digit};
 use std::alloc::AllocError;

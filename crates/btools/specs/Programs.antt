@@ -12,9 +12,11 @@ use Rattle.blang.specs.Compiles.{Compiles}
 use Rattle.blang.specs.declared.status.TheConstants.{DONE, MEMORY, REFUSED}
 use Rattle.blang.specs.Layout.{address_in, load_fault}
 use Rattle.bmach.specs.Loading.{IsFault}
-use Rattle.blang.specs.Machine.{Image}
+use Rattle.blang.specs.Machine.{Image, States}
+use Rattle.blang.specs.Machine as runs
 use Rattle.blang.specs.Reports.{Finishes, Reported}
 use Rattle.bmach.specs.Resolved.{IsLoadedFrom}
+use Rattle.bmach.specs.Stepping.{Paused, machine_at}
 use Rattle.blang.specs.declared.run.LoadFault.{LoadFault}
 use Rattle.blang.specs.declared.run.Outcome.{Outcome}
 use Rattle.blang.specs.declared.run.LoadFault.TheVariants as fault
@@ -132,3 +134,7 @@ abbrev pub TellsEnd : (told : ℕ) → Outcome → Outgoing → Outgoing → ℕ
 TellsEnd told result line line_after status =
     ((told ≡ DONE) × Finishes result line line_after status)
     ⊎ ((told ≡ DONE → ⊥) × (line_after ≡ line) × (status ≡ told))
+
+-- the machine from a state on, by its input and the number of its steps
+abbrev pub steps_from : Paused → States
+steps_from p input n = runs.steps p.image n (machine_at p input [])

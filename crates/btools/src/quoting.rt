@@ -1,6 +1,6 @@
 //! Texts in JSON, and names of files.
 ghost use Rattle.std.specs.Prelude.{◌≡◌, ◌++◌, OnOk};
-ghost use Rattle.btools.specs.Quoting.{escaped, file_byte, file_text, json_byte, json_text};
+ghost use Rattle.btools.specs.Quoting.{coded, file_byte, file_text, json_byte, json_text};
 
 use crate::characters::hexadecimal_digit;
 use crate::text::Text;
@@ -49,7 +49,7 @@ fn push_file_byte(text: &mut Text, byte: u8) -> Result<(), AllocError>
 }
 
 fn push_escaped(text: &mut Text, byte: u8) -> Result<(), AllocError>
-    ensures { OnOk result (text.new ≡ text.old ++ escaped byte) }
+    ensures { OnOk result (text.new ≡ text.old ++ coded byte) }
 {
     text.push(&[
         b'\\',

@@ -19,7 +19,7 @@ use Rattle.btools.specs.Programs.{HasProgram}
 use Rattle.bsources.specs.Files.{Files}
 use Rattle.btrace.specs.RowTexts.{Legend, legend_in}
 use Rattle.btrace.specs.Locates.{Locates, TellsSite, located, located_status, unlocated}
-use Rattle.btrace.specs.Traces.{steps_from}
+use Rattle.btools.specs.Programs.{steps_from}
 use Rattle.btrace.proofs.Unresolved.{running_from}
 
 pub no_other : (r : Option ℕ) (s t : ℕ) → r ≡ Some s → (s ≡ t → ⊥) → r ≡ Some t → ⊥

@@ -26,7 +26,8 @@ use Rattle.btrace.specs.Trails.{chosen, trail_text}
 use Rattle.btrace.specs.declared.trail.Trail.{Trail}
 use Rattle.btrace.proofs.Kept.{All-chosen, Holds, held, map-chosen, with_row}
 use Rattle.btrace.specs.Traces as traces
-use Rattle.btrace.specs.Traces.{AddsEnd, AddsIf, AddsLast, AddsPlaces, AddsStep, AreShown, EndsAs, IsTried, TellsPlace, TraceRow, ShowsStep, StepsGive, TakesByte, TracesStep, Tries, is_shown, is_wanted, rows_text, steps_from, store_after, stored_after, wanted_of}
+use Rattle.btrace.specs.Traces.{AddsEnd, AddsIf, AddsLast, AddsPlaces, AddsStep, AreShown, EndsAs, IsTried, TellsPlace, TraceRow, ShowsStep, StepsGive, TakesByte, TracesStep, Tries, is_shown, is_wanted, rows_text, store_after, stored_after, wanted_of}
+use Rattle.btools.specs.Programs.{steps_from}
 use Rattle.btrace.specs.declared.tracing.Which.{Which}
 
 -- Each step that may be shown has a row, in order.

@@ -22,7 +22,8 @@ use Rattle.brun.proofs.RunSteps.{outcome-resolved, run_loaded, run_of_loaded, wo
 use Rattle.btools.specs.Programs.{HasProgram, nothing_written}
 use Rattle.bsources.specs.Files.{Files}
 use Rattle.btrace.specs.RowTexts.{Legend, legend_in, places_text, step_row, stored_text, written_row}
-use Rattle.btrace.specs.Traces.{AreShown, EndsAs, IsTried, IsWhere, TraceRow, ShowsRows, ShowsStep, StepsGive, TakesByte, TellsPlace, Traces, Tries, is_shown, is_step, shown_of, steps_from, store_after, stored_after, traced, waits_at, wanted_of, which_of}
+use Rattle.btrace.specs.Traces.{AreShown, EndsAs, IsTried, IsWhere, TraceRow, ShowsRows, ShowsStep, StepsGive, TakesByte, TellsPlace, Traces, Tries, is_shown, is_step, shown_of, store_after, stored_after, traced, waits_at, wanted_of, which_of}
+use Rattle.btools.specs.Programs.{steps_from}
 use Rattle.btools.specs.Programs.{TellsEnd}
 use Rattle.btrace.specs.Trails.{chosen}
 use Rattle.btrace.specs.declared.trail.TraceRows.{TraceRows}

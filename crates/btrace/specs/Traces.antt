@@ -21,7 +21,7 @@ use Rattle.bmach.specs.declared.machine.Active.{Active}
 use Rattle.blang.specs.declared.run.Outcome.{Outcome}
 use Rattle.blang.specs.declared.run.Outcome.TheVariants as outcome
 use Rattle.blang.specs.Layout.{World}
-use Rattle.btools.specs.Programs.{HasProgram, NoProgram, TellsEnd, nothing_written}
+use Rattle.btools.specs.Programs.{HasProgram, NoProgram, TellsEnd, nothing_written, steps_from}
 use Rattle.btools.specs.Functions.{Placed, function_named, functions_of}
 use Rattle.bsources.specs.Files.{Files}
 use Rattle.btrace.specs.RowTexts.{Legend, Place, legend_in, places_text, step_row, stored_text, written_row}
@@ -200,10 +200,6 @@ AddsEnd legend store call below (outcome.Trap kind) old new = AddsPlaces legend 
 AddsEnd legend store call below outcome.Limit old new = AddsPlaces legend store call below old new
 AddsEnd legend store call below outcome.Memory old new = ⊥
 AddsEnd legend store call below r old new = new ≡ old
-
--- the machine from this state on, by its input and the number of its steps
-abbrev pub steps_from : Paused → States
-steps_from p input n = runs.steps p.image n (machine_at p input [])
 
 -- what comes of so many steps from a state on
 abbrev pub StepsGive : Paused → ℕ → (i j : Incoming) (o p : Outgoing) → Outcome → Type 0

@@ -10,7 +10,8 @@ ghost use Rattle.bsources.specs.Files.{File, files_shown};
 ghost use Rattle.btools.specs.Functions.{entries_of};
 ghost use Rattle.btools.specs.Programs.{nothing_written};
 ghost use Rattle.btrace.specs.RowTexts.{legend_of};
-ghost use Rattle.btrace.specs.Traces.{AddsEnd, ShowsRows, StepsGive, Traces, TracesStep, is_wanted, steps_from, which_of};
+ghost use Rattle.btrace.specs.Traces.{AddsEnd, ShowsRows, StepsGive, Traces, TracesStep, is_wanted, which_of};
+ghost use Rattle.btools.specs.Programs.{steps_from};
 ghost use Rattle.btrace.specs.Trails.{trail_text};
 
 use crate::legend::Legend;

@@ -2,7 +2,8 @@ use Rattle.std.proofs.Common.{◌≡◌, ◌∙◌, ℕ, ap, arith, refl, subst,
 use Rattle.bword.specs.ByteEnds.{Kept, Outgoing, outgoing_of}
 use Rattle.blang.specs.declared.run.Outcome.TheVariants as outcome
 use Rattle.btools.specs.Functions.{entries_of}
-use Rattle.bshow.specs.Shows.{StepsGive, record_of}
+use Rattle.bshow.specs.Shows.{record_of}
+use Rattle.btrace.specs.Traces.{StepsGive}
 use Rattle.bshow.specs.Steps.{TellsRun, retold}
 use Rattle.bshow.proofs.Told.{all_give, all_told, last_told, over_gives, over_unless, ready_told, told_none, told_one}
 use Rattle.bshow.proofs.showing.run_steps.Goals as goal

@@ -7,7 +7,8 @@ use Rattle.bmach.specs.declared.machine.Active.{Active}
 use Rattle.btools.specs.Programs.{nothing_written}
 use Rattle.bword.specs.ByteEnds.{Kept, outgoing_of}
 use Rattle.btrace.specs.RowTexts.{Legend, legend_of}
-use Rattle.btrace.specs.Traces.{AddsEnd, AddsPlaces, ShowsRows, StepsGive, TracesStep, is_wanted, steps_from}
+use Rattle.btrace.specs.Traces.{AddsEnd, AddsPlaces, ShowsRows, StepsGive, TracesStep, is_wanted}
+use Rattle.btools.specs.Programs.{steps_from}
 use Rattle.btrace.specs.Trails.{trail_text}
 use Rattle.btrace.specs.declared.trail.Trail.{Trail}
 use Rattle.btrace.proofs.Kept.{holds_after, holds_none, row_none, with_row}
