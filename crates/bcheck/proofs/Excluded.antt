@@ -23,7 +23,7 @@ use Rattle.blang.specs.declared.status.TheConstants.{DEVICE, DONE, FAULT}
 use Rattle.blang.specs.declared.token.Diagnostic.{Diagnostic}
 use Rattle.bgrammar.specs.SourceRows.{ComesIn}
 use Rattle.bgrammar.proofs.GoesLaws.{each_source_comes, outcomes_are_equal}
-use Rattle.bgrammar.proofs.SourceRows.{edition_rows}
+use Rattle.bgrammar.proofs.SourceRows.{a_break_of_one, a_break_outside}
 use Rattle.bcheck.specs.Checks as checks
 use Rattle.bsources.specs.Files.{File, Files, Line, own_line, own_line_among}
 use Rattle.bcheck.specs.Checks.{IsOver, Reason, StandsOn, code_keyword, column_after, diagnostic_code, finding_at}
@@ -399,7 +399,7 @@ excluded = record {
   no_failure = λ c line status to is none h. device c.form (comes_to c line status to) c.files (shown_in_form c.form line) status c.status c.out c.out_after (comes_small c line status to) is none (tells c line status to h);
   no_refusal = λ c line status to is none some h. memory c.form (comes_to c line status to) c.files (shown_in_form c.form line) status c.status c.out c.out_after (comes_small c line status to) is none some (tells c line status to h);
   no_such_status = λ c line status to is h. above c.form (comes_to c line status to) c.files (shown_in_form c.form line) status c.status c.out c.out_after (comes_small c line status to) is (tells c line status to h);
-  first_edition = λ c text s e f t start h. let no = known_line c editions.Two _ _ _ text _ 115 117 e s f edition_rows.break_outside t start h in absurd (omega (arith, no));
-  second_edition = λ c text s e f t start h. let no = known_line c editions.One _ _ _ text _ 117 115 e s f edition_rows.mention_break t start h in absurd (omega (arith, no));
+  first_edition = λ c text s e f t start h. let no = known_line c editions.Two _ _ _ text _ 115 117 e s f a_break_outside t start h in absurd (omega (arith, no));
+  second_edition = λ c text s e f t start h. let no = known_line c editions.One _ _ _ text _ 117 115 e s f a_break_of_one t start h in absurd (omega (arith, no));
   one_fault = one_fault;
 }

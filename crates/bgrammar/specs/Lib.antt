@@ -13,6 +13,7 @@ pub mod Unread
 pub mod Compiled
 pub mod OutcomeRows
 pub mod SourceRows
+pub mod GrammarRows
 pub mod DiagnosticRows
 pub mod Levels
 pub mod LevelRows

@@ -8,7 +8,11 @@ ghost use Rattle.bgrammar.specs.Editions.{BeginsOld, OldTokensOldTree, PartOfOld
 ghost use Rattle.bgrammar.specs.Levels.{CanBeEnded, HasLevels, LevelsOfTokens, NeedsLevels};
 ghost use Rattle.bgrammar.specs.ProgramRules.{FormedWithin, HasParts, OneProgram, OneWay};
 ghost use Rattle.bgrammar.specs.OutcomeRows.{OutcomeRows};
-ghost use Rattle.bgrammar.specs.SourceRows.{EditionRows, FaultRows as SourceFaultRows, FunctionRows, PlaceRows, WorkedRows};
+ghost use Rattle.bgrammar.specs.GrammarRows.{all_refused, assignments, cases, definitions, operands, operators, refused, refused_in_two, rvalues, statements, statements_of_two};
+ghost use Rattle.bgrammar.specs.SourceRows.{AllCome, edges, externals, faults, functions, names_of_one, of_two, places};
+ghost use Rattle.blang.specs.Text.{edition_line};
+ghost use Rattle.bword.specs.declared.edition.Edition.TheVariants as editions;
+ghost use Rattle.std.specs.Prelude.{[]};
 ghost use Rattle.bgrammar.specs.Unread.{LinesUnread};
 ghost use Rattle.bgrammar.specs.Rows.{DefinitionRows, ExpressionRows, LevelRows};
 ghost use Rattle.bgrammar.specs.ReadsBack.{ReadsBack};
@@ -117,11 +121,27 @@ pub fn rows_of_outcomes()
 
 /// Whole sources, with the code text and the line of the diagnostic that come of each.
 pub fn rows_of_sources()
-    ensures definitions { WorkedRows }
-    ensures functions { FunctionRows }
-    ensures faults { SourceFaultRows }
-    ensures places { PlaceRows }
-    ensures editions { EditionRows }
+    ensures externals { AllCome editions.One externals }
+    ensures functions { AllCome editions.One functions }
+    ensures faults { AllCome editions.One faults }
+    ensures places { AllCome editions.One places }
+    ensures edges { AllCome editions.One edges }
+    ensures names { AllCome editions.One names_of_one }
+    ensures two { AllCome editions.Two of_two }
+{}
+
+/// Each production of the grammar at each place where it may stand, and what is refused beside it.
+pub fn rows_of_the_grammar()
+    ensures definitions { AllCome editions.One definitions }
+    ensures statements { AllCome editions.One statements }
+    ensures cases { AllCome editions.One cases }
+    ensures rvalues { AllCome editions.One rvalues }
+    ensures assignments { AllCome editions.One assignments }
+    ensures operators { AllCome editions.One operators }
+    ensures operands { AllCome editions.One operands }
+    ensures refused { AllCome editions.One (all_refused [] refused) }
+    ensures statements_of_two { AllCome editions.Two statements_of_two }
+    ensures refused_in_two { AllCome editions.Two (all_refused edition_line refused_in_two) }
 {}
 
 /// The tokens of a source of the first edition are without `break` and `default`, and are read as without these two:

@@ -34,6 +34,13 @@ lchar_0 = refl
 lchar_1 : library Lchar (2 ∷ 1 ∷ 333 ∷ []) world ≡ Gives 333 (record world { store = 0 ∷ 0 ∷ 19816 ∷ 4 ∷ [] })
 lchar_1 = refl
 
+-- a word from 32768 on is given as it is
+lchar_given : library Lchar (2 ∷ 0 ∷ 65535 ∷ []) world ≡ Gives 65535 (record world { store = 0 ∷ 0 ∷ 27135 ∷ 4 ∷ [] })
+lchar_given = refl
+
+lchar_wraps : library Lchar (32772 ∷ 65532 ∷ 72 ∷ []) world ≡ library Lchar (2 ∷ 0 ∷ 72 ∷ []) world
+lchar_wraps = refl
+
 getchar_next : library Getchar [] world ≡ Gives 97 (record world { input = codes "b" })
 getchar_next = refl
 
@@ -52,6 +59,9 @@ putchar_low_zero = refl
 
 putchar_zero : library Putchar [] world ≡ Gives 0 (record world { output = 46 ∷ 0 ∷ [] })
 putchar_zero = refl
+
+putchar_greatest : library Putchar (65535 ∷ []) world ≡ Gives 65535 (record world { output = 46 ∷ 255 ∷ 255 ∷ [] })
+putchar_greatest = refl
 
 printn_least : library Printn (32768 ∷ 10 ∷ []) world ≡ Gives 0 (record world { output = codes ".-32768" })
 unfolding digits
@@ -73,6 +83,14 @@ printn_zero : library Printn (0 ∷ 10 ∷ []) world ≡ Gives 0 (record world {
 unfolding digits
 printn_zero = refl
 
+-- a word below zero has its sign to each base
+printn_bases : map (λ args. library Printn args world) (
+    (65535 ∷ 8 ∷ []) ∷ (32768 ∷ 8 ∷ []) ∷ (65534 ∷ 3 ∷ []) ∷ (80 ∷ 3 ∷ []) ∷ (65527 ∷ 9 ∷ []) ∷ (80 ∷ 9 ∷ []) ∷ [])
+    ≡ map (λ text. Gives 0 (record world { output = text })) (
+    codes ".-1" ∷ codes ".-100000" ∷ codes ".-2" ∷ codes ".2222" ∷ codes ".-10" ∷ codes ".88" ∷ [])
+unfolding digits
+printn_bases = refl
+
 printn_base_1 : library Printn (5 ∷ 1 ∷ []) world ≡ Ends (Trapped BadBase) world
 printn_base_1 = refl
 
@@ -83,8 +101,9 @@ printn_base_11 = refl
 printn_no_base : library Printn (5 ∷ []) world ≡ Ends (Trapped BadBase) world
 printn_no_base = refl
 
-exit_200 : library Exit (200 ∷ []) world ≡ Ends (Exited 72) world
-exit_200 = refl
+exits : map (λ n. library Exit (n ∷ []) world) (200 ∷ 255 ∷ 256 ∷ 300 ∷ 65535 ∷ [])
+    ≡ map (λ n. Ends (Exited n) world) (72 ∷ 127 ∷ 0 ∷ 44 ∷ 127 ∷ [])
+exits = refl
 
 -- called values: 0, those of the library, and from 7 on those of the program
 callee_0 : callee_of (codes "fg") 0 ≡ NoFunction
@@ -169,10 +188,16 @@ printn_extra : library Printn (5 ∷ 10 ∷ 2 ∷ []) world ≡ Gives 0 (record 
 unfolding digits
 printn_extra = refl
 
+lchar_extra : library Lchar (2 ∷ 0 ∷ 72 ∷ 73 ∷ []) world ≡ library Lchar (2 ∷ 0 ∷ 72 ∷ []) world
+lchar_extra = refl
+
 char_extra : library Char (2 ∷ 1 ∷ 0 ∷ []) world ≡ Gives 105 world
 char_extra = refl
 
 -- a missing argument is 0
+lchar_missing : library Lchar (2 ∷ 0 ∷ []) world ≡ Gives 0 (record world { store = 0 ∷ 0 ∷ 26880 ∷ 4 ∷ [] })
+lchar_missing = refl
+
 char_alone : map (λ args. library Char args world) ([] ∷ (2 ∷ []) ∷ []) ≡ Gives 0 world ∷ Gives 104 world ∷ []
 char_alone = refl
 

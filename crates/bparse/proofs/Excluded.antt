@@ -7,7 +7,7 @@ use Rattle.blang.specs.Cut.{whole, word_token, keyword_of, number_in, with_quote
 use Rattle.blang.specs.declared.token.Diagnostic.{Diagnostic}
 use Rattle.blang.specs.Compiles.{Run, Compiles, Compilation, CompilesTo, TakenUpTo, Whatever, IsCompiled, IsFaulty, TextCutOff, LineCutOff, NamesRefused, EndRefused, SourceFailed, code_text, fault_text, line_of}
 use Rattle.bgrammar.specs.SourceRows.{Comes}
-use Rattle.bgrammar.proofs.SourceRows.{worked_rows, function_rows, outcome_sound}
+use Rattle.bgrammar.proofs.SourceRows.{a_function, a_name_twice, a_number, an_empty_source, outcome_sound}
 use Rattle.bgrammar.proofs.GoesLaws.{tokens_from-ended, each_source_comes}
 use Rattle.bparse.specs.Excluded.{Observed, NoneFailed, NoneRefused, NoReadFailed, Excluded}
 use Rattle.bparse.proofs.ReadingLaws.{held_at_fault}
@@ -180,12 +180,12 @@ unseen : {code line : List ℕ} (run : Run) (o : Observed [] code line 0 run) (h
 unseen run o h still =
     let rest = rest_of run.source run.source_after h.taken [] h.took o.source in
     let none : h.taken ≡ [] = nothing_taken h.taken rest.more rest.whole in
-    let outcome = worked_rows.number in
+    let outcome = a_number in
     let number = h.compiled o.status (codes "n 2000;") (λ over. absurd (open_or_over run.source_after.is_over still over)) outcome.outcome
     (subst (λ e. CompilesTo [] (tokens_from e 1 (h.taken ++ codes "n 2000;")) outcome.outcome) (sym o.edition)
     (subst (λ t. CompilesTo [] (tokens_from editions.One 1 (t ++ codes "n 2000;")) outcome.outcome) (sym none) outcome.goes)) in
     let long = code_is run o h (codes "X n 1 0\nc 2000\nE\n") outcome.outcome outcome.code_is number.code in
-    let short = (done run o h worked_rows.empty refl).code_right in
+    let short = (done run o h an_empty_source refl).code_right in
     differs (sym long ∙ short) (λ n. absurd (omega (arith, n)))
 
 given_back : {code line : List ℕ} {status : ℕ} (run : Run) (o : Observed [] code line status run) (h : Compiles run) → run.source_after.left ≡ Some (120 ∷ []) → ⊥
@@ -469,23 +469,23 @@ no_last_line (suc n) e = differ_first e (λ h. absurd (omega (arith, h)))
 
 pub excluded : Excluded
 excluded = record {
-  last_line_alone = λ run o w h. differs (done run o h function_rows.nothing refl).code_right (λ n. absurd (omega (arith, n)));
-  source_itself = λ run o w h. differs (done run o h function_rows.nothing refl).code_right (λ n. absurd (omega (arith, n)));
-  kept_back = λ run o w h. differs (faulty run o h worked_rows.twice refl).code_right (λ n. absurd (omega (arith, n)));
-  faulty_written = λ run o w h. differs (faulty run o h worked_rows.twice refl).code_right (λ n. absurd (omega (arith, n)));
-  ended = λ run o w h. differs (faulty run o h worked_rows.twice refl).code_right (λ n. absurd (omega (arith, n)));
-  other_line = λ run o w h. differs (faulty run o h worked_rows.twice refl).line_right (λ n. absurd (omega (arith, n)));
-  no_line = λ run o w h. differs (faulty run o h worked_rows.twice refl).line_right (λ n. absurd (omega (arith, n)));
-  fault_hidden = λ run o w h. differs (done run o h worked_rows.twice refl).clean (λ n. absurd (omega (arith, n)));
-  line_invented = λ run o w h. differs (done run o h worked_rows.number refl).quiet (λ n. absurd (omega (arith, n)));
-  fault_invented = λ run o w h. (faulty run o h worked_rows.number refl).some refl;
+  last_line_alone = λ run o w h. differs (done run o h a_function refl).code_right (λ n. absurd (omega (arith, n)));
+  source_itself = λ run o w h. differs (done run o h a_function refl).code_right (λ n. absurd (omega (arith, n)));
+  kept_back = λ run o w h. differs (faulty run o h a_name_twice refl).code_right (λ n. absurd (omega (arith, n)));
+  faulty_written = λ run o w h. differs (faulty run o h a_name_twice refl).code_right (λ n. absurd (omega (arith, n)));
+  ended = λ run o w h. differs (faulty run o h a_name_twice refl).code_right (λ n. absurd (omega (arith, n)));
+  other_line = λ run o w h. differs (faulty run o h a_name_twice refl).line_right (λ n. absurd (omega (arith, n)));
+  no_line = λ run o w h. differs (faulty run o h a_name_twice refl).line_right (λ n. absurd (omega (arith, n)));
+  fault_hidden = λ run o w h. differs (done run o h a_name_twice refl).clean (λ n. absurd (omega (arith, n)));
+  line_invented = λ run o w h. differs (done run o h a_number refl).quiet (λ n. absurd (omega (arith, n)));
+  fault_invented = λ run o w h. (faulty run o h a_number refl).some refl;
   other_status = λ run o w h. no_other run o h refl;
   end_unseen = λ run o w h. unseen run o h w;
   bytes_invented = λ run o w h. given_back run o h w;
-  failure_hidden = λ run o w h. w (done run o h worked_rows.number refl).read;
-  failure_passed = λ run o w h. w (faulty run o h worked_rows.twice refl).read;
-  failure_invented = λ run o w h. some_failed run o h worked_rows.number.outcome worked_rows.number.goes refl w;
-  failure_after_line = λ run o w h. elim (failed run o h worked_rows.twice.outcome worked_rows.twice.goes refl) [ inl e ↦ differs e (λ n. absurd (omega (arith, n))) | inr g ↦ w g ];
+  failure_hidden = λ run o w h. w (done run o h a_number refl).read;
+  failure_passed = λ run o w h. w (faulty run o h a_name_twice refl).read;
+  failure_invented = λ run o w h. some_failed run o h a_number.outcome a_number.goes refl w;
+  failure_after_line = λ run o w h. elim (failed run o h a_name_twice.outcome a_name_twice.goes refl) [ inl e ↦ differs e (λ n. absurd (omega (arith, n))) | inr g ↦ w g ];
   refusal_invented = λ run o w h. some_refused run o h (record { code = []; stop = None }) no_code refl refl w;
   last_line_early = λ run o w h. let t = texts_written run o h refl w.0 w.1 in no_last_line t.0 t.1;
   line_before_code = λ run o w h. differs (code_then_line run o h w.0 w.1) (λ n. absurd (omega (arith, n)));

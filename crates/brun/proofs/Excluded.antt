@@ -13,7 +13,7 @@ use Rattle.blang.specs.Code.{code_of}
 use Rattle.blang.specs.Compiles as compiled
 use Rattle.blang.specs.Compiles.{CompilesTo, Tells, fault_text, line_of, Run, NamesRefused, EndRefused, status_of}
 use Rattle.bgrammar.specs.SourceRows.{ComesIn}
-use Rattle.bgrammar.proofs.SourceRows.{edition_rows}
+use Rattle.bgrammar.proofs.SourceRows.{a_break_of_one, a_break_outside}
 use Rattle.blang.specs.Trees.{Definition, Expr, Arguments, Character, Named, Literal, Called, No_arguments, Another, Evaluate, Compound, Stmts, Nothing, More}
 use Rattle.blang.specs.Machine.{State, Halted, image_of, machine}
 use Rattle.blang.specs.Reports.{state_outcome, Reported, report_text, RunEnds, RunGives, Finishes}
@@ -119,13 +119,13 @@ module _ (steps : ℕ) (source source_after : Incoming) (ends : RunEnds) (status
   -- a body that takes the first edition where it is told the second
   pub no_first_edition : GoesOff editions.Two steps source source_after ends status → following ≡ codes "un break 1\n" → ⊥
   no_first_edition h first =
-      let letters : 117 ≡ 115 = ap first_byte (sym first ∙ line_in editions.Two _ _ edition_rows.break_outside h (λ e. cc)) in
+      let letters : 117 ≡ 115 = ap first_byte (sym first ∙ line_in editions.Two _ _ a_break_outside h (λ e. cc)) in
       omega (arith, letters)
 
   -- a body that takes the second where it is told the first
   pub no_second_edition : GoesOff editions.One steps source source_after ends status → following ≡ codes "sx break 1\n" → ⊥
   no_second_edition h second =
-      let letters : 115 ≡ 117 = ap first_byte (sym second ∙ line_in editions.One _ _ edition_rows.mention_break h (λ e. cc)) in
+      let letters : 115 ≡ 117 = ap first_byte (sym second ∙ line_in editions.One _ _ a_break_of_one h (λ e. cc)) in
       omega (arith, letters)
 
 -- In the first edition nothing is written before there is code. So where there is none, only the line's end is refused memory.

@@ -18,7 +18,7 @@ use Rattle.blang.specs.Cut.{placed}
 use Rattle.blang.specs.Headline.{NothingFailed, RunAnswers}
 use Rattle.bgrammar.proofs.Parting.{parted_end}
 use Rattle.bgrammar.proofs.Outcomes.{parted_after, parted_once}
-use Rattle.bgrammar.proofs.SourceRows.{worked_rows}
+use Rattle.bgrammar.proofs.SourceRows.{a_number}
 use Rattle.brun.specs.OneRun.{OneRunIsKnown, OneCompilationIsKnown, one_run_ends, one_compilation_run, unread}
 use Rattle.brun.proofs.Excluded.{writes_a, main_a, state}
 
@@ -51,7 +51,7 @@ one_compilation source code line status h = by_memory status answered
   where
     answered : (status ≡ 134 → ⊥) → (status ≡ 0) × (code.bytes ≡ codes "X n 1 0\nc 2000\nE\n") × (line.bytes ≡ [])
     answered some =
-        let c = worked_rows.number in
+        let c = a_number in
         let calm : IsUndisturbed (one_compilation_run source code line status) = record { source_read = no_failure; code_written = no_failure; line_written = no_failure; not_refused = some } in
         let says = (h (codes "n 2000;") (tells (codes "n 2000;")) calm).1 c.outcome c.goes in
         let clean = no_fault c.outcome.stop c.line_is in

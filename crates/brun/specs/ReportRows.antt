@@ -98,7 +98,7 @@ module _ (line following : Outgoing) (status : ℕ) where
 ends_itself : line_at (Exited 72) ≡ []
 ends_itself = refl
 
-its_status : status_at (Exited 72) ≡ 72
+its_status : map (λ n. status_at (Exited n)) (0 ∷ 72 ∷ 127 ∷ []) ≡ 0 ∷ 72 ∷ 127 ∷ []
 its_status = refl
 
 ends_trapped : line_at (Trapped trap.ZeroDivisor) ≡ codes "trap dz\n"

@@ -29,6 +29,7 @@ abbrev both : List ℕ × List ℕ → Bool
 both p = same_name p.0 p.1
 
 same : map both (
-    (codes "ab", codes "ab") ∷ (codes "ab", codes "aB") ∷ (codes "ab", codes "abc") ∷ (codes "ab", codes "ba") ∷ []) ≡
-    true ∷ false ∷ false ∷ false ∷ []
+    (codes "ab", codes "ab") ∷ (codes "ab", codes "aB") ∷ (codes "ab", codes "abc") ∷ (codes "ab", codes "ba") ∷
+    (codes "abcdefgh", codes "abcdefgh") ∷ (codes "abcdefgh", codes "abcdefgi") ∷ []) ≡
+    true ∷ false ∷ false ∷ false ∷ true ∷ false ∷ []
 same = refl
