@@ -17,10 +17,11 @@ use Rattle.btools.specs.Columns.{left, right}
 use Rattle.btools.specs.Excluded.{Excluded, code_in}
 use Rattle.btools.specs.Programs.{ToldEnds, image_address, load_line}
 use Rattle.btools.proofs.Excluded.{clean, device_grew, excluded, no_done, other_answer, was_told}
-use Rattle.blist.specs.Excluded.{NoListings, NoMaps, WrongStatuses}
+use Rattle.blist.specs.Excluded.{IsListing, NoListings, NoMaps, WrongStatuses}
+use Rattle.blist.specs.declared.rows.CodeSpot.{CodeSpot}
 use Rattle.blist.specs.declared.layout.TheConstants as layout_texts
 use Rattle.blist.specs.declared.listing.TheConstants.{HEADING, UNDEFINED}
-use Rattle.blist.specs.Listings.{AreRows, Lists, wanted}
+use Rattle.blist.specs.Listings.{AreRows, Lists, spots_at, spots_in, wanted}
 use Rattle.blist.specs.Listings as listing
 use Rattle.blist.specs.Maps.{Maps, dots, kind_text, map_row, map_text, words_from}
 use Rattle.blist.specs.Maps as layout
@@ -51,6 +52,12 @@ module _ (image other : Image) (words : image.words ≡ other.words) (addresses 
   rows_same [] = refl
   rows_same (d ∷ ds) = ap₂ (λ a b. a ++ b) (row_same (shape_of d)) (rows_same ds)
 
+-- where the lines of these definitions lie follows from the addresses of names
+spots_same : (ds : List Definition) (image : Image) → IsLoadedFrom ds image → (es : List Definition) → flat_map (spots_in image) es ≡ flat_map (spots_in (image_of ds)) es
+spots_same ds image h [] = refl
+spots_same ds image h (d ∷ es) =
+    ap₂ (λ (a b : List CodeSpot). a ++ b) (ap (λ (a : Option ℕ). spots_at (unwrap_or a 0) d) (h.addresses (shape_of d).name)) (spots_same ds image h es)
+
 map_same : (ds : List Definition) (image : Image) → IsLoadedFrom ds image → map_text image ds ≡ map_text (image_of ds) ds
 map_same ds image h =
     ap₂ (λ rows end. layout_texts.HEADING.now ++ rows ++ codes "data end " ++ decimal end ++ codes "\n")
@@ -67,7 +74,7 @@ module _ (edition : Edition) (source : List ℕ) (r : Compilation) (g : Compiles
     abbrev Gives : ℕ → Type 0
     Gives status = Lists edition source name ends status
 
-    list_done : Gives 0 → (r.stop ≡ None) × (load_fault code ≡ None) × (wanted name code ≡ [] → ⊥) × ((text : List ℕ) × AreRows (flat_map lines_of (wanted name code)) text × Writes ends.out (HEADING.now ++ text) ends.out_after)
+    list_done : Gives 0 → (r.stop ≡ None) × (load_fault code ≡ None) × (wanted name code ≡ [] → ⊥) × ((text : List ℕ) × IsListing name code text × Writes ends.out (HEADING.now ++ text) ends.out_after)
     list_done (listing.listed ds image text p some rows report) =
         let is = told.program ds image p in (
           is.0,
@@ -75,7 +82,8 @@ module _ (edition : Edition) (source : List ℕ) (r : Compilation) (g : Compiles
           subst (λ (x : List Definition). wanted name x ≡ [] → ⊥) is.1 some,
           (
             text,
-            subst (λ (x : List Definition). AreRows (flat_map lines_of (wanted name x)) text) is.1 rows,
+            subst (λ (x : List Definition). IsListing name x text) is.1
+                (subst (λ ss. AreRows ss (flat_map lines_of (wanted name ds)) text) (spots_same ds image p.loaded (wanted name ds)) rows),
             was_told (HEADING.now ++ text) 0 ends.out ends.out_after (λ e. omega (arith, e)) (λ e. omega (arith, e)) report,
           ),
         )

@@ -3,3 +3,4 @@ pub mod Beside
 pub mod Excluded
 pub mod Printable
 pub mod ShownRows
+pub mod Spots

@@ -1,9 +1,11 @@
 -- What the rows of lines of code show.
-use Rattle.std.proofs.Common.{◌≡◌, ◌∙◌, ◌+◌, ◌/◌, ◌%◌, ◌<◌, ◌≤◌, ℕ, zero, suc, Bool, true, false, List, [], ◌∷◌, ◌++◌, Option, Some, None, map, filter, length, length-append, ap, ap₂, append_assoc, arith, refl, replicate, subst, sym, inl, inr}
+use Rattle.std.proofs.Common.{◌≡◌, ◌∙◌, ◌+◌, ◌/◌, ◌%◌, ◌<◌, ◌≤◌, ℕ, zero, suc, Bool, true, false, List, [], ◌∷◌, ◌++◌, Option, Some, None, map, filter, length, length-append, ap, ap₂, append_assoc, arith, refl, replicate, subst, sym, take, inl, inr}
 use Rattle.std.specs.Prelude.{codes, decimal, max, nat_le, nat_lt, ◌==◌, ◌-◌, ◌&&◌}
 use Rattle.std.specs.List.{flat_map, list_all}
 use Rattle.std.specs.Fmt.{digits, digits_onto, digit_glyph}
 use Rattle.std.proofs.lemmas.Bool.{and_from, and_parts, cond-false, cond-true, cond_both, eqb-true, le-leb, le-ltb, leb-true, lt-ltb, ne_eqb}
+use Rattle.std.proofs.lemmas.Fmt.{length-decimal-le}
+use Rattle.std.proofs.lemmas.List.{length-replicate, take_at}
 use Rattle.std.proofs.lemmas.List.Elements.{filter-append}
 use Rattle.std.proofs.lemmas.List.Folds.{list_all-append}
 use Rattle.blist.specs.declared.rows.CodeSpot.{CodeSpot}
@@ -90,8 +92,8 @@ rows_newlines (row ∷ rows) p =
     let one_more : 1 + count ≡ suc count = omega arith in
     newlines_both (row_text row) (flat_map row_text rows) ∙ ap₂ (λ x y. x + y) (row_newlines row parts.0) (rows_newlines rows parts.1) ∙ one_more
 
-as_many : (lines : List (List ℕ)) (text : List ℕ) → AreRows lines text → list_all is_one_line lines ≡ true → newlines text ≡ length lines
-as_many lines text h one =
+as_many : (spots : List CodeSpot) (lines : List (List ℕ)) (text : List ℕ) → AreRows spots lines text → list_all is_one_line lines ≡ true → newlines text ≡ length lines
+as_many spots lines text h one =
     ap newlines h.text_is ∙ rows_newlines h.rows (subst (λ ls. list_all is_one_line ls ≡ true) (sym h.lines_are) one) ∙ ap length h.lines_are
 
 -- a margin is passed over
@@ -115,12 +117,13 @@ row_shows row others letter rest is high =
     ap from_letter (in_order before code row.beside (codes "\n") others)
     ∙ passed before (code ++ row.beside ++ codes "\n" ++ others) (margin row.spot row.number) ∙ stops
 
-shown : (rows : List ListingRow) (line : List ℕ) (lines : List (List ℕ)) (text : List ℕ) (letter : ℕ) (rest : List ℕ) → map (λ row. row.line) rows ≡ line ∷ lines → text ≡ flat_map row_text rows → without_newline line ≡ letter ∷ rest → 65 ≤ letter
-    → (beside others : List ℕ) × (from_letter text ≡ without_newline line ++ beside ++ codes "\n" ++ others) × IsPrintable beside × IsApart (length (without_newline line)) beside × AreRows lines others
-shown [] line lines text letter rest are is starts high = absurd cc
-shown (row ∷ rows) line lines text letter rest are is starts high =
+shown : (rows : List ListingRow) (s : CodeSpot) (spots : List CodeSpot) (line : List ℕ) (lines : List (List ℕ)) (text : List ℕ) (letter : ℕ) (rest : List ℕ) → map (λ row. row.spot) rows ≡ s ∷ spots → map (λ row. row.line) rows ≡ line ∷ lines → text ≡ flat_map row_text rows → without_newline line ≡ letter ∷ rest → 65 ≤ letter
+    → (beside others : List ℕ) × (from_letter text ≡ without_newline line ++ beside ++ codes "\n" ++ others) × IsPrintable beside × IsApart (length (without_newline line)) beside × AreRows spots lines others
+shown [] s spots line lines text letter rest lie are is starts high = absurd cc
+shown (row ∷ rows) s spots line lines text letter rest lie are is starts high =
     let same : row.line ≡ line = cc in
     let others_are : map (λ row. row.line) rows ≡ lines = cc in
+    let others_lie : map (λ row. row.spot) rows ≡ spots = cc in
     let others = flat_map row_text rows in
     let begins = ap without_newline same ∙ starts in (
       row.beside,
@@ -128,7 +131,7 @@ shown (row ∷ rows) line lines text letter rest are is starts high =
       ap from_letter is ∙ row_shows row others letter rest begins high ∙ ap (λ l. without_newline l ++ row.beside ++ codes "\n" ++ others) same,
       row.beside_is_printable,
       subst (λ l. IsApart (length (without_newline l)) row.beside) same row.beside_is_apart,
-      record { rows = rows; lines_are = others_are; text_is = refl },
+      record { rows = rows; spots_are = others_lie; lines_are = others_are; text_is = refl },
     )
 
 -- at least one blank stands first
@@ -140,5 +143,36 @@ apart used b rest (inr h) = first (max (14 - used) 1) (omega arith) h.1
     first zero some is = absurd (omega (arith, some))
     first (suc n) some is = cc
 
+in_three : (spot number code rest others : List ℕ) → ((((spot ++ number ++ codes "  ") ++ code) ++ rest) ++ codes "\n") ++ others ≡ spot ++ ((((number ++ codes "  ") ++ code) ++ rest ++ codes "\n") ++ others)
+in_three spot number code rest others = simp append_assoc
+
+six : (text : List ℕ) → length text ≤ 6 → length (right 6 text) ≡ 6
+six text narrow =
+    let all : 6 - length text + length text ≡ 6 = omega (arith, narrow) in
+    length-append (replicate (6 - length text) 32) text ∙ ap (λ n. n + length text) (length-replicate (6 - length text) 32) ∙ all
+
+-- a row begins with where its line lies
+first_column : (s : CodeSpot) (spots : List CodeSpot) (lines : List (List ℕ)) (text : List ℕ) → length (spot_text s) ≤ 6 → AreRows (s ∷ spots) lines text → take 6 text ≡ right 6 (spot_text s)
+first_column s spots lines text narrow h = begins h.rows h.spots_are h.text_is
+  where
+    begins : (rows : List ListingRow) → map (λ row. row.spot) rows ≡ s ∷ spots → text ≡ flat_map row_text rows → take 6 text ≡ right 6 (spot_text s)
+    begins [] lie is = absurd cc
+    begins (row ∷ rows) lie is =
+        let same : row.spot ≡ s = cc in
+        let shown = right 6 (spot_text row.spot) in
+        let wide : length shown ≡ 6 = ap (λ (x : CodeSpot). length (right 6 (spot_text x))) same ∙ six (spot_text s) narrow in
+        ap (take 6) (is ∙ in_three shown (right 6 (number_text row.number)) (without_newline row.line) row.beside (flat_map row_text rows))
+        ∙ take_at shown _ 6 wide ∙ ap (λ (x : CodeSpot). right 6 (spot_text x)) same
+
+five : (n : ℕ) → n < 65536 → length (decimal n) ≤ 5
+five n small = length-decimal-le 5 n (omega arith) (omega (arith, small)) (omega (arith, small))
+
 pub wrong_rows : WrongRows
-wrong_rows = record { as_many = as_many; code = λ line lines text letter rest h. shown h.rows line lines text letter rest h.lines_are h.text_is; apart = apart }
+wrong_rows = record {
+  as_many = as_many;
+  code = λ s spots line lines text letter rest h. shown h.rows s spots line lines text letter rest h.spots_are h.lines_are h.text_is;
+  apart = apart;
+  place = λ n spots lines text small. first_column (spot.Place n) spots lines text (omega (arith, five n small));
+  address = λ n spots lines text small. first_column (spot.Address n) spots lines text (omega (arith, five n small));
+  nowhere = λ spots lines text. first_column spot.Nowhere spots lines text (omega arith);
+}

@@ -1,11 +1,23 @@
 //! The code of a source, with what it comes from.
-ghost use Rattle.std.specs.Prelude.{◌≡◌, [], ◌∷◌, ◌++◌, Decides, IfOk, OnOk, map, option_map};
+ghost use Rattle.std.specs.Prelude.{◌≡◌, ◌%◌, [], ◌∷◌, ◌++◌, Decides, IfOk, OnOk, map, option_map};
 ghost use Rattle.std.specs.List.{flat_map};
 ghost use Rattle.blang.specs.Text.{header_line, instr_line, ival_line, lines_of, string_line, target_line};
 ghost use Rattle.blang.specs.CodeParts.{function_of, simple_of, vector_of};
 ghost use Rattle.blang.specs.declared.code.Definition.TheVariants as definition;
 ghost use Rattle.blist.specs.Excluded.{NoListings, WrongRows};
-ghost use Rattle.blist.specs.Listings.{Adds, AreRows, Lists, is_wanted, wanted};
+ghost use Rattle.blist.specs.Listings.{
+  Adds,
+  AreRows,
+  Lists,
+  instr_spots,
+  is_wanted,
+  spots_at,
+  spots_in,
+  target_spots,
+  wanted,
+  word_spots,
+};
+ghost use Rattle.blist.specs.declared.rows.CodeSpot.TheVariants as spot;
 ghost use Rattle.btools.specs.Programs.{told_ends};
 
 use crate::rows::{CodeSpot, Named, RowColumns, push_row};
@@ -82,7 +94,10 @@ fn listing(
     source: &[u8],
     name: Option<&str>,
 ) -> Result<Text, AllocError>
-    ensures { IfOk result (Adds HEADING.now (flat_map lines_of (wanted (option_map (λ n. n.now) name.entry) program.now.definitions.items))) }
+    ensures { IfOk result (Adds HEADING.now
+        (flat_map (spots_in program.now.image)
+        (wanted (option_map (λ n. n.now) name.entry) program.now.definitions.items))
+        (flat_map lines_of (wanted (option_map (λ n. n.now) name.entry) program.now.definitions.items))) }
 {
     let sources = SourceLines::new(alloc, source)?;
     let mut text = Text::new(alloc);
@@ -123,7 +138,9 @@ fn push_wanted(
     address: u16,
     told: Sources<'_>,
 ) -> Result<(), AllocError>
-    ensures { OnOk result (Adds text.old (flat_map lines_of (wanted (option_map (λ n. n.now) name.entry) (definition.now ∷ []))) text.new) }
+    ensures { OnOk result (Adds text.old
+        (flat_map (spots_at address) (wanted (option_map (λ n. n.now) name.entry) (definition.now ∷ [])))
+        (flat_map lines_of (wanted (option_map (λ n. n.now) name.entry) (definition.now ∷ []))) text.new) }
 {
     if is_wanted(definition, name) {
         push_definition(text, definition, address, told)
@@ -139,7 +156,7 @@ fn push_definition(
     address: u16,
     told: Sources<'_>,
 ) -> Result<(), AllocError>
-    ensures { OnOk result (Adds text.old (lines_of definition.now) text.new) }
+    ensures { OnOk result (Adds text.old (spots_at address definition.now) (lines_of definition.now) text.new) }
 {
     match definition {
         Definition::Function(function) => push_function(text, function.parts(), address, told),
@@ -154,7 +171,8 @@ fn push_function(
     address: u16,
     told: Sources<'_>,
 ) -> Result<(), AllocError>
-    ensures { OnOk result (Adds text.old (lines_of (definition.Function (function_of parts.now))) text.new) }
+    ensures { OnOk result (Adds text.old (spots_at address (definition.Function (function_of parts.now)))
+        (lines_of (definition.Function (function_of parts.now))) text.new) }
 {
     let counts = [
         usize::from(parts.parameters),
@@ -177,7 +195,8 @@ fn push_simple(
     address: u16,
     told: Sources<'_>,
 ) -> Result<(), AllocError>
-    ensures { OnOk result (Adds text.old (lines_of (definition.Simple (simple_of parts.now))) text.new) }
+    ensures { OnOk result (Adds text.old (spots_at address (definition.Simple (simple_of parts.now)))
+        (lines_of (definition.Simple (simple_of parts.now))) text.new) }
 {
     let counts = [parts.values.len(), parts.strings.len()];
     let mut page = Page::new();
@@ -194,7 +213,8 @@ fn push_vector(
     address: u16,
     told: Sources<'_>,
 ) -> Result<(), AllocError>
-    ensures { OnOk result (Adds text.old (lines_of (definition.Vector (vector_of parts.now))) text.new) }
+    ensures { OnOk result (Adds text.old (spots_at address (definition.Vector (vector_of parts.now)))
+        (lines_of (definition.Vector (vector_of parts.now))) text.new) }
 {
     let counts = [
         usize::from(parts.words),
@@ -206,17 +226,19 @@ fn push_vector(
     push_header(text, &page, address)?;
     let first = address.wrapping_add(1);
     push_values(text, &parts.values, first, told.lines)?;
-    let words = low_word(parts.values.len()).max(parts.words);
+    let words = low_word(usize::from(parts.words).max(parts.values.len()));
     push_strings(text, &parts.strings, first.wrapping_add(words))
 }
 
 // A number modulo 65536, as addresses are reckoned.
-fn low_word(number: usize) -> u16 {
+fn low_word(number: usize) -> u16
+    ensures { result ≡ number % 65536 }
+{
     (number % 65536) as u16
 }
 
 fn push_header(text: &mut Text, page: &Page, address: u16) -> Result<(), AllocError>
-    ensures { OnOk result (Adds text.old (page.now ∷ []) text.new) }
+    ensures { OnOk result (Adds text.old (spot.Address address ∷ []) (page.now ∷ []) text.new) }
 {
     let told = RowColumns {
         spot: CodeSpot::Address(address),
@@ -229,7 +251,7 @@ fn push_header(text: &mut Text, page: &Page, address: u16) -> Result<(), AllocEr
 
 // The targets of labels.
 fn push_targets(text: &mut Text, targets: &[u16], frame: Option<&Frame>) -> Result<(), AllocError>
-    ensures { OnOk result (Adds text.old (map target_line targets.now) text.new) }
+    ensures { OnOk result (Adds text.old (target_spots targets.now) (map target_line targets.now) text.new) }
 {
     for (index, target) in targets.iter().enumerate() {
         let mut page = Page::new();
@@ -247,7 +269,7 @@ fn push_targets(text: &mut Text, targets: &[u16], frame: Option<&Frame>) -> Resu
 
 // String words, which lie from an address on.
 fn push_strings(text: &mut Text, words: &[u16], address: u16) -> Result<(), AllocError>
-    ensures { OnOk result (Adds text.old (map string_line words.now) text.new) }
+    ensures { OnOk result (Adds text.old (word_spots address words.now) (map string_line words.now) text.new) }
 {
     for (index, word) in words.iter().enumerate() {
         let mut page = Page::new();
@@ -270,7 +292,7 @@ fn push_values(
     address: u16,
     lines: &[u64],
 ) -> Result<(), AllocError>
-    ensures { OnOk result (Adds text.old (map ival_line values.now) text.new) }
+    ensures { OnOk result (Adds text.old (word_spots address values.now) (map ival_line values.now) text.new) }
 {
     for (index, value) in values.iter().enumerate() {
         let mut page = Page::new();
@@ -288,7 +310,7 @@ fn push_values(
 
 // Instructions with their lines, the text of each line beside the first one that comes from it.
 fn push_code(text: &mut Text, code: &[Instr], told: Sources<'_>) -> Result<(), AllocError>
-    ensures { OnOk result (Adds text.old (map instr_line code.now) text.new) }
+    ensures { OnOk result (Adds text.old (instr_spots code.now) (map instr_line code.now) text.new) }
 {
     let mut before = None;
     for (place, instr) in code.iter().enumerate() {
@@ -298,7 +320,7 @@ fn push_code(text: &mut Text, code: &[Instr], told: Sources<'_>) -> Result<(), A
         let mut page = Page::new();
         push_instr_line(&mut page, instr);
         let told = RowColumns {
-            spot: CodeSpot::Place(low_word(place)),
+            spot: CodeSpot::Place(place),
             line,
             source,
             named: named(told.frame, instr),

@@ -19,7 +19,7 @@ const SOURCE_WIDTH: usize = 40;
 pub enum CodeSpot {
     Nowhere,
     /// At this place of its function.
-    Place(u16),
+    Place(usize),
     /// At this address of memory.
     Address(u16),
 }
@@ -47,7 +47,7 @@ pub struct RowColumns<'a> {
 
 /// Adds the row of the line of code on a page.
 pub fn push_row(text: &mut Text, page: &Page, told: RowColumns<'_>) -> Result<(), AllocError>
-    ensures { OnOk result (Adds text.old (page.now ∷ []) text.new) }
+    ensures { OnOk result (Adds text.old (told.entry.spot ∷ []) (page.now ∷ []) text.new) }
 {
     push_spot(text, told.spot)?;
     push_line_number(text, told.line)?;
@@ -63,7 +63,7 @@ fn push_spot(text: &mut Text, spot: CodeSpot) -> Result<(), AllocError>
 {
     match spot {
         CodeSpot::Nowhere => text.push_blanks(6),
-        CodeSpot::Place(place) => text.push_right_number(6, u64::from(place)),
+        CodeSpot::Place(place) => text.push_right_number(6, place as u64),
         CodeSpot::Address(address) => push_address(text, address),
     }
 }
