@@ -2,10 +2,10 @@
 use Rattle.std.specs.Prelude.{◌≡◌, [], ◌∷◌, codes, map, refl}
 use Rattle.btools.specs.Quoting.{file_byte, json_byte, json_text}
 
--- the last control character and the blank, the bytes beside the quote and the backslash, the last of ASCII, and others
-json_bytes : map json_byte (0 ∷ 10 ∷ 31 ∷ 32 ∷ 33 ∷ 34 ∷ 35 ∷ 91 ∷ 92 ∷ 93 ∷ 126 ∷ 127 ∷ 128 ∷ 255 ∷ [])
-    ≡ (codes "\\u0000" ∷ codes "\\u000a" ∷ codes "\\u001f" ∷ codes " " ∷ codes "!" ∷ codes "\\\"" ∷ codes "#"
-    ∷ codes "[" ∷ codes "\\\\" ∷ codes "]" ∷ codes "~" ∷ (127 ∷ []) ∷ (128 ∷ []) ∷ (255 ∷ []) ∷ [])
+-- control characters, the blank, the bytes beside the quote and the backslash, the last of ASCII, and others
+json_bytes : map json_byte (0 ∷ 10 ∷ 16 ∷ 31 ∷ 32 ∷ 33 ∷ 34 ∷ 35 ∷ 91 ∷ 92 ∷ 93 ∷ 126 ∷ 127 ∷ 128 ∷ 255 ∷ [])
+    ≡ (codes "\\u0000" ∷ codes "\\u000a" ∷ codes "\\u0010" ∷ codes "\\u001f" ∷ codes " " ∷ codes "!" ∷ codes "\\\""
+    ∷ codes "#" ∷ codes "[" ∷ codes "\\\\" ∷ codes "]" ∷ codes "~" ∷ (127 ∷ []) ∷ (128 ∷ []) ∷ (255 ∷ []) ∷ [])
 json_bytes = refl
 
 -- the control characters of a file's name, with the bytes beside them, and those of other alphabets
