@@ -1,3 +1,5 @@
 pub mod Upcoming
 pub mod Squeezing
 pub mod SameTokens
+pub mod Compiled
+pub mod Excluded

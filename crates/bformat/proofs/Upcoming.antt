@@ -112,7 +112,7 @@ module _ (edition : Edition) (old new : Lexer) (p : Placed) (r : Reads edition o
     cut_here ∙ first_more p.token p.line _ e,
   )
 
-fine_before : (t : Token) (ts : List Token) → is_last t ≡ false → list_any is_wrong (t ∷ ts) ≡ list_any is_wrong ts
+pub fine_before : (t : Token) (ts : List Token) → is_last t ≡ false → list_any is_wrong (t ∷ ts) ≡ list_any is_wrong ts
 fine_before (token.Bad letters) ts e = cc
 fine_before token.End ts e = cc
 fine_before _ ts e = refl

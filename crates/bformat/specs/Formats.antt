@@ -1,15 +1,15 @@
 -- Promise: what is written of a source that is laid out: its own tokens and comments, between other blanks.
-use Rattle.std.specs.Prelude.{◌≡◌, ◌≢◌, ℕ, Bool, true, false, List, map, ◌⊎◌, codes, refl}
+use Rattle.std.specs.Prelude.{◌≡◌, ◌≢◌, ℕ, Bool, true, false, List, map, ◌⊎◌}
 use Rattle.std.specs.List.{list_any}
 use Rattle.bword.specs.declared.edition.Edition.{Edition}
 use Rattle.bword.specs.ByteEnds.{Outgoing}
 use Rattle.blang.specs.Cut.{tokens_from}
 use Rattle.blang.specs.Reports.{Reported}
-use Rattle.blang.specs.declared.status.TheConstants.{DONE, MEMORY, REFUSED}
+use Rattle.blang.specs.declared.status.TheConstants.{DONE, MEMORY}
 use Rattle.blang.specs.declared.token.Token.{Token}
 use Rattle.blang.specs.declared.token.Token.TheVariants as token
 use Rattle.btools.specs.Programs.{WasCompiled}
-use Rattle.bformat.specs.declared.formatting.TheConstants.{CHANGES, LEFT}
+use Rattle.bformat.specs.declared.formatting.TheConstants.{CHANGES}
 use Rattle.bformat.specs.Squeezed.{squeezed}
 
 -- the tokens of a source, without their lines
@@ -41,23 +41,17 @@ pub record Format : Type 0 where
   pub line_after : Outgoing
   pub status : ℕ
 
--- what is said of a source that is left as it is
-left_line : LEFT.now ≡ codes "error: the source can't be laid out\n"
-left_line = refl
-
 -- the text is written; or nothing is, and the status says whether it differs from the source
 abbrev pub Shows : (is_check : Bool) → (text source : List ℕ) → Outgoing → Outgoing → (status : ℕ) → Type 0
 Shows false text source out out_after status = Reported text DONE out out_after status
 Shows true text source out out_after status =
     (out_after ≡ out) × (((text ≡ source) × (status ≡ DONE)) ⊎ ((text ≢ source) × (status ≡ CHANGES)))
 
--- What comes of a source: it is laid out; a token of it is wrong, and its first fault is told as the compiler tells it;
--- the result of laying it out was no layout of it, and that is told; or memory was refused.
+-- What comes of a source: it is laid out, and nothing is told; a token of it is wrong, and its first fault is told as
+-- the compiler tells it; or memory was refused.
 pub data Formats (f : Format) : Type 0 where
   laid_out : (text : List ℕ) → has_wrong_token f.edition f.source ≡ false → IsLayout f.edition f.source text
       → Shows f.is_check text f.source f.out f.out_after f.status → f.line_after ≡ f.line → Formats f
   faulty : (code : List ℕ) → has_wrong_token f.edition f.source ≡ true
       → WasCompiled f.edition f.source f.line f.line_after code f.status → f.out_after ≡ f.out → Formats f
-  left : has_wrong_token f.edition f.source ≡ false → Reported LEFT.now REFUSED f.line f.line_after f.status
-      → f.out_after ≡ f.out → Formats f
   no_memory : f.out_after ≡ f.out → f.line_after ≡ f.line → f.status ≡ MEMORY → Formats f

@@ -1,5 +1,6 @@
 //! Laying a source out.
-ghost use Rattle.std.specs.Prelude.{ℕ, List, ◌≡◌, IfOk, IfSome};
+ghost use Rattle.std.specs.Prelude.{ℕ, List, ◌≡◌, IfOk, IsTrue};
+ghost use Rattle.bformat.specs.Excluded.{WrongLayouts};
 ghost use Rattle.bformat.specs.Formats.{Formats, IsLayout, Shows};
 ghost use Rattle.btools.specs.Programs.{WasCompiled};
 
@@ -15,9 +16,6 @@ use std::alloc::{AllocError, Global};
 
 /// The status where a source was only looked at, and would be laid out otherwise.
 pub const CHANGES: Status = 2;
-
-/// The message for a source that is left as it is.
-const LEFT: &[u8] = b"error: the source can't be laid out\n";
 
 /// Lays a source out in the one style: its tokens and comments stay, and only what is blank between them changes. For a
 /// check nothing is written, and the status says whether the source is laid out already.
@@ -50,12 +48,9 @@ pub fn format<O: ByteOut, D: ByteOut>(
         Some(true) => return tell_fault(alloc, source, edition, diag),
         None => return status::MEMORY,
     }
-    let Ok(laid_out) = layout(alloc, source, edition) else {
-        return status::MEMORY;
-    };
-    match laid_out {
-        Some(text) => show(text.as_slice(), source, is_check, out),
-        None => tell(LEFT, status::REFUSED, diag),
+    match layout(alloc, source, edition) {
+        Ok(text) => show(text.as_slice(), source, is_check, out),
+        Err(_) => status::MEMORY,
     }
 }
 
@@ -68,21 +63,34 @@ fn tell_fault<D: ByteOut>(alloc: Global, source: &[u8], edition: Edition, diag: 
     compile_edition(alloc, &mut MemIn::new(source), &mut code, diag, edition)
 }
 
-// A layout of the source, if what was made of it is one.
-fn layout(alloc: Global, source: &[u8], edition: Edition) -> Result<Option<Text>, AllocError>
-    ensures { IfOk result (λ text. IfSome text (IsLayout edition source.now)) }
+// What was made of the source if it is a layout of it, and else the source as it is.
+fn layout(alloc: Global, source: &[u8], edition: Edition) -> Result<Text, AllocError>
+    ensures { IfOk result (IsLayout edition source.now) }
 {
     let pieces = pieces(alloc, source, edition)?;
     let text = lay_out(alloc, &pieces)?;
-    if !has_same_tokens(source, text.as_slice(), edition) {
-        return Ok(None);
+    if is_layout(alloc, source, text.as_slice(), edition)? {
+        return Ok(text);
+    }
+    let mut unchanged = Text::new(alloc);
+    unchanged.push(source)?;
+    Ok(unchanged)
+}
+
+fn is_layout(
+    alloc: Global,
+    source: &[u8],
+    text: &[u8],
+    edition: Edition,
+) -> Result<bool, AllocError>
+    ensures { IfOk result (λ b. IsTrue b → IsLayout edition source.now text.now) }
+{
+    if !has_same_tokens(source, text, edition) {
+        return Ok(false);
     }
     let old = squeezed(alloc, source)?;
-    let new = squeezed(alloc, text.as_slice())?;
-    if old.as_slice() != new.as_slice() {
-        return Ok(None);
-    }
-    Ok(Some(text))
+    let new = squeezed(alloc, text)?;
+    Ok(old.as_slice() == new.as_slice())
 }
 
 // Writes the text, or says whether it differs from the source.
@@ -99,3 +107,8 @@ fn show<O: ByteOut>(text: &[u8], source: &[u8], is_check: bool, out: &mut O) -> 
         CHANGES
     }
 }
+
+/// No source that compiles is told that it can't be laid out, and no layout has other tokens or comments.
+pub fn wrong_layouts_are_excluded()
+    ensures { WrongLayouts }
+{}

@@ -11,4 +11,4 @@ mod place;
 mod reading;
 mod structure;
 
-pub use formatting::{CHANGES, format};
+pub use formatting::{CHANGES, format, wrong_layouts_are_excluded};

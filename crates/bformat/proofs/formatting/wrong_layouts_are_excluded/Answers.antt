@@ -1,0 +1,5 @@
+use Rattle.bformat.proofs.Excluded.{wrong_layouts}
+use Rattle.bformat.proofs.formatting.wrong_layouts_are_excluded.Goals as goal
+
+pub returns : goal.returns
+returns c = wrong_layouts
