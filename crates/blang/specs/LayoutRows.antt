@@ -192,3 +192,11 @@ mains = refl
 -- main[1];
 main_is_a_vector : load_fault (vector (codes "main") 2 [] [] ∷ []) ≡ Some fault.NoMain
 main_is_a_vector = refl
+
+-- v[32766]; s "a", w; w[1]; main(){}: addresses from 32768 on are words as others
+abbrev high : List Definition
+high = vector (codes "v") 32767 [] [] ∷ simple (codes "s") (ival.Text 0 ∷ ival.Name (codes "w") ∷ []) (1121 ∷ [])
+    ∷ vector (codes "w") 2 [] [] ∷ main ∷ []
+
+high_words : drop 32775 (first_words (map shape_of high)) ≡ 32777 ∷ 32778 ∷ 1121 ∷ 32779 ∷ 0 ∷ 0 ∷ 7 ∷ []
+high_words = refl

@@ -434,14 +434,15 @@ main_without_room = refl
 vector_main : does (Definition.Vector (word (codes "main")) (Some 1) [] ∷ []) [] 9 ≡ (None, [])
 vector_main = refl
 
--- v[32766]; w[3]; main(){extrn w; auto a; w[3]=7; a=5; printn(w[3],10); printn(a,10); printn(w,10); printn(&a,10);
--- printn("a",10);}: words from 32768 on are words as others
+-- v[32766]; w[3]; main(){extrn w; auto a, b 1; w[3]=7; a=5; printn(w[3],10); printn(a,10); printn(w,10);
+-- printn(&a,10); printn(b,10); printn("a",10);}: words from 32768 on are words as others
 above_32767 : does
     (Definition.Vector (word (codes "v")) (Some 32766) [] ∷ Definition.Vector (word (codes "w")) (Some 3) [] ∷ main
     (Headed (Extrn (word (codes "w") ∷ []))
-    (auto (codes "a") None (Evaluate (Assigned None 1 (Indexed (name (codes "w")) (number 3)) (number 7)))) ∷ set
+    (auto (codes "a") None (auto (codes "b") (Some 1)
+    (Evaluate (Assigned None 1 (Indexed (name (codes "w")) (number 3)) (number 7))))) ∷ set
     (codes "a") (number 5) ∷ printn (Indexed (name (codes "w")) (number 3)) ∷ printn (name (codes "a"))
-    ∷ printn (name (codes "w")) ∷ printn (Prefixed Address 1 (name (codes "a"))) ∷ printn (Text (codes "a") 0) ∷ [])
-    ∷ []) [] 0 ≡ (Some (Exited 0), codes "75-32760-32754-32755")
+    ∷ printn (name (codes "w")) ∷ printn (Prefixed Address 1 (name (codes "a"))) ∷ printn (name (codes "b"))
+    ∷ printn (Text (codes "a") 0) ∷ []) ∷ []) [] 0 ≡ (Some (Exited 0), codes "75-32760-32754-32752-32755")
 unfolding digits
 above_32767 = refl
