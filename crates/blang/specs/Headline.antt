@@ -5,7 +5,7 @@ use Rattle.bword.specs.ByteEnds.{Incoming, Outgoing, Took, Writes, CanFollow, Ke
 use Rattle.bword.specs.declared.edition.Edition.{Edition}
 use Rattle.blang.specs.Code.{code_of}
 use Rattle.blang.specs.Trees.{Definition}
-use Rattle.blang.specs.Machine.{State, Running, Halted, Stuck, machine}
+use Rattle.blang.specs.Machine.{Call, State, Running, Halted, Stuck, machine}
 use Rattle.blang.specs.Reports.{Shows, RunGives, IsOwnStatus, load_number, RunEnds, HasNotRun, NotLoaded, Finishes}
 use Rattle.blang.specs.Reports.{report_text}
 use Rattle.blang.specs.Layout.{World, Ending, load_fault, Exited, Trapped}
@@ -30,12 +30,18 @@ Agrees (Running call below w) answer = IsBeginningOf w.output (answer_world answ
 Agrees (Halted e w) answer = answer ≡ Ends e w
 Agrees (Stuck w) answer = ⊥
 
--- On each input, the code does what the program means: after any number of steps it agrees with the meaning, which has
--- one fuel more, and where the program ends, the code halts so at some step.
-pub record RunsAsMeant (ds : List Definition) : Type 0 where
-  pub agrees : (input : List ℕ) (n : ℕ) → Agrees (machine (map code_of ds) input n) (meant ds input (n + 1))
-  pub done : (input : List ℕ) (n : ℕ) (e : Ending) (w : World) → meant ds input n ≡ Ends e w
-      → (step : ℕ) × (machine (map code_of ds) input step ≡ Halted e w)
+-- A machine, by the number of its steps, does what a program means, by its fuel. After any number of steps it agrees with
+-- the answer to one fuel more. Where the program wants more fuel, the machine still runs after as many steps or more, and
+-- is then in the same world: so it writes all that the program writes. Where the program ends, it halts so at some step.
+pub record AsMeant (state : ℕ → State) (answer : ℕ → Answer ⊥) : Type 0 where
+  pub agrees : (n : ℕ) → Agrees (state n) (answer (n + 1))
+  pub keeps_up : (n : ℕ) (w : World) → answer n ≡ Wants w
+      → (step : ℕ) × (call : Call) × (below : List Call) × (n ≤ step) × (state step ≡ Running call below w)
+  pub done : (n : ℕ) (e : Ending) (w : World) → answer n ≡ Ends e w → (step : ℕ) × (state step ≡ Halted e w)
+
+-- On each input, the code does what the program means.
+abbrev pub RunsAsMeant : List Definition → Type 0
+RunsAsMeant ds = (input : List ℕ) → AsMeant (machine (map code_of ds) input) (meant ds input)
 
 -- Just so many steps of the program's code were made, or those up to its halt, and the code does what the program
 -- means. It was never stuck, and a status of the program's own is below 128.
@@ -126,16 +132,15 @@ pub record IsLimit (ds : List Definition) (input : List ℕ) (steps : ℕ) (ends
   pub says : Says ends status world.input world.output (report_text report.Limit) LIMIT
 
 -- Where the code halts within so many steps, that is the end which the program means, and it is what was written and
--- answered. Else the limit is reached, as it always is where the program wants more fuel at every number. Where the
--- program ends, its code halts so at some step.
+-- answered. Else the limit is reached, as it always is where the program wants more fuel at every number. Past the limit,
+-- too, the code does what the program means.
 pub record RunAnswers (ds : List Definition) (input : List ℕ) (steps : ℕ) (ends : RunEnds) (status : ℕ) : Type 0 where
   pub halts : (n : ℕ) → n ≤ steps → (e : Ending) (w : World) → machine (map code_of ds) input n ≡ Halted e w
       → IsEnd ds input (n + 1) e w ends status
   pub limited : ((n : ℕ) → n ≤ steps → (e : Ending) (w : World) → machine (map code_of ds) input n ≢ Halted e w)
       → IsLimit ds input steps ends status
   pub endless : ((n : ℕ) → (w : World) × (meant ds input n ≡ Wants w)) → IsLimit ds input steps ends status
-  pub done : (n : ℕ) (e : Ending) (w : World) → meant ds input n ≡ answer.Ends e w
-      → (step : ℕ) × (machine (map code_of ds) input step ≡ Halted e w)
+  pub as_meant : AsMeant (machine (map code_of ds) input) (meant ds input)
 
 -- A source with a fault gets its line, and so does code that doesn't load. Any other program is run.
 pub record GoAnswers

@@ -9,3 +9,4 @@ pub mod Loads
 pub mod LawProofs
 pub mod Sentences
 pub mod LoadedImages
+pub mod Endless

@@ -1,11 +1,12 @@
 -- Closed facts: what the laws exclude, and what they still allow at their limits: states and answers, by their numbers.
 use Rattle.std.specs.Prelude.{◌≡◌, ℕ, zero, suc, ◌≤◌, ◌+◌, List, [], ◌∷◌, length, map}
-use Rattle.std.proofs.Common.{arith, refl, ap, ◌∙◌}
+use Rattle.std.proofs.Common.{arith, refl, sym, ap, ◌∙◌}
 use Rattle.blang.specs.Trees.{Empty, Break, While, Literal, Number, Nothing, More}
 use Rattle.blang.specs.Layout.{World, Exited}
-use Rattle.blang.specs.Machine.{Call, State, Running, Halted, Stuck}
+use Rattle.blang.specs.Machine.{Call, State, Running, Halted, Stuck, state_world}
 use Rattle.blang.specs.Value.{Answer, Gives, Ends, Wants, Item, Do, Loop_mark, Switch_mark}
-use Rattle.blang.specs.Headline.{Agrees}
+use Rattle.blang.specs.Meaning.{answer_world}
+use Rattle.blang.specs.Headline.{Agrees, AsMeant}
 use Rattle.bmean.specs.Laws.{HaltsAsMeant, MeantIsDone, NeverStuck, WritesAsMeant, WantsAsItRuns, RunsWithoutEnd}
 use Rattle.bmean.specs.Sentences.{in_front, after_break}
 
@@ -112,6 +113,44 @@ runs_later (suc m) some kind_is = omega (arith, kind_is)
 
 pub wants_past_its_halt : WantsAsItRuns one_step wants_always → ⊥
 wants_past_its_halt law = let runs = law 1 (written []) refl in runs_later runs.0 runs.3 (ap state_kind runs.4)
+
+-- A machine does what is meant only if it writes what is written with any fuel, which may be later, and doesn't halt.
+abbrev writes_one : ℕ → List ℕ
+writes_one zero = []
+writes_one (suc n) = 1 ∷ []
+
+abbrev wants_writing : ℕ → Answer ⊥
+wants_writing n = Wants (written (writes_one n))
+
+pub silent_while_meant : AsMeant runs_on wants_writing → ⊥
+silent_while_meant means =
+    let runs = means.keeps_up 1 (written (1 ∷ [])) refl in
+    let lengths : 0 ≡ 1 = ap (λ s. length (state_world s).output) runs.4 in
+    omega (arith, lengths)
+
+pub halts_while_meant : AsMeant one_step wants_always → ⊥
+halts_while_meant means =
+    let runs = means.keeps_up 1 (written []) refl in runs_later runs.0 runs.3 (ap state_kind runs.4)
+
+abbrev writes_late : ℕ → State
+writes_late zero = Running main [] (written [])
+writes_late (suc n) = Running main [] (written (writes_one n))
+
+with_some : (n : ℕ) → 1 ≤ n → writes_one n ≡ 1 ∷ []
+with_some zero some = absurd (omega (arith, some))
+with_some (suc n) some = refl
+
+begins_late : (n : ℕ) → Agrees (writes_late n) (wants_writing (n + 1))
+begins_late zero = (1 ∷ [], refl)
+begins_late (suc zero) = (1 ∷ [], refl)
+begins_late (suc (suc n)) = ([], sym (with_some (suc (suc n) + 1) (omega arith)))
+
+pub late_while_meant : AsMeant writes_late wants_writing
+late_while_meant = record {
+  agrees = begins_late;
+  keeps_up = λ n w wants. (suc n, main, [], omega arith, ap (λ a. Running main [] (answer_world a)) wants);
+  done = λ n e w ends. let same : 2 ≡ 1 = ap kind ends in absurd (omega (arith, same));
+}
 
 -- want of fuel at each number is a run without end, at one it isn't
 pub wants_and_halts : RunsWithoutEnd halted_at_once wants_always → ⊥

@@ -2,6 +2,7 @@
 //! contract. The laws hold of every program whose code loads, of the code itself and of each image loaded from it.
 #![tactic(auto)]
 
+ghost use Rattle.bmean.specs.Endless.{SilenceExcluded};
 ghost use Rattle.bmean.specs.Laws.{EndsForGood, HaltsAsMeant, MeantIsDone, NeverStuck, OfCode, OfImage, RunsWithoutEnd, WantsAsItRuns, WritesAsMeant};
 ghost use Rattle.bmean.specs.Sentences.{EachGoesOn};
 
@@ -62,4 +63,9 @@ pub fn more_fuel_changes_no_end()
 /// Going on with a statement is going on with what it puts in its place.
 pub fn statements_are_done_in_place()
     ensures { EachGoesOn }
+{}
+
+/// A machine that falls silent doesn't do what a program means that writes without end.
+pub fn silent_machines_are_excluded()
+    ensures { SilenceExcluded }
 {}

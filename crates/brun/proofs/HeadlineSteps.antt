@@ -26,7 +26,7 @@ use Rattle.blang.specs.declared.run.Report.TheVariants as report
 use Rattle.bgrammar.proofs.GoesLaws.{each_source_comes}
 use Rattle.bmach.proofs.Running.{device_failed}
 use Rattle.bparse.proofs.Remaining.{rest_of, writes_nothing}
-use Rattle.brun.proofs.MeantSteps.{halted_later}
+use Rattle.brun.proofs.MeantSteps.{halted_later, runs_as_meant}
 
 -- a line is written where its end neither fails nor is refused
 not_refused : (line : List ℕ) (o p : Outgoing) (status : ℕ) (fault : EndFault) → (Grew o.failures p.failures → ⊥) → status ≢ 134 → Refuses o line fault p → status ≡ status_of fault → ⊥
@@ -115,12 +115,12 @@ module _ (ds : List Definition) (loads : Loads ds) (steps : ℕ) (ends : RunEnds
   limited_at result c runs_on (Halted ending w) e = absurd (runs_on steps (omega arith) ending w e)
   limited_at result c runs_on (Stuck w) e = absurd ((code_agrees ds loads input).never_stuck steps w e)
 
-  as_meant : (result : Outcome) → Came result → RunAnswers ds input steps ends status
-  as_meant result c = record {
+  run_answers : (result : Outcome) → Came result → RunAnswers ds input steps ends status
+  run_answers result c = record {
     halts = halts result c;
     limited = λ runs_on. limited_at result c runs_on (state steps) refl;
     endless = λ wants. limited_at result c (λ n le e w h. (code_agrees ds loads input).runs_without_end wants n e w h) (state steps) refl;
-    done = (code_agrees ds loads input).meant_is_done;
+    as_meant = runs_as_meant ds loads input;
   }
 
   abbrev Gives : Outcome → Type 0
@@ -128,13 +128,13 @@ module _ (ds : List Definition) (loads : Loads ds) (steps : ℕ) (ends : RunEnds
 
   module _ (source source_after : Incoming) (healthy : NothingFailed source source_after ends status) where
     pub runs_so : (result : Outcome) → Gives result → Finishes result ends.line ends.line_after status → RunAnswers ds input steps ends status
-    runs_so (outcome.Exit n) h f = as_meant (outcome.Exit n) (came (outcome.Exit n) h (writes_nothing ends.line ends.line_after f.0) f.1)
+    runs_so (outcome.Exit n) h f = run_answers (outcome.Exit n) (came (outcome.Exit n) h (writes_nothing ends.line ends.line_after f.0) f.1)
     runs_so (outcome.Trap kind) h f =
         let line = is_told (report_text (report.Trap kind)) 130 ends.line ends.line_after status healthy.line_written healthy.not_refused f in
-        as_meant (outcome.Trap kind) (came (outcome.Trap kind) h line.0 line.1)
+        run_answers (outcome.Trap kind) (came (outcome.Trap kind) h line.0 line.1)
     runs_so outcome.Limit h f =
         let line = is_told (report_text report.Limit) 131 ends.line ends.line_after status healthy.line_written healthy.not_refused f in
-        as_meant outcome.Limit (came outcome.Limit h line.0 line.1)
+        run_answers outcome.Limit (came outcome.Limit h line.0 line.1)
     runs_so outcome.Device h f = absurd (⊎_elim healthy.input_read healthy.output_written (device_failed (machine (map code_of ds)) steps ends.input ends.input_after ends.out ends.out_after h))
     runs_so outcome.Memory h f = absurd (healthy.not_refused f.1)
 

@@ -38,9 +38,10 @@ module _ (ds : List Definition) (loads : Loads ds) where
   agrees_at input n (Stuck w) e = (code_agrees ds loads input).never_stuck n w e
 
   pub runs_as_meant : RunsAsMeant ds
-  runs_as_meant = record {
-    agrees = λ input n. agrees_at input n (machine (map code_of ds) input n) refl;
-    done = λ input. (code_agrees ds loads input).meant_is_done;
+  runs_as_meant input = record {
+    agrees = λ n. agrees_at input n (machine (map code_of ds) input n) refl;
+    keeps_up = (code_agrees ds loads input).wants_as_it_runs;
+    done = (code_agrees ds loads input).meant_is_done;
   }
 
   module _ (n : ℕ) (i j : Incoming) (o p : Outgoing) where
