@@ -149,7 +149,7 @@ module _ (states : States) (i : Incoming) where
   told_run n j (outcome.Trap kind) g = (_, told_come n j (outcome.Trap kind) g)
   told_run n j outcome.Limit g = (_, told_come n j outcome.Limit g)
   told_run n j outcome.Device g =
-      ⊎_elim (λ r. (record { bytes = r.comes.output; refusals = 0 }, inl (record { made = r.made; within = r.within; before = r.before; comes = told_come r.made r.before outcome.Limit r.comes; fails = r.fails; reads = r.reads })))
+      ⊎_elim (λ r. (record { bytes = r.comes.output; refusals = 0 }, inl (record { made = r.made; within = r.within; before = r.before; comes = told_come r.made r.before outcome.Limit r.comes; fails = r.fails; asks = r.asks })))
       (λ w. absurd (not_refused n j end_fault.Device w)) g
   told_run n j outcome.Memory g =
       ⊎_elim (λ m. (record { bytes = m.comes.output; refusals = 0 }, inl (record { made = m.made; within = m.within; comes = told_come m.made j outcome.Limit m.comes })))

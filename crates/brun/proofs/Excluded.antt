@@ -1,5 +1,5 @@
 -- Answers that the contract of `go_edition` excludes, whatever is proved of the body that gives them.
-use Rattle.std.proofs.Common.{drop, ◌≡◌, ℕ, zero, suc, false, ◌<◌, ◌≤◌, List, [], ◌∷◌, ◌++◌, length, map, codes, Option, Some, None, refl, sym, ap, ◌∙◌, subst, arith, ◌⊎◌, inl, inr, ⊎_elim}
+use Rattle.std.proofs.Common.{drop, ◌≡◌, ℕ, zero, suc, ◌<◌, ◌≤◌, List, [], ◌∷◌, ◌++◌, length, map, codes, Option, Some, None, refl, sym, ap, ◌∙◌, subst, arith, ◌⊎◌, inl, inr, ⊎_elim}
 use Rattle.std.proofs.Math.Seq.{drop-nil}
 use Rattle.bword.specs.declared.edition.Edition.{Edition}
 use Rattle.bword.specs.declared.edition.Edition.TheVariants as editions
@@ -16,7 +16,7 @@ use Rattle.bgrammar.specs.SourceRows.{ComesIn}
 use Rattle.bgrammar.proofs.SourceRows.{a_break_of_one, a_break_outside}
 use Rattle.blang.specs.Trees.{Definition, Expr, Arguments, Character, Named, Literal, Called, No_arguments, Another, Evaluate, Compound, Stmts, Nothing, More}
 use Rattle.blang.specs.Machine.{State, Halted, image_of, machine}
-use Rattle.blang.specs.Reports.{state_outcome, Reported, report_text, RunEnds, RunGives, Finishes}
+use Rattle.blang.specs.Reports.{AsksForByte, StopsAtRead, state_outcome, Reported, report_text, RunEnds, RunGives, Finishes}
 use Rattle.blang.specs.Machine as runs
 use Rattle.blang.specs.Layout.{World, Ending, Exited, Trapped}
 use Rattle.blang.specs.declared.run.Outcome.{Outcome}
@@ -189,26 +189,40 @@ only_failed steps ds ends status h is =
 abbrev reads_after : List Definition
 reads_after = main (More (More Nothing (Evaluate (call (codes "putchar") (Another No_arguments (Literal (Character 97)))))) (Evaluate (call (codes "getchar") No_arguments)))
 
-reads_last : (input : List ℕ) (made : ℕ) → made ≤ 7 → (runs.state_world (machine (map code_of reads_after) input made)).input ≡ input
-reads_last input zero le = refl
-reads_last input (suc zero) le = refl
-reads_last input (suc (suc zero)) le = refl
-reads_last input (suc (suc (suc zero))) le = refl
-reads_last input (suc (suc (suc (suc zero)))) le = refl
-reads_last input (suc (suc (suc (suc (suc zero))))) le = refl
-reads_last input (suc (suc (suc (suc (suc (suc zero)))))) le = refl
-reads_last input (suc (suc (suc (suc (suc (suc (suc zero))))))) le = refl
-reads_last input (suc (suc (suc (suc (suc (suc (suc (suc made)))))))) le = absurd (omega (arith, le))
+quiet_before : (input : List ℕ) (made : ℕ) → made < 7 → AsksForByte (machine (map code_of reads_after) input made) → ⊥
+quiet_before input zero lt asks = cc
+quiet_before input (suc zero) lt asks = cc
+quiet_before input (suc (suc zero)) lt asks = cc
+quiet_before input (suc (suc (suc zero))) lt asks = cc
+quiet_before input (suc (suc (suc (suc zero)))) lt asks = cc
+quiet_before input (suc (suc (suc (suc (suc zero))))) lt asks = cc
+quiet_before input (suc (suc (suc (suc (suc (suc zero)))))) lt asks = cc
+quiet_before input (suc (suc (suc (suc (suc (suc (suc made))))))) lt asks = absurd (omega (arith, lt))
+
+never_asks : (input : List ℕ) (made : ℕ) → AsksForByte (machine (map code_of nothing) input made) → ⊥
+never_asks input zero asks = cc
+never_asks input (suc zero) asks = cc
+never_asks input (suc (suc made)) asks =
+    let over = halted_later (image_of (map code_of nothing)) input 2 (suc (suc made)) (Exited 0) (runs.state_world (machine (map code_of nothing) input 2)) (omega arith) refl in
+    let bad = subst AsksForByte over asks in
+    cc
 
 none_grew : (a b : ℕ) → a ≡ 0 → b ≡ 0 → Grew a b → ⊥
 none_grew a b e f g = omega (arith, e, f, g)
 
--- What was written before a read that failed isn't lost.
-pub no_lost_output : (ends : RunEnds) → RunsProgram 8 reads_after ends 133 → ends.input_after.is_over ≡ false → ends.out.failures ≡ 0 → ends.out_after.failures ≡ 0 → ends.line.failures ≡ 0 → ends.line_after.failures ≡ 0
-    → ends.out.written ≡ Some [] → ends.out_after.written ≡ Some [] → ⊥
-no_lost_output ends h unfinished a b c d before following = ⊎_elim (none_grew ends.line.failures ends.line_after.failures c d) lost (broke_off 8 reads_after ends 133 h refl)
-  where
-    lost : RunGives (machine (map code_of reads_after)) 8 ends.input ends.input_after ends.out ends.out_after outcome.Device → ⊥
-    lost x = ⊎_elim
-        (lost_at_read (machine (map code_of reads_after)) 7 97 [] reads_last (λ input. refl) ends.input ends.input_after ends.out ends.out_after unfinished before following)
-        (λ w. none_grew ends.out.failures ends.out_after.failures a b (subst (λ n. Grew n ends.out_after.failures) w.comes.written.failures w.refuses.counted.0)) x
+module _ (ends : RunEnds) (a : ends.out.failures ≡ 0) (b : ends.out_after.failures ≡ 0) (c : ends.line.failures ≡ 0) (d : ends.line_after.failures ≡ 0) where
+  -- where no write failed, a run that has this status broke off at a read
+  stopped_reading : (steps : ℕ) (ds : List Definition) → RunsProgram steps ds ends 133 → StopsAtRead (machine (map code_of ds)) steps ends.input ends.input_after ends.out ends.out_after
+  stopped_reading steps ds h =
+      ⊎_elim (λ l. absurd (none_grew ends.line.failures ends.line_after.failures c d l))
+      (λ r. ⊎_elim (λ x. x) (λ w. absurd (none_grew ends.out.failures ends.out_after.failures a b (subst (λ n. Grew n ends.out_after.failures) w.comes.written.failures w.refuses.counted.0))) r)
+      (broke_off steps ds ends 133 h refl)
+
+  -- What was written before a read that failed isn't lost.
+  pub no_lost_output : RunsProgram 8 reads_after ends 133 → ends.out.written ≡ Some [] → ends.out_after.written ≡ Some [] → ⊥
+  no_lost_output h before following =
+      lost_at_read (machine (map code_of reads_after)) 7 97 [] quiet_before (λ input. refl) ends.input ends.input_after ends.out ends.out_after before following (stopped_reading 8 reads_after h)
+
+  -- A run that asks for no byte breaks off at no read, even after the end of the input was seen.
+  pub no_unasked_read : (steps : ℕ) → RunsProgram steps nothing ends 133 → ⊥
+  no_unasked_read steps h = let r = stopped_reading steps nothing h in never_asks (r.comes.taken ++ []) r.made (r.asks [] (λ over. refl))

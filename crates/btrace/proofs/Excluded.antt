@@ -9,7 +9,7 @@ use Rattle.std.proofs.lemmas.List.Elements.{All-head, All-tail}
 use Rattle.bword.specs.declared.edition.Edition.{Edition}
 use Rattle.bword.specs.declared.ends.EndFault.{EndFault}
 use Rattle.bword.specs.declared.ends.EndFault.TheVariants as end_fault
-use Rattle.bword.specs.ByteEnds.{CanFollow, Kept, outgoing_of, Grew, Incoming, Outgoing, Refuses, Took, Unread, Writes, incoming_of}
+use Rattle.bword.specs.ByteEnds.{Kept, outgoing_of, Grew, Incoming, Outgoing, Refuses, Took, Unread, Writes, incoming_of}
 use Rattle.bword.proofs.Putting.{Writes-append}
 use Rattle.blang.specs.declared.code.Definition.{Definition}
 use Rattle.blang.specs.declared.code.Instr.{Instr}
@@ -24,7 +24,7 @@ use Rattle.blang.specs.Compiles as compiled
 use Rattle.blang.specs.Compiles.{CompilesTo, Tells, code_text}
 use Rattle.blang.specs.Cut.{tokens_from}
 use Rattle.blang.specs.Machine.{Call, Halted, Image, Loaded, Running, State, Stuck, image_of, machine, run, state_world}
-use Rattle.blang.specs.Reports.{Finishes, Reported, RunEnds, RunGives, report_text, state_outcome}
+use Rattle.blang.specs.Reports.{AsksForByte, Finishes, Reported, RunEnds, RunGives, report_text, state_outcome}
 use Rattle.blang.specs.Text.{IsCodeText}
 use Rattle.bcode.proofs.FaultLaws.{unique_code}
 use Rattle.bmach.specs.Resolved.{IsLoadedFrom}
@@ -45,7 +45,7 @@ use Rattle.btrace.specs.Locates.{Locates, TellsSite, located_status, site_line}
 use Rattle.btools.specs.Functions.{Placed, function_with, functions_of}
 use Rattle.btrace.specs.RowTexts.{Legend, Place, code_of, first_words, has_more, margin, name_in, name_of, operands_text, place_text, step_row, stored_text, words_text, written_row}
 use Rattle.btrace.specs.Traces as traces
-use Rattle.btrace.specs.Traces.{AreShown, EndsAs, IsWhere, IsTried, ShowsRows, ShowsStep, TakesByte, TellsPlace, TraceRow, Traces, Tries, rows_text, shown_of, store_after, stored_after, waits_at, which_of}
+use Rattle.btrace.specs.Traces.{AreShown, EndsAs, IsWhere, IsTried, ShowsRows, ShowsStep, TellsPlace, TraceRow, Traces, Tries, rows_text, shown_of, store_after, stored_after, waits_at, which_of}
 use Rattle.btools.specs.Programs.{TellsEnd}
 use Rattle.btrace.specs.declared.tracing.TheConstants.{HEADING}
 use Rattle.btrace.specs.declared.tracing.Which.{Which}
@@ -748,12 +748,9 @@ module _ (file : File) where
     rows : List TraceRow
     ending : List ℕ
     text_is : text ≡ rows_text rows ++ ending
-    shown : (more : List ℕ) → AreShown (leg (functions_of ds)) (machine_functions ds) which (machine ds (taken ++ more)) made rows
-    tried : (more : List ℕ) → IsTried (leg (functions_of ds)) which (machine ds (taken ++ more)) made ending
-    reads : (byte : ℕ) (more : List ℕ) → TakesByte (machine ds (taken ++ byte ∷ more)) made byte more
-
-  can_come : (j : Incoming) (more : List ℕ) → j.is_over ≡ false → CanFollow j more
-  can_come j more unended = λ over. let bad : true ≡ false = sym over ∙ unended in cc
+    shown : AreShown (leg (functions_of ds)) (machine_functions ds) which (machine ds (taken ++ [])) made rows
+    tried : IsTried (leg (functions_of ds)) which (machine ds (taken ++ [])) made ending
+    asks : AsksForByte (machine ds (taken ++ []) made)
 
   -- a text that was told of no refused write
   told_whole : (line : List ℕ) (answer : ℕ) (o p : Outgoing) (status : ℕ) → (Grew o.failures p.failures → ⊥) → (Grew o.refusals p.refusals → ⊥) → Reported line answer o p status → Writes o line p
@@ -774,7 +771,7 @@ module _ (file : File) where
   read_result ds steps i j o p fs which old new outcome.Memory failed h s = absurd (s.ends [] (λ e. refl))
 
   module _ (edition : Edition) (source : List ℕ) (ds : List Definition) (is : IsSourceOf edition source ds) (steps : ℕ) (from : TraceRows) (which : Which) (named : which_of (functions_of ds) from None ≡ Some which)
-      (ends : RunEnds) (status : ℕ) (failed : ends.input_after.failures ≡ ends.input.failures → ⊥) (unended : ends.input_after.is_over ≡ false) (whole : Grew ends.out.failures ends.out_after.failures → ⊥) (room : Grew ends.out.refusals ends.out_after.refusals → ⊥)
+      (ends : RunEnds) (status : ℕ) (failed : ends.input_after.failures ≡ ends.input.failures → ⊥) (whole : Grew ends.out.failures ends.out_after.failures → ⊥) (room : Grew ends.out.refusals ends.out_after.refusals → ⊥)
       (text : List ℕ) (before : ends.out.written ≡ Some []) (following : ends.out_after.written ≡ Some (HEADING.now ++ text)) where
     read_shows : (result : Outcome) → result ≡ outcome.Device → ShowsRows (leg (functions_of ds)) (machine_functions ds) which (machine ds) steps ends.input ends.input_after result HEADING.now (HEADING.now ++ text) → AtRead ds steps which text
     read_shows result device shows =
@@ -786,9 +783,9 @@ module _ (file : File) where
           rows = s.rows;
           ending = s.ending;
           text_is = append_cancel_left HEADING.now text (rows_text s.rows ++ s.ending) (s.text_is ∙ append_assoc HEADING.now (rows_text s.rows) s.ending);
-          shown = λ more. s.shown more (can_come ends.input_after more unended);
-          tried = λ more. s.ends more (can_come ends.input_after more unended);
-          reads = λ byte more. s.reads refl byte more (can_come ends.input_after (byte ∷ more) unended);
+          shown = s.shown [] (λ over. refl);
+          tried = s.ends [] (λ over. refl);
+          asks = s.asks refl [] (λ over. refl);
         }
 
     at_read : Traces edition source steps from one_file None ends status → AtRead ds steps which text
@@ -813,18 +810,15 @@ module _ (file : File) where
   reading_main place operands = call (loaded reading_code 8) 8 place operands
 
   -- The read of `reading` is in its third step.
-  no_step_back : (byte : ℕ) (more : List ℕ) → byte ∷ more ≡ more → ⊥
-  no_step_back byte more e = let n = ap length e in omega (arith, n)
-
-  read_is_third : (taken : List ℕ) (made : ℕ) → made ≤ 4 → TakesByte (machine reading (taken ++ 0 ∷ [])) made 0 [] → made ≡ 2
-  read_is_third taken zero le t = absurd (no_step_back 0 [] (sym t.0 ∙ t.1))
-  read_is_third taken (suc zero) le t = absurd (no_step_back 0 [] (sym t.0 ∙ t.1))
-  read_is_third taken (suc (suc zero)) le t = refl
-  read_is_third [] (suc (suc (suc zero))) le t = absurd (no_step_back 0 [] (sym t.0 ∙ t.1))
-  read_is_third (b ∷ taken) (suc (suc (suc zero))) le t = absurd (no_step_back 0 [] (sym t.0 ∙ t.1))
-  read_is_third [] (suc (suc (suc (suc zero)))) le t = absurd (no_step_back 0 [] (sym t.0 ∙ t.1))
-  read_is_third (b ∷ taken) (suc (suc (suc (suc zero)))) le t = absurd (no_step_back 0 [] (sym t.0 ∙ t.1))
-  read_is_third taken (suc (suc (suc (suc (suc n))))) le t = absurd (omega arith)
+  read_is_third : (input : List ℕ) (made : ℕ) → made ≤ 4 → AsksForByte (machine reading input made) → made ≡ 2
+  read_is_third input zero le asks = cc
+  read_is_third input (suc zero) le asks = cc
+  read_is_third input (suc (suc zero)) le asks = refl
+  read_is_third [] (suc (suc (suc zero))) le asks = cc
+  read_is_third (b ∷ input) (suc (suc (suc zero))) le asks = cc
+  read_is_third [] (suc (suc (suc (suc zero)))) le asks = cc
+  read_is_third (b ∷ input) (suc (suc (suc (suc zero)))) le asks = cc
+  read_is_third input (suc (suc (suc (suc (suc n))))) le asks = absurd (omega arith)
 
   reading_head : row_head (functions_of reading) 1 (reading_main 0 []) ≡ codes "       1  main         0"
   unfolding digits
@@ -848,8 +842,8 @@ module _ (file : File) where
       let fs = functions_of reading in
       let fns = machine_functions reading in
       let states = machine reading (a.taken ++ []) in
-      let third = read_is_third a.taken a.made a.within (a.reads 0 []) in
-      let shown = subst (λ m. AreShown (leg fs) fns (record { rows = wanted.From 1; function = None }) states m a.rows) third (a.shown []) in
+      let third = read_is_third (a.taken ++ []) a.made a.within a.asks in
+      let shown = subst (λ m. AreShown (leg fs) fns (record { rows = wanted.From 1; function = None }) states m a.rows) third a.shown in
       let r = first_row fs fns states 0 (reading_main 0 []) refl (1 ∷ []) a.ending a.rows shown.all shown.each in
       let s = first_row fs fns states 1 (reading_main 1 (3 ∷ [])) refl [] a.ending r.rows r.all r.each in
       let seventh : at 7 (rows_text r.rows ++ a.ending) ≡ 50 = ap (at 7) s.text_is ∙ ap (λ h. at 7 (h ++ (right 6 (decimal s.line) ++ (row_tail fs (reading_main 1 (3 ∷ [])) ++ (stored_text (store_after states 2) (stored_after fns states 1) ++ (written_row s.bytes ++ (rows_text s.rows ++ a.ending))))))) reading_second in
@@ -863,10 +857,10 @@ module _ (file : File) where
       let fs = functions_of reading in
       let which : Which = record { rows = wanted.From from; function = None } in
       let states = machine reading (a.taken ++ []) in
-      let third = read_is_third a.taken a.made a.within (a.reads 0 []) in
-      let shown = subst (λ m. AreShown (leg fs) (machine_functions reading) which states m a.rows) third (a.shown []) in
+      let third = read_is_third (a.taken ++ []) a.made a.within a.asks in
+      let shown = subst (λ m. AreShown (leg fs) (machine_functions reading) which states m a.rows) third a.shown in
       let is : text ≡ a.ending = a.text_is ∙ ap (λ r. r ++ a.ending) (no_row a.rows (shown.all ∙ none (a.taken ++ []))) in
-      subst (IsTried (leg fs) which states 2) (sym is) (subst (λ m. IsTried (leg fs) which states m a.ending) third (a.tried []))
+      subst (IsTried (leg fs) which states 2) (sym is) (subst (λ m. IsTried (leg fs) which states m a.ending) third a.tried)
 
   -- the place of the second step of `trapping`
   trapped_last : (input : List ℕ) (last made : ℕ) (kind : Trap) → last + 1 ≡ made → made ≤ 2 → state_outcome (machine trapping input made) ≡ outcome.Trap kind → last ≡ 1
@@ -1082,18 +1076,18 @@ module _ (file : File) where
         let start = codes "     1  x f         \nat     i" ++ (rest ++ a.0) in
         let more = ap (drop 15) (after_line_number (codes "       1  main         0") _ start _ 50 b refl) in
         seventh_is (at 7 b.more) 50 b.next 105 (sym (ap (at 7) more)) (λ e. omega (arith, e)) (λ e. omega (arith, e));
-    rows_lost = λ edition source ends status is failed unended whole room before following h.
+    rows_lost = λ edition source ends status is failed whole room before following h.
         let start = codes "     1  x getchar   \n" in
-        let a = at_read edition source reading is 4 (wanted.From 1) (record { rows = wanted.From 1; function = None }) refl ends status failed unended whole room (codes "       1  main         0" ++ start) before following h in
+        let a = at_read edition source reading is 4 (wanted.From 1) (record { rows = wanted.From 1; function = None }) refl ends status failed whole room (codes "       1  main         0" ++ start) before following h in
         let b = read_rows (codes "       1  main         0" ++ start) a in
         let more = ap (drop 15) (after_line_number (codes "       1  main         0") _ start _ 50 b refl) in
         seventh_is (at 7 b.more) 50 b.next 0 (sym (ap (at 7) more)) (λ e. omega (arith, e)) (λ e. omega (arith, e));
-    row_of_read_lost = λ edition source ends status is failed unended whole room before following h.
-        let a = at_read edition source reading is 4 (wanted.From 3) (record { rows = wanted.From 3; function = None }) refl ends status failed unended whole room [] before following h in
+    row_of_read_lost = λ edition source ends status is failed whole room before following h.
+        let a = at_read edition source reading is 4 (wanted.From 3) (record { rows = wanted.From 3; function = None }) refl ends status failed whole room [] before following h in
         let t = read_row 3 [] (λ input. refl) a in
         differ 0 0 32 _ _ t.2 refl (third_some t.0.call t.1) (λ e. omega (arith, e));
-    row_after_read = λ text some edition source ends status is failed unended whole room before following h.
-        let a = at_read edition source reading is 4 (wanted.From 4) (record { rows = wanted.From 4; function = None }) refl ends status failed unended whole room text before following h in
+    row_after_read = λ text some edition source ends status is failed whole room before following h.
+        let a = at_read edition source reading is 4 (wanted.From 4) (record { rows = wanted.From 4; function = None }) refl ends status failed whole room text before following h in
         some (read_row 4 text (λ input. refl) a).2;
     read_failed = λ edition source steps from name ends failed refused h. read_told edition source steps from name ends failed refused h;
   }

@@ -10,13 +10,14 @@ use Rattle.bword.proofs.Taking.{Took-append}
 use Rattle.blang.specs.declared.run.Outcome.{Outcome}
 use Rattle.blang.specs.declared.run.Outcome.TheVariants as outcome
 use Rattle.blang.specs.Machine.{Image, Loaded, State, Running, step, steps, state_world}
-use Rattle.blang.specs.Reports.{Shows, state_outcome}
+use Rattle.blang.specs.Reports.{AsksForByte, Shows, state_outcome}
 use Rattle.blang.specs.Machine as machine
 use Rattle.bmach.specs.Steps.{world_with}
 use Rattle.bmach.specs.Stepping.{Paused, machine_at}
 use Rattle.bmach.specs.Stops.{active_of}
 use Rattle.bmach.specs.Stored.{stored, stored_next}
 use Rattle.bmach.specs.Turns.{FailsAtRead, KeepsBelow, LeavesWords, MovesOn, HasHalted, Shown, TurnGives}
+use Rattle.bmach.proofs.Asking.{asks_if_taken}
 use Rattle.bmach.proofs.Running.{at_limit, following, one_more, run_over}
 use Rattle.bmach.proofs.Turning.{follows, goes_on, runs_on, took_nothing}
 use Rattle.btools.proofs.Excluded.{not_grown}
@@ -26,7 +27,7 @@ use Rattle.btrace.specs.Trails.{chosen, trail_text}
 use Rattle.btrace.specs.declared.trail.Trail.{Trail}
 use Rattle.btrace.proofs.Kept.{All-chosen, Holds, held, map-chosen, with_row}
 use Rattle.btrace.specs.Traces as traces
-use Rattle.btrace.specs.Traces.{AddsEnd, AddsIf, AddsLast, AddsPlaces, AddsStep, AreShown, EndsAs, IsTried, TellsPlace, TraceRow, ShowsStep, StepsGive, TakesByte, TracesStep, Tries, is_shown, is_wanted, rows_text, store_after, stored_after, wanted_of}
+use Rattle.btrace.specs.Traces.{AddsEnd, AddsIf, AddsLast, AddsPlaces, AddsStep, AreShown, EndsAs, IsTried, TellsPlace, TraceRow, ShowsStep, StepsGive, TracesStep, Tries, is_shown, is_wanted, rows_text, store_after, stored_after, wanted_of}
 use Rattle.btools.specs.Programs.{steps_from}
 use Rattle.btrace.specs.declared.tracing.Which.{Which}
 
@@ -256,7 +257,7 @@ module _ (legend : Legend) (which : Which) (first now : Paused) (made : ℕ) (i 
       took = took_before;
       shown = λ more can. are_shown legend first.image.functions which (steps_from first (t.goes.taken ++ more)) (made + 1) (with_row b rows made row) (all_after new b refl a more can);
       ends = ends;
-      reads = λ e. absurd (read e);
+      asks = λ e. absurd (read e);
     }
 
   -- by a step whose read failed
@@ -282,12 +283,10 @@ module _ (legend : Legend) (which : Which) (first now : Paused) (made : ℕ) (i 
     failed_by new false hidden none more can = (tried more can, 0, none ∙ sym (ap (λ (x : Bool). if x then step_row legend (made + 1) now.call 0 else []) (told more can ∙ hidden)))
     failed_by new true seen a more can = (tried more can, a.0, a.1 ∙ sym (ap (λ (x : Bool). if x then step_row legend (made + 1) now.call a.0 else []) (told more can ∙ seen)))
 
-    takes_byte : (byte : ℕ) (more : List ℕ) → CanFollow m (byte ∷ more) → TakesByte (states_of (byte ∷ more)) made byte more
-    takes_byte byte more can =
-        let before = can_come (byte ∷ more) can in (
-          ap (λ s. (state_world s).input) (there legend which first now made i j m rows row b is t (byte ∷ more) before),
-          ap (λ s. (state_world s).input) (after_it legend which first now made i j m rows row b is t (byte ∷ more) before) ∙ f.reads byte more t.goes.output,
-        )
+    asked : (more : List ℕ) → CanFollow m more → AsksForByte (states_of more made)
+    asked more can =
+        subst AsksForByte (sym (there legend which first now made i j m rows row b is t more (can_come more can)))
+        (asks_if_taken first.image (machine_at now) (runs_on now.call now.below now.store) f.reads more t.goes.output)
 
     over_failed : (new : Paused) → AddsIf b legend (made + 1) now.call (next_stored now) new.store w.bytes (Err outcome.Device) [] row → (heading : List ℕ) (u v : Trail) → Holds which.rows heading rows u → v.text ≡ u.text → v.last.items ≡ u.last.items → v.row ≡ row
         → traces.ShowsRows legend first.image.functions which (steps_from first) n i m outcome.Device heading (trail_text v)
@@ -301,7 +300,7 @@ module _ (legend : Legend) (which : Which) (first now : Paused) (made : ℕ) (i 
       took = took_so;
       shown = λ more can. are_shown legend first.image.functions which (states_of more) made rows (t.shown more (can_come more can));
       ends = failed_by new b refl a;
-      reads = λ e byte more can. takes_byte byte more can;
+      asks = λ e more can. asked more can;
     }
 
   -- the words where it is over
@@ -384,7 +383,7 @@ all_show legend which first now made i j rows t heading u v holds text last end 
         refl,
         (record { call = now.call; below = now.below; world = world_with now.store more t.goes.output; state_is = there }, subst (λ (store : List ℕ). TellsPlace legend store (active_of now.call) now.below end.0) (sym (ap (λ s. (state_world s).store) there)) end.1),
       );
-  reads = λ e. cc;
+  asks = λ e. cc;
 }
 
 -- a step that isn't shown adds nothing

@@ -10,7 +10,7 @@ use Rattle.blang.specs.declared.run.Outcome.{Outcome}
 use Rattle.blang.specs.declared.run.Outcome.TheVariants as outcome
 use Rattle.blang.specs.Layout.{World}
 use Rattle.blang.specs.Machine.{Call, Halted, Image, Loaded, Running, State, Stuck, image_of, machine, run, state_world}
-use Rattle.blang.specs.Reports.{RunEnds, state_outcome, Reported}
+use Rattle.blang.specs.Reports.{AsksForByte, RunEnds, state_outcome, Reported}
 use Rattle.bmach.specs.Resolved.{IsLoadedFrom, call_resolved, resolved, state_resolved}
 use Rattle.bmach.specs.Stepping.{IsUnstarted, Paused}
 use Rattle.bmach.specs.Stops.{active_of}
@@ -18,11 +18,11 @@ use Rattle.bmach.specs.Stored.{stored}
 use Rattle.bmach.proofs.Beginning.{run_from}
 use Rattle.bmach.proofs.Resolving.{run-resolved, stored-resolved}
 use Rattle.bmach.proofs.Running.{same_run}
-use Rattle.brun.proofs.RunSteps.{outcome-resolved, run_loaded, run_of_loaded, world-resolved}
+use Rattle.brun.proofs.RunSteps.{asks-resolved, outcome-resolved, run_loaded, run_of_loaded, world-resolved}
 use Rattle.btools.specs.Programs.{HasProgram, nothing_written}
 use Rattle.bsources.specs.Files.{Files}
 use Rattle.btrace.specs.RowTexts.{Legend, legend_in, places_text, step_row, stored_text, written_row}
-use Rattle.btrace.specs.Traces.{AreShown, EndsAs, IsTried, IsWhere, TraceRow, ShowsRows, ShowsStep, StepsGive, TakesByte, TellsPlace, Traces, Tries, is_shown, is_step, shown_of, store_after, stored_after, traced, waits_at, wanted_of, which_of}
+use Rattle.btrace.specs.Traces.{AreShown, EndsAs, IsTried, IsWhere, TraceRow, ShowsRows, ShowsStep, StepsGive, TellsPlace, Traces, Tries, is_shown, is_step, shown_of, store_after, stored_after, traced, waits_at, wanted_of, which_of}
 use Rattle.btools.specs.Programs.{steps_from}
 use Rattle.btools.specs.Programs.{TellsEnd}
 use Rattle.btrace.specs.Trails.{chosen}
@@ -119,11 +119,8 @@ module _ (legend : Legend) (which : Which) (I : Image) (f g : ℕ → State) (e 
   ends_same made n outcome.Device text h = tried_same made text h
   ends_same made n outcome.Memory text h = h
 
-  pub takes_same : (made byte : ℕ) (more : List ℕ) → TakesByte g made byte more → TakesByte f made byte more
-  takes_same made byte more h = (
-    ap (λ (w : World). w.input) (sym (world_same made)) ∙ h.0,
-    ap (λ (w : World). w.input) (sym (world_same (made + 1))) ∙ h.1,
-  )
+  pub asks_same : (made : ℕ) → AsksForByte (g made) → AsksForByte (f made)
+  asks_same made asks = asks-resolved I (f made) (subst AsksForByte (e made) asks)
 
 shows_run : (legend : Legend) (which : Which) (ds : List Definition) (image : Image) (p : Paused) → IsLoadedFrom ds image → IsUnstarted image p → (n : ℕ) (i j : Incoming) (r : Outcome) (old new : List ℕ) → ShowsRows legend p.image.functions which (steps_from p) n i j r old new → ShowsRows legend (image_of ds).functions which (machine ds) n i j r old new
 shows_run legend which ds image p loaded begins n i j r old new s =
@@ -140,7 +137,7 @@ shows_run legend which ds image p loaded begins n i j r old new s =
       took = s.took;
       shown = λ more can. are_shown legend which (image_of ds) (machine ds (s.taken ++ more)) (steps_from p (s.taken ++ more)) (e (s.taken ++ more)) s.made s.rows (subst (λ (fns : List Loaded). AreShown legend fns which (steps_from p (s.taken ++ more)) s.made s.rows) same (s.shown more can));
       ends = λ more can. ends_same legend which (image_of ds) (machine ds (s.taken ++ more)) (steps_from p (s.taken ++ more)) (e (s.taken ++ more)) s.made n r s.ending (s.ends more can);
-      reads = λ failed byte more can. takes_same legend which (image_of ds) (machine ds (s.taken ++ byte ∷ more)) (steps_from p (s.taken ++ byte ∷ more)) (e (s.taken ++ byte ∷ more)) s.made byte more (s.reads failed byte more can);
+      asks = λ failed more can. asks_same legend which (image_of ds) (machine ds (s.taken ++ more)) (steps_from p (s.taken ++ more)) (e (s.taken ++ more)) s.made (s.asks failed more can);
     }
 
 -- the trace of a program that has begun

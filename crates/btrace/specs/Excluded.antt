@@ -1,5 +1,5 @@
 -- Promise: what the contracts of `trace` and `locate` exclude.
-use Rattle.std.specs.Prelude.{◌≡◌, ℕ, ◌<◌, false, List, [], ◌∷◌, ◌++◌, Option, Some, None, codes, map, take}
+use Rattle.std.specs.Prelude.{◌≡◌, ℕ, ◌<◌, List, [], ◌∷◌, ◌++◌, Option, Some, None, codes, map, take}
 use Rattle.bword.specs.declared.edition.Edition.{Edition}
 use Rattle.bword.specs.ByteEnds.{Grew}
 use Rattle.blang.specs.declared.code.Definition.{Definition}
@@ -131,11 +131,11 @@ module _ (file : File) where
       → ends.out_after.written ≡ Some (HEADING.now ++ text)
       → Traces edition source steps (rows.From from) alone None ends status → ⊥
 
-  -- Where a read failed before the end was seen, and no write failed, no trace is this text.
+  -- Where a read failed, and no write failed, no trace is this text.
   abbrev pub NoTraceOfRead : List Definition → (steps from : ℕ) → List ℕ → Type 0
   NoTraceOfRead ds steps from text =
       (edition : Edition) (source : List ℕ) (ends : RunEnds) (status : ℕ) → IsSourceOf edition source ds
-      → (ends.input_after.failures ≡ ends.input.failures → ⊥) → ends.input_after.is_over ≡ false
+      → (ends.input_after.failures ≡ ends.input.failures → ⊥)
       → (Grew ends.out.failures ends.out_after.failures → ⊥) → (Grew ends.out.refusals ends.out_after.refusals → ⊥)
       → ends.out.written ≡ Some [] → ends.out_after.written ≡ Some (HEADING.now ++ text)
       → Traces edition source steps (rows.From from) alone None ends status → ⊥

@@ -11,7 +11,7 @@ use Rattle.blang.specs.declared.status.TheConstants.{DONE, MEMORY, WRONG_COMMAND
 use Rattle.blang.specs.Machine.{Call, Image, Loaded, State, Running, Halted, Stuck, States}
 use Rattle.blang.specs.Reports.{Reported, RunEnds, Finishes}
 use Rattle.blang.specs.Machine.{image_of, machine, state_world}
-use Rattle.blang.specs.Reports.{HasNotRun, RunGives, state_outcome}
+use Rattle.blang.specs.Reports.{AsksForByte, HasNotRun, RunGives, state_outcome}
 use Rattle.blang.specs.Machine as runs
 use Rattle.bmach.specs.Stepping.{BeginsNot, Paused, machine_at}
 use Rattle.bmach.specs.Stops.{active_of}
@@ -146,11 +146,6 @@ EndsAs legend which states made steps outcome.Limit ending =
 EndsAs legend which states made steps outcome.Device ending = IsTried legend which states made ending
 EndsAs legend which states made steps outcome.Memory ending = ⊥
 
--- The next step takes this byte of the input, and nothing more.
-abbrev pub TakesByte : (ℕ → State) → (made byte : ℕ) → (more : List ℕ) → Type 0
-TakesByte states made byte more =
-    ((state_world (states made)).input ≡ byte ∷ more) × ((state_world (states (made + 1))).input ≡ more)
-
 -- The rows of the steps of this machine were added to a text, and an ending. Its input is what was taken and what may
 -- follow. Where a read failed, it was that of the step after these.
 pub record ShowsRows (legend : Legend) (functions : List Loaded) (which : Which) (states : States) (steps : ℕ)
@@ -164,8 +159,8 @@ pub record ShowsRows (legend : Legend) (functions : List Loaded) (which : Which)
   pub took : Took i taken j
   pub shown : (more : List ℕ) → CanFollow j more → AreShown legend functions which (states (taken ++ more)) made rows
   pub ends : (more : List ℕ) → CanFollow j more → EndsAs legend which (states (taken ++ more)) made steps result ending
-  pub reads : result ≡ outcome.Device → (byte : ℕ) (more : List ℕ) → CanFollow j (byte ∷ more)
-      → TakesByte (states (taken ++ byte ∷ more)) made byte more
+  pub asks : result ≡ outcome.Device → (more : List ℕ) → CanFollow j more
+      → AsksForByte (states (taken ++ more) made)
 
 -- A step was shown before it was made, with the words at these addresses as they are after it and these bytes written.
 pub record AddsStep (legend : Legend) (number : ℕ) (call : Call) (addresses store bytes old new : List ℕ) : Type 0
