@@ -43,10 +43,8 @@ pub fn format<O: ByteOut, D: ByteOut>(
     ensures out_lender { O.lender out.new ≡ O.lender out.old }
     ensures diag_lender { D.lender diag.new ≡ D.lender diag.old }
 {
-    match has_wrong_token(source, edition) {
-        Some(false) => {}
-        Some(true) => return tell_fault(alloc, source, edition, diag),
-        None => return status::MEMORY,
+    if has_wrong_token(source, edition) {
+        return tell_fault(alloc, source, edition, diag);
     }
     match layout(alloc, source, edition) {
         Ok(text) => show(text.as_slice(), source, is_check, out),

@@ -1,5 +1,5 @@
 //! The tokens of a source, and those of its layout.
-ghost use Rattle.std.specs.Prelude.{◌≡◌, IfSome, IsTrue};
+ghost use Rattle.std.specs.Prelude.{◌≡◌, IsTrue};
 ghost use Rattle.bformat.specs.Formats.{has_wrong_token, is_wrong, tokens_of};
 ghost use Rattle.blang.specs.Cut.{is_last};
 
@@ -7,21 +7,21 @@ use blang::Token;
 use blex::Lexer;
 use bword::{Edition, MemIn};
 
-/// Whether a token of the source is wrong. It is always told.
-pub(crate) fn has_wrong_token(source: &[u8], edition: Edition) -> Option<bool>
-    ensures { IfSome result (λ b. b ≡ has_wrong_token edition source.now) }
+/// Whether a token of the source is wrong.
+pub(crate) fn has_wrong_token(source: &[u8], edition: Edition) -> bool
+    ensures { result ≡ has_wrong_token edition source.now }
 {
     let mut lexer = Lexer::with_edition(MemIn::new(source), edition);
-    // A token has a byte at least, but the last one.
-    for _ in 0..=source.len() {
+    loop {
         let Ok(placed) = lexer.next() else {
-            return None;
+            // Its stream is memory, of which no read fails.
+            let _memory = lexer.into_input();
+            unreachable!()
         };
         if is_last(&placed.token) {
-            return Some(is_wrong(&placed.token));
+            return is_wrong(&placed.token);
         }
     }
-    None
 }
 
 /// Whether the tokens of a text are those of the source.
