@@ -1,5 +1,5 @@
--- Closed facts: what each construct asks of its parts. A part is an assignment, which asks for 9: so each fact shows how
--- loosely the operators of each part may bind.
+-- Closed facts: what each construct asks of its parts. A part is an assignment, which asks for 9: so each fact shows
+-- how loosely the operators of each part may bind.
 use Rattle.std.specs.Prelude.{◌≡◌, ◌≤◌, ◌++◌, ◌⊎◌, ℕ, List, [], ◌∷◌, map, true, false, Bool, codes, None, Some, refl}
 use Rattle.bword.specs.declared.operators.BinOp.TheVariants as op
 use Rattle.blang.specs.declared.token.Placed.{Placed}
@@ -14,7 +14,8 @@ use Rattle.blang.specs.Trees.{Called, Postfixed, Prefixed, Binary, Conditional, 
 use Rattle.blang.specs.Trees.{Extrn, Label, Case, Default, Heading, Stmt, Headed, Compound, If, IfElse, While, Switch}
 use Rattle.blang.specs.Trees.{Goto, Break, Return, ReturnValue, Evaluate, Empty, Nothing, More, Ival_text, Definition}
 use Rattle.blang.specs.Trees.{Simple, Vector, Function}
-use Rattle.blang.specs.WellFormed.{IsPostfix, Binds, is_open, IsHeading, StatementBinds, OffsetsFrom, IsFormed, AllFormed}
+use Rattle.blang.specs.WellFormed.{IsPostfix, Binds, is_open, IsHeading, StatementBinds, OffsetsFrom, IsFormed}
+use Rattle.blang.specs.WellFormed.{AllFormed}
 use Rattle.blang.specs.WellFormed.{IsProgram, BeginsProgram, IsViable, fault_at, StopsAt, IsPart, packed}
 
 abbrev one : Expr

@@ -18,6 +18,10 @@ pub mod Headline
 pub mod CutRows
 pub mod TextRows
 pub mod TreeRows
+pub mod SpellRows
+pub mod BindRows
+pub mod ScanRows
+pub mod ConstructRows
 pub mod LayoutRows
 pub mod MachineRows
 pub mod LibraryRows
