@@ -1,5 +1,5 @@
--- Closed facts: what each construct asks of its parts. A part is an assignment, which asks for 9: so each fact shows
--- how loosely the operators of each part may bind.
+-- Closed facts: what each construct asks of its parts. The parts are an assignment, a conditional and a bitwise or, which
+-- ask for 9, 8 and 7: so each fact shows how loosely the operators of each part may bind.
 use Rattle.std.specs.Prelude.{◌≡◌, ◌≤◌, ◌++◌, ◌⊎◌, ℕ, List, [], ◌∷◌, map, true, false, Bool, codes, None, Some, refl}
 use Rattle.bword.specs.declared.operators.BinOp.TheVariants as op
 use Rattle.blang.specs.declared.token.Placed.{Placed}
@@ -27,9 +27,21 @@ set = Assigned None 1 one one
 abbrev no_claim : Type 0
 no_claim = Unit {0}
 
--- what an assignment asks where operators of this rank may be
+abbrev pick : Expr
+pick = Conditional one one one
+
+abbrev join : Expr
+join = Binary op.Or 1 one one
+
+-- what these three ask where operators of this rank may be
 abbrev at : ℕ → Type 0
 at loose = (9 ≤ loose) × no_claim × no_claim
+
+abbrev pick_at : ℕ → Type 0
+pick_at loose = (8 ≤ loose) × no_claim × no_claim × no_claim
+
+abbrev join_at : ℕ → Type 0
+join_at loose = (7 ≤ loose) × no_claim × no_claim
 
 -- a part that is to be postfix, which an assignment isn't
 abbrev postfix : Type 0
@@ -41,10 +53,11 @@ word = record { text = codes "a"; line = 1 }
 of_groups : Binds (Grouped set) 3 ≡ at 9
 of_groups = refl
 
-of_indices : Binds (Indexed set set) 3 ≡ (⊥ × at 0 × at 9)
+of_indices : Binds (Indexed set pick) 3 ≡ (⊥ × at 0 × pick_at 9)
 of_indices = refl
 
-of_calls : Binds (Called set (Another (Another No_arguments set) set)) 3 ≡ (⊥ × at 0 × ((no_claim × at 9) × at 9))
+of_calls : Binds (Called set (Another (Another No_arguments pick) join)) 3
+    ≡ (⊥ × at 0 × ((no_claim × pick_at 9) × join_at 9))
 of_calls = refl
 
 of_postfixes : Binds (Postfixed PostIncrement 1 set) 3 ≡ postfix
@@ -54,13 +67,13 @@ of_prefixes : Binds (Prefixed Negate 1 set) 3 ≡ at 0
 of_prefixes = refl
 
 -- the left side of a sum may be a sum, the right one no more than a product
-of_sums : Binds (Binary op.Sub 1 set set) 3 ≡ ((2 ≤ 3) × at 2 × at 1)
+of_sums : Binds (Binary op.Sub 1 set pick) 3 ≡ ((2 ≤ 3) × at 2 × pick_at 1)
 of_sums = refl
 
-of_choices : Binds (Conditional set set set) 3 ≡ ((8 ≤ 3) × at 7 × at 9 × at 8)
+of_choices : Binds (Conditional set pick join) 3 ≡ ((8 ≤ 3) × at 7 × pick_at 9 × join_at 8)
 of_choices = refl
 
-of_assignments : Binds (Assigned (Some op.Add) 1 set set) 3 ≡ ((9 ≤ 3) × at 0 × at 9)
+of_assignments : Binds (Assigned (Some op.Add) 1 set pick) 3 ≡ ((9 ≤ 3) × at 0 × pick_at 9)
 of_assignments = refl
 
 of_names : Binds (Named word) 0 ≡ no_claim
@@ -101,23 +114,26 @@ a_choice_is_none = refl
 abbrev ask : Stmt
 ask = Evaluate set
 
-of_blocks : StatementBinds (Compound (More (More Nothing ask) Empty)) ≡ ((no_claim × at 9) × no_claim)
+abbrev ask_less : Stmt
+ask_less = Goto join
+
+of_blocks : StatementBinds (Compound (More (More Nothing ask) ask_less)) ≡ ((no_claim × at 9) × join_at 9)
 of_blocks = refl
 
-of_ifs : StatementBinds (If set ask) ≡ (at 9 × at 9)
+of_ifs : StatementBinds (If pick ask) ≡ (pick_at 9 × at 9)
 of_ifs = refl
 
-of_elses : StatementBinds (IfElse set (If set ask) ask)
-    ≡ (◌≡◌ {A = Bool} true false × at 9 × (at 9 × at 9) × at 9)
+of_elses : StatementBinds (IfElse set (If pick ask) ask_less)
+    ≡ (◌≡◌ {A = Bool} true false × at 9 × (pick_at 9 × at 9) × join_at 9)
 of_elses = refl
 
-of_loops : StatementBinds (While set ask) ≡ (at 9 × at 9)
+of_loops : StatementBinds (While pick ask) ≡ (pick_at 9 × at 9)
 of_loops = refl
 
-of_switches : StatementBinds (Switch set (More Nothing ask)) ≡ (at 9 × (no_claim × at 9))
+of_switches : StatementBinds (Switch pick (More Nothing ask)) ≡ (pick_at 9 × (no_claim × at 9))
 of_switches = refl
 
-of_jumps : StatementBinds (Goto set) ≡ at 9
+of_jumps : StatementBinds ask_less ≡ join_at 9
 of_jumps = refl
 
 of_returns : StatementBinds (ReturnValue set) ≡ at 9
