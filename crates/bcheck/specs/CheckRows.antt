@@ -1,15 +1,23 @@
 -- Closed facts: what is told of a source, each at its limits and one past them.
-use Rattle.std.specs.Prelude.{◌≡◌, ℕ, List, [], ◌∷◌, ◌++◌, codes, map, None, Some, refl, true, false}
+use Rattle.std.specs.Prelude.{◌≡◌, ℕ, List, [], ◌∷◌, ◌++◌, codes, map, Option, None, Some, refl, true, false}
 use Rattle.std.specs.Fmt.{digits}
+use Rattle.bword.specs.declared.edition.Edition.TheVariants as editions
+use Rattle.blang.specs.declared.token.Diagnostic.{Diagnostic}
+use Rattle.blang.specs.declared.token.About.{About}
 use Rattle.blang.specs.declared.token.About.TheVariants as about
 use Rattle.blang.specs.declared.token.Letters.TheVariants as letters
+use Rattle.blang.specs.declared.run.LoadFault.{LoadFault}
 use Rattle.blang.specs.declared.run.LoadFault.TheVariants as fault
-use Rattle.bcheck.specs.Checks.{FindingParts, finding_text, findings_text, is_on_line, second_text}
-use Rattle.bcheck.specs.Checks.{column_after, diagnostic_code, severity_of, severity_word, shown_in_form, told_first}
+use Rattle.bcheck.specs.Checks.{FindingParts, Reason, finding_text, findings_text, is_in_line, is_on_line, second_text}
+use Rattle.bcheck.specs.Checks.{column_after, diagnostic_code, next_column, severity_of, severity_word, shown_byte}
+use Rattle.bcheck.specs.Checks.{shown_in_form, told_first}
+use Rattle.bcheck.specs.Excluded.{has_no_colon, is_printed, newlines}
+use Rattle.bcheck.specs.Findings.{warning_code}
 use Rattle.blang.specs.Cut.{line_number_after}
 use Rattle.bsources.specs.Files.{Files}
 use Rattle.bcheck.specs.declared.finding.Severity.TheVariants as severity
 use Rattle.bcheck.specs.declared.form.FindingForm.TheVariants as form
+use Rattle.bcheck.specs.declared.warnings.Warning.TheVariants as warning
 
 -- a diagnostic comes before a fault of loading
 diagnostic_told : told_first (Some (record { letters = letters.Undefined; about = about.Name (codes "n"); line = 3 }))
@@ -29,11 +37,48 @@ nothing_told = refl
 line_shown : map (λ f. shown_in_form f (codes "sx 1\n")) (form.Text ∷ form.Json ∷ []) ≡ (codes "sx 1\n" ∷ [] ∷ [])
 line_shown = refl
 
--- the code of a diagnostic, with a keyword and without, and with a name
-fault_codes : map (λ a. diagnostic_code (record { letters = letters.Syntax; about = a; line = 3 }))
-    (about.Nothing ∷ about.Case ∷ about.Break ∷ about.Default ∷ about.Name (codes "n") ∷ [])
-    ≡ (codes "sx" ∷ codes "sx case" ∷ codes "sx break" ∷ codes "sx default" ∷ codes "sx" ∷ [])
+-- the code of each diagnostic that is about this
+abbrev codes_about : About → List (List ℕ)
+codes_about a = map (λ l. diagnostic_code (record { letters = l; about = a; line = 3 }))
+    (letters.OpenComment ∷ letters.Character ∷ letters.LongName ∷ letters.Constant ∷ letters.Syntax ∷ letters.Redeclared
+    ∷ letters.NotLvalue ∷ letters.TooManyNames ∷ letters.TooManyCases ∷ letters.Undefined ∷ letters.TooLarge ∷ [])
+
+-- the letters of each, with other codes for two of them
+abbrev codes_with : (syntax redeclared : List ℕ) → List (List ℕ)
+codes_with syntax redeclared =
+    codes "*/" ∷ codes "ch" ∷ codes "nm" ∷ codes "ct" ∷ syntax ∷ redeclared ∷ codes "lv" ∷ codes ">s" ∷ codes ">c"
+    ∷ codes "un" ∷ codes ">e" ∷ []
+
+-- a keyword comes after the letters in five cases
+fault_codes : map codes_about (about.Nothing ∷ about.Name (codes "n") ∷ about.Case ∷ about.Break ∷ about.Default ∷ [])
+    ≡ (codes_with (codes "sx") (codes "rd") ∷ codes_with (codes "sx") (codes "rd")
+    ∷ codes_with (codes "sx case") (codes "rd case") ∷ codes_with (codes "sx break") (codes "rd")
+    ∷ codes_with (codes "sx default") (codes "rd default") ∷ [])
 fault_codes = refl
+
+-- an error has the code of the diagnostic, or that of code that doesn't load, and no other
+error_codes : (d : Diagnostic) (f : Option LoadFault) (code before rest : List ℕ)
+    → Reason editions.Two (Some d) f code before rest → code ≡ diagnostic_code d
+error_codes d f code before rest reason = reason.0
+
+load_codes : (code : List ℕ) → (Reason editions.Two None (Some fault.TooLarge) code [] [] → code ≡ codes "load 2")
+    × (Reason editions.Two None (Some (fault.Undefined (codes "n"))) code [] [] → code ≡ codes "load 3")
+load_codes code = (λ reason. reason, λ reason. reason)
+
+-- the code of each warning
+warning_codes : map warning_code (
+    warning.CommentGoesOn ∷ warning.AndAnd ∷ warning.OperatorAssigns ∷ warning.ConditionAssigns
+    ∷ warning.AssignsComparison ∷ warning.EmptyIf ∷ warning.EmptyLoop ∷ warning.PastVector
+    ∷ warning.StringForCharacter ∷ warning.StringPut ∷ warning.StringCompared ∷ warning.NameAlone
+    ∷ warning.ComparesAlone ∷ warning.NoEffect ∷ warning.Backslash ∷ warning.BitsCompared ∷ warning.ComparesTwice
+    ∷ warning.NotCompared ∷ warning.ManyArguments ∷ warning.FewArguments ∷ warning.LibraryArguments
+    ∷ warning.NoReturn ∷ warning.NeverUsed ∷ warning.Unset ∷ warning.UnsetVector ∷ warning.HidesExternal
+    ∷ warning.HidesLibrary ∷ warning.NearMain ∷ warning.DefaultLabel ∷ warning.WordOutside ∷ []
+    ) ≡ codes "*/" ∷ codes "and" ∷ codes "op" ∷ codes "if" ∷ codes "if" ∷ codes "em" ∷ codes "em" ∷ codes "ix"
+    ∷ codes "st" ∷ codes "st" ∷ codes "st" ∷ codes "no" ∷ codes "no" ∷ codes "no" ∷ codes "bs" ∷ codes "pr"
+    ∷ codes "pr" ∷ codes "pr" ∷ codes "ar" ∷ codes "ar" ∷ codes "ar" ∷ codes "rt" ∷ codes "us" ∷ codes "in"
+    ∷ codes "in" ∷ codes "hi" ∷ codes "hi" ∷ codes "ma" ∷ codes "ed" ∷ codes "ed" ∷ []
+warning_codes = refl
 
 -- the line and the column of a place after a text
 lines : map (line_number_after 1) ([] ∷ codes "a" ∷ codes "a\n" ∷ codes "\n\nab" ∷ []) ≡ (1 ∷ 1 ∷ 2 ∷ 3 ∷ [])
@@ -41,6 +86,21 @@ lines = refl
 
 columns : map (column_after 1) ([] ∷ codes "a" ∷ codes "a\n" ∷ codes "\n\nab" ∷ []) ≡ (1 ∷ 2 ∷ 1 ∷ 3 ∷ [])
 columns = refl
+
+-- a tab is one column, and the last column is that of all bytes after it but a newline
+next_columns : map (λ b. next_column 7 b) (9 ∷ 10 ∷ 97 ∷ 255 ∷ []) ≡ (8 ∷ 1 ∷ 8 ∷ 8 ∷ [])
+next_columns = refl
+
+last_columns : map (λ c. next_column c 97) (18446744073709551614 ∷ 18446744073709551615 ∷ [])
+    ≡ (18446744073709551615 ∷ 18446744073709551615 ∷ [])
+last_columns = refl
+
+shown_bytes : map shown_byte (0 ∷ 8 ∷ 9 ∷ 10 ∷ 31 ∷ 32 ∷ 126 ∷ 127 ∷ 128 ∷ 255 ∷ [])
+    ≡ (63 ∷ 63 ∷ 32 ∷ 63 ∷ 63 ∷ 32 ∷ 126 ∷ 63 ∷ 63 ∷ 63 ∷ [])
+shown_bytes = refl
+
+in_lines : map is_in_line ([] ∷ codes "ab" ∷ codes "a\n" ∷ (13 ∷ []) ∷ []) ≡ (true ∷ true ∷ false ∷ true ∷ [])
+in_lines = refl
 
 severities : map (λ status. severity_word (severity_of status)) (0 ∷ 1 ∷ 132 ∷ [])
     ≡ (codes "warning" ∷ codes "error" ∷ codes "error" ∷ [])
@@ -79,7 +139,10 @@ alone name = record { first = record { name = name; lines = 5 }; rest = [] }
 
 abbrev followed : (lines : ℕ) → Files
 followed lines =
-    record { first = record { name = codes "x.b"; lines = lines }; rest = record { name = codes "l\n.b"; lines = 2 } ∷ [] }
+    record {
+      first = record { name = codes "x.b"; lines = lines };
+      rest = record { name = codes "l\n.b"; lines = 2 } ∷ [];
+    }
 
 error_for_people : finding_text form.Text severity.Error (alone (codes "x.b")) undefined
     ≡ codes "x.b:3:6: error: no n\n     i = n; } g;\n         ^\n  fix: auto n;\n"
@@ -129,6 +192,48 @@ second_texts_of_several : map (second_text {source = codes "n 5;\nf() ;"} (follo
     ∷ codes ",\"related\":{\"file\":\"l\\u000a.b\",\"line\":1,\"column\":2}" ∷ [])
 unfolding digits
 second_texts_of_several = refl
+
+-- a finding of several marks, with a second place, in whose words there are quotes and backslashes
+abbrev again : FindingParts (codes "n 5;\nsize 1; size 2;\n")
+again = record {
+  before = codes "n 5;\n";
+  left = codes "size 1; ";
+  right = codes "size 2;";
+  after = codes "\n";
+  split = refl;
+  from_line = refl;
+  in_line = refl;
+  marks = 4;
+  marked = refl;
+  code = codes "r\"d";
+  sentence = codes "\"size\" \\ again";
+  fix = codes "a \"b\"";
+  on_lines = refl;
+  second = Some (record { before = codes "n 5;\n"; after = codes "size 1; size 2;\n"; split = refl });
+}
+
+warning_for_people : finding_text form.Text severity.Warning (alone (codes "x.b")) again
+    ≡ codes "x.b:2:9: warning: \"size\" \\ again\n    size 1; size 2;\n            ^^^^\n  fix: a \"b\"\n"
+unfolding digits
+warning_for_people = refl
+
+error_for_editors : finding_text form.Json severity.Error (alone (codes "x.b")) again
+    ≡ codes "{\"file\":\"x.b\",\"line\":2,\"column\":9,\"severity\":\"error\",\"code\":\"r\\\"d\","
+    ++ codes "\"message\":\"\\\"size\\\" \\\\ again\",\"fix\":\"a \\\"b\\\"\","
+    ++ codes "\"related\":{\"line\":2,\"column\":1}}\n"
+unfolding digits
+error_for_editors = refl
+
+-- what the theorems count and look for: newlines, bytes that can be printed, and colons
+newline_counts : map newlines ([] ∷ codes "a" ∷ codes "a\n" ∷ codes "\na\n" ∷ []) ≡ (0 ∷ 0 ∷ 1 ∷ 2 ∷ [])
+newline_counts = refl
+
+printed : map (λ b. is_printed (b ∷ [])) (9 ∷ 10 ∷ 11 ∷ 31 ∷ 32 ∷ 126 ∷ 127 ∷ 128 ∷ [])
+    ≡ (false ∷ true ∷ false ∷ false ∷ true ∷ true ∷ false ∷ false ∷ [])
+printed = refl
+
+colons : map has_no_colon ([] ∷ codes "x.b" ∷ codes "a:b" ∷ codes "9;" ∷ []) ≡ (true ∷ true ∷ false ∷ true ∷ [])
+colons = refl
 
 no_findings : findings_text {source = []} form.Text 0 (alone (codes "x.b")) [] ≡ []
 no_findings = refl
