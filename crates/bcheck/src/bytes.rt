@@ -79,7 +79,6 @@ pub(crate) fn byte_of(text: &[u8]) -> Byte {
 pub(crate) enum Constant {
     Number,
     Octal,
-    NoCharacter,
     Characters,
     Characterless,
     Long,
@@ -99,8 +98,6 @@ impl Constant {
             Constant::Number => ("no word holds this number", "at most 65535"),
             Constant::Octal =>
                 ("a number that begins with 0 is to the base 8", "take the 0 before it away, or the digits 8 and 9"),
-            Constant::NoCharacter =>
-                ("this is no character constant", "one or two characters and then a quote; * begins an escape"),
             Constant::Characters =>
                 ("single quotes have one or two characters", "\"abc\" is a string; 'ab' and 'c' are two constants"),
             Constant::Characterless =>
@@ -194,7 +191,6 @@ fn within(place: &Place, text: &[u8], index: usize, wrong: Constant) -> Place {
 fn counted(quote: u8, count: usize) -> Constant {
     match (quote, count) {
         (b'\'', 0) => Constant::Characterless,
-        (b'\'', 1 | 2) => Constant::NoCharacter,
         (b'\'', _) => Constant::Characters,
         _ => Constant::Long,
     }

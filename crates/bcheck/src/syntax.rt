@@ -259,10 +259,9 @@ const BEGINNINGS: [Row; 9] = [
 
 /// Externals and the parameters of a function.
 #[rattlefmt::skip]
-const OUTSIDE: [Row; 12] = [
+const OUTSIDE: [Row; 11] = [
     Row(EXTERNAL, If::Always, [Kind::Type, ANY, ANY, ANY, ANY], Syntax::TypeFirst, Mark::First),
     Row(EXTERNAL, If::NextLine, [ANY, ANY, Kind::Ended, Kind::Name, ANY], Syntax::SemicolonMissing, Mark::Here),
-    Row(EXTERNAL, If::NextLine, [ANY, ANY, Kind::Name, OPEN_PAREN, ANY], Syntax::TypeFirst, Mark::First),
     Row(EXTERNAL, If::Always, [ANY, ANY, Kind::Name, OPEN_PAREN, ANY], Syntax::TypeFirst, Mark::First),
     Row(EXTERNAL, If::Always, [ANY, ANY, ANY, Kind::Assigns, ANY], Syntax::EqualsOutside, Mark::Here),
     Row(EXTERNAL, If::Always, [ANY, ANY, ANY, SUB, ANY], Syntax::SignOutside, Mark::Here),

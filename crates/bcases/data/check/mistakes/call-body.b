@@ -1,0 +1,7 @@
+main() {
+    auto i;
+    i = 0;
+    whlie(i < 3) {
+        i++;
+    }
+}

@@ -1,0 +1,5 @@
+main() {
+    auto v;
+    v = getvec(10);
+    v[0] = 1;
+}
