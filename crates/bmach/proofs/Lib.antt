@@ -9,6 +9,7 @@ pub mod Faults
 pub mod Loads
 pub mod Taking
 pub mod Calling
+pub mod Keeping
 pub mod Asking
 pub mod Below
 pub mod Resolving

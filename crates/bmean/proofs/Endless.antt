@@ -1,11 +1,11 @@
 -- A program that writes without end, and machines that don't.
-use Rattle.std.proofs.Common.{◌≡◌, ◌∙◌, ℕ, zero, suc, ◌+◌, List, [], ◌∷◌, ◌++◌, ap, append-nil, append_assoc, arith, length, refl, replicate, sym}
+use Rattle.std.proofs.Common.{◌≡◌, ◌∙◌, ℕ, zero, suc, ◌+◌, List, [], ◌∷◌, ◌++◌, ap, append-nil, append_assoc, arith, length, replicate, sym}
 use Rattle.std.proofs.lemmas.List.{length-replicate}
 use Rattle.std.specs.Prelude.{codes}
 use Rattle.blang.specs.Trees.{Another, Called, Character, Evaluate, Literal, Named, No_arguments, Number, Stmt, While}
 use Rattle.blang.specs.Layout.{World, padded, store_words}
 use Rattle.blang.specs.Machine.{state_world}
-use Rattle.blang.specs.Value.{Do, Frame, Program, SourceFunction, Wants}
+use Rattle.blang.specs.Value.{Do, Program, SourceFunction, Wants}
 use Rattle.blang.specs.Meaning.{exited, fuel_of, go_on, main_frame, meant, program_of}
 use Rattle.bmean.specs.Endless.{SilenceExcluded, writing_on}
 

@@ -1,5 +1,5 @@
 -- Promise: what comes of a source whose steps are written.
-use Rattle.std.specs.Prelude.{◌≡◌, ℕ, ◌+◌, ◌-◌, ◌≤◌, ◌==◌, ◌&&◌, Bool, true, false, List, [], ◌∷◌, ◌++◌}
+use Rattle.std.specs.Prelude.{◌≡◌, ℕ, ◌+◌, ◌-◌, ◌≤◌, ◌==◌, ◌&&◌, Bool, true, false, List, [], ◌++◌}
 use Rattle.std.specs.Prelude.{None, Result, Ok, Err, codes, filter, map, nat_le, option_map, refl}
 use Rattle.std.specs.Prelude.{All, Option, Some, if◌then◌else◌}
 use Rattle.std.specs.List.{flat_map, range_with_len}
