@@ -9,10 +9,16 @@ use Rattle.blang.specs.declared.code.Definition.{Definition}
 use Rattle.blang.specs.declared.run.Outcome.{Outcome}
 use Rattle.blang.specs.declared.run.Outcome.TheVariants as outcome
 use Rattle.blang.specs.declared.status.TheConstants.{DEVICE}
+use Rattle.blang.specs.Compiles.{Compilation, CompilesTo}
+use Rattle.blang.specs.Cut.{tokens_from}
 use Rattle.blang.specs.Reports.{RunEnds, RunGives}
 use Rattle.blang.specs.Machine.{machine}
+use Rattle.bmach.specs.Readings.{LeftBySteps}
+use Rattle.bmach.proofs.Readings.{left_by, run_left}
 use Rattle.btools.specs.Functions.{Placed, functions_of}
+use Rattle.btools.specs.Excluded.{code_in}
 use Rattle.btools.specs.Programs.{nothing_written}
+use Rattle.btools.proofs.Unasked.{program_left, untaken}
 use Rattle.bcount.specs.Counts as count
 use Rattle.bcount.specs.Counts.{AreCounts, Asked, Counts, IsOnLines, line_counts}
 use Rattle.bcount.specs.Excluded.{CountsExcluded, CountsOnly, ShowsBoth, nothing}
@@ -115,7 +121,22 @@ read_lost asked source ends status failed (count.counted mid ds image result out
 read_lost asked source ends status failed (count.unread ds image output program gives same answer) = (answer, same)
 read_lost asked source ends status failed (count.not_begun mid ds image result program never told quiet) = absurd (failed (ap (λ (i : Incoming). i.failures) quiet.unread))
 read_lost asked source ends status failed (count.stopped none quiet) = absurd (failed (ap (λ (i : Incoming). i.failures) quiet.unread))
-read_lost asked source ends status failed (count.no_memory ds image program same unfailed answer) = absurd (failed unfailed)
+read_lost asked source ends status failed (count.no_memory ds image program same read answer) = absurd (failed read.no_failure)
+
+module _ (asked : Asked) (source : List ℕ) (r : Compilation) (g : CompilesTo [] (tokens_from asked.edition 1 source) r) (ends : RunEnds) (status : ℕ) where
+  -- what was read of the input was asked for
+  was_asked : Counts asked source ends status → LeftBySteps (machine (code_in asked.edition source r g)) asked.steps ends.input ends.input_after
+  was_asked (count.counted mid ds image result output made tallies text told has gives counts table reported tells) =
+      program_left asked.edition source r g asked.steps ends.input ends.input_after ends.line mid ds image has
+      (run_left (machine ds) asked.steps ends.input ends.input_after nothing_written (outgoing_of output) result gives)
+  was_asked (count.unread ds image output has gives same answer) =
+      program_left asked.edition source r g asked.steps ends.input ends.input_after ends.line ends.line_after ds image has
+      (run_left (machine ds) asked.steps ends.input ends.input_after nothing_written (outgoing_of output) outcome.Device gives)
+  was_asked (count.not_begun mid ds image result has never told quiet) = untaken asked.edition source r g asked.steps ends.input ends.input_after quiet.unread
+  was_asked (count.stopped none quiet) = untaken asked.edition source r g asked.steps ends.input ends.input_after quiet.unread
+  was_asked (count.no_memory ds image has same read answer) =
+      program_left asked.edition source r g asked.steps ends.input ends.input_after ends.line ends.line_after ds image has
+      (left_by (machine ds) asked.steps ends.input ends.input_after read)
 
 pub excluded : CountsExcluded
 excluded = record {
@@ -126,4 +147,5 @@ excluded = record {
   other_object = λ text h. of_one_line styles.Json (codes "main(){}\n") text refl h ∙ one_object;
   other_rows = of_two_lines;
   read_failed = read_lost;
+  unasked = was_asked;
 }

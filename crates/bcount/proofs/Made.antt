@@ -7,9 +7,11 @@ use Rattle.blang.specs.declared.run.Outcome.{Outcome}
 use Rattle.blang.specs.declared.run.Outcome.TheVariants as outcome
 use Rattle.blang.specs.Machine.{Image, State, step, steps}
 use Rattle.blang.specs.Reports.{state_outcome}
+use Rattle.bmach.specs.Readings.{ReadInStep}
 use Rattle.bmach.specs.Stepping.{Paused, machine_at}
 use Rattle.bmach.specs.Steps.{world_with}
 use Rattle.bmach.specs.Turns.{FailsAtRead, HasHalted, MovesOn, Shown, TurnGives}
+use Rattle.bmach.proofs.Readings.{read_more, turn_read}
 use Rattle.bmach.proofs.Running.{at_limit, following, one_more, run_over}
 use Rattle.bmach.proofs.Turning.{follows, goes_on, runs_on}
 use Rattle.btools.proofs.Excluded.{not_grown}
@@ -156,7 +158,9 @@ module _ (es : List Entry) (first now : Paused) (made : ℕ) (i j m : Incoming) 
   )
   made_over new outcome.Limit is g = absurd g
   made_over new outcome.Device is g = read_failed new g
-  made_over new outcome.Memory is g = ⊎_elim (λ f. f.2.moves.no_failure) (λ w. ap (λ (x : Incoming). x.failures) w.unread) g ∙ t.goes.no_failure
+  made_over new outcome.Memory is g =
+      read_more first.image made n (machine_at first) (machine_at now) i j m nothing_written (outgoing_of t.kept) (omega (arith, lt)) t.goes
+      (subst (λ (x : Image). ReadInStep x (machine_at now) j m) t.image_is (turn_read now j m untold untold after (Err outcome.Memory) (λ e. cc) g))
 
 -- all steps were made
 pub made_all : (es : List Entry) (first now : Paused) (made : ℕ) (i j : Incoming) (tallies : List (List ℕ)) → IsMade es first made now i j tallies → CountsSteps es first made i j outcome.Limit made tallies

@@ -5,19 +5,21 @@ use Rattle.bword.specs.ByteEnds.{Incoming, Outgoing, outgoing_of}
 use Rattle.blang.specs.declared.code.Definition.{Definition}
 use Rattle.blang.specs.declared.run.Outcome.{Outcome}
 use Rattle.blang.specs.declared.run.Outcome.TheVariants as outcome
-use Rattle.blang.specs.declared.status.TheConstants.{DEVICE, DONE}
+use Rattle.blang.specs.declared.status.TheConstants.{DEVICE, DONE, MEMORY}
 use Rattle.blang.specs.Machine.{Halted, Image, Running, State, Stuck, image_of, machine, run}
 use Rattle.blang.specs.Reports.{Reported, RunEnds, RunGives, state_outcome}
+use Rattle.bmach.specs.Readings.{ReadBySteps}
 use Rattle.bmach.specs.Resolved.{IsLoadedFrom, state_resolved}
 use Rattle.bmach.specs.Stepping.{IsUnstarted, Paused}
 use Rattle.bmach.proofs.Beginning.{run_from}
+use Rattle.bmach.proofs.Readings.{run_read}
 use Rattle.bmach.proofs.Resolving.{run-resolved}
 use Rattle.bmach.proofs.Running.{same_run}
-use Rattle.brun.proofs.RunSteps.{outcome-resolved, run_loaded, run_of_loaded}
+use Rattle.brun.proofs.RunSteps.{outcome-resolved, read_of_loaded, run_loaded, run_of_loaded}
 use Rattle.btools.specs.Functions.{Placed, functions_of, placed_entry}
 use Rattle.btools.specs.Programs.{HasProgram, TellsEnd, nothing_written}
 use Rattle.btools.specs.declared.tables.Entry.{Entry}
-use Rattle.bcount.specs.Counts.{AreCounts, Asked, Counts, EndsAfter, IsTableOf, counted, unread}
+use Rattle.bcount.specs.Counts.{AreCounts, Asked, Counts, EndsAfter, IsTableOf, counted, no_memory, unread}
 use Rattle.bcount.specs.Steps.{CountsSteps, StepsGive}
 use Rattle.btools.specs.Programs.{steps_from}
 use Rattle.bcount.specs.Tallies.{counts_of, is_at, times}
@@ -74,14 +76,6 @@ parted es p n i j outcome.Limit made tallies a b h = h
 parted es p n i j outcome.Device made tallies a b h = absurd (a refl)
 parted es p n i j outcome.Memory made tallies a b h = absurd (b refl)
 
--- no read failed in it
-pub unfailed : (p : Paused) (n : ℕ) (i j : Incoming) (r : Outcome) → (r ≡ outcome.Device → ⊥) → (r ≡ outcome.Memory → ⊥) → StepsGive p n i j r → j.failures ≡ i.failures
-unfailed p n i j (outcome.Exit status) a b h = h.1.no_failure
-unfailed p n i j (outcome.Trap kind) a b h = h.1.no_failure
-unfailed p n i j outcome.Limit a b h = h.1.no_failure
-unfailed p n i j outcome.Device a b h = absurd (a refl)
-unfailed p n i j outcome.Memory a b h = absurd (b refl)
-
 module _ (asked : Asked) (source : List ℕ) (ends : RunEnds) (status : ℕ) (mid : Outgoing) (ds : List Definition) (image : Image) (p : Paused) (begins : IsUnstarted image p) where
   pub counted_whole : (es : List Entry) (result : Outcome) (made : ℕ) (tallies : List (List ℕ)) (text : List ℕ) (told : ℕ) → HasProgram asked.edition source ends.line mid ds image → map placed_entry es ≡ functions_of ds
       → StepsGive p asked.steps ends.input ends.input_after result × AreCounts (map placed_entry es) (steps_from p) asked.steps ends.input ends.input_after result made tallies
@@ -90,6 +84,13 @@ module _ (asked : Asked) (source : List ℕ) (ends : RunEnds) (status : ℕ) (mi
       counted mid ds image result h.0.0 made tallies text told is (gives_run ds image p is.loaded begins asked.steps ends.input ends.input_after result h.0)
       (subst (λ (fs : List Placed). AreCounts fs (machine ds) asked.steps ends.input ends.input_after result made tallies) functions (counts_run (map placed_entry es) ds image p is.loaded begins asked.steps ends.input ends.input_after result made tallies h.1))
       table tells end
+
+  pub refused_whole : HasProgram asked.edition source ends.line ends.line_after ds image → ends.out_after ≡ ends.out → ReadBySteps (steps_from p) asked.steps ends.input ends.input_after → status ≡ MEMORY → Counts asked source ends status
+  refused_whole is same read answer = no_memory ds image is same (read_of_loaded ds image p is.loaded begins asked.steps ends.input ends.input_after read) answer
+
+  -- memory was refused after the steps
+  pub untold_whole : (result : Outcome) → HasProgram asked.edition source ends.line ends.line_after ds image → ends.out_after ≡ ends.out → (result ≡ outcome.Device → ⊥) → StepsGive p asked.steps ends.input ends.input_after result → status ≡ MEMORY → Counts asked source ends status
+  untold_whole result is same other h answer = refused_whole is same (run_read (steps_from p) asked.steps ends.input ends.input_after nothing_written (outgoing_of h.0) result other h.1) answer
 
   pub unread_whole : HasProgram asked.edition source ends.line ends.line_after ds image → StepsGive p asked.steps ends.input ends.input_after outcome.Device → ends.out_after ≡ ends.out → status ≡ DEVICE → Counts asked source ends status
   unread_whole is h same answer = unread ds image h.0 is (gives_run ds image p is.loaded begins asked.steps ends.input ends.input_after outcome.Device h) same answer

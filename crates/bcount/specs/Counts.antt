@@ -11,6 +11,7 @@ use Rattle.blang.specs.declared.run.Outcome.TheVariants as outcome
 use Rattle.blang.specs.declared.status.TheConstants.{DEVICE, DONE, MEMORY}
 use Rattle.blang.specs.Machine.{Image, State, States, machine}
 use Rattle.blang.specs.Reports.{Finishes, HasNotRun, Reported, RunEnds, RunGives, state_outcome}
+use Rattle.bmach.specs.Readings.{ReadBySteps}
 use Rattle.bmach.specs.Stepping.{BeginsNot}
 use Rattle.btools.specs.Functions.{Placed, functions_of}
 use Rattle.btools.specs.Programs.{HasProgram, NoProgram, TellsEnd, nothing_written}
@@ -90,7 +91,7 @@ pub record AreCounts (functions : List Placed) (states : States) (steps : ℕ) (
 
 -- The program of the source was run for so many steps at most, as the machine runs it, and its counts written; or a read
 -- of it failed, and nothing was written; or it did not begin, or there is none, and why was told; or memory was refused,
--- which is told only where no read failed.
+-- and nothing was written, or read but by some of its steps.
 pub data Counts (asked : Asked) (source : List ℕ) (ends : RunEnds) (status : ℕ) : Type 0 where
   counted : (mid : Outgoing) (ds : List Definition) (image : Image) (result : Outcome) (output : Kept) (made : ℕ)
       (tallies : List (List ℕ)) (text : List ℕ) (told : ℕ) → HasProgram asked.edition source ends.line mid ds image
@@ -109,4 +110,5 @@ pub data Counts (asked : Asked) (source : List ℕ) (ends : RunEnds) (status : �
       → Counts asked source ends status
   no_memory : (ds : List Definition) (image : Image)
       → HasProgram asked.edition source ends.line ends.line_after ds image → ends.out_after ≡ ends.out
-      → ends.input_after.failures ≡ ends.input.failures → status ≡ MEMORY → Counts asked source ends status
+      → ReadBySteps (machine ds) asked.steps ends.input ends.input_after → status ≡ MEMORY
+      → Counts asked source ends status

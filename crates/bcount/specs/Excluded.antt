@@ -8,8 +8,12 @@ use Rattle.blang.specs.declared.code.Instr.TheVariants as instr
 use Rattle.blang.specs.declared.run.Outcome.{Outcome}
 use Rattle.blang.specs.declared.run.Outcome.TheVariants as outcome
 use Rattle.blang.specs.declared.status.TheConstants.{DEVICE}
+use Rattle.blang.specs.Compiles.{Compilation, CompilesTo}
+use Rattle.blang.specs.Cut.{tokens_from}
 use Rattle.blang.specs.Machine.{machine}
 use Rattle.blang.specs.Reports.{RunEnds}
+use Rattle.bmach.specs.Readings.{LeftBySteps}
+use Rattle.btools.specs.Excluded.{code_in}
 use Rattle.btools.specs.Functions.{functions_of}
 use Rattle.bcount.specs.Counts.{AreCounts, Asked, Counts, IsTableOf}
 use Rattle.bcount.specs.SourceLines.{newlines_in}
@@ -63,3 +67,8 @@ pub record CountsExcluded : Type 0 where
   pub read_failed : (asked : Asked) (source : List ℕ) (ends : RunEnds) (status : ℕ)
       → (ends.input_after.failures ≡ ends.input.failures → ⊥) → Counts asked source ends status
       → (status ≡ DEVICE) × (ends.out_after ≡ ends.out)
+  -- whatever the status, as where memory was refused: a byte taken that no step asked for
+  pub unasked : (asked : Asked) (source : List ℕ) (r : Compilation)
+      (g : CompilesTo [] (tokens_from asked.edition 1 source) r) (ends : RunEnds) (status : ℕ)
+      → Counts asked source ends status
+      → LeftBySteps (machine (code_in asked.edition source r g)) asked.steps ends.input ends.input_after

@@ -6,6 +6,7 @@ use Rattle.blang.specs.declared.run.Outcome.TheVariants as outcome
 use Rattle.blang.specs.Machine.{States}
 use Rattle.blang.specs.Machine as runs
 use Rattle.blang.specs.Reports.{RunGives}
+use Rattle.bmach.specs.Readings.{ReadBySteps}
 use Rattle.bmach.specs.Stepping.{Paused, machine_at}
 use Rattle.btools.specs.Functions.{placed_entry}
 use Rattle.btools.specs.Programs.{nothing_written, steps_from}
@@ -20,7 +21,7 @@ StepsGive first steps i j result =
 -- the same with their counts; a run that could not read has none, and neither has one that was refused memory
 abbrev pub CountsSteps : List Entry → Paused → (steps : ℕ) → (i j : Incoming) → Outcome → (made : ℕ)
     → (tallies : List (List ℕ)) → Type 0
-CountsSteps es first steps i j outcome.Memory made tallies = j.failures ≡ i.failures
+CountsSteps es first steps i j outcome.Memory made tallies = ReadBySteps (steps_from first) steps i j
 CountsSteps es first steps i j outcome.Device made tallies = StepsGive first steps i j outcome.Device
 CountsSteps es first steps i j result made tallies =
     StepsGive first steps i j result

@@ -9,8 +9,10 @@ use Rattle.std.proofs.lemmas.List.Folds.{list_all-append}
 use Rattle.bword.specs.declared.edition.Edition.{Edition}
 use Rattle.bword.proofs.Remaining.{rest_after}
 use Rattle.bword.specs.ByteEnds.{Grew, Incoming, Outgoing, Writes, outgoing_of}
+use Rattle.bmach.specs.Readings.{LeftBySteps, ReadBySteps}
 use Rattle.bmach.specs.Resolved.{IsLoadedFrom}
 use Rattle.bmach.specs.Stepping.{HasEnd}
+use Rattle.bmach.proofs.Readings.{left_by, none_at_first, run_left}
 use Rattle.bmach.proofs.Running.{device_failed}
 use Rattle.blang.specs.declared.code.Definition.{Definition}
 use Rattle.blang.specs.declared.run.LoadFault.{LoadFault}
@@ -137,11 +139,29 @@ module _ (ds : List Definition) (image : Image) where
     unread_run n status (draws.over result words over end h s) failed = absurd (failed (comes n result (outgoing_of over.0) end over.1).no_failure)
     unread_run n status (draws.not_begun result b end s same) failed = absurd (failed (ap (λ (x : Incoming). x.failures) same))
     unread_run n status (draws.unread over same is) failed = (is, same)
-    unread_run n status (draws.no_memory same quiet is) failed = absurd (failed same)
+    unread_run n status (draws.no_memory read quiet is) failed = absurd (failed read.no_failure)
 
     unread_in : (steps : Option ℕ) (status : ℕ) → DrawsProgram ds image steps i j o q status → (j.failures ≡ i.failures → ⊥) → (status ≡ 133) × (q ≡ o)
     unread_in None status h failed = absurd (failed (ap (λ (x : Incoming). x.failures) h.1))
     unread_in (Some n) status h failed = unread_run n status h failed
+
+    -- what was read of the input was asked for
+    asked_run : (n status : ℕ) → DrawsRun ds image n i j o q status → LeftBySteps (run image) n i j
+    asked_run n status (draws.after words h s) = left_by (run image) n i j (after_read n words h)
+      where
+        after_read : (n : ℕ) (words : List ℕ) → IsAfter image n i j words → ReadBySteps (run image) n i j
+        after_read n words h = record {
+          made = n;
+          within = omega arith;
+          taken = h.taken;
+          took = h.took;
+          no_failure = h.no_failure;
+          left = λ more can. let at = h.holds more can in ap (λ s. (state_world s).input) at.3 ∙ at.5;
+        }
+    asked_run n status (draws.over result words over end h s) = run_left (run image) n i j nothing_written (outgoing_of over.0) result over.1
+    asked_run n status (draws.not_begun result b end s same) = left_by (run image) n i j (none_at_first image n i j same)
+    asked_run n status (draws.unread over same is) = run_left (run image) n i j nothing_written (outgoing_of over.0) outcome.Device over.1
+    asked_run n status (draws.no_memory read quiet is) = left_by (run image) n i j read
 
     module _ (n : ℕ) (bytes : List ℕ) (told : TellsBytes i bytes) where
       -- a run between two steps has these words, and has read what was taken
@@ -226,6 +246,12 @@ module _ (edition : Edition) (source : List ℕ) (r : Compilation) (g : Compiles
   unloaded steps (draws.drew ds image p h) = absurd (no_refusal ds image ends.input ends.input_after ends.out ends.out_after steps h)
   unloaded steps (draws.stopped why quiet same) = (told.unloaded why, quiet, same)
 
+  unasked : (n status : ℕ) → Draws edition source (Some n) ends status
+      → ((image : Image) × IsLoadedFrom code image × LeftBySteps (run image) n ends.input ends.input_after) ⊎ (ends.input_after ≡ ends.input)
+  unasked n status (draws.drew ds image p h) =
+      inl (image, subst (λ (x : List Definition). IsLoadedFrom x image) (told.program ds image p).1 p.loaded, asked_run ds image ends.input ends.input_after ends.out ends.out_after n status h)
+  unasked n status (draws.stopped why quiet same) = inr same
+
 pub no_pictures : NoPictures
 no_pictures edition source r g ends = record {
   done = done edition source r g ends;
@@ -236,4 +262,5 @@ no_pictures edition source r g ends = record {
   device = device edition source r g ends;
   fault = fault edition source r g ends;
   unloaded = unloaded edition source r g ends;
+  unasked = unasked edition source r g ends;
 }

@@ -14,7 +14,8 @@ use Rattle.bmach.specs.Steps.{world_with}
 use Rattle.bmach.specs.Stepping.{HasEnd, IsUnstarted, Paused, machine_at}
 use Rattle.bmach.specs.Turns.{HasHalted, LeavesWords, MovesOn, TurnGives}
 use Rattle.bmach.proofs.Beginning.{run_from}
-use Rattle.bmach.proofs.Running.{following, memory_unfailed, one_more, run_over, same_run, steps_add}
+use Rattle.bmach.proofs.Readings.{run_read}
+use Rattle.bmach.proofs.Running.{following, one_more, run_over, same_run, steps_add}
 use Rattle.bmach.proofs.Turning.{follows, goes_on, runs_on}
 use Rattle.btools.specs.Programs.{nothing_written}
 use Rattle.bdraw.specs.Draws.{DrawsRun, EndGives, IsAfter, IsAtEnd, IsMade, IsOver, LeavesAtEnd, ShowsMemory, no_memory, over, unread}
@@ -182,4 +183,4 @@ ends_drawn ds image words n i j (outcome.Exit m) old new status is no_limit end 
 ends_drawn ds image words n i j (outcome.Trap kind) old new status is no_limit end s = over (outcome.Trap kind) words is tt (end tt) s
 ends_drawn ds image words n i j outcome.Limit old new status is no_limit end s = absurd (no_limit refl)
 ends_drawn ds image words n i j outcome.Device old new status is no_limit end s = unread is s.0 s.1
-ends_drawn ds image words n i j outcome.Memory old new status is no_limit end s = no_memory (memory_unfailed (run image) n i j nothing_written (outgoing_of is.0) is.1).0 s.0 s.1
+ends_drawn ds image words n i j outcome.Memory old new status is no_limit end s = no_memory (run_read (run image) n i j nothing_written (outgoing_of is.0) outcome.Memory (λ e. cc) is.1) s.0 s.1

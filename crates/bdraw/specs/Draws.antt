@@ -11,6 +11,7 @@ use Rattle.blang.specs.declared.status.TheConstants.{DEVICE, DONE, MEMORY}
 use Rattle.blang.specs.Layout.{Shape as Named, World, shape_of, size_of}
 use Rattle.blang.specs.Machine.{Call, Image, Running, State, run, state_world, steps}
 use Rattle.blang.specs.Reports.{RunGives, RunEnds, Reported}
+use Rattle.bmach.specs.Readings.{ReadBySteps}
 use Rattle.bmach.specs.Stepping.{BeginsNot, HasEnd, Paused, machine_at}
 use Rattle.bmach.specs.Turns.{MovesOn}
 use Rattle.btools.specs.Programs.{HasProgram, NoProgram, image_address, nothing_written}
@@ -115,7 +116,7 @@ pub record IsAtEnd (image : Image) (n : ℕ) (i j : Incoming) (words : List ℕ)
 
 -- What is drawn after so many steps: the words that memory has then; or, where the run is over before, those where it
 -- is over; or those before a run that doesn't begin. Where the program can't read its input nothing is written, nor
--- where memory is refused; that comes only where no read failed.
+-- where memory is refused; then only its steps have read.
 pub data DrawsRun (ds : List Definition) (image : Image) (n : ℕ) (i j : Incoming) (old new : Outgoing) (status : ℕ)
     : Type 0 where
   after : (words : List ℕ) → IsAfter image n i j words → ShowsMemory ds image words old new status
@@ -125,7 +126,7 @@ pub data DrawsRun (ds : List Definition) (image : Image) (n : ℕ) (i j : Incomi
   not_begun : (result : Outcome) → BeginsNot image result → HasEnd result
       → ShowsMemory ds image image.words old new status → j ≡ i → DrawsRun ds image n i j old new status
   unread : IsOver image n i j outcome.Device → new ≡ old → status ≡ DEVICE → DrawsRun ds image n i j old new status
-  no_memory : j.failures ≡ i.failures → new ≡ old → status ≡ MEMORY → DrawsRun ds image n i j old new status
+  no_memory : ReadBySteps (run image) n i j → new ≡ old → status ≡ MEMORY → DrawsRun ds image n i j old new status
 
 -- what comes of a run that is over so, with these words
 abbrev pub EndGives : List Definition → Image → List ℕ → Outcome → (old new : Outgoing) → ℕ → Type 0
@@ -137,8 +138,7 @@ EndGives ds image words outcome.Memory old new status = (new ≡ old) × (status
 
 -- what comes of a run that doesn't begin
 abbrev pub Unbegun : List Definition → Image → Outcome → (old new : Outgoing) → ℕ → Type 0
-Unbegun ds image result old new status =
-    (n : ℕ) (i : Incoming) → BeginsNot image result → DrawsRun ds image n i i old new status
+Unbegun ds image result old new status = (n : ℕ) (i : Incoming) → DrawsRun ds image n i i old new status
 
 abbrev pub DrawsProgram : List Definition → Image → Option ℕ → (i j : Incoming) (old new : Outgoing) → ℕ → Type 0
 DrawsProgram ds image None i j old new status = ShowsMemory ds image image.words old new status × (j ≡ i)

@@ -4,6 +4,7 @@ use Rattle.std.specs.Prelude.{◌⊎◌, IsTrue, codes, if◌then◌else◌, ref
 use Rattle.std.specs.List.{list_all}
 use Rattle.bword.specs.declared.edition.Edition.{Edition}
 use Rattle.bword.specs.ByteEnds.{Grew, Incoming, Writes}
+use Rattle.bmach.specs.Readings.{LeftBySteps}
 use Rattle.bmach.specs.Resolved.{IsLoadedFrom}
 use Rattle.bmach.specs.Stepping.{BeginsNot, HasEnd}
 use Rattle.blang.specs.declared.code.Definition.{Definition}
@@ -117,6 +118,11 @@ module _ (edition : Edition) (source : List ℕ) (r : Compilation) (g : Compiles
         → ((f : LoadFault) × (text : List ℕ) × (load_fault (code_in edition source r g) ≡ Some f)
         × (load_line f ≡ Some text) × Writes ends.line text ends.line_after)
         × (ends.out_after ≡ ends.out) × (ends.input_after ≡ ends.input)
+    -- whatever the status, as where memory was refused: a byte taken that no step asked for
+    pub unasked : (n status : ℕ) → Draws edition source (Some n) ends status
+        → ((image : Image) × IsLoadedFrom (code_in edition source r g) image
+        × LeftBySteps (run image) n ends.input ends.input_after)
+        ⊎ (ends.input_after ≡ ends.input)
 
 abbrev pub NoPictures : Type 0
 NoPictures =

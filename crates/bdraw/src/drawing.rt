@@ -1,7 +1,7 @@
 //! Drawing the memory of a program.
 ghost use Rattle.std.specs.Prelude.{◌≡◌, IfOk};
 ghost use Rattle.blang.specs.Reports.{run_ends};
-ghost use Rattle.bmach.specs.Stepping.{IsUnstarted};
+ghost use Rattle.bmach.specs.Stepping.{BeginsNot, IsUnstarted};
 ghost use Rattle.bdraw.specs.Excluded.{NoPictures, WrongShapes};
 ghost use Rattle.btools.specs.Programs.{untold};
 ghost use Rattle.bdraw.specs.Draws.{Draws, DrawsRun, EndGives, IsPicture, Made, ShowsMemory, Unbegun};
@@ -76,12 +76,14 @@ fn draw_unbegun<O: ByteOut>(
     outcome: Outcome,
     out: &mut O,
 ) -> Status
+    requires { BeginsNot program.now.image outcome }
     ensures draws { Unbegun program.now.definitions.items program.now.image outcome (O.outgoing out.old) (O.outgoing out.new) result }
     ensures out_lender { O.lender out.new ≡ O.lender out.old }
 {
     match outcome {
         Outcome::Trap(_) => show_before(alloc, program, Moment::End(0), out),
-        _ => status::MEMORY,
+        Outcome::Memory => status::MEMORY,
+        Outcome::Exit(_) | Outcome::Limit | Outcome::Device => unreachable!(),
     }
 }
 

@@ -24,4 +24,5 @@ pub mod Stopping
 pub mod Fusing
 pub mod Fetching
 pub mod Beginning
+pub mod Readings
 pub mod Storing

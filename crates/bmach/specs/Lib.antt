@@ -12,5 +12,6 @@ pub mod Turns
 pub mod Excluded
 pub mod Stepping
 pub mod Stops
+pub mod Readings
 pub mod Stored
 pub mod StoredRows

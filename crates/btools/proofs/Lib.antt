@@ -1,5 +1,6 @@
 pub mod AddedTexts
 pub mod Excluded
+pub mod Unasked
 pub mod Loading
 pub mod Finding
 pub mod Functions

@@ -49,6 +49,7 @@ use Rattle.btrace.specs.Traces.{AreShown, EndsAs, IsWhere, IsTried, ShowsRows, S
 use Rattle.btools.specs.Programs.{TellsEnd}
 use Rattle.btrace.specs.declared.tracing.TheConstants.{HEADING}
 use Rattle.btrace.specs.declared.tracing.Which.{Which}
+use Rattle.btrace.proofs.Unasked.{by_place, by_trace}
 use Rattle.btrace.proofs.ReadTexts.{all_above, above_append, at, after_line, after_number, line_skipped, number_above, number_skipped, skip_digits, words_above}
 use Rattle.bsources.specs.Files.{File, Files}
 use Rattle.btrace.specs.declared.trail.TraceRows.{TraceRows}
@@ -194,7 +195,7 @@ module _ (file : File) where
         absurd (no_nothing ends.out_after.written text (ap (λ (o : Outgoing). o.written) quiet.silent ∙ before) following some)
     told_so text before following some (traces.stopped none quiet) =
         absurd (no_nothing ends.out_after.written text (ap (λ (o : Outgoing). o.written) quiet.silent ∙ before) following some)
-    told_so text before following some (traces.no_memory other image program same unfailed e) =
+    told_so text before following some (traces.no_memory other image program same read e) =
         absurd (no_nothing ends.out_after.written text (ap (λ (o : Outgoing). o.written) same ∙ before) following some)
 
     -- a run that begins has its trace written
@@ -207,7 +208,7 @@ module _ (file : File) where
     written_so starts (traces.unnamed mid other image program unknown r quiet) =
         let bad : status ≡ 135 = (told _ WRONG_COMMAND mid ends.line_after status (omega arith) r).1 in absurd (omega arith)
     written_so starts (traces.stopped none quiet) = absurd (has_program edition source ds is ends.line ends.line_after status less none)
-    written_so starts (traces.no_memory other image program same unfailed e) = let bad : status ≡ 134 = e in absurd (omega arith)
+    written_so starts (traces.no_memory other image program same read e) = let bad : status ≡ 134 = e in absurd (omega arith)
 
   -- what stands under the heading of a trace at the limit: rows, and where the run was over
   record AtLimit (ds : List Definition) (steps : ℕ) (which : Which) (text : List ℕ) : Type 0 where
@@ -277,7 +278,7 @@ module _ (file : File) where
     begins_so (traces.not_begun mid other image w result program chosen never f quiet) = absurd (silent_out quiet.silent)
     begins_so (traces.unnamed mid other image program unknown r quiet) = absurd (silent_out quiet.silent)
     begins_so (traces.stopped none quiet) = absurd (silent_out quiet.silent)
-    begins_so (traces.no_memory other image program same unfailed e) = absurd (silent_out same)
+    begins_so (traces.no_memory other image program same read e) = absurd (silent_out same)
 
   -- the call that a machine runs, and those below it
   abbrev call_of : State → Option Call
@@ -801,7 +802,7 @@ module _ (file : File) where
     at_read (traces.not_begun mid other image w result program chosen never f quiet) = absurd (failed (ap (λ (i : Incoming). i.failures) quiet.unread))
     at_read (traces.unnamed mid other image program unknown r quiet) = absurd (failed (ap (λ (i : Incoming). i.failures) quiet.unread))
     at_read (traces.stopped none quiet) = absurd (failed (ap (λ (i : Incoming). i.failures) quiet.unread))
-    at_read (traces.no_memory other image program same unfailed e) = absurd (failed unfailed)
+    at_read (traces.no_memory other image program same read e) = absurd (failed read.no_failure)
 
   abbrev reading_code : List Instr
   reading_code = instr.External (codes "getchar") ∷ instr.Load ∷ instr.Call 0 ∷ instr.Pop ∷ closing
@@ -925,7 +926,7 @@ module _ (file : File) where
   read_told edition source steps from name ends failed refused (traces.not_begun mid ds image which result program named never f quiet) = failed (ap (λ (i : Incoming). i.failures) quiet.unread)
   read_told edition source steps from name ends failed refused (traces.unnamed mid ds image program unknown r quiet) = failed (ap (λ (i : Incoming). i.failures) quiet.unread)
   read_told edition source steps from name ends failed refused (traces.stopped none quiet) = failed (ap (λ (i : Incoming). i.failures) quiet.unread)
-  read_told edition source steps from name ends failed refused (traces.no_memory ds image program same unfailed e) = failed unfailed
+  read_told edition source steps from name ends failed refused (traces.no_memory ds image program same read e) = failed read.no_failure
 
   -- after the first line of the place of `f`
   caller_parts : (a b c d e : List ℕ) → a ++ (b ++ (c ++ (d ++ (codes "\n" ++ e)))) ≡ (a ++ (b ++ (c ++ d))) ++ 10 ∷ e
@@ -1090,6 +1091,7 @@ module _ (file : File) where
         let a = at_read edition source reading is 4 (wanted.From 4) (record { rows = wanted.From 4; function = None }) refl ends status failed whole room text before following h in
         some (read_row 4 text (λ input. refl) a).2;
     read_failed = λ edition source steps from name ends failed refused h. read_told edition source steps from name ends failed refused h;
+    unasked = λ edition source r g steps from name ends status h. by_trace edition source r g steps one_file ends status from name h;
   }
 
   abbrev line_in : Outcome → List ℕ
@@ -1339,4 +1341,5 @@ module _ (file : File) where
     other_status = λ ds steps result status starts comes wrong less edition source ends is h.
         wrong (came_to edition source ds is steps ends status less starts result comes h);
     read_failed = λ edition source steps ends failed h. place_read edition source steps ends failed h;
+    unasked = λ edition source r g steps ends status h. by_place edition source r g steps one_file ends status h;
   }

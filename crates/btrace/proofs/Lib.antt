@@ -6,4 +6,5 @@ mod Shown
 mod Unresolved
 mod Located
 mod ReadTexts
+mod Unasked
 mod Excluded

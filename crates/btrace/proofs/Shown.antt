@@ -1,6 +1,7 @@
 -- Steps that are made and shown, one after another.
-use Rattle.std.proofs.Common.{◌≡◌, ◌∙◌, ℕ, ◌+◌, ◌<◌, Bool, true, false, cond, List, [], ◌∷◌, ◌++◌, Ok, Err, Result, ap, append-nil, append_assoc, arith, refl, subst, sym, if◌then◌else◌, ⊎_elim, map, inl}
+use Rattle.std.proofs.Common.{◌≡◌, ◌∙◌, ℕ, ◌+◌, ◌<◌, ◌≤◌, Bool, true, false, cond, List, [], ◌∷◌, ◌++◌, Ok, Err, Result, ap, append-nil, append_assoc, arith, refl, subst, sym, if◌then◌else◌, ⊎_elim, map, inl}
 use Rattle.std.specs.List.{All}
+use Rattle.std.specs.Result.{OnErr}
 use Rattle.std.proofs.lemmas.List.{map-append, map-id}
 use Rattle.std.proofs.lemmas.List.Elements.{All-nil, All-append, All-cons}
 use Rattle.std.proofs.lemmas.List.FromFn.{filter_of_map_range_with_len_more}
@@ -12,12 +13,14 @@ use Rattle.blang.specs.declared.run.Outcome.TheVariants as outcome
 use Rattle.blang.specs.Machine.{Image, Loaded, State, Running, step, steps, state_world}
 use Rattle.blang.specs.Reports.{AsksForByte, Shows, state_outcome}
 use Rattle.blang.specs.Machine as machine
+use Rattle.bmach.specs.Readings.{ReadBySteps, ReadInStep}
 use Rattle.bmach.specs.Steps.{world_with}
 use Rattle.bmach.specs.Stepping.{Paused, machine_at}
 use Rattle.bmach.specs.Stops.{active_of}
 use Rattle.bmach.specs.Stored.{stored, stored_next}
 use Rattle.bmach.specs.Turns.{FailsAtRead, KeepsBelow, LeavesWords, MovesOn, HasHalted, Shown, TurnGives}
 use Rattle.bmach.proofs.Asking.{asks_if_taken}
+use Rattle.bmach.proofs.Readings.{read_more, read_so_far, turn_read}
 use Rattle.bmach.proofs.Running.{at_limit, following, one_more, run_over}
 use Rattle.bmach.proofs.Turning.{follows, goes_on, runs_on, took_nothing}
 use Rattle.btools.proofs.Excluded.{not_grown}
@@ -57,6 +60,25 @@ traced_none legend which first i = record {
   goes = goes_on (following first.image 0 (machine_at first)) (machine_at first) i nothing_written (λ left before. refl);
   shown = λ more can. record { all = refl; each = All-nil _ };
 }
+
+-- what holds where memory was refused
+pub where_refused : {T E : Type 0} (r : Result T E) (P : Type 0) → P → OnErr r P
+where_refused (Ok x) P h = tt
+where_refused (Err e) P h = h
+
+-- what was read of the input by these steps, and by one more at most
+pub read_traced : (legend : Legend) (which : Which) (first now : Paused) (made n : ℕ) (i j : Incoming) (rows : List TraceRow) → made ≤ n → IsTraced legend which first made now i j rows → ReadBySteps (steps_from first) n i j
+read_traced legend which first now made n i j rows le t = read_so_far first.image made n (machine_at first) now i j nothing_written (outgoing_of t.kept) le t.goes
+
+pub read_tried : (legend : Legend) (which : Which) (first now : Paused) (made n : ℕ) (i j m : Incoming) (rows : List TraceRow) → made < n → IsTraced legend which first made now i j rows → ReadInStep now.image (machine_at now) j m → ReadBySteps (steps_from first) n i m
+read_tried legend which first now made n i j m rows lt t step =
+    read_more first.image made n (machine_at first) (machine_at now) i j m nothing_written (outgoing_of t.kept) (omega (arith, lt)) t.goes
+    (subst (λ (x : Image). ReadInStep x (machine_at now) j m) t.image_is step)
+
+pub read_turned : (legend : Legend) (which : Which) (first now new : Paused) (made n : ℕ) (i j m : Incoming) (rows : List TraceRow) (b : Bool) (r : Result (Unit {0}) Outcome) (before row : List ℕ) → made < n → IsTraced legend which first made now i j rows
+    → (r ≡ Err outcome.Device → ⊥) → TracesStep legend b made now new j m r before row → ReadBySteps (steps_from first) n i m
+read_turned legend which first now new made n i j m rows b r before row lt t other step =
+    read_tried legend which first now made n i j m rows lt t (turn_read now j m nothing_written (outgoing_of step.0) new r other step.1)
 
 -- the steps that may be shown, with one step more
 wanted_more : (which : Which) (states : ℕ → State) (made : ℕ) → wanted_of which states (made + 1) ≡ wanted_of which states made ++ cond (is_shown which states made) (made ∷ []) []
@@ -203,14 +225,6 @@ halted now new first {j} {m} {p} {q} r same g = subst (λ (x : Image). HasHalted
 
 read_failed : (now : Paused) (first : Image) {j m : Incoming} {p q : Outgoing} → now.image ≡ first → FailsAtRead (λ left before. step now.image (machine_at now left before)) j m p q → FailsAtRead (λ left before. step first (machine_at now left before)) j m p q
 read_failed now first {j} {m} {p} {q} same f = subst (λ (x : Image). FailsAtRead (λ left before. step x (machine_at now left before)) j m p q) same f
-
--- where no read failed in the step in which the run was over
-pub unfailed_step : (now new : Paused) (j m : Incoming) (p q : Outgoing) (r : Outcome) → (r ≡ outcome.Device → ⊥) → TurnGives now.image (machine_at now) (machine_at new) j m p q (Err r) → m.failures ≡ j.failures
-unfailed_step now new j m p q (outcome.Exit status) other g = ap (λ (x : Incoming). x.failures) g.input
-unfailed_step now new j m p q (outcome.Trap kind) other g = ap (λ (x : Incoming). x.failures) g.input
-unfailed_step now new j m p q outcome.Limit other g = absurd g
-unfailed_step now new j m p q outcome.Device other g = absurd (other refl)
-unfailed_step now new j m p q outcome.Memory other g = ⊎_elim (λ f. f.2.moves.no_failure) (λ w. ap (λ (x : Incoming). x.failures) w.unread) g
 
 module _ (legend : Legend) (which : Which) (first now : Paused) (made : ℕ) (i j m : Incoming) (rows : List TraceRow) (row : List ℕ) (b : Bool) (is : b ≡ is_wanted which (made + 1) now.call.function.strings) where
   -- by a step that was made

@@ -16,7 +16,9 @@ use Rattle.blang.specs.Cut.{tokens_from}
 use Rattle.blang.specs.Machine.{machine}
 use Rattle.blang.specs.Reports.{RunEnds, report_text, state_outcome}
 use Rattle.blang.specs.Text.{IsCodeText}
+use Rattle.bmach.specs.Readings.{LeftBySteps}
 use Rattle.bsources.specs.Files.{File, Files}
+use Rattle.btools.specs.Excluded.{code_in}
 use Rattle.btrace.specs.Locates.{Locates}
 use Rattle.btrace.specs.Traces.{Traces}
 use Rattle.btrace.specs.declared.tracing.TheConstants.{HEADING}
@@ -215,6 +217,11 @@ module _ (file : File) where
         (name : Option (List ℕ)) (ends : RunEnds) → (ends.input_after.failures ≡ ends.input.failures → ⊥)
         → (Grew ends.out.refusals ends.out_after.refusals → ⊥)
         → Traces edition source steps shown alone name ends MEMORY → ⊥
+    -- whatever the status, as where memory was refused: a byte taken that no step asked for
+    pub unasked : (edition : Edition) (source : List ℕ) (r : Compilation)
+        (g : CompilesTo [] (tokens_from edition 1 source) r) (steps : ℕ) (shown : TraceRows)
+        (name : Option (List ℕ)) (ends : RunEnds) (status : ℕ) → Traces edition source steps shown alone name ends status
+        → LeftBySteps (machine (code_in edition source r g)) steps ends.input ends.input_after
 
   -- no run of a program has this text of lines and this status
   abbrev pub NoPlace : List Definition → (steps status : ℕ) → List ℕ → Type 0
@@ -249,3 +256,8 @@ module _ (file : File) where
     -- want of memory told where a read failed
     pub read_failed : (edition : Edition) (source : List ℕ) (steps : ℕ) (ends : RunEnds)
         → (ends.input_after.failures ≡ ends.input.failures → ⊥) → Locates edition source alone steps ends MEMORY → ⊥
+    -- whatever the status, as where memory was refused: a byte taken that no step asked for
+    pub unasked : (edition : Edition) (source : List ℕ) (r : Compilation)
+        (g : CompilesTo [] (tokens_from edition 1 source) r) (steps : ℕ) (ends : RunEnds) (status : ℕ)
+        → Locates edition source alone steps ends status
+        → LeftBySteps (machine (code_in edition source r g)) steps ends.input ends.input_after

@@ -13,6 +13,7 @@ use Rattle.blang.specs.Reports.{Reported, RunEnds, Finishes}
 use Rattle.blang.specs.Machine.{image_of, machine, state_world}
 use Rattle.blang.specs.Reports.{AsksForByte, HasNotRun, RunGives, state_outcome}
 use Rattle.blang.specs.Machine as runs
+use Rattle.bmach.specs.Readings.{ReadBySteps}
 use Rattle.bmach.specs.Stepping.{BeginsNot, Paused, machine_at}
 use Rattle.bmach.specs.Stops.{active_of}
 use Rattle.bmach.specs.Stored.{stored, stored_next}
@@ -202,7 +203,7 @@ StepsGive first n i j o p result = RunGives (steps_from first) n i j o p result
 
 -- The program of the source was run for so many steps at most, as the machine runs it, and its trace written; or it
 -- did not begin; or no function has the name, and that was told; or there is no program, and why was told; or memory
--- was refused, which is told only where no read failed.
+-- was refused, and nothing was written, or read but by some of its steps.
 pub data Traces (edition : Edition) (source : List ℕ) (steps : ℕ) (shown : TraceRows) (files : Files)
     (name : Option (List ℕ)) (ends : RunEnds) (status : ℕ) : Type 0 where
   traced : (mid : Outgoing) (ds : List Definition) (image : Image) (which : Which) (result : Outcome) (text : List ℕ)
@@ -225,5 +226,5 @@ pub data Traces (edition : Edition) (source : List ℕ) (steps : ℕ) (shown : T
   stopped : NoProgram edition source ends.line ends.line_after status → HasNotRun ends
       → Traces edition source steps shown files name ends status
   no_memory : (ds : List Definition) (image : Image) → HasProgram edition source ends.line ends.line_after ds image
-      → ends.out_after ≡ ends.out → ends.input_after.failures ≡ ends.input.failures → status ≡ MEMORY
+      → ends.out_after ≡ ends.out → ReadBySteps (machine ds) steps ends.input ends.input_after → status ≡ MEMORY
       → Traces edition source steps shown files name ends status

@@ -2,6 +2,7 @@
 ghost use Rattle.std.specs.Prelude.{◌≡◌, ◌+◌, ◌^◌, ◌<◌, ◌≤◌, [], IfOk, OnErr, OnOk, option_map};
 ghost use Rattle.blang.specs.Machine.{step};
 ghost use Rattle.blang.specs.Reports.{run_ends};
+ghost use Rattle.bmach.specs.Readings.{ReadBySteps, ReadInStep};
 ghost use Rattle.bmach.specs.Stepping.{machine_at};
 ghost use Rattle.bmach.specs.Turns.{KeepsBelow, LeavesWords};
 ghost use Rattle.bword.specs.ByteEnds.{Kept, outgoing_of};
@@ -161,7 +162,7 @@ fn trace_steps<S: Store + Drop, I: ByteIn>(
         (I.incoming input.old) (I.incoming input.new) nothing_written (outgoing_of output) outcome) }
     ensures shows { IfOk result (λ outcome. ShowsRows (legend_of legend.now) stepper.entry.image.functions which (steps_from stepper.entry) steps
         (I.incoming input.old) (I.incoming input.new) outcome trail.old.text (trail_text trail.new)) }
-    ensures unfailed { OnErr result ((I.incoming input.new).failures ≡ (I.incoming input.old).failures) }
+    ensures read { OnErr result (ReadBySteps (steps_from stepper.entry) steps (I.incoming input.old) (I.incoming input.new)) }
     ensures same { I.lender input.new ≡ I.lender input.old }
 {
     for made in 0..steps {
@@ -203,7 +204,7 @@ fn trace_step<S: Store + Drop, I: ByteIn>(
     requires { made + 1 < 2 ^ 64 }
     ensures shows { IfOk result (λ r. TracesStep (legend_of legend.now) is_shown made stepper.old stepper.new
         (I.incoming input.old) (I.incoming input.new) r row.old row.new) }
-    ensures unfailed { OnErr result ((I.incoming input.new).failures ≡ (I.incoming input.old).failures) }
+    ensures read { OnErr result (ReadInStep stepper.old.image (machine_at stepper.old) (I.incoming input.old) (I.incoming input.new)) }
     ensures words { IfOk result (λ r. LeavesWords (λ left before. step stepper.old.image (machine_at stepper.old left before)) r
         stepper.new.store) }
     ensures below { IfOk result (λ r. KeepsBelow r stepper.old.below stepper.new.below) }

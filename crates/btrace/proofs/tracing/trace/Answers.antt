@@ -1,9 +1,12 @@
 use Rattle.std.proofs.Common.{◌≡◌, ◌∙◌, List, None, Some, inl, inr, refl, subst, sym}
 use Rattle.std.specs.Prelude.{option_map}
+use Rattle.blang.specs.Machine.{image_of}
 use Rattle.bsources.specs.Files.{files_shown}
 use Rattle.btools.specs.Functions.{Placed, entries_of}
 use Rattle.btrace.specs.Traces.{no_memory, not_begun, stopped, unnamed, which_of}
 use Rattle.btrace.specs.Trails.{trail_text}
+use Rattle.bmach.proofs.Readings.{none_at_first}
+use Rattle.brun.proofs.RunSteps.{read_of_loaded}
 use Rattle.btools.proofs.Functions.{data_fit}
 use Rattle.btrace.proofs.Unresolved.{traced_whole}
 use Rattle.btrace.proofs.tracing.trace.Goals as goal
@@ -15,7 +18,9 @@ pub returns-in-Err-clause-traces : goal.returns-in-Err-clause-traces
 returns-in-Err-clause-traces g c = stopped c.in-Err.ensures.gives (record { unread = refl; silent = refl })
 
 pub returns-in_default-clause-traces : goal.returns-in_default-clause-traces
-returns-in_default-clause-traces g c = no_memory c.in-Ok.program.definitions.items c.in-Ok.program.image c.in-Ok.ensures.gives refl refl refl
+returns-in_default-clause-traces g c =
+    no_memory c.in-Ok.program.definitions.items c.in-Ok.program.image c.in-Ok.ensures.gives refl
+    (none_at_first (image_of c.in-Ok.program.definitions.items) c.args.wanted.steps (g.I.ByteIn.incoming c.args.input.now) (g.I.ByteIn.incoming c.args.input.now) refl) refl
 
 pub returns-in_default-which_of-clause-traces : goal.returns-in_default-which_of-clause-traces
 returns-in_default-which_of-clause-traces g c =
@@ -23,10 +28,14 @@ returns-in_default-which_of-clause-traces g c =
     (subst (λ (fs : List Placed). which_of fs c.args.wanted.rows (option_map (λ n. n.now) c.args.wanted.function) ≡ None) c.in-Ok-new.ensures (sym c.which_of.ensures ∙ c.in_default-which_of.is)) c.tell.ensures.told (record { unread = refl; silent = refl })
 
 pub returns-in_default-new-clause-traces : goal.returns-in_default-new-clause-traces
-returns-in_default-new-clause-traces g c = no_memory c.in-Ok.program.definitions.items c.in-Ok.program.image c.in-Ok.ensures.gives refl refl refl
+returns-in_default-new-clause-traces g c =
+    no_memory c.in-Ok.program.definitions.items c.in-Ok.program.image c.in-Ok.ensures.gives refl
+    (none_at_first (image_of c.in-Ok.program.definitions.items) c.args.wanted.steps (g.I.ByteIn.incoming c.args.input.now) (g.I.ByteIn.incoming c.args.input.now) refl) refl
 
 pub returns-in_default-new-2-clause-traces : goal.returns-in_default-new-2-clause-traces
-returns-in_default-new-2-clause-traces g c = no_memory c.in-Ok.program.definitions.items c.in-Ok.program.image c.in-Ok.ensures.gives refl refl refl
+returns-in_default-new-2-clause-traces g c =
+    no_memory c.in-Ok.program.definitions.items c.in-Ok.program.image c.in-Ok.ensures.gives refl
+    (none_at_first (image_of c.in-Ok.program.definitions.items) c.args.wanted.steps (g.I.ByteIn.incoming c.args.input.now) (g.I.ByteIn.incoming c.args.input.now) refl) refl
 
 pub returns-in-Err-begin-clause-traces : goal.returns-in-Err-begin-clause-traces
 returns-in-Err-begin-clause-traces g c =
@@ -36,7 +45,8 @@ returns-in-Err-begin-clause-traces g c =
 
 pub returns-in-Err-trace_steps-clause-traces : goal.returns-in-Err-trace_steps-clause-traces
 returns-in-Err-trace_steps-clause-traces g c =
-    no_memory c.in-Ok.program.definitions.items c.in-Ok.program.image c.in-Ok.ensures.gives refl (rw c.in-Err-trace_steps.is at c.trace_steps.ensures.unfailed) refl
+    no_memory c.in-Ok.program.definitions.items c.in-Ok.program.image c.in-Ok.ensures.gives refl
+    (read_of_loaded c.in-Ok.program.definitions.items c.in-Ok.program.image c.in-Ok-begin.stepper c.in-Ok.ensures.gives.loaded c.in-Ok-begin.ensures c.args.wanted.steps _ _ (rw c.in-Err-trace_steps.is at c.trace_steps.ensures.read)) refl
 
 pub returns-then-told-ne-DONE-clause-traces : goal.returns-then-told-ne-DONE-clause-traces
 returns-then-told-ne-DONE-clause-traces g c =

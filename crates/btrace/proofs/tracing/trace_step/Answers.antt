@@ -1,12 +1,14 @@
-use Rattle.std.proofs.Common.{Bool, Err, List, Result, false, true, ap, refl, subst, ◌≡◌, ◌+◌, ℕ}
+use Rattle.std.proofs.Common.{Bool, Err, List, Ok, Result, false, true, ap, refl, subst, ◌≡◌, ◌+◌, ℕ}
 use Rattle.bword.specs.ByteEnds.{Outgoing, outgoing_of}
 use Rattle.blang.specs.declared.run.Outcome.{Outcome}
 use Rattle.blang.specs.Machine.{Call}
 use Rattle.bmach.specs.Stepping.{machine_at}
 use Rattle.bmach.specs.Stored.{stored_next}
 use Rattle.bmach.specs.Turns.{TurnGives}
+use Rattle.bmach.proofs.Readings.{turn_read}
 use Rattle.btrace.specs.RowTexts.{Legend, legend_of}
 use Rattle.btrace.specs.Traces.{AddsIf, AddsLast}
+use Rattle.btrace.proofs.Shown.{where_refused}
 use Rattle.btrace.proofs.tracing.trace_step.Goals as goal
 
 none_added : (b : Bool) (legend : Legend) (number : ℕ) (call : Call) (addresses store bytes : List ℕ) (r : Result (Unit {0}) Outcome) (row : List ℕ) → b ≡ false → AddsIf b legend number call addresses store bytes r row row
@@ -32,3 +34,13 @@ returns-clause-shows g c =
       subst (λ (o : Outgoing). TurnGives now.image (machine_at now) (machine_at c.step-2.new.self) (g.I.ByteIn.incoming c.args.input.now) (g.I.ByteIn.incoming c.step-2.new.input) o (outgoing_of c.step-2.new.out) (Err c.in-Err.outcome)) (ap outgoing_of c.new-written.ensures) c.in-Err.ensures.gives,
       last_added c.args.is_shown (legend_of c.args.legend.now) (c.args.made + 1) now.call (stored_next now.image.functions now.call now.below) c.step-2.new.self.store c.step-2.new.out.bytes c.in-Err.outcome c.args.row.now c.push_step.new.text c.if-not-is_shown.false c.in_ok-push_step.ensures,
     )
+
+pub returns-in_err-push_stored-in-Ok-clause-read : goal.returns-in_err-push_stored-in-Ok-clause-read
+returns-in_err-push_stored-in-Ok-clause-read g c =
+    where_refused c.from_residual-in_err-push_stored-in-Ok.result _
+    (turn_read c.args.stepper.now (g.I.ByteIn.incoming c.args.input.now) (g.I.ByteIn.incoming c.step-2.new.input) _ _ c.step-2.new.self (Ok tt) (λ e. cc) c.in-Ok.ensures.gives)
+
+pub returns-in_err-push_written-in-Ok-clause-read : goal.returns-in_err-push_written-in-Ok-clause-read
+returns-in_err-push_written-in-Ok-clause-read g c =
+    where_refused c.from_residual-in_err-push_written-in-Ok.result _
+    (turn_read c.args.stepper.now (g.I.ByteIn.incoming c.args.input.now) (g.I.ByteIn.incoming c.step-2.new.input) _ _ c.step-2.new.self (Ok tt) (λ e. cc) c.in-Ok.ensures.gives)

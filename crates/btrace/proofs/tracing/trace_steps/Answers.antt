@@ -1,4 +1,4 @@
-use Rattle.std.proofs.Common.{◌≡◌, ◌∙◌, ℕ, ◌+◌, List, [], Err, Ok, ap, arith, refl, subst}
+use Rattle.std.proofs.Common.{◌≡◌, ◌∙◌, ℕ, ◌+◌, List, [], Err, Ok, Result, ap, arith, refl, rules, subst}
 use Rattle.blang.specs.Machine.{Call}
 use Rattle.blang.specs.declared.run.Outcome.{Outcome}
 use Rattle.blang.specs.declared.run.Outcome.TheVariants as outcome
@@ -12,7 +12,7 @@ use Rattle.btools.specs.Programs.{steps_from}
 use Rattle.btrace.specs.Trails.{trail_text}
 use Rattle.btrace.specs.declared.trail.Trail.{Trail}
 use Rattle.btrace.proofs.Kept.{holds_after, holds_none, row_none, with_row}
-use Rattle.btrace.proofs.Shown.{all_give, all_show, over_gives, over_shows, read_shows, traced_none, traced_one, unshown}
+use Rattle.btrace.proofs.Shown.{all_give, all_show, over_gives, over_shows, read_shows, read_traced, read_tried, read_turned, traced_none, traced_one, unshown, where_refused}
 use Rattle.btrace.proofs.tracing.trace_steps.Goals as goal
 
 not_memory : (legend : Legend) (store : List ℕ) (call : Active) (below : List Call) (r : Outcome) (old new : List ℕ) → AddsEnd legend store call below r old new → r ≡ outcome.Memory → ⊥
@@ -148,3 +148,69 @@ returns-clause-shows g c =
     let ending = subst (λ (old : List ℕ). AddsPlaces legend now.store (active_of now.call) now.below old c.push_end-2.new.text) (row_none which.rows heading inv.0 c.loop-made.trail inv.2) end in
     subst (λ (n : ℕ). ShowsRows legend c.args.stepper.image.functions which (steps_from c.args.stepper) n i j outcome.Limit heading (trail_text told)) all
     (all_show legend which c.args.stepper now c.loop-made.made i j inv.0 inv.1 heading c.loop-made.trail told inv.2 refl refl ending)
+
+pub returns-in_err-trace_step-clause-read : goal.returns-in_err-trace_step-clause-read
+returns-in_err-trace_step-clause-read g c =
+    let legend = legend_of c.args.legend.now in
+    let which = c.args.which in
+    let made = c.loop-made.made in
+    let now = c.loop-made.stepper in
+    let i = g.I.ByteIn.incoming c.args.input.now in
+    let j = g.I.ByteIn.incoming c.loop-made.input in
+    let m = g.I.ByteIn.incoming c.trace_step.new.input in
+    let inv = c.loop-made.invariant in
+    where_refused c.from_residual.result _ (read_tried legend which c.args.stepper now made c.args.steps i j m inv.0 c.loop-made-test.true inv.1 c.in_err-trace_step.ensures.read)
+
+pub returns-in_err-keep_if-in-Ok-clause-read : goal.returns-in_err-keep_if-in-Ok-clause-read
+returns-in_err-keep_if-in-Ok-clause-read g c =
+    let legend = legend_of c.args.legend.now in
+    let which = c.args.which in
+    let made = c.loop-made.made in
+    let now = c.loop-made.stepper in
+    let i = g.I.ByteIn.incoming c.args.input.now in
+    let j = g.I.ByteIn.incoming c.loop-made.input in
+    let m = g.I.ByteIn.incoming c.trace_step.new.input in
+    let inv = c.loop-made.invariant in
+    where_refused c.from_residual-in_err-keep_if-in-Ok.result _
+    (read_turned legend which c.args.stepper now c.trace_step.new.stepper made c.args.steps i j m inv.0 c.shows-is_shown.result (Ok tt) _ _ c.loop-made-test.true inv.1 (λ e. cc) (rw c.in-Ok.is at c.in_ok-trace_step.ensures.shows))
+
+not_device : (r : Outcome) → (r ≡ outcome.Device → ⊥) → ◌≡◌ {A = Result (Unit {0}) Outcome} (Err r) (Err outcome.Device) → ⊥
+not_device r other e = other cc
+
+pub returns-in_err-keep_if-in_default : goal.returns-in_err-keep_if-in_default
+returns-in_err-keep_if-in_default g c =
+    let legend = legend_of c.args.legend.now in
+    let which = c.args.which in
+    let made = c.loop-made.made in
+    let now = c.loop-made.stepper in
+    let i = g.I.ByteIn.incoming c.args.input.now in
+    let j = g.I.ByteIn.incoming c.loop-made.input in
+    let m = g.I.ByteIn.incoming c.trace_step.new.input in
+    let inv = c.loop-made.invariant in
+    record {
+      gives = search rules;
+      shows = search rules;
+      read = where_refused c.from_residual-in_err-keep_if-in_default.result _
+          (read_turned legend which c.args.stepper now c.trace_step.new.stepper made c.args.steps i j m inv.0 c.shows-is_shown.result (Err c.in-Err.outcome) _ _ c.loop-made-test.true inv.1 (not_device c.in-Err.outcome c.in_default.not-Device)
+          (rw c.in-Err.is at c.in_ok-trace_step.ensures.shows));
+      same = c.trace_step.ensures.same ∙ inv.3;
+    }
+
+pub returns-in_err-push_end-in_default : goal.returns-in_err-push_end-in_default
+returns-in_err-push_end-in_default g c =
+    let legend = legend_of c.args.legend.now in
+    let which = c.args.which in
+    let made = c.loop-made.made in
+    let now = c.loop-made.stepper in
+    let i = g.I.ByteIn.incoming c.args.input.now in
+    let j = g.I.ByteIn.incoming c.loop-made.input in
+    let m = g.I.ByteIn.incoming c.trace_step.new.input in
+    let inv = c.loop-made.invariant in
+    record {
+      gives = search rules;
+      shows = search rules;
+      read = where_refused c.from_residual-in_err-push_end-in_default.result _
+          (read_turned legend which c.args.stepper now c.trace_step.new.stepper made c.args.steps i j m inv.0 c.shows-is_shown.result (Err c.in-Err.outcome) _ _ c.loop-made-test.true inv.1 (not_device c.in-Err.outcome c.in_default.not-Device)
+          (rw c.in-Err.is at c.in_ok-trace_step.ensures.shows));
+      same = c.trace_step.ensures.same ∙ inv.3;
+    }
