@@ -10,15 +10,15 @@ use Rattle.blang.specs.Cut.{tokens_from}
 use Rattle.blang.specs.Reports.{Reported}
 use Rattle.btools.specs.Programs as programs
 use Rattle.btools.proofs.Excluded as told
-use Rattle.bformat.specs.Excluded.{IsUntold, WrongLayouts}
+use Rattle.bformat.specs.Excluded.{TellsNothing, WrongLayouts}
 use Rattle.bformat.specs.Formats.{Format, Formats, IsLayout, Shows, faulty, has_wrong_token, laid_out, no_memory}
 use Rattle.bformat.proofs.Compiled.{compiled_is_fine}
 
 -- the statuses of a source of which nothing is told
-abbrev Untold : ℕ → Type 0
-Untold s = (s ≡ 0) ⊎ (s ≡ 2) ⊎ (s ≡ 133) ⊎ (s ≡ 134)
+abbrev Quiet : ℕ → Type 0
+Quiet s = (s ≡ 0) ⊎ (s ≡ 2) ⊎ (s ≡ 133) ⊎ (s ≡ 134)
 
-not_one : (s : ℕ) → s ≡ 1 → Untold s → ⊥
+not_one : (s : ℕ) → s ≡ 1 → Quiet s → ⊥
 not_one s is (inl a) = omega (arith, is, a)
 not_one s is (inr (inl b)) = omega (arith, is, b)
 not_one s is (inr (inr (inl c))) = omega (arith, is, c)
@@ -30,17 +30,17 @@ not_two s is (inr (inl b)) = omega (arith, is, b)
 not_two s is (inr (inr (inl c))) = omega (arith, is, c)
 not_two s is (inr (inr (inr d))) = omega (arith, is, d)
 
-reported : (text : List ℕ) (old new : Outgoing) (s : ℕ) → Reported text 0 old new s → Untold s
+reported : (text : List ℕ) (old new : Outgoing) (s : ℕ) → Reported text 0 old new s → Quiet s
 reported text old new s (inl h) = inl h.1
 reported text old new s (inr r) = by_kind r.fault r.status
   where
-    by_kind : (kind : EndFault) → s ≡ status_of kind → Untold s
+    by_kind : (kind : EndFault) → s ≡ status_of kind → Quiet s
     by_kind end_fault.Device e = inr (inr (inl e))
     by_kind end_fault.Memory e = inr (inr (inr e))
 
 -- what is shown of a text: its status, that a check writes nothing, and what only one of both can answer
 module _ (text source : List ℕ) (old new : Outgoing) (s : ℕ) where
-  shown : (b : Bool) → Shows b text source old new s → Untold s
+  shown : (b : Bool) → Shows b text source old new s → Quiet s
   shown false h = reported text old new s h
   shown true (still, inl same) = inl same.1
   shown true (still, inr other) = inr (inl other.1)
@@ -66,7 +66,7 @@ module _ (f : Format) (r : Compilation) (g : CompilesTo [] (tokens_from f.editio
   abbrev Compiled : List ℕ → ℕ → Type 0
   Compiled code status = programs.WasCompiled f.edition f.source f.line f.line_after code status
 
-  fine : has_wrong_token f.edition f.source ≡ false → Formats f → IsUntold f
+  fine : has_wrong_token f.edition f.source ≡ false → Formats f → TellsNothing f
   fine is (laid_out text right layout shows line) = record { line = line; status = shown text f.source f.out f.out_after f.status f.is_check shows }
   fine is (faulty code wrong compiled out) = absurd (both_ways (has_wrong_token f.edition f.source) is wrong)
   fine is (no_memory out line status) = record { line = line; status = inr (inr (inr status)) }

@@ -9,15 +9,15 @@ use Rattle.bformat.specs.declared.formatting.TheConstants.{CHANGES}
 use Rattle.bformat.specs.Formats.{Format, Formats, IsLayout, has_wrong_token}
 
 -- Nothing is told of the source, and it has one of these statuses.
-pub record IsUntold (f : Format) : Type 0 where
+pub record TellsNothing (f : Format) : Type 0 where
   pub line : f.line_after ≡ f.line
   pub status : (f.status ≡ DONE) ⊎ (f.status ≡ CHANGES) ⊎ (f.status ≡ DEVICE) ⊎ (f.status ≡ MEMORY)
 
 -- What is excluded of a source that comes to r.
 pub record Excluded (f : Format) (r : Compilation) : Type 0 where
   -- a line that a source which compiles can't be laid out, or another status; the same where no token is wrong
-  pub compiled : r.stop ≡ None → IsUntold f
-  pub fine : has_wrong_token f.edition f.source ≡ false → IsUntold f
+  pub compiled : r.stop ≡ None → TellsNothing f
+  pub fine : has_wrong_token f.edition f.source ≡ false → TellsNothing f
   -- 0 for a source with a wrong token
   pub done : f.status ≡ DONE → has_wrong_token f.edition f.source ≡ false
   -- 0 with another text than a layout of the source

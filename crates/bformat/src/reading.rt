@@ -30,6 +30,7 @@ pub(crate) fn has_same_tokens(source: &[u8], text: &[u8], edition: Edition) -> b
 {
     let mut left = Lexer::with_edition(MemIn::new(source), edition);
     let mut right = Lexer::with_edition(MemIn::new(text), edition);
+    // A token has a byte at least, but the last one.
     for _ in 0..=source.len() {
         let (Ok(one), Ok(other)) = (left.next(), right.next()) else {
             return false;
