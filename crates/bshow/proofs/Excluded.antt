@@ -15,11 +15,14 @@ use Rattle.blang.specs.Cut.{tokens_from}
 use Rattle.blang.specs.Layout.{load_fault}
 use Rattle.blang.specs.Machine.{Call, Halted, Image, Loaded, Running, State, States, Stuck, image_of, machine, state_world, steps}
 use Rattle.blang.specs.Reports.{RunEnds, RunGives, state_outcome}
+use Rattle.bmach.specs.Readings.{LeftBySteps}
+use Rattle.bmach.proofs.Readings.{left_by, run_left}
 use Rattle.bmach.proofs.Running.{device_failed}
 use Rattle.btools.specs.Excluded.{Excluded, code_in}
 use Rattle.btools.specs.Functions.{Placed, functions_of}
 use Rattle.btools.specs.Programs.{load_line, nothing_written}
 use Rattle.btools.proofs.Excluded.{device_grew, excluded, no_done, not_grown, other_answer, was_told}
+use Rattle.btools.proofs.Unasked.{program_left, untaken}
 use Rattle.btrace.specs.Excluded.{calling, nothing, passing, reading, storing, trapping, writing}
 use Rattle.bshow.specs.Excluded.{AreRows, IsRowOf, NoPages, RowParts, RowsExcluded, first_row, fourth_row, passed_row, read_row, row, second_row, stored_row, third_row, trapped_row, written_row}
 use Rattle.bshow.specs.Facts.{calls_text}
@@ -264,7 +267,7 @@ module _ (edition : Edition) (source : List ℕ) (r : Compilation) (g : Compiles
   unread status (pages.not_begun ds image frames kind is never w same) failed = absurd (failed (ap (λ (x : Incoming). x.failures) same))
   unread status (pages.unread ds image output is gives silent at) failed = (at, silent)
   unread status (pages.stopped why quiet) failed = absurd (failed (ap (λ (x : Incoming). x.failures) quiet.unread))
-  unread status (pages.no_memory ds image is silent same at) failed = absurd (failed same)
+  unread status (pages.no_memory ds image is silent read at) failed = absurd (failed read.no_failure)
 
   device : Shows edition source asked ends 133 → Grew ends.input.failures ends.input_after.failures ⊎ Grew ends.out.failures ends.out_after.failures ⊎ Grew ends.line.failures ends.line_after.failures
   device (pages.shown ds image frames result page output is gives p w) = inr (inl (device_grew page 0 ends.out ends.out_after (λ e. omega (arith, e)) w))
@@ -290,6 +293,19 @@ module _ (edition : Edition) (source : List ℕ) (r : Compilation) (g : Compiles
   unloaded (pages.stopped why quiet) = (told.unloaded why, quiet.silent, quiet.unread)
   unloaded (pages.no_memory ds image is silent same at) = absurd (omega (arith, at))
 
+  unasked : (status : ℕ) → Shows edition source asked ends status → LeftBySteps (machine code) asked.steps ends.input ends.input_after
+  unasked status (pages.shown ds image frames result page output is gives p w) =
+      program_left edition source r g asked.steps ends.input ends.input_after ends.line ends.line_after ds image is
+      (run_left (machine ds) asked.steps ends.input ends.input_after nothing_written (outgoing_of output) result gives)
+  unasked status (pages.not_begun ds image frames kind is never w same) = untaken edition source r g asked.steps ends.input ends.input_after same
+  unasked status (pages.unread ds image output is gives silent at) =
+      program_left edition source r g asked.steps ends.input ends.input_after ends.line ends.line_after ds image is
+      (run_left (machine ds) asked.steps ends.input ends.input_after nothing_written (outgoing_of output) outcome.Device gives)
+  unasked status (pages.stopped why quiet) = untaken edition source r g asked.steps ends.input ends.input_after quiet.unread
+  unasked status (pages.no_memory ds image is silent read at) =
+      program_left edition source r g asked.steps ends.input ends.input_after ends.line ends.line_after ds image is
+      (left_by (machine ds) asked.steps ends.input ends.input_after read)
+
 pub no_pages : NoPages
 no_pages edition source r g asked ends = record {
   done = done edition source r g asked ends;
@@ -297,4 +313,5 @@ no_pages edition source r g asked ends = record {
   device = device edition source r g asked ends;
   fault = fault edition source r g asked ends;
   unloaded = unloaded edition source r g asked ends;
+  unasked = unasked edition source r g asked ends;
 }

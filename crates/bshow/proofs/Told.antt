@@ -1,6 +1,7 @@
 -- Steps that are made and told, one after another.
-use Rattle.std.proofs.Common.{◌≡◌, ◌∙◌, ℕ, ◌+◌, ◌-◌, ◌<◌, ◌≤◌, Bool, true, false, List, [], ◌∷◌, ◌++◌, Ok, Err, Some, ap, append-nil, append_assoc, arith, drop, length, refl, subst, sym}
+use Rattle.std.proofs.Common.{◌≡◌, ◌∙◌, ℕ, ◌+◌, ◌-◌, ◌<◌, ◌≤◌, Bool, true, false, List, [], ◌∷◌, ◌++◌, Ok, Err, Result, Some, ap, append-nil, append_assoc, arith, drop, length, refl, subst, sym}
 use Rattle.std.specs.List.{flat_map, range_with_len}
+use Rattle.std.specs.Result.{OnErr}
 use Rattle.std.specs.Prelude.{slice_index}
 use Rattle.std.proofs.Math.Seq.{drop-append_seam}
 use Rattle.std.proofs.lemmas.List.Elements.{All-nil}
@@ -12,10 +13,12 @@ use Rattle.blang.specs.declared.run.Outcome.TheVariants as outcome
 use Rattle.blang.specs.Machine.{Call, Image, Loaded, Running, State, step, steps, state_world}
 use Rattle.blang.specs.Reports.{Shows, state_outcome}
 use Rattle.blang.specs.Machine as machine
+use Rattle.bmach.specs.Readings.{ReadBySteps, ReadInStep}
 use Rattle.bmach.specs.Steps.{world_with}
 use Rattle.bmach.specs.Stepping.{Paused, machine_at}
 use Rattle.bmach.specs.Stored.{stored, stored_next}
 use Rattle.bmach.specs.Turns.{HasHalted, LeavesWords, MovesOn, TurnGives}
+use Rattle.bmach.proofs.Readings.{read_more, read_so_far}
 use Rattle.bmach.proofs.Running.{at_limit, following, one_more, run_over}
 use Rattle.bmach.proofs.Turning.{follows, goes_on, runs_on}
 use Rattle.btools.specs.Functions.{Placed}
@@ -45,6 +48,20 @@ pub record IsTold (fs : List Placed) (which : PageRows) (first : Paused) (made :
   pub among : IsAmong which made r.calls_at
   pub tells : (more : List ℕ) → CanFollow j more → TellsOf fs first.image.functions which (steps_from first (goes.taken ++ more)) made r
   pub output : r.output ≡ q.bytes
+
+-- what holds where memory was refused
+pub where_refused : {T E : Type 0} (r : Result T E) (P : Type 0) → P → OnErr r P
+where_refused (Ok x) P h = tt
+where_refused (Err e) P h = h
+
+-- what was read of the input by these steps, and by one more at most
+pub read_told : (fs : List Placed) (which : PageRows) (first now : Paused) (made n : ℕ) (i j : Incoming) (o q : Kept) (r : Record) → made ≤ n → IsTold fs which first made now i j o q r → ReadBySteps (steps_from first) n i j
+read_told fs which first now made n i j o q r le t = read_so_far first.image made n (machine_at first) now i j (outgoing_of o) (outgoing_of q) le t.goes
+
+pub read_tried : (fs : List Placed) (which : PageRows) (first now : Paused) (made n : ℕ) (i j m : Incoming) (o q : Kept) (r : Record) → made < n → IsTold fs which first made now i j o q r → ReadInStep now.image (machine_at now) j m → ReadBySteps (steps_from first) n i m
+read_tried fs which first now made n i j m o q r lt t step =
+    read_more first.image made n (machine_at first) (machine_at now) i j m (outgoing_of o) (outgoing_of q) (omega (arith, lt)) t.goes
+    (subst (λ (x : Image). ReadInStep x (machine_at now) j m) t.image_is step)
 
 -- the same state by another number
 abbrev tries_at : (states : ℕ → State) {a b : ℕ} → a ≡ b → Tries states b → Tries states a

@@ -14,13 +14,15 @@ use Rattle.blang.specs.declared.status.TheConstants.{DEVICE, MEMORY}
 use Rattle.blang.specs.Layout.{World}
 use Rattle.blang.specs.Machine.{Call, Halted, Image, Loaded, Running, State, Stuck, image_of, machine, run, state_world}
 use Rattle.blang.specs.Reports.{RunEnds, state_outcome}
+use Rattle.bmach.specs.Readings.{ReadBySteps}
 use Rattle.bmach.specs.Resolved.{call_resolved, resolved, state_resolved}
 use Rattle.bmach.specs.Stepping.{BeginsNot, IsUnstarted, Paused}
 use Rattle.bmach.specs.Stored.{stored}
 use Rattle.bmach.proofs.Beginning.{run_from}
+use Rattle.bmach.proofs.Readings.{none_at_first, run_read}
 use Rattle.bmach.proofs.Resolving.{run-resolved, stored-resolved}
 use Rattle.bmach.proofs.Running.{same_run}
-use Rattle.brun.proofs.RunSteps.{outcome-resolved, run_loaded, run_of_loaded, world-resolved}
+use Rattle.brun.proofs.RunSteps.{outcome-resolved, read_of_loaded, run_loaded, run_of_loaded, world-resolved}
 use Rattle.btools.specs.declared.names.Frame.{Frame}
 use Rattle.btools.specs.Programs.{HasProgram, nothing_written}
 use Rattle.btools.specs.Functions.{Placed, functions_of}
@@ -190,12 +192,9 @@ whole_told T outcome.Limit h t = t
 whole_told T outcome.Device h t = cc
 whole_told T outcome.Memory h t = cc
 
-pub unfailed : (first : Paused) (n : ℕ) (i j : Incoming) (o p : Outgoing) (r : Outcome) → broken_status r ≡ None → StepsGive first n i j o p r → j.failures ≡ i.failures
-unfailed first n i j o p (outcome.Exit status) h g = g.no_failure
-unfailed first n i j o p (outcome.Trap kind) h g = g.no_failure
-unfailed first n i j o p outcome.Limit h g = g.no_failure
-unfailed first n i j o p outcome.Device h g = cc
-unfailed first n i j o p outcome.Memory h g = cc
+pub whole_read : (first : Paused) (n : ℕ) (i j : Incoming) (o p : Outgoing) (r : Outcome) → broken_status r ≡ None → StepsGive first n i j o p r → ReadBySteps (steps_from first) n i j
+whole_read first n i j o p r h g =
+    run_read (steps_from first) n i j o p r (λ e. let none : broken_status outcome.Device ≡ None = subst (λ x. broken_status x ≡ None) e h in cc) g
 
 broken_whole : (edition : Edition) (source : List ℕ) (asked : Asked) (ends : RunEnds) (status : ℕ) (ds : List Definition) (image : Image) (first : Paused) (output : Kept) (r : Outcome)
     → HasProgram edition source ends.line ends.line_after ds image → IsUnstarted image first → StepsGive first asked.steps ends.input ends.input_after nothing_written (outgoing_of output) r
@@ -209,7 +208,8 @@ broken_whole edition source asked ends status ds image first output outcome.Devi
     unread ds image output is (run_of_loaded ds image is.loaded asked.steps ends.input ends.input_after nothing_written (outgoing_of output) outcome.Device run_gives) silent told
 broken_whole edition source asked ends status ds image first output outcome.Memory is begins gives h silent =
     let told : status ≡ MEMORY = cc in
-    no_memory ds image is silent (⊎_elim (λ f. f.comes.no_failure) (λ w. w.comes.no_failure) gives) told
+    let read = run_read (steps_from first) asked.steps ends.input ends.input_after nothing_written (outgoing_of output) outcome.Memory (λ e. cc) gives in
+    no_memory ds image is silent (read_of_loaded ds image first is.loaded begins asked.steps ends.input ends.input_after read) told
 
 -- what comes of a run that has begun, and of one that has not
 pub run_whole : (edition : Edition) (source : List ℕ) (asked : Asked) (ends : RunEnds) (status : ℕ) (ds : List Definition) (image : Image) (frames : List Frame) (fs : List Placed) (first : Paused)
@@ -219,14 +219,15 @@ run_whole edition source asked ends status ds image frames fs first is functions
     shown_whole edition source asked ends status ds image frames fs first last r e page output is functions begins gives tells p written
 run_whole edition source asked ends status ds image frames fs first is functions begins (broken r output gives h silent) =
     broken_whole edition source asked ends status ds image first output r is begins gives h silent
-run_whole edition source asked ends status ds image frames fs first is functions begins (refused memory same silent) = no_memory ds image is silent same memory
+run_whole edition source asked ends status ds image frames fs first is functions begins (refused memory read silent) =
+    no_memory ds image is silent (read_of_loaded ds image first is.loaded begins asked.steps ends.input ends.input_after read) memory
 
 pub unbegun_whole : (edition : Edition) (source : List ℕ) (asked : Asked) (ends : RunEnds) (status : ℕ) (ds : List Definition) (image : Image) (frames : List Frame) (r : Outcome)
     → HasProgram edition source ends.line ends.line_after ds image → BeginsNot image r → ends.input_after ≡ ends.input
     → ShowsUnbegun asked source ds frames r ends.out ends.out_after status → Shows edition source asked ends status
 unbegun_whole edition source asked ends status ds image frames (outcome.Trap kind) is begins still h =
-    ⊎_elim (λ page. not_begun ds image frames kind is begins page still) (λ m. no_memory ds image is m.1 (ap (λ (x : Incoming). x.failures) still) m.0) h
-unbegun_whole edition source asked ends status ds image frames (outcome.Exit n) is begins still h = no_memory ds image is h.1 (ap (λ (x : Incoming). x.failures) still) h.0
-unbegun_whole edition source asked ends status ds image frames outcome.Limit is begins still h = no_memory ds image is h.1 (ap (λ (x : Incoming). x.failures) still) h.0
-unbegun_whole edition source asked ends status ds image frames outcome.Device is begins still h = no_memory ds image is h.1 (ap (λ (x : Incoming). x.failures) still) h.0
-unbegun_whole edition source asked ends status ds image frames outcome.Memory is begins still h = no_memory ds image is h.1 (ap (λ (x : Incoming). x.failures) still) h.0
+    ⊎_elim (λ page. not_begun ds image frames kind is begins page still) (λ m. no_memory ds image is m.1 (none_at_first (image_of ds) asked.steps ends.input ends.input_after still) m.0) h
+unbegun_whole edition source asked ends status ds image frames outcome.Memory is begins still h = no_memory ds image is h.1 (none_at_first (image_of ds) asked.steps ends.input ends.input_after still) h.0
+unbegun_whole edition source asked ends status ds image frames (outcome.Exit n) is begins still h = absurd h
+unbegun_whole edition source asked ends status ds image frames outcome.Limit is begins still h = absurd h
+unbegun_whole edition source asked ends status ds image frames outcome.Device is begins still h = absurd h

@@ -13,6 +13,7 @@ use Rattle.blang.specs.Cut.{tokens_from}
 use Rattle.blang.specs.Layout.{load_fault}
 use Rattle.blang.specs.Machine.{image_of, machine}
 use Rattle.blang.specs.Reports.{RunEnds}
+use Rattle.bmach.specs.Readings.{LeftBySteps}
 use Rattle.btools.specs.Excluded.{code_in}
 use Rattle.btools.specs.Functions.{functions_of}
 use Rattle.btools.specs.Programs.{load_line}
@@ -138,6 +139,9 @@ module _ (edition : Edition) (source : List ℕ) (r : Compilation) (g : Compiles
         → ((f : LoadFault) × (text : List ℕ) × (load_fault (code_in edition source r g) ≡ Some f)
         × (load_line f ≡ Some text) × Writes ends.line text ends.line_after)
         × (ends.out_after ≡ ends.out) × (ends.input_after ≡ ends.input)
+    -- whatever the status, as where memory was refused: a byte taken that no step asked for
+    pub unasked : (status : ℕ) → Shows edition source asked ends status
+        → LeftBySteps (machine (code_in edition source r g)) asked.steps ends.input ends.input_after
 
 abbrev pub NoPages : Type 0
 NoPages =

@@ -12,6 +12,7 @@ use Rattle.blang.specs.Layout.{World}
 use Rattle.blang.specs.Machine.{Call, Image, Loaded, Running, State, States, image_of, machine, state_world}
 use Rattle.blang.specs.Machine as runs
 use Rattle.blang.specs.Reports.{HasNotRun, Reported, RunEnds, RunGives, state_outcome}
+use Rattle.bmach.specs.Readings.{ReadBySteps}
 use Rattle.bmach.specs.Stepping.{BeginsNot, Paused, machine_at}
 use Rattle.bmach.specs.Stored.{stored}
 use Rattle.bsources.specs.Files.{Files, files_shown}
@@ -156,7 +157,7 @@ IsWritten page ends status = Reported page DONE ends.out ends.out_after status
 
 -- The program of the source was run for so many steps at most, as the machine runs it, and its page written; or it did
 -- not begin, which the page says; or it could not read its input; or there is no program, and why was told; or memory
--- was refused, which is told only where no read failed.
+-- was refused, and nothing was written, or read but by some of its steps.
 pub data Shows (edition : Edition) (source : List ℕ) (asked : Asked) (ends : RunEnds) (status : ℕ) : Type 0 where
   shown : (ds : List Definition) (image : Image) (frames : List Frame) (result : Outcome) (page : List ℕ)
       (output : Kept) → HasProgram edition source ends.line ends.line_after ds image
@@ -176,7 +177,7 @@ pub data Shows (edition : Edition) (source : List ℕ) (asked : Asked) (ends : R
   stopped : NoProgram edition source ends.line ends.line_after status → HasNotRun ends
       → Shows edition source asked ends status
   no_memory : (ds : List Definition) (image : Image) → HasProgram edition source ends.line ends.line_after ds image
-      → ends.out_after ≡ ends.out → ends.input_after.failures ≡ ends.input.failures → status ≡ MEMORY
+      → ends.out_after ≡ ends.out → ReadBySteps (machine ds) asked.steps ends.input ends.input_after → status ≡ MEMORY
       → Shows edition source asked ends status
 
 -- what is asked for, by the type of the code

@@ -10,6 +10,7 @@ use Rattle.blang.specs.declared.run.Trap.{Trap}
 use Rattle.blang.specs.declared.status.TheConstants.{DEVICE, DONE, MEMORY}
 use Rattle.blang.specs.Machine.{Call}
 use Rattle.blang.specs.Reports.{Reported}
+use Rattle.bmach.specs.Readings.{ReadBySteps}
 use Rattle.bmach.specs.Stepping.{Paused}
 use Rattle.bmach.specs.Stored.{stored_next}
 use Rattle.btools.specs.declared.names.Frame.{Frame}
@@ -142,13 +143,14 @@ broken_status outcome.Device = Some DEVICE
 broken_status outcome.Memory = Some MEMORY
 broken_status r = None
 
--- what comes of a run that had no first step
+-- What comes of a run that had no first step: it was over by a trap, or refused memory.
 abbrev pub ShowsUnbegun : Asked → (source : List ℕ) → List Definition → List Frame → Outcome
     → (out out_after : Outgoing) → (status : ℕ) → Type 0
 ShowsUnbegun asked source ds frames (outcome.Trap kind) out out_after status =
     Reported (unbegun_page asked source ds frames kind) DONE out out_after status
     ⊎ ((status ≡ MEMORY) × (out_after ≡ out))
-ShowsUnbegun asked source ds frames r out out_after status = (status ≡ MEMORY) × (out_after ≡ out)
+ShowsUnbegun asked source ds frames outcome.Memory out out_after status = (status ≡ MEMORY) × (out_after ≡ out)
+ShowsUnbegun asked source ds frames r out out_after status = ⊥
 
 -- what comes of a run from its first state on
 pub data ShowsRun (asked : Asked) (source : List ℕ) (ds : List Definition) (frames : List Frame) (fs : List Placed)
@@ -160,5 +162,5 @@ pub data ShowsRun (asked : Asked) (source : List ℕ) (ds : List Definition) (fr
   broken : (result : Outcome) (output : Kept)
       → StepsGive first asked.steps i j nothing_written (outgoing_of output) result → broken_status result ≡ Some status
       → out_after ≡ out → ShowsRun asked source ds frames fs first i j out out_after status
-  refused : status ≡ MEMORY → j.failures ≡ i.failures → out_after ≡ out
+  refused : status ≡ MEMORY → ReadBySteps (steps_from first) asked.steps i j → out_after ≡ out
       → ShowsRun asked source ds frames fs first i j out out_after status

@@ -18,14 +18,13 @@ use std::ops::Range;
 /// The value of the function `getchar`.
 const GETCHAR: u16 = 3;
 
-/// Adds the cells that tell the machine before a step.
+/// Adds the cells that tell the machine before the step after so many.
 pub fn push_call<S: Store + Drop>(
     text: &mut Text,
     tables: &Tables<'_>,
     stepper: &Stepper<'_, S>,
     made: u64,
 ) -> Result<(), AllocError>
-    requires { made + 1 < 2 ^ 64 }
     ensures { OnOk result ((line : ℕ) × (text.new ≡ text.old
         ++ call_cells (entries_of tables.now) (made + 1) stepper.now.call (length stepper.now.below) line)) }
 {
@@ -33,7 +32,7 @@ pub fn push_call<S: Store + Drop>(
     let entry = tables.entry(call.strings);
     let line = tables.line(entry, call.place);
     text.push(b"<tr>")?;
-    push_number_cell(text, made + 1)?;
+    push_step_cell(text, made)?;
     push_text_cell(text, name_of(entry))?;
     push_number_cell(text, call.place as u64)?;
     push_number_cell(text, line)?;
@@ -41,6 +40,16 @@ pub fn push_call<S: Store + Drop>(
     push_words_cell(text, stepper.operands())?;
     push_number_cell(text, stepper.callers() as u64)?;
     push_number_cell(text, u64::from(call.start))
+}
+
+// The number of the step after so many. It may be the first one that has no room in a word.
+fn push_step_cell(text: &mut Text, made: u64) -> Result<(), AllocError>
+    ensures { OnOk result (text.new ≡ text.old ++ number_cell (made + 1)) }
+{
+    match made.checked_add(1) {
+        Some(number) => push_number_cell(text, number),
+        None => text.push(b"<td>18446744073709551616"),
+    }
 }
 
 fn push_number_cell(text: &mut Text, number: u64) -> Result<(), AllocError>

@@ -3,10 +3,11 @@ ghost use Rattle.std.specs.Prelude.{◌≡◌, ◌+◌, ◌-◌, ◌<◌, ◌≤
 ghost use Rattle.std.specs.List.{range_with_len};
 ghost use Rattle.blang.specs.Layout.{data_end, shape_of};
 ghost use Rattle.blang.specs.Machine.{step};
-ghost use Rattle.bmach.specs.Stepping.{machine_at};
+ghost use Rattle.bmach.specs.Readings.{ReadBySteps, ReadInStep};
+ghost use Rattle.bmach.specs.Stepping.{BeginsNot, machine_at};
 ghost use Rattle.bmach.specs.Turns.{LeavesWords, TurnGives};
 ghost use Rattle.bword.specs.ByteEnds.{outgoing_of};
-ghost use Rattle.btools.specs.Programs.{nothing_written};
+ghost use Rattle.btools.specs.Programs.{nothing_written, steps_from};
 ghost use Rattle.btools.specs.Functions.{entries_of};
 ghost use Rattle.bshow.specs.Shows.{Shows, asked_of, head, record_of, rows_text, tail};
 ghost use Rattle.btrace.specs.Traces.{StepsGive};
@@ -157,13 +158,16 @@ fn show_unbegun<O: ByteOut>(
     outcome: Outcome,
     out: &mut O,
 ) -> Status
-    requires { data_end (map shape_of program.now.definitions.items) ≤ 65536 }
+    requires room { data_end (map shape_of program.now.definitions.items) ≤ 65536 }
+    requires begins { BeginsNot program.now.image outcome }
     ensures shows { ShowsUnbegun (asked_of wanted.entry) source.now program.now.definitions.items
         program.now.names.frames.items outcome (O.outgoing out.old) (O.outgoing out.new) result }
     ensures same { O.lender out.new ≡ O.lender out.old }
 {
-    let Outcome::Trap(trap) = outcome else {
-        return status::MEMORY;
+    let trap = match outcome {
+        Outcome::Trap(trap) => trap,
+        Outcome::Memory => return status::MEMORY,
+        Outcome::Exit(_) | Outcome::Limit | Outcome::Device => unreachable!(),
     };
     let Ok(page) = unbegun_page(alloc, program, wanted, source, trap) else {
         return status::MEMORY;
@@ -316,9 +320,6 @@ fn push_next<S: Store + Drop>(
     ensures { OnOk result (AddsNext (entries_of tables.now) stepper.now ended page.old page.new) }
 {
     if let Outcome::Limit = ended.outcome {
-        if ended.made == u64::MAX {
-            return Err(AllocError);
-        }
         push_call(page, tables, stepper, ended.made)?;
         page.push(b"</tr>\n")
     } else {
@@ -358,7 +359,7 @@ fn run_steps<S: Store + Drop, I: ByteIn>(
         nothing_written (outgoing_of kept.new.written) e.outcome) }
     ensures tells { IfOk result (λ e. TellsUnless e.outcome (TellsRun (entries_of tables.now) which stepper.old stepper.new steps
         (I.incoming input.old) (I.incoming input.new) (record_of kept.new) e)) }
-    ensures unfailed { OnErr result ((I.incoming input.new).failures ≡ (I.incoming input.old).failures) }
+    ensures read { OnErr result (ReadBySteps (steps_from stepper.old) steps (I.incoming input.old) (I.incoming input.new)) }
     ensures same { I.lender input.new ≡ I.lender input.old }
 {
     for made in 0..steps {
@@ -433,7 +434,7 @@ fn run_step<S: Store + Drop, I: ByteIn>(
         (I.incoming input.old) (I.incoming input.new) (outgoing_of kept.old.written) (outgoing_of kept.new.written)) }
     ensures keeps { IfOk result (λ r. KeepsStep (has_row which made) (entries_of tables.now) which made stepper.old stepper.new
         r (record_of kept.old) (record_of kept.new)) }
-    ensures unfailed { OnErr result ((I.incoming input.new).failures ≡ (I.incoming input.old).failures) }
+    ensures read { OnErr result (ReadInStep stepper.old.image (machine_at stepper.old) (I.incoming input.old) (I.incoming input.new)) }
     ensures words { IfOk result (λ r. LeavesWords (λ left before. step stepper.old.image (machine_at stepper.old left before)) r
         stepper.new.store) }
     ensures image { stepper.new.image ≡ stepper.old.image }
@@ -489,7 +490,7 @@ fn row_step<S: Store + Drop, I: ByteIn>(
     ensures heard { IfOk result (λ r. heard.new ≡ heard.old ++ heard_if (entries_of tables.now) stepper.old stepper.new r) }
     ensures row { IfOk result (λ r. AddsDone (entries_of tables.now) stepper.old stepper.new r
         (drop (length written.old.bytes) written.new.bytes) row.old row.new) }
-    ensures unfailed { OnErr result ((I.incoming input.new).failures ≡ (I.incoming input.old).failures) }
+    ensures read { OnErr result (ReadInStep stepper.old.image (machine_at stepper.old) (I.incoming input.old) (I.incoming input.new)) }
     ensures words { IfOk result (λ r. LeavesWords (λ left before. step stepper.old.image (machine_at stepper.old left before)) r
         stepper.new.store) }
     ensures image { stepper.new.image ≡ stepper.old.image }
@@ -552,7 +553,7 @@ fn make_step<S: Store + Drop, I: ByteIn>(
     ensures gives { IfOk result (TurnGives stepper.old.image (machine_at stepper.old) (machine_at stepper.new)
         (I.incoming input.old) (I.incoming input.new) (outgoing_of written.old) (outgoing_of written.new)) }
     ensures heard { IfOk result (λ r. heard.new ≡ heard.old ++ heard_if (entries_of tables.now) stepper.old stepper.new r) }
-    ensures unfailed { OnErr result ((I.incoming input.new).failures ≡ (I.incoming input.old).failures) }
+    ensures read { OnErr result (ReadInStep stepper.old.image (machine_at stepper.old) (I.incoming input.old) (I.incoming input.new)) }
     ensures words { IfOk result (λ r. LeavesWords (λ left before. step stepper.old.image (machine_at stepper.old left before)) r
         stepper.new.store) }
     ensures image { stepper.new.image ≡ stepper.old.image }

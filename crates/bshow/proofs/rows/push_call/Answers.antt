@@ -26,16 +26,16 @@ returns g c =
     let a6 : List ℕ = words_cell c.operands.result.now in
     let a7 : List ℕ = number_cell c.callers.result in
     let a8 : List ℕ = number_cell c.from.result in
-    let p1 = piece t0 c.push.new.self c.push_number_cell.new.text a0 a1 c.in_ok-push.ensures c.in_ok-push_number_cell.ensures in
-    let p2 = piece t0 c.push_number_cell.new.text c.push_text_cell.new.text (a0 ++ a1) a2 p1 c.in_ok-push_text_cell.ensures in
-    let p3 = piece t0 c.push_text_cell.new.text c.push_number_cell-2.new.text (a0 ++ a1 ++ a2) a3 p2 c.in_ok-push_number_cell-2.ensures in
-    let p4 = piece t0 c.push_number_cell-2.new.text c.push_number_cell-3.new.text (a0 ++ a1 ++ a2 ++ a3) a4 p3 c.in_ok-push_number_cell-3.ensures in
-    let p5 = piece t0 c.push_number_cell-3.new.text c.push_code_cell.new.text (a0 ++ a1 ++ a2 ++ a3 ++ a4) a5 p4 c.in_ok-push_code_cell.ensures in
+    let p1 = piece t0 c.push.new.self c.push_step_cell.new.text a0 a1 c.in_ok-push.ensures c.in_ok-push_step_cell.ensures in
+    let p2 = piece t0 c.push_step_cell.new.text c.push_text_cell.new.text (a0 ++ a1) a2 p1 c.in_ok-push_text_cell.ensures in
+    let p3 = piece t0 c.push_text_cell.new.text c.push_number_cell.new.text (a0 ++ a1 ++ a2) a3 p2 c.in_ok-push_number_cell.ensures in
+    let p4 = piece t0 c.push_number_cell.new.text c.push_number_cell-2.new.text (a0 ++ a1 ++ a2 ++ a3) a4 p3 c.in_ok-push_number_cell-2.ensures in
+    let p5 = piece t0 c.push_number_cell-2.new.text c.push_code_cell.new.text (a0 ++ a1 ++ a2 ++ a3 ++ a4) a5 p4 c.in_ok-push_code_cell.ensures in
     let p6 = piece t0 c.push_code_cell.new.text c.push_words_cell.new.text (a0 ++ a1 ++ a2 ++ a3 ++ a4 ++ a5) a6 p5 c.in_ok-push_words_cell.ensures in
-    let p7 = piece t0 c.push_words_cell.new.text c.push_number_cell-4.new.text (a0 ++ a1 ++ a2 ++ a3 ++ a4 ++ a5 ++ a6) a7 p6 c.in_ok-push_number_cell-4.ensures in
-    on_ok_weaker c.push_number_cell-5.result (λ end. (
+    let p7 = piece t0 c.push_words_cell.new.text c.push_number_cell-3.new.text (a0 ++ a1 ++ a2 ++ a3 ++ a4 ++ a5 ++ a6) a7 p6 c.in_ok-push_number_cell-3.ensures in
+    on_ok_weaker c.push_number_cell-4.result (λ end. (
       c.line-line.result,
-      piece t0 c.push_number_cell-4.new.text c.push_number_cell-5.new.text (a0 ++ a1 ++ a2 ++ a3 ++ a4 ++ a5 ++ a6 ++ a7) a8 p7 end
+      piece t0 c.push_number_cell-3.new.text c.push_number_cell-4.new.text (a0 ++ a1 ++ a2 ++ a3 ++ a4 ++ a5 ++ a6 ++ a7) a8 p7 end
           ∙ (λ i. t0 ++ (a0 ++ a1 ++ text_cell (name i) ++ number_cell (c.top-call.ensures i).place ++ a4
           ++ text_cell (instr_text ((c.instr_at.ensures ∙ (λ j. instr_in (entry j) (c.top-call.ensures j).place)) i)) ++ words_cell (operands i) ++ number_cell (c.callers.ensures i) ++ number_cell ((c.from.ensures ∙ ap (λ (a : Active). a.start) c.top-call.ensures) i))),
-    )) c.push_number_cell-5.ensures
+    )) c.push_number_cell-4.ensures

@@ -5,7 +5,7 @@ use Rattle.btools.specs.Functions.{entries_of}
 use Rattle.bshow.specs.Shows.{record_of}
 use Rattle.btrace.specs.Traces.{StepsGive}
 use Rattle.bshow.specs.Steps.{TellsRun, retold}
-use Rattle.bshow.proofs.Told.{all_give, all_told, last_told, over_gives, over_unless, ready_told, told_none, told_one}
+use Rattle.bshow.proofs.Told.{all_give, all_told, last_told, over_gives, over_unless, read_tried, ready_told, told_none, told_one, where_refused}
 use Rattle.bshow.proofs.showing.run_steps.Goals as goal
 
 pub loop-made-init : goal.loop-made-init
@@ -64,3 +64,13 @@ returns-clause-tells g c =
     subst (λ (n : ℕ). TellsRun (entries_of c.args.tables.now) c.args.which c.args.stepper.now c.loop-made.stepper n (g.I.ByteIn.incoming c.args.input.now) (g.I.ByteIn.incoming c.loop-made.input) (record_of c.tell_calls.new.self) (record { outcome = outcome.Limit; made = n })) all
     (all_told (entries_of c.args.tables.now) c.args.which c.args.stepper.now c.loop-made.stepper c.loop-made.made (g.I.ByteIn.incoming c.args.input.now) (g.I.ByteIn.incoming c.loop-made.input) c.args.kept.now.written c.tell_calls.new.self.written (record_of c.tell_calls.new.self) last.0 last.1
     (ap (λ (k : Kept). k.bytes) c.requires.output))
+
+pub returns-in_err-run_step-clause-read : goal.returns-in_err-run_step-clause-read
+returns-in_err-run_step-clause-read g c =
+    let fs = entries_of c.args.tables.now in
+    let i = g.I.ByteIn.incoming c.args.input.now in
+    let j = g.I.ByteIn.incoming c.loop-made.input in
+    let ready = ready_told fs c.args.which c.args.stepper.now c.loop-made.made c.loop-made.stepper i j c.args.kept.now.written
+    c.loop-made.kept c.retell.new.self c.loop-made.invariant.0 c.in_ok-retell.ensures.told c.retell.ensures.written in
+    where_refused c.from_residual-in_err-run_step.result _ (read_tried fs c.args.which c.args.stepper.now c.loop-made.stepper c.loop-made.made c.args.steps i j (g.I.ByteIn.incoming c.run_step.new.input) c.args.kept.now.written c.retell.new.self.written (record_of c.retell.new.self)
+    c.loop-made-test.true ready.0 c.in_err-run_step.ensures.read)

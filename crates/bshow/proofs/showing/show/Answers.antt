@@ -1,4 +1,6 @@
 use Rattle.std.proofs.Common.{refl}
+use Rattle.blang.specs.Machine.{image_of}
+use Rattle.bmach.proofs.Readings.{none_at_first}
 use Rattle.btools.specs.Functions.{entries_of}
 use Rattle.bshow.specs.Shows.{asked_of, no_memory, stopped}
 use Rattle.bshow.proofs.FactParts.{data_fit}
@@ -9,7 +11,7 @@ pub new-requires : goal.new-requires
 new-requires g c = data_fit c.in-Ok.program.definitions.items c.in-Ok.ensures.gives.loads
 
 pub show_unbegun-requires : goal.show_unbegun-requires
-show_unbegun-requires g c = data_fit c.in-Ok.program.definitions.items c.in-Ok.ensures.gives.loads
+show_unbegun-requires g c = record { room = data_fit c.in-Ok.program.definitions.items c.in-Ok.ensures.gives.loads; begins = c.in-Err-begin.ensures }
 
 pub show_run-requires : goal.show_run-requires
 show_run-requires g c = data_fit c.in-Ok.program.definitions.items c.in-Ok.ensures.gives.loads
@@ -18,10 +20,14 @@ pub returns-in-Err-clause-shows : goal.returns-in-Err-clause-shows
 returns-in-Err-clause-shows g c = stopped c.in-Err.ensures.gives (record { unread = refl; silent = refl })
 
 pub returns-in_default-clause-shows : goal.returns-in_default-clause-shows
-returns-in_default-clause-shows g c = no_memory c.in-Ok.program.definitions.items c.in-Ok.program.image c.in-Ok.ensures.gives refl refl refl
+returns-in_default-clause-shows g c =
+    no_memory c.in-Ok.program.definitions.items c.in-Ok.program.image c.in-Ok.ensures.gives refl
+    (none_at_first (image_of c.in-Ok.program.definitions.items) c.args.wanted.steps (g.I.ByteIn.incoming c.args.input.now) (g.I.ByteIn.incoming c.args.input.now) refl) refl
 
 pub returns-in_default-new-clause-shows : goal.returns-in_default-new-clause-shows
-returns-in_default-new-clause-shows g c = no_memory c.in-Ok.program.definitions.items c.in-Ok.program.image c.in-Ok.ensures.gives refl refl refl
+returns-in_default-new-clause-shows g c =
+    no_memory c.in-Ok.program.definitions.items c.in-Ok.program.image c.in-Ok.ensures.gives refl
+    (none_at_first (image_of c.in-Ok.program.definitions.items) c.args.wanted.steps (g.I.ByteIn.incoming c.args.input.now) (g.I.ByteIn.incoming c.args.input.now) refl) refl
 
 pub returns-in-Err-begin-clause-shows : goal.returns-in-Err-begin-clause-shows
 returns-in-Err-begin-clause-shows g c =
