@@ -1,8 +1,12 @@
 -- Tokens with what trees keep of them, and lists that are split.
-use Rattle.std.proofs.Common.{◌≡◌, Bool, true, false, List, [], ◌∷◌, ◌++◌, map, ap, ◌∙◌, refl, sym, if◌then◌else◌}
+use Rattle.std.proofs.Common.{◌≡◌, suc, Bool, true, false, List, [], ◌∷◌, ◌++◌, length, map, ap, ◌∙◌, refl, sym, if◌then◌else◌}
 use Rattle.blang.specs.declared.token.Token.{Token}
 use Rattle.blang.specs.declared.token.Placed.{Placed}
 use Rattle.blang.specs.Trees.{mark, kept, kept_tokens, bare, keeps_line}
+
+pub kept-length : (ts : List Placed) → length (kept_tokens ts) ≡ length ts
+kept-length [] = refl
+kept-length (t ∷ ts) = ap suc (kept-length ts)
 
 bare_if : (b : Bool) (p : Placed) → bare (if b then p else mark p.token) ≡ bare p
 bare_if true p = refl

@@ -3,6 +3,8 @@ pub mod ExpressionFine
 pub mod ExpressionSound
 pub mod ExpressionAgain
 pub mod CommaLaws
+pub mod Forms
+pub mod FormLaws
 pub mod StatementSound
 pub mod StatementFine
 pub mod StatementAgain

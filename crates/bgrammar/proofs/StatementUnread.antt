@@ -1,18 +1,21 @@
 -- Readers of statements and definitions are blind to lines that trees don't keep.
-use Rattle.std.proofs.Common.{◌≡◌, ℕ, zero, suc, ◌+◌, List, [], ◌∷◌, true, ap, ◌∙◌, refl, Option, Some, None}
+use Rattle.std.proofs.Common.{◌≡◌, ℕ, zero, suc, ◌+◌, List, [], ◌∷◌, ap, ◌∙◌, refl, Option, Some, None}
 use Rattle.blang.specs.declared.token.Token.{Token}
 use Rattle.blang.specs.declared.token.Token.TheVariants as token
 use Rattle.blang.specs.declared.token.Keyword.TheVariants as keyword
 use Rattle.blang.specs.declared.token.Placed.{Placed}
-use Rattle.blang.specs.Trees.{keeps_line, kept_tokens, Identifier, Number, Character, Expr, name_token, Auto, Extrn, Label, Case, Default, Stmt, Compound, If, IfElse, While, Switch, Goto, Break, Return, ReturnValue, Evaluate, Empty, Stmts, Nothing, More, Ival, Ival_constant, Ival_text, Definition, Simple, Vector, Function}
+use Rattle.blang.specs.Trees.{keeps_line, kept_tokens, Identifier, Number, Character, Expr, name_token, Heading, Auto, Extrn, Label, Case, Default, Stmt, Compound, If, IfElse, While, Switch, Goto, Break, Return, ReturnValue, Evaluate, Empty, Nothing, More, Ival, Ival_constant, Ival_text, Definition, Simple, Vector, Function}
 use Rattle.blang.specs.declared.limits.TheConstants.{MAX_NESTING}
 use Rattle.bgrammar.specs.Fitting.{words, statement_words, body_words, values_words}
-use Rattle.bgrammar.specs.Reading.{Got, Reader, ◌>>=◌, first, line_ahead, after, expect, many}
-use Rattle.bgrammar.specs.ExpressionReader.{is_close_paren, is_close_bracket, is_colon, always, Rvalue, reader}
+use Rattle.bgrammar.specs.Reading.{Got, Reader, ◌>>=◌, first, line_ahead, after, expect}
+use Rattle.bgrammar.specs.ExpressionReader.{is_close_paren, is_close_bracket, always, Rvalue}
 use Rattle.bgrammar.specs.Commas.{list_reader}
-use Rattle.bgrammar.specs.StatementReader.{is_open_paren, is_open_brace, is_close_brace, is_semicolon, is_else, name_at, name, constant_at, constant, size_at, size, declared, headed, Lead, no_lead, with_heading, Step, Declares, Imports, Selects, Defaults, Mentions, Labels, step_at, lead_step, lead_turn, lead, goes_on, Level, tested, else_part, chosen, looped, one_more, body, switched, ended, returned, stmt_at, stmt_after, stmt_with, level, statement}
+use Rattle.bgrammar.specs.StatementReader.{is_open_paren, is_semicolon, is_else, name_at, name, constant_at, constant, size_at, size, declared, headed, Lead, no_lead, with_heading, Step, Declares, Imports, Selects, Defaults, Mentions, Labels, lead_step, lead_turn, lead, goes_on, Level, else_part, one_more, ended, returned, stmt_at, stmt_after, stmt_with, level, statement}
 use Rattle.bgrammar.specs.DefinitionReader.{ival_at, ival, valued, vector, function_body, function, after_name_at, after_name}
 use Rattle.bgrammar.specs.Unread.{kept_read, IsBlind, LinesUnread}
+use Rattle.bgrammar.proofs.StatementSound.{step_is}
+use Rattle.bgrammar.proofs.Forms.{Thing, Value, Inner, Body, Declarations, Names, A_constant, read, Part, Fields, read_parts, flat, block_parts, tested_parts, switch_parts, value_parts, paid_parts, end_parts, declaration_parts, import_parts, case_parts, default_parts}
+use Rattle.bgrammar.proofs.FormLaws.{blind_parts}
 use Rattle.bgrammar.proofs.Unread.{first-kept, after-kept, line-kept, blind_bind, blind_map, blind_after, blind_if, blind_expect, blind_many, blind_list, blind_reader}
 
 blind_name_at : (t : Token) (ts : List Placed) → first ts ≡ t → name_at t (kept_tokens ts) ≡ kept_read (name_at t ts)
@@ -40,47 +43,30 @@ blind_size ts = ap (λ t. size_at t (kept_tokens ts)) (first-kept ts) ∙ blind_
 blind_declared : IsBlind declared
 blind_declared = blind_bind name (λ w r. size r >>= λ n. Got (record { word = w; size = n })) blind_name (λ w. blind_map size (λ n. record { word = w; size = n }) blind_size)
 
--- the tokens that begin a heading, and keep their line where it is read
-selects_at : (o : Option Identifier) (t : Token) → step_at o t ≡ Some Selects → keeps_line t ≡ true
-selects_at None (token.Keyword keyword.Case) h = refl
-selects_at None (token.Keyword keyword.Auto) h = cc
-selects_at None (token.Keyword keyword.Extrn) h = cc
-selects_at None (token.Keyword keyword.Default) h = cc
-selects_at None (token.Name x) h = cc
-selects_at (Some w) token.Colon h = cc
-selects_at o _ h = cc
+blind_thing : (level : Level) → ((off : ℕ) → IsBlind (level.expr off)) → ((off : ℕ) → IsBlind (level.stmt off)) → (j : Thing) (off : ℕ) → IsBlind (read level j off)
+blind_thing level be bs Value off = be off
+blind_thing level be bs Inner off = bs off
+blind_thing level be bs Body off = blind_many (always goes_on) (one_more level off) (λ o before ts h. blind_map (level.stmt (off + body_words before)) (λ s. More before s) (bs (off + body_words before)) ts) Nothing
+blind_thing level be bs Declarations off = blind_list (λ before. declared) (λ before. blind_declared)
+blind_thing level be bs Names off = blind_list (λ before. name) (λ before. blind_name)
+blind_thing level be bs A_constant off = blind_constant
 
-defaults_at : (o : Option Identifier) (t : Token) → step_at o t ≡ Some Defaults → keeps_line t ≡ true
-defaults_at None (token.Keyword keyword.Default) h = refl
-defaults_at None (token.Keyword keyword.Auto) h = cc
-defaults_at None (token.Keyword keyword.Extrn) h = cc
-defaults_at None (token.Keyword keyword.Case) h = cc
-defaults_at None (token.Name x) h = cc
-defaults_at (Some w) token.Colon h = cc
-defaults_at o _ h = cc
+-- a row without statements
+blind_flat : {B : Type 0} (room : ℕ) (ps : List Part) (off : ℕ) (made : Fields ps → B) → IsBlind (read_parts (flat room) ps off (λ x. Got (made x)))
+blind_flat room ps off made = blind_parts (flat room) (blind_thing (flat room) (λ off. blind_reader room Rvalue off) (λ off. blind_expect is_semicolon (λ x. Got Empty x) (λ ts. refl))) ps off (λ x. Got (made x)) (λ x ts. refl)
 
-mentions_at : (o : Option Identifier) (t : Token) (x : List ℕ) → step_at o t ≡ Some (Mentions x) → keeps_line t ≡ true
-mentions_at None (token.Name y) x h = refl
-mentions_at None (token.Keyword keyword.Auto) x h = cc
-mentions_at None (token.Keyword keyword.Extrn) x h = cc
-mentions_at None (token.Keyword keyword.Case) x h = cc
-mentions_at None (token.Keyword keyword.Default) x h = cc
-mentions_at (Some w) token.Colon x h = cc
-mentions_at o _ x h = cc
-
-blind_declaration : {A : Type 0} (item : List A → Reader A) → ((before : List A) → IsBlind (item before)) → (made : List A → Lead) → IsBlind (λ ts. list_reader item (after ts) >>= λ xs r. expect is_semicolon r >>= λ o. Got (made xs))
-blind_declaration item bi made = blind_after (λ ts. list_reader item ts >>= λ xs r. expect is_semicolon r >>= λ o. Got (made xs)) (blind_bind (list_reader item) (λ xs r. expect is_semicolon r >>= λ o. Got (made xs)) (blind_list item bi) (λ xs. blind_expect is_semicolon (Got (made xs)) (λ ts. refl)))
+-- a heading as a row, after its first token, whose line may be kept
+blind_heading : (l : Lead) (ps : List Part) (made : ℕ → Fields ps → Heading) (ts : List Placed) → line_ahead (kept_tokens ts) ≡ line_ahead ts
+    → read_parts (flat 0) ps 0 (λ x. Got (with_heading l (made (line_ahead (kept_tokens ts)) x))) (after (kept_tokens ts)) ≡ kept_read (read_parts (flat 0) ps 0 (λ x. Got (with_heading l (made (line_ahead ts) x))) (after ts))
+blind_heading l ps made ts k =
+    ap (λ n. read_parts (flat 0) ps 0 (λ x. Got (with_heading l (made n x))) (after (kept_tokens ts))) k ∙ blind_after (read_parts (flat 0) ps 0 (λ x. Got (with_heading l (made (line_ahead ts) x)))) (blind_flat 0 ps 0 (λ x. with_heading l (made (line_ahead ts) x))) ts
 
 blind_lead_turn : (b : Step) (l : Lead) (ts : List Placed) → lead_step l (first ts) ≡ Some b → lead_turn b l (kept_tokens ts) ≡ kept_read (lead_turn b l ts)
-blind_lead_turn Declares l ts h = blind_declaration (λ before. declared) (λ before. blind_declared) (λ ds. with_heading l (Auto ds)) ts
-blind_lead_turn Imports l ts h = blind_declaration (λ before. name) (λ before. blind_name) (λ ws. with_heading l (Extrn ws)) ts
-blind_lead_turn Selects l ts h =
-    ap (λ n. constant (after (kept_tokens ts)) >>= λ c r. expect is_colon r >>= λ o. Got (with_heading l (Case n c))) (line-kept ts (selects_at l.word (first ts) h))
-    ∙ blind_after (λ us. constant us >>= λ c r. expect is_colon r >>= λ o. Got (with_heading l (Case (line_ahead ts) c))) (blind_bind constant (λ c r. expect is_colon r >>= λ o. Got (with_heading l (Case (line_ahead ts) c))) blind_constant (λ c. blind_expect is_colon (Got (with_heading l (Case (line_ahead ts) c))) (λ ts. refl))) ts
-blind_lead_turn Defaults l ts h =
-    ap (λ n. expect is_colon (after (kept_tokens ts)) >>= λ o. Got (with_heading l (Default n))) (line-kept ts (defaults_at l.word (first ts) h))
-    ∙ blind_after (λ us. expect is_colon us >>= λ o. Got (with_heading l (Default (line_ahead ts)))) (blind_expect is_colon (Got (with_heading l (Default (line_ahead ts)))) (λ ts. refl)) ts
-blind_lead_turn (Mentions x) l ts h = let k : line_ahead (kept_tokens ts) ≡ line_ahead ts = line-kept ts (mentions_at l.word (first ts) x h) in let a : after (kept_tokens ts) ≡ kept_tokens (after ts) = after-kept ts in cc
+blind_lead_turn Declares l ts h = blind_after (read_parts (flat 0) declaration_parts 0 (λ x. Got (with_heading l (Auto x.0)))) (blind_flat 0 declaration_parts 0 (λ x. with_heading l (Auto x.0))) ts
+blind_lead_turn Imports l ts h = blind_after (read_parts (flat 0) import_parts 0 (λ x. Got (with_heading l (Extrn x.0)))) (blind_flat 0 import_parts 0 (λ x. with_heading l (Extrn x.0))) ts
+blind_lead_turn Selects l ts h = blind_heading l case_parts (λ n x. Case n x.0) ts (line-kept ts (ap keeps_line (step_is l.word (first ts) Selects h).1))
+blind_lead_turn Defaults l ts h = blind_heading l default_parts (λ n x. Default n) ts (line-kept ts (ap keeps_line (step_is l.word (first ts) Defaults h).1))
+blind_lead_turn (Mentions x) l ts h = let k : line_ahead (kept_tokens ts) ≡ line_ahead ts = line-kept ts (ap keeps_line (step_is l.word (first ts) (Mentions x) h).1) in let a : after (kept_tokens ts) ≡ kept_tokens (after ts) = after-kept ts in cc
 blind_lead_turn (Labels w) l ts h = ap (λ r. Got (with_heading l (Label w)) r) (after-kept ts)
 
 blind_lead : IsBlind lead
@@ -92,41 +78,27 @@ record BlindLevel (level : Level) : Type 0 where
   stmt : (off : ℕ) → IsBlind (level.stmt off)
 
 module _ (room : ℕ) (level : Level) (blind : BlindLevel level) where
-  blind_tested : (off : ℕ) (following : Expr → Reader Stmt) → ((e : Expr) → IsBlind (following e)) → IsBlind (tested level off following)
-  blind_tested off following bb = blind_bind level.enter (λ o r. expect is_open_paren r >>= λ o r. level.expr off r >>= λ e r. expect is_close_paren r >>= λ o. following e) blind.enter (λ o. blind_expect is_open_paren (λ r. level.expr off r >>= λ e r. expect is_close_paren r >>= λ o. following e) (blind_bind (level.expr off) (λ e r. expect is_close_paren r >>= λ o. following e) (blind.expr off) (λ e. blind_expect is_close_paren (following e) (bb e))))
+  -- a row that opens a level
+  entered : (ps : List Part) (off : ℕ) (made : Fields ps → Reader Stmt) → ((x : Fields ps) → IsBlind (made x)) → IsBlind (λ ts. level.enter ts >>= λ o. read_parts level ps off made)
+  entered ps off made h = blind_bind level.enter (λ o. read_parts level ps off made) blind.enter (λ o. blind_parts level (blind_thing level blind.expr blind.stmt) ps off made h)
 
   blind_else : (off : ℕ) (e : Expr) (s : Stmt) → IsBlind (else_part level off e s)
   blind_else off e s = blind_if is_else (λ ts. level.stmt (off + words e + statement_words s) (after ts) >>= λ other. Got (IfElse e s other)) (λ ts. Got (If e s) ts) (blind_after (λ ts. level.stmt (off + words e + statement_words s) ts >>= λ other. Got (IfElse e s other)) (blind_map (level.stmt (off + words e + statement_words s)) (λ other. IfElse e s other) (blind.stmt (off + words e + statement_words s)))) (λ ts. refl)
 
-  blind_chosen : (off : ℕ) (e : Expr) → IsBlind (chosen level off e)
-  blind_chosen off e = blind_bind (level.stmt (off + words e)) (else_part level off e) (blind.stmt (off + words e)) (blind_else off e)
-
-  blind_looped : (off : ℕ) (e : Expr) → IsBlind (looped level off e)
-  blind_looped off e = blind_map (level.stmt (off + words e)) (λ s. While e s) (blind.stmt (off + words e))
-
-  blind_body : (off : ℕ) (made : Stmts → Stmt) → IsBlind (body level off made)
-  blind_body off made = blind_bind (many (always goes_on) (one_more level off) Nothing) (λ ss r. expect is_close_brace r >>= λ o. Got (made ss)) (blind_many (always goes_on) (one_more level off) (λ o before ts h. blind_map (level.stmt (off + body_words before)) (λ s. More before s) (blind.stmt (off + body_words before)) ts) Nothing) (λ ss. blind_expect is_close_brace (Got (made ss)) (λ ts. refl))
-
-  blind_switched : (off : ℕ) → IsBlind (switched level off)
-  blind_switched off = blind_bind level.enter (λ o r. level.expr off r >>= λ e r. expect is_open_brace r >>= λ o. body level (off + words e) (Switch e)) blind.enter (λ o. blind_bind (level.expr off) (λ e r. expect is_open_brace r >>= λ o. body level (off + words e) (Switch e)) (blind.expr off) (λ e. blind_expect is_open_brace (body level (off + words e) (Switch e)) (blind_body (off + words e) (Switch e))))
-
   blind_ended : (off : ℕ) (made : Expr → Stmt) → IsBlind (ended room off made)
-  blind_ended off made = blind_bind (reader room Rvalue off) (λ e r. expect is_semicolon r >>= λ o. Got (made e)) (blind_reader room Rvalue off) (λ e. blind_expect is_semicolon (Got (made e)) (λ ts. refl))
+  blind_ended off made = blind_flat room value_parts off (λ x. made x.0)
 
   blind_returned : (off : ℕ) → IsBlind (returned room off)
-  blind_returned off = blind_if is_open_paren (λ ts. reader room Rvalue off (after ts) >>= λ e r. expect is_close_paren r >>= λ o r. expect is_semicolon r >>= λ o. Got (ReturnValue e)) (λ ts. expect is_semicolon ts >>= λ o. Got Return)
-      (blind_after (λ ts. reader room Rvalue off ts >>= λ e r. expect is_close_paren r >>= λ o r. expect is_semicolon r >>= λ o. Got (ReturnValue e)) (blind_bind (reader room Rvalue off) (λ e r. expect is_close_paren r >>= λ o r. expect is_semicolon r >>= λ o. Got (ReturnValue e)) (blind_reader room Rvalue off) (λ e. blind_expect is_close_paren (λ r. expect is_semicolon r >>= λ o. Got (ReturnValue e)) (blind_expect is_semicolon (Got (ReturnValue e)) (λ ts. refl)))))
-      (blind_expect is_semicolon (Got Return) (λ ts. refl))
+  blind_returned off = blind_if is_open_paren (λ ts. read_parts (flat room) paid_parts off (λ x. Got (ReturnValue x.0)) (after ts)) (λ ts. read_parts (flat room) end_parts off (λ x. Got Return) ts) (blind_after (read_parts (flat room) paid_parts off (λ x. Got (ReturnValue x.0))) (blind_flat room paid_parts off (λ x. ReturnValue x.0))) (blind_flat room end_parts off (λ x. Return))
 
   blind_stmt_at : (off : ℕ) (t : Token) (ts : List Placed) → first ts ≡ t → stmt_at room level off t (kept_tokens ts) ≡ kept_read (stmt_at room level off t ts)
-  blind_stmt_at off token.OpenBrace ts e = blind_bind level.enter (λ o. body level off Compound) blind.enter (λ o. blind_body off Compound) ts
-  blind_stmt_at off (token.Keyword keyword.If) ts e = blind_tested off (chosen level off) (blind_chosen off) ts
-  blind_stmt_at off (token.Keyword keyword.While) ts e = blind_tested off (looped level off) (blind_looped off) ts
-  blind_stmt_at off (token.Keyword keyword.Switch) ts e = blind_switched off ts
+  blind_stmt_at off token.OpenBrace ts e = entered block_parts off (λ x. Got (Compound x.0)) (λ x ts. refl) ts
+  blind_stmt_at off (token.Keyword keyword.If) ts e = entered tested_parts off (λ x. else_part level off x.0 x.1.0) (λ x. blind_else off x.0 x.1.0) ts
+  blind_stmt_at off (token.Keyword keyword.While) ts e = entered tested_parts off (λ x. Got (While x.0 x.1.0)) (λ x ts. refl) ts
+  blind_stmt_at off (token.Keyword keyword.Switch) ts e = entered switch_parts off (λ x. Got (Switch x.0 x.1.0)) (λ x ts. refl) ts
   blind_stmt_at off (token.Keyword keyword.Goto) ts e = blind_after (ended room off Goto) (blind_ended off Goto) ts
   blind_stmt_at off (token.Keyword keyword.Break) ts e =
-      ap (λ n. expect is_semicolon (after (kept_tokens ts)) >>= λ o. Got (Break n)) (line-kept ts (ap keeps_line e))
-      ∙ blind_after (λ us. expect is_semicolon us >>= λ o. Got (Break (line_ahead ts))) (blind_expect is_semicolon (Got (Break (line_ahead ts))) (λ ts. refl)) ts
+      ap (λ n. expect is_semicolon (after (kept_tokens ts)) >>= λ o. Got (Break n)) (line-kept ts (ap keeps_line e)) ∙ blind_after (read_parts (flat room) end_parts off (λ x. Got (Break (line_ahead ts)))) (blind_flat room end_parts off (λ x. Break (line_ahead ts))) ts
   blind_stmt_at off (token.Keyword keyword.Return) ts e = blind_after (returned room off) (blind_returned off) ts
   blind_stmt_at off token.Semicolon ts e = ap (λ r. Got Empty r) (after-kept ts)
   blind_stmt_at off _ ts e = blind_ended off Evaluate ts

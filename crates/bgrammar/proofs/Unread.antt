@@ -12,7 +12,7 @@ use Rattle.bgrammar.specs.Reading.{Read, Got, Stop, Reader, ◌>>=◌, at_some, 
 use Rattle.bgrammar.specs.ExpressionReader.{is_close_paren, is_close_bracket, is_question, is_colon, prefix_op, op_at, Suffix, Index, Call, Step, suffix, comma, always, ExpressionKind, Operand, Choice, Rvalue, Inner, group, primary, primary_at, another, arguments, call, postfix_with, postfix, prefixed, operand, operation, chain, choices, conditional, assigns, assigned, rvalue_from, read_at, inner, reader}
 use Rattle.bgrammar.specs.Commas.{comma_item, list_reader}
 use Rattle.bgrammar.specs.Unread.{kept_read, IsBlind}
-use Rattle.bgrammar.proofs.StatementFine.{kept-length}
+use Rattle.bgrammar.proofs.KeptLemmas.{kept-length}
 use Rattle.bgrammar.proofs.ExpressionSound.{op_is}
 
 token-kept : (p : Placed) → (kept p).token ≡ p.token

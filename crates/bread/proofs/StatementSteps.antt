@@ -1,5 +1,5 @@
 -- How the calls that read statements go on.
-use Rattle.std.proofs.Common.{◌≡◌, ℕ, zero, suc, ◌+◌, ◌<◌, ◌≤◌, Bool, true, false, List, [], length, Option, Some, None, Result, Ok, Err, IsErrAnd, refl, sym, ap, ◌∙◌, subst, arith, add-one, if◌then◌else◌}
+use Rattle.std.proofs.Common.{◌≡◌, ℕ, zero, suc, ◌+◌, ◌<◌, ◌≤◌, Bool, true, false, List, length, Option, Some, None, Result, Ok, Err, IsErrAnd, refl, sym, ap, ◌∙◌, subst, arith, add-one, if◌then◌else◌}
 use Rattle.std.specs.Option.{is_some}
 use Rattle.blang.specs.declared.token.Token.{Token}
 use Rattle.blang.specs.declared.token.Token.TheVariants as token
@@ -13,7 +13,7 @@ use Rattle.bgrammar.specs.ExpressionReader.{is_close_paren, always, Rvalue, read
 use Rattle.bgrammar.specs.StatementReader.{is_open_paren, is_open_brace, is_close_brace, is_semicolon, is_else, Headings, No_heading, Then, headed, goes_on, Level, else_part, chosen, looped, one_more, body, compound, switched, tested, returned, stmt_at, level, statement}
 use Rattle.bgrammar.specs.StatementReader as whole
 use Rattle.bgrammar.proofs.Fine.{many_some, many_none}
-use Rattle.bgrammar.proofs.StatementFine.{closing, Good, Room, full, some, has_level, body_loop}
+use Rattle.bgrammar.proofs.StatementFine.{closing, body_loop, level_good}
 use Rattle.blang.specs.declared.code.Instr.{Instr}
 use Rattle.blang.specs.declared.code.Instr.TheVariants as instr
 use Rattle.bemit.specs.Views.{IfMade}
@@ -279,15 +279,7 @@ module _ (room k off : ℕ) (old mid : Tokens) (h : (room ≡ k + 1) × Advances
       pub switched_took : (jump mark : ℕ) (new : Tokens) (start d1 d2 d3 d4 draft : Draft) → d1 ≡ evaluated e start → mark ≡ mark_of d1 → jump ≡ place_of d1 → d2 ≡ emitted (instr.Jump 0) d1 → d3 ≡ begun d2 → PartTaken (statements k (off + words e)) all_done d3 last new d4 → draft ≡ closed_switch jump mark d4 → PartTaken (switched (level room) off) done start old new draft
       switched_took jump mark new start d1 d2 d3 d4 draft v m j e2 e3 b x = record { tree = Switch e b.tree; runs = went (λ ss. Got (Switch e ss)) switched_body b.runs; made = x ∙ rw (b.made, e3, e2, j, m, v) refl }
 
--- the loop of a body
-good_at : (k : ℕ) → Good (level (suc k))
-good_at k = go (has_level (suc k))
-  where
-    go : Room (level (suc k)) → Good (level (suc k))
-    go (full st) = let n : Got tt [] ≡ Stop [] = st [] in cc
-    go (some eq good) = good
-
--- the statements so far
+-- the loop of a body: the statements so far
 pub record InBody (room off : ℕ) (start : Draft) (old now : Tokens) (draft : Draft) : Type 0 where
   pub body : Stmts
   pub runs : Runs old now (statements room off) (λ v. many (always goes_on) (one_more (level (suc room)) off) body v >>= λ ss r. expect is_close_brace r >>= λ o. Got ss)
@@ -319,7 +311,7 @@ module _ (room off : ℕ) (start : Draft) (old now : Tokens) (draft : Draft) (b 
 
   module _ (g : is_some (goes_on (first now.ahead)) ≡ true) where
     body_runs : Runs old now (statements room off) (λ v. statement room (off + body_words b.body) v >>= λ s. more (More b.body s))
-    body_runs = run_then b.runs (run_here l (λ u e m. ap (λ x. x >>= end_of) (many_some closing (always goes_on) (one_more (level (suc room)) off) (body_loop (level (suc room)) (good_at room) off) tt b.body u (ap goes_on e ∙ is_further (first now.ahead) g)) ∙ nested (statement room (off + body_words b.body) u)))
+    body_runs = run_then b.runs (run_here l (λ u e m. ap (λ x. x >>= end_of) (many_some closing (always goes_on) (one_more (level (suc room)) off) (body_loop (level (suc room)) (level_good (suc room)) off) tt b.body u (ap goes_on e ∙ is_further (first now.ahead) g)) ∙ nested (statement room (off + body_words b.body) u)))
       where
         nested : (x : Read Stmt) → (((x >>= λ s. Got (More b.body s)) >>= many (always goes_on) (one_more (level (suc room)) off)) >>= end_of) ≡ (x >>= λ s. more (More b.body s))
         nested (Got s r) = refl
